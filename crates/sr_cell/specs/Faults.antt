@@ -1,0 +1,29 @@
+-- Which fault a table has for a schema, in the order of the refusals.
+use Rattle.std.specs.Prelude.{ℕ, ◌-◌, ◌^◌, List, [], length, min, Option, Some, None, if◌then◌else◌, nat_le, nat_lt}
+use Rattle.sr_cell.specs.declared.table.Column.{Column}
+use Rattle.sr_cell.specs.declared.table.Table.{Table}
+use Rattle.sr_cell.specs.declared.fault.Why.{Why}
+use Rattle.sr_cell.specs.declared.fault.Why.TheVariants.{DuplicateName, TooManyTables, TooManyColumns, NoKey, BadDomain}
+use Rattle.sr_cell.specs.declared.fault.Fault.{Fault}
+use Rattle.sr_cell.specs.Names.{has_table, repeat_at, bad_from}
+
+-- a number as far as a fault can hold it
+abbrev pub capped : ℕ → ℕ
+capped n = min n (2 ^ 32 - 1)
+
+-- the fault at this place, or else the next
+abbrev pub fault_or : Why → Option ℕ → Option Fault → Option Fault
+fault_or why None next = next
+fault_or why (Some at) next = Some (record { why = why; at = capped at })
+
+abbrev pub column_fault : Table → Option Fault
+column_fault table =
+    if nat_lt 12 (length table.columns) then Some (record { why = TooManyColumns; at = capped (length table.columns) })
+    else (if nat_le (length table.columns) table.key then Some (record { why = NoKey; at = 0 })
+    else fault_or BadDomain (bad_from 0 table.columns) None)
+
+abbrev pub table_fault : List Table → Table → Option Fault
+table_fault tables table =
+    if has_table tables table.name then Some (record { why = DuplicateName; at = 0 })
+    else fault_or DuplicateName (repeat_at [] table.columns)
+    (if nat_le 16 (length tables) then Some (record { why = TooManyTables; at = 16 }) else column_fault table)

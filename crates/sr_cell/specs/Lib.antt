@@ -1,0 +1,5 @@
+pub mod Cells
+pub mod Columns
+pub mod Attrs
+pub mod Names
+pub mod Faults

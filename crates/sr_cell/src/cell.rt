@@ -1,0 +1,63 @@
+//! Cells and rows.
+ghost use Rattle.std.specs.Prelude.{◌≡◌, List};
+ghost use Rattle.sr_cell.specs.Cells.{cell_le};
+
+use crate::list::{Copied, NoMemory, Same, Seq};
+use crate::text::Text;
+use std::alloc::Global;
+
+/// A whole number, or a text.
+#[derive(Drop, PartialEq, Eq, PartialOrd, Ord)]
+pub enum Cell {
+    Num(i64),
+    Str(Text),
+}
+
+/// One cell for each column.
+pub type Row = Seq<Cell>;
+
+pub type Rows = Seq<Row>;
+
+impl Cell {
+    /// Whether the cell is of the other's kind and not above it.
+    pub fn is_at_most(&self, other: &Cell) -> bool
+        ensures { result ≡ cell_le self.now other.now }
+    {
+        match (self, other) {
+            (Cell::Num(one), Cell::Num(two)) => *one <= *two,
+            (Cell::Str(one), Cell::Str(two)) => is_text_at_most(
+                one.as_str().as_bytes(),
+                two.as_str().as_bytes(),
+            ),
+            _ => false,
+        }
+    }
+}
+
+ghost use Rattle.sr_cell.specs.Cells.{text_le};
+
+/// Whether the first text is not above the second, byte by byte.
+pub fn is_text_at_most(one: &[u8], other: &[u8]) -> bool
+    ensures { result ≡ text_le one.now other.now }
+{
+    one.cmp(other).is_le()
+}
+
+impl Copied for Cell {
+    fn copy(&self, alloc: Global) -> Result<Cell, NoMemory> {
+        match self {
+            Cell::Num(number) => Ok(Cell::Num(*number)),
+            Cell::Str(text) => Ok(Cell::Str(text.copy(alloc)?)),
+        }
+    }
+}
+
+impl Same for Cell {
+    fn same(&self, other: &Cell) -> bool {
+        match (self, other) {
+            (Cell::Num(one), Cell::Num(two)) => *one == *two,
+            (Cell::Str(one), Cell::Str(two)) => one.same(two),
+            _ => false,
+        }
+    }
+}

@@ -1,0 +1,10 @@
+//! Values, rows, tables and schemas, and the lists that they are made of.
+#![tactic(auto)]
+
+pub mod attrs;
+pub mod cell;
+pub mod change;
+pub mod fault;
+pub mod list;
+pub mod table;
+pub mod text;

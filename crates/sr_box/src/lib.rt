@@ -1,0 +1,5 @@
+//! Spans and rects: predicates over the columns of a table, by their points.
+#![tactic(auto)]
+
+pub mod rect;
+pub mod span;

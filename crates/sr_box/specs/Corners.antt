@@ -1,5 +1,5 @@
 -- Corners: finitely many points that tell of each point in which rects it lies.
-use Rattle.std.specs.Prelude.{ℕ, pos, ◌+ℤ◌, int_lt, Bool, true, false, ◌&&◌, List, [], ◌∷◌, ◌++◌, ◌≡◌, IsTrue, Option, Some, None, map, flat_map, if◌then◌else◌}
+use Rattle.std.specs.Prelude.{ℕ, ℤ, pos, ◌+ℤ◌, int_lt, Bool, true, false, ◌&&◌, List, [], ◌∷◌, ◌++◌, ◌≡◌, IsTrue, Option, Some, None, map, flat_map, if◌then◌else◌}
 use Rattle.std.specs.List.{list_all, AllByRecursion}
 use Rattle.sr_cell.specs.declared.cell.Cell.{Cell}
 use Rattle.sr_cell.specs.declared.cell.Cell.TheVariants.{Num, Str}
@@ -20,25 +20,23 @@ abbrev pub end_cut : Option (List ℕ) → List Cell
 end_cut None = []
 end_cut (Some hi) = Str hi ∷ []
 
+abbrev pub num_cut : Bool → ℤ → List Cell
+num_cut true n = Num n ∷ []
+num_cut false n = []
+
 -- the places inside a column where a span begins, or has ended
-abbrev pub cuts_of_kind : Kind → Column → Span → List Cell
-cuts_of_kind Numbers c (Nums lo hi) = (if int_lt c.lo lo then Num lo ∷ [] else []) ++ (if int_lt hi c.hi then Num (hi +ℤ pos 1) ∷ [] else [])
-cuts_of_kind Texts c (Strs lo hi) = text_cut lo ++ end_cut hi
-cuts_of_kind Numbers c Full = []
-cuts_of_kind Numbers c (Strs lo hi) = []
-cuts_of_kind Texts c Full = []
-cuts_of_kind Texts c (Nums lo hi) = []
-
-abbrev pub cuts_of : Column → Span → List Cell
-cuts_of c s = cuts_of_kind c.kind c s
-
-abbrev pub first_of_kind : Kind → Column → Cell
-first_of_kind Numbers c = Num c.lo
-first_of_kind Texts c = Str []
+abbrev pub cuts_of : Kind → ℤ → ℤ → Span → List Cell
+cuts_of Numbers low high (Nums lo hi) = num_cut (int_lt low lo) lo ++ num_cut (int_lt hi high) (hi +ℤ pos 1)
+cuts_of Texts low high (Strs lo hi) = text_cut lo ++ end_cut hi
+cuts_of Numbers low high Full = []
+cuts_of Numbers low high (Strs lo hi) = []
+cuts_of Texts low high Full = []
+cuts_of Texts low high (Nums lo hi) = []
 
 -- the first number of the domain, or the empty text
-abbrev pub first_value : Column → Cell
-first_value c = first_of_kind c.kind c
+abbrev pub first_value : Kind → ℤ → Cell
+first_value Numbers low = Num low
+first_value Texts low = Str []
 
 -- the greatest of the cuts that is not above v, or best
 abbrev pub greatest_below : Cell → List Cell → Cell → Cell
@@ -58,7 +56,7 @@ abbrev pub corner : List Column → List Rect → Row → Row
 corner [] rects p = []
 corner (c ∷ cs) rects [] = []
 corner (c ∷ cs) rects (v ∷ p) =
-    greatest_below (first_value c) (flat_map (λ r. cuts_of c (first_span r)) rects) v ∷ corner cs (map other_spans rects) p
+    greatest_below (first_value c.kind c.lo) (flat_map (λ r. cuts_of c.kind c.lo c.hi (first_span r)) rects) v ∷ corner cs (map other_spans rects) p
 
 -- A point and its corner lie in the same rects.
 abbrev pub CornersDecide : Type 0

@@ -1,5 +1,5 @@
 -- Spans: what a rect asks of one column.
-use Rattle.std.specs.Prelude.{ℕ, int_le, int_lt, Bool, true, false, not, ◌&&◌, ◌||◌, List, [], ◌∷◌, Option, Some, None}
+use Rattle.std.specs.Prelude.{ℕ, ℤ, int_le, int_lt, Bool, true, false, not, ◌&&◌, ◌||◌, List, [], ◌∷◌, Option, Some, None}
 use Rattle.sr_cell.specs.declared.cell.Cell.{Cell}
 use Rattle.sr_cell.specs.declared.cell.Cell.TheVariants.{Num, Str}
 use Rattle.sr_cell.specs.declared.table.Kind.{Kind}
@@ -34,12 +34,12 @@ is_whole [] (Some hi) = false
 is_whole (b ∷ lo) hi = false
 
 -- a span of the column's kind that has some value of the column and, unless it is Full, not each
-abbrev pub fits_kind : Kind → Column → Span → Bool
-fits_kind k c Full = true
-fits_kind Numbers c (Nums lo hi) = int_le c.lo lo && int_le lo hi && int_le hi c.hi && (int_lt c.lo lo || int_lt hi c.hi)
-fits_kind Numbers c (Strs lo hi) = false
-fits_kind Texts c (Nums lo hi) = false
-fits_kind Texts c (Strs lo hi) = are_bytes lo && end_bytes hi && is_below lo hi && not (is_whole lo hi)
+abbrev pub fits_kind : Kind → ℤ → ℤ → Span → Bool
+fits_kind k low high Full = true
+fits_kind Numbers low high (Nums lo hi) = int_le low lo && int_le lo hi && int_le hi high && (int_lt low lo || int_lt hi high)
+fits_kind Numbers low high (Strs lo hi) = false
+fits_kind Texts low high (Nums lo hi) = false
+fits_kind Texts low high (Strs lo hi) = are_bytes lo && end_bytes hi && is_below lo hi && not (is_whole lo hi)
 
 abbrev pub span_fits : Column → Span → Bool
-span_fits c s = fits_kind c.kind c s
+span_fits c s = fits_kind c.kind c.lo c.hi s

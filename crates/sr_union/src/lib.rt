@@ -1,0 +1,4 @@
+//! Unions of rects.
+#![tactic(auto)]
+
+pub mod rects;

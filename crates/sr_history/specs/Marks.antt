@@ -1,20 +1,11 @@
 -- What a client holds, as the history of its marks says.
 use Rattle.std.specs.Prelude.{ℕ, Bool, true, false, ◌&&◌, ◌==◌, List, [], ◌∷◌, if◌then◌else◌, fold}
 use Rattle.std.specs.List.{list_any}
+use Rattle.sr_cell.specs.declared.cause.Cause.{Cause}
 use Rattle.sr_cell.specs.declared.table.Table.{Table}
 use Rattle.sr_cell.specs.Columns.{table_at}
 use Rattle.sr_cell.specs.Attrs.{includes}
 use Rattle.sr_box.specs.Points.{Rect, Points, in_any, HasNoPoint}
-
--- why points are dropped
-pub data Cause : Type 0 where
-  Rows : Cause
-  Regions : Cause
-  Pieces : Cause
-  Absorbed : Cause
-  Asked : Cause
-  Lapsed : Cause
-  Fresh : Cause
 
 -- From here on the points of some rects are held under these columns, or they are so no more.
 pub data Mark : Type 0 where

@@ -1,11 +1,11 @@
 -- What whole reads and writes keep from turn to turn.
-use Rattle.std.proofs.Common.{◌≡◌, ℕ, Bool, true, false, ◌+◌, ◌≤◌, List, [], ◌++◌, length, take, drop, Option, Some, None, arith, rules, option_map, append_assoc, refl, ◌-◌, min, ◌∙◌, ap, sym, length-append, length-drop}
+use Rattle.std.proofs.Common.{◌≡◌, ℕ, Bool, false, ◌+◌, ◌≤◌, List, ◌++◌, length, take, drop, Option, Some, None, arith, ◌-◌, min, ◌∙◌, ap, sym, length-append, length-drop}
 use Rattle.std.proofs.lemmas.Grind.{common_steps}
-use Rattle.std.proofs.lemmas.List.{take_at, length-take, drop-drop}
+use Rattle.std.proofs.lemmas.List.{take_at, length-take}
 use Rattle.std.proofs.lemmas.Simd.{chunk-drop}
-use Rattle.std.proofs.Math.Seq.{take-add, take-append-add}
+use Rattle.std.proofs.Math.Seq.{take-append-add}
 use Rattle.std.specs.Io.KnownBytes.{Consumes, Appends, IsAtEnd}
-use Rattle.sr_io.specs.Pieces.{Lost, WritesPrefix}
+use Rattle.sr_io.specs.Pieces.{Lost}
 use Rattle.sr_io.specs.Told.{Reading, Writing, Linking}
 
 pub record ReadSoFar (S : Type 0) (reading : S → Reading) (writing : S → Writing) (linking : S → Linking) (held : S → List ℕ → Option (List ℕ)) (complaints : S → Option (List ℕ)) (IsSteady : S → Type 0) (first now : S) (bytes : List ℕ) (limit : ℕ) (more : Bool) : Type 0 where

@@ -8,7 +8,6 @@ pub mod mem_sink;
 pub mod mem_source;
 pub mod outside;
 pub mod real_host;
-pub mod whole;
-
 #[cfg(test)]
 mod tests;
+pub mod whole;

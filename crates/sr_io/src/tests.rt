@@ -60,7 +60,11 @@ fn writes_all(rt: HostRuntime) -> Result<(), Fail> {
     for piece in [1, 2, 3] {
         let mut sink = MemSink::new(alloc, Seq::new(alloc), piece);
         write_all(&mut sink, b"ab")?;
-        assert_eq!(rt; sink.written(alloc)?.as_slice(), b"ab".as_slice(), "at {piece}");
+        assert_eq!(rt;
+            sink.written(alloc)?.as_slice(),
+            b"ab".as_slice(),
+            "at {piece}"
+        );
     }
     Ok(())
 }
@@ -70,14 +74,20 @@ fn a_host_reads_writes_and_complains(rt: HostRuntime) -> Result<(), Fail> {
     let alloc = rt.alloc();
     let mut host = host(alloc, &[])?;
     host.pick("greeting")?;
-    assert_eq!(rt; read_all(alloc, &mut host, 5)?.as_slice(), b"hello".as_slice());
+    assert_eq!(rt;
+        read_all(alloc, &mut host, 5)?.as_slice(),
+        b"hello".as_slice()
+    );
     write_all(&mut host, b"ab")?;
     host.complain(b"no such");
     host.complain(b" file");
     assert_eq!(rt; host.pick("gone"), Err(No::Refused(Failed)));
     assert_eq!(rt; (host.read_faults(), host.write_faults()), (1, 0));
     assert_eq!(rt; host.written(alloc)?.as_slice(), b"ab".as_slice());
-    assert_eq!(rt; host.complained(alloc)?.as_slice(), b"no such file".as_slice());
+    assert_eq!(rt;
+        host.complained(alloc)?.as_slice(),
+        b"no such file".as_slice()
+    );
     Ok(())
 }
 

@@ -1,5 +1,5 @@
 //! Calls that are to fail, by their numbers.
-ghost use Rattle.std.specs.Prelude.{◌≡◌, ℕ, ◌+◌, ◌<◌, ◌≤◌, List, length, IsTrue, true, false, min, ◌^◌, ◌-◌};
+ghost use Rattle.std.specs.Prelude.{◌≡◌, ℕ, ◌+◌, ◌≤◌, List, true, false, min, ◌^◌, ◌-◌};
 ghost use Rattle.sr_io.specs.Fails.{NoneAbove, fails_after};
 
 use sr_cell::list::Seq;

@@ -1,9 +1,9 @@
 //! A host in memory.
-ghost use Rattle.std.specs.Prelude.{◌≡◌, ◌↔◌, ℕ, ◌+◌, ◌-◌, ◌<◌, ◌≤◌, min, List, [], length, drop, take, Some, None, vec_len, vec_capacity, IfOk};
+ghost use Rattle.std.specs.Prelude.{◌≡◌, ◌↔◌, ◌<◌, ◌≤◌, [], length, drop, Some, vec_len, vec_capacity, IfOk};
 ghost use Rattle.std.specs.Option.{option_copied};
 ghost use Rattle.sr_io.specs.Fails.{NoneAbove};
 ghost use Rattle.sr_io.specs.Files.{held_of};
-ghost use Rattle.sr_io.specs.Told.{Reading, Writing, no_linking};
+ghost use Rattle.sr_io.specs.Told.{no_linking};
 
 use crate::fails::{Failing, Fails};
 use crate::file::FileList;

@@ -1,7 +1,7 @@
 //! A sink in memory.
-ghost use Rattle.std.specs.Prelude.{◌≡◌, ◌↔◌, ℕ, ◌<◌, ◌≤◌, List, [], length, take, Some, None, IfOk};
+ghost use Rattle.std.specs.Prelude.{◌≡◌, ◌↔◌, ◌<◌, [], Some, None, IfOk};
 ghost use Rattle.sr_io.specs.Fails.{NoneAbove};
-ghost use Rattle.sr_io.specs.Told.{Writing, no_reading, no_linking};
+ghost use Rattle.sr_io.specs.Told.{no_reading, no_linking};
 
 use crate::fails::{Failing, Fails};
 use crate::outside::{Failed, Outside, Sink};

@@ -1,7 +1,7 @@
 //! A source in memory.
-ghost use Rattle.std.specs.Prelude.{◌≡◌, ◌↔◌, ℕ, ◌<◌, ◌≤◌, List, length, drop, Some, None};
+ghost use Rattle.std.specs.Prelude.{◌≡◌, ◌↔◌, ◌<◌, ◌≤◌, length, drop, Some, None};
 ghost use Rattle.sr_io.specs.Fails.{NoneAbove};
-ghost use Rattle.sr_io.specs.Told.{Reading, no_writing, no_linking};
+ghost use Rattle.sr_io.specs.Told.{no_writing, no_linking};
 
 use crate::fails::{Failing, Fails};
 use crate::outside::{Failed, Outside, Source};

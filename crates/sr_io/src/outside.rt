@@ -35,7 +35,7 @@ pub trait Outside {
 
 /// Bytes to be read.
 pub trait Source: Outside {
-    /// Reads some of the bytes left into the front of `room`, and answers how many; 0 only at the end.
+    /// Reads some of the bytes left into the start of `room`, and answers how many; 0 only at the end.
     fn read(&mut self, room: &mut [u8]) -> Result<usize, No<Failed>>
         requires { 0 < length room.old }
         ensures fits_room { ReadsAtMost result room.new }
@@ -58,7 +58,7 @@ pub trait Source: Outside {
 
 /// Where bytes are written.
 pub trait Sink: Outside {
-    /// Writes a front of `bytes`, one byte at least, and answers how many.
+    /// Writes a prefix of `bytes`, one byte at least, and answers how many.
     fn write(&mut self, bytes: &[u8]) -> Result<usize, No<Failed>>
         requires { 0 < length bytes.now }
         ensures some_bytes { IfOk result (λ n. (0 < n) × (n ≤ length bytes.now)) }

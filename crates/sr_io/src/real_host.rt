@@ -1,6 +1,6 @@
 //! The host over the runtime: files, standard input and output, and the error output.
-ghost use Rattle.std.specs.Prelude.{◌≡◌, ℕ, ◌<◌, ◌≤◌, List, length, None, Option, IfSome};
-ghost use Rattle.sr_io.specs.Told.{Reading, Writing, no_linking};
+ghost use Rattle.std.specs.Prelude.{◌≡◌, ◌<◌, ◌≤◌, length, None, IfSome};
+ghost use Rattle.sr_io.specs.Told.{no_linking};
 
 use crate::outside::{Failed, Host, Outside, Sink, Source};
 use sr_cell::list::No;

@@ -1,12 +1,11 @@
-//! Whole runs over the forms in memory, with each call failing in turn.
-ghost use Rattle.std.specs.Prelude.{◌≡◌, ℕ, List, IfOk};
-
+//! Runs over the forms in memory, with each call failing in turn, and a file read by the real host.
 use crate::fails::Fails;
 use crate::file::{File, FileList};
 use crate::mem_host::MemHost;
 use crate::mem_sink::MemSink;
 use crate::mem_source::MemSource;
 use crate::outside::{Failed, Host, Sink, Source};
+use crate::real_host::RealHost;
 use crate::whole::{ReadAll, read_all, write_all};
 use sr_cell::list::{Bytes, No, NoMemory, Seq};
 use sr_cell::text::Text;
@@ -125,5 +124,19 @@ fn a_source_and_a_sink_fail_at_their_numbers(rt: HostRuntime) -> Result<(), Fail
         assert_eq!(rt; sink.write(b"ab") == Err(No::Refused(Failed)), fails);
     }
     assert_eq!(rt; (source.read_faults(), sink.write_faults()), (2, 2));
+    Ok(())
+}
+
+/// The file is the program of this test, which begins as each program of Linux does.
+#[test]
+fn the_real_host_reads_a_file(rt: HostRuntime) -> Result<(), Fail> {
+    let mut host = RealHost::new(&rt);
+    let mut room = [0u8; 4];
+    assert_eq!(rt; host.read(&mut room), Ok(0));
+    assert_eq!(rt; host.pick("/no/such/file"), Err(No::Refused(Failed)));
+    host.pick("/proc/self/exe")?;
+    assert_eq!(rt; host.read(&mut room), Ok(4));
+    assert_eq!(rt; room.as_slice(), b"\x7fELF".as_slice());
+    assert_eq!(rt; host.read_faults(), 1);
     Ok(())
 }

@@ -1,5 +1,5 @@
 //! Whole reads and whole writes.
-ghost use Rattle.std.specs.Prelude.{◌≡◌, ℕ, ◌+◌, ◌<◌, ◌≤◌, List, [], length, take, Option, false, IfOk, OnOk, OnErr, IsErrOf};
+ghost use Rattle.std.specs.Prelude.{◌≡◌, ◌+◌, ◌≤◌, length, IfOk, OnOk, OnErr, IsErrOf};
 ghost use Rattle.std.specs.Io.KnownBytes.{Consumes, Appends, IsAtEnd};
 ghost use Rattle.sr_cell.specs.declared.list.No.TheVariants.{Refused, NoMemory as Wanting};
 ghost use Rattle.sr_io.specs.declared.whole.ReadAll.TheVariants.{ReadFault, TooLong};
@@ -95,7 +95,7 @@ fn read_piece<S: Source>(
     }
 }
 
-/// Writes all bytes. After an `Err` a front of them was written.
+/// Writes all bytes. After an `Err` a prefix of them was written.
 pub fn write_all<K: Sink>(sink: &mut K, bytes: &[u8]) -> Result<(), No<Failed>>
     ensures whole { OnOk result (Appends (K.writing sink.old).written (K.writing sink.new).written bytes.now) }
     ensures prefix { WritesPrefix (K.writing sink.old).written (K.writing sink.new).written bytes.now }

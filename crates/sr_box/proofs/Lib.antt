@@ -1,1 +1,4 @@
 pub mod Widths
+pub mod Order
+pub mod Parts
+pub mod Fits

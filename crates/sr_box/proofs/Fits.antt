@@ -1,16 +1,14 @@
 -- The parts of spans that fit a column fit it.
-use Rattle.std.proofs.Common.{◌≡◌, ℕ, true, false, List, [], ◌∷◌, refl, arith, ◌∙◌, cond}
-use Rattle.std.specs.Prelude.{IsTrue, Bool, not, ◌&&◌, ◌||◌, Option, Some, None, ℤ, int_le, int_lt, pos, ◌+ℤ◌, ◌-ℤ◌}
+use Rattle.std.proofs.Common.{◌≡◌, ℕ, true, false, List, [], ◌∷◌, refl, arith, cond}
+use Rattle.std.specs.Prelude.{Bool, ◌||◌, Option, Some, None, ℤ, int_le, int_lt, pos, ◌+ℤ◌, ◌-ℤ◌}
 use Rattle.std.specs.Int.{int_max, int_min}
 use Rattle.std.proofs.lemmas.Int.{ints}
-use Rattle.std.proofs.lemmas.Bool.Decides.{nat_tests}
 use Rattle.sr_cell.specs.declared.table.Kind.{Kind}
 use Rattle.sr_cell.specs.declared.table.Kind.TheVariants.{Num as Numbers, Str as Texts}
 use Rattle.sr_box.specs.declared.span.Span.{Span}
 use Rattle.sr_box.specs.declared.span.Span.TheVariants.{Full, Nums, Strs}
-use Rattle.sr_cell.specs.Cells.{text_le}
-use Rattle.sr_cell.specs.Columns.{in_kind, are_bytes}
-use Rattle.sr_box.specs.Spans.{is_below, in_span, fits_kind, end_bytes, is_whole}
+use Rattle.sr_cell.specs.Columns.{are_bytes}
+use Rattle.sr_box.specs.Spans.{is_below, fits_kind, end_bytes, is_whole}
 use Rattle.sr_box.specs.Cut.{nums, strs, text_max, end_min, meet, under, over}
 
 abbrev pub maybe_fits : Kind → ℤ → ℤ → Option Span → Bool

@@ -1,18 +1,16 @@
 -- What the parts of a span have.
-use Rattle.std.proofs.Common.{◌≡◌, ℕ, true, false, List, [], ◌∷◌, refl, arith, ◌∙◌, cond}
-use Rattle.std.specs.Prelude.{IsTrue, Bool, not, ◌&&◌, ◌||◌, Option, Some, None, ℤ, int_le, pos, ◌+ℤ◌, ◌-ℤ◌}
+use Rattle.std.proofs.Common.{◌≡◌, ℕ, true, false, List, [], refl, arith, ◌∙◌, cond}
+use Rattle.std.specs.Prelude.{Bool, not, ◌&&◌, ◌||◌, Option, Some, None, ℤ, int_le, pos, ◌+ℤ◌, ◌-ℤ◌}
 use Rattle.std.specs.Int.{int_max, int_min}
 use Rattle.std.proofs.lemmas.Int.{ints}
-use Rattle.std.proofs.lemmas.Bool.Decides.{nat_tests}
 use Rattle.sr_cell.specs.declared.cell.Cell.{Cell}
 use Rattle.sr_cell.specs.declared.cell.Cell.TheVariants.{Num, Str}
 use Rattle.sr_cell.specs.declared.table.Kind.{Kind}
 use Rattle.sr_cell.specs.declared.table.Kind.TheVariants.{Num as Numbers, Str as Texts}
-use Rattle.sr_cell.specs.declared.table.Column.{Column}
 use Rattle.sr_box.specs.declared.span.Span.{Span}
 use Rattle.sr_box.specs.declared.span.Span.TheVariants.{Full, Nums, Strs}
 use Rattle.sr_cell.specs.Cells.{text_le}
-use Rattle.sr_cell.specs.Columns.{in_kind, are_bytes}
+use Rattle.sr_cell.specs.Columns.{in_kind}
 use Rattle.sr_box.specs.Spans.{is_below, in_span, fits_kind}
 use Rattle.sr_box.specs.Cut.{nums, strs, text_max, end_min, meet, under, over, is_under, is_over, in_maybe}
 use Rattle.sr_box.proofs.Order.{text_le-trans, text_le-total, text_max-is, end_min-is, is_below-between}

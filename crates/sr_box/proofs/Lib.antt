@@ -2,3 +2,4 @@ pub mod Widths
 pub mod Order
 pub mod Parts
 pub mod Fits
+pub mod Corners

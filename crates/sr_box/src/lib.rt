@@ -2,5 +2,6 @@
 #![tactic(auto)]
 
 pub mod cut;
+pub mod laws;
 pub mod rect;
 pub mod span;

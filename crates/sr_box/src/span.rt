@@ -1,8 +1,10 @@
 //! Spans.
 ghost use Rattle.std.specs.Prelude.{◌≡◌, ℕ, List, Option, IfOk};
-ghost use Rattle.sr_box.specs.Spans.{is_below, in_span, span_fits};
+ghost use Rattle.sr_box.specs.Spans.{is_below, is_whole, in_span, span_fits};
+ghost use Rattle.sr_box.specs.Points.{constrains};
 
 use sr_cell::cell::{Cell, is_text_at_most};
+use sr_cell::table::{Column, Kind};
 use sr_cell::list::{Bytes, Copied, NoMemory, Same};
 use std::alloc::Global;
 
@@ -49,7 +51,45 @@ pub fn is_before(text: &[u8], end: &Option<Bytes>) -> bool
     }
 }
 
+fn is_whole(lo: &[u8], hi: &Option<Bytes>) -> bool
+    ensures { result ≡ is_whole lo.now hi.now }
+{
+    match hi {
+        None => lo.is_empty(),
+        Some(_) => false,
+    }
+}
+
 impl Span {
+    /// Whether the span has some values alone.
+    pub fn constrains(&self) -> bool
+        ensures { result ≡ constrains self.now }
+    {
+        match self {
+            Span::Full => false,
+            _ => true,
+        }
+    }
+
+    /// Whether the span is of the column's kind, inside its domain, not empty and, unless it is `Full`, not whole.
+    pub fn fits(&self, column: &Column) -> bool
+        ensures { result ≡ span_fits column.now self.now }
+    {
+        match (column.kind, self) {
+            (_, Span::Full) => true,
+            (Kind::Num, Span::Nums { lo, hi }) => {
+                column.lo <= *lo
+                    && *lo <= *hi
+                    && *hi <= column.hi
+                    && (column.lo < *lo || *hi < column.hi)
+            }
+            (Kind::Str, Span::Strs { lo, hi }) => {
+                is_before(lo.as_slice(), hi) && !is_whole(lo.as_slice(), hi)
+            }
+            _ => false,
+        }
+    }
+
     /// Whether the span has the cell.
     pub fn has(&self, cell: &Cell) -> bool
         ensures { result ≡ in_span self.now cell.now }

@@ -70,7 +70,7 @@ impl Rect {
         ensures { IfOk result (λ rect. rect ≡ full_rect table.now.columns) }
     {
         let mut rect = Rect::new(alloc);
-        for _ in 0..table.columns.len() {
+        for _column in table.columns.as_slice() {
             rect.push(Span::Full)?;
         }
         Ok(rect)

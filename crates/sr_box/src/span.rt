@@ -1,11 +1,12 @@
 //! Spans.
-ghost use Rattle.std.specs.Prelude.{◌≡◌, ℕ, List, Option, IfOk};
-ghost use Rattle.sr_box.specs.Spans.{is_below, is_whole, in_span, span_fits};
+ghost use Rattle.std.specs.Prelude.{◌≡◌, ℕ, List, Option, IfOk, IsTrue, int_le, int_lt, not, ◌&&◌, ◌||◌};
+ghost use Rattle.sr_box.specs.Spans.{end_bytes, is_below, is_whole, in_span, span_fits};
+ghost use Rattle.sr_cell.specs.Columns.{are_bytes};
 ghost use Rattle.sr_box.specs.Points.{constrains};
 
 use sr_cell::cell::{Cell, is_text_at_most};
-use sr_cell::table::{Column, Kind};
 use sr_cell::list::{Bytes, Copied, NoMemory, Same};
+use sr_cell::table::{Column, Kind};
 use std::alloc::Global;
 
 /// The values of one column that a rect has: all of them, the numbers from `lo` to `hi`, both inside, or the texts
@@ -51,12 +52,30 @@ pub fn is_before(text: &[u8], end: &Option<Bytes>) -> bool
     }
 }
 
-fn is_whole(lo: &[u8], hi: &Option<Bytes>) -> bool
-    ensures { result ≡ is_whole lo.now hi.now }
+fn nums_fit(low: i64, high: i64, lo: i64, hi: i64) -> bool
+    ensures { result ≡ (int_le low lo && int_le lo hi && int_le hi high && (int_lt low lo || int_lt hi high)) }
 {
+    if lo < low || hi < lo || high < hi {
+        return false;
+    }
+    low < lo || hi < high
+}
+
+// A fact for the proof of its caller: the items of such a slice are bytes.
+fn know_bytes(text: &[u8])
+    ensures { IsTrue (are_bytes text.now) }
+{}
+
+fn texts_fit(lo: &[u8], hi: &Option<Bytes>) -> bool
+    ensures { result ≡ (are_bytes lo.now && end_bytes hi.now && is_below lo.now hi.now && not (is_whole lo.now hi.now)) }
+{
+    know_bytes(lo);
     match hi {
-        None => lo.is_empty(),
-        Some(_) => false,
+        None => !lo.is_empty(),
+        Some(end) => {
+            know_bytes(end.as_slice());
+            !is_text_at_most(end.as_slice(), lo)
+        }
     }
 }
 
@@ -77,15 +96,8 @@ impl Span {
     {
         match (column.kind, self) {
             (_, Span::Full) => true,
-            (Kind::Num, Span::Nums { lo, hi }) => {
-                column.lo <= *lo
-                    && *lo <= *hi
-                    && *hi <= column.hi
-                    && (column.lo < *lo || *hi < column.hi)
-            }
-            (Kind::Str, Span::Strs { lo, hi }) => {
-                is_before(lo.as_slice(), hi) && !is_whole(lo.as_slice(), hi)
-            }
+            (Kind::Num, Span::Nums { lo, hi }) => nums_fit(column.lo, column.hi, *lo, *hi),
+            (Kind::Str, Span::Strs { lo, hi }) => texts_fit(lo.as_slice(), hi),
             _ => false,
         }
     }

@@ -1,0 +1,4 @@
+//! Lists of rows by key ascending.
+#![tactic(auto)]
+
+pub mod rows;

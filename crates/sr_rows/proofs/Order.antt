@@ -30,9 +30,9 @@ cell_le-trans (Str a) (Num b) c h k = absurd (grind arith)
 cell_le-trans (Str a) (Str b) (Num c) h k = absurd (grind arith)
 cell_le-trans (Str a) (Str b) (Str c) h k = text_le-trans a b c h k
 
-pub cell_le-refl : (a b c : Cell) → cell_le a b ≡ true → cell_le a a ≡ true
-cell_le-refl (Num a) b c h = grind (arith, ints)
-cell_le-refl (Str s) b c h = let t = text_le-total s s in grind (arith, t)
+pub cell_le-refl : (v : Cell) → cell_le v v ≡ true
+cell_le-refl (Num n) = grind (arith, ints)
+cell_le-refl (Str s) = let t = text_le-total s s in grind (arith, t)
 
 -- a row that is too short has 0 there
 pub cell_at_absent : (row : Row) (key : ℕ) → slice_get row key ≡ None → slice_index_or row key (Num (pos 0)) ≡ Num (pos 0)

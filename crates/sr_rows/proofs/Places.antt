@@ -30,7 +30,7 @@ point-place p [] n le point = omega arith
 point-place p (x ∷ xs) n le point =
     sym (prefix_len_is p (x ∷ xs) n x le (λ k below. point.0 k x (omega arith) below) (λ below. point.1 n x (omega arith) below))
 
-one_more : (n : ℕ) → 1 + n ≡ suc n
+pub one_more : (n : ℕ) → 1 + n ≡ suc n
 one_more n = omega arith
 
 pub with_row-place : (key : ℕ) (rows : List Row) (row : Row)

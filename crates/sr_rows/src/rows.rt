@@ -1,14 +1,18 @@
 //! Rows by key: places, look-ups and puts.
 ghost use Rattle.std.specs.Prelude.{◌≡◌, ℕ, ◌≤◌, true, List, length, OnOk, OnErr};
 ghost use Rattle.sr_cell.specs.Cells.{cell_at, cell_le};
-ghost use Rattle.sr_model.specs.SortedRows.{ascend, has_key, with_row};
+ghost use Rattle.sr_model.specs.SortedRows.{ascend, has_key, with_row, with_rows};
 ghost use Rattle.sr_rows.specs.Places.{place_at, is_apart};
+ghost use Rattle.sr_rows.specs.Laws.{PartsJoin};
 
+use crate::merge::merged;
 use sr_cell::cell::{Cell, Row, Rows};
-use sr_cell::list::NoMemory;
+use sr_cell::list::{NoMemory, Seq};
+use std::collections::VecDeque;
+use std::mem;
 
 #[tactic(auto, using(crate::proofs::Order::cell_at_absent))]
-fn is_key_at_most(row: &Row, key: usize, cell: &Cell) -> bool
+pub(crate) fn is_key_at_most(row: &Row, key: usize, cell: &Cell) -> bool
     ensures { result ≡ cell_le (cell_at row.now key) cell.now }
 {
     match row.get(key) {
@@ -75,4 +79,24 @@ pub fn put(rows: &mut Rows, key: usize, row: Row) -> Result<(), NoMemory>
 {
     let place = place_of_row(rows.as_slice(), key, &row);
     rows.insert(place, row)
+}
+
+/// Other rows by key among these, each at its place.
+pub fn put_all(rows: &mut Rows, key: usize, more: Rows) -> Result<(), NoMemory>
+    requires { ascend key more ≡ true }
+    ensures put { OnOk result (rows.new ≡ with_rows key rows.old more) }
+    ensures unchanged { OnErr result (rows.new ≡ rows.old) }
+{
+    let more = more.into_vec();
+    let alloc = *more.allocator();
+    let room = Vec::with_capacity(alloc, rows.as_slice().len() + more.len())?;
+    let own = mem::replace(rows, Seq::new(alloc)).into_vec();
+    *rows = Seq::from_vec(merged(VecDeque::from_vec(own), VecDeque::from_vec(more), key, room));
+    Ok(())
+}
+
+/// Parts of rows with none in common, put together by key, are the rows of either.
+pub fn parts_join()
+    ensures { PartsJoin }
+{
 }

@@ -1,5 +1,6 @@
 pub mod Filters
 pub mod TwoColumns
+pub mod BoundLemmas
 pub mod Coverage
 pub mod RestLemmas
 pub mod OnePart

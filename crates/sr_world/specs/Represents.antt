@@ -20,7 +20,7 @@ use Rattle.sr_reader.specs.Read.{range_of}
 use Rattle.sr_scene.specs.Server.{Session, row_messages}
 use Rattle.sr_scene.specs.Scene as scene
 use Rattle.sr_scene.specs.Scene.{Scene, Request, AskOut, Numbered}
-use Rattle.sr_world.specs.declared.query.Query.{Query}
+use Rattle.sr_world.specs.Bound.{meaning_of, part_of, IsBound}
 use Rattle.sr_world.specs.declared.client.AskOut as code
 use Rattle.sr_world.specs.declared.client.Client.{Client}
 use Rattle.sr_world.specs.declared.world.World.{World}
@@ -31,14 +31,6 @@ pub record Past : Type 0 where
   pub marks : List Mark
   pub queries : List Numbered
   pub session : Session
-
--- what a bound query means
-abbrev pub meaning_of : Query → queries.Query
-meaning_of q = select_of q.outputs (range_of q.range)
-
--- its one part
-abbrev pub part_of : Query → Part
-part_of q = record { table = 0; need = 3; condition = condition_of (range_of q.range) }
 
 abbrev pub request_of : Option code.AskOut → Option Request
 request_of None = None
@@ -65,12 +57,6 @@ abbrev pub AllHeld : List Mark → Type 0
 AllHeld [] = Unit {0}
 AllHeld (Held table attrs rects ∷ marks) = (table ≡ 0) × (attrs ≡ 3) × AllHeld marks
 AllHeld (Dropped cause table attrs stamp rects ∷ marks) = ⊥
-
--- a query's rects are rects of the table and have just the points of its condition, and it answers columns of the table
-pub record IsBound (t : Table) (q : Query) : Type 0 where
-  pub fits : IsTrue (list_all (rect_fits t.columns) q.rects)
-  pub same : AreSame t.columns (in_any q.rects) (points_of (part_of q))
-  pub outputs : IsTrue (list_all (λ c. nat_lt c 2) q.outputs)
 
 -- the ask that is out asks the rest of the newest query
 pub record IsOut (t : Table) (w : World) (past : Past) (o : code.AskOut) : Type 0 where

@@ -1,5 +1,7 @@
 //! Lists of rows by key ascending.
 #![tactic(auto)]
 
+pub mod faults;
+pub mod insert;
 mod merge;
 pub mod rows;

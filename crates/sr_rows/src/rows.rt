@@ -22,7 +22,7 @@ pub(crate) fn is_key_at_most(row: &Row, key: usize, cell: &Cell) -> bool
 }
 
 #[tactic(auto, using(crate::proofs::Order::cell_at_absent))]
-fn is_key_at_least(row: &Row, key: usize, cell: &Cell) -> bool
+pub(crate) fn is_key_at_least(row: &Row, key: usize, cell: &Cell) -> bool
     ensures { result ≡ cell_le cell.now (cell_at row.now key) }
 {
     match row.get(key) {
@@ -59,7 +59,7 @@ pub fn has_key_of(rows: &Rows, key: usize, cell: &Cell) -> bool
 }
 
 #[tactic(auto, using(crate::proofs::Order::cell_at_absent))]
-fn place_of_row(rows: &[Row], key: usize, row: &Row) -> usize
+pub(crate) fn place_of_row(rows: &[Row], key: usize, row: &Row) -> usize
     requires { ascend key rows.now ≡ true }
     ensures place { result ≡ place_at key (cell_at row.now key) rows.now }
     ensures within { result ≤ length rows.now }

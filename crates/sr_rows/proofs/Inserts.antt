@@ -1,6 +1,6 @@
 -- What a statement's rows make of a table's rows.
-use Rattle.std.proofs.Common.{◌≡◌, ℕ, zero, suc, ◌+◌, ◌<◌, ◌≤◌, Bool, true, false, not, ◌&&◌, ◌||◌, List, [], ◌∷◌, ◌++◌, length, take, drop, get_or, refl, sym, ap, ◌∙◌, arith}
-use Rattle.std.specs.Prelude.{ℤ, if◌then◌else◌, nat_lt, nat_le, Option, Some, None, Result, Ok, Err, ◌==◌, slice_get}
+use Rattle.std.proofs.Common.{◌≡◌, ℕ, zero, suc, ◌+◌, ◌<◌, ◌≤◌, Bool, true, false, ◌||◌, List, [], ◌∷◌, ◌++◌, length, take, drop, get_or, refl, sym, ap, ◌∙◌, arith}
+use Rattle.std.specs.Prelude.{ℤ, if◌then◌else◌, nat_lt, Option, Some, None, Result, Ok, Err, ◌==◌}
 use Rattle.std.specs.List.{list_all, list_any}
 use Rattle.std.proofs.lemmas.Int.{ints}
 use Rattle.std.proofs.lemmas.List.{drop_all, drop_more, take_more}
@@ -14,8 +14,8 @@ use Rattle.sr_cell.specs.declared.table.Table.{Table}
 use Rattle.sr_cell.specs.declared.fault.Fault.{Fault}
 use Rattle.sr_cell.specs.declared.fault.Why.TheVariants.{DuplicateKey, TableFull, TooManyChanges}
 use Rattle.sr_cell.specs.Cells.{Row, cell_at, cell_le, cell_eq}
-use Rattle.sr_cell.specs.Columns.{takes_kind, takes_cell, fits_columns}
-use Rattle.sr_model.specs.SortedRows.{key_lt, ascend, has_key, with_row, with_rows}
+use Rattle.sr_cell.specs.Columns.{takes_kind, fits_columns}
+use Rattle.sr_model.specs.SortedRows.{ascend, has_key, with_row, with_rows}
 use Rattle.sr_model.specs.Statements.{cell_fault, first_fault, bad_cell_from, key_fault, fault_of_row, or_else, within_limits, inserted}
 use Rattle.sr_rows.specs.Places.{is_apart}
 use Rattle.sr_rows.specs.Inserts.{fault_from, limit_fault, are_apart}
@@ -89,15 +89,15 @@ bad_cell-short c columns row i short = rw (drop_all i row short) (empty columns)
 pub fault-step : (table : Table) (rows more : List Row) (i : ℕ) (row : Row) → i < length more → row ≡ get_or more i row
     → fault_of_row table i (with_rows table.key rows (take i more)) row ≡ None
     → fault_from table i (with_rows table.key rows (take i more)) (drop i more)
-      ≡ fault_from table (i + 1) (with_rows table.key rows (take (i + 1) more)) (drop (i + 1) more)
+    ≡ fault_from table (i + 1) (with_rows table.key rows (take (i + 1) more)) (drop (i + 1) more)
 fault-step table rows more i row below is none =
     let cons : drop i more ≡ row ∷ drop (i + 1) more = drop_more more i row below ∙ ap (λ x. x ∷ drop (i + 1) more) (sym is) in
     let push : take (i + 1) more ≡ take i more ++ row ∷ [] = take_more more i row below ∙ ap (λ x. take i more ++ x ∷ []) (sym is) in
     let all = with_rows-push table.key rows (take i more) row in
     let next : with_row table.key (with_rows table.key rows (take i more)) row ≡ with_rows table.key rows (take (i + 1) more) = sym (ap (λ xs. with_rows table.key rows xs) push ∙ all) in
     ap (λ xs. fault_from table i (with_rows table.key rows (take i more)) xs) cons
-      ∙ ap (λ fault. first_fault fault (fault_from table (i + 1) (with_row table.key (with_rows table.key rows (take i more)) row) (drop (i + 1) more))) none
-      ∙ ap (λ xs. fault_from table (i + 1) xs (drop (i + 1) more)) next
+    ∙ ap (λ fault. first_fault fault (fault_from table (i + 1) (with_row table.key (with_rows table.key rows (take i more)) row) (drop (i + 1) more))) none
+    ∙ ap (λ xs. fault_from table (i + 1) xs (drop (i + 1) more)) next
 
 -- the outcome of a statement, by its first fault
 
@@ -129,7 +129,7 @@ inserted-by table more rows =
     let e : 0 + length more ≡ length more = omega arith in
     let all = with_rows table.key rows more in
     inserted-from table 0 more rows ∙ ap (λ x. or_else (fault_from table 0 rows more) x)
-      (ap (λ n. within_limits n all) e ∙ limits-from (length more) all ∙ ap (λ n. or_else (limit_fault (length more) n) (Ok all)) (length-with_rows table.key rows more))
+    (ap (λ n. within_limits n all) e ∙ limits-from (length more) all ∙ ap (λ n. or_else (limit_fault (length more) n) (Ok all)) (length-with_rows table.key rows more))
 
 -- rows that fit
 
@@ -162,7 +162,7 @@ in_order Texts low high (Num n) w h k = absurd (cc)
 in_order Texts low high (Str s) (Num m) h k = absurd (cc)
 in_order Texts low high (Str s) (Str t) h k = text_le-total s t
 
-keys_in_order : (columns : List Column) (key : ℕ) (r s : Row) → key < length columns → fits_columns columns r ≡ true → fits_columns columns s ≡ true
+pub keys_in_order : (columns : List Column) (key : ℕ) (r s : Row) → key < length columns → fits_columns columns r ≡ true → fits_columns columns s ≡ true
     → (cell_le (cell_at r key) (cell_at s key) || cell_le (cell_at s key) (cell_at r key)) ≡ true
 keys_in_order [] key r s below h k = absurd (omega arith)
 keys_in_order (c ∷ columns) key [] s below h k = absurd (cc)
@@ -170,7 +170,7 @@ keys_in_order (c ∷ columns) key (v ∷ r) [] below h k = absurd (cc)
 keys_in_order (c ∷ columns) zero (v ∷ r) (w ∷ s) below h k = in_order c.kind c.lo c.hi v w (grind arith) (grind arith)
 keys_in_order (c ∷ columns) (suc key) (v ∷ r) (w ∷ s) below h k = keys_in_order columns key r s (omega arith) (grind arith) (grind arith)
 
-apart-fits : (columns : List Column) (key : ℕ) (rows : List Row) (row : Row) → key < length columns → list_all (λ r. fits_columns columns r) rows ≡ true → fits_columns columns row ≡ true
+pub apart-fits : (columns : List Column) (key : ℕ) (rows : List Row) (row : Row) → key < length columns → list_all (λ r. fits_columns columns r) rows ≡ true → fits_columns columns row ≡ true
     → has_key key (cell_at row key) rows ≡ false → is_apart key rows row ≡ true
 apart-fits columns key [] row below all fits lacks = refl
 apart-fits columns key (r ∷ rows) row below all fits lacks =
@@ -209,10 +209,10 @@ pub refused-by_limit : (table : Table) (more rows : List Row) (fault : Fault) �
     → limit_fault (length more) (length rows + length more) ≡ Some fault → inserted table 0 more rows ≡ Err fault
 refused-by_limit table more rows fault none is =
     inserted-by table more rows ∙ ap (λ x. or_else x (or_else (limit_fault (length more) (length rows + length more)) (Ok (with_rows table.key rows more)))) none
-      ∙ ap (λ x. or_else x (Ok (with_rows table.key rows more))) is
+    ∙ ap (λ x. or_else x (Ok (with_rows table.key rows more))) is
 
 pub inserted-done : (table : Table) (more rows : List Row) → fault_from table 0 rows more ≡ None → limit_fault (length more) (length rows + length more) ≡ None
     → inserted table 0 more rows ≡ Ok (with_rows table.key rows more)
 inserted-done table more rows none few =
     inserted-by table more rows ∙ ap (λ x. or_else x (or_else (limit_fault (length more) (length rows + length more)) (Ok (with_rows table.key rows more)))) none
-      ∙ ap (λ x. or_else x (Ok (with_rows table.key rows more))) few
+    ∙ ap (λ x. or_else x (Ok (with_rows table.key rows more))) few

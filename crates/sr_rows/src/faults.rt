@@ -89,13 +89,7 @@ fn is_key_taken(rows: &Rows, earlier: &[Row], key: usize, row: &Row) -> bool
 }
 
 /// Why a row can't be inserted behind the earlier ones of its statement, whose number it is.
-fn row_fault(
-    table: &Table,
-    rows: &Rows,
-    earlier: &[Row],
-    row: &Row,
-    number: u32,
-) -> Option<Fault>
+fn row_fault(table: &Table, rows: &Rows, earlier: &[Row], row: &Row, number: u32) -> Option<Fault>
     requires ascending { ascend table.now.key rows.now ≡ true }
     requires columns { length table.now.columns < 2 ^ 32 }
     ensures { result ≡ fault_of_row table.now number (with_rows table.now.key rows.now earlier.now) row.now }
@@ -114,7 +108,7 @@ fn row_fault(
 }
 
 /// The first fault of a statement's rows; nothing is changed.
-pub fn first_fault(table: &Table, rows: &Rows, more: &[Row]) -> Option<Fault>
+pub(crate) fn first_fault(table: &Table, rows: &Rows, more: &[Row]) -> Option<Fault>
     requires ascending { ascend table.now.key rows.now ≡ true }
     requires columns { length table.now.columns < 2 ^ 32 }
     requires number { length more.now < 2 ^ 32 }
@@ -130,7 +124,7 @@ pub fn first_fault(table: &Table, rows: &Rows, more: &[Row]) -> Option<Fault>
 }
 
 /// Why a table can't have so many rows, or a statement make so many changes.
-pub fn limit_fault(changes: usize, count: usize) -> Option<Fault>
+pub(crate) fn limit_fault(changes: usize, count: usize) -> Option<Fault>
     requires { changes < 2 ^ 32 }
     ensures { result ≡ limit_fault changes count }
 {

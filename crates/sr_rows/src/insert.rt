@@ -90,7 +90,7 @@ pub fn insert_all(
         None => {}
     }
     match limit_fault(more.len(), rows.as_slice().len() + more.len()) {
-        Some(fault) => return Err(No::Refused(fault)),
+        Some(limit) => return Err(No::Refused(limit)),
         None => {}
     }
     match put_each(alloc, rows, table.key as usize, more) {

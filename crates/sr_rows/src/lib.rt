@@ -5,3 +5,5 @@ pub mod faults;
 pub mod insert;
 mod merge;
 pub mod rows;
+#[cfg(test)]
+mod tests;

@@ -32,7 +32,7 @@ pub(crate) fn is_key_at_least(row: &Row, key: usize, cell: &Cell) -> bool
 }
 
 /// How many rows of a slice have a key that is at most the cell.
-pub fn place_in(rows: &[Row], key: usize, cell: &Cell) -> usize
+fn place_in(rows: &[Row], key: usize, cell: &Cell) -> usize
     requires { ascend key rows.now ≡ true }
     ensures place { result ≡ place_at key cell.now rows.now }
     ensures within { result ≤ length rows.now }
@@ -98,5 +98,4 @@ pub fn put_all(rows: &mut Rows, key: usize, more: Rows) -> Result<(), NoMemory>
 /// Parts of rows with none in common, put together by key, are the rows of either.
 pub fn parts_join()
     ensures { PartsJoin }
-{
-}
+{}

@@ -1,4 +1,4 @@
-use Rattle.std.proofs.Common.{◌≡◌, arith}
+use Rattle.std.proofs.Common.{arith}
 use Rattle.std.proofs.lemmas.Grind.{common_steps}
 use Rattle.sr_cell.specs.Cells.{cell_at}
 use Rattle.sr_rows.proofs.Inserts.{has_key-with_rows}

@@ -1,9 +1,8 @@
-use Rattle.std.proofs.Common.{◌≡◌, ◌+◌, true, List, length, None, Some, Err, ap, sym, ◌∙◌}
+use Rattle.std.proofs.Common.{◌≡◌, ◌+◌, length, None, Some, ap, ◌∙◌}
 use Rattle.std.specs.List.{list_all}
-use Rattle.sr_cell.specs.Cells.{Row}
 use Rattle.sr_cell.specs.Columns.{fits_columns}
 use Rattle.sr_model.specs.SortedRows.{ascend, with_rows}
-use Rattle.sr_rows.specs.Inserts.{fault_from, limit_fault, are_apart}
+use Rattle.sr_rows.specs.Inserts.{fault_from, limit_fault}
 use Rattle.sr_rows.proofs.Inserts.{refused-by_row, refused-by_limit, inserted-done, apart-faultless, apart-ascend}
 use Rattle.sr_rows.proofs.insert.insert_all.Goals as goal
 
@@ -16,8 +15,8 @@ returns-in-Some-clause-refused c fault is =
 pub returns-in-Some-limit_fault-clause-refused : goal.returns-in-Some-limit_fault-clause-refused
 returns-in-Some-limit_fault-clause-refused c fault is =
     let none : fault_from c.args.table.now 0 c.args.rows.now c.args.more ≡ None = cc in
-    let limit : limit_fault (length c.args.more) (length c.args.rows.now + length c.args.more) ≡ Some c.in-Some-limit_fault.fault = cc in
-    let all = refused-by_limit c.args.table.now c.args.more c.args.rows.now c.in-Some-limit_fault.fault none limit in
+    let limit : limit_fault (length c.args.more) (length c.args.rows.now + length c.args.more) ≡ Some c.in-Some-limit_fault.limit = cc in
+    let all = refused-by_limit c.args.table.now c.args.more c.args.rows.now c.in-Some-limit_fault.limit none limit in
     cc
 
 pub put_each-requires-clause-apart : goal.put_each-requires-clause-apart

@@ -1,4 +1,4 @@
-use Rattle.std.proofs.Common.{◌≡◌, arith}
+use Rattle.std.proofs.Common.{arith}
 use Rattle.std.proofs.lemmas.Grind.{common_steps}
 use Rattle.sr_rows.proofs.Places.{with_row-place}
 use Rattle.sr_rows.proofs.insert.put_reserved.Goals as goal

@@ -1,11 +1,11 @@
 -- Rows put among others, and parts of rows put together.
 use Rattle.std.proofs.Common.{◌≡◌, ℕ, ◌+◌, Bool, true, false, cond, not, ◌&&◌, ◌||◌, List, [], ◌∷◌, ◌++◌, take, drop, refl, sym, ap, subst, ◌∙◌, arith, append_assoc}
-use Rattle.std.specs.Prelude.{if◌then◌else◌, filter, Option, Some, None, option_to_list}
+use Rattle.std.specs.Prelude.{filter, Option, Some, None, option_to_list}
 use Rattle.std.specs.List.{list_all, prefix_len}
 use Rattle.std.proofs.lemmas.List.Folds.{list_all-append}
 use Rattle.sr_cell.specs.declared.cell.Cell.{Cell}
 use Rattle.sr_cell.specs.Cells.{Row, cell_at, cell_le}
-use Rattle.sr_model.specs.SortedRows.{key_lt, ascend, with_row, with_rows}
+use Rattle.sr_model.specs.SortedRows.{ascend, with_row, with_rows}
 use Rattle.sr_rows.specs.Places.{place_at, is_own_next}
 use Rattle.sr_rows.proofs.Order.{cell_le-trans, cell_le-refl, key_lt-le, key_lt-not, is_first, ascend-tail, ascend-first, first-ascend}
 use Rattle.sr_rows.proofs.Places.{with_row-place, one_more}
@@ -74,7 +74,7 @@ one-passes key row = let t = cell_le-refl (cell_at row key) in grind (arith, t)
 -- the first of some ascending rows goes to its place, and the others behind it
 pub with_rows-step : (key : ℕ) (rows : List Row) (row : Row) (more : List Row) → ascend key (row ∷ more) ≡ true
     → with_rows key rows (row ∷ more)
-      ≡ (take (place_at key (cell_at row key) rows) rows ++ row ∷ []) ++ with_rows key (drop (place_at key (cell_at row key) rows) rows) more
+    ≡ (take (place_at key (cell_at row key) rows) rows ++ row ∷ []) ++ with_rows key (drop (place_at key (cell_at row key) rows) rows) more
 with_rows-step key rows row more h =
     let p : Row → Bool = λ r. cell_le (cell_at r key) (cell_at row key) in
     let before = take (place_at key (cell_at row key) rows) rows in
@@ -84,7 +84,7 @@ with_rows-step key rows row more h =
     let two = one-passes key row in
     let all : are_at_most key (cell_at row key) (before ++ row ∷ []) ≡ true = list_all-append p before (row ∷ []) ∙ grind (arith, one, two) in
     ap (λ xs. with_rows key xs more) e
-      ∙ with_rows-behind key (before ++ row ∷ []) after more (at_most-first key row more (before ++ row ∷ []) (ascend-first key row more h) all)
+    ∙ with_rows-behind key (before ++ row ∷ []) after more (at_most-first key row more (before ++ row ∷ []) (ascend-first key row more h) all)
 
 with_row-front : (key : ℕ) (row : Row) (rows : List Row) → is_first key row rows ≡ true → with_row key rows row ≡ row ∷ rows
 with_row-front key row [] f = refl
@@ -105,14 +105,13 @@ with_rows-filters key f g (r ∷ rows) h apart =
 
     go : (a b : Bool) → not (a && b) ≡ true → with_rows key (filter f rows) (filter g rows) ≡ filter (λ row. f row || g row) rows
         → with_rows key (cond a (r ∷ filter f rows) (filter f rows)) (cond b (r ∷ filter g rows) (filter g rows))
-          ≡ cond (a || b) (r ∷ filter (λ row. f row || g row) rows) (filter (λ row. f row || g row) rows)
+        ≡ cond (a || b) (r ∷ filter (λ row. f row || g row) rows) (filter (λ row. f row || g row) rows)
     go true true both ih = absurd (grind arith)
     go true false both ih = with_rows-front key r (filter f rows) (filter g rows) (first-filter key r g rows here) ∙ ap (λ xs. r ∷ xs) ih
     go false true both ih =
         ap (λ xs. with_rows key xs (filter g rows)) (with_row-front key r (filter f rows) (first-filter key r f rows here))
-          ∙ with_rows-front key r (filter f rows) (filter g rows) (first-filter key r g rows here) ∙ ap (λ xs. r ∷ xs) ih
+        ∙ with_rows-front key r (filter f rows) (filter g rows) (first-filter key r g rows here) ∙ ap (λ xs. r ∷ xs) ih
     go false false both ih = ih
-
 
 -- two lists by key as one, row by row: which of them the next row is of
 pub with_rows-own : (key : ℕ) (r : Row) (rows more : List Row) → ascend key more ≡ true → is_own_next key (r ∷ rows) more ≡ true
@@ -120,9 +119,9 @@ pub with_rows-own : (key : ℕ) (r : Row) (rows more : List Row) → ascend key 
 with_rows-own key r rows [] h own = refl
 with_rows-own key r rows (m ∷ more) h own =
     with_rows-behind key (r ∷ []) rows (m ∷ more)
-      (let le : are_at_most key (cell_at m key) (r ∷ []) ≡ true = grind (arith, own) in
-       let others = at_most-first key m more (r ∷ []) (ascend-first key m more h) le in
-       grind (arith, le, others))
+    (let le : are_at_most key (cell_at m key) (r ∷ []) ≡ true = grind (arith, own) in
+    let others = at_most-first key m more (r ∷ []) (ascend-first key m more h) le in
+    grind (arith, le, others))
 
 pub with_rows-other : (key : ℕ) (rows : List Row) (m : Row) (more : List Row) → ascend key (m ∷ more) ≡ true → is_own_next key rows (m ∷ more) ≡ false
     → with_rows key rows (m ∷ more) ≡ m ∷ with_rows key rows more

@@ -1,12 +1,12 @@
 -- Places of rows by key.
-use Rattle.std.proofs.Common.{◌≡◌, ℕ, zero, suc, ◌+◌, ◌-◌, ◌<◌, ◌≤◌, Bool, true, false, cond, not, ◌&&◌, ◌||◌, List, [], ◌∷◌, ◌++◌, length, take, drop, get_or, refl, sym, ap, ◌∙◌, arith}
+use Rattle.std.proofs.Common.{◌≡◌, ℕ, zero, suc, ◌+◌, ◌-◌, ◌<◌, ◌≤◌, Bool, true, false, cond, ◌&&◌, ◌||◌, List, [], ◌∷◌, ◌++◌, length, take, drop, refl, sym, ap, arith}
 use Rattle.std.specs.Prelude.{if◌then◌else◌, nat_lt, slice_index_or}
-use Rattle.std.specs.List.{list_all, list_any, prefix_len}
+use Rattle.std.specs.List.{prefix_len}
 use Rattle.std.specs.List.Sorted.{IsPartitionedBy, IsPartitionPoint}
 use Rattle.std.proofs.lemmas.List.Sums.{prefix_len_is}
 use Rattle.std.proofs.lemmas.Bool.Decides.{nat_tests}
 use Rattle.sr_cell.specs.declared.cell.Cell.{Cell}
-use Rattle.sr_cell.specs.Cells.{Row, cell_at, cell_le, cell_eq}
+use Rattle.sr_cell.specs.Cells.{Row, cell_at, cell_le}
 use Rattle.sr_model.specs.SortedRows.{key_lt, ascend, has_key, with_row}
 use Rattle.sr_rows.specs.Places.{place_at, is_apart}
 use Rattle.sr_rows.proofs.Order.{cell_le-trans, key_lt-le, key_lt-not, is_first, ascend-tail, ascend-first, first-ascend}
@@ -40,7 +40,7 @@ with_row-place key (r ∷ rows) row = go (cell_le (cell_at r key) (cell_at row k
   where
     go : (b : Bool) → with_row key rows row ≡ take (place_at key (cell_at row key) rows) rows ++ row ∷ drop (place_at key (cell_at row key) rows) rows
         → (if b then r ∷ with_row key rows row else row ∷ r ∷ rows)
-          ≡ take (cond b (1 + place_at key (cell_at row key) rows) 0) (r ∷ rows) ++ row ∷ drop (cond b (1 + place_at key (cell_at row key) rows) 0) (r ∷ rows)
+        ≡ take (cond b (1 + place_at key (cell_at row key) rows) 0) (r ∷ rows) ++ row ∷ drop (cond b (1 + place_at key (cell_at row key) rows) 0) (r ∷ rows)
     go true ih = rw one_more (ap (λ xs. r ∷ xs) ih)
     go false ih = refl
 
@@ -77,7 +77,7 @@ has_key-place key v (r ∷ rows) h =
         → has_key key v rows ≡ (nat_lt 0 n && cell_le v (cell_at (slice_index_or rows (n - 1) []) key))
         → (cell_le (cell_at r key) v ≡ false → has_key key v rows ≡ false)
         → ((b && cell_le v (cell_at r key)) || has_key key v rows)
-          ≡ (nat_lt 0 (cond b (1 + n) 0) && cell_le v (cell_at (slice_index_or (r ∷ rows) (cond b (1 + n) 0 - 1) []) key))
+        ≡ (nat_lt 0 (cond b (1 + n) 0) && cell_le v (cell_at (slice_index_or (r ∷ rows) (cond b (1 + n) 0 - 1) []) key))
     go false e n p ih none = none e
     go true e zero p ih none = rw ih (or_false (cell_le v (cell_at r key)))
     go true e (suc m) p ih none =

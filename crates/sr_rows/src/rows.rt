@@ -22,7 +22,7 @@ pub(crate) fn is_key_at_most(row: &Row, key: usize, cell: &Cell) -> bool
 }
 
 #[tactic(auto, using(crate::proofs::Order::cell_at_absent))]
-fn is_key_at_least(row: &Row, key: usize, cell: &Cell) -> bool
+pub(crate) fn is_key_at_least(row: &Row, key: usize, cell: &Cell) -> bool
     ensures { result ≡ cell_le cell.now (cell_at row.now key) }
 {
     match row.get(key) {
@@ -32,7 +32,7 @@ fn is_key_at_least(row: &Row, key: usize, cell: &Cell) -> bool
 }
 
 /// How many rows of a slice have a key that is at most the cell.
-pub fn place_in(rows: &[Row], key: usize, cell: &Cell) -> usize
+fn place_in(rows: &[Row], key: usize, cell: &Cell) -> usize
     requires { ascend key rows.now ≡ true }
     ensures place { result ≡ place_at key cell.now rows.now }
     ensures within { result ≤ length rows.now }
@@ -59,7 +59,7 @@ pub fn has_key_of(rows: &Rows, key: usize, cell: &Cell) -> bool
 }
 
 #[tactic(auto, using(crate::proofs::Order::cell_at_absent))]
-fn place_of_row(rows: &[Row], key: usize, row: &Row) -> usize
+pub(crate) fn place_of_row(rows: &[Row], key: usize, row: &Row) -> usize
     requires { ascend key rows.now ≡ true }
     ensures place { result ≡ place_at key (cell_at row.now key) rows.now }
     ensures within { result ≤ length rows.now }
@@ -98,5 +98,4 @@ pub fn put_all(rows: &mut Rows, key: usize, more: Rows) -> Result<(), NoMemory>
 /// Parts of rows with none in common, put together by key, are the rows of either.
 pub fn parts_join()
     ensures { PartsJoin }
-{
-}
+{}

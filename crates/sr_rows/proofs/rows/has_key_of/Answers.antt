@@ -1,4 +1,4 @@
-use Rattle.std.proofs.Common.{◌≡◌, arith}
+use Rattle.std.proofs.Common.{arith}
 use Rattle.std.proofs.lemmas.Grind.{common_steps}
 use Rattle.sr_rows.proofs.Places.{has_key-place}
 use Rattle.sr_rows.proofs.rows.has_key_of.Goals as goal

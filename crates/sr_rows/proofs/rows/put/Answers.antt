@@ -1,6 +1,4 @@
-use Rattle.std.proofs.Common.{◌≡◌, arith}
 use Rattle.std.proofs.lemmas.Result.{on_ok_weaker}
-use Rattle.sr_model.specs.SortedRows.{with_row}
 use Rattle.sr_rows.proofs.Places.{with_row-place, with_row-ascend}
 use Rattle.sr_rows.proofs.rows.put.Goals as goal
 

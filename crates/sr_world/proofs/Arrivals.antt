@@ -2,6 +2,7 @@
 use Rattle.std.proofs.Common.{◌≡◌, ℕ, Bool, true, ◌≤◌, ◌+◌, ◌-◌, List, [], ◌∷◌, ◌++◌, map, length, take, drop, refl, sym, ◌∙◌, ap, arith, zero, suc, append_assoc, append-nil, length-drop}
 use Rattle.std.specs.Prelude.{filter}
 use Rattle.std.specs.List.{list_all}
+use Rattle.std.proofs.lemmas.Grind.{flat_map-append}
 use Rattle.std.proofs.lemmas.List.{take-append-drop}
 use Rattle.sr_cell.specs.declared.table.Column.{Column}
 use Rattle.sr_cell.specs.Cells.{Row}
@@ -14,16 +15,12 @@ use Rattle.sr_message.specs.declared.message.Message.TheVariants.{Ask, Notice, R
 use Rattle.sr_model.specs.Queries.{rows_at}
 use Rattle.sr_model.specs.Statements.{Tables}
 use Rattle.sr_scene.specs.Server.{pieces, asked_rows, row_messages}
-use Rattle.sr_world.specs.Client.{arrived}
+use Rattle.sr_world.specs.Client.{brought, arrived}
 use Rattle.sr_world.proofs.Filters.{all-filter}
 use Rattle.sr_world.proofs.TwoColumns.{HasTwo, map-project}
 
 pub arrived-append : (xs ys : List Message) → arrived (xs ++ ys) ≡ arrived xs ++ arrived ys
-arrived-append [] ys = refl
-arrived-append (Ask number fresh parts ∷ xs) ys = arrived-append xs ys
-arrived-append (Notice version told ∷ xs) ys = arrived-append xs ys
-arrived-append (Rows number part rows ∷ xs) ys = ap (λ more. rows ++ more) (arrived-append xs ys) ∙ sym (append_assoc rows (arrived xs) (arrived ys))
-arrived-append (Reply number version ∷ xs) ys = arrived-append xs ys
+arrived-append xs ys = flat_map-append brought xs ys
 
 -- the pieces bring all rows
 arrived-pieces : (number part n : ℕ) (rows : List Row) → length rows ≤ n → arrived (map (Rows number part) (pieces n rows)) ≡ rows

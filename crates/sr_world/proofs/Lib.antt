@@ -4,5 +4,6 @@ pub mod BoundLemmas
 pub mod Coverage
 pub mod RestLemmas
 pub mod OnePart
+pub mod PieceLemmas
 pub mod Arrivals
 pub mod AnswerLemmas

@@ -1,5 +1,5 @@
 -- What a client makes of rows and messages.
-use Rattle.std.specs.Prelude.{ℕ, List, [], ◌∷◌, ◌++◌, map}
+use Rattle.std.specs.Prelude.{ℕ, List, [], ◌∷◌, ◌++◌, map, flat_map}
 use Rattle.sr_cell.specs.declared.cell.Cell.{Cell}
 use Rattle.sr_cell.specs.Cells.{Row, cell_at}
 use Rattle.sr_message.specs.declared.message.Message.{Message}
@@ -9,10 +9,13 @@ use Rattle.sr_message.specs.declared.message.Message.TheVariants.{Ask, Notice, R
 abbrev pub cells_of : List ℕ → Row → Row
 cells_of columns row = map (cell_at row) columns
 
+-- the rows that a message brings
+abbrev pub brought : Message → List Row
+brought (Ask number fresh parts) = []
+brought (Notice version told) = []
+brought (Rows number part rows) = rows
+brought (Reply number version) = []
+
 -- the rows that the messages bring
 abbrev pub arrived : List Message → List Row
-arrived [] = []
-arrived (Ask number fresh parts ∷ ms) = arrived ms
-arrived (Notice version told ∷ ms) = arrived ms
-arrived (Rows number part rows ∷ ms) = rows ++ arrived ms
-arrived (Reply number version ∷ ms) = arrived ms
+arrived ms = flat_map brought ms

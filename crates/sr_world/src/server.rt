@@ -1,5 +1,5 @@
 //! The server: the tables of its newest version, and what it sends for an ask.
-ghost use Rattle.std.specs.Prelude.{◌≡◌, ℕ, ◌+◌, ◌-◌, ◌<◌, ◌≤◌, ◌^◌, ◌==◌, List, [], ◌∷◌, ◌++◌, true, map, filter, take, drop, length, Ok, Err, IfOk, OnOk, OnErr, IsErrOf};
+ghost use Rattle.std.specs.Prelude.{◌≡◌, ℕ, ◌+◌, ◌-◌, ◌<◌, ◌≤◌, ◌^◌, ◌==◌, List, [], ◌∷◌, ◌++◌, true, map, filter, take, drop, length, Ok, Err, IsTrue, ◌↔◌, IfOk, OnOk, OnErr, IsErrOf};
 ghost use Rattle.std.specs.List.{list_all};
 ghost use Rattle.sr_cell.specs.declared.list.No.TheVariants.{Refused};
 ghost use Rattle.sr_cell.specs.declared.fault.Fault.{Fault as TheFault};
@@ -21,6 +21,9 @@ use sr_message::message::{AskPart, AskParts, Message, Messages};
 use sr_rows::insert::insert_all;
 use std::alloc::Global;
 use std::collections::VecDeque;
+
+/// The most rows of one message.
+const PIECE: usize = 256;
 
 /// The rows of the newest version, table by table, and its number.
 #[derive(Drop)]
@@ -117,11 +120,17 @@ fn push_rows(
     ensures { OnOk result (sent.new ≡ sent.old ++ map (RowsOf number part) (pieces (length rows) rows)) }
 {
     let mut left = VecDeque::from_vec(rows.into_vec());
-    while !left.is_empty() {
+    'pieces: while has_rows(&left) {
         let rows = take_piece(alloc, &mut left)?;
         sent.push(Message::Rows { number, part, rows })?;
     }
     Ok(())
+}
+
+fn has_rows(left: &VecDeque<Row>) -> bool
+    ensures { IsTrue result ↔ (0 < length left.now.items) }
+{
+    !left.is_empty()
 }
 
 /// Takes the first 256 rows, or all where they are fewer.
@@ -130,9 +139,9 @@ fn take_piece(alloc: Global, left: &mut VecDeque<Row>) -> Result<Rows, NoMemory>
     ensures left { OnOk result (left.new.items ≡ drop 256 left.old.items) }
 {
     let mut rows = Seq::new(alloc);
-    for _i in 0..256 {
+    'rows: for _ in 0..PIECE {
         match left.pop_front() {
-            None => break,
+            None => return Ok(rows),
             Some(row) => rows.push(row)?,
         }
     }

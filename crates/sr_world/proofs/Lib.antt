@@ -7,3 +7,4 @@ pub mod OnePart
 pub mod PieceLemmas
 pub mod Arrivals
 pub mod AnswerLemmas
+pub mod StepLemmas

@@ -1,6 +1,6 @@
 -- The table of a script has two columns of numbers.
 use Rattle.std.proofs.Common.{◌≡◌, ℕ, ℤ, Bool, true, false, not, ◌&&◌, List, [], ◌∷◌, length, refl, sym, ◌∙◌, ap, arith}
-use Rattle.std.specs.Prelude.{IsTrue, ◌==◌, ◌+◌, map, bytes_eq, int_le}
+use Rattle.std.specs.Prelude.{IsTrue, nat_lt, ◌<◌, ◌==◌, ◌+◌, map, bytes_eq, int_le}
 use Rattle.std.specs.List.{list_all}
 use Rattle.std.proofs.lemmas.Bool.Decides.{nat_tests}
 use Rattle.sr_cell.specs.declared.cell.Cell.{Cell}
@@ -86,3 +86,12 @@ pub map-project : (columns : List Column) (rows : List Row) → HasTwo columns �
 map-project columns [] h all = refl
 map-project columns (row ∷ rows) h all =
     rw (project-both columns row h (and_left (is_point columns row) _ all), map-project columns rows h (and_right (is_point columns row) _ all)) refl
+
+pub length-two : (columns : List Column) → HasTwo columns → length columns ≡ 2
+length-two columns h = rw h.are refl
+
+key_below : (k : ℕ) → nat_lt k 2 ≡ true → k < 2
+key_below k h = grind (arith, nat_tests)
+
+pub key-two : (t : Table) → IsTrue (may_create t) → t.key < 2
+key-two t h = key_below t.key (and_right _ _ (and_left _ _ (and_left _ _ h)))

@@ -1,3 +1,4 @@
 pub mod Bound
 pub mod Client
 pub mod Represents
+pub mod Worlds

@@ -7,4 +7,6 @@ pub mod OnePart
 pub mod PieceLemmas
 pub mod Arrivals
 pub mod AnswerLemmas
+pub mod LeftLemmas
 pub mod StepLemmas
+pub mod AskLemmas

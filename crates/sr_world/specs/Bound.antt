@@ -1,5 +1,5 @@
 -- What a bound query is.
-use Rattle.std.specs.Prelude.{ℕ, ℤ, int_lt, ◌==◌, slice_get, ◌≡◌, ◌&&◌, nat_lt, List, [], ◌∷◌, Option, Some, None, IsTrue, if◌then◌else◌}
+use Rattle.std.specs.Prelude.{ℕ, ℤ, int_lt, not, ◌==◌, slice_get, ◌≡◌, ◌&&◌, nat_lt, List, [], ◌∷◌, Option, Some, None, IsTrue, if◌then◌else◌}
 use Rattle.std.specs.Ordering.{int_eq}
 use Rattle.std.specs.List.{list_all}
 use Rattle.sr_cell.specs.declared.table.Column.{Column}
@@ -58,3 +58,8 @@ rect_with column (Some span) = rect_at column span ∷ []
 abbrev pub rects_in : List Column → Option ColumnRange → List Rect
 rects_in columns None = rect_at 0 Full ∷ []
 rects_in columns (Some range) = rect_with range.column (clipped columns range)
+
+-- the rest of a query's rects: rects of the table with just the points that are not held
+pub record IsLeft (t : Table) (rects held rest : List Rect) : Type 0 where
+  pub fits : IsTrue (list_all (rect_fits t.columns) rest)
+  pub same : AreSame t.columns (in_any rest) (λ p. in_any rects p && not (in_any held p))

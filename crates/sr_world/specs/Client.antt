@@ -1,7 +1,9 @@
 -- What a client makes of rows and messages.
-use Rattle.std.specs.Prelude.{ℕ, List, [], ◌∷◌, ◌++◌, map, flat_map}
+use Rattle.std.specs.Prelude.{ℕ, Bool, true, false, List, [], ◌∷◌, ◌++◌, map, flat_map}
 use Rattle.sr_cell.specs.declared.cell.Cell.{Cell}
 use Rattle.sr_cell.specs.Cells.{Row, cell_at}
+use Rattle.sr_box.specs.Points.{Rect}
+use Rattle.sr_message.specs.declared.message.AskPart.{AskPart}
 use Rattle.sr_message.specs.declared.message.Message.{Message}
 use Rattle.sr_message.specs.declared.message.Message.TheVariants.{Ask, Notice, Rows, Reply}
 
@@ -19,3 +21,11 @@ brought (Reply number version) = []
 -- the rows that the messages bring
 abbrev pub arrived : List Message → List Row
 arrived ms = flat_map brought ms
+
+abbrev pub is_empty : List Rect → Bool
+is_empty [] = true
+is_empty (r ∷ rects) = false
+
+-- these rects of table 0, under both its columns
+abbrev pub both_columns : List Rect → AskPart
+both_columns rects = record { table = 0; attrs = 3; rects = rects }

@@ -1,6 +1,13 @@
 //! The world: server, client and queues.
-ghost use Rattle.std.specs.Prelude.{◌≡◌, ℕ, ◌+◌, ◌<◌, ◌≤◌, ◌^◌, ◌==◌, nat_lt, true, List, [], ◌∷◌, ◌++◌, length, None, Ok, IsTrue, IfOk, OnOk, IfSome, OnSome, IfNone};
+ghost use Rattle.std.specs.Prelude.{◌≡◌, ℕ, ◌+◌, ◌<◌, ◌≤◌, ◌^◌, ◌==◌, nat_lt, true, List, [], ◌∷◌, ◌++◌, map, length, None, Ok, IsTrue, IfOk, OnOk, IfSome, OnSome, IfNone};
 ghost use Rattle.std.specs.List.{list_all};
+ghost use Rattle.sr_cell.specs.declared.table.Table.{Table as TheTable};
+ghost use Rattle.sr_box.specs.Points.{rect_fits};
+ghost use Rattle.sr_message.specs.declared.message.Message.TheVariants.{Ask as AskMessage};
+ghost use Rattle.sr_script.specs.declared.line.TraceLine.TheVariants.{Ask, QueryAsked};
+ghost use Rattle.sr_scene.specs.Steps.{part_line};
+ghost use Rattle.sr_world.specs.Bound.{IsBound, IsLeft, meaning_of};
+ghost use Rattle.sr_world.specs.Client.{is_empty, both_columns};
 ghost use Rattle.sr_model.specs.Events.{Exec, QueryOf, ToServer, ToClient};
 ghost use Rattle.sr_model.specs.Statements.{Insert};
 ghost use Rattle.sr_language.specs.Script.{may_create, select_of};
@@ -76,6 +83,169 @@ impl World {
             Err(No::NoMemory) => Err(NoMemory),
         }
     }
+
+    /// Judges a query: it is answered at once, or its rest is asked.
+    fn ask(
+        &mut self,
+        alloc: Global,
+        outputs: Seq<u8>,
+        range: Option<ColumnRange>,
+    ) -> Result<TraceLines, NoMemory>
+        requires stands { Stands self.old }
+        requires outputs { IsTrue (list_all (λ c. nat_lt c 2) outputs) }
+        requires range { IsTrue (range_is_inside range) }
+        requires room { drawn self.old + 2 < 2 ^ 63 }
+        ensures event { IfOk result (DoesEvent (QueryOf 1 (Ok (select_of outputs (range_of range)))) self.old self.new) }
+        ensures drawn { OnOk result (drawn self.new ≤ drawn self.old + 2) }
+    {
+        if let Some(out) = &self.client.out {
+            return one_line(
+                alloc,
+                TraceLine::QueryBusy {
+                    client: 1,
+                    request: out.number,
+                },
+            );
+        }
+        let query = bind(alloc, only(&self.schema), outputs, range)?;
+        let rest = left(alloc, &query.rects, &self.client.held, only(&self.schema))?;
+        if rest.is_empty() {
+            self.answer_now(alloc, &query)
+        } else {
+            self.send_ask(alloc, query, rest)
+        }
+    }
+
+    /// Answers a query of which nothing is left to ask.
+    fn answer_now(&mut self, alloc: Global, query: &Query) -> Result<TraceLines, NoMemory>
+        requires stands { Stands self.old }
+        requires idle { self.old.client.out ≡ None }
+        requires bound { (t : TheTable) → self.old.schema ≡ t ∷ [] → IsBound t query.now }
+        requires nothing { (t : TheTable) → self.old.schema ≡ t ∷ [] → IsLeft t query.now.rects self.old.client.held [] }
+        requires room { drawn self.old + 2 < 2 ^ 63 }
+        ensures event { IfOk result (DoesEvent (QueryOf 1 (Ok (meaning_of query.now))) self.old self.new) }
+        ensures drawn { OnOk result (drawn self.new ≤ drawn self.old + 2) }
+    {
+        let number = self.client.queries + 1;
+        let rows = self.client.answer(alloc, query)?;
+        let mut lines = Seq::new(alloc);
+        push_answer(&mut lines, number, self.client.version, rows)?;
+        lines.push(TraceLine::QueryAnswered {
+            client: 1,
+            query: number,
+        })?;
+        self.client.queries = number;
+        Ok(lines)
+    }
+
+    /// Asks for the rest of a query.
+    fn send_ask(
+        &mut self,
+        alloc: Global,
+        query: Query,
+        rest: Rects,
+    ) -> Result<TraceLines, NoMemory>
+        requires stands { Stands self.old }
+        requires idle { self.old.client.out ≡ None }
+        requires bound { (t : TheTable) → self.old.schema ≡ t ∷ [] → IsBound t query }
+        requires left { (t : TheTable) → self.old.schema ≡ t ∷ [] → IsLeft t query.rects self.old.client.held rest }
+        requires some { rest ≡ [] → ⊥ }
+        requires room { drawn self.old + 2 < 2 ^ 63 }
+        ensures event { IfOk result (DoesEvent (QueryOf 1 (Ok (meaning_of query))) self.old self.new) }
+        ensures drawn { OnOk result (drawn self.new ≤ drawn self.old + 2) }
+    {
+        let out = ask_out(alloc, &self.client, query, rest)?;
+        let lines = ask_lines(alloc, &out)?;
+        self.to_server.push_back(message_of(alloc, &out)?)?;
+        self.client.queries = out.query_number;
+        self.client.next_request = out.number + 1;
+        self.client.out = Some(out);
+        Ok(lines)
+    }
+}
+
+/// The rects that are not held.
+fn left(
+    alloc: Global,
+    rects: &Rects,
+    held: &Rects,
+    table: &Table,
+) -> Result<Rects, NoMemory>
+    requires create { IsTrue (may_create table.now) }
+    requires rects { IsTrue (list_all (rect_fits table.now.columns) rects.now) }
+    requires held { IsTrue (list_all (rect_fits table.now.columns) held.now) }
+    ensures { IfOk result (IsLeft table.now rects.now held.now) }
+{
+    rects.difference(alloc, held, table)
+}
+
+/// The ask of the rest of a query, with the next numbers.
+fn ask_out(
+    alloc: Global,
+    client: &Client,
+    query: Query,
+    rest: Rects,
+) -> Result<AskOut, NoMemory>
+    requires queries { client.now.queries < 2 ^ 63 }
+    ensures { IfOk result (λ out. out ≡ record { number = client.now.next_request; query_number = client.now.queries + 1; query = query; fresh = is_empty client.now.held; parts = both_columns rest ∷ [] }) }
+{
+    let mut parts = Seq::new(alloc);
+    parts.push(AskPart {
+        table: 0,
+        attrs: Attrs(3),
+        rects: rest,
+    })?;
+    Ok(AskOut {
+        number: client.next_request,
+        query_number: client.queries + 1,
+        query,
+        fresh: client.held.is_empty(),
+        parts,
+    })
+}
+
+/// The lines of an ask.
+fn ask_lines(alloc: Global, out: &AskOut) -> Result<TraceLines, NoMemory>
+    requires { length out.now.parts ≤ 4 }
+    ensures { IfOk result (λ lines. lines ≡ Ask 1 out.now.number out.now.fresh (length out.now.parts) ∷ (map part_line out.now.parts ++ QueryAsked 1 out.now.number ∷ [])) }
+{
+    let mut lines = Seq::new(alloc);
+    lines.push(TraceLine::Ask {
+        client: 1,
+        request: out.number,
+        fresh: out.fresh,
+        parts: out.parts.len() as u8,
+    })?;
+    push_parts(alloc, &mut lines, out.parts.as_slice())?;
+    lines.push(TraceLine::QueryAsked {
+        client: 1,
+        request: out.number,
+    })?;
+    Ok(lines)
+}
+
+fn push_parts(alloc: Global, lines: &mut TraceLines, parts: &[AskPart]) -> Result<(), NoMemory>
+    ensures { OnOk result (lines.new ≡ lines.old ++ map part_line parts.now) }
+{
+    for part in parts {
+        lines.push(TraceLine::Part {
+            table: part.table,
+            attrs: part.attrs,
+            rects: part.rects.copy(alloc)?,
+        })?;
+    }
+    Ok(())
+}
+
+/// The message of an ask.
+fn message_of(alloc: Global, out: &AskOut) -> Result<Message, NoMemory>
+    ensures { IfOk result (λ message. message ≡ AskMessage out.now.number out.now.fresh out.now.parts) }
+{
+    Ok(Message::Ask {
+        number: out.number,
+        fresh: out.fresh,
+        parts: out.parts.copy(alloc)?,
+    })
 }
 
 /// The one table.

@@ -10,3 +10,5 @@ pub mod AnswerLemmas
 pub mod LeftLemmas
 pub mod StepLemmas
 pub mod AskLemmas
+pub mod ServeLemmas
+pub mod TakeLemmas

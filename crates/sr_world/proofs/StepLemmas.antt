@@ -61,7 +61,7 @@ first_of (rows ∷ []) one = refl
 first_of (rows ∷ more ∷ tables) one = absurd (omega arith)
 
 -- the newest tables of the scene
-newest-is : (t : Table) (w : World) (past : Past) → Facts t w past → newest_of past.versions ≡ w.server.version
+pub newest-is : (t : Table) (w : World) (past : Past) → Facts t w past → newest_of past.versions ≡ w.server.version
 newest-is t w past f = omega (arith, f.count)
 
 pub tables-are : (t : Table) (w : World) (past : Past) → Facts t w past → tables_at (scene_of w past) (newest_version (scene_of w past)) ≡ w.server.tables

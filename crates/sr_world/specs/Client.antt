@@ -1,11 +1,16 @@
 -- What a client makes of rows and messages.
-use Rattle.std.specs.Prelude.{ℕ, Bool, true, false, List, [], ◌∷◌, ◌++◌, map, flat_map}
+use Rattle.std.specs.Prelude.{ℕ, Bool, true, false, List, [], ◌∷◌, ◌++◌, map, filter, length, flat_map}
 use Rattle.sr_cell.specs.declared.cell.Cell.{Cell}
 use Rattle.sr_cell.specs.Cells.{Row, cell_at}
-use Rattle.sr_box.specs.Points.{Rect}
+use Rattle.sr_box.specs.Points.{Rect, in_any}
 use Rattle.sr_message.specs.declared.message.AskPart.{AskPart}
 use Rattle.sr_message.specs.declared.message.Message.{Message}
 use Rattle.sr_message.specs.declared.message.Message.TheVariants.{Ask, Notice, Rows, Reply}
+use Rattle.sr_model.specs.SortedRows.{with_rows}
+use Rattle.sr_script.specs.declared.line.TraceLine.{TraceLine}
+use Rattle.sr_script.specs.declared.line.TraceLine.TheVariants as line
+use Rattle.sr_world.specs.declared.client.AskOut as code
+use Rattle.sr_world.specs.declared.client.Client.{Client}
 
 -- the cells of these columns, in this order
 abbrev pub cells_of : List ℕ → Row → Row
@@ -29,3 +34,21 @@ is_empty (r ∷ rects) = false
 -- these rects of table 0, under both its columns
 abbrev pub both_columns : List Rect → AskPart
 both_columns rects = record { table = 0; attrs = 3; rects = rects }
+
+-- the asked rects, part by part
+abbrev pub rects_of : List AskPart → List Rect
+rects_of parts = flat_map (λ part. part.rects) parts
+
+abbrev pub held_line : AskPart → TraceLine
+held_line part = line.Held 1 part.table part.attrs part.rects
+
+-- the client once its ask was replied to at a version: it holds what was asked, and the rows that came
+abbrev pub after_reply : ℕ → code.AskOut → ℕ → Client → Client
+after_reply key out version c = record c { version = version; laid = []; held = c.held ++ rects_of out.parts; rows = with_rows key c.rows (arrived c.laid) }
+
+-- the lines of the answer to its query
+abbrev pub lines_of_reply : code.AskOut → Client → List TraceLine
+lines_of_reply out c =
+    (line.Answer 1 out.query_number c.version (length (map (cells_of out.query.outputs) (filter (in_any out.query.rects) c.rows)))
+    ∷ map line.Row (map (cells_of out.query.outputs) (filter (in_any out.query.rects) c.rows)))
+    ++ (map held_line out.parts ++ line.ClientAnswered 1 ∷ [])

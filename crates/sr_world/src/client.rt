@@ -1,17 +1,20 @@
 //! The client: what it holds, and what it makes of it.
-ghost use Rattle.std.specs.Prelude.{◌≡◌, ℕ, List, [], ◌∷◌, ◌++◌, map, filter, length, None, IfOk, OnOk};
+ghost use Rattle.std.specs.Prelude.{◌≡◌, ℕ, List, [], ◌∷◌, ◌++◌, map, filter, length, true, None, IfOk, OnOk};
 ghost use Rattle.sr_cell.specs.Cells.{cell_at};
 ghost use Rattle.sr_box.specs.Points.{in_any};
+ghost use Rattle.sr_model.specs.SortedRows.{ascend};
 ghost use Rattle.sr_script.specs.declared.line.TraceLine.TheVariants.{Answer, Row as RowLine};
-ghost use Rattle.sr_world.specs.Client.{cells_of, brought, arrived};
+ghost use Rattle.sr_world.specs.Client.{cells_of, brought, arrived, rects_of, held_line, after_reply, lines_of_reply};
 
 use crate::query::Query;
 use sr_cell::cell::{Cell, Row, Rows};
 use sr_cell::list::{Copied, NoMemory, Seq};
-use sr_message::message::{AskParts, Message, Messages};
+use sr_message::message::{AskPart, AskParts, Message, Messages};
+use sr_rows::rows::put_all;
 use sr_script::line::{TraceLine, TraceLines};
 use sr_union::rects::Rects;
 use std::alloc::Global;
+use std::mem;
 
 /// The ask that is out, with its number, and its query with that one's number.
 #[derive(Drop)]
@@ -57,6 +60,54 @@ impl Client {
     {
         answer_of(alloc, &self.rows, query)
     }
+
+    /// The reply of an ask at a version: what was asked is held with the rows that came, and the query is answered.
+    pub fn finish(
+        &mut self,
+        alloc: Global,
+        key: usize,
+        out: &AskOut,
+        version: u64,
+    ) -> Result<TraceLines, NoMemory>
+        requires { ascend key (arrived self.old.laid) ≡ true }
+        ensures client { OnOk result (self.new ≡ after_reply key out.now version self.old) }
+        ensures lines { IfOk result (λ lines. lines ≡ lines_of_reply out.now (after_reply key out.now version self.old)) }
+    {
+        let laid = mem::replace(&mut self.laid, Seq::new(alloc));
+        put_all(&mut self.rows, key, rows_of(alloc, laid)?)?;
+        hold(alloc, &mut self.held, out.parts.as_slice())?;
+        self.version = version;
+        let rows = self.answer(alloc, &out.query)?;
+        let mut lines = Seq::new(alloc);
+        push_answer(&mut lines, out.query_number, version, rows)?;
+        push_held(alloc, &mut lines, out.parts.as_slice())?;
+        lines.push(TraceLine::ClientAnswered { client: 1 })?;
+        Ok(lines)
+    }
+}
+
+/// Puts the asked rects behind those that are held.
+fn hold(alloc: Global, held: &mut Rects, parts: &[AskPart]) -> Result<(), NoMemory>
+    ensures { OnOk result (held.new ≡ held.old ++ rects_of parts.now) }
+{
+    for part in parts {
+        held.append(part.rects.copy(alloc)?)?;
+    }
+    Ok(())
+}
+
+fn push_held(alloc: Global, lines: &mut TraceLines, parts: &[AskPart]) -> Result<(), NoMemory>
+    ensures { OnOk result (lines.new ≡ lines.old ++ map held_line parts.now) }
+{
+    for part in parts {
+        lines.push(TraceLine::Held {
+            client: 1,
+            table: part.table,
+            attrs: part.attrs,
+            rects: part.rects.copy(alloc)?,
+        })?;
+    }
+    Ok(())
 }
 
 fn answer_of(alloc: Global, rows: &Rows, query: &Query) -> Result<Rows, NoMemory>
@@ -93,7 +144,7 @@ fn cell(alloc: Global, row: &Row, column: usize) -> Result<Cell, NoMemory>
 }
 
 /// The rows that the messages bring.
-pub fn rows_of(alloc: Global, messages: Messages) -> Result<Rows, NoMemory>
+fn rows_of(alloc: Global, messages: Messages) -> Result<Rows, NoMemory>
     ensures { IfOk result (λ rows. rows ≡ arrived messages) }
 {
     let mut all = Seq::new(alloc);

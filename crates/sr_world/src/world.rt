@@ -16,7 +16,7 @@ ghost use Rattle.sr_scene.specs.Scene.{first};
 ghost use Rattle.sr_world.specs.Represents.{Represents, IsUnasked, drawn};
 ghost use Rattle.sr_world.specs.Worlds.{Stands, DoesStep, DoesEvent, DoesDelivery, DoesSettle};
 
-use crate::client::{AskOut, Client, push_answer, rows_of};
+use crate::client::{AskOut, Client, push_answer};
 use crate::query::{Query, bind};
 use crate::server::Server;
 use sr_cell::attrs::Attrs;

@@ -1,0 +1,1 @@
+//! Runs over a host in memory.

@@ -1,5 +1,5 @@
 //! The top call.
-ghost use Rattle.std.specs.Prelude.{◌≡◌, ℕ, ◌⊎◌, ◌↔◌, List, Option, Some, None, IfSome, OnOk, IsErrOf, IfErr};
+ghost use Rattle.std.specs.Prelude.{◌≡◌, ℕ, ◌⊎◌, ◌↔◌, Some, None, IfSome, OnOk, IsErrOf};
 ghost use Rattle.std.specs.Option.{option_copied};
 ghost use Rattle.sr_language.specs.Lines.{lines_of};
 ghost use Rattle.sr_language.specs.Script.{FirstUnbuilt, Start};
@@ -47,7 +47,7 @@ pub fn run<H: Host>(alloc: Global, words: &[Text], host: &mut H) -> u8
     ensures writing_keeps_faults { (result ≡ 4) ⊎ ((H.writing host.new).faults ≡ (H.writing host.old).faults) }
     ensures silent { result ≡ 0 → H.complaints host.new ≡ H.complaints host.old }
     ensures complaint { IfSome (error_text result) (λ text. H.complaints host.new ≡ complained text (H.complaints host.old)) }
-    ensures steady { H.IsSteady host.old → OnFile words.now (λ name. IfSome (H.held host.old name) (λ script. FitsScript script result)) ⊎ (file_of words.now ≡ None) }
+    ensures steady { H.IsSteady host.old → IfSome (file_of words.now) (λ name. IfSome (H.held host.old name) (λ script. FitsScript script result)) }
     ensures stays_steady { H.IsSteady host.old → H.IsSteady host.new }
     ensures held_stays { H.held host.new ≡ H.held host.old }
     ensures linking_stays { H.linking host.new ≡ H.linking host.old }

@@ -2,6 +2,7 @@
 #![tactic(auto)]
 
 pub mod cells;
+pub mod forms;
 pub mod line;
 pub mod rects;
 pub mod words;

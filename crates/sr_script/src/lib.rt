@@ -2,7 +2,8 @@
 #![tactic(auto)]
 
 pub mod cells;
-pub mod forms;
+mod forms;
 pub mod line;
 pub mod rects;
+pub mod text;
 pub mod words;

@@ -19,9 +19,10 @@ spans_text_nil (c ∷ cs) = refl
 
 pub spans_text_end : (columns : List Column) (spans : List Span) (i : ℕ) → min (length columns) (length spans) ≤ i → spans_text (drop i columns) (drop i spans) ≡ []
 spans_text_end columns spans i end =
-    elim (cases_lt i (length columns))
-    [ inl inside ↦ let none : drop i spans ≡ [] = drop_of_length-le spans (omega arith) in rw none (spans_text_nil (drop i columns))
-    | inr past ↦ let none : drop i columns ≡ [] = drop_of_length-le columns past in rw none refl ]
+    elim (cases_lt i (length columns)) [
+      | inl inside ↦ let none : drop i spans ≡ [] = drop_of_length-le spans (omega arith) in rw none (spans_text_nil (drop i columns))
+      | inr past ↦ let none : drop i columns ≡ [] = drop_of_length-le columns past in rw none refl
+    ]
 
 -- a column with its span, and the columns behind it
 pub spans_text_step : (columns : List Column) (spans : List Span) (i : ℕ) (c : Column) (s : Span) →

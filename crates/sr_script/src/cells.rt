@@ -85,8 +85,8 @@ pub fn push_cell(text: &mut String, cell: &Cell) -> Result<(), NoMemory>
     }
 }
 
-#[tactic(auto, using(crate::proofs::Separated::joined_behind))]
 /// Appends the cells of a row, with a comma and a blank between two.
+#[tactic(auto, using(crate::proofs::Separated::joined_behind))]
 pub fn push_row(text: &mut String, row: &[Cell]) -> Result<(), NoMemory>
     ensures { OnOk result (string_bytes text.new ≡ string_bytes text.old ++ joined (codes ", ") (map cell_text row.now)) }
 {

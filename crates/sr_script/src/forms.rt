@@ -17,7 +17,13 @@ use sr_union::rects::Rects;
 use std::fmt::Write;
 
 /// How an answer was: its query, its version and how many rows it has.
-pub fn push_answer(text: &mut String, client: u8, query: u64, version: u64, rows: u64) -> Result<(), NoMemory>
+pub fn push_answer(
+    text: &mut String,
+    client: u8,
+    query: u64,
+    version: u64,
+    rows: u64,
+) -> Result<(), NoMemory>
     ensures { OnOk result (string_bytes text.new ≡ string_bytes text.old ++ ended (line_words [] (Answer client query version rows))) }
 {
     write!(text, "answer {client} {query} {version} {rows}\n")?;
@@ -35,7 +41,14 @@ pub fn push_row_line(text: &mut String, row: &Row) -> Result<(), NoMemory>
 }
 
 /// What a client holds of one class.
-pub fn push_held(text: &mut String, schema: &[Table], client: u8, table: u8, attrs: Attrs, rects: &Rects) -> Result<(), NoMemory>
+pub fn push_held(
+    text: &mut String,
+    schema: &[Table],
+    client: u8,
+    table: u8,
+    attrs: Attrs,
+    rects: &Rects,
+) -> Result<(), NoMemory>
     ensures { OnOk result (string_bytes text.new ≡ string_bytes text.old ++ ended (line_words schema.now (Held client table attrs rects.now))) }
 {
     write!(text, "held {client} ")?;
@@ -44,7 +57,13 @@ pub fn push_held(text: &mut String, schema: &[Table], client: u8, table: u8, att
 }
 
 /// A part of an ask.
-pub fn push_part(text: &mut String, schema: &[Table], table: u8, attrs: Attrs, rects: &Rects) -> Result<(), NoMemory>
+pub fn push_part(
+    text: &mut String,
+    schema: &[Table],
+    table: u8,
+    attrs: Attrs,
+    rects: &Rects,
+) -> Result<(), NoMemory>
     ensures { OnOk result (string_bytes text.new ≡ string_bytes text.old ++ ended (line_words schema.now (Part table attrs rects.now))) }
 {
     text.push_str("part ")?;
@@ -62,7 +81,14 @@ pub fn push_drop(text: &mut String, client: u8, cause: Cause) -> Result<(), NoMe
 }
 
 /// How the line of a drop ends: what is dropped, and the stamp that it had.
-pub fn push_dropped(text: &mut String, schema: &[Table], table: u8, attrs: Attrs, stamp: u64, rects: &Rects) -> Result<(), NoMemory>
+pub fn push_dropped(
+    text: &mut String,
+    schema: &[Table],
+    table: u8,
+    attrs: Attrs,
+    stamp: u64,
+    rects: &Rects,
+) -> Result<(), NoMemory>
     ensures { OnOk result (string_bytes text.new ≡ string_bytes text.old ++ ended (name_of schema.now table ∷ attrs_of schema.now table attrs ∷ decimal stamp ∷ rects_of schema.now table rects.now ∷ [])) }
 {
     push_place(text, schema, table, attrs)?;
@@ -89,7 +115,13 @@ fn push_end(text: &mut String, schema: &[Table], table: u8, rects: &Rects) -> Re
 }
 
 /// A request that asks, and how many parts follow.
-pub fn push_ask(text: &mut String, client: u8, request: u64, fresh: bool, parts: u8) -> Result<(), NoMemory>
+pub fn push_ask(
+    text: &mut String,
+    client: u8,
+    request: u64,
+    fresh: bool,
+    parts: u8,
+) -> Result<(), NoMemory>
     ensures { OnOk result (string_bytes text.new ≡ string_bytes text.old ++ ended (line_words [] (Ask client request fresh parts))) }
 {
     let mode = mode_word(fresh);
@@ -158,7 +190,12 @@ pub fn push_server_empty(text: &mut String, client: u8) -> Result<(), NoMemory>
 }
 
 /// A request that the server took, and how many frames it sent.
-pub fn push_server_took(text: &mut String, client: u8, kind: RequestKind, frames: u64) -> Result<(), NoMemory>
+pub fn push_server_took(
+    text: &mut String,
+    client: u8,
+    kind: RequestKind,
+    frames: u64,
+) -> Result<(), NoMemory>
     ensures { OnOk result (string_bytes text.new ≡ string_bytes text.old ++ ended (line_words [] (ServerTook client kind frames))) }
 {
     let word = kind_word(kind);

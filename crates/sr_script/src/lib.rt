@@ -5,5 +5,7 @@ pub mod cells;
 mod forms;
 pub mod line;
 pub mod rects;
+#[cfg(test)]
+mod tests;
 pub mod text;
 pub mod words;

@@ -7,7 +7,7 @@ use Rattle.sr_script.proofs.cells.push_row.Given as goal
 abbrev pub invariant-loop-cell : goal.invariant-loop-cell
 invariant-loop-cell l = record {
   printed :
-    string_bytes l.text ++ behind l.separator (codes ", ") (map cell_text (drop l.cell-index l.row))
-    ≡ string_bytes l.fn.text ++ joined (codes ", ") (map cell_text l.row);
-  is_text : IsUtf8 l.separator
+      string_bytes l.text ++ behind l.separator (codes ", ") (map cell_text (drop l.cell-index l.row))
+      ≡ string_bytes l.fn.text ++ joined (codes ", ") (map cell_text l.row);
+  is_text : IsUtf8 l.separator;
 }

@@ -5,5 +5,5 @@ use Rattle.sr_script.proofs.rects.push_names.Goals as goal
 pub loop-i-preserved : goal.loop-i-preserved
 loop-i-preserved c = record {
   printed = grind (arith, common_steps);
-  is_text = search rules
+  is_text = search rules;
 }

@@ -5,5 +5,5 @@ use Rattle.sr_script.proofs.rects.push_rects.Goals as goal
 pub loop-rect-preserved : goal.loop-rect-preserved
 loop-rect-preserved c = record {
   printed = grind (arith, common_steps);
-  is_text = search rules
+  is_text = search rules;
 }

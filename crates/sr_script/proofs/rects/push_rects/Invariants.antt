@@ -7,7 +7,7 @@ use Rattle.sr_script.proofs.rects.push_rects.Given as goal
 abbrev pub invariant-loop-rect : goal.invariant-loop-rect
 invariant-loop-rect l = record {
   printed :
-    string_bytes l.text ++ behind l.separator (codes " ") (map (rect_text l.columns) (drop l.rect-index l.rects))
-    ≡ string_bytes l.fn.text ++ rects_text l.columns l.rects;
-  is_text : IsUtf8 l.separator
+      string_bytes l.text ++ behind l.separator (codes " ") (map (rect_text l.columns) (drop l.rect-index l.rects))
+      ≡ string_bytes l.fn.text ++ rects_text l.columns l.rects;
+  is_text : IsUtf8 l.separator;
 }

@@ -8,7 +8,7 @@ use Rattle.sr_script.proofs.rects.push_spans.Given as goal
 abbrev pub invariant-loop-i : goal.invariant-loop-i
 invariant-loop-i l = record {
   printed :
-    string_bytes l.text ++ behind l.separator (codes ", ") (spans_text (drop l.i l.columns) (drop l.i l.spans))
-    ≡ string_bytes l.fn.text ++ joined (codes ", ") (spans_text l.columns l.spans);
-  is_text : IsUtf8 l.separator
+      string_bytes l.text ++ behind l.separator (codes ", ") (spans_text (drop l.i l.columns) (drop l.i l.spans))
+      ≡ string_bytes l.fn.text ++ joined (codes ", ") (spans_text l.columns l.spans);
+  is_text : IsUtf8 l.separator;
 }

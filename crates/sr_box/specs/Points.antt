@@ -1,5 +1,5 @@
 -- Rects, and sets of points.
-use Rattle.std.specs.Prelude.{ℕ, Bool, true, false, ◌&&◌, ◌+◌, List, [], ◌∷◌, ◌≡◌, IsTrue, slice_set, if◌then◌else◌}
+use Rattle.std.specs.Prelude.{ℕ, Bool, true, false, ◌&&◌, ◌+◌, ◌*◌, List, [], ◌∷◌, ◌≡◌, IsTrue, slice_set, if◌then◌else◌}
 use Rattle.std.specs.List.{list_any}
 use Rattle.sr_cell.specs.declared.cell.Cell.{Cell}
 use Rattle.sr_cell.specs.declared.table.Column.{Column}
@@ -36,6 +36,22 @@ rect_fits [] [] = true
 rect_fits [] (s ∷ r) = false
 rect_fits (c ∷ cs) [] = false
 rect_fits (c ∷ cs) (s ∷ r) = span_fits c s && rect_fits cs r
+
+-- the rect that has each point
+abbrev pub full_rect : List Column → Rect
+full_rect [] = []
+full_rect (c ∷ cs) = Full ∷ full_rect cs
+
+-- a span of some values alone
+abbrev pub constrains : Span → Bool
+constrains Full = false
+constrains (Nums lo hi) = true
+constrains (Strs lo hi) = true
+
+-- the constrained columns, as a set
+abbrev pub constrained : Rect → ℕ
+constrained [] = 0
+constrained (s ∷ r) = (if constrains s then 1 else 0) + 2 * constrained r
 
 -- the rect constrains no column but these; c is the number of its first column
 abbrev pub constrains_only : ℕ → ℕ → Rect → Bool

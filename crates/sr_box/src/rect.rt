@@ -1,11 +1,13 @@
 //! Rects.
-ghost use Rattle.std.specs.Prelude.{◌≡◌, ℕ, List, [], ◌∷◌, ◌++◌, length, OnOk, OnErr, IfOk, slice_get};
+ghost use Rattle.std.specs.Prelude.{◌≡◌, ℕ, List, [], ◌∷◌, ◌++◌, length, OnOk, OnErr, IfOk, slice_get, ◌≤◌};
 ghost use Rattle.std.specs.Option.{option_copied};
-ghost use Rattle.sr_box.specs.Points.{in_rect};
+ghost use Rattle.sr_box.specs.Points.{constrained, full_rect, in_rect, rect_fits};
 
 use crate::span::Span;
+use sr_cell::attrs::Attrs;
 use sr_cell::cell::Row;
 use sr_cell::list::{Copied, NoMemory, Same, Seq};
+use sr_cell::table::{Column, Table};
 use std::alloc::Global;
 use std::marker::Model;
 
@@ -63,6 +65,32 @@ impl Rect {
         self.spans.as_slice()
     }
 
+    /// The rect that constrains no column of the table.
+    pub fn full(alloc: Global, table: &Table) -> Result<Rect, NoMemory>
+        ensures { IfOk result (λ rect. rect ≡ full_rect table.now.columns) }
+    {
+        let mut rect = Rect::new(alloc);
+        for _column in table.columns.as_slice() {
+            rect.push(Span::Full)?;
+        }
+        Ok(rect)
+    }
+
+    /// Whether there is one span for each column, which fits it.
+    pub fn fits(&self, table: &Table) -> bool
+        ensures { result ≡ rect_fits table.now.columns self.now }
+    {
+        spans_fit(self.spans.as_slice(), table.columns.as_slice())
+    }
+
+    /// The constrained columns.
+    pub fn columns(&self) -> Attrs
+        requires { length self.now ≤ 16 }
+        ensures { result ≡ constrained self.now }
+    {
+        Attrs(constrained_of(self.spans.as_slice()))
+    }
+
     /// Whether the rect has the row.
     pub fn has(&self, row: &Row) -> bool
         ensures { result ≡ in_rect self.now row.now }
@@ -84,6 +112,37 @@ fn spans_have(spans: &[Span], row: &Row) -> bool
         }
     }
     true
+}
+
+fn spans_fit(spans: &[Span], columns: &[Column]) -> bool
+    ensures { result ≡ rect_fits columns.now spans.now }
+{
+    if spans.len() != columns.len() {
+        return false;
+    }
+    for i in 0..spans.len() {
+        if !spans[i].fits(&columns[i]) {
+            return false;
+        }
+    }
+    true
+}
+
+// From the last span to the first.
+fn constrained_of(spans: &[Span]) -> u16
+    requires { length spans.now ≤ 16 }
+    ensures { result ≡ constrained spans.now }
+{
+    let mut bits = 0;
+    let mut i = spans.len();
+    while i > 0 {
+        i -= 1;
+        bits *= 2;
+        if spans[i].constrains() {
+            bits += 1;
+        }
+    }
+    bits
 }
 
 impl Copied for Rect {

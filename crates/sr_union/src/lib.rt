@@ -1,4 +1,5 @@
-//! Unions of rects.
+//! Lists of rects, and their differences.
 #![tactic(auto)]
 
+pub mod minus;
 pub mod rects;

@@ -1,0 +1,9 @@
+pub mod Filters
+pub mod TwoColumns
+pub mod BoundLemmas
+pub mod Coverage
+pub mod RestLemmas
+pub mod OnePart
+pub mod PieceLemmas
+pub mod Arrivals
+pub mod AnswerLemmas

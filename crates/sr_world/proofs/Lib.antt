@@ -12,3 +12,5 @@ pub mod StepLemmas
 pub mod AskLemmas
 pub mod ServeLemmas
 pub mod TakeLemmas
+pub mod RunLemmas
+pub mod ReplayLemmas

@@ -3,5 +3,6 @@
 
 pub mod client;
 pub mod query;
+pub mod replay;
 pub mod server;
 pub mod world;

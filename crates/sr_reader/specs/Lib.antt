@@ -1,3 +1,5 @@
 pub mod Reading
 pub mod Words
+pub mod Names
+pub mod Forms
 pub mod Read

@@ -1,5 +1,7 @@
 //! Reads scripts whose statements stand in the printed form.
 #![tactic(auto)]
 
+mod names;
 pub mod script;
+mod statements;
 mod words;

@@ -4,6 +4,7 @@ ghost use Rattle.std.specs.List.{prefix_len, list_all, starts_with};
 ghost use Rattle.std.specs.Str.Parse.{digits_value};
 ghost use Rattle.sr_language.specs.Script.{is_letter, is_digit};
 ghost use Rattle.sr_reader.specs.Reading.{Finds, Got};
+ghost use Rattle.sr_reader.specs.Forms.{ended};
 ghost use Rattle.sr_reader.specs.Words.{expect, run, digits, number, is_name_byte, is_plain};
 
 use sr_cell::list::No;
@@ -38,7 +39,7 @@ impl<'a> Model for Cursor<'a> {
     ghost view = { λ c. c.rest.now };
 }
 
-fn is_letter(byte: u8) -> bool
+pub fn is_letter(byte: u8) -> bool
     ensures { result ≡ is_letter byte }
 {
     byte == b'_' || byte.is_ascii_lowercase()
@@ -50,7 +51,7 @@ fn is_digit(byte: u8) -> bool
     byte.is_ascii_digit()
 }
 
-fn is_name_byte(byte: u8) -> bool
+pub fn is_name_byte(byte: u8) -> bool
     ensures { result ≡ is_name_byte byte }
 {
     is_letter(byte) || is_digit(byte)
@@ -166,5 +167,15 @@ impl<'a> Cursor<'a> {
             return Err(Unread);
         }
         Ok(-number)
+    }
+}
+
+impl<'a> Cursor<'a> {
+    /// Reads that nothing is left.
+    #[tactic(auto, unfolding(crate::specs::Forms::ended))]
+    pub fn end(&mut self) -> Result<(), Unread>
+        ensures { Finds (λ unit. unit) (ended self.old) result self.new }
+    {
+        if self.is_end() { Ok(()) } else { Err(Unread) }
     }
 }

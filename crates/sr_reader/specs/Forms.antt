@@ -4,6 +4,8 @@ use Rattle.std.specs.List.{starts_with}
 use Rattle.sr_cell.specs.declared.table.Kind.TheVariants.{Num as Numbers}
 use Rattle.sr_cell.specs.declared.table.Column.{Column}
 use Rattle.sr_cell.specs.declared.table.Table.{Table}
+use Rattle.sr_cell.specs.declared.cell.Cell.TheVariants.{Num}
+use Rattle.sr_cell.specs.Cells.{Row}
 use Rattle.sr_language.specs.Statements.{low_default, high_default, is_default_domain}
 use Rattle.sr_language.specs.Script.{is_name, is_default, number_of_name}
 use Rattle.sr_reader.specs.declared.script.ColumnRange.{ColumnRange}
@@ -132,3 +134,12 @@ target name = do
   _ ← expect (codes "INSERT INTO ")
   _ ← expect name
   expect (codes " VALUES ")
+
+unfoldable pub row : Reader Row
+row = do
+  _ ← expect (codes "(")
+  first ← number
+  _ ← expect (codes ", ")
+  second ← number
+  _ ← expect (codes ")")
+  nothing (Num first ∷ Num second ∷ [])

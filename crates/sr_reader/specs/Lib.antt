@@ -2,4 +2,5 @@ pub mod Reading
 pub mod Words
 pub mod Names
 pub mod Forms
+pub mod Lists
 pub mod Read

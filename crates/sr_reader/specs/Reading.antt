@@ -33,3 +33,15 @@ Reads view reading (Err NoMemory) rest = Unit {0}
 abbrev pub Finds : {X Y : Type 0} → (X → Y) → Reading Y → Result X Unread → List ℕ → Type 0
 Finds view reading (Ok x) rest = reading ≡ Got (view x) rest
 Finds view reading (Err unread) rest = reading ≡ Fails
+
+-- the call was not refused
+abbrev pub NotRefused : {X : Type 0} → Result X (No Unread) → Type 0
+NotRefused (Ok x) = Unit {0}
+NotRefused (Err (Refused unread)) = ⊥
+NotRefused (Err NoMemory) = Unit {0}
+
+-- the call was not refused, and left these bytes
+abbrev pub Leaves : {X : Type 0} → List ℕ → Result X (No Unread) → List ℕ → Type 0
+Leaves wanted (Ok x) rest = rest ≡ wanted
+Leaves wanted (Err (Refused unread)) rest = ⊥
+Leaves wanted (Err NoMemory) rest = Unit {0}

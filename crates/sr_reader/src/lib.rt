@@ -1,6 +1,7 @@
 //! Reads scripts whose statements stand in the printed form.
 #![tactic(auto)]
 
+mod lists;
 mod names;
 pub mod script;
 mod statements;

@@ -28,15 +28,15 @@ columns_stand t may = and_right _ _ (and_left _ _ may)
 stands_name : (column : Column) → may_stand column ≡ true → is_name column.name ≡ true
 stands_name column is = and_left _ _ (and_left _ _ (and_left _ _ (and_left _ _ is)))
 
--- the name of a column has a number, and the bytes of a name
+-- the name of a column has a number, and is a name
 abbrev Numbered : ℕ → List Column → List ℕ → Type 0
-Numbered k columns n = (c : ℕ) × (number_of_name k n columns ≡ Some c) × (list_all is_name_byte n ≡ true)
+Numbered k columns n = (c : ℕ) × (number_of_name k n columns ≡ Some c) × (is_name n ≡ true)
 
 numbered_cons : (k : ℕ) (column : Column) (columns : List Column) (n : List ℕ) (b : Bool) → bytes_eq column.name n ≡ b → may_stand column ≡ true
     → (b ≡ false → Numbered (k + 1) columns n) → Numbered k (column ∷ columns) n
 numbered_cons k column columns n true is stand more =
     let same : column.name ≡ n = (bytes_eq-Decides column.name n).0 is in
-    (k, rw (bytes_eq_flip n column.name, is) refl, rw (← same) (name_bytes column.name (stands_name column stand)))
+    (k, rw (bytes_eq_flip n column.name, is) refl, rw (← same) (stands_name column stand))
 numbered_cons k column columns n false is stand more =
     let next = more refl in
     (next.0, rw (bytes_eq_flip n column.name, is) next.1, next.2)
@@ -46,7 +46,7 @@ numbered k [] n stand any = absurd (cc)
 numbered k (column ∷ columns) n stand any =
     numbered_cons k column columns n (bytes_eq column.name n) refl (and_left _ _ stand) (λ other. numbered (k + 1) columns n (and_right _ _ stand) (rw other at any))
 
-pub column_number : (t : Table) (n : List ℕ) → may_create t ≡ true → is_column t n ≡ true → (c : ℕ) × (number_of_name 0 n t.columns ≡ Some c) × (list_all is_name_byte n ≡ true)
+pub column_number : (t : Table) (n : List ℕ) → may_create t ≡ true → is_column t n ≡ true → (c : ℕ) × (number_of_name 0 n t.columns ≡ Some c) × (is_name n ≡ true)
 column_number t n may is = numbered 0 t.columns n (columns_stand t may) is
 
 -- what has a number is the name of a column

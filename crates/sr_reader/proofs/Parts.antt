@@ -175,3 +175,8 @@ number_cases s rest z false h =
 pub number_is : (s rest : List ℕ) (z : ℤ) → number s ≡ Got z rest → (s ≡ number_text z ++ rest) × (is_short_number (Num z) ≡ true)
 unfolding number
 number_is s rest z h = number_cases s rest z (starts_with nat_eq s (codes "-")) h
+
+-- what comes next is read
+pub expect_does : (s word : List ℕ) → starts_with nat_eq s word ≡ true → expect word s ≡ Fails → ⊥
+unfolding expect
+expect_does s word starts fails = cc (starts, rw starts at fails)

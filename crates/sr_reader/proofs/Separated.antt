@@ -7,7 +7,7 @@ use Rattle.sr_cell.specs.Cells.{Row}
 use Rattle.sr_language.specs.Texts.{joined}
 use Rattle.sr_language.specs.Statements.{comma, row_text}
 use Rattle.sr_language.specs.Script.{is_column}
-use Rattle.sr_reader.specs.Lists.{is_row, AreRows, AreColumns}
+use Rattle.sr_reader.specs.Lists.{is_row, numbers_of}
 
 -- members, each with a comma in front
 abbrev pub tails : List (List ℕ) → List ℕ
@@ -27,6 +27,7 @@ joined_push (u ∷ v ∷ ts) t some = rw (joined_push (v ∷ ts) t (omega arith)
 abbrev pub LeftRows : List ℕ → Type 0
 LeftRows s = (rows : List Row) × IsTrue (list_all is_row rows) × (s ≡ tails (map row_text rows))
 
--- names are left, each with a comma in front, and then the tail
-abbrev pub LeftNames : Table → List ℕ → List ℕ → Type 0
-LeftNames t s tail = (names : List (List ℕ)) × IsTrue (list_all (is_column t) names) × (s ≡ tails names ++ tail)
+-- names are left, each with a comma in front, and then the tail; with the numbers so far they make up those that are wanted
+abbrev pub LeftNames : Table → List ℕ → List ℕ → List ℕ → List ℕ → Type 0
+LeftNames t s numbers wanted tail =
+    (names : List (List ℕ)) × IsTrue (list_all (is_column t) names) × (s ≡ tails names ++ tail) × (wanted ≡ numbers ++ numbers_of t.columns names)

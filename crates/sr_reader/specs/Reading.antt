@@ -40,8 +40,8 @@ NotRefused (Ok x) = Unit {0}
 NotRefused (Err (Refused unread)) = ⊥
 NotRefused (Err NoMemory) = Unit {0}
 
--- the call was not refused, and left these bytes
-abbrev pub Leaves : {X : Type 0} → List ℕ → Result X (No Unread) → List ℕ → Type 0
-Leaves wanted (Ok x) rest = rest ≡ wanted
-Leaves wanted (Err (Refused unread)) rest = ⊥
-Leaves wanted (Err NoMemory) rest = Unit {0}
+-- the call was not refused, gave this, and left these bytes
+abbrev pub Gives : {X : Type 0} → X → List ℕ → Result X (No Unread) → List ℕ → Type 0
+Gives x wanted (Ok y) rest = (y ≡ x) × (rest ≡ wanted)
+Gives x wanted (Err (Refused unread)) rest = ⊥
+Gives x wanted (Err NoMemory) rest = Unit {0}

@@ -3,9 +3,9 @@ ghost use Rattle.std.specs.Prelude.{◌≡◌, ℕ, ◌≤◌, List, [], ◌∷�
 ghost use Rattle.sr_cell.specs.Cells.{Row};
 ghost use Rattle.sr_language.specs.Texts.{joined};
 ghost use Rattle.sr_language.specs.Statements.{comma, list_text};
-ghost use Rattle.sr_language.specs.Script.{may_create, names_all};
-ghost use Rattle.sr_reader.specs.Reading.{Reads, NotRefused, Leaves};
-ghost use Rattle.sr_reader.specs.Lists.{AreColumns, SpellsRows, SpellsNames, SpellsList, has_both};
+ghost use Rattle.sr_language.specs.Script.{may_create, names_all, outputs_of};
+ghost use Rattle.sr_reader.specs.Reading.{Reads, NotRefused, Gives};
+ghost use Rattle.sr_reader.specs.Lists.{AreColumns, SpellsRows, SpellsNames, SpellsList, numbers_of, has_both};
 ghost use Rattle.sr_reader.specs.Forms as forms;
 
 use crate::names::place;
@@ -55,7 +55,7 @@ pub fn rows(alloc: Global, cursor: &mut Cursor) -> Result<Rows, No<Unread>>
 fn names(alloc: Global, table: &Table, cursor: &mut Cursor) -> Result<Seq<u8>, No<Unread>>
     requires { IsTrue (may_create table.now) }
     ensures spelled { IfOk result (λ numbers. SpellsNames table.now cursor.old numbers cursor.new) }
-    ensures complete { (names : List (List ℕ)) (tail : List ℕ) → AreColumns table.now names → cursor.old ≡ joined comma names ++ 32 ∷ tail → Leaves (32 ∷ tail) result cursor.new }
+    ensures complete { (names : List (List ℕ)) (tail : List ℕ) → AreColumns table.now names → cursor.old ≡ joined comma names ++ 32 ∷ tail → Gives (numbers_of table.now.columns names) (32 ∷ tail) result cursor.new }
 {
     let columns = table.columns.as_slice();
     let mut numbers = Seq::new(alloc);
@@ -77,7 +77,7 @@ fn has_both(numbers: &[u8]) -> bool
 pub fn list(alloc: Global, table: &Table, cursor: &mut Cursor) -> Result<Seq<u8>, No<Unread>>
     requires { IsTrue (may_create table.now) }
     ensures spelled { IfOk result (λ numbers. SpellsList table.now cursor.old numbers cursor.new) }
-    ensures complete { (names : List (List ℕ)) (tail : List ℕ) → IsTrue (names_all table.now names) → cursor.old ≡ list_text names ++ 32 ∷ tail → Leaves (32 ∷ tail) result cursor.new }
+    ensures complete { (names : List (List ℕ)) (tail : List ℕ) → IsTrue (names_all table.now names) → cursor.old ≡ list_text names ++ 32 ∷ tail → Gives (outputs_of table.now.columns names) (32 ∷ tail) result cursor.new }
 {
     if cursor.is_next(b"*") {
         cursor.expect(b"*")?;

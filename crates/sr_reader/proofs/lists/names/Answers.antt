@@ -3,6 +3,7 @@ use Rattle.std.specs.Prelude.{codes, nat_eq}
 use Rattle.std.specs.List.{starts_with}
 use Rattle.sr_reader.specs.Reading.{Reading, Got}
 use Rattle.sr_reader.specs.Forms.{place}
+use Rattle.sr_reader.specs.Lists.{numbers_of}
 use Rattle.sr_reader.proofs.ColumnNames.{two_columns}
 use Rattle.sr_reader.proofs.NameLoop.{Kept, first_name, kept_first, kept_next, comma_next, shorter, no_name}
 use Rattle.sr_reader.proofs.lists.names.Goals as goal
@@ -54,4 +55,4 @@ returns-clause-spelled c = c.more.invariant.spelled
 pub returns-clause-complete : goal.returns-clause-complete
 returns-clause-complete c names tail are e =
     let none : starts_with nat_eq c.more.cursor (codes ", ") ≡ false = sym c.is_next.ensures ∙ c.more-test.false in
-    no_name c.args.table.now c.more.cursor tail (c.more.invariant.complete names tail are e) none
+    no_name c.args.table.now c.more.cursor c.more.numbers (numbers_of c.args.table.now.columns names) tail (c.more.invariant.complete names tail are e) none

@@ -4,3 +4,4 @@ pub mod Names
 pub mod Forms
 pub mod Lists
 pub mod Read
+pub mod Answered

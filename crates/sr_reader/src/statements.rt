@@ -1,11 +1,17 @@
 //! Reading of the statements in their printed form.
-ghost use Rattle.std.specs.Prelude.{◌≡◌, ℕ, ◌<◌, ◌≤◌, List, IsTrue, IfOk, length};
-ghost use Rattle.sr_language.specs.Script.{is_name, is_default, number_of_name, reserved};
-ghost use Rattle.sr_reader.specs.Reading.{Finds, Reads};
+ghost use Rattle.std.specs.Prelude.{◌≡◌, ℕ, ◌≤◌, List, Option, IsTrue, IfOk, length};
+ghost use Rattle.sr_language.specs.Script.{Phase, Start, Filling, Asking, CreateTable, InsertRows, SelectRows, Says, may_create, is_default};
+ghost use Rattle.sr_reader.specs.Reading.{Finds, Reads, NotRefused};
+ghost use Rattle.sr_reader.specs.Read.{insert_event, select_event};
+ghost use Rattle.sr_reader.specs.Answered.{SaysEvent, InsertFits, SelectFits};
+ghost use Rattle.sr_cell.specs.Cells.{Row};
+ghost use Rattle.sr_cell.specs.declared.table.Table.{Table as TableValue};
+ghost use Rattle.sr_language.specs.Statements.{Range};
 ghost use Rattle.sr_reader.specs.Forms as forms;
 
 use crate::names::{name, place};
-use crate::script::ColumnRange;
+use crate::lists::{list, rows};
+use crate::script::{ColumnRange, InsertLine, SelectLine};
 use crate::words::{Cursor, Unread};
 use sr_cell::list::{No, NoMemory, Same, Seq};
 use sr_cell::table::{Column, Kind, Table};
@@ -202,4 +208,64 @@ fn target(name: &[u8], cursor: &mut Cursor) -> Result<(), Unread>
     cursor.expect(b"INSERT INTO ")?;
     cursor.expect(name)?;
     cursor.expect(b" VALUES ")
+}
+
+/// Reads a CREATE line.
+pub fn create(alloc: Global, line: &[u8]) -> Result<Table, No<Unread>>
+    ensures spelled { IfOk result (λ t. Says Start line.now (CreateTable t) (Filling t)) }
+    ensures complete { (t : TableValue) (next : Phase) → Says Start line.now (CreateTable t) next → NotRefused result }
+{
+    let mut cursor = Cursor::new(line);
+    if !cursor.is_short() {
+        return Err(No::Refused(Unread));
+    }
+    table(alloc, &mut cursor)
+}
+
+/// Reads an INSERT line.
+pub fn insert(
+    alloc: Global,
+    number: u64,
+    table: &Table,
+    line: &[u8],
+) -> Result<InsertLine, No<Unread>>
+    ensures spelled { IfOk result (λ made. SaysEvent number (Filling table.now) table.now line.now (insert_event made) (Filling table.now)) }
+    ensures fits { IfOk result InsertFits }
+    ensures complete { (name : List ℕ) (rows : List Row) (next : Phase) → Says (Filling table.now) line.now (InsertRows name rows) next → NotRefused result }
+{
+    let mut cursor = Cursor::new(line);
+    cursor.expect(b"exec ")?;
+    if !cursor.is_short() {
+        return Err(No::Refused(Unread));
+    }
+    target(table.name.as_str().as_bytes(), &mut cursor)?;
+    let rows = rows(alloc, &mut cursor)?;
+    Ok(InsertLine { number, rows })
+}
+
+/// Reads a SELECT line.
+pub fn select(
+    alloc: Global,
+    number: u64,
+    table: &Table,
+    line: &[u8],
+) -> Result<SelectLine, No<Unread>>
+    requires { IsTrue (may_create table.now) }
+    ensures spelled { IfOk result (λ made. SaysEvent number (Filling table.now) table.now line.now (select_event made) (Asking table.now)) }
+    ensures fits { IfOk result SelectFits }
+    ensures complete { (names : List (List ℕ)) (name : List ℕ) (range : Option Range) (next : Phase) → Says (Filling table.now) line.now (SelectRows names name range) next → NotRefused result }
+{
+    let mut cursor = Cursor::new(line);
+    cursor.expect(b"query 1 ")?;
+    if !cursor.is_short() {
+        return Err(No::Refused(Unread));
+    }
+    cursor.expect(b"SELECT ")?;
+    let outputs = list(alloc, table, &mut cursor)?;
+    let range = source(table, &mut cursor)?;
+    Ok(SelectLine {
+        number,
+        outputs,
+        range,
+    })
 }

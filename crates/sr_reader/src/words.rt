@@ -1,5 +1,5 @@
 //! Reading the parts of a line from left to right.
-ghost use Rattle.std.specs.Prelude.{◌≡◌, ℕ, nat_eq, ◌<◌, ◌≤◌, ◌^◌, List, [], IsTrue, IfOk, ◌↔◌, length};
+ghost use Rattle.std.specs.Prelude.{◌≡◌, ℕ, nat_eq, nat_le, ◌<◌, ◌≤◌, ◌^◌, List, [], IsTrue, IfOk, ◌↔◌, length};
 ghost use Rattle.std.specs.List.{prefix_len, list_all, starts_with};
 ghost use Rattle.std.specs.Str.Parse.{digits_value};
 ghost use Rattle.sr_language.specs.Script.{is_letter, is_digit};
@@ -177,5 +177,14 @@ impl<'a> Cursor<'a> {
         ensures { Finds (λ unit. unit) (ended self.old) result self.new }
     {
         if self.is_end() { Ok(()) } else { Err(Unread) }
+    }
+}
+
+impl<'a> Cursor<'a> {
+    /// Whether no more bytes are left than a statement may have.
+    pub fn is_short(&self) -> bool
+        ensures { result ≡ nat_le (length self.now) 65536 }
+    {
+        self.rest.len() <= 65_536
     }
 }

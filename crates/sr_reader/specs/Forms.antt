@@ -115,18 +115,19 @@ given_range columns = do
   _ ← ended
   checked (is_default ends.low && is_default ends.high) (range_in c ends)
 
+-- a range, unless nothing is left
+abbrev pub maybe_range : List Column → Reader (Option ColumnRange)
+maybe_range cs [] = Got None []
+maybe_range cs (b ∷ s) = (do
+  r ← given_range cs
+  nothing (Some r)) (b ∷ s)
+
 -- what stands behind the list of a SELECT
 unfoldable pub source : Table → Reader (Option ColumnRange)
 source t = do
   _ ← expect (codes " FROM ")
   _ ← expect t.name
-  range t.columns
-  where
-    range : List Column → Reader (Option ColumnRange)
-    range cs [] = Got None []
-    range cs (b ∷ s) = (do
-      r ← given_range cs
-      nothing (Some r)) (b ∷ s)
+  maybe_range t.columns
 
 -- what stands before the rows of an INSERT
 unfoldable pub target : List ℕ → Reader (Unit {0})

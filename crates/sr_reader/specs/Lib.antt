@@ -5,3 +5,4 @@ pub mod Forms
 pub mod Lists
 pub mod Read
 pub mod Answered
+pub mod Walk

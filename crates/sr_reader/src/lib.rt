@@ -1,6 +1,7 @@
 //! Reads scripts whose statements stand in the printed form.
 #![tactic(auto)]
 
+pub mod lines;
 mod lists;
 mod names;
 pub mod script;

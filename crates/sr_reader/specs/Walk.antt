@@ -1,6 +1,6 @@
 -- Reading a script line by line.
-use Rattle.std.specs.Prelude.{◌≡◌, ℕ, ◌+◌, ◌≤◌, ◌==◌, ◌&&◌, ◌||◌, Bool, true, false, List, [], ◌∷◌, ◌++◌, length, Option, Some, None, if◌then◌else◌}
-use Rattle.std.specs.List.{list_all}
+use Rattle.std.specs.Prelude.{◌≡◌, ℕ, ◌+◌, ◌≤◌, ◌==◌, ◌&&◌, ◌||◌, Bool, true, false, List, [], ◌∷◌, ◌++◌, length, nat_eq, codes, Option, Some, None, if◌then◌else◌}
+use Rattle.std.specs.List.{list_all, starts_with}
 use Rattle.std.specs.Str.{is_utf8}
 use Rattle.sr_cell.specs.declared.table.Table.{Table}
 use Rattle.sr_language.specs.Script as script
@@ -26,6 +26,15 @@ is_blank line = list_all (λ b. b == 32) line
 abbrev pub is_comment : List ℕ → Bool
 is_comment [] = false
 is_comment (b ∷ text) = b == 35 && is_utf8 text
+
+-- no event comes from the line
+abbrev pub is_silent : List ℕ → Bool
+is_silent line = is_blank line || is_comment line
+
+-- the line begins as an INSERT, and no SELECT came before it
+abbrev pub is_insert : List SelectLine → List ℕ → Bool
+is_insert [] line = starts_with nat_eq line (codes "exec ")
+is_insert (select ∷ selects) line = false
 
 -- where a script stands that was read so far
 abbrev pub phase_by : Option Table → List SelectLine → Phase

@@ -7,9 +7,9 @@ ghost use Rattle.sr_language.specs.Script.{Item, Phase, Start, Says, FirstUnbuil
 ghost use Rattle.sr_reader.specs.declared.script.Unbuilt.{Unbuilt as TheUnbuilt};
 ghost use Rattle.sr_reader.specs.Reading.{NotRefused};
 ghost use Rattle.sr_reader.specs.Read.{Fits, IsRead};
-ghost use Rattle.sr_reader.specs.Walk.{first_end, without_return, is_blank, is_comment, phase_in, Adds, events_count};
+ghost use Rattle.sr_reader.specs.Walk.{first_end, without_return, is_blank, is_comment, is_silent, is_insert, phase_in, Adds, events_count};
 
-use crate::script::{Script, Unbuilt};
+use crate::script::{Script, SelectLine, Unbuilt};
 use crate::statements::{create, insert, select};
 use crate::words::Unread;
 use sr_cell::list::{No, Seq};
@@ -84,6 +84,20 @@ fn is_comment(line: &[u8]) -> bool
     }
 }
 
+/// Whether a line is blank, or a comment.
+fn is_silent(line: &[u8]) -> bool
+    ensures { result ≡ is_silent line.now }
+{
+    is_blank(line) || is_comment(line)
+}
+
+/// Whether a line is to be read as an INSERT: no SELECT came before it.
+fn is_insert(selects: &[SelectLine], line: &[u8]) -> bool
+    ensures { result ≡ is_insert selects.now line.now }
+{
+    selects.is_empty() && line.starts_with(b"exec ")
+}
+
 /// Reads a line of this number, and adds what it says.
 fn add_line(
     alloc: Global,
@@ -97,14 +111,14 @@ fn add_line(
     ensures counted { OnOk result (events_count script.new ≤ events_count script.old + 1) }
     ensures complete { (item : Item) (next : Phase) → Says (phase_in script.old) line.now item next → NotRefused result }
 {
-    if is_blank(line) || is_comment(line) {
+    if is_silent(line) {
         return Ok(());
     }
     let Some(table) = &script.table else {
         script.table = Some(create(alloc, line)?);
         return Ok(());
     };
-    if script.selects.is_empty() && line.starts_with(b"exec ") {
+    if is_insert(script.selects.as_slice(), line) {
         let made = insert(alloc, number, table, line)?;
         script.inserts.push(made)?;
     } else {

@@ -325,3 +325,7 @@ pub walked_unbuilt : (bytes rest after line : List ℕ) (number : ℕ) (s : Scri
     → FirstUnbuilt 1 Start (lines_of bytes) number
 walked_unbuilt bytes rest after line number s walked lines nothing =
     walked.unbuilt number (rw lines (inl (refl, λ item spelled. no_phase (phase_after (phase_in s) item) (λ next is. nothing item next (spelled, is)))))
+
+pub empty_is : (s : List ℕ) → (length s == 0) ≡ true → s ≡ []
+empty_is [] h = refl
+empty_is (b ∷ s) h = absurd (grind (arith, nat_tests))

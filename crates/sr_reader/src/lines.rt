@@ -99,12 +99,7 @@ fn is_insert(selects: &[SelectLine], line: &[u8]) -> bool
 }
 
 /// Reads a line of this number, and adds what it says.
-fn add_line(
-    alloc: Global,
-    number: u64,
-    line: &[u8],
-    script: &mut Script,
-) -> Result<(), No<Unread>>
+fn add_line(alloc: Global, number: u64, line: &[u8], script: &mut Script) -> Result<(), No<Unread>>
     requires { Fits script.old }
     ensures said { OnOk result (Adds number script.old line.now script.new) }
     ensures fits { OnOk result (Fits script.new) }

@@ -16,7 +16,9 @@ use std::str;
 
 /// The words that are no names.
 const RESERVED: [&[u8]; 27] = [
-    b"and", b"between", b"check", b"create", b"delete", b"from", b"in", b"inner", b"insert", b"int", b"integer", b"into", b"join", b"key", b"like", b"not", b"null", b"on", b"or", b"primary", b"select", b"set", b"table", b"text", b"update", b"values", b"where",
+    b"and", b"between", b"check", b"create", b"delete", b"from", b"in", b"inner", b"insert",
+    b"int", b"integer", b"into", b"join", b"key", b"like", b"not", b"null", b"on", b"or",
+    b"primary", b"select", b"set", b"table", b"text", b"update", b"values", b"where",
 ];
 
 fn is_reserved(name: &[u8]) -> bool

@@ -1,7 +1,7 @@
 //! Names of tables and columns.
-ghost use Rattle.std.specs.Prelude.{◌≡◌, ℕ, ◌<◌, ◌≤◌, ◌&&◌, List, IsTrue, IfOk, IfSome, length, nat_le};
+ghost use Rattle.std.specs.Prelude.{◌≡◌, ◌<◌, ◌≤◌, ◌&&◌, length};
 ghost use Rattle.std.specs.List.{list_all};
-ghost use Rattle.sr_language.specs.Script.{begins_name, is_name, reserved, number_of_name};
+ghost use Rattle.sr_language.specs.Script.{begins_name, is_name, number_of_name};
 ghost use Rattle.sr_reader.specs.Reading.{Finds, Reads};
 ghost use Rattle.sr_reader.specs.Words.{is_name_byte};
 ghost use Rattle.sr_reader.specs.Names.{is_reserved};

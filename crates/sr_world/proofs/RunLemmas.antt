@@ -48,9 +48,9 @@ pub Ran-append : {schema : List Table} {a b : List (ℕ × Event)} {old mid new 
 Ran-append {schema} {a} {b} {old} {mid} {new} {one} {two} p q = record {
   lines = p.lines ++ q.lines;
   run = λ s r.
-    let d = p.run s r in
-    let e = q.run d.0 d.2 in
-    (e.0, Runs-append s a p.lines d.0 b q.lines e.0 d.1 e.1, e.2);
+      let d = p.run s r in
+      let e = q.run d.0 d.2 in
+      (e.0, Runs-append s a p.lines d.0 b q.lines e.0 d.1 e.1, e.2);
   text = rw (p.text, q.text) (sym (trace_text-append schema p.lines q.lines));
 }
 

@@ -158,13 +158,3 @@ WrotePart-of bytes s first last read p = record {
   traced = Trace-of bytes s p.done p.left p.trace p.last read p.split p.traced;
   written = p.written;
 }
-
-pub Wrote-of : (bytes : List ℕ) (s : Script) (kept : Option World) (first last : Option (List ℕ)) → IsRead bytes s → TracedWhole (tables_of s.table) (events_of s) kept first last
-    → Wrote first last bytes kept
-Wrote-of bytes s kept first last read p = record {
-  trace = p.trace;
-  last = p.last;
-  traced = Trace-of bytes s (events_of s) [] p.trace p.last read (sym (append-nil (events_of s))) p.traced;
-  stands = p.stands;
-  written = p.written;
-}

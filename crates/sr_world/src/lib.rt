@@ -5,4 +5,6 @@ pub mod client;
 pub mod query;
 pub mod replay;
 pub mod server;
+#[cfg(test)]
+mod tests;
 pub mod world;

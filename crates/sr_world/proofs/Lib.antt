@@ -12,3 +12,7 @@ pub mod StepLemmas
 pub mod AskLemmas
 pub mod ServeLemmas
 pub mod TakeLemmas
+pub mod ReplyLemmas
+pub mod SettleLemmas
+pub mod RunLemmas
+pub mod ReplayLemmas

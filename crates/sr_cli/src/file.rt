@@ -1,5 +1,5 @@
 //! Reading the script.
-ghost use Rattle.std.specs.Prelude.{◌≡◌, ℕ, ◌≤◌, OnOk, IfOk, IsErrOf};
+ghost use Rattle.std.specs.Prelude.{◌≡◌, OnOk, IfOk, IsErrOf};
 ghost use Rattle.sr_io.specs.Causes.{Rose};
 ghost use Rattle.sr_cli.specs.Run.{IsRead, IsTooLong};
 ghost use Rattle.sr_cli.specs.declared.file.ReadFault.TheVariants.{Fault, NoMemory as Wanting, TooLong};

@@ -1,11 +1,9 @@
 //! The top call.
 ghost use Rattle.std.specs.Prelude.{◌≡◌, ℕ, ◌⊎◌, ◌↔◌, Some, None, IfSome, OnOk, IsErrOf};
 ghost use Rattle.std.specs.Option.{option_copied};
-ghost use Rattle.sr_language.specs.Lines.{lines_of};
-ghost use Rattle.sr_language.specs.Script.{FirstUnbuilt, Start};
 ghost use Rattle.sr_io.specs.Causes.{Rose};
 ghost use Rattle.sr_io.specs.Told.{complained};
-ghost use Rattle.sr_cli.specs.Run.{file_of, OnFile, IsStatus, IsRead, Replayed, ReplayedInPart, IsTooLong, IsUnbuilt, NamedUnbuilt, unbuilt_text, error_text, FitsScript};
+ghost use Rattle.sr_cli.specs.Run.{file_of, OnFile, IsStatus, Replayed, ReplayedInPart, IsTooLong, IsUnbuilt, NamedUnbuilt, unbuilt_text, error_text, FitsScript};
 ghost use Rattle.sr_cli.specs.declared.run.Refusal.TheVariants.{Read, Write, Memory, TooLong, Unbuilt};
 
 use crate::file::{ReadFault, read_file};

@@ -4,7 +4,11 @@
 pub mod attrs;
 pub mod cell;
 pub mod change;
+mod checks;
 pub mod fault;
 pub mod list;
+pub mod schema;
 pub mod table;
+#[cfg(test)]
+mod tests;
 pub mod text;

@@ -2,6 +2,7 @@
 #![tactic(auto)]
 
 pub mod attrs;
+pub mod cause;
 pub mod cell;
 pub mod change;
 mod checks;

@@ -1,0 +1,7 @@
+pub mod Bytes
+pub mod Widths
+pub mod Order
+pub mod Parts
+pub mod Fits
+pub mod Corners
+pub mod Constrained

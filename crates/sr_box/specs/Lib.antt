@@ -1,0 +1,4 @@
+pub mod Spans
+pub mod Points
+pub mod Corners
+pub mod Cut

@@ -1,0 +1,125 @@
+//! The parts of a span that lie under, in and over another.
+ghost use Rattle.std.specs.Prelude.{◌≡◌, IfOk};
+ghost use Rattle.sr_box.specs.Cut.{nums, strs, text_max, end_min, meet, under, over, IsInner};
+
+use crate::span::{Span, is_before};
+use sr_cell::cell::is_text_at_most;
+use sr_cell::list::{Bytes, Copied, NoMemory, Seq};
+use std::alloc::Global;
+
+fn some_nums(lo: i64, hi: i64) -> Option<Span>
+    ensures { result ≡ nums lo hi }
+{
+    if lo <= hi {
+        Some(Span::Nums { lo, hi })
+    } else {
+        None
+    }
+}
+
+fn some_strs(lo: Bytes, hi: Option<Bytes>) -> Option<Span>
+    ensures { result ≡ strs lo hi }
+{
+    if is_before(lo.as_slice(), &hi) {
+        Some(Span::Strs { lo, hi })
+    } else {
+        None
+    }
+}
+
+fn later_text(alloc: Global, one: &Bytes, other: &Bytes) -> Result<Bytes, NoMemory>
+    ensures { IfOk result (λ text. text ≡ text_max one.now other.now) }
+{
+    if is_text_at_most(one.as_slice(), other.as_slice()) {
+        other.copy(alloc)
+    } else {
+        one.copy(alloc)
+    }
+}
+
+fn earlier_end(
+    alloc: Global,
+    one: &Option<Bytes>,
+    other: &Option<Bytes>,
+) -> Result<Option<Bytes>, NoMemory>
+    ensures { IfOk result (λ end. end ≡ end_min one.now other.now) }
+{
+    match (one, other) {
+        (None, _) => other.copy(alloc),
+        (Some(_), None) => one.copy(alloc),
+        (Some(x), Some(y)) => {
+            if is_text_at_most(x.as_slice(), y.as_slice()) {
+                one.copy(alloc)
+            } else {
+                other.copy(alloc)
+            }
+        }
+    }
+}
+
+impl Span {
+    /// The part that both spans have.
+    pub fn meet(&self, alloc: Global, other: &Span) -> Result<Option<Span>, NoMemory>
+        ensures { IfOk result (λ part. part ≡ meet self.now other.now) }
+    {
+        match (self, other) {
+            (Span::Full, _) => Ok(Some(other.copy(alloc)?)),
+            (_, Span::Full) => Ok(Some(self.copy(alloc)?)),
+            (Span::Nums { lo: a, hi: b }, Span::Nums { lo: c, hi: d }) => {
+                Ok(some_nums((*a).max(*c), (*b).min(*d)))
+            }
+            (Span::Strs { lo: a, hi: b }, Span::Strs { lo: c, hi: d }) => {
+                Ok(some_strs(later_text(alloc, a, c)?, earlier_end(alloc, b, d)?))
+            }
+            _ => Ok(None),
+        }
+    }
+
+    /// The part that lies under the other span; `low` is the first number of the column.
+    pub fn under(&self, alloc: Global, other: &Span, low: i64) -> Result<Option<Span>, NoMemory>
+        requires { IsInner other.now }
+        ensures { IfOk result (λ part. part ≡ under low self.now other.now) }
+    {
+        match (self, other) {
+            (Span::Full, Span::Nums { lo: c, hi: _ }) => Ok(some_nums(low, *c - 1)),
+            (Span::Full, Span::Strs { lo: c, hi: _ }) => Ok(some_strs(
+                Seq::new(alloc),
+                Some(c.copy(alloc)?),
+            )),
+            (Span::Nums { lo: a, hi: b }, Span::Nums { lo: c, hi: _ }) => {
+                if *c - 1 < *b {
+                    Ok(some_nums(*a, *c - 1))
+                } else {
+                    Ok(some_nums(*a, *b))
+                }
+            }
+            (Span::Strs { lo: a, hi: b }, Span::Strs { lo: c, hi: _ }) => {
+                let end = Some(c.copy(alloc)?);
+                Ok(some_strs(a.copy(alloc)?, earlier_end(alloc, b, &end)?))
+            }
+            _ => Ok(None),
+        }
+    }
+
+    /// The part that lies over the other span; `high` is the last number of the column.
+    pub fn over(&self, alloc: Global, other: &Span, high: i64) -> Result<Option<Span>, NoMemory>
+        requires { IsInner other.now }
+        ensures { IfOk result (λ part. part ≡ over high self.now other.now) }
+    {
+        match (self, other) {
+            (Span::Full, Span::Nums { lo: _, hi: d }) => Ok(some_nums(*d + 1, high)),
+            (Span::Full, Span::Strs { lo: _, hi: Some(d) }) => Ok(some_strs(d.copy(alloc)?, None)),
+            (Span::Nums { lo: a, hi: b }, Span::Nums { lo: _, hi: d }) => {
+                if *d + 1 < *a {
+                    Ok(some_nums(*a, *b))
+                } else {
+                    Ok(some_nums(*d + 1, *b))
+                }
+            }
+            (Span::Strs { lo: a, hi: b }, Span::Strs { lo: _, hi: Some(d) }) => {
+                Ok(some_strs(later_text(alloc, a, d)?, b.copy(alloc)?))
+            }
+            _ => Ok(None),
+        }
+    }
+}

@@ -1,0 +1,160 @@
+//! Rects.
+ghost use Rattle.std.specs.Prelude.{◌≡◌, ℕ, List, [], ◌∷◌, ◌++◌, length, OnOk, OnErr, IfOk, slice_get, ◌≤◌};
+ghost use Rattle.std.specs.Option.{option_copied};
+ghost use Rattle.sr_box.specs.Points.{constrained, full_rect, in_rect, rect_fits};
+
+use crate::span::Span;
+use sr_cell::attrs::Attrs;
+use sr_cell::cell::Row;
+use sr_cell::list::{Copied, NoMemory, Same, Seq};
+use sr_cell::table::{Column, Table};
+use std::alloc::Global;
+use std::marker::Model;
+
+/// One span for each column of a table, which contracts see as the list of them.
+#[derive(Drop)]
+pub struct Rect {
+    spans: Seq<Span>,
+}
+
+impl Model for Rect {
+    ghost use Rattle.std.specs.Prelude.{List};
+    ghost use Rattle.sr_box.specs.declared.span.Span.{Span};
+
+    ghost Value = { List Span };
+
+    ghost view = { λ r. r.spans };
+}
+
+impl Rect {
+    /// No spans yet; takes no memory.
+    pub fn new(alloc: Global) -> Rect
+        ensures { result ≡ [] }
+    {
+        Rect {
+            spans: Seq::new(alloc),
+        }
+    }
+
+    /// One span more, for the next column.
+    pub fn push(&mut self, span: Span) -> Result<(), NoMemory>
+        ensures pushed { OnOk result (self.new ≡ self.old ++ span ∷ []) }
+        ensures unchanged { OnErr result (self.new ≡ self.old) }
+    {
+        self.spans.push(span)
+    }
+
+    /// How many spans there are.
+    pub fn len(&self) -> usize
+        ensures { result ≡ length self.now }
+    {
+        self.spans.len()
+    }
+
+    /// The span of that column.
+    pub fn get(&self, column: usize) -> Option<&Span>
+        ensures { option_copied result ≡ slice_get self.now column }
+    {
+        self.spans.get(column)
+    }
+
+    /// The spans as a slice.
+    pub fn as_slice(&self) -> &[Span]
+        ensures { result.now ≡ self.now }
+    {
+        self.spans.as_slice()
+    }
+
+    /// The rect that constrains no column of the table.
+    pub fn full(alloc: Global, table: &Table) -> Result<Rect, NoMemory>
+        ensures { IfOk result (λ rect. rect ≡ full_rect table.now.columns) }
+    {
+        let mut rect = Rect::new(alloc);
+        for _column in table.columns.as_slice() {
+            rect.push(Span::Full)?;
+        }
+        Ok(rect)
+    }
+
+    /// Whether there is one span for each column, which fits it.
+    pub fn fits(&self, table: &Table) -> bool
+        ensures { result ≡ rect_fits table.now.columns self.now }
+    {
+        spans_fit(self.spans.as_slice(), table.columns.as_slice())
+    }
+
+    /// The constrained columns.
+    pub fn columns(&self) -> Attrs
+        requires { length self.now ≤ 16 }
+        ensures { result ≡ constrained self.now }
+    {
+        Attrs(constrained_of(self.spans.as_slice()))
+    }
+
+    /// Whether the rect has the row.
+    pub fn has(&self, row: &Row) -> bool
+        ensures { result ≡ in_rect self.now row.now }
+    {
+        spans_have(self.spans.as_slice(), row)
+    }
+}
+
+fn spans_have(spans: &[Span], row: &Row) -> bool
+    ensures { result ≡ in_rect spans.now row.now }
+{
+    if spans.len() != row.len() {
+        return false;
+    }
+    let cells = row.as_slice();
+    for i in 0..spans.len() {
+        if !spans[i].has(&cells[i]) {
+            return false;
+        }
+    }
+    true
+}
+
+fn spans_fit(spans: &[Span], columns: &[Column]) -> bool
+    ensures { result ≡ rect_fits columns.now spans.now }
+{
+    if spans.len() != columns.len() {
+        return false;
+    }
+    for i in 0..spans.len() {
+        if !spans[i].fits(&columns[i]) {
+            return false;
+        }
+    }
+    true
+}
+
+// From the last span to the first.
+fn constrained_of(spans: &[Span]) -> u16
+    requires { length spans.now ≤ 16 }
+    ensures { result ≡ constrained spans.now }
+{
+    let mut bits = 0;
+    let mut i = spans.len();
+    while i > 0 {
+        i -= 1;
+        bits *= 2;
+        if spans[i].constrains() {
+            bits += 1;
+        }
+    }
+    bits
+}
+
+impl Copied for Rect {
+    fn copy(&self, alloc: Global) -> Result<Rect, NoMemory> {
+        Ok(Rect {
+            spans: self.spans.copy(alloc)?,
+        })
+    }
+}
+
+impl Same for Rect {
+    fn same(&self, other: &Rect) -> bool {
+        self.spans.same(&other.spans)
+    }
+}

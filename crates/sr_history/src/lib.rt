@@ -1,0 +1,2 @@
+//! Definitions of what a client holds, as the history of its marks says, and of what it asks. There is no code here.
+#![tactic(auto)]

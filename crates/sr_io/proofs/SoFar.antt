@@ -1,0 +1,75 @@
+-- What whole reads and writes keep from turn to turn.
+use Rattle.std.proofs.Common.{◌≡◌, ℕ, Bool, false, ◌+◌, ◌≤◌, List, ◌++◌, length, take, drop, Option, Some, None, arith, ◌-◌, min, ◌∙◌, ap, sym, length-append, length-drop}
+use Rattle.std.proofs.lemmas.Grind.{common_steps}
+use Rattle.std.proofs.lemmas.List.{take_at, length-take}
+use Rattle.std.proofs.lemmas.Simd.{chunk-drop}
+use Rattle.std.proofs.Math.Seq.{take-append-add}
+use Rattle.std.specs.Io.KnownBytes.{Consumes, Appends, IsAtEnd}
+use Rattle.sr_io.specs.Pieces.{Lost}
+use Rattle.sr_io.specs.Told.{Reading, Writing, Linking}
+
+pub record ReadSoFar (S : Type 0) (reading : S → Reading) (writing : S → Writing) (linking : S → Linking) (held : S → List ℕ → Option (List ℕ)) (complaints : S → Option (List ℕ)) (IsSteady : S → Type 0) (first now : S) (bytes : List ℕ) (limit : ℕ) (more : Bool) : Type 0 where
+  pub consumed : Consumes (reading first).left (reading now).left bytes
+  pub within : length bytes ≤ limit
+  pub ended : more ≡ false → IsAtEnd (reading now).left
+  pub same_faults : (reading now).faults ≡ (reading first).faults
+  pub stays_steady : IsSteady first → IsSteady now
+  pub writing_stays : writing now ≡ writing first
+  pub linking_stays : linking now ≡ linking first
+  pub held_stays : held now ≡ held first
+  pub complaints_stay : complaints now ≡ complaints first
+
+pub record WrittenSoFar (K : Type 0) (reading : K → Reading) (writing : K → Writing) (linking : K → Linking) (held : K → List ℕ → Option (List ℕ)) (complaints : K → Option (List ℕ)) (IsSteady : K → Type 0) (first now : K) (bytes : List ℕ) (at : ℕ) : Type 0 where
+  pub within : at ≤ length bytes
+  pub appended : Appends (writing first).written (writing now).written (take at bytes)
+  pub same_faults : (writing now).faults ≡ (writing first).faults
+  pub stays_steady : IsSteady first → IsSteady now
+  pub reading_stays : reading now ≡ reading first
+  pub linking_stays : linking now ≡ linking first
+  pub held_stays : held now ≡ held first
+  pub complaints_stay : complaints now ≡ complaints first
+
+-- two pieces that were read, one after the other
+pub Consumes-append : (first mid last : Option (List ℕ)) (one two : List ℕ) → Consumes first mid one → Consumes mid last two → Consumes first last (one ++ two)
+Consumes-append None mid last one two p q = tt
+Consumes-append (Some xs) None last one two p q = absurd p
+Consumes-append (Some xs) (Some ys) None one two p q = absurd q
+Consumes-append (Some xs) (Some ys) (Some zs) one two p q = grind (arith, common_steps)
+
+-- two pieces that were written, one after the other
+pub Appends-append : (first mid last : Option (List ℕ)) (one two : List ℕ) → Appends first mid one → Appends mid last two → Appends first last (one ++ two)
+Appends-append None mid last one two p q = tt
+Appends-append (Some xs) None last one two p q = absurd p
+Appends-append (Some xs) (Some ys) None one two p q = absurd q
+Appends-append (Some xs) (Some ys) (Some zs) one two p q = grind (arith, common_steps)
+
+-- bytes that were lost behind those that were read
+pub Lost-behind : (first mid last : Option (List ℕ)) (bytes : List ℕ) (limit : ℕ) → Consumes first mid bytes
+    → Lost mid last (λ piece. length bytes + length piece ≤ limit) → Lost first last (λ all. length all ≤ limit)
+Lost-behind first mid last bytes limit before lost = record {
+  bytes = bytes ++ lost.bytes;
+  consumed = Consumes-append first mid last bytes lost.bytes before lost.consumed;
+  which = omega (arith, length-append bytes lost.bytes, lost.which);
+}
+
+pub Lost-exactly : (first mid last : Option (List ℕ)) (bytes : List ℕ) (limit : ℕ) → Consumes first mid bytes
+    → Lost mid last (λ piece. length bytes + length piece ≡ limit) → Lost first last (λ all. length all ≡ limit)
+Lost-exactly first mid last bytes limit before lost = record {
+  bytes = bytes ++ lost.bytes;
+  consumed = Consumes-append first mid last bytes lost.bytes before lost.consumed;
+  which = omega (arith, length-append bytes lost.bytes, lost.which);
+}
+
+-- a piece of the bytes, copied to the front of the room
+pub read_from : (all room copied : List ℕ) (at n : ℕ) → at + n ≤ length all → copied ≡ take n (drop at all)
+    → drop at all ≡ take n (copied ++ drop n room) ++ drop (at + n) all
+read_from all room copied at n fits is =
+    let len : length copied ≡ n = rw is (simp (length-take, length-drop) (omega arith)) in
+    rw (take_at copied (drop n room) n len, is) (chunk-drop at n all)
+
+-- what still fits behind the bytes that are there
+pub room_kept : (xs bs : List ℕ) (n count : ℕ) → length xs ≤ n → count ≡ min (length bs) (n - length xs) → xs ++ take count bs ≡ take n (xs ++ bs)
+room_kept xs bs n count fits is =
+    let whole : n ≡ length xs + (n - length xs) = omega arith in
+    let same : take count bs ≡ take (n - length xs) bs = grind (arith, common_steps, length-take, is) in
+    rw same (sym (take-append-add xs bs (n - length xs)) ∙ ap (λ k. take k (xs ++ bs)) (sym whole))

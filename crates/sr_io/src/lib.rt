@@ -1,0 +1,13 @@
+//! The outside: what is read and written, over the runtime and in memory.
+#![tactic(auto)]
+
+pub mod fails;
+pub mod file;
+pub mod mem_host;
+pub mod mem_sink;
+pub mod mem_source;
+pub mod outside;
+pub mod real_host;
+#[cfg(test)]
+mod tests;
+pub mod whole;

@@ -1,0 +1,108 @@
+//! The traits of the outside.
+ghost use Rattle.std.specs.Prelude.{◌≡◌, ℕ, ◌<◌, ◌≤◌, List, length, Option, None, OnOk, OnErr, IfOk, IsErrOf};
+ghost use Rattle.std.specs.Io.{ReadsAtMost};
+ghost use Rattle.std.specs.Io.KnownBytes.{ReadConsumes, WriteAppends};
+ghost use Rattle.sr_cell.specs.declared.list.No.TheVariants.{Refused, NoMemory as Wanting};
+ghost use Rattle.sr_io.specs.Causes.{Rose};
+ghost use Rattle.sr_io.specs.Told.{Reading, Writing, Linking, complained};
+
+use sr_cell::list::No;
+
+/// A call of the outside failed.
+#[derive(Clone, Copy, Debug, PartialEq, Eq)]
+pub struct Failed;
+
+/// What an object of the outside tells of itself.
+pub trait Outside {
+    /// What is read: the bytes left, where they are told, and the faults counted.
+    ghost reading: { Self → Reading };
+
+    /// What is written: the bytes so far, where they are told, and the faults counted.
+    ghost writing: { Self → Writing };
+
+    /// What is linked: the connections, where they are told, and the faults counted.
+    ghost linking: { Self → Linking };
+
+    /// The bytes of each name that it holds and tells.
+    ghost held: { Self → List ℕ → Option (List ℕ) };
+
+    /// What the error output was given, where that is told.
+    ghost complaints: { Self → Option (List ℕ) };
+
+    /// No call fails from now on, but for what cannot be had.
+    ghost IsSteady: { Self → Type 0 };
+}
+
+/// Bytes to be read.
+pub trait Source: Outside {
+    /// Reads some of the bytes left into the start of `room`, and answers how many; 0 only at the end.
+    fn read(&mut self, room: &mut [u8]) -> Result<usize, No<Failed>>
+        requires { 0 < length room.old }
+        ensures fits_room { ReadsAtMost result room.new }
+        ensures bytes { ReadConsumes (Self.reading self.old).left (Self.reading self.new).left result room.new }
+        ensures faults_never_fall { (Self.reading self.old).faults ≤ (Self.reading self.new).faults }
+        ensures ok_keeps_faults { OnOk result ((Self.reading self.new).faults ≡ (Self.reading self.old).faults) }
+        ensures want_keeps_faults { IsErrOf result Wanting → (Self.reading self.new).faults ≡ (Self.reading self.old).faults }
+        ensures failed_is_counted { IsErrOf result (Refused record {}) → Rose (Self.reading self.old).faults (Self.reading self.new).faults }
+        ensures stays_steady { Self.IsSteady self.old → Self.IsSteady self.new }
+        ensures steady_never_fails { Self.IsSteady self.old → ¬ IsErrOf result (Refused record {}) }
+        ensures writing_stays { Self.writing self.new ≡ Self.writing self.old }
+        ensures linking_stays { Self.linking self.new ≡ Self.linking self.old }
+        ensures held_stays { Self.held self.new ≡ Self.held self.old }
+        ensures complaints_stay { Self.complaints self.new ≡ Self.complaints self.old };
+
+    /// The count of the faults of reading and picking; it stops at 2^64 - 1.
+    fn read_faults(&self) -> u64
+        ensures { result ≡ (Self.reading self.now).faults };
+}
+
+/// Where bytes are written.
+pub trait Sink: Outside {
+    /// Writes a prefix of `bytes`, one byte at least, and answers how many.
+    fn write(&mut self, bytes: &[u8]) -> Result<usize, No<Failed>>
+        requires { 0 < length bytes.now }
+        ensures some_bytes { IfOk result (λ n. (0 < n) × (n ≤ length bytes.now)) }
+        ensures bytes { WriteAppends (Self.writing self.old).written (Self.writing self.new).written result bytes.now }
+        ensures faults_never_fall { (Self.writing self.old).faults ≤ (Self.writing self.new).faults }
+        ensures ok_keeps_faults { OnOk result ((Self.writing self.new).faults ≡ (Self.writing self.old).faults) }
+        ensures want_keeps_faults { IsErrOf result Wanting → (Self.writing self.new).faults ≡ (Self.writing self.old).faults }
+        ensures failed_is_counted { IsErrOf result (Refused record {}) → Rose (Self.writing self.old).faults (Self.writing self.new).faults }
+        ensures stays_steady { Self.IsSteady self.old → Self.IsSteady self.new }
+        ensures steady_never_fails { Self.IsSteady self.old → ¬ IsErrOf result (Refused record {}) }
+        ensures reading_stays { Self.reading self.new ≡ Self.reading self.old }
+        ensures linking_stays { Self.linking self.new ≡ Self.linking self.old }
+        ensures held_stays { Self.held self.new ≡ Self.held self.old }
+        ensures complaints_stay { Self.complaints self.new ≡ Self.complaints self.old };
+
+    /// The count of the faults of writing; it stops at 2^64 - 1.
+    fn write_faults(&self) -> u64
+        ensures { result ≡ (Self.writing self.now).faults };
+}
+
+/// A source and a sink, with files that are read by their names and an error output.
+pub trait Host: Source + Sink {
+    /// From now on reads what is held under the name, from its start. It counts as a call of `Source`.
+    /// A host that tells what it reads and holds fails at a name that it does not hold.
+    fn pick(&mut self, name: &str) -> Result<(), No<Failed>>
+        ensures bytes { OnOk result ((Self.reading self.new).left ≡ Self.held self.old name.now) }
+        ensures unchanged { OnErr result ((Self.reading self.new).left ≡ (Self.reading self.old).left) }
+        ensures faults_never_fall { (Self.reading self.old).faults ≤ (Self.reading self.new).faults }
+        ensures ok_keeps_faults { OnOk result ((Self.reading self.new).faults ≡ (Self.reading self.old).faults) }
+        ensures want_keeps_faults { IsErrOf result Wanting → (Self.reading self.new).faults ≡ (Self.reading self.old).faults }
+        ensures failed_is_counted { IsErrOf result (Refused record {}) → Rose (Self.reading self.old).faults (Self.reading self.new).faults }
+        ensures stays_steady { Self.IsSteady self.old → Self.IsSteady self.new }
+        ensures steady_fails_only_unheld { Self.IsSteady self.old → IsErrOf result (Refused record {}) → Self.held self.old name.now ≡ None }
+        ensures writing_stays { Self.writing self.new ≡ Self.writing self.old }
+        ensures linking_stays { Self.linking self.new ≡ Self.linking self.old }
+        ensures held_stays { Self.held self.new ≡ Self.held self.old }
+        ensures complaints_stay { Self.complaints self.new ≡ Self.complaints self.old };
+
+    /// Says the bytes on the error output. What does not fit or cannot be said is dropped; takes no memory.
+    fn complain(&mut self, bytes: &[u8])
+        ensures told { Self.complaints self.new ≡ complained bytes.now (Self.complaints self.old) }
+        ensures stays_steady { Self.IsSteady self.old → Self.IsSteady self.new }
+        ensures reading_stays { Self.reading self.new ≡ Self.reading self.old }
+        ensures writing_stays { Self.writing self.new ≡ Self.writing self.old }
+        ensures linking_stays { Self.linking self.new ≡ Self.linking self.old }
+        ensures held_stays { Self.held self.new ≡ Self.held self.old };
+}

@@ -1,0 +1,151 @@
+//! The host over the runtime: files, standard input and output, and the error output.
+ghost use Rattle.std.specs.Prelude.{◌≡◌, ◌<◌, ◌≤◌, length, None, IfSome};
+ghost use Rattle.sr_io.specs.Told.{no_linking};
+
+use crate::outside::{Failed, Host, Outside, Sink, Source};
+use sr_cell::list::No;
+use std::io::{ErrorKind, Read};
+use std::rt::Files;
+use std::{fs, str};
+
+/// What is read at present.
+#[derive(Drop)]
+enum Current<F, I> {
+    Nothing,
+    File(F),
+    Input(I),
+}
+
+/// A host that tells nothing of its bytes; what it does rests on the operating system.
+#[derive(Drop)]
+pub struct RealHost<R: Files + Input + Print + Eprint + Drop> {
+    rt: R,
+    current: Current<R::File, R::Reader>,
+    read_faults: u64,
+    write_faults: u64,
+}
+
+impl<R: Files + Input + Print + Eprint + Drop> RealHost<R> {
+    /// Nothing is picked yet.
+    pub fn new(rt: R) -> RealHost<R>
+        ensures reading { ⟦<RealHost<R> as Outside>⟧.reading result ≡ record { left = None; faults = 0 } }
+        ensures writing { ⟦<RealHost<R> as Outside>⟧.writing result ≡ record { written = None; faults = 0 } }
+        ensures linking { ⟦<RealHost<R> as Outside>⟧.linking result ≡ no_linking }
+    {
+        RealHost {
+            rt,
+            current: Current::Nothing,
+            read_faults: 0,
+            write_faults: 0,
+        }
+    }
+}
+
+/// Reads some bytes, again after a signal; `None` where that failed.
+fn read_some<T: Read>(from: &mut T, room: &mut [u8]) -> Option<usize>
+    requires { 0 < length room.old }
+    ensures room { length room.new ≡ length room.old }
+    ensures fits_room { IfSome result (λ n. n ≤ length room.new) }
+{
+    for _ in 0..u64::MAX {
+        match from.read(room) {
+            Ok(count) => return Some(count),
+            Err(e) if e.kind() == ErrorKind::Interrupted => {}
+            Err(_) => return None,
+        }
+    }
+    None
+}
+
+/// Prints some bytes, again after a signal; `None` where that failed or nothing was taken.
+fn print_some<R: Print>(rt: &R, bytes: &[u8]) -> Option<usize>
+    ensures some_bytes { IfSome result (λ n. (0 < n) × (n ≤ length bytes.now)) }
+{
+    for _ in 0..u64::MAX {
+        match rt.write_some(bytes) {
+            Ok(0) => return None,
+            Ok(count) => return Some(count),
+            Err(e) if e.kind() == ErrorKind::Interrupted => {}
+            Err(_) => return None,
+        }
+    }
+    None
+}
+
+impl<R: Files + Input + Print + Eprint + Drop> Outside for RealHost<R> {
+    ghost reading = { λ s. record { left = None; faults = s.read_faults } };
+
+    ghost writing = { λ s. record { written = None; faults = s.write_faults } };
+
+    ghost linking = { λ _. no_linking };
+
+    ghost held = { λ _ _. None };
+
+    ghost complaints = { λ _. None };
+
+    ghost IsSteady = { λ _. ⊥ };
+}
+
+impl<R: Files + Input + Print + Eprint + Drop> Source for RealHost<R> {
+    fn read(&mut self, room: &mut [u8]) -> Result<usize, No<Failed>> {
+        let got = match &mut self.current {
+            Current::Nothing => Some(0),
+            Current::File(file) => read_some(file, room),
+            Current::Input(input) => read_some(input, room),
+        };
+        match got {
+            Some(count) => Ok(count),
+            None => {
+                self.read_faults = self.read_faults.saturating_add(1);
+                Err(No::Refused(Failed))
+            }
+        }
+    }
+
+    fn read_faults(&self) -> u64 {
+        self.read_faults
+    }
+}
+
+impl<R: Files + Input + Print + Eprint + Drop> Sink for RealHost<R> {
+    fn write(&mut self, bytes: &[u8]) -> Result<usize, No<Failed>> {
+        match print_some(&self.rt, bytes) {
+            Some(count) => Ok(count),
+            None => {
+                self.write_faults = self.write_faults.saturating_add(1);
+                Err(No::Refused(Failed))
+            }
+        }
+    }
+
+    fn write_faults(&self) -> u64 {
+        self.write_faults
+    }
+}
+
+impl<R: Files + Input + Print + Eprint + Drop> Host for RealHost<R> {
+    /// The name `-` is standard input.
+    fn pick(&mut self, name: &str) -> Result<(), No<Failed>> {
+        if name == "-" {
+            self.current = Current::Input(self.rt.reader());
+            return Ok(());
+        }
+        match fs::open(&self.rt, name) {
+            Ok(file) => {
+                self.current = Current::File(file);
+                Ok(())
+            }
+            Err(_) => {
+                self.read_faults = self.read_faults.saturating_add(1);
+                Err(No::Refused(Failed))
+            }
+        }
+    }
+
+    /// What is no text is not said.
+    fn complain(&mut self, bytes: &[u8]) {
+        for chunk in bytes.utf8_chunks() {
+            let _ = self.rt.eprint(chunk.valid());
+        }
+    }
+}

@@ -1,0 +1,121 @@
+//! Whole reads and whole writes.
+ghost use Rattle.std.specs.Prelude.{◌≡◌, ◌+◌, ◌≤◌, length, IfOk, OnOk, OnErr, IsErrOf};
+ghost use Rattle.std.specs.Io.KnownBytes.{Consumes, Appends, IsAtEnd};
+ghost use Rattle.sr_cell.specs.declared.list.No.TheVariants.{Refused, NoMemory as Wanting};
+ghost use Rattle.sr_io.specs.declared.whole.ReadAll.TheVariants.{ReadFault, TooLong};
+ghost use Rattle.sr_io.specs.Causes.{Rose};
+ghost use Rattle.sr_io.specs.Pieces.{ReadsPiece, Lost, WritesPrefix};
+
+use crate::outside::{Failed, Sink, Source};
+use sr_cell::list::{Bytes, No, Seq};
+use std::alloc::Global;
+
+/// Why a whole read was refused.
+#[derive(Clone, Copy, Debug, PartialEq, Eq)]
+pub enum ReadAll {
+    /// A call of the source failed.
+    ReadFault,
+    /// There are more bytes than the limit.
+    TooLong,
+}
+
+/// Reads to the end. Where there are more than `limit` bytes, `limit + 1` of them are taken.
+pub fn read_all<S: Source>(
+    alloc: Global,
+    source: &mut S,
+    limit: usize,
+) -> Result<Bytes, No<ReadAll>>
+    ensures whole { IfOk result (λ bytes. Consumes (S.reading source.old).left (S.reading source.new).left bytes) }
+    ensures at_end { OnOk result (IsAtEnd (S.reading source.new).left) }
+    ensures within_limit { IfOk result (λ bytes. length bytes ≤ limit) }
+    ensures too_long { IsErrOf result (Refused TooLong) → Lost (S.reading source.old).left (S.reading source.new).left (λ bytes. length bytes ≡ limit + 1) }
+    ensures lost { OnErr result (Lost (S.reading source.old).left (S.reading source.new).left (λ bytes. length bytes ≤ limit + 1)) }
+    ensures fault_within_limit { IsErrOf result (Refused ReadFault) → Lost (S.reading source.old).left (S.reading source.new).left (λ bytes. length bytes ≤ limit) }
+    ensures want_within_limit { IsErrOf result Wanting → Lost (S.reading source.old).left (S.reading source.new).left (λ bytes. length bytes ≤ limit) }
+    ensures faults_never_fall { (S.reading source.old).faults ≤ (S.reading source.new).faults }
+    ensures too_long_keeps_faults { IsErrOf result (Refused TooLong) → (S.reading source.new).faults ≡ (S.reading source.old).faults }
+    ensures ok_keeps_faults { OnOk result ((S.reading source.new).faults ≡ (S.reading source.old).faults) }
+    ensures want_keeps_faults { IsErrOf result Wanting → (S.reading source.new).faults ≡ (S.reading source.old).faults }
+    ensures fault_is_counted { IsErrOf result (Refused ReadFault) → Rose (S.reading source.old).faults (S.reading source.new).faults }
+    ensures stays_steady { S.IsSteady source.old → S.IsSteady source.new }
+    ensures steady_never_faults { S.IsSteady source.old → ¬ IsErrOf result (Refused ReadFault) }
+    ensures held_stays { S.held source.new ≡ S.held source.old }
+    ensures writing_stays { S.writing source.new ≡ S.writing source.old }
+    ensures linking_stays { S.linking source.new ≡ S.linking source.old }
+    ensures complaints_stay { S.complaints source.new ≡ S.complaints source.old }
+{
+    let mut bytes = Seq::new(alloc);
+    let mut more = true;
+    while more {
+        match read_piece(source, &mut bytes, limit) {
+            Ok(goes_on) => more = goes_on,
+            Err(no) => return Err(no),
+        }
+    }
+    Ok(bytes)
+}
+
+/// Reads one piece behind the bytes that are there, and tells whether there may be more.
+fn read_piece<S: Source>(
+    source: &mut S,
+    bytes: &mut Bytes,
+    limit: usize,
+) -> Result<bool, No<ReadAll>>
+    requires { length bytes.old ≤ limit }
+    ensures piece { IfOk result (λ more. ReadsPiece (S.reading source.old).left (S.reading source.new).left bytes.old bytes.new limit more) }
+    ensures too_long { IsErrOf result (Refused TooLong) → Lost (S.reading source.old).left (S.reading source.new).left (λ piece. length bytes.old + length piece ≡ limit + 1) }
+    ensures lost { OnErr result (Lost (S.reading source.old).left (S.reading source.new).left (λ piece. length bytes.old + length piece ≤ limit + 1)) }
+    ensures fault_within_limit { IsErrOf result (Refused ReadFault) → Lost (S.reading source.old).left (S.reading source.new).left (λ piece. length bytes.old + length piece ≤ limit) }
+    ensures want_within_limit { IsErrOf result Wanting → Lost (S.reading source.old).left (S.reading source.new).left (λ piece. length bytes.old + length piece ≤ limit) }
+    ensures faults_never_fall { (S.reading source.old).faults ≤ (S.reading source.new).faults }
+    ensures too_long_keeps_faults { IsErrOf result (Refused TooLong) → (S.reading source.new).faults ≡ (S.reading source.old).faults }
+    ensures ok_keeps_faults { OnOk result ((S.reading source.new).faults ≡ (S.reading source.old).faults) }
+    ensures want_keeps_faults { IsErrOf result Wanting → (S.reading source.new).faults ≡ (S.reading source.old).faults }
+    ensures fault_is_counted { IsErrOf result (Refused ReadFault) → Rose (S.reading source.old).faults (S.reading source.new).faults }
+    ensures stays_steady { S.IsSteady source.old → S.IsSteady source.new }
+    ensures steady_never_faults { S.IsSteady source.old → ¬ IsErrOf result (Refused ReadFault) }
+    ensures held_stays { S.held source.new ≡ S.held source.old }
+    ensures writing_stays { S.writing source.new ≡ S.writing source.old }
+    ensures linking_stays { S.linking source.new ≡ S.linking source.old }
+    ensures complaints_stay { S.complaints source.new ≡ S.complaints source.old }
+{
+    let mut room = [0u8; 4096];
+    let spare = limit - bytes.len();
+    let want = if spare < 4096 { spare + 1 } else { 4096 };
+    match source.read(&mut room[..want]) {
+        Ok(count) => {
+            if count > spare {
+                return Err(No::Refused(ReadAll::TooLong));
+            }
+            bytes.extend(&room[..count])?;
+            Ok(count > 0)
+        }
+        Err(No::Refused(_)) => Err(No::Refused(ReadAll::ReadFault)),
+        Err(No::NoMemory) => Err(No::NoMemory),
+    }
+}
+
+/// Writes all bytes. After an `Err` a prefix of them was written.
+pub fn write_all<K: Sink>(sink: &mut K, bytes: &[u8]) -> Result<(), No<Failed>>
+    ensures whole { OnOk result (Appends (K.writing sink.old).written (K.writing sink.new).written bytes.now) }
+    ensures prefix { WritesPrefix (K.writing sink.old).written (K.writing sink.new).written bytes.now }
+    ensures faults_never_fall { (K.writing sink.old).faults ≤ (K.writing sink.new).faults }
+    ensures ok_keeps_faults { OnOk result ((K.writing sink.new).faults ≡ (K.writing sink.old).faults) }
+    ensures want_keeps_faults { IsErrOf result Wanting → (K.writing sink.new).faults ≡ (K.writing sink.old).faults }
+    ensures failed_is_counted { IsErrOf result (Refused record {}) → Rose (K.writing sink.old).faults (K.writing sink.new).faults }
+    ensures stays_steady { K.IsSteady sink.old → K.IsSteady sink.new }
+    ensures steady_never_fails { K.IsSteady sink.old → ¬ IsErrOf result (Refused record {}) }
+    ensures held_stays { K.held sink.new ≡ K.held sink.old }
+    ensures reading_stays { K.reading sink.new ≡ K.reading sink.old }
+    ensures linking_stays { K.linking sink.new ≡ K.linking sink.old }
+    ensures complaints_stay { K.complaints sink.new ≡ K.complaints sink.old }
+{
+    let mut at = 0;
+    while at < bytes.len() {
+        match sink.write(&bytes[at..]) {
+            Ok(count) => at += count,
+            Err(no) => return Err(no),
+        }
+    }
+    Ok(())
+}

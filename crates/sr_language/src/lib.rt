@@ -1,0 +1,2 @@
+//! Definitions of texts: how cells are printed, and what the lines of a script say. There is no code here.
+#![tactic(auto)]

@@ -1,0 +1,4 @@
+//! The messages between a server and its clients.
+#![tactic(auto)]
+
+pub mod message;

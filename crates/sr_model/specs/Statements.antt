@@ -1,0 +1,70 @@
+-- Statements that change tables, and their refusals.
+use Rattle.std.specs.Prelude.{ℕ, ℤ, Bool, List, [], ◌∷◌, length, Option, Some, None, Result, Ok, Err, ◌+◌, nat_lt, int_le, ◌&&◌, if◌then◌else◌, slice_set}
+use Rattle.sr_cell.specs.declared.cell.Cell.{Cell}
+use Rattle.sr_cell.specs.declared.cell.Cell.TheVariants.{Num, Str}
+use Rattle.sr_cell.specs.declared.table.Kind.{Kind}
+use Rattle.sr_cell.specs.declared.table.Kind.TheVariants.{Num as Numbers, Str as Texts}
+use Rattle.sr_cell.specs.declared.table.Column.{Column}
+use Rattle.sr_cell.specs.declared.table.Table.{Table}
+use Rattle.sr_cell.specs.declared.fault.Fault.{Fault}
+use Rattle.sr_cell.specs.declared.fault.Why.TheVariants.{DuplicateKey, DomainCell, LongCell, TableFull, TooManyChanges}
+use Rattle.sr_cell.specs.Cells.{Row, cell_at}
+use Rattle.sr_cell.specs.Columns.{table_at}
+use Rattle.sr_model.specs.Queries.{rows_at}
+use Rattle.sr_model.specs.SortedRows.{has_key, with_row}
+
+-- the tables' rows, each list by key ascending
+abbrev pub Tables : Type 0
+Tables = List (List Row)
+
+-- a statement that is bound to the tables of a schema
+pub data Write : Type 0 where
+  Insert : (table : ℕ) → (rows : List Row) → Write
+
+-- why a value can't stand in column number c; of a text only its length is judged
+abbrev pub cell_fault : Kind → ℤ → ℤ → ℕ → Cell → Option Fault
+cell_fault Numbers low high c (Num n) = if int_le low n && int_le n high then None else Some (record { why = DomainCell; at = c })
+cell_fault Numbers low high c (Str s) = Some (record { why = DomainCell; at = c })
+cell_fault Texts low high c (Num n) = Some (record { why = DomainCell; at = c })
+cell_fault Texts low high c (Str s) = if nat_lt 120 (length s) then Some (record { why = LongCell; at = c }) else None
+
+abbrev pub first_fault : Option Fault → Option Fault → Option Fault
+first_fault (Some fault) other = Some fault
+first_fault None other = other
+
+-- the first cell of the row that can't stand there; c is the number of the first column
+abbrev pub bad_cell_from : ℕ → List Column → Row → Option Fault
+bad_cell_from c [] row = None
+bad_cell_from c (column ∷ columns) [] = None
+bad_cell_from c (column ∷ columns) (v ∷ row) = first_fault (cell_fault column.kind column.lo column.hi c v) (bad_cell_from (c + 1) columns row)
+
+-- row number i of a statement has a key that is there already
+abbrev pub key_fault : Table → ℕ → List Row → Row → Option Fault
+key_fault table i rows row = if has_key table.key (cell_at row table.key) rows then Some (record { why = DuplicateKey; at = i }) else None
+
+-- why a row can't be inserted into these rows as number i of its statement: first its cells, then its key
+abbrev pub fault_of_row : Table → ℕ → List Row → Row → Option Fault
+fault_of_row table i rows row = first_fault (bad_cell_from 0 table.columns row) (key_fault table i rows row)
+
+abbrev pub or_else : Option Fault → Result (List Row) Fault → Result (List Row) Fault
+or_else (Some fault) result = Err fault
+or_else None result = result
+
+-- at most 65,536 rows in a table, and at most 10,000 changes by a statement, each inserted row being one
+abbrev pub within_limits : ℕ → List Row → Result (List Row) Fault
+within_limits changes rows =
+    if nat_lt 65536 (length rows) then Err (record { why = TableFull; at = 65536 })
+    else (if nat_lt 10000 changes then Err (record { why = TooManyChanges; at = changes }) else Ok rows)
+
+-- the rows after these are inserted from the left, the first of them being number i of its statement
+abbrev pub inserted : Table → ℕ → List Row → List Row → Result (List Row) Fault
+inserted table i [] rows = within_limits i rows
+inserted table i (row ∷ more) rows = or_else (fault_of_row table i rows row) (inserted table (i + 1) more (with_row table.key rows row))
+
+abbrev pub with_table : Tables → ℕ → Result (List Row) Fault → Result Tables Fault
+with_table tables t (Ok rows) = Ok (slice_set tables t rows)
+with_table tables t (Err fault) = Err fault
+
+-- the tables after a statement, or its first refusal
+abbrev pub executed : List Table → Write → Tables → Result Tables Fault
+executed schema (Insert t rows) tables = with_table tables t (inserted (table_at schema t) 0 rows (rows_at tables t))

@@ -1,0 +1,4 @@
+pub mod Server
+pub mod Scene
+pub mod Steps
+pub mod Runs

@@ -1,0 +1,100 @@
+-- What a server sends.
+use Rattle.std.specs.Prelude.{ℕ, Bool, true, false, ◌&&◌, ◌||◌, ◌==◌, List, [], ◌∷◌, ◌++◌, ◌+◌, ◌-◌, suc, zero, map, filter, take, drop, length, Option, Some, None, if◌then◌else◌}
+use Rattle.std.specs.List.{list_any}
+use Rattle.sr_cell.specs.declared.change.Change.{Change}
+use Rattle.sr_cell.specs.declared.table.Table.{Table}
+use Rattle.sr_cell.specs.Cells.{Row}
+use Rattle.sr_cell.specs.Attrs.{project}
+use Rattle.sr_box.specs.Points.{Rect, in_any}
+use Rattle.sr_message.specs.declared.message.AskPart.{AskPart}
+use Rattle.sr_message.specs.declared.message.Tell.{Tell}
+use Rattle.sr_message.specs.declared.message.Message.{Message}
+use Rattle.sr_message.specs.declared.message.Message.TheVariants.{Ask, Notice, Rows, Reply}
+use Rattle.sr_model.specs.Queries.{rows_at}
+use Rattle.sr_model.specs.Statements.{Tables}
+use Rattle.sr_model.specs.Changes.{changes_at, newest_of, version_at}
+
+-- rects of one table
+pub record Holding : Type 0 where
+  pub table : ℕ
+  pub rects : List Rect
+
+-- A session: the points that the client asked for, and the version that the messages to it have reached.
+pub record Session : Type 0 where
+  pub subscription : List Holding
+  pub upto : ℕ
+
+abbrev pub has_row : List Rect → Option Row → Bool
+has_row rects None = false
+has_row rects (Some row) = in_any rects row
+
+-- the old or the new row is subscribed
+abbrev pub touches : List Holding → Change → Bool
+touches subscription c = list_any (λ h. h.table == c.table && (has_row h.rects c.before || has_row h.rects c.after)) subscription
+
+abbrev pub tell_of : Change → Tell
+tell_of c = record { table = c.table; key = c.key; after = c.after }
+
+-- no notice where nothing is told
+abbrev pub notice : ℕ → List Tell → List Message
+notice v [] = []
+notice v (tell ∷ told) = Notice v (tell ∷ told) ∷ []
+
+-- a notice for each of the n versions after v that has changes which touch the subscription, with just those changes
+abbrev pub notices : List Table → List Tables → List Holding → ℕ → ℕ → List Message
+notices schema versions subscription v zero = []
+notices schema versions subscription v (suc n) =
+    notice (v + 1) (map tell_of (filter (touches subscription) (changes_at schema versions (v + 1)))) ++ notices schema versions subscription (v + 1) n
+
+-- what is due to a session before anything else is sent
+abbrev pub due : List Table → List Tables → Session → List Message
+due schema versions session = notices schema versions session.subscription session.upto (newest_of versions - session.upto)
+
+-- in pieces of 256 rows, the last possibly shorter; at most n pieces
+abbrev pub pieces : ℕ → List Row → List (List Row)
+pieces n [] = []
+pieces zero (row ∷ rows) = []
+pieces (suc n) (row ∷ rows) = (row ∷ take 255 rows) ∷ pieces n (drop 255 rows)
+
+-- the rows of an asked part: those in the asked rects, with the asked columns
+abbrev pub asked_rows : Tables → AskPart → List Row
+asked_rows tables ask = map (project ask.attrs) (filter (in_any ask.rects) (rows_at tables ask.table))
+
+-- the rows of the parts, part by part, the first of them being number i
+abbrev pub row_messages : Tables → ℕ → ℕ → List AskPart → List Message
+row_messages tables number i [] = []
+row_messages tables number i (ask ∷ asks) =
+    map (Rows number i) (pieces (length (asked_rows tables ask)) (asked_rows tables ask)) ++ row_messages tables number (i + 1) asks
+
+-- the rows of an ask on the newest tables, and its reply
+abbrev pub reply_messages : List Tables → ℕ → List AskPart → List Message
+reply_messages versions number parts = row_messages (version_at versions (newest_of versions)) number 0 parts ++ Reply number (newest_of versions) ∷ []
+
+abbrev pub holding_of : AskPart → Holding
+holding_of ask = record { table = ask.table; rects = ask.rects }
+
+-- what a message makes of the versions and of the client's session, and what is sent
+pub record Served : Type 0 where
+  pub versions : List Tables
+  pub session : Option Session
+  pub sent : List Message
+
+abbrev pub open_session : List Tables → List Holding → Option Session
+open_session versions subscription = Some (record { subscription = subscription; upto = newest_of versions })
+
+-- A fresh ask begins the subscription anew; another one brings the notices first, and adds to the subscription.
+abbrev pub serve_ask : List Table → List Tables → Session → ℕ → Bool → List AskPart → Served
+serve_ask schema versions session number true parts =
+    record { versions = versions; session = open_session versions (map holding_of parts); sent = reply_messages versions number parts }
+serve_ask schema versions session number false parts =
+    record { versions = versions; session = open_session versions (session.subscription ++ map holding_of parts); sent = due schema versions session ++ reply_messages versions number parts }
+
+-- a message that must be refused sends nothing
+abbrev pub nothing_served : List Tables → Option Session → Served
+nothing_served versions session = record { versions = versions; session = session; sent = [] }
+
+-- the server takes a message of a client with this session
+abbrev pub serve : List Table → List Tables → Option Session → Message → Served
+serve schema versions None m = nothing_served versions None
+serve schema versions (Some session) (Ask number fresh parts) = serve_ask schema versions session number fresh parts
+serve schema versions (Some session) m = nothing_served versions (Some session)

@@ -1,0 +1,4 @@
+//! The lines of a trace, and their text.
+#![tactic(auto)]
+
+pub mod line;

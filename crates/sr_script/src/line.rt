@@ -1,0 +1,96 @@
+//! The lines of a trace.
+use sr_cell::attrs::Attrs;
+use sr_cell::cause::Cause;
+use sr_cell::cell::Row;
+use sr_cell::fault::Fault;
+use sr_cell::list::Seq;
+use sr_union::rects::Rects;
+
+/// The requests of a client.
+#[derive(Clone, Copy, Debug, PartialEq, Eq)]
+pub enum RequestKind {
+    Hello,
+    Resume,
+    Ask,
+    Write,
+}
+
+/// A line: first those of details, then those that end a step.
+#[derive(Drop)]
+pub enum TraceLine {
+    Answer {
+        client: u8,
+        query: u64,
+        version: u64,
+        rows: u64,
+    },
+    Row {
+        row: Row,
+    },
+    Held {
+        client: u8,
+        table: u8,
+        attrs: Attrs,
+        rects: Rects,
+    },
+    Drop {
+        client: u8,
+        cause: Cause,
+        table: u8,
+        attrs: Attrs,
+        stamp: u64,
+        rects: Rects,
+    },
+    Ask {
+        client: u8,
+        request: u64,
+        fresh: bool,
+        parts: u8,
+    },
+    Part {
+        table: u8,
+        attrs: Attrs,
+        rects: Rects,
+    },
+    ExecVersion {
+        version: u64,
+    },
+    ExecRefused {
+        fault: Fault,
+    },
+    QueryAnswered {
+        client: u8,
+        query: u64,
+    },
+    QueryAsked {
+        client: u8,
+        request: u64,
+    },
+    QuerySql {
+        client: u8,
+        fault: Fault,
+    },
+    QueryBusy {
+        client: u8,
+        request: u64,
+    },
+    ServerEmpty {
+        client: u8,
+    },
+    ServerTook {
+        client: u8,
+        kind: RequestKind,
+        frames: u64,
+    },
+    ClientEmpty {
+        client: u8,
+    },
+    ClientLaid {
+        client: u8,
+    },
+    ClientAnswered {
+        client: u8,
+    },
+}
+
+pub type TraceLines = Seq<TraceLine>;

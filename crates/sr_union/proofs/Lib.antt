@@ -1,0 +1,9 @@
+pub mod Times
+pub mod Cuts
+pub mod Among
+pub mod Count
+pub mod Inner
+pub mod Parts
+pub mod Low
+pub mod Within
+pub mod Monotone

@@ -1,0 +1,67 @@
+-- What is left of rects without others.
+use Rattle.std.specs.Prelude.{Bool, true, false, ◌&&◌, List, [], ◌∷◌, ◌++◌, ◌≡◌, Option, Some, None, if◌then◌else◌, IsTrue}
+use Rattle.sr_cell.specs.declared.table.Column.{Column}
+use Rattle.sr_cell.specs.Cells.{Row}
+use Rattle.sr_cell.specs.Columns.{is_point}
+use Rattle.sr_box.specs.declared.span.Span.{Span}
+use Rattle.sr_box.specs.Points.{Rect, times, in_any}
+use Rattle.sr_box.specs.Cut.{meet, under, over}
+
+-- the rect with this first span, where there is one
+abbrev pub with_front : Option Span → Rect → List Rect
+with_front None r = []
+with_front (Some s) r = (s ∷ r) ∷ []
+
+abbrev pub fronts : Span → List Rect → List Rect
+fronts s [] = []
+fronts s (r ∷ rects) = (s ∷ r) ∷ fronts s rects
+
+-- the rects with this first span, where there is one
+abbrev pub with_fronts : Option Span → List Rect → List Rect
+with_fronts None rects = []
+with_fronts (Some s) rects = fronts s rects
+
+-- the pieces that lie beside the cut in this column, and those that do so in a column behind it
+abbrev pub cut_here : Column → Span → Span → Rect → List Rect → List Rect
+cut_here c s t r tails = with_front (under c.lo s t) r ++ (with_front (over c.hi s t) r ++ with_fronts (meet s t) tails)
+
+-- what is left of a rect without another, column by column
+abbrev pub rect_minus : List Column → Rect → Rect → List Rect
+rect_minus [] r q = []
+rect_minus (c ∷ cs) [] q = []
+rect_minus (c ∷ cs) (s ∷ r) [] = []
+rect_minus (c ∷ cs) (s ∷ r) (t ∷ q) = cut_here c s t r (rect_minus cs r q)
+
+abbrev pub meet_some : Option Span → Bool
+meet_some None = false
+meet_some (Some s) = true
+
+-- the spans of each column meet
+abbrev pub meets : Rect → Rect → Bool
+meets [] q = true
+meets (s ∷ r) [] = true
+meets (s ∷ r) (t ∷ q) = meet_some (meet s t) && meets r q
+
+-- a rect that does not meet the other stays whole
+abbrev pub minus_one : List Column → Rect → Rect → List Rect
+minus_one cs r q = if meets r q then rect_minus cs r q else r ∷ []
+
+abbrev pub minus_each : List Column → List Rect → Rect → List Rect
+minus_each cs [] q = []
+minus_each cs (r ∷ rects) q = minus_one cs r q ++ minus_each cs rects q
+
+abbrev pub minus_all : List Column → List Rect → List Rect → List Rect
+minus_all cs rects [] = rects
+minus_all cs rects (q ∷ others) = minus_all cs (minus_each cs rects q) others
+
+-- each point lies in as many of what is left as of the rects, or in none where the others have it
+abbrev pub IsMinus : List Column → List Rect → List Rect → List Rect → Type 0
+IsMinus columns rects others left = (p : Row) → IsTrue (is_point columns p) → times left p ≡ (if in_any others p then 0 else times rects p)
+
+-- each point of the first rects is one of the second
+abbrev pub IsWithin : List Column → List Rect → List Rect → Type 0
+IsWithin columns rects others = (p : Row) → IsTrue (is_point columns p) → IsTrue (in_any rects p) → IsTrue (in_any others p)
+
+-- a point of the first rects is none of the second
+abbrev pub HasOutside : List Column → List Rect → List Rect → Type 0
+HasOutside columns rects others = (p : Row) × IsTrue (is_point columns p) × IsTrue (in_any rects p) × (in_any others p ≡ false)

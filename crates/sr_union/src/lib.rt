@@ -1,0 +1,5 @@
+//! Lists of rects, and their differences.
+#![tactic(auto)]
+
+pub mod minus;
+pub mod rects;

@@ -1,0 +1,286 @@
+//! Differences of lists of rects.
+ghost use Rattle.std.specs.Prelude.{◌≡◌, ◌↔◌, ℕ, ◌<◌, ◌≤◌, ◌*◌, ◌-◌, ◌^◌, true, false, List, [], ◌∷◌, ◌++◌, length, IfOk, OnOk, IsErrOf, IsTrue};
+ghost use Rattle.std.specs.List.{list_all};
+ghost use Rattle.sr_cell.specs.declared.list.No.TheVariants.{Refused};
+ghost use Rattle.sr_cell.specs.Cells.{Row};
+ghost use Rattle.sr_cell.specs.Columns.{is_point};
+ghost use Rattle.sr_box.specs.Points.{times, rect_fits};
+ghost use Rattle.sr_box.specs.Cut.{meet, IsInner};
+ghost use Rattle.sr_union.specs.Pieces.{with_front, fronts, with_fronts, cut_here, rect_minus, meet_some, meets, minus_one, minus_each, IsMinus, IsWithin, HasOutside};
+ghost use Rattle.sr_union.specs.Grid.{AreCutFrom, grid, have_first, all_inner};
+
+use crate::rects::Rects;
+use sr_box::rect::Rect;
+use sr_box::span::Span;
+use sr_cell::list::{Copied, No, NoMemory};
+use sr_cell::table::{Column, Table};
+use std::alloc::Global;
+
+/// More rects than the limit.
+#[derive(Clone, Copy, Debug, PartialEq, Eq)]
+pub struct Over;
+
+fn copy_behind(alloc: Global, first: &Span, rest: &[Span]) -> Result<Rect, NoMemory>
+    ensures { IfOk result (λ rect. rect ≡ first.now ∷ rest.now) }
+{
+    let mut rect = Rect::new(alloc);
+    rect.push(first.copy(alloc)?)?;
+    for span in rest {
+        rect.push(span.copy(alloc)?)?;
+    }
+    Ok(rect)
+}
+
+fn push_front(
+    alloc: Global,
+    out: &mut Rects,
+    first: Option<Span>,
+    rest: &[Span],
+) -> Result<(), NoMemory>
+    ensures { OnOk result (out.new ≡ out.old ++ with_front first rest.now) }
+{
+    match first {
+        None => Ok(()),
+        Some(span) => {
+            out.push(copy_behind(alloc, &span, rest)?)?;
+            Ok(())
+        }
+    }
+}
+
+fn push_all(alloc: Global, out: &mut Rects, span: &Span, tails: &Rects) -> Result<(), NoMemory>
+    ensures { OnOk result (out.new ≡ out.old ++ fronts span.now tails.now) }
+{
+    for tail in tails.as_slice() {
+        out.push(copy_behind(alloc, span, tail.as_slice())?)?;
+    }
+    Ok(())
+}
+
+fn push_fronts(
+    alloc: Global,
+    out: &mut Rects,
+    first: Option<Span>,
+    tails: &Rects,
+) -> Result<(), NoMemory>
+    ensures { OnOk result (out.new ≡ out.old ++ with_fronts first tails.now) }
+{
+    match first {
+        None => Ok(()),
+        Some(span) => push_all(alloc, out, &span, tails),
+    }
+}
+
+fn cut_column(
+    alloc: Global,
+    column: &Column,
+    s: &Span,
+    t: &Span,
+    rest: &[Span],
+    tails: &Rects,
+) -> Result<Rects, NoMemory>
+    requires { IsInner t.now }
+    ensures { IfOk result (λ pieces. pieces ≡ cut_here column.now s.now t.now rest.now tails.now) }
+{
+    let mut out = Rects::new(alloc);
+    push_front(alloc, &mut out, s.under(alloc, t, column.lo)?, rest)?;
+    push_front(alloc, &mut out, s.over(alloc, t, column.hi)?, rest)?;
+    push_fronts(alloc, &mut out, s.meet(alloc, t)?, tails)?;
+    Ok(out)
+}
+
+/// What is left of a rect without another, from the last column to the first.
+fn cut_rect(
+    alloc: Global,
+    columns: &[Column],
+    rect: &[Span],
+    cut: &[Span],
+) -> Result<Rects, NoMemory>
+    requires width { length rect.now ≡ length columns.now }
+    requires fits { rect_fits columns.now cut.now ≡ true }
+    requires inner { all_inner columns.now ≡ true }
+    requires same { length cut.now ≡ length columns.now }
+    ensures { IfOk result (λ pieces. pieces ≡ rect_minus columns.now rect.now cut.now) }
+{
+    let mut tails = Rects::new(alloc);
+    let mut i = columns.len();
+    while i > 0 {
+        i -= 1;
+        tails = cut_column(
+            alloc,
+            &columns[i],
+            &rect[i],
+            &cut[i],
+            &rect[i + 1..],
+            &tails,
+        )?;
+    }
+    Ok(tails)
+}
+
+fn spans_meet(alloc: Global, s: &Span, t: &Span) -> Result<bool, NoMemory>
+    ensures { IfOk result (λ yes. yes ≡ meet_some (meet s.now t.now)) }
+{
+    match s.meet(alloc, t)? {
+        None => Ok(false),
+        Some(_) => Ok(true),
+    }
+}
+
+fn rects_meet(alloc: Global, rect: &[Span], cut: &[Span]) -> Result<bool, NoMemory>
+    requires { length rect.now ≡ length cut.now }
+    ensures { IfOk result (λ yes. yes ≡ meets rect.now cut.now) }
+{
+    for i in 0..rect.len() {
+        if !spans_meet(alloc, &rect[i], &cut[i])? {
+            return Ok(false);
+        }
+    }
+    Ok(true)
+}
+
+#[tactic(auto, using(crate::proofs::Inner::fits_length))]
+fn cut_one(alloc: Global, columns: &[Column], rect: &Rect, cut: &Rect) -> Result<Rects, NoMemory>
+    requires rect_fits { rect_fits columns.now rect.now ≡ true }
+    requires fits { rect_fits columns.now cut.now ≡ true }
+    requires inner { all_inner columns.now ≡ true }
+    ensures { IfOk result (λ pieces. pieces ≡ minus_one columns.now rect.now cut.now) }
+{
+    if rects_meet(alloc, rect.as_slice(), cut.as_slice())? {
+        cut_rect(alloc, columns, rect.as_slice(), cut.as_slice())
+    } else {
+        let mut whole = Rects::new(alloc);
+        whole.push(rect.copy(alloc)?)?;
+        Ok(whole)
+    }
+}
+
+/// What is left of each rect without one other.
+fn cut_each(
+    alloc: Global,
+    columns: &[Column],
+    rects: &Rects,
+    cut: &Rect,
+    limit: usize,
+) -> Result<Rects, No<Over>>
+    requires rects_fit { list_all (rect_fits columns.now) rects.now ≡ true }
+    requires fits { rect_fits columns.now cut.now ≡ true }
+    requires inner { all_inner columns.now ≡ true }
+    ensures is { IfOk result (λ left. left ≡ minus_each columns.now rects.now cut.now) }
+    ensures few { IfOk result (λ left. length left ≤ limit) }
+    ensures over { IsErrOf result (Refused (record {})) → limit < length (minus_each columns.now rects.now cut.now) }
+    ensures room { IsErrOf result (Refused (record {})) → limit < 2 ^ 64 - 1 }
+{
+    let mut out = Rects::new(alloc);
+    for rect in rects.as_slice() {
+        let pieces = match cut_one(alloc, columns, rect, cut) {
+            Ok(pieces) => pieces,
+            Err(_) => return Err(No::NoMemory),
+        };
+        match out.append(pieces) {
+            Ok(()) => {}
+            Err(_) => return Err(No::NoMemory),
+        }
+        if out.len() > limit {
+            return Err(No::Refused(Over));
+        }
+    }
+    Ok(out)
+}
+
+/// What is left of the rects without the others.
+fn cut_all(
+    alloc: Global,
+    columns: &[Column],
+    rects: &Rects,
+    others: &Rects,
+    limit: usize,
+) -> Result<Rects, No<Over>>
+    requires rects_fit { list_all (rect_fits columns.now) rects.now ≡ true }
+    requires others_fit { list_all (rect_fits columns.now) others.now ≡ true }
+    requires inner { all_inner columns.now ≡ true }
+    requires first { have_first columns.now ≡ true }
+    ensures points { IfOk result (λ left. IsMinus columns.now rects.now others.now left) }
+    ensures cuts { IfOk result (λ left. AreCutFrom columns.now (rects.now ++ others.now) left) }
+    ensures few { IfOk result (λ left. length left ≤ limit) }
+    ensures over { (m : ℕ) → IsErrOf result (Refused (record {})) → ((p : Row) → IsTrue (is_point columns.now p) → times rects.now p ≤ m)
+        → limit < m * grid columns.now (rects.now ++ others.now) }
+    ensures room { IsErrOf result (Refused (record {})) → limit < 2 ^ 64 - 1 }
+{
+    let mut left = match rects.copy(alloc) {
+        Ok(left) => left,
+        Err(_) => return Err(No::NoMemory),
+    };
+    if left.len() > limit {
+        return Err(No::Refused(Over));
+    }
+    for other in others.as_slice() {
+        match cut_each(alloc, columns, &left, other, limit) {
+            Ok(next) => left = next,
+            Err(no) => return Err(no),
+        }
+    }
+    Ok(left)
+}
+
+impl Rects {
+    /// What is left of the rects without the others, where that and each list on the way there is within the limit.
+    pub fn minus(
+        &self,
+        alloc: Global,
+        other: &Rects,
+        table: &Table,
+        limit: u32,
+    ) -> Result<Rects, No<Over>>
+        requires self_fits { list_all (rect_fits table.now.columns) self.now ≡ true }
+        requires other_fits { list_all (rect_fits table.now.columns) other.now ≡ true }
+        requires inner { all_inner table.now.columns ≡ true }
+        requires first { have_first table.now.columns ≡ true }
+        ensures points { IfOk result (λ left. IsMinus table.now.columns self.now other.now left) }
+        ensures cuts { IfOk result (λ left. AreCutFrom table.now.columns (self.now ++ other.now) left) }
+        ensures few { IfOk result (λ left. length left ≤ limit) }
+        ensures over { (m : ℕ) → IsErrOf result (Refused (record {})) → ((p : Row) → IsTrue (is_point table.now.columns p) → times self.now p ≤ m)
+            → limit < m * grid table.now.columns (self.now ++ other.now) }
+    {
+        cut_all(alloc, table.columns.as_slice(), self, other, limit as usize)
+    }
+
+    /// What is left of the rects without the others.
+    pub fn difference(&self, alloc: Global, other: &Rects, table: &Table) -> Result<Rects, NoMemory>
+        requires self_fits { list_all (rect_fits table.now.columns) self.now ≡ true }
+        requires other_fits { list_all (rect_fits table.now.columns) other.now ≡ true }
+        requires inner { all_inner table.now.columns ≡ true }
+        requires first { have_first table.now.columns ≡ true }
+        ensures points { IfOk result (λ left. IsMinus table.now.columns self.now other.now left) }
+        ensures cuts { IfOk result (λ left. AreCutFrom table.now.columns (self.now ++ other.now) left) }
+    {
+        match cut_all(alloc, table.columns.as_slice(), self, other, usize::MAX) {
+            Ok(left) => Ok(left),
+            Err(No::NoMemory) => Err(NoMemory),
+            Err(No::Refused(_)) => unreachable!(),
+        }
+    }
+
+    /// Whether each point of the rects is one of the others.
+    pub fn within(
+        &self,
+        alloc: Global,
+        other: &Rects,
+        table: &Table,
+        limit: u32,
+    ) -> Result<bool, No<Over>>
+        requires self_fits { list_all (rect_fits table.now.columns) self.now ≡ true }
+        requires other_fits { list_all (rect_fits table.now.columns) other.now ≡ true }
+        requires inner { all_inner table.now.columns ≡ true }
+        requires first { have_first table.now.columns ≡ true }
+        ensures within { IfOk result (λ yes. IsTrue yes ↔ IsWithin table.now.columns self.now other.now) }
+        ensures outside { IfOk result (λ yes. yes ≡ false → HasOutside table.now.columns self.now other.now) }
+        ensures over { (m : ℕ) → IsErrOf result (Refused (record {})) → ((p : Row) → IsTrue (is_point table.now.columns p) → times self.now p ≤ m)
+            → limit < m * grid table.now.columns (self.now ++ other.now) }
+    {
+        match self.minus(alloc, other, table, limit) {
+            Ok(left) => Ok(left.is_empty()),
+            Err(no) => Err(no),
+        }
+    }
+}

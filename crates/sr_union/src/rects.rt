@@ -1,0 +1,113 @@
+//! Lists of rects.
+ghost use Rattle.std.specs.Prelude.{◌≡◌, ℕ, List, [], ◌∷◌, ◌++◌, ◌↔◌, IsTrue, length, OnOk, OnErr, IfOk, slice_get};
+ghost use Rattle.std.specs.Option.{option_copied};
+ghost use Rattle.sr_box.specs.Points.{in_any};
+
+use sr_box::rect::Rect;
+use sr_cell::cell::Row;
+use sr_cell::list::{Copied, NoMemory, Same, Seq};
+use std::alloc::Global;
+use std::marker::Model;
+
+/// Rects of one table, which contracts see as the list of them.
+#[derive(Drop)]
+pub struct Rects {
+    rects: Seq<Rect>,
+}
+
+impl Model for Rects {
+    ghost use Rattle.std.specs.Prelude.{List};
+    ghost use Rattle.sr_box.specs.declared.span.Span.{Span};
+
+    ghost Value = { List (List Span) };
+
+    ghost view = { λ r. r.rects };
+}
+
+impl Rects {
+    /// No rects; takes no memory.
+    pub fn new(alloc: Global) -> Rects
+        ensures { result ≡ [] }
+    {
+        Rects {
+            rects: Seq::new(alloc),
+        }
+    }
+
+    /// One rect more, at the end.
+    pub fn push(&mut self, rect: Rect) -> Result<(), NoMemory>
+        ensures pushed { OnOk result (self.new ≡ self.old ++ rect ∷ []) }
+        ensures unchanged { OnErr result (self.new ≡ self.old) }
+    {
+        self.rects.push(rect)
+    }
+
+    /// How many rects there are.
+    pub fn len(&self) -> usize
+        ensures { result ≡ length self.now }
+    {
+        self.rects.len()
+    }
+
+    /// Whether there is no rect.
+    pub fn is_empty(&self) -> bool
+        ensures { IsTrue result ↔ (self.now ≡ []) }
+    {
+        self.rects.is_empty()
+    }
+
+    /// The rect of that place, counted from 0.
+    pub fn get(&self, index: usize) -> Option<&Rect>
+        ensures { option_copied result ≡ slice_get self.now index }
+    {
+        self.rects.get(index)
+    }
+
+    /// The rects as a slice.
+    pub fn as_slice(&self) -> &[Rect]
+        ensures { result.now ≡ self.now }
+    {
+        self.rects.as_slice()
+    }
+
+    /// The rects of another list behind these.
+    pub fn append(&mut self, more: Rects) -> Result<(), NoMemory>
+        ensures appended { OnOk result (self.new ≡ self.old ++ more) }
+        ensures unchanged { OnErr result (self.new ≡ self.old) }
+    {
+        let Rects { rects } = more;
+        self.rects.append(rects)
+    }
+
+    /// Whether some rect has the row.
+    pub fn has(&self, row: &Row) -> bool
+        ensures { result ≡ in_any self.now row.now }
+    {
+        some_has(self.rects.as_slice(), row)
+    }
+}
+
+fn some_has(rects: &[Rect], row: &Row) -> bool
+    ensures { result ≡ in_any rects.now row.now }
+{
+    for rect in rects {
+        if rect.has(row) {
+            return true;
+        }
+    }
+    false
+}
+
+impl Copied for Rects {
+    fn copy(&self, alloc: Global) -> Result<Rects, NoMemory> {
+        Ok(Rects {
+            rects: self.rects.copy(alloc)?,
+        })
+    }
+}
+
+impl Same for Rects {
+    fn same(&self, other: &Rects) -> bool {
+        self.rects.same(&other.rects)
+    }
+}

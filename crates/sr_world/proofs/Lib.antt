@@ -1,0 +1,7 @@
+pub mod Filters
+pub mod TwoColumns
+pub mod Coverage
+pub mod RestLemmas
+pub mod OnePart
+pub mod Arrivals
+pub mod AnswerLemmas

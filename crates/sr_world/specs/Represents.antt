@@ -1,0 +1,141 @@
+-- Which scenes a world stands for.
+use Rattle.std.specs.Prelude.{ℕ, Bool, true, nat_lt, ◌≡◌, ◌≤◌, ◌<◌, ◌+◌, ◌++◌, ◌⊎◌, List, [], ◌∷◌, length, filter, Option, Some, None, IsTrue}
+use Rattle.std.specs.List.{list_all}
+use Rattle.sr_cell.specs.declared.table.Table.{Table}
+use Rattle.sr_cell.specs.Cells.{Row}
+use Rattle.sr_cell.specs.Columns.{is_point, fits_columns}
+use Rattle.sr_box.specs.Points.{in_any, rect_fits, AreSame}
+use Rattle.sr_message.specs.declared.message.AskPart.{AskPart}
+use Rattle.sr_message.specs.declared.message.Message.{Message}
+use Rattle.sr_message.specs.declared.message.Message.TheVariants.{Ask, Reply}
+use Rattle.sr_model.specs.Queries.{Part, rows_at, points_of}
+use Rattle.sr_model.specs.Queries as queries
+use Rattle.sr_model.specs.SortedRows.{ascend}
+use Rattle.sr_model.specs.Statements.{Tables}
+use Rattle.sr_model.specs.Changes.{version_at}
+use Rattle.sr_history.specs.Marks.{Mark, Held, Dropped, is_held}
+use Rattle.sr_history.specs.Rests.{IsRest}
+use Rattle.sr_language.specs.Script.{select_of, condition_of, may_create}
+use Rattle.sr_reader.specs.Read.{range_of}
+use Rattle.sr_scene.specs.Server.{Session, row_messages}
+use Rattle.sr_scene.specs.Scene as scene
+use Rattle.sr_scene.specs.Scene.{Scene, Request, AskOut, Numbered}
+use Rattle.sr_world.specs.declared.query.Query.{Query}
+use Rattle.sr_world.specs.declared.client.AskOut as code
+use Rattle.sr_world.specs.declared.client.Client.{Client}
+use Rattle.sr_world.specs.declared.world.World.{World}
+
+-- The past that a world does not keep.
+pub record Past : Type 0 where
+  pub versions : List Tables
+  pub marks : List Mark
+  pub queries : List Numbered
+  pub session : Session
+
+-- what a bound query means
+abbrev pub meaning_of : Query → queries.Query
+meaning_of q = select_of q.outputs (range_of q.range)
+
+-- its one part
+abbrev pub part_of : Query → Part
+part_of q = record { table = 0; need = 3; condition = condition_of (range_of q.range) }
+
+abbrev pub request_of : Option code.AskOut → Option Request
+request_of None = None
+request_of (Some o) = Some (AskOut o.number o.query_number (meaning_of o.query) o.fresh o.parts)
+
+abbrev pub client_of : World → Past → scene.Client
+client_of w past = record {
+  marks = past.marks;
+  queries = past.queries;
+  version = w.client.version;
+  next_request = w.client.next_request;
+  out = request_of w.client.out;
+  laid = w.client.laid;
+  to_server = w.to_server.items;
+  to_client = w.to_client.items;
+  session = Some past.session;
+}
+
+abbrev pub scene_of : World → Past → Scene
+scene_of w past = record { eager = true; schema = w.schema; versions = past.versions; clients = client_of w past ∷ [] }
+
+-- all marks are of table 0 under both its columns, and none was dropped
+abbrev pub AllHeld : List Mark → Type 0
+AllHeld [] = Unit {0}
+AllHeld (Held table attrs rects ∷ marks) = (table ≡ 0) × (attrs ≡ 3) × AllHeld marks
+AllHeld (Dropped cause table attrs stamp rects ∷ marks) = ⊥
+
+-- a query's rects are rects of the table and have just the points of its condition, and it answers columns of the table
+pub record IsBound (t : Table) (q : Query) : Type 0 where
+  pub fits : IsTrue (list_all (rect_fits t.columns) q.rects)
+  pub same : AreSame t.columns (in_any q.rects) (points_of (part_of q))
+  pub outputs : IsTrue (list_all (λ c. nat_lt c 2) q.outputs)
+
+-- the ask that is out asks the rest of the newest query
+pub record IsOut (t : Table) (w : World) (past : Past) (o : code.AskOut) : Type 0 where
+  pub bound : IsBound t o.query
+  pub number : o.query_number ≡ w.client.queries
+  pub ask : AskPart
+  pub parts : o.parts ≡ ask ∷ []
+  pub rest : IsRest (t ∷ []) past.marks (part_of o.query) ask
+  pub attrs : ask.attrs ≡ 3
+
+-- the ask is on its way to the server, which will have nothing to tell before the reply
+pub record IsAsked (w : World) (past : Past) (o : code.AskOut) : Type 0 where
+  pub to_server : w.to_server.items ≡ Ask o.number o.fresh o.parts ∷ []
+  pub to_client : w.to_client.items ≡ []
+  pub laid : w.client.laid ≡ []
+  pub told : (o.fresh ≡ true) ⊎ (past.session.upto ≡ w.server.version)
+
+-- the reply is on its way to the client, and the rows before it are laid by or on their way
+pub record IsReplied (w : World) (past : Past) (o : code.AskOut) : Type 0 where
+  pub to_server : w.to_server.items ≡ []
+  pub rest : List Message
+  pub rows : row_messages w.server.tables o.number 0 o.parts ≡ w.client.laid ++ rest
+  pub to_client : w.to_client.items ≡ rest ++ Reply o.number w.server.version ∷ []
+  pub upto : past.session.upto ≡ w.server.version
+
+-- what is under way
+abbrev pub Flow : Table → World → Past → Option code.AskOut → Type 0
+Flow t w past None = (w.to_server.items ≡ []) × (w.to_client.items ≡ []) × (w.client.laid ≡ [])
+Flow t w past (Some o) = IsOut t w past o × (IsAsked w past o ⊎ IsReplied w past o)
+
+-- what a world keeps is what its past makes it
+pub record Facts (t : Table) (w : World) (past : Past) : Type 0 where
+  pub schema : w.schema ≡ t ∷ []
+  pub table : IsTrue (may_create t)
+
+  -- the server has the newest tables
+  pub rows : List Row
+  pub tables : w.server.tables ≡ rows ∷ []
+  pub count : length past.versions ≡ w.server.version + 1
+  pub newest : version_at past.versions w.server.version ≡ w.server.tables
+  pub ascending : ascend t.key rows ≡ true
+  pub fitting : list_all (fits_columns t.columns) rows ≡ true
+  pub points : (v : ℕ) → IsTrue (list_all (is_point t.columns) (rows_at (version_at past.versions v) 0))
+
+  -- the client holds the points of its marks, with just the rows that its version has there
+  pub marks : AllHeld past.marks
+  pub held_fit : IsTrue (list_all (rect_fits t.columns) w.client.held)
+  pub held : AreSame t.columns (in_any w.client.held) (is_held past.marks 0 3)
+  pub kept : w.client.rows ≡ filter (in_any w.client.held) (rows_at (version_at past.versions w.client.version) 0)
+  pub version : w.client.version ≤ w.server.version
+  pub recent : (w.client.held ≡ []) ⊎ ((w.client.version ≡ w.server.version) × (past.session.upto ≡ w.server.version))
+  pub queries : length past.queries ≡ w.client.queries
+  pub flow : Flow t w past w.client.out
+
+-- the world stands for the scene
+pub record Represents (w : World) (s : Scene) : Type 0 where
+  pub t : Table
+  pub past : Past
+  pub facts : Facts t w past
+  pub same : s ≡ scene_of w past
+
+-- no query has brought anything yet
+abbrev pub IsUnasked : World → Type 0
+IsUnasked w = (w.client.held ≡ []) × (w.client.out ≡ None)
+
+-- the numbers that were drawn: versions, queries and requests
+abbrev pub drawn : World → ℕ
+drawn w = w.server.version + w.client.queries + w.client.next_request

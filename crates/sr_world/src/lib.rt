@@ -1,0 +1,7 @@
+//! A server, a client and the queues between them, and the replay of a script over them.
+#![tactic(auto)]
+
+pub mod client;
+pub mod query;
+pub mod server;
+pub mod world;

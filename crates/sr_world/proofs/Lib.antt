@@ -12,3 +12,4 @@ pub mod StepLemmas
 pub mod AskLemmas
 pub mod ServeLemmas
 pub mod TakeLemmas
+pub mod ReplyLemmas

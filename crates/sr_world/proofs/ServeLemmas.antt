@@ -98,7 +98,7 @@ serves t w past number fresh parts queue sent to_server to_client f asked left r
     let is_replied : IsReplied changed new way.out = record {
       to_server = left ∙ way.last;
       rest = row_messages w.server.tables way.out.number 0 way.out.parts;
-      rows = rw way.is_asked.laid refl;
+      rows = sym (ap (λ ms. ms ++ row_messages w.server.tables way.out.number 0 way.out.parts) way.is_asked.laid);
       to_client = all;
       upto = served.upto;
     } in
@@ -168,7 +168,16 @@ IsAsk (Ask number fresh parts) = Unit {0}
 IsAsk m = ⊥
 
 pub only-asks : (w : World) (m : Message) (queue : List Message) → Stands w → w.to_server.items ≡ m ∷ queue → IsAsk m
-only-asks w m queue stands sent = by r.facts.flow
+only-asks w m queue stands sent =
+    let r = stands.1 in
+    by r.past w.client.out r.facts.flow
   where
-    r = stands.1
-    by = ?
+    asked : (o : code.AskOut) → w.to_server.items ≡ Ask o.number o.fresh o.parts ∷ [] → IsAsk m
+    asked o to_server =
+        let same : m ≡ Ask o.number o.fresh o.parts = (let all : m ∷ queue ≡ Ask o.number o.fresh o.parts ∷ [] = sym sent ∙ to_server in cc) in
+        subst IsAsk (sym same) record {}
+
+    by : (past : Past) (out : Option code.AskOut) → Flow stands.1.t w past out → IsAsk m
+    by past None flow = absurd (let k : m ∷ queue ≡ [] = sym sent ∙ flow.0 in cc)
+    by past (Some o) (is_out, inl is_asked) = asked o is_asked.to_server
+    by past (Some o) (is_out, inr is_replied) = absurd (let k : m ∷ queue ≡ [] = sym sent ∙ is_replied.to_server in cc)

@@ -29,7 +29,7 @@ use Rattle.sr_world.proofs.Filters.{filter-none, and_left, and_right, and_both}
 use Rattle.sr_world.proofs.TwoColumns.{HasTwo, two_columns, fits-is_point}
 
 -- nothing is kept where nothing is held
-none-held : (rects : List Rect) (rows : List Row) → rects ≡ [] → filter (in_any rects) rows ≡ []
+pub none-held : (rects : List Rect) (rows : List Row) → rects ≡ [] → filter (in_any rects) rows ≡ []
 none-held rects rows none = rw none (filter-none (in_any []) rows (λ row. refl))
 
 -- the rows that fit are points

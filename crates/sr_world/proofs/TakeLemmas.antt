@@ -1,1 +1,161 @@
+-- The client takes a message, as the scene says.
+use Rattle.std.proofs.Common.{◌≡◌, ℕ, ◌≤◌, ◌+◌, Bool, true, false, not, ◌&&◌, ◌||◌, List, [], ◌∷◌, ◌++◌, map, length, refl, sym, ◌∙◌, ap, subst, arith, inl, inr, Option, Some, None, append_assoc, append-nil}
+use Rattle.std.specs.Prelude.{filter, IsTrue, ◌⊎◌}
+use Rattle.std.specs.List.{list_all, AllZip}
+use Rattle.std.proofs.lemmas.List.{length-set}
+use Rattle.std.proofs.lemmas.List.Folds.{list_all-append}
+use Rattle.std.specs.declared.collections.VecDeque.{VecDeque}
+use Rattle.std.specs.declared.alloc.Global.{Global}
+use Rattle.sr_cell.specs.declared.table.Table.{Table}
+use Rattle.sr_cell.specs.Cells.{Row}
+use Rattle.sr_cell.specs.Columns.{table_at}
+use Rattle.sr_box.specs.Points.{Rect, in_any, rect_fits, AreSame}
+use Rattle.sr_message.specs.declared.message.AskPart.{AskPart}
+use Rattle.sr_message.specs.declared.message.Message.{Message}
+use Rattle.sr_message.specs.declared.message.Message.TheVariants.{Ask, Notice, Rows, Reply}
+use Rattle.sr_model.specs.Events.{ToClient}
+use Rattle.sr_model.specs.Queries.{rows_at, rows_of}
+use Rattle.sr_model.specs.Changes.{version_at}
+use Rattle.sr_model.specs.SortedRows.{ascend, with_rows}
+use Rattle.sr_history.specs.Marks.{Mark, Held, is_held, with_marks}
+use Rattle.sr_reader.specs.Read.{range_of}
+use Rattle.sr_rows.proofs.Parts.{ascend-filter, with_rows-filters}
+use Rattle.sr_script.specs.declared.line.TraceLine.{TraceLine}
+use Rattle.sr_script.specs.declared.line.TraceLine.TheVariants as line
+use Rattle.sr_scene.specs.Server.{row_messages, asked_rows}
+use Rattle.sr_scene.specs.Scene as scene
+use Rattle.sr_scene.specs.Scene.{Scene}
+use Rattle.sr_scene.specs.Steps.{Happens, ClientTakes, TakesMessage, Answers, Keeps, Holds, answer_lines, mark_line, with_answered}
+use Rattle.sr_scene.specs.Runs.{Delivers, next_delivery}
+use Rattle.sr_world.specs.declared.world.World.{World}
+use Rattle.sr_world.specs.declared.client.AskOut as code
+use Rattle.sr_world.specs.declared.client.Client.{Client}
+use Rattle.sr_world.specs.Bound.{meaning_of, part_of}
+use Rattle.sr_world.specs.Client.{cells_of, arrived, rects_of, held_line, after_reply, lines_of_reply}
+use Rattle.sr_world.specs.Worlds.{Stands, DoesDelivery}
+use Rattle.sr_world.specs.Represents.{Past, Facts, Represents, IsAsked, IsReplied, IsOut, Flow, request_of, scene_of, client_of}
+use Rattle.sr_world.proofs.TwoColumns.{two_columns}
+use Rattle.sr_world.proofs.Arrivals.{AllRows, rows-all, rows-behind, arrived-rows, asked-rows}
+use Rattle.sr_world.proofs.AnswerLemmas.{answer-is, covers-after, held-after, apart, filter-both}
+use Rattle.sr_world.proofs.StepLemmas.{does, none-held}
 
+-- a reply is on its way to the client
+pub record IsComing (t : Table) (w : World) (past : Past) : Type 0 where
+  pub out : code.AskOut
+  pub is : w.client.out ≡ Some out
+  pub is_out : IsOut t w past out
+  pub is_replied : IsReplied w past out
+
+pub is-coming : (t : Table) (w : World) (past : Past) (m : Message) (queue : List Message) → Facts t w past → w.to_client.items ≡ m ∷ queue → IsComing t w past
+is-coming t w past m queue f came = by w.client.out refl f.flow
+  where
+    by : (out : Option code.AskOut) → w.client.out ≡ out → Flow t w past out → IsComing t w past
+    by None is flow = absurd (let k : m ∷ queue ≡ [] = sym came ∙ flow.1 in cc)
+    by (Some o) is (is_out, inl is_asked) = absurd (let k : m ∷ queue ≡ [] = sym came ∙ is_asked.to_client in cc)
+    by (Some o) is (is_out, inr is_replied) = record { out = o; is = is; is_out = is_out; is_replied = is_replied }
+
+-- all messages before the reply are rows of its request
+pub only-rows : (w : World) (past : Past) (o : code.AskOut) (rest : List Message) → row_messages w.server.tables o.number 0 o.parts ≡ w.client.laid ++ rest → AllRows o.number rest
+only-rows w past o rest rows = rows-behind o.number w.client.laid rest (subst (AllRows o.number) rows (rows-all w.server.tables o.number 0 o.parts))
+
+-- the delivery of what comes first to the client
+pub delivers : (w : World) (past : Past) (m : Message) (queue : List Message) (lines : List TraceLine) (next : World) (new : Past)
+    → w.to_server.items ≡ [] → w.to_client.items ≡ m ∷ queue → scene_of next new ≡ record (scene_of w past) { clients = client_of next new ∷ [] }
+    → TakesMessage (scene_of w past) 1 (request_of w.client.out) m (record (client_of w past) { to_client = queue }) lines (client_of next new)
+    → Delivers (scene_of w past) 1 lines (scene_of next new)
+delivers w past m queue lines next new none came same takes =
+    let due : (asks answers : List Message) → asks ≡ [] → answers ≡ m ∷ queue → next_delivery 1 asks answers ≡ Some (ToClient 1) = λ asks answers a b. rw (a, b) refl in
+    (
+      client_of w past,
+      ToClient 1,
+      refl,
+      due w.to_server.items w.to_client.items none came,
+      (client_of w past, client_of next new, refl, subst (λ ms. ClientTakes (scene_of w past) 1 ms (client_of w past) lines (client_of next new)) (sym came) takes, same),
+    )
+
+-- the world once the client laid a message by
+abbrev pub with_laid : World → List Message → VecDeque Message Global → World
+with_laid w laid queue = record w { client = record w.client { laid = laid }; to_client = queue }
+
+lays : (t : Table) (w : World) (past : Past) (c : IsComing t w past) (k part : ℕ) (rows : List Row) (rest laid : List Message) (to_client : VecDeque Message Global) → Facts t w past
+    → k ≡ c.out.number → row_messages w.server.tables c.out.number 0 c.out.parts ≡ w.client.laid ++ Rows k part rows ∷ rest
+    → w.to_client.items ≡ Rows k part rows ∷ (rest ++ Reply c.out.number w.server.version ∷ [])
+    → laid ≡ w.client.laid ++ Rows k part rows ∷ [] → to_client.items ≡ rest ++ Reply c.out.number w.server.version ∷ []
+    → (next : Scene) × Delivers (scene_of w past) 1 (line.ClientLaid 1 ∷ []) next × Represents (with_laid w laid to_client) next
+lays t w past c k part rows rest laid to_client f number all came is_laid left =
+    let o = c.out in
+    let changed : World = with_laid w laid to_client in
+    let is_out : IsOut t changed past o = record { bound = c.is_out.bound; number = c.is_out.number; ask = c.is_out.ask; parts = c.is_out.parts; rest = c.is_out.rest; attrs = c.is_out.attrs } in
+    let is_replied : IsReplied changed past o = record {
+      to_server = c.is_replied.to_server;
+      rest = rest;
+      rows = all ∙ (sym (append_assoc w.client.laid (Rows k part rows ∷ []) rest) ∙ ap (λ ms. ms ++ rest) (sym is_laid));
+      to_client = left;
+      upto = c.is_replied.upto;
+    } in
+    let facts : Facts t changed past = record {
+      schema = f.schema;
+      table = f.table;
+      rows = f.rows;
+      tables = f.tables;
+      count = f.count;
+      newest = f.newest;
+      ascending = f.ascending;
+      fitting = f.fitting;
+      points = f.points;
+      marks = f.marks;
+      held_fit = f.held_fit;
+      held = f.held;
+      kept = f.kept;
+      version = f.version;
+      recent = f.recent;
+      queries = f.queries;
+      flow = subst (λ o. Flow t changed past o) (sym c.is) (is_out, inr is_replied);
+    } in
+    let queue : List Message = rest ++ Reply o.number w.server.version ∷ [] in
+    let client : List Message → List Message → scene.Client = λ messages queue. record (client_of w past) { laid = messages; to_client = queue } in
+    let same : client_of changed past ≡ client (w.client.laid ++ Rows k part rows ∷ []) queue =
+    ap (λ ms. client ms to_client.items) is_laid ∙ ap (λ ms. client (w.client.laid ++ Rows k part rows ∷ []) ms) left in
+    let takes : TakesMessage (scene_of w past) 1 (request_of w.client.out) (Rows k part rows) (record (client_of w past) { to_client = queue }) (line.ClientLaid 1 ∷ []) (client_of changed past) =
+    subst (λ out. TakesMessage (scene_of w past) 1 (request_of out) (Rows k part rows) (record (client_of w past) { to_client = queue }) (line.ClientLaid 1 ∷ []) (client_of changed past)) (sym c.is)
+    (number, (refl, same)) in
+    (scene_of changed past, delivers w past (Rows k part rows) queue (line.ClientLaid 1 ∷ []) changed past c.is_replied.to_server came refl takes, record { t = t; past = past; facts = facts; same = refl })
+
+abbrev pub is_reply : Message → Bool
+is_reply (Ask number fresh parts) = false
+is_reply (Notice version told) = false
+is_reply (Rows number part rows) = false
+is_reply (Reply number version) = true
+
+lays-first : (t : Table) (w : World) (past : Past) (m : Message) (queue laid : List Message) (to_client : VecDeque Message Global) → Facts t w past
+    → w.to_client.items ≡ m ∷ queue → is_reply m ≡ false → laid ≡ w.client.laid ++ m ∷ [] → to_client.items ≡ queue
+    → (next : Scene) × Delivers (scene_of w past) 1 (line.ClientLaid 1 ∷ []) next × Represents (with_laid w laid to_client) next
+lays-first t w past m queue laid to_client f came other is_laid left =
+    by c.is_replied.rest c.is_replied.rows c.is_replied.to_client (only-rows w past c.out c.is_replied.rest c.is_replied.rows)
+  where
+    c : IsComing t w past
+    c = is-coming t w past m queue f came
+
+    Goal : Type 0
+    Goal = (next : Scene) × Delivers (scene_of w past) 1 (line.ClientLaid 1 ∷ []) next × Represents (with_laid w laid to_client) next
+
+    by : (rest : List Message) → row_messages w.server.tables c.out.number 0 c.out.parts ≡ w.client.laid ++ rest → w.to_client.items ≡ rest ++ Reply c.out.number w.server.version ∷ []
+        → AllRows c.out.number rest → Goal
+    by [] rows is all =
+        let first : m ∷ queue ≡ Reply c.out.number w.server.version ∷ [] = sym came ∙ is in
+        let m_is : m ≡ Reply c.out.number w.server.version = cc in
+        absurd (let k : true ≡ false = sym (ap is_reply m_is) ∙ other in cc)
+    by (Ask k fresh parts ∷ rest) rows is all = absurd all
+    by (Notice version told ∷ rest) rows is all = absurd all
+    by (Reply k version ∷ rest) rows is all = absurd all
+    by (Rows k part rows ∷ rest) all_rows is all =
+        let first : m ∷ queue ≡ Rows k part rows ∷ (rest ++ Reply c.out.number w.server.version ∷ []) = sym came ∙ is in
+        let m_is : m ≡ Rows k part rows = cc in
+        let queue_is : queue ≡ rest ++ Reply c.out.number w.server.version ∷ [] = cc in
+        lays t w past c k part rows rest laid to_client f all.0 all_rows is (is_laid ∙ ap (λ m. w.client.laid ++ m ∷ []) m_is) (left ∙ queue_is)
+
+pub does-lay : (w : World) (m : Message) (queue laid : List Message) (to_client : VecDeque Message Global)
+    → w.to_client.items ≡ m ∷ queue → is_reply m ≡ false → laid ≡ w.client.laid ++ m ∷ [] → to_client.items ≡ queue
+    → DoesDelivery w (with_laid w laid to_client) (line.ClientLaid 1 ∷ [])
+does-lay w m queue laid to_client came other is_laid left =
+    does (λ s. Delivers s 1) w (with_laid w laid to_client) (line.ClientLaid 1 ∷ []) (λ t past f. lays-first t w past m queue laid to_client f came other is_laid left)

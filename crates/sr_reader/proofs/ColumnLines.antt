@@ -1,7 +1,7 @@
 -- What the readings of the columns of a CREATE say.
-use Rattle.std.proofs.Common.{◌≡◌, ℕ, ℤ, pos, negsuc, zero, suc, ◌+◌, ◌<◌, ◌≤◌, Bool, true, false, List, [], ◌∷◌, ◌++◌, length, refl, sym, ap, ◌∙◌, arith, append_assoc, append-nil}
-use Rattle.std.specs.Prelude.{codes, IsTrue, not, ◌&&◌, ◌||◌, ◌==◌, nat_eq, int_le, if◌then◌else◌}
-use Rattle.std.specs.List.{list_all, starts_with}
+use Rattle.std.proofs.Common.{◌≡◌, ℕ, ℤ, pos, negsuc, Bool, true, false, List, [], ◌∷◌, ◌++◌, refl, ap, arith, append_assoc}
+use Rattle.std.specs.Prelude.{codes, not, ◌&&◌, nat_eq, int_le, if◌then◌else◌}
+use Rattle.std.specs.List.{starts_with}
 use Rattle.std.proofs.lemmas.Bool.Decides.{nat_tests}
 use Rattle.sr_cell.specs.declared.cell.Cell.TheVariants.{Num}
 use Rattle.sr_cell.specs.declared.table.Kind.{Kind}
@@ -12,11 +12,11 @@ use Rattle.sr_language.specs.Statements.{key_text, check_text, low_default, high
 use Rattle.sr_language.specs.Script.{is_name, is_default, is_digit, is_short_number, may_stand}
 use Rattle.sr_reader.specs.declared.statements.Ends.{Ends as Domain}
 use Rattle.sr_reader.specs.declared.statements.ColumnLine.{ColumnLine}
-use Rattle.sr_reader.specs.Reading.{Reading, Got, Fails, Reader, ◌>>=◌}
+use Rattle.sr_reader.specs.Reading.{Reading, Got, ◌>>=◌}
 use Rattle.sr_reader.specs.Words.{expect, run, number, is_name_byte}
 use Rattle.sr_reader.specs.Forms.{checked, name, between, key, domain, column, is_inner}
 use Rattle.sr_reader.proofs.Runs.{Ends}
-use Rattle.sr_reader.proofs.Parts.{then_got, expect_got, expect_is, expect_does, starts_got, number_got, number_is, run_got, run_is}
+use Rattle.sr_reader.proofs.Parts.{then_got, expect_got, expect_is, starts_got, number_got, number_is, run_got, run_is}
 use Rattle.sr_reader.proofs.SameBytes.{name_bytes}
 use Rattle.sr_reader.proofs.ColumnNames.{and_left, and_right}
 
@@ -33,8 +33,8 @@ unfolding name
 name_is s n rest h =
     let P : Type 0 = (s ≡ n ++ rest) × (is_name n ≡ true) in
     then_got P (run s) _ n rest h (λ m mid e k.
-      let good = checked_is (is_name m) m n mid rest k in
-      (rw (← good.1, ← good.2) (run_is s m mid e).0, rw (← good.1) good.0))
+    let good = checked_is (is_name m) m n mid rest k in
+    (rw (← good.1, ← good.2) (run_is s m mid e).0, rw (← good.1) good.0))
 
 pub default_short : (z : ℤ) → is_default z ≡ true → is_short_number (Num z) ≡ true
 default_short (pos n) is = grind (arith, nat_tests)
@@ -47,8 +47,12 @@ pub between_got : (d : Domain) (tail : List ℕ) → is_short_number (Num d.low)
 unfolding between
 between_got d tail low high ends =
     let last = number_text d.high ++ tail in
-    rw (expect_got (codes " BETWEEN ") (number_text d.low ++ (codes " AND " ++ last)), number_got d.low (codes " AND " ++ last) low refl,
-      expect_got (codes " AND ") last, number_got d.high tail high ends) refl
+    rw (
+      expect_got (codes " BETWEEN ") (number_text d.low ++ (codes " AND " ++ last)),
+      number_got d.low (codes " AND " ++ last) low refl,
+      expect_got (codes " AND ") last,
+      number_got d.high tail high ends,
+    ) refl
 
 between_made : (d : Domain) (low high : ℤ) (s m1 m2 m3 m4 rest : List ℕ) → s ≡ codes " BETWEEN " ++ m1 → m1 ≡ number_text low ++ m2 → m2 ≡ codes " AND " ++ m3 → m3 ≡ number_text high ++ m4
     → Got (record { low = low; high = high }) m4 ≡ Got d rest → s ≡ between_text d rest
@@ -62,10 +66,10 @@ unfolding between
 between_is s rest d h =
     let P : Type 0 = s ≡ between_text d rest in
     then_got P (expect (codes " BETWEEN ") s) _ d rest h (λ _ m1 e1 h1.
-      then_got P (number m1) _ d rest h1 (λ low m2 e2 h2.
-        then_got P (expect (codes " AND ") m2) _ d rest h2 (λ _ m3 e3 h3.
-          then_got P (number m3) _ d rest h3 (λ high m4 e4 h4.
-            between_made d low high s m1 m2 m3 m4 rest (expect_is _ _ _ e1) (number_is m1 m2 low e2).0 (expect_is _ _ _ e3) (number_is m3 m4 high e4).0 h4))))
+    then_got P (number m1) _ d rest h1 (λ low m2 e2 h2.
+    then_got P (expect (codes " AND ") m2) _ d rest h2 (λ _ m3 e3 h3.
+    then_got P (number m3) _ d rest h3 (λ high m4 e4 h4.
+    between_made d low high s m1 m2 m3 m4 rest (expect_is _ _ _ e1) (number_is m1 m2 low e2).0 (expect_is _ _ _ e3) (number_is m3 m4 high e4).0 h4))))
 
 -- the key
 abbrev pub key_front : Bool → List ℕ
@@ -81,9 +85,9 @@ key_cases : (s rest : List ℕ) (k b : Bool) → (if b then (expect (codes " PRI
 key_cases s rest k true h =
     let P : Type 0 = s ≡ key_front k ++ rest in
     then_got P (expect (codes " PRIMARY KEY") s) _ k rest h (λ _ mid e g.
-      let ek : k ≡ true = cc in
-      let er : mid ≡ rest = cc in
-      rw (ek, ← er) (expect_is _ _ _ e))
+    let ek : k ≡ true = cc in
+    let er : mid ≡ rest = cc in
+    rw (ek, ← er) (expect_is _ _ _ e))
 key_cases s rest k false h =
     let ek : k ≡ false = cc in
     let er : s ≡ rest = cc in
@@ -119,9 +123,10 @@ int_same (negsuc a) (negsuc b) h k = let e : a ≡ b = grind (arith, nat_tests) 
 
 -- the default domain is the only one of those that stands without CHECK
 default_is : (low high : ℤ) → in_order low high ≡ true → is_default_domain low high ≡ true → (low ≡ low_default) × (high ≡ high_default)
-default_is low high order whole =
-    (int_same low low_default (and_left _ _ whole) (and_left _ _ (and_left _ _ (and_left _ _ order))),
-     int_same high high_default (and_right _ _ (and_right _ _ order)) (and_right _ _ whole))
+default_is low high order whole = (
+  int_same low low_default (and_left _ _ whole) (and_left _ _ (and_left _ _ (and_left _ _ order))),
+  int_same high high_default (and_right _ _ (and_right _ _ order)) (and_right _ _ whole),
+)
 
 check_shape : (n tail : List ℕ) (low high : ℤ) → check_front n low high ++ tail ≡ codes " CHECK (" ++ (n ++ between_text (record { low = low; high = high }) (codes ")" ++ tail))
 check_shape n tail low high = simp append_assoc
@@ -133,15 +138,21 @@ domain_with n tail d order inner =
     let short_low = default_short d.low (and_left _ _ (and_left _ _ order)) in
     let short_high = default_short d.high (and_right _ _ order) in
     let good : is_inner d ≡ true = rw (order, inner) refl in
-    rw (check_shape n tail d.low d.high, expect_got (codes " CHECK (") (n ++ last), expect_got n last,
-      between_got d (codes ")" ++ tail) short_low short_high refl, expect_got (codes ")") tail, good) refl
+    rw (
+      check_shape n tail d.low d.high,
+      expect_got (codes " CHECK (") (n ++ last),
+      expect_got n last,
+      between_got d (codes ")" ++ tail) short_low short_high refl,
+      expect_got (codes ")") tail,
+      good,
+    ) refl
 
 domain_without : (n tail : List ℕ) (d : Domain) → in_order d.low d.high ≡ true → is_default_domain d.low d.high ≡ true → starts_with nat_eq tail (codes " CHECK (") ≡ false → domain n tail ≡ Got d tail
 unfolding domain
 domain_without n tail d order whole none =
     let ends = default_is d.low d.high order whole in
     rw none (let made : Reading Domain = Got (record { low = low_default; high = high_default }) tail in let other : Reading Domain = Got (record { low = d.low; high = d.high }) tail in
-      let same : made ≡ other = rw (ends.0, ends.1) refl in same)
+    let same : made ≡ other = rw (ends.0, ends.1) refl in same)
 
 pub domain_got : (n tail : List ℕ) (d : Domain) → in_order d.low d.high ≡ true → starts_with nat_eq tail (codes " CHECK (") ≡ false → domain n (domain_front n d.low d.high ++ tail) ≡ Got d tail
 domain_got n tail d order none = by_whole (is_default_domain d.low d.high) refl
@@ -163,15 +174,15 @@ domain_made n s m1 m2 m3 m4 rest ends d e1 e2 e3 e4 h =
 
 domain_cases : (n s rest : List ℕ) (d : Domain) (b : Bool)
     → (if b then (expect (codes " CHECK (") s >>= λ _ m1. expect n m1 >>= λ _ m2. between m2 >>= λ ends m3. expect (codes ")") m3 >>= λ _ m4. checked (is_inner ends) ends m4)
-       else Got (record { low = low_default; high = high_default }) s) ≡ Got d rest
+    else Got (record { low = low_default; high = high_default }) s) ≡ Got d rest
     → IsDomain n s rest d
 domain_cases n s rest d true h =
     let P : Type 0 = IsDomain n s rest d in
     then_got P (expect (codes " CHECK (") s) _ d rest h (λ _ m1 e1 h1.
-      then_got P (expect n m1) _ d rest h1 (λ _ m2 e2 h2.
-        then_got P (between m2) _ d rest h2 (λ ends m3 e3 h3.
-          then_got P (expect (codes ")") m3) _ d rest h3 (λ _ m4 e4 h4.
-            domain_made n s m1 m2 m3 m4 rest ends d (expect_is _ _ _ e1) (expect_is _ _ _ e2) (between_is m2 m3 ends e3) (expect_is _ _ _ e4) h4))))
+    then_got P (expect n m1) _ d rest h1 (λ _ m2 e2 h2.
+    then_got P (between m2) _ d rest h2 (λ ends m3 e3 h3.
+    then_got P (expect (codes ")") m3) _ d rest h3 (λ _ m4 e4 h4.
+    domain_made n s m1 m2 m3 m4 rest ends d (expect_is _ _ _ e1) (expect_is _ _ _ e2) (between_is m2 m3 ends e3) (expect_is _ _ _ e4) h4))))
 domain_cases n s rest d false h =
     let ed : (let made : Domain = record { low = low_default; high = high_default } in made) ≡ d = cc in
     let er : s ≡ rest = cc in
@@ -221,12 +232,12 @@ unfolding column
 column_is s rest line h =
     let P : Type 0 = IsLine s rest line in
     then_got P (name s) _ line rest h (λ n m1 e1 h1.
-      then_got P (expect (codes " INT") m1) _ line rest h1 (λ _ m2 e2 h2.
-        then_got P (key m2) _ line rest h2 (λ k m3 e3 h3.
-          then_got P (domain n m3) _ line rest h3 (λ d m4 e4 h4.
-            let is_n = name_is s n m1 e1 in
-            let is_d = domain_is n m3 m4 d e4 in
-            column_made s m1 m2 m3 m4 rest n k d line is_n.0 is_n.1 (expect_is _ _ _ e2) (key_is m2 m3 k e3) is_d.0 is_d.1 h4))))
+    then_got P (expect (codes " INT") m1) _ line rest h1 (λ _ m2 e2 h2.
+    then_got P (key m2) _ line rest h2 (λ k m3 e3 h3.
+    then_got P (domain n m3) _ line rest h3 (λ d m4 e4 h4.
+    let is_n = name_is s n m1 e1 in
+    let is_d = domain_is n m3 m4 d e4 in
+    column_made s m1 m2 m3 m4 rest n k d line is_n.0 is_n.1 (expect_is _ _ _ e2) (key_is m2 m3 k e3) is_d.0 is_d.1 h4))))
 
 -- what follows a column
 pub record Follows (tail : List ℕ) : Type 0 where
@@ -259,5 +270,11 @@ column_got k c tail stands follows =
     let front = domain_front c.name c.lo c.hi ++ tail in
     let shape : line_front k c ++ tail ≡ c.name ++ (codes " INT" ++ (key_front k ++ front)) = simp append_assoc in
     let d : Domain = record { low = c.lo; high = c.hi } in
-    rw (shape, name_got c.name (codes " INT" ++ (key_front k ++ front)) parts.0 refl, expect_got (codes " INT") (key_front k ++ front), key_got k front (front_no_key c.name tail c.lo c.hi follows),
-      domain_got c.name tail d parts.2 follows.no_check, parts.1) refl
+    rw (
+      shape,
+      name_got c.name (codes " INT" ++ (key_front k ++ front)) parts.0 refl,
+      expect_got (codes " INT") (key_front k ++ front),
+      key_got k front (front_no_key c.name tail c.lo c.hi follows),
+      domain_got c.name tail d parts.2 follows.no_check,
+      parts.1,
+    ) refl

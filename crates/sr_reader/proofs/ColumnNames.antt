@@ -1,14 +1,13 @@
 -- The columns of a table that may be created, by their names.
-use Rattle.std.proofs.Common.{◌≡◌, ℕ, ◌+◌, ◌<◌, ◌≤◌, Bool, true, false, List, [], ◌∷◌, ◌++◌, length, refl, sym, ap, ◌∙◌, arith, cond}
-use Rattle.std.specs.Prelude.{codes, IsTrue, bytes_eq, Option, Some, None, ◌&&◌, ◌||◌, ◌==◌, if◌then◌else◌, nat_lt, nat_le}
+use Rattle.std.proofs.Common.{◌≡◌, ℕ, ◌+◌, Bool, true, false, List, [], ◌∷◌, length, refl}
+use Rattle.std.specs.Prelude.{bytes_eq, Some, ◌&&◌}
 use Rattle.std.specs.List.{list_all, list_any}
 use Rattle.std.proofs.lemmas.Bool.Decides.{Decides-eqb}
 use Rattle.std.proofs.lemmas.Slice.Eq.{bytes_eq-Decides}
 use Rattle.sr_cell.specs.declared.table.Column.{Column}
 use Rattle.sr_cell.specs.declared.table.Table.{Table}
 use Rattle.sr_language.specs.Script.{number_of_name, may_create, may_stand, is_column, is_name}
-use Rattle.sr_reader.specs.Words.{is_name_byte}
-use Rattle.sr_reader.proofs.SameBytes.{bytes_eq_flip, name_bytes}
+use Rattle.sr_reader.proofs.SameBytes.{bytes_eq_flip}
 
 pub and_left : (a b : Bool) → (a && b) ≡ true → a ≡ true
 and_left true b h = refl

@@ -1,12 +1,12 @@
 -- The first line of some bytes.
-use Rattle.std.proofs.Common.{◌≡◌, ℕ, zero, suc, ◌+◌, ◌<◌, ◌≤◌, Bool, true, false, List, [], ◌∷◌, ◌++◌, length, take, drop, refl, sym, ap, ◌∙◌, arith, add-one}
-use Rattle.std.specs.Prelude.{◌==◌, ◌&&◌, if◌then◌else◌, Option, Some, None, Result, Ok, Err, MatchOption, MatchResult, is_ok, ◌≢◌}
+use Rattle.std.proofs.Common.{◌≡◌, ℕ, suc, ◌+◌, ◌<◌, ◌≤◌, Bool, true, false, List, [], ◌∷◌, ◌++◌, length, take, drop, refl, sym, ap, ◌∙◌, arith, add-one}
+use Rattle.std.specs.Prelude.{◌==◌, if◌then◌else◌, Option, Some, None, Result, Ok, Err, MatchOption, MatchResult, is_ok, ◌≢◌}
 use Rattle.std.specs.Str.{IsUtf8, is_utf8}
 use Rattle.std.proofs.lemmas.Str.{IsUtf8-from_is_utf8, is_utf8-from_IsUtf8}
 use denote.Ref.{Bor}
 use Rattle.std.proofs.lemmas.Grind.{common_steps}
 use Rattle.std.proofs.lemmas.Bool.Decides.{nat_tests}
-use Rattle.sr_language.specs.Lines.{lines_of, before_line, begins_with_feed}
+use Rattle.sr_language.specs.Lines.{lines_of, before_line}
 use Rattle.sr_reader.specs.Walk.{first_end, without_return}
 
 -- a last line that is not ended
@@ -41,7 +41,7 @@ long_line b d s none no_d more =
     let end_d : first_end (d ∷ s) ≡ suc k = end_cons d s no_d in
     let end_b : first_end (b ∷ d ∷ s) ≡ suc (suc k) = end_cons b (d ∷ s) none ∙ ap suc end_d in
     let less : lines_of (d ∷ s) ≡ without_return (take (suc k) (d ∷ s)) ∷ lines_of (drop (suc (suc k)) (d ∷ s)) =
-      more ∙ ap (λ n. without_return (take n (d ∷ s)) ∷ lines_of (drop (n + 1) (d ∷ s))) end_d ∙ rw add-one refl in
+    more ∙ ap (λ n. without_return (take n (d ∷ s)) ∷ lines_of (drop (n + 1) (d ∷ s))) end_d ∙ rw add-one refl in
     let wanted = longer_line b d k s less in
     no_feed b d s (b == 13) none no_d refl ∙ (wanted ∙ sym (ap (λ n. without_return (take n (b ∷ d ∷ s)) ∷ lines_of (drop (n + 1) (b ∷ d ∷ s))) end_b ∙ rw add-one refl))
 

@@ -1,19 +1,19 @@
 -- The names of a SELECT, read one after another.
-use Rattle.std.proofs.Common.{◌≡◌, ℕ, ◌+◌, ◌<◌, ◌≤◌, Bool, true, false, List, [], ◌∷◌, ◌++◌, length, refl, sym, ap, ◌∙◌, arith, append_assoc, length-append, append-nil}
-use Rattle.std.specs.Prelude.{codes, IsTrue, Option, Some, None, ◌&&◌, flat_map, nat_eq}
+use Rattle.std.proofs.Common.{◌≡◌, ℕ, ◌<◌, true, false, List, [], ◌∷◌, ◌++◌, length, refl, sym, ap, ◌∙◌, arith, append_assoc, length-append, append-nil}
+use Rattle.std.specs.Prelude.{codes, Some, nat_eq}
 use Rattle.std.specs.List.{list_all, starts_with}
-use Rattle.std.proofs.lemmas.Grind.{common_steps, flat_map-append}
+use Rattle.std.proofs.lemmas.Grind.{flat_map-append}
 use Rattle.sr_cell.specs.declared.table.Column.{Column}
 use Rattle.sr_cell.specs.declared.table.Table.{Table}
 use Rattle.sr_language.specs.Texts.{joined}
 use Rattle.sr_language.specs.Statements.{comma}
 use Rattle.sr_language.specs.Script.{is_column, may_create, number_of_name, some_number}
-use Rattle.sr_reader.specs.Reading.{Reading, Got, Fails, Reads}
+use Rattle.sr_reader.specs.Reading.{Got}
 use Rattle.sr_reader.specs.Words.{expect, is_name_byte}
 use Rattle.sr_reader.specs.Forms.{place}
 use Rattle.sr_reader.specs.Lists.{AreColumns, SpellsNames, numbers_of}
 use Rattle.sr_reader.proofs.Runs.{Ends}
-use Rattle.sr_reader.proofs.Parts.{expect_got, expect_is, starts_got}
+use Rattle.sr_reader.proofs.Parts.{expect_got, expect_is}
 use Rattle.sr_reader.proofs.Members.{place_got, place_is}
 use Rattle.sr_reader.proofs.SameBytes.{name_bytes}
 use Rattle.sr_reader.proofs.ColumnNames.{and_left, and_right, column_number, number_column}
@@ -31,9 +31,11 @@ FirstName t s rest numbers wanted tail = (c : ℕ) × (place t.columns s ≡ Got
 column_first : (t : Table) (n : List ℕ) (names : List (List ℕ)) (numbers tail : List ℕ) → may_create t ≡ true → list_all (is_column t) (n ∷ names) ≡ true
     → FirstName t (n ++ (tails names ++ 32 ∷ tail)) (tails names ++ 32 ∷ tail) numbers (numbers ++ numbers_of t.columns (n ∷ names)) (32 ∷ tail)
 column_first t n names numbers tail may all =
-    let number = column_number t n may (and_left _ _ all) in
-    (number.0, place_got t.columns n (tails names ++ 32 ∷ tail) number.0 (name_bytes n number.2) (ends names tail) number.1,
-      (names, and_right _ _ all, refl, rw number.1 (sym (append_assoc numbers (number.0 ∷ []) (numbers_of t.columns names)))))
+    let number = column_number t n may (and_left _ _ all) in (
+      number.0,
+      place_got t.columns n (tails names ++ 32 ∷ tail) number.0 (name_bytes n number.2) (ends names tail) number.1,
+      (names, and_right _ _ all, refl, rw number.1 (sym (append_assoc numbers (number.0 ∷ []) (numbers_of t.columns names)))),
+    )
 
 pub first_name : (t : Table) (s : List ℕ) (names : List (List ℕ)) (tail : List ℕ) → may_create t ≡ true → AreColumns t names → s ≡ joined comma names ++ 32 ∷ tail
     → (rest : List ℕ) × FirstName t s rest [] (numbers_of t.columns names) (32 ∷ tail)
@@ -81,10 +83,10 @@ kept_first t s left c may got =
     record {
       spelled = (is.0 ∷ [], (omega arith, rw (number_column t is.0 c is.2) refl), is.1, rw is.2 refl);
       complete = λ names tail are e.
-        let first = first_name t s names tail may are e in
-        let same : first.0 ≡ left = cc (first.1.1, got) in
-        let same_c : first.1.0 ≡ c = cc (first.1.1, got) in
-        one_left t left [] (numbers_of t.columns names) (32 ∷ tail) first.1.0 c same_c (left_same t first.0 left ([] ++ first.1.0 ∷ []) (numbers_of t.columns names) (32 ∷ tail) same first.1.2);
+          let first = first_name t s names tail may are e in
+          let same : first.0 ≡ left = cc (first.1.1, got) in
+          let same_c : first.1.0 ≡ c = cc (first.1.1, got) in
+          one_left t left [] (numbers_of t.columns names) (32 ∷ tail) first.1.0 c same_c (left_same t first.0 left ([] ++ first.1.0 ∷ []) (numbers_of t.columns names) (32 ∷ tail) same first.1.2);
     }
 
 all_push : (t : Table) (names : List (List ℕ)) (n : List ℕ) → list_all (is_column t) names ≡ true → is_column t n ≡ true → list_all (is_column t) (names ++ n ∷ []) ≡ true
@@ -107,16 +109,19 @@ kept_next t s numbers left mid more c may kept starts comma_got got =
     let names = kept.spelled.0 in
     let are = kept.spelled.1 in
     record {
-      spelled = (names ++ is.0 ∷ [], (simp length-append (omega arith), all_push t names is.0 are.1 (number_column t is.0 c is.2)),
+      spelled = (
+        names ++ is.0 ∷ [],
+        (simp length-append (omega arith), all_push t names is.0 are.1 (number_column t is.0 c is.2)),
         rw (joined_push names is.0 are.0) (spelled_push s (joined comma names) left mid more is.0 kept.spelled.2 (expect_is (codes ", ") left mid comma_got) is.1),
-        rw (numbers_push t.columns names is.0 c is.2, ← kept.spelled.3) refl);
+        rw (numbers_push t.columns names is.0 c is.2, ← kept.spelled.3) refl,
+      );
       complete = λ names tail are e.
-        let next = next_name t left numbers (numbers_of t.columns names) tail may (kept.complete names tail are e) starts in
-        let same_mid : next.0 ≡ mid = cc (next.2, comma_got) in
-        let again : place t.columns mid ≡ Got next.3.0 next.1 = rw (← same_mid) next.3.1 in
-        let same : next.1 ≡ more = cc (again, got) in
-        let same_c : next.3.0 ≡ c = cc (again, got) in
-        one_left t more numbers (numbers_of t.columns names) (32 ∷ tail) next.3.0 c same_c (left_same t next.1 more (numbers ++ next.3.0 ∷ []) (numbers_of t.columns names) (32 ∷ tail) same next.3.2);
+          let next = next_name t left numbers (numbers_of t.columns names) tail may (kept.complete names tail are e) starts in
+          let same_mid : next.0 ≡ mid = cc (next.2, comma_got) in
+          let again : place t.columns mid ≡ Got next.3.0 next.1 = rw (← same_mid) next.3.1 in
+          let same : next.1 ≡ more = cc (again, got) in
+          let same_c : next.3.0 ≡ c = cc (again, got) in
+          one_left t more numbers (numbers_of t.columns names) (32 ∷ tail) next.3.0 c same_c (left_same t next.1 more (numbers ++ next.3.0 ∷ []) (numbers_of t.columns names) (32 ∷ tail) same next.3.2);
     }
 
 -- where names are spelled, a comma and a column come next

@@ -1,13 +1,12 @@
 -- What single readings say: what was read and the rest make up the bytes, and what is spelled is read.
-use Rattle.std.proofs.Common.{◌≡◌, ℕ, add-one, sub-one, ℤ, pos, negsuc, suc, zero, ◌+◌, ◌-◌, ◌<◌, ◌≤◌, ◌^◌, Bool, true, false, ◌==◌, cond, not, ◌&&◌, ◌||◌, List, [], ◌∷◌, ◌++◌, length, take, drop, get_or, refl, sym, ap, ◌∙◌, subst, ◌⊎◌, inl, inr, arith, append_assoc}
-use Rattle.std.specs.Prelude.{decimal, codes, nat_eq, nat_le, int_le, int_lt, IsTrue, if◌then◌else◌}
+use Rattle.std.proofs.Common.{◌≡◌, ℕ, add-one, sub-one, ℤ, pos, negsuc, suc, zero, ◌+◌, ◌<◌, ◌≤◌, ◌^◌, Bool, true, false, ◌==◌, List, [], ◌∷◌, ◌++◌, length, take, drop, get_or, refl, sym, ap, ◌∙◌, ◌⊎◌, inl, inr, arith}
+use Rattle.std.specs.Prelude.{decimal, codes, nat_eq, if◌then◌else◌}
 use Rattle.std.specs.List.{prefix_len, list_all, starts_with}
 use Rattle.std.specs.Str.Parse.{digits_value}
 use Rattle.std.proofs.lemmas.Bool.Decides.{nat_tests, Decides-eqb}
 use Rattle.std.proofs.lemmas.Slice.Eq.{starts_is}
 use Rattle.std.proofs.lemmas.Str.Parse.{IsDigitsTest, IsNumeralModel, numerals_by_value, digits_value_short}
 use Rattle.std.proofs.lemmas.Fmt.{digits_decimal, digits_value-decimal, decimal-digits_value, length-decimal-le, first_decimal, decimal_nonempty, decimal_digit}
-use Rattle.std.proofs.lemmas.Grind.{common_steps}
 use Rattle.sr_cell.specs.declared.cell.Cell.TheVariants.{Num}
 use Rattle.sr_language.specs.Texts.{number_text}
 use Rattle.sr_language.specs.Script.{is_digit, is_short_number}
@@ -163,14 +162,14 @@ number_cases : (s rest : List ℕ) (z : ℤ) (b : Bool) → (if b then with_minu
 number_cases s rest z true h =
     let P : Type 0 = (s ≡ number_text z ++ rest) × (is_short_number (Num z) ≡ true) in
     then_got P (expect (codes "-") s) (λ _ mid. digits mid >>= after_minus) z rest h (λ _ mid e k.
-      then_got P (digits mid) after_minus z rest k (λ n more f l.
-        let value = digits_is mid more n f in
-        below_is s mid more rest n z (expect_is (codes "-") s mid e) value.0 value.1 l))
+    then_got P (digits mid) after_minus z rest k (λ n more f l.
+    let value = digits_is mid more n f in
+    below_is s mid more rest n z (expect_is (codes "-") s mid e) value.0 value.1 l))
 number_cases s rest z false h =
     let P : Type 0 = (s ≡ number_text z ++ rest) × (is_short_number (Num z) ≡ true) in
     then_got P (digits s) (λ n rest. Got (pos n) rest) z rest h (λ n more f l.
-      let value = digits_is s more n f in
-      above_is s more rest n z value.0 value.1 l)
+    let value = digits_is s more n f in
+    above_is s more rest n z value.0 value.1 l)
 
 pub number_is : (s rest : List ℕ) (z : ℤ) → number s ≡ Got z rest → (s ≡ number_text z ++ rest) × (is_short_number (Num z) ≡ true)
 unfolding number

@@ -1,15 +1,14 @@
 -- The rows of an INSERT, read one after another.
-use Rattle.std.proofs.Common.{◌≡◌, ℕ, ◌+◌, ◌<◌, ◌≤◌, Bool, true, false, List, [], ◌∷◌, ◌++◌, length, map, refl, sym, ap, ◌∙◌, arith, append_assoc, length-append, append-nil}
-use Rattle.std.specs.Prelude.{codes, IsTrue, Result, Ok, Err, ◌&&◌}
+use Rattle.std.proofs.Common.{◌≡◌, ℕ, ◌<◌, true, List, [], ◌∷◌, ◌++◌, length, map, refl, sym, ap, ◌∙◌, arith, append_assoc, length-append, append-nil}
+use Rattle.std.specs.Prelude.{codes, Err}
 use Rattle.std.specs.List.{list_all}
-use Rattle.std.proofs.lemmas.Grind.{common_steps}
 use Rattle.sr_cell.specs.declared.list.No.{No}
 use Rattle.sr_cell.specs.declared.list.No.TheVariants.{Refused, NoMemory}
 use Rattle.sr_cell.specs.Cells.{Row}
 use Rattle.sr_language.specs.Texts.{joined}
 use Rattle.sr_language.specs.Statements.{comma, row_text}
 use Rattle.sr_reader.specs.declared.words.Unread.{Unread}
-use Rattle.sr_reader.specs.Reading.{Reading, Got, Fails, Reads}
+use Rattle.sr_reader.specs.Reading.{Reading, Got, Reads}
 use Rattle.sr_reader.specs.Words.{expect}
 use Rattle.sr_reader.specs.Forms.{row}
 use Rattle.sr_reader.specs.Lists.{is_row, AreRows, SpellsRows}
@@ -62,9 +61,9 @@ kept_first s left r got =
       some = (omega arith, rw is.1 refl);
       spelled = is.0;
       complete = λ all spells.
-        let first = first_row s all spells in
-        let same : first.0 ≡ left = cc (first.1.1) in
-        left_same first.0 left same first.1.2;
+          let first = first_row s all spells in
+          let same : first.0 ≡ left = cc (first.1.1) in
+          left_same first.0 left same first.1.2;
     }
 
 all_push : (rows : List Row) (r : Row) → list_all is_row rows ≡ true → is_row r ≡ true → list_all is_row (rows ++ r ∷ []) ≡ true
@@ -96,12 +95,12 @@ kept_next s left mid more rows r kept on comma_got got =
       some = (simp length-append (omega arith), all_push rows r kept.some.1 is.1);
       spelled = rw (joined_rows_push rows r kept.some.0) (spelled_push s (joined comma (map row_text rows)) left mid more (row_text r) kept.spelled (expect_is (codes ", ") left mid comma_got) is.0);
       complete = λ all spells.
-        let l = kept.complete all spells in
-        let next = next_row left l.0 l.1 l.2 on in
-        let same_mid : next.0 ≡ mid = cc (next.2, comma_got) in
-        let again : row mid ≡ Got next.3.0 next.1 = rw (← same_mid) next.3.1 in
-        let same : next.1 ≡ more = cc (again, got) in
-        left_same next.1 more same next.3.2;
+          let l = kept.complete all spells in
+          let next = next_row left l.0 l.1 l.2 on in
+          let same_mid : next.0 ≡ mid = cc (next.2, comma_got) in
+          let again : row mid ≡ Got next.3.0 next.1 = rw (← same_mid) next.3.1 in
+          let same : next.1 ≡ more = cc (again, got) in
+          left_same next.1 more same next.3.2;
     }
 
 -- where rows are spelled, a comma and a row come next

@@ -1,7 +1,7 @@
 -- What the lines of statements say.
-use Rattle.std.proofs.Common.{◌≡◌, ℕ, zero, suc, ◌+◌, ◌-◌, ◌<◌, ◌≤◌, Bool, true, false, List, [], ◌∷◌, ◌++◌, length, map, refl, sym, ap, ◌∙◌, arith, append_assoc, append-nil, length-append}
-use Rattle.std.specs.Prelude.{codes, IsTrue, bytes_eq, Option, Some, None, Result, Ok, Err, IfOk, not, ◌&&◌, ◌||◌, ◌==◌, nat_eq, nat_le, nat_lt, if◌then◌else◌}
-use Rattle.std.specs.List.{list_all, starts_with}
+use Rattle.std.proofs.Common.{◌≡◌, ℕ, zero, suc, ◌<◌, ◌≤◌, Bool, true, false, List, [], ◌∷◌, ◌++◌, length, map, refl, sym, ap, ◌∙◌, arith, length-append}
+use Rattle.std.specs.Prelude.{codes, bytes_eq, Option, Some, None, Result, Ok, Err, IfOk, ◌==◌, nat_le, nat_lt, if◌then◌else◌}
+use Rattle.std.specs.List.{list_all}
 use Rattle.std.proofs.lemmas.Bool.Decides.{nat_tests}
 use Rattle.std.proofs.lemmas.Slice.Eq.{bytes_eq-Decides}
 use Rattle.sr_cell.specs.declared.list.No.{No}
@@ -10,9 +10,9 @@ use Rattle.sr_cell.specs.declared.table.Table.{Table}
 use Rattle.sr_cell.specs.Cells.{Row}
 use Rattle.sr_language.specs.Texts.{joined}
 use Rattle.sr_language.specs.Statements.{comma, row_text, create_text, insert_text}
-use Rattle.sr_language.specs.Script.{Item, CreateTable, InsertRows, Phase, Start, Filling, Says, may_create, may_insert}
+use Rattle.sr_language.specs.Script.{CreateTable, InsertRows, Phase, Start, Filling, Says, may_create, may_insert}
 use Rattle.sr_reader.specs.declared.words.Unread.{Unread}
-use Rattle.sr_reader.specs.Reading.{Reading, Got, Fails, Reader, ◌>>=◌, Reads, NotRefused}
+use Rattle.sr_reader.specs.Reading.{Got, Reads, NotRefused}
 use Rattle.sr_reader.specs.Words.{expect}
 use Rattle.sr_reader.specs.Forms.{table, target}
 use Rattle.sr_reader.specs.Lists.{AreRows, SpellsRows, is_row}
@@ -59,8 +59,8 @@ unfolding target
 target_is n s rest h =
     let P : Type 0 = s ≡ codes "INSERT INTO " ++ (n ++ (codes " VALUES " ++ rest)) in
     then_got P (expect (codes "INSERT INTO ") s) _ tt rest h (λ _ m1 e1 h1.
-      then_got P (expect n m1) _ tt rest h1 (λ _ m2 e2 h2.
-        rw (expect_is _ _ _ e1, expect_is _ _ _ e2, expect_is _ _ _ h2) refl))
+    then_got P (expect n m1) _ tt rest h1 (λ _ m2 e2 h2.
+    rw (expect_is _ _ _ e1, expect_is _ _ _ e2, expect_is _ _ _ h2) refl))
 
 -- the parts of an INSERT line
 pub record Inserts (t : Table) (s : List ℕ) (rows : List Row) : Type 0 where
@@ -125,6 +125,7 @@ rows_few t left rest rows short got spells =
   where
     at_most : (n : ℕ) → nat_le n 65536 ≡ true → n ≤ 65536
     at_most n h = grind (arith, nat_tests)
+
     below : (n : ℕ) → n < 65536 → nat_lt n 65536 ≡ true
     below n h = grind (arith, nat_tests)
 

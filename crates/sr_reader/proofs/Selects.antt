@@ -1,19 +1,18 @@
 -- What the lines of SELECT say.
-use Rattle.std.proofs.Common.{◌≡◌, ℕ, ℤ, zero, suc, ◌+◌, ◌-◌, ◌<◌, ◌≤◌, Bool, true, false, List, [], ◌∷◌, ◌++◌, length, map, refl, sym, ap, ◌∙◌, arith, append_assoc, append-nil, length-append}
-use Rattle.std.specs.Prelude.{codes, IsTrue, bytes_eq, Option, Some, None, ◌&&◌, ◌||◌, ◌==◌, nat_eq, nat_le, nat_lt, flat_map, if◌then◌else◌}
-use Rattle.std.specs.List.{list_all, starts_with}
+use Rattle.std.proofs.Common.{◌≡◌, ℕ, ◌+◌, ◌<◌, Bool, true, false, List, [], ◌∷◌, ◌++◌, length, refl, sym, ap, ◌∙◌, arith, append-nil}
+use Rattle.std.specs.Prelude.{codes, bytes_eq, Option, Some, None, ◌&&◌, nat_le, nat_lt, flat_map, if◌then◌else◌}
+use Rattle.std.specs.List.{list_all}
 use Rattle.std.proofs.lemmas.Bool.Decides.{nat_tests}
 use Rattle.std.proofs.lemmas.Slice.Eq.{bytes_eq-Decides}
 use Rattle.sr_cell.specs.declared.table.Column.{Column}
 use Rattle.sr_cell.specs.declared.table.Table.{Table}
-use Rattle.sr_language.specs.Texts.{joined, number_text}
-use Rattle.sr_language.specs.Statements.{Range, list_text, where_text, select_text}
+use Rattle.sr_language.specs.Texts.{number_text}
+use Rattle.sr_language.specs.Statements.{Range, list_text, select_text}
 use Rattle.sr_language.specs.Script as script
 use Rattle.sr_language.specs.Script.{Item, is_name, SelectRows, Phase, Filling, Asking, Says, may_create, may_select, names_all, range_fits, is_column, is_default, number_of_name, some_number, outputs_of, select_of, event_of}
 use Rattle.sr_reader.specs.declared.script.ColumnRange.{ColumnRange}
-use Rattle.sr_reader.specs.declared.script.SelectLine.{SelectLine}
 use Rattle.sr_reader.specs.declared.statements.Ends.{Ends as Domain}
-use Rattle.sr_reader.specs.Reading.{Reading, Got, Fails, Reader, ◌>>=◌}
+use Rattle.sr_reader.specs.Reading.{Got}
 use Rattle.sr_reader.specs.Read.{range_of, range_is_inside, select_event}
 use Rattle.sr_reader.specs.Answered.{SaysEvent}
 use Rattle.sr_reader.specs.Words.{expect}
@@ -48,27 +47,39 @@ given_made : (columns : List Column) (s m1 m2 m3 m4 rest n : List ℕ) (c : ℕ)
     → (m3 ≡ []) × (m4 ≡ []) → checked (is_default ends.low && is_default ends.high) (range_in c ends) m4 ≡ Got r rest → IsGiven columns s rest r
 given_made columns s m1 m2 m3 m4 rest n c ends r e1 e2 number e3 done h =
     let good = checked_is (is_default ends.low && is_default ends.high) (range_in c ends) r m4 rest h in
-    let shape : s ≡ given_text (record { column = n; low = ends.low; high = ends.high }) = rw (e1, e2, e3, done.0) refl in
-    (record { column = n; low = ends.low; high = ends.high }, shape, number ∙ ap (λ (x : ColumnRange). Some x.column) good.1, ap (λ (x : ColumnRange). x.low) good.1, ap (λ (x : ColumnRange). x.high) good.1,
-      rw (← good.1) good.0, sym good.2 ∙ done.1)
+    let shape : s ≡ given_text (record { column = n; low = ends.low; high = ends.high }) = rw (e1, e2, e3, done.0) refl in (
+      record { column = n; low = ends.low; high = ends.high },
+      shape,
+      number ∙ ap (λ (x : ColumnRange). Some x.column) good.1,
+      ap (λ (x : ColumnRange). x.low) good.1,
+      ap (λ (x : ColumnRange). x.high) good.1,
+      rw (← good.1) good.0,
+      sym good.2 ∙ done.1,
+    )
 
 given_is : (columns : List Column) (s rest : List ℕ) (r : ColumnRange) → given_range columns s ≡ Got r rest → IsGiven columns s rest r
 unfolding given_range
 given_is columns s rest r h =
     let P : Type 0 = IsGiven columns s rest r in
     then_got P (expect (codes " WHERE ") s) _ r rest h (λ _ m1 e1 h1.
-      then_got P (place columns m1) _ r rest h1 (λ c m2 e2 h2.
-        then_got P (between m2) _ r rest h2 (λ ends m3 e3 h3.
-          then_got P (ended m3) _ r rest h3 (λ _ m4 e4 h4.
-            let is = place_is columns m1 m2 c e2 in
-            given_made columns s m1 m2 m3 m4 rest is.0 c ends r (expect_is _ _ _ e1) is.1 is.2 (between_is m2 m3 ends e3) (ended_is m3 m4 e4) h4))))
+    then_got P (place columns m1) _ r rest h1 (λ c m2 e2 h2.
+    then_got P (between m2) _ r rest h2 (λ ends m3 e3 h3.
+    then_got P (ended m3) _ r rest h3 (λ _ m4 e4 h4.
+    let is = place_is columns m1 m2 c e2 in
+    given_made columns s m1 m2 m3 m4 rest is.0 c ends r (expect_is _ _ _ e1) is.1 is.2 (between_is m2 m3 ends e3) (ended_is m3 m4 e4) h4))))
 
 given_by : (columns : List Column) (n : List ℕ) (c : ℕ) (ends : Domain) → is_name n ≡ true → number_of_name 0 n columns ≡ Some c → is_default ends.low ≡ true → is_default ends.high ≡ true
     → given_range columns (codes " WHERE " ++ (n ++ between_text ends [])) ≡ Got (range_in c ends) []
 unfolding given_range
 given_by columns n c ends is number low high =
-    rw (expect_got (codes " WHERE ") (n ++ between_text ends []), place_got columns n (between_text ends []) c (name_bytes n is) refl number,
-      between_got ends [] (default_short ends.low low) (default_short ends.high high) tt, ended_got, low, high) refl
+    rw (
+      expect_got (codes " WHERE ") (n ++ between_text ends []),
+      place_got columns n (between_text ends []) c (name_bytes n is) refl number,
+      between_got ends [] (default_short ends.low low) (default_short ends.high high) tt,
+      ended_got,
+      low,
+      high,
+    ) refl
 
 given_got : (t : Table) (given : Range) → may_create t ≡ true → range_fits t (Some given) ≡ true → (r : ColumnRange) × (given_range t.columns (given_text given) ≡ Got r [])
 given_got t given may fits =
@@ -138,9 +149,9 @@ unfolding source
 source_is t s rest r h =
     let P : Type 0 = IsSource t s r in
     then_got P (expect (codes " FROM ") s) _ r rest h (λ _ m1 e1 h1.
-      then_got P (expect t.name m1) _ r rest h1 (λ _ m2 e2 h2.
-        let is = where_is t m2 rest r h2 in
-        (is.0, source_shape s m1 m2 t.name (where_front is.0) (expect_is _ _ _ e1) (expect_is _ _ _ e2) is.1, is.2, is.3, is.4)))
+    then_got P (expect t.name m1) _ r rest h1 (λ _ m2 e2 h2.
+    let is = where_is t m2 rest r h2 in
+    (is.0, source_shape s m1 m2 t.name (where_front is.0) (expect_is _ _ _ e1) (expect_is _ _ _ e2) is.1, is.2, is.3, is.4)))
 
 where_got : (t : Table) (range : Option Range) → may_create t ≡ true → range_fits t range ≡ true → (r : Option ColumnRange) × (maybe_range t.columns (where_front range) ≡ Got r [])
 where_got t None may fits = (None, refl)

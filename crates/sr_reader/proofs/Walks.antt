@@ -1,18 +1,16 @@
 -- Reading line by line.
-use Rattle.std.proofs.Common.{◌≡◌, ℕ, zero, suc, ◌+◌, ◌<◌, ◌≤◌, Bool, true, false, List, [], ◌∷◌, ◌++◌, length, map, replicate, refl, sym, ap, subst, ◌∙◌, ◌⊎◌, inl, inr, arith, append_assoc, append-nil, length-append}
-use Rattle.std.specs.Prelude.{codes, IsTrue, Option, Some, None, ◌&&◌, ◌||◌, ◌==◌, nat_eq, nat_le, if◌then◌else◌}
+use Rattle.std.proofs.Common.{◌≡◌, ℕ, zero, suc, ◌+◌, ◌<◌, ◌≤◌, Bool, true, false, List, [], ◌∷◌, ◌++◌, length, map, replicate, refl, sym, ap, subst, ◌∙◌, ◌⊎◌, inl, inr, arith, append_assoc, append-nil}
+use Rattle.std.specs.Prelude.{codes, Option, Some, None, ◌||◌, ◌==◌, nat_eq, nat_le, if◌then◌else◌}
 use Rattle.std.specs.List.{list_all, starts_with}
 use Rattle.std.specs.Str.{is_utf8}
 use Rattle.std.proofs.lemmas.Bool.Decides.{nat_tests}
-use Rattle.std.proofs.lemmas.Grind.{common_steps}
 use Rattle.sr_cell.specs.declared.table.Column.{Column}
 use Rattle.sr_cell.specs.declared.table.Table.{Table}
 use Rattle.sr_cell.specs.Cells.{Row}
 use Rattle.sr_model.specs.Events.{Event}
 use Rattle.sr_language.specs.Lines.{lines_of}
 use Rattle.sr_language.specs.Statements.{Range, create_text, insert_text, select_text}
-use Rattle.sr_language.specs.Script as script
-use Rattle.sr_language.specs.Script.{Item, Blank, Comment, CreateTable, InsertRows, SelectRows, Phase, Start, Filling, Asking, Says, SaysNothing, Reads, FirstUnbuilt, spelling, phase_after, phase_of, is_short, may_create, may_insert, may_select, columns_of, schema_of, event_of, events_from}
+use Rattle.sr_language.specs.Script.{Item, Blank, Comment, CreateTable, InsertRows, SelectRows, Phase, Start, Filling, Asking, Says, Reads, FirstUnbuilt, spelling, phase_after, may_create, may_insert, may_select, columns_of, schema_of, event_of, events_from}
 use Rattle.sr_reader.specs.declared.script.InsertLine.{InsertLine}
 use Rattle.sr_reader.specs.declared.script.SelectLine.{SelectLine}
 use Rattle.sr_reader.specs.declared.script.Script.{Script}
@@ -45,8 +43,10 @@ comment_says phase (b ∷ text) is = (text, (ap (λ x. x ∷ text) hash, by_phas
   where
     hash : b ≡ 35
     hash = grind (arith, nat_tests)
+
     utf8 : is_utf8 text ≡ true
     utf8 = grind (arith, nat_tests)
+
     by_phase : (phase : Phase) → phase_after phase (Comment text) ≡ Some phase
     by_phase Start = rw utf8 refl
     by_phase (Filling t) = rw utf8 refl
@@ -149,7 +149,7 @@ asks_too t line (Comment text) says = absurd (let h = short_some Phase (is_utf8 
 asks_too t line (CreateTable u) says = absurd (let h = short_some Phase (nat_le (length (create_text u)) 65536) None (Asking t) says.1 in cc (h.1))
 asks_too t line (InsertRows name rows) says =
     absurd (let h = short_some Phase (nat_le (length (insert_text name rows)) 65536) (if may_insert t name rows then Some (Filling t) else None) (Asking t) says.1 in
-      let k = short_some Phase (may_insert t name rows) (Some (Filling t)) (Asking t) h.1 in cc (k.1))
+    let k = short_some Phase (may_insert t name rows) (Some (Filling t)) (Asking t) h.1 in cc (k.1))
 asks_too t line (SelectRows names name range) says = says
 
 asks : (t : Table) (selects : List SelectLine) (line : List ℕ) (item : Item) → Says (Filling t) line item (Asking t) → Says (phase_by (Some t) selects) line item (Asking t)
@@ -162,9 +162,11 @@ pushed_asks t (select ∷ selects) made = refl
 
 pub select_adds : (number : ℕ) (line : List ℕ) (old : Script) (t : Table) (made : SelectLine) → old.table ≡ Some t → SaysEvent number (Filling t) t line (select_event made) (Asking t)
     → Adds number old line (record { table = old.table; inserts = old.inserts; selects = old.selects ++ made ∷ [] })
-select_adds number line old t made some says =
-    (says.0, rw (some, pushed_asks t old.selects made) (asks t old.selects line says.0 says.1),
-      rw (some, pushed_asks t old.selects made, says.2, map_push select_event old.selects made) (sym (append_assoc (map insert_event old.inserts) (map select_event old.selects) (select_event made ∷ []))))
+select_adds number line old t made some says = (
+  says.0,
+  rw (some, pushed_asks t old.selects made) (asks t old.selects line says.0 says.1),
+  rw (some, pushed_asks t old.selects made, says.2, map_push select_event old.selects made) (sym (append_assoc (map insert_event old.inserts) (map select_event old.selects) (select_event made ∷ []))),
+)
 
 -- a table that is there may be created
 pub there_may : (o : Option Table) (t : Table) → list_all may_create (tables_of o) ≡ true → o ≡ Some t → may_create t ≡ true
@@ -215,10 +217,10 @@ filling_keeps t (Comment text) next h = inl (let k = short_some Phase (is_utf8 t
 filling_keeps t (CreateTable u) next h = absurd (let k = short_some Phase (nat_le (length (create_text u)) 65536) None next h in cc (k.1))
 filling_keeps t (InsertRows name rows) next h =
     inl (let k = short_some Phase (nat_le (length (insert_text name rows)) 65536) (if may_insert t name rows then Some (Filling t) else None) next h in
-      let l = short_some Phase (may_insert t name rows) (Some (Filling t)) next k.1 in cc (l.1))
+    let l = short_some Phase (may_insert t name rows) (Some (Filling t)) next k.1 in cc (l.1))
 filling_keeps t (SelectRows names name range) next h =
     inr (let k = short_some Phase (nat_le (length (select_text names name range)) 65536) (if may_select t names name range then Some (Asking t) else None) next h in
-      let l = short_some Phase (may_select t names name range) (Some (Asking t)) next k.1 in cc (l.1))
+    let l = short_some Phase (may_select t names name range) (Some (Asking t)) next k.1 in cc (l.1))
 
 asking_keeps : (t : Table) (item : Item) (next : Phase) → phase_after (Asking t) item ≡ Some next → HasTable t next
 asking_keeps t (Blank n) next h = inr (cc (h))
@@ -227,7 +229,7 @@ asking_keeps t (CreateTable u) next h = absurd (let k = short_some Phase (nat_le
 asking_keeps t (InsertRows name rows) next h = absurd (let k = short_some Phase (nat_le (length (insert_text name rows)) 65536) None next h in cc (k.1))
 asking_keeps t (SelectRows names name range) next h =
     inr (let k = short_some Phase (nat_le (length (select_text names name range)) 65536) (if may_select t names name range then Some (Asking t) else None) next h in
-      let l = short_some Phase (may_select t names name range) (Some (Asking t)) next k.1 in cc (l.1))
+    let l = short_some Phase (may_select t names name range) (Some (Asking t)) next k.1 in cc (l.1))
 
 keeps : (t : Table) (phase next : Phase) (item : Item) → HasTable t phase → phase_after phase item ≡ Some next → HasTable t next
 keeps t phase next item (inl is) h = filling_keeps t item next (rw is at h)
@@ -281,7 +283,7 @@ pub record Walked (bytes : List ℕ) (number : ℕ) (rest : List ℕ) (s : Scrip
   pub counted : number + length rest ≤ length bytes + 1
   pub few : events_count s + length rest ≤ length bytes
   pub reads : (items : List Item) (end : Phase) → Reads (phase_in s) (lines_of rest) items end
-    → (all : List Item) × Reads Start (lines_of bytes) all end × (events_from 1 (columns_of end) all ≡ events_of s ++ events_from number (columns_of end) items)
+      → (all : List Item) × Reads Start (lines_of bytes) all end × (events_from 1 (columns_of end) all ≡ events_of s ++ events_from number (columns_of end) items)
   pub unbuilt : (n : ℕ) → FirstUnbuilt number (phase_in s) (lines_of rest) n → FirstUnbuilt 1 Start (lines_of bytes) n
 
 pub walked_start : (bytes : List ℕ) → Walked bytes 1 bytes (record { table = None; inserts = []; selects = [] })
@@ -300,10 +302,10 @@ walked_line bytes rest after line number old new walked lines shorter adds fits 
   counted = let h = walked.counted in omega arith;
   few = let h = walked.few in omega arith;
   reads = λ items end reads.
-    let here : Reads (phase_in old) (lines_of rest) (adds.0 ∷ items) end = rw lines (phase_in new, adds.1, reads) in
-    let all = walked.reads (adds.0 ∷ items) end here in
-    let later = event_later number (phase_in old) (phase_in new) end adds.0 (lines_of after) items adds.1.1 reads in
-    (all.0, all.1, all.2 ∙ joined_events (events_of old) (events_of new) (event_of number (columns_of end) adds.0) (event_of number (columns_of (phase_in new)) adds.0) (events_from (number + 1) (columns_of end) items) later adds.2);
+      let here : Reads (phase_in old) (lines_of rest) (adds.0 ∷ items) end = rw lines (phase_in new, adds.1, reads) in
+      let all = walked.reads (adds.0 ∷ items) end here in
+      let later = event_later number (phase_in old) (phase_in new) end adds.0 (lines_of after) items adds.1.1 reads in
+      (all.0, all.1, all.2 ∙ joined_events (events_of old) (events_of new) (event_of number (columns_of end) adds.0) (event_of number (columns_of (phase_in new)) adds.0) (events_from (number + 1) (columns_of end) items) later adds.2);
   unbuilt = λ n first. walked.unbuilt n (rw lines (inr (adds.0, phase_in new, adds.1, first)));
 }
 

@@ -1,16 +1,15 @@
 -- The list of a SELECT: a star, or names among which each column is.
-use Rattle.std.proofs.Common.{◌≡◌, ℕ, ◌+◌, ◌<◌, ◌≤◌, Bool, true, false, List, [], ◌∷◌, ◌++◌, length, refl, sym, ap, ◌∙◌, arith, append_assoc}
-use Rattle.std.specs.Prelude.{codes, IsTrue, bytes_eq, Option, Some, None, not, ◌&&◌, ◌||◌, ◌==◌, nat_eq, if◌then◌else◌}
+use Rattle.std.proofs.Common.{◌≡◌, ℕ, ◌+◌, Bool, true, false, List, [], ◌∷◌, ◌++◌, length, refl, sym, ap, ◌∙◌, arith, append_assoc}
+use Rattle.std.specs.Prelude.{codes, bytes_eq, Some, None, not, ◌&&◌, ◌||◌, ◌==◌, nat_eq, if◌then◌else◌}
 use Rattle.std.specs.List.{list_all, list_any, starts_with}
-use Rattle.std.proofs.lemmas.Grind.{common_steps}
 use Rattle.std.proofs.lemmas.Bool.Decides.{nat_tests}
 use Rattle.std.proofs.lemmas.Slice.Eq.{bytes_eq-Decides}
 use Rattle.sr_cell.specs.declared.table.Column.{Column}
 use Rattle.sr_cell.specs.declared.table.Table.{Table}
 use Rattle.sr_language.specs.Texts.{joined}
 use Rattle.sr_language.specs.Statements.{comma, list_text}
-use Rattle.sr_language.specs.Script.{may_create, is_column, is_name, is_letter, begins_name, names_all, number_of_name, some_number, outputs_of, name_at}
-use Rattle.sr_reader.specs.Reading.{Reading, Got}
+use Rattle.sr_language.specs.Script.{may_create, is_name, begins_name, names_all, some_number, outputs_of, name_at}
+use Rattle.sr_reader.specs.Reading.{Got}
 use Rattle.sr_reader.specs.Words.{expect}
 use Rattle.sr_reader.specs.Lists.{AreColumns, SpellsNames, SpellsList, numbers_of, has_both}
 use Rattle.sr_reader.proofs.SameBytes.{bytes_eq_flip}

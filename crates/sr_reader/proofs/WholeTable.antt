@@ -1,21 +1,20 @@
 -- What the reading of a CREATE says.
-use Rattle.std.proofs.Common.{◌≡◌, ℕ, zero, suc, ◌+◌, ◌<◌, ◌≤◌, Bool, true, false, List, [], ◌∷◌, ◌++◌, length, refl, sym, ap, ◌∙◌, arith, append_assoc, append-nil}
-use Rattle.std.specs.Prelude.{codes, IsTrue, bytes_eq, not, ◌&&◌, ◌||◌, ◌==◌, nat_eq, nat_lt, if◌then◌else◌}
-use Rattle.std.specs.List.{list_all, starts_with}
+use Rattle.std.proofs.Common.{◌≡◌, ℕ, zero, suc, Bool, true, false, List, [], ◌∷◌, ◌++◌, length, refl, sym, ◌∙◌, arith, append_assoc}
+use Rattle.std.specs.Prelude.{codes, bytes_eq, not, ◌&&◌, ◌||◌, ◌==◌, nat_lt, if◌then◌else◌}
+use Rattle.std.specs.List.{list_all}
 use Rattle.std.proofs.lemmas.Bool.Decides.{nat_tests}
 use Rattle.sr_cell.specs.declared.table.Column.{Column}
 use Rattle.sr_cell.specs.declared.table.Table.{Table}
-use Rattle.sr_language.specs.Texts.{joined, words}
-use Rattle.sr_language.specs.Statements.{comma, key_text, check_text, columns_text, create_text}
-use Rattle.sr_language.specs.Script.{is_name, may_stand, may_create, name_at}
+use Rattle.sr_language.specs.Statements.{create_text}
+use Rattle.sr_language.specs.Script.{is_name, may_stand, may_create}
 use Rattle.sr_reader.specs.declared.statements.ColumnLine.{ColumnLine}
 use Rattle.sr_reader.specs.declared.statements.ColumnLines.{ColumnLines}
-use Rattle.sr_reader.specs.Reading.{Reading, Got, Fails, Reader, ◌>>=◌}
+use Rattle.sr_reader.specs.Reading.{Got}
 use Rattle.sr_reader.specs.Words.{expect}
 use Rattle.sr_reader.specs.Forms.{checked, ended, name, column, columns, make_table, table_of, table}
 use Rattle.sr_reader.proofs.Parts.{then_got, expect_got, expect_is}
 use Rattle.sr_reader.proofs.ColumnNames.{and_left, and_right, two_columns}
-use Rattle.sr_reader.proofs.ColumnLines.{checked_is, name_got, name_is, line_front, line_shape, IsLine, column_is, column_got, Follows}
+use Rattle.sr_reader.proofs.ColumnLines.{checked_is, name_got, name_is, line_front, line_shape, IsLine, column_is, column_got}
 
 pub ended_is : (s rest : List ℕ) → ended s ≡ Got tt rest → (s ≡ []) × (rest ≡ [])
 unfolding ended
@@ -47,20 +46,24 @@ unfolding columns
 columns_is s rest lines h =
     let P : Type 0 = (s ≡ lines_front lines rest) × both_stand lines in
     then_got P (expect (codes " (") s) _ lines rest h (λ _ m1 e1 h1.
-      then_got P (column m1) _ lines rest h1 (λ first m2 e2 h2.
-        then_got P (expect (codes ", ") m2) _ lines rest h2 (λ _ m3 e3 h3.
-          then_got P (column m3) _ lines rest h3 (λ second m4 e4 h4.
-            then_got P (expect (codes ")") m4) _ lines rest h4 (λ _ m5 e5 h5.
-              columns_made s m1 m2 m3 m4 m5 rest first second lines (expect_is _ _ _ e1) (column_is m1 m2 first e2) (expect_is _ _ _ e3) (column_is m3 m4 second e4) (expect_is _ _ _ e5) h5)))))
+    then_got P (column m1) _ lines rest h1 (λ first m2 e2 h2.
+    then_got P (expect (codes ", ") m2) _ lines rest h2 (λ _ m3 e3 h3.
+    then_got P (column m3) _ lines rest h3 (λ second m4 e4 h4.
+    then_got P (expect (codes ")") m4) _ lines rest h4 (λ _ m5 e5 h5.
+    columns_made s m1 m2 m3 m4 m5 rest first second lines (expect_is _ _ _ e1) (column_is m1 m2 first e2) (expect_is _ _ _ e3) (column_is m3 m4 second e4) (expect_is _ _ _ e5) h5)))))
 
 columns_got : (lines : ColumnLines) (tail : List ℕ) → both_stand lines → columns (lines_front lines tail) ≡ Got lines tail
 unfolding columns
 columns_got lines tail stand =
     let last = codes ")" ++ tail in
     let second = line_front lines.second.is_key lines.second.column ++ last in
-    rw (expect_got (codes " (") (line_front lines.first.is_key lines.first.column ++ (codes ", " ++ second)),
+    rw (
+      expect_got (codes " (") (line_front lines.first.is_key lines.first.column ++ (codes ", " ++ second)),
       column_got lines.first.is_key lines.first.column (codes ", " ++ second) stand.0 (record { no_key = refl; no_check = refl }),
-      expect_got (codes ", ") second, column_got lines.second.is_key lines.second.column last stand.1 (record { no_key = refl; no_check = refl }), expect_got (codes ")") tail) refl
+      expect_got (codes ", ") second,
+      column_got lines.second.is_key lines.second.column last stand.1 (record { no_key = refl; no_check = refl }),
+      expect_got (codes ")") tail,
+    ) refl
 
 -- two columns, as they are read
 abbrev two_lines : Column → Column → Bool → Bool → ColumnLines
@@ -106,7 +109,7 @@ table_made s m1 m2 m3 m4 rest n lines t e1 e2 is e3 stand done h =
     let keys : one_key lines.first.is_key lines.second.is_key ≡ true = and_right (not (bytes_eq lines.first.column.name lines.second.column.name)) _ good.0 in
     let may : may_create (table_of n lines) ≡ true = may_two n lines.first.column lines.second.column (if lines.first.is_key then 0 else 1) is (key_small lines.first.is_key) stand.0 stand.1 apart in
     let shape : s ≡ create_text (table_of n lines) =
-      rw (keyed_shape n lines.first.column lines.second.column lines.first.is_key lines.second.is_key keys, e1, e2, e3, done.0) refl in
+    rw (keyed_shape n lines.first.column lines.second.column lines.first.is_key lines.second.is_key keys, e1, e2, e3, done.0) refl in
     (rw (← good.1) shape, rw (← good.1) may, sym good.2 ∙ done.1)
 
 pub table_is : (s rest : List ℕ) (t : Table) → table s ≡ Got t rest → (s ≡ create_text t) × (may_create t ≡ true) × (rest ≡ [])
@@ -114,12 +117,12 @@ unfolding table
 table_is s rest t h =
     let P : Type 0 = IsTable s rest t in
     then_got P (expect (codes "CREATE TABLE ") s) _ t rest h (λ _ m1 e1 h1.
-      then_got P (name m1) _ t rest h1 (λ n m2 e2 h2.
-        then_got P (columns m2) _ t rest h2 (λ lines m3 e3 h3.
-          then_got P (ended m3) _ t rest h3 (λ _ m4 e4 h4.
-            let is_n = name_is m1 n m2 e2 in
-            let is_c = columns_is m2 m3 lines e3 in
-            table_made s m1 m2 m3 m4 rest n lines t (expect_is _ _ _ e1) is_n.0 is_n.1 is_c.0 is_c.1 (ended_is m3 m4 e4) h4))))
+    then_got P (name m1) _ t rest h1 (λ n m2 e2 h2.
+    then_got P (columns m2) _ t rest h2 (λ lines m3 e3 h3.
+    then_got P (ended m3) _ t rest h3 (λ _ m4 e4 h4.
+    let is_n = name_is m1 n m2 e2 in
+    let is_c = columns_is m2 m3 lines e3 in
+    table_made s m1 m2 m3 m4 rest n lines t (expect_is _ _ _ e1) is_n.0 is_n.1 is_c.0 is_c.1 (ended_is m3 m4 e4) h4))))
 
 keyed_got : (n : List ℕ) (a b : Column) (f g : Bool) → is_name n ≡ true → may_stand a ≡ true → may_stand b ≡ true → not (bytes_eq a.name b.name) ≡ true → one_key f g ≡ true
     → table (table_front n (two_lines a b f g)) ≡ Got (two n a b (if f then 0 else 1)) []

@@ -1,5 +1,5 @@
 -- How the statements are read, as far as they have no lists.
-use Rattle.std.specs.Prelude.{ℕ, ℤ, Bool, true, false, not, ◌&&◌, ◌||◌, nat_eq, int_le, List, [], ◌∷◌, Option, Some, None, codes, bytes_eq, if◌then◌else◌}
+use Rattle.std.specs.Prelude.{ℕ, Bool, true, false, not, ◌&&◌, ◌||◌, nat_eq, int_le, List, [], ◌∷◌, Option, Some, None, codes, bytes_eq, if◌then◌else◌}
 use Rattle.std.specs.List.{starts_with}
 use Rattle.sr_cell.specs.declared.table.Kind.TheVariants.{Num as Numbers}
 use Rattle.sr_cell.specs.declared.table.Column.{Column}
@@ -12,7 +12,7 @@ use Rattle.sr_reader.specs.declared.script.ColumnRange.{ColumnRange}
 use Rattle.sr_reader.specs.declared.statements.Ends.{Ends}
 use Rattle.sr_reader.specs.declared.statements.ColumnLine.{ColumnLine}
 use Rattle.sr_reader.specs.declared.statements.ColumnLines.{ColumnLines}
-use Rattle.sr_reader.specs.Reading.{Reading, Got, Fails, Reader, and_then as ◌>>=◌, nothing}
+use Rattle.sr_reader.specs.Reading.{Got, Fails, Reader, and_then as ◌>>=◌, nothing}
 use Rattle.sr_reader.specs.Words.{expect, run, number}
 
 abbrev pub checked : {A : Type 0} → Bool → A → Reader A

@@ -1,9 +1,8 @@
 -- Reading a script line by line.
-use Rattle.std.specs.Prelude.{◌≡◌, ℕ, ◌+◌, ◌≤◌, ◌==◌, ◌&&◌, ◌||◌, Bool, true, false, List, [], ◌∷◌, ◌++◌, length, nat_eq, codes, Option, Some, None, if◌then◌else◌}
+use Rattle.std.specs.Prelude.{◌≡◌, ℕ, ◌+◌, ◌==◌, ◌&&◌, ◌||◌, Bool, false, List, [], ◌∷◌, ◌++◌, length, nat_eq, codes, Option, Some, None, if◌then◌else◌}
 use Rattle.std.specs.List.{list_all, starts_with}
 use Rattle.std.specs.Str.{is_utf8}
 use Rattle.sr_cell.specs.declared.table.Table.{Table}
-use Rattle.sr_language.specs.Script as script
 use Rattle.sr_language.specs.Script.{Item, Phase, Start, Filling, Asking, Says, columns_of, event_of}
 use Rattle.sr_reader.specs.declared.script.SelectLine.{SelectLine}
 use Rattle.sr_reader.specs.declared.script.Script.{Script}

@@ -1,9 +1,9 @@
 -- How the parts of a line are read.
-use Rattle.std.specs.Prelude.{◌≡◌, ℕ, ℤ, pos, negsuc, ◌-◌, ◌+◌, ◌==◌, ◌&&◌, ◌||◌, Bool, true, false, not, nat_eq, nat_le, nat_lt, List, [], ◌∷◌, length, take, drop, codes, if◌then◌else◌}
+use Rattle.std.specs.Prelude.{ℕ, ℤ, pos, negsuc, ◌-◌, ◌==◌, ◌&&◌, ◌||◌, Bool, false, not, nat_eq, nat_le, List, [], ◌∷◌, length, take, drop, codes, if◌then◌else◌}
 use Rattle.std.specs.List.{prefix_len, starts_with}
 use Rattle.std.specs.Str.Parse.{digits_value}
 use Rattle.sr_language.specs.Script.{is_letter, is_digit}
-use Rattle.sr_reader.specs.Reading.{Reading, Got, Fails, Reader, and_then as ◌>>=◌, nothing}
+use Rattle.sr_reader.specs.Reading.{Got, Fails, Reader, and_then as ◌>>=◌, nothing}
 
 -- these bytes
 unfoldable pub expect : List ℕ → Reader (Unit {0})

@@ -6,4 +6,6 @@ mod lists;
 mod names;
 pub mod script;
 mod statements;
+#[cfg(test)]
+mod tests;
 mod words;

@@ -1,5 +1,5 @@
 //! Reading of scripts, line by line.
-ghost use Rattle.std.specs.Prelude.{◌≡◌, ℕ, ◌+◌, ◌<◌, ◌≤◌, ◌^◌, ◌||◌, List, ◌∷◌, IsTrue, IfOk, OnOk, IsErrOf, length};
+ghost use Rattle.std.specs.Prelude.{◌≡◌, ◌+◌, ◌<◌, ◌≤◌, ◌^◌, ◌||◌, ◌∷◌, IfOk, OnOk, IsErrOf, length};
 ghost use Rattle.std.specs.Str.{is_utf8};
 ghost use Rattle.sr_cell.specs.declared.list.No.TheVariants.{Refused};
 ghost use Rattle.sr_language.specs.Lines.{lines_of};
@@ -99,12 +99,7 @@ fn is_insert(selects: &[SelectLine], line: &[u8]) -> bool
 }
 
 /// Reads a line of this number, and adds what it says.
-fn add_line(
-    alloc: Global,
-    number: u64,
-    line: &[u8],
-    script: &mut Script,
-) -> Result<(), No<Unread>>
+fn add_line(alloc: Global, number: u64, line: &[u8], script: &mut Script) -> Result<(), No<Unread>>
     requires { Fits script.old }
     ensures said { OnOk result (Adds number script.old line.now script.new) }
     ensures fits { OnOk result (Fits script.new) }

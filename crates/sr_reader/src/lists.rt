@@ -1,5 +1,5 @@
 //! Reading of the lists in statements.
-ghost use Rattle.std.specs.Prelude.{◌≡◌, ℕ, ◌≤◌, List, [], ◌∷◌, ◌++◌, IsTrue, IfOk, length, map};
+ghost use Rattle.std.specs.Prelude.{◌≡◌, ℕ, List, [], ◌∷◌, ◌++◌, IsTrue, IfOk};
 ghost use Rattle.sr_cell.specs.Cells.{Row};
 ghost use Rattle.sr_language.specs.Texts.{joined};
 ghost use Rattle.sr_language.specs.Statements.{comma, list_text};

@@ -1,7 +1,7 @@
 //! Names of tables and columns.
-ghost use Rattle.std.specs.Prelude.{◌≡◌, ℕ, ◌<◌, ◌≤◌, ◌&&◌, List, IsTrue, IfOk, IfSome, length, nat_le};
+ghost use Rattle.std.specs.Prelude.{◌≡◌, ◌<◌, ◌≤◌, ◌&&◌, length};
 ghost use Rattle.std.specs.List.{list_all};
-ghost use Rattle.sr_language.specs.Script.{begins_name, is_name, reserved, number_of_name};
+ghost use Rattle.sr_language.specs.Script.{begins_name, is_name, number_of_name};
 ghost use Rattle.sr_reader.specs.Reading.{Finds, Reads};
 ghost use Rattle.sr_reader.specs.Words.{is_name_byte};
 ghost use Rattle.sr_reader.specs.Names.{is_reserved};
@@ -16,7 +16,9 @@ use std::str;
 
 /// The words that are no names.
 const RESERVED: [&[u8]; 27] = [
-    b"and", b"between", b"check", b"create", b"delete", b"from", b"in", b"inner", b"insert", b"int", b"integer", b"into", b"join", b"key", b"like", b"not", b"null", b"on", b"or", b"primary", b"select", b"set", b"table", b"text", b"update", b"values", b"where",
+    b"and", b"between", b"check", b"create", b"delete", b"from", b"in", b"inner", b"insert",
+    b"int", b"integer", b"into", b"join", b"key", b"like", b"not", b"null", b"on", b"or",
+    b"primary", b"select", b"set", b"table", b"text", b"update", b"values", b"where",
 ];
 
 fn is_reserved(name: &[u8]) -> bool

@@ -9,8 +9,8 @@ ghost use Rattle.sr_cell.specs.declared.table.Table.{Table as TableValue};
 ghost use Rattle.sr_language.specs.Statements.{Range};
 ghost use Rattle.sr_reader.specs.Forms as forms;
 
-use crate::names::{name, place};
 use crate::lists::{list, rows};
+use crate::names::{name, place};
 use crate::script::{ColumnRange, InsertLine, SelectLine};
 use crate::words::{Cursor, Unread};
 use sr_cell::list::{No, NoMemory, Same, Seq};

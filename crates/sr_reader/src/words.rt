@@ -1,5 +1,5 @@
 //! Reading the parts of a line from left to right.
-ghost use Rattle.std.specs.Prelude.{◌≡◌, ℕ, nat_eq, nat_le, ◌<◌, ◌≤◌, ◌^◌, List, [], IsTrue, IfOk, ◌↔◌, length};
+ghost use Rattle.std.specs.Prelude.{◌≡◌, nat_eq, nat_le, ◌<◌, ◌≤◌, ◌^◌, [], IsTrue, IfOk, ◌↔◌, length};
 ghost use Rattle.std.specs.List.{prefix_len, list_all, starts_with};
 ghost use Rattle.std.specs.Str.Parse.{digits_value};
 ghost use Rattle.sr_language.specs.Script.{is_letter, is_digit};

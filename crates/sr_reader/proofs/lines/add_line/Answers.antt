@@ -1,6 +1,5 @@
-use Rattle.std.proofs.Common.{rules, ℕ, List, ◌≡◌, ◌∷◌, ◌++◌, [], true, false, sym, ap, arith, ◌∙◌}
-use Rattle.std.specs.Prelude.{Option, Some, None}
-use Rattle.sr_cell.specs.declared.table.Table.{Table}
+use Rattle.std.proofs.Common.{◌≡◌, ◌∷◌, ◌++◌, [], true, false, sym, arith, ◌∙◌}
+use Rattle.std.specs.Prelude.{Some, None}
 use Rattle.sr_reader.specs.Walk.{is_silent, is_insert}
 use Rattle.sr_reader.proofs.Walks.{silent_adds, start_item, insert_item, select_item, create_adds, create_fits, insert_adds, insert_empty, select_adds, there_may}
 use Rattle.sr_reader.proofs.lines.add_line.Goals as goal

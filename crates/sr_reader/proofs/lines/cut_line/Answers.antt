@@ -1,4 +1,4 @@
-use Rattle.std.proofs.Common.{◌≡◌, ◌<◌, ◌≤◌, ◌+◌, ◌-◌, take, drop, length, rules, arith, []}
+use Rattle.std.proofs.Common.{arith}
 use Rattle.std.proofs.lemmas.Grind.{common_steps}
 use Rattle.sr_reader.proofs.Cuts.{first_line, last_line}
 use Rattle.sr_reader.proofs.lines.cut_line.Goals as goal

@@ -1,8 +1,7 @@
-use Rattle.std.proofs.Common.{rules, ℕ, List, ◌∷◌, [], sym, ap, ◌∙◌}
-use Rattle.std.specs.Prelude.{◌≡◌, Option, Some, None, MatchOption}
+use Rattle.std.proofs.Common.{◌∷◌, []}
+use Rattle.std.specs.Prelude.{Some, None}
 use Rattle.std.proofs.lemmas.Bool.Decides.{Decides-eqb}
 use Rattle.std.proofs.lemmas.Slice.Eq.{strip_suffix_is}
-use Rattle.sr_reader.specs.Walk.{without_return}
 use Rattle.sr_reader.proofs.Cuts.{without_by}
 use Rattle.sr_reader.proofs.lines.without_return.Goals as goal
 

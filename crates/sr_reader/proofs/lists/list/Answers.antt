@@ -1,8 +1,7 @@
-use Rattle.std.proofs.Common.{◌≡◌, ℕ, List, [], ◌∷◌, ◌++◌, true, false, arith, rules, ap, sym, ◌∙◌}
+use Rattle.std.proofs.Common.{◌≡◌, [], ◌∷◌, true, false, arith, ap, sym, ◌∙◌}
 use Rattle.std.specs.Prelude.{codes, nat_eq}
 use Rattle.std.specs.List.{starts_with}
-use Rattle.sr_reader.specs.Reading.{Reading, Got}
-use Rattle.sr_reader.specs.Lists.{has_both, numbers_of}
+use Rattle.sr_reader.specs.Lists.{has_both}
 use Rattle.sr_reader.proofs.WholeList.{both_is, star_spelled, star_exact, names_spelled, names_listed, two_pushed}
 use Rattle.sr_reader.proofs.Parts.{expect_does}
 use Rattle.sr_reader.proofs.lists.list.Goals as goal

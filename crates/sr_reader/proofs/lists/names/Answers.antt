@@ -1,11 +1,11 @@
-use Rattle.std.proofs.Common.{◌≡◌, ℕ, List, [], ◌∷◌, ◌++◌, true, false, arith, rules, ap, sym, ◌∙◌}
+use Rattle.std.proofs.Common.{◌≡◌, ℕ, List, [], ◌∷◌, ◌++◌, true, false, arith, ap, sym, ◌∙◌}
 use Rattle.std.specs.Prelude.{codes, nat_eq}
 use Rattle.std.specs.List.{starts_with}
-use Rattle.sr_reader.specs.Reading.{Reading, Got}
+use Rattle.sr_reader.specs.Reading.{Got}
 use Rattle.sr_reader.specs.Forms.{place}
 use Rattle.sr_reader.specs.Lists.{numbers_of}
 use Rattle.sr_reader.proofs.ColumnNames.{two_columns}
-use Rattle.sr_reader.proofs.NameLoop.{Kept, first_name, kept_first, kept_next, comma_next, shorter, no_name}
+use Rattle.sr_reader.proofs.NameLoop.{first_name, kept_first, kept_next, comma_next, shorter, no_name}
 use Rattle.sr_reader.proofs.lists.names.Goals as goal
 
 pub place-requires : goal.place-requires

@@ -1,7 +1,6 @@
-use Rattle.std.proofs.Common.{◌≡◌, List, [], ◌∷◌, ◌++◌, arith, rules}
-use Rattle.sr_cell.specs.Cells.{Row}
+use Rattle.std.proofs.Common.{◌≡◌, [], ◌∷◌, ◌++◌, arith}
 use Rattle.sr_reader.specs.Forms.{row}
-use Rattle.sr_reader.proofs.RowLoop.{Kept, only_memory, first_row, kept_first, kept_next, comma_next, shorter, kept_end}
+use Rattle.sr_reader.proofs.RowLoop.{only_memory, first_row, kept_first, kept_next, comma_next, shorter, kept_end}
 use Rattle.sr_reader.proofs.lists.rows.Goals as goal
 
 pub returns-in_err-row-clause-complete : goal.returns-in_err-row-clause-complete

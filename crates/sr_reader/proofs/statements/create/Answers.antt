@@ -1,7 +1,5 @@
-use Rattle.std.proofs.Common.{◌≡◌, ℕ, List, arith, rules, sym, ap, ◌∙◌, true}
+use Rattle.std.proofs.Common.{◌≡◌, sym, ◌∙◌, true}
 use Rattle.std.specs.Prelude.{nat_le, length}
-use Rattle.sr_reader.specs.Reading.{Reads}
-use Rattle.sr_reader.specs.Forms.{table}
 use Rattle.sr_reader.proofs.Sayings.{short_same, create_result, create_whole}
 use Rattle.sr_reader.proofs.statements.create.Goals as goal
 

@@ -1,12 +1,11 @@
-use Rattle.std.proofs.Common.{◌≡◌, ℕ, List, [], ◌∷◌, ◌++◌, arith, rules, sym, ap, refl, ◌∙◌, true, false}
+use Rattle.std.proofs.Common.{◌≡◌, arith, sym, refl, ◌∙◌, true}
 use Rattle.std.specs.Prelude.{nat_le, length, map, codes}
 use Rattle.sr_language.specs.Script.{InsertRows}
 use Rattle.sr_language.specs.Texts.{joined}
 use Rattle.sr_language.specs.Statements.{comma, row_text}
-use Rattle.sr_reader.specs.Reading.{Reading, Got, Fails}
+use Rattle.sr_reader.specs.Reading.{Got, Fails}
 use Rattle.sr_reader.specs.Words.{expect}
 use Rattle.sr_reader.specs.Forms.{target}
-use Rattle.sr_reader.specs.Lists.{SpellsRows}
 use Rattle.sr_reader.proofs.Sayings.{short_same, insert_parts, insert_says, insert_fits, left_is}
 use Rattle.sr_reader.proofs.statements.insert.Goals as goal
 

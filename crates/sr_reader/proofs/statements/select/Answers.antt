@@ -1,12 +1,12 @@
-use Rattle.std.proofs.Common.{◌≡◌, ℕ, List, [], ◌∷◌, ◌++◌, arith, rules, sym, ap, refl, ◌∙◌, true, false}
+use Rattle.std.proofs.Common.{◌≡◌, [], ◌∷◌, ◌++◌, arith, sym, ◌∙◌, true}
 use Rattle.std.specs.Prelude.{nat_le, length, codes}
 use Rattle.sr_language.specs.Statements.{list_text}
-use Rattle.sr_reader.specs.Reading.{Reading, Got, Fails}
+use Rattle.sr_reader.specs.Reading.{Got, Fails}
 use Rattle.sr_reader.specs.Words.{expect}
 use Rattle.sr_reader.specs.Forms.{source}
 use Rattle.sr_reader.proofs.ColumnNames.{two_columns}
 use Rattle.sr_reader.proofs.Sayings.{short_same}
-use Rattle.sr_reader.proofs.Selects.{Selected, select_parts, select_left, list_left, select_says, select_fits}
+use Rattle.sr_reader.proofs.Selects.{select_parts, select_left, list_left, select_says, select_fits}
 use Rattle.sr_reader.proofs.statements.select.Goals as goal
 
 pub source-requires : goal.source-requires

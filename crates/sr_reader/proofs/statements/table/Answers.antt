@@ -1,5 +1,4 @@
-use Rattle.std.proofs.Common.{◌≡◌, true, false, refl, arith, sym, ◌∙◌}
-use Rattle.sr_reader.proofs.WholeTable.{ended_is}
+use Rattle.std.proofs.Common.{◌≡◌, true, false, refl}
 use Rattle.sr_reader.specs.Forms.{table, make_table}
 use Rattle.sr_reader.proofs.statements.table.Goals as goal
 

@@ -1,4 +1,4 @@
-use Rattle.std.proofs.Common.{arith, ◌^◌, ◌<◌, ◌≤◌, length}
+use Rattle.std.proofs.Common.{arith}
 use Rattle.std.proofs.lemmas.Grind.{common_steps}
 use Rattle.sr_reader.proofs.Runs.{power_le, power_le_more, value_more, digit_at}
 use Rattle.sr_reader.proofs.words.value_of.Goals as goal

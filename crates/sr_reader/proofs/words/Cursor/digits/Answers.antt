@@ -1,4 +1,3 @@
-use Rattle.std.specs.List.{prefix_len}
 use Rattle.std.proofs.Common.{arith}
 use Rattle.std.proofs.lemmas.Grind.{common_steps}
 use Rattle.sr_language.specs.Script.{is_digit}

@@ -13,3 +13,4 @@ pub mod AskLemmas
 pub mod ServeLemmas
 pub mod TakeLemmas
 pub mod ReplyLemmas
+pub mod SettleLemmas

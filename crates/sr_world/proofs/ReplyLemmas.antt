@@ -97,3 +97,138 @@ is-kept t w past o is_out f rows =
       answer = ap (λ rows. map (cells_of o.query.outputs) (filter (in_any o.query.rects) (filter (in_any (w.client.held ++ rects)) rows))) (sym newest)
       ∙ answer-is t.columns o.query.outputs (range_of o.query.range) o.query.rects (w.client.held ++ rects) (version_at past.versions w.server.version) is_out.bound.same covers (f.points w.server.version);
     }
+
+-- the lines of the reply are those of the answer
+lines-are : (t : Table) (w : World) (past : Past) (o : code.AskOut) (is_out : IsOut t w past o) (f : Facts t w past) (client : Client)
+    → client.version ≡ w.server.version → client.rows ≡ filter (in_any (w.client.held ++ is_out.ask.rects)) f.rows → IsKept t w past o is_out.ask f
+    → lines_of_reply o client ≡ answer_lines (scene_of w past) 1 o.query_number (meaning_of o.query) w.server.version ++ (map (mark_line 1) (Held 0 3 is_out.ask.rects ∷ []) ++ line.ClientAnswered 1 ∷ [])
+lines-are t w past o is_out f client version rows kept =
+    let lines : ℕ → List Row → List TraceLine → List TraceLine = λ v answer held.
+    (line.Answer 1 o.query_number v (length answer) ∷ map line.Row answer) ++ (held ++ line.ClientAnswered 1 ∷ []) in
+    let answer : map (cells_of o.query.outputs) (filter (in_any o.query.rects) client.rows) ≡ rows_of (meaning_of o.query) (version_at past.versions w.server.version) =
+    ap (λ rows. map (cells_of o.query.outputs) (filter (in_any o.query.rects) rows)) rows ∙ kept.answer in
+    let held : map held_line o.parts ≡ line.Held 1 0 3 is_out.ask.rects ∷ [] =
+    ap (map held_line) is_out.parts ∙ (ap (λ table. line.Held 1 table is_out.ask.attrs is_out.ask.rects ∷ []) is_out.rest.table ∙ ap (λ attrs. line.Held 1 0 attrs is_out.ask.rects ∷ []) is_out.attrs) in
+    ap (λ v. lines v (map (cells_of o.query.outputs) (filter (in_any o.query.rects) client.rows)) (map held_line o.parts)) version
+    ∙ (ap (λ rows. lines w.server.version rows (map held_line o.parts)) answer ∙ ap (λ held. lines w.server.version (rows_of (meaning_of o.query) (version_at past.versions w.server.version)) held) held)
+
+-- what was asked is held
+holds-asked : (t : Table) (w : World) (past : Past) (o : code.AskOut) (is_out : IsOut t w past o) → w.schema ≡ t ∷ [] → AllZip (Holds w.schema) o.parts (Held 0 3 is_out.ask.rects ∷ [])
+holds-asked t w past o is_out schema =
+    let fits : IsTrue (list_all (rect_fits (table_at w.schema 0).columns) is_out.ask.rects) = subst (λ s. IsTrue (list_all (rect_fits (table_at s 0).columns) is_out.ask.rects)) (sym schema) is_out.rest.fits in
+    subst (λ ps. AllZip (Holds w.schema) ps (Held 0 3 is_out.ask.rects ∷ [])) (sym is_out.parts)
+    ((sym is_out.rest.table, sym is_out.attrs, fits, λ p point. refl), tt)
+
+answers : (t : Table) (w : World) (past : Past) (c : IsComing t w past) (to_client : VecDeque Message Global) (f : Facts t w past)
+    → row_messages w.server.tables c.out.number 0 c.out.parts ≡ w.client.laid ++ [] → w.to_client.items ≡ Reply c.out.number w.server.version ∷ [] → to_client.items ≡ []
+    → let new = with_reply w t.key c.out w.server.version to_client in
+    (next : Scene) × Delivers (scene_of w past) 1 (lines_of_reply c.out new.client) next × Represents new next
+answers t w past c to_client f rows came left =
+    let o = c.out in
+    let rects = c.is_out.ask.rects in
+    let changed : World = with_reply w t.key o w.server.version to_client in
+    let new : Past = record past { marks = Held 0 3 rects ∷ past.marks; queries = with_answered o.query_number (meaning_of o.query) past.queries } in
+    let kept = is-kept t w past o c.is_out f rows in
+    let newest : rows_at (version_at past.versions w.server.version) 0 ≡ f.rows = ap (λ ts. rows_at ts 0) (f.newest ∙ f.tables) in
+    let facts : Facts t changed new = record {
+      schema = f.schema;
+      table = f.table;
+      rows = f.rows;
+      tables = f.tables;
+      count = f.count;
+      newest = f.newest;
+      ascending = f.ascending;
+      fitting = f.fitting;
+      points = f.points;
+      marks = (refl, refl, f.marks);
+      held_fit = subst (λ held. IsTrue (list_all (rect_fits t.columns) held)) (sym kept.held) kept.fits;
+      held = subst (λ held. AreSame t.columns (in_any held) (is_held new.marks 0 3)) (sym kept.held) kept.same;
+      kept = kept.rows ∙ (ap (λ held. filter (in_any held) f.rows) (sym kept.held) ∙ ap (λ rows. filter (in_any changed.client.held) rows) (sym newest));
+      version = omega arith;
+      recent = inr (refl, c.is_replied.upto);
+      queries = length-set past.queries _ _ ∙ f.queries;
+      flow = (c.is_replied.to_server, left, refl);
+    } in
+    let rows_are : changed.client.rows ≡ filter (in_any (w.client.held ++ rects)) f.rows = kept.rows in
+    let lines = lines_of_reply o changed.client in
+    let before : scene.Client = record (client_of w past) { to_client = [] } in
+    let free : scene.Client = record before { queries = new.queries; out = None; laid = [] } in
+    let keeps : Keeps w.schema o.parts w.server.version free (Held 0 3 rects ∷ []) (client_of changed new) =
+    (holds-asked t w past o c.is_out f.schema, ap (λ ms. record free { marks = Held 0 3 rects ∷ past.marks; version = w.server.version; to_client = ms }) left) in
+    let answered : Answers (scene_of w past) 1 o.query_number (meaning_of o.query) o.parts w.server.version before lines (client_of changed new) =
+    (f.version, (Held 0 3 rects ∷ [], keeps, lines-are t w past o c.is_out f changed.client refl rows_are kept)) in
+    let takes : TakesMessage (scene_of w past) 1 (request_of w.client.out) (Reply o.number w.server.version) before lines (client_of changed new) =
+    subst (λ out. TakesMessage (scene_of w past) 1 (request_of out) (Reply o.number w.server.version) before lines (client_of changed new)) (sym c.is) (refl, answered) in
+    (scene_of changed new, delivers w past (Reply o.number w.server.version) [] lines changed new c.is_replied.to_server came refl takes, record { t = t; past = new; facts = facts; same = refl })
+
+-- where a reply comes first, it is of the ask that is out, and all rows came before it
+record IsLast (t : Table) (w : World) (past : Past) (c : IsComing t w past) (k version : ℕ) (queue : List Message) : Type 0 where
+  number : k ≡ c.out.number
+  newest : version ≡ w.server.version
+  none : queue ≡ []
+  rows : row_messages w.server.tables c.out.number 0 c.out.parts ≡ w.client.laid ++ []
+  came : w.to_client.items ≡ Reply c.out.number w.server.version ∷ []
+
+is-last : (t : Table) (w : World) (past : Past) (c : IsComing t w past) (k version : ℕ) (queue : List Message) → w.to_client.items ≡ Reply k version ∷ queue → IsLast t w past c k version queue
+is-last t w past c k version queue first =
+    by c.is_replied.rest c.is_replied.rows c.is_replied.to_client (only-rows w past c.out c.is_replied.rest c.is_replied.rows)
+  where
+    by : (rest : List Message) → row_messages w.server.tables c.out.number 0 c.out.parts ≡ w.client.laid ++ rest → w.to_client.items ≡ rest ++ Reply c.out.number w.server.version ∷ []
+        → AllRows c.out.number rest → IsLast t w past c k version queue
+    by [] rows is all =
+        let same : Reply k version ∷ queue ≡ Reply c.out.number w.server.version ∷ [] = sym first ∙ is in
+        record { number = cc; newest = cc; none = cc; rows = rows; came = is }
+    by (Ask j fresh parts ∷ rest) rows is all = absurd all
+    by (Notice j told ∷ rest) rows is all = absurd all
+    by (Reply j v ∷ rest) rows is all = absurd all
+    by (Rows j part some ∷ rest) rows is all =
+        absurd (let same : Reply k version ∷ queue ≡ Rows j part some ∷ (rest ++ Reply c.out.number w.server.version ∷ []) = sym first ∙ is in cc)
+
+replies : (t : Table) (w : World) (past : Past) (key : ℕ) (out : code.AskOut) (k version : ℕ) (queue : List Message) (to_client : VecDeque Message Global) → Facts t w past
+    → key ≡ t.key → w.client.out ≡ Some out → w.to_client.items ≡ Reply k version ∷ queue → to_client.items ≡ queue
+    → let new = with_reply w key out version to_client in
+    (next : Scene) × Delivers (scene_of w past) 1 (lines_of_reply out new.client) next × Represents new next
+replies t w past key out k version queue to_client f is_key is_out first left =
+    let c = is-coming t w past (Reply k version) queue f first in
+    let last = is-last t w past c k version queue first in
+    let same : Some out ≡ Some c.out = sym is_out ∙ c.is in
+    let out_is : out ≡ c.out = cc in
+    let Goal : ℕ → code.AskOut → ℕ → Type 0 = λ key out version.
+    (next : Scene) × Delivers (scene_of w past) 1 (lines_of_reply out (with_reply w key out version to_client).client) next × Represents (with_reply w key out version to_client) next in
+    subst (λ key. Goal key out version) (sym is_key)
+    (subst (λ out. Goal t.key out version) (sym out_is)
+    (subst (λ version. Goal t.key c.out version) (sym last.newest)
+    (answers t w past c to_client f last.rows last.came (left ∙ last.none))))
+
+pub does-reply : (w : World) (table : Table) (out : code.AskOut) (k version : ℕ) (queue : List Message) (to_client : VecDeque Message Global) (lines : List TraceLine)
+    → w.schema ≡ table ∷ [] → w.client.out ≡ Some out → w.to_client.items ≡ Reply k version ∷ queue → to_client.items ≡ queue
+    → lines ≡ lines_of_reply out (with_reply w table.key out version to_client).client
+    → DoesDelivery w (with_reply w table.key out version to_client) lines
+does-reply w table out k version queue to_client lines schema is_out first left lines_are =
+    subst (DoesDelivery w (with_reply w table.key out version to_client)) (sym lines_are)
+    (does (λ s. Delivers s 1) w (with_reply w table.key out version to_client) (lines_of_reply out (with_reply w table.key out version to_client).client)
+    (λ t past f.
+    let same : table ∷ [] ≡ t ∷ [] = sym schema ∙ f.schema in
+    let key : table.key ≡ t.key = ap (λ u. u.key) (let is : table ≡ t = cc in is) in
+    replies t w past table.key out k version queue to_client f key is_out first left))
+
+-- where a reply comes first there is an ask that is out, and the rows that came ascend
+pub is-out : (w : World) (m : Message) (queue : List Message) → Stands w → w.to_client.items ≡ m ∷ queue → w.client.out ≡ None → ⊥
+is-out w m queue stands came none =
+    let r = stands.1 in
+    let c = is-coming r.t w r.past m queue r.facts came in
+    let same : None ≡ Some c.out = sym none ∙ c.is in
+    cc
+
+pub arrived-ascend : (w : World) (table : Table) (k version : ℕ) (queue : List Message) → Stands w → w.schema ≡ table ∷ [] → w.to_client.items ≡ Reply k version ∷ queue
+    → ascend table.key (arrived w.client.laid) ≡ true
+arrived-ascend w table k version queue stands schema first =
+    let r = stands.1 in
+    let f = r.facts in
+    let c = is-coming r.t w r.past (Reply k version) queue f first in
+    let last = is-last r.t w r.past c k version queue first in
+    let all = all-came r.t w r.past c.out c.is_out f last.rows in
+    let same : table ∷ [] ≡ r.t ∷ [] = sym schema ∙ f.schema in
+    let key : table.key ≡ r.t.key = ap (λ u. u.key) (let is : table ≡ r.t = cc in is) in
+    subst (λ key. ascend key (arrived w.client.laid) ≡ true) (sym key)
+    (subst (λ rows. ascend r.t.key rows ≡ true) (sym all.came) (ascend-filter r.t.key (in_any c.is_out.ask.rects) f.rows f.ascending))

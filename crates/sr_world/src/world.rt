@@ -14,7 +14,7 @@ ghost use Rattle.sr_language.specs.Script.{may_create, select_of};
 ghost use Rattle.sr_reader.specs.Read.{range_of, range_is_inside};
 ghost use Rattle.sr_scene.specs.Scene.{first};
 ghost use Rattle.sr_world.specs.Represents.{Represents, IsUnasked, drawn};
-ghost use Rattle.sr_world.specs.Worlds.{Stands, DoesStep, DoesEvent, DoesDelivery, DoesSettle};
+ghost use Rattle.sr_world.specs.Worlds.{Stands, DoesStep, DoesEvent, DoesDelivery, DoesMany, DoesSettle};
 
 use crate::client::{AskOut, Client, push_answer};
 use crate::query::{Query, bind};
@@ -23,7 +23,7 @@ use sr_cell::attrs::Attrs;
 use sr_cell::cell::Rows;
 use sr_cell::list::{Copied, No, NoMemory, Seq};
 use sr_cell::table::Table;
-use sr_message::message::{AskPart, Message};
+use sr_message::message::{AskPart, Message, Messages};
 use sr_reader::script::ColumnRange;
 use sr_script::line::{RequestKind, TraceLine, TraceLines};
 use sr_union::rects::Rects;
@@ -82,6 +82,26 @@ impl World {
             Err(No::Refused(fault)) => one_line(alloc, TraceLine::ExecRefused { fault }),
             Err(No::NoMemory) => Err(NoMemory),
         }
+    }
+
+    /// Asks a query, and makes the deliveries that it brings.
+    pub fn query(
+        &mut self,
+        alloc: Global,
+        outputs: Seq<u8>,
+        range: Option<ColumnRange>,
+    ) -> Result<TraceLines, NoMemory>
+        requires stands { Stands self.old }
+        requires outputs { IsTrue (list_all (λ c. nat_lt c 2) outputs) }
+        requires range { IsTrue (range_is_inside range) }
+        requires room { drawn self.old + 2 < 2 ^ 63 }
+        ensures steps { IfOk result (DoesStep (QueryOf 1 (Ok (select_of outputs (range_of range)))) self.old self.new) }
+        ensures stands { OnOk result (Stands self.new) }
+        ensures drawn { OnOk result (drawn self.new ≤ drawn self.old + 2) }
+    {
+        let mut lines = self.ask(alloc, outputs, range)?;
+        lines.append(self.settle(alloc)?)?;
+        Ok(lines)
     }
 
     /// Judges a query: it is answered at once, or its rest is asked.
@@ -162,6 +182,107 @@ impl World {
         self.client.out = Some(out);
         Ok(lines)
     }
+
+    /// Delivers until nothing is left: to the server first.
+    fn settle(&mut self, alloc: Global) -> Result<TraceLines, NoMemory>
+        requires { Stands self.old }
+        ensures settles { IfOk result (DoesSettle self.old self.new) }
+        ensures drawn { OnOk result (drawn self.new ≡ drawn self.old) }
+    {
+        let mut lines = self.serve_all(alloc)?;
+        lines.append(self.take_all(alloc)?)?;
+        Ok(lines)
+    }
+
+    fn serve_all(&mut self, alloc: Global) -> Result<TraceLines, NoMemory>
+        requires { Stands self.old }
+        ensures deliveries { IfOk result (DoesMany self.old self.new) }
+        ensures drawn { OnOk result (drawn self.new ≡ drawn self.old) }
+        ensures served { OnOk result (self.new.to_server.items ≡ []) }
+    {
+        let mut lines = Seq::new(alloc);
+        while !self.to_server.is_empty() {
+            lines.append(self.serve(alloc)?)?;
+        }
+        Ok(lines)
+    }
+
+    /// The server takes the oldest message.
+    fn serve(&mut self, alloc: Global) -> Result<TraceLines, NoMemory>
+        requires stands { Stands self.old }
+        requires some { self.old.to_server.items ≡ [] → ⊥ }
+        ensures delivery { IfOk result (DoesDelivery self.old self.new) }
+        ensures drawn { OnOk result (drawn self.new ≡ drawn self.old) }
+        ensures one_less { OnOk result (length self.new.to_server.items + 1 ≡ length self.old.to_server.items) }
+    {
+        match self.to_server.pop_front() {
+            Some(Message::Ask { number, parts, .. }) => {
+                let sent = self.server.reply(alloc, number, &parts)?;
+                let frames = sent.len() as u64;
+                queue_up(&mut self.to_client, sent)?;
+                one_line(
+                    alloc,
+                    TraceLine::ServerTook {
+                        client: 1,
+                        kind: RequestKind::Ask,
+                        frames,
+                    },
+                )
+            }
+            _ => Ok(Seq::new(alloc)),
+        }
+    }
+
+    fn take_all(&mut self, alloc: Global) -> Result<TraceLines, NoMemory>
+        requires stands { Stands self.old }
+        requires served { self.old.to_server.items ≡ [] }
+        ensures deliveries { IfOk result (DoesMany self.old self.new) }
+        ensures drawn { OnOk result (drawn self.new ≡ drawn self.old) }
+        ensures served { OnOk result (self.new.to_server.items ≡ []) }
+        ensures taken { OnOk result (self.new.to_client.items ≡ []) }
+    {
+        let mut lines = Seq::new(alloc);
+        while !self.to_client.is_empty() {
+            lines.append(self.take(alloc)?)?;
+        }
+        Ok(lines)
+    }
+
+    /// The client takes the oldest message.
+    fn take(&mut self, alloc: Global) -> Result<TraceLines, NoMemory>
+        requires stands { Stands self.old }
+        requires some { self.old.to_client.items ≡ [] → ⊥ }
+        ensures delivery { IfOk result (DoesDelivery self.old self.new) }
+        ensures drawn { OnOk result (drawn self.new ≡ drawn self.old) }
+        ensures to_server { OnOk result (self.new.to_server.items ≡ self.old.to_server.items) }
+        ensures one_less { OnOk result (length self.new.to_client.items + 1 ≡ length self.old.to_client.items) }
+    {
+        match self.to_client.pop_front() {
+            Some(Message::Reply { version, .. }) => match self.client.out.take() {
+                Some(out) => {
+                    let key = only(&self.schema).key as usize;
+                    self.client.finish(alloc, key, &out, version)
+                }
+                None => Ok(Seq::new(alloc)),
+            },
+            Some(Message::Rows { number, part, rows }) => {
+                let message = Message::Rows { number, part, rows };
+                self.client.laid.push(message)?;
+                one_line(alloc, TraceLine::ClientLaid { client: 1 })
+            }
+            _ => Ok(Seq::new(alloc)),
+        }
+    }
+}
+
+/// Puts the messages behind those in the queue.
+fn queue_up(queue: &mut VecDeque<Message>, messages: Messages) -> Result<(), NoMemory>
+    ensures { OnOk result (queue.new.items ≡ queue.old.items ++ messages) }
+{
+    for message in messages.into_vec() {
+        queue.push_back(message)?;
+    }
+    Ok(())
 }
 
 /// The rects that are not held.

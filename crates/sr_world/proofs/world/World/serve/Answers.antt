@@ -1,0 +1,10 @@
+use Rattle.std.proofs.Common.{◌∷◌, ◌∙◌, ap, refl}
+use Rattle.sr_world.proofs.StepLemmas.{if_ok}
+use Rattle.sr_world.proofs.ServeLemmas.{does-serve}
+use Rattle.sr_world.proofs.world.World.serve.Goals as goal
+
+pub returns-in-Some-Ask-clause-delivery : goal.returns-in-Some-Ask-clause-delivery
+returns-in-Some-Ask-clause-delivery c =
+    if_ok _ c.one_line.result _ c.one_line.ensures
+    (rw c.len-frames.ensures (does-serve c.args.self.now c.in-Some-Ask.number _ c.in-Some-Ask.parts c.pop_front.new.self.items c.in_ok-sent-in-Some-Ask.sent c.pop_front.new.self c.queue_up.new.queue
+    (c.in-Some-Ask.ensures.items ∙ ap (λ m. m ∷ c.pop_front.new.self.items) c.in-Some-Ask.field-0-is) refl c.in_ok-sent-in-Some-Ask.ensures c.in_ok-queue_up-in-Some-Ask.ensures))

@@ -1,0 +1,18 @@
+use Rattle.std.proofs.Common.{◌≡◌, refl, sym, ◌∙◌, ap}
+use Rattle.sr_scene.specs.Runs.{Delivers}
+use Rattle.sr_world.specs.Worlds.{DoesMany}
+use Rattle.sr_world.proofs.SettleLemmas.{still-stands, many-none, many-more}
+use Rattle.sr_world.proofs.world.World.take_all.Goals as goal
+
+pub loop-alloc-init : goal.loop-alloc-init
+loop-alloc-init c = (c.requires.stands, rw c.new-lines.ensures (many-none c.args.self.now), refl, c.requires.served)
+
+pub loop-alloc-preserved : goal.loop-alloc-preserved
+loop-alloc-preserved c =
+    let before = c.loop-alloc.invariant in
+    let delivery = c.in_ok-take.ensures.delivery in
+    (
+      still-stands (λ s. Delivers s 1) c.loop-alloc.self c.take.new.self _ before.0 delivery,
+      rw c.in_ok-append.ensures.appended (many-more c.args.self.now c.loop-alloc.self c.take.new.self c.loop-alloc.lines _ before.1 delivery),
+      c.in_ok-take.ensures.drawn ∙ before.2, c.in_ok-take.ensures.to_server ∙ before.3,
+    )

@@ -30,7 +30,7 @@ use Rattle.sr_world.specs.declared.world.World.{World}
 use Rattle.sr_world.specs.declared.client.AskOut as code
 use Rattle.sr_world.specs.declared.client.Client.{Client}
 use Rattle.sr_world.specs.Bound.{meaning_of, part_of}
-use Rattle.sr_world.specs.Client.{cells_of, arrived, rects_of, held_line, after_reply, lines_of_reply}
+use Rattle.sr_world.specs.Client.{cells_of, arrived, reply_version, rects_of, held_line, after_reply, lines_of_reply}
 use Rattle.sr_world.specs.Worlds.{Stands, DoesDelivery}
 use Rattle.sr_world.specs.Represents.{Past, Facts, Represents, IsReplied, IsOut, Flow, request_of, scene_of, client_of}
 use Rattle.sr_world.proofs.TwoColumns.{two_columns}
@@ -200,7 +200,7 @@ replies t w past key out k version queue to_client f is_key is_out first left =
     (subst (λ version. Goal t.key c.out version) (sym last.newest)
     (answers t w past c to_client f last.rows last.came (left ∙ last.none))))
 
-pub does-reply : (w : World) (table : Table) (out : code.AskOut) (k version : ℕ) (queue : List Message) (to_client : VecDeque Message Global) (lines : List TraceLine)
+does-reply : (w : World) (table : Table) (out : code.AskOut) (k version : ℕ) (queue : List Message) (to_client : VecDeque Message Global) (lines : List TraceLine)
     → w.schema ≡ table ∷ [] → w.client.out ≡ Some out → w.to_client.items ≡ Reply k version ∷ queue → to_client.items ≡ queue
     → lines ≡ lines_of_reply out (with_reply w table.key out version to_client).client
     → DoesDelivery w (with_reply w table.key out version to_client) lines
@@ -220,7 +220,7 @@ is-out w m queue stands came none =
     let same : None ≡ Some c.out = sym none ∙ c.is in
     cc
 
-pub arrived-ascend : (w : World) (table : Table) (k version : ℕ) (queue : List Message) → Stands w → w.schema ≡ table ∷ [] → w.to_client.items ≡ Reply k version ∷ queue
+arrived-ascend : (w : World) (table : Table) (k version : ℕ) (queue : List Message) → Stands w → w.schema ≡ table ∷ [] → w.to_client.items ≡ Reply k version ∷ queue
     → ascend table.key (arrived w.client.laid) ≡ true
 arrived-ascend w table k version queue stands schema first =
     let r = stands.1 in
@@ -232,3 +232,29 @@ arrived-ascend w table k version queue stands schema first =
     let key : table.key ≡ r.t.key = ap (λ u. u.key) (let is : table ≡ r.t = cc in is) in
     subst (λ key. ascend key (arrived w.client.laid) ≡ true) (sym key)
     (subst (λ rows. ascend r.t.key rows ≡ true) (sym all.came) (ascend-filter r.t.key (in_any c.is_out.ask.rects) f.rows f.ascending))
+
+-- a message with a reply's version is the reply
+pub is-reply : (m : Message) (version : ℕ) → reply_version m ≡ Some version → (k : ℕ) × (m ≡ Reply k version)
+is-reply (Ask number fresh parts) version is = absurd (cc)
+is-reply (Notice v told) version is = absurd (cc)
+is-reply (Rows number part rows) version is = absurd (cc)
+is-reply (Reply k v) version is = (k, let same : v ≡ version = cc in ap (Reply k) same)
+
+pub does-take : (w : World) (table : Table) (m : Message) (version : ℕ) (to_client : VecDeque Message Global) (client : Client) (lines : List TraceLine)
+    → Stands w → w.schema ≡ table ∷ [] → w.to_client.items ≡ m ∷ to_client.items → reply_version m ≡ Some version
+    → ((out : code.AskOut) → w.client.out ≡ Some out → client ≡ after_reply table.key out version (record w.client { out = None }))
+    → ((out : code.AskOut) → w.client.out ≡ Some out → lines ≡ lines_of_reply out (after_reply table.key out version (record w.client { out = None })))
+    → DoesDelivery w (record w { client = client; to_client = to_client }) lines
+does-take w table m version to_client client lines stands schema came is_reply client_is lines_are =
+    let r = stands.1 in
+    let reply = is-reply m version is_reply in
+    let first : w.to_client.items ≡ Reply reply.0 version ∷ to_client.items = came ∙ ap (λ m. m ∷ to_client.items) reply.1 in
+    let c = is-coming r.t w r.past (Reply reply.0 version) to_client.items r.facts first in
+    subst (λ client. DoesDelivery w (record w { client = client; to_client = to_client }) lines) (sym (client_is c.out c.is))
+    (does-reply w table c.out reply.0 version to_client.items to_client lines schema c.is first refl (lines_are c.out c.is))
+
+pub take-ascend : (w : World) (table : Table) (m : Message) (version : ℕ) (queue : List Message) → Stands w → w.schema ≡ table ∷ [] → w.to_client.items ≡ m ∷ queue → reply_version m ≡ Some version
+    → ascend table.key (arrived w.client.laid) ≡ true
+take-ascend w table m version queue stands schema came is_reply =
+    let reply = is-reply m version is_reply in
+    arrived-ascend w table reply.0 version queue stands schema (came ∙ ap (λ m. m ∷ queue) reply.1)

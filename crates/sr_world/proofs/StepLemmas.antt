@@ -1,6 +1,6 @@
 -- One step of a world is one of its scene.
 use Rattle.std.proofs.Common.{◌≡◌, ℕ, ◌<◌, ◌≤◌, ◌+◌, ◌-◌, Bool, true, false, List, [], ◌∷◌, ◌++◌, map, length, refl, sym, ◌∙◌, ap, subst, arith, zero, suc, inl, inr, Option, Some, None, Ok, Err, length-append, append-nil}
-use Rattle.std.specs.Prelude.{filter, IsTrue, IfOk, Result, slice_index_or}
+use Rattle.std.specs.Prelude.{filter, IsTrue, IfOk, OnOk, Result, slice_index_or}
 use Rattle.std.specs.List.{list_all}
 use Rattle.std.proofs.Math.Seq.{get_or-append_seam}
 use Rattle.sr_cell.specs.declared.fault.Fault.{Fault}
@@ -191,3 +191,13 @@ does-refuse w u fault rows is unasked refused =
 pub if_ok : {T E : Type 0} (P : T → Type 0) (r : Result T E) (value : T) → IfOk r (λ x. x ≡ value) → P value → IfOk r P
 if_ok P (Ok x) value is p = subst P (sym is) p
 if_ok P (Err e) value is p = tt
+
+pub if_each : {T E : Type 0} (P : T → Type 0) (r : Result T E) → ((x : T) → r ≡ Ok x → P x) → IfOk r P
+if_each P (Ok x) each = each x refl
+if_each P (Err e) each = tt
+
+pub on_ok : {T E : Type 0} (Q : Type 0) (r : Result T E) (x : T) → r ≡ Ok x → OnOk r Q → Q
+on_ok Q r x is h = subst (λ r. OnOk r Q) is h
+
+pub of_ok : {T E : Type 0} (P : T → Type 0) (r : Result T E) (x : T) → r ≡ Ok x → IfOk r P → P x
+of_ok P r x is h = subst (λ r. IfOk r P) is h

@@ -31,7 +31,7 @@ use Rattle.sr_world.specs.declared.world.World.{World}
 use Rattle.sr_world.specs.declared.client.AskOut as code
 use Rattle.sr_world.specs.declared.client.Client.{Client}
 use Rattle.sr_world.specs.Bound.{meaning_of, part_of}
-use Rattle.sr_world.specs.Client.{cells_of, arrived, rects_of, held_line, after_reply, lines_of_reply}
+use Rattle.sr_world.specs.Client.{reply_version}
 use Rattle.sr_world.specs.Worlds.{Stands, DoesDelivery}
 use Rattle.sr_world.specs.Represents.{Past, Facts, Represents, IsAsked, IsReplied, IsOut, Flow, request_of, scene_of, client_of}
 use Rattle.sr_world.proofs.TwoColumns.{two_columns}
@@ -121,14 +121,8 @@ lays t w past c k part rows rest laid to_client f number all came is_laid left =
     (number, (refl, same)) in
     (scene_of changed past, delivers w past (Rows k part rows) queue (line.ClientLaid 1 ∷ []) changed past c.is_replied.to_server came refl takes, record { t = t; past = past; facts = facts; same = refl })
 
-abbrev pub is_reply : Message → Bool
-is_reply (Ask number fresh parts) = false
-is_reply (Notice version told) = false
-is_reply (Rows number part rows) = false
-is_reply (Reply number version) = true
-
 lays-first : (t : Table) (w : World) (past : Past) (m : Message) (queue laid : List Message) (to_client : VecDeque Message Global) → Facts t w past
-    → w.to_client.items ≡ m ∷ queue → is_reply m ≡ false → laid ≡ w.client.laid ++ m ∷ [] → to_client.items ≡ queue
+    → w.to_client.items ≡ m ∷ queue → reply_version m ≡ None → laid ≡ w.client.laid ++ m ∷ [] → to_client.items ≡ queue
     → (next : Scene) × Delivers (scene_of w past) 1 (line.ClientLaid 1 ∷ []) next × Represents (with_laid w laid to_client) next
 lays-first t w past m queue laid to_client f came other is_laid left =
     by c.is_replied.rest c.is_replied.rows c.is_replied.to_client (only-rows w past c.out c.is_replied.rest c.is_replied.rows)
@@ -144,7 +138,7 @@ lays-first t w past m queue laid to_client f came other is_laid left =
     by [] rows is all =
         let first : m ∷ queue ≡ Reply c.out.number w.server.version ∷ [] = sym came ∙ is in
         let m_is : m ≡ Reply c.out.number w.server.version = cc in
-        absurd (let k : true ≡ false = sym (ap is_reply m_is) ∙ other in cc)
+        absurd (let k : Some w.server.version ≡ None = sym (ap reply_version m_is) ∙ other in cc)
     by (Ask k fresh parts ∷ rest) rows is all = absurd all
     by (Notice version told ∷ rest) rows is all = absurd all
     by (Reply k version ∷ rest) rows is all = absurd all
@@ -154,8 +148,11 @@ lays-first t w past m queue laid to_client f came other is_laid left =
         let queue_is : queue ≡ rest ++ Reply c.out.number w.server.version ∷ [] = cc in
         lays t w past c k part rows rest laid to_client f all.0 all_rows is (is_laid ∙ ap (λ m. w.client.laid ++ m ∷ []) m_is) (left ∙ queue_is)
 
-pub does-lay : (w : World) (m : Message) (queue laid : List Message) (to_client : VecDeque Message Global)
-    → w.to_client.items ≡ m ∷ queue → is_reply m ≡ false → laid ≡ w.client.laid ++ m ∷ [] → to_client.items ≡ queue
-    → DoesDelivery w (with_laid w laid to_client) (line.ClientLaid 1 ∷ [])
-does-lay w m queue laid to_client came other is_laid left =
-    does (λ s. Delivers s 1) w (with_laid w laid to_client) (line.ClientLaid 1 ∷ []) (λ t past f. lays-first t w past m queue laid to_client f came other is_laid left)
+pub does-lay : (w : World) (m : Message) (to_client : VecDeque Message Global) (client : Client) (lines : List TraceLine)
+    → w.to_client.items ≡ m ∷ to_client.items → reply_version m ≡ None → client ≡ record w.client { laid = w.client.laid ++ m ∷ [] } → lines ≡ line.ClientLaid 1 ∷ []
+    → DoesDelivery w (record w { client = client; to_client = to_client }) lines
+does-lay w m to_client client lines came other client_is lines_are =
+    let laid = w.client.laid ++ m ∷ [] in
+    subst (λ client. DoesDelivery w (record w { client = client; to_client = to_client }) lines) (sym client_is)
+    (subst (DoesDelivery w (with_laid w laid to_client)) (sym lines_are)
+    (does (λ s. Delivers s 1) w (with_laid w laid to_client) (line.ClientLaid 1 ∷ []) (λ t past f. lays-first t w past m to_client.items laid to_client f came other refl refl)))

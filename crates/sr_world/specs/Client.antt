@@ -1,5 +1,5 @@
 -- What a client makes of rows and messages.
-use Rattle.std.specs.Prelude.{ℕ, Bool, true, false, List, [], ◌∷◌, ◌++◌, map, filter, length, flat_map}
+use Rattle.std.specs.Prelude.{ℕ, Bool, true, false, List, [], ◌∷◌, ◌++◌, map, filter, length, flat_map, Option, Some, None}
 use Rattle.sr_cell.specs.declared.cell.Cell.{Cell}
 use Rattle.sr_cell.specs.Cells.{Row, cell_at}
 use Rattle.sr_box.specs.Points.{Rect, in_any}
@@ -26,6 +26,13 @@ brought (Reply number version) = []
 -- the rows that the messages bring
 abbrev pub arrived : List Message → List Row
 arrived ms = flat_map brought ms
+
+-- the version of a reply
+abbrev pub reply_version : Message → Option ℕ
+reply_version (Ask number fresh parts) = None
+reply_version (Notice version told) = None
+reply_version (Rows number part rows) = None
+reply_version (Reply number version) = Some version
 
 abbrev pub is_empty : List Rect → Bool
 is_empty [] = true

@@ -1,10 +1,11 @@
 //! The client: what it holds, and what it makes of it.
-ghost use Rattle.std.specs.Prelude.{◌≡◌, ℕ, List, [], ◌∷◌, ◌++◌, map, filter, length, true, None, IfOk, OnOk};
+ghost use Rattle.std.specs.Prelude.{◌≡◌, ℕ, List, [], ◌∷◌, ◌++◌, map, filter, length, true, None, Some, IfOk, OnOk};
 ghost use Rattle.sr_cell.specs.Cells.{cell_at};
 ghost use Rattle.sr_box.specs.Points.{in_any};
 ghost use Rattle.sr_model.specs.SortedRows.{ascend};
-ghost use Rattle.sr_script.specs.declared.line.TraceLine.TheVariants.{Answer, Row as RowLine};
-ghost use Rattle.sr_world.specs.Client.{cells_of, brought, arrived, rects_of, held_line, after_reply, lines_of_reply};
+ghost use Rattle.sr_script.specs.declared.line.TraceLine.TheVariants.{Answer, Row as RowLine, ClientLaid};
+ghost use Rattle.sr_world.specs.declared.client.AskOut.{AskOut as TheAskOut};
+ghost use Rattle.sr_world.specs.Client.{cells_of, brought, arrived, reply_version, rects_of, held_line, after_reply, lines_of_reply};
 
 use crate::query::Query;
 use sr_cell::cell::{Cell, Row, Rows};
@@ -61,8 +62,37 @@ impl Client {
         answer_of(alloc, &self.rows, query)
     }
 
-    /// The reply of an ask at a version: what was asked is held with the rows that came, and the query is answered.
-    pub fn finish(
+    /// Keeps a message until the reply comes.
+    pub fn lay_by(&mut self, alloc: Global, message: Message) -> Result<TraceLines, NoMemory>
+        ensures client { OnOk result (self.new ≡ record self.old { laid = self.old.laid ++ message ∷ [] }) }
+        ensures lines { IfOk result (λ lines. lines ≡ ClientLaid 1 ∷ []) }
+    {
+        self.laid.push(message)?;
+        let mut lines = Seq::new(alloc);
+        lines.push(TraceLine::ClientLaid { client: 1 })?;
+        Ok(lines)
+    }
+
+    /// The reply of the ask that is out, at a version.
+    pub fn take_reply(
+        &mut self,
+        alloc: Global,
+        key: usize,
+        version: u64,
+    ) -> Result<TraceLines, NoMemory>
+        requires out { self.old.out ≡ None → ⊥ }
+        requires ascending { ascend key (arrived self.old.laid) ≡ true }
+        ensures client { (out : TheAskOut) → self.old.out ≡ Some out → OnOk result (self.new ≡ after_reply key out version (record self.old { out = None })) }
+        ensures lines { (out : TheAskOut) → self.old.out ≡ Some out → IfOk result (λ lines. lines ≡ lines_of_reply out (after_reply key out version (record self.old { out = None }))) }
+    {
+        match self.out.take() {
+            None => Ok(Seq::new(alloc)),
+            Some(out) => self.finish(alloc, key, &out, version),
+        }
+    }
+
+    /// What was asked is held with the rows that came, and the query is answered.
+    fn finish(
         &mut self,
         alloc: Global,
         key: usize,
@@ -83,6 +113,16 @@ impl Client {
         push_held(alloc, &mut lines, out.parts.as_slice())?;
         lines.push(TraceLine::ClientAnswered { client: 1 })?;
         Ok(lines)
+    }
+}
+
+/// The version of a reply.
+pub fn version_of(message: &Message) -> Option<u64>
+    ensures { result ≡ reply_version message.now }
+{
+    match message {
+        Message::Reply { version, .. } => Some(*version),
+        _ => None,
     }
 }
 

@@ -16,7 +16,7 @@ ghost use Rattle.sr_scene.specs.Scene.{first};
 ghost use Rattle.sr_world.specs.Represents.{Represents, IsUnasked, drawn};
 ghost use Rattle.sr_world.specs.Worlds.{Stands, DoesStep, DoesEvent, DoesDelivery, DoesMany, DoesSettle};
 
-use crate::client::{AskOut, Client, push_answer};
+use crate::client::{AskOut, Client, push_answer, version_of};
 use crate::query::{Query, bind};
 use crate::server::Server;
 use sr_cell::attrs::Attrs;
@@ -258,19 +258,14 @@ impl World {
         ensures one_less { OnOk result (length self.new.to_client.items + 1 ≡ length self.old.to_client.items) }
     {
         match self.to_client.pop_front() {
-            Some(Message::Reply { version, .. }) => match self.client.out.take() {
-                Some(out) => {
+            None => Ok(Seq::new(alloc)),
+            Some(message) => match version_of(&message) {
+                None => self.client.lay_by(alloc, message),
+                Some(version) => {
                     let key = only(&self.schema).key as usize;
-                    self.client.finish(alloc, key, &out, version)
+                    self.client.take_reply(alloc, key, version)
                 }
-                None => Ok(Seq::new(alloc)),
             },
-            Some(Message::Rows { number, part, rows }) => {
-                let message = Message::Rows { number, part, rows };
-                self.client.laid.push(message)?;
-                one_line(alloc, TraceLine::ClientLaid { client: 1 })
-            }
-            _ => Ok(Seq::new(alloc)),
         }
     }
 }

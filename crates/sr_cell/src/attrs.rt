@@ -29,6 +29,13 @@ impl Attrs {
         has_bit(self.0, column as usize)
     }
 
+    /// Whether the column of that number is inside, where numbers may be of any size.
+    pub fn has_index(self, index: usize) -> bool
+        ensures { result ≡ has_column self index }
+    {
+        has_bit(self.0, index)
+    }
+
     /// Whether each column of the other is inside.
     pub fn includes(self, other: Attrs) -> bool
         ensures { result ≡ includes self other }

@@ -23,14 +23,25 @@ abbrev pub hex_digit : ℕ → ℕ
 hex_digit d = if nat_le d 9 then 48 + d else 87 + d
 
 -- a quote inside is doubled
+abbrev pub quoted_byte : ℕ → List ℕ
+quoted_byte b = if b == 39 then codes "''" else b ∷ []
+
 abbrev pub quoted : List ℕ → List ℕ
-quoted s = codes "'" ++ (flat_map (λ b. if b == 39 then codes "''" else b ∷ []) s ++ codes "'")
+quoted s = codes "'" ++ (flat_map quoted_byte s ++ codes "'")
+
+-- two digits a byte
+abbrev pub hex_byte : ℕ → List ℕ
+hex_byte b = hex_digit (b / 16) ∷ hex_digit (b % 16) ∷ []
+
+abbrev pub hexadecimal : List ℕ → List ℕ
+hexadecimal s = codes "x'" ++ (flat_map hex_byte s ++ codes "'")
+
+abbrev pub is_printable : ℕ → Bool
+is_printable b = nat_le 32 b && nat_le b 126
 
 -- printable bytes stand in quotes, others in hexadecimal
 abbrev pub bytes_text : List ℕ → List ℕ
-bytes_text s =
-    if list_all (λ b. nat_le 32 b && nat_le b 126) s then quoted s
-    else codes "x'" ++ (flat_map (λ b. hex_digit (b / 16) ∷ hex_digit (b % 16) ∷ []) s ++ codes "'")
+bytes_text s = if list_all is_printable s then quoted s else hexadecimal s
 
 abbrev pub cell_text : Cell → List ℕ
 cell_text (Num n) = number_text n

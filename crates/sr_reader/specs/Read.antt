@@ -1,9 +1,7 @@
 -- What a script that was read stands for.
-use Rattle.std.specs.Prelude.{ℕ, ◌≡◌, ◌<◌, ◌≤◌, ◌+◌, ◌++◌, ◌==◌, ◌&&◌, Bool, true, nat_lt, List, [], ◌∷◌, map, length, Option, Some, None, Ok, IsTrue}
+use Rattle.std.specs.Prelude.{ℕ, ◌≡◌, ◌≤◌, ◌+◌, ◌++◌, ◌==◌, ◌&&◌, Bool, true, nat_lt, List, [], ◌∷◌, map, length, Option, Some, None, Ok, IsTrue}
 use Rattle.std.specs.List.{list_all}
 use Rattle.sr_cell.specs.declared.table.Table.{Table}
-use Rattle.sr_cell.specs.declared.table.Column.{Column}
-use Rattle.sr_cell.specs.Cells.{Row}
 use Rattle.sr_model.specs.Statements.{Insert}
 use Rattle.sr_model.specs.Events.{Event, Exec, QueryOf}
 use Rattle.sr_language.specs.Lines.{lines_of}

@@ -1,6 +1,5 @@
 -- The text of a trace.
-use Rattle.std.specs.Prelude.{ℕ, ℤ, Bool, true, false, List, [], ◌∷◌, ◌++◌, ◌+◌, map, flat_map, Option, Some, None, decimal, codes, if◌then◌else◌}
-use Rattle.sr_cell.specs.declared.attrs.Attrs.{Attrs}
+use Rattle.std.specs.Prelude.{ℕ, Bool, true, false, List, [], ◌∷◌, ◌++◌, ◌+◌, map, flat_map, Option, Some, None, decimal, codes, if◌then◌else◌}
 use Rattle.sr_cell.specs.declared.cause.Cause.{Cause}
 use Rattle.sr_cell.specs.declared.cause.Cause.TheVariants as cause
 use Rattle.sr_cell.specs.declared.fault.Fault.{Fault}

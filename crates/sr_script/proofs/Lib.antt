@@ -1,0 +1,4 @@
+pub mod Bytes
+pub mod Separated
+pub mod Constrained
+pub mod FirstWord

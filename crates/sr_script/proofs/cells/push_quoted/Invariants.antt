@@ -1,0 +1,7 @@
+use Rattle.std.proofs.Common.{◌≡◌, ◌++◌, drop, codes, flat_map, string_bytes}
+use Rattle.sr_language.specs.Texts.{quoted_byte, quoted}
+use Rattle.sr_script.proofs.cells.push_quoted.Given as goal
+
+abbrev pub invariant-loop-byte : goal.invariant-loop-byte
+invariant-loop-byte l =
+    string_bytes l.text ++ (flat_map quoted_byte (drop l.byte-index l.bytes) ++ codes "'") ≡ string_bytes l.fn.text ++ quoted l.bytes

@@ -1,0 +1,80 @@
+//! The words of a trace.
+ghost use Rattle.std.specs.Prelude.{◌≡◌, List};
+ghost use Rattle.sr_script.specs.TraceText.{why_text, cause_text, kind_text, mode_text};
+
+use crate::line::RequestKind;
+use sr_cell::cause::Cause;
+use sr_cell::fault::Why;
+
+/// The word of a reason.
+pub fn why_word(why: Why) -> &'static str
+    ensures { result.now ≡ why_text why }
+{
+    match why {
+        Why::LongText => "long-text",
+        Why::BadToken => "bad-token",
+        Why::Grammar => "grammar",
+        Why::Deep => "deep",
+        Why::UnknownTable => "unknown-table",
+        Why::UnknownColumn => "unknown-column",
+        Why::Ambiguous => "ambiguous",
+        Why::WrongType => "wrong-type",
+        Why::OutOfDomain => "out-of-domain",
+        Why::NotKeyJoin => "not-key-join",
+        Why::Repeated => "repeated",
+        Why::WrongCount => "wrong-count",
+        Why::Mixed => "mixed",
+        Why::TooWide => "too-wide",
+        Why::TooManyTables => "too-many-tables",
+        Why::NotAWrite => "not-a-write",
+        Why::NotAQuery => "not-a-query",
+        Why::DuplicateKey => "duplicate-key",
+        Why::DomainCell => "domain-cell",
+        Why::LongCell => "long-cell",
+        Why::KeyChange => "key-change",
+        Why::TableFull => "table-full",
+        Why::TooManyChanges => "too-many-changes",
+        Why::DuplicateName => "duplicate-name",
+        Why::TooManyColumns => "too-many-columns",
+        Why::NoKey => "no-key",
+        Why::BadDomain => "bad-domain",
+        Why::BadHeader => "bad-header",
+        Why::BadRecord => "bad-record",
+        Why::BadNumber => "bad-number",
+        Why::BadUtf8 => "bad-utf8",
+    }
+}
+
+/// The word of a cause.
+pub fn cause_word(cause: Cause) -> &'static str
+    ensures { result.now ≡ cause_text cause }
+{
+    match cause {
+        Cause::Rows => "rows",
+        Cause::Regions => "regions",
+        Cause::Pieces => "pieces",
+        Cause::Absorbed => "absorbed",
+        Cause::Asked => "asked",
+        Cause::Lapsed => "lapsed",
+        Cause::Fresh => "fresh",
+    }
+}
+
+/// The word of a request.
+pub fn kind_word(kind: RequestKind) -> &'static str
+    ensures { result.now ≡ kind_text kind }
+{
+    match kind {
+        RequestKind::Hello => "hello",
+        RequestKind::Resume => "resume",
+        RequestKind::Ask => "ask",
+        RequestKind::Write => "write",
+    }
+}
+
+/// The word of a mode: an ask starts anew, or asks more.
+pub fn mode_word(fresh: bool) -> &'static str
+    ensures { result.now ≡ mode_text fresh }
+{
+    if fresh { "fresh" } else { "more" }
+}

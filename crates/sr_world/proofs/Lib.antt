@@ -14,3 +14,5 @@ pub mod ServeLemmas
 pub mod TakeLemmas
 pub mod ReplyLemmas
 pub mod SettleLemmas
+pub mod RunLemmas
+pub mod ReplayLemmas

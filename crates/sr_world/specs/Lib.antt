@@ -1,4 +1,6 @@
 pub mod Bound
 pub mod Client
+pub mod Ran
+pub mod Replay
 pub mod Represents
 pub mod Worlds

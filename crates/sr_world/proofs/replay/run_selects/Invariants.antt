@@ -1,0 +1,22 @@
+use Rattle.std.proofs.Common.{ℕ, ◌≡◌, ◌+◌, ◌≤◌, List, ◌++◌, map, length, IsTrue}
+use Rattle.std.specs.List.{list_all}
+use Rattle.std.specs.Prelude.{nat_lt}
+use Rattle.std.specs.Vec.Iter.{into_iter_items}
+use Rattle.sr_model.specs.Events.{Event}
+use Rattle.sr_reader.specs.Read.{select_event, range_is_inside}
+use Rattle.sr_world.specs.Represents.{drawn}
+use Rattle.sr_world.specs.Worlds.{Stands}
+use Rattle.sr_world.specs.Ran.{RanWhole, Stays}
+use Rattle.sr_world.proofs.replay.run_selects.Given as goal
+
+abbrev pub invariant-loop-line : goal.invariant-loop-line
+invariant-loop-line g l = record {
+  split : map select_event l.fn.lines ≡ map select_event l.yielded ++ map select_event (into_iter_items l.line-iterator);
+  ran : RanWhole l.schema (map select_event l.yielded) l.fn.world l.world (g.K.Outside.writing l.fn.sink).written (g.K.Outside.writing l.sink).written;
+  stands : Stands l.world;
+  outputs : IsTrue (list_all (λ line. list_all (λ c. nat_lt c 2) line.outputs) (into_iter_items l.line-iterator));
+  ranges : IsTrue (list_all (λ line. range_is_inside line.range) (into_iter_items l.line-iterator));
+  room : drawn l.world + (length (into_iter_items l.line-iterator) + length (into_iter_items l.line-iterator)) ≤ drawn l.fn.world + (length l.fn.lines + length l.fn.lines);
+  same_faults : (g.K.Outside.writing l.sink).faults ≡ (g.K.Outside.writing l.fn.sink).faults;
+  stays : Stays _ g.K.Outside.reading g.K.Outside.linking g.K.Outside.held g.K.Outside.complaints g.K.Outside.IsSteady l.fn.sink l.sink;
+}

@@ -1,0 +1,72 @@
+-- What runs of some events do to a world and write.
+use Rattle.std.specs.Prelude.{ℕ, ◌≡◌, List, ◌++◌, Option}
+use Rattle.std.specs.Io.KnownBytes.{Appends}
+use Rattle.sr_cell.specs.declared.table.Table.{Table}
+use Rattle.sr_model.specs.Events.{Event}
+use Rattle.sr_script.specs.declared.line.TraceLine.{TraceLine}
+use Rattle.sr_script.specs.TraceText.{trace_text}
+use Rattle.sr_scene.specs.Scene.{Scene}
+use Rattle.sr_scene.specs.Runs.{Runs}
+use Rattle.sr_io.specs.Pieces.{WritesPrefix}
+use Rattle.sr_io.specs.Told.{Reading, Linking}
+use Rattle.sr_world.specs.declared.world.World.{World}
+use Rattle.sr_world.specs.Represents.{Represents}
+use Rattle.sr_world.specs.Replay.{start, IsKept}
+
+-- From each scene that the old world stands for the events may give these lines and lead to one that the new world stands for.
+abbrev pub DoesRun : List (ℕ × Event) → World → World → List (ℕ × TraceLine) → Type 0
+DoesRun events old new lines = (s : Scene) → Represents old s → (next : Scene) × Runs s events lines next × Represents new next
+
+-- the events ran, and this is the text of their lines
+pub record Ran (schema : List Table) (events : List (ℕ × Event)) (old new : World) (trace : List ℕ) : Type 0 where
+  pub lines : List (ℕ × TraceLine)
+  pub run : DoesRun events old new lines
+  pub text : trace ≡ trace_text schema lines
+
+-- the text of all events was written
+pub record RanWhole (schema : List Table) (events : List (ℕ × Event)) (old new : World) (before after : Option (List ℕ)) : Type 0 where
+  pub trace : List ℕ
+  pub ran : Ran schema events old new trace
+  pub written : Appends before after trace
+
+-- a prefix of the text of the first events was written
+pub record RanPart (schema : List Table) (events : List (ℕ × Event)) (old : World) (before after : Option (List ℕ)) : Type 0 where
+  pub done : List (ℕ × Event)
+  pub left : List (ℕ × Event)
+  pub split : events ≡ done ++ left
+  pub mid : World
+  pub trace : List ℕ
+  pub ran : Ran schema done old mid trace
+  pub written : WritesPrefix before after trace
+
+-- the events ran from the start, and this is the text of their lines
+pub record Traced (schema : List Table) (events : List (ℕ × Event)) (trace : List ℕ) (last : Scene) : Type 0 where
+  pub lines : List (ℕ × TraceLine)
+  pub run : Runs (start schema) events lines last
+  pub text : trace ≡ trace_text schema lines
+
+-- the trace of all events was written
+pub record TracedWhole (schema : List Table) (events : List (ℕ × Event)) (kept : Option World) (before after : Option (List ℕ)) : Type 0 where
+  pub trace : List ℕ
+  pub last : Scene
+  pub traced : Traced schema events trace last
+  pub stands : IsKept kept last
+  pub written : Appends before after trace
+
+-- a prefix of the trace of the first events was written
+pub record TracedPart (schema : List Table) (events : List (ℕ × Event)) (before after : Option (List ℕ)) : Type 0 where
+  pub done : List (ℕ × Event)
+  pub left : List (ℕ × Event)
+  pub split : events ≡ done ++ left
+  pub trace : List ℕ
+  pub last : Scene
+  pub traced : Traced schema done trace last
+  pub written : WritesPrefix before after trace
+
+-- what writing to a sink leaves as it was
+pub record Stays (K : Type 0) (reading : K → Reading) (linking : K → Linking) (held : K → List ℕ → Option (List ℕ)) (complaints : K → Option (List ℕ)) (IsSteady : K → Type 0) (old new : K) : Type 0 where
+  pub stays_steady : IsSteady old → IsSteady new
+  pub reading_stays : reading new ≡ reading old
+  pub linking_stays : linking new ≡ linking old
+  pub held_stays : held new ≡ held old
+  pub complaints_stay : complaints new ≡ complaints old

@@ -1,0 +1,80 @@
+-- What the program's words say, and why it ends with each status.
+use Rattle.std.specs.Prelude.{◌≡◌, ℕ, ◌+◌, ◌<◌, ◌≤◌, ◌⊎◌, ◌==◌, ◌&&◌, List, [], ◌∷◌, ◌++◌, Option, Some, None, IfSome, MatchOption, length, codes, decimal, if◌then◌else◌}
+use Rattle.std.specs.Str.{bytes_eq}
+use Rattle.sr_language.specs.Lines.{lines_of}
+use Rattle.sr_language.specs.Script.{FirstUnbuilt, Start}
+use Rattle.sr_io.specs.Pieces.{Lost}
+use Rattle.sr_io.specs.Told.{complained}
+use Rattle.sr_cli.specs.declared.stub.World.{World}
+use Rattle.sr_cli.specs.Stub.{Wrote, WrotePart}
+
+-- the name in the words `replay --eager NAME`; other words are not in the form
+abbrev pub file_of : List (List ℕ) → Option (List ℕ)
+file_of (command ∷ option ∷ name ∷ []) = if bytes_eq command (codes "replay") && bytes_eq option (codes "--eager") then Some name else None
+file_of words = None
+
+-- the words are in the form, and their name has the property
+abbrev pub OnFile : List (List ℕ) → (List ℕ → Type 0) → Type 0
+OnFile words P = MatchOption (file_of words) ⊥ P
+
+abbrev pub IsStatus : ℕ → Type 0
+IsStatus status = (status ≡ 0) ⊎ (status ≡ 2) ⊎ (status ≡ 3) ⊎ (status ≡ 4) ⊎ (status ≡ 9) ⊎ (status ≡ 10) ⊎ (status ≡ 12)
+
+-- the script that was read is what is held under the name, where that is told, and it is not too long
+pub record IsRead (held : Option (List ℕ)) (script : List ℕ) : Type 0 where
+  pub told : IfSome held (λ bytes. script ≡ bytes)
+  pub within_limit : length script ≤ 67108864
+
+-- a script was read, and its whole trace was written
+pub record Replayed (held old new : Option (List ℕ)) : Type 0 where
+  pub script : List ℕ
+  pub read : IsRead held script
+  pub world : Option World
+  pub wrote : Wrote old new script world
+
+-- a script was read, and a prefix of its trace was written
+pub record ReplayedInPart (held old new : Option (List ℕ)) : Type 0 where
+  pub script : List ℕ
+  pub read : IsRead held script
+  pub wrote : WrotePart old new script
+
+-- one byte more than the limit was read
+abbrev pub IsTooLong : Option (List ℕ) → Option (List ℕ) → Type 0
+IsTooLong held left = Lost held left (λ bytes. length bytes ≡ 67108865)
+
+-- a script was read whose first line that is not built is this one
+pub record IsUnbuilt (held : Option (List ℕ)) (line : ℕ) : Type 0 where
+  pub script : List ℕ
+  pub read : IsRead held script
+  pub first : FirstUnbuilt 1 Start (lines_of script) line
+
+abbrev pub line_feed : List ℕ
+line_feed = 10 ∷ []
+
+-- what is said of an unbuilt line
+abbrev pub unbuilt_text : ℕ → List ℕ
+unbuilt_text line = codes "unbuilt " ++ decimal line ++ line_feed
+
+-- a script was read whose first unbuilt line was named on the error output
+pub record NamedUnbuilt (held old new : Option (List ℕ)) : Type 0 where
+  pub line : ℕ
+  pub unbuilt : IsUnbuilt held line
+  pub said : new ≡ complained (unbuilt_text line) old
+
+-- what is said at the other statuses that are not 0
+abbrev pub error_text : ℕ → Option (List ℕ)
+error_text status =
+    if status == 2 then Some (codes "words" ++ line_feed)
+    else (if status == 3 then Some (codes "read" ++ line_feed)
+    else (if status == 4 then Some (codes "write" ++ line_feed)
+    else (if status == 9 then Some (codes "memory" ++ line_feed)
+    else (if status == 10 then Some (codes "too long" ++ line_feed)
+    else None))))
+
+-- what a host without faults that holds the script lets the status be
+pub record FitsScript (script : List ℕ) (status : ℕ) : Type 0 where
+  pub no_read_fault : ¬ (status ≡ 3)
+  pub no_write_fault : ¬ (status ≡ 4)
+  pub long : 67108864 < length script → (status ≡ 9) ⊎ (status ≡ 10)
+  pub too_long : status ≡ 10 → 67108864 < length script
+  pub unbuilt : status ≡ 12 → (line : ℕ) × FirstUnbuilt 1 Start (lines_of script) line

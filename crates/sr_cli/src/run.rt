@@ -1,0 +1,174 @@
+//! The top call.
+ghost use Rattle.std.specs.Prelude.{◌≡◌, ℕ, ◌⊎◌, ◌↔◌, Some, None, IfSome, OnOk, IsErrOf};
+ghost use Rattle.std.specs.Option.{option_copied};
+ghost use Rattle.sr_language.specs.Lines.{lines_of};
+ghost use Rattle.sr_language.specs.Script.{FirstUnbuilt, Start};
+ghost use Rattle.sr_io.specs.Causes.{Rose};
+ghost use Rattle.sr_io.specs.Told.{complained};
+ghost use Rattle.sr_cli.specs.Run.{file_of, OnFile, IsStatus, IsRead, Replayed, ReplayedInPart, IsTooLong, IsUnbuilt, NamedUnbuilt, unbuilt_text, error_text, FitsScript};
+ghost use Rattle.sr_cli.specs.declared.run.Refusal.TheVariants.{Read, Write, Memory, TooLong, Unbuilt};
+
+use crate::file::{ReadFault, read_file};
+use crate::stub::{RunFault, replay};
+use sr_cell::list::No;
+use sr_cell::text::Text;
+use sr_io::outside::Host;
+use std::alloc::Global;
+
+/// Why a file was not replayed whole.
+#[derive(Clone, Copy, Debug, PartialEq, Eq)]
+pub enum Refusal {
+    /// Reading failed.
+    Read,
+    /// Writing failed.
+    Write,
+    /// Memory was refused.
+    Memory,
+    /// The file is too long.
+    TooLong,
+    /// That line is the first that is not built.
+    Unbuilt { line: u64 },
+}
+
+/// Does all that the words ask for, and answers the status to end with.
+pub fn run<H: Host>(alloc: Global, words: &[Text], host: &mut H) -> u8
+    ensures only { IsStatus result }
+    ensures words { (result ≡ 2) ↔ (file_of words.now ≡ None) }
+    ensures words_alone { result ≡ 2 → H.reading host.new ≡ H.reading host.old }
+    ensures replayed { result ≡ 0 → OnFile words.now (λ name. Replayed (H.held host.old name) (H.writing host.old).written (H.writing host.new).written) }
+    ensures read_fault_is_counted { result ≡ 3 → Rose (H.reading host.old).faults (H.reading host.new).faults }
+    ensures write_fault_is_counted { result ≡ 4 → Rose (H.writing host.old).faults (H.writing host.new).faults }
+    ensures part_after_fault { result ≡ 4 → OnFile words.now (λ name. ReplayedInPart (H.held host.old name) (H.writing host.old).written (H.writing host.new).written) }
+    ensures part_in_want { result ≡ 9 → (H.writing host.new ≡ H.writing host.old) ⊎ OnFile words.now (λ name. ReplayedInPart (H.held host.old name) (H.writing host.old).written (H.writing host.new).written) }
+    ensures too_long { result ≡ 10 → OnFile words.now (λ name. IsTooLong (H.held host.old name) (H.reading host.new).left) }
+    ensures unbuilt { result ≡ 12 → OnFile words.now (λ name. NamedUnbuilt (H.held host.old name) (H.complaints host.old) (H.complaints host.new)) }
+    ensures writes_nothing { (result ≡ 2) ⊎ (result ≡ 3) ⊎ (result ≡ 10) ⊎ (result ≡ 12) → H.writing host.new ≡ H.writing host.old }
+    ensures reading_keeps_faults { (result ≡ 3) ⊎ ((H.reading host.new).faults ≡ (H.reading host.old).faults) }
+    ensures writing_keeps_faults { (result ≡ 4) ⊎ ((H.writing host.new).faults ≡ (H.writing host.old).faults) }
+    ensures silent { result ≡ 0 → H.complaints host.new ≡ H.complaints host.old }
+    ensures complaint { IfSome (error_text result) (λ text. H.complaints host.new ≡ complained text (H.complaints host.old)) }
+    ensures steady { H.IsSteady host.old → IfSome (file_of words.now) (λ name. IfSome (H.held host.old name) (λ script. FitsScript script result)) }
+    ensures stays_steady { H.IsSteady host.old → H.IsSteady host.new }
+    ensures held_stays { H.held host.new ≡ H.held host.old }
+    ensures linking_stays { H.linking host.new ≡ H.linking host.old }
+{
+    match file_word(words) {
+        None => {
+            host.complain(b"words\n");
+            2
+        }
+        Some(name) => match replay_file(alloc, name.as_str(), host) {
+            Ok(()) => 0,
+            Err(refusal) => report(alloc, refusal, host),
+        },
+    }
+}
+
+/// The word that names the file, where the words are in the form.
+fn file_word(words: &[Text]) -> Option<&Text>
+    ensures { option_copied result ≡ file_of words.now }
+{
+    match words {
+        [command, option, name] => {
+            if command.as_str() == "replay" && option.as_str() == "--eager" {
+                Some(name)
+            } else {
+                None
+            }
+        }
+        _ => None,
+    }
+}
+
+/// Reads the file of that name, replays it and writes its trace.
+fn replay_file<H: Host>(alloc: Global, name: &str, host: &mut H) -> Result<(), Refusal>
+    ensures replayed { OnOk result (Replayed (H.held host.old name.now) (H.writing host.old).written (H.writing host.new).written) }
+    ensures read_fault_is_counted { IsErrOf result Read → Rose (H.reading host.old).faults (H.reading host.new).faults }
+    ensures read_fault_writes_nothing { IsErrOf result Read → H.writing host.new ≡ H.writing host.old }
+    ensures write_fault_is_counted { IsErrOf result Write → Rose (H.writing host.old).faults (H.writing host.new).faults }
+    ensures part_after_fault { IsErrOf result Write → ReplayedInPart (H.held host.old name.now) (H.writing host.old).written (H.writing host.new).written }
+    ensures part_in_want { IsErrOf result Memory → (H.writing host.new ≡ H.writing host.old) ⊎ ReplayedInPart (H.held host.old name.now) (H.writing host.old).written (H.writing host.new).written }
+    ensures too_long { IsErrOf result TooLong → IsTooLong (H.held host.old name.now) (H.reading host.new).left }
+    ensures too_long_writes_nothing { IsErrOf result TooLong → H.writing host.new ≡ H.writing host.old }
+    ensures unbuilt { (line : ℕ) → IsErrOf result (Unbuilt line) → IsUnbuilt (H.held host.old name.now) line }
+    ensures unbuilt_writes_nothing { (line : ℕ) → IsErrOf result (Unbuilt line) → H.writing host.new ≡ H.writing host.old }
+    ensures reading_keeps_faults { IsErrOf result Read ⊎ ((H.reading host.new).faults ≡ (H.reading host.old).faults) }
+    ensures writing_keeps_faults { IsErrOf result Write ⊎ ((H.writing host.new).faults ≡ (H.writing host.old).faults) }
+    ensures stays_steady { H.IsSteady host.old → H.IsSteady host.new }
+    ensures steady_reads { H.IsSteady host.old → IsErrOf result Read → H.held host.old name.now ≡ None }
+    ensures steady_writes { H.IsSteady host.old → ¬ IsErrOf result Write }
+    ensures held_stays { H.held host.new ≡ H.held host.old }
+    ensures linking_stays { H.linking host.new ≡ H.linking host.old }
+    ensures complaints_stay { H.complaints host.new ≡ H.complaints host.old }
+{
+    match read_file(alloc, name, host) {
+        Err(ReadFault::Fault) => Err(Refusal::Read),
+        Err(ReadFault::NoMemory) => Err(Refusal::Memory),
+        Err(ReadFault::TooLong) => Err(Refusal::TooLong),
+        Ok(script) => match replay(alloc, script.as_slice(), host) {
+            Ok(_) => Ok(()),
+            Err(No::NoMemory) => Err(Refusal::Memory),
+            Err(No::Refused(RunFault::WriteFault)) => Err(Refusal::Write),
+            Err(No::Refused(RunFault::Unbuilt { line })) => Err(Refusal::Unbuilt { line }),
+        },
+    }
+}
+
+/// Says why on the error output, and answers the status.
+fn report<H: Host>(alloc: Global, refusal: Refusal, host: &mut H) -> u8
+    ensures only { (result ≡ 3) ⊎ (result ≡ 4) ⊎ (result ≡ 9) ⊎ (result ≡ 10) ⊎ (result ≡ 12) }
+    ensures read { result ≡ 3 → refusal ≡ Read }
+    ensures write { result ≡ 4 → refusal ≡ Write }
+    ensures memory { result ≡ 9 → (refusal ≡ Memory) ⊎ ((line : ℕ) × (refusal ≡ Unbuilt line)) }
+    ensures too_long { result ≡ 10 → refusal ≡ TooLong }
+    ensures unbuilt { result ≡ 12 → (line : ℕ) × (refusal ≡ Unbuilt line) × (H.complaints host.new ≡ complained (unbuilt_text line) (H.complaints host.old)) }
+    ensures complaint { IfSome (error_text result) (λ text. H.complaints host.new ≡ complained text (H.complaints host.old)) }
+    ensures stays_steady { H.IsSteady host.old → H.IsSteady host.new }
+    ensures reading_stays { H.reading host.new ≡ H.reading host.old }
+    ensures writing_stays { H.writing host.new ≡ H.writing host.old }
+    ensures linking_stays { H.linking host.new ≡ H.linking host.old }
+    ensures held_stays { H.held host.new ≡ H.held host.old }
+{
+    match refusal {
+        Refusal::Read => {
+            host.complain(b"read\n");
+            3
+        }
+        Refusal::Write => {
+            host.complain(b"write\n");
+            4
+        }
+        Refusal::Memory => {
+            host.complain(b"memory\n");
+            9
+        }
+        Refusal::TooLong => {
+            host.complain(b"too long\n");
+            10
+        }
+        Refusal::Unbuilt { line } => report_unbuilt(alloc, line, host),
+    }
+}
+
+/// Names the line on the error output, or tells that there was no memory for it.
+fn report_unbuilt<H: Host>(alloc: Global, line: u64, host: &mut H) -> u8
+    ensures only { (result ≡ 9) ⊎ (result ≡ 12) }
+    ensures named { result ≡ 12 → H.complaints host.new ≡ complained (unbuilt_text line) (H.complaints host.old) }
+    ensures memory { IfSome (error_text result) (λ text. H.complaints host.new ≡ complained text (H.complaints host.old)) }
+    ensures stays_steady { H.IsSteady host.old → H.IsSteady host.new }
+    ensures reading_stays { H.reading host.new ≡ H.reading host.old }
+    ensures writing_stays { H.writing host.new ≡ H.writing host.old }
+    ensures linking_stays { H.linking host.new ≡ H.linking host.old }
+    ensures held_stays { H.held host.new ≡ H.held host.old }
+{
+    match format!(in alloc; "unbuilt {line}\n") {
+        Ok(text) => {
+            host.complain(text.as_bytes());
+            12
+        }
+        Err(_) => {
+            host.complain(b"memory\n");
+            9
+        }
+    }
+}

@@ -1,0 +1,196 @@
+//! Runs over a host in memory, from the bytes in to the bytes out.
+use crate::run::run;
+use sr_cell::list::{Bytes, NoMemory, Seq};
+use sr_cell::text::Text;
+use sr_io::file::File;
+use sr_io::mem_host::MemHost;
+use std::alloc::Global;
+use std::test::Fail;
+
+const CREATE_ALONE: &str =
+    "CREATE TABLE p (id INT PRIMARY KEY CHECK (id BETWEEN 0 AND 9999), age INT CHECK (age BETWEEN 0 AND 150))
+";
+
+const SCHEMA_ALONE: &str = "# A table of persons, naïve and small, and nothing that happens.
+
+   
+CREATE TABLE p (id INT PRIMARY KEY CHECK (id BETWEEN 0 AND 9999), age INT CHECK (age BETWEEN 0 AND 150))
+
+# The last line has no end.";
+
+const TWO_QUERIES: &str =
+    "CREATE TABLE p (id INT PRIMARY KEY CHECK (id BETWEEN 0 AND 9999), age INT CHECK (age BETWEEN 0 AND 150))
+exec INSERT INTO p VALUES (1, 35), (2, 45)
+exec INSERT INTO p VALUES (3, 33)
+query 1 SELECT id, age FROM p WHERE age BETWEEN 30 AND 40
+query 1 SELECT id, age FROM p WHERE age BETWEEN 35 AND 50
+";
+
+const TWO_QUERIES_TRACE: &str = "2 exec version 1
+3 exec version 2
+4 ask 1 1 fresh 1
+4 part p (id,age) {age 30..40}
+4 query 1 asked 1
+4 toserver 1 ask 2
+4 toclient 1 laid
+4 answer 1 1 2 2
+4 row 1, 35
+4 row 3, 33
+4 held 1 p (id,age) {age 30..40}
+4 toclient 1 answered
+5 ask 1 2 more 1
+5 part p (id,age) {age 41..50}
+5 query 1 asked 2
+5 toserver 1 ask 2
+5 toclient 1 laid
+5 answer 1 2 2 2
+5 row 1, 35
+5 row 2, 45
+5 held 1 p (id,age) {age 41..50}
+5 toclient 1 answered
+";
+
+const COVERED: &str =
+    "CREATE TABLE p (id INT PRIMARY KEY CHECK (id BETWEEN 0 AND 9999), age INT CHECK (age BETWEEN 0 AND 150))
+exec INSERT INTO p VALUES (1, 35), (2, 45)
+exec INSERT INTO p VALUES (3, 33)
+query 1 SELECT id, age FROM p WHERE age BETWEEN 30 AND 40
+query 1 SELECT id, age FROM p WHERE age BETWEEN 32 AND 35
+";
+
+const COVERED_TRACE: &str = "2 exec version 1
+3 exec version 2
+4 ask 1 1 fresh 1
+4 part p (id,age) {age 30..40}
+4 query 1 asked 1
+4 toserver 1 ask 2
+4 toclient 1 laid
+4 answer 1 1 2 2
+4 row 1, 35
+4 row 3, 33
+4 held 1 p (id,age) {age 30..40}
+4 toclient 1 answered
+5 answer 1 2 2 2
+5 row 1, 35
+5 row 3, 33
+5 query 1 answered 2
+";
+
+const UNBUILT: &str =
+    "CREATE TABLE p (id INT PRIMARY KEY CHECK (id BETWEEN 0 AND 9999), age INT CHECK (age BETWEEN 0 AND 150))
+exec INSERT INTO p VALUES (1, 35), (2, 45)
+exec INSERT INTO p VALUES (3, 33)
+query 1 SELECT id, age FROM p WHERE age BETWEEN 30 AND 40
+exec DELETE FROM p
+";
+
+fn bytes_of(alloc: Global, text: &str) -> Result<Bytes, NoMemory> {
+    let mut bytes = Seq::new(alloc);
+    bytes.extend(text.as_bytes())?;
+    Ok(bytes)
+}
+
+fn words_of(alloc: Global, all: &[&str]) -> Result<Seq<Text>, NoMemory> {
+    let mut words = Seq::new(alloc);
+    for word in all {
+        words.push(Text::of(alloc, word)?)?;
+    }
+    Ok(words)
+}
+
+/// Holds the text under the name `script`. The call of that number fails: 1 is the pick, 2 and 3 are the reads.
+fn host_of(alloc: Global, text: &str, fails: u64) -> Result<MemHost, NoMemory> {
+    let mut files = Seq::new(alloc);
+    files.push(File {
+        name: Text::of(alloc, "script")?,
+        bytes: bytes_of(alloc, text)?,
+    })?;
+    let mut numbers = Seq::new(alloc);
+    numbers.push(fails)?;
+    MemHost::new(alloc, files, numbers, 4096)
+}
+
+const IN_FORM: &[&str] = &["replay", "--eager", "script"];
+
+/// How a run came out.
+#[derive(Drop)]
+struct Outcome {
+    status: u8,
+    trace: Bytes,
+    error: Bytes,
+}
+
+fn run_over(alloc: Global, words: &[&str], text: &str, fails: u64) -> Result<Outcome, NoMemory> {
+    let words = words_of(alloc, words)?;
+    let mut host = host_of(alloc, text, fails)?;
+    Ok(Outcome {
+        status: run(alloc, words.as_slice(), &mut host),
+        trace: host.written(alloc)?,
+        error: host.complained(alloc)?,
+    })
+}
+
+/// No call has the number 0.
+#[test]
+fn scripts_are_replayed(rt: HostRuntime) -> Result<(), Fail> {
+    let alloc = rt.alloc();
+    for (script, trace) in [
+        ("", ""),
+        (CREATE_ALONE, ""),
+        (SCHEMA_ALONE, ""),
+        (TWO_QUERIES, TWO_QUERIES_TRACE),
+        (COVERED, COVERED_TRACE),
+    ] {
+        let got = run_over(alloc, IN_FORM, script, 0)?;
+        assert_eq!(rt; got.error.as_slice(), b"".as_slice());
+        assert_eq!(rt; got.trace.as_slice(), trace.as_bytes());
+        assert_eq!(rt; got.status, 0);
+    }
+    Ok(())
+}
+
+#[test]
+fn refusals_are_named(rt: HostRuntime) -> Result<(), Fail> {
+    let alloc = rt.alloc();
+    for (script, fails, status, error) in [
+        (UNBUILT, 0, 12, "unbuilt 5\n"),
+        (TWO_QUERIES, 1, 3, "read\n"),
+        (TWO_QUERIES, 2, 3, "read\n"),
+        (TWO_QUERIES, 3, 3, "read\n"),
+        (TWO_QUERIES, 4, 4, "write\n"),
+    ] {
+        let got = run_over(alloc, IN_FORM, script, fails)?;
+        assert_eq!(rt; got.error.as_slice(), error.as_bytes());
+        assert_eq!(rt; got.trace.as_slice(), b"".as_slice());
+        assert_eq!(rt; got.status, status);
+    }
+    Ok(())
+}
+
+#[test]
+fn other_words_are_refused(rt: HostRuntime) -> Result<(), Fail> {
+    let alloc = rt.alloc();
+    let all: [&[&str]; 6] = [
+        &[],
+        &["replay", "script"],
+        &["replay", "script", "--eager"],
+        &["Replay", "--eager", "script"],
+        &["replay", "--Eager", "script"],
+        &["replay", "--eager", "script", "script"],
+    ];
+    for words in all {
+        let got = run_over(alloc, words, CREATE_ALONE, 0)?;
+        assert_eq!(rt; got.error.as_slice(), b"words\n".as_slice());
+        assert_eq!(rt; got.trace.as_slice(), b"".as_slice());
+        assert_eq!(rt; got.status, 2);
+    }
+    Ok(())
+}
+
+#[test]
+fn a_name_that_is_not_held_is_not_read(rt: HostRuntime) -> Result<(), Fail> {
+    let got = run_over(rt.alloc(), &["replay", "--eager", "-"], CREATE_ALONE, 0)?;
+    assert_eq!(rt; got.error.as_slice(), b"read\n".as_slice());
+    assert_eq!(rt; got.status, 3);
+    Ok(())
+}

@@ -5,8 +5,8 @@ use Rattle.sr_language.specs.Lines.{lines_of}
 use Rattle.sr_language.specs.Script.{FirstUnbuilt, Start}
 use Rattle.sr_io.specs.Pieces.{Lost}
 use Rattle.sr_io.specs.Told.{complained}
-use Rattle.sr_cli.specs.declared.stub.World.{World}
-use Rattle.sr_cli.specs.Stub.{Wrote, WrotePart}
+use Rattle.sr_world.specs.declared.world.World.{World}
+use Rattle.sr_world.specs.Replay.{Wrote, WrotePart}
 
 -- the name in the words `replay --eager NAME`; other words are not in the form
 abbrev pub file_of : List (List ℕ) → Option (List ℕ)

@@ -3,7 +3,6 @@
 
 mod file;
 mod run;
-mod stub;
 #[cfg(test)]
 mod tests;
 

@@ -9,10 +9,10 @@ ghost use Rattle.sr_cli.specs.Run.{file_of, OnFile, IsStatus, IsRead, Replayed, 
 ghost use Rattle.sr_cli.specs.declared.run.Refusal.TheVariants.{Read, Write, Memory, TooLong, Unbuilt};
 
 use crate::file::{ReadFault, read_file};
-use sr_world::replay::{RunFault, replay};
 use sr_cell::list::No;
 use sr_cell::text::Text;
 use sr_io::outside::Host;
+use sr_world::replay::{RunFault, replay};
 use std::alloc::Global;
 
 /// Why a file was not replayed whole.

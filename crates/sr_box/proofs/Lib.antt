@@ -5,3 +5,4 @@ pub mod Parts
 pub mod Fits
 pub mod Corners
 pub mod Constrained
+pub mod Meets

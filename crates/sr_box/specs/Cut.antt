@@ -1,8 +1,11 @@
 -- The parts of a span that lie under, in and over another.
-use Rattle.std.specs.Prelude.{ℕ, ℤ, pos, ◌+ℤ◌, ◌-ℤ◌, int_le, int_lt, Bool, false, not, List, [], Option, Some, None, if◌then◌else◌, ◌^◌, ◌<ℤ◌}
+use Rattle.std.specs.Prelude.{ℕ, ℤ, pos, ◌+ℤ◌, ◌-ℤ◌, int_le, int_lt, Bool, false, not, List, [], Option, Some, None, if◌then◌else◌, ◌^◌, ◌<ℤ◌, ◌∷◌, true, ◌≡◌, ◌&&◌}
 use Rattle.std.specs.Int.{int_max, int_min}
 use Rattle.sr_cell.specs.declared.cell.Cell.{Cell}
 use Rattle.sr_cell.specs.declared.cell.Cell.TheVariants.{Num, Str}
+use Rattle.sr_cell.specs.declared.table.Column.{Column}
+use Rattle.sr_cell.specs.Cells.{Row}
+use Rattle.sr_box.specs.Points.{Rect, in_rect, rect_fits}
 use Rattle.sr_box.specs.declared.span.Span.{Span}
 use Rattle.sr_box.specs.declared.span.Span.TheVariants.{Full, Nums, Strs}
 use Rattle.sr_cell.specs.Cells.{text_le}
@@ -85,3 +88,33 @@ abbrev pub IsInner : Span → Type 0
 IsInner Full = Unit {0}
 IsInner (Nums c d) = ((pos 0 -ℤ pos (2 ^ 62)) <ℤ c) × (d <ℤ pos (2 ^ 62))
 IsInner (Strs c d) = Unit {0}
+
+abbrev pub with_first : Option Span → Option Rect → Option Rect
+with_first None rest = None
+with_first (Some s) None = None
+with_first (Some s) (Some r) = Some (s ∷ r)
+
+-- the rect of what both have, where the spans of each column meet
+abbrev pub rect_meet : Rect → Rect → Option Rect
+rect_meet [] [] = Some []
+rect_meet [] (t ∷ q) = None
+rect_meet (s ∷ r) [] = None
+rect_meet (s ∷ r) (t ∷ q) = with_first (meet s t) (rect_meet r q)
+
+-- there is a rect, and it has the point
+abbrev pub in_some : Option Rect → Row → Bool
+in_some None p = false
+in_some (Some r) p = in_rect r p
+
+-- where there is a rect, it fits the columns
+abbrev pub some_fits : List Column → Option Rect → Bool
+some_fits columns None = true
+some_fits columns (Some r) = rect_fits columns r
+
+-- the part has the points that both rects have
+abbrev pub HasBoth : Rect → Rect → Option Rect → Type 0
+HasBoth one other part = (p : Row) → in_some part p ≡ (in_rect one p && in_rect other p)
+
+-- the part fits the columns that both rects fit
+abbrev pub FitsAsBoth : Rect → Rect → Option Rect → Type 0
+FitsAsBoth one other part = (columns : List Column) → rect_fits columns one ≡ true → rect_fits columns other ≡ true → some_fits columns part ≡ true

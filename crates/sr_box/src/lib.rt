@@ -5,3 +5,5 @@ pub mod cut;
 pub mod laws;
 pub mod rect;
 pub mod span;
+#[cfg(test)]
+mod tests;

@@ -1,6 +1,7 @@
 //! Rects.
 ghost use Rattle.std.specs.Prelude.{◌≡◌, ℕ, List, [], ◌∷◌, ◌++◌, length, OnOk, OnErr, IfOk, slice_get, ◌≤◌};
 ghost use Rattle.std.specs.Option.{option_copied};
+ghost use Rattle.sr_box.specs.Cut.{rect_meet, HasBoth, FitsAsBoth};
 ghost use Rattle.sr_box.specs.Points.{constrained, full_rect, in_rect, rect_fits};
 
 use crate::span::Span;
@@ -91,6 +92,14 @@ impl Rect {
         Attrs(constrained_of(self.spans.as_slice()))
     }
 
+    /// The rect of what both have; none where they have no point in common.
+    pub fn meet(&self, alloc: Global, other: &Rect) -> Result<Option<Rect>, NoMemory>
+        ensures points { IfOk result (λ part. HasBoth self.now other.now part) }
+        ensures fits { IfOk result (λ part. FitsAsBoth self.now other.now part) }
+    {
+        meet_spans(alloc, self.as_slice(), other.as_slice())
+    }
+
     /// Whether the rect has the row.
     pub fn has(&self, row: &Row) -> bool
         ensures { result ≡ in_rect self.now row.now }
@@ -112,6 +121,23 @@ fn spans_have(spans: &[Span], row: &Row) -> bool
         }
     }
     true
+}
+
+#[tactic(auto, using(crate::proofs::Meets::behind_more))]
+fn meet_spans(alloc: Global, spans: &[Span], others: &[Span]) -> Result<Option<Rect>, NoMemory>
+    ensures { IfOk result (λ part. part ≡ rect_meet spans.now others.now) }
+{
+    if spans.len() != others.len() {
+        return Ok(None);
+    }
+    let mut rect = Rect::new(alloc);
+    for i in 0..spans.len() {
+        match spans[i].meet(alloc, &others[i])? {
+            None => return Ok(None),
+            Some(span) => rect.push(span)?,
+        }
+    }
+    Ok(Some(rect))
 }
 
 fn spans_fit(spans: &[Span], columns: &[Column]) -> bool

@@ -1,5 +1,5 @@
 -- Sets of columns, as numbers: column c is inside where bit c is set.
-use Rattle.std.specs.Prelude.{ℕ, ◌+◌, ◌^◌, ◌/◌, ◌%◌, ◌==◌, Bool, bit_and, List, [], ◌∷◌, if◌then◌else◌}
+use Rattle.std.specs.Prelude.{ℕ, ◌+◌, ◌^◌, ◌/◌, ◌%◌, ◌==◌, Bool, bit_and, [], ◌∷◌, if◌then◌else◌}
 use Rattle.sr_cell.specs.Cells.{Row}
 
 abbrev pub has_column : ℕ → ℕ → Bool

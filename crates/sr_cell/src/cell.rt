@@ -1,6 +1,6 @@
 //! Cells and rows.
 ghost use Rattle.std.specs.Prelude.{◌≡◌, List};
-ghost use Rattle.sr_cell.specs.Cells.{cell_le};
+ghost use Rattle.sr_cell.specs.Cells.{cell_le, text_le};
 
 use crate::list::{Copied, NoMemory, Same, Seq};
 use crate::text::Text;
@@ -16,6 +16,7 @@ pub enum Cell {
 /// One cell for each column.
 pub type Row = Seq<Cell>;
 
+/// The rows of a table, or of an answer.
 pub type Rows = Seq<Row>;
 
 impl Cell {
@@ -33,8 +34,6 @@ impl Cell {
         }
     }
 }
-
-ghost use Rattle.sr_cell.specs.Cells.{text_le};
 
 /// Whether the first text is not above the second, byte by byte.
 pub fn is_text_at_most(one: &[u8], other: &[u8]) -> bool

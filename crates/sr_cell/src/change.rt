@@ -23,4 +23,5 @@ impl Copied for Change {
     }
 }
 
+/// The changes of one version.
 pub type Changes = Seq<Change>;

@@ -5,7 +5,11 @@ pub mod attrs;
 pub mod cause;
 pub mod cell;
 pub mod change;
+mod checks;
 pub mod fault;
 pub mod list;
+pub mod schema;
 pub mod table;
+#[cfg(test)]
+mod tests;
 pub mod text;

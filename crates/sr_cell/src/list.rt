@@ -1,5 +1,5 @@
 //! Lists, which contracts see as lists; copies and comparison by value; want of memory.
-ghost use Rattle.std.specs.Prelude.{◌≡◌, ℕ, ◌<◌, ◌≤◌, ◌+◌, List, [], ◌∷◌, ◌++◌, ◌↔◌, IsTrue, length, take, drop, IfOk, OnOk, OnErr, option_to_list, slice_get, slice_set};
+ghost use Rattle.std.specs.Prelude.{◌≡◌, ℕ, ◌<◌, ◌≤◌, ◌+◌, List, [], ◌∷◌, ◌++◌, ◌↔◌, IsTrue, length, take, drop, IfNone, IfOk, OnOk, OnErr, option_to_list, slice_get, slice_set};
 ghost use Rattle.std.specs.Option.{option_copied};
 
 use std::alloc::{AllocError, AllocFailed, Global};
@@ -42,12 +42,14 @@ impl<E> From<NoMemory> for No<E> {
 
 /// Equality of what contracts see.
 pub trait Same {
+    /// Whether both are the same value.
     fn same(&self, other: &Self) -> bool
         ensures { IsTrue result ↔ (self.now ≡ other.now) };
 }
 
 /// A copy of what contracts see.
 pub trait Copied: Sized {
+    /// The same value, in memory of its own.
     fn copy(&self, alloc: Global) -> Result<Self, NoMemory>
         ensures { IfOk result (λ same. same ≡ self.now) };
 }
@@ -123,9 +125,10 @@ impl<T> Seq<T> {
         self.items.as_slice()
     }
 
-    /// Takes the last item out.
+    /// Takes the last item out, if there is one.
     pub fn pop(&mut self) -> Option<T>
-        ensures { self.old ≡ self.new ++ option_to_list result }
+        ensures taken { self.old ≡ self.new ++ option_to_list result }
+        ensures empty { IfNone result (self.old ≡ []) }
     {
         self.items.pop()
     }

@@ -53,6 +53,7 @@ impl Same for Column {
     }
 }
 
+/// The columns of a table, in order.
 pub type Columns = Seq<Column>;
 
 /// A table by its name and columns; `key` is the number of its key column.

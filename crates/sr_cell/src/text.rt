@@ -43,6 +43,7 @@ impl Text {
         Text { inner }
     }
 
+    /// The text as Rust's own.
     pub fn as_str(&self) -> &str
         ensures { result.now ≡ self.now }
     {

@@ -1,5 +1,6 @@
 //! The program: replays a script.
 #![tactic(auto)]
+ghost use Rattle.std.specs.Prelude.{◌≡◌, map, drop, string_bytes, IfOk};
 
 mod file;
 mod run;
@@ -7,10 +8,11 @@ mod run;
 mod tests;
 
 use run::run;
-use sr_cell::list::{No, Seq};
+use sr_cell::list::{No, NoMemory, Seq};
 use sr_cell::text::Text;
 use sr_io::outside::Host;
 use sr_io::real_host::RealHost;
+use std::alloc::Global;
 use std::env;
 use std::io::ErrorKind;
 use std::process::ExitCode;
@@ -38,19 +40,32 @@ struct NotText;
 
 /// The words after the program's own name.
 fn words_of(rt: &HostRuntime) -> Result<Seq<Text>, No<NotText>> {
-    let mut words = Seq::new(rt.alloc());
     match env::args(rt) {
+        Ok(all) => {
+            let all: Vec<String> = all.collect(rt.alloc())?;
+            Ok(words_behind_first(rt.alloc(), &all)?)
+        }
         Err(error) => {
             if error.kind() == ErrorKind::OutOfMemory {
                 return Err(No::NoMemory);
             }
-            return Err(No::Refused(NotText));
-        }
-        Ok(all) => {
-            for word in all.skip(1) {
-                words.push(Text::from_string(word))?;
-            }
+            Err(No::Refused(NotText))
         }
     }
-    Ok(words)
+}
+
+/// All words but the first.
+fn words_behind_first(alloc: Global, all: &[String]) -> Result<Seq<Text>, NoMemory>
+    ensures { IfOk result (λ words. words ≡ map string_bytes (drop 1 all.now)) }
+{
+    let mut words = Seq::new(alloc);
+    match all {
+        [] => Ok(words),
+        [_, rest @ ..] => {
+            for word in rest {
+                words.push(Text::of(alloc, word.as_str())?)?;
+            }
+            Ok(words)
+        }
+    }
 }

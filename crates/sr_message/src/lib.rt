@@ -2,3 +2,5 @@
 #![tactic(auto)]
 
 pub mod message;
+#[cfg(test)]
+mod tests;

@@ -39,6 +39,7 @@ impl<'a> Model for Cursor<'a> {
     ghost view = { λ c. c.rest.now };
 }
 
+/// Whether a byte is a small letter or `_`.
 pub fn is_letter(byte: u8) -> bool
     ensures { result ≡ is_letter byte }
 {
@@ -51,6 +52,7 @@ fn is_digit(byte: u8) -> bool
     byte.is_ascii_digit()
 }
 
+/// Whether a name may have the byte behind its first.
 pub fn is_name_byte(byte: u8) -> bool
     ensures { result ≡ is_name_byte byte }
 {

@@ -2,3 +2,5 @@ pub mod Server
 pub mod Scene
 pub mod Steps
 pub mod Runs
+pub mod Example
+pub mod CoveredQuery

@@ -3,9 +3,8 @@ use Rattle.std.specs.Prelude.{ℕ, Bool, true, false, List, [], ◌∷◌, ◌++
 use Rattle.std.specs.List.{list_all, AllZip}
 use Rattle.sr_cell.specs.declared.fault.Fault.{Fault}
 use Rattle.sr_cell.specs.declared.table.Table.{Table}
-use Rattle.sr_cell.specs.Cells.{Row}
 use Rattle.sr_cell.specs.Columns.{table_at}
-use Rattle.sr_box.specs.Points.{in_any, rect_fits, constrains_only, AreSame}
+use Rattle.sr_box.specs.Points.{in_any, rect_fits, AreSame}
 use Rattle.sr_message.specs.declared.message.AskPart.{AskPart}
 use Rattle.sr_message.specs.declared.message.Message.{Message}
 use Rattle.sr_message.specs.declared.message.Message.TheVariants.{Ask, Notice, Rows, Reply}
@@ -18,7 +17,7 @@ use Rattle.sr_script.specs.declared.line.RequestKind.{RequestKind}
 use Rattle.sr_script.specs.declared.line.RequestKind.TheVariants as kind
 use Rattle.sr_script.specs.declared.line.TraceLine.{TraceLine}
 use Rattle.sr_script.specs.declared.line.TraceLine.TheVariants as line
-use Rattle.sr_scene.specs.Server.{Session, Served, serve}
+use Rattle.sr_scene.specs.Server.{serve}
 use Rattle.sr_scene.specs.Scene.{Scene, Client, Request, AskOut, Numbered, newest_version, tables_at, client_at, with_client}
 
 -- The event is one of client n, and the rest of the scene stays.

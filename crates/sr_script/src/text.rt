@@ -18,7 +18,6 @@ use std::fmt::Write;
 /// Appends a line with the number of its event. A table that the schema lacks has no name and no columns.
 #[tactic(auto, using(crate::proofs::FirstWord::ended_more), unfolding(crate::specs::TraceText::line_text))]
 pub fn push_line(
-    _alloc: Global,
     text: &mut String,
     schema: &[Table],
     number: u64,
@@ -40,7 +39,7 @@ pub fn trace_text(
     ensures { IfOk result (λ text. text ≡ line_text schema.now number line.now) }
 {
     let mut text = String::new(alloc);
-    push_line(alloc, &mut text, schema, number, line)?;
+    push_line(&mut text, schema, number, line)?;
     Ok(Text::from_string(text))
 }
 

@@ -1,6 +1,6 @@
 -- Spans of columns that lie inside.
 use Rattle.std.proofs.Common.{◌≡◌, ℕ, ◌<◌, zero, suc, true, List, [], ◌∷◌, length, slice_index_or, refl, arith}
-use Rattle.std.specs.Prelude.{◌&&◌, ℤ, pos, ◌-ℤ◌, ◌^◌, int_lt}
+use Rattle.std.specs.Prelude.{ℤ}
 use Rattle.std.proofs.lemmas.Int.{ints}
 use Rattle.sr_cell.specs.declared.table.Column.{Column}
 use Rattle.sr_cell.specs.declared.table.Kind.{Kind}
@@ -10,9 +10,9 @@ use Rattle.sr_box.specs.declared.span.Span.TheVariants.{Full, Nums, Strs}
 use Rattle.sr_box.specs.Spans.{fits_kind}
 use Rattle.sr_box.specs.Points.{rect_fits}
 use Rattle.sr_box.specs.Cut.{IsInner}
-use Rattle.sr_union.specs.Grid.{all_inner}
+use Rattle.sr_union.specs.Grid.{all_inner, is_inner_kind}
 
-span-inner : (k : Kind) (low high : ℤ) (t : Span) → fits_kind k low high t ≡ true → (int_lt (pos 0 -ℤ pos (2 ^ 62)) low && int_lt high (pos (2 ^ 62))) ≡ true → IsInner t
+span-inner : (k : Kind) (low high : ℤ) (t : Span) → fits_kind k low high t ≡ true → is_inner_kind k low high ≡ true → IsInner t
 span-inner k low high Full f h = tt
 span-inner Numbers low high (Nums c d) f h = (grind (arith, ints), grind (arith, ints))
 span-inner Texts low high (Nums c d) f h = absurd (grind arith)

@@ -7,3 +7,4 @@ pub mod Parts
 pub mod Low
 pub mod Within
 pub mod Monotone
+pub mod Domains

@@ -4,6 +4,7 @@ use Rattle.std.specs.List.{list_any}
 use Rattle.sr_cell.specs.declared.cell.Cell.{Cell}
 use Rattle.sr_cell.specs.declared.table.Column.{Column}
 use Rattle.sr_cell.specs.declared.table.Kind.{Kind}
+use Rattle.sr_cell.specs.declared.table.Kind.TheVariants.{Num as Numbers, Str as Texts}
 use Rattle.sr_cell.specs.Cells.{cell_eq}
 use Rattle.sr_cell.specs.Columns.{in_column}
 use Rattle.sr_box.specs.declared.span.Span.{Span}
@@ -54,9 +55,13 @@ abbrev pub have_first : List Column → Bool
 have_first [] = true
 have_first (c ∷ cs) = in_column c (first_value c.kind c.lo) && have_first cs
 
--- the domain lies far inside an i64
+-- a domain of numbers lies far inside an i64
+abbrev pub is_inner_kind : Kind → ℤ → ℤ → Bool
+is_inner_kind Numbers low high = int_lt (pos 0 -ℤ pos (2 ^ 62)) low && int_lt high (pos (2 ^ 62))
+is_inner_kind Texts low high = true
+
 abbrev pub is_inner : Column → Bool
-is_inner c = int_lt (pos 0 -ℤ pos (2 ^ 62)) c.lo && int_lt c.hi (pos (2 ^ 62))
+is_inner c = is_inner_kind c.kind c.lo c.hi
 
 abbrev pub all_inner : List Column → Bool
 all_inner [] = true

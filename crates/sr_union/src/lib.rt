@@ -3,3 +3,5 @@
 
 pub mod minus;
 pub mod rects;
+#[cfg(test)]
+mod tests;

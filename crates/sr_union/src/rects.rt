@@ -1,11 +1,13 @@
 //! Lists of rects.
 ghost use Rattle.std.specs.Prelude.{◌≡◌, ℕ, List, [], ◌∷◌, ◌++◌, ◌↔◌, IsTrue, length, OnOk, OnErr, IfOk, slice_get};
 ghost use Rattle.std.specs.Option.{option_copied};
-ghost use Rattle.sr_box.specs.Points.{in_any};
+ghost use Rattle.std.specs.List.{list_all};
+ghost use Rattle.sr_box.specs.Points.{in_any, rect_fits};
 
 use sr_box::rect::Rect;
 use sr_cell::cell::Row;
 use sr_cell::list::{Copied, NoMemory, Same, Seq};
+use sr_cell::table::Table;
 use std::alloc::Global;
 use std::marker::Model;
 
@@ -77,6 +79,13 @@ impl Rects {
     {
         let Rects { rects } = more;
         self.rects.append(rects)
+    }
+
+    /// Whether each rect fits the columns of the table.
+    pub fn fits(&self, table: &Table) -> bool
+        ensures { result ≡ list_all (rect_fits table.now.columns) self.now }
+    {
+        self.rects.as_slice().iter().all(|rect| rect.fits(table))
     }
 
     /// Whether some rect has the row.

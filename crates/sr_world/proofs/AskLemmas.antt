@@ -84,8 +84,7 @@ ask-covered t w past q f none bound left =
       queries = omega (arith, length-append past.queries (record { query = meaning_of q; answered = true } ∷ []), f.queries);
       flow = subst (λ o. Flow t changed new o) (sym none) still;
     } in
-    let asks : Asks w.schema past.marks (part_of q ∷ []) [] = rw f.schema (covered (part_of q) [] [] no_rest nothing) in
-    (
+    let asks : Asks w.schema past.marks (part_of q ∷ []) [] = rw f.schema (covered (part_of q) [] [] no_rest nothing) in (
       scene_of changed new,
       (
         client_of w past,
@@ -198,8 +197,7 @@ ask-asked t w past q rest queue f none bound left some queued =
       flow = (is_out, inl is_asked);
     } in
     let asks : Asks w.schema past.marks (part_of q ∷ []) (ask ∷ []) = rw f.schema (asked (part_of q) [] ask [] is nothing) in
-    let mode : IsTrue fresh ↔ HoldsNothing w.schema past.marks = rw f.schema (mode-is t past.marks w.client.held f.table f.marks f.held_fit f.held) in
-    (
+    let mode : IsTrue fresh ↔ HoldsNothing w.schema past.marks = rw f.schema (mode-is t past.marks w.client.held f.table f.marks f.held_fit f.held) in (
       scene_of changed new,
       (
         client_of w past,

@@ -21,7 +21,7 @@ inner_bounds : (lo hi : ℤ) → is_default lo ≡ true → is_default hi ≡ tr
 inner_bounds lo hi h k = grind (arith, ints)
 
 inner_one : (c : Column) → IsNumbers c → is_inner c ≡ true
-inner_one c h = inner_bounds c.lo c.hi h.low h.high
+inner_one c h = rw h.kind (inner_bounds c.lo c.hi h.low h.high)
 
 first_bounds : (lo hi : ℤ) → int_le lo hi ≡ true → (int_le lo lo && int_le lo hi) ≡ true
 first_bounds lo hi h = grind (arith, ints)

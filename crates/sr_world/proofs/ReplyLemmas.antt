@@ -54,7 +54,7 @@ all-came t w past o is_out f rows =
     record {
       asked = ap rects_of is_out.parts ∙ append-nil ask.rects;
       came = ap arrived laid ∙ (arrived-rows w.server.tables o.number 0 ask ∙ (asked-rows t.columns w.server.tables ask (two_columns t f.table) is_out.rest.table is_out.attrs points
-      ∙ ap (λ rows. filter (in_any ask.rects) rows) at));
+          ∙ ap (λ rows. filter (in_any ask.rects) rows) at));
     }
 
 -- the rows that the client holds are the newest table's
@@ -62,8 +62,8 @@ kept-now : (t : Table) (w : World) (past : Past) (f : Facts t w past) → w.clie
 kept-now t w past f =
     let newest : rows_at (version_at past.versions w.server.version) 0 ≡ f.rows = ap (λ ts. rows_at ts 0) (f.newest ∙ f.tables) in
     f.kept ∙ elim f.recent [
-      inl none ↦ none-held w.client.held _ none ∙ sym (none-held w.client.held f.rows none)
-    | inr recent ↦ ap (λ v. filter (in_any w.client.held) (rows_at (version_at past.versions v) 0)) recent.0 ∙ ap (λ rows. filter (in_any w.client.held) rows) newest
+      | inl none ↦ none-held w.client.held _ none ∙ sym (none-held w.client.held f.rows none)
+      | inr recent ↦ ap (λ v. filter (in_any w.client.held) (rows_at (version_at past.versions v) 0)) recent.0 ∙ ap (λ rows. filter (in_any w.client.held) rows) newest
     ]
 
 -- the world once the client took the reply
@@ -92,10 +92,10 @@ is-kept t w past o is_out f rows =
       fits = list_all-append (rect_fits t.columns) w.client.held rects ∙ rw (f.held_fit, is_out.rest.fits) refl;
       same = held-after t.columns past.marks w.client.held rects f.held;
       rows = ap (λ rows. with_rows t.key rows (arrived w.client.laid)) (kept-now t w past f)
-      ∙ (ap (λ more. with_rows t.key (filter (in_any w.client.held) f.rows) more) all.came
-      ∙ (with_rows-filters t.key (in_any w.client.held) (in_any rects) f.rows f.ascending free ∙ filter-both w.client.held rects f.rows));
+          ∙ (ap (λ more. with_rows t.key (filter (in_any w.client.held) f.rows) more) all.came
+          ∙ (with_rows-filters t.key (in_any w.client.held) (in_any rects) f.rows f.ascending free ∙ filter-both w.client.held rects f.rows));
       answer = ap (λ rows. map (cells_of o.query.outputs) (filter (in_any o.query.rects) (filter (in_any (w.client.held ++ rects)) rows))) (sym newest)
-      ∙ answer-is t.columns o.query.outputs (range_of o.query.range) o.query.rects (w.client.held ++ rects) (version_at past.versions w.server.version) is_out.bound.same covers (f.points w.server.version);
+          ∙ answer-is t.columns o.query.outputs (range_of o.query.range) o.query.rects (w.client.held ++ rects) (version_at past.versions w.server.version) is_out.bound.same covers (f.points w.server.version);
     }
 
 -- the lines of the reply are those of the answer

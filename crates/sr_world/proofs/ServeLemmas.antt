@@ -133,8 +133,7 @@ serves t w past number fresh parts queue sent to_server to_client f asked left r
     ∙ (ap (λ ms. scene made.versions ms (Some served.session) to_client.items) left
     ∙ (ap (λ session. scene made.versions queue session to_client.items) (sym served.opened)
     ∙ ap (λ ms. scene made.versions queue made.session ms) (queued ∙ ap (λ ms. w.to_client.items ++ ms) same_sent))) in
-    let lines : List TraceLine = line.ServerTook 1 kind.Ask (length sent) ∷ [] in
-    (
+    let lines : List TraceLine = line.ServerTook 1 kind.Ask (length sent) ∷ [] in (
       scene_of changed new,
       (
         client_of w past,

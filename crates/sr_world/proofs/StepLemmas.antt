@@ -113,8 +113,7 @@ exec-done t w past server rows f unasked done version one ascending fitting =
     let line-is : line.ExecVersion server.version ∷ [] ≡ line.ExecVersion (newest_version (scene_of w past) + 1) ∷ [] =
     ap (λ v. line.ExecVersion v ∷ []) (version ∙ ap (λ v. v + 1) (sym (newest-is t w past f))) in
     let happens : Happens (scene_of w past) (Exec (Ok (Insert 0 rows))) (line.ExecVersion server.version ∷ []) (scene_of changed new) =
-    subst (λ r. Executes (scene_of w past) r (line.ExecVersion server.version ∷ []) (scene_of changed new)) (sym (result-is t w past rows f ∙ done)) (line-is, refl) in
-    (
+    subst (λ r. Executes (scene_of w past) r (line.ExecVersion server.version ∷ []) (scene_of changed new)) (sym (result-is t w past rows f ∙ done)) (line-is, refl) in (
       scene_of changed new,
       no-delivery w past (Exec (Ok (Insert 0 rows))) (line.ExecVersion server.version ∷ []) (scene_of changed new) happens (quiet changed new still.0 still.1),
       record { t = t; past = new; facts = facts; same = refl },
@@ -127,8 +126,7 @@ pub exec-refused : (t : Table) (w : World) (past : Past) (fault : Fault) (rows :
 exec-refused t w past fault rows f unasked refused =
     let still : Flow t w past None = idle t w past f unasked.1 in
     let happens : Happens (scene_of w past) (Exec (Ok (Insert 0 rows))) (line.ExecRefused fault ∷ []) (scene_of w past) =
-    subst (λ r. Executes (scene_of w past) r (line.ExecRefused fault ∷ []) (scene_of w past)) (sym (result-is t w past rows f ∙ refused)) (refl, refl) in
-    (
+    subst (λ r. Executes (scene_of w past) r (line.ExecRefused fault ∷ []) (scene_of w past)) (sym (result-is t w past rows f ∙ refused)) (refl, refl) in (
       scene_of w past,
       no-delivery w past (Exec (Ok (Insert 0 rows))) (line.ExecRefused fault ∷ []) (scene_of w past) happens (quiet w past still.0 still.1),
       record { t = t; past = past; facts = f; same = refl },

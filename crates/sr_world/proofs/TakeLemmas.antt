@@ -64,8 +64,7 @@ pub delivers : (w : World) (past : Past) (m : Message) (queue : List Message) (l
     → TakesMessage (scene_of w past) 1 (request_of w.client.out) m (record (client_of w past) { to_client = queue }) lines (client_of next new)
     → Delivers (scene_of w past) 1 lines (scene_of next new)
 delivers w past m queue lines next new none came same takes =
-    let due : (asks answers : List Message) → asks ≡ [] → answers ≡ m ∷ queue → next_delivery 1 asks answers ≡ Some (ToClient 1) = λ asks answers a b. rw (a, b) refl in
-    (
+    let due : (asks answers : List Message) → asks ≡ [] → answers ≡ m ∷ queue → next_delivery 1 asks answers ≡ Some (ToClient 1) = λ asks answers a b. rw (a, b) refl in (
       client_of w past,
       ToClient 1,
       refl,

@@ -91,7 +91,6 @@ Flow t w past (Some o) = IsOut t w past o × (IsAsked w past o ⊎ IsReplied w p
 pub record Facts (t : Table) (w : World) (past : Past) : Type 0 where
   pub schema : w.schema ≡ t ∷ []
   pub table : IsTrue (may_create t)
-
   -- the server has the newest tables
   pub rows : List Row
   pub tables : w.server.tables ≡ rows ∷ []
@@ -100,7 +99,6 @@ pub record Facts (t : Table) (w : World) (past : Past) : Type 0 where
   pub ascending : ascend t.key rows ≡ true
   pub fitting : list_all (fits_columns t.columns) rows ≡ true
   pub points : (v : ℕ) → IsTrue (list_all (is_point t.columns) (rows_at (version_at past.versions v) 0))
-
   -- the client holds the points of its marks, with just the rows that its version has there
   pub marks : AllHeld past.marks
   pub held_fit : IsTrue (list_all (rect_fits t.columns) w.client.held)

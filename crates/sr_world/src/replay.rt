@@ -278,7 +278,7 @@ fn text_of(
 {
     let mut text = String::new(alloc);
     for line in lines {
-        push_line(alloc, &mut text, schema, number, line)?;
+        push_line(&mut text, schema, number, line)?;
     }
     Ok(text)
 }

@@ -64,12 +64,7 @@ impl Server {
     }
 
     /// The rows that are asked, part by part, in messages of 256 rows, and the reply.
-    pub fn reply(
-        &self,
-        alloc: Global,
-        number: u64,
-        parts: &AskParts,
-    ) -> Result<Messages, NoMemory>
+    pub fn reply(&self, alloc: Global, number: u64, parts: &AskParts) -> Result<Messages, NoMemory>
         requires { length parts.now ≤ 4 }
         ensures { IfOk result (λ sent. sent ≡ row_messages self.now.tables number 0 parts.now ++ Reply number self.now.version ∷ []) }
     {

@@ -159,12 +159,7 @@ impl World {
     }
 
     /// Asks for the rest of a query.
-    fn send_ask(
-        &mut self,
-        alloc: Global,
-        query: Query,
-        rest: Rects,
-    ) -> Result<TraceLines, NoMemory>
+    fn send_ask(&mut self, alloc: Global, query: Query, rest: Rects) -> Result<TraceLines, NoMemory>
         requires stands { Stands self.old }
         requires idle { self.old.client.out ≡ None }
         requires bound { (t : TheTable) → self.old.schema ≡ t ∷ [] → IsBound t query }
@@ -281,12 +276,7 @@ fn queue_up(queue: &mut VecDeque<Message>, messages: Messages) -> Result<(), NoM
 }
 
 /// The rects that are not held.
-fn left(
-    alloc: Global,
-    rects: &Rects,
-    held: &Rects,
-    table: &Table,
-) -> Result<Rects, NoMemory>
+fn left(alloc: Global, rects: &Rects, held: &Rects, table: &Table) -> Result<Rects, NoMemory>
     requires create { IsTrue (may_create table.now) }
     requires rects { IsTrue (list_all (rect_fits table.now.columns) rects.now) }
     requires held { IsTrue (list_all (rect_fits table.now.columns) held.now) }
@@ -296,12 +286,7 @@ fn left(
 }
 
 /// The ask of the rest of a query, with the next numbers.
-fn ask_out(
-    alloc: Global,
-    client: &Client,
-    query: Query,
-    rest: Rects,
-) -> Result<AskOut, NoMemory>
+fn ask_out(alloc: Global, client: &Client, query: Query, rest: Rects) -> Result<AskOut, NoMemory>
     requires queries { client.now.queries < 2 ^ 63 }
     ensures { IfOk result (λ out. out ≡ record { number = client.now.next_request; query_number = client.now.queries + 1; query = query; fresh = is_empty client.now.held; parts = both_columns rest ∷ [] }) }
 {

@@ -10,9 +10,9 @@ loop-alloc-init c = (c.requires.stands, rw c.new-lines.ensures (many-none c.args
 pub loop-alloc-preserved : goal.loop-alloc-preserved
 loop-alloc-preserved c =
     let before = c.loop-alloc.invariant in
-    let delivery = c.in_ok-take.ensures.delivery in
-    (
+    let delivery = c.in_ok-take.ensures.delivery in (
       still-stands (λ s. Delivers s 1) c.loop-alloc.self c.take.new.self _ before.0 delivery,
       rw c.in_ok-append.ensures.appended (many-more c.args.self.now c.loop-alloc.self c.take.new.self c.loop-alloc.lines _ before.1 delivery),
-      c.in_ok-take.ensures.drawn ∙ before.2, c.in_ok-take.ensures.to_server ∙ before.3,
+      c.in_ok-take.ensures.drawn ∙ before.2,
+      c.in_ok-take.ensures.to_server ∙ before.3,
     )

@@ -1,0 +1,37 @@
+-- The query that is covered asks nothing, whatever else is free.
+use Rattle.std.proofs.Common.{◌≡◌, List, [], ◌∷◌, refl, sym, ◌∙◌, subst, Some, Ok}
+use Rattle.sr_history.specs.Rests.{nothing, covered}
+use Rattle.sr_script.specs.declared.line.TraceLine.{TraceLine}
+use Rattle.sr_scene.specs.Scene.{Scene, Client, with_client}
+use Rattle.sr_scene.specs.Steps.{Happens, QueriesText}
+use Rattle.sr_scene.specs.Runs.{Steps, IsQuiet}
+use Rattle.sr_scene.specs.Example.{schema, query, part}
+use Rattle.sr_scene.specs.CoveredQuery.{covered_query, covered_lines, served_client, opened, queues_of}
+use Rattle.sr_scene.proofs.ExampleRests.{held, covered_rest}
+use Rattle.sr_scene.proofs.Quiet.{settled, quiet_settles}
+use Rattle.sr_scene.proofs.AsksNothing.{IsAnswered, answers_at_once, nothing_to_ask}
+
+same_client : (c d : Client) → Some c ≡ Some d → d ≡ c
+same_client c d same = cc
+
+-- the client gives its answer, and its queues stay empty
+answers : (given : List TraceLine) (old next : Client) → Some served_client ≡ Some old → QueriesText opened 1 (Ok (query 32 35)) old given next
+    → IsAnswered opened 1 (query 32 35) served_client given next
+answers given old next found does =
+    answers_at_once opened 1 (query 32 35) served_client given next refl (λ asks may. nothing_to_ask schema held (part 32 35 ∷ []) asks (covered_rest, tt) may)
+    (subst (λ c. QueriesText opened 1 (Ok (query 32 35)) c given next) (same_client served_client old found) does)
+
+pub sends_nothing : (given : List TraceLine) (last : Scene) → Happens opened covered_query given last → queues_of last ≡ queues_of opened
+sends_nothing given last (old, next, found, does, is) =
+    let facts = answers given old next found does in rw is (rw facts.to_server (rw facts.to_client refl))
+
+pub just : (given : List TraceLine) (last : Scene) → Steps opened covered_query given last → given ≡ covered_lines
+just given last (front, rest, mid, (old, next, found, does, is), settles, all) =
+    let facts = answers front old next found does in
+    let quiet : IsQuiet (with_client opened 1 next) 1 = (next, refl, rw facts.to_server (rw facts.to_client refl)) in
+    let none : rest ≡ [] = quiet_settles mid rest last (subst (λ s. IsQuiet s 1) (sym is) quiet) settles in
+    all ∙ (rw facts.lines_are (rw none refl))
+
+-- it may give its lines
+pub may : (last : Scene) × Steps opened covered_query covered_lines last
+may = (_, (_, [], _, (_, _, refl, ([], covered (part 32 35) [] [] covered_rest nothing, ([], (tt, refl), refl)), refl), settled _ (_, refl, refl), refl))

@@ -1,0 +1,6 @@
+pub mod ExampleTexts
+pub mod ExampleRests
+pub mod ExampleRun
+pub mod Quiet
+pub mod AsksNothing
+pub mod CoveredRun

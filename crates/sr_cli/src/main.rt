@@ -1,5 +1,6 @@
 //! The program: replays a script.
 #![tactic(auto)]
+
 ghost use Rattle.std.specs.Prelude.{◌≡◌, map, drop, string_bytes, IfOk};
 
 mod file;
@@ -42,7 +43,10 @@ struct NotText;
 fn words_of(rt: &HostRuntime) -> Result<Seq<Text>, No<NotText>> {
     match env::args(rt) {
         Ok(all) => {
-            let all: Vec<String> = all.collect(rt.alloc())?;
+            let all: Vec<String> = match all.collect(rt.alloc()) {
+                Ok(all) => all,
+                Err(_) => return Err(No::NoMemory),
+            };
             Ok(words_behind_first(rt.alloc(), &all)?)
         }
         Err(error) => {

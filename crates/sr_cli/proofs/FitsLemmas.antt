@@ -1,9 +1,6 @@
 -- What a status says of the script that is held.
-use Rattle.std.proofs.Common.{◌≡◌, ℕ, ◌⊎◌, ◌+◌, ◌<◌, ◌≤◌, List, length, drop, Option, Some, None, IfSome, arith, rules, sym, length-append}
+use Rattle.std.proofs.Common.{◌≡◌, ℕ, ◌⊎◌, ◌≤◌, List, length, Option, Some, None, IfSome, arith, sym}
 use Rattle.std.proofs.lemmas.Grind.{common_steps}
-use Rattle.sr_language.specs.Lines.{lines_of}
-use Rattle.sr_language.specs.Script.{FirstUnbuilt, Start}
-use Rattle.sr_io.specs.Pieces.{Lost}
 use Rattle.std.specs.Io.KnownBytes.{Consumes}
 use Rattle.sr_cli.specs.Run.{IsTooLong, IsUnbuilt, FitsScript}
 

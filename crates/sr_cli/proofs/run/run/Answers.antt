@@ -1,4 +1,4 @@
-use Rattle.std.proofs.Common.{◌≡◌, List, ℕ, Option, Some, None, IfSome, Err, ap, rules}
+use Rattle.std.proofs.Common.{◌≡◌, Some, IfSome, Err, ap, rules}
 use Rattle.sr_cli.specs.Run.{file_of, FitsScript}
 use Rattle.sr_cli.proofs.FitsLemmas.{fits_held}
 use Rattle.sr_cli.proofs.run.run.Goals as goal

@@ -1,18 +1,17 @@
 -- A client that holds all points of a query answers it as its version's tables do.
-use Rattle.std.proofs.Common.{◌≡◌, ℕ, Bool, true, false, not, ◌&&◌, ◌||◌, List, [], ◌∷◌, ◌++◌, map, refl, sym, ◌∙◌, ap, arith}
+use Rattle.std.proofs.Common.{◌≡◌, ℕ, Bool, true, false, not, ◌&&◌, ◌||◌, List, [], ◌∷◌, ◌++◌, map, refl, sym, ◌∙◌, ap}
 use Rattle.std.specs.Prelude.{filter, IsTrue, Option, if◌then◌else◌}
-use Rattle.std.specs.List.{list_all, list_any}
+use Rattle.std.specs.List.{list_all}
 use Rattle.std.proofs.lemmas.List.Folds.{list_any-append}
 use Rattle.sr_cell.specs.declared.table.Column.{Column}
 use Rattle.sr_cell.specs.Cells.{Row}
 use Rattle.sr_cell.specs.Columns.{is_point}
 use Rattle.sr_box.specs.Points.{Rect, in_any, in_rect, AreSame}
 use Rattle.sr_model.specs.Queries.{rows_of, rows_at, points_of}
-use Rattle.sr_model.specs.SortedRows.{ascend, with_rows}
 use Rattle.sr_model.specs.Statements.{Tables}
 use Rattle.sr_history.specs.Marks.{Mark, Held, is_held, is_covered}
 use Rattle.sr_history.specs.Rests.{rest_of}
-use Rattle.sr_language.specs.Script.{ColumnRange, select_of, condition_of}
+use Rattle.sr_language.specs.Script.{ColumnRange, select_of}
 use Rattle.sr_world.specs.Client.{cells_of}
 use Rattle.sr_world.specs.Represents.{AllHeld}
 use Rattle.sr_world.proofs.Filters.{filter-same, filter-filter, filter-each, and_left, and_right, and_both}

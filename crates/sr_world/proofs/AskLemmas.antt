@@ -1,30 +1,28 @@
 -- A query is answered at once or asked, as the scene says.
-use Rattle.std.proofs.Common.{◌≡◌, ℕ, ◌<◌, ◌≤◌, ◌+◌, ◌-◌, Bool, true, false, not, ◌&&◌, List, [], ◌∷◌, ◌++◌, map, length, refl, sym, ◌∙◌, ap, subst, arith, zero, suc, inl, inr, Option, Some, None, Ok, Err, length-append, append-nil}
+use Rattle.std.proofs.Common.{◌≡◌, ℕ, ◌+◌, Bool, true, false, ◌&&◌, List, [], ◌∷◌, ◌++◌, map, length, refl, sym, ◌∙◌, ap, subst, arith, inl, inr, Some, None, Ok, length-append}
 use Rattle.std.specs.Prelude.{filter, IsTrue, ◌==◌, ◌↔◌, ◌⊎◌, if◌then◌else◌}
 use Rattle.std.specs.declared.collections.VecDeque.{VecDeque}
 use Rattle.std.specs.declared.alloc.Global.{Global}
 use Rattle.std.proofs.lemmas.Bool.Decides.{nat_tests}
 use Rattle.sr_language.specs.Script.{may_create}
-use Rattle.std.specs.List.{list_all, list_any}
+use Rattle.std.specs.List.{list_all}
 use Rattle.sr_cell.specs.declared.table.Table.{Table}
-use Rattle.sr_cell.specs.declared.table.Column.{Column}
 use Rattle.sr_cell.specs.Cells.{Row}
-use Rattle.sr_cell.specs.Columns.{is_point, table_at}
-use Rattle.sr_box.specs.Points.{Rect, in_any, rect_fits, AreSame, HasPoint, HasNoPoint}
+use Rattle.sr_cell.specs.Columns.{is_point}
+use Rattle.sr_box.specs.Points.{Rect, in_any, rect_fits, AreSame}
 use Rattle.sr_union.proofs.Low.{has_point}
 use Rattle.sr_message.specs.declared.message.AskPart.{AskPart}
 use Rattle.sr_message.specs.declared.message.Message.{Message}
 use Rattle.sr_message.specs.declared.message.Message.TheVariants.{Ask}
-use Rattle.sr_model.specs.Events.{Event, QueryOf}
+use Rattle.sr_model.specs.Events.{QueryOf}
 use Rattle.sr_model.specs.Queries as queries
 use Rattle.sr_model.specs.Queries.{rows_at, rows_of}
 use Rattle.sr_model.specs.Changes.{version_at}
 use Rattle.sr_history.specs.Marks.{Mark, Held, Dropped, is_held, HoldsNothing}
-use Rattle.sr_history.specs.Rests.{Asks, covered, asked, nothing, rest_of}
+use Rattle.sr_history.specs.Rests.{Asks, covered, asked, nothing}
 use Rattle.sr_reader.specs.Read.{range_of}
 use Rattle.sr_script.specs.declared.line.TraceLine.{TraceLine}
 use Rattle.sr_script.specs.declared.line.TraceLine.TheVariants as line
-use Rattle.sr_scene.specs.Scene as scene
 use Rattle.sr_scene.specs.Scene.{Scene}
 use Rattle.sr_scene.specs.Steps.{Happens, part_line}
 use Rattle.sr_world.specs.declared.world.World.{World}

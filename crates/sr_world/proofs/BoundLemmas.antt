@@ -1,8 +1,7 @@
 -- The rects of a range have just its points.
-use Rattle.std.proofs.Common.{◌≡◌, ◌<◌, ℕ, ℤ, pos, Bool, true, false, not, ◌&&◌, ◌||◌, List, [], ◌∷◌, refl, sym, ◌∙◌, ap, arith, zero, suc, Option, Some, None}
-use Rattle.std.specs.Prelude.{IsTrue, int_le, int_lt, nat_lt, if◌then◌else◌, slice_get}
-use Rattle.std.specs.Ordering.{int_eq}
-use Rattle.std.specs.List.{list_all, list_any}
+use Rattle.std.proofs.Common.{◌≡◌, ◌<◌, ℕ, ℤ, Bool, true, false, ◌&&◌, ◌||◌, [], ◌∷◌, refl, ◌∙◌, arith, zero, suc, Option, Some, None}
+use Rattle.std.specs.Prelude.{IsTrue, int_le, nat_lt, slice_get}
+use Rattle.std.specs.List.{list_all}
 use Rattle.std.proofs.lemmas.Int.{ints}
 use Rattle.std.proofs.lemmas.Bool.Decides.{nat_tests}
 use Rattle.sr_cell.specs.declared.cell.Cell.{Cell}
@@ -11,19 +10,19 @@ use Rattle.sr_cell.specs.declared.table.Kind.TheVariants.{Num as Numbers}
 use Rattle.sr_cell.specs.declared.table.Column.{Column}
 use Rattle.sr_cell.specs.declared.table.Table.{Table}
 use Rattle.sr_cell.specs.Cells.{Row, cell_at, cell_le}
-use Rattle.sr_cell.specs.Columns.{is_point, in_column, in_kind}
+use Rattle.sr_cell.specs.Columns.{is_point, in_column}
 use Rattle.sr_box.specs.declared.span.Span.{Span}
-use Rattle.sr_box.specs.declared.span.Span.TheVariants.{Full, Nums, Strs}
+use Rattle.sr_box.specs.declared.span.Span.TheVariants.{Full}
 use Rattle.sr_box.specs.Spans.{in_span, span_fits, fits_kind}
-use Rattle.sr_box.specs.Points.{Rect, in_any, in_rect, rect_fits, AreSame}
+use Rattle.sr_box.specs.Points.{in_any, rect_fits, AreSame}
 use Rattle.sr_model.specs.Queries.{points_of}
 use Rattle.sr_language.specs.Script.{may_create, condition_of}
 use Rattle.sr_reader.specs.declared.script.ColumnRange.{ColumnRange}
 use Rattle.sr_reader.specs.Read.{range_of, range_is_inside}
 use Rattle.sr_world.specs.declared.query.Query.{Query}
-use Rattle.sr_world.specs.Bound.{IsBound, part_of, later_of, earlier_of, span_of, clip, clipped, rect_at, rect_with, rects_in}
-use Rattle.sr_world.proofs.Filters.{and_left, and_right, and_both}
-use Rattle.sr_world.proofs.TwoColumns.{IsNumbers, HasTwo, two_columns}
+use Rattle.sr_world.specs.Bound.{IsBound, later_of, earlier_of, span_of, clip, rect_at, rect_with, rects_in}
+use Rattle.sr_world.proofs.Filters.{and_left, and_right}
+use Rattle.sr_world.proofs.TwoColumns.{IsNumbers, two_columns}
 
 abbrev in_some : Option Span → Cell → Bool
 in_some None v = false

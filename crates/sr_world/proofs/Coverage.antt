@@ -1,5 +1,5 @@
 -- Where all marks are of one table under both its columns, what is covered is what is held.
-use Rattle.std.proofs.Common.{◌≡◌, ℕ, Bool, true, false, ◌&&◌, ◌||◌, List, [], ◌∷◌, refl, arith}
+use Rattle.std.proofs.Common.{◌≡◌, Bool, true, false, ◌&&◌, ◌||◌, List, [], ◌∷◌, refl}
 use Rattle.std.specs.List.{list_any}
 use Rattle.sr_cell.specs.Cells.{Row}
 use Rattle.sr_cell.specs.Attrs.{includes}

@@ -1,6 +1,6 @@
 -- Filters of lists.
-use Rattle.std.proofs.Common.{◌≡◌, Bool, true, false, ◌&&◌, List, [], ◌∷◌, refl, arith, ap}
-use Rattle.std.specs.Prelude.{filter, cond, IsTrue}
+use Rattle.std.proofs.Common.{◌≡◌, Bool, true, false, ◌&&◌, List, [], ◌∷◌, refl, arith}
+use Rattle.std.specs.Prelude.{filter, cond}
 use Rattle.std.specs.List.{list_all}
 
 pub and_left : (a b : Bool) → (a && b) ≡ true → a ≡ true

@@ -1,21 +1,19 @@
 -- The difference of rects leaves the points that are not held.
-use Rattle.std.proofs.Common.{◌≡◌, ℕ, ℤ, Bool, true, false, not, ◌&&◌, List, [], ◌∷◌, ◌++◌, refl, sym, ◌∙◌, ap, arith, Ok, Err}
-use Rattle.std.specs.Prelude.{IsTrue, IfOk, Result, int_le, int_lt, pos, ◌-ℤ◌, ◌^◌, nat_eq, if◌then◌else◌}
-use Rattle.std.specs.List.{list_all}
+use Rattle.std.proofs.Common.{◌≡◌, ℕ, ℤ, Bool, true, false, not, ◌&&◌, List, ◌++◌, refl, sym, ◌∙◌, arith, Ok, Err}
+use Rattle.std.specs.Prelude.{IfOk, Result, int_le, int_lt, pos, ◌-ℤ◌, ◌^◌, nat_eq, if◌then◌else◌}
 use Rattle.std.proofs.lemmas.Int.{ints}
 use Rattle.sr_cell.specs.declared.table.Column.{Column}
 use Rattle.sr_cell.specs.declared.table.Table.{Table}
-use Rattle.sr_cell.specs.Cells.{Row}
-use Rattle.sr_cell.specs.Columns.{is_point, in_column}
+use Rattle.sr_cell.specs.Columns.{in_column}
 use Rattle.sr_box.specs.Corners.{first_value}
-use Rattle.sr_box.specs.Points.{Rect, in_any, times, AreSame}
+use Rattle.sr_box.specs.Points.{Rect, in_any, times}
 use Rattle.sr_union.specs.Pieces.{IsMinus}
 use Rattle.sr_union.specs.Grid.{AreCutFrom, have_first, all_inner, is_inner}
 use Rattle.sr_union.proofs.Parts.{are_fit}
 use Rattle.sr_union.proofs.Times.{in_any-times}
-use Rattle.sr_language.specs.Script.{may_create, is_default}
+use Rattle.sr_language.specs.Script.{is_default}
 use Rattle.sr_world.specs.Bound.{IsLeft}
-use Rattle.sr_world.proofs.TwoColumns.{IsNumbers, HasTwo, two_columns}
+use Rattle.sr_world.proofs.TwoColumns.{IsNumbers, HasTwo}
 
 inner_bounds : (lo hi : ℤ) → is_default lo ≡ true → is_default hi ≡ true → (int_lt (pos 0 -ℤ pos (2 ^ 62)) lo && int_lt hi (pos (2 ^ 62))) ≡ true
 inner_bounds lo hi h k = grind (arith, ints)

@@ -1,9 +1,8 @@
 -- The answer of a query of one table.
-use Rattle.std.proofs.Common.{◌≡◌, ℕ, Bool, true, false, ◌&&◌, List, [], ◌∷◌, ◌++◌, map, refl, ap, arith}
-use Rattle.std.specs.Prelude.{filter, cond, flat_map, Option}
-use Rattle.sr_cell.specs.declared.cell.Cell.{Cell}
+use Rattle.std.proofs.Common.{◌≡◌, ℕ, Bool, true, false, ◌&&◌, List, [], ◌∷◌, map, refl, ap}
+use Rattle.std.specs.Prelude.{filter, cond, Option}
 use Rattle.sr_cell.specs.Cells.{Row, cell_at}
-use Rattle.sr_model.specs.Queries.{Part, Output, Query, points_of, combinations, joins_hold, all_meet, output_of, rows_of, rows_at, row_at}
+use Rattle.sr_model.specs.Queries.{Part, Output, points_of, combinations, joins_hold, all_meet, output_of, rows_of, rows_at}
 use Rattle.sr_language.specs.Script.{ColumnRange, select_of, condition_of}
 use Rattle.sr_world.specs.Client.{cells_of}
 use Rattle.sr_world.proofs.Filters.{filter-each}

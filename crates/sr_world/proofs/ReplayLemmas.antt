@@ -1,6 +1,6 @@
 -- From runs of some events to the trace of a script.
-use Rattle.std.proofs.Common.{◌≡◌, ℕ, ◌+◌, ◌≤◌, ◌<◌, Bool, true, List, [], ◌∷◌, ◌++◌, length, map, take, Option, Some, None, Ok, Err, refl, subst, sym, ◌∙◌, ap, append_assoc, append-nil, arith}
-use Rattle.std.specs.Prelude.{IsTrue, IfOk, OnOk, Result, ◌&&◌}
+use Rattle.std.proofs.Common.{◌≡◌, ℕ, Bool, true, List, [], ◌∷◌, ◌++◌, length, map, Option, Some, None, Ok, Err, refl, subst, sym, ◌∙◌, ap, append_assoc, append-nil, arith}
+use Rattle.std.specs.Prelude.{IsTrue, IfOk, OnOk, Result}
 use Rattle.std.specs.List.{list_all}
 use Rattle.std.proofs.Math.Seq.{take-length}
 use Rattle.std.proofs.lemmas.List.{map-append}
@@ -18,7 +18,7 @@ use Rattle.sr_io.specs.Pieces.{WritesPrefix}
 use Rattle.sr_world.specs.declared.world.World.{World}
 use Rattle.sr_world.specs.Represents.{Represents}
 use Rattle.sr_world.specs.Worlds.{Stands, DoesStep}
-use Rattle.sr_world.specs.Replay.{start, Trace, IsKept, Wrote, WrotePart}
+use Rattle.sr_world.specs.Replay.{start, Trace, WrotePart}
 use Rattle.sr_world.specs.Ran.{Ran, RanWhole, RanPart, Traced, TracedWhole, TracedPart}
 use Rattle.sr_world.proofs.Filters.{and_left, and_right}
 use Rattle.sr_world.proofs.RunLemmas.{Ran-none, Ran-one, RanWhole-append, RanPart-behind}

@@ -1,6 +1,6 @@
 -- The client takes the reply of its ask, as the scene says.
-use Rattle.std.proofs.Common.{◌≡◌, ℕ, ◌≤◌, ◌+◌, Bool, true, false, not, ◌&&◌, ◌||◌, List, [], ◌∷◌, ◌++◌, map, length, refl, sym, ◌∙◌, ap, subst, arith, inl, inr, Option, Some, None, append-nil}
-use Rattle.std.specs.Prelude.{filter, IsTrue, ◌⊎◌}
+use Rattle.std.proofs.Common.{◌≡◌, ℕ, true, List, [], ◌∷◌, ◌++◌, map, length, refl, sym, ◌∙◌, ap, subst, arith, inl, inr, Some, None, append-nil}
+use Rattle.std.specs.Prelude.{filter, IsTrue}
 use Rattle.std.specs.List.{list_all, AllZip}
 use Rattle.std.proofs.lemmas.List.{length-set}
 use Rattle.std.proofs.lemmas.List.Folds.{list_all-append}
@@ -16,12 +16,12 @@ use Rattle.sr_message.specs.declared.message.Message.TheVariants.{Ask, Notice, R
 use Rattle.sr_model.specs.Queries.{rows_at, rows_of}
 use Rattle.sr_model.specs.Changes.{version_at}
 use Rattle.sr_model.specs.SortedRows.{ascend, with_rows}
-use Rattle.sr_history.specs.Marks.{Mark, Held, is_held, with_marks}
+use Rattle.sr_history.specs.Marks.{Held, is_held}
 use Rattle.sr_reader.specs.Read.{range_of}
 use Rattle.sr_rows.proofs.Parts.{ascend-filter, with_rows-filters}
 use Rattle.sr_script.specs.declared.line.TraceLine.{TraceLine}
 use Rattle.sr_script.specs.declared.line.TraceLine.TheVariants as line
-use Rattle.sr_scene.specs.Server.{row_messages, asked_rows}
+use Rattle.sr_scene.specs.Server.{row_messages}
 use Rattle.sr_scene.specs.Scene as scene
 use Rattle.sr_scene.specs.Scene.{Scene}
 use Rattle.sr_scene.specs.Steps.{TakesMessage, Answers, Keeps, Holds, answer_lines, mark_line, with_answered}
@@ -29,10 +29,10 @@ use Rattle.sr_scene.specs.Runs.{Delivers}
 use Rattle.sr_world.specs.declared.world.World.{World}
 use Rattle.sr_world.specs.declared.client.AskOut as code
 use Rattle.sr_world.specs.declared.client.Client.{Client}
-use Rattle.sr_world.specs.Bound.{meaning_of, part_of}
+use Rattle.sr_world.specs.Bound.{meaning_of}
 use Rattle.sr_world.specs.Client.{cells_of, arrived, reply_version, rects_of, held_line, after_reply, lines_of_reply}
 use Rattle.sr_world.specs.Worlds.{Stands, DoesDelivery}
-use Rattle.sr_world.specs.Represents.{Past, Facts, Represents, IsReplied, IsOut, Flow, request_of, scene_of, client_of}
+use Rattle.sr_world.specs.Represents.{Past, Facts, Represents, IsOut, request_of, scene_of, client_of}
 use Rattle.sr_world.proofs.TwoColumns.{two_columns}
 use Rattle.sr_world.proofs.Arrivals.{AllRows, arrived-rows, asked-rows}
 use Rattle.sr_world.proofs.AnswerLemmas.{answer-is, covers-after, held-after, apart, filter-both}

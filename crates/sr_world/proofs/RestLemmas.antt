@@ -1,12 +1,11 @@
 -- What is left of a query's rects without those that are held is its rest.
-use Rattle.std.proofs.Common.{◌≡◌, ℕ, Bool, true, false, not, ◌&&◌, List, [], ◌∷◌, ◌++◌, refl, sym, ◌∙◌, ap, arith, inl, inr, zero, suc}
-use Rattle.std.specs.Prelude.{IsTrue, slice_set, ◌⊎◌}
-use Rattle.std.specs.List.{list_all, list_any}
-use Rattle.sr_cell.specs.declared.cell.Cell.{Cell}
+use Rattle.std.proofs.Common.{◌≡◌, ℕ, Bool, true, false, not, ◌&&◌, List, [], ◌∷◌, refl, sym, ◌∙◌, inl, inr, zero, suc}
+use Rattle.std.specs.Prelude.{IsTrue, slice_set}
+use Rattle.std.specs.List.{list_all}
 use Rattle.sr_cell.specs.declared.table.Column.{Column}
 use Rattle.sr_cell.specs.declared.table.Table.{Table}
 use Rattle.sr_cell.specs.Cells.{Row}
-use Rattle.sr_cell.specs.Columns.{is_point, in_column}
+use Rattle.sr_cell.specs.Columns.{in_column}
 use Rattle.sr_cell.specs.Attrs.{has_column}
 use Rattle.sr_box.specs.declared.span.Span.{Span}
 use Rattle.sr_box.specs.declared.span.Span.TheVariants.{Full, Nums, Strs}
@@ -15,7 +14,7 @@ use Rattle.sr_box.specs.Points.{Rect, in_any, rect_fits, constrains_only, AreSam
 use Rattle.sr_message.specs.declared.message.AskPart.{AskPart}
 use Rattle.sr_model.specs.Conditions.{Cond}
 use Rattle.sr_model.specs.Queries.{Part, points_of}
-use Rattle.sr_history.specs.Marks.{Mark, is_held, is_covered}
+use Rattle.sr_history.specs.Marks.{Mark, is_held}
 use Rattle.sr_history.specs.Rests.{rest_of, IsRest}
 use Rattle.sr_world.specs.Represents.{AllHeld}
 use Rattle.sr_world.proofs.Filters.{and_left, and_right}

@@ -1,6 +1,5 @@
 -- Runs one after another, and the text of their lines.
-use Rattle.std.proofs.Common.{◌≡◌, ℕ, ◌+◌, ◌≤◌, List, [], ◌∷◌, ◌++◌, length, map, take, Option, refl, subst, sym, ◌∙◌, ap, append_assoc, append-nil, arith, length-append}
-use Rattle.std.proofs.lemmas.Grind.{common_steps}
+use Rattle.std.proofs.Common.{◌≡◌, ℕ, ◌+◌, List, [], ◌∷◌, ◌++◌, length, take, Option, refl, subst, sym, ◌∙◌, ap, append_assoc, append-nil, arith, length-append}
 use Rattle.std.proofs.Math.Seq.{take-append-add}
 use Rattle.std.specs.Io.KnownBytes.{Appends}
 use Rattle.sr_cell.specs.declared.table.Table.{Table}
@@ -12,9 +11,8 @@ use Rattle.sr_scene.specs.Runs.{Runs, Steps, numbered}
 use Rattle.sr_io.specs.Pieces.{WritesPrefix}
 use Rattle.sr_io.proofs.SoFar.{Appends-append}
 use Rattle.sr_world.specs.declared.world.World.{World}
-use Rattle.sr_world.specs.Represents.{Represents}
 use Rattle.sr_world.specs.Worlds.{DoesStep}
-use Rattle.sr_world.specs.Ran.{DoesRun, Ran, RanWhole, RanPart}
+use Rattle.sr_world.specs.Ran.{Ran, RanWhole, RanPart}
 
 pub trace_text-append : (schema : List Table) (a b : List (ℕ × TraceLine)) → trace_text schema (a ++ b) ≡ trace_text schema a ++ trace_text schema b
 trace_text-append schema [] b = refl

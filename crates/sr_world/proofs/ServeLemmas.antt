@@ -1,27 +1,27 @@
 -- The server takes an ask, as the scene says.
-use Rattle.std.proofs.Common.{◌≡◌, ℕ, ◌<◌, ◌≤◌, ◌+◌, ◌-◌, Bool, true, false, List, [], ◌∷◌, ◌++◌, map, length, refl, sym, ◌∙◌, ap, subst, arith, zero, suc, inl, inr, Option, Some, None, append-nil}
+use Rattle.std.proofs.Common.{◌≡◌, ℕ, ◌≤◌, ◌-◌, Bool, true, false, List, [], ◌∷◌, ◌++◌, length, refl, sym, ◌∙◌, ap, subst, arith, inl, inr, Option, Some, None}
 use Rattle.std.specs.Prelude.{◌⊎◌}
 use Rattle.std.specs.declared.collections.VecDeque.{VecDeque}
 use Rattle.std.specs.declared.alloc.Global.{Global}
 use Rattle.sr_cell.specs.declared.table.Table.{Table}
 use Rattle.sr_message.specs.declared.message.AskPart.{AskPart}
 use Rattle.sr_message.specs.declared.message.Message.{Message}
-use Rattle.sr_message.specs.declared.message.Message.TheVariants.{Ask, Notice, Rows, Reply}
+use Rattle.sr_message.specs.declared.message.Message.TheVariants.{Ask, Reply}
 use Rattle.sr_model.specs.Events.{ToServer}
 use Rattle.sr_model.specs.Statements.{Tables}
-use Rattle.sr_model.specs.Changes.{version_at, newest_of}
+use Rattle.sr_model.specs.Changes.{newest_of}
 use Rattle.sr_script.specs.declared.line.RequestKind.TheVariants as kind
 use Rattle.sr_script.specs.declared.line.TraceLine.{TraceLine}
 use Rattle.sr_script.specs.declared.line.TraceLine.TheVariants as line
-use Rattle.sr_scene.specs.Server.{Session, Served, serve, serve_ask, due, notices, reply_messages, row_messages}
+use Rattle.sr_scene.specs.Server.{Session, Served, serve_ask, due, reply_messages, row_messages}
 use Rattle.sr_scene.specs.Scene.{Scene}
-use Rattle.sr_scene.specs.Steps.{Happens, ServerTakes}
+use Rattle.sr_scene.specs.Steps.{ServerTakes}
 use Rattle.sr_scene.specs.Runs.{Delivers, next_delivery}
 use Rattle.sr_world.specs.declared.world.World.{World}
 use Rattle.sr_world.specs.declared.client.AskOut as code
 use Rattle.sr_world.specs.Worlds.{Stands, DoesDelivery}
 use Rattle.sr_world.specs.Represents.{Past, Facts, Represents, IsAsked, IsReplied, IsOut, Flow, scene_of, client_of}
-use Rattle.sr_world.proofs.StepLemmas.{newest-is, tables-are, does}
+use Rattle.sr_world.proofs.StepLemmas.{newest-is, does}
 
 -- what was asked, where an ask is on its way to the server
 pub record OnItsWay (t : Table) (w : World) (past : Past) (number : ℕ) (fresh : Bool) (parts : List AskPart) (queue : List Message) : Type 0 where

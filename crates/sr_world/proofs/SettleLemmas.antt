@@ -1,14 +1,13 @@
 -- Deliveries one after another, and a query with those that it brings.
-use Rattle.std.proofs.Common.{◌≡◌, ℕ, ◌+◌, ◌≤◌, true, List, [], ◌∷◌, ◌++◌, length, refl, sym, ◌∙◌, ap, subst, arith, zero, suc, append_assoc, append-nil}
-use Rattle.sr_message.specs.declared.message.Message.{Message}
+use Rattle.std.proofs.Common.{◌≡◌, ℕ, ◌+◌, List, [], ◌++◌, refl, sym, ◌∙◌, ap, subst, arith, zero, suc, append_assoc, append-nil}
 use Rattle.sr_model.specs.Events.{Event}
 use Rattle.sr_script.specs.declared.line.TraceLine.{TraceLine}
 use Rattle.sr_scene.specs.Scene.{Scene}
 use Rattle.sr_scene.specs.Steps.{Happens}
-use Rattle.sr_scene.specs.Runs.{Steps, Delivers, DeliversMany, Settles, IsQuiet}
+use Rattle.sr_scene.specs.Runs.{Steps, DeliversMany, Settles, IsQuiet}
 use Rattle.sr_world.specs.declared.world.World.{World}
 use Rattle.sr_world.specs.Worlds.{Stands, Does, DoesStep, DoesEvent, DoesDelivery, DoesMany, DoesSettle}
-use Rattle.sr_world.specs.Represents.{Past, Represents, scene_of}
+use Rattle.sr_world.specs.Represents.{Past, scene_of}
 use Rattle.sr_world.proofs.StepLemmas.{quiet}
 
 -- a world that stands for a scene still does

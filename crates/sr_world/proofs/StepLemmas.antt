@@ -1,6 +1,6 @@
 -- One step of a world is one of its scene.
-use Rattle.std.proofs.Common.{◌≡◌, ℕ, ◌<◌, ◌≤◌, ◌+◌, ◌-◌, Bool, true, false, List, [], ◌∷◌, ◌++◌, map, length, refl, sym, ◌∙◌, ap, subst, arith, zero, suc, inl, inr, Option, Some, None, Ok, Err, length-append, append-nil}
-use Rattle.std.specs.Prelude.{filter, IsTrue, IfOk, OnOk, Result, slice_index_or}
+use Rattle.std.proofs.Common.{◌≡◌, ℕ, ◌+◌, true, List, [], ◌∷◌, ◌++◌, length, refl, sym, ◌∙◌, ap, subst, arith, zero, suc, inl, None, Ok, Err, length-append, append-nil}
+use Rattle.std.specs.Prelude.{filter, IsTrue, IfOk, OnOk, Result}
 use Rattle.std.specs.List.{list_all}
 use Rattle.std.proofs.Math.Seq.{get_or-append_seam}
 use Rattle.sr_cell.specs.declared.fault.Fault.{Fault}
@@ -9,7 +9,7 @@ use Rattle.sr_cell.specs.declared.table.Column.{Column}
 use Rattle.sr_cell.specs.Cells.{Row}
 use Rattle.sr_cell.specs.Columns.{is_point, fits_columns}
 use Rattle.sr_box.specs.Points.{Rect, in_any}
-use Rattle.sr_model.specs.Events.{Event, Exec, QueryOf, ToServer, ToClient}
+use Rattle.sr_model.specs.Events.{Event, Exec}
 use Rattle.sr_model.specs.Queries.{rows_at}
 use Rattle.sr_model.specs.SortedRows.{ascend}
 use Rattle.sr_model.specs.Statements.{Tables, Insert, executed}
@@ -17,12 +17,11 @@ use Rattle.sr_model.specs.Changes.{version_at, newest_of}
 use Rattle.sr_language.specs.Script.{may_create}
 use Rattle.sr_script.specs.declared.line.TraceLine.{TraceLine}
 use Rattle.sr_script.specs.declared.line.TraceLine.TheVariants as line
-use Rattle.sr_scene.specs.Scene.{Scene, Client, first, tables_at, newest_version}
+use Rattle.sr_scene.specs.Scene.{Scene, first, tables_at, newest_version}
 use Rattle.sr_scene.specs.Steps.{Happens, Executes, result_of}
-use Rattle.sr_scene.specs.Runs.{Steps, IsQuiet, AllSettle}
+use Rattle.sr_scene.specs.Runs.{Steps, IsQuiet}
 use Rattle.sr_world.specs.declared.world.World.{World}
 use Rattle.sr_world.specs.declared.server.Server.{Server}
-use Rattle.sr_world.specs.declared.client.AskOut as code
 use Rattle.sr_world.specs.Worlds.{Stands, Does, DoesStep}
 use Rattle.sr_world.specs.Represents.{Past, Facts, Represents, IsUnasked, Flow, scene_of, client_of}
 use Rattle.sr_world.proofs.Filters.{filter-none, and_left, and_right, and_both}

@@ -1,43 +1,27 @@
 -- The client takes a message, as the scene says.
-use Rattle.std.proofs.Common.{◌≡◌, ℕ, ◌≤◌, ◌+◌, Bool, true, false, not, ◌&&◌, ◌||◌, List, [], ◌∷◌, ◌++◌, map, length, refl, sym, ◌∙◌, ap, subst, arith, inl, inr, Option, Some, None, append_assoc, append-nil}
-use Rattle.std.specs.Prelude.{filter, IsTrue, ◌⊎◌}
-use Rattle.std.specs.List.{list_all, AllZip}
-use Rattle.std.proofs.lemmas.List.{length-set}
-use Rattle.std.proofs.lemmas.List.Folds.{list_all-append}
+use Rattle.std.proofs.Common.{◌≡◌, ℕ, List, [], ◌∷◌, ◌++◌, refl, sym, ◌∙◌, ap, subst, inl, inr, Option, Some, None, append_assoc}
 use Rattle.std.specs.declared.collections.VecDeque.{VecDeque}
 use Rattle.std.specs.declared.alloc.Global.{Global}
 use Rattle.sr_cell.specs.declared.table.Table.{Table}
 use Rattle.sr_cell.specs.Cells.{Row}
-use Rattle.sr_cell.specs.Columns.{table_at}
-use Rattle.sr_box.specs.Points.{Rect, in_any, rect_fits, AreSame}
-use Rattle.sr_message.specs.declared.message.AskPart.{AskPart}
 use Rattle.sr_message.specs.declared.message.Message.{Message}
 use Rattle.sr_message.specs.declared.message.Message.TheVariants.{Ask, Notice, Rows, Reply}
 use Rattle.sr_model.specs.Events.{ToClient}
-use Rattle.sr_model.specs.Queries.{rows_at, rows_of}
-use Rattle.sr_model.specs.Changes.{version_at}
-use Rattle.sr_model.specs.SortedRows.{ascend, with_rows}
-use Rattle.sr_history.specs.Marks.{Mark, Held, is_held, with_marks}
-use Rattle.sr_reader.specs.Read.{range_of}
-use Rattle.sr_rows.proofs.Parts.{ascend-filter, with_rows-filters}
 use Rattle.sr_script.specs.declared.line.TraceLine.{TraceLine}
 use Rattle.sr_script.specs.declared.line.TraceLine.TheVariants as line
-use Rattle.sr_scene.specs.Server.{row_messages, asked_rows}
+use Rattle.sr_scene.specs.Server.{row_messages}
 use Rattle.sr_scene.specs.Scene as scene
 use Rattle.sr_scene.specs.Scene.{Scene}
-use Rattle.sr_scene.specs.Steps.{Happens, ClientTakes, TakesMessage, Answers, Keeps, Holds, answer_lines, mark_line, with_answered}
+use Rattle.sr_scene.specs.Steps.{ClientTakes, TakesMessage}
 use Rattle.sr_scene.specs.Runs.{Delivers, next_delivery}
 use Rattle.sr_world.specs.declared.world.World.{World}
 use Rattle.sr_world.specs.declared.client.AskOut as code
 use Rattle.sr_world.specs.declared.client.Client.{Client}
-use Rattle.sr_world.specs.Bound.{meaning_of, part_of}
 use Rattle.sr_world.specs.Client.{reply_version}
-use Rattle.sr_world.specs.Worlds.{Stands, DoesDelivery}
-use Rattle.sr_world.specs.Represents.{Past, Facts, Represents, IsAsked, IsReplied, IsOut, Flow, request_of, scene_of, client_of}
-use Rattle.sr_world.proofs.TwoColumns.{two_columns}
-use Rattle.sr_world.proofs.Arrivals.{AllRows, rows-all, rows-behind, arrived-rows, asked-rows}
-use Rattle.sr_world.proofs.AnswerLemmas.{answer-is, covers-after, held-after, apart, filter-both}
-use Rattle.sr_world.proofs.StepLemmas.{does, none-held}
+use Rattle.sr_world.specs.Worlds.{DoesDelivery}
+use Rattle.sr_world.specs.Represents.{Past, Facts, Represents, IsReplied, IsOut, Flow, request_of, scene_of, client_of}
+use Rattle.sr_world.proofs.Arrivals.{AllRows, rows-all, rows-behind}
+use Rattle.sr_world.proofs.StepLemmas.{does}
 
 -- a reply is on its way to the client
 pub record IsComing (t : Table) (w : World) (past : Past) : Type 0 where

@@ -1,6 +1,6 @@
 -- The table of a script has two columns of numbers.
-use Rattle.std.proofs.Common.{◌≡◌, ℕ, ℤ, Bool, true, false, not, ◌&&◌, List, [], ◌∷◌, length, refl, sym, ◌∙◌, ap, arith}
-use Rattle.std.specs.Prelude.{IsTrue, nat_lt, ◌<◌, ◌==◌, ◌+◌, map, bytes_eq, int_le}
+use Rattle.std.proofs.Common.{◌≡◌, ℕ, ℤ, true, List, [], ◌∷◌, length, refl, sym, arith}
+use Rattle.std.specs.Prelude.{IsTrue, nat_lt, ◌<◌, ◌==◌, ◌+◌, map, int_le}
 use Rattle.std.specs.List.{list_all}
 use Rattle.std.proofs.lemmas.Bool.Decides.{nat_tests}
 use Rattle.sr_cell.specs.declared.cell.Cell.{Cell}
@@ -12,8 +12,8 @@ use Rattle.sr_cell.specs.declared.table.Table.{Table}
 use Rattle.sr_cell.specs.Cells.{Row}
 use Rattle.sr_cell.specs.Columns.{is_point, in_kind, in_column, fits_columns, takes_kind, takes_cell}
 use Rattle.sr_cell.specs.Attrs.{project}
-use Rattle.sr_language.specs.Script.{may_create, may_stand, is_name, is_default, name_at}
-use Rattle.sr_world.proofs.Filters.{and_left, and_right, and_both}
+use Rattle.sr_language.specs.Script.{may_create, may_stand, is_name, is_default}
+use Rattle.sr_world.proofs.Filters.{and_left, and_right}
 
 -- a column of numbers, its domain in order and inside the default
 pub record IsNumbers (c : Column) : Type 0 where

@@ -1,5 +1,5 @@
 -- What a bound query is.
-use Rattle.std.specs.Prelude.{ℕ, ℤ, int_lt, not, ◌==◌, slice_get, ◌≡◌, ◌&&◌, nat_lt, List, [], ◌∷◌, Option, Some, None, IsTrue, if◌then◌else◌}
+use Rattle.std.specs.Prelude.{ℕ, ℤ, int_lt, not, ◌==◌, slice_get, ◌&&◌, nat_lt, List, [], ◌∷◌, Option, Some, None, IsTrue, if◌then◌else◌}
 use Rattle.std.specs.Ordering.{int_eq}
 use Rattle.std.specs.List.{list_all}
 use Rattle.sr_cell.specs.declared.table.Column.{Column}

@@ -1,6 +1,5 @@
 -- What a client makes of rows and messages.
 use Rattle.std.specs.Prelude.{ℕ, Bool, true, false, List, [], ◌∷◌, ◌++◌, map, filter, length, flat_map, Option, Some, None}
-use Rattle.sr_cell.specs.declared.cell.Cell.{Cell}
 use Rattle.sr_cell.specs.Cells.{Row, cell_at}
 use Rattle.sr_box.specs.Points.{Rect, in_any}
 use Rattle.sr_message.specs.declared.message.AskPart.{AskPart}

@@ -1,5 +1,5 @@
 -- Which scenes a world stands for.
-use Rattle.std.specs.Prelude.{ℕ, Bool, true, nat_lt, ◌≡◌, ◌≤◌, ◌<◌, ◌+◌, ◌++◌, ◌⊎◌, List, [], ◌∷◌, length, filter, Option, Some, None, IsTrue}
+use Rattle.std.specs.Prelude.{ℕ, true, ◌≡◌, ◌≤◌, ◌+◌, ◌++◌, ◌⊎◌, List, [], ◌∷◌, length, filter, Option, Some, None, IsTrue}
 use Rattle.std.specs.List.{list_all}
 use Rattle.sr_cell.specs.declared.table.Table.{Table}
 use Rattle.sr_cell.specs.Cells.{Row}
@@ -8,21 +8,18 @@ use Rattle.sr_box.specs.Points.{in_any, rect_fits, AreSame}
 use Rattle.sr_message.specs.declared.message.AskPart.{AskPart}
 use Rattle.sr_message.specs.declared.message.Message.{Message}
 use Rattle.sr_message.specs.declared.message.Message.TheVariants.{Ask, Reply}
-use Rattle.sr_model.specs.Queries.{Part, rows_at, points_of}
-use Rattle.sr_model.specs.Queries as queries
+use Rattle.sr_model.specs.Queries.{rows_at}
 use Rattle.sr_model.specs.SortedRows.{ascend}
 use Rattle.sr_model.specs.Statements.{Tables}
 use Rattle.sr_model.specs.Changes.{version_at}
 use Rattle.sr_history.specs.Marks.{Mark, Held, Dropped, is_held}
 use Rattle.sr_history.specs.Rests.{IsRest}
-use Rattle.sr_language.specs.Script.{select_of, condition_of, may_create}
-use Rattle.sr_reader.specs.Read.{range_of}
+use Rattle.sr_language.specs.Script.{may_create}
 use Rattle.sr_scene.specs.Server.{Session, row_messages}
 use Rattle.sr_scene.specs.Scene as scene
 use Rattle.sr_scene.specs.Scene.{Scene, Request, AskOut, Numbered}
 use Rattle.sr_world.specs.Bound.{meaning_of, part_of, IsBound}
 use Rattle.sr_world.specs.declared.client.AskOut as code
-use Rattle.sr_world.specs.declared.client.Client.{Client}
 use Rattle.sr_world.specs.declared.world.World.{World}
 
 -- The past that a world does not keep.

@@ -1,8 +1,7 @@
-use Rattle.std.proofs.Common.{◌≡◌, ◌∙◌, ◌+◌, ◌≤◌, ◌∷◌, List, length, map, ap, refl, rules, arith}
+use Rattle.std.proofs.Common.{◌≡◌, ◌∙◌, ◌∷◌, length, ap, refl, rules, arith}
 use Rattle.std.proofs.lemmas.Grind.{common_steps}
 use Rattle.std.specs.Vec.Iter.{into_iter_items}
 use Rattle.sr_reader.specs.Read.{insert_event}
-use Rattle.sr_world.specs.Represents.{drawn}
 use Rattle.sr_world.proofs.ReplayLemmas.{RanWhole-none, RanWhole-more, RanPart-whole, RanPart-more, split-next, split-more, all-rest}
 use Rattle.sr_world.proofs.replay.run_inserts.Goals as goal
 

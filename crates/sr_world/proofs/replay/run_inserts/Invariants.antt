@@ -1,8 +1,7 @@
-use Rattle.std.proofs.Common.{ℕ, ◌≡◌, ◌+◌, ◌≤◌, ◌==◌, List, ◌++◌, map, length, IsTrue}
+use Rattle.std.proofs.Common.{◌≡◌, ◌+◌, ◌≤◌, ◌==◌, ◌++◌, map, length, IsTrue}
 use Rattle.std.specs.List.{list_all}
 use Rattle.std.specs.Prelude.{nat_lt}
 use Rattle.std.specs.Vec.Iter.{into_iter_items}
-use Rattle.sr_model.specs.Events.{Event}
 use Rattle.sr_reader.specs.Read.{insert_event}
 use Rattle.sr_world.specs.Represents.{IsUnasked, drawn}
 use Rattle.sr_world.specs.Worlds.{Stands}

@@ -1,4 +1,4 @@
-use Rattle.std.proofs.Common.{◌≡◌, ◌∙◌, ◌<◌, length, arith}
+use Rattle.std.proofs.Common.{◌∙◌, ◌<◌, length, arith}
 use Rattle.sr_world.proofs.PieceLemmas.{pieces-step, pieces-shorter}
 use Rattle.sr_world.proofs.server.push_rows.Goals as goal
 

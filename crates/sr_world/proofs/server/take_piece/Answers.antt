@@ -1,4 +1,4 @@
-use Rattle.std.proofs.Common.{◌≡◌, ◌≤◌, ◌∙◌, sym, drop, [], arith}
+use Rattle.std.proofs.Common.{◌≡◌, ◌≤◌, ◌∙◌, drop, [], arith}
 use Rattle.std.proofs.lemmas.Grind.{common_steps}
 use Rattle.sr_world.proofs.PieceLemmas.{take-all, drop-all}
 use Rattle.sr_world.proofs.server.take_piece.Goals as goal

@@ -1,4 +1,4 @@
-use Rattle.std.proofs.Common.{◌≡◌, ◌<◌, length, ap, Err, arith}
+use Rattle.std.proofs.Common.{◌≡◌, ap, Err, arith}
 use Rattle.sr_world.proofs.TwoColumns.{two_columns, length-two, key-two}
 use Rattle.sr_world.proofs.StepLemmas.{create-of, does-exec, does-refuse, if_ok}
 use Rattle.sr_world.proofs.world.World.exec.Goals as goal

@@ -1,6 +1,5 @@
-use Rattle.std.proofs.Common.{◌≡◌, refl, sym, ◌∙◌, ap}
+use Rattle.std.proofs.Common.{refl, ◌∙◌}
 use Rattle.sr_scene.specs.Runs.{Delivers}
-use Rattle.sr_world.specs.Worlds.{DoesMany}
 use Rattle.sr_world.proofs.SettleLemmas.{still-stands, many-none, many-more}
 use Rattle.sr_world.proofs.world.World.serve_all.Goals as goal
 

@@ -1,4 +1,3 @@
-use Rattle.std.proofs.Common.{refl}
 use Rattle.sr_world.proofs.SettleLemmas.{many-stands, settles}
 use Rattle.sr_world.proofs.world.World.settle.Goals as goal
 

@@ -1,6 +1,4 @@
-use Rattle.std.proofs.Common.{refl, sym, ◌∙◌, ap}
-use Rattle.sr_script.specs.declared.line.TraceLine.{TraceLine}
-use Rattle.sr_world.specs.Worlds.{DoesDelivery}
+use Rattle.std.proofs.Common.{sym, ◌∙◌}
 use Rattle.sr_world.proofs.StepLemmas.{if_each, on_ok, of_ok}
 use Rattle.sr_world.proofs.TakeLemmas.{does-lay}
 use Rattle.sr_world.proofs.ReplyLemmas.{does-take, take-ascend, is-out}

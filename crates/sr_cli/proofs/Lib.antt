@@ -1,1 +1,2 @@
+pub mod OneSaying
 pub mod FitsLemmas

@@ -78,3 +78,4 @@ pub record FitsScript (script : List ℕ) (status : ℕ) : Type 0 where
   pub long : 67108864 < length script → (status ≡ 9) ⊎ (status ≡ 10)
   pub too_long : status ≡ 10 → 67108864 < length script
   pub unbuilt : status ≡ 12 → (line : ℕ) × FirstUnbuilt 1 Start (lines_of script) line
+  pub built : status ≡ 0 → (line : ℕ) → ¬ FirstUnbuilt 1 Start (lines_of script) line

@@ -1,7 +1,7 @@
 -- Each token has a byte, lies in the text, and begins and ends with an ASCII byte.
 use Rattle.std.proofs.Common.{◌≡◌, ℕ, zero, suc, ◌+◌, ◌-◌, ◌<◌, ◌≤◌, Bool, true, false, List, [], ◌∷◌, ◌==◌, length, get_or, Option, Some, None, refl, sym, ap, ◌∙◌, arith, lit<}
-use Rattle.std.specs.Prelude.{◌||◌, if◌then◌else◌, nat_le}
-use Rattle.std.specs.Char.{is_ascii_alphabetic, is_ascii_digit}
+use Rattle.std.specs.Prelude.{if◌then◌else◌, nat_le}
+use Rattle.std.specs.Char.{is_ascii_digit}
 use Rattle.std.proofs.lemmas.Grind.{common_steps}
 use Rattle.std.proofs.lemmas.Bool.Decides.{nat_tests}
 use Rattle.sr_token.specs.declared.token.TokenKind.{TokenKind}
@@ -62,18 +62,18 @@ quoted-last (suc fuel) (b ∷ c ∷ bytes) lt n e = go (b == 39) (c == 39) (quot
     back n k (Some j) e = let i : j + k ≡ n = cc in (j, refl, sym i)
 
     go : (x y : Bool) → AllEndQuoted bytes → AllEndQuoted (c ∷ bytes) → (b == 39) ≡ x → (c == 39) ≡ y
-      → (if x then (if y then longer 2 (quoted_length bytes) else Some 1) else longer 1 (quoted_length (c ∷ bytes))) ≡ Some n → EndsQuoted (b ∷ c ∷ bytes) n
+        → (if x then (if y then longer 2 (quoted_length bytes) else Some 1) else longer 1 (quoted_length (c ∷ bytes))) ≡ Some n → EndsQuoted (b ∷ c ∷ bytes) n
     go true true after next p q e =
-      let k = back n 2 (quoted_length bytes) e in
-      let h = after k.0 k.1 in
-      let s : n - 1 ≡ suc (suc (k.0 - 1)) = omega (arith, k.2, h.0) in
-      (omega (arith, k.2), omega (arith, k.2, h.1), rw s h.2)
+        let k = back n 2 (quoted_length bytes) e in
+        let h = after k.0 k.1 in
+        let s : n - 1 ≡ suc (suc (k.0 - 1)) = omega (arith, k.2, h.0) in
+        (omega (arith, k.2), omega (arith, k.2, h.1), rw s h.2)
     go true false after next p q e = let k : 1 ≡ n = cc in rw (← k) (omega arith, omega arith, grind (arith, nat_tests))
     go false y after next p q e =
-      let k = back n 1 (quoted_length (c ∷ bytes)) e in
-      let h = next k.0 k.1 in
-      let s : n - 1 ≡ suc (k.0 - 1) = omega (arith, k.2, h.0) in
-      (omega (arith, k.2), omega (arith, k.2, h.1), rw s h.2)
+        let k = back n 1 (quoted_length (c ∷ bytes)) e in
+        let h = next k.0 k.1 in
+        let s : n - 1 ≡ suc (k.0 - 1) = omega (arith, k.2, h.0) in
+        (omega (arith, k.2), omega (arith, k.2, h.1), rw s h.2)
 
 abbrev token : TokenKind → ℕ → Option (TokenKind × ℕ)
 token kind n = Some (kind, n)
@@ -95,9 +95,9 @@ at_most-is most m n j k e = go (nat_le m most) e
 
 run-front : (passes : ℕ → Bool) → IsAscii passes → (b : ℕ) (bytes : List ℕ) (n : ℕ) → passes b ≡ true → run passes (b ∷ bytes) ≡ n → IsFront (b ∷ bytes) n
 run-front passes ascii b bytes n is e =
-  let some = run_some passes b bytes is in
-  let ends : n - 1 < run passes (b ∷ bytes) = omega (arith, some, e) in
-  record { some = omega (arith, some, e); within = omega (arith, run_within passes (b ∷ bytes), e); first = ascii b is; last = run-ascii passes ascii (b ∷ bytes) (n - 1) ends }
+    let some = run_some passes b bytes is in
+    let ends : n - 1 < run passes (b ∷ bytes) = omega (arith, some, e) in
+    record { some = omega (arith, some, e); within = omega (arith, run_within passes (b ∷ bytes), e); first = ascii b is; last = run-ascii passes ascii (b ∷ bytes) (n - 1) ends }
 
 sign-ascii : IsAscii is_sign
 sign-ascii b e = grind (arith, nat_tests)
@@ -132,15 +132,15 @@ first_token-front (b ∷ bytes) k n e = go (begins_word b) (is_ascii_digit b) (b
     quoted : (o : Option ℕ) → quoted_length bytes ≡ o → (b == 39) ≡ true → quoted_token o ≡ Some (k, n) → IsFront (b ∷ bytes) n
     quoted None was is e = absurd cc
     quoted (Some m) was is e =
-      let j : m + 1 ≡ n = same_length Quoted k (m + 1) n e in
-      let h = quoted-last (suc (length bytes)) bytes (omega arith) m was in
-      let s : n - 1 ≡ suc (m - 1) = omega (arith, h.0, j) in
-      let quote : b < 128 = grind (arith, nat_tests) in
-      record { some = omega (arith, j); within = omega (arith, h.1, j); first = quote; last = rw (s, h.2) (lit< tt) }
+        let j : m + 1 ≡ n = same_length Quoted k (m + 1) n e in
+        let h = quoted-last (suc (length bytes)) bytes (omega arith) m was in
+        let s : n - 1 ≡ suc (m - 1) = omega (arith, h.0, j) in
+        let quote : b < 128 = grind (arith, nat_tests) in
+        record { some = omega (arith, j); within = omega (arith, h.1, j); first = quote; last = rw (s, h.2) (lit< tt) }
 
     go : (w d q : Bool) → begins_word b ≡ w → is_ascii_digit b ≡ d → (b == 39) ≡ q
-      → (if w then at_most 64 Word (run goes_on_word (b ∷ bytes)) else (if d then at_most 18 Number (run is_ascii_digit (b ∷ bytes)) else (if q then quoted_token (quoted_length bytes) else mark_token (mark_length (b ∷ bytes))))) ≡ Some (k, n)
-      → IsFront (b ∷ bytes) n
+        → (if w then at_most 64 Word (run goes_on_word (b ∷ bytes)) else (if d then at_most 18 Number (run is_ascii_digit (b ∷ bytes)) else (if q then quoted_token (quoted_length bytes) else mark_token (mark_length (b ∷ bytes))))) ≡ Some (k, n)
+        → IsFront (b ∷ bytes) n
     go true d q isw isd isq e = run-front goes_on_word word-ascii b bytes n (word isw) (at_most-is 64 _ n Word k e)
     go false true q isw isd isq e = run-front is_ascii_digit digit-ascii b bytes n isd (at_most-is 18 _ n Number k e)
     go false false true isw isd isq e = quoted (quoted_length bytes) refl isq e

@@ -1,7 +1,6 @@
 -- Steps over a quoted text.
-use Rattle.std.proofs.Common.{◌≡◌, ℕ, suc, ◌+◌, ◌<◌, Bool, true, false, cond, List, [], ◌∷◌, ◌==◌, length, get_or, drop, Option, Some, None, refl, sym, ap, ◌∙◌, arith, add-one}
+use Rattle.std.proofs.Common.{◌≡◌, ℕ, suc, ◌+◌, ◌<◌, false, List, [], ◌∷◌, ◌==◌, length, get_or, drop, Option, Some, None, refl, ap, arith}
 use Rattle.std.proofs.Math.Seq.{drop-cons}
-use Rattle.std.proofs.lemmas.Grind.{common_steps}
 use Rattle.sr_token.specs.Tokens.{quoted_length, longer}
 
 pub longer-again : (i n : ℕ) (o : Option ℕ) → longer i (longer n o) ≡ longer (i + n) o
@@ -17,17 +16,17 @@ plain b (c ∷ bs) e = rw e refl
 
 pub quoted-doubled : (bs : List ℕ) (i : ℕ) → i + 1 < length bs → get_or bs i 0 ≡ 39 → get_or bs (i + 1) 0 ≡ 39 → quoted_length (drop i bs) ≡ longer 2 (quoted_length (drop (i + 2) bs))
 quoted-doubled bs i lt e f =
-  let one : i < length bs = omega arith in
-  let k : i + 1 ≡ suc i = omega arith in
-  let j : i + 2 ≡ suc (suc i) = omega arith in
-  let a : drop i bs ≡ get_or bs i 0 ∷ drop (suc i) bs = drop-cons bs i 0 one in
-  let next : suc i < length bs = omega arith in
-  let b : drop (suc i) bs ≡ get_or bs (suc i) 0 ∷ drop (suc (suc i)) bs = drop-cons bs (suc i) 0 next in
-  let f2 : get_or bs (suc i) 0 ≡ 39 = rw (← k) f in
-  rw (a, b, j) (two (get_or bs i 0) (get_or bs (suc i) 0) (drop (suc (suc i)) bs) e f2)
+    let one : i < length bs = omega arith in
+    let k : i + 1 ≡ suc i = omega arith in
+    let j : i + 2 ≡ suc (suc i) = omega arith in
+    let a : drop i bs ≡ get_or bs i 0 ∷ drop (suc i) bs = drop-cons bs i 0 one in
+    let next : suc i < length bs = omega arith in
+    let b : drop (suc i) bs ≡ get_or bs (suc i) 0 ∷ drop (suc (suc i)) bs = drop-cons bs (suc i) 0 next in
+    let f2 : get_or bs (suc i) 0 ≡ 39 = rw (← k) f in
+    rw (a, b, j) (two (get_or bs i 0) (get_or bs (suc i) 0) (drop (suc (suc i)) bs) e f2)
 
 pub quoted-plain : (bs : List ℕ) (i : ℕ) → i < length bs → (get_or bs i 0 == 39) ≡ false → quoted_length (drop i bs) ≡ longer 1 (quoted_length (drop (i + 1) bs))
 quoted-plain bs i lt e =
-  let k : i + 1 ≡ suc i = omega arith in
-  let a : drop i bs ≡ get_or bs i 0 ∷ drop (suc i) bs = drop-cons bs i 0 lt in
-  rw (a, k) (plain (get_or bs i 0) (drop (suc i) bs) e)
+    let k : i + 1 ≡ suc i = omega arith in
+    let a : drop i bs ≡ get_or bs i 0 ∷ drop (suc i) bs = drop-cons bs i 0 lt in
+    rw (a, k) (plain (get_or bs i 0) (drop (suc i) bs) e)

@@ -25,7 +25,7 @@ abbrev pub longer : ℕ → Option ℕ → Option ℕ
 longer n None = None
 longer n (Some k) = Some (k + n)
 
--- how many bytes stand behind a first quote up to the next quote that is not doubled, that one included
+-- how many bytes stand behind a first quote (39) up to the next quote that is not doubled, that one included
 abbrev pub quoted_length : List ℕ → Option ℕ
 quoted_length [] = None
 quoted_length (b ∷ []) = if b == 39 then Some 1 else None
@@ -45,7 +45,7 @@ mark_length [] = 0
 mark_length (b ∷ []) = if is_sign b then 1 else 0
 mark_length (b ∷ c ∷ bytes) = if is_pair b c then 2 else (if is_sign b then 1 else 0)
 
--- a longer run is no token
+-- the token of a run; a longer run is none
 abbrev pub at_most : ℕ → TokenKind → ℕ → Option (TokenKind × ℕ)
 at_most most kind n = if nat_le n most then Some (kind, n) else None
 
@@ -56,7 +56,8 @@ quoted_token (Some n) = Some (Quoted, n + 1)
 abbrev pub mark_token : ℕ → Option (TokenKind × ℕ)
 mark_token n = if n == 0 then None else Some (Mark, n)
 
--- the kind and the length of the token at the front; None where none begins there
+-- The kind and the length of the token at the front: a word of at most 64 bytes, a number of at most 18 digits, a text in quotes
+-- or the longest mark. None where none begins there.
 abbrev pub first_token : List ℕ → Option (TokenKind × ℕ)
 first_token [] = None
 first_token (b ∷ bytes) =
@@ -79,7 +80,7 @@ abbrev pub then_rest : List ℕ → ℕ → (ℕ → List Lexeme) → Option (To
 then_rest source from rest None = Bad from ∷ []
 then_rest source from rest (Some t) = Found t.0 from (from + t.1) (take t.1 (drop from source)) ∷ rest (from + t.1)
 
--- the first of them, as many as the count says
+-- as many of the tokens from a place on as the count says
 abbrev pub tokens_within : ℕ → List ℕ → ℕ → List Lexeme
 tokens_within zero source at = []
 tokens_within (suc count) source at =

@@ -1,6 +1,6 @@
 //! The kind and the length of the token that stands first.
 ghost use Rattle.std.specs.Prelude.{◌≡◌, ◌<◌, ◌≤◌, length, IfSome};
-ghost use Rattle.sr_token.specs.Tokens.{begins_word, run, quoted_length, mark_length, first_token};
+ghost use Rattle.sr_token.specs.Tokens.{begins_word, run, quoted_length, mark_length, at_most, first_token};
 ghost use Rattle.sr_token.specs.Classes.{passes};
 
 use crate::token::TokenKind;
@@ -75,8 +75,22 @@ fn mark_of(bytes: &[u8]) -> usize
 {
     match bytes {
         [b'<', b'=', ..] | [b'>', b'=', ..] | [b'<', b'>', ..] | [b'!', b'=', ..] => 2,
-        [b'(' | b')' | b',' | b';' | b'.' | b'*' | b'-' | b'=' | b'<' | b'>', ..] => 1,
+        [
+            b'(' | b')' | b',' | b';' | b'.' | b'*' | b'-' | b'=' | b'<' | b'>',
+            ..
+        ] => 1,
         _ => 0,
+    }
+}
+
+/// The token that a run makes, or None where the run is too long.
+fn at_most(most: usize, kind: TokenKind, length: usize) -> Option<(TokenKind, usize)>
+    ensures { result ≡ at_most most kind length }
+{
+    if length <= most {
+        Some((kind, length))
+    } else {
+        None
     }
 }
 
@@ -88,20 +102,19 @@ pub(crate) fn first_of(bytes: &[u8]) -> Option<(TokenKind, usize)>
     let first = bytes[0];
     if begins_word(first) {
         let length = run_of(Class::Word, bytes);
-        return if length <= WORD_BYTES { Some((TokenKind::Word, length)) } else { None };
-    }
-    if first.is_ascii_digit() {
+        at_most(WORD_BYTES, TokenKind::Word, length)
+    } else if first.is_ascii_digit() {
         let length = run_of(Class::Digit, bytes);
-        return if length <= NUMBER_DIGITS { Some((TokenKind::Number, length)) } else { None };
-    }
-    if first == b'\'' {
-        return match quoted_end(&bytes[1..]) {
+        at_most(NUMBER_DIGITS, TokenKind::Number, length)
+    } else if first == b'\'' {
+        match quoted_end(&bytes[1..]) {
             Some(length) => Some((TokenKind::Quoted, length + 1)),
             None => None,
-        };
-    }
-    match mark_of(bytes) {
-        0 => None,
-        length => Some((TokenKind::Mark, length)),
+        }
+    } else {
+        match mark_of(bytes) {
+            0 => None,
+            length => Some((TokenKind::Mark, length)),
+        }
     }
 }

@@ -5,7 +5,7 @@ ghost use Rattle.sr_token.specs.Tokens.{Found, Bad, begin, tokens_from};
 ghost use Rattle.sr_token.specs.Spans.{AreSpans};
 ghost use Rattle.sr_token.specs.Places.{IsTokenAt};
 
-use crate::lexer::{first_of, run_of, Class};
+use crate::lexer::{Class, first_of, run_of};
 use crate::token::Token;
 use sr_cell::fault::{Fault, Why};
 use std::marker::Model;

@@ -1,0 +1,5 @@
+mod Quotes
+mod Ascii
+mod Cuts
+mod Streams
+mod Spans

@@ -1,0 +1,4 @@
+pub mod Tokens
+pub mod Spans
+pub mod Classes
+pub mod Places

@@ -1,5 +1,5 @@
 -- The server takes an ask, as the scene says.
-use Rattle.std.proofs.Common.{◌≡◌, ℕ, ◌≤◌, ◌-◌, Bool, true, false, List, [], ◌∷◌, ◌++◌, length, refl, sym, ◌∙◌, ap, subst, arith, inl, inr, Option, Some, None}
+use Rattle.std.proofs.Common.{◌≡◌, ℕ, ◌-◌, Bool, true, false, List, [], ◌∷◌, ◌++◌, length, refl, sym, ◌∙◌, ap, subst, arith, inl, inr, Option, Some, None}
 use Rattle.std.specs.Prelude.{◌⊎◌}
 use Rattle.std.specs.declared.collections.VecDeque.{VecDeque}
 use Rattle.std.specs.declared.alloc.Global.{Global}
@@ -19,7 +19,7 @@ use Rattle.sr_scene.specs.Steps.{ServerTakes}
 use Rattle.sr_scene.specs.Runs.{Delivers, next_delivery}
 use Rattle.sr_world.specs.declared.world.World.{World}
 use Rattle.sr_world.specs.declared.client.AskOut as code
-use Rattle.sr_world.specs.Worlds.{Stands, DoesDelivery}
+use Rattle.sr_world.specs.Worlds.{DoesDelivery}
 use Rattle.sr_world.specs.Represents.{Past, Facts, Represents, IsAsked, IsReplied, IsOut, Flow, scene_of, client_of}
 use Rattle.sr_world.proofs.StepLemmas.{newest-is, does}
 
@@ -152,31 +152,3 @@ pub does-serve : (w : World) (number : ℕ) (fresh : Bool) (parts : List AskPart
 does-serve w number fresh parts queue sent to_server to_client asked left replied queued =
     does (λ s. Delivers s 1) w (with_queues w to_server to_client) (line.ServerTook 1 kind.Ask (length sent) ∷ [])
     (λ t past f. serves t w past number fresh parts queue sent to_server to_client f asked left replied queued)
-
--- an ask has one part
-pub one-part : (w : World) (number : ℕ) (fresh : Bool) (parts : List AskPart) (queue : List Message) → Stands w → w.to_server.items ≡ Ask number fresh parts ∷ queue → length parts ≤ 4
-one-part w number fresh parts queue stands asked =
-    let r = stands.1 in
-    let way = on-its-way r.t w r.past number fresh parts queue r.facts asked in
-    let one : parts ≡ way.is_out.ask ∷ [] = way.same_parts ∙ way.is_out.parts in
-    rw one (omega arith)
-
--- what is on its way to the server is an ask
-abbrev pub IsAsk : Message → Type 0
-IsAsk (Ask number fresh parts) = Unit {0}
-IsAsk m = ⊥
-
-pub only-asks : (w : World) (m : Message) (queue : List Message) → Stands w → w.to_server.items ≡ m ∷ queue → IsAsk m
-only-asks w m queue stands sent =
-    let r = stands.1 in
-    by r.past w.client.out r.facts.flow
-  where
-    asked : (o : code.AskOut) → w.to_server.items ≡ Ask o.number o.fresh o.parts ∷ [] → IsAsk m
-    asked o to_server =
-        let same : m ≡ Ask o.number o.fresh o.parts = (let all : m ∷ queue ≡ Ask o.number o.fresh o.parts ∷ [] = sym sent ∙ to_server in cc) in
-        subst IsAsk (sym same) record {}
-
-    by : (past : Past) (out : Option code.AskOut) → Flow stands.1.t w past out → IsAsk m
-    by past None flow = absurd (let k : m ∷ queue ≡ [] = sym sent ∙ flow.0 in cc)
-    by past (Some o) (is_out, inl is_asked) = asked o is_asked.to_server
-    by past (Some o) (is_out, inr is_replied) = absurd (let k : m ∷ queue ≡ [] = sym sent ∙ is_replied.to_server in cc)

@@ -1,2 +1,1 @@
-pub mod OneSaying
 pub mod FitsLemmas

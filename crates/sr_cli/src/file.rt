@@ -1,7 +1,7 @@
 //! Reading the script.
 ghost use Rattle.std.specs.Prelude.{◌≡◌, OnOk, IfOk, IsErrOf};
 ghost use Rattle.sr_io.specs.Causes.{Rose};
-ghost use Rattle.sr_cli.specs.Run.{IsRead, IsTooLong};
+ghost use Rattle.sr_cli.specs.Run.{IsWhatIsHeld, IsTooLong};
 ghost use Rattle.sr_cli.specs.declared.file.ReadFault.TheVariants.{Fault, NoMemory as Wanting, TooLong};
 
 use sr_cell::list::{Bytes, No};
@@ -25,7 +25,7 @@ pub enum ReadFault {
 
 /// Reads what is held under the name.
 pub fn read_file<H: Host>(alloc: Global, name: &str, host: &mut H) -> Result<Bytes, ReadFault>
-    ensures read { IfOk result (IsRead (H.held host.old name.now)) }
+    ensures read { IfOk result (IsWhatIsHeld (H.held host.old name.now)) }
     ensures too_long { IsErrOf result TooLong → IsTooLong (H.held host.old name.now) (H.reading host.new).left }
     ensures fault_is_counted { IsErrOf result Fault → Rose (H.reading host.old).faults (H.reading host.new).faults }
     ensures ok_keeps_faults { OnOk result ((H.reading host.new).faults ≡ (H.reading host.old).faults) }

@@ -1,15 +1,18 @@
 //! The top call.
 ghost use Rattle.std.specs.Prelude.{◌≡◌, ℕ, ◌⊎◌, ◌↔◌, Some, None, IfSome, OnOk, IsErrOf};
 ghost use Rattle.std.specs.Option.{option_copied};
+ghost use Rattle.sr_cell.specs.declared.fault.Fault.{Fault as TheFault};
 ghost use Rattle.sr_io.specs.Causes.{Rose};
 ghost use Rattle.sr_io.specs.Told.{complained};
-ghost use Rattle.sr_cli.specs.Run.{file_of, OnFile, IsStatus, Replayed, ReplayedInPart, IsTooLong, IsUnbuilt, NamedUnbuilt, unbuilt_text, error_text, FitsScript};
-ghost use Rattle.sr_cli.specs.declared.run.Refusal.TheVariants.{Read, Write, Memory, TooLong, Unbuilt};
+ghost use Rattle.sr_cli.specs.Run.{file_of, OnFile, IsStatus, Replayed, ReplayedInPart, IsTooLong, IsRefusedSetup, IsUnbuilt, NamedSetup, NamedUnbuilt, setup_text, unbuilt_text, error_text, FitsScript};
+ghost use Rattle.sr_cli.specs.declared.run.Refusal.TheVariants.{Read, Write, Memory, TooLong, Setup, Unbuilt};
 
 use crate::file::{ReadFault, read_file};
+use sr_cell::fault::Fault;
 use sr_cell::list::No;
 use sr_cell::text::Text;
 use sr_io::outside::Host;
+use sr_script::words::why_word;
 use sr_world::replay::{RunFault, replay};
 use std::alloc::Global;
 
@@ -24,6 +27,8 @@ pub enum Refusal {
     Memory,
     /// The file is too long.
     TooLong,
+    /// That line is the first CREATE line that is refused, and why.
+    Setup { line: u64, fault: Fault },
     /// That line is the first that is not built.
     Unbuilt { line: u64 },
 }
@@ -39,8 +44,9 @@ pub fn run<H: Host>(alloc: Global, words: &[Text], host: &mut H) -> u8
     ensures part_after_fault { result ≡ 4 → OnFile words.now (λ name. ReplayedInPart (H.held host.old name) (H.writing host.old).written (H.writing host.new).written) }
     ensures part_in_want { result ≡ 9 → (H.writing host.new ≡ H.writing host.old) ⊎ OnFile words.now (λ name. ReplayedInPart (H.held host.old name) (H.writing host.old).written (H.writing host.new).written) }
     ensures too_long { result ≡ 10 → OnFile words.now (λ name. IsTooLong (H.held host.old name) (H.reading host.new).left) }
+    ensures setup { result ≡ 7 → OnFile words.now (λ name. NamedSetup (H.held host.old name) (H.complaints host.old) (H.complaints host.new)) }
     ensures unbuilt { result ≡ 12 → OnFile words.now (λ name. NamedUnbuilt (H.held host.old name) (H.complaints host.old) (H.complaints host.new)) }
-    ensures writes_nothing { (result ≡ 2) ⊎ (result ≡ 3) ⊎ (result ≡ 10) ⊎ (result ≡ 12) → H.writing host.new ≡ H.writing host.old }
+    ensures writes_nothing { (result ≡ 2) ⊎ (result ≡ 3) ⊎ (result ≡ 7) ⊎ (result ≡ 10) ⊎ (result ≡ 12) → H.writing host.new ≡ H.writing host.old }
     ensures reading_keeps_faults { (result ≡ 3) ⊎ ((H.reading host.new).faults ≡ (H.reading host.old).faults) }
     ensures writing_keeps_faults { (result ≡ 4) ⊎ ((H.writing host.new).faults ≡ (H.writing host.old).faults) }
     ensures silent { result ≡ 0 → H.complaints host.new ≡ H.complaints host.old }
@@ -88,6 +94,8 @@ fn replay_file<H: Host>(alloc: Global, name: &str, host: &mut H) -> Result<(), R
     ensures part_in_want { IsErrOf result Memory → (H.writing host.new ≡ H.writing host.old) ⊎ ReplayedInPart (H.held host.old name.now) (H.writing host.old).written (H.writing host.new).written }
     ensures too_long { IsErrOf result TooLong → IsTooLong (H.held host.old name.now) (H.reading host.new).left }
     ensures too_long_writes_nothing { IsErrOf result TooLong → H.writing host.new ≡ H.writing host.old }
+    ensures setup { (line : ℕ) (fault : TheFault) → IsErrOf result (Setup line fault) → IsRefusedSetup (H.held host.old name.now) line fault }
+    ensures setup_writes_nothing { (line : ℕ) (fault : TheFault) → IsErrOf result (Setup line fault) → H.writing host.new ≡ H.writing host.old }
     ensures unbuilt { (line : ℕ) → IsErrOf result (Unbuilt line) → IsUnbuilt (H.held host.old name.now) line }
     ensures unbuilt_writes_nothing { (line : ℕ) → IsErrOf result (Unbuilt line) → H.writing host.new ≡ H.writing host.old }
     ensures reading_keeps_faults { IsErrOf result Read ⊎ ((H.reading host.new).faults ≡ (H.reading host.old).faults) }
@@ -107,6 +115,9 @@ fn replay_file<H: Host>(alloc: Global, name: &str, host: &mut H) -> Result<(), R
             Ok(_) => Ok(()),
             Err(No::NoMemory) => Err(Refusal::Memory),
             Err(No::Refused(RunFault::WriteFault)) => Err(Refusal::Write),
+            Err(No::Refused(RunFault::Setup { line, fault })) => {
+                Err(Refusal::Setup { line, fault })
+            }
             Err(No::Refused(RunFault::Unbuilt { line })) => Err(Refusal::Unbuilt { line }),
         },
     }
@@ -114,11 +125,12 @@ fn replay_file<H: Host>(alloc: Global, name: &str, host: &mut H) -> Result<(), R
 
 /// Says why on the error output, and answers the status.
 fn report<H: Host>(alloc: Global, refusal: Refusal, host: &mut H) -> u8
-    ensures only { (result ≡ 3) ⊎ (result ≡ 4) ⊎ (result ≡ 9) ⊎ (result ≡ 10) ⊎ (result ≡ 12) }
+    ensures only { (result ≡ 3) ⊎ (result ≡ 4) ⊎ (result ≡ 7) ⊎ (result ≡ 9) ⊎ (result ≡ 10) ⊎ (result ≡ 12) }
     ensures read { result ≡ 3 → refusal ≡ Read }
     ensures write { result ≡ 4 → refusal ≡ Write }
-    ensures memory { result ≡ 9 → (refusal ≡ Memory) ⊎ ((line : ℕ) × (refusal ≡ Unbuilt line)) }
+    ensures memory { result ≡ 9 → (refusal ≡ Memory) ⊎ ((line : ℕ) × (fault : TheFault) × (refusal ≡ Setup line fault)) ⊎ ((line : ℕ) × (refusal ≡ Unbuilt line)) }
     ensures too_long { result ≡ 10 → refusal ≡ TooLong }
+    ensures setup { result ≡ 7 → (line : ℕ) × (fault : TheFault) × (refusal ≡ Setup line fault) × (H.complaints host.new ≡ complained (setup_text line fault) (H.complaints host.old)) }
     ensures unbuilt { result ≡ 12 → (line : ℕ) × (refusal ≡ Unbuilt line) × (H.complaints host.new ≡ complained (unbuilt_text line) (H.complaints host.old)) }
     ensures complaint { IfSome (error_text result) (λ text. H.complaints host.new ≡ complained text (H.complaints host.old)) }
     ensures stays_steady { H.IsSteady host.old → H.IsSteady host.new }
@@ -144,7 +156,32 @@ fn report<H: Host>(alloc: Global, refusal: Refusal, host: &mut H) -> u8
             host.complain(b"too long\n");
             10
         }
+        Refusal::Setup { line, fault } => report_setup(alloc, line, fault, host),
         Refusal::Unbuilt { line } => report_unbuilt(alloc, line, host),
+    }
+}
+
+/// Names the line and its fault on the error output, or tells that there was no memory for it.
+fn report_setup<H: Host>(alloc: Global, line: u64, fault: Fault, host: &mut H) -> u8
+    ensures only { (result ≡ 7) ⊎ (result ≡ 9) }
+    ensures named { result ≡ 7 → H.complaints host.new ≡ complained (setup_text line fault) (H.complaints host.old) }
+    ensures memory { IfSome (error_text result) (λ text. H.complaints host.new ≡ complained text (H.complaints host.old)) }
+    ensures stays_steady { H.IsSteady host.old → H.IsSteady host.new }
+    ensures reading_stays { H.reading host.new ≡ H.reading host.old }
+    ensures writing_stays { H.writing host.new ≡ H.writing host.old }
+    ensures linking_stays { H.linking host.new ≡ H.linking host.old }
+    ensures held_stays { H.held host.new ≡ H.held host.old }
+{
+    let why = why_word(fault.why);
+    match format!(in alloc; "schema {line} {why} {}\n", fault.at) {
+        Ok(text) => {
+            host.complain(text.as_bytes());
+            7
+        }
+        Err(_) => {
+            host.complain(b"memory\n");
+            9
+        }
     }
 }
 

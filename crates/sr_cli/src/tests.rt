@@ -50,6 +50,56 @@ const TWO_QUERIES_TRACE: &str = "2 exec version 1
 5 toclient 1 answered
 ";
 
+/// The same in lower case and with more blanks, and with other spellings of the client's number.
+const SPELLED: &str =
+    "  create  table  p  (id  int  primary  key  check  (id  between  0  and  9999),  age  int  check  (age  between  0  and  150))
+exec insert  into  p  values  (1,  35),  (2,  45)
+exec   insert  into  p  values  (3,  33)  
+query 01 select  id,  age  from  p  where  age  between  30  and  40
+query 001  select  *  from  p  where  age  between  35  and  50
+";
+
+/// Texts that are refused change nothing, and the run goes on.
+const REFUSED_TEXTS: &str = "create table p (id int primary key, age int)
+exec DELETE FROM
+query 1 SELECT id FROM
+query 1 SELECT * FROM p WHERE age BETWEEN 9 AND 0
+";
+
+const REFUSED_TEXTS_TRACE: &str = "2 exec refused grammar 11
+3 query 1 sql grammar 14
+4 answer 1 1 0 0
+4 query 1 answered 1
+";
+
+const WITHOUT_TABLE: &str = "exec DELETE FROM
+query 1 SELECT id FROM
+";
+
+const WITHOUT_TABLE_TRACE: &str = "1 exec refused grammar 11
+2 query 1 sql grammar 14
+";
+
+const WITHOUT_KEY: &str = "# A table without a key.
+CREATE TABLE p (id INT, age INT)
+exec DELETE FROM p
+";
+
+const REPEATED_COLUMN: &str = "CREATE TABLE p (id INT PRIMARY KEY, id INT)";
+
+const REPEATED_TABLE: &str = "CREATE TABLE p (id INT PRIMARY KEY, age INT)
+CREATE TABLE p (id INT PRIMARY KEY, age INT)
+";
+
+/// The first table is sound, and of a form that is not built.
+const BROKEN_TABLE: &str = "CREATE TABLE p (id INT PRIMARY KEY)
+CREATE TABLE q id INT
+";
+
+const SECOND_TABLE: &str = "CREATE TABLE p (id INT PRIMARY KEY, age INT)
+CREATE TABLE q (id INT PRIMARY KEY, age INT)
+";
+
 const COVERED: &str =
     "CREATE TABLE p (id INT PRIMARY KEY CHECK (id BETWEEN 0 AND 9999), age INT CHECK (age BETWEEN 0 AND 150))
 exec INSERT INTO p VALUES (1, 35), (2, 45)
@@ -140,6 +190,9 @@ fn scripts_are_replayed(rt: HostRuntime) -> Result<(), Fail> {
         (SCHEMA_ALONE, ""),
         (TWO_QUERIES, TWO_QUERIES_TRACE),
         (COVERED, COVERED_TRACE),
+        (SPELLED, TWO_QUERIES_TRACE),
+        (REFUSED_TEXTS, REFUSED_TEXTS_TRACE),
+        (WITHOUT_TABLE, WITHOUT_TABLE_TRACE),
     ] {
         let got = run_over(alloc, IN_FORM, script, 0)?;
         assert_eq!(rt; got.error.as_slice(), b"".as_slice());
@@ -154,6 +207,11 @@ fn refusals_are_named(rt: HostRuntime) -> Result<(), Fail> {
     let alloc = rt.alloc();
     for (script, fails, status, error) in [
         (UNBUILT, 0, 12, "unbuilt 5\n"),
+        (SECOND_TABLE, 0, 12, "unbuilt 2\n"),
+        (WITHOUT_KEY, 0, 7, "schema 2 no-key 0\n"),
+        (REPEATED_COLUMN, 0, 7, "schema 1 duplicate-name 1\n"),
+        (REPEATED_TABLE, 0, 7, "schema 2 duplicate-name 0\n"),
+        (BROKEN_TABLE, 0, 7, "schema 2 grammar 15\n"),
         (TWO_QUERIES, 1, 3, "read\n"),
         (TWO_QUERIES, 2, 3, "read\n"),
         (TWO_QUERIES, 3, 3, "read\n"),

@@ -1,4 +1,4 @@
 pub mod Texts
 pub mod Lines
-pub mod Statements
+pub mod Built
 pub mod Script

@@ -7,7 +7,7 @@ use denote.Ref.{Bor}
 use Rattle.std.proofs.lemmas.Grind.{common_steps}
 use Rattle.std.proofs.lemmas.Bool.Decides.{nat_tests}
 use Rattle.sr_language.specs.Lines.{lines_of, before_line}
-use Rattle.sr_reader.specs.Walk.{first_end, without_return}
+use Rattle.sr_reader.specs.Cutting.{first_end, without_return}
 
 -- a last line that is not ended
 pub last_line : (s : List ℕ) → 0 < length s → length s ≤ first_end s → lines_of s ≡ s ∷ []

@@ -1,8 +1,7 @@
-pub mod Reading
-pub mod Words
-pub mod Names
-pub mod Forms
-pub mod Lists
 pub mod Read
-pub mod Answered
+pub mod Cutting
+pub mod LineSeen
+pub mod Meaning
 pub mod Walk
+pub mod Head
+pub mod Walked

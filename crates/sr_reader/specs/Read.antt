@@ -1,52 +1,72 @@
 -- What a script that was read stands for.
-use Rattle.std.specs.Prelude.{ℕ, ◌≡◌, ◌≤◌, ◌+◌, ◌++◌, ◌==◌, ◌&&◌, Bool, true, nat_lt, List, [], ◌∷◌, map, length, Option, Some, None, Ok, IsTrue}
+use Rattle.std.specs.Prelude.{ℕ, ◌≡◌, ◌≤◌, ◌+◌, ◌++◌, ◌==◌, ◌&&◌, Bool, true, false, nat_lt, List, map, length, Option, Some, None, Result, Ok, Err, IsTrue}
+use Rattle.std.specs.Option.{option_to_list}
 use Rattle.std.specs.List.{list_all}
-use Rattle.sr_cell.specs.declared.table.Table.{Table}
-use Rattle.sr_model.specs.Statements.{Insert}
+use Rattle.sr_cell.specs.declared.fault.Fault.{Fault}
+use Rattle.sr_cell.specs.Cells.{Row}
+use Rattle.sr_model.specs.Queries.{Query}
+use Rattle.sr_model.specs.Statements.{Write, Insert}
 use Rattle.sr_model.specs.Events.{Event, Exec, QueryOf}
 use Rattle.sr_language.specs.Lines.{lines_of}
-use Rattle.sr_language.specs.Script as script
-use Rattle.sr_language.specs.Script.{Item, Phase, Start, Reads, schema_of, columns_of, events_from, select_of, may_create, is_default}
+use Rattle.sr_language.specs.Built as built
+use Rattle.sr_language.specs.Built.{may_create, is_default, select_of}
+use Rattle.sr_language.specs.Script.{Phase, start_phase, schema_of, Reads}
 use Rattle.sr_reader.specs.declared.script.ColumnRange.{ColumnRange}
-use Rattle.sr_reader.specs.declared.script.InsertLine.{InsertLine}
-use Rattle.sr_reader.specs.declared.script.SelectLine.{SelectLine}
+use Rattle.sr_reader.specs.declared.script.Selection.{Selection}
+use Rattle.sr_reader.specs.declared.script.ExecLine.{ExecLine}
+use Rattle.sr_reader.specs.declared.script.QueryLine.{QueryLine}
 use Rattle.sr_reader.specs.declared.script.Script.{Script}
 
-abbrev pub range_of : Option ColumnRange → Option script.ColumnRange
+abbrev pub range_of : Option ColumnRange → Option built.ColumnRange
 range_of None = None
 range_of (Some r) = Some (record { column = r.column; low = r.low; high = r.high })
 
-abbrev pub insert_event : InsertLine → ℕ × Event
-insert_event line = (line.number, Exec (Ok (Insert 0 line.rows)))
+abbrev pub write_of : Result (List Row) Fault → Result Write Fault
+write_of (Ok rows) = Ok (Insert 0 rows)
+write_of (Err fault) = Err fault
 
-abbrev pub select_event : SelectLine → ℕ × Event
-select_event line = (line.number, QueryOf 1 (Ok (select_of line.outputs (range_of line.range))))
+abbrev pub query_of : Result Selection Fault → Result Query Fault
+query_of (Ok s) = Ok (select_of s.outputs (range_of s.range))
+query_of (Err fault) = Err fault
+
+abbrev pub exec_event : ExecLine → ℕ × Event
+exec_event line = (line.number, Exec (write_of line.statement))
+
+abbrev pub query_event : QueryLine → ℕ × Event
+query_event line = (line.number, QueryOf 1 (query_of line.query))
 
 abbrev pub events_of : Script → List (ℕ × Event)
-events_of s = map insert_event s.inserts ++ map select_event s.selects
-
-abbrev pub tables_of : Option Table → List Table
-tables_of None = []
-tables_of (Some t) = t ∷ []
+events_of s = map exec_event s.statements ++ map query_event s.queries
 
 abbrev pub range_is_inside : Option ColumnRange → Bool
 range_is_inside None = true
 range_is_inside (Some r) = nat_lt r.column 2 && is_default r.low && is_default r.high
 
--- what holds of the lines, so that they can be carried out
-pub record Fits (s : Script) : Type 0 where
-  pub table : IsTrue (list_all may_create (tables_of s.table))
-  pub inserts : IsTrue (list_all (λ line. list_all (λ row. length row == 2) line.rows) s.inserts)
-  pub short : IsTrue (list_all (λ line. nat_lt (length line.rows) 65536) s.inserts)
-  pub outputs : IsTrue (list_all (λ line. list_all (λ c. nat_lt c 2) line.outputs) s.selects)
-  pub ranges : IsTrue (list_all (λ line. range_is_inside line.range) s.selects)
-  pub alone : s.table ≡ None → (s.inserts ≡ []) × (s.selects ≡ [])
+-- rows of two cells, fewer than 65,536
+abbrev pub rows_fit : Result (List Row) Fault → Bool
+rows_fit (Ok rows) = list_all (λ row. length row == 2) rows && nat_lt (length rows) 65536
+rows_fit (Err fault) = true
 
--- the bytes say the script: each line says its item, and these are the items' schema and events
+-- columns of the table, and a range of one
+abbrev pub selection_fits : Result Selection Fault → Bool
+selection_fits (Ok s) = list_all (λ c. nat_lt c 2) s.outputs && range_is_inside s.range
+selection_fits (Err fault) = true
+
+abbrev pub is_refused : {A : Type 0} → Result A Fault → Bool
+is_refused (Ok a) = false
+is_refused (Err fault) = true
+
+-- what holds of the lines, so that they can be carried out; without a table all are refused
+pub record Fits (s : Script) : Type 0 where
+  pub table : IsTrue (list_all may_create (option_to_list s.table))
+  pub statements : IsTrue (list_all (λ line. rows_fit line.statement) s.statements)
+  pub queries : IsTrue (list_all (λ line. selection_fits line.query) s.queries)
+  pub no_statement : s.table ≡ None → IsTrue (list_all (λ line. is_refused line.statement) s.statements)
+  pub no_query : s.table ≡ None → IsTrue (list_all (λ line. is_refused line.query) s.queries)
+
+-- the bytes say the script: its lines have just these events, over this table
 pub record IsRead (bytes : List ℕ) (s : Script) : Type 0 where
-  pub items : List Item
   pub end : Phase
-  pub reads : Reads Start (lines_of bytes) items end
-  pub schema : schema_of end ≡ tables_of s.table
-  pub events : events_from 1 (columns_of end) items ≡ events_of s
-  pub few : length s.inserts + length s.selects ≤ length bytes
+  pub reads : Reads 1 start_phase (lines_of bytes) (events_of s) end
+  pub table : end.table ≡ s.table
+  pub few : length s.statements + length s.queries ≤ length bytes

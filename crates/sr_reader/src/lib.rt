@@ -1,11 +1,14 @@
-//! Reads scripts whose statements stand in the printed form.
+//! Reading of scripts.
 #![tactic(auto)]
 
+mod built;
+mod cut;
+mod head;
+mod line;
 pub mod lines;
-mod lists;
-mod names;
+mod meaning;
+mod rows;
 pub mod script;
-mod statements;
+mod selection;
 #[cfg(test)]
 mod tests;
-mod words;

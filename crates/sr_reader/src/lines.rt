@@ -1,151 +1,154 @@
 //! Reading of scripts, line by line.
-ghost use Rattle.std.specs.Prelude.{◌≡◌, ◌+◌, ◌<◌, ◌≤◌, ◌^◌, ◌||◌, ◌∷◌, IfOk, OnOk, IsErrOf, length};
-ghost use Rattle.std.specs.Str.{is_utf8};
+ghost use Rattle.std.specs.Prelude.{◌≡◌, ℕ, ◌<◌, ◌^◌, ◌↔◌, [], IsTrue, IfOk, IsErrOf, length};
 ghost use Rattle.sr_cell.specs.declared.list.No.TheVariants.{Refused};
+ghost use Rattle.sr_cell.specs.declared.fault.Fault.{Fault as TheFault};
 ghost use Rattle.sr_language.specs.Lines.{lines_of};
-ghost use Rattle.sr_language.specs.Script.{Item, Phase, Start, Says, FirstUnbuilt};
-ghost use Rattle.sr_reader.specs.declared.script.Unbuilt.{Unbuilt as TheUnbuilt};
-ghost use Rattle.sr_reader.specs.Reading.{NotRefused};
+ghost use Rattle.sr_language.specs.Script.{CreateLine, ExecLine, QueryLine, start_phase, FirstRefused, FirstUnbuilt};
+ghost use Rattle.sr_reader.specs.declared.script.ScriptFault.TheVariants.{Setup, Unbuilt};
+ghost use Rattle.sr_reader.specs.LineSeen.{line_seen};
 ghost use Rattle.sr_reader.specs.Read.{Fits, IsRead};
-ghost use Rattle.sr_reader.specs.Walk.{first_end, without_return, is_blank, is_comment, is_silent, is_insert, phase_in, Adds, events_count};
+ghost use Rattle.sr_reader.specs.Walk.{phase_in, IsAdded};
+ghost use Rattle.sr_reader.specs.Walked.{IsWalk};
 
-use crate::script::{Script, SelectLine, Unbuilt};
-use crate::statements::{create, insert, select};
-use crate::words::Unread;
-use sr_cell::list::{No, Seq};
+use crate::cut::cut_line;
+use crate::head::first_refused;
+use crate::line::{Line, line_of};
+use crate::script::{Script, ScriptFault};
+use crate::{meaning, script};
+use sr_cell::list::{No, NoMemory, Seq};
 use std::alloc::Global;
-use std::str;
 
-/// The first line, without its end, and the lines behind it.
-#[derive(Clone, Copy)]
-struct Cut<'a> {
-    line: &'a [u8],
-    rest: &'a [u8],
+/// Whether neither a table nor a line was read.
+fn is_start(script: &Script) -> bool
+    ensures { IsTrue result ↔ (phase_in script.now ≡ start_phase) }
+{
+    script.table.is_none() && script.statements.is_empty() && script.queries.is_empty()
 }
 
-fn line_end(bytes: &[u8]) -> usize
-    ensures end { result ≡ first_end bytes.now }
-    ensures within { result ≤ length bytes.now }
+/// Adds the table of a CREATE line; false if the line does nothing that is built.
+#[tactic(none)]
+fn add_create(alloc: Global, number: u64, sql: &str, script: &mut Script) -> Result<bool, NoMemory>
+    requires { Fits script.old }
+    ensures { IsAdded number script.old (CreateLine sql.now) result script.new }
 {
-    for (i, b) in bytes.iter().enumerate() {
-        if *b == b'\n' {
-            return i;
-        }
+    if !is_start(script) {
+        return Ok(false);
     }
-    bytes.len()
-}
-
-fn without_return(line: &[u8]) -> &[u8]
-    ensures { result.now ≡ without_return line.now }
-{
-    match line.strip_suffix(b"\r") {
-        Some(front) => front,
-        None => line,
+    match meaning::table_of(alloc, sql)? {
+        Some(table) => {
+            script.table = Some(table);
+            Ok(true)
+        }
+        None => Ok(false),
     }
 }
 
-fn cut_line(bytes: &[u8]) -> Cut<'_>
-    requires { 0 < length bytes.now }
-    ensures lines { lines_of bytes.now ≡ result.line.now ∷ lines_of result.rest.now }
-    ensures shorter { length result.rest.now < length bytes.now }
+/// Adds an exec line; false if the line does nothing that is built.
+#[tactic(none)]
+fn add_exec(alloc: Global, number: u64, sql: &str, script: &mut Script) -> Result<bool, NoMemory>
+    requires { Fits script.old }
+    ensures { IsAdded number script.old (ExecLine sql.now) result script.new }
 {
-    let end = line_end(bytes);
-    if end < bytes.len() {
-        Cut {
-            line: without_return(&bytes[..end]),
-            rest: &bytes[end + 1..],
+    if !script.queries.is_empty() {
+        return Ok(false);
+    }
+    match meaning::write_of(alloc, &script.table, sql)? {
+        Some(statement) => {
+            script
+                .statements
+                .push(script::ExecLine { number, statement })?;
+            Ok(true)
         }
-    } else {
-        Cut {
-            line: bytes,
-            rest: &bytes[end..],
-        }
+        None => Ok(false),
     }
 }
 
-fn is_blank(line: &[u8]) -> bool
-    ensures { result ≡ is_blank line.now }
+/// Adds a query line; false if the line does nothing that is built.
+#[tactic(none)]
+fn add_query(alloc: Global, number: u64, sql: &str, script: &mut Script) -> Result<bool, NoMemory>
+    requires { Fits script.old }
+    ensures { IsAdded number script.old (QueryLine sql.now) result script.new }
 {
-    line.iter().all(|b| *b == b' ')
+    match meaning::query_of(alloc, &script.table, sql)? {
+        Some(query) => {
+            script.queries.push(script::QueryLine { number, query })?;
+            Ok(true)
+        }
+        None => Ok(false),
+    }
 }
 
-fn is_text(bytes: &[u8]) -> bool
-    ensures { result ≡ is_utf8 bytes.now }
-{
-    str::from_utf8(bytes).is_ok()
-}
-
-fn is_comment(line: &[u8]) -> bool
-    ensures { result ≡ is_comment line.now }
+/// Adds a line of this number; false if the line does nothing that is built.
+fn add_line(
+    alloc: Global,
+    number: u64,
+    line: Line<'_>,
+    script: &mut Script,
+) -> Result<bool, NoMemory>
+    requires { Fits script.old }
+    ensures { IsAdded number script.old (line_seen line.entry) result script.new }
 {
     match line {
-        [b'#', text @ ..] => is_text(text),
-        _ => false,
+        Line::Silent => Ok(true),
+        Line::Create(sql) => add_create(alloc, number, sql, script),
+        Line::Exec(sql) => add_exec(alloc, number, sql, script),
+        Line::Query(sql) => add_query(alloc, number, sql, script),
+        Line::Other => Ok(false),
     }
 }
 
-/// Whether a line is blank, or a comment.
-fn is_silent(line: &[u8]) -> bool
-    ensures { result ≡ is_silent line.now }
-{
-    is_blank(line) || is_comment(line)
+/// What reading the lines of a script came to: the script, or the number of the first line that does nothing that is built.
+#[derive(Drop)]
+enum Walk {
+    Read(Script),
+    Unbuilt(u64),
 }
 
-/// Whether a line is to be read as an INSERT: no SELECT came before it.
-fn is_insert(selects: &[SelectLine], line: &[u8]) -> bool
-    ensures { result ≡ is_insert selects.now line.now }
-{
-    selects.is_empty() && line.starts_with(b"exec ")
-}
-
-/// Reads a line of this number, and adds what it says.
-fn add_line(alloc: Global, number: u64, line: &[u8], script: &mut Script) -> Result<(), No<Unread>>
-    requires { Fits script.old }
-    ensures said { OnOk result (Adds number script.old line.now script.new) }
-    ensures fits { OnOk result (Fits script.new) }
-    ensures counted { OnOk result (events_count script.new ≤ events_count script.old + 1) }
-    ensures complete { (item : Item) (next : Phase) → Says (phase_in script.old) line.now item next → NotRefused result }
-{
-    if is_silent(line) {
-        return Ok(());
-    }
-    let Some(table) = &script.table else {
-        script.table = Some(create(alloc, line)?);
-        return Ok(());
-    };
-    if is_insert(script.selects.as_slice(), line) {
-        let made = insert(alloc, number, table, line)?;
-        script.inserts.push(made)?;
-    } else {
-        let made = select(alloc, number, table, line)?;
-        script.selects.push(made)?;
-    }
-    Ok(())
-}
-
-/// Reads a script, whose statements stand in the printed form; or names the first line that is in no form that is built.
-pub fn read_script(alloc: Global, bytes: &[u8]) -> Result<Script, No<Unbuilt>>
+/// Reads all lines of a script.
+fn read_lines(alloc: Global, bytes: &[u8]) -> Result<Walk, NoMemory>
     requires { length bytes.now < 2 ^ 32 }
-    ensures read { IfOk result (IsRead bytes.now) }
-    ensures fits { IfOk result Fits }
-    ensures unbuilt { (no : TheUnbuilt) → IsErrOf result (Refused no) → FirstUnbuilt 1 Start (lines_of bytes.now) no.line }
+    ensures { IfOk result (IsWalk bytes.now) }
 {
     let mut script = Script {
         table: None,
-        inserts: Seq::new(alloc),
-        selects: Seq::new(alloc),
+        statements: Seq::new(alloc),
+        queries: Seq::new(alloc),
     };
     let mut rest = bytes;
     let mut number: u64 = 1;
     'lines: while !rest.is_empty() {
         let cut = cut_line(rest);
-        match add_line(alloc, number, cut.line, &mut script) {
-            Ok(()) => {}
-            Err(No::Refused(_)) => return Err(No::Refused(Unbuilt { line: number })),
-            Err(No::NoMemory) => return Err(No::NoMemory),
+        if !add_line(alloc, number, line_of(cut.line), &mut script)? {
+            return Ok(Walk::Unbuilt(number));
         }
         rest = cut.rest;
         number += 1;
     }
-    Ok(script)
+    Ok(Walk::Read(script))
+}
+
+/// Reads a script; or names its first CREATE line that is refused, or else its first line that does nothing that is built.
+pub fn read_script(alloc: Global, bytes: &[u8]) -> Result<Script, No<ScriptFault>>
+    requires { length bytes.now < 2 ^ 32 }
+    ensures read { IfOk result (IsRead bytes.now) }
+    ensures fits { IfOk result Fits }
+    ensures setup { (line : ℕ) (fault : TheFault) → IsErrOf result (Refused (Setup line fault)) → FirstRefused 1 [] (lines_of bytes.now) line fault }
+    ensures unbuilt { (line : ℕ) → IsErrOf result (Refused (Unbuilt line)) → FirstUnbuilt 1 start_phase (lines_of bytes.now) line }
+    ensures unbuilt_accepts { (line : ℕ) → IsErrOf result (Refused (Unbuilt line)) → (refused : ℕ) (fault : TheFault) → FirstRefused 1 [] (lines_of bytes.now) refused fault → ⊥ }
+{
+    match first_refused(alloc, bytes) {
+        Ok(None) => {}
+        Ok(Some(refused)) => {
+            return Err(No::Refused(ScriptFault::Setup {
+                line: refused.number,
+                fault: refused.fault,
+            }));
+        }
+        Err(_) => return Err(No::NoMemory),
+    }
+    match read_lines(alloc, bytes) {
+        Ok(Walk::Read(script)) => Ok(script),
+        Ok(Walk::Unbuilt(line)) => Err(No::Refused(ScriptFault::Unbuilt { line })),
+        Err(_) => Err(No::NoMemory),
+    }
 }

@@ -1,5 +1,6 @@
 //! Scripts, as they are read.
 use sr_cell::cell::Rows;
+use sr_cell::fault::Fault;
 use sr_cell::list::Seq;
 use sr_cell::table::Table;
 
@@ -11,31 +12,40 @@ pub struct ColumnRange {
     pub high: i64,
 }
 
-/// An INSERT, with the number of its line.
+/// What a SELECT asks: the columns that it answers, and its range, if it has one.
 #[derive(Drop)]
-pub struct InsertLine {
-    pub number: u64,
-    pub rows: Rows,
-}
-
-/// A SELECT, with the number of its line: the columns that it answers, and its range, if it has one.
-#[derive(Drop)]
-pub struct SelectLine {
-    pub number: u64,
+pub struct Selection {
     pub outputs: Seq<u8>,
     pub range: Option<ColumnRange>,
 }
 
-/// The table of a script, if it has one, its INSERT lines, and after them its SELECT lines.
+/// The statement of a line of this number: the rows that it inserts, or why its text is refused.
+#[derive(Drop)]
+pub struct ExecLine {
+    pub number: u64,
+    pub statement: Result<Rows, Fault>,
+}
+
+/// The query of a line of this number, or why its text is refused.
+#[derive(Drop)]
+pub struct QueryLine {
+    pub number: u64,
+    pub query: Result<Selection, Fault>,
+}
+
+/// The table of a script, if it has one, its statements, and after them its queries.
 #[derive(Drop)]
 pub struct Script {
     pub table: Option<Table>,
-    pub inserts: Seq<InsertLine>,
-    pub selects: Seq<SelectLine>,
+    pub statements: Seq<ExecLine>,
+    pub queries: Seq<QueryLine>,
 }
 
-/// The first line that is not in a form that is built, counted from 1.
+/// Why a script is not run. Lines are counted from 1.
 #[derive(Clone, Copy, Debug, PartialEq, Eq)]
-pub struct Unbuilt {
-    pub line: u64,
+pub enum ScriptFault {
+    /// The first CREATE line that is refused, and why.
+    Setup { line: u64, fault: Fault },
+    /// The first line that does nothing that is built.
+    Unbuilt { line: u64 },
 }

@@ -1,155 +1,195 @@
-//! Scripts, and the first line of each that is not built.
+//! Scripts and what is read of them, worked out by hand.
+ghost use Rattle.std.specs.Prelude.{◌<◌, ◌^◌, length};
+
 use crate::lines::read_script;
-use crate::script::{ColumnRange, Script, Unbuilt};
+use crate::script::{Script, ScriptFault, Selection};
 use sr_cell::list::{No, Seq};
-use std::alloc::Global;
+use std::alloc::{AllocError, Global};
+use std::test::Fail;
 
-/// Stands before the second texts.
-const TABLE: &[u8] =
-    b"CREATE TABLE p (id INT PRIMARY KEY CHECK (id BETWEEN 0 AND 9999), age INT CHECK (age BETWEEN 0 AND 150))\n";
+/// Stands in front of the second texts.
+const TABLE: &str =
+    "CREATE TABLE p (id INT PRIMARY KEY CHECK (id BETWEEN 0 AND 9999), age INT CHECK (age BETWEEN 0 AND 150))\n";
 
-/// Scripts, and the first line that is not built, or 0 where all are read.
-const WHOLE: [(&[u8], u64); 16] = [
-    (b"", 0),
-    (b"\n  \n# caf\xc3\xa9\n#\n", 0),
-    (b"#\xff", 1),
+/// Scripts, and what is read of them.
+const WHOLE: [(&str, &str); 16] = [
+    ("", ""),
+    ("\n  \n# café\r\n#", ""),
+    ("\t", "unbuilt 1"),
     (
-        b"CREATE TABLE t (a INT PRIMARY KEY, ab INT)\r\n\r\nquery 1 SELECT ab, a FROM t WHERE ab BETWEEN -5 AND -1\r\n",
-        0,
+        "exec DELETE FROM\nquery 1 SELECT id FROM",
+        "1 Grammar 11, 2 Grammar 14, ",
+    ),
+    ("exec INSERT INTO p VALUES (1, 2)", "unbuilt 1"),
+    (" create\ttable t(a int,b integer primary key)", ""),
+    ("CREATE", "setup 1 Grammar 6"),
+    ("# first\nCREATE TABLE t (a INT, b INT)", "setup 2 NoKey 0"),
+    (
+        "CREATE TABLE t (a INT PRIMARY KEY CHECK (a BETWEEN 2 AND 1), b INT)",
+        "setup 1 BadDomain 0",
     ),
     (
-        b"CREATE TABLE t (ab INT, a INT PRIMARY KEY)\nexec INSERT INTO t VALUES (0, -1)\nquery 1 SELECT a, ab FROM t",
-        0,
-    ),
-    (b" CREATE TABLE t (a INT PRIMARY KEY, b INT)", 1),
-    (b"exec INSERT INTO t VALUES (1, 2)", 1),
-    (b"CREATE TABLE t (from INT PRIMARY KEY, b INT)", 1),
-    (b"CREATE TABLE t (a INT PRIMARY KEY, a INT)", 1),
-    (b"CREATE TABLE t (a INT, b INT)", 1),
-    (b"CREATE TABLE t (a INT PRIMARY KEY, b INT PRIMARY KEY)", 1),
-    (b"CREATE TABLE t (a INT PRIMARY KEY)", 1),
-    (
-        b"CREATE TABLE t (a INT PRIMARY KEY CHECK (b BETWEEN 0 AND 9), b INT)",
-        1,
+        "CREATE TABLE t (a INT PRIMARY KEY, A INT)",
+        "setup 1 DuplicateName 1",
     ),
     (
-        b"CREATE TABLE t (a INT PRIMARY KEY CHECK (a BETWEEN 9 AND 0), b INT)",
-        1,
+        "CREATE TABLE t (a TEXT PRIMARY KEY, b INT)\nCREATE TABLE T (a INT PRIMARY KEY)",
+        "setup 2 DuplicateName 0",
+    ),
+    ("CREATE TABLE t (a TEXT PRIMARY KEY, b INT)", "unbuilt 1"),
+    (
+        "CREATE TABLE t (a INT PRIMARY KEY, b INT, c INT)",
+        "unbuilt 1",
     ),
     (
-        b"CREATE TABLE t (a INT PRIMARY KEY CHECK (a BETWEEN -1099511627776 AND 1099511627775), b INT)",
-        1,
+        "CREATE TABLE t (a INT PRIMARY KEY, b INT)\nCREATE TABLE u (a INT PRIMARY KEY, b INT)",
+        "unbuilt 2",
     ),
-    (
-        b"CREATE TABLE t (a INT PRIMARY KEY CHECK (a BETWEEN -1099511627776 AND 1099511627774), b INT)",
-        0,
-    ),
+    ("exec x\nCREATE TABLE t (a INT)", "unbuilt 2"),
+    ("create\x0btable", "setup 1 BadToken 6"),
 ];
 
-/// What follows the CREATE line, and the first line that is not built, or 0 where all are read.
-const AFTER_TABLE: [(&[u8], u64); 21] = [
-    (b"exec DELETE FROM p", 2),
+/// What follows the CREATE line, and what is read of the whole.
+const AFTER_TABLE: [(&str, &str); 20] = [
     (
-        b"query 1 SELECT * FROM p\nexec INSERT INTO p VALUES (1, 2)",
-        3,
+        "exec insert  into P values(1,035),(2,45);\n\nexec INSERT INTO p VALUES (1, 2, 3",
+        "2 rows 2, 4 Grammar 29, ",
     ),
-    (b"CREATE TABLE p (id INT PRIMARY KEY, age INT)", 2),
-    (b"exec insert INTO p VALUES (1, 2)", 2),
-    (b"exec  INSERT INTO p VALUES (1, 2)", 2),
-    (b"exec INSERT INTO p VALUES (1,2)", 2),
-    (b"exec INSERT INTO p VALUES (-0, 2)", 2),
-    (b"exec INSERT INTO p VALUES (007, 2)", 2),
-    (b"exec INSERT INTO p VALUES (1, 1000000000000000000)", 2),
-    (b"exec INSERT INTO p VALUES (1, 2, 3)", 2),
-    (b"exec INSERT INTO p VALUES (1, 2), ", 2),
-    (b"exec INSERT INTO q VALUES (1, 2)", 2),
     (
-        b"exec INSERT INTO p VALUES (-999999999999999999, 999999999999999999)",
-        0,
+        "query 1 SELECT Id, age, id FROM p WHERE (AGE BETWEEN -5 AND 200);",
+        "2 columns 3 1 -5..200, ",
     ),
-    (b"exec", 2),
-    (b"query 1 SELECT id FROM p", 2),
-    (b"query 1 SELECT id, age, name FROM p", 2),
-    (b"query 2 SELECT * FROM p", 2),
+    ("query 001 SELECT * FROM p", "2 columns 2, "),
+    ("query 01 SELECT * FROM p\r", "2 columns 2, "),
     (
-        b"query 1 SELECT * FROM p WHERE age BETWEEN 0 AND 1099511627776",
-        2,
+        "query 1 SELECT * FROM p\nexec INSERT INTO p VALUES (1, 2)",
+        "unbuilt 3",
     ),
-    (b"query 1 SELECT * FROM p WHERE age BETWEEN 9 AND 0", 0),
-    (b"query 1 SELECT id, age, id FROM p", 0),
-    (b"query 1 SELECT * FROM p\r", 2),
+    ("query 1 x\nexec x", "unbuilt 3"),
+    ("exec DELETE FROM p", "unbuilt 2"),
+    ("exec UPDATE p SET age = 1", "unbuilt 2"),
+    ("exec INSERT INTO p (id, age) VALUES (1, 2)", "unbuilt 2"),
+    ("exec INSERT INTO p VALUES (1, 2), (3, '4')", "unbuilt 2"),
+    ("exec INSERT INTO p VALUES (1, 2, 3)", "unbuilt 2"),
+    ("exec INSERT INTO q VALUES (1, 2)", "unbuilt 2"),
+    ("exec SELECT * FROM p", "unbuilt 2"),
+    ("query 1 SELECT id FROM p", "unbuilt 2"),
+    ("query 1 SELECT p.id, age FROM p", "unbuilt 2"),
+    (
+        "query 1 SELECT * FROM p WHERE age BETWEEN 1 AND 2 AND id BETWEEN 1 AND 2",
+        "unbuilt 2",
+    ),
+    (
+        "query 1 SELECT * FROM p WHERE age BETWEEN 0 AND 1099511627776",
+        "unbuilt 2",
+    ),
+    ("query 2 SELECT * FROM p", "unbuilt 2"),
+    ("exec ", "unbuilt 2"),
+    ("exec  x", "2 Grammar 1, "),
 ];
 
-fn read(alloc: Global, before: &[u8], after: &[u8]) -> Result<Script, No<Unbuilt>> {
+fn write_selection(text: &mut String, selection: &Selection) -> Result<(), AllocError> {
+    write!(text, "columns {}", selection.outputs.len())?;
+    match selection.range {
+        Some(range) => write!(text, " {} {}..{}", range.column, range.low, range.high),
+        None => Ok(()),
+    }
+}
+
+fn write_script(text: &mut String, script: &Script) -> Result<(), AllocError> {
+    for line in script.statements.as_slice() {
+        match &line.statement {
+            Ok(rows) => write!(text, "{} rows {}, ", line.number, rows.len())?,
+            Err(fault) => write!(text, "{} {:?} {}, ", line.number, fault.why, fault.at)?,
+        }
+    }
+    for line in script.queries.as_slice() {
+        write!(text, "{} ", line.number)?;
+        match &line.query {
+            Ok(selection) => write_selection(text, selection)?,
+            Err(fault) => write!(text, "{:?} {}", fault.why, fault.at)?,
+        }
+        write!(text, ", ")?;
+    }
+    Ok(())
+}
+
+/// What is read of some bytes.
+fn said(alloc: Global, bytes: &[u8]) -> Result<String, Fail>
+    requires { length bytes.now < 2 ^ 32 }
+{
+    let mut text = String::new(alloc);
+    match read_script(alloc, bytes) {
+        Ok(script) => {
+            write_script(&mut text, &script)?;
+        }
+        Err(No::Refused(ScriptFault::Setup { line, fault })) => {
+            write!(text, "setup {} {:?} {}", line, fault.why, fault.at)?;
+        }
+        Err(No::Refused(ScriptFault::Unbuilt { line })) => write!(text, "unbuilt {}", line)?,
+        Err(No::NoMemory) => text.push_str("no memory")?,
+    }
+    Ok(text)
+}
+
+/// What is read of a text behind another.
+fn said_behind(alloc: Global, before: &str, after: &str) -> Result<String, Fail> {
     let mut bytes: Seq<u8> = Seq::new(alloc);
-    bytes.extend(before)?;
-    bytes.extend(after)?;
+    bytes.extend(before.as_bytes())?;
+    bytes.extend(after.as_bytes())?;
     if bytes.len() >= 1_000_000 {
-        return Err(No::NoMemory);
+        return Ok(String::new(alloc));
     }
-    read_script(alloc, bytes.as_slice())
-}
-
-/// The first line that is not built, or 0.
-fn unbuilt(alloc: Global, before: &[u8], after: &[u8]) -> Option<u64> {
-    match read(alloc, before, after) {
-        Ok(_) => Some(0),
-        Err(No::Refused(unbuilt)) => Some(unbuilt.line),
-        Err(No::NoMemory) => None,
-    }
+    said(alloc, bytes.as_slice())
 }
 
 #[test]
-fn names_the_first_unbuilt_line(rt: HostRuntime) {
-    for (script, line) in WHOLE {
-        assert_eq!(rt;
-            unbuilt(rt.alloc(), b"", script),
-            Some(line),
-            "in {script:?}"
-        );
+fn scripts_are_read(rt: HostRuntime) -> Result<(), Fail> {
+    for (script, wanted) in WHOLE {
+        let found = said_behind(rt.alloc(), "", script)?;
+        assert_eq!(rt; found.as_str(), wanted, "in {script:?}");
     }
+    Ok(())
 }
 
 #[test]
-fn names_the_first_unbuilt_line_after_a_table(rt: HostRuntime) {
-    for (rest, line) in AFTER_TABLE {
-        assert_eq!(rt;
-            unbuilt(rt.alloc(), TABLE, rest),
-            Some(line),
-            "after the table, in {rest:?}"
-        );
+fn lines_behind_a_table_are_read(rt: HostRuntime) -> Result<(), Fail> {
+    for (script, wanted) in AFTER_TABLE {
+        let found = said_behind(rt.alloc(), TABLE, script)?;
+        assert_eq!(rt; found.as_str(), wanted, "behind the table, in {script:?}");
     }
+    Ok(())
+}
+
+/// So many times the same text behind another.
+fn repeated(alloc: Global, first: &str, piece: &str, count: usize) -> Result<String, Fail> {
+    let mut text = String::from_str(alloc, first)?;
+    for _ in 0..count {
+        text.push_str(piece)?;
+    }
+    Ok(text)
 }
 
 #[test]
-fn reads_inserts_and_selects(rt: HostRuntime) {
-    let rest =
-        b"exec INSERT INTO p VALUES (1, 35), (2, 45)\nexec INSERT INTO p VALUES (3, 33)\nquery 1 SELECT id, age FROM p WHERE age BETWEEN 30 AND 40\nquery 1 SELECT * FROM p\n";
-    let Ok(script) = read(rt.alloc(), TABLE, rest) else {
-        assert!(rt; false, "not read");
-        return;
-    };
-    let [one, two] = script.inserts.as_slice() else {
-        assert!(rt; false, "not two inserts");
-        return;
-    };
-    assert_eq!(rt;
-        (one.number, one.rows.len(), two.number, two.rows.len()),
-        (2, 2, 3, 1)
-    );
-    let [ranged, whole] = script.selects.as_slice() else {
-        assert!(rt; false, "not two selects");
-        return;
-    };
-    assert_eq!(rt; (ranged.number, whole.number), (4, 5));
-    assert_eq!(rt;
-        ranged.range,
-        Some(ColumnRange {
-            column: 1,
-            low: 30,
-            high: 40
-        })
-    );
-    assert_eq!(rt; whole.range, None);
-    assert!(rt; matches!(whole.outputs.as_slice(), [0, 1]));
+fn bad_input_has_its_named_refusal(rt: HostRuntime) -> Result<(), Fail> {
+    let alloc = rt.alloc();
+    for (first, piece, count, wanted) in [
+        ("exec x", " ", 65_536, "1 LongText 65536, "),
+        ("exec DELETE FROM t WHERE ", "(", 10_000, "1 Deep 84, "),
+        (
+            "query 1 SELECT a FROM t WHERE a = ",
+            "1",
+            19,
+            "1 BadToken 26, ",
+        ),
+        ("query 1 SELECT ", "a", 65, "1 BadToken 7, "),
+        ("exec DELETE FROM t WHERE a = '", "x", 3, "1 BadToken 24, "),
+    ] {
+        let script = repeated(alloc, first, piece, count)?;
+        let found = said_behind(alloc, "", script.as_str())?;
+        assert_eq!(rt; found.as_str(), wanted, "of {first}");
+    }
+    assert_eq!(rt; said(alloc, b"exec \xff")?.as_str(), "unbuilt 1");
+    assert_eq!(rt; said(alloc, b"# \xc3")?.as_str(), "unbuilt 1");
+    Ok(())
 }

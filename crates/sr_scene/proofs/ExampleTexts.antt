@@ -1,24 +1,14 @@
 -- The texts of the worked example: what its scripts say, and what its lines are as text.
 use Rattle.std.proofs.Common.{◌≡◌, ◌++◌, refl}
 use Rattle.std.specs.Fmt.{digits}
-use Rattle.sr_language.specs.Lines.{lines_of}
-use Rattle.sr_language.specs.Script.{Reads, Start, Asking}
 use Rattle.sr_script.specs.TraceText.{trace_text, line_text}
 use Rattle.sr_scene.specs.Runs.{numbered}
-use Rattle.sr_scene.specs.Example.{script, items, lines, trace, people, schema}
-use Rattle.sr_scene.specs.CoveredQuery.{covered_script, covered_items, covered_lines, covered_trace, opening_lines}
-
-pub reads : Reads Start (lines_of script) items (Asking people)
-unfolding digits
-reads = (_, (refl, refl), (_, (refl, refl), (_, (refl, refl), (_, (refl, refl), (_, (refl, refl), refl)))))
+use Rattle.sr_scene.specs.Example.{lines, trace, schema}
+use Rattle.sr_scene.specs.CoveredQuery.{covered_lines, covered_trace, opening_lines}
 
 pub text : trace_text schema lines ≡ trace
 unfolding digits line_text
 text = refl
-
-pub covered_reads : Reads Start (lines_of covered_script) covered_items (Asking people)
-unfolding digits
-covered_reads = (_, (refl, refl), (_, (refl, refl), (_, (refl, refl), (_, (refl, refl), (_, (refl, refl), refl)))))
 
 pub covered_text : trace_text schema (opening_lines ++ numbered 5 covered_lines) ≡ covered_trace
 unfolding digits line_text

@@ -1,3 +1,4 @@
+pub mod ExampleScripts
 pub mod ExampleTexts
 pub mod ExampleRests
 pub mod ExampleRun

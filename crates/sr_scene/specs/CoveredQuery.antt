@@ -3,21 +3,17 @@ use Rattle.std.specs.Prelude.{ℕ, true, List, [], ◌∷◌, ◌++◌, Some, No
 use Rattle.sr_message.specs.declared.message.Message.{Message}
 use Rattle.sr_model.specs.Statements.{Tables}
 use Rattle.sr_model.specs.Events.{Event, QueryOf}
-use Rattle.sr_language.specs.Script.{Item}
 use Rattle.sr_history.specs.Marks.{Held}
 use Rattle.sr_script.specs.declared.line.TraceLine.{TraceLine}
 use Rattle.sr_script.specs.declared.line.TraceLine.TheVariants as line
 use Rattle.sr_scene.specs.Scene.{Scene, Client}
-use Rattle.sr_scene.specs.Example.{schema, row, query, ages, select, items, events, lines}
+use Rattle.sr_scene.specs.Example.{schema, row, query, ages, events, lines}
 
 abbrev pub covered_script : List ℕ
 covered_script = codes "CREATE TABLE p (id INT PRIMARY KEY CHECK (id BETWEEN 0 AND 9999), age INT CHECK (age BETWEEN 0 AND 150))\nexec INSERT INTO p VALUES (1, 35), (2, 45)\nexec INSERT INTO p VALUES (3, 33)\nquery 1 SELECT id, age FROM p WHERE age BETWEEN 30 AND 40\nquery 1 SELECT id, age FROM p WHERE age BETWEEN 32 AND 35\n"
 
 abbrev pub covered_trace : List ℕ
 covered_trace = codes "2 exec version 1\n3 exec version 2\n4 ask 1 1 fresh 1\n4 part p (id,age) {age 30..40}\n4 query 1 asked 1\n4 toserver 1 ask 2\n4 toclient 1 laid\n4 answer 1 1 2 2\n4 row 1, 35\n4 row 3, 33\n4 held 1 p (id,age) {age 30..40}\n4 toclient 1 answered\n5 answer 1 2 2 2\n5 row 1, 35\n5 row 3, 33\n5 query 1 answered 2\n"
-
-abbrev pub covered_items : List Item
-covered_items = take 4 items ++ select 32 35 ∷ []
 
 -- the two statements and the first query, and their lines
 abbrev pub opening_events : List (ℕ × Event)

@@ -10,7 +10,7 @@ use Rattle.sr_model.specs.Conditions.{Tests, Between}
 use Rattle.sr_model.specs.Queries.{Part, Query}
 use Rattle.sr_model.specs.Statements.{Insert}
 use Rattle.sr_model.specs.Events.{Event, Exec, QueryOf}
-use Rattle.sr_language.specs.Script.{Item, CreateTable, InsertRows, SelectRows}
+use Rattle.sr_language.specs.Script.{Phase, Asking}
 use Rattle.sr_script.specs.declared.line.RequestKind.TheVariants as kind
 use Rattle.sr_script.specs.declared.line.TraceLine.{TraceLine}
 use Rattle.sr_script.specs.declared.line.TraceLine.TheVariants as line
@@ -46,13 +46,6 @@ query low high = record { parts = part low high ∷ []; joins = []; outputs = re
 abbrev pub ages : ℕ → ℕ → List Rect
 ages low high = (Full ∷ Nums (pos low) (pos high) ∷ []) ∷ []
 
-abbrev pub select : ℕ → ℕ → Item
-select low high = SelectRows (codes "id" ∷ codes "age" ∷ []) (codes "p") (Some (record { column = codes "age"; low = pos low; high = pos high }))
-
-abbrev pub items : List Item
-items =
-    CreateTable people ∷ InsertRows (codes "p") (row 1 35 ∷ row 2 45 ∷ []) ∷ InsertRows (codes "p") (row 3 33 ∷ []) ∷ select 30 40 ∷ select 35 50 ∷ []
-
 -- an event stands with the number of its line in the script
 abbrev pub events : List (ℕ × Event)
 events =
@@ -68,6 +61,10 @@ lines =
     ∷ (5, line.Ask 1 2 false 1) ∷ (5, line.Part 0 3 (ages 41 50)) ∷ (5, line.QueryAsked 1 2) ∷ (5, line.ServerTook 1 kind.Ask 2)
     ∷ (5, line.ClientLaid 1) ∷ (5, line.Answer 1 2 2 2) ∷ (5, line.Row (row 1 35)) ∷ (5, line.Row (row 2 45))
     ∷ (5, line.Held 1 0 3 (ages 41 50)) ∷ (5, line.ClientAnswered 1) ∷ []
+
+-- where the script ends
+abbrev pub end : Phase
+end = record { table = Some people; stage = Asking }
 
 -- one client, and no rows yet
 abbrev pub start : Scene

@@ -1,19 +1,18 @@
 //! Laws of the definitions: functions that do nothing, and whose contracts are the laws.
 ghost use Rattle.std.specs.Prelude.{◌≡◌, List, [], ◌∷◌, ◌++◌};
 ghost use Rattle.sr_language.specs.Lines.{lines_of};
-ghost use Rattle.sr_language.specs.Script.{Reads, Start, Asking, events_from, columns_of};
+ghost use Rattle.sr_language.specs.Script.{Reads, start_phase};
 ghost use Rattle.sr_script.specs.declared.line.TraceLine.{TraceLine};
 ghost use Rattle.sr_script.specs.TraceText.{trace_text};
 ghost use Rattle.sr_scene.specs.Scene.{Scene};
 ghost use Rattle.sr_scene.specs.Steps.{Happens};
 ghost use Rattle.sr_scene.specs.Runs.{Steps, Runs, numbered};
-ghost use Rattle.sr_scene.specs.Example.{script, items, events, lines, trace, people, schema, start};
-ghost use Rattle.sr_scene.specs.CoveredQuery.{covered_script, covered_items, covered_query, covered_lines, covered_trace, opening_events, opening_lines, opened, queues_of};
+ghost use Rattle.sr_scene.specs.Example.{script, events, end, lines, trace, schema, start};
+ghost use Rattle.sr_scene.specs.CoveredQuery.{covered_script, covered_query, covered_lines, covered_trace, opening_events, opening_lines, opened, queues_of};
 
 /// The worked example: its script says its events, they may give its lines, and the lines' text is the trace, byte for byte.
 pub fn worked_example()
-    ensures reads { Reads Start (lines_of script) items (Asking people) }
-    ensures means { events_from 1 (columns_of (Asking people)) items ≡ events }
+    ensures reads { Reads 1 start_phase (lines_of script) events end }
     ensures lawful { (last : Scene) × Runs start events lines last }
     ensures text { trace_text schema lines ≡ trace }
 {}
@@ -21,8 +20,7 @@ pub fn worked_example()
 /// A query inside what is held: all that its event may give is its answer and the word that it is answered, and no
 /// message enters a queue.
 pub fn covered_query_sends_nothing()
-    ensures reads { Reads Start (lines_of covered_script) covered_items (Asking people) }
-    ensures means { events_from 1 (columns_of (Asking people)) covered_items ≡ opening_events ++ (5, covered_query) ∷ [] }
+    ensures reads { Reads 1 start_phase (lines_of covered_script) (opening_events ++ (5, covered_query) ∷ []) end }
     ensures opens { Runs start opening_events opening_lines opened }
     ensures may { (last : Scene) × Steps opened covered_query covered_lines last }
     ensures just { (given : List TraceLine) (last : Scene) → Steps opened covered_query given last → given ≡ covered_lines }

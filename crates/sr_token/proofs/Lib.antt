@@ -3,3 +3,4 @@ mod Ascii
 mod Cuts
 mod Streams
 mod Spans
+mod Texts

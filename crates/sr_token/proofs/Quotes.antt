@@ -10,7 +10,7 @@ longer-again i n (Some k) = ap (λ z. Some z) (omega arith)
 two : (b c : ℕ) (bs : List ℕ) → b ≡ 39 → c ≡ 39 → quoted_length (b ∷ c ∷ bs) ≡ longer 2 (quoted_length bs)
 two b c bs e f = rw (e, f) refl
 
-plain : (b : ℕ) (bs : List ℕ) → (b == 39) ≡ false → quoted_length (b ∷ bs) ≡ longer 1 (quoted_length bs)
+pub plain : (b : ℕ) (bs : List ℕ) → (b == 39) ≡ false → quoted_length (b ∷ bs) ≡ longer 1 (quoted_length bs)
 plain b [] e = rw e refl
 plain b (c ∷ bs) e = rw e refl
 

@@ -9,7 +9,7 @@ use Rattle.sr_token.specs.Tokens.{is_blank, run, begin, first_token, then_rest, 
 use Rattle.sr_token.specs.Spans.{OnlyBlanks, AreSpans}
 use Rattle.sr_token.proofs.Ascii.{run_within, first_token-front}
 
-run-all : (passes : ℕ → Bool) (bytes : List ℕ) → IsTrue (list_all passes (take (run passes bytes) bytes))
+pub run-all : (passes : ℕ → Bool) (bytes : List ℕ) → IsTrue (list_all passes (take (run passes bytes) bytes))
 run-all passes [] = refl
 run-all passes (b ∷ bytes) = go (passes b) refl (run-all passes bytes)
   where

@@ -2,3 +2,4 @@ pub mod Tokens
 pub mod Spans
 pub mod Classes
 pub mod Places
+pub mod Texts

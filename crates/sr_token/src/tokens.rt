@@ -4,6 +4,7 @@ ghost use Rattle.sr_cell.specs.declared.fault.Why.TheVariants.{BadToken};
 ghost use Rattle.sr_token.specs.Tokens.{Found, Bad, begin, tokens_from};
 ghost use Rattle.sr_token.specs.Spans.{AreSpans};
 ghost use Rattle.sr_token.specs.Places.{IsTokenAt};
+ghost use Rattle.sr_token.specs.Texts.{IsTextOf};
 
 use crate::lexer::{Class, first_of, run_of};
 use crate::token::Token;
@@ -77,6 +78,8 @@ impl<'a> Tokens<'a> {
     /// The next token, or None at the end. Where no token begins the fault names the place, at each further call too.
     pub fn next(&mut self) -> Result<Option<Token<'a>>, Fault>
         ensures token { IfOk result (λ found. IfSome found (λ t. self.old ≡ Found t.kind t.from t.to t.text.now ∷ self.new)) }
+        ensures within { IfOk result (λ found. IfSome found (λ t. (t.from < t.to) × (t.to < 2 ^ 32))) }
+        ensures text { IfOk result (λ found. IfSome found (λ t. IsTextOf t.kind t.text.now)) }
         ensures end { result ≡ Ok None → (self.old ≡ []) × (self.new ≡ []) }
         ensures bad { IfErr result (λ fault. (fault.why ≡ BadToken) × (self.old ≡ Bad fault.at ∷ [])) }
         ensures again { IfErr result (λ _. self.new ≡ self.old) }

@@ -11,7 +11,7 @@ use Rattle.sr_model.specs.Queries.{rows_of, rows_at, points_of}
 use Rattle.sr_model.specs.Statements.{Tables}
 use Rattle.sr_history.specs.Marks.{Mark, Held, is_held, is_covered}
 use Rattle.sr_history.specs.Rests.{rest_of}
-use Rattle.sr_language.specs.Script.{ColumnRange, select_of}
+use Rattle.sr_language.specs.Built.{ColumnRange, select_of}
 use Rattle.sr_world.specs.Client.{cells_of}
 use Rattle.sr_world.specs.Represents.{AllHeld}
 use Rattle.sr_world.proofs.Filters.{filter-same, filter-filter, filter-each, and_left, and_right, and_both}

@@ -4,7 +4,7 @@ use Rattle.std.specs.Prelude.{filter, IsTrue, ◌==◌, ◌↔◌, ◌⊎◌, if
 use Rattle.std.specs.declared.collections.VecDeque.{VecDeque}
 use Rattle.std.specs.declared.alloc.Global.{Global}
 use Rattle.std.proofs.lemmas.Bool.Decides.{nat_tests}
-use Rattle.sr_language.specs.Script.{may_create}
+use Rattle.sr_language.specs.Built.{may_create}
 use Rattle.std.specs.List.{list_all}
 use Rattle.sr_cell.specs.declared.table.Table.{Table}
 use Rattle.sr_cell.specs.Cells.{Row}

@@ -16,7 +16,7 @@ use Rattle.sr_box.specs.declared.span.Span.TheVariants.{Full}
 use Rattle.sr_box.specs.Spans.{in_span, span_fits, fits_kind}
 use Rattle.sr_box.specs.Points.{in_any, rect_fits, AreSame}
 use Rattle.sr_model.specs.Queries.{points_of}
-use Rattle.sr_language.specs.Script.{may_create, condition_of}
+use Rattle.sr_language.specs.Built.{may_create, condition_of}
 use Rattle.sr_reader.specs.declared.script.ColumnRange.{ColumnRange}
 use Rattle.sr_reader.specs.Read.{range_of, range_is_inside}
 use Rattle.sr_world.specs.declared.query.Query.{Query}

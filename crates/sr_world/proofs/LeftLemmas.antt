@@ -11,7 +11,7 @@ use Rattle.sr_union.specs.Pieces.{IsMinus}
 use Rattle.sr_union.specs.Grid.{AreCutFrom, have_first, all_inner, is_inner}
 use Rattle.sr_union.proofs.Parts.{are_fit}
 use Rattle.sr_union.proofs.Times.{in_any-times}
-use Rattle.sr_language.specs.Script.{is_default}
+use Rattle.sr_language.specs.Built.{is_default}
 use Rattle.sr_world.specs.Bound.{IsLeft}
 use Rattle.sr_world.proofs.TwoColumns.{IsNumbers, HasTwo}
 

@@ -14,5 +14,6 @@ pub mod ServeLemmas
 pub mod TakeLemmas
 pub mod ReplyLemmas
 pub mod SettleLemmas
+pub mod KeptLemmas
 pub mod RunLemmas
 pub mod ReplayLemmas

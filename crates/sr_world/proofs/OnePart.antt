@@ -3,7 +3,7 @@ use Rattle.std.proofs.Common.{◌≡◌, ℕ, Bool, true, false, ◌&&◌, List,
 use Rattle.std.specs.Prelude.{filter, cond, Option}
 use Rattle.sr_cell.specs.Cells.{Row, cell_at}
 use Rattle.sr_model.specs.Queries.{Part, Output, points_of, combinations, joins_hold, all_meet, output_of, rows_of, rows_at}
-use Rattle.sr_language.specs.Script.{ColumnRange, select_of, condition_of}
+use Rattle.sr_language.specs.Built.{ColumnRange, select_of, condition_of}
 use Rattle.sr_world.specs.Client.{cells_of}
 use Rattle.sr_world.proofs.Filters.{filter-each}
 

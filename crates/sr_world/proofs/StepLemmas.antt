@@ -14,7 +14,7 @@ use Rattle.sr_model.specs.Queries.{rows_at}
 use Rattle.sr_model.specs.SortedRows.{ascend}
 use Rattle.sr_model.specs.Statements.{Tables, Insert, executed}
 use Rattle.sr_model.specs.Changes.{version_at, newest_of}
-use Rattle.sr_language.specs.Script.{may_create}
+use Rattle.sr_language.specs.Built.{may_create}
 use Rattle.sr_script.specs.declared.line.TraceLine.{TraceLine}
 use Rattle.sr_script.specs.declared.line.TraceLine.TheVariants as line
 use Rattle.sr_scene.specs.Scene.{Scene, first, tables_at, newest_version}

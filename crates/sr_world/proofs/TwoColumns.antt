@@ -12,7 +12,7 @@ use Rattle.sr_cell.specs.declared.table.Table.{Table}
 use Rattle.sr_cell.specs.Cells.{Row}
 use Rattle.sr_cell.specs.Columns.{is_point, in_kind, in_column, fits_columns, takes_kind, takes_cell}
 use Rattle.sr_cell.specs.Attrs.{project}
-use Rattle.sr_language.specs.Script.{may_create, may_stand, is_name, is_default}
+use Rattle.sr_language.specs.Built.{may_create, may_stand, is_default, is_numbers}
 use Rattle.sr_world.proofs.Filters.{and_left, and_right}
 
 -- a column of numbers, its domain in order and inside the default
@@ -34,7 +34,7 @@ stands c h = by c.kind refl
   where
     by : (k : Kind) → k ≡ c.kind → IsNumbers c
     by Numbers is = record { kind = sym is; low = and_right _ _ (and_left _ _ (and_left _ _ h)); order = and_right _ _ (and_left _ _ h); high = and_right _ _ h }
-    by Texts is = absurd (let k = rw (← is) at (and_right (is_name c.name) _ (and_left _ _ (and_left _ _ (and_left _ _ h)))) in cc)
+    by Texts is = absurd (let k = rw (← is) at (and_left (is_numbers c.kind) _ (and_left _ _ (and_left _ _ h))) in cc)
 
 not_two : (n : ℕ) → (n + 3 == 2) ≡ true → ⊥
 not_two n h = grind (arith, nat_tests)
@@ -53,7 +53,7 @@ are_two (one ∷ second ∷ third ∷ columns) two all =
     absurd (let same : length (one ∷ second ∷ third ∷ columns) ≡ length columns + 3 = omega arith in not_two (length columns) (rw same at two))
 
 pub two_columns : (t : Table) → IsTrue (may_create t) → HasTwo t.columns
-two_columns t h = are_two t.columns (and_right _ _ (and_left _ _ (and_left _ _ (and_left _ _ h)))) (and_right _ _ (and_left _ _ h))
+two_columns t h = are_two t.columns (and_left _ _ (and_left _ _ (and_left _ _ h))) (and_right _ _ (and_left _ _ h))
 
 -- a row of numbers fits exactly where it is a point
 fits_kind : (low high : ℤ) (v : Cell) → takes_kind Numbers low high v ≡ in_kind Numbers low high v

@@ -9,7 +9,7 @@ use Rattle.sr_box.specs.declared.span.Span.TheVariants.{Full, Nums}
 use Rattle.sr_box.specs.Points.{Rect, in_any, rect_fits, AreSame}
 use Rattle.sr_model.specs.Queries.{Part, points_of}
 use Rattle.sr_model.specs.Queries as queries
-use Rattle.sr_language.specs.Script.{select_of, condition_of}
+use Rattle.sr_language.specs.Built.{select_of, condition_of}
 use Rattle.sr_reader.specs.Read.{range_of}
 use Rattle.sr_reader.specs.declared.script.ColumnRange.{ColumnRange}
 use Rattle.sr_world.specs.declared.query.Query.{Query}

@@ -1,5 +1,6 @@
 pub mod Bound
 pub mod Client
+pub mod Kept
 pub mod Ran
 pub mod Replay
 pub mod Represents

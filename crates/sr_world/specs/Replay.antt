@@ -4,7 +4,7 @@ use Rattle.std.specs.Io.KnownBytes.{Appends}
 use Rattle.sr_cell.specs.declared.table.Table.{Table}
 use Rattle.sr_model.specs.Events.{Event}
 use Rattle.sr_language.specs.Lines.{lines_of}
-use Rattle.sr_language.specs.Script.{Item, Phase, Start, Reads, schema_of, columns_of, events_from}
+use Rattle.sr_language.specs.Script.{Phase, start_phase, schema_of, Reads}
 use Rattle.sr_script.specs.declared.line.TraceLine.{TraceLine}
 use Rattle.sr_script.specs.TraceText.{trace_text}
 use Rattle.sr_scene.specs.Scene.{Scene, first}
@@ -17,13 +17,13 @@ use Rattle.sr_world.specs.Represents.{Represents}
 abbrev pub start : List Table → Scene
 start schema = first true schema (map (λ t. []) schema) 1
 
--- A run of the script's events but for those left, and the text of its lines.
+-- A run of the script's events, each with the number of its line, but for those left, and the text of its lines.
 pub record Trace (script : List ℕ) (left : List (ℕ × Event)) (trace : List ℕ) (last : Scene) : Type 0 where
-  pub items : List Item
+  pub all : List (ℕ × Event)
   pub end : Phase
-  pub reads : Reads Start (lines_of script) items end
+  pub reads : Reads 1 start_phase (lines_of script) all end
   pub done : List (ℕ × Event)
-  pub events : events_from 1 (columns_of end) items ≡ done ++ left
+  pub split : all ≡ done ++ left
   pub lines : List (ℕ × TraceLine)
   pub runs : Runs (start (schema_of end)) done lines last
   pub text : trace ≡ trace_text (schema_of end) lines

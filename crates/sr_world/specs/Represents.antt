@@ -14,7 +14,7 @@ use Rattle.sr_model.specs.Statements.{Tables}
 use Rattle.sr_model.specs.Changes.{version_at}
 use Rattle.sr_history.specs.Marks.{Mark, Held, Dropped, is_held}
 use Rattle.sr_history.specs.Rests.{IsRest}
-use Rattle.sr_language.specs.Script.{may_create}
+use Rattle.sr_language.specs.Built.{may_create}
 use Rattle.sr_scene.specs.Server.{Session, row_messages}
 use Rattle.sr_scene.specs.Scene as scene
 use Rattle.sr_scene.specs.Scene.{Scene, Request, AskOut, Numbered}

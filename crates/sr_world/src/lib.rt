@@ -2,6 +2,7 @@
 #![tactic(auto)]
 
 pub mod client;
+pub mod kept;
 pub mod query;
 pub mod replay;
 pub mod server;

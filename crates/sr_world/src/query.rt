@@ -1,7 +1,7 @@
 //! Queries, bound to a table.
 ghost use Rattle.std.specs.Prelude.{◌≡◌, ℕ, nat_lt, List, Option, Some, IfOk, IsTrue};
 ghost use Rattle.std.specs.List.{list_all};
-ghost use Rattle.sr_language.specs.Script.{may_create};
+ghost use Rattle.sr_language.specs.Built.{may_create};
 ghost use Rattle.sr_reader.specs.Read.{range_is_inside};
 ghost use Rattle.sr_world.specs.Bound.{IsBound, rects_in, clip, clipped, later_of, earlier_of, span_of, rect_at};
 

@@ -1,26 +1,31 @@
 //! The replay of a script.
-ghost use Rattle.std.specs.Prelude.{◌≡◌, ℕ, ◌+◌, ◌<◌, ◌≤◌, ◌^◌, ◌==◌, ◌⊎◌, nat_lt, List, [], ◌∷◌, ◌++◌, length, map, string_bytes, IsTrue, IfOk, OnOk, OnErr, IsErrOf};
+ghost use Rattle.std.specs.Prelude.{◌≡◌, ℕ, ◌+◌, ◌<◌, ◌≤◌, ◌^◌, ◌⊎◌, [], ◌∷◌, None, length, map, string_bytes, IsTrue, IfOk, OnOk, OnErr, IfSome, IsErrOf};
 ghost use Rattle.std.specs.List.{list_all};
+ghost use Rattle.std.specs.Option.{option_to_list};
+ghost use Rattle.sr_cell.specs.declared.fault.Fault.{Fault as TheFault};
 ghost use Rattle.sr_cell.specs.declared.list.No.TheVariants.{Refused, NoMemory as Wanting};
 ghost use Rattle.sr_language.specs.Lines.{lines_of};
-ghost use Rattle.sr_language.specs.Script.{Start, FirstUnbuilt, may_create};
-ghost use Rattle.sr_reader.specs.Read.{Fits, insert_event, select_event, events_of, tables_of, range_is_inside};
+ghost use Rattle.sr_language.specs.Script.{start_phase, FirstRefused, FirstUnbuilt};
+ghost use Rattle.sr_reader.specs.Read.{Fits, exec_event, query_event, events_of, rows_fit, selection_fits, is_refused};
 ghost use Rattle.sr_script.specs.TraceText.{trace_text};
 ghost use Rattle.sr_scene.specs.Runs.{numbered};
 ghost use Rattle.sr_io.specs.Causes.{Rose};
-ghost use Rattle.sr_world.specs.declared.replay.RunFault.TheVariants.{WriteFault, Unbuilt as IsUnbuilt};
-ghost use Rattle.sr_world.specs.Represents.{IsUnasked, drawn};
+ghost use Rattle.sr_world.specs.declared.replay.RunFault.TheVariants.{WriteFault, Setup, Unbuilt};
+ghost use Rattle.sr_world.specs.Represents.{IsUnasked};
 ghost use Rattle.sr_world.specs.Worlds.{Stands};
+ghost use Rattle.sr_world.specs.Kept.{IsStill, drawn_of};
 ghost use Rattle.sr_world.specs.Replay.{Wrote, WrotePart};
 ghost use Rattle.sr_world.specs.Ran.{Ran, RanWhole, RanPart, TracedWhole, TracedPart, Stays};
 
+use crate::kept;
 use crate::world::World;
+use sr_cell::fault::Fault;
 use sr_cell::list::{Copied, No, NoMemory, Seq};
 use sr_cell::table::Table;
 use sr_io::outside::{Failed, Sink};
 use sr_io::whole::write_all;
 use sr_reader::lines::read_script;
-use sr_reader::script::{InsertLine, Script, SelectLine};
+use sr_reader::script::{ExecLine, QueryLine, Script, ScriptFault};
 use sr_script::line::TraceLine;
 use sr_script::text::push_line;
 use std::alloc::Global;
@@ -30,7 +35,9 @@ use std::alloc::Global;
 pub enum RunFault {
     /// A call of the sink failed.
     WriteFault,
-    /// The line is the first that is not in a form that is built, counted from 1.
+    /// The line is the first CREATE line that is refused, counted from 1, and why.
+    Setup { line: u64, fault: Fault },
+    /// The line is the first that does nothing that is built, counted from 1. No CREATE line is refused.
     Unbuilt { line: u64 },
 }
 
@@ -44,8 +51,11 @@ pub fn replay<K: Sink>(
     ensures whole { IfOk result (Wrote (K.writing sink.old).written (K.writing sink.new).written script.now) }
     ensures part_after_fault { IsErrOf result (Refused WriteFault) → WrotePart (K.writing sink.old).written (K.writing sink.new).written script.now }
     ensures part_in_want { IsErrOf result Wanting → (K.writing sink.new ≡ K.writing sink.old) ⊎ WrotePart (K.writing sink.old).written (K.writing sink.new).written script.now }
-    ensures unbuilt { (line : ℕ) → IsErrOf result (Refused (IsUnbuilt line)) → FirstUnbuilt 1 Start (lines_of script.now) line }
-    ensures unbuilt_writes_nothing { (line : ℕ) → IsErrOf result (Refused (IsUnbuilt line)) → K.writing sink.new ≡ K.writing sink.old }
+    ensures setup { (line : ℕ) (fault : TheFault) → IsErrOf result (Refused (Setup line fault)) → FirstRefused 1 [] (lines_of script.now) line fault }
+    ensures setup_writes_nothing { (line : ℕ) (fault : TheFault) → IsErrOf result (Refused (Setup line fault)) → K.writing sink.new ≡ K.writing sink.old }
+    ensures unbuilt { (line : ℕ) → IsErrOf result (Refused (Unbuilt line)) → FirstUnbuilt 1 start_phase (lines_of script.now) line }
+    ensures unbuilt_accepts { (line : ℕ) → IsErrOf result (Refused (Unbuilt line)) → (refused : ℕ) (fault : TheFault) → FirstRefused 1 [] (lines_of script.now) refused fault → ⊥ }
+    ensures unbuilt_writes_nothing { (line : ℕ) → IsErrOf result (Refused (Unbuilt line)) → K.writing sink.new ≡ K.writing sink.old }
     ensures write_fault_is_counted { IsErrOf result (Refused WriteFault) → Rose (K.writing sink.old).faults (K.writing sink.new).faults }
     ensures faults_never_fall { (K.writing sink.old).faults ≤ (K.writing sink.new).faults }
     ensures ok_keeps_faults { OnOk result ((K.writing sink.new).faults ≡ (K.writing sink.old).faults) }
@@ -63,7 +73,12 @@ pub fn replay<K: Sink>(
             Err(No::Refused(_)) => Err(No::Refused(RunFault::WriteFault)),
             Err(No::NoMemory) => Err(No::NoMemory),
         },
-        Err(No::Refused(no)) => Err(No::Refused(RunFault::Unbuilt { line: no.line })),
+        Err(No::Refused(ScriptFault::Setup { line, fault })) => {
+            Err(No::Refused(RunFault::Setup { line, fault }))
+        }
+        Err(No::Refused(ScriptFault::Unbuilt { line })) => {
+            Err(No::Refused(RunFault::Unbuilt { line }))
+        }
         Err(No::NoMemory) => Err(No::NoMemory),
     }
 }
@@ -75,9 +90,9 @@ fn run_script<K: Sink>(
     sink: &mut K,
 ) -> Result<Option<World>, No<Failed>>
     requires fits { Fits script }
-    requires few { length script.inserts + length script.selects < 2 ^ 32 }
-    ensures whole { IfOk result (λ kept. TracedWhole (tables_of script.table) (events_of script) kept (K.writing sink.old).written (K.writing sink.new).written) }
-    ensures part { OnErr result (TracedPart (tables_of script.table) (events_of script) (K.writing sink.old).written (K.writing sink.new).written) }
+    requires few { length script.statements + length script.queries < 2 ^ 32 }
+    ensures whole { IfOk result (λ kept. TracedWhole (option_to_list script.table) (events_of script) kept (K.writing sink.old).written (K.writing sink.new).written) }
+    ensures part { OnErr result (TracedPart (option_to_list script.table) (events_of script) (K.writing sink.old).written (K.writing sink.new).written) }
     ensures faults_never_fall { (K.writing sink.old).faults ≤ (K.writing sink.new).faults }
     ensures ok_keeps_faults { OnOk result ((K.writing sink.new).faults ≡ (K.writing sink.old).faults) }
     ensures want_keeps_faults { IsErrOf result Wanting → (K.writing sink.new).faults ≡ (K.writing sink.old).faults }
@@ -87,86 +102,58 @@ fn run_script<K: Sink>(
 {
     let Script {
         table,
-        inserts,
-        selects,
+        statements,
+        queries,
     } = script;
-    let Some(table) = table else {
-        return Ok(None);
-    };
-    match run_over(alloc, table, inserts, selects, sink) {
-        Ok(world) => Ok(Some(world)),
-        Err(no) => Err(no),
-    }
-}
-
-/// Runs the lines of a script over its table.
-fn run_over<K: Sink>(
-    alloc: Global,
-    table: Table,
-    inserts: Seq<InsertLine>,
-    selects: Seq<SelectLine>,
-    sink: &mut K,
-) -> Result<World, No<Failed>>
-    requires create { IsTrue (may_create table) }
-    requires widths { IsTrue (list_all (λ line. list_all (λ row. length row == 2) line.rows) inserts) }
-    requires short { IsTrue (list_all (λ line. nat_lt (length line.rows) 65536) inserts) }
-    requires outputs { IsTrue (list_all (λ line. list_all (λ c. nat_lt c 2) line.outputs) selects) }
-    requires ranges { IsTrue (list_all (λ line. range_is_inside line.range) selects) }
-    requires few { length inserts + length selects < 2 ^ 32 }
-    ensures whole { IfOk result (λ world. TracedWhole (table ∷ []) (map insert_event inserts ++ map select_event selects) (Some world) (K.writing sink.old).written (K.writing sink.new).written) }
-    ensures part { OnErr result (TracedPart (table ∷ []) (map insert_event inserts ++ map select_event selects) (K.writing sink.old).written (K.writing sink.new).written) }
-    ensures faults_never_fall { (K.writing sink.old).faults ≤ (K.writing sink.new).faults }
-    ensures ok_keeps_faults { OnOk result ((K.writing sink.new).faults ≡ (K.writing sink.old).faults) }
-    ensures want_keeps_faults { IsErrOf result Wanting → (K.writing sink.new).faults ≡ (K.writing sink.old).faults }
-    ensures failed_is_counted { IsErrOf result (Refused record {}) → Rose (K.writing sink.old).faults (K.writing sink.new).faults }
-    ensures steady_never_fails { K.IsSteady sink.old → ¬ IsErrOf result (Refused record {}) }
-    ensures stays { Stays K K.reading K.linking K.held K.complaints K.IsSteady sink.old sink.new }
-{
     let schema = match schema_of(alloc, &table) {
         Ok(schema) => schema,
         Err(_) => return Err(No::NoMemory),
     };
-    let mut world = match World::new(alloc, table) {
+    let mut world = match kept::begin(alloc, table) {
         Ok(world) => world,
         Err(_) => return Err(No::NoMemory),
     };
     let tables = schema.as_slice();
-    match run_inserts(alloc, tables, &mut world, inserts, sink) {
+    match run_statements(alloc, tables, &mut world, statements, sink) {
         Ok(()) => {}
         Err(no) => return Err(no),
     }
-    match run_selects(alloc, tables, &mut world, selects, sink) {
+    match run_queries(alloc, tables, &mut world, queries, sink) {
         Ok(()) => Ok(world),
         Err(no) => Err(no),
     }
 }
 
-/// A schema of one table.
-fn schema_of(alloc: Global, table: &Table) -> Result<Seq<Table>, NoMemory>
-    ensures { IfOk result (λ schema. schema ≡ table.now ∷ []) }
+/// A schema of the table, if there is one.
+fn schema_of(alloc: Global, table: &Option<Table>) -> Result<Seq<Table>, NoMemory>
+    ensures { IfOk result (λ schema. schema ≡ option_to_list table.now) }
 {
     let mut schema = Seq::new(alloc);
-    schema.push(table.copy(alloc)?)?;
+    if let Some(table) = table {
+        schema.push(table.copy(alloc)?)?;
+    }
     Ok(schema)
 }
 
-/// Runs the INSERT lines.
-fn run_inserts<K: Sink>(
+/// Runs the statements.
+fn run_statements<K: Sink>(
     alloc: Global,
     schema: &[Table],
-    world: &mut World,
-    lines: Seq<InsertLine>,
+    world: &mut Option<World>,
+    lines: Seq<ExecLine>,
     sink: &mut K,
 ) -> Result<(), No<Failed>>
-    requires stands { Stands world.old }
-    requires unasked { IsUnasked world.old }
-    requires widths { IsTrue (list_all (λ line. list_all (λ row. length row == 2) line.rows) lines) }
-    requires short { IsTrue (list_all (λ line. nat_lt (length line.rows) 65536) lines) }
-    requires room { drawn world.old + length lines < 2 ^ 63 }
-    ensures whole { OnOk result (RanWhole schema.now (map insert_event lines) world.old world.new (K.writing sink.old).written (K.writing sink.new).written) }
-    ensures part { OnErr result (RanPart schema.now (map insert_event lines) world.old (K.writing sink.old).written (K.writing sink.new).written) }
-    ensures stands { OnOk result (Stands world.new) }
-    ensures drawn { OnOk result (drawn world.new ≤ drawn world.old + length lines) }
+    requires stands { IfSome world.old Stands }
+    requires unasked { IfSome world.old IsUnasked }
+    requires fits { IsTrue (list_all (λ line. rows_fit line.statement) lines) }
+    requires refused { world.old ≡ None → IsTrue (list_all (λ line. is_refused line.statement) lines) }
+    requires room { drawn_of world.old + length lines < 2 ^ 63 }
+    ensures whole { OnOk result (RanWhole schema.now (map exec_event lines) world.old world.new (K.writing sink.old).written (K.writing sink.new).written) }
+    ensures part { OnErr result (RanPart schema.now (map exec_event lines) world.old (K.writing sink.old).written (K.writing sink.new).written) }
+    ensures stands { OnOk result (IfSome world.new Stands) }
+    ensures unasked { OnOk result (IfSome world.new IsUnasked) }
+    ensures drawn { OnOk result (drawn_of world.new ≤ drawn_of world.old + length lines) }
+    ensures none { world.new ≡ None → world.old ≡ None }
     ensures faults_never_fall { (K.writing sink.old).faults ≤ (K.writing sink.new).faults }
     ensures ok_keeps_faults { OnOk result ((K.writing sink.new).faults ≡ (K.writing sink.old).faults) }
     ensures want_keeps_faults { IsErrOf result Wanting → (K.writing sink.new).faults ≡ (K.writing sink.old).faults }
@@ -175,7 +162,7 @@ fn run_inserts<K: Sink>(
     ensures stays { Stays K K.reading K.linking K.held K.complaints K.IsSteady sink.old sink.new }
 {
     for line in lines.into_vec() {
-        let text = match insert_text(alloc, schema, world, line) {
+        let text = match exec_text(alloc, schema, world, line) {
             Ok(text) => text,
             Err(_) => return Err(No::NoMemory),
         };
@@ -187,20 +174,21 @@ fn run_inserts<K: Sink>(
     Ok(())
 }
 
-/// Runs the SELECT lines.
-fn run_selects<K: Sink>(
+/// Runs the queries.
+fn run_queries<K: Sink>(
     alloc: Global,
     schema: &[Table],
-    world: &mut World,
-    lines: Seq<SelectLine>,
+    world: &mut Option<World>,
+    lines: Seq<QueryLine>,
     sink: &mut K,
 ) -> Result<(), No<Failed>>
-    requires stands { Stands world.old }
-    requires outputs { IsTrue (list_all (λ line. list_all (λ c. nat_lt c 2) line.outputs) lines) }
-    requires ranges { IsTrue (list_all (λ line. range_is_inside line.range) lines) }
-    requires room { drawn world.old + (length lines + length lines) < 2 ^ 63 }
-    ensures whole { OnOk result (RanWhole schema.now (map select_event lines) world.old world.new (K.writing sink.old).written (K.writing sink.new).written) }
-    ensures part { OnErr result (RanPart schema.now (map select_event lines) world.old (K.writing sink.old).written (K.writing sink.new).written) }
+    requires stands { IfSome world.old Stands }
+    requires still { IfSome world.old IsStill }
+    requires fits { IsTrue (list_all (λ line. selection_fits line.query) lines) }
+    requires refused { world.old ≡ None → IsTrue (list_all (λ line. is_refused line.query) lines) }
+    requires room { drawn_of world.old + (length lines + length lines) < 2 ^ 63 }
+    ensures whole { OnOk result (RanWhole schema.now (map query_event lines) world.old world.new (K.writing sink.old).written (K.writing sink.new).written) }
+    ensures part { OnErr result (RanPart schema.now (map query_event lines) world.old (K.writing sink.old).written (K.writing sink.new).written) }
     ensures faults_never_fall { (K.writing sink.old).faults ≤ (K.writing sink.new).faults }
     ensures ok_keeps_faults { OnOk result ((K.writing sink.new).faults ≡ (K.writing sink.old).faults) }
     ensures want_keeps_faults { IsErrOf result Wanting → (K.writing sink.new).faults ≡ (K.writing sink.old).faults }
@@ -209,7 +197,7 @@ fn run_selects<K: Sink>(
     ensures stays { Stays K K.reading K.linking K.held K.complaints K.IsSteady sink.old sink.new }
 {
     for line in lines.into_vec() {
-        let text = match select_text(alloc, schema, world, line) {
+        let text = match query_text(alloc, schema, world, line) {
             Ok(text) => text,
             Err(_) => return Err(No::NoMemory),
         };
@@ -221,49 +209,49 @@ fn run_selects<K: Sink>(
     Ok(())
 }
 
-/// Carries out an INSERT, and makes the text of its lines.
-fn insert_text(
+/// Carries out a statement, and makes the text of its lines.
+fn exec_text(
     alloc: Global,
     schema: &[Table],
-    world: &mut World,
-    line: InsertLine,
+    world: &mut Option<World>,
+    line: ExecLine,
 ) -> Result<String, NoMemory>
-    requires stands { Stands world.old }
-    requires unasked { IsUnasked world.old }
-    requires widths { IsTrue (list_all (λ row. length row == 2) line.rows) }
-    requires short { length line.rows < 65536 }
-    requires room { drawn world.old < 2 ^ 63 }
-    ensures ran { IfOk result (λ text. Ran schema.now (insert_event line ∷ []) world.old world.new (string_bytes text)) }
-    ensures stands { OnOk result (Stands world.new) }
-    ensures unasked { OnOk result (IsUnasked world.new) }
-    ensures drawn { OnOk result (drawn world.new ≤ drawn world.old + 1) }
+    requires stands { IfSome world.old Stands }
+    requires unasked { IfSome world.old IsUnasked }
+    requires fits { IsTrue (rows_fit line.statement) }
+    requires refused { world.old ≡ None → IsTrue (is_refused line.statement) }
+    requires room { drawn_of world.old < 2 ^ 63 }
+    ensures ran { IfOk result (λ text. Ran schema.now (exec_event line ∷ []) world.old world.new (string_bytes text)) }
+    ensures stands { OnOk result (IfSome world.new Stands) }
+    ensures unasked { OnOk result (IfSome world.new IsUnasked) }
+    ensures drawn { OnOk result (drawn_of world.new ≤ drawn_of world.old + 1) }
+    ensures none { world.new ≡ None → world.old ≡ None }
 {
-    let InsertLine { number, rows } = line;
-    let lines = world.exec(alloc, rows)?;
+    let ExecLine { number, statement } = line;
+    let lines = kept::exec(alloc, world, statement)?;
     text_of(alloc, schema, number, lines.as_slice())
 }
 
 /// Asks a query, and makes the text of its lines.
-fn select_text(
+fn query_text(
     alloc: Global,
     schema: &[Table],
-    world: &mut World,
-    line: SelectLine,
+    world: &mut Option<World>,
+    line: QueryLine,
 ) -> Result<String, NoMemory>
-    requires stands { Stands world.old }
-    requires outputs { IsTrue (list_all (λ c. nat_lt c 2) line.outputs) }
-    requires range { IsTrue (range_is_inside line.range) }
-    requires room { drawn world.old + 2 < 2 ^ 63 }
-    ensures ran { IfOk result (λ text. Ran schema.now (select_event line ∷ []) world.old world.new (string_bytes text)) }
-    ensures stands { OnOk result (Stands world.new) }
-    ensures drawn { OnOk result (drawn world.new ≤ drawn world.old + 2) }
+    requires stands { IfSome world.old Stands }
+    requires still { IfSome world.old IsStill }
+    requires fits { IsTrue (selection_fits line.query) }
+    requires refused { world.old ≡ None → IsTrue (is_refused line.query) }
+    requires room { drawn_of world.old + 2 < 2 ^ 63 }
+    ensures ran { IfOk result (λ text. Ran schema.now (query_event line ∷ []) world.old world.new (string_bytes text)) }
+    ensures stands { OnOk result (IfSome world.new Stands) }
+    ensures still { OnOk result (IfSome world.new IsStill) }
+    ensures drawn { OnOk result (drawn_of world.new ≤ drawn_of world.old + 2) }
+    ensures none { world.new ≡ None → world.old ≡ None }
 {
-    let SelectLine {
-        number,
-        outputs,
-        range,
-    } = line;
-    let lines = world.query(alloc, outputs, range)?;
+    let QueryLine { number, query } = line;
+    let lines = kept::query(alloc, world, query)?;
     text_of(alloc, schema, number, lines.as_slice())
 }
 

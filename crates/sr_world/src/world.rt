@@ -8,9 +8,10 @@ ghost use Rattle.sr_script.specs.declared.line.TraceLine.TheVariants.{Ask, Query
 ghost use Rattle.sr_scene.specs.Steps.{part_line};
 ghost use Rattle.sr_world.specs.Bound.{IsBound, IsLeft, meaning_of};
 ghost use Rattle.sr_world.specs.Client.{is_empty, both_columns};
+ghost use Rattle.sr_world.specs.Kept.{IsStill};
 ghost use Rattle.sr_model.specs.Events.{Exec, QueryOf, ToServer, ToClient};
 ghost use Rattle.sr_model.specs.Statements.{Insert};
-ghost use Rattle.sr_language.specs.Script.{may_create, select_of};
+ghost use Rattle.sr_language.specs.Built.{may_create, select_of};
 ghost use Rattle.sr_reader.specs.Read.{range_of, range_is_inside};
 ghost use Rattle.sr_scene.specs.Scene.{first};
 ghost use Rattle.sr_world.specs.Represents.{Represents, IsUnasked, drawn};
@@ -97,6 +98,7 @@ impl World {
         requires room { drawn self.old + 2 < 2 ^ 63 }
         ensures steps { IfOk result (DoesStep (QueryOf 1 (Ok (select_of outputs (range_of range)))) self.old self.new) }
         ensures stands { OnOk result (Stands self.new) }
+        ensures still { OnOk result (IsStill self.new) }
         ensures drawn { OnOk result (drawn self.new ≤ drawn self.old + 2) }
     {
         let mut lines = self.ask(alloc, outputs, range)?;
@@ -182,6 +184,7 @@ impl World {
     fn settle(&mut self, alloc: Global) -> Result<TraceLines, NoMemory>
         requires { Stands self.old }
         ensures settles { IfOk result (DoesSettle self.old self.new) }
+        ensures still { OnOk result (IsStill self.new) }
         ensures drawn { OnOk result (drawn self.new ≡ drawn self.old) }
     {
         let mut lines = self.serve_all(alloc)?;
@@ -357,7 +360,8 @@ fn only(schema: &Seq<Table>) -> &Table
     &schema.as_slice()[0]
 }
 
-fn one_line(alloc: Global, line: TraceLine) -> Result<TraceLines, NoMemory>
+/// This line alone.
+pub(crate) fn one_line(alloc: Global, line: TraceLine) -> Result<TraceLines, NoMemory>
     ensures { IfOk result (λ lines. lines ≡ line ∷ []) }
 {
     let mut lines = Seq::new(alloc);

@@ -10,6 +10,7 @@ returns-in-Err-clause-steady g c = λ steady.
     (λ is. c.in-Err.ensures.steady_reads steady (ap Err (c.report.ensures.read is)))
     (λ is. c.in-Err.ensures.steady_writes steady (ap Err (c.report.ensures.write is)))
     (λ is. c.in-Err.ensures.too_long (ap Err (c.report.ensures.too_long is)))
+    (λ is. let s = c.report.ensures.setup is in (s.0, s.1, c.in-Err.ensures.setup s.0 s.1 (ap Err s.2)))
     (λ is. let u = c.report.ensures.unbuilt is in (u.0, c.in-Err.ensures.unbuilt u.0 (ap Err u.1)))
     in
     let named : file_of c.args.words.now ≡ Some c.as_str.result.now = search rules in

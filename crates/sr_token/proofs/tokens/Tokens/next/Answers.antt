@@ -2,6 +2,7 @@ use Rattle.std.proofs.Common.{◌≡◌, ◌<◌, length, None, Some, sym, subst
 use Rattle.sr_token.specs.Tokens.{begin}
 use Rattle.sr_token.specs.Places.{IsTokenAt}
 use Rattle.sr_token.proofs.Streams.{none_left, bad_left, token_left}
+use Rattle.sr_token.proofs.Texts.{token-text}
 use Rattle.sr_token.proofs.tokens.Tokens.next.Goals as goal
 
 pub returns-then-from-self-clause-end : goal.returns-then-from-self-clause-end
@@ -27,3 +28,8 @@ returns-in-None-clause-bad c =
     let inside : begin source at < length source = search rules in
     let is : IsTokenAt source (begin source at) None = rw (← c.after_blanks-from.ensures.place) (subst (λ found. IsTokenAt source c.after_blanks-from.result found) c.in-None.is c.token_at.ensures) in
     (refl, rw c.after_blanks-from.ensures.place (sym c.self.view_is ∙ bad_left source at inside is))
+
+pub returns-in-Some-clause-text : goal.returns-in-Some-clause-text
+returns-in-Some-clause-text c =
+    let is : IsTokenAt c.self.inside.source.now c.after_blanks-from.result (Some c.in-Some.token) = subst (λ found. IsTokenAt c.self.inside.source.now c.after_blanks-from.result found) c.in-Some.is c.token_at.ensures in
+    token-text c.self.inside.source.now c.after_blanks-from.result c.in-Some.token is

@@ -1,5 +1,5 @@
 use Rattle.std.proofs.Common.{Ok}
-use Rattle.sr_language.specs.Script.{select_of}
+use Rattle.sr_language.specs.Built.{select_of}
 use Rattle.sr_model.specs.Events.{Event, QueryOf}
 use Rattle.sr_reader.specs.Read.{range_of}
 use Rattle.sr_scene.specs.Steps.{Happens}

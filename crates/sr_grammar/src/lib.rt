@@ -1,0 +1,4 @@
+//! Statements as trees, and the grammar of SQL: definitions alone.
+#![tactic(auto)]
+
+pub mod statement;

@@ -1,0 +1,181 @@
+-- A CREATE, printed: its columns by their printed rules make the same table.
+use Rattle.std.proofs.Common.{◌≡◌, ℕ, ◌+◌, ◌<◌, ◌≤◌, Bool, true, false, cond, List, [], ◌∷◌, inl, inr, map, length, filter, refl, sym, ap, ap₂, subst, ◌∙◌, arith, Result, Ok, Err, eq-eqb, ne_eqb, eqb-true, eq-or-lt_of_le}
+use Rattle.std.specs.Prelude.{◌==◌, ◌||◌, if◌then◌else◌, codes, IsTrue}
+use Rattle.std.specs.List.{list_any}
+use Rattle.std.proofs.lemmas.List.{length-map}
+use Rattle.sr_cell.specs.declared.table.Column.{Column}
+use Rattle.sr_cell.specs.declared.fault.Fault.{Fault}
+use Rattle.sr_grammar.specs.declared.statement.Definition.{Definition}
+use Rattle.sr_grammar.specs.Tokens.{Tok}
+use Rattle.sr_grammar.specs.Rules.{Rule, ◌>>=◌ as ◌▸◌, Many}
+use Rattle.sr_grammar.specs.Conditions.{MARK, ListOf, InParens}
+use Rattle.sr_grammar.specs.Columns.{IsColumn, IsCreate}
+use Rattle.sr_grammar.specs.Trees.{Statement, Create, Tree, Defines, is_key, has_bad_domain, column_of, key_of, table_of, statement_of}
+use Rattle.sr_grammar.specs.Printed.{key, mark, name, parens, column, columns_behind, columns, printed_tokens}
+use Rattle.sr_print.specs.Writable.{is_name}
+use Rattle.sr_print.proofs.AgainTokens.{Writable, joined, cut, at_end, in_parens, writable_parens}
+use Rattle.sr_print.proofs.AgainWords.{name_again, name_one, writable_name}
+use Rattle.sr_print.proofs.AgainDomains.{neither, defines, IsSound, sound, defines_column, defines_domain, defines_key}
+use Rattle.sr_print.proofs.AgainColumns.{column_spelled, column_name}
+
+-- columns by the rules that are printed of them; k is the number of the key, c that of the first of these
+abbrev redefined : ℕ → ℕ → List Column → List Definition
+redefined k c [] = []
+redefined k c (d ∷ others) = defines (k == c) d ∷ redefined k (c + 1) others
+
+abbrev AreSound : List Column → Type 0
+AreSound [] = Unit {0}
+AreSound (c ∷ others) = IsSound c × AreSound others
+
+-- ---- their tokens
+
+abbrev IsNext : Rule Definition
+IsNext = MARK (codes ",") ▸ λ _. IsColumn
+
+behind_spelled : (k c : ℕ) (all : List Column) → AreSound all → Many IsNext (redefined k c all) (columns_behind k c all) × Writable (columns_behind k c all)
+behind_spelled k c [] s = (refl, refl)
+behind_spelled k c (d ∷ others) s =
+    let one = column_spelled (k == c) d s.0 in
+    let more = behind_spelled k (c + 1) others s.1 in (
+      (mark (codes ",") ∷ column (k == c) d, columns_behind k (c + 1) others, refl, (0, mark (codes ",") ∷ [], column (k == c) d, refl, (mark (codes ","), refl, refl), one.0), more.0),
+      joined (column (k == c) d) (columns_behind k (c + 1) others) one.1 more.1,
+    )
+
+columns_spelled : (k : ℕ) (d : Column) (others : List Column) → IsSound d → AreSound others
+    → ListOf (MARK (codes ",")) IsColumn (redefined k 0 (d ∷ others)) (columns k (d ∷ others)) × Writable (columns k (d ∷ others))
+columns_spelled k d others s t =
+    let one = column_spelled (k == 0) d s in
+    let more = behind_spelled k 1 others t in (
+      (defines (k == 0) d, column (k == 0) d, columns_behind k 1 others, refl, one.0, at_end (Many IsNext) _ (λ more. defines (k == 0) d ∷ more) (redefined k 1 others) _ refl more.0),
+      joined (column (k == 0) d) (columns_behind k 1 others) one.1 more.1,
+    )
+
+-- ---- their table
+
+no_keys : (k c : ℕ) (all : List Column) → AreSound all → k < c → filter is_key (redefined k c all) ≡ []
+no_keys k c [] s l = refl
+no_keys k c (d ∷ others) s l =
+    let rest = redefined k (c + 1) others in
+    let is : is_key (defines (k == c) d) ≡ false = defines_key (k == c) d s.0 ∙ ne_eqb k c (λ e. omega arith) in
+    ap (λ t. cond t (defines (k == c) d ∷ filter is_key rest) (filter is_key rest)) is ∙ no_keys k (c + 1) others s.1 (omega arith)
+
+one_key : (k c : ℕ) (all : List Column) → AreSound all → c ≤ k → k < c + length all → (length (filter is_key (redefined k c all)) ≡ 1) × (key_of (redefined k c all) + c ≡ k)
+one_key k c [] s l m = absurd (omega arith)
+one_key k c (d ∷ others) s l m = elim (eq-or-lt_of_le l) [
+  | inl e ↦ (
+      let is : is_key (defines (k == c) d) ≡ true = defines_key (k == c) d s.0 ∙ eq-eqb k c (sym e) in (
+        ap (λ t. length (cond t (defines (k == c) d ∷ keys) keys)) is ∙ ap (λ z. length (defines (k == c) d ∷ z)) (no_keys k (c + 1) others s.1 (omega arith)),
+        ap (λ t. (if t then 0 else key_of rest + 1) + c) is ∙ omega arith,
+      ))
+  | inr less ↦ (
+      let is : is_key (defines (k == c) d) ≡ false = defines_key (k == c) d s.0 ∙ ne_eqb k c (λ e. omega arith) in
+      let more = one_key k (c + 1) others s.1 (omega arith) (omega arith) in
+      (ap (λ t. length (cond t (defines (k == c) d ∷ keys) keys)) is ∙ more.0, ap (λ t. (if t then 0 else key_of rest + 1) + c) is ∙ omega (arith, more.1)))
+]
+  where
+    rest : List Definition
+    rest = redefined k (c + 1) others
+
+    keys : List Definition
+    keys = filter is_key (redefined k (c + 1) others)
+
+no_bad : (k c : ℕ) (all : List Column) → AreSound all → list_any has_bad_domain (redefined k c all) ≡ false
+no_bad k c [] s = refl
+no_bad k c (d ∷ others) s = ap (λ t. t || list_any has_bad_domain (redefined k (c + 1) others)) (defines_domain (k == c) d s.0) ∙ no_bad k (c + 1) others s.1
+
+same_columns : (k c : ℕ) (all : List Column) → AreSound all → map column_of (redefined k c all) ≡ all
+same_columns k c [] s = refl
+same_columns k c (d ∷ others) s = ap₂ (λ a b. a ∷ b) (defines_column (k == c) d s.0) (same_columns k (c + 1) others s.1)
+
+abbrev verdict : Bool → Bool → Fault → Fault → Statement → Result Statement Fault
+verdict a b x z y = if a then Err x else (if b then Ok y else Err z)
+
+judged : (a b : Bool) (x z : Fault) (y : Statement) → a ≡ false → b ≡ true → verdict a b x z y ≡ Ok y
+judged a b x z y p q = rw (p, q) refl
+
+unjudged : (a b : Bool) (x z : Fault) (y s : Statement) → verdict a b x z y ≡ Ok s → (a ≡ false) × (b ≡ true) × (y ≡ s)
+unjudged true b x z y s e = absurd cc
+unjudged false true x z y s e = (refl, refl, (let k : y ≡ s = cc e in k))
+unjudged false false x z y s e = absurd cc
+
+redefined_table : (title : List ℕ) (k : ℕ) (all : List Column) → AreSound all → k < length all → statement_of (Defines title (redefined k 0 all)) ≡ Ok (Create (record { name = title; columns = all; key = k }))
+redefined_table title k all s l =
+    let key = one_key k 0 all s (omega arith) (omega arith) in
+    judged (list_any has_bad_domain (redefined k 0 all)) (length (filter is_key (redefined k 0 all)) == 1) _ _ _ (no_bad k 0 all s) (eq-eqb _ 1 key.0)
+    ∙ ap₂ (λ c n. Ok (Create (record { name = title; columns = c; key = n }))) (same_columns k 0 all s) (omega (arith, key.1))
+
+-- ---- what was spelled
+
+key_within : (ds : List Definition) → 0 < length (filter is_key ds) → key_of ds < length ds
+key_within [] l = absurd (omega arith)
+key_within (d ∷ ds) l = go (is_key d) l (key_within ds)
+  where
+    go : (t : Bool) → 0 < length (cond t (d ∷ filter is_key ds) (filter is_key ds)) → (0 < length (filter is_key ds) → key_of ds < length ds) → (if t then 0 else key_of ds + 1) < length (d ∷ ds)
+    go true l later = omega arith
+    go false l later = omega (arith, later l)
+
+are_sound : (ds : List Definition) (y : List Tok) → Writable y → Many IsNext ds y → list_any has_bad_domain ds ≡ false → AreSound (map column_of ds)
+are_sound [] y w h e = tt
+are_sound (d ∷ ds) y w h e =
+    let s = cut y h.0 h.1 w h.2 in
+    let t = cut h.0 h.3.1 h.3.2 s.0 h.3.3 in
+    let n = neither (has_bad_domain d) (list_any has_bad_domain ds) e in
+    (sound d (column_name d h.3.2 t.1 h.3.5) n.0, are_sound ds h.1 s.1 h.4 n.1)
+
+abbrev pub Repeated : Rule Tree → Statement → Type 0
+Repeated P s = (again : Tree) × P again (printed_tokens s) × (statement_of again ≡ Ok s) × Writable (printed_tokens s)
+
+-- a table of one column or more, printed
+table_again : (title : List ℕ) (d : Definition) (ds : List Definition) (s : Statement) → IsTrue (is_name title) → AreSound (map column_of (d ∷ ds)) → statement_of (Defines title (d ∷ ds)) ≡ Ok s → Repeated IsCreate s
+table_again title d ds s n sound e =
+    let j = unjudged (list_any has_bad_domain (d ∷ ds)) (length (filter is_key (d ∷ ds)) == 1) _ _ (Create (table_of title (d ∷ ds))) s e in
+    let one = eqb-true (length (filter is_key (d ∷ ds))) 1 j.1 in
+    let k = key_of (d ∷ ds) in
+    let within : k < length (map column_of (d ∷ ds)) = omega (arith, key_within (d ∷ ds) (omega (arith, one)), length-map (d ∷ ds) column_of) in
+    let c = columns_spelled k (column_of d) (map column_of ds) sound.0 sound.1 in
+    let tokens = parens (columns k (map column_of (d ∷ ds))) in
+    let shut = in_parens (ListOf (MARK (codes ",")) IsColumn) (redefined k 0 (map column_of (d ∷ ds))) _ c.0 in
+    subst (Repeated IsCreate) j.2 (
+      Defines title (redefined k 0 (map column_of (d ∷ ds))),
+      (
+        0,
+        key (codes "CREATE") ∷ [],
+        key (codes "TABLE") ∷ name title 0 ∷ tokens,
+        refl,
+        (key (codes "CREATE"), refl, refl),
+        (
+          0,
+          key (codes "TABLE") ∷ [],
+          name title 0 ∷ tokens,
+          refl,
+          (key (codes "TABLE"), refl, refl),
+          (record { text = title; place = 0 }, name title 0 ∷ [], tokens, refl, name_one title 0, at_end (InParens (ListOf (MARK (codes ",")) IsColumn)) _ (λ columns. Defines title columns) _ _ refl shut),
+        ),
+      ),
+      redefined_table title k (map column_of (d ∷ ds)) sound within,
+      writable_name title 0 tokens n (writable_parens (columns k (map column_of (d ∷ ds))) c.1),
+    )
+
+pub create_again : (tree : Tree) (x : List Tok) (s : Statement) → Writable x → IsCreate tree x → statement_of tree ≡ Ok s → Repeated IsCreate s
+create_again tree x s w h e =
+    let a = cut x h.1 h.2 w h.3 in
+    let t = h.5 in
+    let b = cut h.2 t.1 t.2 a.1 t.3 in
+    let title = t.5 in
+    let c = cut t.2 title.1 title.2 b.1 title.3 in
+    let all = title.5 in
+    let d = cut title.2 all.1 all.2 c.1 all.3 in
+    let p = all.4 in
+    let f = cut all.1 p.1 p.2 d.0 p.3 in
+    let q = p.5 in
+    let g = cut p.2 q.1 q.2 f.1 q.3 in
+    let l = q.4 in
+    let i = cut q.1 l.1 l.2 g.0 l.3 in
+    let m = l.5 in
+    let j = cut l.2 m.1 m.2 i.1 m.3 in
+    let ds : all.0 ≡ l.0 ∷ m.0 = q.5.5.0 ∙ m.5.0 in
+    let made : tree ≡ Defines title.0.text (l.0 ∷ m.0) = all.5.0 ∙ ap (λ z. Defines title.0.text z) ds in
+    let says = subst (λ z. statement_of z ≡ Ok s) made e in
+    let ok = unjudged (list_any has_bad_domain (l.0 ∷ m.0)) (length (filter is_key (l.0 ∷ m.0)) == 1) _ _ (Create (table_of title.0.text (l.0 ∷ m.0))) s says in
+    let n = neither (has_bad_domain l.0) (list_any has_bad_domain m.0) ok.0 in
+    table_again title.0.text l.0 m.0 s (name_again title.0 title.1 c.0 title.4) (sound l.0 (column_name l.0 l.1 i.0 l.4) n.0, are_sound m.0 m.1 j.0 m.4 n.1) says

@@ -1,0 +1,5 @@
+pub mod Writable
+pub mod Writes
+pub mod LexedAgain
+pub mod Again
+pub mod ReadAgain

@@ -1,0 +1,12 @@
+//! The one printed form of a statement.
+#![tactic(auto)]
+
+mod conditions;
+mod definitions;
+pub mod laws;
+mod parts;
+pub mod print;
+mod printer;
+mod statements;
+#[cfg(test)]
+mod tests;

@@ -1,0 +1,35 @@
+use Rattle.std.proofs.Common.{◌≡◌, ◌++◌, ◌∷◌, [], sym, subst}
+use Rattle.std.specs.Prelude.{IfSome, IsTrue}
+use Rattle.std.proofs.lemmas.Result.{err_from_is_err_and}
+use Rattle.sr_language.specs.Built as built
+use Rattle.sr_language.specs.Script.{QueryLine}
+use Rattle.sr_reader.specs.Meaning.{IsMeaning}
+use Rattle.sr_reader.specs.Read.{Fits, query_of, selection_fits}
+use Rattle.sr_reader.specs.Walk.{Adds}
+use Rattle.sr_reader.proofs.Adding.{want_added, query_none, query_some}
+use Rattle.sr_reader.proofs.lines.add_query.Goals as goal
+
+pub query_of-requires : goal.query_of-requires
+query_of-requires c = c.requires.table
+
+pub returns-in_err-query : goal.returns-in_err-query
+returns-in_err-query c =
+    let p = err_from_is_err_and c.from_residual.result c.from_residual.ensures.1 in
+    want_added c.args.number c.args.script.now c.args.script.now (QueryLine c.args.sql.now) c.from_residual.result p.0 p.1
+
+pub returns-in_err-push-in-Some : goal.returns-in_err-push-in-Some
+returns-in_err-push-in-Some c =
+    let p = err_from_is_err_and c.from_residual-in_err-push-in-Some.result c.from_residual-in_err-push-in-Some.ensures.1 in
+    want_added c.args.number c.args.script.now (record c.args.script.now { queries = c.push.new.self }) (QueryLine c.args.sql.now) c.from_residual-in_err-push-in-Some.result p.0 p.1
+
+pub returns-in_ok-push-in-Some : goal.returns-in_ok-push-in-Some
+returns-in_ok-push-in-Some c =
+    let old = c.args.script.now in
+    let means = subst (λ z. IsMeaning built.query_of query_of old.table c.args.sql.now z) c.in-Some.is c.in_ok-query.ensures.means in
+    let fits = subst (λ z. IfSome z (λ selection. IsTrue (selection_fits selection))) c.in-Some.is c.in_ok-query.ensures.fits in
+    subst (λ z. Adds c.args.number old (QueryLine c.args.sql.now) (record old { queries = z }) × Fits (record old { queries = z })) (sym c.in_ok-push-in-Some.ensures.pushed)
+    (query_some c.args.number c.args.sql.now old c.in-Some.query means fits c.requires)
+
+pub returns-in-None : goal.returns-in-None
+returns-in-None c =
+    query_none c.args.number c.args.sql.now c.args.script.now (subst (λ z. IsMeaning built.query_of query_of c.args.script.now.table c.args.sql.now z) c.in-None.is c.in_ok-query.ensures.means)

@@ -1,0 +1,7 @@
+mod Cases
+mod Digits
+mod Quotes
+mod Shrinking
+mod Trees
+mod Ruling
+mod Whole

@@ -1,0 +1,12 @@
+use Rattle.std.proofs.Common.{length}
+use Rattle.std.specs.Prelude.{codes}
+use Rattle.sr_grammar.specs.Tokens.{Mark}
+use Rattle.sr_parser.specs.Readers.{column, list}
+use Rattle.sr_parser.proofs.Loops.{Going}
+use Rattle.sr_sql.proofs.columns.columns.Given as goal
+
+abbrev pub invariant-more : goal.invariant-more
+invariant-more l = Going Mark (codes ",") column l.all l.cursor (list Mark (codes ",") column l.fn.cursor)
+
+abbrev pub decreases-more : goal.decreases-more
+decreases-more l = length l.cursor

@@ -1,0 +1,20 @@
+use Rattle.std.proofs.Common.{rules, arith}
+use Rattle.std.specs.Prelude.{codes}
+use Rattle.sr_grammar.specs.Tokens.{Mark}
+use Rattle.sr_grammar.specs.Words.{place_of}
+use Rattle.sr_parser.specs.Readers.{column_name, list}
+use Rattle.sr_parser.proofs.Loops.{goes_on, one_shrinks}
+use Rattle.sr_sql.proofs.Shrinking.{column_name_less}
+use Rattle.sr_sql.proofs.statements.columns.Goals as goal
+
+pub more-preserved : goal.more-preserved
+more-preserved c =
+    rw c.in_ok-push-2.ensures.pushed
+    (goes_on Mark (codes ",") column_name column_name_less c.more.all c.more.cursor c.mark.new.self c.in_ok-mark.field-0 c.in_ok-column_name-2.field-0 c.column_name-in-more.new.cursor
+    (list Mark (codes ",") column_name c.args.cursor.now) (search rules) c.in_ok-mark.ensures c.in_ok-column_name-2.ensures c.more.invariant)
+
+pub more-smaller : goal.more-smaller
+more-smaller c =
+    let one = one_shrinks (place_of Mark (codes ",")) c.more.cursor c.in_ok-mark.field-0 c.mark.new.self c.in_ok-mark.ensures in
+    let two = column_name_less c.mark.new.self c.in_ok-column_name-2.field-0 c.column_name-in-more.new.cursor c.in_ok-column_name-2.ensures in
+    omega (arith, one, two)

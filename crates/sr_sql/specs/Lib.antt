@@ -1,0 +1,5 @@
+pub mod Views
+pub mod Next
+pub mod Seen
+pub mod Rules
+pub mod Refusals

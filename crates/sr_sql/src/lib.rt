@@ -1,0 +1,13 @@
+//! Reading a statement of SQL, or its first fault.
+#![tactic(auto)]
+
+mod columns;
+mod conditions;
+mod cursor;
+mod judge;
+pub mod read;
+mod statements;
+mod stop;
+#[cfg(test)]
+mod tests;
+mod words;

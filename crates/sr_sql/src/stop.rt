@@ -1,0 +1,38 @@
+//! Why reading stops.
+ghost use Rattle.std.specs.Prelude.{◌≡◌};
+ghost use Rattle.sr_sql.specs.declared.stop.Stop.TheVariants.{Memory};
+
+use sr_cell::list::NoMemory;
+use std::alloc::{AllocError, AllocFailed};
+
+/// Reading stops at the next token: no statement has it there, or only deeper ones; or memory was refused.
+#[derive(Clone, Copy, Debug, PartialEq, Eq)]
+pub(crate) enum Stop {
+    Grammar,
+    Deep,
+    Memory,
+}
+
+impl From<AllocError> for Stop {
+    ghost from_gives = { λ _ e. e ≡ Memory };
+
+    fn from(_error: AllocError) -> Stop {
+        Stop::Memory
+    }
+}
+
+impl<T: Drop> From<AllocFailed<T>> for Stop {
+    ghost from_gives = { λ _ e. e ≡ Memory };
+
+    fn from(_failed: AllocFailed<T>) -> Stop {
+        Stop::Memory
+    }
+}
+
+impl From<NoMemory> for Stop {
+    ghost from_gives = { λ _ e. e ≡ Memory };
+
+    fn from(_want: NoMemory) -> Stop {
+        Stop::Memory
+    }
+}

@@ -1,0 +1,17 @@
+use Rattle.std.proofs.Common.{Ok, subst}
+use Rattle.std.specs.Prelude.{IfSome}
+use Rattle.sr_model.specs.Events.{Exec}
+use Rattle.sr_model.specs.Statements.{Insert}
+use Rattle.sr_world.specs.Worlds.{Stands}
+use Rattle.sr_world.proofs.StepLemmas.{if_ok}
+use Rattle.sr_world.proofs.KeptLemmas.{kept-still, refuses-exec, stands-after}
+use Rattle.sr_world.proofs.kept.exec.Goals as goal
+
+pub returns-in-Err-clause-steps : goal.returns-in-Err-clause-steps
+returns-in-Err-clause-steps c =
+    if_ok _ c.one_line.result _ c.one_line.ensures
+    (refuses-exec c.args.world.now c.args.statement c.in-Err.fault c.in-Err.is (kept-still c.args.world.now c.requires.stands c.requires.unasked))
+
+pub returns-in-Some-clause-stands : goal.returns-in-Some-clause-stands
+returns-in-Some-clause-stands c =
+    stands-after (Exec (Ok (Insert 0 c.in-Ok.rows))) c.in-Some.world c.exec.new.self c.exec.result (λ lines. lines) (subst (λ w. IfSome w Stands) c.in-Some.is c.requires.stands) c.exec.ensures.steps

@@ -1,4 +1,5 @@
 pub mod Texts
 pub mod Lines
+pub mod Binding
 pub mod Built
 pub mod Script

@@ -189,7 +189,7 @@ fn cut_each(
 }
 
 /// What is left of the rects without the others.
-fn cut_all(
+pub(crate) fn cut_all(
     alloc: Global,
     columns: &[Column],
     rects: &Rects,

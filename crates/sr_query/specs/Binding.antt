@@ -1,6 +1,6 @@
 -- What a query means to the tables of a schema, or its first fault.
-use Rattle.std.specs.Prelude.{ℕ, ℤ, pos, zero, suc, ◌+◌, ◌*◌, ◌^◌, ◌==◌, ◌&&◌, ◌||◌, not, Bool, true, false, nat_lt, nat_le, List, [], ◌∷◌, ◌++◌, map, filter, flat_map, length, take, fold, bytes_eq, slice_index_or, Option, Some, None, Result, Ok, Err, if◌then◌else◌}
-use Rattle.std.specs.List.{list_any, list_all}
+use Rattle.std.specs.Prelude.{ℕ, ℤ, pos, int_le, ◌+◌, ◌^◌, ◌==◌, ◌&&◌, not, Bool, true, false, nat_lt, nat_le, List, [], ◌∷◌, ◌++◌, map, filter, flat_map, length, take, bytes_eq, slice_index_or, Option, Some, None, Result, Ok, Err, if◌then◌else◌}
+use Rattle.std.specs.List.{list_any}
 use Rattle.sr_cell.specs.declared.cell.Cell.{Cell}
 use Rattle.sr_cell.specs.declared.cell.Cell.TheVariants.{Num, Str}
 use Rattle.sr_cell.specs.declared.table.Kind.{Kind}
@@ -22,10 +22,10 @@ use Rattle.sr_grammar.specs.declared.statement.Atom.TheVariants as atoms
 use Rattle.sr_grammar.specs.declared.statement.JoinOn.{JoinOn}
 use Rattle.sr_grammar.specs.Words.{Word}
 use Rattle.sr_grammar.specs.Trees as tree
+use Rattle.sr_grammar.specs.Trees.{low_default, high_default}
 use Rattle.sr_model.specs.Conditions.{Cond, Conds, Test, Tests, And, Or, Not, none, more, Eq, Ne, Lt, Le, Gt, Ge, Between, OneOf, Prefix}
 use Rattle.sr_model.specs.Width.{width}
 use Rattle.sr_model.specs.Queries.{Part, Join, Output, Query}
-use Rattle.sr_language.specs.Built.{is_default}
 
 abbrev pub fault : {A : Type 0} → Why → ℕ → Result A Fault
 fault why place = Err (record { why = why; at = place })
@@ -167,6 +167,9 @@ mutual
   pub data Bounds : Type 0 where
     no_more : Bounds
     one_more : Bound → Bounds → Bounds
+
+abbrev pub is_default : ℤ → Bool
+is_default n = int_le low_default n && int_le n high_default
 
 -- a number inside the default domain, or a text of at most 120 bytes
 abbrev pub is_inside : Cell → Bool

@@ -8,15 +8,15 @@ use Rattle.sr_cell.specs.Columns.{table_at}
 use Rattle.sr_cell.specs.Names.{is_bad_domain}
 use Rattle.sr_box.specs.Points.{Rect, in_any, rect_fits, AreSame}
 use Rattle.sr_union.specs.Grid.{has_cut, is_among}
-use Rattle.sr_model.specs.Conditions.{Cond}
+use Rattle.sr_model.specs.Conditions.{Cond, is_true}
+use Rattle.sr_cell.specs.Cells.{cell_at}
 use Rattle.sr_model.specs.Width.{width}
 use Rattle.sr_model.specs.Ends.{ends}
 use Rattle.sr_model.specs.Queries as model
-use Rattle.sr_model.specs.Queries.{points_of}
-use Rattle.sr_bind.specs.declared.query.Part.{Part}
-use Rattle.sr_bind.specs.declared.query.KeyJoin.{KeyJoin}
-use Rattle.sr_bind.specs.declared.query.Output.{Output}
-use Rattle.sr_bind.specs.declared.query.Query.{Query}
+use Rattle.sr_query.specs.declared.query.Part.{Part}
+use Rattle.sr_query.specs.declared.query.KeyJoin.{KeyJoin}
+use Rattle.sr_query.specs.declared.condition.Output.{Output}
+use Rattle.sr_query.specs.declared.query.Query.{Query}
 
 -- a table that a schema takes: at most twelve columns, the key among them, whose domains are not empty and lie in the default
 abbrev pub is_table : Table → Bool
@@ -29,17 +29,19 @@ EndsWithTests c (column ∷ columns) condition [] = Unit {0}
 EndsWithTests c (column ∷ columns) condition (s ∷ r) =
     ((v : Cell) → has_cut column.kind column.lo column.hi s v ≡ true → is_among (ends c condition) v ≡ true) × EndsWithTests (c + 1) columns condition r
 
--- The part has just the points of its meaning's condition, in rects of the table, of which there are no more than the
--- condition is wide.
+-- Rects of a table with just the points for which the condition is true, no more of them than the condition is wide.
+pub record AreRectsOf (columns : List Column) (condition : Cond) (rects : List Rect) : Type 0 where
+  pub fits : IsTrue (list_all (rect_fits columns) rects)
+  pub points : AreSame columns (in_any rects) (λ p. is_true (cell_at p) condition)
+  pub few : length rects ≤ width true condition
+  pub ends : AllByRecursion (EndsWithTests 0 columns condition) rects
+
 pub record IsPart (schema : List Table) (p : Part) (meaning : model.Part) : Type 0 where
   pub table : p.table ≡ meaning.table
   pub key : p.key ≡ (table_at schema meaning.table).key
   pub need : p.need ≡ meaning.need
   pub width : p.width ≡ width true meaning.condition
-  pub fits : IsTrue (list_all (rect_fits (table_at schema meaning.table).columns) p.rects)
-  pub points : AreSame (table_at schema meaning.table).columns (in_any p.rects) (points_of meaning)
-  pub few : length p.rects ≤ p.width
-  pub ends : AllByRecursion (EndsWithTests 0 (table_at schema meaning.table).columns meaning.condition) p.rects
+  pub rects : AreRectsOf (table_at schema meaning.table).columns meaning.condition p.rects
 
 -- the key of the right part is its table's
 pub record IsJoin (j : KeyJoin) (meaning : model.Join) : Type 0 where

@@ -2,16 +2,16 @@
 use Rattle.std.specs.Prelude.{Bool, true, false, List, [], ◌∷◌, map}
 use Rattle.sr_grammar.specs.declared.statement.Atom.{Atom}
 use Rattle.sr_grammar.specs.declared.statement.Atom.TheVariants as atoms
-use Rattle.sr_language.specs.Binding.{compared}
-use Rattle.sr_language.specs.Binding as binding
+use Rattle.sr_query.specs.Binding.{compared}
+use Rattle.sr_query.specs.Binding as binding
 use Rattle.sr_model.specs.Conditions as model
-use Rattle.sr_bind.specs.declared.condition.Test.{Test}
-use Rattle.sr_bind.specs.declared.condition.Test.TheVariants as tests
-use Rattle.sr_bind.specs.declared.condition.Condition.{Condition}
-use Rattle.sr_bind.specs.declared.condition.Condition.TheOpen as layers
-use Rattle.sr_bind.specs.declared.condition.Condition.TheOpen.{Condition-F}
-use Rattle.sr_bind.specs.declared.condition.Condition.TheFolds.{fold-Condition}
-use Rattle.sr_bind.specs.Bound.{output_of}
+use Rattle.sr_query.specs.declared.condition.Test.{Test}
+use Rattle.sr_query.specs.declared.condition.Test.TheVariants as tests
+use Rattle.sr_query.specs.declared.condition.Condition.{Condition}
+use Rattle.sr_query.specs.declared.condition.Condition.TheOpen as layers
+use Rattle.sr_query.specs.declared.condition.Condition.TheOpen.{Condition-F}
+use Rattle.sr_query.specs.declared.condition.Condition.TheFolds.{fold-Condition}
+use Rattle.sr_query.specs.Bound.{output_of}
 
 abbrev pub test_meant : Test → model.Test
 test_meant (tests.Compared op v) = compared op v

@@ -1,12 +1,11 @@
--- Conditions whose tests suit their columns.
-use Rattle.std.specs.Prelude.{ℕ, ◌&&◌, Bool, true, nat_lt, List, length}
+-- Conditions whose tests suit the columns of a table.
+use Rattle.std.specs.Prelude.{◌&&◌, Bool, true, nat_lt, length}
 use Rattle.std.specs.List.{list_all}
 use Rattle.sr_cell.specs.declared.cell.Cell.{Cell}
 use Rattle.sr_cell.specs.declared.table.Kind.{Kind}
 use Rattle.sr_cell.specs.declared.table.Table.{Table}
-use Rattle.sr_language.specs.Binding.{Bound, Bounds, Testing, Conjunction, Disjunction, Negation, no_more, one_more, is_of, is_inside, column_at, column_of}
+use Rattle.sr_query.specs.Binding.{is_of, is_inside, column_at}
 use Rattle.sr_model.specs.Conditions.{Cond, Conds, Test, Tests, And, Or, Not, none, more, Eq, Ne, Lt, Le, Gt, Ge, Between, OneOf, Prefix}
-use Rattle.sr_bind.specs.Seen.{is_within}
 
 abbrev pub cell_suits : Kind → Cell → Bool
 cell_suits kind v = is_of kind v && is_inside v
@@ -34,15 +33,3 @@ abbrev mutual
   pub all_suit : Table → Conds → Bool
   all_suit table none = true
   all_suit table (more c cs) = suits table c && all_suit table cs
-
--- each test is of a column of a table of the query, and suits it
-abbrev mutual
-  pub are_bound : List Table → List ℕ → Bound → Bool
-  are_bound schema tables (Testing place o t) = is_within schema tables o && test_suits (column_of schema tables o).kind t
-  are_bound schema tables (Conjunction bs) = all_are_bound schema tables bs
-  are_bound schema tables (Disjunction bs) = all_are_bound schema tables bs
-  are_bound schema tables (Negation b) = are_bound schema tables b
-
-  pub all_are_bound : List Table → List ℕ → Bounds → Bool
-  all_are_bound schema tables no_more = true
-  all_are_bound schema tables (one_more b bs) = are_bound schema tables b && all_are_bound schema tables bs

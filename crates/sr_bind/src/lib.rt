@@ -1,0 +1,4 @@
+//! Binding: what a statement asks of the tables of a schema, or its first fault.
+#![tactic(auto)]
+
+pub mod bind;

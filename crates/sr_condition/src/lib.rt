@@ -1,0 +1,4 @@
+//! Conditions on one table as rects.
+#![tactic(auto)]
+
+pub mod rects;

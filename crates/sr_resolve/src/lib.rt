@@ -1,0 +1,7 @@
+//! The names of a query: its tables, the columns that its references mean, its joins, and what it selects.
+#![tactic(auto)]
+
+pub mod joins;
+pub mod outputs;
+pub mod references;
+pub mod tables;

@@ -19,6 +19,6 @@ pub fn resolve(schema: &Schema, tables: &[u8], name: &Name) -> Result<Output, Fa
 {
     Err(Fault {
         why: Why::UnknownColumn,
-        at: name.place as u64,
+        at: name.place,
     })
 }

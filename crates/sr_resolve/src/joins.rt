@@ -13,7 +13,12 @@ use sr_query::query::KeyJoins;
 use std::alloc::Global;
 
 /// The joins of these tables, which are those of FROM and JOIN; join `i` joins part `i + 1`.
-pub fn joins(alloc: Global, schema: &Schema, tables: &[u8], select: &Select) -> Result<KeyJoins, No<Fault>>
+pub fn joins(
+    alloc: Global,
+    schema: &Schema,
+    tables: &[u8],
+    select: &Select,
+) -> Result<KeyJoins, No<Fault>>
     requires { IsTrue (are_known schema.now tables.now) }
     ensures { Decides (map (join_of schema.now tables.now)) result (joins_from schema.now tables.now 1 select.now.joins) }
 {

@@ -14,7 +14,12 @@ use sr_query::query::Outputs;
 use std::alloc::Global;
 
 /// The columns that are selected, in the order of the list; a star is all columns, table by table.
-pub fn outputs(alloc: Global, schema: &Schema, tables: &[u8], select: &Select) -> Result<Outputs, No<Fault>>
+pub fn outputs(
+    alloc: Global,
+    schema: &Schema,
+    tables: &[u8],
+    select: &Select,
+) -> Result<Outputs, No<Fault>>
     requires { IsTrue (are_known schema.now tables.now) }
     ensures { Decides (map output_of) result (outputs_of schema.now tables.now (select_seen select.now)) }
 {

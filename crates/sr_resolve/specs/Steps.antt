@@ -25,3 +25,7 @@ abbrev pub one_join : List Table → List ℕ → ℕ → JoinOn → Result Join
 one_join schema tables part j =
     resolved schema (take (part + 1) tables) j.left >>= λ left. resolved schema (take (part + 1) tables) j.right >>= λ right.
     key_join schema tables part j.place left right
+
+-- what is known of all, where these of them are known already
+abbrev pub behind : {A : Type 0} → List A → Result (List A) Fault → Result (List A) Fault
+behind done others = others >>= λ more. Ok (done ++ more)

@@ -5,7 +5,7 @@ use Rattle.std.specs.List.{list_all}
 use Rattle.std.proofs.lemmas.List.Folds.{list_all-append}
 use Rattle.sr_cell.specs.declared.table.Column.{Column}
 use Rattle.sr_cell.specs.declared.table.Table.{Table}
-use Rattle.sr_cell.specs.Names.{has_table_named, repeat_at, is_bad_domain, bad_domain_from}
+use Rattle.sr_cell.specs.Names.{is_bad_domain, bad_domain_from}
 use Rattle.sr_cell.specs.Faults.{column_fault, table_fault}
 use Rattle.sr_query.specs.Bound.{is_table}
 

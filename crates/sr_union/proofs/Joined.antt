@@ -1,5 +1,5 @@
 -- Spans and rects that lie side by side.
-use Rattle.std.proofs.Common.{◌≡◌, ℕ, zero, suc, true, false, List, [], ◌∷◌, ◌++◌, ◌+◌, ◌-◌, ◌≤◌, ◌<◌, length, take, drop, slice_index_or, refl, arith, ◌∙◌, sym, append_assoc, ap, subst}
+use Rattle.std.proofs.Common.{◌≡◌, ℕ, zero, suc, true, false, List, [], ◌∷◌, ◌++◌, ◌+◌, ◌-◌, ◌<◌, length, take, drop, slice_index_or, refl, arith, ◌∙◌, sym, append_assoc, ap, subst}
 use Rattle.std.specs.Prelude.{Bool, ◌||◌, Option, Some, None, ℤ, pos, ◌+ℤ◌, if◌then◌else◌, slice_get, slice_set}
 use Rattle.std.specs.List.{list_all}
 use Rattle.std.proofs.lemmas.List.{length-append, length-drop, take_more}
@@ -10,21 +10,22 @@ use Rattle.sr_cell.specs.declared.cell.Cell.TheVariants.{Num, Str}
 use Rattle.sr_cell.specs.declared.table.Kind.{Kind}
 use Rattle.sr_cell.specs.declared.table.Kind.TheVariants.{Num as Numbers, Str as Texts}
 use Rattle.sr_cell.specs.declared.table.Column.{Column}
-use Rattle.sr_cell.specs.Cells.{Row, text_le}
+use Rattle.sr_cell.specs.Cells.{Row}
 use Rattle.sr_cell.specs.Columns.{in_kind, in_column, is_point}
 use Rattle.sr_box.specs.declared.span.Span.{Span}
 use Rattle.sr_box.specs.declared.span.Span.TheVariants.{Full, Nums, Strs}
-use Rattle.sr_box.specs.Spans.{in_span, is_below, is_whole, fits_kind, span_fits}
+use Rattle.sr_box.specs.Spans.{in_span, is_whole, fits_kind, span_fits}
 use Rattle.sr_box.specs.Points.{Rect, in_rect, rect_fits, times}
 use Rattle.sr_box.proofs.Order.{text_le-trans, text_le-total, is_below-between}
 use Rattle.sr_union.specs.Grid.{is_among, has_cut, first_cuts, others, CutsAmong, AreCutFrom}
+use Rattle.sr_union.specs.Pieces.{IsMinus, IsOnce}
 use Rattle.sr_union.specs.Joined.{AreBeside, numbers, texts, IsBoth, IsJoined}
 use Rattle.sr_union.proofs.Times.{times-append}
 use Rattle.sr_union.proofs.Cuts.{nums-cut, strs-cut}
 use Rattle.sr_union.proofs.Among.{AreCutFrom-append}
 use Rattle.sr_union.proofs.Parts.{are_fit, are_take, take_all}
 use Rattle.sr_union.proofs.Inner.{fits_length}
-use Rattle.sr_union.proofs.Once.{are_self}
+use Rattle.sr_union.proofs.Once.{are_self, are_trans, once_more, with_one}
 
 -- the span, or Full where it has each value
 abbrev fitted : Kind → ℤ → ℤ → Span → Span
@@ -290,3 +291,14 @@ pub some_fit : (cs : List Column) (rects items more : List Rect) (i : ℕ) → i
 some_fit cs rects items more i e f g =
     let x = list_all-append (rect_fits cs) rects (take i more) in let y = are_fit cs more (take i more) (are_take cs more more i (are_self cs more g)) in
     subst (λ l. list_all (rect_fits cs) (rects ++ take i l) ≡ true) (sym e) (grind (arith, f, x, y))
+
+-- one step of the loop over the rects: r is the next
+pub step_once : (cs : List Column) (rects once left next : List Rect) (i : ℕ) (r : Rect) → list_all (rect_fits cs) rects ≡ true → i < length rects → r ≡ slice_index_or rects i r
+    → IsOnce cs (take i rects) once → AreCutFrom cs rects once → IsMinus cs (r ∷ []) once left → AreCutFrom cs (r ∷ once) left → IsJoined cs (once ++ left) next
+    → IsOnce cs (take (i + 1) rects) next × AreCutFrom cs rects next
+step_once cs rects once left next i r f l e o h m k j = (
+  λ p is. j.same p is ∙ subst (λ xs. IsOnce cs xs (once ++ left)) (sym (take_more rects i r l))
+      (subst (λ x. IsOnce cs (take i rects ++ x ∷ []) (once ++ left)) e (once_more cs (take i rects) once left r o m)) p is,
+  j.cuts rects (AreCutFrom-append cs rects once left h
+      (are_trans cs rects (r ∷ once) left (subst (λ x. AreCutFrom cs rects (x ∷ once)) (sym e) (with_one cs rects once i r f l h)) k)),
+)

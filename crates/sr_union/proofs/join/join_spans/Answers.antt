@@ -1,4 +1,4 @@
-use Rattle.std.proofs.Common.{◌≡◌, Some, subst}
+use Rattle.std.proofs.Common.{subst}
 use Rattle.std.specs.Prelude.{IfSome}
 use Rattle.sr_union.specs.Joined.{AreBeside}
 use Rattle.sr_union.proofs.Joined.{both-up, both-down}

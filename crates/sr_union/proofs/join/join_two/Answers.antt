@@ -1,4 +1,4 @@
-use Rattle.std.proofs.Common.{◌≡◌, ◌<◌, length, arith, refl, ◌∙◌, ap, subst, sym}
+use Rattle.std.proofs.Common.{arith, refl, ◌∙◌, ap, subst, sym}
 use Rattle.std.specs.Prelude.{IfSome, slice_set}
 use Rattle.std.proofs.lemmas.Bool.Decides.{nat_tests}
 use Rattle.sr_union.specs.Joined.{IsBoth}

@@ -1,4 +1,4 @@
-use Rattle.std.proofs.Common.{◌≡◌, Some, ◌∙◌, refl, sym, ap}
+use Rattle.std.proofs.Common.{◌∙◌, refl, sym, ap}
 use Rattle.sr_box.specs.declared.span.Span.TheVariants.{Strs}
 use Rattle.sr_union.specs.Joined.{texts}
 use Rattle.sr_union.proofs.join.strs_beside.Goals as goal

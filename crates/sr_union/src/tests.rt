@@ -1,8 +1,7 @@
-//! Lists of rects, number by number.
-ghost use Rattle.std.specs.Prelude.{◌≡◌, true, IfOk};
+//! Single calls on rects of one table, whose answers are known.
+ghost use Rattle.std.specs.Prelude.{◌≡◌, pos, true, IfOk};
 ghost use Rattle.sr_union.specs.Grid.{all_inner, have_first};
 
-use crate::centre::Centre;
 use crate::minus::Over;
 use crate::rects::Rects;
 use sr_box::rect::Rect;
@@ -15,175 +14,187 @@ use sr_cell::text::Text;
 use std::alloc::Global;
 use std::test::Fail;
 
-fn numbers(alloc: Global) -> Result<Table, NoMemory>
+fn column(alloc: Global, name: &str, kind: Kind, hi: i64) -> Result<Column, NoMemory>
+    ensures { IfOk result (λ column. (column.kind ≡ kind) × (column.lo ≡ pos 0) × (column.hi ≡ hi)) }
+{
+    Ok(Column {
+        name: Text::of(alloc, name)?,
+        kind,
+        lo: 0,
+        hi,
+    })
+}
+
+// Numbers up to 9999, ages up to 150, names, and departments up to 99.
+fn emp(alloc: Global) -> Result<Table, NoMemory>
     ensures inner { IfOk result (λ table. all_inner table.columns ≡ true) }
     ensures first { IfOk result (λ table. have_first table.columns ≡ true) }
 {
     let mut columns = Seq::new(alloc);
-    columns.push(Column {
-        name: Text::of(alloc, "number")?,
-        kind: Kind::Num,
-        lo: 0,
-        hi: 100,
-    })?;
+    columns.push(column(alloc, "id", Kind::Num, 9999)?)?;
+    columns.push(column(alloc, "age", Kind::Num, 150)?)?;
+    columns.push(column(alloc, "name", Kind::Str, 0)?)?;
+    columns.push(column(alloc, "dept", Kind::Num, 99)?)?;
     Ok(Table {
-        name: Text::of(alloc, "numbers")?,
+        name: Text::of(alloc, "emp")?,
         columns,
         key: 0,
     })
 }
 
-fn push(alloc: Global, rects: &mut Rects, lo: i64, hi: i64) -> Result<(), NoMemory> {
+// A rect on the age and on the department, if there is one.
+fn rect_of(alloc: Global, age: (i64, i64), dept: Option<(i64, i64)>) -> Result<Rect, NoMemory> {
     let mut rect = Rect::new(alloc);
-    rect.push(Span::Nums { lo, hi })?;
-    rects.push(rect)
+    rect.push(Span::Full)?;
+    rect.push(Span::Nums {
+        lo: age.0,
+        hi: age.1,
+    })?;
+    rect.push(Span::Full)?;
+    rect.push(match dept {
+        None => Span::Full,
+        Some((lo, hi)) => Span::Nums { lo, hi },
+    })?;
+    Ok(rect)
 }
 
-fn row_of(alloc: Global, number: i64) -> Result<Row, NoMemory> {
-    let mut row = Seq::new(alloc);
-    row.push(Cell::Num(number))?;
-    Ok(row)
-}
-
-fn rects_of(alloc: Global, ends: &[(i64, i64)]) -> Result<Rects, NoMemory> {
+fn rects_of(alloc: Global, ages: &[(i64, i64)]) -> Result<Rects, NoMemory> {
     let mut rects = Rects::new(alloc);
-    for (lo, hi) in ends {
-        push(alloc, &mut rects, *lo, *hi)?;
+    for age in ages {
+        rects.push(rect_of(alloc, *age, None)?)?;
     }
     Ok(rects)
 }
 
-// Whether the rects have just the numbers of 0 to 100 that lie between some of the ends.
-fn has_just(alloc: Global, rects: &Rects, ends: &[(i64, i64)]) -> Result<bool, NoMemory> {
-    for number in 0..101i64 {
-        let mut inside = false;
-        for (lo, hi) in ends {
-            inside = inside || (*lo <= number && number <= *hi);
+fn row_of(alloc: Global, age: i64) -> Result<Row, NoMemory> {
+    let mut row = Seq::new(alloc);
+    row.push(Cell::Num(1))?;
+    row.push(Cell::Num(age))?;
+    row.push(Cell::Str(Text::of(alloc, "ann")?))?;
+    row.push(Cell::Num(3))?;
+    Ok(row)
+}
+
+// In how many of the rects the row is.
+fn times(rects: &Rects, row: &Row) -> usize {
+    let mut times: usize = 0;
+    for rect in rects.as_slice() {
+        if rect.has(row) {
+            times = times.saturating_add(1);
         }
-        if rects.has(&row_of(alloc, number)?) != inside {
+    }
+    times
+}
+
+// Whether the rects have just the ages that lie between some of the ends, each once.
+fn have_just(alloc: Global, rects: &Rects, ages: &[(i64, i64)]) -> Result<bool, NoMemory> {
+    for age in 0..151i64 {
+        let inside = ages.iter().any(|(lo, hi)| *lo <= age && age <= *hi);
+        if times(rects, &row_of(alloc, age)?) != inside as usize {
             return Ok(false);
         }
     }
     Ok(true)
 }
 
-fn difference_of(
-    alloc: Global,
-    ends: &[(i64, i64)],
-    others: &[(i64, i64)],
-) -> Result<Rects, No<Over>> {
-    let table = numbers(alloc)?;
-    let rects = rects_of(alloc, ends)?;
-    let others = rects_of(alloc, others)?;
+#[derive(Clone, Copy)]
+enum Call {
+    Difference,
+    Minus,
+    Meet,
+    Disjoint,
+    Tidy(Attrs),
+}
+
+fn answer(alloc: Global, call: Call, rects: &Rects, others: &Rects) -> Result<Rects, No<Over>> {
+    let table = emp(alloc)?;
     if !rects.fits(&table) || !others.fits(&table) {
         return Err(No::Refused(Over));
     }
-    Ok(rects.difference(alloc, &others, &table)?)
+    match call {
+        Call::Difference => Ok(rects.difference(alloc, others, &table)?),
+        Call::Minus => rects.minus(alloc, others, &table, 100),
+        Call::Meet => Ok(rects.meet(alloc, others)?),
+        Call::Disjoint => rects.disjoint(alloc, &table, 100),
+        Call::Tidy(keep) => rects.tidy(alloc, keep, &table, 100),
+    }
 }
 
-fn minus_of(alloc: Global, ends: &[(i64, i64)], others: &[(i64, i64)]) -> Result<Rects, No<Over>> {
-    let table = numbers(alloc)?;
-    let rects = rects_of(alloc, ends)?;
-    let others = rects_of(alloc, others)?;
+fn within(alloc: Global, rects: &Rects, others: &Rects) -> Result<bool, No<Over>> {
+    let table = emp(alloc)?;
     if !rects.fits(&table) || !others.fits(&table) {
         return Err(No::Refused(Over));
     }
-    rects.minus(alloc, &others, &table, 100)
-}
-
-fn within_of(alloc: Global, ends: &[(i64, i64)], others: &[(i64, i64)]) -> Result<bool, No<Over>> {
-    let table = numbers(alloc)?;
-    let rects = rects_of(alloc, ends)?;
-    let others = rects_of(alloc, others)?;
-    if !rects.fits(&table) || !others.fits(&table) {
-        return Err(No::Refused(Over));
-    }
-    rects.within(alloc, &others, &table, 100)
-}
-
-fn disjoint_of(alloc: Global, ends: &[(i64, i64)], limit: u32) -> Result<Rects, No<Over>> {
-    let table = numbers(alloc)?;
-    let rects = rects_of(alloc, ends)?;
-    if !rects.fits(&table) {
-        return Err(No::Refused(Over));
-    }
-    rects.disjoint(alloc, &table, limit)
-}
-
-fn tidy_of(alloc: Global, ends: &[(i64, i64)], keep: u16) -> Result<Rects, No<Over>> {
-    let table = numbers(alloc)?;
-    let rects = rects_of(alloc, ends)?;
-    if !rects.fits(&table) {
-        return Err(No::Refused(Over));
-    }
-    rects.tidy(alloc, Attrs(keep), &table, 100)
-}
-
-fn centre_of(alloc: Global, ends: &[(i64, i64)]) -> Result<Option<Centre>, No<Over>> {
-    let table = numbers(alloc)?;
-    let rects = rects_of(alloc, ends)?;
-    if !rects.fits(&table) {
-        return Err(No::Refused(Over));
-    }
-    Ok(rects.centre(alloc, &table)?)
+    rects.within(alloc, others, &table, 100)
 }
 
 #[test]
-fn differences_have_their_points(rt: HostRuntime) -> Result<(), Fail> {
+fn calls_answer_these_ages(rt: HostRuntime) -> Result<(), Fail> {
     let alloc = rt.alloc();
-    let left = difference_of(alloc, &[(0, 50)], &[(10, 20), (50, 60)])?;
-    assert!(rt; has_just(alloc, &left, &[(0, 9), (21, 49)])?);
-    let left = minus_of(alloc, &[(0, 50)], &[(10, 20), (50, 60)])?;
-    assert!(rt; has_just(alloc, &left, &[(0, 9), (21, 49)])?);
+    let young = rects_of(alloc, &[(0, 50)])?;
+    let holes = rects_of(alloc, &[(10, 20), (50, 60)])?;
+    let twice = rects_of(alloc, &[(0, 20), (10, 30)])?;
+    let all = rects_of(alloc, &[(0, 60), (40, 150)])?;
+    let none = Rects::new(alloc);
+    for (call, rects, others, ages, len) in [
+        (Call::Minus, &young, &holes, [(0, 9), (21, 49)], 2),
+        (Call::Difference, &young, &holes, [(0, 9), (21, 49)], 2),
+        (Call::Meet, &young, &holes, [(10, 20), (50, 50)], 2),
+        (Call::Disjoint, &twice, &none, [(0, 30), (0, 30)], 1),
+        (Call::Tidy(Attrs(2)), &twice, &none, [(0, 30), (0, 30)], 1),
+        (Call::Tidy(Attrs(0)), &all, &none, [(0, 150), (0, 150)], 1),
+    ] {
+        let left = answer(alloc, call, rects, others)?;
+        assert!(rt; have_just(alloc, &left, &ages)?);
+        assert_eq!(rt; left.len(), len);
+    }
     Ok(())
 }
 
 #[test]
 fn rects_lie_within_others(rt: HostRuntime) -> Result<(), Fail> {
     let alloc = rt.alloc();
-    assert!(rt; within_of(alloc, &[(10, 20)], &[(0, 15), (16, 30)])?);
-    assert!(rt; !within_of(alloc, &[(10, 20)], &[(0, 15)])?);
+    let rects = rects_of(alloc, &[(10, 20)])?;
+    assert!(rt; within(alloc, &rects, &rects_of(alloc, &[(0, 15), (16, 30)])?)?);
+    assert!(rt; !within(alloc, &rects, &rects_of(alloc, &[(0, 15)])?)?);
     Ok(())
 }
 
 #[test]
-fn lists_meet_in_common_points(rt: HostRuntime) -> Result<(), Fail> {
+fn tidy_rects_constrain_the_age_alone(rt: HostRuntime) -> Result<(), Fail> {
     let alloc = rt.alloc();
-    let rects = rects_of(alloc, &[(0, 20), (30, 50)])?;
-    let both = rects.meet(alloc, &rects_of(alloc, &[(10, 40), (60, 70)])?)?;
-    assert_eq!(rt; both.len(), 2);
-    assert!(rt; has_just(alloc, &both, &[(10, 20), (30, 40)])?);
-    Ok(())
-}
-
-#[test]
-fn disjoint_lists_have_each_point_once(rt: HostRuntime) -> Result<(), Fail> {
-    let alloc = rt.alloc();
-    let once = disjoint_of(alloc, &[(0, 30), (20, 50), (25, 40)], 2)?;
-    assert_eq!(rt; once.len(), 2);
-    assert!(rt; has_just(alloc, &once, &[(0, 50)])?);
-    assert!(rt; disjoint_of(alloc, &[(0, 30), (20, 50)], 1).is_err());
-    Ok(())
-}
-
-#[test]
-fn tidy_lists_lose_needless_constraints(rt: HostRuntime) -> Result<(), Fail> {
-    let alloc = rt.alloc();
-    for (keep, len) in [(0, 1), (1, 2)] {
-        let tidy = tidy_of(alloc, &[(0, 60), (40, 100)], keep)?;
-        assert_eq!(rt; tidy.len(), len, "keeping {keep}");
-        assert!(rt; has_just(alloc, &tidy, &[(0, 100)])?);
+    let mut cut = Rects::new(alloc);
+    cut.push(rect_of(alloc, (30, 40), Some((0, 2)))?)?;
+    cut.push(rect_of(alloc, (30, 40), Some((3, 99)))?)?;
+    let tidy = answer(alloc, Call::Tidy(Attrs(2)), &cut, &Rects::new(alloc))?;
+    assert!(rt; have_just(alloc, &tidy, &[(30, 40)])?);
+    for rect in tidy.as_slice() {
+        assert!(rt; rect.len() <= 16);
+        assert_eq!(rt; rect.columns(), Attrs(2));
     }
-    let tidy = tidy_of(alloc, &[(0, 60)], 0)?;
-    assert!(rt; has_just(alloc, &tidy, &[(0, 60)])?);
+    Ok(())
+}
+
+#[test]
+fn limits_are_kept(rt: HostRuntime) -> Result<(), Fail> {
+    let alloc = rt.alloc();
+    let table = emp(alloc)?;
+    let rects = rects_of(alloc, &[(0, 20), (30, 50)])?;
+    assert!(rt; rects.fits(&table));
+    assert!(rt; rects.disjoint(alloc, &table, 1).is_err());
+    assert!(rt; rects.disjoint(alloc, &table, 2).is_ok());
     Ok(())
 }
 
 #[test]
 fn centres_are_sums_of_both_ends(rt: HostRuntime) -> Result<(), Fail> {
     let alloc = rt.alloc();
-    let centre = centre_of(alloc, &[(10, 20), (15, 40)])?;
-    assert!(rt; matches!(&centre, Some(sums) if sums.as_slice() == [50].as_slice()));
-    assert!(rt; centre_of(alloc, &[])?.is_none());
+    let table = emp(alloc)?;
+    let rects = rects_of(alloc, &[(30, 34), (40, 44)])?;
+    assert!(rt; rects.fits(&table));
+    let centre = rects.centre(alloc, &table)?;
+    let sums = [9999, 74, 4294967296, 99];
+    assert!(rt; matches!(&centre, Some(centre) if centre.as_slice() == sums.as_slice()));
+    assert!(rt; Rects::new(alloc).centre(alloc, &table)?.is_none());
     Ok(())
 }

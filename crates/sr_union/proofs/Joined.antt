@@ -186,9 +186,6 @@ twins-joined cs r q both k c s t w h i j m b e = subst (λ u. IsJoined cs (r ∷
   few = omega arith;
 })
 
-pub joined_self : (cs : List Column) (rects : List Rect) → IsJoined cs rects rects
-joined_self cs rects = record { same = λ p e. refl; cuts = λ given h. h; few = omega arith }
-
 pub joined_trans : (cs : List Column) (a b c : List Rect) → IsJoined cs a b → IsJoined cs b c → IsJoined cs a c
 joined_trans cs a b c h k = record {
   same = λ p e. k.same p e ∙ h.same p e;
@@ -239,10 +236,6 @@ joined_at cs rects next r rect both i e n h =
           AreCutFrom-append cs given (take i rects ++ drop (suc i) rects) (both ∷ []) two.1 (h.cuts given (two.0.0, two.0.1, parts.1));
       few = let l = length-append (take i rects ++ drop (suc i) rects) (both ∷ []) in let m = length-append rects (rect ∷ []) in let z = without-length rects i r e in omega (arith, l, m, z);
     })
-
-pub without_fewer : (rects next : List Rect) (i : ℕ) (r : Rect) → slice_get rects i ≡ Some r → next ≡ take i rects ++ drop (i + 1) rects → length next < length rects
-without_fewer rects next i r e n =
-    let more : i + 1 ≡ suc i = omega arith in let x = ap length (n ∙ ap (λ k. take i rects ++ drop k rects) more) in let z = without-length rects i r e in omega (arith, x, z)
 
 -- one more of the others
 pub joined_more : (cs : List Column) (rects items joined next : List Rect) (r : Rect) (i : ℕ) → i < length items → r ≡ slice_index_or items i r → IsJoined cs (rects ++ take i items) joined → IsJoined cs (joined ++ r ∷ []) next

@@ -114,8 +114,8 @@ fn are_same(one: &[Span], other: &[Span]) -> bool
     same_head(one, other) == one.len()
 }
 
-#[tactic(auto, using(crate::proofs::Inner::fits_length))]
 /// The rect of both, where they differ in one column alone and lie side by side there.
+#[tactic(auto, using(crate::proofs::Inner::fits_length))]
 fn join_two(
     alloc: Global,
     columns: &[Column],

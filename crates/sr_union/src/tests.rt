@@ -2,6 +2,7 @@
 ghost use Rattle.std.specs.Prelude.{◌≡◌, pos, true, IfOk};
 ghost use Rattle.sr_union.specs.Grid.{all_inner, have_first};
 
+use crate::centre::Centre;
 use crate::minus::Over;
 use crate::rects::Rects;
 use sr_box::rect::Rect;
@@ -89,7 +90,10 @@ fn times(rects: &Rects, row: &Row) -> usize {
 // Whether the rects have just the ages that lie between some of the ends, each once.
 fn have_just(alloc: Global, rects: &Rects, ages: &[(i64, i64)]) -> Result<bool, NoMemory> {
     for age in 0..151i64 {
-        let inside = ages.iter().any(|(lo, hi)| *lo <= age && age <= *hi);
+        let mut inside = false;
+        for (lo, hi) in ages {
+            inside = inside || (*lo <= age && age <= *hi);
+        }
         if times(rects, &row_of(alloc, age)?) != inside as usize {
             return Ok(false);
         }
@@ -97,66 +101,111 @@ fn have_just(alloc: Global, rects: &Rects, ages: &[(i64, i64)]) -> Result<bool, 
     Ok(true)
 }
 
-#[derive(Clone, Copy)]
-enum Call {
-    Difference,
-    Minus,
-    Meet,
-    Disjoint,
-    Tidy(Attrs),
-}
-
-fn answer(alloc: Global, call: Call, rects: &Rects, others: &Rects) -> Result<Rects, No<Over>> {
+fn difference_of(
+    alloc: Global,
+    ages: &[(i64, i64)],
+    others: &[(i64, i64)],
+) -> Result<Rects, No<Over>> {
     let table = emp(alloc)?;
+    let rects = rects_of(alloc, ages)?;
+    let others = rects_of(alloc, others)?;
     if !rects.fits(&table) || !others.fits(&table) {
         return Err(No::Refused(Over));
     }
-    match call {
-        Call::Difference => Ok(rects.difference(alloc, others, &table)?),
-        Call::Minus => rects.minus(alloc, others, &table, 100),
-        Call::Meet => Ok(rects.meet(alloc, others)?),
-        Call::Disjoint => rects.disjoint(alloc, &table, 100),
-        Call::Tidy(keep) => rects.tidy(alloc, keep, &table, 100),
-    }
+    Ok(rects.difference(alloc, &others, &table)?)
 }
 
-fn within(alloc: Global, rects: &Rects, others: &Rects) -> Result<bool, No<Over>> {
+fn minus_of(alloc: Global, ages: &[(i64, i64)], others: &[(i64, i64)]) -> Result<Rects, No<Over>> {
     let table = emp(alloc)?;
+    let rects = rects_of(alloc, ages)?;
+    let others = rects_of(alloc, others)?;
     if !rects.fits(&table) || !others.fits(&table) {
         return Err(No::Refused(Over));
     }
-    rects.within(alloc, others, &table, 100)
+    rects.minus(alloc, &others, &table, 100)
+}
+
+fn within_of(alloc: Global, ages: &[(i64, i64)], others: &[(i64, i64)]) -> Result<bool, No<Over>> {
+    let table = emp(alloc)?;
+    let rects = rects_of(alloc, ages)?;
+    let others = rects_of(alloc, others)?;
+    if !rects.fits(&table) || !others.fits(&table) {
+        return Err(No::Refused(Over));
+    }
+    rects.within(alloc, &others, &table, 100)
+}
+
+fn disjoint_of(alloc: Global, ages: &[(i64, i64)], limit: u32) -> Result<Rects, No<Over>> {
+    let table = emp(alloc)?;
+    let rects = rects_of(alloc, ages)?;
+    if !rects.fits(&table) {
+        return Err(No::Refused(Over));
+    }
+    rects.disjoint(alloc, &table, limit)
+}
+
+fn tidy_of(alloc: Global, rects: &Rects, keep: Attrs) -> Result<Rects, No<Over>> {
+    let table = emp(alloc)?;
+    if !rects.fits(&table) {
+        return Err(No::Refused(Over));
+    }
+    rects.tidy(alloc, keep, &table, 100)
+}
+
+fn centre_of(alloc: Global, ages: &[(i64, i64)]) -> Result<Option<Centre>, No<Over>> {
+    let table = emp(alloc)?;
+    let rects = rects_of(alloc, ages)?;
+    if !rects.fits(&table) {
+        return Err(No::Refused(Over));
+    }
+    Ok(rects.centre(alloc, &table)?)
 }
 
 #[test]
-fn calls_answer_these_ages(rt: HostRuntime) -> Result<(), Fail> {
+fn differences_have_their_ages(rt: HostRuntime) -> Result<(), Fail> {
     let alloc = rt.alloc();
-    let young = rects_of(alloc, &[(0, 50)])?;
-    let holes = rects_of(alloc, &[(10, 20), (50, 60)])?;
-    let twice = rects_of(alloc, &[(0, 20), (10, 30)])?;
-    let all = rects_of(alloc, &[(0, 60), (40, 150)])?;
-    let none = Rects::new(alloc);
-    for (call, rects, others, ages, len) in [
-        (Call::Minus, &young, &holes, [(0, 9), (21, 49)], 2),
-        (Call::Difference, &young, &holes, [(0, 9), (21, 49)], 2),
-        (Call::Meet, &young, &holes, [(10, 20), (50, 50)], 2),
-        (Call::Disjoint, &twice, &none, [(0, 30), (0, 30)], 1),
-        (Call::Tidy(Attrs(2)), &twice, &none, [(0, 30), (0, 30)], 1),
-        (Call::Tidy(Attrs(0)), &all, &none, [(0, 150), (0, 150)], 1),
-    ] {
-        let left = answer(alloc, call, rects, others)?;
-        assert!(rt; have_just(alloc, &left, &ages)?);
-        assert_eq!(rt; left.len(), len);
-    }
+    let left = difference_of(alloc, &[(0, 50)], &[(10, 20), (50, 60)])?;
+    assert!(rt; have_just(alloc, &left, &[(0, 9), (21, 49)])?);
+    let left = minus_of(alloc, &[(0, 50)], &[(10, 20), (50, 60)])?;
+    assert!(rt; have_just(alloc, &left, &[(0, 9), (21, 49)])?);
+    Ok(())
+}
+
+#[test]
+fn neighbours_make_one(rt: HostRuntime) -> Result<(), Fail> {
+    let alloc = rt.alloc();
+    let left = minus_of(alloc, &[(31, 60), (0, 30)], &[(0, 9)])?;
+    assert_eq!(rt; left.len(), 1);
+    assert!(rt; have_just(alloc, &left, &[(10, 60)])?);
+    Ok(())
+}
+
+#[test]
+fn lists_meet_in_common_ages(rt: HostRuntime) -> Result<(), Fail> {
+    let alloc = rt.alloc();
+    let rects = rects_of(alloc, &[(0, 20), (30, 50)])?;
+    let both = rects.meet(alloc, &rects_of(alloc, &[(10, 40), (60, 70)])?)?;
+    assert!(rt; have_just(alloc, &both, &[(10, 20), (30, 40)])?);
+    let apart = rects_of(alloc, &[(0, 20)])?.meet(alloc, &rects_of(alloc, &[(21, 30)])?)?;
+    assert!(rt; apart.is_empty());
+    Ok(())
+}
+
+#[test]
+fn disjoint_lists_have_each_age_once(rt: HostRuntime) -> Result<(), Fail> {
+    let alloc = rt.alloc();
+    let once = disjoint_of(alloc, &[(0, 20), (10, 30)], 100)?;
+    assert!(rt; have_just(alloc, &once, &[(0, 30)])?);
+    assert_eq!(rt; once.len(), 1);
+    assert!(rt; disjoint_of(alloc, &[(0, 20), (30, 50)], 1).is_err());
     Ok(())
 }
 
 #[test]
 fn rects_lie_within_others(rt: HostRuntime) -> Result<(), Fail> {
     let alloc = rt.alloc();
-    let rects = rects_of(alloc, &[(10, 20)])?;
-    assert!(rt; within(alloc, &rects, &rects_of(alloc, &[(0, 15), (16, 30)])?)?);
-    assert!(rt; !within(alloc, &rects, &rects_of(alloc, &[(0, 15)])?)?);
+    assert!(rt; within_of(alloc, &[(10, 20)], &[(0, 15), (16, 30)])?);
+    assert!(rt; !within_of(alloc, &[(10, 20)], &[(0, 15)])?);
     Ok(())
 }
 
@@ -166,35 +215,22 @@ fn tidy_rects_constrain_the_age_alone(rt: HostRuntime) -> Result<(), Fail> {
     let mut cut = Rects::new(alloc);
     cut.push(rect_of(alloc, (30, 40), Some((0, 2)))?)?;
     cut.push(rect_of(alloc, (30, 40), Some((3, 99)))?)?;
-    let tidy = answer(alloc, Call::Tidy(Attrs(2)), &cut, &Rects::new(alloc))?;
+    let tidy = tidy_of(alloc, &cut, Attrs(2))?;
     assert!(rt; have_just(alloc, &tidy, &[(30, 40)])?);
     for rect in tidy.as_slice() {
-        assert!(rt; rect.len() <= 16);
-        assert_eq!(rt; rect.columns(), Attrs(2));
+        assert!(rt; rect.len() <= 16 && rect.columns() == Attrs(2));
     }
-    Ok(())
-}
-
-#[test]
-fn limits_are_kept(rt: HostRuntime) -> Result<(), Fail> {
-    let alloc = rt.alloc();
-    let table = emp(alloc)?;
-    let rects = rects_of(alloc, &[(0, 20), (30, 50)])?;
-    assert!(rt; rects.fits(&table));
-    assert!(rt; rects.disjoint(alloc, &table, 1).is_err());
-    assert!(rt; rects.disjoint(alloc, &table, 2).is_ok());
+    let all = tidy_of(alloc, &rects_of(alloc, &[(0, 60), (40, 150)])?, Attrs(0))?;
+    assert!(rt; have_just(alloc, &all, &[(0, 150)])?);
     Ok(())
 }
 
 #[test]
 fn centres_are_sums_of_both_ends(rt: HostRuntime) -> Result<(), Fail> {
     let alloc = rt.alloc();
-    let table = emp(alloc)?;
-    let rects = rects_of(alloc, &[(30, 34), (40, 44)])?;
-    assert!(rt; rects.fits(&table));
-    let centre = rects.centre(alloc, &table)?;
+    let centre = centre_of(alloc, &[(30, 34), (40, 44)])?;
     let sums = [9999, 74, 4294967296, 99];
     assert!(rt; matches!(&centre, Some(centre) if centre.as_slice() == sums.as_slice()));
-    assert!(rt; Rects::new(alloc).centre(alloc, &table)?.is_none());
+    assert!(rt; centre_of(alloc, &[])?.is_none());
     Ok(())
 }

@@ -103,15 +103,22 @@ impl Rect {
         meet_spans(alloc, self.as_slice(), other.as_slice())
     }
 
+    /// A copy with that span in that column.
+    pub fn with(&self, alloc: Global, column: usize, span: Span) -> Result<Rect, NoMemory>
+        ensures { IfOk result (λ rect. rect ≡ slice_set self.now column span) }
+    {
+        let mut spans = self.spans.copy(alloc)?;
+        if column < spans.len() {
+            spans.replace(column, span);
+        }
+        Ok(Rect { spans })
+    }
+
     /// A copy that does not constrain that column.
     pub fn freed(&self, alloc: Global, column: usize) -> Result<Rect, NoMemory>
         ensures { IfOk result (λ rect. rect ≡ slice_set self.now column Full) }
     {
-        let mut spans = self.spans.copy(alloc)?;
-        if column < spans.len() {
-            spans.replace(column, Span::Full);
-        }
-        Ok(Rect { spans })
+        self.with(alloc, column, Span::Full)
     }
 
     /// Whether the rect has the row.

@@ -12,3 +12,4 @@ pub mod Meets
 pub mod Once
 pub mod Free
 pub mod Middles
+pub mod Joined

@@ -1,8 +1,8 @@
 -- Lists of rects in which each point lies once.
-use Rattle.std.proofs.Common.{◌≡◌, ℕ, true, false, List, [], ◌∷◌, ◌++◌, ◌+◌, ◌*◌, ◌≤◌, ◌<◌, zero, suc, length, take, slice_index_or, refl, arith, ◌∙◌, sym, ap, subst}
+use Rattle.std.proofs.Common.{◌≡◌, ℕ, true, false, List, [], ◌∷◌, ◌++◌, ◌+◌, ◌*◌, ◌≤◌, ◌<◌, zero, suc, length, slice_index_or, refl, arith, ◌∙◌, sym, ap, subst}
 use Rattle.std.specs.Prelude.{Bool, not, ◌||◌, if◌then◌else◌, nat_eq, Err, IsErrOf}
 use Rattle.std.specs.List.{list_all}
-use Rattle.std.proofs.lemmas.List.{append-nil, take_more}
+use Rattle.std.proofs.lemmas.List.{append-nil}
 use Rattle.std.proofs.lemmas.Bool.Decides.{nat_tests}
 use Rattle.sr_cell.specs.declared.table.Column.{Column}
 use Rattle.sr_cell.specs.Cells.{Row}
@@ -83,20 +83,9 @@ are_at cs given (r ∷ rects) zero d h l = (h.0, h.1, tt)
 are_at cs given (r ∷ rects) (suc i) d h l = are_at cs given rects i d h.2 (omega (arith, l))
 
 -- a rect of the list, and what has been made of those before it
-with_one : (cs : List Column) (rects once : List Rect) (i : ℕ) (d : Rect) → list_all (rect_fits cs) rects ≡ true → i < length rects → AreCutFrom cs rects once
+pub with_one : (cs : List Column) (rects once : List Rect) (i : ℕ) (d : Rect) → list_all (rect_fits cs) rects ≡ true → i < length rects → AreCutFrom cs rects once
     → AreCutFrom cs rects (slice_index_or rects i d ∷ once)
 with_one cs rects once i d f l h = AreCutFrom-append cs rects (slice_index_or rects i d ∷ []) once (are_at cs rects rects i d (are_self cs rects f) l) h
-
--- one step of the loop over the rects: r is the next
-pub step_once : (cs : List Column) (rects once left next : List Rect) (i : ℕ) (r : Rect) → list_all (rect_fits cs) rects ≡ true → i < length rects → r ≡ slice_index_or rects i r
-    → IsOnce cs (take i rects) once → AreCutFrom cs rects once → IsMinus cs (r ∷ []) once left → AreCutFrom cs (r ∷ once) left → next ≡ once ++ left
-    → IsOnce cs (take (i + 1) rects) next × AreCutFrom cs rects next
-step_once cs rects once left next i r f l e o h m k n = (
-  subst (λ xs. IsOnce cs xs next) (sym (take_more rects i r l)) (subst (IsOnce cs (take i rects ++ slice_index_or rects i r ∷ [])) (sym n)
-      (subst (λ x. IsOnce cs (take i rects ++ x ∷ []) (once ++ left)) e (once_more cs (take i rects) once left r o m))),
-  subst (AreCutFrom cs rects) (sym n) (AreCutFrom-append cs rects once left h
-      (are_trans cs rects (r ∷ once) left (subst (λ x. AreCutFrom cs rects (x ∷ once)) (sym e) (with_one cs rects once i r f l h)) k)),
-)
 
 pub step_grid : (cs : List Column) (rects once : List Rect) (i : ℕ) (r : Rect) → list_all (rect_fits cs) rects ≡ true → i < length rects → r ≡ slice_index_or rects i r → AreCutFrom cs rects once
     → grid cs (r ∷ once) ≤ grid cs rects

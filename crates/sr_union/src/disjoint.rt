@@ -6,6 +6,7 @@ ghost use Rattle.sr_box.specs.Points.{rect_fits};
 ghost use Rattle.sr_union.specs.Pieces.{IsMinus, IsOnce};
 ghost use Rattle.sr_union.specs.Grid.{AreCutFrom, grid, have_first, all_inner};
 
+use crate::join::with_all;
 use crate::minus::{Over, cut_all};
 use crate::rects::Rects;
 use sr_box::rect::Rect;
@@ -56,7 +57,7 @@ pub(crate) fn once_all(
             Ok(rest) => rest,
             Err(no) => return Err(no),
         };
-        once.append(rest)?;
+        once = with_all(alloc, columns, once, &rest)?;
         if once.len() > limit {
             return Err(No::Refused(Over));
         }

@@ -3,4 +3,5 @@
 
 pub(crate) mod ranges;
 pub mod rects;
+pub(crate) mod spans;
 pub mod width;

@@ -26,6 +26,7 @@ use Rattle.sr_union.specs.Grid.{is_among, has_cut}
 use Rattle.sr_union.proofs.Cuts.{maybe_cut, under-cut, over-cut}
 use Rattle.sr_union.proofs.Low.{low_of, low-in}
 use Rattle.sr_condition.specs.Ranges.{EndsAt, in_spans, times_in, beside, without, AreSpans, AreApart}
+use Rattle.sr_condition.proofs.Parts.{no_cut-full}
 use Rattle.sr_condition.proofs.Joins.{ends-append, ends-more, in_left, in_right, spans-with}
 
 -- the values of a column of numbers lie in its domain
@@ -220,10 +221,6 @@ apart-without column values taken most p q spans (Some t) good apart part =
       };
       once = λ v i. let x = left-times column t spans v fits i in let y = apart.once v i in omega (arith, x, y);
     }
-
-no_cut-full : (k : Kind) (low high : ℤ) (v : Cell) → has_cut k low high Full v ≡ false
-no_cut-full Numbers low high v = refl
-no_cut-full Texts low high v = refl
 
 pub apart-whole : (column : Column) → AreApart column (λ v. true) 1 [] (Full ∷ [])
 apart-whole column = record {

@@ -2,3 +2,4 @@ pub mod Bounds
 pub mod Parts
 pub mod Joins
 pub mod Apart
+pub mod Tested

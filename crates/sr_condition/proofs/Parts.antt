@@ -1,6 +1,7 @@
 -- The part of a column inside the bounds of a test.
 use Rattle.std.proofs.Common.{◌≡◌, ℕ, true, false, List, [], ◌∷◌, refl, sym, arith, ◌∙◌, cond}
 use Rattle.std.specs.Prelude.{ℤ, int_le, int_lt, Bool, ◌&&◌, ◌||◌, Option, Some, None, option_to_list}
+use Rattle.std.specs.List.{list_all}
 use Rattle.std.specs.Int.{int_max, int_min}
 use Rattle.std.proofs.lemmas.Int.{ints}
 use Rattle.sr_cell.specs.declared.cell.Cell.{Cell}
@@ -11,7 +12,8 @@ use Rattle.sr_cell.specs.declared.table.Column.{Column}
 use Rattle.sr_cell.specs.Columns.{in_kind, in_column, are_bytes}
 use Rattle.sr_box.specs.declared.span.Span.{Span}
 use Rattle.sr_box.specs.declared.span.Span.TheVariants.{Full, Nums, Strs}
-use Rattle.sr_box.specs.Spans.{in_span, is_below, is_whole, end_bytes}
+use Rattle.sr_box.specs.Spans.{in_span, span_fits, is_below, is_whole, end_bytes}
+use Rattle.sr_box.specs.Corners.{cuts_of}
 use Rattle.sr_box.specs.Cut.{nums, strs, meet, in_maybe}
 use Rattle.sr_box.proofs.Fits.{maybe_fits}
 use Rattle.sr_box.proofs.Parts.{meet-is}
@@ -28,7 +30,7 @@ maybe-spans column None values places f h e = record { fits = refl; points = h; 
 maybe-spans column (Some s) values places f h e =
     record { fits = grind arith; points = λ v p. let x = h v p in grind (arith, x); few = omega arith; ends = (e, tt) }
 
-no_cut-full : (k : Kind) (low high : ℤ) (v : Cell) → has_cut k low high Full v ≡ false
+pub no_cut-full : (k : Kind) (low high : ℤ) (v : Cell) → has_cut k low high Full v ≡ false
 no_cut-full Numbers low high v = refl
 no_cut-full Texts low high v = refl
 
@@ -114,3 +116,7 @@ part-spans column values places (Strs lo hi) r = maybe-spans column (text_part l
     (text_part-fits column.kind column.lo column.hi lo hi r.kind)
     (λ v p. text_part-is column.kind column.lo column.hi lo hi v r.kind p ∙ r.points v p)
     (λ v h. r.ends v (text_part-cut column.kind column.lo column.hi lo hi v h))
+
+pub part-fits : (column : Column) (s : Span) → is_range column.kind s ≡ true → list_all (span_fits column) (option_to_list (part_of column s)) ≡ true
+part-fits column s r =
+    (part-spans column (in_span s) (cuts_of column.kind column.lo column.hi s) s (record { kind = r; points = λ v i. refl; ends = λ v h. h })).fits

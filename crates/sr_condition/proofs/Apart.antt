@@ -27,7 +27,7 @@ use Rattle.sr_union.proofs.Cuts.{maybe_cut, under-cut, over-cut}
 use Rattle.sr_union.proofs.Low.{low_of, low-in}
 use Rattle.sr_condition.specs.Ranges.{EndsAt, in_spans, times_in, beside, without, AreSpans, AreApart}
 use Rattle.sr_condition.proofs.Parts.{no_cut-full}
-use Rattle.sr_condition.proofs.Joins.{ends-append, ends-more, in_left, in_right, spans-with}
+use Rattle.sr_condition.proofs.Joins.{ends-append, in_left, in_right, spans-with}
 
 -- the values of a column of numbers lie in its domain
 low-is : (k : Kind) (low high : ℤ) (v : Cell) → in_kind k low high v ≡ true → (n : ℤ) → v ≡ Num n → int_le low n ≡ true

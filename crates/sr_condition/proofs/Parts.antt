@@ -1,6 +1,6 @@
 -- The part of a column inside the bounds of a test.
 use Rattle.std.proofs.Common.{◌≡◌, ℕ, true, false, List, [], ◌∷◌, refl, sym, arith, ◌∙◌, cond}
-use Rattle.std.specs.Prelude.{ℤ, int_le, int_lt, Bool, ◌&&◌, ◌||◌, Option, Some, None, option_to_list}
+use Rattle.std.specs.Prelude.{ℤ, int_le, int_lt, Bool, ◌&&◌, Option, Some, None, option_to_list}
 use Rattle.std.specs.List.{list_all}
 use Rattle.std.specs.Int.{int_max, int_min}
 use Rattle.std.proofs.lemmas.Int.{ints}
@@ -9,12 +9,12 @@ use Rattle.sr_cell.specs.declared.cell.Cell.TheVariants.{Num, Str}
 use Rattle.sr_cell.specs.declared.table.Kind.{Kind}
 use Rattle.sr_cell.specs.declared.table.Kind.TheVariants.{Num as Numbers, Str as Texts}
 use Rattle.sr_cell.specs.declared.table.Column.{Column}
-use Rattle.sr_cell.specs.Columns.{in_kind, in_column, are_bytes}
+use Rattle.sr_cell.specs.Columns.{in_kind, in_column}
 use Rattle.sr_box.specs.declared.span.Span.{Span}
 use Rattle.sr_box.specs.declared.span.Span.TheVariants.{Full, Nums, Strs}
-use Rattle.sr_box.specs.Spans.{in_span, span_fits, is_below, is_whole, end_bytes}
+use Rattle.sr_box.specs.Spans.{in_span, span_fits, is_below, is_whole}
 use Rattle.sr_box.specs.Corners.{cuts_of}
-use Rattle.sr_box.specs.Cut.{nums, strs, meet, in_maybe}
+use Rattle.sr_box.specs.Cut.{nums, strs, in_maybe}
 use Rattle.sr_box.proofs.Fits.{maybe_fits}
 use Rattle.sr_box.proofs.Parts.{meet-is}
 use Rattle.sr_box.proofs.Order.{is_below-between}

@@ -1,7 +1,6 @@
 -- The spans of a test.
-use Rattle.std.proofs.Common.{◌≡◌, ℕ, ◌+◌, ◌<◌, ◌≤◌, true, false, List, [], ◌∷◌, ◌++◌, length, take, slice_index_or, refl, sym, subst, arith, ◌∙◌, ap}
-use Rattle.std.specs.Prelude.{ℤ, Bool, not, ◌&&◌, ◌||◌, if◌then◌else◌, Option, option_to_list, flat_map}
-use Rattle.std.specs.List.{list_all, list_any}
+use Rattle.std.proofs.Common.{◌≡◌, ℕ, ◌+◌, ◌<◌, true, false, List, [], ◌∷◌, ◌++◌, length, take, slice_index_or, refl, sym, subst, arith, ◌∙◌, ap}
+use Rattle.std.specs.Prelude.{ℤ, Bool, not, ◌&&◌, ◌||◌, if◌then◌else◌, Option, option_to_list}
 use Rattle.std.proofs.lemmas.List.Folds.{list_any-append}
 use Rattle.std.proofs.lemmas.List.{take_more}
 use Rattle.std.proofs.lemmas.List.Concat.{flat_map-append}
@@ -11,18 +10,17 @@ use Rattle.sr_cell.specs.declared.table.Kind.{Kind}
 use Rattle.sr_cell.specs.declared.table.Kind.TheVariants.{Num as Numbers, Str as Texts}
 use Rattle.sr_cell.specs.declared.table.Column.{Column}
 use Rattle.sr_cell.specs.Cells.{cell_eq}
-use Rattle.sr_cell.specs.Columns.{in_kind, in_column}
+use Rattle.sr_cell.specs.Columns.{in_kind}
 use Rattle.sr_cell.specs.Names.{is_bad_domain}
 use Rattle.sr_box.specs.declared.span.Span.{Span}
 use Rattle.sr_box.specs.declared.span.Span.TheVariants.{Full}
-use Rattle.sr_box.specs.Spans.{in_span, span_fits}
 use Rattle.sr_grammar.specs.declared.statement.Op.{Op}
 use Rattle.sr_grammar.specs.declared.statement.Op.TheVariants as ops
 use Rattle.sr_query.specs.Binding.{compared}
 use Rattle.sr_model.specs.Conditions.{Test, passes, begins_cell, Eq, OneOf, Prefix}
 use Rattle.sr_model.specs.Ends.{next_value, test_ends}
 use Rattle.sr_model.specs.Width.{test_width}
-use Rattle.sr_condition.specs.Ranges.{says_test, contrary, said, range_width, is_one_range, ranged, IsRange, part_of, without, AreSpans, AreApart}
+use Rattle.sr_condition.specs.Ranges.{says_test, said, range_width, is_one_range, ranged, IsRange, part_of, without, AreSpans, AreApart}
 use Rattle.sr_condition.proofs.Parts.{part-spans}
 use Rattle.sr_condition.proofs.Joins.{spans-with, spans-append}
 use Rattle.sr_condition.proofs.Apart.{apart-without, apart-whole}

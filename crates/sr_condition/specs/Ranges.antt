@@ -12,7 +12,7 @@ use Rattle.sr_box.specs.declared.span.Span.TheVariants.{Full, Nums, Strs}
 use Rattle.sr_box.specs.Spans.{in_span, span_fits, end_bytes, is_whole}
 use Rattle.sr_box.specs.Cut.{nums, strs, under, over}
 use Rattle.sr_union.specs.Grid.{has_cut, is_among}
-use Rattle.sr_model.specs.Conditions.{Test, passes, Eq, Ne, Lt, Le, Gt, Ge}
+use Rattle.sr_model.specs.Conditions.{Test, passes, Eq, Lt, Le, Gt, Ge}
 use Rattle.sr_grammar.specs.declared.statement.Op.{Op}
 use Rattle.sr_grammar.specs.declared.statement.Op.TheVariants as ops
 

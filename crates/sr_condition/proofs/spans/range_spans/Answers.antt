@@ -1,6 +1,5 @@
-use Rattle.std.proofs.Common.{◌≡◌, ◌∙◌, refl, [], ◌∷◌}
+use Rattle.std.proofs.Common.{◌≡◌, ◌∙◌, refl}
 use Rattle.std.proofs.lemmas.Result.{IfOk-weaker}
-use Rattle.sr_box.specs.declared.span.Span.TheVariants.{Full}
 use Rattle.sr_model.specs.Ends.{test_ends}
 use Rattle.sr_condition.specs.Ranges.{says_test, range_width, without, AreSpans}
 use Rattle.sr_condition.proofs.Parts.{part-fits}

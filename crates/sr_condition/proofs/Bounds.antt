@@ -27,10 +27,6 @@ use Rattle.sr_condition.specs.Ranges.{is_range, IsRange}
 among-same : (places : List Cell) (u v : Cell) → is_among places u ≡ true → cell_eq u v ≡ true → is_among places v ≡ true
 among-same places u v h e = subst (λ w. is_among places w ≡ true) (cell_eq-sound u v e) h
 
-num_cut-is : (b : Bool) (n : ℤ) (v : Cell) → is_among (num_cut b n) v ≡ (b && cell_eq (Num n) v)
-num_cut-is true n v = grind arith
-num_cut-is false n v = refl
-
 number-point : (k : Kind) (low high lo hi : ℤ) (t : Test) → k ≡ Numbers → ((n : ℤ) → int_le low n ≡ true → int_le n high ≡ true → (int_le lo n && int_le n hi) ≡ passes t (Num n))
     → (v : Cell) → in_kind k low high v ≡ true → in_span (Nums lo hi) v ≡ passes t v
 number-point Numbers low high lo hi t k h (Num n) p = h n (grind arith) (grind arith)

@@ -195,6 +195,3 @@ join-step columns plain xs i k x a b any next l e one rest is =
 
 pub meet-init : (columns : List Column) (plain : Bool) (xs : List Condition) (rects : List Rect) → rects ≡ full_rect columns ∷ [] → AreRects columns plain (all_of plain (members (drop (length xs) xs))) rects
 meet-init columns plain xs rects is = subst (λ (cs : Conds). AreRects columns plain (all_of plain cs) rects) (sym (no_members xs)) (all-none columns plain rects is)
-
-pub join-init : (columns : List Column) (plain : Bool) (xs : List Condition) (rects : List Rect) → rects ≡ [] → AreRects columns plain (any_of plain (members (drop (length xs) xs))) rects
-join-init columns plain xs rects is = subst (λ (cs : Conds). AreRects columns plain (any_of plain cs) rects) (sym (no_members xs)) (any-none columns plain rects is)

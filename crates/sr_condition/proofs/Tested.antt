@@ -1,23 +1,19 @@
 -- The spans of a test.
 use Rattle.std.proofs.Common.{◌≡◌, ℕ, ◌+◌, ◌<◌, true, false, List, [], ◌∷◌, ◌++◌, length, take, slice_index_or, refl, sym, subst, arith, ◌∙◌, ap}
-use Rattle.std.specs.Prelude.{ℤ, Bool, not, ◌&&◌, ◌||◌, if◌then◌else◌, Option, option_to_list}
+use Rattle.std.specs.Prelude.{Bool, not, ◌&&◌, ◌||◌, Option, option_to_list}
 use Rattle.std.proofs.lemmas.List.Folds.{list_any-append}
 use Rattle.std.proofs.lemmas.List.{take_more}
 use Rattle.std.proofs.lemmas.List.Concat.{flat_map-append}
 use Rattle.sr_cell.specs.declared.cell.Cell.{Cell}
-use Rattle.sr_cell.specs.declared.cell.Cell.TheVariants.{Num, Str}
-use Rattle.sr_cell.specs.declared.table.Kind.{Kind}
-use Rattle.sr_cell.specs.declared.table.Kind.TheVariants.{Num as Numbers, Str as Texts}
 use Rattle.sr_cell.specs.declared.table.Column.{Column}
 use Rattle.sr_cell.specs.Cells.{cell_eq}
-use Rattle.sr_cell.specs.Columns.{in_kind}
 use Rattle.sr_cell.specs.Names.{is_bad_domain}
 use Rattle.sr_box.specs.declared.span.Span.{Span}
 use Rattle.sr_box.specs.declared.span.Span.TheVariants.{Full}
 use Rattle.sr_grammar.specs.declared.statement.Op.{Op}
 use Rattle.sr_grammar.specs.declared.statement.Op.TheVariants as ops
 use Rattle.sr_query.specs.Binding.{compared}
-use Rattle.sr_model.specs.Conditions.{Test, passes, begins_cell, Eq, OneOf, Prefix}
+use Rattle.sr_model.specs.Conditions.{Test, passes, Eq, OneOf}
 use Rattle.sr_model.specs.Ends.{next_value, test_ends}
 use Rattle.sr_model.specs.Width.{test_width}
 use Rattle.sr_condition.specs.Ranges.{says_test, said, range_width, is_one_range, ranged, IsRange, part_of, without, AreSpans, AreApart}
@@ -93,25 +89,6 @@ compared-spans column plain op v spans o one is alone are =
     (subst (λ (x : Op). AreSpans column (says_test (is_one_range x) (ranged x v)) (range_width (is_one_range x)) (test_ends (ranged x v)) spans) is
     (subst (λ (b : Bool). AreSpans column (says_test b (ranged o v)) (range_width b) (test_ends (ranged o v)) spans) alone are))
     (λ u i. same-says plain op v u) (let w = same-width plain op v in omega arith) (λ u h. let e = same-ends plain op v in rw (sym e) h)
-
--- ---- prefixes
-
-no-prefix : (k : Kind) (lo hi : ℤ) (p : List ℕ) (v : Cell) → k ≡ Numbers → in_kind k lo hi v ≡ true → begins_cell p v ≡ false
-no-prefix Numbers lo hi p (Num n) e i = refl
-no-prefix Numbers lo hi p (Str s) e i = absurd (grind arith)
-no-prefix Texts lo hi p v e i = absurd (cc)
-
-pub prefix-number : (column : Column) (plain : Bool) (p : List ℕ) (spans : List Span) → column.kind ≡ Numbers → spans ≡ (if not plain then Full ∷ [] else [])
-    → AreSpans column (says_test plain (Prefix p)) (range_width plain) (test_ends (Prefix p)) spans
-prefix-number column true p spans k is = subst (AreSpans column (passes (Prefix p)) 1 (test_ends (Prefix p))) (sym is) none
-  where
-    none : AreSpans column (passes (Prefix p)) 1 (test_ends (Prefix p)) []
-    none = record { fits = refl; points = λ v i. sym (no-prefix column.kind column.lo column.hi p v k i); few = omega arith; ends = tt }
-prefix-number column false p spans k is = subst (AreSpans column (says_test false (Prefix p)) 2 (test_ends (Prefix p))) (sym is) all
-  where
-    all : AreSpans column (says_test false (Prefix p)) 2 (test_ends (Prefix p)) (Full ∷ [])
-    all = spans-with column (λ v. true) (says_test false (Prefix p)) 1 2 [] (test_ends (Prefix p)) (Full ∷ []) (apart-whole column).are
-        (λ v i. ap not (sym (no-prefix column.kind column.lo column.hi p v k i))) (omega arith) (λ v h. absurd (grind arith))
 
 -- ---- lists
 

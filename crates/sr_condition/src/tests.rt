@@ -64,10 +64,7 @@ fn test_suits(kind: Kind, test: &Test) -> bool
     match test {
         Test::Compared(_, value) => cell_suits(kind, value),
         Test::Between(low, high) => cell_suits(kind, low) && cell_suits(kind, high),
-        Test::OneOf(values) => values
-            .as_slice()
-            .iter()
-            .all(|value| cell_suits(kind, value)),
+        Test::OneOf(values) => cells_suit(kind, values.as_slice()),
         Test::Prefix(_) => true,
     }
 }

@@ -1,4 +1,5 @@
-//! Binding: what a statement asks of the tables of a schema, or its first fault.
+//! Queries bound to tables.
 #![tactic(auto)]
 
 pub mod bind;
+mod values;

@@ -1,1 +1,2 @@
 pub mod AreBound
+pub mod TestsOf

@@ -1,5 +1,6 @@
-//! Queries bound to tables.
+//! Binding: what a statement asks of the tables of a schema, or its first fault.
 #![tactic(auto)]
 
 pub mod bind;
+mod conditions;
 mod values;

@@ -2,6 +2,7 @@
 #![tactic(auto)]
 
 pub mod joins;
+mod lookup;
 pub mod outputs;
 pub mod references;
 pub mod tables;

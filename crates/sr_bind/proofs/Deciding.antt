@@ -1,5 +1,5 @@
 -- What a test of two ends, or of a prefix, says.
-use Rattle.std.proofs.Common.{◌≡◌, Bool, true, false, inl, inr, refl, ap, subst}
+use Rattle.std.proofs.Common.{◌≡◌, Bool, true, false, inl, inr, ap}
 use Rattle.std.specs.Prelude.{Result, Ok, Err, ◌⊎◌}
 use Rattle.sr_cell.specs.declared.list.No.{No}
 use Rattle.sr_cell.specs.declared.list.No.TheVariants.{Refused, NoMemory}

@@ -1,2 +1,4 @@
 pub mod AreBound
 pub mod TestsOf
+pub mod Conjuncts
+pub mod Referred

@@ -3,4 +3,6 @@
 
 pub mod bind;
 mod conditions;
+mod conjuncts;
+mod references;
 mod values;

@@ -18,6 +18,7 @@ use std::alloc::Global;
 
 /// The ends of the default domain of numbers, both inside.
 const LOW: i64 = -1_099_511_627_776;
+
 const HIGH: i64 = 1_099_511_627_775;
 
 /// The most bytes of a text.
@@ -109,12 +110,7 @@ pub fn test_of(alloc: Global, kind: Kind, atom: &Atom) -> Result<Test, No<Fault>
     }
 }
 
-fn between(
-    alloc: Global,
-    kind: Kind,
-    low: &Literal,
-    high: &Literal,
-) -> Result<Test, No<Fault>>
+fn between(alloc: Global, kind: Kind, low: &Literal, high: &Literal) -> Result<Test, No<Fault>>
     ensures decided { Decides test_meant result (between_of kind low.now high.now) }
     ensures suits { IfOk result (λ t. IsTrue (test_suits kind (test_meant t))) }
 {

@@ -2,3 +2,4 @@ pub mod AreBound
 pub mod TestsOf
 pub mod Conjuncts
 pub mod Referred
+pub mod OneTable

@@ -4,5 +4,6 @@
 pub mod bind;
 mod conditions;
 mod conjuncts;
+mod mixed;
 mod references;
 mod values;

@@ -1,4 +1,7 @@
 //! Conditions on one table as rects.
 #![tactic(auto)]
 
+pub(crate) mod ranges;
 pub mod rects;
+pub(crate) mod spans;
+pub mod width;

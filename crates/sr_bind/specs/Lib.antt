@@ -3,3 +3,4 @@ pub mod TestsOf
 pub mod Conjuncts
 pub mod Referred
 pub mod OneTable
+pub mod Needs

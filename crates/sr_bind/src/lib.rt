@@ -5,5 +5,7 @@ pub mod bind;
 mod conditions;
 mod conjuncts;
 mod mixed;
+mod needs;
 mod references;
+mod split;
 mod values;

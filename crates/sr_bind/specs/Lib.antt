@@ -4,3 +4,4 @@ pub mod Conjuncts
 pub mod Referred
 pub mod OneTable
 pub mod Needs
+pub mod Narrow

@@ -6,6 +6,7 @@ mod conditions;
 mod conjuncts;
 mod mixed;
 mod needs;
+mod parts;
 mod references;
 mod split;
 mod values;

@@ -4,11 +4,9 @@ ghost use Rattle.std.specs.List.{list_all};
 ghost use Rattle.sr_query.specs.Binding.{with_column, references, needed, named_columns, join_columns};
 ghost use Rattle.sr_query.specs.Bound.{output_of};
 ghost use Rattle.sr_query.specs.Meant.{meant};
-ghost use Rattle.sr_query.specs.declared.condition.Output.{Output as Column};
-ghost use Rattle.sr_query.specs.declared.query.KeyJoin.{KeyJoin as Joined};
 ghost use Rattle.sr_resolve.specs.Joined.{join_of};
 ghost use Rattle.sr_resolve.specs.Known.{are_known};
-ghost use Rattle.sr_bind.specs.Needs.{compared_columns};
+ghost use Rattle.sr_bind.specs.Needs.{compared_columns, is_low, is_joined};
 
 use crate::references::references;
 use sr_cell::attrs::Attrs;
@@ -33,7 +31,7 @@ fn with_column(bits: u16, column: u8) -> u16
 /// The columns of that part, its key among them.
 pub fn need_of(key: u16, part: u8, named: &[Output]) -> Attrs
     requires key { key < 12 }
-    requires named { IsTrue (list_all (λ (o : Column). nat_lt o.column 12) named.now) }
+    requires named { IsTrue (list_all is_low (map output_of named.now)) }
     ensures { result ≡ needed part (map output_of named.now) (2 ^ key) }
 {
     let mut bits = 1 << key;
@@ -55,7 +53,7 @@ pub fn named_columns(
     conjuncts: &[Condition],
 ) -> Result<Outputs, NoMemory>
     requires known { IsTrue (are_known schema.now tables.now) }
-    requires joined { IsTrue (list_all (λ (j : Joined). nat_lt j.right (length tables.now)) joins.now) }
+    requires joined { IsTrue (list_all (is_joined (length tables.now)) (map (join_of schema.now tables.now) joins.now)) }
     ensures { IfOk result (λ named. map output_of named ≡ named_columns (map output_of outputs.now) (map (join_of schema.now tables.now) joins.now) (map meant conjuncts.now)) }
 {
     let mut named = Seq::new(alloc);

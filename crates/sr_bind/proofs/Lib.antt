@@ -3,3 +3,5 @@ pub mod Deciding
 mod Bits
 pub mod Suiting
 pub mod Narrowing
+pub mod Listed
+pub mod Passing

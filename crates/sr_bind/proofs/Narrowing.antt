@@ -1,15 +1,19 @@
 -- Parts are made one by one.
-use Rattle.std.proofs.Common.{◌≡◌, ℕ, List, [], ◌∷◌, ◌++◌, refl, sym, ap, ◌∙◌, append_assoc}
-use Rattle.std.specs.Prelude.{Result, Ok, Err}
+use Rattle.std.proofs.Common.{◌≡◌, ℕ, ◌+◌, ◌<◌, List, [], ◌∷◌, ◌++◌, length, drop, refl, sym, ap, ◌∙◌, append_assoc, drop-cons, add-one}
+use Rattle.std.specs.Prelude.{Result, Ok, Err, filter, slice_index_or}
 use Rattle.std.specs.List.{AllZip}
 use Rattle.std.proofs.lemmas.List.{append-nil}
 use Rattle.sr_cell.specs.declared.fault.Fault.{Fault}
+use Rattle.sr_cell.specs.declared.list.No.{No}
+use Rattle.sr_cell.specs.declared.list.No.TheVariants.{Refused, NoMemory}
 use Rattle.sr_cell.specs.declared.table.Table.{Table}
+use Rattle.sr_model.specs.Conditions.{And}
 use Rattle.sr_model.specs.Queries as model
 use Rattle.sr_query.specs.declared.query.Part.{Part}
-use Rattle.sr_query.specs.Binding.{◌>>=◌, each, narrow}
+use Rattle.sr_query.specs.Binding.{◌>>=◌, Bound, each, narrow, list_conds, parts_from}
 use Rattle.sr_query.specs.Bound.{IsPart}
-use Rattle.sr_bind.specs.Narrow.{AreNarrow}
+use Rattle.sr_bind.specs.Narrow.{part_with, IsNarrow, AreNarrow}
+use Rattle.sr_bind.specs.OneTable.{is_on}
 
 -- these parts are made of all, and the rest is left
 pub record Going (schema : List Table) (parts : List Part) (all rest : List model.Part) : Type 0 where
@@ -44,11 +48,20 @@ one_made schema parts longer all rest p m pushed fits is g = record {
     go (Ok ms) = ap (λ x. Ok x) (sym (append_assoc g.made (m ∷ []) ms))
     go (Err fault) = refl
 
-pub one_too_wide : (schema : List Table) (parts : List Part) (all rest : List model.Part) (m : model.Part) (fault : Fault) → narrow m ≡ Err fault
-    → Going schema parts all (m ∷ rest) → each narrow all ≡ Err fault
-one_too_wide schema parts all rest m fault wide g = g.narrow ∙ rw wide refl
+pub one_not_made : (schema : List Table) (parts : List Part) (all rest : List model.Part) (m : model.Part) (no : No Fault) → IsNarrow schema (Err no) m
+    → Going schema parts all (m ∷ rest) → AreNarrow schema (Err no) all
+one_not_made schema parts all rest m (Refused fault) wide g = g.narrow ∙ rw wide refl
+one_not_made schema parts all rest m NoMemory wide g = tt
 
 pub all_made : (schema : List Table) (parts : List Part) (all : List model.Part) → Going schema parts all [] → AreNarrow schema (Ok parts) all
 all_made schema parts all g =
     let same : all ≡ g.made = g.whole ∙ append-nil g.made in
     (g.narrow ∙ ap (λ x. Ok x) (sym g.whole), rw same g.are)
+
+-- the next part, by the conjuncts on it
+pub next_part : (schema : List Table) (tables : List ℕ) (columns : List model.Output) (bs own : List Bound) (i : ℕ) → i < length tables → own ≡ filter (is_on i) bs
+    → parts_from schema i (drop i tables) columns bs
+    ≡ part_with schema i (slice_index_or tables i 0) columns (And (list_conds own)) ∷ parts_from schema (i + 1) (drop (i + 1) tables) columns bs
+next_part schema tables columns bs own i within e =
+    let front : drop i tables ≡ slice_index_or tables i 0 ∷ drop (i + 1) tables = drop-cons tables i 0 within ∙ ap (λ k. slice_index_or tables i 0 ∷ drop k tables) (sym (add-one i)) in
+    rw (front, e) refl

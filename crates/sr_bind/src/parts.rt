@@ -7,7 +7,7 @@ ghost use Rattle.sr_query.specs.Binding.{each, cond_of, list_conds, parts_from};
 ghost use Rattle.sr_query.specs.Bound.{is_table, output_of};
 ghost use Rattle.sr_query.specs.Meant.{meant};
 ghost use Rattle.sr_resolve.specs.Known.{are_known};
-ghost use Rattle.sr_condition.specs.Suits.{suits};
+ghost use Rattle.sr_condition.specs.Suits.{suits, all_suit};
 ghost use Rattle.sr_bind.specs.AreBound.{are_bound};
 ghost use Rattle.sr_bind.specs.Narrow.{part_with, IsNarrow, AreNarrow};
 ghost use Rattle.sr_bind.specs.Needs.{is_low};
@@ -48,13 +48,31 @@ pub fn parts(
     for (part, table) in tables.iter().enumerate() {
         let halves = split(alloc, part as u8, left)?;
         left = halves.others;
-        let condition = together(halves.own);
-        match part_of(alloc, schema, part as u8, *table, named, &condition) {
+        match part_with(alloc, schema, part as u8, *table, named, halves.own) {
             Ok(part) => parts.push(part)?,
             Err(no) => return Err(no),
         }
     }
     Ok(parts)
+}
+
+/// The part of a table, with the conjuncts on it.
+fn part_with(
+    alloc: Global,
+    schema: &Schema,
+    part: u8,
+    number: u8,
+    named: &[Output],
+    own: Conjuncts,
+) -> Result<Part, No<Fault>>
+    requires sound { IsTrue (list_all is_table schema.now) }
+    requires within { number < length schema.now }
+    requires low { IsTrue (list_all is_low (map output_of named.now)) }
+    requires suits { IsTrue (all_suit (table_at schema.now number) (list_conds (map meant own))) }
+    ensures { IsNarrow schema.now result (part_with schema.now part number (map output_of named.now) (And (list_conds (map meant own)))) }
+{
+    let condition = together(own);
+    part_of(alloc, schema, part, number, named, &condition)
 }
 
 /// The condition that all of these hold.

@@ -5,3 +5,5 @@ pub mod Suiting
 pub mod Narrowing
 pub mod Listed
 pub mod Passing
+pub mod Low
+pub mod Asking

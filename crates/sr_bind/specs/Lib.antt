@@ -5,3 +5,4 @@ pub mod Referred
 pub mod OneTable
 pub mod Needs
 pub mod Narrow
+pub mod Queried

@@ -1,5 +1,5 @@
 -- The columns that a query names are among the first twelve of their tables, and its parts are those of its tables.
-use Rattle.std.proofs.Common.{◌≡◌, ℕ, zero, suc, ◌+◌, ◌<◌, ◌≤◌, Bool, true, false, List, [], ◌∷◌, ◌++◌, length, take, map, flat_map, refl, sym, ap, subst, ◌∙◌, arith}
+use Rattle.std.proofs.Common.{◌≡◌, ℕ, zero, suc, ◌+◌, ◌<◌, ◌≤◌, Bool, true, false, List, [], ◌∷◌, ◌++◌, length, take, map, flat_map, refl, subst, ◌∙◌, arith}
 use Rattle.std.specs.Prelude.{◌==◌, ◌&&◌, nat_lt, Result, Ok, Err, Option, Some, None, bytes_eq, slice_index_or, if◌then◌else◌}
 use Rattle.std.specs.List.{list_all}
 use Rattle.std.specs.Cmp.Derive.{both_true}
@@ -8,7 +8,7 @@ use Rattle.std.proofs.lemmas.Bool.Decides.{nat_tests}
 use Rattle.std.proofs.lemmas.List.{length-take}
 use Rattle.std.proofs.lemmas.List.Folds.{list_all-append, list_all-map}
 use Rattle.sr_cell.specs.declared.fault.Fault.{Fault}
-use Rattle.sr_cell.specs.declared.fault.Why.TheVariants.{UnknownTable, UnknownColumn, Ambiguous, NotKeyJoin}
+use Rattle.sr_cell.specs.declared.fault.Why.TheVariants.{NotKeyJoin}
 use Rattle.sr_cell.specs.declared.table.Column.{Column}
 use Rattle.sr_cell.specs.declared.table.Table.{Table}
 use Rattle.sr_cell.specs.Columns.{table_at}
@@ -16,7 +16,7 @@ use Rattle.sr_grammar.specs.declared.statement.Name.{Name}
 use Rattle.sr_grammar.specs.declared.statement.JoinOn.{JoinOn}
 use Rattle.sr_grammar.specs.Trees.{Select}
 use Rattle.sr_model.specs.Queries.{Output, Join}
-use Rattle.sr_query.specs.Binding.{fault, ◌>>=◌, each, column_named, output_in, outputs_named, part_named, the_one, column_of_part, resolved, is_key_join, key_join, joins_from, join_columns, columns_of_part, all_outputs, outputs_of, table_of_part, column_of, Bound, Bounds, Testing, Conjunction, Disjunction, Negation, no_more, one_more, references, all_references, named_columns}
+use Rattle.sr_query.specs.Binding.{fault, ◌>>=◌, each, column_named, output_in, outputs_named, part_named, the_one, column_of_part, resolved, is_key_join, key_join, joins_from, join_columns, columns_of_part, all_outputs, outputs_of, table_of_part, Bound, Bounds, Testing, Conjunction, Disjunction, Negation, no_more, one_more, references, all_references, named_columns}
 use Rattle.sr_query.specs.Bound.{is_table}
 use Rattle.sr_resolve.specs.Known.{is_within}
 use Rattle.sr_bind.specs.AreBound.{are_bound, all_are_bound}
@@ -175,7 +175,7 @@ joins_near schema tables part (j ∷ joins) js sound e =
     let last = f.2 in
     let left = first_near (part + 1) (length tables) tables a.0 (resolved_near schema seen j.left a.0 sound a.1) in
     let right = first_near (part + 1) (length tables) tables b.0 (resolved_near schema seen j.right b.0 sound b.1) in
-    join_more (length tables) d.0 f.0 js cc (joined_near schema tables part j.place a.0 b.0 d.0 left right d.1) (joins_near schema tables (part + 1) joins f.0 sound f.1)
+    join_more (length tables) d.0 f.0 js (cc) (joined_near schema tables part j.place a.0 b.0 d.0 left right d.1) (joins_near schema tables (part + 1) joins f.0 sound f.1)
 
 -- ---- what is compared
 

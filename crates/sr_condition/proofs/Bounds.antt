@@ -1,6 +1,6 @@
 -- The bounds of the values of a test.
-use Rattle.std.proofs.Common.{◌≡◌, ℕ, true, false, List, [], ◌∷◌, ◌++◌, refl, sym, subst, arith, ◌∙◌, ap}
-use Rattle.std.specs.Prelude.{ℤ, pos, ◌+ℤ◌, ◌-ℤ◌, int_le, int_lt, Bool, not, ◌&&◌, ◌||◌, Option, Some, None}
+use Rattle.std.proofs.Common.{◌≡◌, ℕ, true, false, List, [], ◌∷◌, ◌++◌, refl, sym, subst, arith, ◌∙◌}
+use Rattle.std.specs.Prelude.{ℤ, pos, ◌+ℤ◌, int_le, int_lt, Bool, not, ◌&&◌, ◌||◌, Option, Some, None}
 use Rattle.std.proofs.lemmas.Int.{ints}
 use Rattle.std.proofs.lemmas.Bool.Decides.{nat_tests}
 use Rattle.sr_cell.specs.declared.cell.Cell.{Cell}
@@ -14,11 +14,11 @@ use Rattle.sr_box.specs.declared.span.Span.TheVariants.{Nums, Strs}
 use Rattle.sr_box.specs.Spans.{in_span, is_below, end_bytes}
 use Rattle.sr_box.specs.Corners.{text_cut, end_cut, num_cut}
 use Rattle.sr_box.specs.Prefixes as box
-use Rattle.sr_box.proofs.Order.{cell_eq-sound, text_le-total}
+use Rattle.sr_box.proofs.Order.{cell_eq-sound}
 use Rattle.sr_box.proofs.Prefixes.{prefixes_are_spans, prefixes_fit}
 use Rattle.sr_union.specs.Grid.{is_among, has_cut}
 use Rattle.sr_union.proofs.Cuts.{is_among-append}
-use Rattle.sr_model.specs.Conditions.{Test, passes, begins, Eq, Ne, Lt, Le, Gt, Ge, Between, OneOf, Prefix}
+use Rattle.sr_model.specs.Conditions.{Test, passes, begins, Eq, Le, Gt, Between, Prefix}
 use Rattle.sr_model.specs.Ends.{test_ends, next_text}
 use Rattle.sr_condition.specs.Ranges.{is_range, IsRange}
 
@@ -26,10 +26,6 @@ use Rattle.sr_condition.specs.Ranges.{is_range, IsRange}
 
 among-same : (places : List Cell) (u v : Cell) → is_among places u ≡ true → cell_eq u v ≡ true → is_among places v ≡ true
 among-same places u v h e = subst (λ w. is_among places w ≡ true) (cell_eq-sound u v e) h
-
-num_cut-is : (b : Bool) (n : ℤ) (v : Cell) → is_among (num_cut b n) v ≡ (b && cell_eq (Num n) v)
-num_cut-is true n v = grind arith
-num_cut-is false n v = refl
 
 number-point : (k : Kind) (low high lo hi : ℤ) (t : Test) → k ≡ Numbers → ((n : ℤ) → int_le low n ≡ true → int_le n high ≡ true → (int_le lo n && int_le n hi) ≡ passes t (Num n))
     → (v : Cell) → in_kind k low high v ≡ true → in_span (Nums lo hi) v ≡ passes t v

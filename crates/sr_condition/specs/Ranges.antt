@@ -12,14 +12,9 @@ use Rattle.sr_box.specs.declared.span.Span.TheVariants.{Full, Nums, Strs}
 use Rattle.sr_box.specs.Spans.{in_span, span_fits, end_bytes, is_whole}
 use Rattle.sr_box.specs.Cut.{nums, strs, under, over}
 use Rattle.sr_union.specs.Grid.{has_cut, is_among}
-use Rattle.sr_model.specs.Conditions.{Test, passes, Eq, Ne, Lt, Le, Gt, Ge}
+use Rattle.sr_model.specs.Conditions.{Test, passes, Eq, Lt, Le, Gt, Ge}
 use Rattle.sr_grammar.specs.declared.statement.Op.{Op}
 use Rattle.sr_grammar.specs.declared.statement.Op.TheVariants as ops
-
--- a test, or its contrary, is true of the value
-abbrev pub says_test : Bool → Test → Cell → Bool
-says_test true t v = passes t v
-says_test false t v = not (passes t v)
 
 -- what is true where the comparison is false
 abbrev pub contrary : Op → Op
@@ -30,6 +25,19 @@ contrary ops.Le = ops.Gt
 contrary ops.Gt = ops.Le
 contrary ops.Ge = ops.Lt
 
+-- a test, or its contrary, is true of the value
+abbrev pub says_test : Bool → Test → Cell → Bool
+says_test true t v = passes t v
+says_test false t v = not (passes t v)
+
+-- how many spans have the values of one, or the others
+abbrev pub range_width : Bool → ℕ
+range_width plain = if plain then 1 else 2
+
+-- the comparison that is said
+abbrev pub said : Bool → Op → Op
+said plain op = if plain then op else contrary op
+
 -- the comparison whose values are those of one span: of `<>`, those that it leaves out
 abbrev pub ranged : Op → Cell → Test
 ranged ops.Eq v = Eq v
@@ -38,6 +46,15 @@ ranged ops.Lt v = Lt v
 ranged ops.Le v = Le v
 ranged ops.Gt v = Gt v
 ranged ops.Ge v = Ge v
+
+-- its values are those of that span
+abbrev pub is_one_range : Op → Bool
+is_one_range ops.Eq = true
+is_one_range ops.Ne = false
+is_one_range ops.Lt = true
+is_one_range ops.Le = true
+is_one_range ops.Gt = true
+is_one_range ops.Ge = true
 
 -- the span begins and ends only at these values
 abbrev pub EndsAt : Column → List Cell → Span → Type 0

@@ -1,2 +1,3 @@
-pub mod Columns
+mod Columns
 pub mod First
+pub mod Sound

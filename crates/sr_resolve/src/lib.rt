@@ -6,3 +6,5 @@ mod lookup;
 pub mod outputs;
 pub mod references;
 pub mod tables;
+#[cfg(test)]
+mod tests;

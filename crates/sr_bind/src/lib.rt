@@ -9,4 +9,6 @@ mod needs;
 mod parts;
 mod references;
 mod split;
+#[cfg(test)]
+mod tests;
 mod values;

@@ -1,5 +1,5 @@
 -- Parts are made one by one.
-use Rattle.std.proofs.Common.{◌≡◌, ℕ, ◌+◌, ◌<◌, List, [], ◌∷◌, ◌++◌, length, drop, refl, sym, ap, ◌∙◌, append_assoc, drop-cons, add-one}
+use Rattle.std.proofs.Common.{◌≡◌, ℕ, ◌+◌, ◌<◌, List, [], ◌∷◌, ◌++◌, length, drop, refl, sym, ap, subst, ◌∙◌, append_assoc, drop-cons, add-one}
 use Rattle.std.specs.Prelude.{Result, Ok, Err, filter, slice_index_or}
 use Rattle.std.specs.List.{AllZip}
 use Rattle.std.proofs.lemmas.List.{append-nil}
@@ -59,9 +59,15 @@ all_made schema parts all g =
     (g.narrow ∙ ap (λ x. Ok x) (sym g.whole), rw same g.are)
 
 -- the next part, by the conjuncts on it
-pub next_part : (schema : List Table) (tables : List ℕ) (columns : List model.Output) (bs own : List Bound) (i : ℕ) → i < length tables → own ≡ filter (is_on i) bs
+next_part : (schema : List Table) (tables : List ℕ) (columns : List model.Output) (bs own : List Bound) (i : ℕ) → i < length tables → own ≡ filter (is_on i) bs
     → parts_from schema i (drop i tables) columns bs
     ≡ part_with schema i (slice_index_or tables i 0) columns (And (list_conds own)) ∷ parts_from schema (i + 1) (drop (i + 1) tables) columns bs
 next_part schema tables columns bs own i within e =
     let front : drop i tables ≡ slice_index_or tables i 0 ∷ drop (i + 1) tables = drop-cons tables i 0 within ∙ ap (λ k. slice_index_or tables i 0 ∷ drop k tables) (sym (add-one i)) in
     rw (front, e) refl
+
+-- what is left begins with the next part
+pub goes_on : (schema : List Table) (tables : List ℕ) (columns : List model.Output) (bs own : List Bound) (parts : List Part) (all : List model.Part) (i : ℕ) → i < length tables → own ≡ filter (is_on i) bs
+    → Going schema parts all (parts_from schema i (drop i tables) columns bs)
+    → Going schema parts all (part_with schema i (slice_index_or tables i 0) columns (And (list_conds own)) ∷ parts_from schema (i + 1) (drop (i + 1) tables) columns bs)
+goes_on schema tables columns bs own parts all i within e going = subst (Going schema parts all) (next_part schema tables columns bs own i within e) going

@@ -2,7 +2,6 @@
 ghost use Rattle.std.specs.Prelude.{◌≡◌, map, filter, not, IfOk};
 ghost use Rattle.sr_query.specs.Meant.{meant};
 ghost use Rattle.sr_bind.specs.OneTable.{is_on};
-ghost use Rattle.sr_bind.specs.Referred.{reference_of};
 
 use crate::conjuncts::Conjuncts;
 use crate::references::references;
@@ -17,7 +16,7 @@ pub struct Halves {
     pub others: Conjuncts,
 }
 
-/// Parts the conjuncts on that part from the others; both keep their order.
+/// Takes the conjuncts on that part from the others; both keep their order.
 pub fn split(alloc: Global, part: u8, conjuncts: Conjuncts) -> Result<Halves, NoMemory>
     ensures own { IfOk result (λ s. map meant s.own ≡ filter (is_on part) (map meant conjuncts)) }
     ensures others { IfOk result (λ s. map meant s.others ≡ filter (λ b. not (is_on part b)) (map meant conjuncts)) }

@@ -16,9 +16,10 @@ use sr_grammar::statement::{Atom, Literal};
 use sr_query::condition::Test;
 use std::alloc::Global;
 
-/// The ends of the default domain of numbers, both inside.
+/// The least number of the default domain.
 const LOW: i64 = -1_099_511_627_776;
 
+/// The greatest number of the default domain.
 const HIGH: i64 = 1_099_511_627_775;
 
 /// The most bytes of a text.

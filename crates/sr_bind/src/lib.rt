@@ -2,3 +2,13 @@
 #![tactic(auto)]
 
 pub mod bind;
+mod conditions;
+mod conjuncts;
+mod mixed;
+mod needs;
+mod parts;
+mod references;
+mod split;
+#[cfg(test)]
+mod tests;
+mod values;

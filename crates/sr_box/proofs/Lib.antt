@@ -6,3 +6,5 @@ pub mod Fits
 pub mod Corners
 pub mod Constrained
 pub mod Meets
+pub mod Prefixes
+pub mod Projected

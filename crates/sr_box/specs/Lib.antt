@@ -2,3 +2,5 @@ pub mod Spans
 pub mod Points
 pub mod Corners
 pub mod Cut
+pub mod Prefixes
+pub mod Projected

@@ -3,6 +3,7 @@
 
 pub mod cut;
 pub mod laws;
+pub mod prefix;
 pub mod rect;
 pub mod span;
 #[cfg(test)]

@@ -1,12 +1,14 @@
 //! Rects.
-ghost use Rattle.std.specs.Prelude.{◌≡◌, ℕ, List, [], ◌∷◌, ◌++◌, length, OnOk, OnErr, IfOk, slice_get, ◌≤◌};
+ghost use Rattle.std.specs.Prelude.{◌≡◌, ℕ, List, [], ◌∷◌, ◌++◌, length, OnOk, OnErr, IfOk, slice_get, slice_set, ◌≤◌};
 ghost use Rattle.std.specs.Option.{option_copied};
 ghost use Rattle.sr_box.specs.Cut.{rect_meet, HasBoth, FitsAsBoth};
 ghost use Rattle.sr_box.specs.Points.{constrained, full_rect, in_rect, rect_fits};
+ghost use Rattle.sr_box.specs.Projected.{has_part};
+ghost use Rattle.sr_box.specs.declared.span.Span.TheVariants.{Full};
 
 use crate::span::Span;
 use sr_cell::attrs::Attrs;
-use sr_cell::cell::Row;
+use sr_cell::cell::{Cell, Row};
 use sr_cell::list::{Copied, NoMemory, Same, Seq};
 use sr_cell::table::{Column, Table};
 use std::alloc::Global;
@@ -94,10 +96,29 @@ impl Rect {
 
     /// The rect of what both have; none where they have no point in common.
     pub fn meet(&self, alloc: Global, other: &Rect) -> Result<Option<Rect>, NoMemory>
+        ensures is { IfOk result (λ part. part ≡ rect_meet self.now other.now) }
         ensures points { IfOk result (λ part. HasBoth self.now other.now part) }
         ensures fits { IfOk result (λ part. FitsAsBoth self.now other.now part) }
     {
         meet_spans(alloc, self.as_slice(), other.as_slice())
+    }
+
+    /// A copy with that span in that column.
+    pub fn with(&self, alloc: Global, column: usize, span: Span) -> Result<Rect, NoMemory>
+        ensures { IfOk result (λ rect. rect ≡ slice_set self.now column span) }
+    {
+        let mut spans = self.spans.copy(alloc)?;
+        if column < spans.len() {
+            spans.replace(column, span);
+        }
+        Ok(Rect { spans })
+    }
+
+    /// A copy that does not constrain that column.
+    pub fn freed(&self, alloc: Global, column: usize) -> Result<Rect, NoMemory>
+        ensures { IfOk result (λ rect. rect ≡ slice_set self.now column Full) }
+    {
+        self.with(alloc, column, Span::Full)
     }
 
     /// Whether the rect has the row.
@@ -105,6 +126,13 @@ impl Rect {
         ensures { result ≡ in_rect self.now row.now }
     {
         spans_have(self.spans.as_slice(), row)
+    }
+
+    /// Whether the rect has each row with those cells in the columns of `attrs`.
+    pub fn has_part(&self, attrs: Attrs, cells: &Row) -> bool
+        ensures { result ≡ has_part attrs self.now cells.now }
+    {
+        spans_have_part(self.spans.as_slice(), attrs, cells.as_slice())
     }
 }
 
@@ -121,6 +149,23 @@ fn spans_have(spans: &[Span], row: &Row) -> bool
         }
     }
     true
+}
+
+fn spans_have_part(spans: &[Span], attrs: Attrs, cells: &[Cell]) -> bool
+    ensures { result ≡ has_part attrs spans.now cells.now }
+{
+    let mut taken = 0;
+    for i in 0..spans.len() {
+        if attrs.has_index(i) {
+            if taken == cells.len() || !spans[i].has(&cells[taken]) {
+                return false;
+            }
+            taken += 1;
+        } else if spans[i].constrains() {
+            return false;
+        }
+    }
+    taken == cells.len()
 }
 
 #[tactic(auto, using(crate::proofs::Meets::behind_more))]

@@ -1,5 +1,5 @@
 -- The lines of a file.
-use Rattle.std.specs.Prelude.{ℕ, ◌==◌, ◌&&◌, Bool, true, false, List, [], ◌∷◌, if◌then◌else◌}
+use Rattle.std.specs.Prelude.{ℕ, ◌==◌, ◌&&◌, Bool, false, List, [], ◌∷◌, if◌then◌else◌}
 
 -- a byte before the first of these lines
 abbrev pub before_line : ℕ → List (List ℕ) → List (List ℕ)

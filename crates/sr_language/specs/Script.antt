@@ -1,6 +1,5 @@
 -- What the lines of a script say and do, as far as they are built.
-use Rattle.std.specs.Prelude.{◌≡◌, ℕ, ◌+◌, ◌==◌, ◌&&◌, ◌||◌, Bool, true, false, not, List, [], ◌∷◌, ◌++◌, ◌⊎◌, length, drop, nat_eq, codes, Option, Some, None, Result, Ok, Err, IsTrue, if◌then◌else◌}
-use Rattle.std.specs.Option.{option_to_list}
+use Rattle.std.specs.Prelude.{◌≡◌, ℕ, ◌+◌, ◌==◌, ◌&&◌, ◌||◌, Bool, false, not, List, [], ◌∷◌, ◌++◌, ◌⊎◌, length, drop, nat_eq, codes, Some, None, Result, Ok, Err, IsTrue, if◌then◌else◌}
 use Rattle.std.specs.List.{list_all, starts_with}
 use Rattle.std.specs.Str.{is_utf8}
 use Rattle.sr_cell.specs.declared.table.Table.{Table}
@@ -12,7 +11,8 @@ use Rattle.sr_grammar.specs.Says.{Says}
 use Rattle.sr_model.specs.Queries.{Query}
 use Rattle.sr_model.specs.Statements.{Write}
 use Rattle.sr_model.specs.Events.{Event, Exec, QueryOf}
-use Rattle.sr_language.specs.Built.{may_create, write_of, query_of}
+use Rattle.sr_query.specs.Binding.{bound_query}
+use Rattle.sr_language.specs.Built.{may_create, write_to, may_ask}
 
 -- ---- what a line is, by how it begins
 
@@ -83,32 +83,33 @@ pub data Stage : Type 0 where
   Asking : Stage
 
 pub record Phase : Type 0 where
-  pub table : Option Table
+  pub tables : List Table
   pub stage : Stage
 
 abbrev pub start_phase : Phase
-start_phase = record { table = None; stage = Creating }
+start_phase = record { tables = []; stage = Creating }
 
-abbrev pub schema_of : Phase → List Table
-schema_of phase = option_to_list phase.table
+-- A text that is no statement is refused. One that is a statement writes this to the tables.
+abbrev pub Writes : List Table → List ℕ → Result Write Fault → Type 0
+Writes tables sql (Err fault) = Says sql (Err fault)
+Writes tables sql (Ok write) = (s : Statement) × Says sql (Ok s) × (write_to tables s ≡ Some write)
 
--- A text that says a statement means this one to the table. What says none is refused, also without a table.
-abbrev pub MeansTo : {A : Type 0} → (Table → Statement → Option A) → Option Table → List ℕ → Result A Fault → Type 0
-MeansTo of table sql (Err fault) = Says sql (Err fault)
-MeansTo of None sql (Ok a) = ⊥
-MeansTo of (Some t) sql (Ok a) = (s : Statement) × Says sql (Ok s) × (of t s ≡ Some a)
+-- A text that is no statement, or whose statement asks nothing of the tables, is refused. Another asks this query.
+abbrev pub AsksOf : List Table → List ℕ → Result Query Fault → Type 0
+AsksOf tables sql (Err fault) = Says sql (Err fault) ⊎ ((s : Statement) × Says sql (Ok s) × (bound_query tables s ≡ Err fault))
+AsksOf tables sql (Ok query) = (s : Statement) × Says sql (Ok s) × (bound_query tables s ≡ Ok query) × IsTrue (may_ask tables query)
 
 -- The one CREATE line stands in front, then the statements, then the queries.
 abbrev pub LineDoes : Phase → ℕ → Line → List (ℕ × Event) → Phase → Type 0
 LineDoes phase n Silent events next = (events ≡ []) × (next ≡ phase)
 LineDoes phase n (CreateLine sql) events next =
-    (t : Table) × Says sql (Ok (Create t)) × IsTrue (may_create t) × (phase ≡ start_phase)
-    × (events ≡ []) × (next ≡ record { table = Some t; stage = Creating })
+    (t : Table) × AddsTable [] sql t × IsTrue (may_create t) × (phase ≡ start_phase)
+    × (events ≡ []) × (next ≡ record { tables = t ∷ []; stage = Creating })
 LineDoes phase n (ExecLine sql) events next =
-    (statement : Result Write Fault) × MeansTo write_of phase.table sql statement × (phase.stage ≡ Asking → ⊥)
+    (statement : Result Write Fault) × Writes phase.tables sql statement × (phase.stage ≡ Asking → ⊥)
     × (events ≡ (n, Exec statement) ∷ []) × (next ≡ record phase { stage = Filling })
 LineDoes phase n (QueryLine sql) events next =
-    (query : Result Query Fault) × MeansTo query_of phase.table sql query
+    (query : Result Query Fault) × AsksOf phase.tables sql query
     × (events ≡ (n, QueryOf 1 query) ∷ []) × (next ≡ record phase { stage = Asking })
 LineDoes phase n Other events next = ⊥
 

@@ -1,4 +1,6 @@
 pub mod Conditions
+pub mod Ends
+pub mod Width
 pub mod Queries
 pub mod SortedRows
 pub mod Statements

@@ -1,23 +1,21 @@
 -- What a line of each kind adds, or that it does nothing.
 use Rattle.std.proofs.Common.{◌≡◌, ℕ, Bool, true, false, List, [], ◌∷◌, ◌++◌, refl, sym, ap, subst, ◌∙◌}
-use Rattle.std.specs.Prelude.{Option, Some, None, Result, Ok, Err, IsTrue}
+use Rattle.std.specs.Prelude.{Some, None, Result, Ok, Err, IsTrue}
 use Rattle.sr_cell.specs.declared.list.NoMemory.{NoMemory}
 use Rattle.sr_cell.specs.declared.table.Table.{Table}
 use Rattle.sr_cell.specs.declared.fault.Fault.{Fault}
 use Rattle.sr_cell.specs.Cells.{Row}
-use Rattle.sr_grammar.specs.Trees.{Create}
-use Rattle.sr_grammar.specs.Says.{Says}
-use Rattle.sr_language.specs.Built as built
-use Rattle.sr_language.specs.Built.{may_create}
-use Rattle.sr_language.specs.Script.{Line, Silent, CreateLine, ExecLine, QueryLine, Other, Creating, Asking, start_phase}
-use Rattle.sr_reader.specs.declared.script.Selection.{Selection}
+use Rattle.sr_cell.specs.Faults.{table_fault}
+use Rattle.sr_query.specs.declared.query.Query.{Query}
+use Rattle.sr_language.specs.Script.{Line, CreateLine, ExecLine, QueryLine, Creating, Asking, start_phase, AddsTable}
 use Rattle.sr_reader.specs.declared.script.ExecLine.{ExecLine as ExecRead}
 use Rattle.sr_reader.specs.declared.script.QueryLine.{QueryLine as QueryRead}
 use Rattle.sr_reader.specs.declared.script.Script.{Script}
-use Rattle.sr_reader.specs.Meaning.{IsCreated, IsMeaning}
-use Rattle.sr_reader.specs.Read.{Fits, write_of, query_of, rows_fit, selection_fits}
+use Rattle.sr_reader.specs.Meaning.{IsCreated, IsWritten, IsAsking}
+use Rattle.sr_reader.specs.Read.{Fits, rows_fit}
 use Rattle.sr_reader.specs.Walk.{stage_by, phase_in, Adds, AddsNothing, IsAdded}
-use Rattle.sr_reader.proofs.Walks.{silent_adds, create_adds, exec_adds, query_adds, create_fits, exec_fits, query_fits}
+use Rattle.sr_reader.proofs.OneDoing.{one_create}
+use Rattle.sr_reader.proofs.Walks.{create_adds, exec_adds, query_adds, create_fits, exec_fits, query_fits}
 
 pub want_added : (number : ℕ) (old new : Script) (line : Line) (r : Result Bool NoMemory) (want : NoMemory) → r ≡ Err want → IsAdded number old line r new
 want_added number old new line r want is = subst (λ z. IsAdded number old line z new) (sym is) tt
@@ -34,13 +32,29 @@ pub create_behind : (number : ℕ) (sql : List ℕ) (old : Script) → (phase_in
 create_behind number sql old behind events next does = behind does.3
 
 pub create_none : (number : ℕ) (sql : List ℕ) (old : Script) → IsCreated sql None → AddsNothing number old (CreateLine sql)
-create_none number sql old none events next does = none does.0 does.1 does.2
+create_none number sql old none events next does = none does.0 does.1.0 does.2
 
-pub create_some : (number : ℕ) (sql : List ℕ) (old : Script) (t : Table) → phase_in old ≡ start_phase → IsCreated sql (Some t) → Fits old
-    → Adds number old (CreateLine sql) (record old { table = Some t }) × Fits (record old { table = Some t })
-create_some number sql old t start created fits =
+no_tables : (old : Script) → phase_in old ≡ start_phase → old.schema ≡ []
+no_tables old start = ap (λ p. p.tables) start
+
+pub create_some : (number : ℕ) (sql : List ℕ) (old : Script) (tables : List Table) (t : Table) → phase_in old ≡ start_phase → IsCreated sql (Some t) → tables ≡ old.schema ++ t ∷ [] → table_fault old.schema t ≡ None
+    → Adds number old (CreateLine sql) (record old { schema = tables }) × Fits (record old { schema = tables })
+create_some number sql old tables t start created added faultless =
     let empty = none_at_start old.statements old.queries (ap (λ p. p.stage) start) in
-    (create_adds number sql old t start created.0 created.1 empty.0 empty.1, create_fits old t fits created.1)
+    let none = no_tables old start in
+    let adds : AddsTable [] sql t = (created.0, subst (λ z. table_fault z t ≡ None) none faultless) in
+    let one : tables ≡ t ∷ [] = added ∙ ap (λ z. z ++ t ∷ []) none in
+    subst (λ z. Adds number old (CreateLine sql) (record old { schema = z }) × Fits (record old { schema = z })) (sym one)
+    (create_adds number sql old t start adds created.1 empty.0 empty.1, create_fits old t sql adds created.1 empty.0)
+
+none_some : (fault : Fault) → None ≡ Some fault → ⊥
+none_some fault e = cc
+
+pub create_refused : (number : ℕ) (sql : List ℕ) (old : Script) (t : Table) (fault : Fault) → phase_in old ≡ start_phase → IsCreated sql (Some t) → table_fault old.schema t ≡ Some fault → AddsNothing number old (CreateLine sql)
+create_refused number sql old t fault start created bad events next does =
+    let same : does.0 ≡ t = one_create sql does.0 t does.1.0 created.0 in
+    let none : table_fault [] t ≡ None = subst (λ z. table_fault [] z ≡ None) same does.1.1 in
+    none_some fault (sym none ∙ subst (λ z. table_fault z t ≡ Some fault) (no_tables old start) bad)
 
 -- ---- statements and queries
 
@@ -51,27 +65,21 @@ asking statements (q ∷ queries) some = refl
 pub exec_behind : (number : ℕ) (sql : List ℕ) (old : Script) → (old.queries ≡ [] → ⊥) → AddsNothing number old (ExecLine sql)
 exec_behind number sql old some events next does = does.2 (asking old.statements old.queries some)
 
-pub exec_none : (number : ℕ) (sql : List ℕ) (old : Script) → IsMeaning built.write_of write_of old.table sql None → AddsNothing number old (ExecLine sql)
+pub exec_none : (number : ℕ) (sql : List ℕ) (old : Script) → IsWritten old.schema sql None → AddsNothing number old (ExecLine sql)
 exec_none number sql old none events next does = none does.0 does.1
 
-pub exec_some : (number : ℕ) (sql : List ℕ) (old : Script) (statement : Result (List Row) Fault) → old.queries ≡ [] → IsMeaning built.write_of write_of old.table sql (Some statement) → IsTrue (rows_fit statement) → Fits old
+pub exec_some : (number : ℕ) (sql : List ℕ) (old : Script) (statement : Result (List Row) Fault) → old.queries ≡ [] → IsWritten old.schema sql (Some statement) → IsTrue (rows_fit old.schema statement) → Fits old
     → Adds number old (ExecLine sql) (record old { statements = old.statements ++ record { number = number; statement = statement } ∷ [] })
     × Fits (record old { statements = old.statements ++ record { number = number; statement = statement } ∷ [] })
-exec_some number sql old statement first means rows fits = (exec_adds number sql old statement means first, exec_fits number sql old statement fits means rows)
+exec_some number sql old statement first writes rows fits = (exec_adds number sql old statement writes first, exec_fits number old statement fits rows)
 
-pub query_none : (number : ℕ) (sql : List ℕ) (old : Script) → IsMeaning built.query_of query_of old.table sql None → AddsNothing number old (QueryLine sql)
+pub query_none : (number : ℕ) (sql : List ℕ) (old : Script) → IsAsking old.schema sql None → AddsNothing number old (QueryLine sql)
 query_none number sql old none events next does = none does.0 does.1
 
-pub query_some : (number : ℕ) (sql : List ℕ) (old : Script) (query : Result Selection Fault) → IsMeaning built.query_of query_of old.table sql (Some query) → IsTrue (selection_fits query) → Fits old
+pub query_some : (number : ℕ) (sql : List ℕ) (old : Script) (query : Result Query Fault) → IsAsking old.schema sql (Some query) → Fits old
     → Adds number old (QueryLine sql) (record old { queries = old.queries ++ record { number = number; query = query } ∷ [] })
     × Fits (record old { queries = old.queries ++ record { number = number; query = query } ∷ [] })
-query_some number sql old query means inside fits = (query_adds number sql old query means, query_fits number sql old query fits means inside)
-
-pub silent_added : (number : ℕ) (old : Script) → Fits old → Adds number old Silent old × Fits old
-silent_added number old fits = (silent_adds number old, fits)
-
-pub other_nothing : (number : ℕ) (old : Script) → AddsNothing number old Other
-other_nothing number old events next does = does
+query_some number sql old query asking fits = (query_adds number sql old query asking.0 asking.1 asking.2, query_fits number old query fits)
 
 pub nothing_added : (number : ℕ) (old new : Script) (line : Line) (b : Bool) → IsAdded number old line (Ok b) new → b ≡ false → AddsNothing number old line
 nothing_added number old new line true added is = absurd cc

@@ -1,6 +1,6 @@
 -- The word CREATE in any case.
 use Rattle.std.proofs.Common.{◌≡◌, ℕ, Bool, true, false, List, [], ◌∷◌, refl, sym, ap, ◌∙◌, arith, ◌↔◌}
-use Rattle.std.specs.Prelude.{codes, if◌then◌else◌, IsTrue, bytes_eq}
+use Rattle.std.specs.Prelude.{if◌then◌else◌, IsTrue, bytes_eq}
 use Rattle.std.specs.Char.{to_ascii_uppercase, to_ascii_lowercase}
 use Rattle.std.proofs.lemmas.Slice.Eq.{bytes_eq-Decides}
 use Rattle.std.proofs.lemmas.Bool.Decides.{nat_tests}

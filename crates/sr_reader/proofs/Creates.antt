@@ -1,16 +1,14 @@
 -- A text that begins with CREATE says no other statement.
-use Rattle.std.proofs.Common.{◌≡◌, ℕ, Bool, true, false, List, [], ◌∷◌, ◌++◌, inl, inr, refl, sym, ap, subst, ◌∙◌, arith}
+use Rattle.std.proofs.Common.{◌≡◌, ℕ, Bool, true, false, List, [], ◌∷◌, ◌++◌, inl, inr, refl, ap, subst, ◌∙◌}
 use Rattle.std.specs.Prelude.{codes, Result, Ok, Err, filter, length, ◌==◌, if◌then◌else◌}
 use Rattle.std.specs.List.{list_any}
-use Rattle.std.proofs.lemmas.List.{append-nil}
 use Rattle.sr_cell.specs.declared.table.Table.{Table}
 use Rattle.sr_cell.specs.declared.fault.Fault.{Fault}
 use Rattle.sr_cell.specs.declared.fault.Why.TheVariants.{BadDomain, NoKey}
 use Rattle.sr_grammar.specs.declared.statement.Definition.{Definition}
 use Rattle.sr_grammar.specs.Tokens.{Key, Tok, is, tokens_of}
-use Rattle.sr_grammar.specs.Trees.{Statement, Create, Tree, Defines, Says as Saying, statement_of, table_of, is_key, has_bad_domain}
-use Rattle.sr_grammar.specs.Rules.{Rule, ◌>>=◌ as ◌▸◌, ◌or◌}
-use Rattle.sr_grammar.specs.Conditions.{KEY}
+use Rattle.sr_grammar.specs.Trees.{Statement, Create, Tree, Defines, statement_of, table_of, is_key, has_bad_domain}
+use Rattle.sr_grammar.specs.Rules.{Rule, ◌or◌}
 use Rattle.sr_grammar.specs.Columns.{IsCreate}
 use Rattle.sr_grammar.specs.Statements.{IsSelect, IsInsert, IsUpdate, IsDelete, IsStatement}
 use Rattle.sr_grammar.specs.Says.{most_levels, Says}

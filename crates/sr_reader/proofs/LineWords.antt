@@ -1,8 +1,7 @@
 -- What stands behind the words of an event.
-use Rattle.std.proofs.Common.{◌≡◌, ℕ, Bool, true, false, List, [], ◌∷◌, ◌++◌, ◌+◌, length, map, drop, refl, sym, ap, subst, ◌∙◌, arith}
-use Rattle.std.specs.Prelude.{Option, Some, None, ◌&&◌, ◌==◌, ◌||◌, not, nat_eq, codes, if◌then◌else◌}
+use Rattle.std.proofs.Common.{◌≡◌, ℕ, Bool, true, false, List, [], ◌∷◌, ◌++◌, length, map, drop, refl, sym, ap, subst, ◌∙◌, arith}
+use Rattle.std.specs.Prelude.{None, ◌&&◌, ◌==◌, ◌||◌, nat_eq, codes}
 use Rattle.std.specs.List.{starts_with}
-use denote.Ref.{Bor}
 use Rattle.std.specs.Str.Pattern.{FindsTextPrefix}
 use Rattle.std.proofs.lemmas.Bool.Decides.{nat_tests}
 use Rattle.std.proofs.lemmas.List.{length-append}
@@ -13,7 +12,7 @@ use Rattle.sr_token.specs.Tokens.{Lexeme, Found, Bad, tokens_from}
 use Rattle.sr_grammar.specs.Tokens.{Key, is, seen, lexeme_seen, tokens_of}
 use Rattle.sr_language.specs.Script as script
 use Rattle.sr_language.specs.Script.{is_blank, begins_create, event_line, line_of}
-use Rattle.sr_reader.specs.LineSeen.{begins_event, IsBehind}
+use Rattle.sr_reader.specs.LineSeen.{begins_event}
 
 -- a line that begins so
 starts : (words rest : List ℕ) → starts_with nat_eq (words ++ rest) words ≡ true
@@ -47,13 +46,6 @@ behind_none words line lacks = by (starts_with nat_eq line words) refl
     by : (x : Bool) → starts_with nat_eq line words ≡ x → begins_event words line ≡ false
     by true is = absurd (lacks (drop (length words) line) (starts_split words line is))
     by false is = rw is refl
-
--- where the text behind the words is found, the line is made of it
-pub behind_is : (words line : List ℕ) (made : List ℕ → script.Line) (otherwise : script.Line) (sql : Bor (List ℕ)) → IsBehind words line (Some sql) → made sql.now ≡ script.behind words made otherwise line
-behind_is words line made otherwise sql is = rw is.0 (ap made is.1)
-
-pub behind_other : (words line : List ℕ) (made : List ℕ → script.Line) (otherwise : script.Line) → IsBehind words line None → otherwise ≡ script.behind words made otherwise line
-behind_other words line made otherwise is = rw is refl
 
 -- ---- the first token of a line
 

@@ -1,10 +1,10 @@
 -- What was read of a text is what the text means, and all that it means.
-use Rattle.std.proofs.Common.{◌≡◌, ℕ, ◌<◌, Bool, true, false, List, [], ◌∷◌, length, refl, sym, ap, subst, ◌∙◌, arith}
-use Rattle.std.specs.Prelude.{Option, Some, None, Result, Ok, Err, IsTrue, ◌&&◌, ◌==◌, nat_lt, if◌then◌else◌}
-use Rattle.std.specs.Option.{option_to_list}
+use Rattle.std.proofs.Common.{◌≡◌, ℕ, ◌<◌, Bool, true, false, List, [], ◌∷◌, length, refl, sym, ap, subst, ◌∙◌, arith, inl, inr}
+use Rattle.std.specs.Prelude.{Option, Some, None, Result, Ok, Err, IsTrue, IfOk, ◌==◌, nat_lt, if◌then◌else◌}
 use Rattle.std.specs.List.{list_all}
 use Rattle.std.proofs.lemmas.List.{length-map}
 use Rattle.std.proofs.lemmas.Bool.Decides.{nat_tests}
+use Rattle.sr_cell.specs.declared.list.NoMemory.{NoMemory}
 use Rattle.sr_cell.specs.declared.table.Table.{Table}
 use Rattle.sr_cell.specs.declared.fault.Fault.{Fault}
 use Rattle.sr_cell.specs.Cells.{Row}
@@ -14,15 +14,16 @@ use Rattle.sr_grammar.specs.declared.statement.Statement.TheVariants as code
 use Rattle.sr_grammar.specs.Trees.{Statement, Create}
 use Rattle.sr_grammar.specs.Seen.{statement_seen}
 use Rattle.sr_grammar.specs.Says.{Says}
-use Rattle.sr_parser.proofs.OneSaying.{each_says_one}
 use Rattle.sr_parser.proofs.Words.{and_parts}
+use Rattle.sr_model.specs.Queries as model
 use Rattle.sr_model.specs.Statements.{Insert as Inserting}
-use Rattle.sr_language.specs.Built.{may_create, may_insert, is_pair, is_number, cells_of, rows_in, write_of, query_of}
-use Rattle.sr_language.specs.Script.{MeansTo}
-use Rattle.sr_reader.specs.declared.script.Selection.{Selection}
-use Rattle.sr_reader.specs.Read.{write_of as write_seen, query_of as query_seen, rows_fit}
-use Rattle.sr_reader.specs.Meaning.{said_seen, inserting, write_to, selecting, query_to, IsCreated, IsMeaning}
-use Rattle.sr_reader.proofs.OneDoing.{one_create, no_fault}
+use Rattle.sr_query.specs.Binding.{bound_query}
+use Rattle.sr_query.specs.declared.query.Query.{Query}
+use Rattle.sr_language.specs.Built.{may_create, may_insert, is_full, is_number, cells_of, rows_in, write_of, write_to, may_ask}
+use Rattle.sr_language.specs.Script.{AsksOf}
+use Rattle.sr_reader.specs.Read.{Means, rows_fit}
+use Rattle.sr_reader.specs.Meaning.{said_seen, inserting, IsCreated, IsWritten, IsBound, IsAsking}
+use Rattle.sr_reader.proofs.OneDoing.{one_statement, one_create, no_fault, asks_bound}
 use Rattle.sr_reader.proofs.RowCounts.{fewer_rows}
 
 true_and_false : (b : Bool) → b ≡ true → b ≡ false → ⊥
@@ -31,12 +32,6 @@ true_and_false false t f = cc
 
 none_some : {A : Type 0} (a : A) → None ≡ Some a → ⊥
 none_some a e = cc
-
-same_ok : (r s : Statement) → (let here : Result Statement Fault = Ok r in here) ≡ Ok s → r ≡ s
-same_ok r s e = cc
-
-one_statement : (sql : List ℕ) (r s : Statement) → Says sql (Ok r) → Says sql (Ok s) → r ≡ s
-one_statement sql r s a b = same_ok r s (each_says_one sql (Ok r) (Ok s) a b)
 
 -- ---- what was said
 
@@ -73,117 +68,94 @@ pub other_creates_none : (sql : List ℕ) (says : Result declared.Statement Faul
     → Says sql (said_seen says) → says ≡ Ok s → ((u : Table) → s ≡ code.Create u → ⊥) → IsCreated sql None
 other_creates_none sql says s said is other u create stands = not_create u s (one_statement sql (Create u) (statement_seen s) create (says_it sql says s said is)) other
 
--- ---- what a text means
-
--- a statement means nothing where there is no table
-abbrev to : {A : Type 0} → (Table → Statement → Option A) → Option Table → Statement → Option A
-to of None s = None
-to of (Some t) s = of t s
-
-means_it : {A : Type 0} (of : Table → Statement → Option A) (table : Option Table) (sql : List ℕ) (s : Statement) (a : A) → Says sql (Ok s) → to of table s ≡ Some a → MeansTo of table sql (Ok a)
-means_it of None sql s a said told = absurd (none_some a told)
-means_it of (Some t) sql s a said told = (s, said, told)
-
-means_fault : {A : Type 0} (of : Table → Statement → Option A) (table : Option Table) (sql : List ℕ) (fault : Fault) → Says sql (Err fault) → MeansTo of table sql (Err fault)
-means_fault of None sql fault said = said
-means_fault of (Some t) sql fault said = said
-
-means_nothing : {A : Type 0} (of : Table → Statement → Option A) (table : Option Table) (sql : List ℕ) (s : Statement) → Says sql (Ok s) → to of table s ≡ None → (a : Result A Fault) → MeansTo of table sql a → ⊥
-means_nothing of None sql s said told (Ok a) m = m
-means_nothing of None sql s said told (Err fault) m = no_fault sql s fault said m
-means_nothing of (Some t) sql s said told (Ok a) m = none_some a (sym told ∙ (sym (ap (of t) (one_statement sql m.0 s m.1 said)) ∙ m.2))
-means_nothing of (Some t) sql s said told (Err fault) m = no_fault sql s fault said m
-
-write_to-is : (table : Option Table) (s : Statement) → to write_of table s ≡ write_to table s
-write_to-is None s = refl
-write_to-is (Some t) s = refl
-
-query_to-is : (table : Option Table) (s : Statement) → to query_of table s ≡ query_to table s
-query_to-is None s = refl
-query_to-is (Some t) s = refl
-
 -- ---- writes
 
-pub writes : (table : Option Table) (sql : List ℕ) (says : Result declared.Statement Fault) (s : declared.Statement) (found : Option (List Row)) (rows : List Row)
-    → Says sql (said_seen says) → says ≡ Ok s → write_to table (statement_seen s) ≡ inserting found → found ≡ Some rows → IsMeaning write_of write_seen table sql (Some (Ok rows))
-writes table sql says s found rows said is told some =
-    means_it write_of table sql (statement_seen s) (Inserting 0 rows) (says_it sql says s said is) (write_to-is table (statement_seen s) ∙ (told ∙ ap inserting some))
+pub writes : (tables : List Table) (sql : List ℕ) (says : Result declared.Statement Fault) (s : declared.Statement) (found : Option (List Row)) (rows : List Row)
+    → Says sql (said_seen says) → says ≡ Ok s → write_to tables (statement_seen s) ≡ inserting found → found ≡ Some rows → IsWritten tables sql (Some (Ok rows))
+writes tables sql says s found rows said is told some = (statement_seen s, says_it sql says s said is, told ∙ ap inserting some)
 
-pub writes_nothing : (table : Option Table) (sql : List ℕ) (says : Result declared.Statement Fault) (s : declared.Statement) (found : Option (List Row))
-    → Says sql (said_seen says) → says ≡ Ok s → write_to table (statement_seen s) ≡ inserting found → found ≡ None → IsMeaning write_of write_seen table sql None
-writes_nothing table sql says s found said is told none =
-    means_nothing write_of table sql (statement_seen s) (says_it sql says s said is) (write_to-is table (statement_seen s) ∙ (told ∙ ap inserting none))
+pub writes_nothing : (tables : List Table) (sql : List ℕ) (says : Result declared.Statement Fault) (s : declared.Statement) (found : Option (List Row))
+    → Says sql (said_seen says) → says ≡ Ok s → write_to tables (statement_seen s) ≡ inserting found → found ≡ None → IsWritten tables sql None
+writes_nothing tables sql says s found said is told none (Ok write) written =
+    let same = one_statement sql written.0 (statement_seen s) written.1 (says_it sql says s said is) in
+    none_some write (sym (told ∙ ap inserting none) ∙ (sym (ap (write_to tables) same) ∙ written.2))
+writes_nothing tables sql says s found said is told none (Err fault) written = no_fault sql (statement_seen s) fault (says_it sql says s said is) written
 
-pub writes_fault : (table : Option Table) (sql : List ℕ) (says : Result declared.Statement Fault) (fault : Fault)
-    → Says sql (said_seen says) → says ≡ Err fault → IsMeaning write_of write_seen table sql (Some (Err fault))
-writes_fault table sql says fault said is = means_fault write_of table sql fault (says_fault sql says fault said is)
+pub writes_fault : (tables : List Table) (sql : List ℕ) (says : Result declared.Statement Fault) (fault : Fault) → Says sql (said_seen says) → says ≡ Err fault → IsWritten tables sql (Some (Err fault))
+writes_fault tables sql says fault said is = says_fault sql says fault said is
 
 -- ---- rows that fit
 
-pairs_two : (rows : List Row) → list_all is_pair rows ≡ true → list_all (λ row. length row == 2) rows ≡ true
-pairs_two [] all = refl
-pairs_two (row ∷ rows) all =
-    let p = and_parts (is_pair row) (list_all is_pair rows) all in
-    let q = and_parts (length row == 2) (list_all is_number row) p.0 in
-    rw (q.0, pairs_two rows p.1) refl
+full_wide : (t : Table) (rows : List Row) → list_all (is_full t) rows ≡ true → list_all (λ row. length row == length t.columns) rows ≡ true
+full_wide t [] all = refl
+full_wide t (row ∷ rows) all =
+    let p = and_parts (is_full t row) (list_all (is_full t) rows) all in
+    let q = and_parts (length row == length t.columns) (list_all is_number row) p.0 in
+    rw (q.0, full_wide t rows p.1) refl
 
 less : (n most : ℕ) → n < most → nat_lt n most ≡ true
 less n most few = grind (arith, nat_tests)
 
-pairs_fit : (rows : List Row) → list_all is_pair rows ≡ true → length rows < 65536 → rows_fit (Ok rows) ≡ true
-pairs_fit rows all few = rw (pairs_two rows all, less (length rows) 65536 few) refl
+full_fit : (t : Table) (tables : List Table) (rows : List Row) → list_all (is_full t) rows ≡ true → length rows < 65536 → rows_fit (t ∷ tables) (Ok rows) ≡ true
+full_fit t tables rows all few = rw (full_wide t rows all, less (length rows) 65536 few) refl
 
 same_rows : (rows others : List Row) → Some (Inserting 0 rows) ≡ Some (Inserting 0 others) → rows ≡ others
 same_rows rows others e = cc
 
-insert_fits : (t : Table) (i : Insert) (rows : List Row) (may : Bool) → may_insert t i ≡ may → length i.rows < 65536
-    → (if may then Some (Inserting 0 (rows_in i)) else None) ≡ Some (Inserting 0 rows) → rows_fit (Ok rows) ≡ true
-insert_fits t i rows true stands few told =
+insert_fits : (t : Table) (tables : List Table) (i : Insert) (rows : List Row) (may : Bool) → may_insert t i ≡ may → length i.rows < 65536
+    → (if may then Some (Inserting 0 (rows_in i)) else None) ≡ Some (Inserting 0 rows) → rows_fit (t ∷ tables) (Ok rows) ≡ true
+insert_fits t tables i rows true stands few told =
     let same : rows_in i ≡ rows = same_rows (rows_in i) rows told in
-    let all = and_parts _ (list_all is_pair (rows_in i)) stands in
+    let all = and_parts _ (list_all (is_full t) (rows_in i)) stands in
     let count : length (rows_in i) < 65536 = subst (λ z. z < 65536) (sym (length-map i.rows cells_of)) few in
-    subst (λ z. rows_fit (Ok z) ≡ true) same (pairs_fit (rows_in i) all.1 count)
-insert_fits t i rows false stands few told = absurd (none_some (Inserting 0 rows) told)
+    subst (λ z. rows_fit (t ∷ tables) (Ok z) ≡ true) same (full_fit t tables (rows_in i) all.1 count)
+insert_fits t tables i rows false stands few told = absurd (none_some (Inserting 0 rows) told)
 
-statement_fits : (t : Table) (sql : List ℕ) (s : declared.Statement) (rows : List Row) → Says sql (Ok (statement_seen s)) → write_of t (statement_seen s) ≡ Some (Inserting 0 rows) → rows_fit (Ok rows) ≡ true
-statement_fits t sql (code.Insert i) rows said told = insert_fits t i rows (may_insert t i) refl (fewer_rows sql i said) told
-statement_fits t sql (code.Create u) rows said told = absurd (none_some (Inserting 0 rows) told)
-statement_fits t sql (code.Select q) rows said told = absurd (none_some (Inserting 0 rows) told)
-statement_fits t sql (code.Update q) rows said told = absurd (none_some (Inserting 0 rows) told)
-statement_fits t sql (code.Delete q) rows said told = absurd (none_some (Inserting 0 rows) told)
+statement_fits : (t : Table) (tables : List Table) (sql : List ℕ) (s : declared.Statement) (rows : List Row) → Says sql (Ok (statement_seen s)) → write_of t (statement_seen s) ≡ Some (Inserting 0 rows)
+    → rows_fit (t ∷ tables) (Ok rows) ≡ true
+statement_fits t tables sql (code.Insert i) rows said told = insert_fits t tables i rows (may_insert t i) refl (fewer_rows sql i said) told
+statement_fits t tables sql (code.Create u) rows said told = absurd (none_some (Inserting 0 rows) told)
+statement_fits t tables sql (code.Select q) rows said told = absurd (none_some (Inserting 0 rows) told)
+statement_fits t tables sql (code.Update q) rows said told = absurd (none_some (Inserting 0 rows) told)
+statement_fits t tables sql (code.Delete q) rows said told = absurd (none_some (Inserting 0 rows) told)
 
-pub writes_fit : (table : Option Table) (sql : List ℕ) (says : Result declared.Statement Fault) (s : declared.Statement) (found : Option (List Row)) (rows : List Row)
-    → Says sql (said_seen says) → says ≡ Ok s → write_to table (statement_seen s) ≡ inserting found → found ≡ Some rows → IsTrue (rows_fit (Ok rows))
-writes_fit None sql says s found rows said is told some = absurd (none_some (Inserting 0 rows) (told ∙ ap inserting some))
-writes_fit (Some t) sql says s found rows said is told some = statement_fits t sql s rows (says_it sql says s said is) (told ∙ ap inserting some)
+pub writes_fit : (tables : List Table) (sql : List ℕ) (says : Result declared.Statement Fault) (s : declared.Statement) (found : Option (List Row)) (rows : List Row)
+    → Says sql (said_seen says) → says ≡ Ok s → write_to tables (statement_seen s) ≡ inserting found → found ≡ Some rows → IsTrue (rows_fit tables (Ok rows))
+writes_fit [] sql says s found rows said is told some = absurd (none_some (Inserting 0 rows) (told ∙ ap inserting some))
+writes_fit (t ∷ tables) sql says s found rows said is told some = statement_fits t tables sql s rows (says_it sql says s said is) (told ∙ ap inserting some)
+
+-- a fault fits any tables
+pub fault_fits : (tables : List Table) (fault : Fault) → IsTrue (rows_fit tables (Err fault))
+fault_fits [] fault = refl
+fault_fits (t ∷ tables) fault = refl
 
 -- ---- queries
 
-pub asks : (table : Option Table) (sql : List ℕ) (says : Result declared.Statement Fault) (s : declared.Statement) (found : Option Selection) (selection : Selection)
-    → Says sql (said_seen says) → says ≡ Ok s → query_to table (statement_seen s) ≡ selecting found → found ≡ Some selection → IsMeaning query_of query_seen table sql (Some (Ok selection))
-asks table sql says s found selection said is told some =
-    means_it query_of table sql (statement_seen s) _ (says_it sql says s said is) (query_to-is table (statement_seen s) ∙ (told ∙ ap selecting some))
+asked : (tables : List Table) (sql : List ℕ) (s : Statement) (query : Result Query Fault) (meaning : Result model.Query Fault) → Says sql (Ok s) → bound_query tables s ≡ meaning → Means tables query meaning → AsksOf tables sql meaning
+asked tables sql s query (Err fault) says told means = inr (s, says, told)
+asked tables sql s (Ok q) (Ok meaning) says told means = (s, says, told, means.1)
+asked tables sql s (Err fault) (Ok meaning) says told means = absurd means
 
-pub asks_nothing : (table : Option Table) (sql : List ℕ) (says : Result declared.Statement Fault) (s : declared.Statement) (found : Option Selection)
-    → Says sql (said_seen says) → says ≡ Ok s → query_to table (statement_seen s) ≡ selecting found → found ≡ None → IsMeaning query_of query_seen table sql None
-asks_nothing table sql says s found said is told none =
-    means_nothing query_of table sql (statement_seen s) (says_it sql says s said is) (query_to-is table (statement_seen s) ∙ (told ∙ ap selecting none))
+same_query : (q r : model.Query) → (let here : Result model.Query Fault = Ok q in here) ≡ Ok r → q ≡ r
+same_query q r e = cc
 
-pub asks_fault : (table : Option Table) (sql : List ℕ) (says : Result declared.Statement Fault) (fault : Fault)
-    → Says sql (said_seen says) → says ≡ Err fault → IsMeaning query_of query_seen table sql (Some (Err fault))
-asks_fault table sql says fault said is = means_fault query_of table sql fault (says_fault sql says fault said is)
+no_query : (q : model.Query) (fault : Fault) → (let here : Result model.Query Fault = Ok q in here) ≡ Err fault → ⊥
+no_query q fault e = cc
 
--- ---- a table that is built has two columns
+not_asked : (tables : List Table) (sql : List ℕ) (s : Statement) (q : model.Query) (meaning : Result model.Query Fault) → Says sql (Ok s) → bound_query tables s ≡ Ok q → may_ask tables q ≡ false → AsksOf tables sql meaning → ⊥
+not_asked tables sql s q (Err fault) says told may asks = no_query q fault (sym told ∙ asks_bound tables sql s (Err fault) says asks)
+not_asked tables sql s q (Ok r) says told may asks =
+    let same : q ≡ r = same_query q r (sym told ∙ asks_bound tables sql s (Ok r) says asks) in
+    true_and_false (may_ask tables q) (ap (may_ask tables) same ∙ asks.3) may
 
-first : (a b c d : Bool) → (a && b && c && d) ≡ true → a ≡ true
-first true b c d h = refl
-first false b c d h = h
+of_bound : (tables : List Table) (sql : List ℕ) (s : Statement) (found : Option (Result Query Fault)) → Says sql (Ok s) → IsBound tables s found → IsAsking tables sql found
+of_bound tables sql s None says bound = λ meaning asks. not_asked tables sql s bound.0 meaning says bound.1 bound.2 asks
+of_bound tables sql s (Some query) says bound = (bound.0, asked tables sql s query bound.0 says bound.1 bound.2, bound.2)
 
-equal : (n m : ℕ) → (n == m) ≡ true → n ≡ m
-equal n m h = grind (arith, nat_tests)
+pub asks : (tables : List Table) (sql : List ℕ) (says : Result declared.Statement Fault) (s : declared.Statement) (result : Result (Option (Result Query Fault)) NoMemory)
+    → Says sql (said_seen says) → says ≡ Ok s → IfOk result (IsBound tables (statement_seen s)) → IfOk result (IsAsking tables sql)
+asks tables sql says s (Ok found) said is bound = of_bound tables sql (statement_seen s) found (says_it sql says s said is) bound
+asks tables sql says s (Err want) said is bound = bound
 
-pub two_columns : (table : Option Table) (t : Table) → IsTrue (list_all may_create (option_to_list table)) → table ≡ Some t → length t.columns ≡ 2
-two_columns table t may is =
-    let all : list_all may_create (option_to_list (Some t)) ≡ true = subst (λ z. list_all may_create (option_to_list z) ≡ true) is may in
-    let one = and_parts (may_create t) true all in
-    equal (length t.columns) 2 (first (length t.columns == 2) _ _ _ one.0)
+pub asks_fault : (tables : List Table) (sql : List ℕ) (says : Result declared.Statement Fault) (fault : Fault) → Says sql (said_seen says) → says ≡ Err fault → IsAsking tables sql (Some (Err fault))
+asks_fault tables sql says fault said is = (Err fault, inl (says_fault sql says fault said is), refl)

@@ -1,14 +1,12 @@
 -- An INSERT has fewer rows than its text has bytes.
-use Rattle.std.proofs.Common.{◌≡◌, ℕ, suc, ◌+◌, ◌<◌, ◌≤◌, ◌==◌, Bool, true, false, List, [], ◌∷◌, ◌++◌, inl, inr, length, refl, ap, subst, ◌∙◌, arith}
-use Rattle.std.specs.Prelude.{Option, Some, None, Result, Ok, Err, codes, filter, if◌then◌else◌}
+use Rattle.std.proofs.Common.{◌≡◌, ℕ, ◌+◌, ◌<◌, ◌≤◌, ◌==◌, List, [], ◌∷◌, inl, inr, length, ap, subst, arith}
+use Rattle.std.specs.Prelude.{Option, Ok, codes, filter}
 use Rattle.std.specs.List.{list_any}
 use Rattle.std.proofs.lemmas.List.{length-append}
-use Rattle.sr_cell.specs.declared.fault.Fault.{Fault}
-use Rattle.sr_grammar.specs.declared.statement.LiteralRow.{LiteralRow}
 use Rattle.sr_grammar.specs.declared.statement.Insert.{Insert}
 use Rattle.sr_grammar.specs.Tokens.{Tok, tokens_of}
 use Rattle.sr_grammar.specs.declared.statement.Definition.{Definition}
-use Rattle.sr_grammar.specs.Trees.{Statement, Create, Inserts, Tree, Defines, Says as Saying, statement_of, table_of, is_key, has_bad_domain}
+use Rattle.sr_grammar.specs.Trees.{Inserts, Tree, Defines, Says as Saying, statement_of, table_of, is_key, has_bad_domain}
 use Rattle.sr_grammar.specs.Rules.{Rule, One, ◌>>=◌ as ◌▸◌, ◌or◌, Many}
 use Rattle.sr_grammar.specs.Conditions.{MARK, ListOf}
 use Rattle.sr_grammar.specs.Columns.{IsCreate}

@@ -1,5 +1,5 @@
 -- What a line of the code stands for.
-use Rattle.std.specs.Prelude.{◌≡◌, ℕ, ◌==◌, ◌&&◌, Bool, true, false, not, List, length, drop, nat_eq, codes, Option, Some, None, if◌then◌else◌}
+use Rattle.std.specs.Prelude.{◌≡◌, ℕ, ◌==◌, ◌&&◌, Bool, true, false, not, List, length, drop, nat_eq, codes, Option, Some, None}
 use Rattle.std.specs.List.{starts_with}
 use denote.Ref.{Bor}
 use Rattle.sr_reader.specs.declared.line.Line.{Line}

@@ -1,5 +1,5 @@
 -- What the code found that a text means.
-use Rattle.std.specs.Prelude.{ℕ, List, ◌++◌, Option, Some, None, Result, Ok, Err, IsTrue}
+use Rattle.std.specs.Prelude.{◌≡◌, ℕ, false, List, Option, Some, None, Result, Ok, Err, IsTrue}
 use Rattle.sr_cell.specs.declared.table.Table.{Table}
 use Rattle.sr_cell.specs.declared.fault.Fault.{Fault}
 use Rattle.sr_cell.specs.Cells.{Row}
@@ -7,14 +7,13 @@ use Rattle.sr_grammar.specs.declared.statement.Statement as code
 use Rattle.sr_grammar.specs.Trees.{Statement, Create}
 use Rattle.sr_grammar.specs.Seen.{statement_seen}
 use Rattle.sr_grammar.specs.Says.{Says}
-use Rattle.sr_model.specs.Queries.{Query}
+use Rattle.sr_model.specs.Queries as model
 use Rattle.sr_model.specs.Statements.{Write, Insert}
-use Rattle.sr_language.specs.Built as built
-use Rattle.sr_language.specs.Built.{may_create, select_of}
-use Rattle.sr_language.specs.Script.{MeansTo}
-use Rattle.sr_reader.specs.declared.script.Selection.{Selection}
-use Rattle.sr_reader.specs.declared.selection.Ranged.{Ranged}
-use Rattle.sr_reader.specs.Read.{range_of}
+use Rattle.sr_query.specs.Binding.{bound_query}
+use Rattle.sr_query.specs.declared.query.Query.{Query}
+use Rattle.sr_language.specs.Built.{may_create, may_ask}
+use Rattle.sr_language.specs.Script.{Writes, AsksOf}
+use Rattle.sr_reader.specs.Read.{write_of, Means}
 
 abbrev pub said_seen : Result code.Statement Fault → Result Statement Fault
 said_seen (Ok s) = Ok (statement_seen s)
@@ -25,35 +24,22 @@ abbrev pub inserting : Option (List Row) → Option Write
 inserting None = None
 inserting (Some rows) = Some (Insert 0 rows)
 
--- a statement means nothing where there is no table
-abbrev pub write_to : Option Table → Statement → Option Write
-write_to None s = None
-write_to (Some t) s = built.write_of t s
-
-abbrev pub query_to : Option Table → Statement → Option Query
-query_to None s = None
-query_to (Some t) s = built.query_of t s
-
--- the query of this selection, if there is one
-abbrev pub selecting : Option Selection → Option Query
-selecting None = None
-selecting (Some s) = Some (select_of s.outputs (range_of s.range))
-
-abbrev pub ranged_seen : Option Ranged → Option built.Ranged
-ranged_seen None = None
-ranged_seen (Some r) = Some (record { range = range_of r.range })
-
 -- the table of a CREATE that is built, or none if the text says no such CREATE
 abbrev pub IsCreated : List ℕ → Option Table → Type 0
 IsCreated sql None = (t : Table) → Says sql (Ok (Create t)) → IsTrue (may_create t) → ⊥
 IsCreated sql (Some t) = Says sql (Ok (Create t)) × IsTrue (may_create t)
 
--- what a text means to the table, where `stands` says what the code's values are; or none if it means nothing that is built
-abbrev pub IsMeaning : {A B : Type 0} → (Table → Statement → Option A) → (Result B Fault → Result A Fault) → Option Table → List ℕ → Option (Result B Fault) → Type 0
-IsMeaning {A = A} of stands table sql None = (a : Result A Fault) → MeansTo of table sql a → ⊥
-IsMeaning of stands table sql (Some b) = MeansTo of table sql (stands b)
+-- what a text writes to the tables, or none if it writes nothing that is built
+abbrev pub IsWritten : List Table → List ℕ → Option (Result (List Row) Fault) → Type 0
+IsWritten tables sql None = (write : Result Write Fault) → Writes tables sql write → ⊥
+IsWritten tables sql (Some rows) = Writes tables sql (write_of rows)
 
--- these numbers, and then the others if there are some
-abbrev pub in_front : List ℕ → Option (List ℕ) → Option (List ℕ)
-in_front numbers None = None
-in_front numbers (Some more) = Some (numbers ++ more)
+-- what a statement asks of the tables, or why it asks nothing; or none if it asks what is not built
+abbrev pub IsBound : List Table → Statement → Option (Result Query Fault) → Type 0
+IsBound tables s None = (meaning : model.Query) × (bound_query tables s ≡ Ok meaning) × (may_ask tables meaning ≡ false)
+IsBound tables s (Some query) = (meaning : Result model.Query Fault) × (bound_query tables s ≡ meaning) × Means tables query meaning
+
+-- what a text asks of the tables, or none if it asks nothing that is built
+abbrev pub IsAsking : List Table → List ℕ → Option (Result Query Fault) → Type 0
+IsAsking tables sql None = (meaning : Result model.Query Fault) → AsksOf tables sql meaning → ⊥
+IsAsking tables sql (Some query) = (meaning : Result model.Query Fault) × AsksOf tables sql meaning × Means tables query meaning

@@ -1,12 +1,12 @@
 -- Reading a script line by line.
-use Rattle.std.specs.Prelude.{◌≡◌, ℕ, Bool, true, false, List, [], ◌∷◌, ◌++◌, Result, Ok, Err}
+use Rattle.std.specs.Prelude.{ℕ, Bool, true, false, List, [], ◌∷◌, ◌++◌, Result, Ok, Err}
 use Rattle.sr_cell.specs.declared.list.NoMemory.{NoMemory}
 use Rattle.sr_model.specs.Events.{Event}
 use Rattle.sr_language.specs.Script.{Line, Stage, Creating, Filling, Asking, Phase, LineDoes}
 use Rattle.sr_reader.specs.declared.script.ExecLine.{ExecLine}
 use Rattle.sr_reader.specs.declared.script.QueryLine.{QueryLine}
 use Rattle.sr_reader.specs.declared.script.Script.{Script}
-use Rattle.sr_reader.specs.Read.{events_of, Fits}
+use Rattle.sr_reader.specs.Read.{AreEvents, Fits}
 
 abbrev pub stage_by : List ExecLine → List QueryLine → Stage
 stage_by statements (query ∷ queries) = Asking
@@ -15,12 +15,13 @@ stage_by [] [] = Creating
 
 -- where a script stands that was read so far
 abbrev pub phase_in : Script → Phase
-phase_in s = record { table = s.table; stage = stage_by s.statements s.queries }
+phase_in s = record { tables = s.schema; stage = stage_by s.statements s.queries }
 
--- the line, of this number, does something, whose events are added
+-- the line, of this number, does something, whose events stand behind those of the lines before
 abbrev pub Adds : ℕ → Script → Line → Script → Type 0
 Adds number old line new =
-    (events : List (ℕ × Event)) × LineDoes (phase_in old) number line events (phase_in new) × (events_of new ≡ events_of old ++ events)
+    (some : List (ℕ × Event)) × LineDoes (phase_in old) number line some (phase_in new)
+    × ((events : List (ℕ × Event)) → AreEvents old events → AreEvents new (events ++ some))
 
 -- the line, of this number, does nothing that is built
 abbrev pub AddsNothing : ℕ → Script → Line → Type 0

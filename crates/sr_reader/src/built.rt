@@ -1,43 +1,58 @@
-//! The tables that are built: two columns of numbers.
-ghost use Rattle.std.specs.Prelude.{◌≡◌, ◌<◌, length};
-ghost use Rattle.sr_language.specs.Built.{is_default, is_numbers, may_stand, name_at, may_create};
+//! The tables and the queries that are built: one table of numbers, of which a query needs all columns.
+ghost use Rattle.std.specs.Prelude.{◌≡◌, ◌≤◌, ◌==◌, ◌&&◌, IsTrue, length};
+ghost use Rattle.std.specs.List.{list_all};
+ghost use Rattle.sr_model.specs.Queries.{Query as TheQuery};
+ghost use Rattle.sr_query.specs.Bound.{is_table, IsQuery};
+ghost use Rattle.sr_language.specs.Built.{is_numbers, may_create, all_columns, may_ask};
 
-use sr_cell::list::Seq;
+use sr_cell::schema::Schema;
 use sr_cell::table::{Column, Kind, Table};
+use sr_query::query::{Part, Query};
 
-/// The ends of the default domain.
-const LOW_DEFAULT: i64 = -1_099_511_627_776;
-
-const HIGH_DEFAULT: i64 = 1_099_511_627_775;
-
-/// Whether a number is in the default domain.
-pub(crate) fn is_default(number: i64) -> bool
-    ensures { result ≡ is_default number }
-{
-    LOW_DEFAULT <= number && number <= HIGH_DEFAULT
-}
-
-/// Whether a column is of numbers, its domain in order and inside the default.
-fn may_stand(column: &Column) -> bool
-    ensures { result ≡ may_stand column.now }
+fn is_numbers(column: &Column) -> bool
+    ensures { result ≡ is_numbers column.now.kind }
 {
     matches!(column.kind, Kind::Num)
-        && is_default(column.lo)
-        && column.lo <= column.hi
-        && is_default(column.hi)
 }
 
-/// Whether a table has two columns of numbers with different names, one of them the key.
+/// Whether each column of a table holds numbers.
 pub(crate) fn may_create(table: &Table) -> bool
     ensures { result ≡ may_create table.now }
 {
-    match table.columns.as_slice() {
-        [first, second] => {
-            table.key < 2
-                && may_stand(first)
-                && may_stand(second)
-                && first.name.as_str() != second.name.as_str()
+    for column in table.columns.as_slice() {
+        if !is_numbers(column) {
+            return false;
         }
+    }
+    true
+}
+
+/// The set of all columns of a table.
+fn all_columns(table: &Table) -> u16
+    requires { length table.now.columns ≤ 12 }
+    ensures { result ≡ all_columns table.now }
+{
+    (1 << table.columns.len()) - 1
+}
+
+/// Whether a part is of the first table, which this is, and needs all its columns.
+fn is_whole(table: &Table, part: &Part) -> bool
+    requires { length table.now.columns ≤ 12 }
+    ensures { result ≡ (part.now.table == 0 && part.now.need == all_columns table.now) }
+{
+    part.table == 0 && part.need.0 == all_columns(table)
+}
+
+/// Whether a query is of the first table alone, and needs all its columns.
+pub(crate) fn may_ask(schema: &Schema, query: &Query) -> bool
+    requires tables { IsTrue (list_all is_table schema.now) }
+    ensures { (meaning : TheQuery) → IsQuery schema.now query.now meaning → result ≡ may_ask schema.now meaning }
+{
+    let Some(table) = schema.get(0) else {
+        return false;
+    };
+    match query.parts.as_slice() {
+        [part] => is_whole(table, part),
         _ => false,
     }
 }

@@ -9,6 +9,5 @@ pub mod lines;
 mod meaning;
 mod rows;
 pub mod script;
-mod selection;
 #[cfg(test)]
 mod tests;

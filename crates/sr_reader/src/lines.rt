@@ -16,13 +16,14 @@ use crate::line::{Line, line_of};
 use crate::script::{Script, ScriptFault};
 use crate::{meaning, script};
 use sr_cell::list::{No, NoMemory, Seq};
+use sr_cell::schema::Schema;
 use std::alloc::Global;
 
-/// Whether neither a table nor a line was read.
+/// Whether neither a table nor an event was read.
 fn is_start(script: &Script) -> bool
     ensures { IsTrue result ↔ (phase_in script.now ≡ start_phase) }
 {
-    script.table.is_none() && script.statements.is_empty() && script.queries.is_empty()
+    script.schema.len() == 0 && script.statements.is_empty() && script.queries.is_empty()
 }
 
 /// Adds the table of a CREATE line; false if the line does nothing that is built.
@@ -35,10 +36,11 @@ fn add_create(alloc: Global, number: u64, sql: &str, script: &mut Script) -> Res
         return Ok(false);
     }
     match meaning::table_of(alloc, sql)? {
-        Some(table) => {
-            script.table = Some(table);
-            Ok(true)
-        }
+        Some(table) => match script.schema.add(alloc, table) {
+            Ok(()) => Ok(true),
+            Err(No::Refused(_)) => Ok(false),
+            Err(No::NoMemory) => Err(NoMemory),
+        },
         None => Ok(false),
     }
 }
@@ -52,7 +54,7 @@ fn add_exec(alloc: Global, number: u64, sql: &str, script: &mut Script) -> Resul
     if !script.queries.is_empty() {
         return Ok(false);
     }
-    match meaning::write_of(alloc, &script.table, sql)? {
+    match meaning::write_of(alloc, &script.schema, sql)? {
         Some(statement) => {
             script
                 .statements
@@ -69,7 +71,7 @@ fn add_query(alloc: Global, number: u64, sql: &str, script: &mut Script) -> Resu
     requires { Fits script.old }
     ensures { IsAdded number script.old (QueryLine sql.now) result script.new }
 {
-    match meaning::query_of(alloc, &script.table, sql)? {
+    match meaning::query_of(alloc, &script.schema, sql)? {
         Some(query) => {
             script.queries.push(script::QueryLine { number, query })?;
             Ok(true)
@@ -110,7 +112,7 @@ fn read_lines(alloc: Global, bytes: &[u8]) -> Result<Walk, NoMemory>
     ensures { IfOk result (IsWalk bytes.now) }
 {
     let mut script = Script {
-        table: None,
+        schema: Schema::new(alloc),
         statements: Seq::new(alloc),
         queries: Seq::new(alloc),
     };

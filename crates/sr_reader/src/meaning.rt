@@ -1,22 +1,23 @@
-//! What a text means to the table of a script.
-ghost use Rattle.std.specs.Prelude.{◌≡◌, Ok, IsTrue, IfOk, IfSome};
-ghost use Rattle.std.specs.Option.{option_to_list};
+//! What a text means to the tables of a script.
+ghost use Rattle.std.specs.Prelude.{◌≡◌, IsTrue, IfOk, IfSome};
 ghost use Rattle.std.specs.List.{list_all};
-ghost use Rattle.sr_language.specs.Built.{may_create, write_of, query_of};
-ghost use Rattle.sr_reader.specs.Read.{write_of as write_seen, query_of as query_seen, rows_fit, selection_fits};
 ghost use Rattle.sr_grammar.specs.Says.{Says};
 ghost use Rattle.sr_grammar.specs.Seen.{statement_seen};
-ghost use Rattle.sr_reader.specs.Meaning.{said_seen, inserting, write_to, selecting, query_to, IsCreated, IsMeaning};
+ghost use Rattle.sr_query.specs.Bound.{is_table};
+ghost use Rattle.sr_language.specs.Built.{write_to};
+ghost use Rattle.sr_reader.specs.Read.{rows_fit};
+ghost use Rattle.sr_reader.specs.Meaning.{said_seen, inserting, IsCreated, IsWritten, IsBound, IsAsking};
 
-use crate::built::may_create;
+use crate::built::{may_ask, may_create};
 use crate::rows::rows_of;
-use crate::script::Selection;
-use crate::selection::selection_of;
+use sr_bind::bind::bind_query;
 use sr_cell::cell::Rows;
 use sr_cell::fault::Fault;
 use sr_cell::list::{No, NoMemory};
+use sr_cell::schema::Schema;
 use sr_cell::table::Table;
 use sr_grammar::statement::Statement;
+use sr_query::query::Query;
 use sr_sql::read::read;
 use std::alloc::Global;
 
@@ -49,31 +50,27 @@ pub(crate) fn table_of(alloc: Global, sql: &str) -> Result<Option<Table>, NoMemo
     }
 }
 
-fn rows_to(
-    alloc: Global,
-    table: &Option<Table>,
-    statement: Statement,
-) -> Result<Option<Rows>, NoMemory>
-    ensures { IfOk result (λ rows. write_to table.now (statement_seen statement) ≡ inserting rows) }
+fn rows_to(alloc: Global, schema: &Schema, statement: Statement) -> Result<Option<Rows>, NoMemory>
+    ensures { IfOk result (λ rows. write_to schema.now (statement_seen statement) ≡ inserting rows) }
 {
-    match table {
+    match schema.get(0) {
         Some(table) => rows_of(alloc, table, statement),
         None => Ok(None),
     }
 }
 
-/// The rows that a text inserts, or why it is refused; None if it means nothing that is built.
+/// The rows that a text inserts, or why it is refused; None if it writes nothing that is built.
 #[tactic(none)]
 pub(crate) fn write_of(
     alloc: Global,
-    table: &Option<Table>,
+    schema: &Schema,
     sql: &str,
 ) -> Result<Option<Result<Rows, Fault>>, NoMemory>
-    ensures means { IfOk result (IsMeaning write_of write_seen table.now sql.now) }
-    ensures fits { IfOk result (λ meant. IfSome meant (λ rows. IsTrue (rows_fit rows))) }
+    ensures written { IfOk result (IsWritten schema.now sql.now) }
+    ensures fits { IfOk result (λ written. IfSome written (λ rows. IsTrue (rows_fit schema.now rows))) }
 {
     match said(alloc, sql)? {
-        Ok(statement) => match rows_to(alloc, table, statement)? {
+        Ok(statement) => match rows_to(alloc, schema, statement)? {
             Some(rows) => Ok(Some(Ok(rows))),
             None => Ok(None),
         },
@@ -81,52 +78,52 @@ pub(crate) fn write_of(
     }
 }
 
-#[tactic(none)]
-fn selection_to(
+/// What a statement asks, or why it asks nothing; None if it asks what is not built.
+fn bound_query(
     alloc: Global,
-    table: &Option<Table>,
+    schema: &Schema,
     statement: &Statement,
-) -> Result<Option<Selection>, NoMemory>
-    requires { IsTrue (list_all may_create (option_to_list table.now)) }
-    ensures means { IfOk result (λ selection. query_to table.now (statement_seen statement.now) ≡ selecting selection) }
-    ensures fits { IfOk result (λ selection. IfSome selection (λ s. IsTrue (selection_fits (Ok s)))) }
+) -> Result<Option<Result<Query, Fault>>, NoMemory>
+    requires tables { IsTrue (list_all is_table schema.now) }
+    ensures { IfOk result (IsBound schema.now (statement_seen statement.now)) }
 {
-    match table {
-        Some(table) => selection_of(alloc, table, statement),
-        None => Ok(None),
+    match bind_query(alloc, schema, statement) {
+        Ok(query) => {
+            if may_ask(schema, &query) {
+                Ok(Some(Ok(query)))
+            } else {
+                Ok(None)
+            }
+        }
+        Err(No::Refused(fault)) => Ok(Some(Err(fault))),
+        Err(No::NoMemory) => Err(NoMemory),
     }
 }
 
-/// As `selection_to`, of a statement that nothing needs any more.
-#[tactic(none)]
-fn selection_said(
+/// As `bound_query`, of a statement that nothing needs any more.
+fn query_said(
     alloc: Global,
-    table: &Option<Table>,
+    schema: &Schema,
     statement: Statement,
-) -> Result<Option<Selection>, NoMemory>
-    requires { IsTrue (list_all may_create (option_to_list table.now)) }
-    ensures means { IfOk result (λ selection. query_to table.now (statement_seen statement) ≡ selecting selection) }
-    ensures fits { IfOk result (λ selection. IfSome selection (λ s. IsTrue (selection_fits (Ok s)))) }
+) -> Result<Option<Result<Query, Fault>>, NoMemory>
+    requires tables { IsTrue (list_all is_table schema.now) }
+    ensures { IfOk result (IsBound schema.now (statement_seen statement)) }
 {
-    selection_to(alloc, table, &statement)
+    bound_query(alloc, schema, &statement)
 }
 
-/// What a text asks, or why it is refused; None if it means nothing that is built.
+/// What a text asks, or why it is refused; None if it asks nothing that is built.
 #[tactic(none)]
 pub(crate) fn query_of(
     alloc: Global,
-    table: &Option<Table>,
+    schema: &Schema,
     sql: &str,
-) -> Result<Option<Result<Selection, Fault>>, NoMemory>
-    requires { IsTrue (list_all may_create (option_to_list table.now)) }
-    ensures means { IfOk result (IsMeaning query_of query_seen table.now sql.now) }
-    ensures fits { IfOk result (λ meant. IfSome meant (λ selection. IsTrue (selection_fits selection))) }
+) -> Result<Option<Result<Query, Fault>>, NoMemory>
+    requires tables { IsTrue (list_all is_table schema.now) }
+    ensures { IfOk result (IsAsking schema.now sql.now) }
 {
     match said(alloc, sql)? {
-        Ok(statement) => match selection_said(alloc, table, statement)? {
-            Some(selection) => Ok(Some(Ok(selection))),
-            None => Ok(None),
-        },
+        Ok(statement) => query_said(alloc, schema, statement),
         Err(fault) => Ok(Some(Err(fault))),
     }
 }

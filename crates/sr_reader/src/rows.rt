@@ -2,7 +2,7 @@
 ghost use Rattle.std.specs.Prelude.{◌≡◌, map, IfOk};
 ghost use Rattle.std.specs.List.{list_all};
 ghost use Rattle.sr_grammar.specs.Seen.{statement_seen};
-ghost use Rattle.sr_language.specs.Built.{is_number, is_pair, cells_of, rows_in, may_insert, write_of};
+ghost use Rattle.sr_language.specs.Built.{is_number, is_full, cells_of, rows_in, may_insert, write_of};
 ghost use Rattle.sr_reader.specs.Meaning.{inserting};
 
 use sr_cell::cell::{Cell, Row, Rows};
@@ -17,35 +17,42 @@ fn is_number(literal: &Literal) -> bool
     matches!(literal.cell, Cell::Num(_))
 }
 
-/// Whether a row has two cells, both of them numbers.
-fn is_pair(row: &LiteralRow) -> bool
-    ensures { result ≡ is_pair (cells_of row.now) }
+fn are_numbers(literals: &[Literal]) -> bool
+    ensures { result ≡ list_all is_number (map (λ l. l.cell) literals.now) }
 {
-    match row.literals.as_slice() {
-        [first, second] => is_number(first) && is_number(second),
-        _ => false,
-    }
-}
-
-/// Whether each row has two cells, both of them numbers.
-fn are_pairs(rows: &[LiteralRow]) -> bool
-    ensures { result ≡ list_all is_pair (map cells_of rows.now) }
-{
-    for row in rows {
-        if !is_pair(row) {
+    for literal in literals {
+        if !is_number(literal) {
             return false;
         }
     }
     true
 }
 
-/// Whether an INSERT is into this table, without a list of columns, and of rows of two numbers.
+/// Whether a row has a number for each column, and no more cells.
+fn is_full(table: &Table, row: &LiteralRow) -> bool
+    ensures { result ≡ is_full table.now (cells_of row.now) }
+{
+    row.literals.len() == table.columns.len() && are_numbers(row.literals.as_slice())
+}
+
+fn are_full(table: &Table, rows: &[LiteralRow]) -> bool
+    ensures { result ≡ list_all (is_full table.now) (map cells_of rows.now) }
+{
+    for row in rows {
+        if !is_full(table, row) {
+            return false;
+        }
+    }
+    true
+}
+
+/// Whether an INSERT is into this table, without a list of columns, and of rows of a number for each column.
 fn may_insert(table: &Table, insert: &Insert) -> bool
     ensures { result ≡ may_insert table.now insert.now }
 {
     insert.table.as_str() == table.name.as_str()
         && insert.columns.is_empty()
-        && are_pairs(insert.rows.as_slice())
+        && are_full(table, insert.rows.as_slice())
 }
 
 /// The cells of a row, moved out of it.

@@ -2,22 +2,8 @@
 use sr_cell::cell::Rows;
 use sr_cell::fault::Fault;
 use sr_cell::list::Seq;
-use sr_cell::table::Table;
-
-/// A range of a column, both ends inside.
-#[derive(Clone, Copy, Debug, PartialEq, Eq)]
-pub struct ColumnRange {
-    pub column: u8,
-    pub low: i64,
-    pub high: i64,
-}
-
-/// What a SELECT asks: the columns that it answers, and its range, if it has one.
-#[derive(Drop)]
-pub struct Selection {
-    pub outputs: Seq<u8>,
-    pub range: Option<ColumnRange>,
-}
+use sr_cell::schema::Schema;
+use sr_query::query::Query;
 
 /// The statement of a line of this number: the rows that it inserts, or why its text is refused.
 #[derive(Drop)]
@@ -30,13 +16,13 @@ pub struct ExecLine {
 #[derive(Drop)]
 pub struct QueryLine {
     pub number: u64,
-    pub query: Result<Selection, Fault>,
+    pub query: Result<Query, Fault>,
 }
 
-/// The table of a script, if it has one, its statements, and after them its queries.
+/// The tables of a script, its statements, and after them its queries.
 #[derive(Drop)]
 pub struct Script {
-    pub table: Option<Table>,
+    pub schema: Schema,
     pub statements: Seq<ExecLine>,
     pub queries: Seq<QueryLine>,
 }

@@ -2,8 +2,9 @@
 ghost use Rattle.std.specs.Prelude.{◌<◌, ◌^◌, length};
 
 use crate::lines::read_script;
-use crate::script::{Script, ScriptFault, Selection};
+use crate::script::{Script, ScriptFault};
 use sr_cell::list::{No, Seq};
+use sr_query::query::Query;
 use std::alloc::{AllocError, Global};
 use std::test::Fail;
 
@@ -12,7 +13,7 @@ const TABLE: &str =
     "CREATE TABLE p (id INT PRIMARY KEY CHECK (id BETWEEN 0 AND 9999), age INT CHECK (age BETWEEN 0 AND 150))\n";
 
 /// Scripts, and what is read of them.
-const WHOLE: [(&str, &str); 16] = [
+const WHOLE: [(&str, &str); 17] = [
     ("", ""),
     ("\n  \n# café\r\n#", ""),
     ("\t", "unbuilt 1"),
@@ -38,8 +39,12 @@ const WHOLE: [(&str, &str); 16] = [
     ),
     ("CREATE TABLE t (a TEXT PRIMARY KEY, b INT)", "unbuilt 1"),
     (
-        "CREATE TABLE t (a INT PRIMARY KEY, b INT, c INT)",
-        "unbuilt 1",
+        "CREATE TABLE t (a INT PRIMARY KEY, b INT, c INT)\nexec INSERT INTO t VALUES (1, 2, 3)",
+        "2 rows 1, ",
+    ),
+    (
+        "CREATE TABLE t (a INT PRIMARY KEY)\nexec INSERT INTO t VALUES (1), (2)",
+        "2 rows 2, ",
     ),
     (
         "CREATE TABLE t (a INT PRIMARY KEY, b INT)\nCREATE TABLE u (a INT PRIMARY KEY, b INT)",
@@ -50,20 +55,10 @@ const WHOLE: [(&str, &str); 16] = [
 ];
 
 /// What follows the CREATE line, and what is read of the whole.
-const AFTER_TABLE: [(&str, &str); 20] = [
+const AFTER_TABLE: [(&str, &str); 14] = [
     (
         "exec insert  into P values(1,035),(2,45);\n\nexec INSERT INTO p VALUES (1, 2, 3",
         "2 rows 2, 4 Grammar 29, ",
-    ),
-    (
-        "query 1 SELECT Id, age, id FROM p WHERE (AGE BETWEEN -5 AND 200);",
-        "2 columns 3 1 -5..200, ",
-    ),
-    ("query 001 SELECT * FROM p", "2 columns 2, "),
-    ("query 01 SELECT * FROM p\r", "2 columns 2, "),
-    (
-        "query 1 SELECT * FROM p\nexec INSERT INTO p VALUES (1, 2)",
-        "unbuilt 3",
     ),
     ("query 1 x\nexec x", "unbuilt 3"),
     ("exec DELETE FROM p", "unbuilt 2"),
@@ -71,29 +66,71 @@ const AFTER_TABLE: [(&str, &str); 20] = [
     ("exec INSERT INTO p (id, age) VALUES (1, 2)", "unbuilt 2"),
     ("exec INSERT INTO p VALUES (1, 2), (3, '4')", "unbuilt 2"),
     ("exec INSERT INTO p VALUES (1, 2, 3)", "unbuilt 2"),
+    ("exec INSERT INTO p VALUES (1)", "unbuilt 2"),
     ("exec INSERT INTO q VALUES (1, 2)", "unbuilt 2"),
     ("exec SELECT * FROM p", "unbuilt 2"),
-    ("query 1 SELECT id FROM p", "unbuilt 2"),
-    ("query 1 SELECT p.id, age FROM p", "unbuilt 2"),
-    (
-        "query 1 SELECT * FROM p WHERE age BETWEEN 1 AND 2 AND id BETWEEN 1 AND 2",
-        "unbuilt 2",
-    ),
-    (
-        "query 1 SELECT * FROM p WHERE age BETWEEN 0 AND 1099511627776",
-        "unbuilt 2",
-    ),
+    ("query 1 SELECT * FROM", "2 Grammar 13, "),
     ("query 2 SELECT * FROM p", "unbuilt 2"),
     ("exec ", "unbuilt 2"),
     ("exec  x", "2 Grammar 1, "),
 ];
 
-fn write_selection(text: &mut String, selection: &Selection) -> Result<(), AllocError> {
-    write!(text, "columns {}", selection.outputs.len())?;
-    match selection.range {
-        Some(range) => write!(text, " {} {}..{}", range.column, range.low, range.high),
-        None => Ok(()),
+/// Queries of the table, and what they ask.
+const QUERIES: [(&str, &str); 16] = [
+    (
+        "query 1 SELECT Id, age, id FROM p WHERE (AGE BETWEEN -5 AND 200);",
+        "2 outputs 3 width 1, ",
+    ),
+    ("query 001 SELECT * FROM p", "2 outputs 2 width 1, "),
+    (
+        "query 01 SELECT p.id, age FROM p\r",
+        "2 outputs 2 width 1, ",
+    ),
+    (
+        "query 1 SELECT id FROM p WHERE age <> 3 OR age = 9",
+        "2 outputs 1 width 3, ",
+    ),
+    ("query 1 SELECT id FROM p", "unbuilt 2"),
+    (
+        "query 1 SELECT * FROM p\nexec INSERT INTO p VALUES (1, 2)",
+        "unbuilt 3",
+    ),
+    (
+        "query 1 SELECT * FROM p\nquery 1 SELECT id FROM p",
+        "unbuilt 3",
+    ),
+    (
+        "query 1 SELECT id FROM p WHERE salary = 3",
+        "2 UnknownColumn 23, ",
+    ),
+    ("query 1 SELECT * FROM q", "2 UnknownTable 14, "),
+    ("query 1 SELECT q.id FROM p", "2 UnknownTable 7, "),
+    (
+        "query 1 SELECT * FROM p WHERE age = '3'",
+        "2 WrongType 28, ",
+    ),
+    (
+        "query 1 SELECT * FROM p WHERE age BETWEEN 0 AND 1099511627776",
+        "2 OutOfDomain 40, ",
+    ),
+    (
+        "query 1 SELECT * FROM p JOIN p ON p.id = p.id",
+        "2 Repeated 21, ",
+    ),
+    ("query 1 DELETE FROM p", "2 NotAQuery 0, "),
+    (
+        "query 1 CREATE TABLE q (a INT PRIMARY KEY)",
+        "2 NotAQuery 0, ",
+    ),
+    ("query 1 SELECT id FROM p WHERE", "2 Grammar 22, "),
+];
+
+fn write_query(text: &mut String, query: &Query) -> Result<(), AllocError> {
+    write!(text, "outputs {}", query.output.len())?;
+    for part in query.parts.as_slice() {
+        write!(text, " width {}", part.width)?;
     }
+    Ok(())
 }
 
 fn write_script(text: &mut String, script: &Script) -> Result<(), AllocError> {
@@ -106,7 +143,7 @@ fn write_script(text: &mut String, script: &Script) -> Result<(), AllocError> {
     for line in script.queries.as_slice() {
         write!(text, "{} ", line.number)?;
         match &line.query {
-            Ok(selection) => write_selection(text, selection)?,
+            Ok(query) => write_query(text, query)?,
             Err(fault) => write!(text, "{:?} {}", fault.why, fault.at)?,
         }
         write!(text, ", ")?;
@@ -158,6 +195,17 @@ fn lines_behind_a_table_are_read(rt: HostRuntime) -> Result<(), Fail> {
         let found = said_behind(rt.alloc(), TABLE, script)?;
         assert_eq!(rt; found.as_str(), wanted, "behind the table, in {script:?}");
     }
+    Ok(())
+}
+
+#[test]
+fn queries_are_bound(rt: HostRuntime) -> Result<(), Fail> {
+    for (script, wanted) in QUERIES {
+        let found = said_behind(rt.alloc(), TABLE, script)?;
+        assert_eq!(rt; found.as_str(), wanted, "behind the table, in {script:?}");
+    }
+    let empty = said_behind(rt.alloc(), "", "query 1 SELECT * FROM p")?;
+    assert_eq!(rt; empty.as_str(), "1 UnknownTable 14, ");
     Ok(())
 }
 

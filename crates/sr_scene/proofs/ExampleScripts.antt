@@ -19,7 +19,7 @@ use Rattle.sr_grammar.specs.Says.{Says, most_levels}
 use Rattle.sr_language.specs.Lines.{lines_of}
 use Rattle.sr_language.specs.Script.{Reads, Line, Silent, CreateLine, LineDoes, Phase, start_phase, is_blank, begins_create, event_line, line_of}
 use Rattle.sr_parser.specs.Reading.{Got}
-use Rattle.sr_parser.specs.Readers.{whole, statement, tree, create, select, insert, column, rules, check, kind, number, filter, listed, join, column_names, column_name, row, literal, reference, between, atom, comparison, conj_of, cond_of, unit}
+use Rattle.sr_parser.specs.Readers.{whole, statement, tree, create, select, insert, column, rules, check, kind, number, filter, listed, column_names, row, literal, reference, between, atom, comparison, conj_of, cond_of, unit}
 use Rattle.sr_parser.proofs.Top.{each_is_exact}
 use Rattle.sr_scene.specs.Example.{script, events, end, people}
 use Rattle.sr_scene.specs.CoveredQuery.{covered_script, covered_query, opening_events}
@@ -117,7 +117,7 @@ shared_says line last said = (
   [],
   _,
   _,
-  does _ _ create_text _ _ refl (people, create_says, refl, refl, refl, refl),
+  does _ _ create_text _ _ refl (people, (create_says, refl), refl, refl, refl, refl),
   (
     _,
     _,
@@ -132,7 +132,7 @@ shared_says line last said = (
         _,
         _,
         _,
-        does _ _ (codes "query 1 SELECT id, age FROM p WHERE age BETWEEN 30 AND 40") _ _ refl (Ok _, (ages_between 30 40, first_says, refl), refl, refl),
+        does _ _ (codes "query 1 SELECT id, age FROM p WHERE age BETWEEN 30 AND 40") _ _ refl (Ok _, (ages_between 30 40, first_says, refl, refl), refl, refl),
         (last ∷ [], [], end, said, (refl, refl), refl),
         refl,
       ),
@@ -146,9 +146,9 @@ shared_says line last said = (
 pub reads : Reads 1 start_phase (lines_of script) events end
 unfolding tokens_from
 reads = shared_says (codes "query 1 SELECT id, age FROM p WHERE age BETWEEN 35 AND 50") _
-    (does _ _ (codes "query 1 SELECT id, age FROM p WHERE age BETWEEN 35 AND 50") _ _ refl (Ok _, (ages_between 35 50, second_says, refl), refl, refl))
+    (does _ _ (codes "query 1 SELECT id, age FROM p WHERE age BETWEEN 35 AND 50") _ _ refl (Ok _, (ages_between 35 50, second_says, refl, refl), refl, refl))
 
 pub covered_reads : Reads 1 start_phase (lines_of covered_script) (opening_events ++ (5, covered_query) ∷ []) end
 unfolding tokens_from
 covered_reads = shared_says (codes "query 1 SELECT id, age FROM p WHERE age BETWEEN 32 AND 35") _
-    (does _ _ (codes "query 1 SELECT id, age FROM p WHERE age BETWEEN 32 AND 35") _ _ refl (Ok _, (ages_between 32 35, covered_says, refl), refl, refl))
+    (does _ _ (codes "query 1 SELECT id, age FROM p WHERE age BETWEEN 32 AND 35") _ _ refl (Ok _, (ages_between 32 35, covered_says, refl, refl), refl, refl))

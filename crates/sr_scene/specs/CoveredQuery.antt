@@ -1,5 +1,5 @@
 -- The worked example with another second query: the first one's answer covers it.
-use Rattle.std.specs.Prelude.{ℕ, true, List, [], ◌∷◌, ◌++◌, Some, None, Ok, codes, map, take}
+use Rattle.std.specs.Prelude.{ℕ, true, List, [], ◌∷◌, Some, None, Ok, codes, map, take}
 use Rattle.sr_message.specs.declared.message.Message.{Message}
 use Rattle.sr_model.specs.Statements.{Tables}
 use Rattle.sr_model.specs.Events.{Event, QueryOf}

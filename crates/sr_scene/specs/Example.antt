@@ -1,12 +1,12 @@
 -- The worked example: a table, two statements and two queries of one client, who asks only the rest for the second.
-use Rattle.std.specs.Prelude.{ℕ, pos, true, false, List, [], ◌∷◌, Some, Ok, codes}
+use Rattle.std.specs.Prelude.{ℕ, pos, true, false, List, [], ◌∷◌, Ok, codes}
 use Rattle.sr_cell.specs.declared.cell.Cell.TheVariants.{Num}
 use Rattle.sr_cell.specs.declared.table.Kind.TheVariants.{Num as Numbers}
 use Rattle.sr_cell.specs.declared.table.Table.{Table}
 use Rattle.sr_cell.specs.Cells.{Row}
 use Rattle.sr_box.specs.declared.span.Span.TheVariants.{Full, Nums}
 use Rattle.sr_box.specs.Points.{Rect}
-use Rattle.sr_model.specs.Conditions.{Tests, Between}
+use Rattle.sr_model.specs.Conditions.{Tests, And, none, more, Between}
 use Rattle.sr_model.specs.Queries.{Part, Query}
 use Rattle.sr_model.specs.Statements.{Insert}
 use Rattle.sr_model.specs.Events.{Event, Exec, QueryOf}
@@ -38,7 +38,7 @@ row id age = Num (pos id) ∷ Num (pos age) ∷ []
 
 -- the people of these ages
 abbrev pub part : ℕ → ℕ → Part
-part low high = record { table = 0; need = 3; condition = Tests 1 (Between (Num (pos low)) (Num (pos high))) }
+part low high = record { table = 0; need = 3; condition = And (more (Tests 1 (Between (Num (pos low)) (Num (pos high)))) none) }
 
 abbrev pub query : ℕ → ℕ → Query
 query low high = record { parts = part low high ∷ []; joins = []; outputs = record { part = 0; column = 0 } ∷ record { part = 0; column = 1 } ∷ [] }
@@ -64,7 +64,7 @@ lines =
 
 -- where the script ends
 abbrev pub end : Phase
-end = record { table = Some people; stage = Asking }
+end = record { tables = people ∷ []; stage = Asking }
 
 -- one client, and no rows yet
 abbrev pub start : Scene

@@ -24,7 +24,7 @@ num_cut-is true n v = grind arith
 num_cut-is false n v = refl
 
 -- a cut of a span of numbers, as a test
-nums-cut : (low high lo hi : ℤ) (v : Cell) → has_cut Numbers low high (Nums lo hi) v ≡ ((int_lt low lo && cell_eq (Num lo) v) || (int_lt hi high && cell_eq (Num (hi +ℤ pos 1)) v))
+pub nums-cut : (low high lo hi : ℤ) (v : Cell) → has_cut Numbers low high (Nums lo hi) v ≡ ((int_lt low lo && cell_eq (Num lo) v) || (int_lt hi high && cell_eq (Num (hi +ℤ pos 1)) v))
 nums-cut low high lo hi v = is_among-append (num_cut (int_lt low lo) lo) (num_cut (int_lt hi high) (hi +ℤ pos 1)) v
     ∙ rw (num_cut-is (int_lt low lo) lo v, num_cut-is (int_lt hi high) (hi +ℤ pos 1) v) refl
 
@@ -48,7 +48,7 @@ strs-maybe_cut low high lo hi v h = go (is_below lo hi) h
     go true k = let e = is_among-append (text_cut lo) (end_cut hi) v in grind (arith, e)
     go false k = absurd (grind arith)
 
-strs-cut : (low high : ℤ) (lo : List ℕ) (hi : Option (List ℕ)) (v : Cell) → has_cut Texts low high (Strs lo hi) v ≡ (is_among (text_cut lo) v || is_among (end_cut hi) v)
+pub strs-cut : (low high : ℤ) (lo : List ℕ) (hi : Option (List ℕ)) (v : Cell) → has_cut Texts low high (Strs lo hi) v ≡ (is_among (text_cut lo) v || is_among (end_cut hi) v)
 strs-cut low high lo hi v = is_among-append (text_cut lo) (end_cut hi) v
 
 text_max-cut : (a c : List ℕ) (v : Cell) → is_among (text_cut (text_max a c)) v ≡ true → (is_among (text_cut a) v || is_among (text_cut c) v) ≡ true

@@ -8,3 +8,8 @@ pub mod Low
 pub mod Within
 pub mod Monotone
 pub mod Domains
+pub mod Meets
+pub mod Once
+pub mod Free
+pub mod Middles
+pub mod Joined

@@ -1,7 +1,13 @@
-//! Lists of rects, and their differences.
+//! Lists of rects: their differences and meets, disjoint and tidy lists, and centres.
 #![tactic(auto)]
 
+pub mod centre;
+pub mod disjoint;
+mod join;
+pub mod laws;
+pub mod meet;
 pub mod minus;
 pub mod rects;
 #[cfg(test)]
 mod tests;
+pub mod tidy;

@@ -9,6 +9,7 @@ ghost use Rattle.sr_box.specs.Cut.{meet, IsInner};
 ghost use Rattle.sr_union.specs.Pieces.{with_front, fronts, with_fronts, cut_here, rect_minus, meet_some, meets, minus_one, minus_each, IsMinus, IsWithin, HasOutside};
 ghost use Rattle.sr_union.specs.Grid.{AreCutFrom, grid, have_first, all_inner};
 
+use crate::join::join_all;
 use crate::rects::Rects;
 use sr_box::rect::Rect;
 use sr_box::span::Span;
@@ -189,7 +190,7 @@ fn cut_each(
 }
 
 /// What is left of the rects without the others.
-fn cut_all(
+pub(crate) fn cut_all(
     alloc: Global,
     columns: &[Column],
     rects: &Rects,
@@ -242,7 +243,11 @@ impl Rects {
         ensures over { (m : ℕ) → IsErrOf result (Refused (record {})) → ((p : Row) → IsTrue (is_point table.now.columns p) → times self.now p ≤ m)
             → limit < m * grid table.now.columns (self.now ++ other.now) }
     {
-        cut_all(alloc, table.columns.as_slice(), self, other, limit as usize)
+        let columns = table.columns.as_slice();
+        match cut_all(alloc, columns, self, other, limit as usize) {
+            Ok(left) => Ok(join_all(alloc, columns, left)?),
+            Err(no) => Err(no),
+        }
     }
 
     /// What is left of the rects without the others.
@@ -254,8 +259,9 @@ impl Rects {
         ensures points { IfOk result (λ left. IsMinus table.now.columns self.now other.now left) }
         ensures cuts { IfOk result (λ left. AreCutFrom table.now.columns (self.now ++ other.now) left) }
     {
-        match cut_all(alloc, table.columns.as_slice(), self, other, usize::MAX) {
-            Ok(left) => Ok(left),
+        let columns = table.columns.as_slice();
+        match cut_all(alloc, columns, self, other, usize::MAX) {
+            Ok(left) => join_all(alloc, columns, left),
             Err(No::NoMemory) => Err(NoMemory),
             Err(No::Refused(_)) => unreachable!(),
         }
@@ -278,7 +284,7 @@ impl Rects {
         ensures over { (m : ℕ) → IsErrOf result (Refused (record {})) → ((p : Row) → IsTrue (is_point table.now.columns p) → times self.now p ≤ m)
             → limit < m * grid table.now.columns (self.now ++ other.now) }
     {
-        match self.minus(alloc, other, table, limit) {
+        match cut_all(alloc, table.columns.as_slice(), self, other, limit as usize) {
             Ok(left) => Ok(left.is_empty()),
             Err(no) => Err(no),
         }

@@ -1,5 +1,5 @@
 //! Lists of rects.
-ghost use Rattle.std.specs.Prelude.{◌≡◌, ℕ, List, [], ◌∷◌, ◌++◌, ◌↔◌, IsTrue, length, OnOk, OnErr, IfOk, slice_get};
+ghost use Rattle.std.specs.Prelude.{◌≡◌, ℕ, ◌<◌, ◌+◌, List, [], ◌∷◌, ◌++◌, ◌↔◌, IsTrue, length, take, drop, OnOk, OnErr, IfOk, slice_get};
 ghost use Rattle.std.specs.Option.{option_copied};
 ghost use Rattle.std.specs.List.{list_all};
 ghost use Rattle.sr_box.specs.Points.{in_any, rect_fits};
@@ -70,6 +70,15 @@ impl Rects {
         ensures { result.now ≡ self.now }
     {
         self.rects.as_slice()
+    }
+
+    /// Takes the rect of that place out.
+    pub(crate) fn remove(&mut self, index: usize) -> Rect
+        requires { index < length self.old }
+        ensures taken { slice_get self.old index ≡ Some result }
+        ensures removed { self.new ≡ take index self.old ++ drop (index + 1) self.old }
+    {
+        self.rects.remove(index)
     }
 
     /// The rects of another list behind these.

@@ -4,7 +4,7 @@ use Rattle.std.specs.Prelude.{filter}
 use Rattle.std.specs.List.{list_all}
 use Rattle.std.proofs.lemmas.Grind.{flat_map-append}
 use Rattle.std.proofs.lemmas.List.{take-append-drop}
-use Rattle.sr_cell.specs.declared.table.Column.{Column}
+use Rattle.sr_cell.specs.declared.table.Table.{Table}
 use Rattle.sr_cell.specs.Cells.{Row}
 use Rattle.sr_cell.specs.Columns.{is_point}
 use Rattle.sr_box.specs.Points.{in_any}
@@ -13,10 +13,11 @@ use Rattle.sr_message.specs.declared.message.Message.{Message}
 use Rattle.sr_message.specs.declared.message.Message.TheVariants.{Ask, Notice, Rows, Reply}
 use Rattle.sr_model.specs.Queries.{rows_at}
 use Rattle.sr_model.specs.Statements.{Tables}
+use Rattle.sr_language.specs.Built.{all_columns}
 use Rattle.sr_scene.specs.Server.{pieces, asked_rows, row_messages}
 use Rattle.sr_world.specs.Client.{brought, arrived}
 use Rattle.sr_world.proofs.Filters.{all-filter}
-use Rattle.sr_world.proofs.TwoColumns.{HasTwo, map-project}
+use Rattle.sr_world.proofs.AllColumns.{map-project}
 
 pub arrived-append : (xs ys : List Message) → arrived (xs ++ ys) ≡ arrived xs ++ arrived ys
 arrived-append xs ys = flat_map-append brought xs ys
@@ -36,10 +37,10 @@ arrived-rows tables number i ask =
     (append-nil _ ∙ arrived-pieces number i (length (asked_rows tables ask)) (asked_rows tables ask) (omega arith))
 
 -- of points, all columns are asked, so the rows are the table's
-pub asked-rows : (columns : List Column) (tables : Tables) (ask : AskPart) → HasTwo columns → ask.table ≡ 0 → ask.attrs ≡ 3 → list_all (is_point columns) (rows_at tables 0) ≡ true
+pub asked-rows : (t : Table) (tables : Tables) (ask : AskPart) → ask.table ≡ 0 → ask.attrs ≡ all_columns t → list_all (is_point t.columns) (rows_at tables 0) ≡ true
     → asked_rows tables ask ≡ filter (in_any ask.rects) (rows_at tables 0)
-asked-rows columns tables ask two table attrs points =
-    rw (table, attrs) (map-project columns (filter (in_any ask.rects) (rows_at tables 0)) two (all-filter (is_point columns) (in_any ask.rects) (rows_at tables 0) points))
+asked-rows t tables ask table attrs points =
+    rw (table, attrs) (map-project t.columns (filter (in_any ask.rects) (rows_at tables 0)) (all-filter (is_point t.columns) (in_any ask.rects) (rows_at tables 0) points))
 
 -- messages of rows for one request
 abbrev pub AllRows : ℕ → List Message → Type 0

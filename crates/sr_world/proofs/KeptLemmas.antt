@@ -1,26 +1,24 @@
 -- A script's events happen to its world, if it has one, and those whose texts are refused change nothing.
-use Rattle.std.proofs.Common.{◌≡◌, true, List, [], ◌∷◌, Option, Some, None, Ok, Err, refl, sym, subst, append-nil}
-use Rattle.std.specs.Prelude.{IsTrue, IfOk, IfSome, OnOk, Result}
-use Rattle.std.specs.List.{list_all}
-use Rattle.std.specs.Option.{option_to_list}
+use Rattle.std.proofs.Common.{◌≡◌, true, List, [], ◌∷◌, Option, Some, None, Ok, Err, refl, sym, ◌∙◌, subst, append-nil}
+use Rattle.std.specs.Prelude.{IfOk, IfSome, OnOk, Result}
 use Rattle.sr_cell.specs.declared.fault.Fault.{Fault}
 use Rattle.sr_cell.specs.declared.table.Table.{Table}
 use Rattle.sr_cell.specs.Cells.{Row}
-use Rattle.sr_language.specs.Built.{may_create, select_of}
+use Rattle.sr_model.specs.Queries as model
 use Rattle.sr_model.specs.Events.{Event, Exec, QueryOf}
-use Rattle.sr_reader.specs.declared.script.Selection.{Selection}
-use Rattle.sr_reader.specs.Read.{write_of, query_of, range_of}
+use Rattle.sr_query.specs.declared.query.Query.{Query}
+use Rattle.sr_reader.specs.Read.{write_of, Means}
 use Rattle.sr_script.specs.declared.line.TraceLine.{TraceLine}
 use Rattle.sr_script.specs.declared.line.TraceLine.TheVariants as line
-use Rattle.sr_scene.specs.Scene.{Scene, new_client}
+use Rattle.sr_scene.specs.Scene.{Scene, new_client, first}
 use Rattle.sr_scene.specs.Steps.{Happens}
 use Rattle.sr_scene.specs.Runs.{Steps}
 use Rattle.sr_world.specs.declared.world.World.{World}
-use Rattle.sr_world.specs.Represents.{Past, IsUnasked, scene_of, client_of}
+use Rattle.sr_world.specs.Bound.{IsMeaning}
+use Rattle.sr_world.specs.Represents.{Past, Represents, IsUnasked, scene_of, client_of}
 use Rattle.sr_world.specs.Worlds.{Stands, DoesStep}
 use Rattle.sr_world.specs.Replay.{start}
-use Rattle.sr_world.specs.Kept.{DoesKept, IsStill}
-use Rattle.sr_world.proofs.Filters.{and_left}
+use Rattle.sr_world.specs.Kept.{DoesKept, IsStill, tables_of}
 use Rattle.sr_world.proofs.StepLemmas.{idle, quiet, no-delivery, does}
 use Rattle.sr_world.proofs.SettleLemmas.{still-stands}
 
@@ -61,21 +59,40 @@ pub refuses-exec : (kept : Option World) (statement : Result (List Row) Fault) (
     → DoesKept (Exec (write_of statement)) kept kept (line.ExecRefused fault ∷ [])
 refuses-exec kept statement fault is still = subst (λ r. DoesKept (Exec (write_of r)) kept kept (line.ExecRefused fault ∷ [])) (sym is) (exec-refused kept fault still)
 
-pub refuses-query : (kept : Option World) (query : Result Selection Fault) (fault : Fault) → query ≡ Err fault → IfSome kept IsStill
-    → DoesKept (QueryOf 1 (query_of query)) kept kept (line.QuerySql 1 fault ∷ [])
-refuses-query kept query fault is still = subst (λ r. DoesKept (QueryOf 1 (query_of r)) kept kept (line.QuerySql 1 fault ∷ [])) (sym is) (query-refused kept fault still)
+pub refuses-query : (tables : List Table) (kept : Option World) (query : Result Query Fault) (meaning : Result model.Query Fault) (fault : Fault) → query ≡ Err fault → Means tables query meaning
+    → IfSome kept IsStill → DoesKept (QueryOf 1 meaning) kept kept (line.QuerySql 1 fault ∷ [])
+refuses-query tables kept query meaning fault is means still = by meaning (subst (λ q. Means tables q meaning) is means)
+  where
+    by : (meaning : Result model.Query Fault) → Means tables (Err fault) meaning → DoesKept (QueryOf 1 meaning) kept kept (line.QuerySql 1 fault ∷ [])
+    by (Ok m) means = absurd means
+    by (Err same) means = subst (λ e. DoesKept (QueryOf 1 (Err e)) kept kept (line.QuerySql 1 fault ∷ [])) means (query-refused kept fault still)
 
-pub asks-query : {E : Type 0} (kept : Option World) (query : Result Selection Fault) (w new : World) (s : Selection) (r : Result (List TraceLine) E) → kept ≡ Some w → query ≡ Ok s
-    → IfOk r (DoesStep (QueryOf 1 (Ok (select_of s.outputs (range_of s.range)))) w new) → IfOk r (DoesKept (QueryOf 1 (query_of query)) kept (Some new))
-asks-query {E} kept query w new s r is asked does =
-    subst (λ kept. IfOk r (DoesKept (QueryOf 1 (query_of query)) kept (Some new))) (sym is) (subst (λ q. IfOk r (DoesKept (QueryOf 1 (query_of q)) (Some w) (Some new))) (sym asked) does)
+-- a query that means something means a query
+pub meant : (tables : List Table) (query : Result Query Fault) (q : Query) (meaning : Result model.Query Fault) → query ≡ Ok q → Means tables query meaning → (m : model.Query) × IsMeaning tables q m × (meaning ≡ Ok m)
+meant tables query q meaning is means = by meaning (subst (λ r. Means tables r meaning) is means)
+  where
+    by : (meaning : Result model.Query Fault) → Means tables (Ok q) meaning → (m : model.Query) × IsMeaning tables q m × (meaning ≡ Ok m)
+    by (Ok m) means = (m, means, refl)
+    by (Err e) means = absurd means
+
+-- it can be asked of the world
+pub asks : (kept : Option World) (query : Result Query Fault) (w : World) (q : Query) → kept ≡ Some w → query ≡ Ok q → (meaning : Result model.Query Fault) × Means (tables_of kept) query meaning
+    → (m : model.Query) × IsMeaning w.schema q m
+asks kept query w q is asked means =
+    let m = meant w.schema query q means.0 asked (subst (λ kept. Means (tables_of kept) query means.0) is means.1) in
+    (m.0, m.1)
+
+pub asks-query : {E : Type 0} (kept : Option World) (query : Result Query Fault) (w new : World) (q : Query) (meaning : Result model.Query Fault) (r : Result (List TraceLine) E) → kept ≡ Some w → query ≡ Ok q
+    → Means (tables_of kept) query meaning → ((m : model.Query) → IsMeaning w.schema q m → IfOk r (DoesStep (QueryOf 1 (Ok m)) w new)) → IfOk r (DoesKept (QueryOf 1 meaning) kept (Some new))
+asks-query {E} kept query w new q meaning r is asked means does =
+    let m = meant w.schema query q meaning asked (subst (λ kept. Means (tables_of kept) query meaning) is means) in
+    subst (λ kept. IfOk r (DoesKept (QueryOf 1 meaning) kept (Some new))) (sym is) (subst (λ e. IfOk r (DoesKept (QueryOf 1 e) (Some w) (Some new))) (sym m.2) (does m.0 m.1))
 
 -- the world after a step stands for a scene
 pub stands-after : {T E : Type 0} (event : Event) (old new : World) (r : Result T E) (lines : T → List TraceLine) → Stands old → IfOk r (λ x. DoesStep event old new (lines x)) → OnOk r (Stands new)
 stands-after {T} {E} event old new (Ok x) lines stands does = still-stands (λ s. Steps s event) old new (lines x) stands does
 stands-after {T} {E} event old new (Err e) lines stands does = tt
 
-pub may_create-some : (table : Option Table) (t : Table) → table ≡ Some t → IsTrue (list_all may_create (option_to_list table)) → IsTrue (may_create t)
-may_create-some table t is all =
-    let one : list_all may_create (t ∷ []) ≡ true = subst (λ some. list_all may_create (option_to_list some) ≡ true) is all in
-    and_left (may_create t) true one
+-- the world of a script's one table is the first of its scenes
+pub kept-first : (tables : List Table) (t : Table) (w : World) → w.schema ≡ tables → w.schema ≡ t ∷ [] → Represents w (first true (t ∷ []) ([] ∷ []) 1) → Represents w (start tables)
+kept-first tables t w same one is = subst (λ ts. Represents w (start ts)) (sym one ∙ same) is

@@ -1,6 +1,6 @@
 -- The difference of rects leaves the points that are not held.
-use Rattle.std.proofs.Common.{◌≡◌, ℕ, ℤ, Bool, true, false, not, ◌&&◌, List, ◌++◌, refl, sym, ◌∙◌, arith, Ok, Err}
-use Rattle.std.specs.Prelude.{IfOk, Result, int_le, int_lt, pos, ◌-ℤ◌, ◌^◌, nat_eq, if◌then◌else◌}
+use Rattle.std.proofs.Common.{◌≡◌, ℕ, ℤ, Bool, true, false, not, ◌&&◌, List, [], ◌∷◌, ◌++◌, refl, sym, ◌∙◌, arith, Ok, Err}
+use Rattle.std.specs.Prelude.{IfOk, Result, int_le, int_lt, pos, negsuc, ◌-ℤ◌, ◌^◌, nat_eq, if◌then◌else◌}
 use Rattle.std.proofs.lemmas.Int.{ints}
 use Rattle.sr_cell.specs.declared.table.Column.{Column}
 use Rattle.sr_cell.specs.declared.table.Table.{Table}
@@ -11,27 +11,29 @@ use Rattle.sr_union.specs.Pieces.{IsMinus}
 use Rattle.sr_union.specs.Grid.{AreCutFrom, have_first, all_inner, is_inner}
 use Rattle.sr_union.proofs.Parts.{are_fit}
 use Rattle.sr_union.proofs.Times.{in_any-times}
-use Rattle.sr_language.specs.Built.{is_default}
 use Rattle.sr_world.specs.Bound.{IsLeft}
-use Rattle.sr_world.proofs.TwoColumns.{IsNumbers, HasTwo}
+use Rattle.sr_world.proofs.Columns.{IsNumbers, AreNumbers}
 
-inner_bounds : (lo hi : ℤ) → is_default lo ≡ true → is_default hi ≡ true → (int_lt (pos 0 -ℤ pos (2 ^ 62)) lo && int_lt hi (pos (2 ^ 62))) ≡ true
-inner_bounds lo hi h k = grind (arith, ints)
+inner_bounds : (lo hi : ℤ) → (int_le lo hi && (int_le (negsuc 1099511627775) lo && int_le hi (pos 1099511627775))) ≡ true
+    → (int_lt (pos 0 -ℤ pos (2 ^ 62)) lo && int_lt hi (pos (2 ^ 62))) ≡ true
+inner_bounds lo hi h = grind (arith, ints)
 
 inner_one : (c : Column) → IsNumbers c → is_inner c ≡ true
-inner_one c h = rw h.kind (inner_bounds c.lo c.hi h.low h.high)
+inner_one c h = rw h.kind (inner_bounds c.lo c.hi h.domain)
 
-first_bounds : (lo hi : ℤ) → int_le lo hi ≡ true → (int_le lo lo && int_le lo hi) ≡ true
+first_bounds : (lo hi : ℤ) → (int_le lo hi && (int_le (negsuc 1099511627775) lo && int_le hi (pos 1099511627775))) ≡ true → (int_le lo lo && int_le lo hi) ≡ true
 first_bounds lo hi h = grind (arith, ints)
 
 first_one : (c : Column) → IsNumbers c → in_column c (first_value c.kind c.lo) ≡ true
-first_one c h = rw h.kind (first_bounds c.lo c.hi h.order)
+first_one c h = rw h.kind (first_bounds c.lo c.hi h.domain)
 
-pub all-inner : (columns : List Column) → HasTwo columns → all_inner columns ≡ true
-all-inner columns h = rw h.are (rw (inner_one h.one h.first, inner_one h.two h.second) refl)
+pub all-inner : (columns : List Column) → AreNumbers columns → all_inner columns ≡ true
+all-inner [] h = refl
+all-inner (c ∷ columns) h = rw (inner_one c h.0, all-inner columns h.1) refl
 
-pub have-first : (columns : List Column) → HasTwo columns → have_first columns ≡ true
-have-first columns h = rw h.are (rw (first_one h.one h.first, first_one h.two h.second) refl)
+pub have-first : (columns : List Column) → AreNumbers columns → have_first columns ≡ true
+have-first [] h = refl
+have-first (c ∷ columns) h = rw (first_one c h.0, have-first columns h.1) refl
 
 left_point : (held : Bool) (left rects : ℕ) (inside : Bool) → left ≡ (if held then 0 else rects) → inside ≡ not (nat_eq rects 0) → not (nat_eq left 0) ≡ (inside && not held)
 left_point true left rects true is has = rw is refl

@@ -1,5 +1,6 @@
 pub mod Filters
-pub mod TwoColumns
+pub mod Columns
+pub mod AllColumns
 pub mod BoundLemmas
 pub mod Coverage
 pub mod RestLemmas
@@ -15,5 +16,6 @@ pub mod TakeLemmas
 pub mod ReplyLemmas
 pub mod SettleLemmas
 pub mod KeptLemmas
+pub mod Joins
 pub mod RunLemmas
 pub mod ReplayLemmas

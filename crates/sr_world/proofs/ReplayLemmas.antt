@@ -1,16 +1,17 @@
 -- From runs of some events to the trace of a script.
 use Rattle.std.proofs.Common.{◌≡◌, ℕ, Bool, true, List, [], ◌∷◌, ◌++◌, length, map, Option, Some, None, Ok, Err, refl, subst, sym, ◌∙◌, ap, append_assoc, append-nil, arith}
 use Rattle.std.specs.Prelude.{IsTrue, IfOk, Result}
-use Rattle.std.specs.List.{list_all}
-use Rattle.std.specs.Option.{option_to_list}
+use Rattle.std.specs.List.{list_all, AllZip, AllByRecursion}
 use Rattle.std.proofs.Math.Seq.{take-length}
 use Rattle.std.proofs.lemmas.List.{map-append}
 use Rattle.std.specs.Io.KnownBytes.{Appends}
 use Rattle.sr_cell.specs.declared.table.Table.{Table}
-use Rattle.sr_model.specs.Events.{Event}
-use Rattle.sr_language.specs.Script.{schema_of}
+use Rattle.sr_cell.specs.declared.fault.Fault.{Fault}
+use Rattle.sr_model.specs.Queries as model
+use Rattle.sr_model.specs.Events.{Event, QueryOf}
+use Rattle.sr_reader.specs.declared.script.QueryLine.{QueryLine}
 use Rattle.sr_reader.specs.declared.script.Script.{Script}
-use Rattle.sr_reader.specs.Read.{IsRead, events_of}
+use Rattle.sr_reader.specs.Read.{IsRead, AreEvents, IsAsked, Means, exec_event}
 use Rattle.sr_script.specs.declared.line.TraceLine.{TraceLine}
 use Rattle.sr_script.specs.TraceText.{trace_text}
 use Rattle.sr_scene.specs.Scene.{Scene}
@@ -18,10 +19,10 @@ use Rattle.sr_scene.specs.Runs.{numbered}
 use Rattle.sr_io.specs.Pieces.{WritesPrefix}
 use Rattle.sr_world.specs.declared.world.World.{World}
 use Rattle.sr_world.specs.Kept.{DoesKept}
-use Rattle.sr_world.specs.Replay.{start, IsKept, Trace, WrotePart}
+use Rattle.sr_world.specs.Replay.{start, IsKept, Trace, Wrote, WrotePart}
 use Rattle.sr_world.specs.Ran.{Ran, RanWhole, RanPart, Traced, TracedWhole, TracedPart}
 use Rattle.sr_world.proofs.Filters.{and_right}
-use Rattle.sr_world.proofs.RunLemmas.{Ran-none, Ran-one, RanWhole-append, RanPart-behind}
+use Rattle.sr_world.proofs.RunLemmas.{Ran-none, Ran-one, RanWhole-append, RanPart-before, RanPart-behind}
 
 pub Appends-none : (known : Option (List ℕ)) → Appends known known []
 Appends-none None = tt
@@ -82,6 +83,106 @@ pub ran-text : {T E : Type 0} (bytes : T → List ℕ) (r : Result T E) (schema 
 ran-text {T} {E} bytes (Ok text) schema event old new lines does is = Ran-one schema event old new lines (bytes text) does is
 ran-text {T} {E} bytes (Err e) schema event old new lines does is = tt
 
+-- the meaning of a line that stands for an event
+pub asked-meaning : (tables : List Table) (line : QueryLine) → (event : ℕ × Event) × IsAsked tables line event → (meaning : Result model.Query Fault) × Means tables line.query meaning
+asked-meaning tables line asked = (asked.1.0, asked.1.1)
+
+pub ran-query : {T E : Type 0} (bytes : T → List ℕ) (r : Result T E) (schema tables : List Table) (line : QueryLine) (event : ℕ × Event) (old new : Option World) (lines : List TraceLine)
+    → IsAsked tables line event → ((meaning : Result model.Query Fault) → Means tables line.query meaning → DoesKept (QueryOf 1 meaning) old new lines)
+    → IfOk r (λ text. bytes text ≡ trace_text schema (numbered line.number lines)) → IfOk r (λ text. Ran schema (event ∷ []) old new (bytes text))
+ran-query {T} {E} bytes r schema tables line event old new lines asked does is =
+    subst (λ event. IfOk r (λ text. Ran schema (event ∷ []) old new (bytes text))) (sym asked.2)
+    (ran-text bytes r schema (line.number, QueryOf 1 asked.0) old new lines (does asked.0 asked.1) is)
+
+-- ---- queries, each with the event that it stands for
+
+-- the first events ran, and the lines that are left stand for the others
+pub record RanSome (schema : List Table) (left : List QueryLine) (asked : List (ℕ × Event)) (old new : Option World) (before after : Option (List ℕ)) : Type 0 where
+  pub done : List (ℕ × Event)
+  pub rest : List (ℕ × Event)
+  pub split : asked ≡ done ++ rest
+  pub zip : AllZip (IsAsked schema) left rest
+  pub ran : RanWhole schema done old new before after
+
+pub RanSome-none : (schema : List Table) (lines left : List QueryLine) (asked : List (ℕ × Event)) (w : Option World) (known : Option (List ℕ))
+    → left ≡ lines → AllZip (IsAsked schema) lines asked → RanSome schema left asked w w known known
+RanSome-none schema lines left asked w known all zip = record {
+  done = [];
+  rest = asked;
+  split = refl;
+  zip = subst (λ ls. AllZip (IsAsked schema) ls asked) (sym all) zip;
+  ran = RanWhole-none schema w known;
+}
+
+pub RanSome-all : (schema : List Table) (left : List QueryLine) (asked : List (ℕ × Event)) (old new : Option World) (before after : Option (List ℕ))
+    → left ≡ [] → RanSome schema left asked old new before after → RanWhole schema asked old new before after
+RanSome-all schema left asked old new before after none some =
+    by some.rest some.split (subst (λ ls. AllZip (IsAsked schema) ls some.rest) none some.zip)
+  where
+    by : (rest : List (ℕ × Event)) → asked ≡ some.done ++ rest → AllZip (IsAsked schema) [] rest → RanWhole schema asked old new before after
+    by [] split zip = subst (λ events. RanWhole schema events old new before after) (sym (split ∙ append-nil some.done)) some.ran
+    by (event ∷ rest) split zip = absurd zip
+
+pub RanSome-part : (schema : List Table) (left : List QueryLine) (asked : List (ℕ × Event)) (old new : Option World) (before after : Option (List ℕ))
+    → RanSome schema left asked old new before after → RanPart schema asked old before after
+RanSome-part schema left asked old new before after some = RanPart-whole schema some.done some.rest asked old new before after some.ran some.split
+
+-- the event of the next line, and those of the lines behind it
+pub record Next (schema : List Table) (line : QueryLine) (later : List QueryLine) (rest : List (ℕ × Event)) : Type 0 where
+  pub event : ℕ × Event
+  pub others : List (ℕ × Event)
+  pub is : rest ≡ event ∷ others
+  pub asked : IsAsked schema line event
+  pub zip : AllZip (IsAsked schema) later others
+
+pub next-event : (schema : List Table) (left : List QueryLine) (line : QueryLine) (later : List QueryLine) (rest : List (ℕ × Event))
+    → left ≡ line ∷ later → AllZip (IsAsked schema) left rest → Next schema line later rest
+next-event schema left line later rest turn zip = by rest (subst (λ ls. AllZip (IsAsked schema) ls rest) turn zip)
+  where
+    by : (rest : List (ℕ × Event)) → AllZip (IsAsked schema) (line ∷ later) rest → Next schema line later rest
+    by [] zip = absurd zip
+    by (event ∷ others) zip = record { event = event; others = others; is = refl; asked = zip.0; zip = zip.1 }
+
+-- its text was written in part
+pub RanSome-more : (schema : List Table) (left : List QueryLine) (line : QueryLine) (later : List QueryLine) (asked : List (ℕ × Event)) (old mid new : Option World) (first at last : Option (List ℕ)) (text : List ℕ)
+    → left ≡ line ∷ later → RanSome schema left asked old mid first at → ((event : ℕ × Event) → IsAsked schema line event → Ran schema (event ∷ []) mid new text)
+    → WritesPrefix at last text → RanPart schema asked old first last
+RanSome-more schema left line later asked old mid new first at last text turn some ran written =
+    let next = next-event schema left line later some.rest turn some.zip in
+    RanPart-more schema some.done next.event next.others asked old mid new first at last text some.ran (ran next.event next.asked) written (some.split ∙ ap (λ rest. some.done ++ rest) next.is)
+
+-- its text was written
+pub RanSome-next : (schema : List Table) (left : List QueryLine) (line : QueryLine) (later : List QueryLine) (asked : List (ℕ × Event)) (old mid new : Option World) (first at last : Option (List ℕ)) (text : List ℕ)
+    → left ≡ line ∷ later → RanSome schema left asked old mid first at → ((event : ℕ × Event) → IsAsked schema line event → Ran schema (event ∷ []) mid new text)
+    → Appends at last text → RanSome schema later asked old new first last
+RanSome-next schema left line later asked old mid new first at last text turn some ran written =
+    let next = next-event schema left line later some.rest turn some.zip in
+    let one : RanWhole schema (next.event ∷ []) mid new at last = record { trace = text; ran = ran next.event next.asked; written = written } in
+    record {
+      done = some.done ++ next.event ∷ [];
+      rest = next.others;
+      split = some.split ∙ (ap (λ rest. some.done ++ rest) next.is ∙ sym (append_assoc some.done (next.event ∷ []) next.others));
+      zip = next.zip;
+      ran = RanWhole-append some.ran one;
+    }
+
+-- the next line stands for some event
+pub next-asked : (schema tables : List Table) (lines left : List QueryLine) (line : QueryLine) (later : List QueryLine) (old mid : Option World) (first at : Option (List ℕ))
+    → tables ≡ schema → left ≡ line ∷ later → (asked : List (ℕ × Event)) × AllZip (IsAsked schema) lines asked
+    → ((asked : List (ℕ × Event)) → AllZip (IsAsked schema) lines asked → RanSome schema left asked old mid first at) → (event : ℕ × Event) × IsAsked tables line event
+next-asked schema tables lines left line later old mid first at same turn some ran =
+    let run = ran some.0 some.1 in
+    let next = next-event schema left line later run.rest turn run.zip in
+    (next.event, subst (λ ts. IsAsked ts line next.event) (sym same) next.asked)
+
+pub all-later : {X : Type 0} (P : X → Type 0) (x : X) (rest now : List X) → AllByRecursion P now → now ≡ x ∷ rest → AllByRecursion P rest
+all-later {X} P x rest now all is = let whole : AllByRecursion P (x ∷ rest) = subst (AllByRecursion P) is all in whole.1
+
+pub all-first : {X : Type 0} (P : X → Type 0) (x : X) (rest now : List X) → AllByRecursion P now → now ≡ x ∷ rest → P x
+all-first {X} P x rest now all is = let whole : AllByRecursion P (x ∷ rest) = subst (AllByRecursion P) is all in whole.0
+
+-- ---- the trace of a script
+
 pub TracedPart-none : (schema : List Table) (events : List (ℕ × Event)) (known : Option (List ℕ)) → TracedPart schema events known known
 TracedPart-none schema events known = record {
   done = [];
@@ -93,41 +194,65 @@ TracedPart-none schema events known = record {
   written = WritesPrefix-whole known known [] (Appends-none known);
 }
 
-pub TracedPart-from : (schema known : List Table) (events : List (ℕ × Event)) (world : Option World) (first last : Option (List ℕ))
-    → IsKept world (start schema) → known ≡ schema → RanPart known events world first last → TracedPart schema events first last
+TracedPart-from : (schema known : List Table) (events : List (ℕ × Event)) (world : Option World) (first last : Option (List ℕ))
+    → IsKept world (start known) → known ≡ schema → RanPart known events world first last → TracedPart schema events first last
 TracedPart-from schema known events world first last rep same p =
-    let q : RanPart schema events world first last = subst (λ s. RanPart s events world first last) same p in
-    let d = q.ran.run (start schema) rep in
-    record {
-      done = q.done;
-      left = q.left;
-      split = q.split;
-      trace = q.trace;
+    let d = p.ran.run (start known) rep in
+    subst (λ ts. TracedPart ts events first last) same (record {
+      done = p.done;
+      left = p.left;
+      split = p.split;
+      trace = p.trace;
       last = d.0;
-      traced = record { lines = q.ran.lines; run = d.1; text = q.ran.text };
-      written = q.written;
-    }
+      traced = record { lines = p.ran.lines; run = d.1; text = p.ran.text };
+      written = p.written;
+    })
 
-pub TracedWhole-from : (schema known : List Table) (events : List (ℕ × Event)) (world new : Option World) (first last : Option (List ℕ))
-    → IsKept world (start schema) → known ≡ schema → RanWhole known events world new first last → TracedWhole schema events new first last
+TracedWhole-from : (schema known : List Table) (events : List (ℕ × Event)) (world new : Option World) (first last : Option (List ℕ))
+    → IsKept world (start known) → known ≡ schema → RanWhole known events world new first last → TracedWhole schema events new first last
 TracedWhole-from schema known events world new first last rep same p =
-    let q : RanWhole schema events world new first last = subst (λ s. RanWhole s events world new first last) same p in
-    let d = q.ran.run (start schema) rep in
-    record {
-      trace = q.trace;
+    let d = p.ran.run (start known) rep in
+    subst (λ ts. TracedWhole ts events new first last) same (record {
+      trace = p.trace;
       last = d.0;
-      traced = record { lines = q.ran.lines; run = d.1; text = q.ran.text };
+      traced = record { lines = p.ran.lines; run = d.1; text = p.ran.text };
       stands = d.2;
-      written = q.written;
-    }
+      written = p.written;
+    })
+
+-- its statements ran in part
+pub traced-statements : (s : Script) (known : List Table) (events : List (ℕ × Event)) (world : Option World) (first last : Option (List ℕ))
+    → AreEvents s events → known ≡ s.schema → IsKept world (start known) → RanPart known (map exec_event s.statements) world first last → TracedPart s.schema events first last
+traced-statements s known events world first last are same kept p =
+    TracedPart-from s.schema known events world first last kept same
+    (subst (λ all. RanPart known all world first last) (sym are.all) (RanPart-before known (map exec_event s.statements) are.asked world first last p))
+
+-- the queries of the script, over the same tables
+pub asked-of : (s : Script) (known : List Table) (events : List (ℕ × Event)) (are : AreEvents s events) → known ≡ s.schema → AllZip (IsAsked known) s.queries are.asked
+asked-of s known events are same = subst (λ ts. AllZip (IsAsked ts) s.queries are.asked) (sym same) are.queries
+
+-- its queries ran in part
+pub traced-queries : (s : Script) (known : List Table) (events : List (ℕ × Event)) (world mid : Option World) (first at last : Option (List ℕ))
+    → AreEvents s events → known ≡ s.schema → IsKept world (start known) → RanWhole known (map exec_event s.statements) world mid first at
+    → ((asked : List (ℕ × Event)) → AllZip (IsAsked known) s.queries asked → RanPart known asked mid at last) → TracedPart s.schema events first last
+traced-queries s known events world mid first at last are same kept p q =
+    TracedPart-from s.schema known events world first last kept same (RanPart-behind p (q are.asked (asked-of s known events are same)) are.all)
+
+-- all of it ran
+pub traced-whole : (s : Script) (known : List Table) (events : List (ℕ × Event)) (world mid new : Option World) (first at last : Option (List ℕ))
+    → AreEvents s events → known ≡ s.schema → IsKept world (start known) → RanWhole known (map exec_event s.statements) world mid first at
+    → ((asked : List (ℕ × Event)) → AllZip (IsAsked known) s.queries asked → RanWhole known asked mid new at last) → TracedWhole s.schema events new first last
+traced-whole s known events world mid new first at last are same kept p q =
+    TracedWhole-from s.schema known events world new first last kept same
+    (subst (λ all. RanWhole known all world new first last) (sym are.all) (RanWhole-append p (q are.asked (asked-of s known events are same))))
 
 -- the trace of a script that was read
-pub Trace-of : (bytes : List ℕ) (s : Script) (done left : List (ℕ × Event)) (trace : List ℕ) (last : Scene) → IsRead bytes s → events_of s ≡ done ++ left
-    → Traced (option_to_list s.table) done trace last → Trace bytes left trace last
-Trace-of bytes s done left trace last read split traced =
-    let same : Traced (schema_of read.end) done trace last = subst (λ table. Traced (option_to_list table) done trace last) (sym read.table) traced in
+Trace-of : (bytes : List ℕ) (s : Script) (read : IsRead bytes s) (done left : List (ℕ × Event)) (trace : List ℕ) (last : Scene) → read.events ≡ done ++ left
+    → Traced s.schema done trace last → Trace bytes left trace last
+Trace-of bytes s read done left trace last split traced =
+    let same : Traced read.end.tables done trace last = subst (λ tables. Traced tables done trace last) (sym read.tables) traced in
     record {
-      all = events_of s;
+      all = read.events;
       end = read.end;
       reads = read.reads;
       done = done;
@@ -137,11 +262,26 @@ Trace-of bytes s done left trace last read split traced =
       text = same.text;
     }
 
-pub WrotePart-of : (bytes : List ℕ) (s : Script) (first last : Option (List ℕ)) → IsRead bytes s → TracedPart (option_to_list s.table) (events_of s) first last → WrotePart first last bytes
-WrotePart-of bytes s first last read p = record {
-  left = p.left;
-  trace = p.trace;
-  last = p.last;
-  traced = Trace-of bytes s p.done p.left p.trace p.last read p.split p.traced;
-  written = p.written;
-}
+pub WrotePart-of : (bytes : List ℕ) (s : Script) (first last : Option (List ℕ)) → IsRead bytes s → ((events : List (ℕ × Event)) → AreEvents s events → TracedPart s.schema events first last)
+    → WrotePart first last bytes
+WrotePart-of bytes s first last read traced =
+    let p = traced read.events read.are in
+    record {
+      left = p.left;
+      trace = p.trace;
+      last = p.last;
+      traced = Trace-of bytes s read p.done p.left p.trace p.last p.split p.traced;
+      written = p.written;
+    }
+
+pub Wrote-of : (bytes : List ℕ) (s : Script) (kept : Option World) (first last : Option (List ℕ)) → IsRead bytes s
+    → ((events : List (ℕ × Event)) → AreEvents s events → TracedWhole s.schema events kept first last) → Wrote first last bytes kept
+Wrote-of bytes s kept first last read traced =
+    let p = traced read.events read.are in
+    record {
+      trace = p.trace;
+      last = p.last;
+      traced = Trace-of bytes s read read.events [] p.trace p.last (sym (append-nil read.events)) p.traced;
+      stands = p.stands;
+      written = p.written;
+    }

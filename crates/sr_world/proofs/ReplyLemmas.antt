@@ -17,7 +17,7 @@ use Rattle.sr_model.specs.Queries.{rows_at, rows_of}
 use Rattle.sr_model.specs.Changes.{version_at}
 use Rattle.sr_model.specs.SortedRows.{ascend, with_rows}
 use Rattle.sr_history.specs.Marks.{Held, is_held}
-use Rattle.sr_reader.specs.Read.{range_of}
+use Rattle.sr_language.specs.Built.{all_columns}
 use Rattle.sr_rows.proofs.Parts.{ascend-filter, with_rows-filters}
 use Rattle.sr_script.specs.declared.line.TraceLine.{TraceLine}
 use Rattle.sr_script.specs.declared.line.TraceLine.TheVariants as line
@@ -29,13 +29,11 @@ use Rattle.sr_scene.specs.Runs.{Delivers}
 use Rattle.sr_world.specs.declared.world.World.{World}
 use Rattle.sr_world.specs.declared.client.AskOut as code
 use Rattle.sr_world.specs.declared.client.Client.{Client}
-use Rattle.sr_world.specs.Bound.{meaning_of}
-use Rattle.sr_world.specs.Client.{cells_of, arrived, reply_version, rects_of, held_line, after_reply, lines_of_reply}
+use Rattle.sr_world.specs.Client.{answer_from, arrived, reply_version, rects_of, held_line, after_reply, lines_of_reply}
 use Rattle.sr_world.specs.Worlds.{Stands, DoesDelivery}
 use Rattle.sr_world.specs.Represents.{Past, Facts, Represents, IsOut, request_of, scene_of, client_of}
-use Rattle.sr_world.proofs.TwoColumns.{two_columns}
 use Rattle.sr_world.proofs.Arrivals.{AllRows, arrived-rows, asked-rows}
-use Rattle.sr_world.proofs.AnswerLemmas.{answer-is, covers-after, held-after, apart, filter-both}
+use Rattle.sr_world.proofs.AnswerLemmas.{answer-of, covers-after, held-after, apart, filter-both}
 use Rattle.sr_world.proofs.StepLemmas.{does, none-held}
 use Rattle.sr_world.proofs.TakeLemmas.{IsComing, is-coming, only-rows, delivers}
 
@@ -53,7 +51,7 @@ all-came t w past o is_out f rows =
     let points : list_all (is_point t.columns) (rows_at w.server.tables 0) ≡ true = subst (λ ts. list_all (is_point t.columns) (rows_at ts 0) ≡ true) f.newest (f.points w.server.version) in
     record {
       asked = ap rects_of is_out.parts ∙ append-nil ask.rects;
-      came = ap arrived laid ∙ (arrived-rows w.server.tables o.number 0 ask ∙ (asked-rows t.columns w.server.tables ask (two_columns t f.table) is_out.rest.table is_out.attrs points
+      came = ap arrived laid ∙ (arrived-rows w.server.tables o.number 0 ask ∙ (asked-rows t w.server.tables ask is_out.rest.table is_out.attrs points
           ∙ ap (λ rows. filter (in_any ask.rects) rows) at));
     }
 
@@ -74,9 +72,9 @@ with_reply w key o version queue = record w { client = after_reply key o version
 record IsKept (t : Table) (w : World) (past : Past) (o : code.AskOut) (ask : AskPart) (f : Facts t w past) : Type 0 where
   held : w.client.held ++ rects_of o.parts ≡ w.client.held ++ ask.rects
   fits : IsTrue (list_all (rect_fits t.columns) (w.client.held ++ ask.rects))
-  same : AreSame t.columns (in_any (w.client.held ++ ask.rects)) (is_held (Held 0 3 ask.rects ∷ past.marks) 0 3)
+  same : AreSame t.columns (in_any (w.client.held ++ ask.rects)) (is_held (Held 0 (all_columns t) ask.rects ∷ past.marks) 0 (all_columns t))
   rows : with_rows t.key w.client.rows (arrived w.client.laid) ≡ filter (in_any (w.client.held ++ ask.rects)) f.rows
-  answer : map (cells_of o.query.outputs) (filter (in_any o.query.rects) (filter (in_any (w.client.held ++ ask.rects)) f.rows)) ≡ rows_of (meaning_of o.query) (version_at past.versions w.server.version)
+  answer : answer_from o.query (filter (in_any (w.client.held ++ ask.rects)) f.rows) ≡ rows_of past.meaning (version_at past.versions w.server.version)
 
 is-kept : (t : Table) (w : World) (past : Past) (o : code.AskOut) (is_out : IsOut t w past o) (f : Facts t w past) → row_messages w.server.tables o.number 0 o.parts ≡ w.client.laid ++ []
     → IsKept t w past o is_out.ask f
@@ -85,38 +83,37 @@ is-kept t w past o is_out f rows =
     let all = all-came t w past o is_out f rows in
     let newest : rows_at (version_at past.versions w.server.version) 0 ≡ f.rows = ap (λ ts. rows_at ts 0) (f.newest ∙ f.tables) in
     let points : list_all (is_point t.columns) f.rows ≡ true = subst (λ rows. list_all (is_point t.columns) rows ≡ true) newest (f.points w.server.version) in
-    let free = apart t.columns past.marks (range_of o.query.range) w.client.held rects f.rows f.marks f.held is_out.rest.same points in
-    let covers = covers-after t.columns past.marks (range_of o.query.range) w.client.held rects f.marks f.held is_out.rest.same in
+    let free = apart t past.marks is_out.bound.condition w.client.held rects f.rows f.marks f.held is_out.rest.same points in
+    let covers = covers-after t past.marks is_out.bound.condition w.client.held rects f.marks f.held is_out.rest.same in
     record {
       held = ap (λ more. w.client.held ++ more) all.asked;
       fits = list_all-append (rect_fits t.columns) w.client.held rects ∙ rw (f.held_fit, is_out.rest.fits) refl;
-      same = held-after t.columns past.marks w.client.held rects f.held;
+      same = held-after t past.marks w.client.held rects f.held;
       rows = ap (λ rows. with_rows t.key rows (arrived w.client.laid)) (kept-now t w past f)
           ∙ (ap (λ more. with_rows t.key (filter (in_any w.client.held) f.rows) more) all.came
           ∙ (with_rows-filters t.key (in_any w.client.held) (in_any rects) f.rows f.ascending free ∙ filter-both w.client.held rects f.rows));
-      answer = ap (λ rows. map (cells_of o.query.outputs) (filter (in_any o.query.rects) (filter (in_any (w.client.held ++ rects)) rows))) (sym newest)
-          ∙ answer-is t.columns o.query.outputs (range_of o.query.range) o.query.rects (w.client.held ++ rects) (version_at past.versions w.server.version) is_out.bound.same covers (f.points w.server.version);
+      answer = ap (λ rows. answer_from o.query (filter (in_any (w.client.held ++ rects)) rows)) (sym newest)
+          ∙ answer-of t o.query past.meaning is_out.bound (w.client.held ++ rects) (version_at past.versions w.server.version) covers (f.points w.server.version);
     }
 
 -- the lines of the reply are those of the answer
 lines-are : (t : Table) (w : World) (past : Past) (o : code.AskOut) (is_out : IsOut t w past o) (f : Facts t w past) (client : Client)
     → client.version ≡ w.server.version → client.rows ≡ filter (in_any (w.client.held ++ is_out.ask.rects)) f.rows → IsKept t w past o is_out.ask f
-    → lines_of_reply o client ≡ answer_lines (scene_of w past) 1 o.query_number (meaning_of o.query) w.server.version ++ (map (mark_line 1) (Held 0 3 is_out.ask.rects ∷ []) ++ line.ClientAnswered 1 ∷ [])
+    → lines_of_reply o client ≡ answer_lines (scene_of w past) 1 o.query_number past.meaning w.server.version ++ (map (mark_line 1) (Held 0 (all_columns t) is_out.ask.rects ∷ []) ++ line.ClientAnswered 1 ∷ [])
 lines-are t w past o is_out f client version rows kept =
     let lines : ℕ → List Row → List TraceLine → List TraceLine = λ v answer held.
     (line.Answer 1 o.query_number v (length answer) ∷ map line.Row answer) ++ (held ++ line.ClientAnswered 1 ∷ []) in
-    let answer : map (cells_of o.query.outputs) (filter (in_any o.query.rects) client.rows) ≡ rows_of (meaning_of o.query) (version_at past.versions w.server.version) =
-    ap (λ rows. map (cells_of o.query.outputs) (filter (in_any o.query.rects) rows)) rows ∙ kept.answer in
-    let held : map held_line o.parts ≡ line.Held 1 0 3 is_out.ask.rects ∷ [] =
+    let answer : answer_from o.query client.rows ≡ rows_of past.meaning (version_at past.versions w.server.version) = ap (answer_from o.query) rows ∙ kept.answer in
+    let held : map held_line o.parts ≡ line.Held 1 0 (all_columns t) is_out.ask.rects ∷ [] =
     ap (map held_line) is_out.parts ∙ (ap (λ table. line.Held 1 table is_out.ask.attrs is_out.ask.rects ∷ []) is_out.rest.table ∙ ap (λ attrs. line.Held 1 0 attrs is_out.ask.rects ∷ []) is_out.attrs) in
-    ap (λ v. lines v (map (cells_of o.query.outputs) (filter (in_any o.query.rects) client.rows)) (map held_line o.parts)) version
-    ∙ (ap (λ rows. lines w.server.version rows (map held_line o.parts)) answer ∙ ap (λ held. lines w.server.version (rows_of (meaning_of o.query) (version_at past.versions w.server.version)) held) held)
+    ap (λ v. lines v (answer_from o.query client.rows) (map held_line o.parts)) version
+    ∙ (ap (λ rows. lines w.server.version rows (map held_line o.parts)) answer ∙ ap (λ held. lines w.server.version (rows_of past.meaning (version_at past.versions w.server.version)) held) held)
 
 -- what was asked is held
-holds-asked : (t : Table) (w : World) (past : Past) (o : code.AskOut) (is_out : IsOut t w past o) → w.schema ≡ t ∷ [] → AllZip (Holds w.schema) o.parts (Held 0 3 is_out.ask.rects ∷ [])
+holds-asked : (t : Table) (w : World) (past : Past) (o : code.AskOut) (is_out : IsOut t w past o) → w.schema ≡ t ∷ [] → AllZip (Holds w.schema) o.parts (Held 0 (all_columns t) is_out.ask.rects ∷ [])
 holds-asked t w past o is_out schema =
     let fits : IsTrue (list_all (rect_fits (table_at w.schema 0).columns) is_out.ask.rects) = subst (λ s. IsTrue (list_all (rect_fits (table_at s 0).columns) is_out.ask.rects)) (sym schema) is_out.rest.fits in
-    subst (λ ps. AllZip (Holds w.schema) ps (Held 0 3 is_out.ask.rects ∷ [])) (sym is_out.parts)
+    subst (λ ps. AllZip (Holds w.schema) ps (Held 0 (all_columns t) is_out.ask.rects ∷ [])) (sym is_out.parts)
     ((sym is_out.rest.table, sym is_out.attrs, fits, λ p point. refl), tt)
 
 answers : (t : Table) (w : World) (past : Past) (c : IsComing t w past) (to_client : VecDeque Message Global) (f : Facts t w past)
@@ -127,7 +124,7 @@ answers t w past c to_client f rows came left =
     let o = c.out in
     let rects = c.is_out.ask.rects in
     let changed : World = with_reply w t.key o w.server.version to_client in
-    let new : Past = record past { marks = Held 0 3 rects ∷ past.marks; queries = with_answered o.query_number (meaning_of o.query) past.queries } in
+    let new : Past = record past { marks = Held 0 (all_columns t) rects ∷ past.marks; queries = with_answered o.query_number (past.meaning) past.queries } in
     let kept = is-kept t w past o c.is_out f rows in
     let newest : rows_at (version_at past.versions w.server.version) 0 ≡ f.rows = ap (λ ts. rows_at ts 0) (f.newest ∙ f.tables) in
     let facts : Facts t changed new = record {
@@ -142,7 +139,7 @@ answers t w past c to_client f rows came left =
       points = f.points;
       marks = (refl, refl, f.marks);
       held_fit = subst (λ held. IsTrue (list_all (rect_fits t.columns) held)) (sym kept.held) kept.fits;
-      held = subst (λ held. AreSame t.columns (in_any held) (is_held new.marks 0 3)) (sym kept.held) kept.same;
+      held = subst (λ held. AreSame t.columns (in_any held) (is_held new.marks 0 (all_columns t))) (sym kept.held) kept.same;
       kept = kept.rows ∙ (ap (λ held. filter (in_any held) f.rows) (sym kept.held) ∙ ap (λ rows. filter (in_any changed.client.held) rows) (sym newest));
       version = omega arith;
       recent = inr (refl, c.is_replied.upto);
@@ -153,12 +150,12 @@ answers t w past c to_client f rows came left =
     let lines = lines_of_reply o changed.client in
     let before : scene.Client = record (client_of w past) { to_client = [] } in
     let free : scene.Client = record before { queries = new.queries; out = None; laid = [] } in
-    let keeps : Keeps w.schema o.parts w.server.version free (Held 0 3 rects ∷ []) (client_of changed new) =
-    (holds-asked t w past o c.is_out f.schema, ap (λ ms. record free { marks = Held 0 3 rects ∷ past.marks; version = w.server.version; to_client = ms }) left) in
-    let answered : Answers (scene_of w past) 1 o.query_number (meaning_of o.query) o.parts w.server.version before lines (client_of changed new) =
-    (f.version, (Held 0 3 rects ∷ [], keeps, lines-are t w past o c.is_out f changed.client refl rows_are kept)) in
-    let takes : TakesMessage (scene_of w past) 1 (request_of w.client.out) (Reply o.number w.server.version) before lines (client_of changed new) =
-    subst (λ out. TakesMessage (scene_of w past) 1 (request_of out) (Reply o.number w.server.version) before lines (client_of changed new)) (sym c.is) (refl, answered) in
+    let keeps : Keeps w.schema o.parts w.server.version free (Held 0 (all_columns t) rects ∷ []) (client_of changed new) =
+    (holds-asked t w past o c.is_out f.schema, ap (λ ms. record free { marks = Held 0 (all_columns t) rects ∷ past.marks; version = w.server.version; to_client = ms }) left) in
+    let answered : Answers (scene_of w past) 1 o.query_number (past.meaning) o.parts w.server.version before lines (client_of changed new) =
+    (f.version, (Held 0 (all_columns t) rects ∷ [], keeps, lines-are t w past o c.is_out f changed.client refl rows_are kept)) in
+    let takes : TakesMessage (scene_of w past) 1 (request_of past.meaning w.client.out) (Reply o.number w.server.version) before lines (client_of changed new) =
+    subst (λ out. TakesMessage (scene_of w past) 1 (request_of past.meaning out) (Reply o.number w.server.version) before lines (client_of changed new)) (sym c.is) (refl, answered) in
     (scene_of changed new, delivers w past (Reply o.number w.server.version) [] lines changed new c.is_replied.to_server came refl takes, record { t = t; past = new; facts = facts; same = refl })
 
 -- where a reply comes first, it is of the ask that is out, and all rows came before it

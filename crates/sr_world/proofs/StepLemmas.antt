@@ -14,7 +14,7 @@ use Rattle.sr_model.specs.Queries.{rows_at}
 use Rattle.sr_model.specs.SortedRows.{ascend}
 use Rattle.sr_model.specs.Statements.{Tables, Insert, executed}
 use Rattle.sr_model.specs.Changes.{version_at, newest_of}
-use Rattle.sr_language.specs.Built.{may_create}
+use Rattle.sr_reader.specs.Read.{is_built}
 use Rattle.sr_script.specs.declared.line.TraceLine.{TraceLine}
 use Rattle.sr_script.specs.declared.line.TraceLine.TheVariants as line
 use Rattle.sr_scene.specs.Scene.{Scene, first, tables_at, newest_version}
@@ -25,19 +25,19 @@ use Rattle.sr_world.specs.declared.server.Server.{Server}
 use Rattle.sr_world.specs.Worlds.{Stands, Does, DoesStep}
 use Rattle.sr_world.specs.Represents.{Past, Facts, Represents, IsUnasked, Flow, scene_of, client_of}
 use Rattle.sr_world.proofs.Filters.{filter-none, and_left, and_right, and_both}
-use Rattle.sr_world.proofs.TwoColumns.{HasTwo, two_columns, fits-is_point}
+use Rattle.sr_world.proofs.Columns.{AreNumbers, numbers-of, fits-is_point}
 
 -- nothing is kept where nothing is held
 pub none-held : (rects : List Rect) (rows : List Row) → rects ≡ [] → filter (in_any rects) rows ≡ []
 none-held rects rows none = rw none (filter-none (in_any []) rows (λ row. refl))
 
 -- the rows that fit are points
-pub points-fit : (columns : List Column) (rows : List Row) → HasTwo columns → list_all (fits_columns columns) rows ≡ true → list_all (is_point columns) rows ≡ true
-points-fit columns [] two all = refl
-points-fit columns (row ∷ rows) two all =
+pub points-fit : (columns : List Column) (rows : List Row) → AreNumbers columns → list_all (fits_columns columns) rows ≡ true → list_all (is_point columns) rows ≡ true
+points-fit columns [] numbers all = refl
+points-fit columns (row ∷ rows) numbers all =
     and_both (is_point columns row) (list_all (is_point columns) rows)
-    (sym (fits-is_point columns row two) ∙ and_left (fits_columns columns row) (list_all (fits_columns columns) rows) all)
-    (points-fit columns rows two (and_right (fits_columns columns row) (list_all (fits_columns columns) rows) all))
+    (sym (fits-is_point columns row numbers) ∙ and_left (fits_columns columns row) (list_all (fits_columns columns) rows) all)
+    (points-fit columns rows numbers (and_right (fits_columns columns row) (list_all (fits_columns columns) rows) all))
 
 version-new : (versions : List Tables) (tables : Tables) (n : ℕ) → length versions ≡ n → version_at (versions ++ tables ∷ []) n ≡ tables
 version-new versions tables n is = rw (← is) (get_or-append_seam versions tables [] [])
@@ -99,7 +99,7 @@ exec-done t w past server rows f unasked done version one ascending fitting =
       newest = version-new past.versions server.tables server.version (f.count ∙ sym version);
       ascending = ascending;
       fitting = fitting;
-      points = points-more t.columns past.versions server.tables f.points (points-fit t.columns (rows_at server.tables 0) (two_columns t f.table) fitting);
+      points = points-more t.columns past.versions server.tables f.points (points-fit t.columns (rows_at server.tables 0) (numbers-of t f.table) fitting);
       marks = f.marks;
       held_fit = f.held_fit;
       held = f.held;
@@ -132,14 +132,14 @@ exec-refused t w past fault rows f unasked refused =
     )
 
 -- the world of a table that is empty
-pub begins : (t : Table) → IsTrue (may_create t) → (w : World) → w.schema ≡ t ∷ [] → w.server.tables ≡ [] ∷ [] → w.server.version ≡ 0
+pub begins : (t : Table) → IsTrue (is_built t) → (w : World) → w.schema ≡ t ∷ [] → w.server.tables ≡ [] ∷ [] → w.server.version ≡ 0
     → w.client ≡ record { version = 0; queries = 0; next_request = 1; out = None; laid = []; held = []; rows = [] } → w.to_server.items ≡ [] → w.to_client.items ≡ []
     → Represents w (first true (t ∷ []) ([] ∷ []) 1)
-begins t create w schema tables version client none nothing =
-    let past : Past = record { versions = ([] ∷ []) ∷ []; marks = []; queries = []; session = record { subscription = []; upto = 0 } } in
+begins t built w schema tables version client none nothing =
+    let past : Past = record { versions = ([] ∷ []) ∷ []; marks = []; queries = []; meaning = record { parts = []; joins = []; outputs = [] }; session = record { subscription = []; upto = 0 } } in
     let facts : Facts t w past = record {
       schema = schema;
-      table = create;
+      table = built;
       rows = [];
       tables = tables;
       count = rw version refl;
@@ -166,8 +166,8 @@ does Relation old new lines each s r = subst (λ s. (next : Scene) × Relation s
 same-table : (w : World) (t u : Table) → w.schema ≡ t ∷ [] → w.schema ≡ u ∷ [] → t ≡ u
 same-table w t u a b = cc
 
-pub create-of : (w : World) (u : Table) → Stands w → w.schema ≡ u ∷ [] → IsTrue (may_create u)
-create-of w u stands is = subst (λ t. IsTrue (may_create t)) (same-table w stands.1.t u stands.1.facts.schema is) stands.1.facts.table
+pub built-of : (w : World) (u : Table) → Stands w → w.schema ≡ u ∷ [] → IsTrue (is_built u)
+built-of w u stands is = subst (λ t. IsTrue (is_built t)) (same-table w stands.1.t u stands.1.facts.schema is) stands.1.facts.table
 
 pub does-exec : (w : World) (u : Table) (server : Server) (rows : List Row) → w.schema ≡ u ∷ [] → IsUnasked w
     → executed (u ∷ []) (Insert 0 rows) w.server.tables ≡ Ok server.tables → server.version ≡ w.server.version + 1 → length server.tables ≡ 1

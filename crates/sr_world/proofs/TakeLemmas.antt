@@ -45,7 +45,7 @@ only-rows w past o rest rows = rows-behind o.number w.client.laid rest (subst (A
 -- the delivery of what comes first to the client
 pub delivers : (w : World) (past : Past) (m : Message) (queue : List Message) (lines : List TraceLine) (next : World) (new : Past)
     → w.to_server.items ≡ [] → w.to_client.items ≡ m ∷ queue → scene_of next new ≡ record (scene_of w past) { clients = client_of next new ∷ [] }
-    → TakesMessage (scene_of w past) 1 (request_of w.client.out) m (record (client_of w past) { to_client = queue }) lines (client_of next new)
+    → TakesMessage (scene_of w past) 1 (request_of past.meaning w.client.out) m (record (client_of w past) { to_client = queue }) lines (client_of next new)
     → Delivers (scene_of w past) 1 lines (scene_of next new)
 delivers w past m queue lines next new none came same takes =
     let due : (asks answers : List Message) → asks ≡ [] → answers ≡ m ∷ queue → next_delivery 1 asks answers ≡ Some (ToClient 1) = λ asks answers a b. rw (a, b) refl in (
@@ -99,8 +99,8 @@ lays t w past c k part rows rest laid to_client f number all came is_laid left =
     let client : List Message → List Message → scene.Client = λ messages queue. record (client_of w past) { laid = messages; to_client = queue } in
     let same : client_of changed past ≡ client (w.client.laid ++ Rows k part rows ∷ []) queue =
     ap (λ ms. client ms to_client.items) is_laid ∙ ap (λ ms. client (w.client.laid ++ Rows k part rows ∷ []) ms) left in
-    let takes : TakesMessage (scene_of w past) 1 (request_of w.client.out) (Rows k part rows) (record (client_of w past) { to_client = queue }) (line.ClientLaid 1 ∷ []) (client_of changed past) =
-    subst (λ out. TakesMessage (scene_of w past) 1 (request_of out) (Rows k part rows) (record (client_of w past) { to_client = queue }) (line.ClientLaid 1 ∷ []) (client_of changed past)) (sym c.is)
+    let takes : TakesMessage (scene_of w past) 1 (request_of past.meaning w.client.out) (Rows k part rows) (record (client_of w past) { to_client = queue }) (line.ClientLaid 1 ∷ []) (client_of changed past) =
+    subst (λ out. TakesMessage (scene_of w past) 1 (request_of past.meaning out) (Rows k part rows) (record (client_of w past) { to_client = queue }) (line.ClientLaid 1 ∷ []) (client_of changed past)) (sym c.is)
     (number, (refl, same)) in
     (scene_of changed past, delivers w past (Rows k part rows) queue (line.ClientLaid 1 ∷ []) changed past c.is_replied.to_server came refl takes, record { t = t; past = past; facts = facts; same = refl })
 

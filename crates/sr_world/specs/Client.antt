@@ -5,15 +5,23 @@ use Rattle.sr_box.specs.Points.{Rect, in_any}
 use Rattle.sr_message.specs.declared.message.AskPart.{AskPart}
 use Rattle.sr_message.specs.declared.message.Message.{Message}
 use Rattle.sr_message.specs.declared.message.Message.TheVariants.{Ask, Notice, Rows, Reply}
+use Rattle.sr_model.specs.Queries.{row_at}
 use Rattle.sr_model.specs.SortedRows.{with_rows}
+use Rattle.sr_query.specs.declared.condition.Output.{Output}
+use Rattle.sr_query.specs.declared.query.Query.{Query}
 use Rattle.sr_script.specs.declared.line.TraceLine.{TraceLine}
 use Rattle.sr_script.specs.declared.line.TraceLine.TheVariants as line
+use Rattle.sr_world.specs.Bound.{wanted}
 use Rattle.sr_world.specs.declared.client.AskOut as code
 use Rattle.sr_world.specs.declared.client.Client.{Client}
 
--- the cells of these columns, in this order
-abbrev pub cells_of : List ℕ → Row → Row
-cells_of columns row = map (cell_at row) columns
+-- the cells of the row in these columns, in this order
+abbrev pub cells_of : List Output → Row → Row
+cells_of outputs row = map (λ o. cell_at (row_at (row ∷ []) o.part) o.column) outputs
+
+-- the answer of a query of one part, from these rows
+abbrev pub answer_from : Query → List Row → List Row
+answer_from q rows = map (cells_of q.output) (filter (in_any (wanted q.parts)) rows)
 
 -- the rows that a message brings
 abbrev pub brought : Message → List Row
@@ -37,9 +45,9 @@ abbrev pub is_empty : List Rect → Bool
 is_empty [] = true
 is_empty (r ∷ rects) = false
 
--- these rects of table 0, under both its columns
-abbrev pub both_columns : List Rect → AskPart
-both_columns rects = record { table = 0; attrs = 3; rects = rects }
+-- these rects of table 0, under these columns
+abbrev pub ask_of : ℕ → List Rect → AskPart
+ask_of attrs rects = record { table = 0; attrs = attrs; rects = rects }
 
 -- the asked rects, part by part
 abbrev pub rects_of : List AskPart → List Rect
@@ -55,6 +63,5 @@ after_reply key out version c = record c { version = version; laid = []; held = 
 -- the lines of the answer to its query
 abbrev pub lines_of_reply : code.AskOut → Client → List TraceLine
 lines_of_reply out c =
-    (line.Answer 1 out.query_number c.version (length (map (cells_of out.query.outputs) (filter (in_any out.query.rects) c.rows)))
-    ∷ map line.Row (map (cells_of out.query.outputs) (filter (in_any out.query.rects) c.rows)))
+    (line.Answer 1 out.query_number c.version (length (answer_from out.query c.rows)) ∷ map line.Row (answer_from out.query c.rows))
     ++ (map held_line out.parts ++ line.ClientAnswered 1 ∷ [])

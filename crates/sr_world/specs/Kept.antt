@@ -1,5 +1,6 @@
 -- What events do to what a script keeps: the world of its table, if it has one.
 use Rattle.std.specs.Prelude.{ℕ, ◌≡◌, List, [], Option, Some, None}
+use Rattle.sr_cell.specs.declared.table.Table.{Table}
 use Rattle.sr_model.specs.Events.{Event}
 use Rattle.sr_script.specs.declared.line.TraceLine.{TraceLine}
 use Rattle.sr_scene.specs.Scene.{Scene}
@@ -20,3 +21,8 @@ IsStill w = (w.to_server.items ≡ []) × (w.to_client.items ≡ [])
 abbrev pub drawn_of : Option World → ℕ
 drawn_of None = 0
 drawn_of (Some w) = drawn w
+
+-- the tables of a world
+abbrev pub tables_of : Option World → List Table
+tables_of None = []
+tables_of (Some w) = w.schema

@@ -4,7 +4,7 @@ use Rattle.std.specs.Io.KnownBytes.{Appends}
 use Rattle.sr_cell.specs.declared.table.Table.{Table}
 use Rattle.sr_model.specs.Events.{Event}
 use Rattle.sr_language.specs.Lines.{lines_of}
-use Rattle.sr_language.specs.Script.{Phase, start_phase, schema_of, Reads}
+use Rattle.sr_language.specs.Script.{Phase, start_phase, Reads}
 use Rattle.sr_script.specs.declared.line.TraceLine.{TraceLine}
 use Rattle.sr_script.specs.TraceText.{trace_text}
 use Rattle.sr_scene.specs.Scene.{Scene, first}
@@ -25,8 +25,8 @@ pub record Trace (script : List ℕ) (left : List (ℕ × Event)) (trace : List 
   pub done : List (ℕ × Event)
   pub split : all ≡ done ++ left
   pub lines : List (ℕ × TraceLine)
-  pub runs : Runs (start (schema_of end)) done lines last
-  pub text : trace ≡ trace_text (schema_of end) lines
+  pub runs : Runs (start end.tables) done lines last
+  pub text : trace ≡ trace_text end.tables lines
 
 -- What is kept at the end is true. A script without a table keeps nothing.
 abbrev pub IsKept : Option World → Scene → Type 0

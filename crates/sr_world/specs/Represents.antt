@@ -14,11 +14,13 @@ use Rattle.sr_model.specs.Statements.{Tables}
 use Rattle.sr_model.specs.Changes.{version_at}
 use Rattle.sr_history.specs.Marks.{Mark, Held, Dropped, is_held}
 use Rattle.sr_history.specs.Rests.{IsRest}
-use Rattle.sr_language.specs.Built.{may_create}
+use Rattle.sr_model.specs.Queries.{Query}
+use Rattle.sr_language.specs.Built.{all_columns}
+use Rattle.sr_reader.specs.Read.{is_built}
 use Rattle.sr_scene.specs.Server.{Session, row_messages}
 use Rattle.sr_scene.specs.Scene as scene
 use Rattle.sr_scene.specs.Scene.{Scene, Request, AskOut, Numbered}
-use Rattle.sr_world.specs.Bound.{meaning_of, part_of, IsBound}
+use Rattle.sr_world.specs.Bound.{whole_part, IsBound}
 use Rattle.sr_world.specs.declared.client.AskOut as code
 use Rattle.sr_world.specs.declared.world.World.{World}
 
@@ -27,11 +29,14 @@ pub record Past : Type 0 where
   pub versions : List Tables
   pub marks : List Mark
   pub queries : List Numbered
+  -- what the newest query means
+  pub meaning : Query
   pub session : Session
 
-abbrev pub request_of : Option code.AskOut → Option Request
-request_of None = None
-request_of (Some o) = Some (AskOut o.number o.query_number (meaning_of o.query) o.fresh o.parts)
+-- the ask that is out, for a query of this meaning
+abbrev pub request_of : Query → Option code.AskOut → Option Request
+request_of meaning None = None
+request_of meaning (Some o) = Some (AskOut o.number o.query_number meaning o.fresh o.parts)
 
 abbrev pub client_of : World → Past → scene.Client
 client_of w past = record {
@@ -39,7 +44,7 @@ client_of w past = record {
   queries = past.queries;
   version = w.client.version;
   next_request = w.client.next_request;
-  out = request_of w.client.out;
+  out = request_of past.meaning w.client.out;
   laid = w.client.laid;
   to_server = w.to_server.items;
   to_client = w.to_client.items;
@@ -49,20 +54,20 @@ client_of w past = record {
 abbrev pub scene_of : World → Past → Scene
 scene_of w past = record { eager = true; schema = w.schema; versions = past.versions; clients = client_of w past ∷ [] }
 
--- all marks are of table 0 under both its columns, and none was dropped
-abbrev pub AllHeld : List Mark → Type 0
-AllHeld [] = Unit {0}
-AllHeld (Held table attrs rects ∷ marks) = (table ≡ 0) × (attrs ≡ 3) × AllHeld marks
-AllHeld (Dropped cause table attrs stamp rects ∷ marks) = ⊥
+-- all marks are of table 0 under these columns, and none was dropped
+abbrev pub AllHeld : ℕ → List Mark → Type 0
+AllHeld all [] = Unit {0}
+AllHeld all (Held table attrs rects ∷ marks) = (table ≡ 0) × (attrs ≡ all) × AllHeld all marks
+AllHeld all (Dropped cause table attrs stamp rects ∷ marks) = ⊥
 
 -- the ask that is out asks the rest of the newest query
 pub record IsOut (t : Table) (w : World) (past : Past) (o : code.AskOut) : Type 0 where
-  pub bound : IsBound t o.query
+  pub bound : IsBound t o.query past.meaning
   pub number : o.query_number ≡ w.client.queries
   pub ask : AskPart
   pub parts : o.parts ≡ ask ∷ []
-  pub rest : IsRest (t ∷ []) past.marks (part_of o.query) ask
-  pub attrs : ask.attrs ≡ 3
+  pub rest : IsRest (t ∷ []) past.marks (whole_part t bound.condition) ask
+  pub attrs : ask.attrs ≡ all_columns t
 
 -- the ask is on its way to the server, which will have nothing to tell before the reply
 pub record IsAsked (w : World) (past : Past) (o : code.AskOut) : Type 0 where
@@ -87,7 +92,7 @@ Flow t w past (Some o) = IsOut t w past o × (IsAsked w past o ⊎ IsReplied w p
 -- what a world keeps is what its past makes it
 pub record Facts (t : Table) (w : World) (past : Past) : Type 0 where
   pub schema : w.schema ≡ t ∷ []
-  pub table : IsTrue (may_create t)
+  pub table : IsTrue (is_built t)
   -- the server has the newest tables
   pub rows : List Row
   pub tables : w.server.tables ≡ rows ∷ []
@@ -97,9 +102,9 @@ pub record Facts (t : Table) (w : World) (past : Past) : Type 0 where
   pub fitting : list_all (fits_columns t.columns) rows ≡ true
   pub points : (v : ℕ) → IsTrue (list_all (is_point t.columns) (rows_at (version_at past.versions v) 0))
   -- the client holds the points of its marks, with just the rows that its version has there
-  pub marks : AllHeld past.marks
+  pub marks : AllHeld (all_columns t) past.marks
   pub held_fit : IsTrue (list_all (rect_fits t.columns) w.client.held)
-  pub held : AreSame t.columns (in_any w.client.held) (is_held past.marks 0 3)
+  pub held : AreSame t.columns (in_any w.client.held) (is_held past.marks 0 (all_columns t))
   pub kept : w.client.rows ≡ filter (in_any w.client.held) (rows_at (version_at past.versions w.client.version) 0)
   pub version : w.client.version ≤ w.server.version
   pub recent : (w.client.held ≡ []) ⊎ ((w.client.version ≡ w.server.version) × (past.session.upto ≡ w.server.version))

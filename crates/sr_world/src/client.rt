@@ -5,12 +5,14 @@ ghost use Rattle.sr_box.specs.Points.{in_any};
 ghost use Rattle.sr_model.specs.SortedRows.{ascend};
 ghost use Rattle.sr_script.specs.declared.line.TraceLine.TheVariants.{Answer, Row as RowLine, ClientLaid};
 ghost use Rattle.sr_world.specs.declared.client.AskOut.{AskOut as TheAskOut};
-ghost use Rattle.sr_world.specs.Client.{cells_of, brought, arrived, reply_version, rects_of, held_line, after_reply, lines_of_reply};
+ghost use Rattle.sr_model.specs.Queries.{row_at};
+ghost use Rattle.sr_world.specs.Client.{cells_of, answer_from, brought, arrived, reply_version, rects_of, held_line, after_reply, lines_of_reply};
 
-use crate::query::Query;
 use sr_cell::cell::{Cell, Row, Rows};
 use sr_cell::list::{Copied, NoMemory, Seq};
 use sr_message::message::{AskPart, AskParts, Message, Messages};
+use sr_query::condition::Output;
+use sr_query::query::Query;
 use sr_rows::rows::put_all;
 use sr_script::line::{TraceLine, TraceLines};
 use sr_union::rects::Rects;
@@ -55,11 +57,14 @@ impl Client {
         }
     }
 
-    /// The cells of the rows that it holds in the query's rects.
+    /// The answer of a query of one part, from the rows that it holds.
     pub fn answer(&self, alloc: Global, query: &Query) -> Result<Rows, NoMemory>
-        ensures { IfOk result (λ answer. answer ≡ map (cells_of query.now.outputs) (filter (in_any query.now.rects) self.now.rows)) }
+        ensures { IfOk result (λ answer. answer ≡ answer_from query.now self.now.rows) }
     {
-        answer_of(alloc, &self.rows, query)
+        match query.parts.get(0) {
+            None => Ok(Seq::new(alloc)),
+            Some(part) => answer_of(alloc, &self.rows, &part.rects, query.output.as_slice()),
+        }
     }
 
     /// Keeps a message until the reply comes.
@@ -150,27 +155,44 @@ fn push_held(alloc: Global, lines: &mut TraceLines, parts: &[AskPart]) -> Result
     Ok(())
 }
 
-fn answer_of(alloc: Global, rows: &Rows, query: &Query) -> Result<Rows, NoMemory>
-    ensures { IfOk result (λ answer. answer ≡ map (cells_of query.now.outputs) (filter (in_any query.now.rects) rows.now)) }
+/// The cells of the rows in the rects.
+fn answer_of(
+    alloc: Global,
+    rows: &Rows,
+    rects: &Rects,
+    outputs: &[Output],
+) -> Result<Rows, NoMemory>
+    ensures { IfOk result (λ answer. answer ≡ map (cells_of outputs.now) (filter (in_any rects.now) rows.now)) }
 {
     let mut answer = Seq::new(alloc);
     for row in rows.as_slice() {
-        if query.rects.has(row) {
-            answer.push(cells(alloc, row, query.outputs.as_slice())?)?;
+        if rects.has(row) {
+            answer.push(cells(alloc, row, outputs)?)?;
         }
     }
     Ok(answer)
 }
 
-/// The cells of these columns.
-fn cells(alloc: Global, row: &Row, columns: &[u8]) -> Result<Row, NoMemory>
-    ensures { IfOk result (λ cells. cells ≡ cells_of columns.now row.now) }
+/// The cells of the row in these columns.
+fn cells(alloc: Global, row: &Row, outputs: &[Output]) -> Result<Row, NoMemory>
+    ensures { IfOk result (λ cells. cells ≡ cells_of outputs.now row.now) }
 {
     let mut cells = Seq::new(alloc);
-    for column in columns {
-        cells.push(cell(alloc, row, *column as usize)?)?;
+    for output in outputs {
+        cells.push(output_cell(alloc, row, output)?)?;
     }
     Ok(cells)
+}
+
+/// The cell of a column of part 0. One of another part counts as a 0.
+fn output_cell(alloc: Global, row: &Row, output: &Output) -> Result<Cell, NoMemory>
+    ensures { IfOk result (λ cell. cell ≡ cell_at (row_at (row.now ∷ []) output.now.part) output.now.column) }
+{
+    if output.part == 0 {
+        cell(alloc, row, output.column as usize)
+    } else {
+        Ok(Cell::Num(0))
+    }
 }
 
 /// The cell of that column; a row that is too short counts as having a 0 there.

@@ -1,35 +1,37 @@
 //! The world of a script, if the script has a table: what its statements and queries do there.
-ghost use Rattle.std.specs.Prelude.{◌≡◌, ℕ, ◌+◌, ◌<◌, ◌≤◌, ◌^◌, None, IsTrue, IfOk, OnOk, IfSome};
+ghost use Rattle.std.specs.Prelude.{◌≡◌, ℕ, ◌+◌, ◌<◌, ◌≤◌, ◌^◌, [], None, Result, length, IsTrue, IfOk, OnOk, IfSome};
 ghost use Rattle.std.specs.List.{list_all};
-ghost use Rattle.std.specs.Option.{option_to_list};
-ghost use Rattle.sr_language.specs.Built.{may_create};
+ghost use Rattle.sr_cell.specs.declared.fault.Fault.{Fault as TheFault};
+ghost use Rattle.sr_model.specs.Queries.{Query as TheQuery};
 ghost use Rattle.sr_model.specs.Events.{Exec, QueryOf};
-ghost use Rattle.sr_reader.specs.Read.{write_of, query_of, rows_fit, selection_fits, is_refused};
+ghost use Rattle.sr_reader.specs.Read.{write_of, Means, rows_fit, is_built};
+ghost use Rattle.sr_world.specs.Bound.{IsAlone};
 ghost use Rattle.sr_world.specs.Represents.{IsUnasked};
 ghost use Rattle.sr_world.specs.Worlds.{Stands};
 ghost use Rattle.sr_world.specs.Replay.{start, IsKept};
-ghost use Rattle.sr_world.specs.Kept.{DoesKept, IsStill, drawn_of};
+ghost use Rattle.sr_world.specs.Kept.{DoesKept, IsStill, drawn_of, tables_of};
 
 use crate::world::{World, one_line};
 use sr_cell::cell::Rows;
 use sr_cell::fault::Fault;
-use sr_cell::list::NoMemory;
+use sr_cell::list::{Copied, NoMemory};
 use sr_cell::table::Table;
-use sr_reader::script::Selection;
+use sr_query::query::Query;
 use sr_script::line::{TraceLine, TraceLines};
 use std::alloc::Global;
 
 /// The world before the first event.
-pub fn begin(alloc: Global, table: Option<Table>) -> Result<Option<World>, NoMemory>
-    requires { IsTrue (list_all may_create (option_to_list table)) }
-    ensures first { IfOk result (λ world. IsKept world (start (option_to_list table))) }
+pub fn begin(alloc: Global, tables: &[Table]) -> Result<Option<World>, NoMemory>
+    requires one { length tables.now ≤ 1 }
+    requires built { IsTrue (list_all is_built tables.now) }
+    ensures first { IfOk result (λ world. IsKept world (start tables.now)) }
     ensures unasked { IfOk result (λ world. IfSome world IsUnasked) }
     ensures drawn { IfOk result (λ world. drawn_of world ≤ 1) }
-    ensures none { IfOk result (λ world. world ≡ None → table ≡ None) }
+    ensures tables { IfOk result (λ world. tables_of world ≡ tables.now) }
 {
-    match table {
+    match tables.first() {
         None => Ok(None),
-        Some(table) => Ok(Some(World::new(alloc, table)?)),
+        Some(table) => Ok(Some(World::new(alloc, table.copy(alloc)?)?)),
     }
 }
 
@@ -41,14 +43,13 @@ pub fn exec(
 ) -> Result<TraceLines, NoMemory>
     requires stands { IfSome world.old Stands }
     requires unasked { IfSome world.old IsUnasked }
-    requires fits { IsTrue (rows_fit statement) }
-    requires refused { world.old ≡ None → IsTrue (is_refused statement) }
+    requires fits { IsTrue (rows_fit (tables_of world.old) statement) }
     requires room { drawn_of world.old < 2 ^ 63 }
     ensures steps { IfOk result (DoesKept (Exec (write_of statement)) world.old world.new) }
     ensures stands { OnOk result (IfSome world.new Stands) }
     ensures unasked { OnOk result (IfSome world.new IsUnasked) }
     ensures drawn { OnOk result (drawn_of world.new ≤ drawn_of world.old + 1) }
-    ensures none { world.new ≡ None → world.old ≡ None }
+    ensures tables { tables_of world.new ≡ tables_of world.old }
 {
     match statement {
         Err(fault) => one_line(alloc, TraceLine::ExecRefused { fault }),
@@ -63,23 +64,23 @@ pub fn exec(
 pub fn query(
     alloc: Global,
     world: &mut Option<World>,
-    query: Result<Selection, Fault>,
+    query: Result<Query, Fault>,
 ) -> Result<TraceLines, NoMemory>
     requires stands { IfSome world.old Stands }
     requires still { IfSome world.old IsStill }
-    requires fits { IsTrue (selection_fits query) }
-    requires refused { world.old ≡ None → IsTrue (is_refused query) }
+    requires means { (meaning : Result TheQuery TheFault) × Means (tables_of world.old) query meaning }
+    requires alone { IfOk query IsAlone }
     requires room { drawn_of world.old + 2 < 2 ^ 63 }
-    ensures steps { IfOk result (DoesKept (QueryOf 1 (query_of query)) world.old world.new) }
+    ensures steps { (meaning : Result TheQuery TheFault) → Means (tables_of world.old) query meaning → IfOk result (DoesKept (QueryOf 1 meaning) world.old world.new) }
     ensures stands { OnOk result (IfSome world.new Stands) }
     ensures still { OnOk result (IfSome world.new IsStill) }
     ensures drawn { OnOk result (drawn_of world.new ≤ drawn_of world.old + 2) }
-    ensures none { world.new ≡ None → world.old ≡ None }
+    ensures tables { tables_of world.new ≡ tables_of world.old }
 {
     match query {
         Err(fault) => one_line(alloc, TraceLine::QuerySql { client: 1, fault }),
-        Ok(Selection { outputs, range }) => match world {
-            Some(world) => world.query(alloc, outputs, range),
+        Ok(query) => match world {
+            Some(world) => world.query(alloc, query),
             None => unreachable!(),
         },
     }

@@ -3,7 +3,6 @@
 
 pub mod client;
 pub mod kept;
-pub mod query;
 pub mod replay;
 pub mod server;
 #[cfg(test)]

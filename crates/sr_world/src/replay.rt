@@ -1,26 +1,27 @@
 //! The replay of a script.
-ghost use Rattle.std.specs.Prelude.{◌≡◌, ℕ, ◌+◌, ◌<◌, ◌≤◌, ◌^◌, ◌⊎◌, [], ◌∷◌, None, length, map, string_bytes, IsTrue, IfOk, OnOk, OnErr, IfSome, IsErrOf};
-ghost use Rattle.std.specs.List.{list_all};
-ghost use Rattle.std.specs.Option.{option_to_list};
+ghost use Rattle.std.specs.Prelude.{◌≡◌, ℕ, ◌+◌, ◌<◌, ◌≤◌, ◌^◌, ◌⊎◌, List, [], ◌∷◌, length, map, string_bytes, IsTrue, IfOk, OnOk, OnErr, IfSome, IsErrOf};
+ghost use Rattle.std.specs.List.{list_all, AllZip, AllByRecursion};
+ghost use Rattle.sr_model.specs.Events.{Event};
 ghost use Rattle.sr_cell.specs.declared.fault.Fault.{Fault as TheFault};
 ghost use Rattle.sr_cell.specs.declared.list.No.TheVariants.{Refused, NoMemory as Wanting};
 ghost use Rattle.sr_language.specs.Lines.{lines_of};
 ghost use Rattle.sr_language.specs.Script.{start_phase, FirstRefused, FirstUnbuilt};
-ghost use Rattle.sr_reader.specs.Read.{Fits, exec_event, query_event, events_of, rows_fit, selection_fits, is_refused};
+ghost use Rattle.sr_reader.specs.Read.{Fits, AreEvents, IsAsked, exec_event, rows_fit};
 ghost use Rattle.sr_script.specs.TraceText.{trace_text};
 ghost use Rattle.sr_scene.specs.Runs.{numbered};
 ghost use Rattle.sr_io.specs.Causes.{Rose};
 ghost use Rattle.sr_world.specs.declared.replay.RunFault.TheVariants.{WriteFault, Setup, Unbuilt};
+ghost use Rattle.sr_world.specs.Bound.{JoinsNothing};
 ghost use Rattle.sr_world.specs.Represents.{IsUnasked};
 ghost use Rattle.sr_world.specs.Worlds.{Stands};
-ghost use Rattle.sr_world.specs.Kept.{IsStill, drawn_of};
+ghost use Rattle.sr_world.specs.Kept.{IsStill, drawn_of, tables_of};
 ghost use Rattle.sr_world.specs.Replay.{Wrote, WrotePart};
 ghost use Rattle.sr_world.specs.Ran.{Ran, RanWhole, RanPart, TracedWhole, TracedPart, Stays};
 
 use crate::kept;
 use crate::world::World;
 use sr_cell::fault::Fault;
-use sr_cell::list::{Copied, No, NoMemory, Seq};
+use sr_cell::list::{No, NoMemory, Seq};
 use sr_cell::table::Table;
 use sr_io::outside::{Failed, Sink};
 use sr_io::whole::write_all;
@@ -90,9 +91,11 @@ fn run_script<K: Sink>(
     sink: &mut K,
 ) -> Result<Option<World>, No<Failed>>
     requires fits { Fits script }
+    requires events { (events : List (ℕ × Event)) × AreEvents script events }
+    requires alone { AllByRecursion JoinsNothing script.queries }
     requires few { length script.statements + length script.queries < 2 ^ 32 }
-    ensures whole { IfOk result (λ kept. TracedWhole (option_to_list script.table) (events_of script) kept (K.writing sink.old).written (K.writing sink.new).written) }
-    ensures part { OnErr result (TracedPart (option_to_list script.table) (events_of script) (K.writing sink.old).written (K.writing sink.new).written) }
+    ensures whole { (events : List (ℕ × Event)) → AreEvents script events → IfOk result (λ kept. TracedWhole script.schema events kept (K.writing sink.old).written (K.writing sink.new).written) }
+    ensures part { (events : List (ℕ × Event)) → AreEvents script events → OnErr result (TracedPart script.schema events (K.writing sink.old).written (K.writing sink.new).written) }
     ensures faults_never_fall { (K.writing sink.old).faults ≤ (K.writing sink.new).faults }
     ensures ok_keeps_faults { OnOk result ((K.writing sink.new).faults ≡ (K.writing sink.old).faults) }
     ensures want_keeps_faults { IsErrOf result Wanting → (K.writing sink.new).faults ≡ (K.writing sink.old).faults }
@@ -101,19 +104,15 @@ fn run_script<K: Sink>(
     ensures stays { Stays K K.reading K.linking K.held K.complaints K.IsSteady sink.old sink.new }
 {
     let Script {
-        table,
+        schema,
         statements,
         queries,
     } = script;
-    let schema = match schema_of(alloc, &table) {
-        Ok(schema) => schema,
-        Err(_) => return Err(No::NoMemory),
-    };
-    let mut world = match kept::begin(alloc, table) {
+    let tables = schema.as_slice();
+    let mut world = match kept::begin(alloc, tables) {
         Ok(world) => world,
         Err(_) => return Err(No::NoMemory),
     };
-    let tables = schema.as_slice();
     match run_statements(alloc, tables, &mut world, statements, sink) {
         Ok(()) => {}
         Err(no) => return Err(no),
@@ -122,17 +121,6 @@ fn run_script<K: Sink>(
         Ok(()) => Ok(world),
         Err(no) => Err(no),
     }
-}
-
-/// A schema of the table, if there is one.
-fn schema_of(alloc: Global, table: &Option<Table>) -> Result<Seq<Table>, NoMemory>
-    ensures { IfOk result (λ schema. schema ≡ option_to_list table.now) }
-{
-    let mut schema = Seq::new(alloc);
-    if let Some(table) = table {
-        schema.push(table.copy(alloc)?)?;
-    }
-    Ok(schema)
 }
 
 /// Runs the statements.
@@ -145,15 +133,15 @@ fn run_statements<K: Sink>(
 ) -> Result<(), No<Failed>>
     requires stands { IfSome world.old Stands }
     requires unasked { IfSome world.old IsUnasked }
-    requires fits { IsTrue (list_all (λ line. rows_fit line.statement) lines) }
-    requires refused { world.old ≡ None → IsTrue (list_all (λ line. is_refused line.statement) lines) }
+    requires tables { tables_of world.old ≡ schema.now }
+    requires fits { IsTrue (list_all (λ line. rows_fit schema.now line.statement) lines) }
     requires room { drawn_of world.old + length lines < 2 ^ 63 }
     ensures whole { OnOk result (RanWhole schema.now (map exec_event lines) world.old world.new (K.writing sink.old).written (K.writing sink.new).written) }
     ensures part { OnErr result (RanPart schema.now (map exec_event lines) world.old (K.writing sink.old).written (K.writing sink.new).written) }
     ensures stands { OnOk result (IfSome world.new Stands) }
     ensures unasked { OnOk result (IfSome world.new IsUnasked) }
     ensures drawn { OnOk result (drawn_of world.new ≤ drawn_of world.old + length lines) }
-    ensures none { world.new ≡ None → world.old ≡ None }
+    ensures tables { tables_of world.new ≡ tables_of world.old }
     ensures faults_never_fall { (K.writing sink.old).faults ≤ (K.writing sink.new).faults }
     ensures ok_keeps_faults { OnOk result ((K.writing sink.new).faults ≡ (K.writing sink.old).faults) }
     ensures want_keeps_faults { IsErrOf result Wanting → (K.writing sink.new).faults ≡ (K.writing sink.old).faults }
@@ -184,11 +172,12 @@ fn run_queries<K: Sink>(
 ) -> Result<(), No<Failed>>
     requires stands { IfSome world.old Stands }
     requires still { IfSome world.old IsStill }
-    requires fits { IsTrue (list_all (λ line. selection_fits line.query) lines) }
-    requires refused { world.old ≡ None → IsTrue (list_all (λ line. is_refused line.query) lines) }
+    requires tables { tables_of world.old ≡ schema.now }
+    requires asked { (asked : List (ℕ × Event)) × AllZip (IsAsked schema.now) lines asked }
+    requires alone { AllByRecursion JoinsNothing lines }
     requires room { drawn_of world.old + (length lines + length lines) < 2 ^ 63 }
-    ensures whole { OnOk result (RanWhole schema.now (map query_event lines) world.old world.new (K.writing sink.old).written (K.writing sink.new).written) }
-    ensures part { OnErr result (RanPart schema.now (map query_event lines) world.old (K.writing sink.old).written (K.writing sink.new).written) }
+    ensures whole { (asked : List (ℕ × Event)) → AllZip (IsAsked schema.now) lines asked → OnOk result (RanWhole schema.now asked world.old world.new (K.writing sink.old).written (K.writing sink.new).written) }
+    ensures part { (asked : List (ℕ × Event)) → AllZip (IsAsked schema.now) lines asked → OnErr result (RanPart schema.now asked world.old (K.writing sink.old).written (K.writing sink.new).written) }
     ensures faults_never_fall { (K.writing sink.old).faults ≤ (K.writing sink.new).faults }
     ensures ok_keeps_faults { OnOk result ((K.writing sink.new).faults ≡ (K.writing sink.old).faults) }
     ensures want_keeps_faults { IsErrOf result Wanting → (K.writing sink.new).faults ≡ (K.writing sink.old).faults }
@@ -218,14 +207,13 @@ fn exec_text(
 ) -> Result<String, NoMemory>
     requires stands { IfSome world.old Stands }
     requires unasked { IfSome world.old IsUnasked }
-    requires fits { IsTrue (rows_fit line.statement) }
-    requires refused { world.old ≡ None → IsTrue (is_refused line.statement) }
+    requires fits { IsTrue (rows_fit (tables_of world.old) line.statement) }
     requires room { drawn_of world.old < 2 ^ 63 }
     ensures ran { IfOk result (λ text. Ran schema.now (exec_event line ∷ []) world.old world.new (string_bytes text)) }
     ensures stands { OnOk result (IfSome world.new Stands) }
     ensures unasked { OnOk result (IfSome world.new IsUnasked) }
     ensures drawn { OnOk result (drawn_of world.new ≤ drawn_of world.old + 1) }
-    ensures none { world.new ≡ None → world.old ≡ None }
+    ensures tables { tables_of world.new ≡ tables_of world.old }
 {
     let ExecLine { number, statement } = line;
     let lines = kept::exec(alloc, world, statement)?;
@@ -241,14 +229,14 @@ fn query_text(
 ) -> Result<String, NoMemory>
     requires stands { IfSome world.old Stands }
     requires still { IfSome world.old IsStill }
-    requires fits { IsTrue (selection_fits line.query) }
-    requires refused { world.old ≡ None → IsTrue (is_refused line.query) }
+    requires asked { (event : ℕ × Event) × IsAsked (tables_of world.old) line event }
+    requires alone { JoinsNothing line }
     requires room { drawn_of world.old + 2 < 2 ^ 63 }
-    ensures ran { IfOk result (λ text. Ran schema.now (query_event line ∷ []) world.old world.new (string_bytes text)) }
+    ensures ran { (event : ℕ × Event) → IsAsked (tables_of world.old) line event → IfOk result (λ text. Ran schema.now (event ∷ []) world.old world.new (string_bytes text)) }
     ensures stands { OnOk result (IfSome world.new Stands) }
     ensures still { OnOk result (IfSome world.new IsStill) }
     ensures drawn { OnOk result (drawn_of world.new ≤ drawn_of world.old + 2) }
-    ensures none { world.new ≡ None → world.old ≡ None }
+    ensures tables { tables_of world.new ≡ tables_of world.old }
 {
     let QueryLine { number, query } = line;
     let lines = kept::query(alloc, world, query)?;

@@ -1,31 +1,30 @@
 //! The world: server, client and queues.
-ghost use Rattle.std.specs.Prelude.{◌≡◌, ℕ, ◌+◌, ◌<◌, ◌≤◌, ◌^◌, ◌==◌, nat_lt, true, List, [], ◌∷◌, ◌++◌, map, length, None, Ok, IsTrue, IfOk, OnOk, IfSome, OnSome, IfNone};
+ghost use Rattle.std.specs.Prelude.{◌≡◌, ℕ, ◌+◌, ◌<◌, ◌≤◌, ◌^◌, true, List, [], ◌∷◌, ◌++◌, map, length, None, Ok, IsTrue, IfOk, OnOk};
 ghost use Rattle.std.specs.List.{list_all};
 ghost use Rattle.sr_cell.specs.declared.table.Table.{Table as TheTable};
 ghost use Rattle.sr_box.specs.Points.{rect_fits};
 ghost use Rattle.sr_message.specs.declared.message.Message.TheVariants.{Ask as AskMessage};
 ghost use Rattle.sr_script.specs.declared.line.TraceLine.TheVariants.{Ask, QueryAsked};
 ghost use Rattle.sr_scene.specs.Steps.{part_line};
-ghost use Rattle.sr_world.specs.Bound.{IsBound, IsLeft, meaning_of};
-ghost use Rattle.sr_world.specs.Client.{is_empty, both_columns};
+ghost use Rattle.sr_world.specs.Bound.{IsMeaning, IsAlone, IsLeft, wanted};
+ghost use Rattle.sr_world.specs.Client.{is_empty, ask_of};
 ghost use Rattle.sr_world.specs.Kept.{IsStill};
 ghost use Rattle.sr_model.specs.Events.{Exec, QueryOf, ToServer, ToClient};
 ghost use Rattle.sr_model.specs.Statements.{Insert};
-ghost use Rattle.sr_language.specs.Built.{may_create, select_of};
-ghost use Rattle.sr_reader.specs.Read.{range_of, range_is_inside};
+ghost use Rattle.sr_model.specs.Queries.{Query as TheQuery};
+ghost use Rattle.sr_reader.specs.Read.{is_built, rows_fit};
 ghost use Rattle.sr_scene.specs.Scene.{first};
 ghost use Rattle.sr_world.specs.Represents.{Represents, IsUnasked, drawn};
 ghost use Rattle.sr_world.specs.Worlds.{Stands, DoesStep, DoesEvent, DoesDelivery, DoesMany, DoesSettle};
 
 use crate::client::{AskOut, Client, push_answer, version_of};
-use crate::query::{Query, bind};
 use crate::server::Server;
 use sr_cell::attrs::Attrs;
 use sr_cell::cell::Rows;
 use sr_cell::list::{Copied, No, NoMemory, Seq};
 use sr_cell::table::Table;
 use sr_message::message::{AskPart, Message, Messages};
-use sr_reader::script::ColumnRange;
+use sr_query::query::{Part, Query};
 use sr_script::line::{RequestKind, TraceLine, TraceLines};
 use sr_union::rects::Rects;
 use std::alloc::Global;
@@ -44,10 +43,11 @@ pub struct World {
 impl World {
     /// A world of one table, which is empty.
     pub fn new(alloc: Global, table: Table) -> Result<World, NoMemory>
-        requires { IsTrue (may_create table) }
+        requires { IsTrue (is_built table) }
         ensures first { IfOk result (λ world. Represents world (first true (table ∷ []) ([] ∷ []) 1)) }
         ensures unasked { IfOk result IsUnasked }
         ensures drawn { IfOk result (λ world. drawn world ≡ 1) }
+        ensures schema { IfOk result (λ world. world.schema ≡ table ∷ []) }
     {
         let mut schema = Seq::new(alloc);
         schema.push(table)?;
@@ -66,12 +66,12 @@ impl World {
     pub fn exec(&mut self, alloc: Global, rows: Rows) -> Result<TraceLines, NoMemory>
         requires stands { Stands self.old }
         requires unasked { IsUnasked self.old }
-        requires widths { list_all (λ row. length row == 2) rows ≡ true }
-        requires number { length rows < 2 ^ 32 }
+        requires fits { IsTrue (rows_fit self.old.schema (Ok rows)) }
         requires room { drawn self.old < 2 ^ 63 }
         ensures steps { IfOk result (DoesStep (Exec (Ok (Insert 0 rows))) self.old self.new) }
         ensures unasked { OnOk result (IsUnasked self.new) }
         ensures drawn { OnOk result (drawn self.new ≤ drawn self.old + 1) }
+        ensures schema { self.new.schema ≡ self.old.schema }
     {
         match self.server.insert(alloc, only(&self.schema), rows) {
             Ok(()) => one_line(
@@ -85,40 +85,32 @@ impl World {
         }
     }
 
-    /// Asks a query, and makes the deliveries that it brings.
-    pub fn query(
-        &mut self,
-        alloc: Global,
-        outputs: Seq<u8>,
-        range: Option<ColumnRange>,
-    ) -> Result<TraceLines, NoMemory>
+    /// Asks a query of the table alone, and makes the deliveries that it brings.
+    pub fn query(&mut self, alloc: Global, query: Query) -> Result<TraceLines, NoMemory>
         requires stands { Stands self.old }
-        requires outputs { IsTrue (list_all (λ c. nat_lt c 2) outputs) }
-        requires range { IsTrue (range_is_inside range) }
+        requires asks { (meaning : TheQuery) × IsMeaning self.old.schema query meaning }
+        requires alone { IsAlone query }
         requires room { drawn self.old + 2 < 2 ^ 63 }
-        ensures steps { IfOk result (DoesStep (QueryOf 1 (Ok (select_of outputs (range_of range)))) self.old self.new) }
+        ensures steps { (meaning : TheQuery) → IsMeaning self.old.schema query meaning → IfOk result (DoesStep (QueryOf 1 (Ok meaning)) self.old self.new) }
         ensures stands { OnOk result (Stands self.new) }
         ensures still { OnOk result (IsStill self.new) }
         ensures drawn { OnOk result (drawn self.new ≤ drawn self.old + 2) }
+        ensures schema { self.new.schema ≡ self.old.schema }
     {
-        let mut lines = self.ask(alloc, outputs, range)?;
+        let mut lines = self.ask(alloc, query)?;
         lines.append(self.settle(alloc)?)?;
         Ok(lines)
     }
 
     /// Judges a query: it is answered at once, or its rest is asked.
-    fn ask(
-        &mut self,
-        alloc: Global,
-        outputs: Seq<u8>,
-        range: Option<ColumnRange>,
-    ) -> Result<TraceLines, NoMemory>
+    fn ask(&mut self, alloc: Global, query: Query) -> Result<TraceLines, NoMemory>
         requires stands { Stands self.old }
-        requires outputs { IsTrue (list_all (λ c. nat_lt c 2) outputs) }
-        requires range { IsTrue (range_is_inside range) }
+        requires asks { (meaning : TheQuery) × IsMeaning self.old.schema query meaning }
+        requires alone { IsAlone query }
         requires room { drawn self.old + 2 < 2 ^ 63 }
-        ensures event { IfOk result (DoesEvent (QueryOf 1 (Ok (select_of outputs (range_of range)))) self.old self.new) }
+        ensures event { (meaning : TheQuery) → IsMeaning self.old.schema query meaning → IfOk result (DoesEvent (QueryOf 1 (Ok meaning)) self.old self.new) }
         ensures drawn { OnOk result (drawn self.new ≤ drawn self.old + 2) }
+        ensures schema { self.new.schema ≡ self.old.schema }
     {
         if let Some(out) = &self.client.out {
             return one_line(
@@ -129,8 +121,8 @@ impl World {
                 },
             );
         }
-        let query = bind(alloc, only(&self.schema), outputs, range)?;
-        let rest = left(alloc, &query.rects, &self.client.held, only(&self.schema))?;
+        let part = one_part(&query);
+        let rest = left(alloc, &part.rects, &self.client.held, only(&self.schema))?;
         if rest.is_empty() {
             self.answer_now(alloc, &query)
         } else {
@@ -142,11 +134,12 @@ impl World {
     fn answer_now(&mut self, alloc: Global, query: &Query) -> Result<TraceLines, NoMemory>
         requires stands { Stands self.old }
         requires idle { self.old.client.out ≡ None }
-        requires bound { (t : TheTable) → self.old.schema ≡ t ∷ [] → IsBound t query.now }
-        requires nothing { (t : TheTable) → self.old.schema ≡ t ∷ [] → IsLeft t query.now.rects self.old.client.held [] }
+        requires alone { IsAlone query.now }
+        requires nothing { (t : TheTable) → self.old.schema ≡ t ∷ [] → IsLeft t (wanted query.now.parts) self.old.client.held [] }
         requires room { drawn self.old + 2 < 2 ^ 63 }
-        ensures event { IfOk result (DoesEvent (QueryOf 1 (Ok (meaning_of query.now))) self.old self.new) }
+        ensures event { (meaning : TheQuery) → IsMeaning self.old.schema query.now meaning → IfOk result (DoesEvent (QueryOf 1 (Ok meaning)) self.old self.new) }
         ensures drawn { OnOk result (drawn self.new ≤ drawn self.old + 2) }
+        ensures schema { self.new.schema ≡ self.old.schema }
     {
         let number = self.client.queries + 1;
         let rows = self.client.answer(alloc, query)?;
@@ -164,14 +157,17 @@ impl World {
     fn send_ask(&mut self, alloc: Global, query: Query, rest: Rects) -> Result<TraceLines, NoMemory>
         requires stands { Stands self.old }
         requires idle { self.old.client.out ≡ None }
-        requires bound { (t : TheTable) → self.old.schema ≡ t ∷ [] → IsBound t query }
-        requires left { (t : TheTable) → self.old.schema ≡ t ∷ [] → IsLeft t query.rects self.old.client.held rest }
+        requires one { length query.parts ≡ 1 }
+        requires alone { IsAlone query }
+        requires left { (t : TheTable) → self.old.schema ≡ t ∷ [] → IsLeft t (wanted query.parts) self.old.client.held rest }
         requires some { rest ≡ [] → ⊥ }
         requires room { drawn self.old + 2 < 2 ^ 63 }
-        ensures event { IfOk result (DoesEvent (QueryOf 1 (Ok (meaning_of query))) self.old self.new) }
+        ensures event { (meaning : TheQuery) → IsMeaning self.old.schema query meaning → IfOk result (DoesEvent (QueryOf 1 (Ok meaning)) self.old self.new) }
         ensures drawn { OnOk result (drawn self.new ≤ drawn self.old + 2) }
+        ensures schema { self.new.schema ≡ self.old.schema }
     {
-        let out = ask_out(alloc, &self.client, query, rest)?;
+        let need = one_part(&query).need;
+        let out = ask_out(alloc, &self.client, query, need, rest)?;
         let lines = ask_lines(alloc, &out)?;
         self.to_server.push_back(message_of(alloc, &out)?)?;
         self.client.queries = out.query_number;
@@ -186,6 +182,7 @@ impl World {
         ensures settles { IfOk result (DoesSettle self.old self.new) }
         ensures still { OnOk result (IsStill self.new) }
         ensures drawn { OnOk result (drawn self.new ≡ drawn self.old) }
+        ensures schema { self.new.schema ≡ self.old.schema }
     {
         let mut lines = self.serve_all(alloc)?;
         lines.append(self.take_all(alloc)?)?;
@@ -196,6 +193,7 @@ impl World {
         requires { Stands self.old }
         ensures deliveries { IfOk result (DoesMany self.old self.new) }
         ensures drawn { OnOk result (drawn self.new ≡ drawn self.old) }
+        ensures schema { self.new.schema ≡ self.old.schema }
         ensures served { OnOk result (self.new.to_server.items ≡ []) }
     {
         let mut lines = Seq::new(alloc);
@@ -211,6 +209,7 @@ impl World {
         requires some { self.old.to_server.items ≡ [] → ⊥ }
         ensures delivery { IfOk result (DoesDelivery self.old self.new) }
         ensures drawn { OnOk result (drawn self.new ≡ drawn self.old) }
+        ensures schema { self.new.schema ≡ self.old.schema }
         ensures one_less { OnOk result (length self.new.to_server.items + 1 ≡ length self.old.to_server.items) }
     {
         match self.to_server.pop_front() {
@@ -236,6 +235,7 @@ impl World {
         requires served { self.old.to_server.items ≡ [] }
         ensures deliveries { IfOk result (DoesMany self.old self.new) }
         ensures drawn { OnOk result (drawn self.new ≡ drawn self.old) }
+        ensures schema { self.new.schema ≡ self.old.schema }
         ensures served { OnOk result (self.new.to_server.items ≡ []) }
         ensures taken { OnOk result (self.new.to_client.items ≡ []) }
     {
@@ -252,6 +252,7 @@ impl World {
         requires some { self.old.to_client.items ≡ [] → ⊥ }
         ensures delivery { IfOk result (DoesDelivery self.old self.new) }
         ensures drawn { OnOk result (drawn self.new ≡ drawn self.old) }
+        ensures schema { self.new.schema ≡ self.old.schema }
         ensures to_server { OnOk result (self.new.to_server.items ≡ self.old.to_server.items) }
         ensures one_less { OnOk result (length self.new.to_client.items + 1 ≡ length self.old.to_client.items) }
     {
@@ -280,7 +281,7 @@ fn queue_up(queue: &mut VecDeque<Message>, messages: Messages) -> Result<(), NoM
 
 /// The rects that are not held.
 fn left(alloc: Global, rects: &Rects, held: &Rects, table: &Table) -> Result<Rects, NoMemory>
-    requires create { IsTrue (may_create table.now) }
+    requires built { IsTrue (is_built table.now) }
     requires rects { IsTrue (list_all (rect_fits table.now.columns) rects.now) }
     requires held { IsTrue (list_all (rect_fits table.now.columns) held.now) }
     ensures { IfOk result (IsLeft table.now rects.now held.now) }
@@ -288,15 +289,21 @@ fn left(alloc: Global, rects: &Rects, held: &Rects, table: &Table) -> Result<Rec
     rects.difference(alloc, held, table)
 }
 
-/// The ask of the rest of a query, with the next numbers.
-fn ask_out(alloc: Global, client: &Client, query: Query, rest: Rects) -> Result<AskOut, NoMemory>
+/// The ask of the rest of a query under these columns, with the next numbers.
+fn ask_out(
+    alloc: Global,
+    client: &Client,
+    query: Query,
+    need: Attrs,
+    rest: Rects,
+) -> Result<AskOut, NoMemory>
     requires queries { client.now.queries < 2 ^ 63 }
-    ensures { IfOk result (λ out. out ≡ record { number = client.now.next_request; query_number = client.now.queries + 1; query = query; fresh = is_empty client.now.held; parts = both_columns rest ∷ [] }) }
+    ensures { IfOk result (λ out. out ≡ record { number = client.now.next_request; query_number = client.now.queries + 1; query = query; fresh = is_empty client.now.held; parts = ask_of need rest ∷ [] }) }
 {
     let mut parts = Seq::new(alloc);
     parts.push(AskPart {
         table: 0,
-        attrs: Attrs(3),
+        attrs: need,
         rects: rest,
     })?;
     Ok(AskOut {
@@ -358,6 +365,14 @@ fn only(schema: &Seq<Table>) -> &Table
     ensures { schema.now ≡ result.now ∷ [] }
 {
     &schema.as_slice()[0]
+}
+
+/// The one part of a query.
+fn one_part(query: &Query) -> &Part
+    requires { length query.now.parts ≡ 1 }
+    ensures { query.now.parts ≡ result.now ∷ [] }
+{
+    &query.parts.as_slice()[0]
 }
 
 /// This line alone.

@@ -1,4 +1,4 @@
-use Rattle.std.proofs.Common.{◌≡◌, ℕ, Bool, true, false, sym, ap, ◌∙◌, ◌++◌, drop, length}
+use Rattle.std.proofs.Common.{◌≡◌, sym, ap, ◌∙◌, ◌++◌, drop}
 use Rattle.sr_reader.proofs.LineWords.{behind_some, behind_empty, behind_none}
 use Rattle.sr_reader.proofs.line.behind.Goals as goal
 

@@ -1,9 +1,7 @@
-use Rattle.std.proofs.Common.{◌≡◌, true, false, sym, subst, ◌∙◌}
+use Rattle.std.proofs.Common.{◌≡◌, true, sym, subst, ◌∙◌}
 use Rattle.std.specs.Prelude.{◌||◌, nat_eq, codes}
-use Rattle.std.specs.Str.{is_utf8}
 use Rattle.std.specs.List.{starts_with}
 use Rattle.sr_language.specs.Script.{Silent, CreateLine, is_blank, event_line, line_of}
-use Rattle.sr_reader.specs.LineSeen.{line_seen}
 use Rattle.sr_reader.proofs.LineWords.{not_text, silent, created, event, is_text, no_text, one_is, other_is, neither_is}
 use Rattle.sr_reader.proofs.line.line_of.Goals as goal
 use Rattle.sr_reader.proofs.line.line_of.Goals.{then-is_blank-via-then-is_blank, then-is_blank-via-else-is_blank+then-is_comment}

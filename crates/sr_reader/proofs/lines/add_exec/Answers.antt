@@ -1,10 +1,9 @@
-use Rattle.std.proofs.Common.{◌≡◌, ◌∙◌, ◌++◌, ◌∷◌, [], sym, subst, true, false}
+use Rattle.std.proofs.Common.{◌≡◌, ◌∙◌, sym, subst, true, false}
 use Rattle.std.specs.Prelude.{IfSome, IsTrue}
 use Rattle.std.proofs.lemmas.Result.{err_from_is_err_and}
-use Rattle.sr_language.specs.Built as built
 use Rattle.sr_language.specs.Script.{ExecLine}
-use Rattle.sr_reader.specs.Meaning.{IsMeaning}
-use Rattle.sr_reader.specs.Read.{Fits, write_of, rows_fit}
+use Rattle.sr_reader.specs.Meaning.{IsWritten}
+use Rattle.sr_reader.specs.Read.{Fits, rows_fit}
 use Rattle.sr_reader.specs.Walk.{Adds}
 use Rattle.sr_reader.proofs.Adding.{want_added, exec_behind, exec_none, exec_some}
 use Rattle.sr_reader.proofs.lines.add_exec.Goals as goal
@@ -26,12 +25,12 @@ returns-in_err-push-in-Some c =
 pub returns-in_ok-push-in-Some : goal.returns-in_ok-push-in-Some
 returns-in_ok-push-in-Some c =
     let old = c.args.script.now in
-    let means = subst (λ z. IsMeaning built.write_of write_of old.table c.args.sql.now z) c.in-Some.is c.in_ok-statement.ensures.means in
-    let fits = subst (λ z. IfSome z (λ rows. IsTrue (rows_fit rows))) c.in-Some.is c.in_ok-statement.ensures.fits in
+    let written = subst (λ z. IsWritten old.schema c.args.sql.now z) c.in-Some.is c.in_ok-statement.ensures.written in
+    let fits = subst (λ z. IfSome z (λ rows. IsTrue (rows_fit old.schema rows))) c.in-Some.is c.in_ok-statement.ensures.fits in
     let first = c.is_empty.ensures.0 c.if-not-is_empty.false in
     subst (λ z. Adds c.args.number old (ExecLine c.args.sql.now) (record old { statements = z }) × Fits (record old { statements = z })) (sym c.in_ok-push-in-Some.ensures.pushed)
-    (exec_some c.args.number c.args.sql.now old c.in-Some.statement first means fits c.requires)
+    (exec_some c.args.number c.args.sql.now old c.in-Some.statement first written fits c.requires)
 
 pub returns-in-None : goal.returns-in-None
 returns-in-None c =
-    exec_none c.args.number c.args.sql.now c.args.script.now (subst (λ z. IsMeaning built.write_of write_of c.args.script.now.table c.args.sql.now z) c.in-None.is c.in_ok-statement.ensures.means)
+    exec_none c.args.number c.args.sql.now c.args.script.now (subst (λ z. IsWritten c.args.script.now.schema c.args.sql.now z) c.in-None.is c.in_ok-statement.ensures.written)

@@ -1,16 +1,15 @@
-use Rattle.std.proofs.Common.{◌≡◌, ◌++◌, ◌∷◌, [], sym, subst}
-use Rattle.std.specs.Prelude.{IfSome, IsTrue}
+use Rattle.std.proofs.Common.{sym, subst}
 use Rattle.std.proofs.lemmas.Result.{err_from_is_err_and}
-use Rattle.sr_language.specs.Built as built
 use Rattle.sr_language.specs.Script.{QueryLine}
-use Rattle.sr_reader.specs.Meaning.{IsMeaning}
-use Rattle.sr_reader.specs.Read.{Fits, query_of, selection_fits}
+use Rattle.sr_reader.specs.Meaning.{IsAsking}
+use Rattle.sr_reader.specs.Read.{Fits}
 use Rattle.sr_reader.specs.Walk.{Adds}
 use Rattle.sr_reader.proofs.Adding.{want_added, query_none, query_some}
+use Rattle.sr_reader.proofs.Tables.{are_tables}
 use Rattle.sr_reader.proofs.lines.add_query.Goals as goal
 
 pub query_of-requires : goal.query_of-requires
-query_of-requires c = c.requires.table
+query_of-requires c = record { tables = are_tables c.args.script.now.schema c.requires.tables }
 
 pub returns-in_err-query : goal.returns-in_err-query
 returns-in_err-query c =
@@ -25,11 +24,9 @@ returns-in_err-push-in-Some c =
 pub returns-in_ok-push-in-Some : goal.returns-in_ok-push-in-Some
 returns-in_ok-push-in-Some c =
     let old = c.args.script.now in
-    let means = subst (λ z. IsMeaning built.query_of query_of old.table c.args.sql.now z) c.in-Some.is c.in_ok-query.ensures.means in
-    let fits = subst (λ z. IfSome z (λ selection. IsTrue (selection_fits selection))) c.in-Some.is c.in_ok-query.ensures.fits in
+    let asking = subst (λ z. IsAsking old.schema c.args.sql.now z) c.in-Some.is c.in_ok-query.ensures in
     subst (λ z. Adds c.args.number old (QueryLine c.args.sql.now) (record old { queries = z }) × Fits (record old { queries = z })) (sym c.in_ok-push-in-Some.ensures.pushed)
-    (query_some c.args.number c.args.sql.now old c.in-Some.query means fits c.requires)
+    (query_some c.args.number c.args.sql.now old c.in-Some.query asking c.requires)
 
 pub returns-in-None : goal.returns-in-None
-returns-in-None c =
-    query_none c.args.number c.args.sql.now c.args.script.now (subst (λ z. IsMeaning built.query_of query_of c.args.script.now.table c.args.sql.now z) c.in-None.is c.in_ok-query.ensures.means)
+returns-in-None c = query_none c.args.number c.args.sql.now c.args.script.now (subst (λ z. IsAsking c.args.script.now.schema c.args.sql.now z) c.in-None.is c.in_ok-query.ensures)

@@ -1,6 +1,5 @@
-use Rattle.std.proofs.Common.{◌≡◌, ◌∙◌, sym, subst}
-use Rattle.std.specs.Prelude.{Ok}
-use Rattle.sr_reader.specs.Walk.{Adds, AddsNothing, IsAdded}
+use Rattle.std.proofs.Common.{◌∙◌, sym, subst}
+use Rattle.sr_reader.specs.Walk.{Adds, AddsNothing}
 use Rattle.sr_reader.specs.LineSeen.{line_seen}
 use Rattle.sr_reader.proofs.Fronts.{empty_is}
 use Rattle.sr_reader.proofs.Adding.{nothing_added, something_added}
@@ -8,7 +7,7 @@ use Rattle.sr_reader.proofs.Walks.{Walked, walked_start, walked_line, walked_rea
 use Rattle.sr_reader.proofs.lines.read_lines.Goals as goal
 
 pub lines-init : goal.lines-init
-lines-init c = rw (c.new.ensures, c.new-2.ensures) (walked_start c.args.bytes.now)
+lines-init c = rw (c.new.ensures, c.new-2.ensures, c.new-3.ensures) (walked_start c.args.bytes.now)
 
 pub returns-then-not-branch : goal.returns-then-not-branch
 returns-then-not-branch c =

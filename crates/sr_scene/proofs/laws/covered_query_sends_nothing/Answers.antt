@@ -1,4 +1,3 @@
-use Rattle.std.proofs.Common.{refl}
 use Rattle.sr_scene.proofs.ExampleScripts.{covered_reads}
 use Rattle.sr_scene.proofs.ExampleTexts.{covered_text}
 use Rattle.sr_scene.proofs.ExampleRun.{opens}

@@ -1,4 +1,3 @@
-use Rattle.std.proofs.Common.{refl}
 use Rattle.sr_scene.proofs.ExampleScripts.{reads}
 use Rattle.sr_scene.proofs.ExampleTexts.{text}
 use Rattle.sr_scene.proofs.ExampleRun.{runs}

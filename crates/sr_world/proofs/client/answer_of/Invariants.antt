@@ -6,5 +6,4 @@ use Rattle.sr_world.proofs.client.answer_of.Given as goal
 
 abbrev pub invariant-loop-row : goal.invariant-loop-row
 invariant-loop-row l =
-    l.answer ++ map (cells_of l.query.outputs) (filter (in_any l.query.rects) (drop l.row-index l.row-items))
-    ≡ map (cells_of l.query.outputs) (filter (in_any l.query.rects) l.row-items)
+    l.answer ++ map (cells_of l.outputs) (filter (in_any l.rects) (drop l.row-index l.row-items)) ≡ map (cells_of l.outputs) (filter (in_any l.rects) l.row-items)

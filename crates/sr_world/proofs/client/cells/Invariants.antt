@@ -1,6 +1,6 @@
-use Rattle.std.proofs.Common.{◌≡◌, ◌++◌, drop, map}
-use Rattle.sr_cell.specs.Cells.{cell_at}
+use Rattle.std.proofs.Common.{◌≡◌, ◌++◌, drop}
+use Rattle.sr_world.specs.Client.{cells_of}
 use Rattle.sr_world.proofs.client.cells.Given as goal
 
-abbrev pub invariant-loop-column : goal.invariant-loop-column
-invariant-loop-column l = l.cells ++ map (cell_at l.row) (drop l.column-index l.columns) ≡ map (cell_at l.row) l.columns
+abbrev pub invariant-loop-output : goal.invariant-loop-output
+invariant-loop-output l = l.cells ++ cells_of (drop l.output-index l.outputs) l.row ≡ cells_of l.outputs l.row

@@ -1,9 +1,14 @@
 use Rattle.sr_world.proofs.StepLemmas.{if_ok}
-use Rattle.sr_world.proofs.KeptLemmas.{refuses-query, asks-query}
+use Rattle.sr_world.proofs.KeptLemmas.{refuses-query, asks, asks-query}
 use Rattle.sr_world.proofs.kept.query.Goals as goal
 
 pub returns-in-Err-clause-steps : goal.returns-in-Err-clause-steps
-returns-in-Err-clause-steps c = if_ok _ c.one_line.result _ c.one_line.ensures (refuses-query c.args.world.now c.args.query c.in-Err.fault c.in-Err.is c.requires.still)
+returns-in-Err-clause-steps c = λ meaning means.
+    if_ok _ c.one_line.result _ c.one_line.ensures (refuses-query _ c.args.world.now c.args.query meaning c.in-Err.fault c.in-Err.is means c.requires.still)
+
+pub query-requires-clause-asks : goal.query-requires-clause-asks
+query-requires-clause-asks c = asks c.args.world.now c.args.query c.in-Some.world c.in-Ok.query c.in-Some.is c.in-Ok.is c.requires.means
 
 pub returns-in-Some-clause-steps : goal.returns-in-Some-clause-steps
-returns-in-Some-clause-steps c = asks-query c.args.world.now c.args.query c.in-Some.world c.query.new.self c.in-Ok.field-0 c.query.result c.in-Some.is c.in-Ok.is c.query.ensures.steps
+returns-in-Some-clause-steps c = λ meaning means.
+    asks-query c.args.world.now c.args.query c.in-Some.world c.query.new.self c.in-Ok.query meaning c.query.result c.in-Some.is c.in-Ok.is means c.query.ensures.steps

@@ -1,47 +1,57 @@
-use Rattle.std.proofs.Common.{◌≡◌, ◌∙◌, ◌∷◌, length, ap, refl, sym, subst, IsTrue, rules, arith}
+use Rattle.std.proofs.Common.{◌≡◌, ◌∙◌, [], ◌∷◌, length, ap, refl, sym, subst, rules, arith}
 use Rattle.std.proofs.lemmas.Grind.{common_steps}
-use Rattle.std.specs.List.{list_all}
+use Rattle.std.specs.List.{AllByRecursion}
 use Rattle.std.specs.Vec.Iter.{into_iter_items}
-use Rattle.sr_reader.specs.Read.{query_event, selection_fits, is_refused}
-use Rattle.sr_world.proofs.ReplayLemmas.{RanWhole-none, RanWhole-more, RanPart-whole, RanPart-more, split-next, split-more, all-rest}
+use Rattle.sr_reader.specs.Read.{IsAsked}
+use Rattle.sr_world.specs.Bound.{JoinsNothing}
+use Rattle.sr_world.proofs.ReplayLemmas.{RanSome-none, RanSome-all, RanSome-part, RanSome-more, RanSome-next, next-asked, all-first, all-later}
 use Rattle.sr_world.proofs.replay.run_queries.Goals as goal
 
 pub loop-line-init : goal.loop-line-init
 loop-line-init g c =
     let all : into_iter_items c.into_iter-line-iterator.result ≡ c.args.lines = search rules in
     record {
-      split = search rules;
-      ran = RanWhole-none _ _ _;
+      ran = λ asked zip. RanSome-none _ _ _ asked _ _ all zip;
       stands = c.requires.stands;
       still = c.requires.still;
-      fits = subst (λ lines. IsTrue (list_all (λ line. selection_fits line.query) lines)) (sym all) c.requires.fits;
-      refused = λ is. subst (λ lines. IsTrue (list_all (λ line. is_refused line.query) lines)) (sym all) (c.requires.refused is);
+      tables = c.requires.tables;
+      alone = subst (AllByRecursion JoinsNothing) (sym all) c.requires.alone;
       room = search rules;
       same_faults = refl;
       stays = record { stays_steady = λ s. s; reading_stays = refl; linking_stays = refl; held_stays = refl; complaints_stay = refl };
     }
 
+pub query_text-requires-clause-asked : goal.query_text-requires-clause-asked
+query_text-requires-clause-asked g c =
+    let turn : into_iter_items c.loop-line.line-iterator ≡ c.in-Some.line ∷ into_iter_items c.next.new.self = grind (arith, common_steps) in
+    next-asked _ _ _ _ _ _ _ _ _ _ c.loop-line.invariant.tables turn c.requires.asked c.loop-line.invariant.ran
+
+pub query_text-requires-clause-alone : goal.query_text-requires-clause-alone
+query_text-requires-clause-alone g c =
+    let turn : into_iter_items c.loop-line.line-iterator ≡ c.in-Some.line ∷ into_iter_items c.next.new.self = grind (arith, common_steps) in
+    all-first JoinsNothing _ _ _ c.loop-line.invariant.alone turn
+
 pub returns-in-Err-clause-part : goal.returns-in-Err-clause-part
-returns-in-Err-clause-part g c = RanPart-whole _ _ _ _ _ _ _ _ c.loop-line.invariant.ran c.loop-line.invariant.split
+returns-in-Err-clause-part g c = λ asked zip. RanSome-part _ _ asked _ _ _ _ (c.loop-line.invariant.ran asked zip)
 
 pub returns-in-Err-write_all-clause-part : goal.returns-in-Err-write_all-clause-part
-returns-in-Err-write_all-clause-part g c =
+returns-in-Err-write_all-clause-part g c = λ asked zip.
     let turn : into_iter_items c.loop-line.line-iterator ≡ c.in-Some.line ∷ into_iter_items c.next.new.self = grind (arith, common_steps) in
-    let split = split-next query_event _ _ _ _ _ c.loop-line.invariant.split turn in
     let prefix = rw c.as_bytes.ensures.value at c.in-Err-write_all.ensures.prefix in
-    RanPart-more _ _ _ _ _ _ _ _ _ _ _ _ c.loop-line.invariant.ran c.in-Ok.ensures.ran prefix split
+    RanSome-more _ _ _ _ asked _ _ _ _ _ _ _ turn (c.loop-line.invariant.ran asked zip)
+    (λ event is. c.in-Ok.ensures.ran event (subst (λ ts. IsAsked ts c.in-Some.line event) (sym c.loop-line.invariant.tables) is)) prefix
 
 pub loop-line-preserved : goal.loop-line-preserved
 loop-line-preserved g c =
     let turn : into_iter_items c.loop-line.line-iterator ≡ c.in-Some.line ∷ into_iter_items c.next.new.self = grind (arith, common_steps) in
     let whole = rw c.as_bytes.ensures.value at c.in-Ok-write_all.ensures.whole in
     record {
-      split = split-more query_event _ _ _ _ _ c.loop-line.invariant.split turn;
-      ran = RanWhole-more query_event _ _ _ _ _ _ _ _ _ _ c.loop-line.invariant.ran c.in-Ok.ensures.ran whole;
+      ran = λ asked zip. RanSome-next _ _ _ _ asked _ _ _ _ _ _ _ turn (c.loop-line.invariant.ran asked zip)
+          (λ event is. c.in-Ok.ensures.ran event (subst (λ ts. IsAsked ts c.in-Some.line event) (sym c.loop-line.invariant.tables) is)) whole;
       stands = c.in-Ok.ensures.stands;
       still = c.in-Ok.ensures.still;
-      fits = all-rest _ _ _ _ c.loop-line.invariant.fits turn;
-      refused = λ is. all-rest _ _ _ _ (c.loop-line.invariant.refused (c.in-Ok.ensures.none is)) turn;
+      tables = c.in-Ok.ensures.tables ∙ c.loop-line.invariant.tables;
+      alone = all-later JoinsNothing _ _ _ c.loop-line.invariant.alone turn;
       room = omega (arith, ap length turn, c.in-Ok.ensures.drawn);
       same_faults = c.in-Ok-write_all.ensures.ok_keeps_faults ∙ c.loop-line.invariant.same_faults;
       stays = record {
@@ -52,3 +62,8 @@ loop-line-preserved g c =
         complaints_stay = c.in-Ok-write_all.ensures.complaints_stay ∙ c.loop-line.invariant.stays.complaints_stay;
       };
     }
+
+pub returns-clause-whole : goal.returns-clause-whole
+returns-clause-whole g c = λ asked zip.
+    let none : into_iter_items c.loop-line.line-iterator ≡ [] = grind (arith, common_steps) in
+    RanSome-all _ _ asked _ _ _ _ none (c.loop-line.invariant.ran asked zip)

@@ -2,7 +2,7 @@ use Rattle.std.proofs.Common.{◌≡◌, ◌∙◌, ◌∷◌, length, ap, refl,
 use Rattle.std.proofs.lemmas.Grind.{common_steps}
 use Rattle.std.specs.List.{list_all}
 use Rattle.std.specs.Vec.Iter.{into_iter_items}
-use Rattle.sr_reader.specs.Read.{exec_event, rows_fit, is_refused}
+use Rattle.sr_reader.specs.Read.{exec_event, rows_fit}
 use Rattle.sr_world.proofs.ReplayLemmas.{RanWhole-none, RanWhole-more, RanPart-whole, RanPart-more, split-next, split-more, all-rest}
 use Rattle.sr_world.proofs.replay.run_statements.Goals as goal
 
@@ -14,9 +14,9 @@ loop-line-init g c =
       ran = RanWhole-none _ _ _;
       stands = c.requires.stands;
       unasked = c.requires.unasked;
-      fits = subst (λ lines. IsTrue (list_all (λ line. rows_fit line.statement) lines)) (sym all) c.requires.fits;
-      refused = λ is. subst (λ lines. IsTrue (list_all (λ line. is_refused line.statement) lines)) (sym all) (c.requires.refused is);
-      none = λ is. is;
+      tables = c.requires.tables;
+      same_tables = refl;
+      fits = subst (λ lines. IsTrue (list_all (λ line. rows_fit c.args.schema.now line.statement) lines)) (sym all) c.requires.fits;
       room = search rules;
       same_faults = refl;
       stays = record { stays_steady = λ s. s; reading_stays = refl; linking_stays = refl; held_stays = refl; complaints_stay = refl };
@@ -41,9 +41,9 @@ loop-line-preserved g c =
       ran = RanWhole-more exec_event _ _ _ _ _ _ _ _ _ _ c.loop-line.invariant.ran c.in-Ok.ensures.ran whole;
       stands = c.in-Ok.ensures.stands;
       unasked = c.in-Ok.ensures.unasked;
+      tables = c.in-Ok.ensures.tables ∙ c.loop-line.invariant.tables;
+      same_tables = c.in-Ok.ensures.tables ∙ c.loop-line.invariant.same_tables;
       fits = all-rest _ _ _ _ c.loop-line.invariant.fits turn;
-      refused = λ is. all-rest _ _ _ _ (c.loop-line.invariant.refused (c.in-Ok.ensures.none is)) turn;
-      none = λ is. c.loop-line.invariant.none (c.in-Ok.ensures.none is);
       room = omega (arith, ap length turn, c.in-Ok.ensures.drawn);
       same_faults = c.in-Ok-write_all.ensures.ok_keeps_faults ∙ c.loop-line.invariant.same_faults;
       stays = record {

@@ -1,22 +1,19 @@
-use Rattle.std.proofs.Common.{◌≡◌, ap, Err, arith}
-use Rattle.sr_world.proofs.TwoColumns.{two_columns, length-two, key-two}
-use Rattle.sr_world.proofs.StepLemmas.{create-of, does-exec, does-refuse, if_ok}
+use Rattle.std.proofs.Common.{◌≡◌, ap, Err}
+use Rattle.sr_world.proofs.Columns.{columns-few, key-within, fits-widths, fits-few}
+use Rattle.sr_world.proofs.StepLemmas.{built-of, does-exec, does-refuse, if_ok}
 use Rattle.sr_world.proofs.world.World.exec.Goals as goal
 
 pub insert-requires-clause-widths : goal.insert-requires-clause-widths
-insert-requires-clause-widths c =
-    let create = create-of c.args.self.now c.only.result.now c.requires.stands c.only.ensures in
-    rw (length-two c.only.result.now.columns (two_columns c.only.result.now create)) c.requires.widths
+insert-requires-clause-widths c = fits-widths c.args.self.now.schema c.only.result.now c.args.rows c.only.ensures c.requires.fits
+
+pub insert-requires-clause-number : goal.insert-requires-clause-number
+insert-requires-clause-number c = fits-few c.args.self.now.schema c.only.result.now c.args.rows c.only.ensures c.requires.fits
 
 pub insert-requires-clause-key : goal.insert-requires-clause-key
-insert-requires-clause-key c =
-    let create = create-of c.args.self.now c.only.result.now c.requires.stands c.only.ensures in
-    omega (arith, length-two c.only.result.now.columns (two_columns c.only.result.now create), key-two c.only.result.now create)
+insert-requires-clause-key c = key-within c.only.result.now (built-of c.args.self.now c.only.result.now c.requires.stands c.only.ensures)
 
 pub insert-requires-clause-columns : goal.insert-requires-clause-columns
-insert-requires-clause-columns c =
-    let create = create-of c.args.self.now c.only.result.now c.requires.stands c.only.ensures in
-    omega (arith, length-two c.only.result.now.columns (two_columns c.only.result.now create))
+insert-requires-clause-columns c = columns-few c.only.result.now (built-of c.args.self.now c.only.result.now c.requires.stands c.only.ensures)
 
 pub returns-in-Ok-clause-steps : goal.returns-in-Ok-clause-steps
 returns-in-Ok-clause-steps c =

@@ -4,7 +4,7 @@ use Rattle.sr_world.proofs.SettleLemmas.{still-stands, many-none, many-more}
 use Rattle.sr_world.proofs.world.World.take_all.Goals as goal
 
 pub loop-alloc-init : goal.loop-alloc-init
-loop-alloc-init c = (c.requires.stands, rw c.new-lines.ensures (many-none c.args.self.now), refl, c.requires.served)
+loop-alloc-init c = (c.requires.stands, rw c.new-lines.ensures (many-none c.args.self.now), refl, c.requires.served, refl)
 
 pub loop-alloc-preserved : goal.loop-alloc-preserved
 loop-alloc-preserved c =
@@ -14,4 +14,5 @@ loop-alloc-preserved c =
       rw c.in_ok-append.ensures.appended (many-more c.args.self.now c.loop-alloc.self c.take.new.self c.loop-alloc.lines _ before.1 delivery),
       c.in_ok-take.ensures.drawn ∙ before.2,
       c.in_ok-take.ensures.to_server ∙ before.3,
+      c.in_ok-take.ensures.schema ∙ before.4,
     )

@@ -1,0 +1,14 @@
+//! Binding: what a statement asks of the tables of a schema, or its first fault.
+#![tactic(auto)]
+
+pub mod bind;
+mod conditions;
+mod conjuncts;
+mod mixed;
+mod needs;
+mod parts;
+mod references;
+mod split;
+#[cfg(test)]
+mod tests;
+mod values;

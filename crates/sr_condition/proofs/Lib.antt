@@ -1,0 +1,9 @@
+pub mod Bounds
+pub mod Parts
+pub mod Joins
+pub mod Apart
+pub mod Tested
+pub mod Members
+pub mod Constrained
+pub mod Combined
+pub mod Rooms

@@ -1,0 +1,4 @@
+pub mod Binding
+pub mod Meant
+pub mod Bound
+pub mod Decided

@@ -1,6 +1,6 @@
 -- The bounds of the values of a test.
 use Rattle.std.proofs.Common.{◌≡◌, ℕ, true, false, List, [], ◌∷◌, ◌++◌, refl, sym, subst, arith, ◌∙◌}
-use Rattle.std.specs.Prelude.{ℤ, pos, ◌+ℤ◌, int_le, int_lt, Bool, not, ◌&&◌, ◌||◌, Option, Some, None}
+use Rattle.std.specs.Prelude.{ℤ, pos, ◌+ℤ◌, ◌-ℤ◌, int_le, int_lt, Bool, not, ◌&&◌, ◌||◌, Option, Some, None}
 use Rattle.std.proofs.lemmas.Int.{ints}
 use Rattle.std.proofs.lemmas.Bool.Decides.{nat_tests}
 use Rattle.sr_cell.specs.declared.cell.Cell.{Cell}
@@ -18,7 +18,7 @@ use Rattle.sr_box.proofs.Order.{cell_eq-sound}
 use Rattle.sr_box.proofs.Prefixes.{prefixes_are_spans, prefixes_fit}
 use Rattle.sr_union.specs.Grid.{is_among, has_cut}
 use Rattle.sr_union.proofs.Cuts.{is_among-append}
-use Rattle.sr_model.specs.Conditions.{Test, passes, begins, Eq, Le, Gt, Between, Prefix}
+use Rattle.sr_model.specs.Conditions.{Test, passes, begins, Eq, Lt, Le, Gt, Ge, Between, Prefix}
 use Rattle.sr_model.specs.Ends.{test_ends, next_text}
 use Rattle.sr_condition.specs.Ranges.{is_range, IsRange}
 
@@ -58,6 +58,21 @@ number-range column t lo hi k h a b = record {
   points = number-point column.kind column.lo column.hi lo hi t k h;
   ends = number-end column.kind column.lo column.hi lo hi (test_ends t) k a b;
 }
+
+pub equal-number : (column : Column) (w : ℤ) → column.kind ≡ Numbers → IsRange column (passes (Eq (Num w))) (test_ends (Eq (Num w))) (Nums w w)
+equal-number column w k = number-range column (Eq (Num w)) w w k (λ n a b. grind arith) (λ a. grind (arith, ints)) (λ b. grind (arith, ints))
+
+pub below-number : (column : Column) (w : ℤ) → column.kind ≡ Numbers → IsRange column (passes (Lt (Num w))) (test_ends (Lt (Num w))) (Nums column.lo (w -ℤ pos 1))
+below-number column w k = number-range column (Lt (Num w)) column.lo (w -ℤ pos 1) k (λ n a b. grind (arith, ints)) (λ a. absurd (grind (arith, ints))) (λ b. grind (arith, ints))
+
+pub at_most-number : (column : Column) (w : ℤ) → column.kind ≡ Numbers → IsRange column (passes (Le (Num w))) (test_ends (Le (Num w))) (Nums column.lo w)
+at_most-number column w k = number-range column (Le (Num w)) column.lo w k (λ n a b. grind (arith, ints)) (λ a. absurd (grind (arith, ints))) (λ b. grind (arith, ints))
+
+pub above-number : (column : Column) (w : ℤ) → column.kind ≡ Numbers → IsRange column (passes (Gt (Num w))) (test_ends (Gt (Num w))) (Nums (w +ℤ pos 1) column.hi)
+above-number column w k = number-range column (Gt (Num w)) (w +ℤ pos 1) column.hi k (λ n a b. grind (arith, ints)) (λ a. grind (arith, ints)) (λ b. absurd (grind (arith, ints)))
+
+pub at_least-number : (column : Column) (w : ℤ) → column.kind ≡ Numbers → IsRange column (passes (Ge (Num w))) (test_ends (Ge (Num w))) (Nums w column.hi)
+at_least-number column w k = number-range column (Ge (Num w)) w column.hi k (λ n a b. grind (arith, ints)) (λ a. grind (arith, ints)) (λ b. absurd (grind (arith, ints)))
 
 pub between-numbers : (column : Column) (u w : ℤ) → column.kind ≡ Numbers → IsRange column (passes (Between (Num u) (Num w))) (test_ends (Between (Num u) (Num w))) (Nums u w)
 between-numbers column u w k = number-range column (Between (Num u) (Num w)) u w k (λ n a b. grind (arith, ints)) (λ a. grind (arith, ints)) (λ b. grind (arith, ints))

@@ -120,3 +120,9 @@ part-spans column values places (Strs lo hi) r = maybe-spans column (text_part l
 pub part-fits : (column : Column) (s : Span) → is_range column.kind s ≡ true → list_all (span_fits column) (option_to_list (part_of column s)) ≡ true
 part-fits column s r =
     (part-spans column (in_span s) (cuts_of column.kind column.lo column.hi s) s (record { kind = r; points = λ v i. refl; ends = λ v h. h })).fits
+
+-- bounds that are not around the domain
+pub inner-part : (low high lo hi a b : ℤ) (around : Bool) (r : Option Span) → around ≡ (int_le lo low && int_le high hi) → around ≡ false → a ≡ int_max lo low → b ≡ int_min hi high → r ≡ nums a b
+    → r ≡ number_part low high lo hi
+inner-part low high lo hi a b around r is outside first last part =
+    let e : (int_le lo low && int_le high hi) ≡ false = sym is ∙ outside in part ∙ rw (first, last, e) refl

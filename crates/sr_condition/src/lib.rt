@@ -4,4 +4,6 @@
 pub(crate) mod ranges;
 pub mod rects;
 pub(crate) mod spans;
+#[cfg(test)]
+mod tests;
 pub mod width;

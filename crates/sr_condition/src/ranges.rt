@@ -18,7 +18,7 @@ use sr_cell::table::Column;
 use sr_grammar::statement::Op;
 use std::alloc::Global;
 
-/// Of a comparison; of `<>` those that it leaves out.
+/// The bounds of the values that a comparison is true of; of `<>`, of those that it leaves out.
 pub(crate) fn compared(
     alloc: Global,
     column: &Column,
@@ -105,7 +105,7 @@ fn know_bytes(text: &[u8])
     ensures { are_bytes text.now ≡ true }
 {}
 
-/// Of BETWEEN.
+/// The bounds of the values that lie between two.
 pub(crate) fn between(
     alloc: Global,
     column: &Column,
@@ -147,7 +147,7 @@ fn text_between(alloc: Global, column: &Column, low: &[u8], high: &[u8]) -> Resu
     })
 }
 
-/// Of LIKE.
+/// The bounds of the texts that begin so.
 pub(crate) fn prefix(alloc: Global, column: &Column, start: &[u8]) -> Result<Span, NoMemory>
     requires { column.now.kind ≡ Texts }
     ensures { IfOk result (IsRange column.now (passes (Prefix start.now)) (test_ends (Prefix start.now))) }

@@ -31,7 +31,7 @@ pub fn rects_of(alloc: Global, table: &Table, condition: &Condition) -> Result<R
     Ok(rects)
 }
 
-// Of a condition, or of its contrary.
+// The rects of a condition, or of its contrary.
 #[cycle(condition)]
 fn rects_said(
     alloc: Global,

@@ -15,7 +15,7 @@ pub fn width(condition: &Condition) -> u32
     width_of(true, condition)
 }
 
-// Of a condition, or of its contrary.
+// The width of a condition, or of its contrary.
 #[cycle(condition)]
 fn width_of(plain: bool, condition: &Condition) -> u32
     ensures { result ≡ width plain (cond_of (meant condition.now)) }

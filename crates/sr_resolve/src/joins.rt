@@ -90,6 +90,7 @@ fn key_join(
     })
 }
 
+/// The first tables, or all where there are fewer.
 fn first(tables: &[u8], count: usize) -> &[u8]
     ensures { result.now ≡ take count tables.now }
 {
@@ -100,8 +101,8 @@ fn first(tables: &[u8], count: usize) -> &[u8]
     }
 }
 
-#[tactic(auto, using(crate::proofs::First::known_first, crate::proofs::First::within_first))]
 /// The join of this part; its references are to tables up to the joined one.
+#[tactic(auto, using(crate::proofs::First::known_first, crate::proofs::First::within_first))]
 fn one_join(schema: &Schema, tables: &[u8], part: u8, join: &JoinOn) -> Result<KeyJoin, Fault>
     requires { IsTrue (are_known schema.now tables.now) }
     ensures found { IfOk result (λ j. one_join schema.now tables.now part join.now ≡ Ok (join_of schema.now tables.now j)) }

@@ -91,8 +91,10 @@ const REPEATED_TABLE: &str = "CREATE TABLE p (id INT PRIMARY KEY, age INT)
 CREATE TABLE p (id INT PRIMARY KEY, age INT)
 ";
 
-/// The first table is sound, and of a form that is not built.
-const BROKEN_TABLE: &str = "CREATE TABLE p (id INT PRIMARY KEY)
+/// A table that is sound and not built.
+const TEXT_TABLE: &str = "CREATE TABLE p (name TEXT PRIMARY KEY)";
+
+const BROKEN_TABLE: &str = "CREATE TABLE p (name TEXT PRIMARY KEY)
 CREATE TABLE q id INT
 ";
 
@@ -208,6 +210,7 @@ fn refusals_are_named(rt: HostRuntime) -> Result<(), Fail> {
     for (script, fails, status, error) in [
         (UNBUILT, 0, 12, "unbuilt 5\n"),
         (SECOND_TABLE, 0, 12, "unbuilt 2\n"),
+        (TEXT_TABLE, 0, 12, "unbuilt 1\n"),
         (WITHOUT_KEY, 0, 7, "schema 2 no-key 0\n"),
         (REPEATED_COLUMN, 0, 7, "schema 1 duplicate-name 1\n"),
         (REPEATED_TABLE, 0, 7, "schema 2 duplicate-name 0\n"),

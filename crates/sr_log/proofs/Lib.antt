@@ -1,0 +1,5 @@
+pub mod Least
+pub mod Again
+pub mod Numbers
+pub mod Leaving
+pub mod Pushing

@@ -7,3 +7,4 @@ pub mod Listed
 pub mod Passing
 pub mod Low
 pub mod Asking
+pub mod Writing

@@ -6,3 +6,4 @@ pub mod OneTable
 pub mod Needs
 pub mod Narrow
 pub mod Queried
+pub mod Written

@@ -1,9 +1,11 @@
-//! Binding: what a statement asks of the tables of a schema, or its first fault.
+//! Binding: what a statement asks of the tables of a schema or writes to them, or its first fault.
 #![tactic(auto)]
 
 pub mod bind;
 mod conditions;
 mod conjuncts;
+mod inserts;
+mod lookup;
 mod mixed;
 mod needs;
 mod parts;
@@ -11,4 +13,6 @@ mod references;
 mod split;
 #[cfg(test)]
 mod tests;
+mod updates;
 mod values;
+pub mod write;

@@ -14,12 +14,12 @@ ghost use Rattle.sr_bind.specs.Needs.{is_low};
 ghost use Rattle.sr_bind.specs.OneTable.{one_table, done};
 
 use crate::conjuncts::Conjuncts;
+use crate::lookup::table_at;
 use crate::needs::need_of;
 use crate::split::split;
 use sr_cell::fault::{Fault, Why};
 use sr_cell::list::{No, Seq};
 use sr_cell::schema::Schema;
-use sr_cell::table::Table;
 use sr_condition::rects::rects_of;
 use sr_condition::width::width;
 use sr_query::condition::{Condition, Output};
@@ -112,13 +112,4 @@ fn part_of(
         rects: rects_of(alloc, table, condition)?,
         width,
     })
-}
-
-fn table_at(schema: &Schema, number: u8) -> &Table
-    requires sound { IsTrue (list_all is_table schema.now) }
-    requires within { number < length schema.now }
-    ensures found { result.now ≡ table_at schema.now number }
-    ensures sound { IsTrue (is_table result.now) }
-{
-    &schema.as_slice()[number as usize]
 }

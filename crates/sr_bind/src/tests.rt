@@ -1,15 +1,17 @@
-//! Queries of a small schema: each refusal at its place, and what is asked of a part.
+//! Queries and writes of a small schema: each refusal at its place, what is asked of a part, and what is written.
 ghost use Rattle.std.specs.Prelude.{IsTrue, IfOk, OnOk};
 ghost use Rattle.std.specs.List.{list_all};
 ghost use Rattle.sr_query.specs.Bound.{is_table};
 
 use crate::bind::bind_query;
+use crate::write::bind_write;
 use sr_cell::cell::{Cell, Row};
 use sr_cell::fault::{Fault, Why};
 use sr_cell::list::{No, NoMemory, Seq};
 use sr_cell::schema::Schema;
 use sr_grammar::statement::Statement;
 use sr_query::query::Query;
+use sr_query::write::Write;
 use sr_sql::read::read;
 use std::alloc::Global;
 use std::test::Fail;
@@ -205,6 +207,144 @@ fn parts_have_their_columns_and_points(rt: HostRuntime) -> Result<(), Fail> {
             Ok((need, width, true, false)),
             "{text}"
         );
+    }
+    Ok(())
+}
+
+fn written(alloc: Global, text: &str) -> Result<Write, No<Fault>> {
+    let schema = schema_of(alloc)?;
+    bind_write(alloc, &schema, &read(alloc, text)?)
+}
+
+fn fault_of_write(alloc: Global, text: &str) -> Result<(), No<Fault>> {
+    written(alloc, text)?;
+    Ok(())
+}
+
+#[test]
+fn refusals_of_writes_have_their_places(rt: HostRuntime) -> Result<(), Fail> {
+    let alloc = rt.alloc();
+    for (text, why, at) in [
+        ("SELECT id FROM p", Why::NotAWrite, 0),
+        ("CREATE TABLE q (id INT PRIMARY KEY)", Why::NotAWrite, 0),
+        ("INSERT INTO q VALUES (1)", Why::UnknownTable, 12),
+        ("UPDATE q SET id = 8", Why::UnknownTable, 7),
+        ("DELETE FROM q", Why::UnknownTable, 12),
+        (
+            "INSERT INTO p (id, wage) VALUES (1, 2)",
+            Why::UnknownColumn,
+            19,
+        ),
+        (
+            "INSERT INTO p (id, age, id) VALUES (1, 2, 3)",
+            Why::Repeated,
+            24,
+        ),
+        ("INSERT INTO p (age) VALUES (3)", Why::WrongCount, 12),
+        ("INSERT INTO p VALUES (1, 2), (3)", Why::WrongCount, 29),
+        ("INSERT INTO p VALUES ('x')", Why::WrongCount, 21),
+        ("INSERT INTO p VALUES (1, 'x')", Why::WrongType, 25),
+        (
+            "INSERT INTO d (id, name, head) VALUES (7, 'x', 3), (8, 9, 3)",
+            Why::WrongType,
+            55,
+        ),
+        ("UPDATE p SET id = 8", Why::KeyChange, 13),
+        ("UPDATE p SET wage = 8", Why::UnknownColumn, 13),
+        ("UPDATE p SET age = 8, age = 9", Why::Repeated, 22),
+        ("UPDATE d SET head = 8, name = 9", Why::WrongType, 30),
+        (
+            "UPDATE p SET age = 8, id = 9 WHERE wage = 1",
+            Why::KeyChange,
+            22,
+        ),
+        (
+            "UPDATE p SET age = 8 WHERE wage = 1",
+            Why::UnknownColumn,
+            27,
+        ),
+        ("DELETE FROM p WHERE age = 'x'", Why::WrongType, 26),
+        (
+            "DELETE FROM p WHERE age = 1099511627776",
+            Why::OutOfDomain,
+            26,
+        ),
+        ("DELETE FROM p WHERE d.id = 3", Why::UnknownTable, 20),
+    ] {
+        let refusal = No::Refused(Fault { why, at });
+        assert_eq!(rt; fault_of_write(alloc, text), Err(refusal), "{text}");
+    }
+    Ok(())
+}
+
+fn number_at(row: &Row, column: usize) -> i64 {
+    match row.get(column) {
+        Some(Cell::Num(number)) => *number,
+        _ => -1,
+    }
+}
+
+/// The table of an INSERT, and the first numbers of its last row.
+fn last_row(alloc: Global, text: &str) -> Result<(u8, i64, i64), No<Fault>> {
+    match written(alloc, text)? {
+        Write::Insert { table, rows } => match rows.as_slice() {
+            [.., row] => Ok((table, number_at(row, 0), number_at(row, 1))),
+            [] => Ok((table, -1, -1)),
+        },
+        _ => Ok((99, -1, -1)),
+    }
+}
+
+#[test]
+fn rows_have_the_order_of_their_table(rt: HostRuntime) -> Result<(), Fail> {
+    let alloc = rt.alloc();
+    for (text, row) in [
+        ("INSERT INTO p VALUES (7, 30)", (0, 7, 30)),
+        ("INSERT INTO p (age, id) VALUES (30, 7)", (0, 7, 30)),
+        ("INSERT INTO p VALUES (1, 2), (7, 999)", (0, 7, 999)),
+        (
+            "INSERT INTO d (id, head, name) VALUES (1, 2, 'x')",
+            (1, -1, 2),
+        ),
+    ] {
+        assert_eq!(rt; last_row(alloc, text), Ok(row), "{text}");
+    }
+    Ok(())
+}
+
+/// The table, the last column that is set and its number, and whether there is a condition.
+fn last_set(alloc: Global, text: &str) -> Result<(u8, u8, i64, bool), No<Fault>> {
+    match written(alloc, text)? {
+        Write::Update {
+            table,
+            sets,
+            filter,
+        } => match sets.as_slice() {
+            [.., set] => match set.cell {
+                Cell::Num(number) => Ok((table, set.column, number, filter.condition.is_some())),
+                Cell::Str(_) => Ok((table, set.column, -1, filter.condition.is_some())),
+            },
+            [] => Ok((table, 99, -1, filter.condition.is_some())),
+        },
+        Write::Delete { table, filter } => Ok((table, 99, -1, filter.condition.is_some())),
+        Write::Insert { table, .. } => Ok((table, 99, -1, false)),
+    }
+}
+
+#[test]
+fn sets_and_filters_are_taken(rt: HostRuntime) -> Result<(), Fail> {
+    let alloc = rt.alloc();
+    for (text, set) in [
+        ("UPDATE p SET age = 999", (0, 1, 999, false)),
+        ("UPDATE p SET age = 31 WHERE id = 7", (0, 1, 31, true)),
+        (
+            "UPDATE d SET head = 3, name = 'x' WHERE d.id = 7",
+            (1, 0, -1, true),
+        ),
+        ("DELETE FROM d", (1, 99, -1, false)),
+        ("DELETE FROM p WHERE age > 3", (0, 99, -1, true)),
+    ] {
+        assert_eq!(rt; last_set(alloc, text), Ok(set), "{text}");
     }
     Ok(())
 }

@@ -4,6 +4,7 @@ ghost use Rattle.std.specs.List.{list_all};
 ghost use Rattle.sr_query.specs.Binding.{value_of, each, is_of, is_inside, test_of};
 ghost use Rattle.sr_query.specs.Decided.{Decides};
 ghost use Rattle.sr_query.specs.Meant.{test_meant, holds};
+ghost use Rattle.sr_query.specs.Writes.{typed};
 ghost use Rattle.sr_bind.specs.TestsOf.{between_of, prefix_of};
 ghost use Rattle.sr_condition.specs.Suits.{cell_suits, test_suits};
 
@@ -37,6 +38,17 @@ fn value_of(alloc: Global, kind: Kind, literal: &Literal) -> Result<Cell, No<Fau
         return Err(refused(Why::OutOfDomain, literal));
     }
     Ok(literal.cell.copy(alloc)?)
+}
+
+/// Refuses a literal that is not of that kind, whatever its domain.
+pub fn typed(kind: Kind, literal: &Literal) -> Result<(), No<Fault>>
+    ensures { Decides (λ _. literal.now.cell) result (typed kind literal.now) }
+{
+    if is_of(kind, &literal.cell) {
+        Ok(())
+    } else {
+        Err(refused(Why::WrongType, literal))
+    }
 }
 
 fn refused(why: Why, literal: &Literal) -> No<Fault>

@@ -7,3 +7,5 @@ pub mod Members
 pub mod Constrained
 pub mod Combined
 pub mod Rooms
+pub mod Starts
+pub mod Absent

@@ -1,6 +1,7 @@
-//! Conditions on one table as rects.
+//! Conditions on one table: as rects, and whether they are true of a row.
 #![tactic(auto)]
 
+pub mod passes;
 pub(crate) mod ranges;
 pub mod rects;
 pub(crate) mod spans;

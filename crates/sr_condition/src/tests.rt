@@ -1,4 +1,4 @@
-//! The points of conditions, drawn as pictures: an `x` for each sample that the condition is true of.
+//! The points of conditions, drawn as pictures: an `x` for each sample that the condition is true of, as a point and as a row.
 ghost use Rattle.std.specs.Prelude.{◌≡◌, true, IfOk};
 ghost use Rattle.std.specs.List.{list_all};
 ghost use Rattle.sr_query.specs.Binding.{cond_of};
@@ -6,6 +6,7 @@ ghost use Rattle.sr_query.specs.Bound.{is_table};
 ghost use Rattle.sr_query.specs.Meant.{meant, members, test_meant};
 ghost use Rattle.sr_condition.specs.Suits.{cell_suits, test_suits, suits, all_suit};
 
+use crate::passes::{meets, passes};
 use crate::rects::rects_of;
 use crate::width::width;
 use sr_cell::cell::{Cell, Row};
@@ -14,6 +15,7 @@ use sr_cell::table::{Column, Kind, Table};
 use sr_cell::text::Text;
 use sr_grammar::statement::Op;
 use sr_query::condition::{Condition, Output, Test};
+use sr_query::write::Filter;
 use sr_union::rects::Rects;
 use std::alloc::Global;
 use std::test::Fail;
@@ -122,7 +124,9 @@ fn is_drawn(picture: &str, place: usize) -> bool {
 fn numbers_are(alloc: Global, condition: &Condition, picture: &str) -> Result<bool, NoMemory> {
     let rects = checked(alloc, condition)?;
     for number in 0..11usize {
-        if rects.has(&row_of(alloc, number as i64, "b")?) != is_drawn(picture, number) {
+        let row = row_of(alloc, number as i64, "b")?;
+        let drawn = is_drawn(picture, number);
+        if rects.has(&row) != drawn || passes(condition, &row) != drawn {
             return Ok(false);
         }
     }
@@ -134,7 +138,9 @@ const WORDS: [&str; 7] = ["", "a", "a\0", "ab", "b", "ba", "c"];
 fn words_are(alloc: Global, condition: &Condition, picture: &str) -> Result<bool, NoMemory> {
     let rects = checked(alloc, condition)?;
     for place in 0..WORDS.len() {
-        if rects.has(&row_of(alloc, 5, WORDS[place])?) != is_drawn(picture, place) {
+        let row = row_of(alloc, 5, WORDS[place])?;
+        let drawn = is_drawn(picture, place);
+        if rects.has(&row) != drawn || passes(condition, &row) != drawn {
             return Ok(false);
         }
     }
@@ -272,5 +278,21 @@ fn joined_tests_have_their_numbers(rt: HostRuntime) -> Result<(), Fail> {
     assert!(rt; numbers_are(alloc, &neither, "...........")?);
     let not_both = Condition::Not(Box::new(alloc, Condition::And(pair(alloc)?))?);
     assert!(rt; numbers_are(alloc, &not_both, "..x.xxxxxxx")?);
+    Ok(())
+}
+
+#[test]
+fn a_filter_lets_rows_through(rt: HostRuntime) -> Result<(), Fail> {
+    let alloc = rt.alloc();
+    let row = numbers(alloc, &[5])?;
+    assert!(rt; meets(&Filter { condition: None }, &row));
+    for (column, value, through) in [(0, 5, true), (0, 6, false), (1, 0, true), (1, 5, false)] {
+        let test = Test::Compared(Op::Eq, Cell::Num(value));
+        let condition = Some(said(alloc, true, column, test)?);
+        assert!(rt;
+            meets(&Filter { condition }, &row) == through,
+            "{column} {value}"
+        );
+    }
     Ok(())
 }

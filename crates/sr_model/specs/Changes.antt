@@ -1,20 +1,14 @@
 -- What a version changes.
-use Rattle.std.specs.Prelude.{ℕ, Bool, true, false, not, ◌&&◌, ◌++◌, ◌+◌, ◌-◌, List, [], ◌∷◌, length, Option, Some, None, if◌then◌else◌, map, filter, fold, find, slice_index_or}
+use Rattle.std.specs.Prelude.{ℕ, Bool, true, false, not, ◌++◌, ◌+◌, ◌-◌, List, [], ◌∷◌, length, Option, Some, None, if◌then◌else◌, map, filter, fold, find, slice_index_or}
 use Rattle.sr_cell.specs.declared.cell.Cell.{Cell}
 use Rattle.sr_cell.specs.declared.table.Table.{Table}
 use Rattle.sr_cell.specs.declared.change.Change.{Change}
 use Rattle.sr_cell.specs.Cells.{Row, cell_at, cell_eq}
-use Rattle.sr_model.specs.SortedRows.{has_key, with_row}
+use Rattle.sr_model.specs.SortedRows.{has_key, with_row, row_eq}
 use Rattle.sr_model.specs.Statements.{Tables}
 
 abbrev pub row_with : ℕ → Cell → List Row → Option Row
 row_with key v rows = find (λ row. cell_eq (cell_at row key) v) rows
-
-abbrev pub row_eq : Row → Row → Bool
-row_eq [] [] = true
-row_eq [] (w ∷ q) = false
-row_eq (v ∷ p) [] = false
-row_eq (v ∷ p) (w ∷ q) = cell_eq v w && row_eq p q
 
 abbrev pub same_row : Option Row → Option Row → Bool
 same_row None None = true

@@ -1,5 +1,5 @@
 -- The ends of a condition: where a test of a column becomes true or false as the value rises.
-use Rattle.std.specs.Prelude.{ℕ, ℤ, pos, ◌+ℤ◌, ◌==◌, List, [], ◌∷◌, ◌++◌, flat_map, Option, Some, None, if◌then◌else◌}
+use Rattle.std.specs.Prelude.{ℕ, pos, ◌+ℤ◌, ◌==◌, List, [], ◌∷◌, ◌++◌, flat_map, Option, Some, None, if◌then◌else◌}
 use Rattle.sr_cell.specs.declared.cell.Cell.{Cell}
 use Rattle.sr_cell.specs.declared.cell.Cell.TheVariants.{Num, Str}
 use Rattle.sr_box.specs.Prefixes.{next_prefix}

@@ -1,5 +1,5 @@
 -- Rows by key.
-use Rattle.std.specs.Prelude.{ℕ, Bool, true, not, ◌&&◌, List, [], ◌∷◌, if◌then◌else◌}
+use Rattle.std.specs.Prelude.{ℕ, Bool, true, false, not, ◌&&◌, List, [], ◌∷◌, if◌then◌else◌}
 use Rattle.std.specs.List.{list_any}
 use Rattle.sr_cell.specs.declared.cell.Cell.{Cell}
 use Rattle.sr_cell.specs.Cells.{Row, cell_at, cell_le, cell_eq}
@@ -25,3 +25,9 @@ with_row key (r ∷ rows) row = if cell_le (cell_at r key) (cell_at row key) the
 abbrev pub with_rows : ℕ → List Row → List Row → List Row
 with_rows key rows [] = rows
 with_rows key rows (row ∷ more) = with_rows key (with_row key rows row) more
+
+abbrev pub row_eq : Row → Row → Bool
+row_eq [] [] = true
+row_eq [] (w ∷ q) = false
+row_eq (v ∷ p) [] = false
+row_eq (v ∷ p) (w ∷ q) = cell_eq v w && row_eq p q

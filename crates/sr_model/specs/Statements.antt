@@ -1,5 +1,5 @@
 -- Statements that change tables, and their refusals.
-use Rattle.std.specs.Prelude.{ℕ, ℤ, Bool, List, [], ◌∷◌, length, Option, Some, None, Result, Ok, Err, ◌+◌, nat_lt, int_le, ◌&&◌, if◌then◌else◌, slice_set}
+use Rattle.std.specs.Prelude.{ℕ, ℤ, pos, Bool, true, not, List, [], ◌∷◌, length, map, filter, Option, Some, None, Result, Ok, Err, ◌+◌, nat_lt, int_le, ◌&&◌, if◌then◌else◌, slice_set, slice_index_or}
 use Rattle.sr_cell.specs.declared.cell.Cell.{Cell}
 use Rattle.sr_cell.specs.declared.cell.Cell.TheVariants.{Num, Str}
 use Rattle.sr_cell.specs.declared.table.Kind.{Kind}
@@ -10,16 +10,24 @@ use Rattle.sr_cell.specs.declared.fault.Fault.{Fault}
 use Rattle.sr_cell.specs.declared.fault.Why.TheVariants.{DuplicateKey, DomainCell, LongCell, TableFull, TooManyChanges}
 use Rattle.sr_cell.specs.Cells.{Row, cell_at}
 use Rattle.sr_cell.specs.Columns.{table_at}
+use Rattle.sr_model.specs.Conditions.{Cond, is_true}
 use Rattle.sr_model.specs.Queries.{rows_at}
-use Rattle.sr_model.specs.SortedRows.{has_key, with_row}
+use Rattle.sr_model.specs.SortedRows.{has_key, with_row, row_eq}
 
 -- the tables' rows, each list by key ascending
 abbrev pub Tables : Type 0
 Tables = List (List Row)
 
--- a statement that is bound to the tables of a schema
+-- a new value of a column
+pub record Place : Type 0 where
+  pub column : ℕ
+  pub value : Cell
+
+-- A statement that is bound to the tables of a schema. Without a condition it is about each row.
 pub data Write : Type 0 where
   Insert : (table : ℕ) → (rows : List Row) → Write
+  Update : (table : ℕ) → (places : List Place) → (condition : Option Cond) → Write
+  Delete : (table : ℕ) → (condition : Option Cond) → Write
 
 -- why a value can't stand in column number c; of a text only its length is judged
 abbrev pub cell_fault : Kind → ℤ → ℤ → ℕ → Cell → Option Fault
@@ -65,6 +73,48 @@ abbrev pub with_table : Tables → ℕ → Result (List Row) Fault → Result Ta
 with_table tables t (Ok rows) = Ok (slice_set tables t rows)
 with_table tables t (Err fault) = Err fault
 
+-- ---- UPDATE and DELETE
+
+abbrev pub meets : Option Cond → Row → Bool
+meets None row = true
+meets (Some c) row = is_true (cell_at row) c
+
+abbrev pub column_of : Table → ℕ → Column
+column_of table c = slice_index_or table.columns c (record { name = []; kind = Texts; lo = pos 0; hi = pos 0 })
+
+abbrev pub place_fault : Table → Place → Option Fault
+place_fault table p = let column = column_of table p.column in cell_fault column.kind column.lo column.hi p.column p.value
+
+-- the first new value that can't stand in its column
+abbrev pub places_fault : Table → List Place → Option Fault
+places_fault table [] = None
+places_fault table (p ∷ places) = first_fault (place_fault table p) (places_fault table places)
+
+abbrev pub with_places : List Place → Row → Row
+with_places [] row = row
+with_places (p ∷ places) row = with_places places (slice_set row p.column p.value)
+
+-- the row after an UPDATE
+abbrev pub updated_row : List Place → Option Cond → Row → Row
+updated_row places c row = if meets c row then with_places places row else row
+
+abbrev pub is_changed : List Place → Option Cond → Row → Bool
+is_changed places c row = not (row_eq row (updated_row places c row))
+
+abbrev pub within_changes : ℕ → List Row → Result (List Row) Fault
+within_changes changes rows = if nat_lt 10000 changes then Err (record { why = TooManyChanges; at = changes }) else Ok rows
+
+-- new values in the rows that meet the condition; a row that stays as it was is no change
+abbrev pub updated : Table → List Place → Option Cond → List Row → Result (List Row) Fault
+updated table places c rows =
+    or_else (places_fault table places) (within_changes (length (filter (is_changed places c) rows)) (map (updated_row places c) rows))
+
+-- each row that meets the condition is a change
+abbrev pub deleted : Option Cond → List Row → Result (List Row) Fault
+deleted c rows = within_changes (length (filter (meets c) rows)) (filter (λ row. not (meets c row)) rows)
+
 -- the tables after a statement, or its first refusal
 abbrev pub executed : List Table → Write → Tables → Result Tables Fault
 executed schema (Insert t rows) tables = with_table tables t (inserted (table_at schema t) 0 rows (rows_at tables t))
+executed schema (Update t places c) tables = with_table tables t (updated (table_at schema t) places c (rows_at tables t))
+executed schema (Delete t c) tables = with_table tables t (deleted c (rows_at tables t))

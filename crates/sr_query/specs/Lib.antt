@@ -2,3 +2,5 @@ pub mod Binding
 pub mod Meant
 pub mod Bound
 pub mod Decided
+pub mod Writes
+pub mod Written

@@ -4,3 +4,4 @@
 
 pub mod condition;
 pub mod query;
+pub mod write;

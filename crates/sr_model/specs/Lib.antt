@@ -5,4 +5,5 @@ pub mod Queries
 pub mod SortedRows
 pub mod Statements
 pub mod Changes
+pub mod Loads
 pub mod Events

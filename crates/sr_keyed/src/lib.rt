@@ -1,0 +1,6 @@
+//! Rows by key, in an ordered map.
+#![tactic(auto)]
+
+pub mod keyed;
+#[cfg(test)]
+mod tests;

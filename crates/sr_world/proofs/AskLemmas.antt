@@ -89,7 +89,7 @@ ask-covered t w past q m f none b left =
       queries = omega (arith, length-append past.queries (record { query = m; answered = true } ∷ []), f.queries);
       flow = subst (λ o. Flow t changed new o) (sym none) still;
     } in
-    let asks : Asks w.schema past.marks m.parts [] = rw (f.schema, b.meant) (covered part [] [] no_rest nothing) in (
+    let asks : Asks w.server.tables.schema past.marks m.parts [] = rw (f.schema, b.meant) (covered part [] [] no_rest nothing) in (
       scene_of changed new,
       (
         client_of w past,
@@ -204,8 +204,8 @@ ask-asked t w past q m need rest queue f none b all left some queued =
       queries = omega (arith, length-append past.queries (record { query = m; answered = false } ∷ []), f.queries);
       flow = (is_out, inl is_asked);
     } in
-    let asks : Asks w.schema past.marks m.parts (ask ∷ []) = rw (f.schema, b.meant) (asked part [] ask [] is nothing) in
-    let mode : IsTrue fresh ↔ HoldsNothing w.schema past.marks = rw f.schema (mode-is t past.marks w.client.held f.table f.marks f.held_fit f.held) in (
+    let asks : Asks w.server.tables.schema past.marks m.parts (ask ∷ []) = rw (f.schema, b.meant) (asked part [] ask [] is nothing) in
+    let mode : IsTrue fresh ↔ HoldsNothing w.server.tables.schema past.marks = rw f.schema (mode-is t past.marks w.client.held f.table f.marks f.held_fit f.held) in (
       scene_of changed new,
       (
         client_of w past,
@@ -233,7 +233,7 @@ need-all : (t : Table) (q : Query) (m : queries.Query) (part : Part) → IsBound
 need-all t q m part b is = let same : b.part ∷ [] ≡ part ∷ [] = sym b.parts ∙ is in ap (λ p. p.need) (let one : part ≡ b.part = cc in one) ∙ b.need
 
 pub does-ask : (w : World) (q : Query) (m : queries.Query) (part : Part) (rest : List Rect) (out : code.AskOut) (queue : VecDeque Message Global) (lines : List TraceLine) → w.client.out ≡ None
-    → IsMeaning w.schema q m → IsAlone q → q.parts ≡ part ∷ [] → ((t : Table) → w.schema ≡ t ∷ [] → IsLeft t (wanted q.parts) w.client.held rest) → (rest ≡ [] → ⊥)
+    → IsMeaning w.server.tables.schema q m → IsAlone q → q.parts ≡ part ∷ [] → ((t : Table) → w.server.tables.schema ≡ t ∷ [] → IsLeft t (wanted q.parts) w.client.held rest) → (rest ≡ [] → ⊥)
     → out ≡ next_ask w q part.need rest → lines ≡ lines_of_ask out → queue.items ≡ w.to_server.items ++ Ask out.number out.fresh out.parts ∷ []
     → DoesEvent (QueryOf 1 (Ok m)) w (with_out w out queue) lines
 does-ask w q m part rest out queue lines none is_meaning alone one left some is lines_are queued =
@@ -254,7 +254,7 @@ lines_of_answer w q =
     ++ line.QueryAnswered 1 (w.client.queries + 1) ∷ []
 
 pub does-answer : (w : World) (q : Query) (m : queries.Query) (lines : List TraceLine) → w.client.out ≡ None
-    → IsMeaning w.schema q m → IsAlone q → ((t : Table) → w.schema ≡ t ∷ [] → IsLeft t (wanted q.parts) w.client.held []) → lines ≡ lines_of_answer w q
+    → IsMeaning w.server.tables.schema q m → IsAlone q → ((t : Table) → w.server.tables.schema ≡ t ∷ [] → IsLeft t (wanted q.parts) w.client.held []) → lines ≡ lines_of_answer w q
     → DoesEvent (QueryOf 1 (Ok m)) w (record w { client = record w.client { queries = w.client.queries + 1 } }) lines
 does-answer w q m lines none is_meaning alone left lines_are =
     let new : World = record w { client = record w.client { queries = w.client.queries + 1 } } in

@@ -3,14 +3,14 @@ use Rattle.std.proofs.Common.{◌≡◌, true, List, [], ◌∷◌, Option, Some
 use Rattle.std.specs.Prelude.{IfOk, IfSome, OnOk, Result}
 use Rattle.sr_cell.specs.declared.fault.Fault.{Fault}
 use Rattle.sr_cell.specs.declared.table.Table.{Table}
-use Rattle.sr_cell.specs.Cells.{Row}
 use Rattle.sr_model.specs.Queries as model
 use Rattle.sr_model.specs.Events.{Event, Exec, QueryOf}
 use Rattle.sr_query.specs.declared.query.Query.{Query}
-use Rattle.sr_reader.specs.Read.{write_of, Means}
+use Rattle.sr_query.specs.declared.write.Write.{Write}
+use Rattle.sr_reader.specs.Read.{statement_of, Means}
 use Rattle.sr_script.specs.declared.line.TraceLine.{TraceLine}
 use Rattle.sr_script.specs.declared.line.TraceLine.TheVariants as line
-use Rattle.sr_scene.specs.Scene.{Scene, new_client, first}
+use Rattle.sr_scene.specs.Scene.{Scene, new_client}
 use Rattle.sr_scene.specs.Steps.{Happens}
 use Rattle.sr_scene.specs.Runs.{Steps}
 use Rattle.sr_world.specs.declared.world.World.{World}
@@ -40,11 +40,11 @@ changes-nothing w event lines still each =
       record { t = t; past = past; facts = f; same = refl },
     ))
 
-without-table : (event : Event) (lines : List TraceLine) → Happens (start []) event lines (start []) → DoesKept event None None lines
+without-table : (event : Event) (lines : List TraceLine) → Happens (start [] []) event lines (start [] []) → DoesKept event None None lines
 without-table event lines happens s is =
-    let step : Steps (start []) event lines (start []) =
-    (lines, [], start [], happens, (0, ([], [], start [], ((refl, refl), (new_client, refl, refl)), (refl, refl), refl)), sym (append-nil lines)) in
-    subst (λ s. (next : Scene) × Steps s event lines next × (next ≡ start [])) (sym is) (start [], step, refl)
+    let step : Steps (start [] []) event lines (start [] []) =
+    (lines, [], start [] [], happens, (0, ([], [], start [] [], ((refl, refl), (new_client, refl, refl)), (refl, refl), refl)), sym (append-nil lines)) in
+    subst (λ s. (next : Scene) × Steps s event lines next × (next ≡ start [] [])) (sym is) (start [] [], step, refl)
 
 exec-refused : (kept : Option World) (fault : Fault) → IfSome kept IsStill → DoesKept (Exec (Err fault)) kept kept (line.ExecRefused fault ∷ [])
 exec-refused None fault still = without-table (Exec (Err fault)) (line.ExecRefused fault ∷ []) (refl, refl)
@@ -55,9 +55,9 @@ query-refused None fault still = without-table (QueryOf 1 (Err fault)) (line.Que
 query-refused (Some w) fault still =
     changes-nothing w (QueryOf 1 (Err fault)) (line.QuerySql 1 fault ∷ []) still (λ past. (client_of w past, client_of w past, refl, (refl, refl), refl))
 
-pub refuses-exec : (kept : Option World) (statement : Result (List Row) Fault) (fault : Fault) → statement ≡ Err fault → IfSome kept IsStill
-    → DoesKept (Exec (write_of statement)) kept kept (line.ExecRefused fault ∷ [])
-refuses-exec kept statement fault is still = subst (λ r. DoesKept (Exec (write_of r)) kept kept (line.ExecRefused fault ∷ [])) (sym is) (exec-refused kept fault still)
+pub refuses-exec : (kept : Option World) (statement : Result Write Fault) (fault : Fault) → statement ≡ Err fault → IfSome kept IsStill
+    → DoesKept (Exec (statement_of statement)) kept kept (line.ExecRefused fault ∷ [])
+refuses-exec kept statement fault is still = subst (λ r. DoesKept (Exec (statement_of r)) kept kept (line.ExecRefused fault ∷ [])) (sym is) (exec-refused kept fault still)
 
 pub refuses-query : (tables : List Table) (kept : Option World) (query : Result Query Fault) (meaning : Result model.Query Fault) (fault : Fault) → query ≡ Err fault → Means tables query meaning
     → IfSome kept IsStill → DoesKept (QueryOf 1 meaning) kept kept (line.QuerySql 1 fault ∷ [])
@@ -77,22 +77,18 @@ meant tables query q meaning is means = by meaning (subst (λ r. Means tables r 
 
 -- it can be asked of the world
 pub asks : (kept : Option World) (query : Result Query Fault) (w : World) (q : Query) → kept ≡ Some w → query ≡ Ok q → (meaning : Result model.Query Fault) × Means (tables_of kept) query meaning
-    → (m : model.Query) × IsMeaning w.schema q m
+    → (m : model.Query) × IsMeaning w.server.tables.schema q m
 asks kept query w q is asked means =
-    let m = meant w.schema query q means.0 asked (subst (λ kept. Means (tables_of kept) query means.0) is means.1) in
+    let m = meant w.server.tables.schema query q means.0 asked (subst (λ kept. Means (tables_of kept) query means.0) is means.1) in
     (m.0, m.1)
 
 pub asks-query : {E : Type 0} (kept : Option World) (query : Result Query Fault) (w new : World) (q : Query) (meaning : Result model.Query Fault) (r : Result (List TraceLine) E) → kept ≡ Some w → query ≡ Ok q
-    → Means (tables_of kept) query meaning → ((m : model.Query) → IsMeaning w.schema q m → IfOk r (DoesStep (QueryOf 1 (Ok m)) w new)) → IfOk r (DoesKept (QueryOf 1 meaning) kept (Some new))
+    → Means (tables_of kept) query meaning → ((m : model.Query) → IsMeaning w.server.tables.schema q m → IfOk r (DoesStep (QueryOf 1 (Ok m)) w new)) → IfOk r (DoesKept (QueryOf 1 meaning) kept (Some new))
 asks-query {E} kept query w new q meaning r is asked means does =
-    let m = meant w.schema query q meaning asked (subst (λ kept. Means (tables_of kept) query meaning) is means) in
+    let m = meant w.server.tables.schema query q meaning asked (subst (λ kept. Means (tables_of kept) query meaning) is means) in
     subst (λ kept. IfOk r (DoesKept (QueryOf 1 meaning) kept (Some new))) (sym is) (subst (λ e. IfOk r (DoesKept (QueryOf 1 e) (Some w) (Some new))) (sym m.2) (does m.0 m.1))
 
 -- the world after a step stands for a scene
 pub stands-after : {T E : Type 0} (event : Event) (old new : World) (r : Result T E) (lines : T → List TraceLine) → Stands old → IfOk r (λ x. DoesStep event old new (lines x)) → OnOk r (Stands new)
 stands-after {T} {E} event old new (Ok x) lines stands does = still-stands (λ s. Steps s event) old new (lines x) stands does
 stands-after {T} {E} event old new (Err e) lines stands does = tt
-
--- the world of a script's one table is the first of its scenes
-pub kept-first : (tables : List Table) (t : Table) (w : World) → w.schema ≡ tables → w.schema ≡ t ∷ [] → Represents w (first true (t ∷ []) ([] ∷ []) 1) → Represents w (start tables)
-kept-first tables t w same one is = subst (λ ts. Represents w (start ts)) (sym one ∙ same) is

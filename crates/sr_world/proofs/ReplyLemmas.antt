@@ -42,16 +42,16 @@ pub record AllCame (w : World) (o : code.AskOut) (rects : List Rect) (rows : Lis
   pub asked : rects_of o.parts ≡ rects
   pub came : arrived w.client.laid ≡ filter (in_any rects) rows
 
-all-came : (t : Table) (w : World) (past : Past) (o : code.AskOut) (is_out : IsOut t w past o) (f : Facts t w past) → row_messages w.server.tables o.number 0 o.parts ≡ w.client.laid ++ []
+all-came : (t : Table) (w : World) (past : Past) (o : code.AskOut) (is_out : IsOut t w past o) (f : Facts t w past) → row_messages w.server.tables.rows o.number 0 o.parts ≡ w.client.laid ++ []
     → AllCame w o is_out.ask.rects f.rows
 all-came t w past o is_out f rows =
     let ask = is_out.ask in
-    let laid : w.client.laid ≡ row_messages w.server.tables o.number 0 (ask ∷ []) = sym (sym (ap (λ ps. row_messages w.server.tables o.number 0 ps) is_out.parts) ∙ (rows ∙ append-nil w.client.laid)) in
-    let at : rows_at w.server.tables 0 ≡ f.rows = ap (λ ts. rows_at ts 0) f.tables in
-    let points : list_all (is_point t.columns) (rows_at w.server.tables 0) ≡ true = subst (λ ts. list_all (is_point t.columns) (rows_at ts 0) ≡ true) f.newest (f.points w.server.version) in
+    let laid : w.client.laid ≡ row_messages w.server.tables.rows o.number 0 (ask ∷ []) = sym (sym (ap (λ ps. row_messages w.server.tables.rows o.number 0 ps) is_out.parts) ∙ (rows ∙ append-nil w.client.laid)) in
+    let at : rows_at w.server.tables.rows 0 ≡ f.rows = ap (λ ts. rows_at ts 0) f.tables in
+    let points : list_all (is_point t.columns) (rows_at w.server.tables.rows 0) ≡ true = subst (λ ts. list_all (is_point t.columns) (rows_at ts 0) ≡ true) f.newest (f.points w.server.version) in
     record {
       asked = ap rects_of is_out.parts ∙ append-nil ask.rects;
-      came = ap arrived laid ∙ (arrived-rows w.server.tables o.number 0 ask ∙ (asked-rows t w.server.tables ask is_out.rest.table is_out.attrs points
+      came = ap arrived laid ∙ (arrived-rows w.server.tables.rows o.number 0 ask ∙ (asked-rows t w.server.tables.rows ask is_out.rest.table is_out.attrs points
           ∙ ap (λ rows. filter (in_any ask.rects) rows) at));
     }
 
@@ -76,7 +76,7 @@ record IsKept (t : Table) (w : World) (past : Past) (o : code.AskOut) (ask : Ask
   rows : with_rows t.key w.client.rows (arrived w.client.laid) ≡ filter (in_any (w.client.held ++ ask.rects)) f.rows
   answer : answer_from o.query (filter (in_any (w.client.held ++ ask.rects)) f.rows) ≡ rows_of past.meaning (version_at past.versions w.server.version)
 
-is-kept : (t : Table) (w : World) (past : Past) (o : code.AskOut) (is_out : IsOut t w past o) (f : Facts t w past) → row_messages w.server.tables o.number 0 o.parts ≡ w.client.laid ++ []
+is-kept : (t : Table) (w : World) (past : Past) (o : code.AskOut) (is_out : IsOut t w past o) (f : Facts t w past) → row_messages w.server.tables.rows o.number 0 o.parts ≡ w.client.laid ++ []
     → IsKept t w past o is_out.ask f
 is-kept t w past o is_out f rows =
     let rects = is_out.ask.rects in
@@ -110,14 +110,14 @@ lines-are t w past o is_out f client version rows kept =
     ∙ (ap (λ rows. lines w.server.version rows (map held_line o.parts)) answer ∙ ap (λ held. lines w.server.version (rows_of past.meaning (version_at past.versions w.server.version)) held) held)
 
 -- what was asked is held
-holds-asked : (t : Table) (w : World) (past : Past) (o : code.AskOut) (is_out : IsOut t w past o) → w.schema ≡ t ∷ [] → AllZip (Holds w.schema) o.parts (Held 0 (all_columns t) is_out.ask.rects ∷ [])
+holds-asked : (t : Table) (w : World) (past : Past) (o : code.AskOut) (is_out : IsOut t w past o) → w.server.tables.schema ≡ t ∷ [] → AllZip (Holds w.server.tables.schema) o.parts (Held 0 (all_columns t) is_out.ask.rects ∷ [])
 holds-asked t w past o is_out schema =
-    let fits : IsTrue (list_all (rect_fits (table_at w.schema 0).columns) is_out.ask.rects) = subst (λ s. IsTrue (list_all (rect_fits (table_at s 0).columns) is_out.ask.rects)) (sym schema) is_out.rest.fits in
-    subst (λ ps. AllZip (Holds w.schema) ps (Held 0 (all_columns t) is_out.ask.rects ∷ [])) (sym is_out.parts)
+    let fits : IsTrue (list_all (rect_fits (table_at w.server.tables.schema 0).columns) is_out.ask.rects) = subst (λ s. IsTrue (list_all (rect_fits (table_at s 0).columns) is_out.ask.rects)) (sym schema) is_out.rest.fits in
+    subst (λ ps. AllZip (Holds w.server.tables.schema) ps (Held 0 (all_columns t) is_out.ask.rects ∷ [])) (sym is_out.parts)
     ((sym is_out.rest.table, sym is_out.attrs, fits, λ p point. refl), tt)
 
 answers : (t : Table) (w : World) (past : Past) (c : IsComing t w past) (to_client : VecDeque Message Global) (f : Facts t w past)
-    → row_messages w.server.tables c.out.number 0 c.out.parts ≡ w.client.laid ++ [] → w.to_client.items ≡ Reply c.out.number w.server.version ∷ [] → to_client.items ≡ []
+    → row_messages w.server.tables.rows c.out.number 0 c.out.parts ≡ w.client.laid ++ [] → w.to_client.items ≡ Reply c.out.number w.server.version ∷ [] → to_client.items ≡ []
     → let new = with_reply w t.key c.out w.server.version to_client in
     (next : Scene) × Delivers (scene_of w past) 1 (lines_of_reply c.out new.client) next × Represents new next
 answers t w past c to_client f rows came left =
@@ -150,7 +150,7 @@ answers t w past c to_client f rows came left =
     let lines = lines_of_reply o changed.client in
     let before : scene.Client = record (client_of w past) { to_client = [] } in
     let free : scene.Client = record before { queries = new.queries; out = None; laid = [] } in
-    let keeps : Keeps w.schema o.parts w.server.version free (Held 0 (all_columns t) rects ∷ []) (client_of changed new) =
+    let keeps : Keeps w.server.tables.schema o.parts w.server.version free (Held 0 (all_columns t) rects ∷ []) (client_of changed new) =
     (holds-asked t w past o c.is_out f.schema, ap (λ ms. record free { marks = Held 0 (all_columns t) rects ∷ past.marks; version = w.server.version; to_client = ms }) left) in
     let answered : Answers (scene_of w past) 1 o.query_number (past.meaning) o.parts w.server.version before lines (client_of changed new) =
     (f.version, (Held 0 (all_columns t) rects ∷ [], keeps, lines-are t w past o c.is_out f changed.client refl rows_are kept)) in
@@ -163,14 +163,14 @@ record IsLast (t : Table) (w : World) (past : Past) (c : IsComing t w past) (k v
   number : k ≡ c.out.number
   newest : version ≡ w.server.version
   none : queue ≡ []
-  rows : row_messages w.server.tables c.out.number 0 c.out.parts ≡ w.client.laid ++ []
+  rows : row_messages w.server.tables.rows c.out.number 0 c.out.parts ≡ w.client.laid ++ []
   came : w.to_client.items ≡ Reply c.out.number w.server.version ∷ []
 
 is-last : (t : Table) (w : World) (past : Past) (c : IsComing t w past) (k version : ℕ) (queue : List Message) → w.to_client.items ≡ Reply k version ∷ queue → IsLast t w past c k version queue
 is-last t w past c k version queue first =
     by c.is_replied.rest c.is_replied.rows c.is_replied.to_client (only-rows w past c.out c.is_replied.rest c.is_replied.rows)
   where
-    by : (rest : List Message) → row_messages w.server.tables c.out.number 0 c.out.parts ≡ w.client.laid ++ rest → w.to_client.items ≡ rest ++ Reply c.out.number w.server.version ∷ []
+    by : (rest : List Message) → row_messages w.server.tables.rows c.out.number 0 c.out.parts ≡ w.client.laid ++ rest → w.to_client.items ≡ rest ++ Reply c.out.number w.server.version ∷ []
         → AllRows c.out.number rest → IsLast t w past c k version queue
     by [] rows is all =
         let same : Reply k version ∷ queue ≡ Reply c.out.number w.server.version ∷ [] = sym first ∙ is in
@@ -198,7 +198,7 @@ replies t w past key out k version queue to_client f is_key is_out first left =
     (answers t w past c to_client f last.rows last.came (left ∙ last.none))))
 
 does-reply : (w : World) (table : Table) (out : code.AskOut) (k version : ℕ) (queue : List Message) (to_client : VecDeque Message Global) (lines : List TraceLine)
-    → w.schema ≡ table ∷ [] → w.client.out ≡ Some out → w.to_client.items ≡ Reply k version ∷ queue → to_client.items ≡ queue
+    → w.server.tables.schema ≡ table ∷ [] → w.client.out ≡ Some out → w.to_client.items ≡ Reply k version ∷ queue → to_client.items ≡ queue
     → lines ≡ lines_of_reply out (with_reply w table.key out version to_client).client
     → DoesDelivery w (with_reply w table.key out version to_client) lines
 does-reply w table out k version queue to_client lines schema is_out first left lines_are =
@@ -217,7 +217,7 @@ is-out w m queue stands came none =
     let same : None ≡ Some c.out = sym none ∙ c.is in
     cc
 
-arrived-ascend : (w : World) (table : Table) (k version : ℕ) (queue : List Message) → Stands w → w.schema ≡ table ∷ [] → w.to_client.items ≡ Reply k version ∷ queue
+arrived-ascend : (w : World) (table : Table) (k version : ℕ) (queue : List Message) → Stands w → w.server.tables.schema ≡ table ∷ [] → w.to_client.items ≡ Reply k version ∷ queue
     → ascend table.key (arrived w.client.laid) ≡ true
 arrived-ascend w table k version queue stands schema first =
     let r = stands.1 in
@@ -238,7 +238,7 @@ is-reply (Rows number part rows) version is = absurd (cc)
 is-reply (Reply k v) version is = (k, let same : v ≡ version = cc in ap (Reply k) same)
 
 pub does-take : (w : World) (table : Table) (m : Message) (version : ℕ) (to_client : VecDeque Message Global) (client : Client) (lines : List TraceLine)
-    → Stands w → w.schema ≡ table ∷ [] → w.to_client.items ≡ m ∷ to_client.items → reply_version m ≡ Some version
+    → Stands w → w.server.tables.schema ≡ table ∷ [] → w.to_client.items ≡ m ∷ to_client.items → reply_version m ≡ Some version
     → ((out : code.AskOut) → w.client.out ≡ Some out → client ≡ after_reply table.key out version (record w.client { out = None }))
     → ((out : code.AskOut) → w.client.out ≡ Some out → lines ≡ lines_of_reply out (after_reply table.key out version (record w.client { out = None })))
     → DoesDelivery w (record w { client = client; to_client = to_client }) lines
@@ -250,7 +250,7 @@ does-take w table m version to_client client lines stands schema came is_reply c
     subst (λ client. DoesDelivery w (record w { client = client; to_client = to_client }) lines) (sym (client_is c.out c.is))
     (does-reply w table c.out reply.0 version to_client.items to_client lines schema c.is first refl (lines_are c.out c.is))
 
-pub take-ascend : (w : World) (table : Table) (m : Message) (version : ℕ) (queue : List Message) → Stands w → w.schema ≡ table ∷ [] → w.to_client.items ≡ m ∷ queue → reply_version m ≡ Some version
+pub take-ascend : (w : World) (table : Table) (m : Message) (version : ℕ) (queue : List Message) → Stands w → w.server.tables.schema ≡ table ∷ [] → w.to_client.items ≡ m ∷ queue → reply_version m ≡ Some version
     → ascend table.key (arrived w.client.laid) ≡ true
 take-ascend w table m version queue stands schema came is_reply =
     let reply = is-reply m version is_reply in

@@ -55,24 +55,24 @@ nothing-due schema versions session newest is upto =
     rw none refl
 
 reply-is : (t : Table) (w : World) (past : Past) (number : ℕ) (parts : List AskPart) → Facts t w past
-    → reply_messages past.versions number parts ≡ row_messages w.server.tables number 0 parts ++ Reply number w.server.version ∷ []
+    → reply_messages past.versions number parts ≡ row_messages w.server.tables.rows number 0 parts ++ Reply number w.server.version ∷ []
 reply-is t w past number parts f = rw (newest-is t w past f, f.newest) refl
 
 -- what the server makes of an ask
 record IsServed (w : World) (past : Past) (number : ℕ) (parts : List AskPart) (served : Served) : Type 0 where
   versions : served.versions ≡ past.versions
-  sent : served.sent ≡ row_messages w.server.tables number 0 parts ++ Reply number w.server.version ∷ []
+  sent : served.sent ≡ row_messages w.server.tables.rows number 0 parts ++ Reply number w.server.version ∷ []
   session : Session
   opened : served.session ≡ Some session
   upto : session.upto ≡ w.server.version
 
 is-served : (t : Table) (w : World) (past : Past) (number : ℕ) (fresh : Bool) (parts : List AskPart) → Facts t w past → (fresh ≡ true) ⊎ (past.session.upto ≡ w.server.version)
-    → IsServed w past number parts (serve_ask w.schema past.versions past.session number fresh parts)
+    → IsServed w past number parts (serve_ask w.server.tables.schema past.versions past.session number fresh parts)
 is-served t w past number true parts f told = record { versions = refl; sent = reply-is t w past number parts f; session = _; opened = refl; upto = newest-is t w past f }
 is-served t w past number false parts f (inl never) = absurd (cc)
 is-served t w past number false parts f (inr upto) = record {
   versions = refl;
-  sent = rw (nothing-due w.schema past.versions past.session w.server.version (newest-is t w past f) upto) (reply-is t w past number parts f);
+  sent = rw (nothing-due w.server.tables.schema past.versions past.session w.server.version (newest-is t w past f) upto) (reply-is t w past number parts f);
   session = _;
   opened = refl;
   upto = newest-is t w past f;
@@ -84,7 +84,7 @@ with_queues w to_server to_client = record w { to_server = to_server; to_client 
 
 pub serves : (t : Table) (w : World) (past : Past) (number : ℕ) (fresh : Bool) (parts : List AskPart) (queue sent : List Message) (to_server to_client : VecDeque Message Global) → Facts t w past
     → w.to_server.items ≡ Ask number fresh parts ∷ queue → to_server.items ≡ queue
-    → sent ≡ row_messages w.server.tables number 0 parts ++ Reply number w.server.version ∷ [] → to_client.items ≡ w.to_client.items ++ sent
+    → sent ≡ row_messages w.server.tables.rows number 0 parts ++ Reply number w.server.version ∷ [] → to_client.items ≡ w.to_client.items ++ sent
     → (next : Scene) × Delivers (scene_of w past) 1 (line.ServerTook 1 kind.Ask (length sent) ∷ []) next × Represents (with_queues w to_server to_client) next
 serves t w past number fresh parts queue sent to_server to_client f asked left replied queued =
     let way = on-its-way t w past number fresh parts queue f asked in
@@ -92,13 +92,13 @@ serves t w past number fresh parts queue sent to_server to_client f asked left r
     let served = is-served t w past number fresh parts f told in
     let new : Past = record past { session = served.session } in
     let changed : World = with_queues w to_server to_client in
-    let reply : ℕ → List AskPart → List Message = λ k ps. row_messages w.server.tables k 0 ps ++ Reply k w.server.version ∷ [] in
+    let reply : ℕ → List AskPart → List Message = λ k ps. row_messages w.server.tables.rows k 0 ps ++ Reply k w.server.version ∷ [] in
     let all : to_client.items ≡ reply way.out.number way.out.parts =
     queued ∙ (ap (λ ms. ms ++ sent) way.is_asked.to_client ∙ (replied ∙ (ap (λ k. reply k parts) way.same_number ∙ ap (λ ps. reply way.out.number ps) way.same_parts))) in
     let is_replied : IsReplied changed new way.out = record {
       to_server = left ∙ way.last;
-      rest = row_messages w.server.tables way.out.number 0 way.out.parts;
-      rows = sym (ap (λ ms. ms ++ row_messages w.server.tables way.out.number 0 way.out.parts) way.is_asked.laid);
+      rest = row_messages w.server.tables.rows way.out.number 0 way.out.parts;
+      rows = sym (ap (λ ms. ms ++ row_messages w.server.tables.rows way.out.number 0 way.out.parts) way.is_asked.laid);
       to_client = all;
       upto = served.upto;
     } in
@@ -122,9 +122,9 @@ serves t w past number fresh parts queue sent to_server to_client f asked left r
       queries = f.queries;
       flow = subst (λ o. Flow t changed new o) (sym way.is) (is_out, inr is_replied);
     } in
-    let made = serve_ask w.schema past.versions past.session number fresh parts in
+    let made = serve_ask w.server.tables.schema past.versions past.session number fresh parts in
     let scene : List Tables → List Message → Option Session → List Message → Scene = λ versions asks session answers.
-    record { eager = true; schema = w.schema; versions = versions; clients = record (client_of w past) { to_server = asks; session = session; to_client = answers } ∷ [] } in
+    record { eager = true; schema = w.server.tables.schema; versions = versions; clients = record (client_of w past) { to_server = asks; session = session; to_client = answers } ∷ [] } in
     let same_sent : sent ≡ made.sent = replied ∙ sym served.sent in
     let line_is : line.ServerTook 1 kind.Ask (length sent) ∷ [] ≡ line.ServerTook 1 kind.Ask (length made.sent) ∷ [] =
     ap (λ ms. line.ServerTook 1 kind.Ask (length ms) ∷ []) same_sent in
@@ -147,7 +147,7 @@ serves t w past number fresh parts queue sent to_server to_client f asked left r
 
 pub does-serve : (w : World) (number : ℕ) (fresh : Bool) (parts : List AskPart) (queue sent : List Message) (to_server to_client : VecDeque Message Global)
     → w.to_server.items ≡ Ask number fresh parts ∷ queue → to_server.items ≡ queue
-    → sent ≡ row_messages w.server.tables number 0 parts ++ Reply number w.server.version ∷ [] → to_client.items ≡ w.to_client.items ++ sent
+    → sent ≡ row_messages w.server.tables.rows number 0 parts ++ Reply number w.server.version ∷ [] → to_client.items ≡ w.to_client.items ++ sent
     → DoesDelivery w (with_queues w to_server to_client) (line.ServerTook 1 kind.Ask (length sent) ∷ [])
 does-serve w number fresh parts queue sent to_server to_client asked left replied queued =
     does (λ s. Delivers s 1) w (with_queues w to_server to_client) (line.ServerTook 1 kind.Ask (length sent) ∷ [])

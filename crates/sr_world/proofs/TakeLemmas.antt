@@ -39,8 +39,8 @@ is-coming t w past m queue f came = by w.client.out refl f.flow
     by (Some o) is (is_out, inr is_replied) = record { out = o; is = is; is_out = is_out; is_replied = is_replied }
 
 -- all messages before the reply are rows of its request
-pub only-rows : (w : World) (past : Past) (o : code.AskOut) (rest : List Message) → row_messages w.server.tables o.number 0 o.parts ≡ w.client.laid ++ rest → AllRows o.number rest
-only-rows w past o rest rows = rows-behind o.number w.client.laid rest (subst (AllRows o.number) rows (rows-all w.server.tables o.number 0 o.parts))
+pub only-rows : (w : World) (past : Past) (o : code.AskOut) (rest : List Message) → row_messages w.server.tables.rows o.number 0 o.parts ≡ w.client.laid ++ rest → AllRows o.number rest
+only-rows w past o rest rows = rows-behind o.number w.client.laid rest (subst (AllRows o.number) rows (rows-all w.server.tables.rows o.number 0 o.parts))
 
 -- the delivery of what comes first to the client
 pub delivers : (w : World) (past : Past) (m : Message) (queue : List Message) (lines : List TraceLine) (next : World) (new : Past)
@@ -61,7 +61,7 @@ abbrev pub with_laid : World → List Message → VecDeque Message Global → Wo
 with_laid w laid queue = record w { client = record w.client { laid = laid }; to_client = queue }
 
 lays : (t : Table) (w : World) (past : Past) (c : IsComing t w past) (k part : ℕ) (rows : List Row) (rest laid : List Message) (to_client : VecDeque Message Global) → Facts t w past
-    → k ≡ c.out.number → row_messages w.server.tables c.out.number 0 c.out.parts ≡ w.client.laid ++ Rows k part rows ∷ rest
+    → k ≡ c.out.number → row_messages w.server.tables.rows c.out.number 0 c.out.parts ≡ w.client.laid ++ Rows k part rows ∷ rest
     → w.to_client.items ≡ Rows k part rows ∷ (rest ++ Reply c.out.number w.server.version ∷ [])
     → laid ≡ w.client.laid ++ Rows k part rows ∷ [] → to_client.items ≡ rest ++ Reply c.out.number w.server.version ∷ []
     → (next : Scene) × Delivers (scene_of w past) 1 (line.ClientLaid 1 ∷ []) next × Represents (with_laid w laid to_client) next
@@ -116,7 +116,7 @@ lays-first t w past m queue laid to_client f came other is_laid left =
     Goal : Type 0
     Goal = (next : Scene) × Delivers (scene_of w past) 1 (line.ClientLaid 1 ∷ []) next × Represents (with_laid w laid to_client) next
 
-    by : (rest : List Message) → row_messages w.server.tables c.out.number 0 c.out.parts ≡ w.client.laid ++ rest → w.to_client.items ≡ rest ++ Reply c.out.number w.server.version ∷ []
+    by : (rest : List Message) → row_messages w.server.tables.rows c.out.number 0 c.out.parts ≡ w.client.laid ++ rest → w.to_client.items ≡ rest ++ Reply c.out.number w.server.version ∷ []
         → AllRows c.out.number rest → Goal
     by [] rows is all =
         let first : m ∷ queue ≡ Reply c.out.number w.server.version ∷ [] = sym came ∙ is in

@@ -25,4 +25,4 @@ drawn_of (Some w) = drawn w
 -- the tables of a world
 abbrev pub tables_of : Option World → List Table
 tables_of None = []
-tables_of (Some w) = w.schema
+tables_of (Some w) = w.server.tables.schema

@@ -52,7 +52,7 @@ client_of w past = record {
 }
 
 abbrev pub scene_of : World → Past → Scene
-scene_of w past = record { eager = true; schema = w.schema; versions = past.versions; clients = client_of w past ∷ [] }
+scene_of w past = record { eager = true; schema = w.server.tables.schema; versions = past.versions; clients = client_of w past ∷ [] }
 
 -- all marks are of table 0 under these columns, and none was dropped
 abbrev pub AllHeld : ℕ → List Mark → Type 0
@@ -80,7 +80,7 @@ pub record IsAsked (w : World) (past : Past) (o : code.AskOut) : Type 0 where
 pub record IsReplied (w : World) (past : Past) (o : code.AskOut) : Type 0 where
   pub to_server : w.to_server.items ≡ []
   pub rest : List Message
-  pub rows : row_messages w.server.tables o.number 0 o.parts ≡ w.client.laid ++ rest
+  pub rows : row_messages w.server.tables.rows o.number 0 o.parts ≡ w.client.laid ++ rest
   pub to_client : w.to_client.items ≡ rest ++ Reply o.number w.server.version ∷ []
   pub upto : past.session.upto ≡ w.server.version
 
@@ -91,13 +91,13 @@ Flow t w past (Some o) = IsOut t w past o × (IsAsked w past o ⊎ IsReplied w p
 
 -- what a world keeps is what its past makes it
 pub record Facts (t : Table) (w : World) (past : Past) : Type 0 where
-  pub schema : w.schema ≡ t ∷ []
+  pub schema : w.server.tables.schema ≡ t ∷ []
   pub table : IsTrue (is_built t)
   -- the server has the newest tables
   pub rows : List Row
-  pub tables : w.server.tables ≡ rows ∷ []
+  pub tables : w.server.tables.rows ≡ rows ∷ []
   pub count : length past.versions ≡ w.server.version + 1
-  pub newest : version_at past.versions w.server.version ≡ w.server.tables
+  pub newest : version_at past.versions w.server.version ≡ w.server.tables.rows
   pub ascending : ascend t.key rows ≡ true
   pub fitting : list_all (fits_columns t.columns) rows ≡ true
   pub points : (v : ℕ) → IsTrue (list_all (is_point t.columns) (rows_at (version_at past.versions v) 0))

@@ -33,7 +33,6 @@ use std::collections::VecDeque;
 /// A server and its one client, with the messages under way between them. Each delivery is made at once.
 #[derive(Drop)]
 pub struct World {
-    schema: Seq<Table>,
     server: Server,
     client: Client,
     to_server: VecDeque<Message>,
@@ -41,39 +40,37 @@ pub struct World {
 }
 
 impl World {
-    /// A world of one table, which is empty.
-    pub fn new(alloc: Global, table: Table) -> Result<World, NoMemory>
-        requires { IsTrue (is_built table) }
-        ensures first { IfOk result (λ world. Represents world (first true (table ∷ []) ([] ∷ []) 1)) }
-        ensures unasked { IfOk result IsUnasked }
-        ensures drawn { IfOk result (λ world. drawn world ≡ 1) }
-        ensures schema { IfOk result (λ world. world.schema ≡ table ∷ []) }
+    /// A world of one table, at version 0; takes no memory.
+    pub fn new(alloc: Global, tables: Tables) -> World
+        requires one { length tables.schema ≡ 1 }
+        requires built { IsTrue (list_all is_built tables.schema) }
+        ensures first { Represents result (first true tables.schema tables.rows 1) }
+        ensures unasked { IsUnasked result }
+        ensures drawn { drawn result ≡ 1 }
+        ensures schema { result.server.tables.schema ≡ tables.schema }
     {
-        let mut schema = Seq::new(alloc);
-        schema.push(table)?;
-        let mut tables = Seq::new(alloc);
-        tables.push(Seq::new(alloc))?;
-        Ok(World {
-            schema,
+        tables.know_stored();
+        World {
             server: Server { tables, version: 0 },
             client: Client::new(alloc),
             to_server: VecDeque::new(alloc),
             to_client: VecDeque::new(alloc),
-        })
+        }
     }
 
-    /// Carries out an INSERT, before any query.
-    pub fn exec(&mut self, alloc: Global, rows: Rows) -> Result<TraceLines, NoMemory>
+    /// Carries out a statement, before any query.
+    pub fn exec(&mut self, alloc: Global, write: Write) -> Result<TraceLines, NoMemory>
         requires stands { Stands self.old }
         requires unasked { IsUnasked self.old }
-        requires fits { IsTrue (rows_fit self.old.schema (Ok rows)) }
+        requires suits { IsTrue (suits self.old.server.tables.schema (write_of write)) }
+        requires short { IsTrue (is_short (write_of write)) }
         requires room { drawn self.old < 2 ^ 63 }
-        ensures steps { IfOk result (DoesStep (Exec (Ok (Insert 0 rows))) self.old self.new) }
+        ensures steps { IfOk result (DoesStep (Exec (Ok (write_of write))) self.old self.new) }
         ensures unasked { OnOk result (IsUnasked self.new) }
         ensures drawn { OnOk result (drawn self.new ≤ drawn self.old + 1) }
-        ensures schema { self.new.schema ≡ self.old.schema }
+        ensures schema { self.new.server.tables.schema ≡ self.old.server.tables.schema }
     {
-        match self.server.insert(alloc, only(&self.schema), rows) {
+        match self.server.exec(alloc, write) {
             Ok(()) => one_line(
                 alloc,
                 TraceLine::ExecVersion {
@@ -88,14 +85,14 @@ impl World {
     /// Asks a query of the table alone, and makes the deliveries that it brings.
     pub fn query(&mut self, alloc: Global, query: Query) -> Result<TraceLines, NoMemory>
         requires stands { Stands self.old }
-        requires asks { (meaning : TheQuery) × IsMeaning self.old.schema query meaning }
+        requires asks { (meaning : TheQuery) × IsMeaning self.old.server.tables.schema query meaning }
         requires alone { IsAlone query }
         requires room { drawn self.old + 2 < 2 ^ 63 }
-        ensures steps { (meaning : TheQuery) → IsMeaning self.old.schema query meaning → IfOk result (DoesStep (QueryOf 1 (Ok meaning)) self.old self.new) }
+        ensures steps { (meaning : TheQuery) → IsMeaning self.old.server.tables.schema query meaning → IfOk result (DoesStep (QueryOf 1 (Ok meaning)) self.old self.new) }
         ensures stands { OnOk result (Stands self.new) }
         ensures still { OnOk result (IsStill self.new) }
         ensures drawn { OnOk result (drawn self.new ≤ drawn self.old + 2) }
-        ensures schema { self.new.schema ≡ self.old.schema }
+        ensures schema { self.new.server.tables.schema ≡ self.old.server.tables.schema }
     {
         let mut lines = self.ask(alloc, query)?;
         lines.append(self.settle(alloc)?)?;
@@ -105,12 +102,12 @@ impl World {
     /// Judges a query: it is answered at once, or its rest is asked.
     fn ask(&mut self, alloc: Global, query: Query) -> Result<TraceLines, NoMemory>
         requires stands { Stands self.old }
-        requires asks { (meaning : TheQuery) × IsMeaning self.old.schema query meaning }
+        requires asks { (meaning : TheQuery) × IsMeaning self.old.server.tables.schema query meaning }
         requires alone { IsAlone query }
         requires room { drawn self.old + 2 < 2 ^ 63 }
-        ensures event { (meaning : TheQuery) → IsMeaning self.old.schema query meaning → IfOk result (DoesEvent (QueryOf 1 (Ok meaning)) self.old self.new) }
+        ensures event { (meaning : TheQuery) → IsMeaning self.old.server.tables.schema query meaning → IfOk result (DoesEvent (QueryOf 1 (Ok meaning)) self.old self.new) }
         ensures drawn { OnOk result (drawn self.new ≤ drawn self.old + 2) }
-        ensures schema { self.new.schema ≡ self.old.schema }
+        ensures schema { self.new.server.tables.schema ≡ self.old.server.tables.schema }
     {
         if let Some(out) = &self.client.out {
             return one_line(
@@ -122,7 +119,7 @@ impl World {
             );
         }
         let part = one_part(&query);
-        let rest = left(alloc, &part.rects, &self.client.held, only(&self.schema))?;
+        let rest = left(alloc, &part.rects, &self.client.held, only(self.server.tables.schema()))?;
         if rest.is_empty() {
             self.answer_now(alloc, &query)
         } else {
@@ -135,11 +132,11 @@ impl World {
         requires stands { Stands self.old }
         requires idle { self.old.client.out ≡ None }
         requires alone { IsAlone query.now }
-        requires nothing { (t : TheTable) → self.old.schema ≡ t ∷ [] → IsLeft t (wanted query.now.parts) self.old.client.held [] }
+        requires nothing { (t : TheTable) → self.old.server.tables.schema ≡ t ∷ [] → IsLeft t (wanted query.now.parts) self.old.client.held [] }
         requires room { drawn self.old + 2 < 2 ^ 63 }
-        ensures event { (meaning : TheQuery) → IsMeaning self.old.schema query.now meaning → IfOk result (DoesEvent (QueryOf 1 (Ok meaning)) self.old self.new) }
+        ensures event { (meaning : TheQuery) → IsMeaning self.old.server.tables.schema query.now meaning → IfOk result (DoesEvent (QueryOf 1 (Ok meaning)) self.old self.new) }
         ensures drawn { OnOk result (drawn self.new ≤ drawn self.old + 2) }
-        ensures schema { self.new.schema ≡ self.old.schema }
+        ensures schema { self.new.server.tables.schema ≡ self.old.server.tables.schema }
     {
         let number = self.client.queries + 1;
         let rows = self.client.answer(alloc, query)?;
@@ -159,12 +156,12 @@ impl World {
         requires idle { self.old.client.out ≡ None }
         requires one { length query.parts ≡ 1 }
         requires alone { IsAlone query }
-        requires left { (t : TheTable) → self.old.schema ≡ t ∷ [] → IsLeft t (wanted query.parts) self.old.client.held rest }
+        requires left { (t : TheTable) → self.old.server.tables.schema ≡ t ∷ [] → IsLeft t (wanted query.parts) self.old.client.held rest }
         requires some { rest ≡ [] → ⊥ }
         requires room { drawn self.old + 2 < 2 ^ 63 }
-        ensures event { (meaning : TheQuery) → IsMeaning self.old.schema query meaning → IfOk result (DoesEvent (QueryOf 1 (Ok meaning)) self.old self.new) }
+        ensures event { (meaning : TheQuery) → IsMeaning self.old.server.tables.schema query meaning → IfOk result (DoesEvent (QueryOf 1 (Ok meaning)) self.old self.new) }
         ensures drawn { OnOk result (drawn self.new ≤ drawn self.old + 2) }
-        ensures schema { self.new.schema ≡ self.old.schema }
+        ensures schema { self.new.server.tables.schema ≡ self.old.server.tables.schema }
     {
         let need = one_part(&query).need;
         let out = ask_out(alloc, &self.client, query, need, rest)?;
@@ -182,7 +179,7 @@ impl World {
         ensures settles { IfOk result (DoesSettle self.old self.new) }
         ensures still { OnOk result (IsStill self.new) }
         ensures drawn { OnOk result (drawn self.new ≡ drawn self.old) }
-        ensures schema { self.new.schema ≡ self.old.schema }
+        ensures schema { self.new.server.tables.schema ≡ self.old.server.tables.schema }
     {
         let mut lines = self.serve_all(alloc)?;
         lines.append(self.take_all(alloc)?)?;
@@ -193,7 +190,7 @@ impl World {
         requires { Stands self.old }
         ensures deliveries { IfOk result (DoesMany self.old self.new) }
         ensures drawn { OnOk result (drawn self.new ≡ drawn self.old) }
-        ensures schema { self.new.schema ≡ self.old.schema }
+        ensures schema { self.new.server.tables.schema ≡ self.old.server.tables.schema }
         ensures served { OnOk result (self.new.to_server.items ≡ []) }
     {
         let mut lines = Seq::new(alloc);
@@ -209,7 +206,7 @@ impl World {
         requires some { self.old.to_server.items ≡ [] → ⊥ }
         ensures delivery { IfOk result (DoesDelivery self.old self.new) }
         ensures drawn { OnOk result (drawn self.new ≡ drawn self.old) }
-        ensures schema { self.new.schema ≡ self.old.schema }
+        ensures schema { self.new.server.tables.schema ≡ self.old.server.tables.schema }
         ensures one_less { OnOk result (length self.new.to_server.items + 1 ≡ length self.old.to_server.items) }
     {
         match self.to_server.pop_front() {
@@ -235,7 +232,7 @@ impl World {
         requires served { self.old.to_server.items ≡ [] }
         ensures deliveries { IfOk result (DoesMany self.old self.new) }
         ensures drawn { OnOk result (drawn self.new ≡ drawn self.old) }
-        ensures schema { self.new.schema ≡ self.old.schema }
+        ensures schema { self.new.server.tables.schema ≡ self.old.server.tables.schema }
         ensures served { OnOk result (self.new.to_server.items ≡ []) }
         ensures taken { OnOk result (self.new.to_client.items ≡ []) }
     {
@@ -252,7 +249,7 @@ impl World {
         requires some { self.old.to_client.items ≡ [] → ⊥ }
         ensures delivery { IfOk result (DoesDelivery self.old self.new) }
         ensures drawn { OnOk result (drawn self.new ≡ drawn self.old) }
-        ensures schema { self.new.schema ≡ self.old.schema }
+        ensures schema { self.new.server.tables.schema ≡ self.old.server.tables.schema }
         ensures to_server { OnOk result (self.new.to_server.items ≡ self.old.to_server.items) }
         ensures one_less { OnOk result (length self.new.to_client.items + 1 ≡ length self.old.to_client.items) }
     {
@@ -261,7 +258,7 @@ impl World {
             Some(message) => match version_of(&message) {
                 None => self.client.lay_by(alloc, message),
                 Some(version) => {
-                    let key = only(&self.schema).key as usize;
+                    let key = only(self.server.tables.schema()).key as usize;
                     self.client.take_reply(alloc, key, version)
                 }
             },
@@ -360,7 +357,7 @@ fn message_of(alloc: Global, out: &AskOut) -> Result<Message, NoMemory>
 }
 
 /// The one table.
-fn only(schema: &Seq<Table>) -> &Table
+fn only(schema: &Schema) -> &Table
     requires { length schema.now ≡ 1 }
     ensures { schema.now ≡ result.now ∷ [] }
 {

@@ -1,61 +1,139 @@
 -- What the program's words say, and why it ends with each status.
-use Rattle.std.specs.Prelude.{◌≡◌, ℕ, ◌<◌, ◌≤◌, ◌⊎◌, ◌==◌, ◌&&◌, List, [], ◌∷◌, ◌++◌, Option, Some, None, IfSome, MatchOption, length, codes, decimal, if◌then◌else◌}
+use Rattle.std.specs.Prelude.{◌≡◌, ℕ, ◌+◌, ◌<◌, ◌≤◌, ◌⊎◌, ◌==◌, ◌&&◌, ◌||◌, List, [], ◌∷◌, ◌++◌, map, take, drop, Option, Some, None, IfSome, MatchOption, length, codes, decimal, if◌then◌else◌}
 use Rattle.std.specs.Str.{bytes_eq}
+use Rattle.std.specs.List.{position, AllZip}
 use Rattle.sr_cell.specs.declared.fault.Fault.{Fault}
+use Rattle.sr_cell.specs.declared.fault.Why.{Why}
+use Rattle.sr_cell.specs.declared.fault.Why.TheVariants.{UnknownTable}
 use Rattle.sr_language.specs.Lines.{lines_of}
 use Rattle.sr_language.specs.Script.{start_phase, FirstRefused, FirstUnbuilt}
+use Rattle.sr_load.specs.declared.fill.Load.{Load}
 use Rattle.sr_script.specs.TraceText.{why_text}
 use Rattle.sr_io.specs.Pieces.{Lost}
 use Rattle.sr_io.specs.Told.{complained}
 use Rattle.sr_world.specs.declared.world.World.{World}
-use Rattle.sr_world.specs.Replay.{Wrote, WrotePart}
+use Rattle.sr_world.specs.Replay.{RefusesLoad, Wrote, WrotePart}
 
--- the name in the words `replay --eager NAME`; other words are not in the form
-abbrev pub file_of : List (List ℕ) → Option (List ℕ)
-file_of (command ∷ option ∷ name ∷ []) = if bytes_eq command (codes "replay") && bytes_eq option (codes "--eager") then Some name else None
-file_of words = None
+-- ---- the words: `replay --eager FILE [TABLE=FILE ..]`
 
--- the words are in the form, and their name has the property
-abbrev pub OnFile : List (List ℕ) → (List ℕ → Type 0) → Type 0
-OnFile words P = MatchOption (file_of words) ⊥ P
+-- a table, and the name of the file to be loaded into it
+pub record LoadWord : Type 0 where
+  pub table : List ℕ
+  pub file : List ℕ
+
+-- the name of the script, and the loads
+pub record Words : Type 0 where
+  pub script : List ℕ
+  pub loads : List LoadWord
+
+-- the word cut at this place, where the `=` stands
+abbrev pub cut_at : List ℕ → Option ℕ → Option LoadWord
+cut_at word None = None
+cut_at word (Some at) =
+    if at == 0 || length word == at + 1 then None else Some (record { table = take at word; file = drop (at + 1) word })
+
+-- a word is cut at its first `=`, and neither side is empty
+abbrev pub load_word : List ℕ → Option LoadWord
+load_word word = cut_at word (position (λ b. b == 61) word)
+
+abbrev pub with_load : Option LoadWord → Option (List LoadWord) → Option (List LoadWord)
+with_load None loads = None
+with_load (Some load) None = None
+with_load (Some load) (Some loads) = Some (load ∷ loads)
+
+abbrev pub load_words : List (List ℕ) → Option (List LoadWord)
+load_words [] = Some []
+load_words (word ∷ words) = with_load (load_word word) (load_words words)
+
+abbrev pub with_script : List ℕ → Option (List LoadWord) → Option Words
+with_script script None = None
+with_script script (Some loads) = Some (record { script = script; loads = loads })
+
+-- what the words say; other words are not in the form
+abbrev pub words_of : List (List ℕ) → Option Words
+words_of [] = None
+words_of (command ∷ []) = None
+words_of (command ∷ option ∷ []) = None
+words_of (command ∷ option ∷ script ∷ loads) =
+    if bytes_eq command (codes "replay") && bytes_eq option (codes "--eager") then with_script script (load_words loads) else None
+
+-- the words are in the form, and what they say has the property
+abbrev pub OnWords : List (List ℕ) → (Words → Type 0) → Type 0
+OnWords words P = MatchOption (words_of words) ⊥ P
+
+-- the names of all files, in the order in which they are read
+abbrev pub files_of : Words → List (List ℕ)
+files_of words = words.script ∷ map (λ load. load.file) words.loads
 
 abbrev pub IsStatus : ℕ → Type 0
 IsStatus status = (status ≡ 0) ⊎ (status ≡ 2) ⊎ (status ≡ 3) ⊎ (status ≡ 4) ⊎ (status ≡ 7) ⊎ (status ≡ 9) ⊎ (status ≡ 10) ⊎ (status ≡ 12)
 
--- the script that was read is what is held under the name, where that is told, and it is not too long
-pub record IsWhatIsHeld (held : Option (List ℕ)) (script : List ℕ) : Type 0 where
-  pub told : IfSome held (λ bytes. script ≡ bytes)
-  pub within_limit : length script ≤ 67108864
+-- ---- the files
 
--- a script was read, and its whole trace was written
-pub record Replayed (held old new : Option (List ℕ)) : Type 0 where
+-- what was read is what is held under the name, where that is told, and it is not too long
+pub record IsWhatIsHeld (held : Option (List ℕ)) (read : List ℕ) : Type 0 where
+  pub told : IfSome held (λ bytes. read ≡ bytes)
+  pub within_limit : length read ≤ 67108864
+
+pub record IsLoad (held : List ℕ → Option (List ℕ)) (word : LoadWord) (load : Load) : Type 0 where
+  pub table : load.table ≡ word.table
+  pub read : IsWhatIsHeld (held word.file) load.bytes
+
+-- what was read under the names: a script, and the files for the tables
+pub record AreFiles (held : List ℕ → Option (List ℕ)) (words : Words) (script : List ℕ) (loads : List Load) : Type 0 where
+  pub script_read : IsWhatIsHeld (held words.script) script
+  pub loads_read : AllZip (IsLoad held) words.loads loads
+
+-- files were read, and the whole trace was written
+pub record Replayed (held : List ℕ → Option (List ℕ)) (words : Words) (old new : Option (List ℕ)) : Type 0 where
   pub script : List ℕ
-  pub read : IsWhatIsHeld held script
+  pub loads : List Load
+  pub files : AreFiles held words script loads
   pub world : Option World
-  pub wrote : Wrote old new script world
+  pub wrote : Wrote old new script loads world
 
--- a script was read, and a prefix of its trace was written
-pub record ReplayedInPart (held old new : Option (List ℕ)) : Type 0 where
+-- files were read, and a prefix of the trace was written
+pub record ReplayedInPart (held : List ℕ → Option (List ℕ)) (words : Words) (old new : Option (List ℕ)) : Type 0 where
   pub script : List ℕ
-  pub read : IsWhatIsHeld held script
-  pub wrote : WrotePart old new script
+  pub loads : List Load
+  pub files : AreFiles held words script loads
+  pub wrote : WrotePart old new script loads
 
 -- one byte more than the limit was read
 abbrev pub IsTooLong : Option (List ℕ) → Option (List ℕ) → Type 0
 IsTooLong held left = Lost held left (λ bytes. length bytes ≡ 67108865)
 
--- a script was read whose first CREATE line that is refused is this one, with this fault
-pub record IsRefusedSetup (held : Option (List ℕ)) (line : ℕ) (fault : Fault) : Type 0 where
+-- one of the files is too long, and those before it were read
+abbrev pub SomeTooLong : (List ℕ → Option (List ℕ)) → Option (List ℕ) → List (List ℕ) → Type 0
+SomeTooLong held left [] = ⊥
+SomeTooLong held left (name ∷ names) = IsTooLong (held name) left ⊎ ((read : List ℕ) × IsWhatIsHeld (held name) read × SomeTooLong held left names)
+
+-- ---- refusals
+
+-- files were read, and the script's first CREATE line that is refused is this one, with this fault
+pub record IsRefusedSetup (held : List ℕ → Option (List ℕ)) (words : Words) (line : ℕ) (fault : Fault) : Type 0 where
   pub script : List ℕ
-  pub read : IsWhatIsHeld held script
+  pub loads : List Load
+  pub files : AreFiles held words script loads
   pub first : FirstRefused 1 [] (lines_of script) line fault
 
--- a script was read whose first line that is not built is this one, and none of its CREATE lines is refused
-pub record IsUnbuilt (held : Option (List ℕ)) (line : ℕ) : Type 0 where
+-- files were read, and the one for the table of this name is the first that is refused, with this fault; no CREATE line is
+pub record IsRefusedLoad (held : List ℕ → Option (List ℕ)) (words : Words) (table : List ℕ) (fault : Fault) : Type 0 where
   pub script : List ℕ
-  pub read : IsWhatIsHeld held script
+  pub loads : List Load
+  pub files : AreFiles held words script loads
+  pub refuses : RefusesLoad script loads table fault
+
+-- files were read, and the script's first line that is not built is this one; no CREATE line and no file is refused
+pub record IsUnbuilt (held : List ℕ → Option (List ℕ)) (words : Words) (line : ℕ) : Type 0 where
+  pub script : List ℕ
+  pub loads : List Load
+  pub files : AreFiles held words script loads
   pub first : FirstUnbuilt 1 start_phase (lines_of script) line
   pub accepts : (refused : ℕ) (fault : Fault) → ¬ FirstRefused 1 [] (lines_of script) refused fault
+  pub loads_accepted : (table : List ℕ) (fault : Fault) → ¬ RefusesLoad script loads table fault
+
+-- ---- the error output
 
 abbrev pub line_feed : List ℕ
 line_feed = 10 ∷ []
@@ -64,21 +142,36 @@ line_feed = 10 ∷ []
 abbrev pub setup_text : ℕ → Fault → List ℕ
 setup_text line fault = codes "schema " ++ decimal line ++ codes " " ++ why_text fault.why ++ codes " " ++ decimal fault.at ++ line_feed
 
--- a script was read whose first refused CREATE line was named on the error output, with its fault
-pub record NamedSetup (held old new : Option (List ℕ)) : Type 0 where
-  pub line : ℕ
-  pub fault : Fault
-  pub refused : IsRefusedSetup held line fault
-  pub said : new ≡ complained (setup_text line fault) old
+-- what is said of a file that is refused: the number of the record and its fault, or that there is no such table
+abbrev pub load_text : List ℕ → Fault → List ℕ
+load_text table fault = codes "load " ++ table ++ codes " " ++ reason fault.why
+  where
+    reason : Why → List ℕ
+    reason UnknownTable = codes "unknown" ++ line_feed
+    reason why = decimal fault.at ++ codes " " ++ why_text why ++ line_feed
 
 -- what is said of an unbuilt line
 abbrev pub unbuilt_text : ℕ → List ℕ
 unbuilt_text line = codes "unbuilt " ++ decimal line ++ line_feed
 
--- a script was read whose first unbuilt line was named on the error output
-pub record NamedUnbuilt (held old new : Option (List ℕ)) : Type 0 where
+-- the refused CREATE line was named on the error output, with its fault
+pub record NamedSetup (held : List ℕ → Option (List ℕ)) (words : Words) (old new : Option (List ℕ)) : Type 0 where
   pub line : ℕ
-  pub unbuilt : IsUnbuilt held line
+  pub fault : Fault
+  pub refused : IsRefusedSetup held words line fault
+  pub said : new ≡ complained (setup_text line fault) old
+
+-- the table of the refused file was named on the error output, with the fault
+pub record NamedLoad (held : List ℕ → Option (List ℕ)) (words : Words) (old new : Option (List ℕ)) : Type 0 where
+  pub table : List ℕ
+  pub fault : Fault
+  pub refused : IsRefusedLoad held words table fault
+  pub said : new ≡ complained (load_text table fault) old
+
+-- the first unbuilt line was named on the error output
+pub record NamedUnbuilt (held : List ℕ → Option (List ℕ)) (words : Words) (old new : Option (List ℕ)) : Type 0 where
+  pub line : ℕ
+  pub unbuilt : IsUnbuilt held words line
   pub said : new ≡ complained (unbuilt_text line) old
 
 -- what is said at the other statuses that are not 0
@@ -91,14 +184,35 @@ error_text status =
     else (if status == 10 then Some (codes "too long" ++ line_feed)
     else None))))
 
--- what a host without faults that holds the script lets the status be
-pub record FitsScript (script : List ℕ) (status : ℕ) : Type 0 where
+-- ---- a host without faults
+
+pub record IsHeldLoad (held : List ℕ → Option (List ℕ)) (word : LoadWord) (load : Load) : Type 0 where
+  pub table : load.table ≡ word.table
+  pub bytes : held word.file ≡ Some load.bytes
+
+-- the host holds all the files, and these are they
+pub record AreHeld (held : List ℕ → Option (List ℕ)) (words : Words) (script : List ℕ) (loads : List Load) : Type 0 where
+  pub script_held : held words.script ≡ Some script
+  pub loads_held : AllZip (IsHeldLoad held) words.loads loads
+
+-- one of the files has more bytes than the limit
+abbrev pub SomeLong : List Load → Type 0
+SomeLong [] = ⊥
+SomeLong (load ∷ loads) = (67108864 < length load.bytes) ⊎ SomeLong loads
+
+abbrev pub AreLong : List ℕ → List Load → Type 0
+AreLong script loads = (67108864 < length script) ⊎ SomeLong loads
+
+-- what a host without faults that holds the files lets the status be
+pub record FitsFiles (script : List ℕ) (loads : List Load) (status : ℕ) : Type 0 where
   pub no_read_fault : ¬ (status ≡ 3)
   pub no_write_fault : ¬ (status ≡ 4)
-  pub long : 67108864 < length script → (status ≡ 9) ⊎ (status ≡ 10)
-  pub too_long : status ≡ 10 → 67108864 < length script
-  pub setup : status ≡ 7 → (line : ℕ) × (fault : Fault) × FirstRefused 1 [] (lines_of script) line fault
+  pub long : AreLong script loads → (status ≡ 9) ⊎ (status ≡ 10)
+  pub too_long : status ≡ 10 → AreLong script loads
+  pub refused : status ≡ 7 → ((line : ℕ) × (fault : Fault) × FirstRefused 1 [] (lines_of script) line fault) ⊎ ((table : List ℕ) × (fault : Fault) × RefusesLoad script loads table fault)
   pub unbuilt : status ≡ 12 → (line : ℕ) × FirstUnbuilt 1 start_phase (lines_of script) line
   pub unbuilt_accepts : status ≡ 12 → (line : ℕ) (fault : Fault) → ¬ FirstRefused 1 [] (lines_of script) line fault
+  pub unbuilt_loads : status ≡ 12 → (table : List ℕ) (fault : Fault) → ¬ RefusesLoad script loads table fault
   pub built : status ≡ 0 → (line : ℕ) → ¬ FirstUnbuilt 1 start_phase (lines_of script) line
   pub built_accepts : status ≡ 0 → (line : ℕ) (fault : Fault) → ¬ FirstRefused 1 [] (lines_of script) line fault
+  pub built_loads : status ≡ 0 → (table : List ℕ) (fault : Fault) → ¬ RefusesLoad script loads table fault

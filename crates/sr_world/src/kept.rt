@@ -1,37 +1,38 @@
 //! The world of a script, if the script has a table: what its statements and queries do there.
-ghost use Rattle.std.specs.Prelude.{◌≡◌, ℕ, ◌+◌, ◌<◌, ◌≤◌, ◌^◌, [], None, Result, length, IsTrue, IfOk, OnOk, IfSome};
+ghost use Rattle.std.specs.Prelude.{◌≡◌, ℕ, ◌+◌, ◌<◌, ◌≤◌, ◌^◌, Result, length, IsTrue, IfOk, OnOk, IfSome};
 ghost use Rattle.std.specs.List.{list_all};
 ghost use Rattle.sr_cell.specs.declared.fault.Fault.{Fault as TheFault};
 ghost use Rattle.sr_model.specs.Queries.{Query as TheQuery};
 ghost use Rattle.sr_model.specs.Events.{Exec, QueryOf};
-ghost use Rattle.sr_reader.specs.Read.{write_of, Means, rows_fit, is_built};
-ghost use Rattle.sr_world.specs.Bound.{IsAlone};
+ghost use Rattle.sr_reader.specs.Read.{statement_of, statement_fits, Means, is_built};
 ghost use Rattle.sr_world.specs.Represents.{IsUnasked};
 ghost use Rattle.sr_world.specs.Worlds.{Stands};
 ghost use Rattle.sr_world.specs.Replay.{start, IsKept};
 ghost use Rattle.sr_world.specs.Kept.{DoesKept, IsStill, drawn_of, tables_of};
 
 use crate::world::{World, one_line};
-use sr_cell::cell::Rows;
 use sr_cell::fault::Fault;
-use sr_cell::list::{Copied, NoMemory};
-use sr_cell::table::Table;
+use sr_cell::list::NoMemory;
 use sr_query::query::Query;
+use sr_query::write::Write;
 use sr_script::line::{TraceLine, TraceLines};
+use sr_tables::tables::Tables;
 use std::alloc::Global;
 
-/// The world before the first event.
-pub fn begin(alloc: Global, tables: &[Table]) -> Result<Option<World>, NoMemory>
-    requires one { length tables.now ≤ 1 }
-    requires built { IsTrue (list_all is_built tables.now) }
-    ensures first { IfOk result (λ world. IsKept world (start tables.now)) }
-    ensures unasked { IfOk result (λ world. IfSome world IsUnasked) }
-    ensures drawn { IfOk result (λ world. drawn_of world ≤ 1) }
-    ensures tables { IfOk result (λ world. tables_of world ≡ tables.now) }
+/// The world before the first event; takes no memory.
+pub fn begin(alloc: Global, tables: Tables) -> Option<World>
+    requires one { length tables.schema ≤ 1 }
+    requires built { IsTrue (list_all is_built tables.schema) }
+    ensures first { IsKept result (start tables.schema tables.rows) }
+    ensures unasked { IfSome result IsUnasked }
+    ensures drawn { drawn_of result ≤ 1 }
+    ensures tables { tables_of result ≡ tables.schema }
 {
-    match tables.first() {
-        None => Ok(None),
-        Some(table) => Ok(Some(World::new(alloc, table.copy(alloc)?)?)),
+    if tables.schema().len() == 0 {
+        tables.know_stored();
+        None
+    } else {
+        Some(World::new(alloc, tables))
     }
 }
 
@@ -39,13 +40,13 @@ pub fn begin(alloc: Global, tables: &[Table]) -> Result<Option<World>, NoMemory>
 pub fn exec(
     alloc: Global,
     world: &mut Option<World>,
-    statement: Result<Rows, Fault>,
+    statement: Result<Write, Fault>,
 ) -> Result<TraceLines, NoMemory>
     requires stands { IfSome world.old Stands }
     requires unasked { IfSome world.old IsUnasked }
-    requires fits { IsTrue (rows_fit (tables_of world.old) statement) }
+    requires fits { IsTrue (statement_fits (tables_of world.old) statement) }
     requires room { drawn_of world.old < 2 ^ 63 }
-    ensures steps { IfOk result (DoesKept (Exec (write_of statement)) world.old world.new) }
+    ensures steps { IfOk result (DoesKept (Exec (statement_of statement)) world.old world.new) }
     ensures stands { OnOk result (IfSome world.new Stands) }
     ensures unasked { OnOk result (IfSome world.new IsUnasked) }
     ensures drawn { OnOk result (drawn_of world.new ≤ drawn_of world.old + 1) }
@@ -53,8 +54,8 @@ pub fn exec(
 {
     match statement {
         Err(fault) => one_line(alloc, TraceLine::ExecRefused { fault }),
-        Ok(rows) => match world {
-            Some(world) => world.exec(alloc, rows),
+        Ok(write) => match world {
+            Some(world) => world.exec(alloc, write),
             None => unreachable!(),
         },
     }
@@ -69,7 +70,6 @@ pub fn query(
     requires stands { IfSome world.old Stands }
     requires still { IfSome world.old IsStill }
     requires means { (meaning : Result TheQuery TheFault) × Means (tables_of world.old) query meaning }
-    requires alone { IfOk query IsAlone }
     requires room { drawn_of world.old + 2 < 2 ^ 63 }
     ensures steps { (meaning : Result TheQuery TheFault) → Means (tables_of world.old) query meaning → IfOk result (DoesKept (QueryOf 1 meaning) world.old world.new) }
     ensures stands { OnOk result (IfSome world.new Stands) }

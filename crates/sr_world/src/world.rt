@@ -6,13 +6,15 @@ ghost use Rattle.sr_box.specs.Points.{rect_fits};
 ghost use Rattle.sr_message.specs.declared.message.Message.TheVariants.{Ask as AskMessage};
 ghost use Rattle.sr_script.specs.declared.line.TraceLine.TheVariants.{Ask, QueryAsked};
 ghost use Rattle.sr_scene.specs.Steps.{part_line};
-ghost use Rattle.sr_world.specs.Bound.{IsMeaning, IsAlone, IsLeft, wanted};
+ghost use Rattle.sr_world.specs.Bound.{IsMeaning, IsLeft, wanted};
 ghost use Rattle.sr_world.specs.Client.{is_empty, ask_of};
 ghost use Rattle.sr_world.specs.Kept.{IsStill};
 ghost use Rattle.sr_model.specs.Events.{Exec, QueryOf, ToServer, ToClient};
-ghost use Rattle.sr_model.specs.Statements.{Insert};
 ghost use Rattle.sr_model.specs.Queries.{Query as TheQuery};
-ghost use Rattle.sr_reader.specs.Read.{is_built, rows_fit};
+ghost use Rattle.sr_query.specs.Written.{write_of};
+ghost use Rattle.sr_query.specs.Writes.{suits};
+ghost use Rattle.sr_tables.specs.Stored.{is_short};
+ghost use Rattle.sr_reader.specs.Read.{is_built};
 ghost use Rattle.sr_scene.specs.Scene.{first};
 ghost use Rattle.sr_world.specs.Represents.{Represents, IsUnasked, drawn};
 ghost use Rattle.sr_world.specs.Worlds.{Stands, DoesStep, DoesEvent, DoesDelivery, DoesMany, DoesSettle};
@@ -20,12 +22,14 @@ ghost use Rattle.sr_world.specs.Worlds.{Stands, DoesStep, DoesEvent, DoesDeliver
 use crate::client::{AskOut, Client, push_answer, version_of};
 use crate::server::Server;
 use sr_cell::attrs::Attrs;
-use sr_cell::cell::Rows;
 use sr_cell::list::{Copied, No, NoMemory, Seq};
+use sr_cell::schema::Schema;
 use sr_cell::table::Table;
 use sr_message::message::{AskPart, Message, Messages};
 use sr_query::query::{Part, Query};
+use sr_query::write::Write;
 use sr_script::line::{RequestKind, TraceLine, TraceLines};
+use sr_tables::tables::Tables;
 use sr_union::rects::Rects;
 use std::alloc::Global;
 use std::collections::VecDeque;
@@ -86,7 +90,6 @@ impl World {
     pub fn query(&mut self, alloc: Global, query: Query) -> Result<TraceLines, NoMemory>
         requires stands { Stands self.old }
         requires asks { (meaning : TheQuery) × IsMeaning self.old.server.tables.schema query meaning }
-        requires alone { IsAlone query }
         requires room { drawn self.old + 2 < 2 ^ 63 }
         ensures steps { (meaning : TheQuery) → IsMeaning self.old.server.tables.schema query meaning → IfOk result (DoesStep (QueryOf 1 (Ok meaning)) self.old self.new) }
         ensures stands { OnOk result (Stands self.new) }
@@ -103,7 +106,6 @@ impl World {
     fn ask(&mut self, alloc: Global, query: Query) -> Result<TraceLines, NoMemory>
         requires stands { Stands self.old }
         requires asks { (meaning : TheQuery) × IsMeaning self.old.server.tables.schema query meaning }
-        requires alone { IsAlone query }
         requires room { drawn self.old + 2 < 2 ^ 63 }
         ensures event { (meaning : TheQuery) → IsMeaning self.old.server.tables.schema query meaning → IfOk result (DoesEvent (QueryOf 1 (Ok meaning)) self.old self.new) }
         ensures drawn { OnOk result (drawn self.new ≤ drawn self.old + 2) }
@@ -131,7 +133,6 @@ impl World {
     fn answer_now(&mut self, alloc: Global, query: &Query) -> Result<TraceLines, NoMemory>
         requires stands { Stands self.old }
         requires idle { self.old.client.out ≡ None }
-        requires alone { IsAlone query.now }
         requires nothing { (t : TheTable) → self.old.server.tables.schema ≡ t ∷ [] → IsLeft t (wanted query.now.parts) self.old.client.held [] }
         requires room { drawn self.old + 2 < 2 ^ 63 }
         ensures event { (meaning : TheQuery) → IsMeaning self.old.server.tables.schema query.now meaning → IfOk result (DoesEvent (QueryOf 1 (Ok meaning)) self.old self.new) }
@@ -155,7 +156,6 @@ impl World {
         requires stands { Stands self.old }
         requires idle { self.old.client.out ≡ None }
         requires one { length query.parts ≡ 1 }
-        requires alone { IsAlone query }
         requires left { (t : TheTable) → self.old.server.tables.schema ≡ t ∷ [] → IsLeft t (wanted query.parts) self.old.client.held rest }
         requires some { rest ≡ [] → ⊥ }
         requires room { drawn self.old + 2 < 2 ^ 63 }

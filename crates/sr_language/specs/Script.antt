@@ -12,7 +12,8 @@ use Rattle.sr_model.specs.Queries.{Query}
 use Rattle.sr_model.specs.Statements.{Write}
 use Rattle.sr_model.specs.Events.{Event, Exec, QueryOf}
 use Rattle.sr_query.specs.Binding.{bound_query}
-use Rattle.sr_language.specs.Built.{may_create, write_to, may_ask}
+use Rattle.sr_query.specs.Writes.{bound_write}
+use Rattle.sr_language.specs.Built.{may_create, may_ask}
 
 -- ---- what a line is, by how it begins
 
@@ -89,10 +90,10 @@ pub record Phase : Type 0 where
 abbrev pub start_phase : Phase
 start_phase = record { tables = []; stage = Creating }
 
--- A text that is no statement is refused. One that is a statement writes this to the tables.
+-- A text that is no statement, or whose statement writes nothing to the tables, is refused. Another writes this.
 abbrev pub Writes : List Table → List ℕ → Result Write Fault → Type 0
-Writes tables sql (Err fault) = Says sql (Err fault)
-Writes tables sql (Ok write) = (s : Statement) × Says sql (Ok s) × (write_to tables s ≡ Some write)
+Writes tables sql (Err fault) = Says sql (Err fault) ⊎ ((s : Statement) × Says sql (Ok s) × (bound_write tables s ≡ Err fault))
+Writes tables sql (Ok write) = (s : Statement) × Says sql (Ok s) × (bound_write tables s ≡ Ok write)
 
 -- A text that is no statement, or whose statement asks nothing of the tables, is refused. Another asks this query.
 abbrev pub AsksOf : List Table → List ℕ → Result Query Fault → Type 0

@@ -1,5 +1,6 @@
 -- What a statement writes to the tables of a schema, or its first fault.
-use Rattle.std.specs.Prelude.{ℕ, ◌+◌, ◌==◌, not, List, [], ◌∷◌, ◌++◌, map, length, Option, Some, None, Result, Ok, if◌then◌else◌}
+use Rattle.std.specs.Prelude.{ℕ, ◌+◌, ◌==◌, ◌&&◌, not, Bool, true, nat_lt, List, [], ◌∷◌, ◌++◌, map, length, Option, Some, None, Result, Ok, if◌then◌else◌}
+use Rattle.std.specs.List.{list_all}
 use Rattle.sr_cell.specs.declared.cell.Cell.{Cell}
 use Rattle.sr_cell.specs.declared.table.Kind.{Kind}
 use Rattle.sr_cell.specs.declared.table.Column.{Column}
@@ -101,3 +102,20 @@ bound_write schema (tree.Selects s) = fault NotAWrite 0
 bound_write schema (tree.Inserts s) = table_known s.place (table_named schema s.table) >>= inserting schema s
 bound_write schema (tree.Updates s) = table_known s.place (table_named schema s.table) >>= updating schema s
 bound_write schema (tree.Deletes s) = table_known s.place (table_named schema s.table) >>= deleting schema s
+
+-- ---- what holds of each bound statement
+
+-- each row has a cell for each column; each new value is one of a column that is not the key
+abbrev pub suits_table : Table → Write → Bool
+suits_table table (Inserting t rows) = list_all (λ row. length row == length table.columns) rows
+suits_table table (Updating t places c) = list_all (λ p. nat_lt p.column (length table.columns) && not (p.column == table.key)) places
+suits_table table (Deleting t c) = true
+
+abbrev pub table_of : Write → ℕ
+table_of (Inserting t rows) = t
+table_of (Updating t places c) = t
+table_of (Deleting t c) = t
+
+-- a statement on one of the tables, which it suits
+abbrev pub suits : List Table → Write → Bool
+suits schema w = nat_lt (table_of w) (length schema) && suits_table (table_at schema (table_of w)) w

@@ -1,14 +1,17 @@
 -- What a script that was read stands for.
-use Rattle.std.specs.Prelude.{ℕ, ◌≡◌, ◌≤◌, ◌+◌, ◌++◌, ◌==◌, ◌&&◌, Bool, true, false, nat_lt, List, [], ◌∷◌, map, length, Result, Ok, Err, IsTrue}
+use Rattle.std.specs.Prelude.{ℕ, ◌≡◌, ◌≤◌, ◌+◌, ◌++◌, ◌&&◌, Bool, true, nat_lt, List, [], ◌∷◌, map, length, Result, Ok, Err, IsTrue}
 use Rattle.std.specs.List.{list_all, AllZip}
 use Rattle.sr_cell.specs.declared.fault.Fault.{Fault}
 use Rattle.sr_cell.specs.declared.table.Table.{Table}
-use Rattle.sr_cell.specs.Cells.{Row}
 use Rattle.sr_model.specs.Queries as model
-use Rattle.sr_model.specs.Statements.{Write, Insert}
+use Rattle.sr_model.specs.Statements as statements
 use Rattle.sr_model.specs.Events.{Event, Exec, QueryOf}
 use Rattle.sr_query.specs.Bound.{is_table, IsQuery}
 use Rattle.sr_query.specs.declared.query.Query.{Query}
+use Rattle.sr_query.specs.declared.write.Write.{Write}
+use Rattle.sr_query.specs.declared.write.Write.TheVariants as writes
+use Rattle.sr_query.specs.Writes.{suits}
+use Rattle.sr_query.specs.Written.{write_of}
 use Rattle.sr_language.specs.Lines.{lines_of}
 use Rattle.sr_language.specs.Built.{may_create, may_ask}
 use Rattle.sr_language.specs.Script.{Phase, start_phase, Reads}
@@ -16,12 +19,13 @@ use Rattle.sr_reader.specs.declared.script.ExecLine.{ExecLine}
 use Rattle.sr_reader.specs.declared.script.QueryLine.{QueryLine}
 use Rattle.sr_reader.specs.declared.script.Script.{Script}
 
-abbrev pub write_of : Result (List Row) Fault → Result Write Fault
-write_of (Ok rows) = Ok (Insert 0 rows)
-write_of (Err fault) = Err fault
+-- a bound statement, or the fault of its text, stands for this one
+abbrev pub statement_of : Result Write Fault → Result statements.Write Fault
+statement_of (Ok w) = Ok (write_of w)
+statement_of (Err fault) = Err fault
 
 abbrev pub exec_event : ExecLine → ℕ × Event
-exec_event line = (line.number, Exec (write_of line.statement))
+exec_event line = (line.number, Exec (statement_of line.statement))
 
 -- a bound query, or the fault of its text, stands for this one
 abbrev pub Means : List Table → Result Query Fault → Result model.Query Fault → Type 0
@@ -43,17 +47,21 @@ pub record AreEvents (s : Script) (events : List (ℕ × Event)) : Type 0 where
 abbrev pub is_built : Table → Bool
 is_built t = is_table t && may_create t
 
--- rows of as many cells as the table has columns, fewer than 65,536; without a table there are none
-abbrev pub rows_fit : List Table → Result (List Row) Fault → Bool
-rows_fit [] (Ok rows) = false
-rows_fit (t ∷ tables) (Ok rows) = list_all (λ row. length row == length t.columns) rows && nat_lt (length rows) 65536
-rows_fit tables (Err fault) = true
+abbrev pub few_rows : Write → Bool
+few_rows (writes.Insert table rows) = nat_lt (length rows) 65536
+few_rows (writes.Update table sets filter) = true
+few_rows (writes.Delete table filter) = true
+
+-- a statement that suits the tables, of fewer than 65,536 rows
+abbrev pub statement_fits : List Table → Result Write Fault → Bool
+statement_fits tables (Ok w) = suits tables (write_of w) && few_rows w
+statement_fits tables (Err fault) = true
 
 -- what holds of the lines, so that they can be carried out
 pub record Fits (s : Script) : Type 0 where
   pub one : length s.schema ≤ 1
   pub tables : IsTrue (list_all is_built s.schema)
-  pub statements : IsTrue (list_all (λ line. rows_fit s.schema line.statement) s.statements)
+  pub statements : IsTrue (list_all (λ line. statement_fits s.schema line.statement) s.statements)
 
 -- the bytes say the script: its lines have just these events, over these tables
 pub record IsRead (bytes : List ℕ) (s : Script) : Type 0 where

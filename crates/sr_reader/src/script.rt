@@ -1,15 +1,15 @@
 //! Scripts, as they are read.
-use sr_cell::cell::Rows;
 use sr_cell::fault::Fault;
 use sr_cell::list::Seq;
 use sr_cell::schema::Schema;
 use sr_query::query::Query;
+use sr_query::write::Write;
 
-/// The statement of a line of this number: the rows that it inserts, or why its text is refused.
+/// The statement of a line of this number, or why its text is refused.
 #[derive(Drop)]
 pub struct ExecLine {
     pub number: u64,
-    pub statement: Result<Rows, Fault>,
+    pub statement: Result<Write, Fault>,
 }
 
 /// The query of a line of this number, or why its text is refused.

@@ -1,14 +1,16 @@
 //! The top call.
-ghost use Rattle.std.specs.Prelude.{◌≡◌, ℕ, ◌⊎◌, ◌↔◌, Some, None, IfSome, OnOk, IsErrOf};
-ghost use Rattle.std.specs.Option.{option_copied};
+ghost use Rattle.std.specs.Prelude.{◌≡◌, ℕ, ◌⊎◌, ◌↔◌, List, Some, None, IfSome, OnOk, IsErrOf};
 ghost use Rattle.sr_cell.specs.declared.fault.Fault.{Fault as TheFault};
+ghost use Rattle.sr_load.specs.declared.fill.Load.{Load};
 ghost use Rattle.sr_io.specs.Causes.{Rose};
 ghost use Rattle.sr_io.specs.Told.{complained};
-ghost use Rattle.sr_cli.specs.Run.{file_of, OnFile, IsStatus, Replayed, ReplayedInPart, IsTooLong, IsRefusedSetup, IsUnbuilt, NamedSetup, NamedUnbuilt, setup_text, unbuilt_text, error_text, FitsScript};
-ghost use Rattle.sr_cli.specs.declared.run.Refusal.TheVariants.{Read, Write, Memory, TooLong, Setup, Unbuilt};
+ghost use Rattle.sr_cli.specs.Run.{Words as TheWords, words_of, files_of, OnWords, IsStatus, Replayed, ReplayedInPart, SomeTooLong, IsRefusedSetup, IsRefusedLoad, IsUnbuilt, NamedSetup, NamedLoad, NamedUnbuilt, setup_text, load_text, unbuilt_text, error_text, AreHeld, FitsFiles};
+ghost use Rattle.sr_cli.specs.declared.run.Refusal.TheVariants.{Read, Write, Memory, TooLong, Setup, Load as LoadRefused, Unbuilt};
 
-use crate::file::{ReadFault, read_file};
-use sr_cell::fault::Fault;
+use crate::file::ReadFault;
+use crate::files::{Files, read_files};
+use crate::words::{Words, words_of};
+use sr_cell::fault::{Fault, Why};
 use sr_cell::list::No;
 use sr_cell::text::Text;
 use sr_io::outside::Host;
@@ -16,8 +18,8 @@ use sr_script::words::why_word;
 use sr_world::replay::{RunFault, replay};
 use std::alloc::Global;
 
-/// Why a file was not replayed whole.
-#[derive(Clone, Copy, Debug, PartialEq, Eq)]
+/// Why a script was not replayed whole.
+#[derive(Drop)]
 pub enum Refusal {
     /// Reading failed.
     Read,
@@ -25,10 +27,12 @@ pub enum Refusal {
     Write,
     /// Memory was refused.
     Memory,
-    /// The file is too long.
+    /// A file is too long.
     TooLong,
     /// That line is the first CREATE line that is refused, and why.
     Setup { line: u64, fault: Fault },
+    /// The file for the table of that name is the first that is refused, and why.
+    Load { table: Text, fault: Fault },
     /// That line is the first that is not built.
     Unbuilt { line: u64 },
 }
@@ -36,90 +40,82 @@ pub enum Refusal {
 /// Does all that the words ask for, and answers the status to end with.
 pub fn run<H: Host>(alloc: Global, words: &[Text], host: &mut H) -> u8
     ensures only { IsStatus result }
-    ensures words { (result ≡ 2) ↔ (file_of words.now ≡ None) }
+    ensures words { (result ≡ 2) ↔ (words_of words.now ≡ None) }
     ensures words_alone { result ≡ 2 → H.reading host.new ≡ H.reading host.old }
-    ensures replayed { result ≡ 0 → OnFile words.now (λ name. Replayed (H.held host.old name) (H.writing host.old).written (H.writing host.new).written) }
+    ensures replayed { result ≡ 0 → OnWords words.now (λ w. Replayed (H.held host.old) w (H.writing host.old).written (H.writing host.new).written) }
     ensures read_fault_is_counted { result ≡ 3 → Rose (H.reading host.old).faults (H.reading host.new).faults }
     ensures write_fault_is_counted { result ≡ 4 → Rose (H.writing host.old).faults (H.writing host.new).faults }
-    ensures part_after_fault { result ≡ 4 → OnFile words.now (λ name. ReplayedInPart (H.held host.old name) (H.writing host.old).written (H.writing host.new).written) }
-    ensures part_in_want { result ≡ 9 → (H.writing host.new ≡ H.writing host.old) ⊎ OnFile words.now (λ name. ReplayedInPart (H.held host.old name) (H.writing host.old).written (H.writing host.new).written) }
-    ensures too_long { result ≡ 10 → OnFile words.now (λ name. IsTooLong (H.held host.old name) (H.reading host.new).left) }
-    ensures setup { result ≡ 7 → OnFile words.now (λ name. NamedSetup (H.held host.old name) (H.complaints host.old) (H.complaints host.new)) }
-    ensures unbuilt { result ≡ 12 → OnFile words.now (λ name. NamedUnbuilt (H.held host.old name) (H.complaints host.old) (H.complaints host.new)) }
+    ensures part_after_fault { result ≡ 4 → OnWords words.now (λ w. ReplayedInPart (H.held host.old) w (H.writing host.old).written (H.writing host.new).written) }
+    ensures part_in_want { result ≡ 9 → (H.writing host.new ≡ H.writing host.old) ⊎ OnWords words.now (λ w. ReplayedInPart (H.held host.old) w (H.writing host.old).written (H.writing host.new).written) }
+    ensures too_long { result ≡ 10 → OnWords words.now (λ w. SomeTooLong (H.held host.old) (H.reading host.new).left (files_of w)) }
+    ensures refused { result ≡ 7 → OnWords words.now (λ w. NamedSetup (H.held host.old) w (H.complaints host.old) (H.complaints host.new) ⊎ NamedLoad (H.held host.old) w (H.complaints host.old) (H.complaints host.new)) }
+    ensures unbuilt { result ≡ 12 → OnWords words.now (λ w. NamedUnbuilt (H.held host.old) w (H.complaints host.old) (H.complaints host.new)) }
     ensures writes_nothing { (result ≡ 2) ⊎ (result ≡ 3) ⊎ (result ≡ 7) ⊎ (result ≡ 10) ⊎ (result ≡ 12) → H.writing host.new ≡ H.writing host.old }
     ensures reading_keeps_faults { (result ≡ 3) ⊎ ((H.reading host.new).faults ≡ (H.reading host.old).faults) }
     ensures writing_keeps_faults { (result ≡ 4) ⊎ ((H.writing host.new).faults ≡ (H.writing host.old).faults) }
     ensures silent { result ≡ 0 → H.complaints host.new ≡ H.complaints host.old }
     ensures complaint { IfSome (error_text result) (λ text. H.complaints host.new ≡ complained text (H.complaints host.old)) }
-    ensures steady { H.IsSteady host.old → IfSome (file_of words.now) (λ name. IfSome (H.held host.old name) (λ script. FitsScript script result)) }
+    ensures steady { H.IsSteady host.old → (w : TheWords) (script : List ℕ) (loads : List Load) → words_of words.now ≡ Some w → AreHeld (H.held host.old) w script loads → FitsFiles script loads result }
     ensures stays_steady { H.IsSteady host.old → H.IsSteady host.new }
     ensures held_stays { H.held host.new ≡ H.held host.old }
     ensures linking_stays { H.linking host.new ≡ H.linking host.old }
 {
-    match file_word(words) {
+    match words_of(words) {
         None => {
             host.complain(b"words\n");
             2
         }
-        Some(name) => match replay_file(alloc, name.as_str(), host) {
+        Some(words) => match replay_files(alloc, &words, host) {
             Ok(()) => 0,
             Err(refusal) => report(alloc, refusal, host),
         },
     }
 }
 
-/// The word that names the file, where the words are in the form.
-fn file_word(words: &[Text]) -> Option<&Text>
-    ensures { option_copied result ≡ file_of words.now }
-{
-    match words {
-        [command, option, name] => {
-            if command.as_str() == "replay" && option.as_str() == "--eager" {
-                Some(name)
-            } else {
-                None
-            }
-        }
-        _ => None,
-    }
-}
-
-/// Reads the file of that name, replays it and writes its trace.
-fn replay_file<H: Host>(alloc: Global, name: &str, host: &mut H) -> Result<(), Refusal>
-    ensures replayed { OnOk result (Replayed (H.held host.old name.now) (H.writing host.old).written (H.writing host.new).written) }
+/// Reads the files that the words name, replays the script and writes its trace.
+fn replay_files<H: Host>(alloc: Global, words: &Words<'_>, host: &mut H) -> Result<(), Refusal>
+    ensures replayed { OnOk result (Replayed (H.held host.old) (words_seen words.now) (H.writing host.old).written (H.writing host.new).written) }
     ensures read_fault_is_counted { IsErrOf result Read → Rose (H.reading host.old).faults (H.reading host.new).faults }
     ensures read_fault_writes_nothing { IsErrOf result Read → H.writing host.new ≡ H.writing host.old }
     ensures write_fault_is_counted { IsErrOf result Write → Rose (H.writing host.old).faults (H.writing host.new).faults }
-    ensures part_after_fault { IsErrOf result Write → ReplayedInPart (H.held host.old name.now) (H.writing host.old).written (H.writing host.new).written }
-    ensures part_in_want { IsErrOf result Memory → (H.writing host.new ≡ H.writing host.old) ⊎ ReplayedInPart (H.held host.old name.now) (H.writing host.old).written (H.writing host.new).written }
-    ensures too_long { IsErrOf result TooLong → IsTooLong (H.held host.old name.now) (H.reading host.new).left }
+    ensures part_after_fault { IsErrOf result Write → ReplayedInPart (H.held host.old) (words_seen words.now) (H.writing host.old).written (H.writing host.new).written }
+    ensures part_in_want { IsErrOf result Memory → (H.writing host.new ≡ H.writing host.old) ⊎ ReplayedInPart (H.held host.old) (words_seen words.now) (H.writing host.old).written (H.writing host.new).written }
+    ensures too_long { IsErrOf result TooLong → SomeTooLong (H.held host.old) (H.reading host.new).left (files_of (words_seen words.now)) }
     ensures too_long_writes_nothing { IsErrOf result TooLong → H.writing host.new ≡ H.writing host.old }
-    ensures setup { (line : ℕ) (fault : TheFault) → IsErrOf result (Setup line fault) → IsRefusedSetup (H.held host.old name.now) line fault }
+    ensures setup { (line : ℕ) (fault : TheFault) → IsErrOf result (Setup line fault) → IsRefusedSetup (H.held host.old) (words_seen words.now) line fault }
     ensures setup_writes_nothing { (line : ℕ) (fault : TheFault) → IsErrOf result (Setup line fault) → H.writing host.new ≡ H.writing host.old }
-    ensures unbuilt { (line : ℕ) → IsErrOf result (Unbuilt line) → IsUnbuilt (H.held host.old name.now) line }
+    ensures load { (table : List ℕ) (fault : TheFault) → IsErrOf result (LoadRefused table fault) → IsRefusedLoad (H.held host.old) (words_seen words.now) table fault }
+    ensures load_writes_nothing { (table : List ℕ) (fault : TheFault) → IsErrOf result (LoadRefused table fault) → H.writing host.new ≡ H.writing host.old }
+    ensures unbuilt { (line : ℕ) → IsErrOf result (Unbuilt line) → IsUnbuilt (H.held host.old) (words_seen words.now) line }
     ensures unbuilt_writes_nothing { (line : ℕ) → IsErrOf result (Unbuilt line) → H.writing host.new ≡ H.writing host.old }
     ensures reading_keeps_faults { IsErrOf result Read ⊎ ((H.reading host.new).faults ≡ (H.reading host.old).faults) }
     ensures writing_keeps_faults { IsErrOf result Write ⊎ ((H.writing host.new).faults ≡ (H.writing host.old).faults) }
     ensures stays_steady { H.IsSteady host.old → H.IsSteady host.new }
-    ensures steady_reads { H.IsSteady host.old → IsErrOf result Read → H.held host.old name.now ≡ None }
+    ensures steady_reads { H.IsSteady host.old → IsErrOf result Read → (script : List ℕ) (loads : List Load) → ¬ AreHeld (H.held host.old) (words_seen words.now) script loads }
     ensures steady_writes { H.IsSteady host.old → ¬ IsErrOf result Write }
     ensures held_stays { H.held host.new ≡ H.held host.old }
     ensures linking_stays { H.linking host.new ≡ H.linking host.old }
     ensures complaints_stay { H.complaints host.new ≡ H.complaints host.old }
 {
-    match read_file(alloc, name, host) {
+    match read_files(alloc, words, host) {
         Err(ReadFault::Fault) => Err(Refusal::Read),
         Err(ReadFault::NoMemory) => Err(Refusal::Memory),
         Err(ReadFault::TooLong) => Err(Refusal::TooLong),
-        Ok(script) => match replay(alloc, script.as_slice(), host) {
-            Ok(_) => Ok(()),
-            Err(No::NoMemory) => Err(Refusal::Memory),
-            Err(No::Refused(RunFault::WriteFault)) => Err(Refusal::Write),
-            Err(No::Refused(RunFault::Setup { line, fault })) => {
-                Err(Refusal::Setup { line, fault })
-            }
-            Err(No::Refused(RunFault::Unbuilt { line })) => Err(Refusal::Unbuilt { line }),
-        },
+        Ok(files) => replay_read(alloc, &files, host),
+    }
+}
+
+/// Replays the script of files that were read.
+fn replay_read<H: Host>(alloc: Global, files: &Files, host: &mut H) -> Result<(), Refusal>
+    // as replay, over files.script and files.loads
+{
+    match replay(alloc, files.script.as_slice(), files.loads.as_slice(), host) {
+        Ok(_) => Ok(()),
+        Err(No::NoMemory) => Err(Refusal::Memory),
+        Err(No::Refused(RunFault::WriteFault)) => Err(Refusal::Write),
+        Err(No::Refused(RunFault::Setup { line, fault })) => Err(Refusal::Setup { line, fault }),
+        Err(No::Refused(RunFault::Load { table, fault })) => Err(Refusal::Load { table, fault }),
+        Err(No::Refused(RunFault::Unbuilt { line })) => Err(Refusal::Unbuilt { line }),
     }
 }
 
@@ -128,9 +124,9 @@ fn report<H: Host>(alloc: Global, refusal: Refusal, host: &mut H) -> u8
     ensures only { (result ≡ 3) ⊎ (result ≡ 4) ⊎ (result ≡ 7) ⊎ (result ≡ 9) ⊎ (result ≡ 10) ⊎ (result ≡ 12) }
     ensures read { result ≡ 3 → refusal ≡ Read }
     ensures write { result ≡ 4 → refusal ≡ Write }
-    ensures memory { result ≡ 9 → (refusal ≡ Memory) ⊎ ((line : ℕ) × (fault : TheFault) × (refusal ≡ Setup line fault)) ⊎ ((line : ℕ) × (refusal ≡ Unbuilt line)) }
+    ensures memory { result ≡ 9 → (refusal ≡ Memory) ⊎ ((line : ℕ) × (fault : TheFault) × (refusal ≡ Setup line fault)) ⊎ ((table : List ℕ) × (fault : TheFault) × (refusal ≡ LoadRefused table fault)) ⊎ ((line : ℕ) × (refusal ≡ Unbuilt line)) }
     ensures too_long { result ≡ 10 → refusal ≡ TooLong }
-    ensures setup { result ≡ 7 → (line : ℕ) × (fault : TheFault) × (refusal ≡ Setup line fault) × (H.complaints host.new ≡ complained (setup_text line fault) (H.complaints host.old)) }
+    ensures refused { result ≡ 7 → ((line : ℕ) × (fault : TheFault) × (refusal ≡ Setup line fault) × (H.complaints host.new ≡ complained (setup_text line fault) (H.complaints host.old))) ⊎ ((table : List ℕ) × (fault : TheFault) × (refusal ≡ LoadRefused table fault) × (H.complaints host.new ≡ complained (load_text table fault) (H.complaints host.old))) }
     ensures unbuilt { result ≡ 12 → (line : ℕ) × (refusal ≡ Unbuilt line) × (H.complaints host.new ≡ complained (unbuilt_text line) (H.complaints host.old)) }
     ensures complaint { IfSome (error_text result) (λ text. H.complaints host.new ≡ complained text (H.complaints host.old)) }
     ensures stays_steady { H.IsSteady host.old → H.IsSteady host.new }
@@ -157,6 +153,7 @@ fn report<H: Host>(alloc: Global, refusal: Refusal, host: &mut H) -> u8
             10
         }
         Refusal::Setup { line, fault } => report_setup(alloc, line, fault, host),
+        Refusal::Load { table, fault } => report_load(alloc, &table, fault, host),
         Refusal::Unbuilt { line } => report_unbuilt(alloc, line, host),
     }
 }

@@ -1,6 +1,2 @@
-//! Rows by key, in an ordered map.
+//! Rows by key.
 #![tactic(auto)]
-
-pub mod keyed;
-#[cfg(test)]
-mod tests;

@@ -1,0 +1,2 @@
+//! Tables.
+#![tactic(auto)]

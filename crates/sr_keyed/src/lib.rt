@@ -1,2 +1,4 @@
-//! Rows by key.
+//! Rows by key, in an ordered map.
 #![tactic(auto)]
+
+pub mod keyed;

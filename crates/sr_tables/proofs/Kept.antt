@@ -1,12 +1,18 @@
 -- What holds of the rows of each table holds of one of them, and after one of them has changed.
 use Rattle.std.proofs.Common.{◌≡◌, ℕ, ◌<◌, ◌&&◌, Bool, true, false, List, [], ◌∷◌, length, map, refl, sym, ap, arith, zero, suc, IsTrue}
-use Rattle.std.specs.Prelude.{slice_get, slice_set, slice_index_or, Some}
+use Rattle.std.proofs.lemmas.Bool.Decides.{nat_tests}
+use Rattle.std.specs.Prelude.{nat_lt, not, ◌==◌, slice_set, slice_index_or}
 use Rattle.std.specs.List.{list_all, AllZip}
 use Rattle.sr_cell.specs.declared.table.Table.{Table}
 use Rattle.sr_cell.specs.Cells.{Row}
 use Rattle.sr_cell.specs.Columns.{table_at, fits_columns}
 use Rattle.sr_model.specs.Queries.{rows_at}
+use Rattle.sr_model.specs.Statements as model
+use Rattle.sr_model.specs.Statements.{Write}
+use Rattle.sr_query.specs.declared.write.Place.{Place}
+use Rattle.sr_query.specs.Written.{place_of}
 use Rattle.sr_model.specs.SortedRows.{ascend}
+use Rattle.sr_query.specs.Writes.{table_of, suits_table, suits}
 use Rattle.sr_keyed.specs.Keyed.{Keyed}
 use Rattle.sr_tables.specs.Stored.{IsKeyed, are_rows, are_stored}
 
@@ -20,12 +26,11 @@ zip-length (t ∷ schema) [] zip = absurd zip
 zip-length (t ∷ schema) (k ∷ all) zip = omega (arith, zip-length schema all zip.1)
 
 -- of the table of this number
-pub zip-at : (schema : List Table) (all : List Keyed) (t : ℕ) (k : Keyed) → AllZip IsKeyed schema all → slice_get all t ≡ Some k → IsKeyed (table_at schema t) k
-zip-at [] [] t k zip is = absurd (cc)
-zip-at [] (j ∷ all) t k zip is = absurd zip
-zip-at (table ∷ schema) [] t k zip is = absurd zip
-zip-at (table ∷ schema) (j ∷ all) zero k zip is = let same : j ≡ k = cc in rw (← same) zip.0
-zip-at (table ∷ schema) (j ∷ all) (suc t) k zip is = zip-at schema all t k zip.1 is
+pub zip-at : (schema : List Table) (all : List Keyed) (t : ℕ) (d : Keyed) → AllZip IsKeyed schema all → t < length schema → IsKeyed (table_at schema t) (slice_index_or all t d)
+zip-at [] all t d zip known = absurd (omega (arith, known))
+zip-at (table ∷ schema) [] t d zip known = absurd zip
+zip-at (table ∷ schema) (j ∷ all) zero d zip known = zip.0
+zip-at (table ∷ schema) (j ∷ all) (suc t) d zip known = zip-at schema all t d zip.1 (omega (arith, known))
 
 pub zip-set : (schema : List Table) (all : List Keyed) (t : ℕ) (k : Keyed) → AllZip IsKeyed schema all → IsKeyed (table_at schema t) k → AllZip IsKeyed schema (slice_set all t k)
 zip-set [] [] t k zip is = tt
@@ -35,12 +40,45 @@ zip-set (table ∷ schema) (j ∷ all) zero k zip is = (is, zip.1)
 zip-set (table ∷ schema) (j ∷ all) (suc t) k zip is = (zip.0, zip-set schema all t k zip.1 is)
 
 -- the rows are those of the table of this number
-pub rows-at : (all : List Keyed) (t : ℕ) (k : Keyed) → slice_get all t ≡ Some k → rows_at (map (λ (k : Keyed). k.rows) all) t ≡ k.rows
-rows-at [] t k is = absurd (cc)
-rows-at (j ∷ all) zero k is = let same : j ≡ k = cc in ap (λ (k : Keyed). k.rows) same
-rows-at (j ∷ all) (suc t) k is = rows-at all t k is
+pub rows-at : (all : List Keyed) (t : ℕ) (d : Keyed) → t < length all → rows_at (map (λ (k : Keyed). k.rows) all) t ≡ (slice_index_or all t d).rows
+rows-at [] t d known = absurd (omega (arith, known))
+rows-at (j ∷ all) zero d known = refl
+rows-at (j ∷ all) (suc t) d known = rows-at all t d (omega (arith, known))
 
 pub rows-set : (all : List Keyed) (t : ℕ) (k : Keyed) → map (λ (k : Keyed). k.rows) (slice_set all t k) ≡ slice_set (map (λ (k : Keyed). k.rows) all) t k.rows
 rows-set [] t k = refl
 rows-set (j ∷ all) zero k = refl
 rows-set (j ∷ all) (suc t) k = ap (λ tables. j.rows ∷ tables) (rows-set all t k)
+
+-- ---- one table of all changes
+
+pub there : (schema : List Table) (all : List Keyed) (t : ℕ) → AllZip IsKeyed schema all → t < length schema → t < length all
+there schema all t zip known = omega (arith, zip-length schema all zip, known)
+
+-- the statement is on one of the tables
+pub known-of : (schema : List Table) (w : Write) → IsTrue (suits schema w) → table_of w < length schema
+known-of schema w fits = let first : nat_lt (table_of w) (length schema) ≡ true = left (nat_lt (table_of w) (length schema)) (suits_table (table_at schema (table_of w)) w) fits in grind (arith, nat_tests)
+  where
+    left : (a b : Bool) → (a && b) ≡ true → a ≡ true
+    left true b both = refl
+    left false b both = both
+
+-- and it suits that table
+pub suits-of : (schema : List Table) (w : Write) → IsTrue (suits schema w) → IsTrue (suits_table (table_at schema (table_of w)) w)
+suits-of schema w fits = right (nat_lt (table_of w) (length schema)) (suits_table (table_at schema (table_of w)) w) fits
+  where
+    right : (a b : Bool) → (a && b) ≡ true → b ≡ true
+    right true b both = both
+    right false b both = absurd (cc)
+
+pub places-suit : (table : Table) (sets : List Place) → IsTrue (list_all (λ (p : model.Place). nat_lt p.column (length table.columns) && not (p.column == table.key)) (map place_of sets))
+    → IsTrue (list_all (λ (p : Place). nat_lt p.column (length table.columns) && not (p.column == table.key)) sets)
+places-suit table [] all = refl
+places-suit table (p ∷ sets) all = by (nat_lt p.column (length table.columns) && not (p.column == table.key)) all (places-suit table sets)
+  where
+    by : (b : Bool) → (b && list_all (λ (p : model.Place). nat_lt p.column (length table.columns) && not (p.column == table.key)) (map place_of sets)) ≡ true
+        → (IsTrue (list_all (λ (p : model.Place). nat_lt p.column (length table.columns) && not (p.column == table.key)) (map place_of sets))
+        → IsTrue (list_all (λ (p : Place). nat_lt p.column (length table.columns) && not (p.column == table.key)) sets))
+        → (b && list_all (λ (p : Place). nat_lt p.column (length table.columns) && not (p.column == table.key)) sets) ≡ true
+    by true all later = later all
+    by false all later = all

@@ -1,2 +1,4 @@
 pub mod Others
 pub mod Kept
+pub mod Short
+pub mod Done

@@ -26,6 +26,9 @@ pub record IsKeyed (t : Table) (k : Keyed) : Type 0 where
   pub kind : k.kind ≡ (column_of t t.key).kind
   pub fits : IsTrue (list_all (fits_columns t.columns) k.rows)
 
+abbrev pub rows_in : List Keyed → Tables
+rows_in all = map (λ (k : Keyed). k.rows) all
+
 abbrev pub are_rows : Table → List Row → Bool
 are_rows t rows = ascend t.key rows && list_all (fits_columns t.columns) rows
 

@@ -1,2 +1,10 @@
-//! Tables.
+//! Tables with their rows by key: statements that change them, and loads.
 #![tactic(auto)]
+
+mod carry;
+mod delete;
+mod insert;
+mod load;
+mod select;
+pub mod tables;
+mod update;

@@ -8,3 +8,4 @@ pub mod Passing
 pub mod Low
 pub mod Asking
 pub mod Writing
+pub mod OnTables

@@ -35,7 +35,7 @@ few_columns [] t sound = search arith
 few_columns (table ∷ schema) zero sound = let x = and_parts (is_table table) _ sound in grind (arith, nat_tests, x)
 few_columns (table ∷ schema) (suc t) sound = let x = and_parts (is_table table) _ sound in few_columns schema t x.1
 
-column_within : (c k : ℕ) (columns : List Column) (name : List ℕ) → column_named c columns name ≡ Some k → k < c + length columns
+pub column_within : (c k : ℕ) (columns : List Column) (name : List ℕ) → column_named c columns name ≡ Some k → k < c + length columns
 column_within c k [] name e = absurd cc
 column_within c k (column ∷ columns) name e = go (bytes_eq column.name name) e (column_within (c + 1) k columns name)
   where

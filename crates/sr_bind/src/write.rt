@@ -5,7 +5,7 @@ ghost use Rattle.sr_cell.specs.Names.{table_named};
 ghost use Rattle.sr_grammar.specs.Seen.{statement_seen, update_seen, delete_seen, filter_seen};
 ghost use Rattle.sr_query.specs.Bound.{is_table};
 ghost use Rattle.sr_query.specs.Decided.{Decides};
-ghost use Rattle.sr_query.specs.Writes.{bound_write, table_known, condition_in};
+ghost use Rattle.sr_query.specs.Writes.{bound_write, table_known, condition_in, suits};
 ghost use Rattle.sr_query.specs.Written.{write_of, condition_of};
 ghost use Rattle.sr_bind.specs.Written.{insert_bound, update_bound, delete_bound};
 
@@ -24,7 +24,8 @@ use std::alloc::Global;
 /// What the statement writes to the tables of the schema, or its first fault.
 pub fn bind_write(alloc: Global, schema: &Schema, statement: &Statement) -> Result<Write, No<Fault>>
     requires { IsTrue (list_all is_table schema.now) }
-    ensures { Decides write_of result (bound_write schema.now (statement_seen statement.now)) }
+    ensures bound { Decides write_of result (bound_write schema.now (statement_seen statement.now)) }
+    ensures suits { IfOk result (λ w. IsTrue (suits schema.now (write_of w))) }
 {
     match statement {
         Statement::Insert(insert) => bind_insert(alloc, schema, insert),

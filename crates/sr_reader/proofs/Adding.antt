@@ -4,15 +4,15 @@ use Rattle.std.specs.Prelude.{Some, None, Result, Ok, Err, IsTrue}
 use Rattle.sr_cell.specs.declared.list.NoMemory.{NoMemory}
 use Rattle.sr_cell.specs.declared.table.Table.{Table}
 use Rattle.sr_cell.specs.declared.fault.Fault.{Fault}
-use Rattle.sr_cell.specs.Cells.{Row}
 use Rattle.sr_cell.specs.Faults.{table_fault}
 use Rattle.sr_query.specs.declared.query.Query.{Query}
-use Rattle.sr_language.specs.Script.{Line, CreateLine, ExecLine, QueryLine, Creating, Asking, start_phase, AddsTable}
+use Rattle.sr_query.specs.declared.write.Write.{Write}
+use Rattle.sr_language.specs.Script.{Line, CreateLine, ExecLine, QueryLine, Creating, Asking, start_phase, AddsTable, Writes}
 use Rattle.sr_reader.specs.declared.script.ExecLine.{ExecLine as ExecRead}
 use Rattle.sr_reader.specs.declared.script.QueryLine.{QueryLine as QueryRead}
 use Rattle.sr_reader.specs.declared.script.Script.{Script}
-use Rattle.sr_reader.specs.Meaning.{IsCreated, IsWritten, IsAsking}
-use Rattle.sr_reader.specs.Read.{Fits, rows_fit}
+use Rattle.sr_reader.specs.Meaning.{IsCreated, IsAsking}
+use Rattle.sr_reader.specs.Read.{statement_of, Fits, statement_fits}
 use Rattle.sr_reader.specs.Walk.{stage_by, phase_in, Adds, AddsNothing, IsAdded}
 use Rattle.sr_reader.proofs.OneDoing.{one_create}
 use Rattle.sr_reader.proofs.Walks.{create_adds, exec_adds, query_adds, create_fits, exec_fits, query_fits}
@@ -65,13 +65,10 @@ asking statements (q ∷ queries) some = refl
 pub exec_behind : (number : ℕ) (sql : List ℕ) (old : Script) → (old.queries ≡ [] → ⊥) → AddsNothing number old (ExecLine sql)
 exec_behind number sql old some events next does = does.2 (asking old.statements old.queries some)
 
-pub exec_none : (number : ℕ) (sql : List ℕ) (old : Script) → IsWritten old.schema sql None → AddsNothing number old (ExecLine sql)
-exec_none number sql old none events next does = none does.0 does.1
-
-pub exec_some : (number : ℕ) (sql : List ℕ) (old : Script) (statement : Result (List Row) Fault) → old.queries ≡ [] → IsWritten old.schema sql (Some statement) → IsTrue (rows_fit old.schema statement) → Fits old
+pub exec_some : (number : ℕ) (sql : List ℕ) (old : Script) (statement : Result Write Fault) → old.queries ≡ [] → Writes old.schema sql (statement_of statement) → IsTrue (statement_fits old.schema statement) → Fits old
     → Adds number old (ExecLine sql) (record old { statements = old.statements ++ record { number = number; statement = statement } ∷ [] })
     × Fits (record old { statements = old.statements ++ record { number = number; statement = statement } ∷ [] })
-exec_some number sql old statement first writes rows fits = (exec_adds number sql old statement writes first, exec_fits number old statement fits rows)
+exec_some number sql old statement first writes suits fits = (exec_adds number sql old statement writes first, exec_fits number old statement fits suits)
 
 pub query_none : (number : ℕ) (sql : List ℕ) (old : Script) → IsAsking old.schema sql None → AddsNothing number old (QueryLine sql)
 query_none number sql old none events next does = none does.0 does.1

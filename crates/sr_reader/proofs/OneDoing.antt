@@ -11,7 +11,7 @@ use Rattle.sr_model.specs.Queries.{Query}
 use Rattle.sr_model.specs.Statements.{Write}
 use Rattle.sr_model.specs.Events.{Event, Exec, QueryOf}
 use Rattle.sr_query.specs.Binding.{bound_query}
-use Rattle.sr_language.specs.Built.{write_to}
+use Rattle.sr_query.specs.Writes.{bound_write}
 use Rattle.sr_language.specs.Script.{Line, Silent, CreateLine, ExecLine, QueryLine, Other, line_of, RefusedFrom, FirstRefused, Creating, Phase, start_phase, Writes, AsksOf, LineDoes, Reads, FirstUnbuilt}
 
 -- ---- a text means one thing
@@ -28,14 +28,21 @@ one_fault sql f g a b = let e = each_says_one sql (Err f) (Err g) a b in cc
 pub no_fault : (sql : List ℕ) (s : Statement) (fault : Fault) → Says sql (Ok s) → Says sql (Err fault) → ⊥
 no_fault sql s fault a b = let e = each_says_one sql (Ok s) (Err fault) a b in cc
 
-same_write : (a b : Write) → Some a ≡ Some b → a ≡ b
-same_write a b e = cc
+-- what the text of a statement writes is what the statement writes
+writes_bound : (tables : List Table) (sql : List ℕ) (s : Statement) (r : Result Write Fault) → Says sql (Ok s) → Writes tables sql r → bound_write tables s ≡ r
+writes_bound tables sql s (Err f) says (inl fault) = absurd (no_fault sql s f says fault)
+writes_bound tables sql s (Err f) says (inr written) = ap (bound_write tables) (one_statement sql s written.0 says written.1) ∙ written.2
+writes_bound tables sql s (Ok w) says written = ap (bound_write tables) (one_statement sql s written.0 says written.1) ∙ written.2
+
+writes_fault : (tables : List Table) (sql : List ℕ) (f : Fault) (r : Result Write Fault) → Says sql (Err f) → Writes tables sql r → Err f ≡ r
+writes_fault tables sql f (Err g) says (inl fault) = ap (λ z. Err z) (one_fault sql f g says fault)
+writes_fault tables sql f (Err g) says (inr written) = absurd (no_fault sql written.0 f written.1 says)
+writes_fault tables sql f (Ok w) says written = absurd (no_fault sql written.0 f written.1 says)
 
 one_write : (tables : List Table) (sql : List ℕ) (r s : Result Write Fault) → Writes tables sql r → Writes tables sql s → r ≡ s
-one_write tables sql (Ok a) (Ok b) x y = ap (λ z. Ok z) (same_write a b (sym x.2 ∙ (ap (write_to tables) (one_statement sql x.0 y.0 x.1 y.1) ∙ y.2)))
-one_write tables sql (Ok a) (Err g) x y = absurd (no_fault sql x.0 g x.1 y)
-one_write tables sql (Err f) (Ok b) x y = absurd (no_fault sql y.0 f y.1 x)
-one_write tables sql (Err f) (Err g) x y = ap (λ z. Err z) (one_fault sql f g x y)
+one_write tables sql (Ok w) s x y = sym x.2 ∙ writes_bound tables sql x.0 s x.1 y
+one_write tables sql (Err f) s (inl says) y = writes_fault tables sql f s says y
+one_write tables sql (Err f) s (inr written) y = sym written.2 ∙ writes_bound tables sql written.0 s written.1 y
 
 -- what the text of a statement asks is what the statement asks
 pub asks_bound : (tables : List Table) (sql : List ℕ) (s : Statement) (r : Result Query Fault) → Says sql (Ok s) → AsksOf tables sql r → bound_query tables s ≡ r

@@ -6,17 +6,17 @@ use Rattle.std.proofs.lemmas.List.{length-append, length-map}
 use Rattle.std.proofs.lemmas.Slice.Zip.{AllZip-long}
 use Rattle.sr_cell.specs.declared.table.Table.{Table}
 use Rattle.sr_cell.specs.declared.fault.Fault.{Fault}
-use Rattle.sr_cell.specs.Cells.{Row}
 use Rattle.sr_model.specs.Queries as model
 use Rattle.sr_model.specs.Events.{Event, Exec, QueryOf}
 use Rattle.sr_query.specs.declared.query.Query.{Query}
+use Rattle.sr_query.specs.declared.write.Write.{Write}
 use Rattle.sr_language.specs.Lines.{lines_of}
 use Rattle.sr_language.specs.Built.{may_create}
 use Rattle.sr_language.specs.Script.{Line, Silent, CreateLine, ExecLine, QueryLine, Other, line_of, Stage, Filling, Asking, Phase, start_phase, AddsTable, Writes, AsksOf, LineDoes, Reads, FirstUnbuilt}
 use Rattle.sr_reader.specs.declared.script.ExecLine.{ExecLine as ExecRead}
 use Rattle.sr_reader.specs.declared.script.QueryLine.{QueryLine as QueryRead}
 use Rattle.sr_reader.specs.declared.script.Script.{Script}
-use Rattle.sr_reader.specs.Read.{exec_event, write_of, Means, IsAsked, AreEvents, Fits, IsRead, rows_fit}
+use Rattle.sr_reader.specs.Read.{statement_of, exec_event, Means, IsAsked, AreEvents, Fits, IsRead, statement_fits}
 use Rattle.sr_reader.specs.Walk.{stage_by, phase_in, Adds, AddsNothing}
 use Rattle.sr_reader.proofs.Tables.{faultless_fits}
 
@@ -63,12 +63,12 @@ create_adds number sql old t start adds may none silent = ([], (t, adds, may, st
       all = append-nil events ∙ are.all;
     }
 
-pub exec_adds : (number : ℕ) (sql : List ℕ) (old : Script) (statement : Result (List Row) Fault) → Writes old.schema sql (write_of statement) → old.queries ≡ []
+pub exec_adds : (number : ℕ) (sql : List ℕ) (old : Script) (statement : Result Write Fault) → Writes old.schema sql (statement_of statement) → old.queries ≡ []
     → Adds number old (ExecLine sql) (record old { statements = old.statements ++ record { number = number; statement = statement } ∷ [] })
-exec_adds number sql old statement writes none = ((number, Exec (write_of statement)) ∷ [], (write_of statement, writes, no_asking, refl, filled), λ events are. behind events are)
+exec_adds number sql old statement writes none = ((number, Exec (statement_of statement)) ∷ [], (statement_of statement, writes, no_asking, refl, filled), λ events are. behind events are)
   where
     behind : (events : List (ℕ × Event)) → AreEvents old events
-        → AreEvents (record old { statements = old.statements ++ record { number = number; statement = statement } ∷ [] }) (events ++ (number, Exec (write_of statement)) ∷ [])
+        → AreEvents (record old { statements = old.statements ++ record { number = number; statement = statement } ∷ [] }) (events ++ (number, Exec (statement_of statement)) ∷ [])
     behind events are = record {
       asked = are.asked;
       queries = are.queries;
@@ -183,12 +183,12 @@ create_fits old t sql adds may none = record {
   statements = rw none refl;
 }
 
-pub exec_fits : (number : ℕ) (old : Script) (statement : Result (List Row) Fault) → Fits old → IsTrue (rows_fit old.schema statement)
+pub exec_fits : (number : ℕ) (old : Script) (statement : Result Write Fault) → Fits old → IsTrue (statement_fits old.schema statement)
     → Fits (record old { statements = old.statements ++ record { number = number; statement = statement } ∷ [] })
-exec_fits number old statement fits rows = record {
+exec_fits number old statement fits suits = record {
   one = fits.one;
   tables = fits.tables;
-  statements = all_push (λ line. rows_fit old.schema line.statement) old.statements (record { number = number; statement = statement }) fits.statements rows;
+  statements = all_push (λ line. statement_fits old.schema line.statement) old.statements (record { number = number; statement = statement }) fits.statements suits;
 }
 
 pub query_fits : (number : ℕ) (old : Script) (query : Result Query Fault) → Fits old → Fits (record old { queries = old.queries ++ record { number = number; query = query } ∷ [] })

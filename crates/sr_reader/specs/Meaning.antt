@@ -2,37 +2,25 @@
 use Rattle.std.specs.Prelude.{◌≡◌, ℕ, false, List, Option, Some, None, Result, Ok, Err, IsTrue}
 use Rattle.sr_cell.specs.declared.table.Table.{Table}
 use Rattle.sr_cell.specs.declared.fault.Fault.{Fault}
-use Rattle.sr_cell.specs.Cells.{Row}
 use Rattle.sr_grammar.specs.declared.statement.Statement as code
 use Rattle.sr_grammar.specs.Trees.{Statement, Create}
 use Rattle.sr_grammar.specs.Seen.{statement_seen}
 use Rattle.sr_grammar.specs.Says.{Says}
 use Rattle.sr_model.specs.Queries as model
-use Rattle.sr_model.specs.Statements.{Write, Insert}
 use Rattle.sr_query.specs.Binding.{bound_query}
 use Rattle.sr_query.specs.declared.query.Query.{Query}
 use Rattle.sr_language.specs.Built.{may_create, may_ask}
-use Rattle.sr_language.specs.Script.{Writes, AsksOf}
-use Rattle.sr_reader.specs.Read.{write_of, Means}
+use Rattle.sr_language.specs.Script.{AsksOf}
+use Rattle.sr_reader.specs.Read.{Means}
 
 abbrev pub said_seen : Result code.Statement Fault → Result Statement Fault
 said_seen (Ok s) = Ok (statement_seen s)
 said_seen (Err fault) = Err fault
 
--- the write of these rows, if there are some
-abbrev pub inserting : Option (List Row) → Option Write
-inserting None = None
-inserting (Some rows) = Some (Insert 0 rows)
-
 -- the table of a CREATE that is built, or none if the text says no such CREATE
 abbrev pub IsCreated : List ℕ → Option Table → Type 0
 IsCreated sql None = (t : Table) → Says sql (Ok (Create t)) → IsTrue (may_create t) → ⊥
 IsCreated sql (Some t) = Says sql (Ok (Create t)) × IsTrue (may_create t)
-
--- what a text writes to the tables, or none if it writes nothing that is built
-abbrev pub IsWritten : List Table → List ℕ → Option (Result (List Row) Fault) → Type 0
-IsWritten tables sql None = (write : Result Write Fault) → Writes tables sql write → ⊥
-IsWritten tables sql (Some rows) = Writes tables sql (write_of rows)
 
 -- what a statement asks of the tables, or why it asks nothing; or none if it asks what is not built
 abbrev pub IsBound : List Table → Statement → Option (Result Query Fault) → Type 0

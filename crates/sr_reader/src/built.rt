@@ -1,9 +1,9 @@
 //! The tables and the queries that are built: one table of numbers, of which a query needs all columns.
-ghost use Rattle.std.specs.Prelude.{◌≡◌, ◌≤◌, ◌==◌, ◌&&◌, IsTrue, length};
-ghost use Rattle.std.specs.List.{list_all};
-ghost use Rattle.sr_model.specs.Queries.{Query as TheQuery};
-ghost use Rattle.sr_query.specs.Bound.{is_table, IsQuery};
-ghost use Rattle.sr_language.specs.Built.{is_numbers, may_create, all_columns, may_ask};
+ghost use Rattle.std.specs.Prelude.{◌≡◌, ◌≤◌, ◌==◌, ◌&&◌, IsTrue, List, length};
+ghost use Rattle.std.specs.List.{list_all, AllZip};
+ghost use Rattle.sr_model.specs.Queries.{Join, Query as TheQuery};
+ghost use Rattle.sr_query.specs.Bound.{is_table, IsJoin, IsQuery};
+ghost use Rattle.sr_language.specs.Built.{is_numbers, may_create, all_columns, joins_nothing, may_ask};
 
 use sr_cell::schema::Schema;
 use sr_cell::table::{Column, Kind, Table};
@@ -43,6 +43,12 @@ fn is_whole(table: &Table, part: &Part) -> bool
     part.table == 0 && part.need.0 == all_columns(table)
 }
 
+fn joins_nothing(query: &Query) -> bool
+    ensures { (joins : List Join) → AllZip IsJoin query.now.joins joins → result ≡ joins_nothing joins }
+{
+    query.joins.is_empty()
+}
+
 /// Whether a query is of the first table alone, and needs all its columns.
 pub(crate) fn may_ask(schema: &Schema, query: &Query) -> bool
     requires tables { IsTrue (list_all is_table schema.now) }
@@ -52,7 +58,7 @@ pub(crate) fn may_ask(schema: &Schema, query: &Query) -> bool
         return false;
     };
     match query.parts.as_slice() {
-        [part] => is_whole(table, part),
+        [part] => is_whole(table, part) && joins_nothing(query),
         _ => false,
     }
 }

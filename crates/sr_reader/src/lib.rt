@@ -7,7 +7,6 @@ mod head;
 mod line;
 pub mod lines;
 mod meaning;
-mod rows;
 pub mod script;
 #[cfg(test)]
 mod tests;

@@ -54,15 +54,11 @@ fn add_exec(alloc: Global, number: u64, sql: &str, script: &mut Script) -> Resul
     if !script.queries.is_empty() {
         return Ok(false);
     }
-    match meaning::write_of(alloc, &script.schema, sql)? {
-        Some(statement) => {
-            script
-                .statements
-                .push(script::ExecLine { number, statement })?;
-            Ok(true)
-        }
-        None => Ok(false),
-    }
+    let statement = meaning::write_of(alloc, &script.schema, sql)?;
+    script
+        .statements
+        .push(script::ExecLine { number, statement })?;
+    Ok(true)
 }
 
 /// Adds a query line; false if the line does nothing that is built.

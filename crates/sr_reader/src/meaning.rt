@@ -1,23 +1,24 @@
 //! What a text means to the tables of a script.
-ghost use Rattle.std.specs.Prelude.{◌≡◌, IsTrue, IfOk, IfSome};
+ghost use Rattle.std.specs.Prelude.{◌≡◌, IsTrue, IfOk};
 ghost use Rattle.std.specs.List.{list_all};
 ghost use Rattle.sr_grammar.specs.Says.{Says};
 ghost use Rattle.sr_grammar.specs.Seen.{statement_seen};
 ghost use Rattle.sr_query.specs.Bound.{is_table};
-ghost use Rattle.sr_language.specs.Built.{write_to};
-ghost use Rattle.sr_reader.specs.Read.{rows_fit};
-ghost use Rattle.sr_reader.specs.Meaning.{said_seen, inserting, IsCreated, IsWritten, IsBound, IsAsking};
+ghost use Rattle.sr_query.specs.Writes.{bound_write};
+ghost use Rattle.sr_language.specs.Script.{Writes};
+ghost use Rattle.sr_reader.specs.Read.{statement_of, statement_fits};
+ghost use Rattle.sr_reader.specs.Meaning.{said_seen, IsCreated, IsBound, IsAsking};
 
 use crate::built::{may_ask, may_create};
-use crate::rows::rows_of;
 use sr_bind::bind::bind_query;
-use sr_cell::cell::Rows;
+use sr_bind::write::bind_write;
 use sr_cell::fault::Fault;
 use sr_cell::list::{No, NoMemory};
 use sr_cell::schema::Schema;
 use sr_cell::table::Table;
 use sr_grammar::statement::Statement;
 use sr_query::query::Query;
+use sr_query::write::Write;
 use sr_sql::read::read;
 use std::alloc::Global;
 
@@ -50,31 +51,48 @@ pub(crate) fn table_of(alloc: Global, sql: &str) -> Result<Option<Table>, NoMemo
     }
 }
 
-fn rows_to(alloc: Global, schema: &Schema, statement: Statement) -> Result<Option<Rows>, NoMemory>
-    ensures { IfOk result (λ rows. write_to schema.now (statement_seen statement) ≡ inserting rows) }
+/// What a statement writes, or why it writes nothing.
+fn bound_write(
+    alloc: Global,
+    schema: &Schema,
+    statement: &Statement,
+) -> Result<Result<Write, Fault>, NoMemory>
+    requires tables { IsTrue (list_all is_table schema.now) }
+    ensures { IfOk result (λ w. bound_write schema.now (statement_seen statement.now) ≡ statement_of w) }
 {
-    match schema.get(0) {
-        Some(table) => rows_of(alloc, table, statement),
-        None => Ok(None),
+    match bind_write(alloc, schema, statement) {
+        Ok(write) => Ok(Ok(write)),
+        Err(No::Refused(fault)) => Ok(Err(fault)),
+        Err(No::NoMemory) => Err(NoMemory),
     }
 }
 
-/// The rows that a text inserts, or why it is refused; None if it writes nothing that is built.
+/// As `bound_write`, of a statement that nothing needs any more.
+fn write_said(
+    alloc: Global,
+    schema: &Schema,
+    statement: Statement,
+) -> Result<Result<Write, Fault>, NoMemory>
+    requires tables { IsTrue (list_all is_table schema.now) }
+    ensures { IfOk result (λ w. bound_write schema.now (statement_seen statement) ≡ statement_of w) }
+{
+    bound_write(alloc, schema, &statement)
+}
+
+/// What a text writes to the tables, or why it is refused.
 #[tactic(none)]
 pub(crate) fn write_of(
     alloc: Global,
     schema: &Schema,
     sql: &str,
-) -> Result<Option<Result<Rows, Fault>>, NoMemory>
-    ensures written { IfOk result (IsWritten schema.now sql.now) }
-    ensures fits { IfOk result (λ written. IfSome written (λ rows. IsTrue (rows_fit schema.now rows))) }
+) -> Result<Result<Write, Fault>, NoMemory>
+    requires tables { IsTrue (list_all is_table schema.now) }
+    ensures written { IfOk result (λ w. Writes schema.now sql.now (statement_of w)) }
+    ensures fits { IfOk result (λ w. IsTrue (statement_fits schema.now w)) }
 {
     match said(alloc, sql)? {
-        Ok(statement) => match rows_to(alloc, schema, statement)? {
-            Some(rows) => Ok(Some(Ok(rows))),
-            None => Ok(None),
-        },
-        Err(fault) => Ok(Some(Err(fault))),
+        Ok(statement) => write_said(alloc, schema, statement),
+        Err(fault) => Ok(Err(fault)),
     }
 }
 

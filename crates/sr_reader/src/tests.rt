@@ -5,6 +5,7 @@ use crate::lines::read_script;
 use crate::script::{Script, ScriptFault};
 use sr_cell::list::{No, Seq};
 use sr_query::query::Query;
+use sr_query::write::Write;
 use std::alloc::{AllocError, Global};
 use std::test::Fail;
 
@@ -21,7 +22,7 @@ const WHOLE: [(&str, &str); 17] = [
         "exec DELETE FROM\nquery 1 SELECT id FROM",
         "1 Grammar 11, 2 Grammar 14, ",
     ),
-    ("exec INSERT INTO p VALUES (1, 2)", "unbuilt 1"),
+    ("exec INSERT INTO p VALUES (1, 2)", "1 UnknownTable 12, "),
     (" create\ttable t(a int,b integer primary key)", ""),
     ("CREATE", "setup 1 Grammar 6"),
     ("# first\nCREATE TABLE t (a INT, b INT)", "setup 2 NoKey 0"),
@@ -40,11 +41,11 @@ const WHOLE: [(&str, &str); 17] = [
     ("CREATE TABLE t (a TEXT PRIMARY KEY, b INT)", "unbuilt 1"),
     (
         "CREATE TABLE t (a INT PRIMARY KEY, b INT, c INT)\nexec INSERT INTO t VALUES (1, 2, 3)",
-        "2 rows 1, ",
+        "2 insert 1 of 0, ",
     ),
     (
         "CREATE TABLE t (a INT PRIMARY KEY)\nexec INSERT INTO t VALUES (1), (2)",
-        "2 rows 2, ",
+        "2 insert 2 of 0, ",
     ),
     (
         "CREATE TABLE t (a INT PRIMARY KEY, b INT)\nCREATE TABLE u (a INT PRIMARY KEY, b INT)",
@@ -58,17 +59,17 @@ const WHOLE: [(&str, &str); 17] = [
 const AFTER_TABLE: [(&str, &str); 14] = [
     (
         "exec insert  into P values(1,035),(2,45);\n\nexec INSERT INTO p VALUES (1, 2, 3",
-        "2 rows 2, 4 Grammar 29, ",
+        "2 insert 2 of 0, 4 Grammar 29, ",
     ),
     ("query 1 x\nexec x", "unbuilt 3"),
-    ("exec DELETE FROM p", "unbuilt 2"),
-    ("exec UPDATE p SET age = 1", "unbuilt 2"),
-    ("exec INSERT INTO p (id, age) VALUES (1, 2)", "unbuilt 2"),
-    ("exec INSERT INTO p VALUES (1, 2), (3, '4')", "unbuilt 2"),
-    ("exec INSERT INTO p VALUES (1, 2, 3)", "unbuilt 2"),
-    ("exec INSERT INTO p VALUES (1)", "unbuilt 2"),
-    ("exec INSERT INTO q VALUES (1, 2)", "unbuilt 2"),
-    ("exec SELECT * FROM p", "unbuilt 2"),
+    ("exec DELETE FROM p", "2 delete 0 of 0, "),
+    ("exec UPDATE p SET age = 1", "2 update 1 of 0, "),
+    ("exec INSERT INTO p (id, age) VALUES (1, 2)", "2 insert 1 of 0, "),
+    ("exec INSERT INTO p VALUES (1, 2), (3, '4')", "2 WrongType 33, "),
+    ("exec INSERT INTO p VALUES (1, 2, 3)", "2 WrongCount 21, "),
+    ("exec INSERT INTO p VALUES (1)", "2 WrongCount 21, "),
+    ("exec INSERT INTO q VALUES (1, 2)", "2 UnknownTable 12, "),
+    ("exec SELECT * FROM p", "2 NotAWrite 0, "),
     ("query 1 SELECT * FROM", "2 Grammar 13, "),
     ("query 2 SELECT * FROM p", "unbuilt 2"),
     ("exec ", "unbuilt 2"),
@@ -133,13 +134,33 @@ fn write_query(text: &mut String, query: &Query) -> Result<(), AllocError> {
     Ok(())
 }
 
-fn write_script(text: &mut String, script: &Script) -> Result<(), AllocError> {
-    for line in script.statements.as_slice() {
-        match &line.statement {
-            Ok(rows) => write!(text, "{} rows {}, ", line.number, rows.len())?,
-            Err(fault) => write!(text, "{} {:?} {}, ", line.number, fault.why, fault.at)?,
-        }
+/// What is written, how many rows or new values, and to which table.
+fn outline(write: &Write) -> (&'static str, usize, u8) {
+    match write {
+        Write::Insert { table, rows } => ("insert", rows.len(), *table),
+        Write::Update { table, sets, .. } => ("update", sets.len(), *table),
+        Write::Delete { table, .. } => ("delete", 0, *table),
     }
+}
+
+fn write_write(text: &mut String, write: &Write) -> Result<(), AllocError> {
+    let (word, count, table) = outline(write);
+    write!(text, "{word} {count} of {table}")
+}
+
+fn write_statements(text: &mut String, script: &Script) -> Result<(), AllocError> {
+    for line in script.statements.as_slice() {
+        write!(text, "{} ", line.number)?;
+        match &line.statement {
+            Ok(write) => write_write(text, write)?,
+            Err(fault) => write!(text, "{:?} {}", fault.why, fault.at)?,
+        }
+        write!(text, ", ")?;
+    }
+    Ok(())
+}
+
+fn write_queries(text: &mut String, script: &Script) -> Result<(), AllocError> {
     for line in script.queries.as_slice() {
         write!(text, "{} ", line.number)?;
         match &line.query {
@@ -158,7 +179,8 @@ fn said(alloc: Global, bytes: &[u8]) -> Result<String, Fail>
     let mut text = String::new(alloc);
     match read_script(alloc, bytes) {
         Ok(script) => {
-            write_script(&mut text, &script)?;
+            write_statements(&mut text, &script)?;
+            write_queries(&mut text, &script)?;
         }
         Err(No::Refused(ScriptFault::Setup { line, fault })) => {
             write!(text, "setup {} {:?} {}", line, fault.why, fault.at)?;

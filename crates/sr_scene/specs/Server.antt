@@ -1,11 +1,12 @@
 -- What a server sends.
-use Rattle.std.specs.Prelude.{ℕ, Bool, true, false, ◌&&◌, ◌||◌, ◌==◌, List, [], ◌∷◌, ◌++◌, ◌+◌, ◌-◌, suc, zero, map, filter, take, drop, length, Option, Some, None}
-use Rattle.std.specs.List.{list_any}
+use Rattle.std.specs.Prelude.{ℕ, Bool, true, false, List, [], ◌∷◌, ◌++◌, ◌+◌, ◌-◌, suc, zero, map, filter, take, drop, length, Option, Some, None}
 use Rattle.sr_cell.specs.declared.change.Change.{Change}
 use Rattle.sr_cell.specs.declared.table.Table.{Table}
 use Rattle.sr_cell.specs.Cells.{Row}
 use Rattle.sr_cell.specs.Attrs.{project}
-use Rattle.sr_box.specs.Points.{Rect, in_any}
+use Rattle.sr_box.specs.Points.{in_any}
+use Rattle.sr_subs.specs.declared.subs.Holding.{Holding}
+use Rattle.sr_subs.specs.Subscription.{touches}
 use Rattle.sr_message.specs.declared.message.AskPart.{AskPart}
 use Rattle.sr_message.specs.declared.message.Tell.{Tell}
 use Rattle.sr_message.specs.declared.message.Message.{Message}
@@ -14,23 +15,10 @@ use Rattle.sr_model.specs.Queries.{rows_at}
 use Rattle.sr_model.specs.Statements.{Tables}
 use Rattle.sr_model.specs.Changes.{changes_at, newest_of, version_at}
 
--- rects of one table
-pub record Holding : Type 0 where
-  pub table : ℕ
-  pub rects : List Rect
-
 -- A session: the points that the client asked for, and the version that the messages to it have reached.
 pub record Session : Type 0 where
   pub subscription : List Holding
   pub upto : ℕ
-
-abbrev pub has_row : List Rect → Option Row → Bool
-has_row rects None = false
-has_row rects (Some row) = in_any rects row
-
--- the old or the new row is subscribed
-abbrev pub touches : List Holding → Change → Bool
-touches subscription c = list_any (λ h. h.table == c.table && (has_row h.rects c.before || has_row h.rects c.after)) subscription
 
 abbrev pub tell_of : Change → Tell
 tell_of c = record { table = c.table; key = c.key; after = c.after }

@@ -1,5 +1,5 @@
 -- What holds of the rows of each table holds of one of them, and after one of them has changed.
-use Rattle.std.proofs.Common.{◌≡◌, ℕ, ◌<◌, ◌&&◌, Bool, true, false, List, [], ◌∷◌, length, map, refl, sym, ap, arith, zero, suc, IsTrue}
+use Rattle.std.proofs.Common.{◌≡◌, ℕ, ◌<◌, ◌&&◌, Bool, true, false, List, [], ◌∷◌, ◌++◌, length, map, refl, sym, ap, subst, arith, zero, suc, IsTrue}
 use Rattle.std.proofs.lemmas.Bool.Decides.{nat_tests}
 use Rattle.std.specs.Prelude.{nat_lt, not, ◌==◌, slice_set, slice_index_or}
 use Rattle.std.specs.List.{list_all, AllZip}
@@ -14,7 +14,7 @@ use Rattle.sr_query.specs.Written.{place_of}
 use Rattle.sr_model.specs.SortedRows.{ascend}
 use Rattle.sr_query.specs.Writes.{table_of, suits_table, suits}
 use Rattle.sr_keyed.specs.Keyed.{Keyed}
-use Rattle.sr_tables.specs.Stored.{IsKeyed, are_rows, are_stored}
+use Rattle.sr_tables.specs.Stored.{IsKeyed, rows_in, are_rows, are_stored}
 
 
 

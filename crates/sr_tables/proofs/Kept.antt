@@ -1,6 +1,7 @@
 -- What holds of the rows of each table holds of one of them, and after one of them has changed.
-use Rattle.std.proofs.Common.{◌≡◌, ℕ, ◌<◌, ◌&&◌, Bool, true, false, List, [], ◌∷◌, ◌++◌, length, map, refl, sym, ap, subst, arith, zero, suc, IsTrue}
+use Rattle.std.proofs.Common.{◌≡◌, ℕ, ◌<◌, ◌&&◌, Bool, true, false, List, [], ◌∷◌, ◌++◌, ◌+◌, ◌≤◌, ◌∙◌, take, length, map, refl, sym, ap, subst, arith, zero, suc, IsTrue}
 use Rattle.std.proofs.lemmas.Bool.Decides.{nat_tests}
+use Rattle.std.proofs.lemmas.List.{take_more, take_all, map-append}
 use Rattle.std.specs.Prelude.{nat_lt, not, ◌==◌, slice_set, slice_index_or}
 use Rattle.std.specs.List.{list_all, AllZip}
 use Rattle.sr_cell.specs.declared.table.Table.{Table}
@@ -14,10 +15,7 @@ use Rattle.sr_query.specs.Written.{place_of}
 use Rattle.sr_model.specs.SortedRows.{ascend}
 use Rattle.sr_query.specs.Writes.{table_of, suits_table, suits}
 use Rattle.sr_keyed.specs.Keyed.{Keyed}
-use Rattle.sr_tables.specs.Stored.{IsKeyed, rows_in, are_rows, are_stored}
-
-
-
+use Rattle.sr_tables.specs.Stored.{IsKeyed, rows_in, no_rows, are_rows, are_stored}
 
 pub zip-length : (schema : List Table) (all : List Keyed) → AllZip IsKeyed schema all → length all ≡ length schema
 zip-length [] [] zip = refl
@@ -82,3 +80,50 @@ places-suit table (p ∷ sets) all = by (nat_lt p.column (length table.columns) 
         → (b && list_all (λ (p : Place). nat_lt p.column (length table.columns) && not (p.column == table.key)) sets) ≡ true
     by true all later = later all
     by false all later = all
+
+-- ---- the rows of all tables
+
+abbrev pub AllAscend : List Keyed → Type 0
+AllAscend [] = Unit {0}
+AllAscend (k ∷ all) = (ascend k.key k.rows ≡ true) × AllAscend all
+
+both : (a b : Bool) → a ≡ true → b ≡ true → (a && b) ≡ true
+both a b p q = rw (p, q) refl
+
+pub ascend-more : (all : List Keyed) (k : Keyed) → AllAscend all → ascend k.key k.rows ≡ true → AllAscend (all ++ k ∷ [])
+ascend-more [] k up one = (one, tt)
+ascend-more (j ∷ all) k up one = (up.0, ascend-more all k up.1 one)
+
+pub all-stored : (schema : List Table) (all : List Keyed) → AllZip IsKeyed schema all → AllAscend all → are_stored schema (rows_in all) ≡ true
+all-stored [] [] zip up = refl
+all-stored [] (k ∷ all) zip up = absurd zip
+all-stored (t ∷ schema) [] zip up = absurd zip
+all-stored (t ∷ schema) (k ∷ all) zip up =
+    both (are_rows t k.rows) (are_stored schema (rows_in all))
+    (both (ascend t.key k.rows) (list_all (fits_columns t.columns) k.rows) (subst (λ key. ascend key k.rows ≡ true) zip.0.key up.0) zip.0.fits)
+    (all-stored schema all zip.1 up.1)
+
+pub zip-more : (schema : List Table) (all : List Keyed) (t : Table) (k : Keyed) → AllZip IsKeyed schema all → IsKeyed t k → AllZip IsKeyed (schema ++ t ∷ []) (all ++ k ∷ [])
+zip-more [] [] t k zip one = (one, tt)
+zip-more [] (j ∷ all) t k zip one = absurd zip
+zip-more (s ∷ schema) [] t k zip one = absurd zip
+zip-more (s ∷ schema) (j ∷ all) t k zip one = (zip.0, zip-more schema all t k zip.1 one)
+
+pub ascend-next : (all : List Keyed) (i : ℕ) (k : Keyed) → i < length all → k ≡ slice_index_or all i k → AllAscend (take i all) → ascend k.key k.rows ≡ true → AllAscend (take (i + 1) all)
+ascend-next all i k inside is up one =
+    subst AllAscend (sym (take_more all i k inside ∙ ap (λ j. take i all ++ j ∷ []) (sym is))) (ascend-more (take i all) k up one)
+
+pub ascend-all : (all : List Keyed) (i : ℕ) → length all ≤ i → AllAscend (take i all) → AllAscend all
+ascend-all all i end up = subst AllAscend (take_all i all end) up
+
+-- the first tables have no rows
+abbrev pub EmptySoFar : List Table → ℕ → List Keyed → Type 0
+EmptySoFar tables i all = AllZip IsKeyed (take i tables) all × (rows_in all ≡ no_rows (take i tables))
+
+pub empty-next : (tables : List Table) (i : ℕ) (t : Table) (all : List Keyed) (k : Keyed) (more : List Keyed) → i < length tables → t ≡ slice_index_or tables i t
+    → EmptySoFar tables i all → IsKeyed t k → k.rows ≡ [] → more ≡ all ++ k ∷ [] → EmptySoFar tables (i + 1) more
+empty-next tables i t all k more inside is so_far one none pushed =
+    let front : take (i + 1) tables ≡ take i tables ++ t ∷ [] = take_more tables i t inside ∙ ap (λ u. take i tables ++ u ∷ []) (sym is) in
+    let rows : rows_in (all ++ k ∷ []) ≡ no_rows (take i tables ++ t ∷ []) =
+    map-append (λ (k : Keyed). k.rows) all (k ∷ []) ∙ (ap (λ front. front ++ k.rows ∷ []) so_far.1 ∙ (ap (λ rows. no_rows (take i tables) ++ rows ∷ []) none ∙ sym (map-append (λ t. []) (take i tables) (t ∷ [])))) in
+    rw (front, pushed) (zip-more (take i tables) all t k so_far.0 one, rows)

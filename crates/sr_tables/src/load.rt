@@ -10,6 +10,7 @@ ghost use Rattle.sr_model.specs.Changes.{table_changes};
 ghost use Rattle.sr_model.specs.Loads.{row_loaded};
 ghost use Rattle.sr_query.specs.Written.{place_of, condition_of};
 ghost use Rattle.sr_tables.specs.Stored.{IsKeyed};
+
 use sr_cell::attrs::Attrs;
 use sr_cell::cell::{Row, Rows};
 use sr_cell::change::Changes;
@@ -21,7 +22,12 @@ use sr_query::write::{Filter, Places};
 use sr_union::rects::Rects;
 use std::alloc::Global;
 
-pub(crate) fn load_row(alloc: Global, table: &Table, rows: &mut KeyedRows, row: Row) -> Result<(), No<Fault>>
+pub(crate) fn load_row(
+    alloc: Global,
+    table: &Table,
+    rows: &mut KeyedRows,
+    row: Row,
+) -> Result<(), No<Fault>>
     requires keyed { IsKeyed table.now rows.old }
     requires key { table.now.key < length table.now.columns }
     requires columns { length table.now.columns ≤ 12 }

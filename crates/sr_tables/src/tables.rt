@@ -67,6 +67,9 @@ impl Tables {
         ensures tables { IsTrue (list_all is_table self.now.schema) }
         ensures rows { are_stored self.now.schema self.now.rows ≡ true }
     {
+        for rows in self.rows.as_slice() {
+            rows.know_ascending();
+        }
     }
 
     /// The schema.
@@ -118,7 +121,13 @@ impl Tables {
     }
 
     /// The rows of a table in the rects, by key, with these columns.
-    pub fn select(&self, alloc: Global, table: u8, attrs: Attrs, rects: &Rects) -> Result<Rows, NoMemory>
+    pub fn select(
+        &self,
+        alloc: Global,
+        table: u8,
+        attrs: Attrs,
+        rects: &Rects,
+    ) -> Result<Rows, NoMemory>
         ensures { IfOk result (λ rows. rows ≡ map (project attrs) (filter (in_any rects.now) (rows_at self.now.rows table))) }
     {
         match self.rows.get(table as usize) {

@@ -18,7 +18,7 @@ pub update-requires-clause-keyed : goal.update-requires-clause-keyed
 update-requires-clause-keyed c = rw (c.table_of-definition.ensures.table, c.index_mut.ensures.value) (zip-at _ _ _ _ c.requires.keyed (known-of c.args.schema.now (Update c.args.table (map place_of c.args.sets.now) (condition_of c.args.filter.now.condition)) c.requires.suits))
 
 pub update-requires-clause-places : goal.update-requires-clause-places
-update-requires-clause-places c = rw c.table_of-definition.ensures.table (places-suit _ c.args.sets.now (suits-of c.args.schema.now (Update c.args.table (map place_of c.args.sets.now) (condition_of c.args.filter.now.condition)) c.requires.suits))
+update-requires-clause-places c = rw c.table_of-definition.ensures.table (places-suit (table_at c.args.schema.now c.args.table) c.args.sets.now (suits-of c.args.schema.now (Update c.args.table (map place_of c.args.sets.now) (condition_of c.args.filter.now.condition)) c.requires.suits))
 
 pub returns-clause-done : goal.returns-clause-done
 returns-clause-done c =

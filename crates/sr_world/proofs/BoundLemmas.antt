@@ -9,21 +9,19 @@ use Rattle.sr_box.specs.Points.{Rect, in_any, rect_fits, AreSame}
 use Rattle.sr_model.specs.Conditions.{Cond}
 use Rattle.sr_model.specs.Queries.{points_of}
 use Rattle.sr_model.specs.Queries as model
-use Rattle.sr_query.specs.Bound.{IsPart, IsJoin, output_of}
+use Rattle.sr_query.specs.Bound.{IsPart, output_of}
 use Rattle.sr_query.specs.declared.query.Part.{Part}
-use Rattle.sr_query.specs.declared.query.KeyJoin.{KeyJoin}
 use Rattle.sr_query.specs.declared.query.Query.{Query}
-use Rattle.sr_language.specs.Built.{all_columns, is_whole, is_one_whole}
-use Rattle.sr_world.specs.Bound.{IsMeaning, IsAlone, IsBound, IsLeft, whole_part, wanted}
+use Rattle.sr_language.specs.Built.{all_columns, is_whole, is_one_whole, joins_nothing}
+use Rattle.sr_world.specs.Bound.{IsMeaning, IsBound, IsLeft, whole_part, wanted}
 use Rattle.sr_world.proofs.Filters.{and_left, and_right}
 
 are_equal : (a b : ℕ) → (a == b) ≡ true → a ≡ b
 are_equal a b h = grind (arith, nat_tests)
 
-no-joins : (joins : List KeyJoin) (meant : List model.Join) → AllZip IsJoin joins meant → joins ≡ [] → meant ≡ []
-no-joins [] [] zip none = refl
-no-joins [] (j ∷ meant) zip none = absurd zip
-no-joins (j ∷ joins) meant zip none = absurd (cc)
+no-joins : (joins : List model.Join) → joins_nothing joins ≡ true → joins ≡ []
+no-joins [] none = refl
+no-joins (j ∷ joins) none = absurd (cc)
 
 abbrev part_as : ℕ → ℕ → Cond → model.Part
 part_as table need condition = record { table = table; need = need; condition = condition }
@@ -51,26 +49,26 @@ one-part t q m p whole parts meant joins outputs part is =
       same = subst (λ k. AreSame (table_at (t ∷ []) k).columns (in_any p.rects) (points_of (whole_part t whole.condition))) table part.rects.points;
     }
 
-pub bound : (t : Table) (q : Query) (m : model.Query) → IsMeaning (t ∷ []) q m → IsAlone q → IsBound t q m
-bound t q m is alone = by q.parts refl m.parts refl is.0.parts is.1
+pub bound : (t : Table) (q : Query) (m : model.Query) → IsMeaning (t ∷ []) q m → IsBound t q m
+bound t q m is = by q.parts refl m.parts refl is.0.parts (and_left (is_one_whole t m.parts) (joins_nothing m.joins) is.1)
   where
     by : (parts : List Part) → q.parts ≡ parts → (meant : List model.Part) → m.parts ≡ meant → AllZip (IsPart (t ∷ [])) parts meant → is_one_whole t meant ≡ true → IsBound t q m
     by [] e [] f zip one = absurd (cc)
     by [] e (x ∷ meant) f zip one = absurd zip
     by (p ∷ parts) e [] f zip one = absurd zip
-    by (p ∷ []) e (x ∷ []) f zip one = one-part t q m p x e f (no-joins q.joins m.joins is.0.joins alone) is.0.outputs zip.0 one
+    by (p ∷ []) e (x ∷ []) f zip one = one-part t q m p x e f (no-joins m.joins (and_right (is_one_whole t m.parts) (joins_nothing m.joins) is.1)) is.0.outputs zip.0 one
     by (p ∷ other ∷ parts) e (x ∷ []) f zip one = absurd zip.1
     by (p ∷ parts) e (x ∷ y ∷ meant) f zip one = absurd (cc)
 
-pub one-length : (tables : List Table) (t : Table) (q : Query) → tables ≡ t ∷ [] → (m : model.Query) × IsMeaning tables q m → IsAlone q → length q.parts ≡ 1
-one-length tables t q is asks alone =
-    let b = bound t q asks.0 (subst (λ ts. IsMeaning ts q asks.0) is asks.1) alone in
+pub one-length : (tables : List Table) (t : Table) (q : Query) → tables ≡ t ∷ [] → (m : model.Query) × IsMeaning tables q m → length q.parts ≡ 1
+one-length tables t q is asks =
+    let b = bound t q asks.0 (subst (λ ts. IsMeaning ts q asks.0) is asks.1) in
     ap length b.parts
 
-pub part-fits : (tables : List Table) (t : Table) (q : Query) (part : Part) → tables ≡ t ∷ [] → (m : model.Query) × IsMeaning tables q m → IsAlone q → q.parts ≡ part ∷ []
+pub part-fits : (tables : List Table) (t : Table) (q : Query) (part : Part) → tables ≡ t ∷ [] → (m : model.Query) × IsMeaning tables q m → q.parts ≡ part ∷ []
     → list_all (rect_fits t.columns) part.rects ≡ true
-part-fits tables t q part is asks alone one =
-    let b = bound t q asks.0 (subst (λ ts. IsMeaning ts q asks.0) is asks.1) alone in
+part-fits tables t q part is asks one =
+    let b = bound t q asks.0 (subst (λ ts. IsMeaning ts q asks.0) is asks.1) in
     let same : b.part ∷ [] ≡ part ∷ [] = sym b.parts ∙ one in
     let part_is : b.part ≡ part = cc in
     subst (λ p. list_all (rect_fits t.columns) p.rects ≡ true) part_is b.fits

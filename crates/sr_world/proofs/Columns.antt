@@ -14,7 +14,12 @@ use Rattle.sr_cell.specs.Columns.{is_point, in_kind, in_column, fits_columns, ta
 use Rattle.sr_cell.specs.Names.{is_bad_by, is_bad_domain}
 use Rattle.sr_query.specs.Bound.{is_table}
 use Rattle.sr_language.specs.Built.{is_numbers}
-use Rattle.sr_reader.specs.Read.{is_built, rows_fit}
+use Rattle.sr_query.specs.declared.write.Write.{Write}
+use Rattle.sr_query.specs.declared.write.Write.TheVariants as writes
+use Rattle.sr_query.specs.Written.{write_of}
+use Rattle.sr_query.specs.Writes.{suits, table_of}
+use Rattle.sr_tables.specs.Stored.{is_short}
+use Rattle.sr_reader.specs.Read.{is_built, few_rows, statement_fits}
 use Rattle.sr_world.proofs.Filters.{and_left, and_right}
 
 -- a column of numbers, its domain in order and inside the default
@@ -44,17 +49,8 @@ are-numbers (c ∷ columns) h sound = (is-numbers c (and_left _ _ h) (and_left _
 pub numbers-of : (t : Table) → IsTrue (is_built t) → AreNumbers t.columns
 numbers-of t h = are-numbers t.columns (and_right (is_table t) _ h) (and_right _ _ (and_left (is_table t) _ h))
 
-few : (n : ℕ) → nat_le n 12 ≡ true → n < 2 ^ 32
-few n h = let below : n ≤ 12 = grind (arith, nat_tests) in omega (arith, below)
-
-pub columns-few : (t : Table) → IsTrue (is_built t) → length t.columns < 2 ^ 32
-columns-few t h = few (length t.columns) (and_left _ _ (and_left _ _ (and_left (is_table t) _ h)))
-
 within : (k n : ℕ) → nat_lt k n ≡ true → k < n
 within k n h = grind (arith, nat_tests)
-
-pub key-within : (t : Table) → IsTrue (is_built t) → t.key < length t.columns
-key-within t h = within t.key (length t.columns) (and_right _ _ (and_left _ _ (and_left (is_table t) _ h)))
 
 -- a row of numbers fits exactly where it is a point
 fits_kind : (low high : ℤ) (v : Cell) → takes_kind Numbers low high v ≡ in_kind Numbers low high v
@@ -77,15 +73,19 @@ point-length [] (v ∷ p) h = absurd (cc)
 point-length (c ∷ columns) [] h = absurd (cc)
 point-length (c ∷ columns) (v ∷ p) h = omega (arith, point-length columns p (and_right (in_column c v) _ h))
 
--- ---- rows of a statement
+-- ---- a statement of a script
 
-pub fits-widths : (tables : List Table) (t : Table) (rows : List Row) → tables ≡ t ∷ [] → IsTrue (rows_fit tables (Ok rows)) → list_all (λ row. length row == length t.columns) rows ≡ true
-fits-widths tables t rows is fits = let one : rows_fit (t ∷ []) (Ok rows) ≡ true = subst (λ ts. rows_fit ts (Ok rows) ≡ true) is fits in and_left _ _ one
+pub fits-suits : (tables : List Table) (w : Write) → IsTrue (statement_fits tables (Ok w)) → IsTrue (suits tables (write_of w))
+fits-suits tables w fits = and_left (suits tables (write_of w)) (few_rows w) fits
 
-few_rows : (n : ℕ) → nat_lt n 65536 ≡ true → n < 2 ^ 32
-few_rows n h = omega (arith, within n 65536 h)
+short-of : (w : Write) → few_rows w ≡ true → IsTrue (is_short (write_of w))
+short-of (writes.Insert table rows) few = let below : length rows < 65536 = within (length rows) 65536 few in grind (arith, nat_tests, below)
+short-of (writes.Update table sets filter) few = refl
+short-of (writes.Delete table filter) few = refl
 
-pub fits-few : (tables : List Table) (t : Table) (rows : List Row) → tables ≡ t ∷ [] → IsTrue (rows_fit tables (Ok rows)) → length rows < 2 ^ 32
-fits-few tables t rows is fits =
-    let one : rows_fit (t ∷ []) (Ok rows) ≡ true = subst (λ ts. rows_fit ts (Ok rows) ≡ true) is fits in
-    few_rows (length rows) (and_right (list_all (λ row. length row == length t.columns) rows) _ one)
+pub fits-short : (tables : List Table) (w : Write) → IsTrue (statement_fits tables (Ok w)) → IsTrue (is_short (write_of w))
+fits-short tables w fits = short-of w (and_right (suits tables (write_of w)) (few_rows w) fits)
+
+-- without a table there is no statement
+pub none-fits : (w : Write) → statement_fits [] (Ok w) ≡ true → false ≡ true
+none-fits w fits = let none : nat_lt (table_of (write_of w)) 0 ≡ true = and_left _ _ (and_left (suits [] (write_of w)) (few_rows w) fits) in grind (arith, nat_tests)

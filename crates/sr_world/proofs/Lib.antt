@@ -16,6 +16,4 @@ pub mod TakeLemmas
 pub mod ReplyLemmas
 pub mod SettleLemmas
 pub mod KeptLemmas
-pub mod Joins
 pub mod RunLemmas
-pub mod ReplayLemmas

@@ -182,6 +182,16 @@ begins t built w schema stored version client none nothing =
     } in
     record { t = t; past = past; facts = facts; same = rw (client, none, nothing) refl }
 
+pub begins-one : (w : World) → length w.server.tables.schema ≡ 1 → IsTrue (list_all is_built w.server.tables.schema) → are_stored w.server.tables.schema w.server.tables.rows ≡ true → w.server.version ≡ 0
+    → w.client ≡ record { version = 0; queries = 0; next_request = 1; out = None; laid = []; held = []; rows = [] } → w.to_server.items ≡ [] → w.to_client.items ≡ []
+    → Represents w (first true w.server.tables.schema w.server.tables.rows 1)
+begins-one w one built stored version client none nothing = by w.server.tables.schema refl one built
+  where
+    by : (schema : List Table) → w.server.tables.schema ≡ schema → length schema ≡ 1 → list_all is_built schema ≡ true → Represents w (first true w.server.tables.schema w.server.tables.rows 1)
+    by [] is one built = absurd (omega (arith, one))
+    by (t ∷ []) is one built = begins t (and_left (is_built t) true built) w is stored version client none nothing
+    by (t ∷ u ∷ schema) is one built = absurd (omega (arith, one))
+
 -- What holds of the scene of each past holds of each scene that the world stands for.
 pub does : (Relation : Scene → List TraceLine → Scene → Type 0) (old new : World) (lines : List TraceLine)
     → ((t : Table) (past : Past) → Facts t old past → (next : Scene) × Relation (scene_of old past) lines next × Represents new next) → Does Relation old new lines

@@ -1,5 +1,5 @@
 -- What bound queries of one table stand for.
-use Rattle.std.specs.Prelude.{◌≡◌, not, ◌&&◌, List, [], ◌∷◌, map, IsTrue, IfOk}
+use Rattle.std.specs.Prelude.{◌≡◌, not, ◌&&◌, List, [], ◌∷◌, map, IsTrue}
 use Rattle.std.specs.List.{list_all}
 use Rattle.sr_cell.specs.declared.table.Table.{Table}
 use Rattle.sr_box.specs.Points.{Rect, in_any, rect_fits, AreSame}
@@ -10,19 +10,10 @@ use Rattle.sr_query.specs.Bound.{IsQuery, output_of}
 use Rattle.sr_query.specs.declared.query.Part.{Part}
 use Rattle.sr_query.specs.declared.query.Query.{Query}
 use Rattle.sr_language.specs.Built.{all_columns, may_ask}
-use Rattle.sr_reader.specs.declared.script.QueryLine.{QueryLine}
 
 -- the query stands for this one, which the tables let be asked
 abbrev pub IsMeaning : List Table → Query → model.Query → Type 0
 IsMeaning tables q meaning = IsQuery tables q meaning × IsTrue (may_ask tables meaning)
-
--- the query joins nothing
-abbrev pub IsAlone : Query → Type 0
-IsAlone q = q.joins ≡ []
-
--- so does the query of the line, if its text is one
-abbrev pub JoinsNothing : QueryLine → Type 0
-JoinsNothing line = IfOk line.query IsAlone
 
 -- the part of table 0 with this condition that needs all columns
 abbrev pub whole_part : Table → Cond → model.Part

@@ -1,8 +1,9 @@
-use Rattle.std.proofs.Common.{Ok, subst}
-use Rattle.std.specs.Prelude.{IfSome}
+use Rattle.std.proofs.Common.{◌≡◌, true, false, Ok, subst}
+use Rattle.std.specs.Prelude.{IfSome, IsTrue}
 use Rattle.sr_model.specs.Events.{Exec}
-use Rattle.sr_model.specs.Statements.{Insert}
+use Rattle.sr_query.specs.Written.{write_of}
 use Rattle.sr_world.specs.Worlds.{Stands}
+use Rattle.sr_world.proofs.Columns.{fits-suits, fits-short, none-fits}
 use Rattle.sr_world.proofs.StepLemmas.{if_ok}
 use Rattle.sr_world.proofs.KeptLemmas.{kept-still, refuses-exec, stands-after}
 use Rattle.sr_world.proofs.kept.exec.Goals as goal
@@ -14,4 +15,4 @@ returns-in-Err-clause-steps c =
 
 pub returns-in-Some-clause-stands : goal.returns-in-Some-clause-stands
 returns-in-Some-clause-stands c =
-    stands-after (Exec (Ok (Insert 0 c.in-Ok.rows))) c.in-Some.world c.exec.new.self c.exec.result (λ lines. lines) (subst (λ w. IfSome w Stands) c.in-Some.is c.requires.stands) c.exec.ensures.steps
+    stands-after (Exec (Ok (write_of c.in-Ok.write))) c.in-Some.world c.exec.new.self c.exec.result (λ lines. lines) (subst (λ w. IfSome w Stands) c.in-Some.is c.requires.stands) c.exec.ensures.steps

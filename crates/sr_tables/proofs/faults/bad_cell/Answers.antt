@@ -1,6 +1,6 @@
 use Rattle.std.proofs.Common.{drop, arith}
-use Rattle.sr_rows.proofs.Inserts.{bad_cell-short}
-use Rattle.sr_rows.proofs.faults.bad_cell.Goals as goal
+use Rattle.sr_tables.proofs.Inserts.{bad_cell-short}
+use Rattle.sr_tables.proofs.faults.bad_cell.Goals as goal
 
 pub returns-then-cells-i : goal.returns-then-cells-i
 returns-then-cells-i c =

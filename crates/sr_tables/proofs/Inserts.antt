@@ -18,13 +18,13 @@ use Rattle.sr_cell.specs.Columns.{takes_kind, fits_columns}
 use Rattle.sr_model.specs.SortedRows.{ascend, has_key, with_row, with_rows}
 use Rattle.sr_model.specs.Statements.{cell_fault, first_fault, bad_cell_from, key_fault, fault_of_row, or_else, within_limits, inserted}
 use Rattle.sr_rows.specs.Places.{is_apart}
-use Rattle.sr_rows.specs.Inserts.{fault_from, limit_fault, are_apart}
+use Rattle.sr_tables.specs.Inserts.{fault_from, limit_fault, are_apart}
 use Rattle.sr_rows.proofs.Order.{text_le-total}
 use Rattle.sr_rows.proofs.Places.{with_row-ascend}
 
 -- tests, counts and orders of rows with more rows
 
-list_any-with_row : (p : Row → Bool) (key : ℕ) (rows : List Row) (row : Row) → list_any p (with_row key rows row) ≡ (p row || list_any p rows)
+pub list_any-with_row : (p : Row → Bool) (key : ℕ) (rows : List Row) (row : Row) → list_any p (with_row key rows row) ≡ (p row || list_any p rows)
 list_any-with_row p key [] row = refl
 list_any-with_row p key (r ∷ rows) row = go (cell_le (cell_at r key) (cell_at row key)) (list_any-with_row p key rows row)
   where

@@ -1,0 +1,4 @@
+pub mod Inserts
+pub mod Inserting
+pub mod Changing
+pub mod Taking

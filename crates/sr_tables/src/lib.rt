@@ -1,0 +1,4 @@
+//! Tables with their rows by key: statements that change them, and loads.
+#![tactic(auto)]
+
+mod faults;

@@ -16,6 +16,7 @@ use Rattle.sr_cell.specs.declared.fault.Why.TheVariants.{DuplicateKey, TableFull
 use Rattle.sr_cell.specs.Cells.{Row, cell_at, cell_le, cell_eq}
 use Rattle.sr_cell.specs.Columns.{takes_kind, fits_columns}
 use Rattle.sr_model.specs.SortedRows.{ascend, has_key, with_row, with_rows}
+use Rattle.sr_model.specs.Loads.{room_fault, load_fault}
 use Rattle.sr_model.specs.Statements.{cell_fault, first_fault, bad_cell_from, key_fault, fault_of_row, or_else, within_limits, inserted}
 use Rattle.sr_rows.specs.Places.{is_apart}
 use Rattle.sr_tables.specs.Inserts.{fault_from, limit_fault, are_apart}
@@ -45,10 +46,10 @@ list_any-with_rows p key rows (row ∷ more) =
     grind (arith, ih, one)
 
 -- what the rows of a statement have, and what the table had
-pub has_key-with_rows : (key : ℕ) (v : Cell) (rows more : List Row) → has_key key v (with_rows key rows more) ≡ (has_key key v rows || has_key key v more)
-has_key-with_rows key v rows more = list_any-with_rows (λ row. cell_eq (cell_at row key) v) key rows more
+pub has_key_with_rows : (key : ℕ) (v : Cell) (rows more : List Row) → has_key key v (with_rows key rows more) ≡ (has_key key v rows || has_key key v more)
+has_key_with_rows key v rows more = list_any-with_rows (λ row. cell_eq (cell_at row key) v) key rows more
 
-list_all-with_row : (p : Row → Bool) (key : ℕ) (rows : List Row) (row : Row) → list_all p rows ≡ true → p row ≡ true → list_all p (with_row key rows row) ≡ true
+pub list_all-with_row : (p : Row → Bool) (key : ℕ) (rows : List Row) (row : Row) → list_all p rows ≡ true → p row ≡ true → list_all p (with_row key rows row) ≡ true
 list_all-with_row p key [] row all one = grind (arith, one)
 list_all-with_row p key (r ∷ rows) row all one = go (cell_le (cell_at r key) (cell_at row key)) (list_all-with_row p key rows row (grind arith) one)
   where
@@ -184,6 +185,17 @@ no_fault false fault h = refl
 
 key_fault-none : (table : Table) (i : ℕ) (rows : List Row) (row : Row) → key_fault table i rows row ≡ None → has_key table.key (cell_at row table.key) rows ≡ false
 key_fault-none table i rows row h = no_fault (has_key table.key (cell_at row table.key) rows) (record { why = DuplicateKey; at = i }) h
+
+-- a row without a fault fits, and has a new key
+pub row-faultless : (table : Table) (i : ℕ) (rows : List Row) (row : Row) → fault_of_row table i rows row ≡ None → length row ≡ length table.columns
+    → (fits_columns table.columns row ≡ true) × (has_key table.key (cell_at row table.key) rows ≡ false)
+row-faultless table i rows row none wide =
+    let own = first_fault-none (bad_cell_from 0 table.columns row) (key_fault table i rows row) none in
+    (fits-cells 0 table.columns row own.0 wide, key_fault-none table i rows row own.1)
+
+pub load-faultless : (table : Table) (rows : List Row) (row : Row) → load_fault table rows row ≡ None → length row ≡ length table.columns
+    → (fits_columns table.columns row ≡ true) × (has_key table.key (cell_at row table.key) rows ≡ false)
+load-faultless table rows row none wide = row-faultless table 0 rows row (first_fault-none (fault_of_row table 0 rows row) (room_fault rows) none).0 wide
 
 -- rows without a fault can be put one by one
 pub apart-faultless : (table : Table) (i : ℕ) (rows more : List Row) → fault_from table i rows more ≡ None → table.key < length table.columns

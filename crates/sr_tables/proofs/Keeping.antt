@@ -3,6 +3,7 @@ use Rattle.std.proofs.Common.{◌≡◌, ℕ, suc, ◌+◌, ◌<◌, Bool, true,
 use Rattle.std.specs.Prelude.{None, pos}
 use Rattle.std.specs.List.{list_all}
 use Rattle.std.proofs.lemmas.Bool.Decides.{nat_tests}
+use Rattle.sr_cell.specs.declared.cell.Cell.{Cell}
 use Rattle.sr_cell.specs.declared.table.Kind.TheVariants.{Str as Texts}
 use Rattle.sr_cell.specs.declared.table.Column.{Column}
 use Rattle.sr_cell.specs.declared.table.Table.{Table}
@@ -47,12 +48,13 @@ keyed-row t k row keyed fits =
 
 -- ---- a statement's rows, one behind another
 
+pub fresh-lacks : (key : ℕ) (v : Cell) (rows fresh : List Row) → has_key key v (with_rows key rows fresh) ≡ false → has_key key v fresh ≡ false
+fresh-lacks key v rows fresh lacks = let both = has_key_with_rows key v rows fresh in grind (arith, both, lacks)
+
 pub fresh-apart : (t : Table) (rows fresh : List Row) (row : Row) → t.key < length t.columns → list_all (fits_columns t.columns) fresh ≡ true → fits_columns t.columns row ≡ true
     → has_key t.key (cell_at row t.key) (with_rows t.key rows fresh) ≡ false → is_apart t.key fresh row ≡ true
 fresh-apart t rows fresh row below all fits lacks =
-    let both = has_key_with_rows t.key (cell_at row t.key) rows fresh in
-    let none : has_key t.key (cell_at row t.key) fresh ≡ false = grind (arith, both, lacks) in
-    apart-fits t.columns t.key fresh row below all fits none
+    apart-fits t.columns t.key fresh row below all fits (fresh-lacks t.key (cell_at row t.key) rows fresh lacks)
 
 pub fresh-step : (t : Table) (i : ℕ) (rows fresh rest : List Row) (row : Row) → is_apart t.key fresh row ≡ true → fault_of_row t i (with_rows t.key rows fresh) row ≡ None
     → fault_from t i (with_rows t.key rows fresh) (row ∷ rest) ≡ fault_from t (i + 1) (with_rows t.key rows (with_row t.key fresh row)) rest

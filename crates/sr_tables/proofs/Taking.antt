@@ -14,7 +14,7 @@ use Rattle.sr_model.specs.SortedRows.{with_row}
 use Rattle.sr_rows.specs.Places.{is_apart}
 use Rattle.sr_rows.proofs.Order.{cell_le-refl}
 use Rattle.sr_keyed.specs.Keyed.{is_of, without_key}
-use Rattle.sr_tables.specs.Added.{added_row, added_rows, is_unchanged}
+use Rattle.sr_tables.specs.Added.{added_row, added_rows, is_changed, is_unchanged}
 use Rattle.sr_tables.proofs.Changing.{apart-differs, filter-out}
 
 -- ---- the keys of changes, one after another
@@ -69,22 +69,18 @@ old_stay t key rows (f ∷ fresh) h =
     (filter-all (λ r. not (cell_eq (cell_at r key) (cell_at f key))) rows (lacks-all key rows f (grind arith)))
     ∙ old_stay t key rows fresh (grind arith)
 
--- the row's key is that of a change
-abbrev pub is_changed_key : ℕ → List Change → Row → Bool
-is_changed_key key changes row = list_any (λ (c : Change). cell_eq (cell_at row key) c.key) changes
-
-changed-more : (key : ℕ) (c : Change) (changes : List Change) (rows : List Row) → list_all (is_changed_key key changes) rows ≡ true → list_all (is_changed_key key (c ∷ changes)) rows ≡ true
+changed-more : (key : ℕ) (c : Change) (changes : List Change) (rows : List Row) → list_all (is_changed key changes) rows ≡ true → list_all (is_changed key (c ∷ changes)) rows ≡ true
 changed-more key c changes [] h = refl
 changed-more key c changes (r ∷ rows) h = let ih = changed-more key c changes rows (grind arith) in grind (arith, ih, h)
 
-pub fresh_changed : (t key : ℕ) (fresh : List Row) → list_all (is_changed_key key (added_rows t key fresh)) fresh ≡ true
+pub fresh_changed : (t key : ℕ) (fresh : List Row) → list_all (is_changed key (added_rows t key fresh)) fresh ≡ true
 fresh_changed t key [] = refl
 fresh_changed t key (f ∷ fresh) =
     let ih = changed-more key (added_row t key f) (added_rows t key fresh) fresh (fresh_changed t key fresh) in
     let same = cell_le-refl (cell_at f key) in
     grind (arith, ih, same)
 
-pub fresh_go : (key : ℕ) (changes : List Change) (rows : List Row) (row : Row) → is_changed_key key changes row ≡ true
+pub fresh_go : (key : ℕ) (changes : List Change) (rows : List Row) (row : Row) → is_changed key changes row ≡ true
     → filter (is_unchanged key changes) (with_row key rows row) ≡ filter (is_unchanged key changes) rows
 fresh_go key changes rows row h = filter-out (is_unchanged key changes) key rows row (ap not h)
 

@@ -1,4 +1,4 @@
--- The changes that an INSERT makes, and how they are taken back.
+-- The changes that an INSERT makes.
 use Rattle.std.specs.Prelude.{ℕ, Bool, not, List, map, None, Some}
 use Rattle.std.specs.List.{list_any}
 use Rattle.sr_cell.specs.declared.change.Change.{Change}
@@ -12,6 +12,9 @@ added_row t key row = record { table = t; key = cell_at row key; before = None; 
 abbrev pub added_rows : ℕ → ℕ → List Row → List Change
 added_rows t key rows = map (added_row t key) rows
 
--- none of the changes is of the row's key
+-- a change is of the row's key
+abbrev pub is_changed : ℕ → List Change → Row → Bool
+is_changed key changes row = list_any (λ c. cell_eq (cell_at row key) c.key) changes
+
 abbrev pub is_unchanged : ℕ → List Change → Row → Bool
-is_unchanged key changes row = not (list_any (λ c. cell_eq (cell_at row key) c.key) changes)
+is_unchanged key changes row = not (is_changed key changes row)

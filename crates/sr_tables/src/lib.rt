@@ -3,4 +3,6 @@
 
 mod faults;
 mod fresh;
+mod insert;
 mod load;
+mod put;

@@ -4,6 +4,7 @@ use Rattle.std.specs.Prelude.{None, pos}
 use Rattle.std.specs.List.{list_all}
 use Rattle.std.proofs.lemmas.Bool.Decides.{nat_tests}
 use Rattle.sr_cell.specs.declared.cell.Cell.{Cell}
+use Rattle.sr_cell.specs.declared.table.Kind.{Kind}
 use Rattle.sr_cell.specs.declared.table.Kind.TheVariants.{Str as Texts}
 use Rattle.sr_cell.specs.declared.table.Column.{Column}
 use Rattle.sr_cell.specs.declared.table.Table.{Table}
@@ -20,6 +21,23 @@ use Rattle.sr_tables.specs.Inserts.{fault_from, are_apart}
 use Rattle.sr_tables.proofs.Inserts.{list_all-with_row, apart-fits, apart-ascend, has_key_with_rows}
 use Rattle.sr_tables.proofs.Inserting.{list_all-row, list_all-rows, apart-each, apart-alone, with_rows-among}
 use Rattle.sr_tables.proofs.Taking.{kind-fits}
+
+pub all_first : (p : Row → Bool) (row : Row) (rows : List Row) → list_all p (row ∷ rows) ≡ true → p row ≡ true
+all_first p row rows h = grind arith
+
+pub all_rest : (p : Row → Bool) (row : Row) (rows : List Row) → list_all p (row ∷ rows) ≡ true → list_all p rows ≡ true
+all_rest p row rows h = grind arith
+
+pub apart_first : (key : ℕ) (rows : List Row) (row : Row) (more : List Row) → are_apart key rows (row ∷ more) ≡ true → is_apart key rows row ≡ true
+apart_first key rows row more h = grind arith
+
+pub apart_rest : (key : ℕ) (rows : List Row) (row : Row) (more : List Row) → are_apart key rows (row ∷ more) ≡ true → are_apart key (with_row key rows row) more ≡ true
+apart_rest key rows row more h = grind arith
+
+pub same_keyed : (k : Keyed) (key : ℕ) (kind : Kind) (rows : List Row) → k.key ≡ key → k.kind ≡ kind → k.rows ≡ rows → k ≡ record { key = key; kind = kind; rows = rows }
+same_keyed k key kind rows a b c =
+    ap (λ n. record { key = n; kind = k.kind; rows = k.rows }) a ∙ ap (λ x. record { key = key; kind = x; rows = k.rows }) b
+    ∙ ap (λ xs. record { key = key; kind = kind; rows = xs }) c
 
 -- a row that fits has a key of the rows' kind
 pub key-kind : (t : Table) (k : Keyed) (row : Row) → IsKeyed t k → t.key < length t.columns → fits_columns t.columns row ≡ true → is_of k.kind (cell_at row k.key) ≡ true

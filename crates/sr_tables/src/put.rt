@@ -49,16 +49,11 @@ fn changes_of(alloc: Global, number: u8, key: usize, added: &Rows) -> Result<Cha
 
 /// Takes the rows of the changes' keys out.
 fn take_out(rows: &mut KeyedRows, changes: &Changes)
-    requires stub { true ≡ false }
     ensures { rows.new ≡ record rows.old { rows = filter (is_unchanged rows.old.key changes.now) rows.old.rows } }
 {
-}
-
-fn rows_out(alloc: Global, fresh: KeyedRows) -> Result<Rows, NoMemory>
-    requires stub { true ≡ false }
-    ensures { IfOk result (λ rows. rows ≡ fresh.rows) }
-{
-    Err(NoMemory)
+    for change in changes.as_slice() {
+        rows.remove(&change.key);
+    }
 }
 
 /// Puts rows among those of the table. Where memory is wanting, those that are there already are taken out again by
@@ -109,7 +104,7 @@ pub(crate) fn put_fresh(
     ensures keyed { IsKeyed table.now rows.new }
     ensures unchanged { OnErr result (rows.new ≡ rows.old) }
 {
-    let added = match rows_out(alloc, fresh) {
+    let added = match fresh.into_rows(alloc) {
         Ok(added) => added,
         Err(no) => return Err(no),
     };

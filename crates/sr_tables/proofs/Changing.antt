@@ -1,8 +1,7 @@
 -- What rows among others change.
-use Rattle.std.proofs.Common.{◌≡◌, ℕ, Bool, true, false, cond, not, ◌&&◌, ◌||◌, List, [], ◌∷◌, refl, sym, ap, ◌∙◌, arith}
-use Rattle.std.specs.Prelude.{if◌then◌else◌, filter, find, map, fold, Option, Some, None}
+use Rattle.std.proofs.Common.{◌≡◌, ℕ, Bool, true, false, cond, not, ◌||◌, List, [], ◌∷◌, refl, sym, ap, ◌∙◌, arith}
+use Rattle.std.specs.Prelude.{if◌then◌else◌, filter, find, map, fold, Some, None}
 use Rattle.std.specs.List.{list_all, list_any, AllByRecursion as Each}
-use Rattle.sr_cell.specs.declared.cell.Cell.{Cell}
 use Rattle.sr_cell.specs.declared.change.Change.{Change}
 use Rattle.sr_cell.specs.declared.table.Table.{Table}
 use Rattle.sr_cell.specs.Cells.{Row, cell_at, cell_le, cell_eq}
@@ -13,9 +12,9 @@ use Rattle.sr_rows.proofs.Order.{cell_le-trans, cell_le-refl, key_lt-le, key_lt-
 use Rattle.sr_rows.proofs.Places.{with_row-ascend}
 use Rattle.sr_rows.proofs.Parts.{with_rows-other}
 use Rattle.sr_tables.specs.Inserts.{are_apart}
-use Rattle.sr_tables.specs.Added.{added_row, added_rows}
-use Rattle.sr_tables.proofs.Inserts.{list_any-with_row, apart-ascend}
-use Rattle.sr_tables.proofs.Inserting.{list_all-row, list_all-rows, apart-each, apart-alone, with_rows-fresh}
+use Rattle.sr_tables.specs.Added.{added_rows}
+use Rattle.sr_tables.proofs.Inserts.{list_any-with_row, list_all-rows, apart-ascend}
+use Rattle.sr_tables.proofs.Inserting.{apart-each, with_rows-fresh}
 
 -- ---- look-ups
 

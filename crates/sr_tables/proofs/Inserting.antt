@@ -1,18 +1,13 @@
 -- Rows put among others in any order, and what they change.
-use Rattle.std.proofs.Common.{◌≡◌, ℕ, ◌+◌, Bool, true, false, cond, not, ◌&&◌, ◌||◌, List, [], ◌∷◌, refl, sym, ap, ◌∙◌, arith}
-use Rattle.std.specs.Prelude.{if◌then◌else◌, filter, find, map, fold, Option, Some, None}
-use Rattle.std.specs.List.{list_all, list_any}
-use Rattle.sr_cell.specs.declared.cell.Cell.{Cell}
-use Rattle.sr_cell.specs.declared.change.Change.{Change}
-use Rattle.sr_cell.specs.declared.table.Table.{Table}
-use Rattle.sr_cell.specs.Cells.{Row, cell_at, cell_le, cell_eq}
-use Rattle.sr_model.specs.SortedRows.{key_lt, ascend, has_key, with_row, with_rows, row_eq}
-use Rattle.sr_model.specs.Changes.{row_with, same_row, all_keys, table_changes}
+use Rattle.std.proofs.Common.{◌≡◌, ℕ, Bool, true, false, ◌||◌, List, [], ◌∷◌, refl, sym, ap, ◌∙◌, arith}
+use Rattle.std.specs.Prelude.{if◌then◌else◌}
+use Rattle.std.specs.List.{list_all}
+use Rattle.sr_cell.specs.Cells.{Row, cell_at, cell_le}
+use Rattle.sr_model.specs.SortedRows.{key_lt, with_row, with_rows}
 use Rattle.sr_rows.specs.Places.{is_apart}
-use Rattle.sr_rows.proofs.Order.{cell_le-trans, cell_le-refl, key_lt-le, key_lt-not, is_first, ascend-tail, ascend-first}
-use Rattle.sr_rows.proofs.Places.{with_row-ascend}
+use Rattle.sr_rows.proofs.Order.{cell_le-trans, key_lt-le, key_lt-not}
 use Rattle.sr_tables.specs.Inserts.{are_apart}
-use Rattle.sr_tables.specs.Added.{added_row, added_rows}
+use Rattle.sr_tables.proofs.Inserts.{list_all-row}
 
 -- ---- the order in which rows are put does not matter
 
@@ -78,26 +73,6 @@ with_rows-both key rows fresh (m ∷ more) h =
     ∙ ap (λ xs. with_rows key xs more) (with_rows-among key rows fresh m (grind arith))
 
 -- ---- rows apart from more are apart from fewer
-
-pub list_all-row : (p : Row → Bool) (key : ℕ) (rows : List Row) (row : Row) → list_all p (with_row key rows row) ≡ (p row && list_all p rows)
-list_all-row p key [] row = refl
-list_all-row p key (r ∷ rows) row = go (cell_le (cell_at r key) (cell_at row key)) (list_all-row p key rows row)
-  where
-    go : (b : Bool) → list_all p (with_row key rows row) ≡ (p row && list_all p rows)
-        → list_all p (if b then r ∷ with_row key rows row else row ∷ r ∷ rows) ≡ (p row && (p r && list_all p rows))
-    go true ih = grind (arith, ih)
-    go false ih = refl
-
-pub list_all-rows : (p : Row → Bool) (key : ℕ) (rows more : List Row) → list_all p (with_rows key rows more) ≡ (list_all p rows && list_all p more)
-list_all-rows p key rows [] = and_true (list_all p rows)
-  where
-    and_true : (b : Bool) → b ≡ (b && true)
-    and_true true = refl
-    and_true false = refl
-list_all-rows p key rows (row ∷ more) =
-    let ih = list_all-rows p key (with_row key rows row) more in
-    let one = list_all-row p key rows row in
-    grind (arith, ih, one)
 
 apart-fewer : (key : ℕ) (rows : List Row) (r row : Row) → is_apart key (with_row key rows r) row ≡ true → is_apart key rows row ≡ true
 apart-fewer key rows r row h = let all = list_all-row (λ other. key_lt key other row || key_lt key row other) key rows r in grind (arith, all, h)

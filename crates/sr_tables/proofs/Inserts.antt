@@ -1,9 +1,9 @@
 -- What a statement's rows make of a table's rows.
-use Rattle.std.proofs.Common.{◌≡◌, ℕ, zero, suc, ◌+◌, ◌<◌, ◌≤◌, Bool, true, false, ◌||◌, List, [], ◌∷◌, ◌++◌, length, take, drop, get_or, refl, sym, ap, ◌∙◌, arith}
+use Rattle.std.proofs.Common.{◌≡◌, ℕ, zero, suc, ◌+◌, ◌<◌, ◌≤◌, Bool, true, false, ◌&&◌, ◌||◌, List, [], ◌∷◌, length, drop, refl, ap, ◌∙◌, arith}
 use Rattle.std.specs.Prelude.{ℤ, if◌then◌else◌, nat_lt, Option, Some, None, Result, Ok, Err, ◌==◌}
 use Rattle.std.specs.List.{list_all, list_any}
 use Rattle.std.proofs.lemmas.Int.{ints}
-use Rattle.std.proofs.lemmas.List.{drop_all, drop_more, take_more}
+use Rattle.std.proofs.lemmas.List.{drop_all}
 use Rattle.std.proofs.lemmas.Bool.Decides.{nat_tests}
 use Rattle.sr_cell.specs.declared.cell.Cell.{Cell}
 use Rattle.sr_cell.specs.declared.cell.Cell.TheVariants.{Num, Str}
@@ -49,13 +49,28 @@ list_any-with_rows p key rows (row ∷ more) =
 pub has_key_with_rows : (key : ℕ) (v : Cell) (rows more : List Row) → has_key key v (with_rows key rows more) ≡ (has_key key v rows || has_key key v more)
 has_key_with_rows key v rows more = list_any-with_rows (λ row. cell_eq (cell_at row key) v) key rows more
 
-pub list_all-with_row : (p : Row → Bool) (key : ℕ) (rows : List Row) (row : Row) → list_all p rows ≡ true → p row ≡ true → list_all p (with_row key rows row) ≡ true
-list_all-with_row p key [] row all one = grind (arith, one)
-list_all-with_row p key (r ∷ rows) row all one = go (cell_le (cell_at r key) (cell_at row key)) (list_all-with_row p key rows row (grind arith) one)
+pub list_all-row : (p : Row → Bool) (key : ℕ) (rows : List Row) (row : Row) → list_all p (with_row key rows row) ≡ (p row && list_all p rows)
+list_all-row p key [] row = refl
+list_all-row p key (r ∷ rows) row = go (cell_le (cell_at r key) (cell_at row key)) (list_all-row p key rows row)
   where
-    go : (b : Bool) → list_all p (with_row key rows row) ≡ true → list_all p (if b then r ∷ with_row key rows row else row ∷ r ∷ rows) ≡ true
-    go true ih = grind (arith, ih, all)
-    go false ih = grind (arith, all, one)
+    go : (b : Bool) → list_all p (with_row key rows row) ≡ (p row && list_all p rows)
+        → list_all p (if b then r ∷ with_row key rows row else row ∷ r ∷ rows) ≡ (p row && (p r && list_all p rows))
+    go true ih = grind (arith, ih)
+    go false ih = refl
+
+pub list_all-rows : (p : Row → Bool) (key : ℕ) (rows more : List Row) → list_all p (with_rows key rows more) ≡ (list_all p rows && list_all p more)
+list_all-rows p key rows [] = and_true (list_all p rows)
+  where
+    and_true : (b : Bool) → b ≡ (b && true)
+    and_true true = refl
+    and_true false = refl
+list_all-rows p key rows (row ∷ more) =
+    let ih = list_all-rows p key (with_row key rows row) more in
+    let one = list_all-row p key rows row in
+    grind (arith, ih, one)
+
+pub list_all-with_row : (p : Row → Bool) (key : ℕ) (rows : List Row) (row : Row) → list_all p rows ≡ true → p row ≡ true → list_all p (with_row key rows row) ≡ true
+list_all-with_row p key rows row all one = let both = list_all-row p key rows row in grind (arith, both, all, one)
 
 length-with_row : (key : ℕ) (rows : List Row) (row : Row) → length (with_row key rows row) ≡ suc (length rows)
 length-with_row key [] row = refl
@@ -69,10 +84,6 @@ pub length-with_rows : (key : ℕ) (rows more : List Row) → length (with_rows 
 length-with_rows key rows [] = omega arith
 length-with_rows key rows (row ∷ more) = omega (arith, length-with_rows key (with_row key rows row) more, length-with_row key rows row)
 
-pub with_rows-push : (key : ℕ) (rows more : List Row) (row : Row) → with_rows key rows (more ++ row ∷ []) ≡ with_row key (with_rows key rows more) row
-with_rows-push key rows [] row = refl
-with_rows-push key rows (r ∷ more) row = with_rows-push key (with_row key rows r) more row
-
 pub apart-ascend : (key : ℕ) (rows more : List Row) → ascend key rows ≡ true → are_apart key rows more ≡ true → ascend key (with_rows key rows more) ≡ true
 apart-ascend key rows [] h apart = h
 apart-ascend key rows (row ∷ more) h apart = apart-ascend key (with_row key rows row) more (with_row-ascend key rows row h (grind arith)) (grind arith)
@@ -85,20 +96,6 @@ bad_cell-short c columns row i short = rw (drop_all i row short) (empty columns)
     empty : (columns : List Column) → bad_cell_from c columns [] ≡ None
     empty [] = refl
     empty (column ∷ columns) = refl
-
--- row number i has no fault
-pub fault-step : (table : Table) (rows more : List Row) (i : ℕ) (row : Row) → i < length more → row ≡ get_or more i row
-    → fault_of_row table i (with_rows table.key rows (take i more)) row ≡ None
-    → fault_from table i (with_rows table.key rows (take i more)) (drop i more)
-    ≡ fault_from table (i + 1) (with_rows table.key rows (take (i + 1) more)) (drop (i + 1) more)
-fault-step table rows more i row below is none =
-    let cons : drop i more ≡ row ∷ drop (i + 1) more = drop_more more i row below ∙ ap (λ x. x ∷ drop (i + 1) more) (sym is) in
-    let push : take (i + 1) more ≡ take i more ++ row ∷ [] = take_more more i row below ∙ ap (λ x. take i more ++ x ∷ []) (sym is) in
-    let all = with_rows-push table.key rows (take i more) row in
-    let next : with_row table.key (with_rows table.key rows (take i more)) row ≡ with_rows table.key rows (take (i + 1) more) = sym (ap (λ xs. with_rows table.key rows xs) push ∙ all) in
-    ap (λ xs. fault_from table i (with_rows table.key rows (take i more)) xs) cons
-    ∙ ap (λ fault. first_fault fault (fault_from table (i + 1) (with_row table.key (with_rows table.key rows (take i more)) row) (drop (i + 1) more))) none
-    ∙ ap (λ xs. fault_from table (i + 1) xs (drop (i + 1) more)) next
 
 -- the outcome of a statement, by its first fault
 

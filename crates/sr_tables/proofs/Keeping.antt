@@ -1,25 +1,23 @@
 -- Rows of a table stay rows of it.
-use Rattle.std.proofs.Common.{◌≡◌, ℕ, suc, ◌+◌, ◌<◌, Bool, true, false, ◌&&◌, ◌||◌, List, [], ◌∷◌, length, refl, sym, ap, subst, ◌∙◌, arith}
+use Rattle.std.proofs.Common.{◌≡◌, ℕ, suc, ◌+◌, ◌<◌, Bool, true, false, ◌||◌, List, [], ◌∷◌, length, refl, sym, ap, ◌∙◌, arith}
 use Rattle.std.specs.Prelude.{None, pos}
 use Rattle.std.specs.List.{list_all}
-use Rattle.std.proofs.lemmas.Bool.Decides.{nat_tests}
 use Rattle.sr_cell.specs.declared.cell.Cell.{Cell}
 use Rattle.sr_cell.specs.declared.table.Kind.{Kind}
 use Rattle.sr_cell.specs.declared.table.Kind.TheVariants.{Str as Texts}
 use Rattle.sr_cell.specs.declared.table.Column.{Column}
 use Rattle.sr_cell.specs.declared.table.Table.{Table}
-use Rattle.sr_cell.specs.declared.fault.Fault.{Fault}
 use Rattle.sr_cell.specs.Cells.{Row, cell_at}
 use Rattle.sr_cell.specs.Columns.{fits_columns}
 use Rattle.sr_model.specs.SortedRows.{ascend, has_key, with_row, with_rows, key_lt}
-use Rattle.sr_model.specs.Statements.{column_of, fault_of_row, first_fault}
+use Rattle.sr_model.specs.Statements.{fault_of_row, first_fault}
 use Rattle.sr_rows.specs.Places.{is_apart}
 use Rattle.sr_rows.proofs.Order.{is_first, ascend-tail, ascend-first}
 use Rattle.sr_keyed.specs.Keyed.{Keyed, is_of}
 use Rattle.sr_tables.specs.Stored.{IsKeyed}
 use Rattle.sr_tables.specs.Inserts.{fault_from, are_apart}
-use Rattle.sr_tables.proofs.Inserts.{list_all-with_row, apart-fits, apart-ascend, has_key_with_rows}
-use Rattle.sr_tables.proofs.Inserting.{list_all-row, list_all-rows, apart-each, apart-alone, with_rows-among}
+use Rattle.sr_tables.proofs.Inserts.{list_all-with_row, list_all-row, list_all-rows, apart-fits, apart-ascend, has_key_with_rows}
+use Rattle.sr_tables.proofs.Inserting.{apart-each, apart-alone, with_rows-among}
 use Rattle.sr_tables.proofs.Taking.{kind-fits}
 
 pub all_first : (p : Row → Bool) (row : Row) (rows : List Row) → list_all p (row ∷ rows) ≡ true → p row ≡ true

@@ -3,7 +3,6 @@ ghost use Rattle.std.specs.Prelude.{◌≡◌, ℕ, ◌+◌, ◌^◌, ◌<◌, l
 ghost use Rattle.sr_cell.specs.Cells.{cell_at};
 ghost use Rattle.sr_model.specs.SortedRows.{has_key, with_rows};
 ghost use Rattle.sr_model.specs.Statements.{cell_fault, bad_cell_from, fault_of_row};
-ghost use Rattle.sr_model.specs.Loads.{load_fault};
 ghost use Rattle.sr_tables.specs.Inserts.{limit_fault};
 
 use sr_cell::cell::{Cell, Row};
@@ -56,7 +55,7 @@ pub(crate) fn bad_cell(columns: &Columns, row: &Row) -> Option<Fault>
     None
 }
 
-/// Why a table can't have so many rows more, or a statement make so many changes.
+/// Why a table of so many rows can't take the changes' rows too, or a statement make so many changes.
 pub(crate) fn limit_fault(changes: usize, rows: usize) -> Option<Fault>
     requires { changes < 2 ^ 32 }
     ensures { result ≡ limit_fault changes (rows + changes) }
@@ -76,7 +75,8 @@ pub(crate) fn limit_fault(changes: usize, rows: usize) -> Option<Fault>
     None
 }
 
-fn key_of<'a>(row: &'a Row, key: usize) -> &'a Cell
+/// The key of a row that has one.
+pub(crate) fn key_of<'a>(row: &'a Row, key: usize) -> &'a Cell
     requires { key < length row.now }
     ensures { result.now ≡ cell_at row.now key }
 {
@@ -114,32 +114,6 @@ pub(crate) fn row_fault(
         return Some(Fault {
             why: Why::DuplicateKey,
             at: number,
-        });
-    }
-    None
-}
-
-/// Why a row can't be loaded.
-pub(crate) fn load_fault(table: &Table, rows: &KeyedRows, row: &Row) -> Option<Fault>
-    requires columns { length table.now.columns < 2 ^ 32 }
-    requires key { table.now.key < length row.now }
-    requires rows { rows.now.key ≡ table.now.key }
-    ensures { result ≡ load_fault table.now rows.now.rows row.now }
-{
-    match bad_cell(&table.columns, row) {
-        Some(fault) => return Some(fault),
-        None => {}
-    }
-    if rows.has(key_of(row, table.key as usize)) {
-        return Some(Fault {
-            why: Why::DuplicateKey,
-            at: 0,
-        });
-    }
-    if rows.len() >= 65536 {
-        return Some(Fault {
-            why: Why::TableFull,
-            at: 65536,
         });
     }
     None

@@ -16,7 +16,7 @@ use sr_keyed::keyed::KeyedRows;
 use std::alloc::Global;
 
 #[tactic(auto, using(sr_rows::proofs::Order::cell_at_absent))]
-fn key_of(alloc: Global, row: &Row, key: usize) -> Result<Cell, NoMemory>
+fn copy_of_key(alloc: Global, row: &Row, key: usize) -> Result<Cell, NoMemory>
     ensures { IfOk result (λ cell. cell ≡ cell_at row.now key) }
 {
     match row.get(key) {
@@ -30,7 +30,7 @@ fn change_of(alloc: Global, number: u8, key: usize, row: &Row) -> Result<Change,
 {
     Ok(Change {
         table: number,
-        key: key_of(alloc, row, key)?,
+        key: copy_of_key(alloc, row, key)?,
         before: None,
         after: Some(row.copy(alloc)?),
     })

@@ -2,7 +2,6 @@ use Rattle.std.proofs.Common.{◌≡◌, None, sym, subst}
 use Rattle.sr_cell.specs.Cells.{cell_at}
 use Rattle.sr_model.specs.SortedRows.{with_rows}
 use Rattle.sr_model.specs.Statements.{fault_of_row}
-use Rattle.sr_rows.specs.Places.{is_apart}
 use Rattle.sr_tables.specs.Stored.{IsKeyed}
 use Rattle.sr_tables.proofs.Inserts.{row-faultless}
 use Rattle.sr_tables.proofs.Keeping.{key-kind, fresh-lacks, fresh-apart, keyed-row}

@@ -1,6 +1,6 @@
 use Rattle.std.proofs.Common.{◌≡◌, ◌∷◌, ◌+◌, ap, sym, ◌∙◌, arith}
 use Rattle.std.specs.Vec.Iter.{into_iter_items}
-use Rattle.sr_model.specs.SortedRows.{with_row, with_rows}
+use Rattle.sr_model.specs.SortedRows.{with_rows}
 use Rattle.sr_tables.specs.Inserts.{fault_from}
 use Rattle.sr_tables.proofs.Keeping.{fresh-step}
 use Rattle.sr_tables.proofs.fresh.fresh_rows.Goals as goal

@@ -1,6 +1,6 @@
 use Rattle.std.proofs.Common.{◌≡◌, ◌+◌, true, [], length, ◌==◌}
 use Rattle.std.specs.List.{list_all}
-use Rattle.std.specs.Vec.Iter.{into_iter_items, into_iter_len}
+use Rattle.std.specs.Vec.Iter.{into_iter_items}
 use Rattle.sr_model.specs.SortedRows.{with_rows}
 use Rattle.sr_tables.specs.Stored.{IsKeyed}
 use Rattle.sr_tables.specs.Inserts.{fault_from}

@@ -35,7 +35,7 @@ returns-in-Ok-put_fresh-clause-done c =
     let apart = apart-faultless t 0 rows c.args.more c.in-Ok.ensures.faultless c.requires.key c.requires.keyed.fits c.requires.widths in
     let few : limit_fault (length c.args.more) (length rows + length c.args.more) ≡ None = cc in
     let new : c.put_fresh.new.rows.rows ≡ with_rows t.key rows c.args.more =
-        c.in-Ok-put_fresh.ensures.put ∙ ap (λ xs. with_rows t.key rows xs) c.in-Ok.ensures.fresh ∙ with_rows-fresh t.key rows c.args.more apart.0 in
+    c.in-Ok-put_fresh.ensures.put ∙ ap (λ xs. with_rows t.key rows xs) c.in-Ok.ensures.fresh ∙ with_rows-fresh t.key rows c.args.more apart.0 in
     inserted-done t c.args.more rows c.in-Ok.ensures.faultless few ∙ ap (λ xs. Ok xs) (sym new)
 
 pub returns-in-Ok-put_fresh-clause-changes : goal.returns-in-Ok-put_fresh-clause-changes
@@ -44,7 +44,7 @@ returns-in-Ok-put_fresh-clause-changes c =
     let rows = c.args.rows.now.rows in
     let apart = apart-faultless t 0 rows c.args.more c.in-Ok.ensures.faultless c.requires.key c.requires.keyed.fits c.requires.widths in
     let new : c.put_fresh.new.rows.rows ≡ with_rows t.key rows c.args.more =
-        c.in-Ok-put_fresh.ensures.put ∙ ap (λ xs. with_rows t.key rows xs) c.in-Ok.ensures.fresh ∙ with_rows-fresh t.key rows c.args.more apart.0 in
+    c.in-Ok-put_fresh.ensures.put ∙ ap (λ xs. with_rows t.key rows xs) c.in-Ok.ensures.fresh ∙ with_rows-fresh t.key rows c.args.more apart.0 in
     let ascending : ascend t.key rows ≡ true = ap (λ n. ascend n rows) (sym c.requires.keyed.key) ∙ c.know_ascending.ensures in
     c.in-Ok-put_fresh.ensures.changes ∙ ap (λ xs. added_rows c.args.number t.key xs) c.in-Ok.ensures.fresh
     ∙ sym (changes-with_rows t c.args.number rows c.args.more ascending apart.0) ∙ ap (λ xs. table_changes t c.args.number rows xs) (sym new)

@@ -1,5 +1,4 @@
 use Rattle.std.proofs.Common.{◌≡◌, None, sym, subst}
-use Rattle.sr_model.specs.SortedRows.{with_row}
 use Rattle.sr_model.specs.Loads.{load_fault}
 use Rattle.sr_tables.specs.Stored.{IsKeyed}
 use Rattle.sr_tables.proofs.Inserts.{load-faultless}

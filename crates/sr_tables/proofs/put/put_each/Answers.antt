@@ -1,8 +1,7 @@
-use Rattle.std.proofs.Common.{◌≡◌, ◌∷◌, true, ap, sym, subst, ◌∙◌, arith}
+use Rattle.std.proofs.Common.{◌≡◌, ◌∷◌, ap, sym, subst, ◌∙◌}
 use Rattle.std.specs.Prelude.{filter}
 use Rattle.std.specs.List.{list_all}
 use Rattle.std.specs.Vec.Iter.{into_iter_items}
-use Rattle.sr_cell.specs.Cells.{cell_at}
 use Rattle.sr_cell.specs.Columns.{fits_columns}
 use Rattle.sr_model.specs.SortedRows.{with_row, with_rows}
 use Rattle.sr_tables.specs.Stored.{IsKeyed}

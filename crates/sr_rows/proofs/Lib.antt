@@ -1,4 +1,3 @@
 pub mod Order
 pub mod Places
 pub mod Parts
-pub mod Inserts

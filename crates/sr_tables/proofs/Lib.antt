@@ -1,3 +1,8 @@
+pub mod Inserts
+pub mod Inserting
+pub mod Changing
+pub mod Taking
+pub mod Keeping
 pub mod Others
 pub mod Kept
 pub mod Short

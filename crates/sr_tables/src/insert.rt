@@ -1,27 +1,24 @@
-//! Stub.
-ghost use Rattle.std.specs.Prelude.{◌≡◌, ◌<◌, ◌≤◌, ◌^◌, ◌==◌, ◌&&◌, not, nat_lt, true, map, filter, length, Ok, Err, IsTrue, IfOk, OnOk, OnErr, IsErrOf};
+//! The insertion of a statement's rows.
+ghost use Rattle.std.specs.Prelude.{◌≡◌, ℕ, ◌^◌, ◌<◌, ◌≤◌, ◌==◌, true, length, OnErr, Ok, Err, IfOk, IsErrOf};
 ghost use Rattle.std.specs.List.{list_all};
-ghost use Rattle.sr_cell.specs.declared.list.No.TheVariants.{Refused};
 ghost use Rattle.sr_cell.specs.declared.fault.Fault.{Fault as TheFault};
-ghost use Rattle.sr_cell.specs.Attrs.{project};
-ghost use Rattle.sr_box.specs.Points.{in_any};
-ghost use Rattle.sr_model.specs.Statements.{inserted, updated, deleted};
+ghost use Rattle.sr_cell.specs.declared.list.No.TheVariants.{Refused};
+ghost use Rattle.sr_model.specs.Statements.{inserted};
 ghost use Rattle.sr_model.specs.Changes.{table_changes};
-ghost use Rattle.sr_model.specs.Loads.{row_loaded};
-ghost use Rattle.sr_query.specs.Written.{place_of, condition_of};
 ghost use Rattle.sr_tables.specs.Stored.{IsKeyed};
 
-use sr_cell::attrs::Attrs;
-use sr_cell::cell::{Row, Rows};
+use crate::faults::limit_fault;
+use crate::fresh::fresh_rows;
+use crate::put::put_fresh;
+use sr_cell::cell::Rows;
 use sr_cell::change::Changes;
 use sr_cell::fault::Fault;
-use sr_cell::list::{No, NoMemory};
+use sr_cell::list::No;
 use sr_cell::table::Table;
 use sr_keyed::keyed::KeyedRows;
-use sr_query::write::{Filter, Places};
-use sr_union::rects::Rects;
 use std::alloc::Global;
 
+/// Inserts a statement's rows: all of them, or none. Answers a change for each.
 pub(crate) fn insert(
     alloc: Global,
     number: u8,
@@ -40,5 +37,18 @@ pub(crate) fn insert(
     ensures unchanged { OnErr result (rows.new ≡ rows.old) }
     ensures keyed { IsKeyed table.now rows.new }
 {
-    Err(No::NoMemory)
+    rows.know_ascending();
+    let count = more.len();
+    let fresh = match fresh_rows(alloc, table, rows, more) {
+        Ok(fresh) => fresh,
+        Err(no) => return Err(no),
+    };
+    match limit_fault(count, rows.len()) {
+        Some(fault) => return Err(No::Refused(fault)),
+        None => {}
+    }
+    match put_fresh(alloc, number, table, rows, fresh) {
+        Ok(changes) => Ok(changes),
+        Err(_) => Err(No::NoMemory),
+    }
 }

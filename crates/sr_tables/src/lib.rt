@@ -3,6 +3,7 @@
 
 mod carry;
 mod delete;
+mod faults;
 mod insert;
 mod load;
 mod select;

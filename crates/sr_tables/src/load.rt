@@ -1,27 +1,45 @@
-//! Stub.
-ghost use Rattle.std.specs.Prelude.{◌≡◌, ◌<◌, ◌≤◌, ◌^◌, ◌==◌, ◌&&◌, not, nat_lt, true, map, filter, length, Ok, Err, IsTrue, IfOk, OnOk, OnErr, IsErrOf};
-ghost use Rattle.std.specs.List.{list_all};
-ghost use Rattle.sr_cell.specs.declared.list.No.TheVariants.{Refused};
+//! Loading of rows, before any statement.
+ghost use Rattle.std.specs.Prelude.{◌≡◌, ℕ, ◌^◌, ◌<◌, ◌≤◌, length, OnOk, OnErr, Ok, Err, IsErrOf};
 ghost use Rattle.sr_cell.specs.declared.fault.Fault.{Fault as TheFault};
-ghost use Rattle.sr_cell.specs.Attrs.{project};
-ghost use Rattle.sr_box.specs.Points.{in_any};
-ghost use Rattle.sr_model.specs.Statements.{inserted, updated, deleted};
-ghost use Rattle.sr_model.specs.Changes.{table_changes};
-ghost use Rattle.sr_model.specs.Loads.{row_loaded};
-ghost use Rattle.sr_query.specs.Written.{place_of, condition_of};
+ghost use Rattle.sr_cell.specs.declared.list.No.TheVariants.{Refused};
+ghost use Rattle.sr_model.specs.Loads.{load_fault, row_loaded};
 ghost use Rattle.sr_tables.specs.Stored.{IsKeyed};
 
-use sr_cell::attrs::Attrs;
-use sr_cell::cell::{Row, Rows};
-use sr_cell::change::Changes;
-use sr_cell::fault::Fault;
-use sr_cell::list::{No, NoMemory};
+use crate::faults::{bad_cell, key_of};
+use sr_cell::cell::Row;
+use sr_cell::fault::{Fault, Why};
+use sr_cell::list::No;
 use sr_cell::table::Table;
 use sr_keyed::keyed::KeyedRows;
-use sr_query::write::{Filter, Places};
-use sr_union::rects::Rects;
 use std::alloc::Global;
 
+/// Why a row can't be loaded.
+fn load_fault(table: &Table, rows: &KeyedRows, row: &Row) -> Option<Fault>
+    requires columns { length table.now.columns < 2 ^ 32 }
+    requires key { table.now.key < length row.now }
+    requires rows { rows.now.key ≡ table.now.key }
+    ensures { result ≡ load_fault table.now rows.now.rows row.now }
+{
+    match bad_cell(&table.columns, row) {
+        Some(fault) => return Some(fault),
+        None => {}
+    }
+    if rows.has(key_of(row, table.key as usize)) {
+        return Some(Fault {
+            why: Why::DuplicateKey,
+            at: 0,
+        });
+    }
+    if rows.len() >= 65536 {
+        return Some(Fault {
+            why: Why::TableFull,
+            at: 65536,
+        });
+    }
+    None
+}
+
+/// One row more, before any statement. The fault's place is the column of a cell, 0 for a key, 65536 for a full table.
 pub(crate) fn load_row(
     alloc: Global,
     table: &Table,
@@ -37,5 +55,12 @@ pub(crate) fn load_row(
     ensures unchanged { OnErr result (rows.new ≡ rows.old) }
     ensures keyed { IsKeyed table.now rows.new }
 {
-    Err(No::NoMemory)
+    match load_fault(table, rows, &row) {
+        Some(fault) => return Err(No::Refused(fault)),
+        None => {}
+    }
+    match rows.insert(alloc, row) {
+        Ok(()) => Ok(()),
+        Err(_) => Err(No::NoMemory),
+    }
 }

@@ -4,8 +4,10 @@
 mod carry;
 mod delete;
 mod faults;
+mod fresh;
 mod insert;
 mod load;
+mod put;
 mod select;
 pub mod tables;
 mod update;

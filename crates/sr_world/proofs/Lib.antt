@@ -17,3 +17,4 @@ pub mod ReplyLemmas
 pub mod SettleLemmas
 pub mod KeptLemmas
 pub mod RunLemmas
+pub mod ReplayLemmas

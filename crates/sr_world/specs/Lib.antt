@@ -3,5 +3,6 @@ pub mod Client
 pub mod Kept
 pub mod Ran
 pub mod Replay
+pub mod Refused
 pub mod Represents
 pub mod Worlds

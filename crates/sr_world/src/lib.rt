@@ -3,5 +3,8 @@
 
 pub mod client;
 pub mod kept;
+pub mod replay;
 pub mod server;
+#[cfg(test)]
+mod tests;
 pub mod world;

@@ -1,0 +1,15 @@
+-- Why a script is not run.
+use Rattle.std.specs.Prelude.{ℕ, List, []}
+use Rattle.sr_language.specs.Lines.{lines_of}
+use Rattle.sr_language.specs.Script.{FirstRefused}
+use Rattle.sr_load.specs.declared.fill.Load.{Load}
+use Rattle.sr_world.specs.declared.replay.RunFault.{RunFault}
+use Rattle.sr_world.specs.declared.replay.RunFault.TheVariants as fault
+use Rattle.sr_world.specs.Replay.{RefusesLoad}
+
+-- a CREATE line that is refused, or else a file
+abbrev pub IsSetupFault : List ℕ → List Load → RunFault → Type 0
+IsSetupFault script loads fault.WriteFault = ⊥
+IsSetupFault script loads (fault.Setup line why) = FirstRefused 1 [] (lines_of script) line why
+IsSetupFault script loads (fault.Load table why) = RefusesLoad script loads table why
+IsSetupFault script loads (fault.Unbuilt line) = ⊥

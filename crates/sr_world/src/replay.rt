@@ -1,0 +1,301 @@
+//! The replay of a script.
+ghost use Rattle.std.specs.Prelude.{◌≡◌, ℕ, ◌+◌, ◌<◌, ◌≤◌, ◌^◌, ◌⊎◌, nat_lt, List, [], ◌∷◌, length, map, string_bytes, Ok, IsTrue, IfOk, OnOk, OnErr, IfSome, IsErrOf};
+ghost use Rattle.std.specs.List.{list_all, AllZip};
+ghost use Rattle.sr_model.specs.Events.{Event};
+ghost use Rattle.sr_cell.specs.declared.fault.Fault.{Fault as TheFault};
+ghost use Rattle.sr_cell.specs.declared.list.No.TheVariants.{Refused, NoMemory as Wanting};
+ghost use Rattle.sr_language.specs.Lines.{lines_of};
+ghost use Rattle.sr_language.specs.Script.{start_phase, FirstRefused, FirstUnbuilt};
+ghost use Rattle.sr_language.specs.Creates.{Creates};
+ghost use Rattle.sr_reader.specs.Read.{Fits, AreEvents, IsAsked, exec_event, statement_fits};
+ghost use Rattle.sr_tables.specs.Stored.{no_rows};
+ghost use Rattle.sr_load.specs.Filling.{filled};
+ghost use Rattle.sr_script.specs.TraceText.{trace_text};
+ghost use Rattle.sr_scene.specs.Runs.{numbered};
+ghost use Rattle.sr_io.specs.Causes.{Rose};
+ghost use Rattle.sr_world.specs.declared.replay.RunFault.{RunFault as TheRunFault};
+ghost use Rattle.sr_world.specs.declared.replay.RunFault.TheVariants.{WriteFault, Setup, Load as LoadRefused, Unbuilt};
+ghost use Rattle.sr_world.specs.Represents.{IsUnasked};
+ghost use Rattle.sr_world.specs.Worlds.{Stands};
+ghost use Rattle.sr_world.specs.Kept.{IsStill, drawn_of, tables_of};
+ghost use Rattle.sr_world.specs.Replay.{RefusesLoad, Wrote, WrotePart};
+ghost use Rattle.sr_world.specs.Refused.{IsSetupFault};
+ghost use Rattle.sr_world.specs.Ran.{Ran, RanWhole, RanPart, TracedWhole, TracedPart, Stays};
+
+use crate::kept;
+use crate::world::World;
+use sr_cell::fault::Fault;
+use sr_cell::list::{No, NoMemory, Seq};
+use sr_cell::table::Table;
+use sr_cell::text::Text;
+use sr_io::outside::{Failed, Sink};
+use sr_io::whole::write_all;
+use sr_load::fill::{Load, LoadFault, fill};
+use sr_reader::head::created;
+use sr_reader::lines::read_script;
+use sr_reader::script::{ExecLine, QueryLine, Script};
+use sr_script::line::TraceLine;
+use sr_script::text::push_line;
+use sr_tables::tables::Tables;
+use std::alloc::Global;
+
+/// Why a replay was refused.
+#[derive(Drop)]
+pub enum RunFault {
+    /// A call of the sink failed.
+    WriteFault,
+    /// The line is the first CREATE line that is refused, counted from 1, and why.
+    Setup { line: u64, fault: Fault },
+    /// The file for the table of this name is the first that is refused, and why. No CREATE line is refused.
+    Load { table: Text, fault: Fault },
+    /// The line is the first that does nothing that is built, counted from 1. No CREATE line and no file is refused.
+    Unbuilt { line: u64 },
+}
+
+/// Replays a script over tables with the rows of the files: runs its lines in their order and writes the trace. Answers what is
+/// kept at the end, where the script has a table.
+pub fn replay<K: Sink>(
+    alloc: Global,
+    script: &[u8],
+    loads: &[Load],
+    sink: &mut K,
+) -> Result<Option<World>, No<RunFault>>
+    requires script { length script.now < 2 ^ 32 }
+    requires loads { IsTrue (list_all (λ load. nat_lt (length load.bytes) (2 ^ 32)) loads.now) }
+    ensures whole { IfOk result (Wrote (K.writing sink.old).written (K.writing sink.new).written script.now loads.now) }
+    ensures part_after_fault { IsErrOf result (Refused WriteFault) → WrotePart (K.writing sink.old).written (K.writing sink.new).written script.now loads.now }
+    ensures part_in_want { IsErrOf result Wanting → (K.writing sink.new ≡ K.writing sink.old) ⊎ WrotePart (K.writing sink.old).written (K.writing sink.new).written script.now loads.now }
+    ensures setup { (line : ℕ) (fault : TheFault) → IsErrOf result (Refused (Setup line fault)) → FirstRefused 1 [] (lines_of script.now) line fault }
+    ensures setup_writes_nothing { (line : ℕ) (fault : TheFault) → IsErrOf result (Refused (Setup line fault)) → K.writing sink.new ≡ K.writing sink.old }
+    ensures load { (table : List ℕ) (fault : TheFault) → IsErrOf result (Refused (LoadRefused table fault)) → RefusesLoad script.now loads.now table fault }
+    ensures load_writes_nothing { (table : List ℕ) (fault : TheFault) → IsErrOf result (Refused (LoadRefused table fault)) → K.writing sink.new ≡ K.writing sink.old }
+    ensures unbuilt { (line : ℕ) → IsErrOf result (Refused (Unbuilt line)) → FirstUnbuilt 1 start_phase (lines_of script.now) line }
+    ensures unbuilt_accepts { (line : ℕ) → IsErrOf result (Refused (Unbuilt line)) → (refused : ℕ) (fault : TheFault) → FirstRefused 1 [] (lines_of script.now) refused fault → ⊥ }
+    ensures unbuilt_loads { (line : ℕ) → IsErrOf result (Refused (Unbuilt line)) → (table : List ℕ) (fault : TheFault) → RefusesLoad script.now loads.now table fault → ⊥ }
+    ensures unbuilt_writes_nothing { (line : ℕ) → IsErrOf result (Refused (Unbuilt line)) → K.writing sink.new ≡ K.writing sink.old }
+    ensures write_fault_is_counted { IsErrOf result (Refused WriteFault) → Rose (K.writing sink.old).faults (K.writing sink.new).faults }
+    ensures faults_never_fall { (K.writing sink.old).faults ≤ (K.writing sink.new).faults }
+    ensures ok_keeps_faults { OnOk result ((K.writing sink.new).faults ≡ (K.writing sink.old).faults) }
+    ensures want_keeps_faults { IsErrOf result Wanting → (K.writing sink.new).faults ≡ (K.writing sink.old).faults }
+    ensures stays_steady { K.IsSteady sink.old → K.IsSteady sink.new }
+    ensures steady_never_faults { K.IsSteady sink.old → ¬ IsErrOf result (Refused WriteFault) }
+    ensures held_stays { K.held sink.new ≡ K.held sink.old }
+    ensures reading_stays { K.reading sink.new ≡ K.reading sink.old }
+    ensures linking_stays { K.linking sink.new ≡ K.linking sink.old }
+    ensures complaints_stay { K.complaints sink.new ≡ K.complaints sink.old }
+{
+    let tables = match fill_tables(alloc, script, loads) {
+        Ok(tables) => tables,
+        Err(no) => return Err(no),
+    };
+    match read_script(alloc, script) {
+        Ok(read) => match run_script(alloc, read, tables, sink) {
+            Ok(kept) => Ok(kept),
+            Err(No::Refused(_)) => Err(No::Refused(RunFault::WriteFault)),
+            Err(No::NoMemory) => Err(No::NoMemory),
+        },
+        Err(No::Refused(unbuilt)) => Err(No::Refused(RunFault::Unbuilt {
+            line: unbuilt.number,
+        })),
+        Err(No::NoMemory) => Err(No::NoMemory),
+    }
+}
+
+/// The tables of the CREATE lines with the rows of the files; or the first CREATE line that is refused, or else the first file.
+fn fill_tables(alloc: Global, script: &[u8], loads: &[Load]) -> Result<Tables, No<RunFault>>
+    requires script { length script.now < 2 ^ 32 }
+    requires loads { IsTrue (list_all (λ load. nat_lt (length load.bytes) (2 ^ 32)) loads.now) }
+    ensures created { IfOk result (λ tables. Creates [] (lines_of script.now) tables.schema) }
+    ensures accepts { OnOk result ((line : ℕ) (fault : TheFault) → FirstRefused 1 [] (lines_of script.now) line fault → ⊥) }
+    ensures filled { IfOk result (λ tables. filled tables.schema loads.now (no_rows tables.schema) ≡ Ok tables.rows) }
+    ensures refused { (fault : TheRunFault) → IsErrOf result (Refused fault) → IsSetupFault script.now loads.now fault }
+{
+    let schema = match created(alloc, script) {
+        Ok(schema) => schema,
+        Err(No::Refused(refused)) => {
+            return Err(No::Refused(RunFault::Setup {
+                line: refused.number,
+                fault: refused.fault,
+            }));
+        }
+        Err(No::NoMemory) => return Err(No::NoMemory),
+    };
+    match fill(alloc, schema, loads) {
+        Ok(tables) => Ok(tables),
+        Err(No::Refused(LoadFault { table, fault })) => {
+            Err(No::Refused(RunFault::Load { table, fault }))
+        }
+        Err(No::NoMemory) => Err(No::NoMemory),
+    }
+}
+
+/// Runs a script that was read, over these tables.
+fn run_script<K: Sink>(
+    alloc: Global,
+    script: Script,
+    tables: Tables,
+    sink: &mut K,
+) -> Result<Option<World>, No<Failed>>
+    requires fits { Fits script }
+    requires events { (events : List (ℕ × Event)) × AreEvents script events }
+    requires tables { tables.schema ≡ script.schema }
+    requires few { length script.statements + length script.queries < 2 ^ 32 }
+    ensures whole { (events : List (ℕ × Event)) → AreEvents script events → IfOk result (λ kept. TracedWhole script.schema tables.rows events kept (K.writing sink.old).written (K.writing sink.new).written) }
+    ensures part { (events : List (ℕ × Event)) → AreEvents script events → OnErr result (TracedPart script.schema tables.rows events (K.writing sink.old).written (K.writing sink.new).written) }
+    ensures faults_never_fall { (K.writing sink.old).faults ≤ (K.writing sink.new).faults }
+    ensures ok_keeps_faults { OnOk result ((K.writing sink.new).faults ≡ (K.writing sink.old).faults) }
+    ensures want_keeps_faults { IsErrOf result Wanting → (K.writing sink.new).faults ≡ (K.writing sink.old).faults }
+    ensures failed_is_counted { IsErrOf result (Refused record {}) → Rose (K.writing sink.old).faults (K.writing sink.new).faults }
+    ensures steady_never_fails { K.IsSteady sink.old → ¬ IsErrOf result (Refused record {}) }
+    ensures stays { Stays K K.reading K.linking K.held K.complaints K.IsSteady sink.old sink.new }
+{
+    let Script {
+        schema,
+        statements,
+        queries,
+    } = script;
+    let schema = schema.as_slice();
+    let mut world = kept::begin(alloc, tables);
+    match run_statements(alloc, schema, &mut world, statements, sink) {
+        Ok(()) => {}
+        Err(no) => return Err(no),
+    }
+    match run_queries(alloc, schema, &mut world, queries, sink) {
+        Ok(()) => Ok(world),
+        Err(no) => Err(no),
+    }
+}
+
+/// Runs the statements.
+fn run_statements<K: Sink>(
+    alloc: Global,
+    schema: &[Table],
+    world: &mut Option<World>,
+    lines: Seq<ExecLine>,
+    sink: &mut K,
+) -> Result<(), No<Failed>>
+    requires stands { IfSome world.old Stands }
+    requires unasked { IfSome world.old IsUnasked }
+    requires tables { tables_of world.old ≡ schema.now }
+    requires fits { IsTrue (list_all (λ line. statement_fits schema.now line.statement) lines) }
+    requires room { drawn_of world.old + length lines < 2 ^ 63 }
+    ensures whole { OnOk result (RanWhole schema.now (map exec_event lines) world.old world.new (K.writing sink.old).written (K.writing sink.new).written) }
+    ensures part { OnErr result (RanPart schema.now (map exec_event lines) world.old (K.writing sink.old).written (K.writing sink.new).written) }
+    ensures stands { OnOk result (IfSome world.new Stands) }
+    ensures unasked { OnOk result (IfSome world.new IsUnasked) }
+    ensures drawn { OnOk result (drawn_of world.new ≤ drawn_of world.old + length lines) }
+    ensures tables { tables_of world.new ≡ tables_of world.old }
+    ensures faults_never_fall { (K.writing sink.old).faults ≤ (K.writing sink.new).faults }
+    ensures ok_keeps_faults { OnOk result ((K.writing sink.new).faults ≡ (K.writing sink.old).faults) }
+    ensures want_keeps_faults { IsErrOf result Wanting → (K.writing sink.new).faults ≡ (K.writing sink.old).faults }
+    ensures failed_is_counted { IsErrOf result (Refused record {}) → Rose (K.writing sink.old).faults (K.writing sink.new).faults }
+    ensures steady_never_fails { K.IsSteady sink.old → ¬ IsErrOf result (Refused record {}) }
+    ensures stays { Stays K K.reading K.linking K.held K.complaints K.IsSteady sink.old sink.new }
+{
+    for line in lines.into_vec() {
+        let text = match exec_text(alloc, schema, world, line) {
+            Ok(text) => text,
+            Err(_) => return Err(No::NoMemory),
+        };
+        match write_all(sink, text.as_bytes()) {
+            Ok(()) => {}
+            Err(no) => return Err(no),
+        }
+    }
+    Ok(())
+}
+
+/// Runs the queries.
+fn run_queries<K: Sink>(
+    alloc: Global,
+    schema: &[Table],
+    world: &mut Option<World>,
+    lines: Seq<QueryLine>,
+    sink: &mut K,
+) -> Result<(), No<Failed>>
+    requires stands { IfSome world.old Stands }
+    requires still { IfSome world.old IsStill }
+    requires tables { tables_of world.old ≡ schema.now }
+    requires asked { (asked : List (ℕ × Event)) × AllZip (IsAsked schema.now) lines asked }
+    requires room { drawn_of world.old + (length lines + length lines) < 2 ^ 63 }
+    ensures whole { (asked : List (ℕ × Event)) → AllZip (IsAsked schema.now) lines asked → OnOk result (RanWhole schema.now asked world.old world.new (K.writing sink.old).written (K.writing sink.new).written) }
+    ensures part { (asked : List (ℕ × Event)) → AllZip (IsAsked schema.now) lines asked → OnErr result (RanPart schema.now asked world.old (K.writing sink.old).written (K.writing sink.new).written) }
+    ensures faults_never_fall { (K.writing sink.old).faults ≤ (K.writing sink.new).faults }
+    ensures ok_keeps_faults { OnOk result ((K.writing sink.new).faults ≡ (K.writing sink.old).faults) }
+    ensures want_keeps_faults { IsErrOf result Wanting → (K.writing sink.new).faults ≡ (K.writing sink.old).faults }
+    ensures failed_is_counted { IsErrOf result (Refused record {}) → Rose (K.writing sink.old).faults (K.writing sink.new).faults }
+    ensures steady_never_fails { K.IsSteady sink.old → ¬ IsErrOf result (Refused record {}) }
+    ensures stays { Stays K K.reading K.linking K.held K.complaints K.IsSteady sink.old sink.new }
+{
+    for line in lines.into_vec() {
+        let text = match query_text(alloc, schema, world, line) {
+            Ok(text) => text,
+            Err(_) => return Err(No::NoMemory),
+        };
+        match write_all(sink, text.as_bytes()) {
+            Ok(()) => {}
+            Err(no) => return Err(no),
+        }
+    }
+    Ok(())
+}
+
+/// Carries out a statement, and makes the text of its lines.
+fn exec_text(
+    alloc: Global,
+    schema: &[Table],
+    world: &mut Option<World>,
+    line: ExecLine,
+) -> Result<String, NoMemory>
+    requires stands { IfSome world.old Stands }
+    requires unasked { IfSome world.old IsUnasked }
+    requires fits { IsTrue (statement_fits (tables_of world.old) line.statement) }
+    requires room { drawn_of world.old < 2 ^ 63 }
+    ensures ran { IfOk result (λ text. Ran schema.now (exec_event line ∷ []) world.old world.new (string_bytes text)) }
+    ensures stands { OnOk result (IfSome world.new Stands) }
+    ensures unasked { OnOk result (IfSome world.new IsUnasked) }
+    ensures drawn { OnOk result (drawn_of world.new ≤ drawn_of world.old + 1) }
+    ensures tables { tables_of world.new ≡ tables_of world.old }
+{
+    let ExecLine { number, statement } = line;
+    let lines = kept::exec(alloc, world, statement)?;
+    text_of(alloc, schema, number, lines.as_slice())
+}
+
+/// Asks a query, and makes the text of its lines.
+fn query_text(
+    alloc: Global,
+    schema: &[Table],
+    world: &mut Option<World>,
+    line: QueryLine,
+) -> Result<String, NoMemory>
+    requires stands { IfSome world.old Stands }
+    requires still { IfSome world.old IsStill }
+    requires asked { (event : ℕ × Event) × IsAsked (tables_of world.old) line event }
+    requires room { drawn_of world.old + 2 < 2 ^ 63 }
+    ensures ran { (event : ℕ × Event) → IsAsked (tables_of world.old) line event → IfOk result (λ text. Ran schema.now (event ∷ []) world.old world.new (string_bytes text)) }
+    ensures stands { OnOk result (IfSome world.new Stands) }
+    ensures still { OnOk result (IfSome world.new IsStill) }
+    ensures drawn { OnOk result (drawn_of world.new ≤ drawn_of world.old + 2) }
+    ensures tables { tables_of world.new ≡ tables_of world.old }
+{
+    let QueryLine { number, query } = line;
+    let lines = kept::query(alloc, world, query)?;
+    text_of(alloc, schema, number, lines.as_slice())
+}
+
+/// The text of the lines of an event of this number.
+fn text_of(
+    alloc: Global,
+    schema: &[Table],
+    number: u64,
+    lines: &[TraceLine],
+) -> Result<String, NoMemory>
+    ensures { IfOk result (λ text. string_bytes text ≡ trace_text schema.now (numbered number lines.now)) }
+{
+    let mut text = String::new(alloc);
+    for line in lines {
+        push_line(&mut text, schema, number, line)?;
+    }
+    Ok(text)
+}

@@ -1,0 +1,150 @@
+//! Replays of whole scripts into a sink in memory.
+use crate::replay::{RunFault, replay};
+use sr_cell::list::{No, NoMemory, Seq};
+use sr_io::mem_sink::MemSink;
+use std::alloc::Global;
+use std::test::Fail;
+
+/// Two queries of which the second asks for the rest alone.
+const TWO_QUERIES: &[u8] =
+    b"CREATE TABLE p (id INT PRIMARY KEY CHECK (id BETWEEN 0 AND 9999), age INT CHECK (age BETWEEN 0 AND 150))
+exec INSERT INTO p VALUES (1, 35), (2, 45)
+exec INSERT INTO p VALUES (3, 33)
+query 1 SELECT id, age FROM p WHERE age BETWEEN 30 AND 40
+query 1 SELECT id, age FROM p WHERE age BETWEEN 35 AND 50
+";
+
+const TRACE_OF_TWO_QUERIES: &[u8] = b"2 exec version 1
+3 exec version 2
+4 ask 1 1 fresh 1
+4 part p (id,age) {age 30..40}
+4 query 1 asked 1
+4 toserver 1 ask 2
+4 toclient 1 laid
+4 answer 1 1 2 2
+4 row 1, 35
+4 row 3, 33
+4 held 1 p (id,age) {age 30..40}
+4 toclient 1 answered
+5 ask 1 2 more 1
+5 part p (id,age) {age 41..50}
+5 query 1 asked 2
+5 toserver 1 ask 2
+5 toclient 1 laid
+5 answer 1 2 2 2
+5 row 1, 35
+5 row 2, 45
+5 held 1 p (id,age) {age 41..50}
+5 toclient 1 answered
+";
+
+/// A statement that is refused, and a query of nothing.
+const REFUSED: &[u8] = b"CREATE TABLE p (id INT PRIMARY KEY, age INT)
+
+exec INSERT INTO p VALUES (1, 2), (1, 3)
+query 1 SELECT * FROM p WHERE age BETWEEN 9 AND 0
+";
+
+/// A table of one column: the first answer covers the second query, and the third names no column.
+const ONE_COLUMN: &[u8] = b"CREATE TABLE n (id INT PRIMARY KEY CHECK (id BETWEEN 0 AND 9))
+exec INSERT INTO n VALUES (1), (4), (7)
+query 1 SELECT id FROM n WHERE NOT id > 4
+query 1 SELECT * FROM n WHERE id IN (1) OR id = 3
+query 1 SELECT x FROM n
+";
+
+const TRACE_OF_ONE_COLUMN: &[u8] = b"2 exec version 1
+3 ask 1 1 fresh 1
+3 part n (id) {id 0..4}
+3 query 1 asked 1
+3 toserver 1 ask 2
+3 toclient 1 laid
+3 answer 1 1 1 2
+3 row 1
+3 row 4
+3 held 1 n (id) {id 0..4}
+3 toclient 1 answered
+4 answer 1 2 1 1
+4 row 1
+4 query 1 answered 2
+5 query 1 sql unknown-column 7
+";
+
+/// A table of three columns: the first condition leaves out a row by one column, and a size in the middle.
+const THREE_COLUMNS: &[u8] =
+    b"CREATE TABLE p (id INT PRIMARY KEY CHECK (id BETWEEN 0 AND 99), age INT CHECK (age BETWEEN 0 AND 9), size INT CHECK (size BETWEEN 0 AND 9))
+exec INSERT INTO p VALUES (2, 5, 1), (1, 3, 8)
+query 1 SELECT size, id FROM p WHERE NOT (age < 4 OR size IN (2))
+query 1 SELECT * FROM p WHERE age = 5 AND size = 1
+";
+
+const TRACE_OF_THREE_COLUMNS: &[u8] = b"2 exec version 1
+3 ask 1 1 fresh 1
+3 part p (id,age,size) {age 4..9, size 0..1} {age 4..9, size 3..9}
+3 query 1 asked 1
+3 toserver 1 ask 2
+3 toclient 1 laid
+3 answer 1 1 1 1
+3 row 1, 2
+3 held 1 p (id,age,size) {age 4..9, size 0..1} {age 4..9, size 3..9}
+3 toclient 1 answered
+4 answer 1 2 1 1
+4 row 2, 5, 1
+4 query 1 answered 2
+";
+
+/// Scripts, the number of the write that fails, the fault and what is written.
+const RUNS: [(&[u8], u64, Option<RunFault>, &[u8]); 8] = [
+    (TWO_QUERIES, 0, None, TRACE_OF_TWO_QUERIES),
+    (
+        TWO_QUERIES,
+        3,
+        Some(RunFault::WriteFault),
+        b"2 exec version 1\n3 exec version 2\n",
+    ),
+    (TWO_QUERIES, 1, Some(RunFault::WriteFault), b""),
+    (
+        REFUSED,
+        0,
+        None,
+        b"3 exec refused duplicate-key 1\n4 answer 1 1 0 0\n4 query 1 answered 1\n",
+    ),
+    (ONE_COLUMN, 0, None, TRACE_OF_ONE_COLUMN),
+    (THREE_COLUMNS, 0, None, TRACE_OF_THREE_COLUMNS),
+    (b"# no table\n", 0, None, b""),
+    (
+        b"\nexec DELETE FROM p",
+        0,
+        Some(RunFault::Unbuilt { line: 2 }),
+        b"",
+    ),
+];
+
+/// The fault of a replay, if it has one.
+fn fault_of(
+    alloc: Global,
+    script: &[u8],
+    sink: &mut MemSink,
+) -> Result<Option<RunFault>, NoMemory> {
+    if script.len() >= 1_000_000 {
+        return Err(NoMemory);
+    }
+    match replay(alloc, script, sink) {
+        Ok(_) => Ok(None),
+        Err(No::Refused(fault)) => Ok(Some(fault)),
+        Err(No::NoMemory) => Err(NoMemory),
+    }
+}
+
+#[test]
+fn a_replay_writes_its_trace_or_the_start_of_it(rt: HostRuntime) -> Result<(), Fail> {
+    let alloc = rt.alloc();
+    for (script, failing, fault, trace) in RUNS {
+        let mut fails = Seq::new(alloc);
+        fails.push(failing)?;
+        let mut sink = MemSink::new(alloc, fails, 4096);
+        assert_eq!(rt; fault_of(alloc, script, &mut sink)?, fault);
+        assert_eq!(rt; sink.written(alloc)?.as_slice(), trace);
+    }
+    Ok(())
+}

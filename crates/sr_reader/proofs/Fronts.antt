@@ -1,8 +1,8 @@
--- The CREATE lines in front of all others.
+-- The tables of the CREATE lines in front of all others.
 use Rattle.std.proofs.Common.{◌≡◌, ℕ, ◌+◌, ◌<◌, ◌≤◌, Bool, true, false, List, [], ◌∷◌, ◌++◌, length, drop, refl, sym, subst, inl, inr, arith}
 use Rattle.std.specs.Prelude.{Option, Some, None, Result, Ok, Err, OnOk, ◌==◌, ◌&&◌, ◌||◌, not, nat_eq, codes, if◌then◌else◌}
 use Rattle.std.specs.Str.{is_utf8}
-use Rattle.std.specs.List.{starts_with}
+use Rattle.std.specs.List.{list_all, starts_with}
 use denote.Ref.{Bor}
 use Rattle.sr_cell.specs.declared.table.Table.{Table}
 use Rattle.sr_cell.specs.declared.fault.Fault.{Fault}
@@ -15,11 +15,15 @@ use Rattle.sr_grammar.specs.Seen.{statement_seen}
 use Rattle.sr_grammar.specs.Says.{Says}
 use Rattle.sr_language.specs.Lines.{lines_of}
 use Rattle.sr_language.specs.Script.{Line, Silent, CreateLine, ExecLine, QueryLine, Other, is_blank, begins_create, behind, event_line, line_of, RefusesTable, AddsTable, RefusedFrom, FirstRefused}
+use Rattle.sr_language.specs.Creates.{CreatesFrom, Creates}
+use Rattle.sr_query.specs.Bound.{is_table}
+use Rattle.sr_reader.specs.declared.head.RefusedLine.{RefusedLine}
 use Rattle.sr_reader.specs.declared.line.Line.{Line as Read}
 use Rattle.sr_reader.specs.declared.line.Line.TheVariants as read
 use Rattle.sr_reader.specs.LineSeen.{line_seen, query_line}
 use Rattle.sr_reader.proofs.OneDoing.{one_create, no_fault}
 use Rattle.sr_reader.proofs.Creates.{says_create}
+use Rattle.sr_reader.proofs.Tables.{faultless_fits, tables_grow}
 
 -- ---- a CREATE line begins with CREATE
 
@@ -136,10 +140,13 @@ none_from number tables Later Other n fault end refused = refused
 
 -- ---- the walk
 
--- what the first pass keeps: the first line that is refused is the same for the rest, with these tables, as for the whole
+-- what the walk keeps: the tables, and the first line that is refused, are the same for the rest behind these tables as for
+-- the whole
 pub record Fronted (bytes : List ℕ) (number : ℕ) (rest : List ℕ) (tables : List Table) : Type 0 where
   pub counted : number + length rest ≤ length bytes + 1
   pub inside : length rest ≤ length bytes
+  pub sound : list_all is_table tables ≡ true
+  pub creates : (all : List Table) → Creates tables (lines_of rest) all → Creates [] (lines_of bytes) all
   pub found : (n : ℕ) (fault : Fault) → FirstRefused number tables (lines_of rest) n fault → FirstRefused 1 [] (lines_of bytes) n fault
   pub only : (n : ℕ) (fault : Fault) → FirstRefused 1 [] (lines_of bytes) n fault → FirstRefused number tables (lines_of rest) n fault
 
@@ -158,14 +165,30 @@ out rest after line number tables l n fault lines is first =
     let here : FirstRefused number tables (line ∷ lines_of after) n fault = subst (λ z. FirstRefused number tables z n fault) lines first in
     subst (λ z. RefusedFrom number tables (λ known. Behind number after n fault known) z n fault) is here
 
+-- what the lines from here create, by what the first of them is
+makes : (rest after line : List ℕ) (tables all : List Table) (l : Line) → lines_of rest ≡ line ∷ lines_of after → line_of line ≡ l
+    → CreatesFrom tables (λ known. Creates known (lines_of after) all) all l → Creates tables (lines_of rest) all
+makes rest after line tables all l lines is creates =
+    let here : Creates tables (line ∷ lines_of after) all = subst (λ z. CreatesFrom tables (λ known. Creates known (lines_of after) all) all z) (sym is) creates in
+    subst (λ z. Creates tables z all) (sym lines) here
+
 pub fronted_start : (bytes : List ℕ) → Fronted bytes 1 bytes []
-fronted_start bytes = record { counted = omega arith; inside = omega arith; found = λ n fault first. first; only = λ n fault first. first }
+fronted_start bytes = record {
+  counted = omega arith;
+  inside = omega arith;
+  sound = refl;
+  creates = λ all creates. creates;
+  found = λ n fault first. first;
+  only = λ n fault first. first;
+}
 
 pub fronted_silent : (bytes rest after line : List ℕ) (number : ℕ) (tables : List Table) → Fronted bytes number rest tables → lines_of rest ≡ line ∷ lines_of after → length after < length rest
     → line_of line ≡ Silent → Fronted bytes (number + 1) after tables
 fronted_silent bytes rest after line number tables front lines shorter is = record {
   counted = let h = front.counted in omega arith;
   inside = let h = front.inside in omega arith;
+  sound = front.sound;
+  creates = λ all creates. front.creates all (makes rest after line tables all Silent lines is creates);
   found = λ n fault first. front.found n fault (into rest after line number tables Silent n fault lines is first);
   only = λ n fault first. out rest after line number tables Silent n fault lines is (front.only n fault first);
 }
@@ -175,6 +198,8 @@ pub fronted_added : (bytes rest after line sql : List ℕ) (number : ℕ) (table
 fronted_added bytes rest after line sql number tables t front lines shorter is adds = record {
   counted = let h = front.counted in omega arith;
   inside = let h = front.inside in omega arith;
+  sound = tables_grow tables t front.sound (faultless_fits tables t adds.1);
+  creates = λ all creates. front.creates all (makes rest after line tables all (CreateLine sql) lines is (t, adds, creates));
   found = λ n fault first. front.found n fault (into rest after line number tables (CreateLine sql) n fault lines is (inr (t, adds, first)));
   only = λ n fault first. added_later number tables (λ known. Behind number after n fault known) sql t n fault adds (out rest after line number tables (CreateLine sql) n fault lines is (front.only n fault first));
 }
@@ -184,6 +209,25 @@ pub refused_here : (bytes rest after line sql : List ℕ) (number : ℕ) (tables
     → line_of line ≡ CreateLine sql → RefusesTable tables sql fault → FirstRefused 1 [] (lines_of bytes) number fault
 refused_here bytes rest after line sql number tables fault front lines is refuses =
     front.found number fault (into rest after line number tables (CreateLine sql) number fault lines is (inl (refl, refuses)))
+
+pub named_line : (bytes : List ℕ) (here refused : RefusedLine) → here ≡ refused → FirstRefused 1 [] (lines_of bytes) here.number here.fault → FirstRefused 1 [] (lines_of bytes) refused.number refused.fault
+named_line bytes here refused same first = subst (λ (r : RefusedLine). FirstRefused 1 [] (lines_of bytes) r.number r.fault) same first
+
+-- ---- the end of the walk: where no line is left, or where one is none of the CREATE lines
+
+pub left_creates : (bytes rest : List ℕ) (number : ℕ) (tables : List Table) → Fronted bytes number rest tables → rest ≡ [] → Creates [] (lines_of bytes) tables
+left_creates bytes rest number tables front done = front.creates tables (subst (λ z. Creates tables (lines_of z) tables) (sym done) refl)
+
+ends_from : (tables : List Table) (Later : List Table → Type 0) (line : Line) → ends line ≡ true → CreatesFrom tables Later tables line
+ends_from tables Later Silent end = absurd (false_true end)
+ends_from tables Later (CreateLine sql) end = absurd (false_true end)
+ends_from tables Later (ExecLine sql) end = refl
+ends_from tables Later (QueryLine sql) end = refl
+ends_from tables Later Other end = refl
+
+pub behind_creates : (bytes rest after line : List ℕ) (number : ℕ) (tables : List Table) → Fronted bytes number rest tables → lines_of rest ≡ line ∷ lines_of after → ends (line_of line) ≡ true → Creates [] (lines_of bytes) tables
+behind_creates bytes rest after line number tables front lines end =
+    front.creates tables (makes rest after line tables tables (line_of line) lines refl (ends_from tables (λ known. Creates known (lines_of after) tables) (line_of line) end))
 
 -- no line is refused, where none is left
 pub none_left : (bytes rest : List ℕ) (number : ℕ) (tables : List Table) (n : ℕ) (fault : Fault) → Fronted bytes number rest tables → rest ≡ [] → FirstRefused 1 [] (lines_of bytes) n fault → ⊥

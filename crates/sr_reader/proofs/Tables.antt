@@ -1,5 +1,5 @@
 -- A table without a fault is one that a schema takes.
-use Rattle.std.proofs.Common.{◌≡◌, ℕ, ◌+◌, Bool, true, false, List, [], ◌∷◌, length, refl, arith}
+use Rattle.std.proofs.Common.{◌≡◌, ℕ, ◌+◌, Bool, true, false, List, [], ◌∷◌, ◌++◌, length, refl, arith}
 use Rattle.std.specs.Prelude.{Option, Some, None, ◌&&◌, not, nat_lt, nat_le, if◌then◌else◌}
 use Rattle.std.specs.List.{list_all}
 use Rattle.std.proofs.lemmas.Bool.Decides.{nat_tests}
@@ -7,7 +7,7 @@ use Rattle.sr_cell.specs.declared.table.Column.{Column}
 use Rattle.sr_cell.specs.declared.table.Table.{Table}
 use Rattle.sr_cell.specs.declared.fault.Fault.{Fault}
 use Rattle.sr_cell.specs.declared.fault.Why.{Why}
-use Rattle.sr_cell.specs.Names.{is_bad_domain, bad_domain_from, repeat_at}
+use Rattle.sr_cell.specs.Names.{is_bad_domain, bad_domain_from, has_table_named, repeat_at}
 use Rattle.sr_cell.specs.Faults.{fault_or, column_fault, table_fault}
 use Rattle.sr_parser.proofs.Words.{and_parts}
 use Rattle.sr_query.specs.Bound.{is_table}
@@ -44,9 +44,19 @@ of_columns t none =
     let good = first_none _ (bad_domain_from 0 t.columns) None inside.1 in
     rw (at_most (length t.columns) 12 few.0, less t.key (length t.columns) inside.0, no_bad 0 t.columns good.0) refl
 
--- the first table of a schema
-pub faultless_fits : (t : Table) → table_fault [] t ≡ None → is_table t ≡ true
-faultless_fits t none = of_columns t (first_none _ (repeat_at [] t.columns) (column_fault t) none).1
+-- a table behind others of a schema
+pub faultless_fits : (tables : List Table) (t : Table) → table_fault tables t ≡ None → is_table t ≡ true
+faultless_fits tables t none =
+    let named = then_none (has_table_named tables t.name) _ _ none in
+    let apart = first_none _ (repeat_at [] t.columns) _ named.1 in
+    let few = then_none (nat_le 16 (length tables)) _ _ apart.1 in
+    of_columns t few.1
+
+pub tables_grow : (tables : List Table) (t : Table) → list_all is_table tables ≡ true → is_table t ≡ true → list_all is_table (tables ++ t ∷ []) ≡ true
+tables_grow [] t all is = rw is refl
+tables_grow (u ∷ tables) t all is =
+    let p = and_parts (is_table u) (list_all is_table tables) all in
+    rw (p.0, tables_grow tables t p.1 is) refl
 
 pub are_tables : (tables : List Table) → list_all is_built tables ≡ true → list_all is_table tables ≡ true
 are_tables [] all = refl

@@ -179,7 +179,7 @@ walked_unbuilt bytes rest after line number s walked lines nothing = walked.unbu
 pub create_fits : (old : Script) (t : Table) (sql : List ℕ) → AddsTable [] sql t → IsTrue (may_create t) → old.statements ≡ [] → Fits (record old { schema = t ∷ [] })
 create_fits old t sql adds may none = record {
   one = omega arith;
-  tables = rw (faultless_fits t adds.1, may) refl;
+  tables = rw (faultless_fits [] t adds.1, may) refl;
   statements = rw none refl;
 }
 

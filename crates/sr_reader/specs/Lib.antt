@@ -3,5 +3,4 @@ pub mod Cutting
 pub mod LineSeen
 pub mod Meaning
 pub mod Walk
-pub mod Head
 pub mod Walked

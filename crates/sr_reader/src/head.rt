@@ -1,27 +1,30 @@
-//! The CREATE lines in front of all others.
+//! The tables of the CREATE lines in front of all others.
 ghost use Rattle.std.specs.Prelude.{◌≡◌, ℕ, ◌<◌, ◌^◌, [], ◌∷◌, ◌++◌, IsTrue, IfOk, OnOk, IsErrOf, length};
+ghost use Rattle.std.specs.List.{list_all};
 ghost use Rattle.sr_cell.specs.declared.list.No.TheVariants.{Refused};
 ghost use Rattle.sr_cell.specs.declared.fault.Fault.{Fault as TheFault};
 ghost use Rattle.sr_cell.specs.declared.table.Table.{Table};
 ghost use Rattle.sr_grammar.specs.Tokens.{tokens_of};
 ghost use Rattle.sr_language.specs.Lines.{lines_of};
-ghost use Rattle.sr_language.specs.Script.{begins_create, RefusesTable, AddsTable};
-ghost use Rattle.sr_reader.specs.Head.{IsFirstRefused};
+ghost use Rattle.sr_language.specs.Script.{begins_create, RefusesTable, AddsTable, FirstRefused};
+ghost use Rattle.sr_language.specs.Creates.{Creates};
+ghost use Rattle.sr_query.specs.Bound.{is_table};
+ghost use Rattle.sr_reader.specs.declared.head.RefusedLine.{RefusedLine as TheRefusedLine};
 
 use crate::cut::cut_line;
 use crate::line::{Line, line_of};
 use sr_cell::fault::Fault;
-use sr_cell::list::{No, NoMemory};
+use sr_cell::list::No;
 use sr_cell::schema::Schema;
 use sr_grammar::statement::Statement;
 use sr_sql::read::read;
 use std::alloc::Global;
 
-/// A CREATE line that is refused, and why.
-#[derive(Clone, Copy)]
-pub(crate) struct RefusedLine {
-    pub(crate) number: u64,
-    pub(crate) fault: Fault,
+/// A CREATE line that is refused, by its number counted from 1, and why.
+#[derive(Clone, Copy, Debug, PartialEq, Eq)]
+pub struct RefusedLine {
+    pub number: u64,
+    pub fault: Fault,
 }
 
 /// Adds the table of a CREATE, if it is not refused.
@@ -36,10 +39,13 @@ fn add_table(alloc: Global, schema: &mut Schema, sql: &str) -> Result<(), No<Fau
     }
 }
 
-/// The first CREATE line that is refused, if there is one.
-pub(crate) fn first_refused(alloc: Global, bytes: &[u8]) -> Result<Option<RefusedLine>, NoMemory>
+/// The tables of the CREATE lines in front of all others; or the first of these lines that is refused.
+pub fn created(alloc: Global, bytes: &[u8]) -> Result<Schema, No<RefusedLine>>
     requires { length bytes.now < 2 ^ 32 }
-    ensures { IfOk result (IsFirstRefused (lines_of bytes.now)) }
+    ensures created { IfOk result (Creates [] (lines_of bytes.now)) }
+    ensures sound { IfOk result (λ schema. IsTrue (list_all is_table schema)) }
+    ensures accepts { OnOk result ((line : ℕ) (fault : TheFault) → FirstRefused 1 [] (lines_of bytes.now) line fault → ⊥) }
+    ensures refused { (refused : TheRefusedLine) → IsErrOf result (Refused refused) → FirstRefused 1 [] (lines_of bytes.now) refused.number refused.fault }
 {
     let mut schema = Schema::new(alloc);
     let mut rest = bytes;
@@ -50,13 +56,13 @@ pub(crate) fn first_refused(alloc: Global, bytes: &[u8]) -> Result<Option<Refuse
             Line::Silent => {}
             Line::Create(sql) => match add_table(alloc, &mut schema, sql) {
                 Ok(()) => {}
-                Err(No::Refused(fault)) => return Ok(Some(RefusedLine { number, fault })),
-                Err(No::NoMemory) => return Err(NoMemory),
+                Err(No::Refused(fault)) => return Err(No::Refused(RefusedLine { number, fault })),
+                Err(No::NoMemory) => return Err(No::NoMemory),
             },
-            _ => return Ok(None),
+            _ => return Ok(schema),
         }
         rest = cut.rest;
         number += 1;
     }
-    Ok(None)
+    Ok(schema)
 }

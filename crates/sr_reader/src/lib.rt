@@ -3,7 +3,7 @@
 
 mod built;
 mod cut;
-mod head;
+pub mod head;
 mod line;
 pub mod lines;
 mod meaning;

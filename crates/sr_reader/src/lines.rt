@@ -1,19 +1,19 @@
 //! Reading of scripts, line by line.
-ghost use Rattle.std.specs.Prelude.{◌≡◌, ℕ, ◌<◌, ◌^◌, ◌↔◌, [], IsTrue, IfOk, IsErrOf, length};
+ghost use Rattle.std.specs.Prelude.{◌≡◌, ◌<◌, ◌^◌, ◌↔◌, List, [], IsTrue, IfOk, IsErrOf, length};
 ghost use Rattle.sr_cell.specs.declared.list.No.TheVariants.{Refused};
-ghost use Rattle.sr_cell.specs.declared.fault.Fault.{Fault as TheFault};
+ghost use Rattle.sr_cell.specs.declared.table.Table.{Table};
 ghost use Rattle.sr_language.specs.Lines.{lines_of};
-ghost use Rattle.sr_language.specs.Script.{CreateLine, ExecLine, QueryLine, start_phase, FirstRefused, FirstUnbuilt};
-ghost use Rattle.sr_reader.specs.declared.script.ScriptFault.TheVariants.{Setup, Unbuilt};
+ghost use Rattle.sr_language.specs.Script.{CreateLine, ExecLine, QueryLine, start_phase, FirstUnbuilt};
+ghost use Rattle.sr_language.specs.Creates.{Creates};
+ghost use Rattle.sr_reader.specs.declared.script.UnbuiltLine.{UnbuiltLine as TheUnbuiltLine};
 ghost use Rattle.sr_reader.specs.LineSeen.{line_seen};
 ghost use Rattle.sr_reader.specs.Read.{Fits, IsRead};
 ghost use Rattle.sr_reader.specs.Walk.{phase_in, IsAdded};
 ghost use Rattle.sr_reader.specs.Walked.{IsWalk};
 
 use crate::cut::cut_line;
-use crate::head::first_refused;
 use crate::line::{Line, line_of};
-use crate::script::{Script, ScriptFault};
+use crate::script::{Script, UnbuiltLine};
 use crate::{meaning, script};
 use sr_cell::list::{No, NoMemory, Seq};
 use sr_cell::schema::Schema;
@@ -125,28 +125,17 @@ fn read_lines(alloc: Global, bytes: &[u8]) -> Result<Walk, NoMemory>
     Ok(Walk::Read(script))
 }
 
-/// Reads a script; or names its first CREATE line that is refused, or else its first line that does nothing that is built.
-pub fn read_script(alloc: Global, bytes: &[u8]) -> Result<Script, No<ScriptFault>>
+/// Reads a script; or names its first line that does nothing that is built.
+pub fn read_script(alloc: Global, bytes: &[u8]) -> Result<Script, No<UnbuiltLine>>
     requires { length bytes.now < 2 ^ 32 }
     ensures read { IfOk result (IsRead bytes.now) }
     ensures fits { IfOk result Fits }
-    ensures setup { (line : ℕ) (fault : TheFault) → IsErrOf result (Refused (Setup line fault)) → FirstRefused 1 [] (lines_of bytes.now) line fault }
-    ensures unbuilt { (line : ℕ) → IsErrOf result (Refused (Unbuilt line)) → FirstUnbuilt 1 start_phase (lines_of bytes.now) line }
-    ensures unbuilt_accepts { (line : ℕ) → IsErrOf result (Refused (Unbuilt line)) → (refused : ℕ) (fault : TheFault) → FirstRefused 1 [] (lines_of bytes.now) refused fault → ⊥ }
+    ensures created { IfOk result (λ script. (schema : List Table) → Creates [] (lines_of bytes.now) schema → schema ≡ script.schema) }
+    ensures unbuilt { (unbuilt : TheUnbuiltLine) → IsErrOf result (Refused unbuilt) → FirstUnbuilt 1 start_phase (lines_of bytes.now) unbuilt.number }
 {
-    match first_refused(alloc, bytes) {
-        Ok(None) => {}
-        Ok(Some(refused)) => {
-            return Err(No::Refused(ScriptFault::Setup {
-                line: refused.number,
-                fault: refused.fault,
-            }));
-        }
-        Err(_) => return Err(No::NoMemory),
-    }
     match read_lines(alloc, bytes) {
         Ok(Walk::Read(script)) => Ok(script),
-        Ok(Walk::Unbuilt(line)) => Err(No::Refused(ScriptFault::Unbuilt { line })),
+        Ok(Walk::Unbuilt(number)) => Err(No::Refused(UnbuiltLine { number })),
         Err(_) => Err(No::NoMemory),
     }
 }

@@ -27,11 +27,8 @@ pub struct Script {
     pub queries: Seq<QueryLine>,
 }
 
-/// Why a script is not run. Lines are counted from 1.
+/// A line that does nothing that is built, by its number counted from 1.
 #[derive(Clone, Copy, Debug, PartialEq, Eq)]
-pub enum ScriptFault {
-    /// The first CREATE line that is refused, and why.
-    Setup { line: u64, fault: Fault },
-    /// The first line that does nothing that is built.
-    Unbuilt { line: u64 },
+pub struct UnbuiltLine {
+    pub number: u64,
 }

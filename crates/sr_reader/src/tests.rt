@@ -1,9 +1,11 @@
 //! Scripts and what is read of them, worked out by hand.
 ghost use Rattle.std.specs.Prelude.{◌<◌, ◌^◌, length};
 
+use crate::head::{RefusedLine, created};
 use crate::lines::read_script;
-use crate::script::{Script, ScriptFault};
+use crate::script::Script;
 use sr_cell::list::{No, Seq};
+use sr_cell::schema::Schema;
 use sr_query::query::Query;
 use sr_query::write::Write;
 use std::alloc::{AllocError, Global};
@@ -13,8 +15,43 @@ use std::test::Fail;
 const TABLE: &str =
     "CREATE TABLE p (id INT PRIMARY KEY CHECK (id BETWEEN 0 AND 9999), age INT CHECK (age BETWEEN 0 AND 150))\n";
 
+/// Scripts, and the tables of their CREATE lines: of each its name and how many columns it has.
+const HEADS: [(&str, &str); 13] = [
+    ("", ""),
+    ("# first\n\n#", ""),
+    (" create\ttable T(a int,b integer primary key)", "t 2, "),
+    (
+        "CREATE TABLE t (a TEXT PRIMARY KEY, b INT)\n\n# u\r\ncreate table u (a INT PRIMARY KEY)\n",
+        "t 2, u 1, ",
+    ),
+    (
+        "CREATE TABLE t (a INT PRIMARY KEY)\nexec x\nCREATE TABLE u (a INT)",
+        "t 1, ",
+    ),
+    ("query 1 x\nCREATE TABLE t (a INT PRIMARY KEY)", ""),
+    ("\t\nCREATE", ""),
+    ("CREATE", "refused 1 Grammar 6"),
+    ("create\x0btable", "refused 1 BadToken 6"),
+    (
+        "# first\nCREATE TABLE t (a INT, b INT)",
+        "refused 2 NoKey 0",
+    ),
+    (
+        "CREATE TABLE t (a INT PRIMARY KEY CHECK (a BETWEEN 2 AND 1), b INT)",
+        "refused 1 BadDomain 0",
+    ),
+    (
+        "CREATE TABLE t (a INT PRIMARY KEY, A INT)\nCREATE",
+        "refused 1 DuplicateName 1",
+    ),
+    (
+        "CREATE TABLE t (a TEXT PRIMARY KEY, b INT)\nCREATE TABLE T (a INT PRIMARY KEY)",
+        "refused 2 DuplicateName 0",
+    ),
+];
+
 /// Scripts, and what is read of them.
-const WHOLE: [(&str, &str); 17] = [
+const WHOLE: [(&str, &str); 12] = [
     ("", ""),
     ("\n  \n# café\r\n#", ""),
     ("\t", "unbuilt 1"),
@@ -24,20 +61,7 @@ const WHOLE: [(&str, &str); 17] = [
     ),
     ("exec INSERT INTO p VALUES (1, 2)", "1 UnknownTable 12, "),
     (" create\ttable t(a int,b integer primary key)", ""),
-    ("CREATE", "setup 1 Grammar 6"),
-    ("# first\nCREATE TABLE t (a INT, b INT)", "setup 2 NoKey 0"),
-    (
-        "CREATE TABLE t (a INT PRIMARY KEY CHECK (a BETWEEN 2 AND 1), b INT)",
-        "setup 1 BadDomain 0",
-    ),
-    (
-        "CREATE TABLE t (a INT PRIMARY KEY, A INT)",
-        "setup 1 DuplicateName 1",
-    ),
-    (
-        "CREATE TABLE t (a TEXT PRIMARY KEY, b INT)\nCREATE TABLE T (a INT PRIMARY KEY)",
-        "setup 2 DuplicateName 0",
-    ),
+    ("# first\nCREATE TABLE t (a INT, b INT)", "unbuilt 2"),
     ("CREATE TABLE t (a TEXT PRIMARY KEY, b INT)", "unbuilt 1"),
     (
         "CREATE TABLE t (a INT PRIMARY KEY, b INT, c INT)\nexec INSERT INTO t VALUES (1, 2, 3)",
@@ -52,7 +76,6 @@ const WHOLE: [(&str, &str); 17] = [
         "unbuilt 2",
     ),
     ("exec x\nCREATE TABLE t (a INT)", "unbuilt 2"),
-    ("create\x0btable", "setup 1 BadToken 6"),
 ];
 
 /// What follows the CREATE line, and what is read of the whole.
@@ -172,6 +195,36 @@ fn write_queries(text: &mut String, script: &Script) -> Result<(), AllocError> {
     Ok(())
 }
 
+fn write_schema(text: &mut String, schema: &Schema) -> Result<(), AllocError> {
+    for table in schema.as_slice() {
+        write!(text, "{} {}, ", table.name.as_str(), table.columns.len())?;
+    }
+    Ok(())
+}
+
+fn write_refused(text: &mut String, refused: RefusedLine) -> Result<(), AllocError> {
+    let fault = refused.fault;
+    write!(
+        text,
+        "refused {} {:?} {}",
+        refused.number, fault.why, fault.at
+    )
+}
+
+/// The tables of a script's CREATE lines, or the first that is refused.
+fn head_of(alloc: Global, script: &str) -> Result<String, Fail> {
+    let mut text = String::new(alloc);
+    if script.len() >= 1_000_000 {
+        return Ok(text);
+    }
+    match created(alloc, script.as_bytes()) {
+        Ok(schema) => write_schema(&mut text, &schema)?,
+        Err(No::Refused(refused)) => write_refused(&mut text, refused)?,
+        Err(No::NoMemory) => text.push_str("no memory")?,
+    }
+    Ok(text)
+}
+
 /// What is read of some bytes.
 fn said(alloc: Global, bytes: &[u8]) -> Result<String, Fail>
     requires { length bytes.now < 2 ^ 32 }
@@ -182,10 +235,7 @@ fn said(alloc: Global, bytes: &[u8]) -> Result<String, Fail>
             write_statements(&mut text, &script)?;
             write_queries(&mut text, &script)?;
         }
-        Err(No::Refused(ScriptFault::Setup { line, fault })) => {
-            write!(text, "setup {} {:?} {}", line, fault.why, fault.at)?;
-        }
-        Err(No::Refused(ScriptFault::Unbuilt { line })) => write!(text, "unbuilt {}", line)?,
+        Err(No::Refused(unbuilt)) => write!(text, "unbuilt {}", unbuilt.number)?,
         Err(No::NoMemory) => text.push_str("no memory")?,
     }
     Ok(text)
@@ -200,6 +250,15 @@ fn said_behind(alloc: Global, before: &str, after: &str) -> Result<String, Fail>
         return Ok(String::new(alloc));
     }
     said(alloc, bytes.as_slice())
+}
+
+#[test]
+fn heads_are_read(rt: HostRuntime) -> Result<(), Fail> {
+    for (script, wanted) in HEADS {
+        let found = head_of(rt.alloc(), script)?;
+        assert_eq!(rt; found.as_str(), wanted, "in {script:?}");
+    }
+    Ok(())
 }
 
 #[test]

@@ -1,7 +1,10 @@
 //! Replays of whole scripts into a sink in memory.
 use crate::replay::{RunFault, replay};
+use sr_cell::fault::Why;
 use sr_cell::list::{No, NoMemory, Seq};
+use sr_cell::text::Text;
 use sr_io::mem_sink::MemSink;
+use sr_load::fill::{Load, Loads};
 use std::alloc::Global;
 use std::test::Fail;
 
@@ -93,45 +96,138 @@ const TRACE_OF_THREE_COLUMNS: &[u8] = b"2 exec version 1
 4 query 1 answered 2
 ";
 
-/// Scripts, the number of the write that fails, the fault and what is written.
-const RUNS: [(&[u8], u64, Option<RunFault>, &[u8]); 8] = [
-    (TWO_QUERIES, 0, None, TRACE_OF_TWO_QUERIES),
+/// Statements of all kinds over a file, and a query.
+const STATEMENTS: &[u8] =
+    b"CREATE TABLE p (id INT PRIMARY KEY CHECK (id BETWEEN 0 AND 9999), age INT CHECK (age BETWEEN 0 AND 150))
+exec UPDATE p SET age = 41 WHERE id = 7
+exec UPDATE p SET id = 8
+exec DELETE FROM p WHERE age > 50
+query 1 SELECT id, age FROM p
+";
+
+const ONE_RECORD: &[u8] = b"age,id\n40,7\n";
+
+const TRACE_OF_STATEMENTS: &[u8] = b"2 exec version 1
+3 exec refused key-change 13
+4 exec version 2
+5 ask 1 1 fresh 1
+5 part p (id,age) {}
+5 query 1 asked 1
+5 toserver 1 ask 2
+5 toclient 1 laid
+5 answer 1 1 2 1
+5 row 7, 41
+5 held 1 p (id,age) {}
+5 toclient 1 answered
+";
+
+/// How a replay ends: what it refuses, at a line of the script or a record of a file.
+#[derive(Clone, Copy, Debug, PartialEq, Eq)]
+enum Ending {
+    Done,
+    WriteFault,
+    Setup(u64, Why),
+    Load(u32, Why),
+    Unbuilt(u64),
+}
+
+/// Scripts, a file for the table p, the number of the write that fails, how the replay ends and what is written.
+const RUNS: [(&[u8], Option<&[u8]>, u64, Ending, &[u8]); 12] = [
+    (TWO_QUERIES, None, 0, Ending::Done, TRACE_OF_TWO_QUERIES),
     (
         TWO_QUERIES,
+        None,
         3,
-        Some(RunFault::WriteFault),
+        Ending::WriteFault,
         b"2 exec version 1\n3 exec version 2\n",
     ),
-    (TWO_QUERIES, 1, Some(RunFault::WriteFault), b""),
+    (TWO_QUERIES, None, 1, Ending::WriteFault, b""),
     (
         REFUSED,
-        0,
         None,
+        0,
+        Ending::Done,
         b"3 exec refused duplicate-key 1\n4 answer 1 1 0 0\n4 query 1 answered 1\n",
     ),
-    (ONE_COLUMN, 0, None, TRACE_OF_ONE_COLUMN),
-    (THREE_COLUMNS, 0, None, TRACE_OF_THREE_COLUMNS),
-    (b"# no table\n", 0, None, b""),
+    (ONE_COLUMN, None, 0, Ending::Done, TRACE_OF_ONE_COLUMN),
+    (THREE_COLUMNS, None, 0, Ending::Done, TRACE_OF_THREE_COLUMNS),
     (
-        b"\nexec DELETE FROM p",
+        STATEMENTS,
+        Some(ONE_RECORD),
         0,
-        Some(RunFault::Unbuilt { line: 2 }),
+        Ending::Done,
+        TRACE_OF_STATEMENTS,
+    ),
+    (
+        STATEMENTS,
+        Some(b"age,id\n40,7\n40,7\n"),
+        0,
+        Ending::Load(2, Why::DuplicateKey),
         b"",
     ),
+    (
+        b"# no table\npush 1\n",
+        Some(ONE_RECORD),
+        0,
+        Ending::Load(0, Why::UnknownTable),
+        b"",
+    ),
+    (
+        b"CREATE TABLE p (id INT)\npush 1\n",
+        Some(ONE_RECORD),
+        0,
+        Ending::Setup(1, Why::NoKey),
+        b"",
+    ),
+    (b"# no table\n", None, 0, Ending::Done, b""),
+    (b"\npush 1", None, 0, Ending::Unbuilt(2), b""),
 ];
 
-/// The fault of a replay, if it has one.
-fn fault_of(
+/// The file for the table p, if there is one.
+fn loads_of(alloc: Global, file: Option<&[u8]>) -> Result<Loads, NoMemory> {
+    let mut loads = Seq::new(alloc);
+    if let Some(bytes) = file {
+        let mut copy = Seq::new(alloc);
+        copy.extend(bytes)?;
+        loads.push(Load {
+            table: Text::of(alloc, "p")?,
+            bytes: copy,
+        })?;
+    }
+    Ok(loads)
+}
+
+fn ending_of(fault: &RunFault) -> Ending {
+    match fault {
+        RunFault::WriteFault => Ending::WriteFault,
+        RunFault::Setup { line, fault } => Ending::Setup(*line, fault.why),
+        RunFault::Load { fault, .. } => Ending::Load(fault.at, fault.why),
+        RunFault::Unbuilt { line } => Ending::Unbuilt(*line),
+    }
+}
+
+/// How the replay of a script over a file ends.
+fn ending(
     alloc: Global,
     script: &[u8],
+    file: Option<&[u8]>,
     sink: &mut MemSink,
-) -> Result<Option<RunFault>, NoMemory> {
+) -> Result<Ending, NoMemory> {
     if script.len() >= 1_000_000 {
         return Err(NoMemory);
     }
-    match replay(alloc, script, sink) {
-        Ok(_) => Ok(None),
-        Err(No::Refused(fault)) => Ok(Some(fault)),
+    match file {
+        Some(bytes) => {
+            if bytes.len() >= 1_000_000 {
+                return Err(NoMemory);
+            }
+        }
+        None => {}
+    }
+    let loads = loads_of(alloc, file)?;
+    match replay(alloc, script, loads.as_slice(), sink) {
+        Ok(_) => Ok(Ending::Done),
+        Err(No::Refused(fault)) => Ok(ending_of(&fault)),
         Err(No::NoMemory) => Err(NoMemory),
     }
 }
@@ -139,11 +235,11 @@ fn fault_of(
 #[test]
 fn a_replay_writes_its_trace_or_the_start_of_it(rt: HostRuntime) -> Result<(), Fail> {
     let alloc = rt.alloc();
-    for (script, failing, fault, trace) in RUNS {
+    for (script, file, failing, end, trace) in RUNS {
         let mut fails = Seq::new(alloc);
         fails.push(failing)?;
         let mut sink = MemSink::new(alloc, fails, 4096);
-        assert_eq!(rt; fault_of(alloc, script, &mut sink)?, fault);
+        assert_eq!(rt; ending(alloc, script, file, &mut sink)?, end);
         assert_eq!(rt; sink.written(alloc)?.as_slice(), trace);
     }
     Ok(())

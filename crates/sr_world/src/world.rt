@@ -121,7 +121,12 @@ impl World {
             );
         }
         let part = one_part(&query);
-        let rest = left(alloc, &part.rects, &self.client.held, only(self.server.tables.schema()))?;
+        let rest = left(
+            alloc,
+            &part.rects,
+            &self.client.held,
+            only(self.server.tables.schema()),
+        )?;
         if rest.is_empty() {
             self.answer_now(alloc, &query)
         } else {

@@ -12,13 +12,13 @@ use Rattle.csv.specs.declared.parser.Action.TheVariants as act
 use Rattle.csv.specs.Machine.{Read, ends_at_end, is_end, in_field, start_field, start_record, step, ends_with, is_byte, after_end, fields_after, field_after, next_record}
 use Rattle.csv.specs.Reading.{AreRecords, Reached, default_config, records, records_from, strip_bom}
 
--- what a record's end leaves is no state in which the end of the text ends a record
+-- after a record's end, the end of the text ends no other record
 
 after_is : (t : Terminator) (c : ℕ) → ends_at_end (after_end t c) ≡ false
 after_is term.CRLF c = elim (cases_Bool (c == 13)) [ inl holds ↦ rw holds refl | inr fails ↦ rw fails refl ]
 after_is (term.Any t) c = refl
 
--- so it is after the steps that do not end a record, of which nothing is asked, and of the others
+-- a step that ends a record leaves such a state
 abbrev Ends : State × Action → Type 0
 Ends x = is_end x.1 ≡ true → ends_at_end x.0 ≡ false
 

@@ -3,7 +3,7 @@ use Rattle.std.proofs.Common.{◌≡◌, ℕ, ◌+◌, List, [], ◌∷◌, ◌+
 use Rattle.sr_cell.specs.declared.table.Table.{Table}
 use Rattle.sr_model.specs.Events.{Event}
 use Rattle.sr_language.specs.Lines.{lines_of}
-use Rattle.sr_language.specs.Script.{Line, Silent, CreateLine, ExecLine, QueryLine, Other, line_of, Stage, Creating, Filling, Asking, Phase, start_phase, LineDoes, Reads}
+use Rattle.sr_language.specs.Script.{Line, Silent, CreateLine, ExecLine, QueryLine, Other, line_of, Creating, Filling, Asking, Phase, start_phase, LineDoes, Reads}
 use Rattle.sr_language.specs.Creates.{CreatesFrom, Creates}
 use Rattle.sr_reader.specs.declared.script.Script.{Script}
 use Rattle.sr_reader.specs.Read.{IsRead}

@@ -1,4 +1,4 @@
-use Rattle.std.proofs.Common.{◌≡◌, ◌∙◌, ◌+◌, true, sym, subst, ap, List, [], Err}
+use Rattle.std.proofs.Common.{◌≡◌, ◌∙◌, ◌+◌, true, sym, subst, ap, List, Err}
 use Rattle.sr_cell.specs.declared.table.Table.{Table}
 use Rattle.sr_reader.specs.declared.head.RefusedLine.{RefusedLine}
 use Rattle.sr_reader.proofs.Fronts.{Fronted, fronted_start, fronted_silent, fronted_added, refused_here, named_line, left_creates, behind_creates, none_left, none_behind, other_ends, ends, empty_is, begins_of, not_empty}

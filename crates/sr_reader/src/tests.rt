@@ -87,8 +87,14 @@ const AFTER_TABLE: [(&str, &str); 14] = [
     ("query 1 x\nexec x", "unbuilt 3"),
     ("exec DELETE FROM p", "2 delete 0 of 0, "),
     ("exec UPDATE p SET age = 1", "2 update 1 of 0, "),
-    ("exec INSERT INTO p (id, age) VALUES (1, 2)", "2 insert 1 of 0, "),
-    ("exec INSERT INTO p VALUES (1, 2), (3, '4')", "2 WrongType 33, "),
+    (
+        "exec INSERT INTO p (id, age) VALUES (1, 2)",
+        "2 insert 1 of 0, ",
+    ),
+    (
+        "exec INSERT INTO p VALUES (1, 2), (3, '4')",
+        "2 WrongType 33, ",
+    ),
     ("exec INSERT INTO p VALUES (1, 2, 3)", "2 WrongCount 21, "),
     ("exec INSERT INTO p VALUES (1)", "2 WrongCount 21, "),
     ("exec INSERT INTO q VALUES (1, 2)", "2 UnknownTable 12, "),

@@ -29,4 +29,4 @@ returns c =
     let old = c.args.script.now in
     let first = c.is_empty.ensures.0 c.if-not-is_empty.false in
     subst (λ z. Adds c.args.number old (ExecLine c.args.sql.now) (record old { statements = z }) × Fits (record old { statements = z })) (sym c.in_ok-push.ensures.pushed)
-    (exec_some c.args.number c.args.sql.now old c.in_ok-statement.field-0 first c.in_ok-statement.ensures.written c.in_ok-statement.ensures.fits c.requires)
+    (exec_some c.args.number c.args.sql.now old c.in_ok-statement.statement first c.in_ok-statement.ensures.written c.in_ok-statement.ensures.fits c.requires)

@@ -1,5 +1,5 @@
-use Rattle.std.proofs.Common.{◌≡◌, ◌∙◌, sym, inr, ap, Err}
-use Rattle.sr_world.proofs.ReplayLemmas.{Wrote-of, WrotePart-of, loaded-same, accepts-loads, setup-is}
+use Rattle.std.proofs.Common.{◌≡◌, inr}
+use Rattle.sr_world.proofs.ReplayLemmas.{Wrote-of, WrotePart-of, loaded-same, accepts-loads}
 use Rattle.sr_world.proofs.replay.replay.Goals as goal
 
 pub run_script-requires-clause-events : goal.run_script-requires-clause-events

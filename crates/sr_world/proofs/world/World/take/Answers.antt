@@ -9,7 +9,7 @@ take_reply-requires-clause-out c = is-out c.args.self.now c.in-Some.message c.po
 
 pub take_reply-requires-clause-ascending : goal.take_reply-requires-clause-ascending
 take_reply-requires-clause-ascending c =
-    take-ascend c.args.self.now c.only.result.now c.in-Some.message c.in-Some-version_of.version c.pop_front.new.self.items c.requires.stands c.only.ensures c.in-Some.ensures.items
+    take-ascend c.args.self.now c.only.result.now c.in-Some.message c.in-Some-version_of.version c.pop_front.new.self.items c.requires.stands (sym c.schema.ensures ∙ c.only.ensures) c.in-Some.ensures.items
     (sym c.version_of.ensures ∙ c.in-Some-version_of.is)
 
 pub returns-in-None-version_of-clause-delivery : goal.returns-in-None-version_of-clause-delivery
@@ -22,5 +22,5 @@ pub returns-in-Some-version_of-clause-delivery : goal.returns-in-Some-version_of
 returns-in-Some-version_of-clause-delivery c =
     if_each _ c.take_reply.result
     (λ lines is. does-take c.args.self.now c.only.result.now c.in-Some.message c.in-Some-version_of.version c.pop_front.new.self c.take_reply.new.self lines
-    c.requires.stands c.only.ensures c.in-Some.ensures.items (sym c.version_of.ensures ∙ c.in-Some-version_of.is)
+    c.requires.stands (sym c.schema.ensures ∙ c.only.ensures) c.in-Some.ensures.items (sym c.version_of.ensures ∙ c.in-Some-version_of.is)
     (λ out is_out. on_ok _ c.take_reply.result lines is (c.take_reply.ensures.client out is_out)) (λ out is_out. of_ok _ c.take_reply.result lines is (c.take_reply.ensures.lines out is_out)))

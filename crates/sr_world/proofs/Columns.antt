@@ -1,6 +1,6 @@
 -- The columns of a script's table hold numbers.
-use Rattle.std.proofs.Common.{◌≡◌, ℕ, ℤ, Bool, true, false, not, ◌&&◌, List, [], ◌∷◌, length, Ok, refl, sym, subst, arith}
-use Rattle.std.specs.Prelude.{IsTrue, nat_lt, nat_le, ◌<◌, ◌≤◌, ◌^◌, ◌==◌, int_le, pos, negsuc}
+use Rattle.std.proofs.Common.{◌≡◌, ℕ, ℤ, Bool, true, false, not, ◌&&◌, List, [], ◌∷◌, length, Ok, refl, sym, arith}
+use Rattle.std.specs.Prelude.{IsTrue, nat_lt, ◌<◌, int_le, pos, negsuc}
 use Rattle.std.specs.List.{list_all}
 use Rattle.std.proofs.lemmas.Bool.Decides.{nat_tests}
 use Rattle.sr_cell.specs.declared.cell.Cell.{Cell}

@@ -1,5 +1,5 @@
 -- A script's events happen to its world, if it has one, and those whose texts are refused change nothing.
-use Rattle.std.proofs.Common.{◌≡◌, true, List, [], ◌∷◌, Option, Some, None, Ok, Err, refl, sym, ◌∙◌, subst, append-nil}
+use Rattle.std.proofs.Common.{◌≡◌, List, [], ◌∷◌, Option, Some, None, Ok, Err, refl, sym, subst, append-nil}
 use Rattle.std.specs.Prelude.{IfOk, IfSome, OnOk, Result}
 use Rattle.sr_cell.specs.declared.fault.Fault.{Fault}
 use Rattle.sr_cell.specs.declared.table.Table.{Table}
@@ -15,7 +15,7 @@ use Rattle.sr_scene.specs.Steps.{Happens}
 use Rattle.sr_scene.specs.Runs.{Steps}
 use Rattle.sr_world.specs.declared.world.World.{World}
 use Rattle.sr_world.specs.Bound.{IsMeaning}
-use Rattle.sr_world.specs.Represents.{Past, Represents, IsUnasked, scene_of, client_of}
+use Rattle.sr_world.specs.Represents.{Past, IsUnasked, scene_of, client_of}
 use Rattle.sr_world.specs.Worlds.{Stands, DoesStep}
 use Rattle.sr_world.specs.Replay.{start}
 use Rattle.sr_world.specs.Kept.{DoesKept, IsStill, tables_of}

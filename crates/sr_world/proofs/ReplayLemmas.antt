@@ -1,6 +1,6 @@
 -- From runs of some events to the trace of a script.
 use Rattle.std.proofs.Common.{◌≡◌, ℕ, Bool, true, List, [], ◌∷◌, ◌++◌, length, map, Option, Some, None, Ok, Err, refl, subst, sym, ◌∙◌, ap, append_assoc, append-nil, arith}
-use Rattle.std.specs.Prelude.{IsTrue, IfOk, Result}
+use Rattle.std.specs.Prelude.{IsTrue, IfOk, IsErrOf, Result}
 use Rattle.std.specs.List.{list_all, AllZip}
 use Rattle.std.proofs.Math.Seq.{take-length}
 use Rattle.std.proofs.lemmas.List.{map-append}
@@ -310,3 +310,7 @@ accepts-loads bytes loads schema tables created loaded table fault refuses =
     differ : (r : Result Tables LoadFault) (tables : Tables) (e : LoadFault) → r ≡ Ok tables → r ≡ Err e → ⊥
     differ (Ok x) tables e done refused = absurd (cc)
     differ (Err x) tables e done refused = absurd (cc)
+
+-- a fault that is handed on is that of the call before
+pub same-fault : {A B E : Type 0} (was is : E) → IsErrOf {T = A} (Err was) is → IsErrOf {T = B} (Err was) is
+same-fault {A} {B} {E} was is err = let same : was ≡ is = cc in ap (λ x. Err x) same

@@ -1,9 +1,8 @@
-use Rattle.std.proofs.Common.{◌≡◌, true, false, Ok, subst}
-use Rattle.std.specs.Prelude.{IfSome, IsTrue}
+use Rattle.std.proofs.Common.{Ok, subst}
+use Rattle.std.specs.Prelude.{IfSome}
 use Rattle.sr_model.specs.Events.{Exec}
 use Rattle.sr_query.specs.Written.{write_of}
 use Rattle.sr_world.specs.Worlds.{Stands}
-use Rattle.sr_world.proofs.Columns.{fits-suits, fits-short, none-fits}
 use Rattle.sr_world.proofs.StepLemmas.{if_ok}
 use Rattle.sr_world.proofs.KeptLemmas.{kept-still, refuses-exec, stands-after}
 use Rattle.sr_world.proofs.kept.exec.Goals as goal

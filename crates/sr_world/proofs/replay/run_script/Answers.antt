@@ -1,5 +1,5 @@
-use Rattle.std.proofs.Common.{◌≡◌, ◌∙◌, sym}
-use Rattle.sr_world.proofs.ReplayLemmas.{TracedPart-none, traced-statements, traced-queries, traced-whole, asked-of, kept-same}
+use Rattle.std.proofs.Common.{◌∙◌, sym}
+use Rattle.sr_world.proofs.ReplayLemmas.{traced-statements, traced-queries, traced-whole, asked-of, kept-same}
 use Rattle.sr_world.proofs.KeptLemmas.{kept-still}
 use Rattle.sr_world.proofs.replay.run_script.Goals as goal
 

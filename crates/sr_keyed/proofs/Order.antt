@@ -1,0 +1,56 @@
+-- The order of the map's keys, among cells of one kind, is that of cells.
+use Rattle.std.proofs.Common.{◌≡◌, ℕ, true, not, ◌&&◌, List, refl, arith}
+use Rattle.std.specs.Prelude.{ℤ}
+use Rattle.std.specs.declared.cmp.Ordering.{Ordering}
+use Rattle.std.specs.Ordering.{int_cmp, nat_cmp, is_le, is_lt, is_eq}
+use Rattle.std.specs.Cmp.Lexicographic.{slice_cmp}
+use Rattle.std.proofs.lemmas.Cmp.{same_from_slice_cmp}
+use Rattle.std.proofs.lemmas.Int.{ints}
+use Rattle.std.proofs.lemmas.Bool.Decides.{nat_tests}
+use Rattle.sr_cell.specs.declared.cell.Cell.{Cell}
+use Rattle.sr_cell.specs.declared.cell.Cell.TheVariants.{Num, Str}
+use Rattle.sr_cell.specs.declared.table.Kind.{Kind}
+use Rattle.sr_cell.specs.declared.table.Kind.TheVariants.{Num as Numbers, Str as Texts}
+use Rattle.sr_cell.specs.contracts.cell.CellOrd.TheImpl as cell_ord
+use Rattle.sr_cell.specs.Cells.{cell_le, cell_eq, text_le}
+use Rattle.sr_keyed.specs.Keyed.{is_of}
+
+abbrev pub order : Cell → Cell → Ordering
+order = (cell_ord.ghosts).cmp
+
+num_order : (a b : ℤ) → order (Num a) (Num b) ≡ int_cmp a b
+num_order a b = refl
+
+text_order : (s t : List ℕ) → order (Str s) (Str t) ≡ slice_cmp nat_cmp s t
+text_order s t = refl
+
+text_above : (xs ys : List ℕ) (o : Ordering) → o ≡ slice_cmp nat_cmp xs ys → is_lt o ≡ not (text_le ys xs)
+text_above = same_from_slice_cmp nat_cmp is_lt (λ xs ys. not (text_le ys xs)) refl (λ _ _. refl) (λ _ _. refl) (λ x y xs ys o h. grind (arith, nat_tests))
+
+text_below : (xs ys : List ℕ) (o : Ordering) → o ≡ slice_cmp nat_cmp xs ys → is_le o ≡ text_le xs ys
+text_below = same_from_slice_cmp nat_cmp is_le text_le refl (λ _ _. refl) (λ _ _. refl) (λ x y xs ys o h. grind (arith, nat_tests))
+
+text_same : (xs ys : List ℕ) (o : Ordering) → o ≡ slice_cmp nat_cmp xs ys → is_eq o ≡ (text_le ys xs && text_le xs ys)
+text_same = same_from_slice_cmp nat_cmp is_eq (λ xs ys. text_le ys xs && text_le xs ys) refl (λ _ _. refl) (λ _ _. refl) (λ x y xs ys o h. grind (arith, nat_tests))
+
+pub order-eq : (a b : Cell) → is_eq (order a b) ≡ cell_eq b a
+order-eq (Num a) (Num b) = grind (arith, ints)
+order-eq (Num a) (Str t) = refl
+order-eq (Str s) (Num b) = refl
+order-eq (Str s) (Str t) = text_same s t _ refl
+
+pub order-le : (kind : Kind) (a b : Cell) → is_of kind a ≡ true → is_of kind b ≡ true → is_le (order a b) ≡ cell_le a b
+order-le kind (Num a) (Num b) h k = grind (arith, ints)
+order-le Numbers (Num a) (Str t) h k = absurd (grind arith)
+order-le Texts (Num a) (Str t) h k = absurd (grind arith)
+order-le Numbers (Str s) b h k = absurd (grind arith)
+order-le Texts (Str s) (Num b) h k = absurd (grind arith)
+order-le Texts (Str s) (Str t) h k = text_below s t _ refl
+
+pub order-lt : (kind : Kind) (a b : Cell) → is_of kind a ≡ true → is_of kind b ≡ true → is_lt (order a b) ≡ not (cell_le b a)
+order-lt kind (Num a) (Num b) h k = grind (arith, ints)
+order-lt Numbers (Num a) (Str t) h k = absurd (grind arith)
+order-lt Texts (Num a) (Str t) h k = absurd (grind arith)
+order-lt Numbers (Str s) b h k = absurd (grind arith)
+order-lt Texts (Str s) (Num b) h k = absurd (grind arith)
+order-lt Texts (Str s) (Str t) h k = text_above s t _ refl

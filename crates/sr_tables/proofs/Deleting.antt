@@ -13,7 +13,7 @@ use Rattle.sr_model.specs.Changes.{table_changes, same_row}
 use Rattle.sr_rows.proofs.Order.{is_first, ascend-tail, ascend-first}
 use Rattle.sr_keyed.specs.Keyed.{without_key}
 use Rattle.sr_tables.proofs.Keys.{KeepsKey, row_eq-refl, first-lacks, first-differs}
-use Rattle.sr_tables.proofs.Changing.{change_by, changes-kept, map-passed}
+use Rattle.sr_tables.proofs.Kept.{change_by, changes-kept, map-passed}
 
 module _ (p : Row → Bool) where
   abbrev left : Row → Option Row

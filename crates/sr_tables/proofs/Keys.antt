@@ -1,5 +1,5 @@
 -- Rows that come of rows by key ascending, and what is found among them.
-use Rattle.std.proofs.Common.{◌≡◌, ℕ, Bool, true, false, cond, not, ◌&&◌, List, [], ◌∷◌, map, refl, sym, ap, ◌∙◌, arith}
+use Rattle.std.proofs.Common.{◌≡◌, ℕ, Bool, true, false, cond, not, ◌&&◌, List, [], ◌∷◌, map, refl, sym, ap, subst, ◌∙◌, ◌↔◌, IsTrue, rules, arith}
 use Rattle.std.specs.Prelude.{filter, Option, Some, None}
 use Rattle.std.specs.List.{list_all, filter_map, cons_option, AllByRecursion}
 use Rattle.sr_cell.specs.declared.cell.Cell.{Cell}
@@ -23,6 +23,14 @@ row_eq-sound (v ∷ p) (w ∷ q) h =
     let one : v ≡ w = cell_eq-sound v w (grind arith) in
     let others : p ≡ q = row_eq-sound p q (grind arith) in
     cc
+
+pub same-rows : (b : Bool) (p q : Row) → (IsTrue b ↔ (p ≡ q)) → b ≡ row_eq p q
+same-rows true p q iff = let same : p ≡ q = iff.0 (search rules) in sym (subst (λ r. row_eq p r ≡ true) same (row_eq-refl p))
+same-rows false p q iff = go (row_eq p q) refl
+  where
+    go : (b : Bool) → row_eq p q ≡ b → false ≡ row_eq p q
+    go true e = absurd (grind (arith, iff.1 (row_eq-sound p q e)))
+    go false e = sym e
 
 -- what becomes of each row has the row's key
 abbrev pub KeepsKey : ℕ → (Row → Option Row) → Type 0

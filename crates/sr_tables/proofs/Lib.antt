@@ -1,5 +1,6 @@
 pub mod Keys
-pub mod Changing
+pub mod Kept
 pub mod Updating
 pub mod Deleting
 pub mod Placing
+pub mod Ends

@@ -11,7 +11,7 @@ use Rattle.sr_model.specs.Changes.{table_changes}
 use Rattle.sr_rows.proofs.Order.{is_first, ascend-tail, ascend-first}
 use Rattle.sr_keyed.specs.Keyed.{with_replaced}
 use Rattle.sr_tables.proofs.Keys.{KeepsKey, key_lt-same, first-same, first-lacks, first-differs, ascend-kept}
-use Rattle.sr_tables.proofs.Changing.{changes-kept}
+use Rattle.sr_tables.proofs.Kept.{changes-kept}
 
 map-kept : (f : Row → Row) (rows : List Row) → filter_map (λ row. Some (f row)) rows ≡ map f rows
 map-kept f [] = refl

@@ -1,2 +1,8 @@
-//! Tables with their rows.
+//! Tables with their rows by key: statements that change them, and loads.
 #![tactic(auto)]
+
+mod changes;
+mod delete;
+mod places;
+mod span;
+mod update;

@@ -22,7 +22,7 @@ pub either_way : {A E : Type 0} {P Q G : Type 0} (r : Result A E) → OnOk r P �
 either_way (Ok x) p q f g = f p
 either_way (Err x) p q f g = g q
 
-here : (key : ℕ) (v : Cell) (e : Cell × Row) → e.0 ≡ cell_at e.1 key → is_at (order v) e.0 ≡ cell_eq (cell_at e.1 key) v
+pub here : (key : ℕ) (v : Cell) (e : Cell × Row) → e.0 ≡ cell_at e.1 key → is_at (order v) e.0 ≡ cell_eq (cell_at e.1 key) v
 here key v e h = order-eq v e.0 ∙ ap (λ k. cell_eq k v) h
 
 pub lookup-row : (key : ℕ) (kind : Kind) (v : Cell) (es : List (Cell × Row)) → AreKeyed key kind es

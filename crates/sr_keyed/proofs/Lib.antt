@@ -1,2 +1,4 @@
 pub mod Order
 pub mod Entries
+pub mod Replaced
+pub mod Between

@@ -1,5 +1,7 @@
 -- The entries of the map that holds the rows.
 use Rattle.std.specs.Prelude.{◌≡◌, ℕ, Bool, true, ◌&&◌, List, [], ◌∷◌, Option, Some, None, ⊤}
+use Rattle.std.specs.declared.ops.Bound.{Bound}
+use Rattle.std.specs.declared.ops.Bound.TheVariants.{Included, Unbounded}
 use Rattle.sr_cell.specs.declared.cell.Cell.{Cell}
 use Rattle.sr_cell.specs.declared.table.Kind.{Kind}
 use Rattle.sr_cell.specs.Cells.{Row, cell_at, cell_le}
@@ -16,3 +18,8 @@ are_ends kind None None = true
 are_ends kind None (Some high) = is_of kind high
 are_ends kind (Some low) None = is_of kind low
 are_ends kind (Some low) (Some high) = is_of kind low && cell_le low high
+
+-- an end inside, or none
+abbrev pub bound_of : Option Cell → Bound Cell
+bound_of None = Unbounded
+bound_of (Some v) = Included v

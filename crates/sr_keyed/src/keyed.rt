@@ -1,18 +1,23 @@
 //! Rows by key.
-ghost use Rattle.std.specs.Prelude.{◌≡◌, ℕ, ◌<◌, [], true, false, length, OnOk, OnErr, IfOk};
+ghost use Rattle.std.specs.Prelude.{◌≡◌, ℕ, ◌<◌, [], true, false, length, map, filter, OnOk, OnErr, IfOk};
 ghost use Rattle.std.specs.Option.{option_copied};
-ghost use Rattle.std.specs.BTreeMap.{IsOrdered, insert_entry};
+ghost use Rattle.std.specs.Range.Bound.{bound_map, IsForward};
+ghost use Rattle.std.specs.Map.{values_of, set_value};
+ghost use Rattle.std.specs.BTreeMap.{IsOrdered, insert_entry, is_at, values};
+ghost use Rattle.std.specs.BTreeMap.Range.{IsLeBy, IsLtBy, entries_between};
 ghost use Rattle.sr_cell.specs.Cells.{cell_at};
 ghost use Rattle.sr_model.specs.SortedRows.{ascend, has_key, with_row};
 ghost use Rattle.sr_model.specs.Changes.{row_with};
-ghost use Rattle.sr_keyed.specs.Keyed.{is_of};
+ghost use Rattle.sr_keyed.specs.Keyed.{is_of, with_replaced, without_key, is_between};
+ghost use Rattle.sr_keyed.specs.Entries.{are_ends, bound_of};
 
-use sr_cell::cell::{Cell, Row};
-use sr_cell::list::{Copied, NoMemory};
+use sr_cell::cell::{Cell, Row, Rows};
+use sr_cell::list::{Copied, NoMemory, Seq};
 use sr_cell::table::Kind;
 use std::alloc::Global;
 use std::collections::BTreeMap;
 use std::marker::Model;
+use std::ops::Bound;
 
 /// Rows with different keys of one kind.
 #[derive(Drop)]
@@ -35,11 +40,11 @@ impl Model for KeyedRows {
 }
 
 /// A row's key.
-fn key_of(alloc: Global, row: &Row, key: usize) -> Result<Cell, NoMemory>
+fn key_at(row: &Row, key: usize) -> &Cell
     requires { key < length row.now }
-    ensures { IfOk result (λ cell. cell ≡ cell_at row.now key) }
+    ensures { result.now ≡ cell_at row.now key }
 {
-    row.as_slice()[key].copy(alloc)
+    &row.as_slice()[key]
 }
 
 /// Puts a row at a key.
@@ -50,6 +55,77 @@ fn put(rows: &mut BTreeMap<Cell, Row>, key: Cell, row: Row) -> Result<(), NoMemo
 {
     rows.insert(key, row)?;
     Ok(())
+}
+
+/// Puts a row in the place of the one at its key.
+fn put_in_place(rows: &mut BTreeMap<Cell, Row>, key: usize, row: Row)
+    requires { key < length row }
+    ensures replaced { rows.new.entries ≡ set_value (is_at (⟦<Cell as Ord>⟧.cmp (cell_at row key))) rows.old.entries row }
+    ensures ordered { IsOrdered ⟦<Cell as Ord>⟧.cmp rows.new }
+{
+    match rows.get_mut(key_at(&row, key)) {
+        Some(place) => *place = row,
+        None => {}
+    }
+}
+
+fn is_of(kind: Kind, cell: &Cell) -> bool
+    ensures { result ≡ is_of kind cell.now }
+{
+    match (kind, cell) {
+        (Kind::Num, Cell::Num(_)) => true,
+        (Kind::Str, Cell::Str(_)) => true,
+        _ => false,
+    }
+}
+
+/// Whether the ends are of the kind, and the lower one is not above the upper one.
+fn are_ends(kind: Kind, low: Option<&Cell>, high: Option<&Cell>) -> bool
+    ensures { result ≡ are_ends kind (option_copied low.entry) (option_copied high.entry) }
+{
+    match (low, high) {
+        (None, None) => true,
+        (None, Some(end)) => is_of(kind, end),
+        (Some(end), None) => is_of(kind, end),
+        (Some(one), Some(other)) => is_of(kind, one) && one.is_at_most(other),
+    }
+}
+
+fn bound_of<'b>(end: Option<&'b Cell>) -> Bound<&'b Cell>
+    ensures { bound_map (λ x. x.now) result ≡ bound_of (option_copied end.entry) }
+{
+    match end {
+        Some(cell) => Bound::Included(cell),
+        None => Bound::Unbounded,
+    }
+}
+
+/// The rows of a part of the map.
+fn rows_between<'a, 'b>(
+    rows: &'a BTreeMap<Cell, Row>,
+    alloc: Global,
+    low: Bound<&'b Cell>,
+    high: Bound<&'b Cell>,
+) -> Result<Vec<&'a Row>, NoMemory>
+    requires { IsForward (IsLeBy ⟦<Cell as Ord>⟧.cmp) (IsLtBy ⟦<Cell as Ord>⟧.cmp) (bound_map (λ x. x.now) low) (bound_map (λ x. x.now) high) }
+    ensures { IfOk result (λ found. map (λ r. r.now) found.items ≡ values_of (entries_between ⟦<Cell as Ord>⟧.cmp (bound_map (λ x. x.now) low.entry) (bound_map (λ x. x.now) high.entry) rows.now.entries)) }
+{
+    let mut found = Vec::new(alloc);
+    for (_, row) in rows.range((low, high)) {
+        found.push(row)?;
+    }
+    Ok(found)
+}
+
+/// All rows of the map, moved out.
+fn all_rows(map: BTreeMap<Cell, Row>, alloc: Global) -> Result<Rows, NoMemory>
+    ensures { IfOk result (λ rows. rows ≡ values map) }
+{
+    let mut rows = Seq::new(alloc);
+    for row in map.into_values() {
+        rows.push(row)?;
+    }
+    Ok(rows)
 }
 
 impl KeyedRows {
@@ -100,9 +176,48 @@ impl KeyedRows {
         ensures inserted { OnOk result (self.new ≡ record self.old { rows = with_row self.old.key self.old.rows row }) }
         ensures unchanged { OnErr result (self.new ≡ self.old) }
     {
-        match key_of(alloc, &row, self.key) {
+        match key_at(&row, self.key).copy(alloc) {
             Ok(key) => put(&mut self.rows, key, row),
             Err(no) => Err(no),
         }
+    }
+
+    /// Puts a row in the place of the one that has its key; takes no memory.
+    pub fn replace(&mut self, row: Row)
+        requires cell { self.old.key < length row }
+        requires known { has_key self.old.key (cell_at row self.old.key) self.old.rows ≡ true }
+        ensures { self.new ≡ record self.old { rows = with_replaced self.old.key row self.old.rows } }
+    {
+        put_in_place(&mut self.rows, self.key, row);
+    }
+
+    /// Takes the row of that key out, if there is one; takes no memory.
+    pub fn remove(&mut self, key: &Cell)
+        ensures { self.new ≡ record self.old { rows = without_key self.old.key key.now self.old.rows } }
+    {
+        self.rows.remove(key);
+    }
+
+    /// The rows from one key up to another, both inside, in time of their number.
+    pub fn between<'a>(
+        &'a self,
+        alloc: Global,
+        low: Option<&Cell>,
+        high: Option<&Cell>,
+    ) -> Result<Vec<&'a Row>, NoMemory>
+        ensures { IfOk result (λ rows. map (λ r. r.now) rows.items ≡ filter (is_between self.now.key (option_copied low.entry) (option_copied high.entry)) self.now.rows) }
+    {
+        if !are_ends(self.kind, low, high) {
+            return Ok(Vec::new(alloc));
+        }
+        rows_between(&self.rows, alloc, bound_of(low), bound_of(high))
+    }
+
+    /// All rows, moved out.
+    pub fn into_rows(self, alloc: Global) -> Result<Rows, NoMemory>
+        ensures { IfOk result (λ rows. rows ≡ self.rows) }
+    {
+        let KeyedRows { rows, .. } = self;
+        all_rows(rows, alloc)
     }
 }

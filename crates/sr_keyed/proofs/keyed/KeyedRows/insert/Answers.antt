@@ -17,7 +17,7 @@ invariant_of-self c =
     let other : has_key c.self.inside.key (cell_at c.args.row c.self.inside.key) (values_of map) ≡ false =
     subst (λ (s : Keyed). has_key s.key (cell_at c.args.row s.key) s.rows ≡ false) (sym c.self.view_is) c.requires.other in (
       either_way c.put.result c.put.ensures.put c.put.ensures.unchanged
-          (λ e. rw (e, c.in-Ok.ensures) (insert-keyed c.self.inside.key c.self.inside.kind c.args.row map c.self.invariant.0 kind other))
+          (λ e. rw (e, c.in-Ok.ensures, c.key_at.ensures) (insert-keyed c.self.inside.key c.self.inside.kind c.args.row map c.self.invariant.0 kind other))
           (λ e. rw e c.self.invariant.0),
       c.put.ensures.ordered,
     )
@@ -31,5 +31,5 @@ returns-in-Ok-clause-inserted c =
     subst (λ (s : Keyed). has_key s.key (cell_at c.args.row s.key) s.rows ≡ false) (sym c.self.view_is) c.requires.other in
     on_ok_weaker c.put.result
     (λ e. rw (← c.self.view_is) (ap (λ rows. record { key = c.self.inside.key; kind = c.self.inside.kind; rows = rows })
-    (ap values_of (e ∙ ap (λ k. insert_entry order map k c.args.row) c.in-Ok.ensures) ∙ insert-row c.self.inside.key c.self.inside.kind c.args.row map c.self.invariant.0 kind other)))
+    (ap values_of (e ∙ ap (λ k. insert_entry order map k c.args.row) (c.in-Ok.ensures ∙ c.key_at.ensures)) ∙ insert-row c.self.inside.key c.self.inside.kind c.args.row map c.self.invariant.0 kind other)))
     c.put.ensures.put

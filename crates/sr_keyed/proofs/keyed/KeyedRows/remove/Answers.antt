@@ -1,0 +1,13 @@
+use Rattle.std.proofs.Common.{ap, ◌∙◌}
+use Rattle.std.specs.Map.{values_of}
+use Rattle.sr_keyed.proofs.Replaced.{remove-row, remove-keyed}
+use Rattle.sr_keyed.proofs.keyed.KeyedRows.remove.Goals as goal
+
+pub invariant_of-self : goal.invariant_of-self
+invariant_of-self c =
+    (rw c.remove.ensures.entries (remove-keyed c.self.inside.key c.self.inside.kind c.args.key.now c.self.inside.rows.entries c.self.invariant.0), c.remove.ensures.ordered)
+
+pub returns : goal.returns
+returns c =
+    rw (← c.self.view_is) (ap (λ rows. record { key = c.self.inside.key; kind = c.self.inside.kind; rows = rows })
+    (ap values_of c.remove.ensures.entries ∙ remove-row c.self.inside.key c.self.inside.kind c.args.key.now c.self.inside.rows.entries c.self.invariant.0 c.self.invariant.1))

@@ -4,3 +4,4 @@ pub mod Updating
 pub mod Deleting
 pub mod Placing
 pub mod Ends
+pub mod Outcomes

@@ -99,3 +99,7 @@ changed-meets places c row h = go (meets c row) h
     go : (b : Bool) → not (row_eq row (if b then with_places places row else row)) ≡ true → b ≡ true
     go true e = refl
     go false e = let same = row_eq-refl row in absurd (grind (arith, same))
+
+-- a row that the condition is not true of is left
+pub unmet-left : (places : List Place) (c : Option Cond) (row : Row) → meets c row ≡ false → (if is_changed places c row then Some (updated_row places c row) else None) ≡ None
+unmet-left places c row h = let same = row_eq-refl row in rw (h, same) refl

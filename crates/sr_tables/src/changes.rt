@@ -1,14 +1,16 @@
 //! Changes of rows by key.
-ghost use Rattle.std.specs.Prelude.{◌≡◌, ◌^◌, ◌<◌, IfOk, Option, Some, None, nat_lt, filter, map, if◌then◌else◌};
+ghost use Rattle.std.specs.Prelude.{◌≡◌, ◌≤◌, true, IfOk, OnOk, IsErrOf, Some, nat_lt, length};
 ghost use Rattle.std.specs.List.{filter_map};
+ghost use Rattle.sr_cell.specs.declared.fault.Fault.{Fault as TheFault};
+ghost use Rattle.sr_cell.specs.declared.list.No.TheVariants.{Refused};
 ghost use Rattle.sr_cell.specs.declared.fault.Why.TheVariants.{TooManyChanges as ManyChanges};
 ghost use Rattle.sr_cell.specs.Cells.{cell_at};
 ghost use Rattle.sr_model.specs.SortedRows.{row_eq};
 
 use sr_cell::cell::{Cell, Row, Rows};
-use sr_cell::change::Change;
+use sr_cell::change::{Change, Changes};
 use sr_cell::fault::{Fault, Why};
-use sr_cell::list::{Copied, NoMemory, Same, Seq};
+use sr_cell::list::{Copied, No, NoMemory, Same, Seq};
 use std::alloc::Global;
 
 /// Whether both rows have the same cells.
@@ -64,14 +66,21 @@ pub(crate) fn rows_after(alloc: Global, changes: &[Change]) -> Result<Rows, NoMe
 }
 
 /// Why a statement can't make so many changes.
-pub(crate) fn changes_fault(count: u32) -> Option<Fault>
-    ensures { result ≡ (if nat_lt 10000 count then Some (record { why = ManyChanges; at = count }) else None) }
+pub(crate) fn few_changes(changes: &Changes) -> Result<(), No<Fault>>
+    ensures few { OnOk result (length changes.now ≤ 10000) }
+    ensures many { (fault : TheFault) → IsErrOf result (Refused fault) → nat_lt 10000 (length changes.now) ≡ true }
+    ensures refused { (fault : TheFault) → IsErrOf result (Refused fault) → fault ≡ record { why = ManyChanges; at = length changes.now } }
 {
-    if count > 10000 {
-        return Some(Fault {
-            why: Why::TooManyChanges,
-            at: count,
-        });
+    let count = changes.len();
+    if count > u32::MAX as usize {
+        // No fault can tell so large a number.
+        return Err(No::NoMemory);
     }
-    None
+    if count > 10000 {
+        return Err(No::Refused(Fault {
+            why: Why::TooManyChanges,
+            at: count as u32,
+        }));
+    }
+    Ok(())
 }

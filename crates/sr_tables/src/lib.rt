@@ -4,5 +4,6 @@
 mod changes;
 mod delete;
 mod places;
+mod select;
 mod span;
 mod update;

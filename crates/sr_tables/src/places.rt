@@ -1,5 +1,5 @@
 //! New values in the columns of rows.
-ghost use Rattle.std.specs.Prelude.{◌≡◌, ◌<◌, [], ◌∷◌, IsTrue, IfOk, length, map, nat_lt};
+ghost use Rattle.std.specs.Prelude.{◌≡◌, ◌<◌, [], ◌∷◌, IsTrue, ◌&&◌, ◌==◌, not, IfOk, length, map, nat_lt};
 ghost use Rattle.std.specs.List.{list_all};
 ghost use Rattle.sr_query.specs.Written.{place_of};
 ghost use Rattle.sr_model.specs.Statements.{cell_fault, place_fault, places_fault, with_places};
@@ -49,7 +49,7 @@ fn place_fault(table: &Table, place: &Place) -> Option<Fault>
 
 /// The first new value that can't stand in its column.
 pub(crate) fn places_fault(table: &Table, sets: &[Place]) -> Option<Fault>
-    requires { IsTrue (list_all (λ p. nat_lt p.column (length table.now.columns)) sets.now) }
+    requires { IsTrue (list_all (λ p. nat_lt p.column (length table.now.columns) && not (p.column == table.now.key)) sets.now) }
     ensures { result ≡ places_fault table.now (map place_of sets.now) }
 {
     for i in 0..sets.len() {

@@ -7,5 +7,5 @@ use Rattle.sr_tables.proofs.delete.changes_among.Given as goal
 
 abbrev pub invariant-loop-i : goal.invariant-loop-i
 invariant-loop-i l =
-    l.changes ++ map (delete_change l.number l.key) (filter (meets (condition_of l.filter.condition)) (map (λ r. r.now) (drop l.i l.rows)))
-    ≡ map (delete_change l.number l.key) (filter (meets (condition_of l.filter.condition)) (map (λ r. r.now) l.rows))
+    l.changes ++ map (delete_change l.number l.key) (filter (meets (condition_of l.wanted.condition)) (map (λ r. r.now) (drop l.i l.rows)))
+    ≡ map (delete_change l.number l.key) (filter (meets (condition_of l.wanted.condition)) (map (λ r. r.now) l.rows))

@@ -8,5 +8,5 @@ use Rattle.sr_tables.proofs.update.changes_among.Given as goal
 abbrev pub invariant-loop-i : goal.invariant-loop-i
 invariant-loop-i l =
     l.changes
-    ++ map (update_change l.number l.key (map place_of l.sets) (condition_of l.filter.condition)) (filter (is_changed (map place_of l.sets) (condition_of l.filter.condition)) (map (λ r. r.now) (drop l.i l.rows)))
-    ≡ map (update_change l.number l.key (map place_of l.sets) (condition_of l.filter.condition)) (filter (is_changed (map place_of l.sets) (condition_of l.filter.condition)) (map (λ r. r.now) l.rows))
+    ++ map (update_change l.number l.key (map place_of l.sets) (condition_of l.wanted.condition)) (filter (is_changed (map place_of l.sets) (condition_of l.wanted.condition)) (map (λ r. r.now) (drop l.i l.rows)))
+    ≡ map (update_change l.number l.key (map place_of l.sets) (condition_of l.wanted.condition)) (filter (is_changed (map place_of l.sets) (condition_of l.wanted.condition)) (map (λ r. r.now) l.rows))

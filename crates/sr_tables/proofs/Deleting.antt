@@ -1,18 +1,17 @@
 -- What a DELETE makes of rows by key ascending.
-use Rattle.std.proofs.Common.{◌≡◌, ℕ, Bool, true, false, cond, not, ◌&&◌, List, [], ◌∷◌, map, refl, sym, ap, subst, ◌∙◌, arith}
+use Rattle.std.proofs.Common.{◌≡◌, ℕ, Bool, true, false, cond, not, List, [], ◌∷◌, map, refl, sym, ap, ◌∙◌, arith}
 use Rattle.std.specs.Prelude.{filter, fold, Option, Some, None, if◌then◌else◌}
-use Rattle.std.specs.List.{list_all, filter_map, cons_option}
+use Rattle.std.specs.List.{filter_map, cons_option}
 use Rattle.std.proofs.lemmas.List.Elements.{filter_agree}
 use Rattle.sr_cell.specs.declared.cell.Cell.{Cell}
-use Rattle.sr_cell.specs.declared.change.Change.{Change}
 use Rattle.sr_cell.specs.declared.table.Table.{Table}
 use Rattle.sr_cell.specs.Cells.{Row, cell_at, cell_eq}
 use Rattle.sr_box.proofs.Order.{cell_eq-refl}
-use Rattle.sr_model.specs.SortedRows.{key_lt, ascend, has_key, row_eq}
+use Rattle.sr_model.specs.SortedRows.{ascend, has_key}
 use Rattle.sr_model.specs.Changes.{table_changes, same_row}
 use Rattle.sr_rows.proofs.Order.{is_first, ascend-tail, ascend-first}
 use Rattle.sr_keyed.specs.Keyed.{without_key}
-use Rattle.sr_tables.proofs.Keys.{KeepsKey, row_eq-refl, first-lacks, first-differs}
+use Rattle.sr_tables.proofs.Keys.{row_eq-refl, first-lacks, first-differs}
 use Rattle.sr_tables.proofs.Kept.{change_by, changes-kept, map-passed}
 
 module _ (p : Row → Bool) where

@@ -9,6 +9,7 @@ use Rattle.sr_cell.specs.declared.table.Kind.TheVariants.{Num as Numbers, Str as
 use Rattle.sr_cell.specs.declared.table.Column.{Column}
 use Rattle.sr_cell.specs.Cells.{Row, cell_at, cell_le}
 use Rattle.sr_cell.specs.Columns.{takes_kind, fits_columns}
+use Rattle.sr_box.specs.declared.span.Span.{Span}
 use Rattle.sr_box.specs.declared.span.Span.TheVariants.{Nums}
 use Rattle.sr_box.specs.Spans.{in_span}
 use Rattle.sr_box.specs.Points.{Rect, in_rect}
@@ -57,22 +58,16 @@ is_between-both key low high row a b = grind (arith, a, b)
 
 -- the ends of a rect's numbers in a column
 
-pub rect-low : (rect : Rect) (row : Row) (c : ℕ) (lo hi : ℤ) → slice_get rect c ≡ Some (Nums lo hi) → in_rect rect row ≡ true → cell_le (Num lo) (cell_at row c) ≡ true
-rect-low [] row c lo hi is h = absurd (cc)
-rect-low (s ∷ rect) [] c lo hi is h = absurd (cc)
-rect-low (s ∷ rect) (v ∷ row) zero lo hi is h = low v (let e : s ≡ Nums lo hi = cc in let both : in_span s v ≡ true = grind arith in ap (λ t. in_span t v) (sym e) ∙ both)
-  where
-    low : (v : Cell) → in_span (Nums lo hi) v ≡ true → cell_le (Num lo) v ≡ true
-    low (Num n) h = grind arith
-    low (Str t) h = absurd (cc)
-rect-low (s ∷ rect) (v ∷ row) (suc c) lo hi is h = rect-low rect row c lo hi is (grind arith)
+pub nums-low : (lo hi : ℤ) (v : Cell) → in_span (Nums lo hi) v ≡ true → cell_le (Num lo) v ≡ true
+nums-low lo hi (Num n) h = grind arith
+nums-low lo hi (Str t) h = absurd (cc)
 
-pub rect-high : (rect : Rect) (row : Row) (c : ℕ) (lo hi : ℤ) → slice_get rect c ≡ Some (Nums lo hi) → in_rect rect row ≡ true → cell_le (cell_at row c) (Num hi) ≡ true
-rect-high [] row c lo hi is h = absurd (cc)
-rect-high (s ∷ rect) [] c lo hi is h = absurd (cc)
-rect-high (s ∷ rect) (v ∷ row) zero lo hi is h = high v (let e : s ≡ Nums lo hi = cc in let both : in_span s v ≡ true = grind arith in ap (λ t. in_span t v) (sym e) ∙ both)
-  where
-    high : (v : Cell) → in_span (Nums lo hi) v ≡ true → cell_le v (Num hi) ≡ true
-    high (Num n) h = grind arith
-    high (Str t) h = absurd (cc)
-rect-high (s ∷ rect) (v ∷ row) (suc c) lo hi is h = rect-high rect row c lo hi is (grind arith)
+pub nums-high : (lo hi : ℤ) (v : Cell) → in_span (Nums lo hi) v ≡ true → cell_le v (Num hi) ≡ true
+nums-high lo hi (Num n) h = grind arith
+nums-high lo hi (Str t) h = absurd (cc)
+
+pub rect-at : (rect : Rect) (row : Row) (c : ℕ) (s : Span) → slice_get rect c ≡ Some s → in_rect rect row ≡ true → in_span s (cell_at row c) ≡ true
+rect-at [] row c s is h = absurd (cc)
+rect-at (t ∷ rect) [] c s is h = absurd (cc)
+rect-at (t ∷ rect) (v ∷ row) zero s is h = let same : t ≡ s = cc in let own : in_span t v ≡ true = grind arith in ap (λ u. in_span u v) (sym same) ∙ own
+rect-at (t ∷ rect) (v ∷ row) (suc c) s is h = rect-at rect row c s is (grind arith)

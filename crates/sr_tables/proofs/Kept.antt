@@ -1,11 +1,11 @@
 -- What changes where each row of a table is kept, changed or left out.
 use Rattle.std.proofs.Common.{◌≡◌, ℕ, Bool, true, false, cond, not, List, [], ◌∷◌, map, refl, sym, ap, subst, ◌∙◌, arith}
-use Rattle.std.specs.Prelude.{filter, Option, Some, None, if◌then◌else◌}
+use Rattle.std.specs.Prelude.{filter, Option, Some}
 use Rattle.std.specs.List.{list_all, filter_map, AllByRecursion}
 use Rattle.sr_cell.specs.declared.change.Change.{Change}
 use Rattle.sr_cell.specs.declared.table.Table.{Table}
 use Rattle.sr_cell.specs.Cells.{Row, cell_at}
-use Rattle.sr_model.specs.SortedRows.{ascend, has_key, with_row}
+use Rattle.sr_model.specs.SortedRows.{ascend, has_key}
 use Rattle.sr_model.specs.Changes.{row_with, same_row, all_keys, table_changes}
 use Rattle.sr_tables.proofs.Keys.{KeepsKey, has-own, has-kept, found-kept}
 

@@ -1,6 +1,6 @@
 -- What UPDATE and DELETE, step by step, make of a table's rows.
-use Rattle.std.proofs.Common.{◌≡◌, ℕ, zero, suc, Bool, true, false, cond, not, ◌&&◌, List, [], ◌∷◌, map, length, refl, sym, ap, subst, ◌∙◌, arith}
-use Rattle.std.specs.Prelude.{◌<◌, ◌≤◌, ◌==◌, nat_lt, filter, fold, Option, Some, None, Result, Ok, Err, if◌then◌else◌}
+use Rattle.std.proofs.Common.{◌≡◌, ℕ, suc, Bool, true, false, cond, not, ◌&&◌, List, [], ◌∷◌, map, length, refl, sym, ap, subst, ◌∙◌, arith}
+use Rattle.std.specs.Prelude.{◌<◌, ◌≤◌, nat_lt, filter, fold, Option, Some, None, Result, Ok, Err, if◌then◌else◌}
 use Rattle.std.specs.List.{list_all, filter_map}
 use Rattle.std.proofs.lemmas.List.{length-map}
 use Rattle.std.proofs.lemmas.Bool.Decides.{nat_tests}
@@ -14,7 +14,7 @@ use Rattle.sr_cell.specs.Cells.{Row, cell_at, cell_eq}
 use Rattle.sr_cell.specs.Columns.{fits_columns}
 use Rattle.sr_box.proofs.Order.{cell_eq-sound}
 use Rattle.sr_model.specs.Conditions.{Cond}
-use Rattle.sr_model.specs.SortedRows.{ascend, has_key, row_eq}
+use Rattle.sr_model.specs.SortedRows.{ascend, has_key}
 use Rattle.sr_model.specs.Statements.{Place, meets, places_fault, updated_row, is_changed, updated, deleted, or_else, within_changes}
 use Rattle.sr_model.specs.Changes.{table_changes}
 use Rattle.sr_keyed.specs.Keyed.{Keyed, with_replaced, without_key, is_from, is_up_to, is_between}
@@ -147,7 +147,7 @@ module _ (t : Table) (number : ℕ) (places : List Place) (c : Option Cond) (k :
   news-known =
       ap (λ rows. list_all (is_known k) rows) news-are
       ∙ subst (λ key. list_all (λ row. nat_lt key (length row) && has_key key (cell_at row key) k.rows) (map (updated_row places c) (filter (is_changed places c) k.rows)) ≡ true) (sym keyed.key)
-        (known-each k.rows keyed.fits (has-own t.key k.rows))
+      (known-each k.rows keyed.fits (has-own t.key k.rows))
 
   module _ (ascends : ascend k.key k.rows ≡ true) (news : List Row) (after : news ≡ filter_map (λ (ch : Change). ch.after) changes) where
     sorted : ascend t.key k.rows ≡ true
@@ -158,7 +158,7 @@ module _ (t : Table) (number : ℕ) (places : List Place) (c : Option Cond) (k :
         ap (λ (n : Keyed). n.rows) (replaced_by-rows k news)
         ∙ ap (λ rows. fold (λ xs row. with_replaced k.key row xs) k.rows rows) (after ∙ news-are)
         ∙ subst (λ key. fold (λ xs row. with_replaced key row xs) k.rows (map (updated_row places c) (filter (is_changed places c) k.rows)) ≡ map (updated_row places c) k.rows) (sym keyed.key)
-          (replaced-each t.key (updated_row places c) (updated_row-key t places c placed) (is_changed places c) (unchanged-same places c) k.rows sorted)
+        (replaced-each t.key (updated_row places c) (updated_row-key t places c placed) (is_changed places c) (unchanged-same places c) k.rows sorted)
 
     pub updated-done : length changes ≤ 10000 → updated t places c k.rows ≡ Ok (replaced_by k news).rows
     updated-done few = updated-few few ∙ ap (λ rows. Ok rows) (sym replaced-rows)
@@ -197,7 +197,7 @@ module _ (t : Table) (number : ℕ) (c : Option Cond) (k : Keyed) (keyed : IsKey
         ap (λ (n : Keyed). n.rows) (removed_by-rows k changes)
         ∙ ap (λ (chs : List Change). fold (λ xs (ch : Change). without_key k.key ch.key xs) k.rows chs) are
         ∙ subst (λ key. fold (λ xs (ch : Change). without_key key ch.key xs) k.rows (map (delete_change number t.key) (filter (meets c) k.rows)) ≡ filter (λ row. not (meets c row)) k.rows) (sym keyed.key)
-          (keys-fold (filter (meets c) k.rows) k.rows ∙ without-each (meets c) t.key k.rows in-order)
+        (keys-fold (filter (meets c) k.rows) k.rows ∙ without-each (meets c) t.key k.rows in-order)
 
     pub deleted-done : length changes ≤ 10000 → deleted c k.rows ≡ Ok (removed_by k changes).rows
     deleted-done few =

@@ -1,8 +1,7 @@
 -- What an UPDATE makes of rows by key ascending.
-use Rattle.std.proofs.Common.{◌≡◌, ℕ, Bool, true, false, cond, not, ◌&&◌, List, [], ◌∷◌, map, refl, sym, ap, subst, ◌∙◌, arith}
-use Rattle.std.specs.Prelude.{filter, fold, Option, Some, None, if◌then◌else◌}
-use Rattle.std.specs.List.{list_all, filter_map}
-use Rattle.sr_cell.specs.declared.change.Change.{Change}
+use Rattle.std.proofs.Common.{◌≡◌, ℕ, Bool, true, false, cond, not, List, [], ◌∷◌, map, refl, sym, ap, ◌∙◌, arith}
+use Rattle.std.specs.Prelude.{filter, fold, Some}
+use Rattle.std.specs.List.{filter_map}
 use Rattle.sr_cell.specs.declared.table.Table.{Table}
 use Rattle.sr_cell.specs.Cells.{Row, cell_at, cell_eq}
 use Rattle.sr_box.proofs.Order.{cell_eq-refl}

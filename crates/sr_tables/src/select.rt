@@ -1,8 +1,10 @@
 //! The rows of some rects.
 ghost use Rattle.std.specs.Prelude.{◌≡◌, ◌++◌, [], ◌∷◌, true, IfOk, IfSome, OnOk, Some, map, filter};
+ghost use Rattle.sr_cell.specs.declared.cell.Cell.{Cell as TheCell};
 ghost use Rattle.sr_cell.specs.declared.cell.Cell.TheVariants.{Num as Number};
-ghost use Rattle.sr_cell.specs.Cells.{Row as TheRow, cell_at};
+ghost use Rattle.sr_cell.specs.Cells.{Row as TheRow, cell_at, cell_le};
 ghost use Rattle.sr_cell.specs.Attrs.{project};
+ghost use Rattle.sr_box.specs.Spans.{in_span};
 ghost use Rattle.sr_box.specs.Points.{in_rect, in_any};
 ghost use Rattle.sr_keyed.specs.Keyed.{is_from, is_up_to};
 
@@ -15,23 +17,47 @@ use sr_keyed::keyed::KeyedRows;
 use sr_union::rects::Rects;
 use std::alloc::Global;
 
-/// The least number of the column that the rect has, where it has some numbers alone.
-fn low_of(rect: &Rect, column: usize) -> Option<i64>
-    ensures { IfSome result (λ low. (row : TheRow) → in_rect rect.now row ≡ true → is_from (Some (Number low)) (cell_at row column) ≡ true) }
+fn end_at(number: i64) -> Option<i64>
+    ensures { result ≡ Some number }
 {
-    match rect.get(column) {
-        Some(Span::Nums { lo, .. }) => Some(*lo),
+    Some(number)
+}
+
+/// The least number of the span, where it has some numbers alone.
+fn low_of(span: &Span) -> Option<i64>
+    ensures { IfSome result (λ low. (v : TheCell) → in_span span.now v ≡ true → cell_le (Number low) v ≡ true) }
+{
+    match span {
+        Span::Nums { lo, .. } => end_at(*lo),
         _ => None,
     }
 }
 
-/// The greatest number of the column that the rect has, where it has some numbers alone.
-fn high_of(rect: &Rect, column: usize) -> Option<i64>
-    ensures { IfSome result (λ high. (row : TheRow) → in_rect rect.now row ≡ true → is_up_to (Some (Number high)) (cell_at row column) ≡ true) }
+/// The greatest number of the span, where it has some numbers alone.
+fn high_of(span: &Span) -> Option<i64>
+    ensures { IfSome result (λ high. (v : TheCell) → in_span span.now v ≡ true → cell_le v (Number high) ≡ true) }
+{
+    match span {
+        Span::Nums { hi, .. } => end_at(*hi),
+        _ => None,
+    }
+}
+
+fn low_in(rect: &Rect, column: usize) -> Option<i64>
+    ensures { IfSome result (λ low. (row : TheRow) → in_rect rect.now row ≡ true → cell_le (Number low) (cell_at row column) ≡ true) }
 {
     match rect.get(column) {
-        Some(Span::Nums { hi, .. }) => Some(*hi),
-        _ => None,
+        Some(span) => low_of(span),
+        None => None,
+    }
+}
+
+fn high_in(rect: &Rect, column: usize) -> Option<i64>
+    ensures { IfSome result (λ high. (row : TheRow) → in_rect rect.now row ≡ true → cell_le (cell_at row column) (Number high) ≡ true) }
+{
+    match rect.get(column) {
+        Some(span) => high_of(span),
+        None => None,
     }
 }
 
@@ -41,7 +67,7 @@ fn lowest(rects: &[Rect], column: usize) -> Option<Cell>
 {
     let mut least = i64::MAX;
     for i in 0..rects.len() {
-        match low_of(&rects[i], column) {
+        match low_in(&rects[i], column) {
             Some(low) => least = least.min(low),
             None => return None,
         }
@@ -55,7 +81,7 @@ fn highest(rects: &[Rect], column: usize) -> Option<Cell>
 {
     let mut greatest = i64::MIN;
     for i in 0..rects.len() {
-        match high_of(&rects[i], column) {
+        match high_in(&rects[i], column) {
             Some(high) => greatest = greatest.max(high),
             None => return None,
         }

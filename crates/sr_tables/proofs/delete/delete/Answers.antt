@@ -1,6 +1,5 @@
-use Rattle.std.proofs.Common.{◌≡◌, List, sym, ap, subst, ◌∙◌}
+use Rattle.std.proofs.Common.{◌≡◌, sym, ap, subst, ◌∙◌}
 use Rattle.std.specs.Prelude.{Ok}
-use Rattle.sr_cell.specs.declared.change.Change.{Change}
 use Rattle.sr_query.specs.Written.{condition_of}
 use Rattle.sr_model.specs.Changes.{table_changes}
 use Rattle.sr_keyed.specs.Keyed.{Keyed}

@@ -1,9 +1,6 @@
-use Rattle.std.proofs.Common.{◌≡◌, true, [], ◌∷◌, arith}
-use Rattle.std.specs.List.{list_all}
+use Rattle.std.proofs.Common.{arith}
 use Rattle.std.specs.Vec.Iter.{into_iter_items}
 use Rattle.std.proofs.lemmas.Grind.{common_steps}
-use Rattle.sr_keyed.specs.Keyed.{with_replaced}
-use Rattle.sr_tables.specs.Steps.{is_known, replaced_by}
 use Rattle.sr_tables.proofs.Outcomes.{known-replaced}
 use Rattle.sr_tables.proofs.update.replace_all.Goals as goal
 

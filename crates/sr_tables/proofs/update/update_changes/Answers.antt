@@ -11,7 +11,7 @@ returns c =
     let places = map place_of c.args.sets.now in
     let condition = condition_of c.args.wanted.now.condition in
     let near = near-kept c.args.table.now c.args.rows.now c.requires.keyed (option_copied c.low_key-low.result) (option_copied c.high_key-high.result) (is_changed places condition)
-        (λ row fits e. c.low_key-low.ensures row fits (changed-meets places condition row e)) (λ row fits e. c.high_key-high.ensures row fits (changed-meets places condition row e)) in
+    (λ row fits e. c.low_key-low.ensures row fits (changed-meets places condition row e)) (λ row fits e. c.high_key-high.ensures row fits (changed-meets places condition row e)) in
     let value = c.as_slice.ensures.value in
     let some = c.in_ok-near.ensures in
     let out = c.in_ok-changes.ensures in

@@ -69,6 +69,7 @@ fn put_in_place(rows: &mut BTreeMap<Cell, Row>, key: usize, row: Row)
     }
 }
 
+/// Whether the cell is of the kind.
 fn is_of(kind: Kind, cell: &Cell) -> bool
     ensures { result ≡ is_of kind cell.now }
 {
@@ -91,6 +92,7 @@ fn are_ends(kind: Kind, low: Option<&Cell>, high: Option<&Cell>) -> bool
     }
 }
 
+/// An end as the map's ranges want it.
 fn bound_of<'b>(end: Option<&'b Cell>) -> Bound<&'b Cell>
     ensures { bound_map (λ x. x.now) result ≡ bound_of (option_copied end.entry) }
 {
@@ -100,7 +102,7 @@ fn bound_of<'b>(end: Option<&'b Cell>) -> Bound<&'b Cell>
     }
 }
 
-/// The rows of a part of the map.
+/// The rows of a part of a map.
 fn rows_between<'a, 'b>(
     rows: &'a BTreeMap<Cell, Row>,
     alloc: Global,
@@ -117,7 +119,7 @@ fn rows_between<'a, 'b>(
     Ok(found)
 }
 
-/// All rows of the map, moved out.
+/// All rows of a map, moved out.
 fn all_rows(map: BTreeMap<Cell, Row>, alloc: Global) -> Result<Rows, NoMemory>
     ensures { IfOk result (λ rows. rows ≡ values map) }
 {
@@ -158,6 +160,7 @@ impl KeyedRows {
     pub fn know_ascending(&self)
         ensures { ascend self.now.key self.now.rows ≡ true }
     {
+        // A field that is read makes the type's invariant known.
         let _rows = &self.rows;
     }
 
@@ -214,6 +217,7 @@ impl KeyedRows {
     ) -> Result<Vec<&'a Row>, NoMemory>
         ensures { IfOk result (λ rows. map (λ r. r.now) rows.items ≡ filter (is_between self.now.key (option_copied low.entry) (option_copied high.entry)) self.now.rows) }
     {
+        // No key is between other ends, and a map's range asks for ends in order.
         if !are_ends(self.kind, low, high) {
             return Ok(Vec::new(alloc));
         }

@@ -2,3 +2,5 @@
 #![tactic(auto)]
 
 pub mod keyed;
+#[cfg(test)]
+mod tests;

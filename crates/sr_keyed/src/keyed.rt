@@ -142,6 +142,13 @@ impl KeyedRows {
         }
     }
 
+    /// The number of the key column.
+    pub fn key(&self) -> usize
+        ensures { result ≡ self.now.key }
+    {
+        self.key
+    }
+
     /// How many rows there are.
     pub fn len(&self) -> usize
         ensures { result ≡ length self.now.rows }

@@ -15,7 +15,7 @@ use Rattle.sr_model.specs.Statements.{Tables, with_table}
 use Rattle.sr_model.specs.Changes.{table_changes, changes}
 use Rattle.sr_keyed.specs.Keyed.{Keyed}
 use Rattle.sr_tables.specs.Stored.{IsKeyed, rows_in}
-use Rattle.sr_tables.proofs.Kept.{rows-at, rows-set, there}
+use Rattle.sr_tables.proofs.ByTable.{rows-at, rows-set, there}
 use Rattle.sr_tables.proofs.Others.{one-changed}
 
 pub done : {A E : Type 0} (r : Result A E) (all : List Keyed) (t : ℕ) (d old new : Keyed) (of : List Row → Result (List Row) Fault)

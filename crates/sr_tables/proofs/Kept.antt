@@ -1,129 +1,79 @@
--- What holds of the rows of each table holds of one of them, and after one of them has changed.
-use Rattle.std.proofs.Common.{◌≡◌, ℕ, ◌<◌, ◌&&◌, Bool, true, false, List, [], ◌∷◌, ◌++◌, ◌+◌, ◌≤◌, ◌∙◌, take, length, map, refl, sym, ap, subst, arith, zero, suc, IsTrue}
-use Rattle.std.proofs.lemmas.Bool.Decides.{nat_tests}
-use Rattle.std.proofs.lemmas.List.{take_more, take_all, map-append}
-use Rattle.std.specs.Prelude.{nat_lt, not, ◌==◌, slice_set, slice_index_or}
-use Rattle.std.specs.List.{list_all, AllZip}
+-- What changes where each row of a table is kept, changed or left out.
+use Rattle.std.proofs.Common.{◌≡◌, ℕ, Bool, true, false, cond, not, List, [], ◌∷◌, map, refl, sym, ap, subst, ◌∙◌, arith}
+use Rattle.std.specs.Prelude.{filter, Option, Some}
+use Rattle.std.specs.List.{list_all, filter_map, AllByRecursion}
+use Rattle.sr_cell.specs.declared.change.Change.{Change}
 use Rattle.sr_cell.specs.declared.table.Table.{Table}
-use Rattle.sr_cell.specs.Cells.{Row}
-use Rattle.sr_cell.specs.Columns.{table_at, fits_columns}
-use Rattle.sr_model.specs.Queries.{rows_at}
-use Rattle.sr_model.specs.Statements as model
-use Rattle.sr_model.specs.Statements.{Write}
-use Rattle.sr_query.specs.declared.write.Place.{Place}
-use Rattle.sr_query.specs.Written.{place_of}
-use Rattle.sr_model.specs.SortedRows.{ascend}
-use Rattle.sr_query.specs.Writes.{table_of, suits_table, suits}
-use Rattle.sr_keyed.specs.Keyed.{Keyed}
-use Rattle.sr_tables.specs.Stored.{IsKeyed, rows_in, no_rows, are_rows, are_stored}
+use Rattle.sr_cell.specs.Cells.{Row, cell_at}
+use Rattle.sr_model.specs.SortedRows.{ascend, has_key}
+use Rattle.sr_model.specs.Changes.{row_with, same_row, all_keys, table_changes}
+use Rattle.sr_tables.proofs.Keys.{KeepsKey, has-own, has-kept, found-kept}
 
-pub zip-length : (schema : List Table) (all : List Keyed) → AllZip IsKeyed schema all → length all ≡ length schema
-zip-length [] [] zip = refl
-zip-length [] (k ∷ all) zip = absurd zip
-zip-length (t ∷ schema) [] zip = absurd zip
-zip-length (t ∷ schema) (k ∷ all) zip = omega (arith, zip-length schema all zip.1)
+pub map-same : {X Y : Type 0} (f g : X → Y) (xs : List X) → AllByRecursion (λ x. f x ≡ g x) xs → map f xs ≡ map g xs
+map-same f g [] all = refl
+map-same f g (x ∷ xs) all = let one = all.0 in let ih = map-same f g xs all.1 in cc
 
--- of the table of this number
-pub zip-at : (schema : List Table) (all : List Keyed) (t : ℕ) (d : Keyed) → AllZip IsKeyed schema all → t < length schema → IsKeyed (table_at schema t) (slice_index_or all t d)
-zip-at [] all t d zip known = absurd (omega (arith, known))
-zip-at (table ∷ schema) [] t d zip known = absurd zip
-zip-at (table ∷ schema) (j ∷ all) zero d zip known = zip.0
-zip-at (table ∷ schema) (j ∷ all) (suc t) d zip known = zip-at schema all t d zip.1 (omega (arith, known))
-
-pub zip-set : (schema : List Table) (all : List Keyed) (t : ℕ) (k : Keyed) → AllZip IsKeyed schema all → IsKeyed (table_at schema t) k → AllZip IsKeyed schema (slice_set all t k)
-zip-set [] [] t k zip is = tt
-zip-set [] (j ∷ all) t k zip is = absurd zip
-zip-set (table ∷ schema) [] t k zip is = absurd zip
-zip-set (table ∷ schema) (j ∷ all) zero k zip is = (is, zip.1)
-zip-set (table ∷ schema) (j ∷ all) (suc t) k zip is = (zip.0, zip-set schema all t k zip.1 is)
-
--- the rows are those of the table of this number
-pub rows-at : (all : List Keyed) (t : ℕ) (d : Keyed) → t < length all → rows_at (map (λ (k : Keyed). k.rows) all) t ≡ (slice_index_or all t d).rows
-rows-at [] t d known = absurd (omega (arith, known))
-rows-at (j ∷ all) zero d known = refl
-rows-at (j ∷ all) (suc t) d known = rows-at all t d (omega (arith, known))
-
-pub rows-set : (all : List Keyed) (t : ℕ) (k : Keyed) → map (λ (k : Keyed). k.rows) (slice_set all t k) ≡ slice_set (map (λ (k : Keyed). k.rows) all) t k.rows
-rows-set [] t k = refl
-rows-set (j ∷ all) zero k = refl
-rows-set (j ∷ all) (suc t) k = ap (λ tables. j.rows ∷ tables) (rows-set all t k)
-
--- ---- one table of all changes
-
-pub there : (schema : List Table) (all : List Keyed) (t : ℕ) → AllZip IsKeyed schema all → t < length schema → t < length all
-there schema all t zip known = omega (arith, zip-length schema all zip, known)
-
--- the statement is on one of the tables
-pub known-of : (schema : List Table) (w : Write) → IsTrue (suits schema w) → table_of w < length schema
-known-of schema w fits = let first : nat_lt (table_of w) (length schema) ≡ true = left (nat_lt (table_of w) (length schema)) (suits_table (table_at schema (table_of w)) w) fits in grind (arith, nat_tests)
+pub map-passed : {X Y : Type 0} (f g : X → Y) (p : X → Bool) → ((x : X) → p x ≡ true → f x ≡ g x) → (xs : List X) → map f (filter p xs) ≡ map g (filter p xs)
+map-passed f g p same [] = refl
+map-passed f g p same (x ∷ xs) = go (p x) refl (map-passed f g p same xs)
   where
-    left : (a b : Bool) → (a && b) ≡ true → a ≡ true
-    left true b both = refl
-    left false b both = both
+    go : (b : Bool) → p x ≡ b → map f (filter p xs) ≡ map g (filter p xs) → map f (cond b (x ∷ filter p xs) (filter p xs)) ≡ map g (cond b (x ∷ filter p xs) (filter p xs))
+    go true e ih = let one = same x e in cc
+    go false e ih = ih
 
--- and it suits that table
-pub suits-of : (schema : List Table) (w : Write) → IsTrue (suits schema w) → IsTrue (suits_table (table_at schema (table_of w)) w)
-suits-of schema w fits = right (nat_lt (table_of w) (length schema)) (suits_table (table_at schema (table_of w)) w) fits
+pub filter-map : {X Y : Type 0} (p : Y → Bool) (f : X → Y) (xs : List X) → filter p (map f xs) ≡ map f (filter (λ x. p (f x)) xs)
+filter-map p f [] = refl
+filter-map p f (x ∷ xs) = go (p (f x)) (filter-map p f xs)
   where
-    right : (a b : Bool) → (a && b) ≡ true → b ≡ true
-    right true b both = both
-    right false b both = absurd (cc)
+    go : (b : Bool) → filter p (map f xs) ≡ map f (filter (λ x. p (f x)) xs)
+        → cond b (f x ∷ filter p (map f xs)) (filter p (map f xs)) ≡ map f (cond b (x ∷ filter (λ x. p (f x)) xs) (filter (λ x. p (f x)) xs))
+    go true ih = ap (λ ys. f x ∷ ys) ih
+    go false ih = ih
 
-pub places-suit : (table : Table) (sets : List Place) → IsTrue (list_all (λ (p : model.Place). nat_lt p.column (length table.columns) && not (p.column == table.key)) (map place_of sets))
-    → IsTrue (list_all (λ (p : Place). nat_lt p.column (length table.columns) && not (p.column == table.key)) sets)
-places-suit table [] all = refl
-places-suit table (p ∷ sets) all = by (nat_lt p.column (length table.columns) && not (p.column == table.key)) all (places-suit table sets)
+-- the rows that pass are among those that pass a wider test
+pub filter-wider : {X : Type 0} (p q : X → Bool) → ((x : X) → p x ≡ true → q x ≡ true) → (xs : List X) → filter p (filter q xs) ≡ filter p xs
+filter-wider p q wider [] = refl
+filter-wider p q wider (x ∷ xs) = go (p x) refl (q x) refl (filter-wider p q wider xs)
   where
-    by : (b : Bool) → (b && list_all (λ (p : model.Place). nat_lt p.column (length table.columns) && not (p.column == table.key)) (map place_of sets)) ≡ true
-        → (IsTrue (list_all (λ (p : model.Place). nat_lt p.column (length table.columns) && not (p.column == table.key)) (map place_of sets))
-        → IsTrue (list_all (λ (p : Place). nat_lt p.column (length table.columns) && not (p.column == table.key)) sets))
-        → (b && list_all (λ (p : Place). nat_lt p.column (length table.columns) && not (p.column == table.key)) sets) ≡ true
-    by true all later = later all
-    by false all later = all
+    go : (a : Bool) → p x ≡ a → (b : Bool) → q x ≡ b → filter p (filter q xs) ≡ filter p xs
+        → filter p (cond b (x ∷ filter q xs) (filter q xs)) ≡ cond a (x ∷ filter p xs) (filter p xs)
+    go true e true d ih = rw (e, ih) refl
+    go true e false d ih = let w = wider x e in absurd (cc)
+    go false e true d ih = rw (e, ih) refl
+    go false e false d ih = ih
 
--- ---- the rows of all tables
+all_keys-same : (key : ℕ) (old news : List Row) → list_all (λ row. has_key key (cell_at row key) old) news ≡ true → all_keys key old news ≡ old
+all_keys-same key old [] h = refl
+all_keys-same key old (row ∷ news) h =
+    let has : has_key key (cell_at row key) old ≡ true = grind arith in
+    rw has (all_keys-same key old news (grind arith))
 
-abbrev pub AllAscend : List Keyed → Type 0
-AllAscend [] = Unit {0}
-AllAscend (k ∷ all) = (ascend k.key k.rows ≡ true) × AllAscend all
+kept-all : (rows : List Row) → filter_map Some rows ≡ rows
+kept-all [] = refl
+kept-all (row ∷ rows) = ap (λ xs. row ∷ xs) (kept-all rows)
 
-both : (a b : Bool) → a ≡ true → b ≡ true → (a && b) ≡ true
-both a b p q = rw (p, q) refl
+-- what becomes of a row, as a change
+abbrev pub change_by : Table → ℕ → (Row → Option Row) → Row → Change
+change_by table n g row = record { table = n; key = cell_at row table.key; before = Some row; after = g row }
 
-pub ascend-more : (all : List Keyed) (k : Keyed) → AllAscend all → ascend k.key k.rows ≡ true → AllAscend (all ++ k ∷ [])
-ascend-more [] k up one = (one, tt)
-ascend-more (j ∷ all) k up one = (up.0, ascend-more all k up.1 one)
+module _ (table : Table) (n : ℕ) (g : Row → Option Row) where
+  abbrev change_to : List Row → List Row → Row → Change
+  change_to old news row = record { table = n; key = cell_at row table.key; before = row_with table.key (cell_at row table.key) old; after = row_with table.key (cell_at row table.key) news }
 
-pub all-stored : (schema : List Table) (all : List Keyed) → AllZip IsKeyed schema all → AllAscend all → are_stored schema (rows_in all) ≡ true
-all-stored [] [] zip up = refl
-all-stored [] (k ∷ all) zip up = absurd zip
-all-stored (t ∷ schema) [] zip up = absurd zip
-all-stored (t ∷ schema) (k ∷ all) zip up =
-    both (are_rows t k.rows) (are_stored schema (rows_in all))
-    (both (ascend t.key k.rows) (list_all (fits_columns t.columns) k.rows) (subst (λ key. ascend key k.rows ≡ true) zip.0.key up.0) zip.0.fits)
-    (all-stored schema all zip.1 up.1)
+  both : (old news xs : List Row) → AllByRecursion (λ row. row_with table.key (cell_at row table.key) old ≡ Some row) xs
+      → AllByRecursion (λ row. row_with table.key (cell_at row table.key) news ≡ g row) xs → AllByRecursion (λ row. change_to old news row ≡ change_by table n g row) xs
+  both old news [] own all = tt
+  both old news (x ∷ xs) own all = (rw (own.0, all.0) refl, both old news xs own.1 all.1)
 
-pub zip-more : (schema : List Table) (all : List Keyed) (t : Table) (k : Keyed) → AllZip IsKeyed schema all → IsKeyed t k → AllZip IsKeyed (schema ++ t ∷ []) (all ++ k ∷ [])
-zip-more [] [] t k zip one = (one, tt)
-zip-more [] (j ∷ all) t k zip one = absurd zip
-zip-more (s ∷ schema) [] t k zip one = absurd zip
-zip-more (s ∷ schema) (j ∷ all) t k zip one = (zip.0, zip-more schema all t k zip.1 one)
-
-pub ascend-next : (all : List Keyed) (i : ℕ) (k : Keyed) → i < length all → k ≡ slice_index_or all i k → AllAscend (take i all) → ascend k.key k.rows ≡ true → AllAscend (take (i + 1) all)
-ascend-next all i k inside is up one =
-    subst AllAscend (sym (take_more all i k inside ∙ ap (λ j. take i all ++ j ∷ []) (sym is))) (ascend-more (take i all) k up one)
-
-pub ascend-all : (all : List Keyed) (i : ℕ) → length all ≤ i → AllAscend (take i all) → AllAscend all
-ascend-all all i end up = subst AllAscend (take_all i all end) up
-
--- the first tables have no rows
-abbrev pub EmptySoFar : List Table → ℕ → List Keyed → Type 0
-EmptySoFar tables i all = AllZip IsKeyed (take i tables) all × (rows_in all ≡ no_rows (take i tables))
-
-pub empty-next : (tables : List Table) (i : ℕ) (t : Table) (all : List Keyed) (k : Keyed) (more : List Keyed) → i < length tables → t ≡ slice_index_or tables i t
-    → EmptySoFar tables i all → IsKeyed t k → k.rows ≡ [] → more ≡ all ++ k ∷ [] → EmptySoFar tables (i + 1) more
-empty-next tables i t all k more inside is so_far one none pushed =
-    let front : take (i + 1) tables ≡ take i tables ++ t ∷ [] = take_more tables i t inside ∙ ap (λ u. take i tables ++ u ∷ []) (sym is) in
-    let rows : rows_in (all ++ k ∷ []) ≡ no_rows (take i tables ++ t ∷ []) =
-    map-append (λ (k : Keyed). k.rows) all (k ∷ []) ∙ (ap (λ front. front ++ k.rows ∷ []) so_far.1 ∙ (ap (λ rows. no_rows (take i tables) ++ rows ∷ []) none ∙ sym (map-append (λ t. []) (take i tables) (t ∷ [])))) in
-    rw (front, pushed) (zip-more (take i tables) all t k so_far.0 one, rows)
+  -- the changes are the rows that do not stay as they were
+  pub changes-kept : KeepsKey table.key g → (old : List Row) → ascend table.key old ≡ true
+      → table_changes table n old (filter_map g old) ≡ map (change_by table n g) (filter (λ row. not (same_row (Some row) (g row))) old)
+  changes-kept keeps old h =
+      let news : List Row = filter_map g old in
+      let own = subst (λ xs. AllByRecursion (λ row. row_with table.key (cell_at row table.key) xs ≡ Some row) old) (kept-all old) (found-kept table.key Some keeps-own old h) in
+      ap (λ rows. filter (λ (c : Change). not (same_row c.before c.after)) (map (change_to old news) rows)) (all_keys-same table.key old news (has-kept table.key g keeps old old (has-own table.key old)))
+      ∙ ap (λ cs. filter (λ (c : Change). not (same_row c.before c.after)) cs) (map-same (change_to old news) (change_by table n g) old (both old news old own (found-kept table.key g keeps old h)))
+      ∙ filter-map (λ (c : Change). not (same_row c.before c.after)) (change_by table n g) old
+    where
+      keeps-own : KeepsKey table.key Some
+      keeps-own row other e = let same : row ≡ other = cc in ap (λ r. cell_at r table.key) (sym same)

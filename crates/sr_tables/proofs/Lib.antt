@@ -4,6 +4,13 @@ pub mod Changing
 pub mod Taking
 pub mod Keeping
 pub mod Others
-pub mod Kept
+pub mod ByTable
 pub mod Short
 pub mod Done
+pub mod Keys
+pub mod Kept
+pub mod Updating
+pub mod Deleting
+pub mod Placing
+pub mod Ends
+pub mod Outcomes

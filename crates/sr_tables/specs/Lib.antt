@@ -1,3 +1,4 @@
 pub mod Stored
 pub mod Inserts
 pub mod Added
+pub mod Steps

@@ -2,12 +2,15 @@
 #![tactic(auto)]
 
 mod carry;
+mod changes;
 mod delete;
 mod faults;
 mod fresh;
 mod insert;
 mod load;
+mod places;
 mod put;
 mod select;
+mod span;
 pub mod tables;
 mod update;

@@ -3,7 +3,7 @@ use Rattle.std.proofs.lemmas.Grind.{common_steps}
 use Rattle.sr_model.specs.Statements.{Insert, inserted}
 use Rattle.sr_cell.specs.Columns.{table_at}
 use Rattle.sr_tables.specs.Stored.{IsKeyed}
-use Rattle.sr_tables.proofs.Kept.{there, zip-at, zip-set, known-of, suits-of}
+use Rattle.sr_tables.proofs.ByTable.{there, zip-at, zip-set, known-of, suits-of}
 use Rattle.sr_tables.proofs.Done.{done, changed, refused}
 use Rattle.sr_tables.proofs.carry.insert_into.Goals as goal
 

@@ -5,7 +5,7 @@ use Rattle.std.specs.Prelude.{map}
 use Rattle.sr_query.specs.Written.{place_of, condition_of}
 use Rattle.sr_cell.specs.Columns.{table_at}
 use Rattle.sr_tables.specs.Stored.{IsKeyed}
-use Rattle.sr_tables.proofs.Kept.{there, zip-at, zip-set, known-of, suits-of, places-suit}
+use Rattle.sr_tables.proofs.ByTable.{there, zip-at, zip-set, known-of, suits-of, places-suit}
 use Rattle.sr_tables.proofs.Done.{done, changed, refused}
 use Rattle.sr_tables.proofs.carry.update_in.Goals as goal
 

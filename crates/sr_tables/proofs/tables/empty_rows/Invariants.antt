@@ -1,4 +1,4 @@
-use Rattle.sr_tables.proofs.Kept.{EmptySoFar}
+use Rattle.sr_tables.proofs.ByTable.{EmptySoFar}
 use Rattle.sr_tables.proofs.tables.empty_rows.Given as goal
 
 abbrev pub invariant-loop-table : goal.invariant-loop-table

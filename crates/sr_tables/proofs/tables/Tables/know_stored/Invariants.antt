@@ -1,5 +1,5 @@
 use Rattle.std.proofs.Common.{take}
-use Rattle.sr_tables.proofs.Kept.{AllAscend}
+use Rattle.sr_tables.proofs.ByTable.{AllAscend}
 use Rattle.sr_tables.proofs.tables.Tables.know_stored.Given as goal
 
 abbrev pub invariant-loop-rows : goal.invariant-loop-rows

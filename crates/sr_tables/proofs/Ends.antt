@@ -1,0 +1,73 @@
+-- Ends of the values that a comparison is true of.
+use Rattle.std.proofs.Common.{◌≡◌, ℕ, zero, suc, Bool, true, false, not, ◌||◌, List, [], ◌∷◌, length, refl, sym, ap, ◌∙◌, arith}
+use Rattle.std.specs.Prelude.{ℤ, ◌<◌, Option, Some, None, slice_index_or, slice_get, if◌then◌else◌}
+use Rattle.std.proofs.lemmas.Int.{ints}
+use Rattle.sr_cell.specs.declared.cell.Cell.{Cell}
+use Rattle.sr_cell.specs.declared.cell.Cell.TheVariants.{Num, Str}
+use Rattle.sr_cell.specs.declared.table.Kind.{Kind}
+use Rattle.sr_cell.specs.declared.table.Kind.TheVariants.{Num as Numbers, Str as Texts}
+use Rattle.sr_cell.specs.declared.table.Column.{Column}
+use Rattle.sr_cell.specs.Cells.{Row, cell_at, cell_le}
+use Rattle.sr_cell.specs.Columns.{takes_kind, fits_columns}
+use Rattle.sr_box.specs.declared.span.Span.{Span}
+use Rattle.sr_box.specs.declared.span.Span.TheVariants.{Nums}
+use Rattle.sr_box.specs.Spans.{in_span}
+use Rattle.sr_box.specs.Points.{Rect, in_rect}
+use Rattle.sr_rows.proofs.Order.{text_le-total}
+use Rattle.sr_keyed.specs.Keyed.{is_of, is_from, is_up_to, is_between}
+
+-- cells of one kind are in order
+in_order : (kind : Kind) (v w : Cell) → is_of kind v ≡ true → is_of kind w ≡ true → (cell_le v w || cell_le w v) ≡ true
+in_order Numbers (Num n) (Num m) h k = grind (arith, ints)
+in_order Numbers (Num n) (Str s) h k = absurd (cc)
+in_order Numbers (Str s) w h k = absurd (cc)
+in_order Texts (Num n) w h k = absurd (cc)
+in_order Texts (Str s) (Num m) h k = absurd (cc)
+in_order Texts (Str s) (Str t) h k = text_le-total s t
+
+pub below-end : (kind : Kind) (v w : Cell) → is_of kind v ≡ true → not (cell_le w v) ≡ true → is_up_to (if is_of kind w then Some w else None) v ≡ true
+below-end kind v w h k = go (is_of kind w) refl
+  where
+    go : (b : Bool) → is_of kind w ≡ b → is_up_to (if b then Some w else None) v ≡ true
+    go true e = let order = in_order kind v w h e in grind (arith, order)
+    go false e = refl
+
+pub above-end : (kind : Kind) (v w : Cell) → is_of kind v ≡ true → not (cell_le v w) ≡ true → is_from (if is_of kind w then Some w else None) v ≡ true
+above-end kind v w h k = go (is_of kind w) refl
+  where
+    go : (b : Bool) → is_of kind w ≡ b → is_from (if b then Some w else None) v ≡ true
+    go true e = let order = in_order kind v w h e in grind (arith, order)
+    go false e = refl
+
+takes-kind : (kind : Kind) (low high : ℤ) (v : Cell) → takes_kind kind low high v ≡ true → is_of kind v ≡ true
+takes-kind Numbers low high (Num n) h = refl
+takes-kind Numbers low high (Str s) h = absurd (cc)
+takes-kind Texts low high (Num n) h = absurd (cc)
+takes-kind Texts low high (Str s) h = refl
+
+-- the cells of a row that fits are of the kinds of their columns
+pub fits-kind_of : (columns : List Column) (c : ℕ) (row : Row) (d : Column) → c < length columns → fits_columns columns row ≡ true → is_of (slice_index_or columns c d).kind (cell_at row c) ≡ true
+fits-kind_of [] c row d below h = absurd (omega arith)
+fits-kind_of (column ∷ columns) c [] d below h = absurd (cc)
+fits-kind_of (column ∷ columns) zero (v ∷ row) d below h = takes-kind column.kind column.lo column.hi v (grind arith)
+fits-kind_of (column ∷ columns) (suc c) (v ∷ row) d below h = fits-kind_of columns c row d (omega arith) (grind arith)
+
+-- a row from one end up to another
+pub is_between-both : (key : ℕ) (low high : Option Cell) (row : Row) → is_from low (cell_at row key) ≡ true → is_up_to high (cell_at row key) ≡ true → is_between key low high row ≡ true
+is_between-both key low high row a b = grind (arith, a, b)
+
+-- the ends of a rect's numbers in a column
+
+pub nums-low : (lo hi : ℤ) (v : Cell) → in_span (Nums lo hi) v ≡ true → cell_le (Num lo) v ≡ true
+nums-low lo hi (Num n) h = grind arith
+nums-low lo hi (Str t) h = absurd (cc)
+
+pub nums-high : (lo hi : ℤ) (v : Cell) → in_span (Nums lo hi) v ≡ true → cell_le v (Num hi) ≡ true
+nums-high lo hi (Num n) h = grind arith
+nums-high lo hi (Str t) h = absurd (cc)
+
+pub rect-at : (rect : Rect) (row : Row) (c : ℕ) (s : Span) → slice_get rect c ≡ Some s → in_rect rect row ≡ true → in_span s (cell_at row c) ≡ true
+rect-at [] row c s is h = absurd (cc)
+rect-at (t ∷ rect) [] c s is h = absurd (cc)
+rect-at (t ∷ rect) (v ∷ row) zero s is h = let same : t ≡ s = cc in let own : in_span t v ≡ true = grind arith in ap (λ u. in_span u v) (sym same) ∙ own
+rect-at (t ∷ rect) (v ∷ row) (suc c) s is h = rect-at rect row c s is (grind arith)

@@ -13,4 +13,6 @@ mod put;
 mod select;
 mod span;
 pub mod tables;
+#[cfg(test)]
+mod tests;
 mod update;

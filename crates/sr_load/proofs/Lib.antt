@@ -2,3 +2,4 @@ pub mod Digits
 pub mod Taking
 pub mod Rows
 pub mod Texts
+pub mod Files

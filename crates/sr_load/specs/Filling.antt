@@ -1,5 +1,5 @@
 -- Files that are loaded into the tables of a schema, one after another.
-use Rattle.std.specs.Prelude.{ℕ, List, [], ◌∷◌, map, Option, Some, None, Result, Ok, Err}
+use Rattle.std.specs.Prelude.{ℕ, List, [], ◌∷◌, Option, Some, None, Result, Ok, Err}
 use Rattle.sr_cell.specs.declared.table.Table.{Table}
 use Rattle.sr_cell.specs.declared.fault.Fault.{Fault}
 use Rattle.sr_cell.specs.declared.fault.Why.TheVariants.{UnknownTable}
@@ -9,7 +9,6 @@ use Rattle.sr_model.specs.Queries.{rows_at}
 use Rattle.sr_model.specs.Statements.{Tables, with_table}
 use Rattle.sr_model.specs.Loads.{rows_loaded}
 use Rattle.sr_query.specs.Binding.{fault, ◌>>=◌}
-use Rattle.sr_tables.specs.Stored.{no_rows}
 use Rattle.sr_load.specs.Loading.{loaded}
 use Rattle.sr_load.specs.declared.fill.Load.{Load}
 use Rattle.sr_load.specs.declared.fill.LoadFault.{LoadFault}

@@ -1,1 +1,6 @@
+pub mod Cuts
 pub mod FitsLemmas
+pub mod LoadTexts
+pub mod LoadWords
+pub mod ReadSoFar
+pub mod SameFiles

@@ -1,4 +1,4 @@
-//! Reading the script.
+//! Reading a file.
 ghost use Rattle.std.specs.Prelude.{◌≡◌, OnOk, IfOk, IsErrOf};
 ghost use Rattle.sr_io.specs.Causes.{Rose};
 ghost use Rattle.sr_cli.specs.Run.{IsWhatIsHeld, IsTooLong};
@@ -9,10 +9,10 @@ use sr_io::outside::Host;
 use sr_io::whole::{ReadAll, read_all};
 use std::alloc::Global;
 
-/// The most bytes that a script may have.
+/// The most bytes that a file may have.
 const LIMIT: usize = 67108864;
 
-/// Why a script was not read.
+/// Why a file was not read.
 #[derive(Clone, Copy, Debug, PartialEq, Eq)]
 pub enum ReadFault {
     /// The host failed.

@@ -4,9 +4,11 @@
 ghost use Rattle.std.specs.Prelude.{◌≡◌, map, drop, string_bytes, IfOk};
 
 mod file;
+mod files;
 mod run;
 #[cfg(test)]
 mod tests;
+mod words;
 
 use run::run;
 use sr_cell::list::{No, NoMemory, Seq};

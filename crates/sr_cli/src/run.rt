@@ -1,17 +1,23 @@
 //! The top call.
-ghost use Rattle.std.specs.Prelude.{◌≡◌, ℕ, ◌⊎◌, ◌↔◌, List, Some, None, IfSome, OnOk, IsErrOf};
+ghost use Rattle.std.specs.Prelude.{◌≡◌, ℕ, ◌⊎◌, ◌↔◌, ◌<◌, ◌^◌, nat_lt, List, [], length, string_bytes, Option, Some, None, IsTrue, IfSome, IfOk, OnOk, IsErrOf};
+ghost use Rattle.std.specs.List.{list_all};
 ghost use Rattle.sr_cell.specs.declared.fault.Fault.{Fault as TheFault};
+ghost use Rattle.sr_language.specs.Lines.{lines_of};
+ghost use Rattle.sr_language.specs.Script.{start_phase, FirstRefused, FirstUnbuilt};
 ghost use Rattle.sr_load.specs.declared.fill.Load.{Load};
+ghost use Rattle.sr_world.specs.declared.world.World.{World};
+ghost use Rattle.sr_world.specs.Replay.{RefusesLoad, Wrote, WrotePart};
 ghost use Rattle.sr_io.specs.Causes.{Rose};
 ghost use Rattle.sr_io.specs.Told.{complained};
 ghost use Rattle.sr_cli.specs.Run.{Words as TheWords, words_of, files_of, OnWords, IsStatus, Replayed, ReplayedInPart, SomeTooLong, IsRefusedSetup, IsRefusedLoad, IsUnbuilt, NamedSetup, NamedLoad, NamedUnbuilt, setup_text, load_text, unbuilt_text, error_text, AreHeld, FitsFiles};
+ghost use Rattle.sr_cli.specs.Seen.{words_seen};
 ghost use Rattle.sr_cli.specs.declared.run.Refusal.TheVariants.{Read, Write, Memory, TooLong, Setup, Load as LoadRefused, Unbuilt};
 
 use crate::file::ReadFault;
 use crate::files::{Files, read_files};
 use crate::words::{Words, words_of};
 use sr_cell::fault::{Fault, Why};
-use sr_cell::list::No;
+use sr_cell::list::{No, NoMemory};
 use sr_cell::text::Text;
 use sr_io::outside::Host;
 use sr_script::words::why_word;
@@ -107,7 +113,29 @@ fn replay_files<H: Host>(alloc: Global, words: &Words<'_>, host: &mut H) -> Resu
 
 /// Replays the script of files that were read.
 fn replay_read<H: Host>(alloc: Global, files: &Files, host: &mut H) -> Result<(), Refusal>
-    // as replay, over files.script and files.loads
+    requires script { length files.now.script < 2 ^ 32 }
+    requires loads { IsTrue (list_all (λ load. nat_lt (length load.bytes) (2 ^ 32)) files.now.loads) }
+    ensures replayed { OnOk result ((world : Option World) × Wrote (H.writing host.old).written (H.writing host.new).written files.now.script files.now.loads world) }
+    ensures never_reads { ¬ IsErrOf result Read }
+    ensures never_too_long { ¬ IsErrOf result TooLong }
+    ensures write_fault_is_counted { IsErrOf result Write → Rose (H.writing host.old).faults (H.writing host.new).faults }
+    ensures part_after_fault { IsErrOf result Write → WrotePart (H.writing host.old).written (H.writing host.new).written files.now.script files.now.loads }
+    ensures part_in_want { IsErrOf result Memory → (H.writing host.new ≡ H.writing host.old) ⊎ WrotePart (H.writing host.old).written (H.writing host.new).written files.now.script files.now.loads }
+    ensures setup { (line : ℕ) (fault : TheFault) → IsErrOf result (Setup line fault) → FirstRefused 1 [] (lines_of files.now.script) line fault }
+    ensures setup_writes_nothing { (line : ℕ) (fault : TheFault) → IsErrOf result (Setup line fault) → H.writing host.new ≡ H.writing host.old }
+    ensures load { (table : List ℕ) (fault : TheFault) → IsErrOf result (LoadRefused table fault) → RefusesLoad files.now.script files.now.loads table fault }
+    ensures load_writes_nothing { (table : List ℕ) (fault : TheFault) → IsErrOf result (LoadRefused table fault) → H.writing host.new ≡ H.writing host.old }
+    ensures unbuilt { (line : ℕ) → IsErrOf result (Unbuilt line) → FirstUnbuilt 1 start_phase (lines_of files.now.script) line }
+    ensures unbuilt_accepts { (line : ℕ) → IsErrOf result (Unbuilt line) → (refused : ℕ) (fault : TheFault) → ¬ FirstRefused 1 [] (lines_of files.now.script) refused fault }
+    ensures unbuilt_loads { (line : ℕ) → IsErrOf result (Unbuilt line) → (table : List ℕ) (fault : TheFault) → ¬ RefusesLoad files.now.script files.now.loads table fault }
+    ensures unbuilt_writes_nothing { (line : ℕ) → IsErrOf result (Unbuilt line) → H.writing host.new ≡ H.writing host.old }
+    ensures writing_keeps_faults { IsErrOf result Write ⊎ ((H.writing host.new).faults ≡ (H.writing host.old).faults) }
+    ensures stays_steady { H.IsSteady host.old → H.IsSteady host.new }
+    ensures steady_writes { H.IsSteady host.old → ¬ IsErrOf result Write }
+    ensures reading_stays { H.reading host.new ≡ H.reading host.old }
+    ensures held_stays { H.held host.new ≡ H.held host.old }
+    ensures linking_stays { H.linking host.new ≡ H.linking host.old }
+    ensures complaints_stay { H.complaints host.new ≡ H.complaints host.old }
 {
     match replay(alloc, files.script.as_slice(), files.loads.as_slice(), host) {
         Ok(_) => Ok(()),
@@ -178,6 +206,42 @@ fn report_setup<H: Host>(alloc: Global, line: u64, fault: Fault, host: &mut H) -
         Err(_) => {
             host.complain(b"memory\n");
             9
+        }
+    }
+}
+
+/// Names the table of the file and its fault on the error output, or tells that there was no memory for it.
+fn report_load<H: Host>(alloc: Global, table: &Text, fault: Fault, host: &mut H) -> u8
+    ensures only { (result ≡ 7) ⊎ (result ≡ 9) }
+    ensures named { result ≡ 7 → H.complaints host.new ≡ complained (load_text table.now fault) (H.complaints host.old) }
+    ensures memory { IfSome (error_text result) (λ text. H.complaints host.new ≡ complained text (H.complaints host.old)) }
+    ensures stays_steady { H.IsSteady host.old → H.IsSteady host.new }
+    ensures reading_stays { H.reading host.new ≡ H.reading host.old }
+    ensures writing_stays { H.writing host.new ≡ H.writing host.old }
+    ensures linking_stays { H.linking host.new ≡ H.linking host.old }
+    ensures held_stays { H.held host.new ≡ H.held host.old }
+{
+    match load_line(alloc, table.as_str(), fault) {
+        Ok(text) => {
+            host.complain(text.as_bytes());
+            7
+        }
+        Err(_) => {
+            host.complain(b"memory\n");
+            9
+        }
+    }
+}
+
+/// The line that names the table of the file and its fault.
+fn load_line(alloc: Global, table: &str, fault: Fault) -> Result<String, NoMemory>
+    ensures { IfOk result (λ text. string_bytes text ≡ load_text table.now fault) }
+{
+    match fault.why {
+        Why::UnknownTable => Ok(format!(in alloc; "load {table} unknown\n")?),
+        why => {
+            let why = why_word(why);
+            Ok(format!(in alloc; "load {table} {} {why}\n", fault.at)?)
         }
     }
 }

@@ -136,6 +136,34 @@ query 1 SELECT id, age FROM p WHERE age BETWEEN 30 AND 40
 exec DELETE FROM p
 ";
 
+/// What happens to rows that were loaded.
+const OVER_LOADS: &str =
+    "CREATE TABLE p (id INT PRIMARY KEY CHECK (id BETWEEN 0 AND 9999), age INT CHECK (age BETWEEN 0 AND 150))
+exec UPDATE p SET age = 41 WHERE id = 7
+exec UPDATE p SET id = 8
+exec DELETE FROM p WHERE age > 50
+query 1 SELECT id, age FROM p
+";
+
+const OVER_LOADS_START: &[u8] = b"2 exec version 1
+3 exec refused key-change 13
+4 exec version 2
+";
+
+const OVER_LOADS_ANSWER: &[u8] = b"
+5 answer 1 1 2 1
+5 row 7, 41
+";
+
+const ONE_ROW: &str = "age,id
+40,7
+";
+
+const ROW_TWICE: &str = "age,id
+40,7
+40,7
+";
+
 fn bytes_of(alloc: Global, text: &str) -> Result<Bytes, NoMemory> {
     let mut bytes = Seq::new(alloc);
     bytes.extend(text.as_bytes())?;
@@ -150,19 +178,34 @@ fn words_of(alloc: Global, all: &[&str]) -> Result<Seq<Text>, NoMemory> {
     Ok(words)
 }
 
-/// Holds the text under the name `script`. The call of that number fails: 1 is the pick, 2 and 3 are the reads.
-fn host_of(alloc: Global, text: &str, fails: u64) -> Result<MemHost, NoMemory> {
-    let mut files = Seq::new(alloc);
-    files.push(File {
-        name: Text::of(alloc, "script")?,
+fn file_of(alloc: Global, name: &str, text: &str) -> Result<File, NoMemory> {
+    Ok(File {
+        name: Text::of(alloc, name)?,
         bytes: bytes_of(alloc, text)?,
-    })?;
+    })
+}
+
+/// What the host holds, and the number of the call that fails: 1 is the pick of the script, 2 and 3 are its reads.
+#[derive(Clone, Copy)]
+struct Given<'a> {
+    script: &'a str,
+    csv: &'a str,
+    fails: u64,
+}
+
+/// Holds the script under the name `script`, and the other text under the name `p.csv`.
+fn host_of(alloc: Global, given: Given<'_>) -> Result<MemHost, NoMemory> {
+    let mut files = Seq::new(alloc);
+    files.push(file_of(alloc, "script", given.script)?)?;
+    files.push(file_of(alloc, "p.csv", given.csv)?)?;
     let mut numbers = Seq::new(alloc);
-    numbers.push(fails)?;
+    numbers.push(given.fails)?;
     MemHost::new(alloc, files, numbers, 4096)
 }
 
 const IN_FORM: &[&str] = &["replay", "--eager", "script"];
+
+const WITH_LOAD: &[&str] = &["replay", "--eager", "script", "p=p.csv"];
 
 /// How a run came out.
 #[derive(Drop)]
@@ -172,14 +215,26 @@ struct Outcome {
     error: Bytes,
 }
 
-fn run_over(alloc: Global, words: &[&str], text: &str, fails: u64) -> Result<Outcome, NoMemory> {
+fn run_given(alloc: Global, words: &[&str], given: Given<'_>) -> Result<Outcome, NoMemory> {
     let words = words_of(alloc, words)?;
-    let mut host = host_of(alloc, text, fails)?;
+    let mut host = host_of(alloc, given)?;
     Ok(Outcome {
         status: run(alloc, words.as_slice(), &mut host),
         trace: host.written(alloc)?,
         error: host.complained(alloc)?,
     })
+}
+
+fn run_over(alloc: Global, words: &[&str], script: &str, fails: u64) -> Result<Outcome, NoMemory> {
+    run_given(
+        alloc,
+        words,
+        Given {
+            script,
+            csv: ONE_ROW,
+            fails,
+        },
+    )
 }
 
 /// No call has the number 0.
@@ -231,13 +286,18 @@ fn refusals_are_named(rt: HostRuntime) -> Result<(), Fail> {
 #[test]
 fn other_words_are_refused(rt: HostRuntime) -> Result<(), Fail> {
     let alloc = rt.alloc();
-    let all: [&[&str]; 6] = [
+    let all: [&[&str]; 11] = [
         &[],
+        &["replay"],
+        &["replay", "--eager"],
         &["replay", "script"],
         &["replay", "script", "--eager"],
         &["Replay", "--eager", "script"],
         &["replay", "--Eager", "script"],
-        &["replay", "--eager", "script", "script"],
+        &["replay", "--eager", "script", "p"],
+        &["replay", "--eager", "script", "=p.csv"],
+        &["replay", "--eager", "script", "p="],
+        &["replay", "--eager", "script", "p=p.csv", "p"],
     ];
     for words in all {
         let got = run_over(alloc, words, CREATE_ALONE, 0)?;
@@ -250,8 +310,90 @@ fn other_words_are_refused(rt: HostRuntime) -> Result<(), Fail> {
 
 #[test]
 fn a_name_that_is_not_held_is_not_read(rt: HostRuntime) -> Result<(), Fail> {
-    let got = run_over(rt.alloc(), &["replay", "--eager", "-"], CREATE_ALONE, 0)?;
-    assert_eq!(rt; got.error.as_slice(), b"read\n".as_slice());
-    assert_eq!(rt; got.status, 3);
+    let all: [&[&str]; 3] = [
+        &["replay", "--eager", "-"],
+        &["replay", "--eager", "script", "p=q.csv"],
+        &["replay", "--eager", "script", "p=p.csv", "p=p=p.csv"],
+    ];
+    for words in all {
+        let got = run_over(rt.alloc(), words, CREATE_ALONE, 0)?;
+        assert_eq!(rt; got.error.as_slice(), b"read\n".as_slice());
+        assert_eq!(rt; got.trace.as_slice(), b"".as_slice());
+        assert_eq!(rt; got.status, 3);
+    }
+    Ok(())
+}
+
+/// Whether the lines stand somewhere in the trace.
+fn has_lines(trace: &[u8], lines: &[u8]) -> bool {
+    for at in 0..trace.len() {
+        if trace[at..].starts_with(lines) {
+            return true;
+        }
+    }
+    false
+}
+
+#[test]
+fn files_are_loaded_before_the_events(rt: HostRuntime) -> Result<(), Fail> {
+    let got = run_over(rt.alloc(), WITH_LOAD, OVER_LOADS, 0)?;
+    assert_eq!(rt; got.error.as_slice(), b"".as_slice());
+    assert_eq!(rt; got.trace.as_slice().starts_with(OVER_LOADS_START), true);
+    assert_eq!(rt; has_lines(got.trace.as_slice(), OVER_LOADS_ANSWER), true);
+    assert_eq!(rt; got.status, 0);
+    Ok(())
+}
+
+#[test]
+fn refused_files_are_named(rt: HostRuntime) -> Result<(), Fail> {
+    let alloc = rt.alloc();
+    let all: [(&[&str], &str, &str); 4] = [
+        (WITH_LOAD, ROW_TWICE, "load p 2 duplicate-key\n"),
+        (
+            &["replay", "--eager", "script", "q=p.csv"],
+            ONE_ROW,
+            "load q unknown\n",
+        ),
+        (
+            &["replay", "--eager", "script", "p=p.csv", "p=p.csv"],
+            ONE_ROW,
+            "load p 1 duplicate-key\n",
+        ),
+        (
+            &["replay", "--eager", "script", "q=p.csv", "p=p.csv"],
+            ROW_TWICE,
+            "load q unknown\n",
+        ),
+    ];
+    for (words, csv, error) in all {
+        let given = Given {
+            script: OVER_LOADS,
+            csv,
+            fails: 0,
+        };
+        let got = run_given(alloc, words, given)?;
+        assert_eq!(rt; got.error.as_slice(), error.as_bytes());
+        assert_eq!(rt; got.trace.as_slice(), b"".as_slice());
+        assert_eq!(rt; got.status, 7);
+    }
+    Ok(())
+}
+
+/// The calls 4 to 6 pick and read the file, and call 7 is the first write.
+#[test]
+fn calls_that_fail_end_a_run_with_a_file(rt: HostRuntime) -> Result<(), Fail> {
+    let alloc = rt.alloc();
+    for (fails, status, error) in [
+        (3, 3, "read\n"),
+        (4, 3, "read\n"),
+        (5, 3, "read\n"),
+        (6, 3, "read\n"),
+        (7, 4, "write\n"),
+    ] {
+        let got = run_over(alloc, WITH_LOAD, OVER_LOADS, fails)?;
+        assert_eq!(rt; got.error.as_slice(), error.as_bytes());
+        assert_eq!(rt; got.trace.as_slice(), b"".as_slice());
+        assert_eq!(rt; got.status, status);
+    }
     Ok(())
 }

@@ -1,23 +1,40 @@
-use Rattle.std.proofs.Common.{◌≡◌, Some, IfSome, Err, ap, rules, refl}
-use Rattle.sr_cli.specs.Run.{file_of, FitsScript}
-use Rattle.sr_cli.proofs.FitsLemmas.{fits_held, fits_done}
+use Rattle.std.proofs.Common.{◌≡◌, ℕ, ◌⊎◌, List, Option, Some, Err, inl, inr, ap, subst, ◌∙◌}
+use Rattle.sr_cell.specs.declared.fault.Fault.{Fault}
+use Rattle.sr_cli.specs.Run.{Words, IsRefusedSetup, IsRefusedLoad, AreHeld}
+use Rattle.sr_cli.specs.Seen.{words_seen}
+use Rattle.sr_cli.specs.declared.run.Refusal.{Refusal}
+use Rattle.sr_cli.specs.declared.run.Refusal.TheVariants.{Setup, Load as LoadRefused}
+use Rattle.sr_cli.proofs.FitsLemmas.{IsRefused, fits_held, fits_done}
 use Rattle.sr_cli.proofs.run.run.Goals as goal
 
+-- what was named was refused
+refused_of : (held : List ℕ → Option (List ℕ)) (words : Words) (refusal : Refusal) (S : ℕ → Fault → Type 0) (L : List ℕ → Fault → Type 0)
+    → ((line : ℕ) (fault : Fault) → refusal ≡ Setup line fault → IsRefusedSetup held words line fault)
+    → ((table : List ℕ) (fault : Fault) → refusal ≡ LoadRefused table fault → IsRefusedLoad held words table fault)
+    → ((line : ℕ) × (fault : Fault) × (refusal ≡ Setup line fault) × S line fault) ⊎ ((table : List ℕ) × (fault : Fault) × (refusal ≡ LoadRefused table fault) × L table fault)
+    → IsRefused held words
+refused_of held words refusal S L setup load (inl (line, fault, is, said)) = inl (line, fault, setup line fault is)
+refused_of held words refusal S L setup load (inr (table, fault, is, said)) = inr (table, fault, load table fault is)
+
+same_words : (a b : Words) (said : Option Words) → Some a ≡ said → said ≡ Some b → b ≡ a
+same_words a b said is says = let e : Some a ≡ Some b = is ∙ says in cc
+
 pub returns-in-Err-clause-steady : goal.returns-in-Err-clause-steady
-returns-in-Err-clause-steady g c = λ steady.
-    let fits : IfSome (g.H.Outside.held c.args.host.now c.as_str.result.now) (λ script. FitsScript script c.report.result) =
-    fits_held _ (g.H.Outside.reading c.replay_file.new.host).left _ c.report.ensures.only
-    (λ is. c.in-Err.ensures.steady_reads steady (ap Err (c.report.ensures.read is)))
+returns-in-Err-clause-steady g c = λ steady w script loads says held.
+    let words = words_seen c.in-Some.words in
+    let are : AreHeld (g.H.Outside.held c.args.host.now) words script loads = subst (λ v. AreHeld (g.H.Outside.held c.args.host.now) v script loads) (same_words words w _ c.in-Some.ensures says) held in
+    fits_held _ (g.H.Outside.reading c.replay_files.new.host).left words script loads _ are c.report.ensures.only
+    (λ is. c.in-Err.ensures.steady_reads steady (ap Err (c.report.ensures.read is)) script loads are)
     (λ is. c.in-Err.ensures.steady_writes steady (ap Err (c.report.ensures.write is)))
     (λ is. c.in-Err.ensures.too_long (ap Err (c.report.ensures.too_long is)))
-    (λ is. let s = c.report.ensures.setup is in (s.0, s.1, c.in-Err.ensures.setup s.0 s.1 (ap Err s.2)))
+    (λ is. refused_of _ _ _ _ _
+    (λ line fault named. c.in-Err.ensures.setup line fault (ap Err named))
+    (λ table fault named. c.in-Err.ensures.load table fault (ap Err named))
+    (c.report.ensures.refused is))
     (λ is. let u = c.report.ensures.unbuilt is in (u.0, c.in-Err.ensures.unbuilt u.0 (ap Err u.1)))
-    in
-    let named : file_of c.args.words.now ≡ Some c.as_str.result.now = search rules in
-    rw named fits
 
 pub returns-in-Ok-clause-steady : goal.returns-in-Ok-clause-steady
-returns-in-Ok-clause-steady g c = λ steady.
-    let fits : IfSome (g.H.Outside.held c.args.host.now c.as_str.result.now) (λ script. FitsScript script 0) = fits_done _ _ _ 0 refl c.in-Ok.ensures.replayed in
-    let named : file_of c.args.words.now ≡ Some c.as_str.result.now = search rules in
-    rw named fits
+returns-in-Ok-clause-steady g c = λ steady w script loads says held.
+    let words = words_seen c.in-Some.words in
+    let are : AreHeld (g.H.Outside.held c.args.host.now) words script loads = subst (λ v. AreHeld (g.H.Outside.held c.args.host.now) v script loads) (same_words words w _ c.in-Some.ensures says) held in
+    fits_done _ words script loads _ _ are c.in-Ok.ensures.replayed

@@ -2,8 +2,8 @@ use Rattle.std.proofs.Common.{subst, sym}
 use Rattle.sr_world.specs.Replay.{RefusesLoad}
 use Rattle.sr_cli.proofs.run.replay_read.Goals as goal
 
-pub returns-in-Err-Refused-Unbuilt-clause-unbuilt_loads : goal.returns-in-Err-Refused-Unbuilt-clause-unbuilt_loads
-returns-in-Err-Refused-Unbuilt-clause-unbuilt_loads g c = λ line is table fault refuses.
+pub returns-clause-unbuilt_loads : goal.returns-clause-unbuilt_loads
+returns-clause-unbuilt_loads g c = λ line is table fault refuses.
     let script = subst (λ s. RefusesLoad s c.args.files.now.loads table fault) (sym c.as_slice.ensures) refuses in
     let loads = subst (λ ls. RefusesLoad c.as_slice.result.now ls table fault) (sym c.as_slice-2.ensures) script in
     c.in-Err-Refused-Unbuilt.ensures.unbuilt_loads c.in-Err-Refused-Unbuilt.line (cc) table fault loads

@@ -8,3 +8,5 @@ pub mod load;
 mod records;
 #[cfg(test)]
 mod tests;
+#[cfg(test)]
+mod tests_fill;

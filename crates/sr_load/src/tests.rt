@@ -12,14 +12,15 @@ use sr_cell::text::Text;
 use std::alloc::Global;
 use std::test::Fail;
 
-fn number_column(alloc: Global, name: &str) -> Result<Column, NoMemory>
+/// Numbers from 0 to a limit.
+pub(crate) fn number_column(alloc: Global, name: &str, hi: u8) -> Result<Column, NoMemory>
     ensures { IfOk result (λ column. not (is_bad_domain column) ≡ true) }
 {
     Ok(Column {
         name: Text::of(alloc, name)?,
         kind: Kind::Num,
         lo: 0,
-        hi: 99,
+        hi: hi as i64,
     })
 }
 
@@ -35,11 +36,11 @@ fn text_column(alloc: Global, name: &str) -> Result<Column, NoMemory>
 }
 
 /// The columns `no`, which is the key, and `title`.
-fn dept(alloc: Global) -> Result<Table, NoMemory>
+pub(crate) fn dept(alloc: Global) -> Result<Table, NoMemory>
     ensures { IfOk result (λ table. IsTrue (is_table table)) }
 {
     let mut columns = Seq::new(alloc);
-    columns.push(number_column(alloc, "no")?)?;
+    columns.push(number_column(alloc, "no", 99)?)?;
     columns.push(text_column(alloc, "title")?)?;
     Ok(Table {
         name: Text::of(alloc, "dept")?,

@@ -22,7 +22,7 @@ pub(crate) fn is_same_row(one: &Row, other: &Row) -> bool
 
 /// The row's key; of a row that is too short it is 0.
 #[tactic(auto, using(sr_rows::proofs::Order::cell_at_absent))]
-fn key_of(alloc: Global, row: &Row, key: usize) -> Result<Cell, NoMemory>
+pub(crate) fn copy_of_key(alloc: Global, row: &Row, key: usize) -> Result<Cell, NoMemory>
     ensures { IfOk result (λ cell. cell ≡ cell_at row.now key) }
 {
     match row.get(key) {
@@ -41,7 +41,7 @@ pub(crate) fn change_of(
 ) -> Result<Change, NoMemory>
     ensures { IfOk result (λ change. change ≡ record { table = number; key = cell_at row.now key; before = Some row.now; after = after }) }
 {
-    let cell = key_of(alloc, row, key)?;
+    let cell = copy_of_key(alloc, row, key)?;
     let before = row.copy(alloc)?;
     Ok(Change {
         table: number,

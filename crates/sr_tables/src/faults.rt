@@ -10,7 +10,8 @@ use sr_cell::fault::{Fault, Why};
 use sr_cell::table::{Column, Columns, Kind, Table};
 use sr_keyed::keyed::KeyedRows;
 
-fn fault_of_cell(column: &Column, cell: &Cell, at: u32) -> Option<Fault>
+/// Why a value can't stand in its column, whose number is `at`.
+pub(crate) fn fault_of_cell(column: &Column, cell: &Cell, at: u32) -> Option<Fault>
     ensures { result ≡ cell_fault column.now.kind column.now.lo column.now.hi at cell.now }
 {
     match (column.kind, cell) {

@@ -2,49 +2,26 @@
 ghost use Rattle.std.specs.Prelude.{◌≡◌, ◌<◌, [], ◌∷◌, IsTrue, ◌&&◌, ◌==◌, not, IfOk, length, map, nat_lt};
 ghost use Rattle.std.specs.List.{list_all};
 ghost use Rattle.sr_query.specs.Written.{place_of};
-ghost use Rattle.sr_model.specs.Statements.{cell_fault, place_fault, places_fault, with_places};
+ghost use Rattle.sr_model.specs.Statements.{place_fault, places_fault, with_places};
 
-use sr_cell::cell::{Cell, Row};
-use sr_cell::fault::{Fault, Why};
+use crate::faults::fault_of_cell;
+use sr_cell::cell::Row;
+use sr_cell::fault::Fault;
 use sr_cell::list::{Copied, NoMemory};
-use sr_cell::table::{Column, Kind, Table};
+use sr_cell::table::Table;
 use sr_query::write::Place;
 use std::alloc::Global;
-
-/// Why a value can't stand in the column of that number.
-fn value_fault(column: &Column, cell: &Cell, at: u8) -> Option<Fault>
-    ensures { result ≡ cell_fault column.now.kind column.now.lo column.now.hi at cell.now }
-{
-    let at = u32::from(at);
-    match (column.kind, cell) {
-        (Kind::Num, Cell::Num(number)) => {
-            if column.lo <= *number && *number <= column.hi {
-                return None;
-            }
-        }
-        (Kind::Str, Cell::Str(text)) => {
-            if text.as_str().len() <= 120 {
-                return None;
-            }
-            return Some(Fault {
-                why: Why::LongCell,
-                at,
-            });
-        }
-        _ => {}
-    }
-    Some(Fault {
-        why: Why::DomainCell,
-        at,
-    })
-}
 
 fn place_fault(table: &Table, place: &Place) -> Option<Fault>
     requires { place.now.column < length table.now.columns }
     ensures { result ≡ place_fault table.now (place_of place.now) }
 {
     let columns = table.columns.as_slice();
-    value_fault(&columns[place.column as usize], &place.cell, place.column)
+    fault_of_cell(
+        &columns[place.column as usize],
+        &place.cell,
+        u32::from(place.column),
+    )
 }
 
 /// The first new value that can't stand in its column.

@@ -8,22 +8,13 @@ ghost use Rattle.sr_tables.specs.Stored.{IsKeyed};
 ghost use Rattle.sr_tables.specs.Inserts.{are_apart};
 ghost use Rattle.sr_tables.specs.Added.{added_row, added_rows, is_changed, is_unchanged};
 
-use sr_cell::cell::{Cell, Row, Rows};
+use crate::changes::copy_of_key;
+use sr_cell::cell::{Row, Rows};
 use sr_cell::change::{Change, Changes};
 use sr_cell::list::{Copied, NoMemory, Seq};
 use sr_cell::table::Table;
 use sr_keyed::keyed::KeyedRows;
 use std::alloc::Global;
-
-#[tactic(auto, using(sr_rows::proofs::Order::cell_at_absent))]
-fn copy_of_key(alloc: Global, row: &Row, key: usize) -> Result<Cell, NoMemory>
-    ensures { IfOk result (λ cell. cell ≡ cell_at row.now key) }
-{
-    match row.get(key) {
-        Some(cell) => cell.copy(alloc),
-        None => Ok(Cell::Num(0)),
-    }
-}
 
 fn change_of(alloc: Global, number: u8, key: usize, row: &Row) -> Result<Change, NoMemory>
     ensures { IfOk result (λ change. change ≡ added_row number key row.now) }

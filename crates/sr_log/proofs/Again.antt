@@ -1,12 +1,11 @@
 -- What is kept of the kept versions and one more is what is kept of all.
-use Rattle.std.proofs.Common.{◌≡◌, ℕ, ◌+◌, ◌<◌, ◌≤◌, List, [], ◌∷◌, ◌++◌, length, drop, sym, ap, subst, arith, inl, inr, append_assoc, ◌∙◌}
-use Rattle.std.specs.List.{sum_by}
+use Rattle.std.proofs.Common.{◌≡◌, ℕ, ◌+◌, ◌<◌, List, [], ◌∷◌, ◌++◌, length, drop, sym, ap, subst, arith, inl, inr, append_assoc, ◌∙◌}
 use Rattle.std.proofs.lemmas.Bool.{cases_lt}
 use Rattle.std.proofs.lemmas.List.{drop-append-le, drop-drop, append-nil}
 use Rattle.std.proofs.lemmas.List.Sums.{sum_by-append}
 use Rattle.sr_cell.specs.declared.change.Change.{Change}
 use Rattle.sr_log.specs.Kept.{total, floor, kept}
-use Rattle.sr_log.specs.Held.{Held, IsPushed, ArePushed, KeepsNewest, PushKeepsNewest, PushesKeepNewest}
+use Rattle.sr_log.specs.Held.{Held, ArePushed, KeepsNewest, PushKeepsNewest, PushesKeepNewest}
 use Rattle.sr_log.proofs.Least.{floor-few, floor-many, floor-within}
 
 still_many : (limit : ℕ) (all more : List (List Change)) → limit < total all → limit < total (all ++ more)

@@ -1,9 +1,6 @@
 -- How many versions are left out.
-use Rattle.std.proofs.Common.{◌≡◌, ℕ, zero, suc, ◌+◌, ◌<◌, ◌≤◌, true, false, List, [], ◌∷◌, ◌++◌, length, drop, get_or, refl, sym, arith, inl, inr, add-one, ◌∙◌}
-use Rattle.std.specs.Prelude.{nat_le}
-use Rattle.std.specs.List.{sum_by}
+use Rattle.std.proofs.Common.{◌≡◌, ℕ, zero, suc, ◌+◌, ◌<◌, ◌≤◌, List, [], ◌∷◌, length, drop, refl, sym, arith, inl, inr, add-one, ◌∙◌}
 use Rattle.std.proofs.lemmas.Bool.{cases_lt, le-leb, lt-leb}
-use Rattle.std.proofs.lemmas.List.Sums.{sum_by-drop_more}
 use Rattle.sr_cell.specs.declared.change.Change.{Change}
 use Rattle.sr_log.specs.Kept.{total, floor, kept, FloorIsLeast}
 

@@ -1,8 +1,7 @@
 -- What is left when one version more is left out.
-use Rattle.std.proofs.Common.{◌≡◌, ℕ, ◌+◌, ◌-◌, ◌<◌, ◌≤◌, List, [], ◌∷◌, length, drop, get_or, sym, ap, arith, ◌∙◌}
+use Rattle.std.proofs.Common.{◌≡◌, ℕ, ◌+◌, ◌-◌, ◌<◌, ◌≤◌, List, length, drop, get_or, sym, ap, arith, ◌∙◌}
 use Rattle.std.proofs.lemmas.List.{get_or-map}
 use Rattle.std.proofs.lemmas.List.Sums.{sum_by-drop_more}
-use Rattle.sr_cell.specs.declared.change.Change.{Change}
 use Rattle.sr_log.specs.declared.entry.Entry.{Entry}
 use Rattle.sr_log.specs.Kept.{total, floor}
 use Rattle.sr_log.specs.Held.{changes_of}

@@ -1,8 +1,8 @@
 -- The numbers of the entries.
-use Rattle.std.proofs.Common.{◌≡◌, ℕ, zero, suc, ◌+◌, ◌-◌, ◌<◌, ◌≤◌, List, [], ◌∷◌, ◌++◌, length, take, drop, map, refl, sym, ap, arith, inl, inr, ◌∙◌}
+use Rattle.std.proofs.Common.{◌≡◌, ℕ, zero, suc, ◌+◌, ◌-◌, ◌≤◌, List, [], ◌∷◌, ◌++◌, length, take, drop, refl, sym, ap, arith, inl, inr, ◌∙◌}
 use Rattle.std.specs.Prelude.{min, nat_lt, filter}
 use Rattle.std.proofs.lemmas.Bool.{cases_lt, lt-ltb, le-ltb}
-use Rattle.std.proofs.lemmas.List.{drop-map, drop_all, length-drop, length-map, map-append, take_all}
+use Rattle.std.proofs.lemmas.List.{drop-map, drop_all, length-drop, map-append, take_all}
 use Rattle.sr_cell.specs.declared.change.Change.{Change}
 use Rattle.sr_log.specs.declared.entry.Entry.{Entry}
 use Rattle.sr_log.specs.Held.{changes_of, numbered}

@@ -1,5 +1,5 @@
 -- What is done to the rows of one table is done to the tables.
-use Rattle.std.proofs.Common.{◌≡◌, ℕ, ◌<◌, List, [], ◌∷◌, length, map, Ok, Err, refl, sym, ◌∙◌, ap, subst, arith}
+use Rattle.std.proofs.Common.{◌≡◌, ℕ, ◌<◌, List, length, Ok, Err, refl, sym, ap, arith}
 use Rattle.std.proofs.lemmas.List.{length-map}
 use Rattle.std.specs.Prelude.{Result, slice_index_or, slice_set, IfOk, OnOk, IsErrOf}
 use Rattle.std.specs.List.{AllZip}
@@ -11,7 +11,7 @@ use Rattle.sr_cell.specs.declared.table.Table.{Table}
 use Rattle.sr_cell.specs.Cells.{Row}
 use Rattle.sr_cell.specs.Columns.{table_at}
 use Rattle.sr_model.specs.Queries.{rows_at}
-use Rattle.sr_model.specs.Statements.{Tables, with_table}
+use Rattle.sr_model.specs.Statements.{with_table}
 use Rattle.sr_model.specs.Changes.{table_changes, changes}
 use Rattle.sr_keyed.specs.Keyed.{Keyed}
 use Rattle.sr_tables.specs.Stored.{IsKeyed, rows_in}

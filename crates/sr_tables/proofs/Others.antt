@@ -1,6 +1,6 @@
 -- A statement changes one table, so the changes of a version are those of that table.
-use Rattle.std.proofs.Common.{◌≡◌, ℕ, ◌+◌, ◌<◌, ◌&&◌, Bool, true, false, not, List, [], ◌∷◌, ◌++◌, length, map, Option, Some, None, refl, sym, ◌∙◌, ap, subst, arith, zero, suc, append-nil}
-use Rattle.std.specs.Prelude.{filter, cond, slice_set}
+use Rattle.std.proofs.Common.{◌≡◌, ℕ, ◌+◌, ◌<◌, ◌&&◌, Bool, true, not, List, [], ◌∷◌, length, map, Option, Some, None, refl, ◌∙◌, ap, arith, zero, suc, append-nil}
+use Rattle.std.specs.Prelude.{filter, slice_set}
 use Rattle.sr_cell.specs.declared.change.Change.{Change}
 use Rattle.sr_cell.specs.declared.table.Table.{Table}
 use Rattle.sr_cell.specs.Cells.{Row, cell_at, cell_eq}

@@ -1,13 +1,12 @@
 -- A statement of few rows is bound to a write of few rows.
-use Rattle.std.proofs.Common.{◌≡◌, ℕ, ◌<◌, ◌+◌, Bool, true, false, List, [], ◌∷◌, length, map, Option, Some, None, Ok, Err, refl, sym, ◌∙◌, ap, subst, arith, IsTrue}
-use Rattle.std.specs.Prelude.{Result, ◌^◌, nat_lt, not, ◌==◌, if◌then◌else◌}
+use Rattle.std.proofs.Common.{◌≡◌, ℕ, List, [], ◌∷◌, length, Ok, Err, refl, sym, ap, subst, arith, IsTrue}
+use Rattle.std.specs.Prelude.{Result, ◌^◌, nat_lt}
 use Rattle.sr_cell.specs.declared.fault.Fault.{Fault}
 use Rattle.sr_cell.specs.declared.table.Table.{Table}
 use Rattle.sr_cell.specs.Cells.{Row}
 use Rattle.sr_cell.specs.Columns.{table_at}
 use Rattle.sr_cell.specs.Names.{table_named}
 use Rattle.sr_grammar.specs.declared.statement.Insert.{Insert}
-use Rattle.sr_grammar.specs.declared.statement.LiteralRow.{LiteralRow}
 use Rattle.sr_grammar.specs.Trees as tree
 use Rattle.sr_model.specs.Statements.{Write, Insert as Inserting, Update as Updating, Delete as Deleting}
 use Rattle.sr_query.specs.Binding.{◌>>=◌, each}

@@ -1,7 +1,6 @@
 -- What contracts see of tables with their rows.
 use Rattle.std.specs.Prelude.{◌≡◌, ℕ, ◌&&◌, ◌^◌, Bool, true, false, nat_lt, List, [], ◌∷◌, map, length, Result, IsTrue}
 use Rattle.std.specs.List.{list_all}
-use Rattle.sr_cell.specs.declared.table.Kind.{Kind}
 use Rattle.sr_cell.specs.declared.table.Table.{Table}
 use Rattle.sr_cell.specs.declared.fault.Fault.{Fault}
 use Rattle.sr_cell.specs.Cells.{Row}

@@ -1,10 +1,9 @@
-use Rattle.std.proofs.Common.{◌≡◌, ◌<◌, length, sym, subst, arith, IsTrue}
+use Rattle.std.proofs.Common.{◌<◌, length, subst, arith}
 use Rattle.std.proofs.lemmas.Grind.{common_steps}
 use Rattle.sr_model.specs.Statements.{Delete, deleted}
 use Rattle.sr_query.specs.Written.{condition_of}
-use Rattle.sr_cell.specs.Columns.{table_at}
 use Rattle.sr_tables.specs.Stored.{IsKeyed}
-use Rattle.sr_tables.proofs.ByTable.{there, zip-at, zip-set, known-of, suits-of}
+use Rattle.sr_tables.proofs.ByTable.{there, zip-at, zip-set, known-of}
 use Rattle.sr_tables.proofs.Done.{done, changed, refused}
 use Rattle.sr_tables.proofs.carry.delete_from.Goals as goal
 

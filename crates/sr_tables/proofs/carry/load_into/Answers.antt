@@ -1,10 +1,10 @@
-use Rattle.std.proofs.Common.{◌≡◌, ◌<◌, length, sym, subst, arith, IsTrue}
+use Rattle.std.proofs.Common.{◌<◌, length, subst, arith}
 use Rattle.std.proofs.lemmas.Grind.{common_steps}
 use Rattle.sr_model.specs.Loads.{row_loaded}
 use Rattle.sr_cell.specs.Columns.{table_at}
 use Rattle.sr_tables.specs.Stored.{IsKeyed}
-use Rattle.sr_tables.proofs.ByTable.{there, zip-at, zip-set, known-of, suits-of}
-use Rattle.sr_tables.proofs.Done.{done, changed, refused}
+use Rattle.sr_tables.proofs.ByTable.{there, zip-at, zip-set}
+use Rattle.sr_tables.proofs.Done.{done, refused}
 use Rattle.sr_tables.proofs.carry.load_into.Goals as goal
 
 pub index_mut-requires : goal.index_mut-requires

@@ -1,7 +1,4 @@
-use Rattle.std.proofs.Common.{◌≡◌, ◌∙◌, ◌∷◌, ◌++◌, ◌+◌, [], take, map, length, sym, subst, ap}
-use Rattle.sr_cell.specs.declared.table.Table.{Table}
-use Rattle.sr_keyed.specs.Keyed.{Keyed}
-use Rattle.sr_tables.proofs.ByTable.{EmptySoFar, empty-next}
+use Rattle.sr_tables.proofs.ByTable.{empty-next}
 use Rattle.sr_tables.proofs.tables.empty_rows.Goals as goal
 
 pub loop-table-preserved : goal.loop-table-preserved

@@ -1,4 +1,3 @@
-use Rattle.std.proofs.Common.{◌≡◌, Ok, subst, sym}
 use Rattle.sr_grammar.specs.Seen.{statement_seen}
 use Rattle.sr_query.specs.Written.{write_of}
 use Rattle.sr_tables.proofs.Short.{bound-short}

@@ -1,5 +1,4 @@
-use Rattle.std.proofs.Common.{◌≡◌, ◌≤◌, ◌∙◌, length, sym, subst, arith}
-use Rattle.sr_keyed.specs.Keyed.{Keyed}
+use Rattle.std.proofs.Common.{subst, arith}
 use Rattle.sr_tables.proofs.ByTable.{AllAscend, ascend-next, ascend-all, all-stored}
 use Rattle.sr_tables.proofs.tables.Tables.know_stored.Goals as goal
 

@@ -207,7 +207,7 @@ fn ending_of(fault: &RunFault) -> Ending {
 }
 
 /// How the replay of a script over a file ends.
-fn ending(
+fn replay_ending(
     alloc: Global,
     script: &[u8],
     file: Option<&[u8]>,
@@ -239,7 +239,7 @@ fn a_replay_writes_its_trace_or_the_start_of_it(rt: HostRuntime) -> Result<(), F
         let mut fails = Seq::new(alloc);
         fails.push(failing)?;
         let mut sink = MemSink::new(alloc, fails, 4096);
-        assert_eq!(rt; ending(alloc, script, file, &mut sink)?, end);
+        assert_eq!(rt; replay_ending(alloc, script, file, &mut sink)?, end);
         assert_eq!(rt; sink.written(alloc)?.as_slice(), trace);
     }
     Ok(())

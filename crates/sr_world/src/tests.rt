@@ -1,4 +1,7 @@
 //! Replays of whole scripts into a sink in memory.
+ghost use Rattle.std.specs.Prelude.{◌≡◌, ◌^◌, nat_lt, length, IsTrue, IfOk};
+ghost use Rattle.std.specs.List.{list_all};
+
 use crate::replay::{RunFault, replay};
 use sr_cell::fault::Why;
 use sr_cell::list::{No, NoMemory, Seq};
@@ -183,16 +186,31 @@ const RUNS: [(&[u8], Option<&[u8]>, u64, Ending, &[u8]); 12] = [
     (b"\npush 1", None, 0, Ending::Unbuilt(2), b""),
 ];
 
+/// The file for the table p.
+fn load_of(alloc: Global, bytes: &[u8]) -> Result<Load, NoMemory>
+    ensures { IfOk result (λ load. load.bytes ≡ bytes.now) }
+{
+    let mut copy = Seq::new(alloc);
+    copy.extend(bytes)?;
+    Ok(Load {
+        table: Text::of(alloc, "p")?,
+        bytes: copy,
+    })
+}
+
 /// The file for the table p, if there is one.
-fn loads_of(alloc: Global, file: Option<&[u8]>) -> Result<Loads, NoMemory> {
+fn loads_of(alloc: Global, file: Option<&[u8]>) -> Result<Loads, NoMemory>
+    ensures { IfOk result (λ loads. IsTrue (list_all (λ load. nat_lt (length load.bytes) (2 ^ 32)) loads)) }
+{
     let mut loads = Seq::new(alloc);
-    if let Some(bytes) = file {
-        let mut copy = Seq::new(alloc);
-        copy.extend(bytes)?;
-        loads.push(Load {
-            table: Text::of(alloc, "p")?,
-            bytes: copy,
-        })?;
+    match file {
+        None => {}
+        Some(bytes) => {
+            if bytes.len() >= 1_000_000 {
+                return Err(NoMemory);
+            }
+            loads.push(load_of(alloc, bytes)?)?;
+        }
     }
     Ok(loads)
 }
@@ -215,14 +233,6 @@ fn replay_ending(
 ) -> Result<Ending, NoMemory> {
     if script.len() >= 1_000_000 {
         return Err(NoMemory);
-    }
-    match file {
-        Some(bytes) => {
-            if bytes.len() >= 1_000_000 {
-                return Err(NoMemory);
-            }
-        }
-        None => {}
     }
     let loads = loads_of(alloc, file)?;
     match replay(alloc, script, loads.as_slice(), sink) {

@@ -1,0 +1,94 @@
+-- What is left of rects, from what was cut and tidied.
+use Rattle.std.proofs.Common.{◌≡◌, ℕ, ◌+◌, ◌*◌, ◌<◌, ◌≤◌, ◌⊎◌, ◌↔◌, inl, inr, Bool, true, false, List, [], ◌∷◌, ◌++◌, length, refl, arith, ◌∙◌, sym, ap}
+use Rattle.std.specs.Prelude.{not, ◌&&◌, max, nat_eq, nat_le, slice_set, if◌then◌else◌}
+use Rattle.std.specs.List.{list_all, AllByRecursion}
+use Rattle.std.proofs.lemmas.Bool.Decides.{nat_tests}
+use Rattle.std.proofs.lemmas.Nat.{mul-le}
+use Rattle.std.proofs.Math.Nat.{le-max_left, le-max_right}
+use Rattle.sr_cell.specs.declared.table.Column.{Column}
+use Rattle.sr_cell.specs.Attrs.{has_column}
+use Rattle.sr_cell.specs.Cells.{Row}
+use Rattle.sr_cell.specs.Columns.{is_point}
+use Rattle.sr_box.specs.Points.{Rect, in_rect, in_any, times, rect_fits, constrained, IsEssential, HasPoint, HasNoPoint}
+use Rattle.sr_union.specs.Pieces.{IsMinus, IsOnce, AllConstrainEssential}
+use Rattle.sr_union.specs.Grid.{AreCutFrom, grid, have_first}
+use Rattle.sr_union.proofs.Times.{in_any-times}
+use Rattle.sr_union.proofs.Low.{low_point, low-point, has_point}
+use Rattle.sr_union.proofs.Once.{grid_among}
+use Rattle.sr_union.proofs.Inner.{fits_length}
+use Rattle.sr_trim.specs.Left.{left_over, AreLeft}
+
+left_point : (had : Bool) (left rects : ℕ) (inside : Bool) → left ≡ (if had then 0 else rects) → inside ≡ not (nat_eq rects 0) → not (nat_eq left 0) ≡ (inside && not had)
+left_point true left rects true is has = rw is refl
+left_point true left rects false is has = rw is refl
+left_point false left rects true is has = rw is (sym has)
+left_point false left rects false is has = rw is (sym has)
+
+pub minus_is : (cs : List Column) (rects cover left : List Rect) → IsMinus cs rects cover left → (p : Row) → is_point cs p ≡ true → in_any left p ≡ left_over rects cover p
+minus_is cs rects cover left minus p e = in_any-times left p ∙ left_point (in_any cover p) (times left p) (times rects p) (in_any rects p) (minus p e) (in_any-times rects p)
+
+essential_same : (cs : List Column) (a b : Row → Bool) (c : ℕ) → ((p : Row) → is_point cs p ≡ true → a p ≡ b p) → IsEssential cs a c → IsEssential cs b c
+essential_same cs a b c same e = record {
+  inside = e.inside;
+  other = e.other;
+  is_inside = (e.is_inside.0, sym (same e.inside e.is_inside.0) ∙ e.is_inside.1);
+  is_outside = (e.is_outside.0, sym (same (slice_set e.inside c e.other) e.is_outside.0) ∙ e.is_outside.1);
+}
+
+needs_same : (cs : List Column) (need : ℕ) (a b : Row → Bool) (c : ℕ) → ((p : Row) → is_point cs p ≡ true → a p ≡ b p)
+    → (has_column need c ≡ true) ⊎ IsEssential cs a c → (has_column need c ≡ true) ⊎ IsEssential cs b c
+needs_same cs need a b c same (inl e) = inl e
+needs_same cs need a b c same (inr e) = inr (essential_same cs a b c same e)
+
+bound_same : (cs : List Column) (need : ℕ) (a : Row → Bool) (left rest : List Rect) → ((p : Row) → is_point cs p ≡ true → in_any left p ≡ a p) → AllConstrainEssential cs need left rest
+    → AllByRecursion (λ r. (c : ℕ) → has_column (constrained r) c ≡ true → (has_column need c ≡ true) ⊎ IsEssential cs a c) rest
+bound_same cs need a left [] same h = tt
+bound_same cs need a left (r ∷ rest) same h = ((λ c e. needs_same cs need (in_any left) a c same (h.0 c e)), bound_same cs need a left rest same h.1)
+
+pub tidy_left : (cs : List Column) (need : ℕ) (rects cover left rest : List Rect) → IsMinus cs rects cover left → IsOnce cs left rest → AllConstrainEssential cs need left rest
+    → AreLeft cs need (left_over rects cover) rest
+tidy_left cs need rects cover left rest minus once bound = record {
+  once = λ p e. once p e ∙ ap (λ b. if b then 1 else 0) (minus_is cs rects cover left minus p e);
+  bound = bound_same cs need (left_over rects cover) left rest (minus_is cs rects cover left minus) bound;
+}
+
+-- the points that are left
+pub left_same : (cs : List Column) (need : ℕ) (a : Row → Bool) (rest : List Rect) → AreLeft cs need a rest → (p : Row) → is_point cs p ≡ true → in_any rest p ≡ a p
+left_same cs need a rest left p e = in_any-times rest p ∙ go (a p) (times rest p) (left.once p e)
+  where
+    go : (b : Bool) (n : ℕ) → n ≡ (if b then 1 else 0) → not (nat_eq n 0) ≡ b
+    go true n x = grind (arith, nat_tests, x)
+    go false n x = grind (arith, nat_tests, x)
+
+pub left_once : (cs : List Column) (need : ℕ) (a : Row → Bool) (rest : List Rect) → AreLeft cs need a rest → (p : Row) → is_point cs p ≡ true → times rest p ≤ 1
+left_once cs need a rest left p e = go (a p) (left.once p e)
+  where
+    go : (b : Bool) → times rest p ≡ (if b then 1 else 0) → times rest p ≤ 1
+    go true x = omega (arith, x)
+    go false x = omega (arith, x)
+
+pub left_some : (cs : List Column) (a : Row → Bool) (rest : List Rect) → have_first cs ≡ true → list_all (rect_fits cs) rest ≡ true → ((p : Row) → is_point cs p ≡ true → in_any rest p ≡ a p)
+    → (rest ≡ [] → ⊥) → HasPoint cs a
+left_some cs a rest first fit same some = let at = has_point cs rest some fit first in (at.0, at.1, sym (same at.0 at.1) ∙ at.2)
+
+pub left_empty : (cs : List Column) (a : Row → Bool) (rest : List Rect) → have_first cs ≡ true → list_all (rect_fits cs) rest ≡ true → ((p : Row) → is_point cs p ≡ true → in_any rest p ≡ a p)
+    → (rest ≡ []) ↔ HasNoPoint cs a
+left_empty cs a [] first fit same = ((λ e p is. sym (same p is)), λ none. refl)
+left_empty cs a (r ∷ rest) first fit same = (
+  (λ e. absurd (cc)),
+  λ none. let at = left_some cs a (r ∷ rest) first fit same (λ e. absurd (cc)) in let yes = at.2 in let no = none at.0 at.1 in absurd (grind (arith, yes, no)),
+)
+
+-- the limits
+pub minus_over : (limit m g : ℕ) → limit < m * g → limit < max 1 m * g
+minus_over limit m g h = let more = mul-le m g (max 1 m) g (le-max_right 1 m) (omega arith) in omega (arith, h, more)
+
+pub tidy_over : (cs : List Column) (given left : List Rect) (limit m : ℕ) → AreCutFrom cs given left → limit < grid cs left → limit < max 1 m * grid cs given
+tidy_over cs given left limit m cut h =
+    let few = grid_among cs given left cut in let more = mul-le 1 (grid cs given) (max 1 m) (grid cs given) (le-max_left 1 m) (omega arith) in omega (arith, h, few, more)
+
+-- rects of a table are not wide
+pub all_narrow : (cs : List Column) (rects : List Rect) → length cs ≤ 12 → list_all (rect_fits cs) rects ≡ true → list_all (λ rect. nat_le (length rect) 16) rects ≡ true
+all_narrow cs [] few fit = refl
+all_narrow cs (r ∷ rects) few fit =
+    let one = fits_length cs r (grind arith) in let ih = all_narrow cs rects few (grind arith) in grind (arith, nat_tests, one, ih, few)

@@ -1,7 +1,7 @@
 -- The columns that rects constrain, and those that are essential to their points.
 use Rattle.std.proofs.Common.{◌≡◌, ℕ, ◌+◌, ◌/◌, ◌^◌, ◌<◌, ◌≤◌, ◌⊎◌, ◌↔◌, zero, suc, inl, inr, Bool, true, false, List, [], ◌∷◌, length, drop, slice_index_or, refl, arith, ◌∙◌, sym, ap, subst}
-use Rattle.std.specs.Prelude.{◌||◌, ◌&&◌, ◌==◌, bit_or, max, nat_le, slice_set}
-use Rattle.std.specs.List.{list_all, list_any, AllByRecursion}
+use Rattle.std.specs.Prelude.{◌||◌, ◌==◌, bit_or, max, nat_le, slice_set}
+use Rattle.std.specs.List.{list_all, AllByRecursion}
 use Rattle.std.proofs.Math.Nat.{mod-lt}
 use Rattle.std.proofs.lemmas.List.{at_drop_more}
 use Rattle.std.specs.Int.{bit_at}
@@ -12,7 +12,6 @@ use Rattle.sr_cell.specs.declared.table.Column.{Column}
 use Rattle.sr_cell.specs.Attrs.{has_column}
 use Rattle.sr_cell.specs.Cells.{Row}
 use Rattle.sr_cell.specs.Columns.{is_point}
-use Rattle.sr_box.specs.declared.span.Span.{Span}
 use Rattle.sr_box.specs.declared.span.Span.TheVariants.{Full, Nums, Strs}
 use Rattle.sr_box.specs.Points.{Rect, in_rect, in_any, constrains, constrained, constrains_only, IsEssential}
 use Rattle.sr_union.specs.Free.{span_at}

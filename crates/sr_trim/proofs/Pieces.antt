@@ -1,5 +1,5 @@
 -- What is left of rects, from what was cut and tidied.
-use Rattle.std.proofs.Common.{◌≡◌, ℕ, ◌+◌, ◌*◌, ◌<◌, ◌≤◌, ◌⊎◌, ◌↔◌, inl, inr, Bool, true, false, List, [], ◌∷◌, ◌++◌, length, refl, arith, ◌∙◌, sym, ap}
+use Rattle.std.proofs.Common.{◌≡◌, ℕ, ◌*◌, ◌<◌, ◌≤◌, ◌⊎◌, ◌↔◌, inl, inr, Bool, true, false, List, [], ◌∷◌, length, refl, arith, ◌∙◌, sym, ap}
 use Rattle.std.specs.Prelude.{not, ◌&&◌, max, nat_eq, nat_le, slice_set, if◌then◌else◌}
 use Rattle.std.specs.List.{list_all, AllByRecursion}
 use Rattle.std.proofs.lemmas.Bool.Decides.{nat_tests}
@@ -9,11 +9,11 @@ use Rattle.sr_cell.specs.declared.table.Column.{Column}
 use Rattle.sr_cell.specs.Attrs.{has_column}
 use Rattle.sr_cell.specs.Cells.{Row}
 use Rattle.sr_cell.specs.Columns.{is_point}
-use Rattle.sr_box.specs.Points.{Rect, in_rect, in_any, times, rect_fits, constrained, IsEssential, HasPoint, HasNoPoint}
+use Rattle.sr_box.specs.Points.{Rect, in_any, times, rect_fits, constrained, IsEssential, HasPoint, HasNoPoint}
 use Rattle.sr_union.specs.Pieces.{IsMinus, IsOnce, AllConstrainEssential}
 use Rattle.sr_union.specs.Grid.{AreCutFrom, grid, have_first}
 use Rattle.sr_union.proofs.Times.{in_any-times}
-use Rattle.sr_union.proofs.Low.{low_point, low-point, has_point}
+use Rattle.sr_union.proofs.Low.{has_point}
 use Rattle.sr_union.proofs.Once.{grid_among}
 use Rattle.sr_union.proofs.Inner.{fits_length}
 use Rattle.sr_trim.specs.Left.{left_over, AreLeft}

@@ -1,6 +1,6 @@
 -- The columns of a table are not empty, and lie far inside.
 use Rattle.std.proofs.Common.{◌≡◌, ℕ, ℤ, ◌≤◌, Bool, true, List, [], ◌∷◌, length, arith, refl}
-use Rattle.std.specs.Prelude.{not, int_le, int_lt, pos, negsuc, ◌&&◌, ◌-ℤ◌, ◌^◌}
+use Rattle.std.specs.Prelude.{not, int_le, pos, negsuc, ◌&&◌}
 use Rattle.std.specs.List.{list_all}
 use Rattle.std.proofs.lemmas.Int.{ints}
 use Rattle.std.proofs.lemmas.Bool.Decides.{nat_tests}

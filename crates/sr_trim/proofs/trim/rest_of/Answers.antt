@@ -1,4 +1,4 @@
-use Rattle.std.proofs.Common.{◌++◌, arith}
+use Rattle.std.proofs.Common.{◌++◌}
 use Rattle.sr_union.proofs.Parts.{are_fit}
 use Rattle.sr_union.proofs.Once.{are_trans, err_same}
 use Rattle.sr_trim.proofs.Tables.{table_inner, table_first}

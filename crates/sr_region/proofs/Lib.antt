@@ -1,0 +1,5 @@
+pub mod Ranks
+pub mod Parts
+pub mod Ordered
+pub mod Areas
+pub mod Sides

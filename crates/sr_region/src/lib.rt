@@ -1,0 +1,5 @@
+//! Regions: what a client's cache holds of a set of points of one table.
+#![tactic(auto)]
+
+pub mod halves;
+pub mod region;

@@ -69,7 +69,7 @@ joined-region t r s h k class apart keys =
     record {
       area = joined-area t r s h.area k.area class.attrs apart;
       rows = All-with_rows P (rank r.attrs r.key) r.rows s.rows
-        (All-weaker (IsRowIn t.columns r.attrs r.rects) P (λ row. in-first t.columns r.attrs r.rects s.rects row) r.rows h.rows)
-        (All-weaker (IsRowIn t.columns r.attrs s.rects) P (λ row. in-second t.columns r.attrs r.rects s.rects row) s.rows rows2);
+          (All-weaker (IsRowIn t.columns r.attrs r.rects) P (λ row. in-first t.columns r.attrs r.rects s.rects row) r.rows h.rows)
+          (All-weaker (IsRowIn t.columns r.attrs s.rects) P (λ row. in-second t.columns r.attrs r.rects s.rects row) s.rows rows2);
       ascending = with_rows-ascend (rank r.attrs r.key) r.rows s.rows h.ascending (subst (λ place. ascend place s.rows ≡ true) rank2 k.ascending) keys;
     }

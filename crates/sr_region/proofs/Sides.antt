@@ -1,8 +1,7 @@
 -- The halves of a region.
-use Rattle.std.proofs.Common.{◌≡◌, ℕ, ◌+◌, ◌*◌, ◌<◌, ◌≤◌, true, false, cond, List, [], ◌∷◌, ◌++◌, refl, sym, ap, subst, ◌∙◌, arith}
+use Rattle.std.proofs.Common.{◌≡◌, ℕ, ◌+◌, ◌≤◌, true, false, cond, List, [], ◌∷◌, ◌++◌, refl, sym, ap, ◌∙◌, arith}
 use Rattle.std.specs.Prelude.{Bool, not, ◌&&◌, nat_eq, if◌then◌else◌, filter, ℤ, pos, ◌+ℤ◌, int_lt, Option, Some, None}
 use Rattle.std.specs.List.{list_all, All}
-use Rattle.std.proofs.lemmas.Int.{ints}
 use Rattle.std.proofs.lemmas.Bool.Decides.{nat_tests}
 use Rattle.std.proofs.lemmas.List.Folds.{list_all-append}
 use Rattle.std.proofs.lemmas.List.Elements.{All-nil, All-cons, All-head, All-tail}
@@ -17,8 +16,8 @@ use Rattle.sr_cell.specs.Cells.{Row}
 use Rattle.sr_cell.specs.Columns.{is_point}
 use Rattle.sr_box.specs.declared.span.Span.{Span}
 use Rattle.sr_box.specs.declared.span.Span.TheVariants.{Full, Nums, Strs}
-use Rattle.sr_box.specs.Spans.{fits_kind, span_fits}
-use Rattle.sr_box.specs.Points.{Rect, Points, in_any, times, rect_fits, constrains_only, HasPoint}
+use Rattle.sr_box.specs.Spans.{fits_kind}
+use Rattle.sr_box.specs.Points.{Rect, Points, in_any, times, rect_fits, constrains_only}
 use Rattle.sr_box.specs.Corners.{cuts_of, num_cut}
 use Rattle.sr_box.proofs.Order.{cell_eq-refl}
 use Rattle.sr_rows.proofs.Parts.{ascend-filter}
@@ -30,8 +29,8 @@ use Rattle.sr_union.proofs.Among.{AreCutFrom-append}
 use Rattle.sr_union.proofs.Once.{grid_among, are_trans}
 use Rattle.sr_union.proofs.Low.{has_point}
 use Rattle.sr_region.specs.declared.region.Region.{Region}
-use Rattle.sr_region.specs.Regions.{rank, is_in, IsRowIn, IsArea, IsRegion}
-use Rattle.sr_region.specs.Halves.{IsHalf, MaybeHalf, IsInside, IsOutside, half_of}
+use Rattle.sr_region.specs.Regions.{rank, is_in, IsRowIn, IsRegion}
+use Rattle.sr_region.specs.Halves.{MaybeHalf, IsInside, IsOutside, half_of}
 use Rattle.sr_region.proofs.Parts.{is_in-point}
 
 -- a constraint that fits its column has a cut
@@ -184,8 +183,8 @@ pub half-from : (t : Table) (whole : Region) (cut rects : List Rect) (those : Po
 half-from t whole cut [] those test h first only are cuts tests = (
   (λ p point. sym (those-any t.columns [] those are p point)),
   none-kept t.columns whole.attrs (filter test whole.rows)
-  (All-kept (IsRowIn t.columns whole.attrs whole.rects) (IsRowIn t.columns whole.attrs []) test
-  (row-kept t.columns whole.attrs whole.rects [] those test h.area.fit h.area.only refl refl are tests) whole.rows h.rows),
+      (All-kept (IsRowIn t.columns whole.attrs whole.rects) (IsRowIn t.columns whole.attrs []) test
+      (row-kept t.columns whole.attrs whole.rects [] those test h.area.fit h.area.only refl refl are tests) whole.rows h.rows),
 )
 half-from t whole cut (r ∷ rects) those test h first only are cuts tests =
     let fits = are_fit t.columns (whole.rects ++ cut) (r ∷ rects) cuts in
@@ -203,7 +202,7 @@ half-from t whole cut (r ∷ rects) those test h first only are cuts tests =
           once = those-once t.columns (r ∷ rects) those are;
         };
         rows = All-kept (IsRowIn t.columns whole.attrs whole.rects) (IsRowIn t.columns whole.attrs (r ∷ rects)) test
-          (row-kept t.columns whole.attrs whole.rects (r ∷ rects) those test h.area.fit h.area.only fits onlys are tests) whole.rows h.rows;
+            (row-kept t.columns whole.attrs whole.rects (r ∷ rects) those test h.area.fit h.area.only fits onlys are tests) whole.rows h.rows;
         ascending = ascend-filter (rank whole.attrs whole.key) test whole.rows h.ascending;
       };
       class = record { table = refl; key = refl; attrs = refl; stamp = refl };

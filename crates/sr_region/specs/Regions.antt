@@ -1,5 +1,5 @@
 -- Regions: what a client's cache holds of a set of points of one table.
-use Rattle.std.specs.Prelude.{ℕ, zero, suc, ◌+◌, ◌≤◌, Bool, true, false, List, [], ◌++◌, ◌≡◌, IsTrue, if◌then◌else◌}
+use Rattle.std.specs.Prelude.{ℕ, zero, suc, ◌+◌, ◌≤◌, Bool, true, List, [], ◌++◌, ◌≡◌, IsTrue, if◌then◌else◌}
 use Rattle.std.specs.List.{list_all, list_any, All}
 use Rattle.sr_cell.specs.declared.table.Column.{Column}
 use Rattle.sr_cell.specs.declared.table.Table.{Table}

@@ -2,4 +2,5 @@
 #![tactic(auto)]
 
 pub mod halves;
+pub mod laws;
 pub mod region;

@@ -47,19 +47,15 @@ pub fn rank_of(attrs: Attrs, column: usize) -> usize
 pub fn has_cells(rects: &Rects, attrs: Attrs, cells: &Row) -> bool
     ensures { result ≡ is_in attrs rects.now cells.now }
 {
-    rects.as_slice().iter().any(|rect| rect.has_part(attrs, cells))
+    rects
+        .as_slice()
+        .iter()
+        .any(|rect| rect.has_part(attrs, cells))
 }
 
 impl Region {
     /// A region without rows.
-    pub fn new(
-        alloc: Global,
-        table: u8,
-        key: u16,
-        attrs: Attrs,
-        stamp: u64,
-        rects: Rects,
-    ) -> Region
+    pub fn new(alloc: Global, table: u8, key: u16, attrs: Attrs, stamp: u64, rects: Rects) -> Region
         ensures is { result ≡ record { table = table; key = key; attrs = attrs; stamp = stamp; rects = rects; rows = [] } }
         ensures region { (t : TheTable) → IsArea t key attrs rects → IsRegion t result }
     {

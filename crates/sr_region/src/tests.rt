@@ -163,3 +163,17 @@ fn rows_lie_by_key(rt: HostRuntime) -> Result<(), Fail> {
     );
     Ok(())
 }
+
+#[test]
+fn a_join_has_the_rects_and_rows_of_both(rt: HostRuntime) -> Result<(), Fail> {
+    let alloc = rt.alloc();
+    let mut young = Region::new(alloc, 2, 0, Attrs(3), 7, ages(alloc, 20, 29)?);
+    young.put(row_of(alloc, 5, 22)?)?;
+    let mut old = Region::new(alloc, 2, 0, Attrs(3), 7, ages(alloc, 30, 60)?);
+    old.put(row_of(alloc, 3, 50)?)?;
+    let both = young.join(old)?;
+    assert_eq!(rt; both.rects.len(), 2);
+    let all = both.rows_in(alloc, &ages(alloc, 20, 60)?)?;
+    assert!(rt; are(&all, &[3, 5]));
+    Ok(())
+}

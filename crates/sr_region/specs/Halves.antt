@@ -1,5 +1,5 @@
 -- The two halves of a region.
-use Rattle.std.specs.Prelude.{ℕ, ◌<◌, Bool, not, List, [], ◌∷◌, ◌++◌, ◌≡◌, ◌&&◌, Option, Some, None, filter}
+use Rattle.std.specs.Prelude.{ℕ, ◌<◌, Bool, not, List, [], ◌∷◌, ◌++◌, ◌≡◌, ◌&&◌, Option, Some, None, filter, length, ◌≤◌, IfSome}
 use Rattle.sr_cell.specs.declared.table.Column.{Column}
 use Rattle.sr_cell.specs.declared.table.Table.{Table}
 use Rattle.sr_cell.specs.Cells.{Row}
@@ -29,6 +29,10 @@ IsInside t whole cut half = MaybeHalf t whole cut (λ p. in_any whole.rects p &&
 
 abbrev pub IsOutside : Table → Region → List Rect → Option Region → Type 0
 IsOutside t whole cut half = MaybeHalf t whole cut (λ p. in_any whole.rects p && not (in_any cut p)) (λ row. not (is_in whole.attrs cut row)) half
+
+-- a half that is there has at most so many rects
+abbrev pub HasFew : ℕ → Option Region → Type 0
+HasFew limit half = IfSome half (λ r. length r.rects ≤ limit)
 
 -- the whole itself, and a limit that is below the grid, unless memory was refused
 abbrev pub IsRefusal : List Column → Region → List Rect → ℕ → NotSplit → Type 0

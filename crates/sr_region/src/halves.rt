@@ -1,5 +1,5 @@
 //! A region cut into two by rects.
-ghost use Rattle.std.specs.Prelude.{◌≡◌, ◌<◌, ◌≤◌, true, not, [], ◌++◌, length, filter, IfOk, IfErr, IsErrOf, IsTrue, vec_capacity};
+ghost use Rattle.std.specs.Prelude.{◌≡◌, ℕ, ◌<◌, ◌≤◌, true, not, [], ◌++◌, length, filter, IfOk, IfErr, IsErrOf, IsTrue, vec_capacity};
 ghost use Rattle.std.specs.List.{list_all};
 ghost use Rattle.std.specs.VecDeque.{deque_len};
 ghost use Rattle.sr_cell.specs.declared.list.No.TheVariants.{Refused};
@@ -9,7 +9,7 @@ ghost use Rattle.sr_box.specs.Points.{times, rect_fits, constrains_only};
 ghost use Rattle.sr_union.specs.Pieces.{IsMinus};
 ghost use Rattle.sr_union.specs.Grid.{AreCutFrom, grid, have_first, all_inner};
 ghost use Rattle.sr_region.specs.Regions.{is_in, IsRegion};
-ghost use Rattle.sr_region.specs.Halves.{IsInside, IsOutside, IsRefusal, half_of};
+ghost use Rattle.sr_region.specs.Halves.{IsInside, IsOutside, IsRefusal, HasFew, half_of};
 
 use crate::region::{Region, has_cells};
 use sr_cell::attrs::Attrs;
@@ -65,6 +65,8 @@ fn cut_rects(
     ensures inside { IfOk result (λ both. IsMinus table.now.columns own.now both.outside both.inside) }
     ensures cuts { IfOk result (λ both. AreCutFrom table.now.columns (own.now ++ cut.now) both.outside) }
     ensures cuts_inside { IfOk result (λ both. AreCutFrom table.now.columns (own.now ++ cut.now) both.inside) }
+    ensures few { IfOk result (λ both. length both.outside ≤ limit) }
+    ensures few_inside { IfOk result (λ both. length both.inside ≤ limit) }
     ensures over { IsErrOf result (Refused (record {})) → limit < grid table.now.columns (own.now ++ cut.now) }
 {
     let outside = match own.minus(alloc, cut, table, limit) {
@@ -115,7 +117,8 @@ fn cut_rows(rows: VecDeque<Row>, attrs: Attrs, cut: &Rects, rooms: CutRows) -> C
 
 /// A region of the whole's class, where there are rects.
 fn half_of(whole: &Region, rects: Rects, rows: Rows) -> Option<Region>
-    ensures { result ≡ half_of whole.now rects rows }
+    ensures is { result ≡ half_of whole.now rects rows }
+    ensures few { (limit : ℕ) → length rects ≤ limit → HasFew limit result }
 {
     if rects.is_empty() {
         return None;
@@ -138,6 +141,8 @@ fn halves_of(alloc: Global, whole: Region, cut: &Rects, rects: CutRects, rooms: 
     requires room_outside { length whole.rows ≤ vec_capacity rooms.outside }
     ensures inside { result.inside ≡ half_of whole rects.inside (filter (is_in whole.attrs cut.now) whole.rows) }
     ensures outside { result.outside ≡ half_of whole rects.outside (filter (λ row. not (is_in whole.attrs cut.now row)) whole.rows) }
+    ensures few_inside { (limit : ℕ) → length rects.inside ≤ limit → HasFew limit result.inside }
+    ensures few_outside { (limit : ℕ) → length rects.outside ≤ limit → HasFew limit result.outside }
 {
     let mut whole = whole;
     let rows = mem::replace(&mut whole.rows, Seq::new(alloc)).into_vec();
@@ -164,6 +169,8 @@ impl Region {
         requires first { have_first table.now.columns ≡ true }
         ensures inside { IfOk result (λ halves. IsInside table.now self rects.now halves.inside) }
         ensures outside { IfOk result (λ halves. IsOutside table.now self rects.now halves.outside) }
+        ensures few_inside { IfOk result (λ halves. HasFew limit halves.inside) }
+        ensures few_outside { IfOk result (λ halves. HasFew limit halves.outside) }
         ensures refused { IfErr result (λ no. IsRefusal table.now.columns self rects.now limit no) }
     {
         let cut = match cut_rects(alloc, &self.rects, rects, table, limit) {

@@ -1,2 +1,4 @@
-//! Definitions of what a client holds, as the history of its marks says, and of what it asks. There is no code here.
+//! Definitions of what a client holds, as the history of its marks says, and of what it asks. There is no code here but laws of worked values.
 #![tactic(auto)]
+
+pub mod laws;

@@ -3,5 +3,6 @@
 #![tactic(auto)]
 
 pub mod condition;
+pub mod laws;
 pub mod query;
 pub mod write;

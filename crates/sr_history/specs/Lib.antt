@@ -1,2 +1,5 @@
 pub mod Marks
 pub mod Rests
+pub mod Classes
+pub mod Drops
+pub mod Load

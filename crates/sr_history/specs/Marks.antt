@@ -1,16 +1,12 @@
 -- What a client holds, as the history of its marks says.
 use Rattle.std.specs.Prelude.{ℕ, Bool, true, false, ◌&&◌, ◌==◌, List, [], ◌∷◌, if◌then◌else◌, fold}
 use Rattle.std.specs.List.{list_any}
-use Rattle.sr_cell.specs.declared.cause.Cause.{Cause}
 use Rattle.sr_cell.specs.declared.table.Table.{Table}
 use Rattle.sr_cell.specs.Columns.{table_at}
 use Rattle.sr_cell.specs.Attrs.{includes}
-use Rattle.sr_box.specs.Points.{Rect, Points, in_any, HasNoPoint}
-
--- From here on the points of some rects are held under these columns, or they are so no more.
-pub data Mark : Type 0 where
-  Held : (table attrs : ℕ) → (rects : List Rect) → Mark
-  Dropped : (cause : Cause) → (table attrs stamp : ℕ) → (rects : List Rect) → Mark
+use Rattle.sr_box.specs.Points.{Points, in_any, HasNoPoint}
+use Rattle.sr_history.specs.declared.mark.Mark.{Mark}
+use Rattle.sr_history.specs.declared.mark.Mark.TheVariants.{Held, Dropped}
 
 abbrev pub attrs_of : Mark → ℕ
 attrs_of (Held t a rects) = a

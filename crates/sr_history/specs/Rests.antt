@@ -7,7 +7,8 @@ use Rattle.sr_cell.specs.Attrs.{has_column}
 use Rattle.sr_box.specs.Points.{Points, in_any, rect_fits, constrains_only, AreSame, HasPoint, HasNoPoint, IsEssential}
 use Rattle.sr_message.specs.declared.message.AskPart.{AskPart}
 use Rattle.sr_model.specs.Queries.{Part, points_of}
-use Rattle.sr_history.specs.Marks.{Mark, is_covered}
+use Rattle.sr_history.specs.declared.mark.Mark.{Mark}
+use Rattle.sr_history.specs.Marks.{is_covered}
 
 -- the points of a part that are not covered
 abbrev pub rest_of : List Mark → Part → Points

@@ -3,7 +3,8 @@ ghost use Rattle.std.specs.Prelude.{◌≡◌, true, false, [], ◌∷◌, pos};
 ghost use Rattle.sr_box.specs.declared.span.Span.TheVariants.{Full, Nums};
 ghost use Rattle.sr_cell.specs.declared.cause.Cause.TheVariants.{Asked};
 ghost use Rattle.sr_cell.specs.declared.cell.Cell.TheVariants.{Num};
-ghost use Rattle.sr_history.specs.Marks.{Held, Dropped, is_held, is_covered};
+ghost use Rattle.sr_history.specs.declared.mark.Mark.TheVariants.{Held, Dropped};
+ghost use Rattle.sr_history.specs.Marks.{is_held, is_covered};
 
 /// The newest mark that has the point decides, and it is of just those columns.
 pub fn the_newest_mark_decides()

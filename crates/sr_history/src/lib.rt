@@ -1,4 +1,6 @@
-//! Definitions of what a client holds, as the history of its marks says, and of what it asks. There is no code here but laws of worked values.
+//! Marks, and definitions of what a client holds, as the history of its marks says, and of what it asks and drops. There is
+//! no code here but laws of worked values.
 #![tactic(auto)]
 
 pub mod laws;
+pub mod mark;

@@ -1,13 +1,13 @@
 //! The regions of a client.
-ghost use Rattle.std.specs.Prelude.{◌≡◌, ◌≤◌, ◌+◌, true, [], ◌++◌, ◌⊎◌, length, map, take, drop, slice_get, Some, IfOk, IfErr, OnOk, OnErr, IsTrue};
+ghost use Rattle.std.specs.Prelude.{◌≡◌, ◌≤◌, ◌+◌, true, [], ◌++◌, length, map, take, drop, slice_get, Some, IfOk, IfErr, OnOk, OnErr, IsTrue};
 ghost use Rattle.std.specs.List.{list_all, All};
 ghost use Rattle.sr_cell.specs.Columns.{table_at};
-ghost use Rattle.sr_box.specs.Points.{rect_fits};
+ghost use Rattle.sr_box.specs.Points.{rect_fits, constrains_only};
 ghost use Rattle.sr_query.specs.Bound.{is_table};
 ghost use Rattle.sr_query.specs.declared.query.Part.{Part as ThePart};
 ghost use Rattle.sr_store.specs.Told.{Told, IsTold, AreTrueOf};
 ghost use Rattle.sr_store.specs.Stores.{IsStore, cover_of, drop_of};
-ghost use Rattle.sr_store.specs.Answered.{IsArrival, AreApart, HaveArrived, IsRenewed, IsGivenUp};
+ghost use Rattle.sr_store.specs.Answered.{IsArrival, AreApart, HaveArrived, IsRenewed};
 
 use sr_cell::attrs::Attrs;
 use sr_cell::cause::Cause;
@@ -63,8 +63,7 @@ impl Store {
 
 
     /// What an answer does: what arrived is held, the points that the query touches have its number as their stamp, and the
-    /// regions whose points are all held under more columns are dropped. Or all regions are dropped, where they would have too
-    /// many rects. After want of memory it holds nothing.
+    /// regions whose points are all held under more columns are dropped. After want of memory it holds nothing.
     pub fn answered(
         &mut self,
         alloc: Global,
@@ -76,11 +75,11 @@ impl Store {
         requires tables { IsTrue (list_all is_table schema.now) }
         requires store { IsStore schema.now self.old.regions }
         requires parts { All (λ (part : ThePart). list_all (rect_fits (table_at schema.now part.table).columns) part.rects ≡ true) parts.now }
+        requires only { All (λ (part : ThePart). list_all (constrains_only part.need 0) part.rects ≡ true) parts.now }
         requires arrivals { All (IsArrival schema.now parts.now) arrivals }
         requires apart { AreApart schema.now self.old.regions arrivals }
         requires told { (told : Told) × IsTold schema.now told × AreTrueOf told self.old.regions × HaveArrived told arrivals }
-        ensures answered { IfOk result (λ marks. IsRenewed schema.now number parts.now arrivals self.old.regions self.new.regions marks
-            ⊎ IsGivenUp schema.now parts.now arrivals self.old.regions self.new.regions marks) }
+        ensures renewed { IfOk result (IsRenewed schema.now number parts.now arrivals self.old.regions self.new.regions) }
         ensures store { IsStore schema.now self.new.regions }
         ensures true_still { (told : Told) → IsTold schema.now told → AreTrueOf told self.old.regions → HaveArrived told arrivals → AreTrueOf told self.new.regions }
         ensures nothing_left { OnErr result (self.new.regions ≡ []) }

@@ -1,0 +1,4 @@
+//! The answer of a query of one table, from rows of several regions.
+#![tactic(auto)]
+
+pub mod joiner;

@@ -1,7 +1,6 @@
 pub mod Asking
 pub mod Bound
 pub mod Client
-pub mod Kept
 pub mod Ran
 pub mod Replay
 pub mod Refused

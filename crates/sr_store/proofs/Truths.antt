@@ -8,7 +8,7 @@ use Rattle.sr_cell.specs.declared.table.Table.{Table}
 use Rattle.sr_cell.specs.Attrs.{has_column, project}
 use Rattle.sr_cell.specs.Cells.{Row}
 use Rattle.sr_cell.specs.Columns.{table_at, is_point}
-use Rattle.sr_model.specs.SortedRows.{key_lt, ascend, with_rows}
+use Rattle.sr_model.specs.SortedRows.{ascend, with_rows}
 use Rattle.sr_box.specs.Points.{Rect, Points, in_any, rect_fits, constrains_only, AreSame}
 use Rattle.sr_rows.specs.Places.{is_apart}
 use Rattle.sr_rows.proofs.Order.{is_first, ascend-tail, ascend-first}

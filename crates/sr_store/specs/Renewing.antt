@@ -1,6 +1,6 @@
 -- How an answer makes the new regions: the old ones are cut along the query's parts, and put together again by class.
 use Rattle.std.specs.Prelude.{ℕ, Bool, true, ◌&&◌, ◌==◌, List, [], ◌∷◌, ◌++◌, map, filter, flat_map, Option, option_to_list, ◌≡◌, IsTrue, if◌then◌else◌}
-use Rattle.std.specs.List.{list_all, All, AllZip}
+use Rattle.std.specs.List.{list_all, All}
 use Rattle.sr_cell.specs.declared.table.Table.{Table}
 use Rattle.sr_cell.specs.Columns.{table_at, is_point}
 use Rattle.sr_cell.specs.Attrs.{includes}

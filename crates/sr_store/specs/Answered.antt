@@ -69,11 +69,15 @@ AreFlags P [] (g ∷ gs) = ⊥
 AreFlags P (f ∷ fs) [] = ⊥
 AreFlags P (f ∷ fs) (g ∷ gs) = (IsTrue f ↔ P g) × AreFlags P fs gs
 
+abbrev pub same_flag : Bool → Bool → Bool
+same_flag true b = b
+same_flag false b = not b
+
 -- the regions whose flag is this one
 abbrev pub flagged : Bool → List Bool → List Region → List Region
 flagged b [] gs = []
 flagged b (f ∷ fs) [] = []
-flagged b (f ∷ fs) (g ∷ gs) = if f == b then g ∷ flagged b fs gs else flagged b fs gs
+flagged b (f ∷ fs) (g ∷ gs) = if same_flag f b then g ∷ flagged b fs gs else flagged b fs gs
 
 -- ---- the answer of a query of that number, of these parts
 

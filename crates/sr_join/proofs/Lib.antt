@@ -1,1 +1,2 @@
+pub mod United
 pub mod Picked

@@ -2,3 +2,5 @@
 #![tactic(auto)]
 
 pub mod joiner;
+mod merge;
+mod pick;

@@ -1,2 +1,3 @@
-pub mod United
+pub mod OnePart
 pub mod Picked
+pub mod United

@@ -1,6 +1,6 @@
 -- Rows picked from a table's.
 use Rattle.std.proofs.Common.{◌≡◌, ℕ, zero, suc, Bool, true, false, not, ◌||◌, List, [], ◌∷◌, ◌++◌, map, drop, refl, ap, ◌∙◌, arith}
-use Rattle.std.specs.Prelude.{filter, ◌==◌, Option, Some, None, Result, Ok, Err, IfOk, OnOk, if◌then◌else◌}
+use Rattle.std.specs.Prelude.{filter, ◌==◌, Option, Some, Result, Ok, Err, IfOk, OnOk}
 use Rattle.sr_cell.specs.Attrs.{has_column, project}
 use Rattle.sr_cell.specs.Cells.{Row, cell_at}
 use Rattle.sr_model.specs.Queries.{row_at}

@@ -1,8 +1,6 @@
 -- Two lists of rows by their first cell as one.
 use Rattle.std.proofs.Common.{◌≡◌, ℕ, Bool, true, false, cond, ◌||◌, List, [], ◌∷◌, ◌++◌, drop, length, map, refl, sym, ap, subst, ◌∙◌, arith}
 use Rattle.std.specs.Prelude.{filter, Option, Some, None, option_to_list}
-use Rattle.std.specs.List.{list_all}
-use Rattle.sr_cell.specs.declared.cell.Cell.{Cell}
 use Rattle.sr_cell.specs.Cells.{Row, cell_at, cell_le}
 use Rattle.sr_model.specs.SortedRows.{ascend}
 use Rattle.sr_rows.specs.Places.{is_own_next}

@@ -1,5 +1,5 @@
 -- What is found of the answer of a query of one table.
-use Rattle.std.specs.Prelude.{ℕ, Bool, true, false, not, ◌&&◌, ◌||◌, ◌==◌, List, [], ◌∷◌, map, filter, ◌≡◌, if◌then◌else◌}
+use Rattle.std.specs.Prelude.{ℕ, Bool, not, ◌||◌, ◌==◌, List, [], ◌∷◌, map, filter, ◌≡◌, if◌then◌else◌}
 use Rattle.std.specs.List.{list_all}
 use Rattle.sr_cell.specs.Attrs.{has_column}
 use Rattle.sr_cell.specs.Cells.{Row, cell_at, cell_le}

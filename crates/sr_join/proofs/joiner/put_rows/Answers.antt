@@ -1,6 +1,5 @@
-use Rattle.std.proofs.Common.{◌≡◌, sym, ap, map, [], ◌∙◌, arith}
+use Rattle.std.proofs.Common.{◌≡◌, sym, [], arith}
 use Rattle.std.proofs.lemmas.Grind.{common_steps}
-use Rattle.sr_join.specs.Found.{key_of, lent, united}
 use Rattle.sr_join.proofs.United.{united-none}
 use Rattle.sr_join.proofs.joiner.put_rows.Goals as goal
 

@@ -1,0 +1,4 @@
+pub mod Truths
+pub mod Touching
+pub mod Restamping
+pub mod Adding

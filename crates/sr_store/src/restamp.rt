@@ -78,6 +78,7 @@ fn push_stamped(
 }
 
 /// The region cut along the rects, with a new stamp on what lies inside.
+#[tactic(auto, using(crate::proofs::Schemas::table_inner, crate::proofs::Schemas::table_first))]
 fn push_split(
     alloc: Global,
     table: &Table,

@@ -1,0 +1,3 @@
+pub mod Schemas
+pub mod Joining
+pub mod Fits

@@ -1,0 +1,55 @@
+-- The columns of a table are not empty, and lie far inside.
+use Rattle.std.proofs.Common.{◌≡◌, ℕ, ℤ, ◌<◌, Bool, true, List, [], ◌∷◌, length, zero, suc, arith, refl}
+use Rattle.std.specs.Prelude.{not, int_le, pos, negsuc, ◌&&◌}
+use Rattle.std.specs.List.{list_all}
+use Rattle.std.proofs.lemmas.Int.{ints}
+use Rattle.sr_cell.specs.declared.table.Kind.{Kind}
+use Rattle.sr_cell.specs.declared.table.Kind.TheVariants.{Num as Numbers, Str as Texts}
+use Rattle.sr_cell.specs.declared.table.Column.{Column}
+use Rattle.sr_cell.specs.declared.table.Table.{Table}
+use Rattle.sr_cell.specs.Columns.{in_kind, table_at}
+use Rattle.sr_cell.specs.Names.{is_bad_domain}
+use Rattle.sr_box.specs.Corners.{first_value}
+use Rattle.sr_query.specs.Bound.{is_table}
+use Rattle.sr_union.specs.Grid.{all_inner, have_first, is_inner_kind}
+
+abbrev is_good : Kind → ℤ → ℤ → Bool
+is_good Numbers low high = int_le low high && (int_le (negsuc 1099511627775) low && int_le high (pos 1099511627775))
+is_good Texts low high = true
+
+inner_one : (k : Kind) (low high : ℤ) → is_good k low high ≡ true → is_inner_kind k low high ≡ true
+inner_one Numbers low high h = grind (arith, ints)
+inner_one Texts low high h = refl
+
+first_one : (k : Kind) (low high : ℤ) → is_good k low high ≡ true → in_kind k low high (first_value k low) ≡ true
+first_one Numbers low high h = grind (arith, ints)
+first_one Texts low high h = refl
+
+good_from : (k : Kind) (name : List ℕ) (low high : ℤ) → not (is_bad_domain (record { name = name; kind = k; lo = low; hi = high })) ≡ true → is_good k low high ≡ true
+good_from Numbers name low high h = grind arith
+good_from Texts name low high h = refl
+
+inner_all : (cs : List Column) → list_all (λ c. not (is_bad_domain c)) cs ≡ true → all_inner cs ≡ true
+inner_all [] h = refl
+inner_all (c ∷ cs) h = let good = good_from c.kind c.name c.lo c.hi (grind arith) in let one = inner_one c.kind c.lo c.hi good in let ih = inner_all cs (grind arith) in grind (arith, one, ih)
+
+first_all : (cs : List Column) → list_all (λ c. not (is_bad_domain c)) cs ≡ true → have_first cs ≡ true
+first_all [] h = refl
+first_all (c ∷ cs) h = let good = good_from c.kind c.name c.lo c.hi (grind arith) in let one = first_one c.kind c.lo c.hi good in let ih = first_all cs (grind arith) in grind (arith, one, ih)
+
+pub table_inner : (t : Table) → is_table t ≡ true → all_inner t.columns ≡ true
+table_inner t h = inner_all t.columns (grind arith)
+
+pub table_first : (t : Table) → is_table t ≡ true → have_first t.columns ≡ true
+table_first t h = first_all t.columns (grind arith)
+
+pub is_table-at : (schema : List Table) (t : ℕ) → list_all is_table schema ≡ true → t < length schema → is_table (table_at schema t) ≡ true
+is_table-at [] t h l = absurd (omega arith)
+is_table-at (x ∷ schema) zero h l = grind arith
+is_table-at (x ∷ schema) (suc t) h l = is_table-at schema t (grind arith) (omega arith)
+
+pub inner_at : (schema : List Table) (t : ℕ) → list_all is_table schema ≡ true → t < length schema → all_inner (table_at schema t).columns ≡ true
+inner_at schema t h l = table_inner (table_at schema t) (is_table-at schema t h l)
+
+pub first_at : (schema : List Table) (t : ℕ) → list_all is_table schema ≡ true → t < length schema → have_first (table_at schema t).columns ≡ true
+first_at schema t h l = table_first (table_at schema t) (is_table-at schema t h l)

@@ -2,3 +2,6 @@
 #![tactic(auto)]
 
 pub mod joiner;
+pub mod laws;
+mod merge;
+mod pick;

@@ -1,5 +1,6 @@
 pub mod Texts
 pub mod Lines
 pub mod Built
+pub mod Sound
 pub mod Script
 pub mod Creates

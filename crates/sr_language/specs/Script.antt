@@ -13,7 +13,7 @@ use Rattle.sr_model.specs.Statements.{Write}
 use Rattle.sr_model.specs.Events.{Event, Exec, QueryOf}
 use Rattle.sr_query.specs.Binding.{bound_query}
 use Rattle.sr_query.specs.Writes.{bound_write}
-use Rattle.sr_language.specs.Built.{may_create, may_ask}
+use Rattle.sr_language.specs.Built.{may_ask}
 
 -- ---- what a line is, by how it begins
 
@@ -98,14 +98,14 @@ Writes tables sql (Ok write) = (s : Statement) × Says sql (Ok s) × (bound_writ
 -- A text that is no statement, or whose statement asks nothing of the tables, is refused. Another asks this query.
 abbrev pub AsksOf : List Table → List ℕ → Result Query Fault → Type 0
 AsksOf tables sql (Err fault) = Says sql (Err fault) ⊎ ((s : Statement) × Says sql (Ok s) × (bound_query tables s ≡ Err fault))
-AsksOf tables sql (Ok query) = (s : Statement) × Says sql (Ok s) × (bound_query tables s ≡ Ok query) × IsTrue (may_ask tables query)
+AsksOf tables sql (Ok query) = (s : Statement) × Says sql (Ok s) × (bound_query tables s ≡ Ok query) × IsTrue (may_ask query)
 
--- The one CREATE line stands in front, then the statements, then the queries.
+-- The CREATE lines stand in front, then the statements, then the queries.
 abbrev pub LineDoes : Phase → ℕ → Line → List (ℕ × Event) → Phase → Type 0
 LineDoes phase n Silent events next = (events ≡ []) × (next ≡ phase)
 LineDoes phase n (CreateLine sql) events next =
-    (t : Table) × AddsTable [] sql t × IsTrue (may_create t) × (phase ≡ start_phase)
-    × (events ≡ []) × (next ≡ record { tables = t ∷ []; stage = Creating })
+    (t : Table) × AddsTable phase.tables sql t × (phase.stage ≡ Creating)
+    × (events ≡ []) × (next ≡ record phase { tables = phase.tables ++ t ∷ [] })
 LineDoes phase n (ExecLine sql) events next =
     (statement : Result Write Fault) × Writes phase.tables sql statement × (phase.stage ≡ Asking → ⊥)
     × (events ≡ (n, Exec statement) ∷ []) × (next ≡ record phase { stage = Filling })

@@ -2,6 +2,7 @@
 ghost use Rattle.std.specs.Prelude.{◌≡◌, [], ◌∷◌, pos, negsuc, codes, decimal, ◌++◌};
 ghost use Rattle.sr_cell.specs.declared.cell.Cell.TheVariants.{Num, Str};
 ghost use Rattle.sr_language.specs.Texts.{cell_text};
+ghost use Rattle.sr_language.specs.Sound.{BoundAreSound, RectsConstrainNeeded};
 
 /// Numbers are decimal; texts stand in quotes, which are doubled inside, or in hexadecimal where a byte is not printable.
 pub fn cells_are_printed()
@@ -12,4 +13,14 @@ pub fn cells_are_printed()
     ensures bytes { cell_text (Str (97 ∷ 10 ∷ 127 ∷ [])) ≡ codes "x'610a7f'" }
     ensures last_printable { cell_text (Str (126 ∷ [])) ≡ codes "'~'" }
     ensures first_not_printable { cell_text (Str (127 ∷ [])) ≡ codes "x'7f'" }
+{}
+
+/// Each query that a statement asks is sound.
+pub fn bound_queries_are_sound()
+    ensures { BoundAreSound }
+{}
+
+/// The rects of a sound part constrain no columns but those that it needs.
+pub fn rects_constrain_needed_columns()
+    ensures { RectsConstrainNeeded }
 {}

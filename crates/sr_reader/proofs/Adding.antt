@@ -7,7 +7,7 @@ use Rattle.sr_cell.specs.declared.fault.Fault.{Fault}
 use Rattle.sr_cell.specs.Faults.{table_fault}
 use Rattle.sr_query.specs.declared.query.Query.{Query}
 use Rattle.sr_query.specs.declared.write.Write.{Write}
-use Rattle.sr_language.specs.Script.{Line, CreateLine, ExecLine, QueryLine, Creating, Asking, start_phase, AddsTable, Writes}
+use Rattle.sr_language.specs.Script.{Line, CreateLine, ExecLine, QueryLine, Creating, Asking, AddsTable, Writes}
 use Rattle.sr_reader.specs.declared.script.ExecLine.{ExecLine as ExecRead}
 use Rattle.sr_reader.specs.declared.script.QueryLine.{QueryLine as QueryRead}
 use Rattle.sr_reader.specs.declared.script.Script.{Script}
@@ -28,33 +28,28 @@ none_at_start (s ∷ statements) [] is = absurd cc
 none_at_start [] (q ∷ queries) is = absurd cc
 none_at_start (s ∷ statements) (q ∷ queries) is = absurd cc
 
-pub create_behind : (number : ℕ) (sql : List ℕ) (old : Script) → (phase_in old ≡ start_phase → ⊥) → AddsNothing number old (CreateLine sql)
-create_behind number sql old behind events next does = behind does.3
+pub create_behind : (number : ℕ) (sql : List ℕ) (old : Script) → ((phase_in old).stage ≡ Creating → ⊥) → AddsNothing number old (CreateLine sql)
+create_behind number sql old behind events next does = behind does.2
 
 pub create_none : (number : ℕ) (sql : List ℕ) (old : Script) → IsCreated sql None → AddsNothing number old (CreateLine sql)
-create_none number sql old none events next does = none does.0 does.1.0 does.2
+create_none number sql old none events next does = none does.0 does.1.0
 
-no_tables : (old : Script) → phase_in old ≡ start_phase → old.schema ≡ []
-no_tables old start = ap (λ p. p.tables) start
-
-pub create_some : (number : ℕ) (sql : List ℕ) (old : Script) (tables : List Table) (t : Table) → phase_in old ≡ start_phase → IsCreated sql (Some t) → tables ≡ old.schema ++ t ∷ [] → table_fault old.schema t ≡ None
+pub create_some : (number : ℕ) (sql : List ℕ) (old : Script) (tables : List Table) (t : Table) → (phase_in old).stage ≡ Creating → IsCreated sql (Some t) → tables ≡ old.schema ++ t ∷ [] → table_fault old.schema t ≡ None → Fits old
     → Adds number old (CreateLine sql) (record old { schema = tables }) × Fits (record old { schema = tables })
-create_some number sql old tables t start created added faultless =
-    let empty = none_at_start old.statements old.queries (ap (λ p. p.stage) start) in
-    let none = no_tables old start in
-    let adds : AddsTable [] sql t = (created.0, subst (λ z. table_fault z t ≡ None) none faultless) in
-    let one : tables ≡ t ∷ [] = added ∙ ap (λ z. z ++ t ∷ []) none in
-    subst (λ z. Adds number old (CreateLine sql) (record old { schema = z }) × Fits (record old { schema = z })) (sym one)
-    (create_adds number sql old t start adds created.1 empty.0 empty.1, create_fits old t sql adds created.1 empty.0)
+create_some number sql old tables t creating created added faultless fits =
+    let empty = none_at_start old.statements old.queries creating in
+    let adds : AddsTable old.schema sql t = (created, faultless) in
+    subst (λ z. Adds number old (CreateLine sql) (record old { schema = z }) × Fits (record old { schema = z })) (sym added)
+    (create_adds number sql old t creating adds empty.1, create_fits old t sql adds fits empty.0)
 
 none_some : (fault : Fault) → None ≡ Some fault → ⊥
 none_some fault e = cc
 
-pub create_refused : (number : ℕ) (sql : List ℕ) (old : Script) (t : Table) (fault : Fault) → phase_in old ≡ start_phase → IsCreated sql (Some t) → table_fault old.schema t ≡ Some fault → AddsNothing number old (CreateLine sql)
-create_refused number sql old t fault start created bad events next does =
-    let same : does.0 ≡ t = one_create sql does.0 t does.1.0 created.0 in
-    let none : table_fault [] t ≡ None = subst (λ z. table_fault [] z ≡ None) same does.1.1 in
-    none_some fault (sym none ∙ subst (λ z. table_fault z t ≡ Some fault) (no_tables old start) bad)
+pub create_refused : (number : ℕ) (sql : List ℕ) (old : Script) (t : Table) (fault : Fault) → IsCreated sql (Some t) → table_fault old.schema t ≡ Some fault → AddsNothing number old (CreateLine sql)
+create_refused number sql old t fault created bad events next does =
+    let same : does.0 ≡ t = one_create sql does.0 t does.1.0 created in
+    let none : table_fault old.schema t ≡ None = subst (λ z. table_fault old.schema z ≡ None) same does.1.1 in
+    none_some fault (sym none ∙ bad)
 
 -- ---- statements and queries
 

@@ -26,7 +26,7 @@ same_stage phase next same = ap (λ (p : Phase). p.stage) same
 line_keeps : (phase : Phase) (n : ℕ) (line : Line) (events : List (ℕ × Event)) (next : Phase) → LineDoes phase n line events next → (phase.stage ≡ Creating → ⊥)
     → (next.tables ≡ phase.tables) × (next.stage ≡ Creating → ⊥)
 line_keeps phase n Silent events next does behind = (same_tables phase next does.1, λ creating. behind (sym (same_stage phase next does.1) ∙ creating))
-line_keeps phase n (CreateLine sql) events next does behind = absurd (behind (same_stage start_phase phase does.3))
+line_keeps phase n (CreateLine sql) events next does behind = absurd (behind does.2)
 line_keeps phase n (ExecLine sql) events next does behind =
     (same_tables (record phase { stage = Filling }) next does.4, λ creating. filling (sym (same_stage (record phase { stage = Filling }) next does.4) ∙ creating))
 line_keeps phase n (QueryLine sql) events next does behind =
@@ -51,11 +51,10 @@ created_from i phase (line ∷ lines) events end schema reads creating creates =
         → (reads.2.stage ≡ Creating → Creates reads.2.tables lines schema → schema ≡ end.tables) → ((reads.2.stage ≡ Creating → ⊥) → end.tables ≡ reads.2.tables) → schema ≡ end.tables
     by Silent does creates more behind = more (same_stage phase reads.2 does.1 ∙ creating) (subst (λ known. Creates known lines schema) (sym (same_tables phase reads.2 does.1)) creates)
     by (CreateLine sql) does creates more behind =
-        let none : phase.tables ≡ [] = same_tables start_phase phase does.3 in
         let one : creates.0 ≡ does.0 = one_create sql creates.0 does.0 creates.1.0 does.1.0 in
-        let next : Phase = record { tables = does.0 ∷ []; stage = Creating } in
-        let known : phase.tables ++ creates.0 ∷ [] ≡ reads.2.tables = ap (λ z. z ++ creates.0 ∷ []) none ∙ ap (λ t. t ∷ []) one ∙ sym (same_tables next reads.2 does.5) in
-        more (same_stage next reads.2 does.5) (subst (λ known. Creates known lines schema) known creates.2)
+        let next : Phase = record phase { tables = phase.tables ++ does.0 ∷ [] } in
+        let known : phase.tables ++ creates.0 ∷ [] ≡ reads.2.tables = ap (λ t. phase.tables ++ t ∷ []) one ∙ sym (same_tables next reads.2 does.4) in
+        more (same_stage next reads.2 does.4 ∙ creating) (subst (λ known. Creates known lines schema) known creates.2)
     by (ExecLine sql) does creates more behind =
         let next : Phase = record phase { stage = Filling } in
         creates ∙ sym (behind (λ creating. filling (sym (same_stage next reads.2 does.4) ∙ creating)) ∙ same_tables next reads.2 does.4)

@@ -12,17 +12,19 @@ use Rattle.sr_grammar.specs.Seen.{statement_seen}
 use Rattle.sr_grammar.specs.Says.{Says}
 use Rattle.sr_model.specs.Queries as model
 use Rattle.sr_query.specs.Binding.{bound_query}
+use Rattle.sr_query.specs.Bound.{IsQuery}
 use Rattle.sr_query.specs.Writes.{bound_write}
 use Rattle.sr_query.specs.Written.{write_of}
 use Rattle.sr_query.specs.declared.query.Query.{Query}
 use Rattle.sr_query.specs.declared.write.Write.{Write}
 use Rattle.sr_query.specs.declared.write.Write.TheVariants as written
 use Rattle.sr_bind.proofs.OnTables.{bound_suits, bound_rows}
-use Rattle.sr_language.specs.Built.{may_create, may_ask}
+use Rattle.sr_language.specs.Built.{may_ask}
 use Rattle.sr_language.specs.Script.{Writes, AsksOf}
+use Rattle.sr_language.proofs.Sound.{bound_are_sound}
 use Rattle.sr_reader.specs.Read.{statement_of, few_rows, statement_fits, Means}
 use Rattle.sr_reader.specs.Meaning.{said_seen, IsCreated, IsBound, IsAsking}
-use Rattle.sr_reader.proofs.OneDoing.{one_statement, one_create, no_fault, asks_bound}
+use Rattle.sr_reader.proofs.OneDoing.{one_statement, no_fault, asks_bound}
 use Rattle.sr_reader.proofs.RowCounts.{fewer_rows}
 
 true_and_false : (b : Bool) → b ≡ true → b ≡ false → ⊥
@@ -39,19 +41,12 @@ says_fault sql says fault said is = subst (λ z. Says sql z) (ap said_seen is) s
 
 -- ---- the table of a CREATE
 
-pub created : (sql : List ℕ) (says : Result declared.Statement Fault) (s : declared.Statement) (t : Table) (may : Bool)
-    → Says sql (said_seen says) → says ≡ Ok s → s ≡ code.Create t → may ≡ may_create t → may ≡ true → IsCreated sql (Some t)
-created sql says s t may said is made told yes_may = (subst (λ z. Says sql z) (ap (λ z. Ok (statement_seen z)) made) (says_it sql says s said is), sym told ∙ yes_may)
-
-pub refused_table : (sql : List ℕ) (says : Result declared.Statement Fault) (s : declared.Statement) (t : Table) (may : Bool)
-    → Says sql (said_seen says) → says ≡ Ok s → s ≡ code.Create t → may ≡ may_create t → may ≡ false → IsCreated sql None
-refused_table sql says s t may said is made told no_may u create stands =
-    let here : Says sql (Ok (Create t)) = subst (λ z. Says sql z) (ap (λ z. Ok (statement_seen z)) made) (says_it sql says s said is) in
-    let same : u ≡ t = one_create sql u t create here in
-    true_and_false (may_create t) (sym (ap may_create same) ∙ stands) (sym told ∙ no_may)
+pub created : (sql : List ℕ) (says : Result declared.Statement Fault) (s : declared.Statement) (t : Table)
+    → Says sql (said_seen says) → says ≡ Ok s → s ≡ code.Create t → IsCreated sql (Some t)
+created sql says s t said is made = subst (λ z. Says sql z) (ap (λ z. Ok (statement_seen z)) made) (says_it sql says s said is)
 
 pub fault_creates_none : (sql : List ℕ) (says : Result declared.Statement Fault) (fault : Fault) → Says sql (said_seen says) → says ≡ Err fault → IsCreated sql None
-fault_creates_none sql says fault said is u create stands = no_fault sql (Create u) fault create (says_fault sql says fault said is)
+fault_creates_none sql says fault said is u create = no_fault sql (Create u) fault create (says_fault sql says fault said is)
 
 not_create : (t : Table) (s : declared.Statement) → Create t ≡ statement_seen s → ((u : Table) → s ≡ code.Create u → ⊥) → ⊥
 not_create t (code.Create u) e other = other u refl
@@ -62,7 +57,7 @@ not_create t (code.Delete q) e other = cc
 
 pub other_creates_none : (sql : List ℕ) (says : Result declared.Statement Fault) (s : declared.Statement)
     → Says sql (said_seen says) → says ≡ Ok s → ((u : Table) → s ≡ code.Create u → ⊥) → IsCreated sql None
-other_creates_none sql says s said is other u create stands = not_create u s (one_statement sql (Create u) (statement_seen s) create (says_it sql says s said is)) other
+other_creates_none sql says s said is other u create = not_create u s (one_statement sql (Create u) (statement_seen s) create (says_it sql says s said is)) other
 
 -- ---- statements that write
 
@@ -101,6 +96,11 @@ writes_fault tables sql says fault said is = inl (says_fault sql says fault said
 
 -- ---- queries
 
+-- a query that is bound and built is one that stands for its meaning
+pub bound_means : (tables : List Table) (s : Statement) (q : Query) (meaning : model.Query) (may : Bool) → bound_query tables s ≡ Ok meaning → IsQuery tables q meaning → may ≡ may_ask meaning → may ≡ true
+    → Means tables (Ok q) (Ok meaning)
+bound_means tables s q meaning may told is same yes_may = (is, sym same ∙ yes_may, bound_are_sound tables s meaning told)
+
 asked : (tables : List Table) (sql : List ℕ) (s : Statement) (query : Result Query Fault) (meaning : Result model.Query Fault) → Says sql (Ok s) → bound_query tables s ≡ meaning → Means tables query meaning → AsksOf tables sql meaning
 asked tables sql s query (Err fault) says told means = inr (s, says, told)
 asked tables sql s (Ok q) (Ok meaning) says told means = (s, says, told, means.1)
@@ -112,11 +112,11 @@ same_query q r e = cc
 no_query : (q : model.Query) (fault : Fault) → (let here : Result model.Query Fault = Ok q in here) ≡ Err fault → ⊥
 no_query q fault e = cc
 
-not_asked : (tables : List Table) (sql : List ℕ) (s : Statement) (q : model.Query) (meaning : Result model.Query Fault) → Says sql (Ok s) → bound_query tables s ≡ Ok q → may_ask tables q ≡ false → AsksOf tables sql meaning → ⊥
+not_asked : (tables : List Table) (sql : List ℕ) (s : Statement) (q : model.Query) (meaning : Result model.Query Fault) → Says sql (Ok s) → bound_query tables s ≡ Ok q → may_ask q ≡ false → AsksOf tables sql meaning → ⊥
 not_asked tables sql s q (Err fault) says told may asks = no_query q fault (sym told ∙ asks_bound tables sql s (Err fault) says asks)
 not_asked tables sql s q (Ok r) says told may asks =
     let same : q ≡ r = same_query q r (sym told ∙ asks_bound tables sql s (Ok r) says asks) in
-    true_and_false (may_ask tables q) (ap (may_ask tables) same ∙ asks.3) may
+    true_and_false (may_ask q) (ap may_ask same ∙ asks.3) may
 
 of_bound : (tables : List Table) (sql : List ℕ) (s : Statement) (found : Option (Result Query Fault)) → Says sql (Ok s) → IsBound tables s found → IsAsking tables sql found
 of_bound tables sql s None says bound = λ meaning asks. not_asked tables sql s bound.0 meaning says bound.1 bound.2 asks

@@ -1,5 +1,5 @@
 -- A line does one thing only, so what is read is neither unbuilt nor refused.
-use Rattle.std.proofs.Common.{◌≡◌, ℕ, ◌+◌, List, [], ◌∷◌, inl, inr, sym, ap, subst, ◌∙◌}
+use Rattle.std.proofs.Common.{◌≡◌, ℕ, ◌+◌, List, [], ◌∷◌, ◌++◌, inl, inr, sym, ap, subst, ◌∙◌}
 use Rattle.std.specs.Prelude.{None, Result, Ok, Err}
 use Rattle.sr_cell.specs.declared.table.Table.{Table}
 use Rattle.sr_cell.specs.declared.fault.Fault.{Fault}
@@ -12,7 +12,7 @@ use Rattle.sr_model.specs.Statements.{Write}
 use Rattle.sr_model.specs.Events.{Event, Exec, QueryOf}
 use Rattle.sr_query.specs.Binding.{bound_query}
 use Rattle.sr_query.specs.Writes.{bound_write}
-use Rattle.sr_language.specs.Script.{Line, Silent, CreateLine, ExecLine, QueryLine, Other, line_of, RefusedFrom, FirstRefused, Creating, Phase, start_phase, Writes, AsksOf, LineDoes, Reads, FirstUnbuilt}
+use Rattle.sr_language.specs.Script.{Line, Silent, CreateLine, ExecLine, QueryLine, Other, line_of, RefusedFrom, FirstRefused, Phase, start_phase, Writes, AsksOf, LineDoes, Reads, FirstUnbuilt}
 
 -- ---- a text means one thing
 
@@ -67,7 +67,7 @@ pub one_doing : (phase : Phase) (n : ℕ) (line : Line) (events others : List (�
 one_doing phase n Silent events others next after a b = (a.0 ∙ sym b.0, a.1 ∙ sym b.1)
 one_doing phase n (CreateLine sql) events others next after a b =
     let same = one_create sql a.0 b.0 a.1.0 b.1.0 in
-    (a.4 ∙ sym b.4, a.5 ∙ ap (λ (t : Table). record { tables = t ∷ []; stage = Creating }) same ∙ sym b.5)
+    (a.3 ∙ sym b.3, a.4 ∙ ap (λ (t : Table). record { tables = phase.tables ++ t ∷ []; stage = phase.stage }) same ∙ sym b.4)
 one_doing phase n (ExecLine sql) events others next after a b =
     let same = one_write phase.tables sql a.0 b.0 a.1 b.1 in
     (a.3 ∙ ap (λ s. (n, Exec s) ∷ []) same ∙ sym b.3, a.4 ∙ sym b.4)
@@ -86,41 +86,29 @@ excludes i phase (line ∷ lines) events end n reads (inr later) =
 
 -- ---- a script that is read has no CREATE line that is refused
 
-later_accepts : (i : ℕ) (t : Table) (lines : List (List ℕ)) (events : List (ℕ × Event)) (end : Phase) (n : ℕ) (fault : Fault)
-    → Reads i (record { tables = t ∷ []; stage = Creating }) lines events end → FirstRefused i (t ∷ []) lines n fault → ⊥
-later_accepts i t [] events end n fault reads first = first
-later_accepts i t (line ∷ lines) events end n fault reads first =
+accepts_from : (i : ℕ) (phase : Phase) (lines : List (List ℕ)) (events : List (ℕ × Event)) (end : Phase) (n : ℕ) (fault : Fault)
+    → Reads i phase lines events end → FirstRefused i phase.tables lines n fault → ⊥
+accepts_from i phase [] events end n fault reads first = first
+accepts_from i phase (line ∷ lines) events end n fault reads first =
     by (line_of line) reads.3 first
-    (λ same. later_accepts (i + 1) t lines reads.1 end n fault (subst (λ next. Reads (i + 1) next lines reads.1 end) same reads.4))
+    (λ known same refused. accepts_from (i + 1) reads.2 lines reads.1 end n fault reads.4 (subst (λ z. FirstRefused (i + 1) z lines n fault) (sym same) refused))
   where
-    by : (l : Line) → LineDoes (record { tables = t ∷ []; stage = Creating }) i l reads.0 reads.2 → RefusedFrom i (t ∷ []) (λ known. FirstRefused (i + 1) known lines n fault) l n fault
-        → (reads.2 ≡ record { tables = t ∷ []; stage = Creating } → FirstRefused (i + 1) (t ∷ []) lines n fault → ⊥) → ⊥
-    by Silent does refused others = others does.1 refused
-    by (CreateLine sql) does refused others = let e : t ∷ [] ≡ [] = ap (λ (p : Phase). p.tables) does.3 in cc
+    by : (l : Line) → LineDoes phase i l reads.0 reads.2 → RefusedFrom i phase.tables (λ known. FirstRefused (i + 1) known lines n fault) l n fault
+        → ((known : List Table) → reads.2.tables ≡ known → FirstRefused (i + 1) known lines n fault → ⊥) → ⊥
+    by Silent does refused others = others phase.tables (ap (λ (p : Phase). p.tables) does.1) refused
+    by (CreateLine sql) does (inl here) others = elim here.1 [
+      | inl says ↦ no_fault sql (Create does.0) fault does.1.0 says
+      | inr bad ↦ (let same = one_create sql does.0 bad.0 does.1.0 bad.1 in
+          let none : table_fault phase.tables bad.0 ≡ None = subst (λ t. table_fault phase.tables t ≡ None) same does.1.1 in
+          let some = bad.2 in
+          cc)
+    ]
+    by (CreateLine sql) does (inr later) others =
+        let same = one_create sql does.0 later.0 does.1.0 later.1.0 in
+        others (phase.tables ++ later.0 ∷ []) (ap (λ (p : Phase). p.tables) does.4 ∙ ap (λ t. phase.tables ++ t ∷ []) same) later.2
     by (ExecLine sql) does refused others = refused
     by (QueryLine sql) does refused others = refused
     by Other does refused others = refused
 
 pub accepts : (i : ℕ) (lines : List (List ℕ)) (events : List (ℕ × Event)) (end : Phase) (n : ℕ) (fault : Fault) → Reads i start_phase lines events end → FirstRefused i [] lines n fault → ⊥
-accepts i [] events end n fault reads first = first
-accepts i (line ∷ lines) events end n fault reads first =
-    by (line_of line) reads.3 first
-    (λ same. accepts (i + 1) lines reads.1 end n fault (subst (λ next. Reads (i + 1) next lines reads.1 end) same reads.4))
-  where
-    by : (l : Line) → LineDoes start_phase i l reads.0 reads.2 → RefusedFrom i [] (λ known. FirstRefused (i + 1) known lines n fault) l n fault
-        → (reads.2 ≡ start_phase → FirstRefused (i + 1) [] lines n fault → ⊥) → ⊥
-    by Silent does refused others = others does.1 refused
-    by (CreateLine sql) does (inl here) others = elim here.1 [
-      | inl says ↦ no_fault sql (Create does.0) fault does.1.0 says
-      | inr bad ↦ (let same = one_create sql does.0 bad.0 does.1.0 bad.1 in
-          let none : table_fault [] bad.0 ≡ None = subst (λ t. table_fault [] t ≡ None) same does.1.1 in
-          let some = bad.2 in
-          cc)
-    ]
-    by (CreateLine sql) does (inr later) others =
-        let same = one_create sql later.0 does.0 later.1.0 does.1.0 in
-        let rest : FirstRefused (i + 1) (does.0 ∷ []) lines n fault = subst (λ t. FirstRefused (i + 1) (t ∷ []) lines n fault) same later.2 in
-        later_accepts (i + 1) does.0 lines reads.1 end n fault (subst (λ next. Reads (i + 1) next lines reads.1 end) does.5 reads.4) rest
-    by (ExecLine sql) does refused others = refused
-    by (QueryLine sql) does refused others = refused
-    by Other does refused others = refused
+accepts i lines events end n fault reads first = accepts_from i start_phase lines events end n fault reads first

@@ -11,8 +11,6 @@ use Rattle.sr_cell.specs.Names.{is_bad_domain, bad_domain_from, has_table_named,
 use Rattle.sr_cell.specs.Faults.{fault_or, column_fault, table_fault}
 use Rattle.sr_parser.proofs.Words.{and_parts}
 use Rattle.sr_query.specs.Bound.{is_table}
-use Rattle.sr_language.specs.Built.{may_create}
-use Rattle.sr_reader.specs.Read.{is_built}
 
 no_bad : (n : ℕ) (columns : List Column) → bad_domain_from n columns ≡ None → list_all (λ c. not (is_bad_domain c)) columns ≡ true
 no_bad n [] none = refl
@@ -57,9 +55,3 @@ tables_grow [] t all is = rw is refl
 tables_grow (u ∷ tables) t all is =
     let p = and_parts (is_table u) (list_all is_table tables) all in
     rw (p.0, tables_grow tables t p.1 is) refl
-
-pub are_tables : (tables : List Table) → list_all is_built tables ≡ true → list_all is_table tables ≡ true
-are_tables [] all = refl
-are_tables (t ∷ tables) all =
-    let p = and_parts (is_built t) (list_all is_built tables) all in
-    rw ((and_parts (is_table t) (may_create t) p.0).0, are_tables tables p.1) refl

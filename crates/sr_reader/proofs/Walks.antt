@@ -11,14 +11,13 @@ use Rattle.sr_model.specs.Events.{Event, Exec, QueryOf}
 use Rattle.sr_query.specs.declared.query.Query.{Query}
 use Rattle.sr_query.specs.declared.write.Write.{Write}
 use Rattle.sr_language.specs.Lines.{lines_of}
-use Rattle.sr_language.specs.Built.{may_create}
-use Rattle.sr_language.specs.Script.{Line, Silent, CreateLine, ExecLine, QueryLine, Other, line_of, Stage, Filling, Asking, Phase, start_phase, AddsTable, Writes, AsksOf, LineDoes, Reads, FirstUnbuilt}
+use Rattle.sr_language.specs.Script.{Line, Silent, CreateLine, ExecLine, QueryLine, Other, line_of, Stage, Creating, Filling, Asking, Phase, start_phase, AddsTable, Writes, AsksOf, LineDoes, Reads, FirstUnbuilt}
 use Rattle.sr_reader.specs.declared.script.ExecLine.{ExecLine as ExecRead}
 use Rattle.sr_reader.specs.declared.script.QueryLine.{QueryLine as QueryRead}
 use Rattle.sr_reader.specs.declared.script.Script.{Script}
 use Rattle.sr_reader.specs.Read.{statement_of, exec_event, Means, IsAsked, AreEvents, Fits, IsRead, statement_fits}
 use Rattle.sr_reader.specs.Walk.{stage_by, phase_in, Adds, AddsNothing}
-use Rattle.sr_reader.proofs.Tables.{faultless_fits}
+use Rattle.sr_reader.proofs.Tables.{faultless_fits, tables_grow}
 
 map_push : {A B : Type 0} (f : A → B) (xs : List A) (x : A) → map f (xs ++ x ∷ []) ≡ map f xs ++ f x ∷ []
 map_push f [] x = refl
@@ -52,14 +51,14 @@ asked_push events front asked e are = ap (λ z. z ++ e ∷ []) are ∙ append_as
 
 -- ---- what a line adds
 
-pub create_adds : (number : ℕ) (sql : List ℕ) (old : Script) (t : Table) → phase_in old ≡ start_phase → AddsTable [] sql t → IsTrue (may_create t) → old.statements ≡ [] → old.queries ≡ []
-    → Adds number old (CreateLine sql) (record old { schema = t ∷ [] })
-create_adds number sql old t start adds may none silent = ([], (t, adds, may, start, refl, rw (none, silent) refl), λ events are. same events are)
+pub create_adds : (number : ℕ) (sql : List ℕ) (old : Script) (t : Table) → (phase_in old).stage ≡ Creating → AddsTable old.schema sql t → old.queries ≡ []
+    → Adds number old (CreateLine sql) (record old { schema = old.schema ++ t ∷ [] })
+create_adds number sql old t creating adds silent = ([], (t, adds, creating, refl, refl), λ events are. same events are)
   where
-    same : (events : List (ℕ × Event)) → AreEvents old events → AreEvents (record old { schema = t ∷ [] }) (events ++ [])
+    same : (events : List (ℕ × Event)) → AreEvents old events → AreEvents (record old { schema = old.schema ++ t ∷ [] }) (events ++ [])
     same events are = record {
       asked = are.asked;
-      queries = (zip_none (IsAsked old.schema) (IsAsked (t ∷ [])) old.queries are.asked silent are.queries).1;
+      queries = (zip_none (IsAsked old.schema) (IsAsked (old.schema ++ t ∷ [])) old.queries are.asked silent are.queries).1;
       all = append-nil events ∙ are.all;
     }
 
@@ -114,7 +113,7 @@ events_count s events are =
 
 one_event : (phase : Phase) (n : ℕ) (line : Line) (events : List (ℕ × Event)) (next : Phase) → LineDoes phase n line events next → length events ≤ 1
 one_event phase n Silent events next does = omega (arith, ap length does.0)
-one_event phase n (CreateLine sql) events next does = omega (arith, ap length does.4)
+one_event phase n (CreateLine sql) events next does = omega (arith, ap length does.3)
 one_event phase n (ExecLine sql) events next does = omega (arith, ap length does.3)
 one_event phase n (QueryLine sql) events next does = omega (arith, ap length does.2)
 one_event phase n Other events next does = absurd does
@@ -131,7 +130,7 @@ pub record Walked (bytes : List ℕ) (number : ℕ) (rest : List ℕ) (s : Scrip
 
 pub walked_start : (bytes : List ℕ) → Walked bytes 1 bytes (record { schema = []; statements = []; queries = [] })
 walked_start bytes = record {
-  fits = record { one = omega arith; tables = refl; statements = refl };
+  fits = record { tables = refl; statements = refl };
   counted = omega arith;
   few = omega arith;
   before = [];
@@ -176,20 +175,18 @@ walked_unbuilt bytes rest after line number s walked lines nothing = walked.unbu
 
 -- ---- what is read fits
 
-pub create_fits : (old : Script) (t : Table) (sql : List ℕ) → AddsTable [] sql t → IsTrue (may_create t) → old.statements ≡ [] → Fits (record old { schema = t ∷ [] })
-create_fits old t sql adds may none = record {
-  one = omega arith;
-  tables = rw (faultless_fits [] t adds.1, may) refl;
+pub create_fits : (old : Script) (t : Table) (sql : List ℕ) → AddsTable old.schema sql t → Fits old → old.statements ≡ [] → Fits (record old { schema = old.schema ++ t ∷ [] })
+create_fits old t sql adds fits none = record {
+  tables = tables_grow old.schema t fits.tables (faultless_fits old.schema t adds.1);
   statements = rw none refl;
 }
 
 pub exec_fits : (number : ℕ) (old : Script) (statement : Result Write Fault) → Fits old → IsTrue (statement_fits old.schema statement)
     → Fits (record old { statements = old.statements ++ record { number = number; statement = statement } ∷ [] })
 exec_fits number old statement fits suits = record {
-  one = fits.one;
   tables = fits.tables;
   statements = all_push (λ line. statement_fits old.schema line.statement) old.statements (record { number = number; statement = statement }) fits.statements suits;
 }
 
 pub query_fits : (number : ℕ) (old : Script) (query : Result Query Fault) → Fits old → Fits (record old { queries = old.queries ++ record { number = number; query = query } ∷ [] })
-query_fits number old query fits = record { one = fits.one; tables = fits.tables; statements = fits.statements }
+query_fits number old query fits = record { tables = fits.tables; statements = fits.statements }

@@ -1,5 +1,5 @@
 -- What the code found that a text means.
-use Rattle.std.specs.Prelude.{◌≡◌, ℕ, false, List, Option, Some, None, Result, Ok, Err, IsTrue}
+use Rattle.std.specs.Prelude.{◌≡◌, ℕ, false, List, Option, Some, None, Result, Ok, Err}
 use Rattle.sr_cell.specs.declared.table.Table.{Table}
 use Rattle.sr_cell.specs.declared.fault.Fault.{Fault}
 use Rattle.sr_grammar.specs.declared.statement.Statement as code
@@ -9,7 +9,7 @@ use Rattle.sr_grammar.specs.Says.{Says}
 use Rattle.sr_model.specs.Queries as model
 use Rattle.sr_query.specs.Binding.{bound_query}
 use Rattle.sr_query.specs.declared.query.Query.{Query}
-use Rattle.sr_language.specs.Built.{may_create, may_ask}
+use Rattle.sr_language.specs.Built.{may_ask}
 use Rattle.sr_language.specs.Script.{AsksOf}
 use Rattle.sr_reader.specs.Read.{Means}
 
@@ -17,14 +17,14 @@ abbrev pub said_seen : Result code.Statement Fault → Result Statement Fault
 said_seen (Ok s) = Ok (statement_seen s)
 said_seen (Err fault) = Err fault
 
--- the table of a CREATE that is built, or none if the text says no such CREATE
+-- the table of a CREATE, or none if the text says no CREATE
 abbrev pub IsCreated : List ℕ → Option Table → Type 0
-IsCreated sql None = (t : Table) → Says sql (Ok (Create t)) → IsTrue (may_create t) → ⊥
-IsCreated sql (Some t) = Says sql (Ok (Create t)) × IsTrue (may_create t)
+IsCreated sql None = (t : Table) → Says sql (Ok (Create t)) → ⊥
+IsCreated sql (Some t) = Says sql (Ok (Create t))
 
 -- what a statement asks of the tables, or why it asks nothing; or none if it asks what is not built
 abbrev pub IsBound : List Table → Statement → Option (Result Query Fault) → Type 0
-IsBound tables s None = (meaning : model.Query) × (bound_query tables s ≡ Ok meaning) × (may_ask tables meaning ≡ false)
+IsBound tables s None = (meaning : model.Query) × (bound_query tables s ≡ Ok meaning) × (may_ask meaning ≡ false)
 IsBound tables s (Some query) = (meaning : Result model.Query Fault) × (bound_query tables s ≡ meaning) × Means tables query meaning
 
 -- what a text asks of the tables, or none if it asks nothing that is built

@@ -13,7 +13,8 @@ use Rattle.sr_query.specs.declared.write.Write.TheVariants as writes
 use Rattle.sr_query.specs.Writes.{suits}
 use Rattle.sr_query.specs.Written.{write_of}
 use Rattle.sr_language.specs.Lines.{lines_of}
-use Rattle.sr_language.specs.Built.{may_create, may_ask}
+use Rattle.sr_language.specs.Built.{may_ask}
+use Rattle.sr_language.specs.Sound.{is_sound}
 use Rattle.sr_language.specs.Script.{Phase, start_phase, Reads}
 use Rattle.sr_reader.specs.declared.script.ExecLine.{ExecLine}
 use Rattle.sr_reader.specs.declared.script.QueryLine.{QueryLine}
@@ -29,7 +30,7 @@ exec_event line = (line.number, Exec (statement_of line.statement))
 
 -- a bound query, or the fault of its text, stands for this one
 abbrev pub Means : List Table → Result Query Fault → Result model.Query Fault → Type 0
-Means tables (Ok q) (Ok meaning) = IsQuery tables q meaning × IsTrue (may_ask tables meaning)
+Means tables (Ok q) (Ok meaning) = IsQuery tables q meaning × IsTrue (may_ask meaning) × IsTrue (is_sound tables meaning)
 Means tables (Ok q) (Err fault) = ⊥
 Means tables (Err fault) (Ok meaning) = ⊥
 Means tables (Err fault) (Err same) = fault ≡ same
@@ -43,10 +44,6 @@ pub record AreEvents (s : Script) (events : List (ℕ × Event)) : Type 0 where
   pub queries : AllZip (IsAsked s.schema) s.queries asked
   pub all : events ≡ map exec_event s.statements ++ asked
 
--- a table that is built: of one to twelve columns of numbers
-abbrev pub is_built : Table → Bool
-is_built t = is_table t && may_create t
-
 abbrev pub few_rows : Write → Bool
 few_rows (writes.Insert table rows) = nat_lt (length rows) 65536
 few_rows (writes.Update table sets filter) = true
@@ -59,8 +56,7 @@ statement_fits tables (Err fault) = true
 
 -- what holds of the lines, so that they can be carried out
 pub record Fits (s : Script) : Type 0 where
-  pub one : length s.schema ≤ 1
-  pub tables : IsTrue (list_all is_built s.schema)
+  pub tables : IsTrue (list_all is_table s.schema)
   pub statements : IsTrue (list_all (λ line. statement_fits s.schema line.statement) s.statements)
 
 -- the bytes say the script: its lines have just these events, over these tables

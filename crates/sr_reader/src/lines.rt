@@ -3,7 +3,7 @@ ghost use Rattle.std.specs.Prelude.{◌≡◌, ◌<◌, ◌^◌, ◌↔◌, List
 ghost use Rattle.sr_cell.specs.declared.list.No.TheVariants.{Refused};
 ghost use Rattle.sr_cell.specs.declared.table.Table.{Table};
 ghost use Rattle.sr_language.specs.Lines.{lines_of};
-ghost use Rattle.sr_language.specs.Script.{CreateLine, ExecLine, QueryLine, start_phase, FirstUnbuilt};
+ghost use Rattle.sr_language.specs.Script.{CreateLine, ExecLine, QueryLine, Creating, start_phase, FirstUnbuilt};
 ghost use Rattle.sr_language.specs.Creates.{Creates};
 ghost use Rattle.sr_reader.specs.declared.script.UnbuiltLine.{UnbuiltLine as TheUnbuiltLine};
 ghost use Rattle.sr_reader.specs.LineSeen.{line_seen};
@@ -19,20 +19,20 @@ use sr_cell::list::{No, NoMemory, Seq};
 use sr_cell::schema::Schema;
 use std::alloc::Global;
 
-/// Whether neither a table nor an event was read.
-fn is_start(script: &Script) -> bool
-    ensures { IsTrue result ↔ (phase_in script.now ≡ start_phase) }
+/// Whether no event was read.
+fn is_creating(script: &Script) -> bool
+    ensures { IsTrue result ↔ ((phase_in script.now).stage ≡ Creating) }
 {
-    script.schema.len() == 0 && script.statements.is_empty() && script.queries.is_empty()
+    script.statements.is_empty() && script.queries.is_empty()
 }
 
-/// Adds the table of a CREATE line; false if the line does nothing that is built.
+/// Adds the table of a CREATE line to those of the lines before; false if the line does nothing that is built.
 #[tactic(none)]
 fn add_create(alloc: Global, number: u64, sql: &str, script: &mut Script) -> Result<bool, NoMemory>
     requires { Fits script.old }
     ensures { IsAdded number script.old (CreateLine sql.now) result script.new }
 {
-    if !is_start(script) {
+    if !is_creating(script) {
         return Ok(false);
     }
     match meaning::table_of(alloc, sql)? {

@@ -9,7 +9,7 @@ ghost use Rattle.sr_language.specs.Script.{Writes};
 ghost use Rattle.sr_reader.specs.Read.{statement_of, statement_fits};
 ghost use Rattle.sr_reader.specs.Meaning.{said_seen, IsCreated, IsBound, IsAsking};
 
-use crate::built::{may_ask, may_create};
+use crate::built::may_ask;
 use sr_bind::bind::bind_query;
 use sr_bind::write::bind_write;
 use sr_cell::fault::Fault;
@@ -33,7 +33,7 @@ fn said(alloc: Global, sql: &str) -> Result<Result<Statement, Fault>, NoMemory>
     }
 }
 
-/// The table that a text creates, if it is one that is built.
+/// The table that a text creates, if it is a CREATE.
 #[tactic(none)]
 pub(crate) fn table_of(alloc: Global, sql: &str) -> Result<Option<Table>, NoMemory>
     ensures { IfOk result (IsCreated sql.now) }
@@ -44,11 +44,7 @@ pub(crate) fn table_of(alloc: Global, sql: &str) -> Result<Option<Table>, NoMemo
     let Statement::Create(table) = statement else {
         return Ok(None);
     };
-    if may_create(&table) {
-        Ok(Some(table))
-    } else {
-        Ok(None)
-    }
+    Ok(Some(table))
 }
 
 /// What a statement writes, or why it writes nothing.
@@ -107,7 +103,7 @@ fn bound_query(
 {
     match bind_query(alloc, schema, statement) {
         Ok(query) => {
-            if may_ask(schema, &query) {
+            if may_ask(&query) {
                 Ok(Some(Ok(query)))
             } else {
                 Ok(None)

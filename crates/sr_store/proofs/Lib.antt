@@ -1,3 +1,10 @@
+pub mod Truths
+pub mod Touching
+pub mod Restamping
+pub mod Adding
+pub mod Tables
+pub mod Sound
+pub mod Arrived
 pub mod Schemas
 pub mod Joining
 pub mod Fits

@@ -1,5 +1,5 @@
 -- What an answer makes of the regions.
-use Rattle.std.specs.Prelude.{ℕ, Bool, true, false, not, ◌&&◌, ◌||◌, ◌==◌, ◌+◌, ◌*◌, ◌≤◌, ◌<◌, List, [], ◌∷◌, ◌++◌, length, map, filter, flat_map, ◌≡◌, ◌↔◌, ◌⊎◌, IsTrue, if◌then◌else◌}
+use Rattle.std.specs.Prelude.{ℕ, Bool, true, false, not, ◌&&◌, ◌||◌, ◌==◌, ◌+◌, ◌*◌, ◌≤◌, ◌<◌, List, [], ◌∷◌, ◌++◌, length, map, filter, flat_map, ◌≡◌, ◌↔◌, IsTrue, if◌then◌else◌}
 use Rattle.std.specs.List.{list_any, list_all, All}
 use Rattle.sr_cell.specs.declared.cause.Cause.TheVariants.{Absorbed, Pieces}
 use Rattle.sr_cell.specs.declared.table.Table.{Table}
@@ -16,9 +16,9 @@ use Rattle.sr_history.specs.declared.mark.Mark.TheVariants.{Held as HeldMark}
 use Rattle.sr_region.specs.declared.region.Region.{Region}
 use Rattle.sr_region.specs.Regions.{rank, is_in, IsRowIn}
 use Rattle.sr_store.specs.declared.store.Arrival.{Arrival}
-use Rattle.sr_store.specs.Classes.{Held, Stamps, occurs, Keeps, touches, restamped}
-use Rattle.sr_store.specs.Told.{Told, IsTold, AreTrueOf}
-use Rattle.sr_store.specs.Stores.{drop_of}
+use Rattle.sr_store.specs.Classes.{Held, Stamps, occurs, ascends, Keeps, touches, restamped}
+use Rattle.sr_store.specs.Told.{Told}
+use Rattle.sr_store.specs.Stores.{IsOfSchema, drop_of}
 
 -- ---- what arrives
 
@@ -87,6 +87,8 @@ held_of r = HeldMark r.table r.attrs r.rects
 -- What arrived is held, the touched points have the new stamp, and then the absorbed regions are dropped.
 pub record IsRenewed (schema : List Table) (number : ℕ) (parts : List Part) (arrivals : List Arrival) (old new : List Region) (marks : List Mark) : Type 0 where
   pub all : List Region
+  pub each : All (IsOfSchema schema) all
+  pub order : ascends all ≡ true
   pub keeps : (held : Held) (stamps : Stamps) → Keeps schema held stamps old
       → Keeps schema (λ t a p. held t a p || arrives arrivals t a p) (restamped number parts stamps) all
   pub flags : List Bool

@@ -5,9 +5,9 @@ use Rattle.sr_reader.specs.Meaning.{IsCreated}
 use Rattle.sr_reader.proofs.Adding.{want_added, create_behind, create_none, create_some, create_refused}
 use Rattle.sr_reader.proofs.lines.add_create.Goals as goal
 
-pub returns-then-not-is_start : goal.returns-then-not-is_start
-returns-then-not-is_start c =
-    create_behind c.args.number c.args.sql.now c.args.script.now (λ start. let k : true ≡ false = sym (c.is_start.ensures.1 start) ∙ c.if-not-is_start.true in cc)
+pub returns-then-not-is_creating : goal.returns-then-not-is_creating
+returns-then-not-is_creating c =
+    create_behind c.args.number c.args.sql.now c.args.script.now (λ creating. let k : true ≡ false = sym (c.is_creating.ensures.1 creating) ∙ c.if-not-is_creating.true in cc)
 
 pub returns-in_err-table : goal.returns-in_err-table
 returns-in_err-table c =
@@ -21,13 +21,12 @@ returns-in-None c =
 
 pub returns-in-Ok : goal.returns-in-Ok
 returns-in-Ok c =
-    let start = c.is_start.ensures.0 c.if-not-is_start.false in
+    let creating = c.is_creating.ensures.0 c.if-not-is_creating.false in
     let created = subst (λ z. IsCreated c.args.sql.now z) c.in-Some.is c.in_ok-table.ensures in
-    create_some c.args.number c.args.sql.now c.args.script.now c.add.new.self c.in-Some.table start created c.in-Ok.ensures.added c.in-Ok.ensures.faultless
+    create_some c.args.number c.args.sql.now c.args.script.now c.add.new.self c.in-Some.table creating created c.in-Ok.ensures.added c.in-Ok.ensures.faultless c.requires
 
 pub returns-in-Err-Refused : goal.returns-in-Err-Refused
 returns-in-Err-Refused c =
-    let start = c.is_start.ensures.0 c.if-not-is_start.false in
     let created = subst (λ z. IsCreated c.args.sql.now z) c.in-Some.is c.in_ok-table.ensures in
-    create_refused c.args.number c.args.sql.now c.args.script.now c.in-Some.table c.in-Err-Refused.field-0-0 start created
+    create_refused c.args.number c.args.sql.now c.args.script.now c.in-Some.table c.in-Err-Refused.field-0-0 created
     (c.in-Err-Refused.ensures.refused c.in-Err-Refused.field-0-0 (ap (λ z. Err z) c.in-Err-Refused.field-0-is))

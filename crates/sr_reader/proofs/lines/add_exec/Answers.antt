@@ -4,7 +4,6 @@ use Rattle.sr_language.specs.Script.{ExecLine}
 use Rattle.sr_reader.specs.Read.{Fits}
 use Rattle.sr_reader.specs.Walk.{Adds}
 use Rattle.sr_reader.proofs.Adding.{want_added, exec_behind, exec_some}
-use Rattle.sr_reader.proofs.Tables.{are_tables}
 use Rattle.sr_reader.proofs.lines.add_exec.Goals as goal
 
 pub returns-then-not-is_empty : goal.returns-then-not-is_empty
@@ -12,7 +11,7 @@ returns-then-not-is_empty c =
     exec_behind c.args.number c.args.sql.now c.args.script.now (λ none. let k : true ≡ false = sym (c.is_empty.ensures.1 none) ∙ c.if-not-is_empty.true in cc)
 
 pub write_of-requires : goal.write_of-requires
-write_of-requires c = record { tables = are_tables c.args.script.now.schema c.requires.tables }
+write_of-requires c = record { tables = c.requires.tables }
 
 pub returns-in_err-statement : goal.returns-in_err-statement
 returns-in_err-statement c =

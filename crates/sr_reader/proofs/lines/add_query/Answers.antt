@@ -5,11 +5,10 @@ use Rattle.sr_reader.specs.Meaning.{IsAsking}
 use Rattle.sr_reader.specs.Read.{Fits}
 use Rattle.sr_reader.specs.Walk.{Adds}
 use Rattle.sr_reader.proofs.Adding.{want_added, query_none, query_some}
-use Rattle.sr_reader.proofs.Tables.{are_tables}
 use Rattle.sr_reader.proofs.lines.add_query.Goals as goal
 
 pub query_of-requires : goal.query_of-requires
-query_of-requires c = record { tables = are_tables c.args.script.now.schema c.requires.tables }
+query_of-requires c = record { tables = c.requires.tables }
 
 pub returns-in_err-query : goal.returns-in_err-query
 returns-in_err-query c =

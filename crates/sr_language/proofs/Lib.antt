@@ -1,0 +1,5 @@
+pub mod Sets
+pub mod Compared
+pub mod Selected
+pub mod Sound
+pub mod Constrained

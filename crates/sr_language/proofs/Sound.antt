@@ -1,0 +1,121 @@
+-- Each query that a statement asks is sound.
+use Rattle.std.proofs.Common.{◌≡◌, ℕ, zero, suc, ◌+◌, ◌^◌, ◌<◌, Bool, true, false, List, [], ◌∷◌, ◌++◌, length, refl, sym, ap, subst, ◌∙◌, arith}
+use Rattle.std.specs.Prelude.{◌==◌, nat_lt, slice_get, map, flat_map, Result, Ok, if◌then◌else◌}
+use Rattle.std.specs.List.{list_all}
+use Rattle.std.specs.Cmp.Derive.{both_true}
+use Rattle.std.proofs.lemmas.Bool.{and_parts}
+use Rattle.std.proofs.lemmas.Bool.Decides.{nat_tests}
+use Rattle.std.proofs.lemmas.List.Folds.{list_all-append, list_all-map}
+use Rattle.sr_cell.specs.declared.fault.Fault.{Fault}
+use Rattle.sr_cell.specs.declared.fault.Why.TheVariants.{TooWide}
+use Rattle.sr_cell.specs.declared.table.Table.{Table}
+use Rattle.sr_cell.specs.Columns.{table_at}
+use Rattle.sr_cell.specs.Attrs.{has_column}
+use Rattle.sr_grammar.specs.Trees as tree
+use Rattle.sr_model.specs.Queries.{Part, Join, Output, Query}
+use Rattle.sr_model.specs.Width.{width}
+use Rattle.sr_query.specs.Binding.{fault, ◌>>=◌, each, sources, tables_from, joins_from, outputs_of, filter_bound, names_one, references, narrow, needed, named_columns, join_columns, part_of, parts_from, Bound, bound_select}
+use Rattle.sr_language.specs.Sound.{is_sound_part, needs_column, is_needed, is_sound, BoundAreSound}
+use Rattle.sr_language.proofs.Sets.{needed_keeps, one_column, is_covered, covers}
+use Rattle.sr_language.proofs.Compared.{split_ok, conjuncts_in}
+use Rattle.sr_language.proofs.Selected.{tables_known, is_of, outputs_of_parts}
+
+same_value : {A : Type 0} (a b : A) → (let here : Result A Fault = Ok a in here) ≡ Ok b → a ≡ b
+same_value a b e = cc
+
+-- what is not too wide is as it was
+narrow_same : (p q : Part) → narrow p ≡ Ok q → p ≡ q
+narrow_same p q e = go (nat_lt 64 (width true p.condition)) e
+  where
+    go : (b : Bool) → (if b then fault TooWide (width true p.condition) else Ok p) ≡ Ok q → p ≡ q
+    go true e = absurd cc
+    go false e = same_value p q e
+
+all_narrow : (ps qs : List Part) → each narrow ps ≡ Ok qs → ps ≡ qs
+all_narrow [] qs e = same_value [] qs e
+all_narrow (p ∷ ps) qs e =
+    let first = split_ok (narrow p) (λ b. each narrow ps >>= λ bs. Ok (b ∷ bs)) qs e in
+    let others = split_ok (each narrow ps) (λ bs. Ok (first.0 ∷ bs)) qs first.2 in
+    ap (λ z. z ∷ ps) (narrow_same p first.0 first.1) ∙ (ap (λ z. first.0 ∷ z) (all_narrow ps others.0 others.1) ∙ same_value (first.0 ∷ others.0) qs others.2)
+
+-- ---- the columns that a query names
+
+named_parts : (p : Output → Bool) (outputs : List Output) (joins : List Join) (bs : List Bound) → list_all p (named_columns outputs joins bs) ≡ true
+    → (list_all p outputs ≡ true) × (list_all (λ r. p r.1) (flat_map references bs) ≡ true)
+named_parts p outputs joins bs all =
+    let compared = map (λ (r : ℕ × Output). r.1) (flat_map references bs) in
+    let a = and_parts (list_all p outputs) (list_all p (flat_map join_columns joins ++ compared)) (sym (list_all-append p outputs (flat_map join_columns joins ++ compared)) ∙ all) in
+    let b = and_parts (list_all p (flat_map join_columns joins)) (list_all p compared) (sym (list_all-append p (flat_map join_columns joins) compared) ∙ a.1) in
+    (a.0, sym (list_all-map p (λ (r : ℕ × Output). r.1) (flat_map references bs)) ∙ b.1)
+
+-- ---- the parts
+
+part_sound : (schema : List Table) (part t : ℕ) (outputs : List Output) (joins : List Join) (bs : List Bound) (us : List (Unit {0})) → each (λ b. names_one (references b)) bs ≡ Ok us → nat_lt t (length schema) ≡ true
+    → is_sound_part schema (part_of schema part t (named_columns outputs joins bs) bs) ≡ true
+part_sound schema part t outputs joins bs us named known =
+    let columns = named_columns outputs joins bs in
+    let key = (table_at schema t).key in
+    let covered = named_parts (is_covered part (needed part columns (2 ^ key))) outputs joins bs (covers part columns (2 ^ key)) in
+    both_true (both_true known (needed_keeps part columns (2 ^ key) key (one_column key))) (conjuncts_in part (needed part columns (2 ^ key)) bs us named covered.1)
+
+parts_sound : (schema : List Table) (part : ℕ) (tables : List ℕ) (outputs : List Output) (joins : List Join) (bs : List Bound) (us : List (Unit {0})) → each (λ b. names_one (references b)) bs ≡ Ok us
+    → list_all (λ t. nat_lt t (length schema)) tables ≡ true → list_all (is_sound_part schema) (parts_from schema part tables (named_columns outputs joins bs) bs) ≡ true
+parts_sound schema part [] outputs joins bs us named known = refl
+parts_sound schema part (t ∷ tables) outputs joins bs us named known =
+    let p = and_parts (nat_lt t (length schema)) _ known in
+    both_true (part_sound schema part t outputs joins bs us named p.0) (parts_sound schema (part + 1) tables outputs joins bs us named p.1)
+
+-- ---- the outputs
+
+-- the part of that number needs the column
+at_part : (schema : List Table) (part : ℕ) (tables : List ℕ) (columns : List Output) (bs : List Bound) (k n c : ℕ) → n ≡ part + k → k < length tables → ((start : ℕ) → has_column (needed n columns start) c ≡ true)
+    → needs_column c (slice_get (parts_from schema part tables columns bs) k) ≡ true
+at_part schema part [] columns bs k n c is within has = absurd (omega arith)
+at_part schema part (t ∷ tables) columns bs zero n c is within has =
+    let same : n ≡ part = omega arith in subst (λ z. has_column (needed z columns (2 ^ (table_at schema t).key)) c ≡ true) same (has (2 ^ (table_at schema t).key))
+at_part schema part (t ∷ tables) columns bs (suc k) n c is within has = at_part schema (part + 1) tables columns bs k n c (omega arith) (omega arith) has
+
+inside : (n most : ℕ) → nat_lt n most ≡ true → n < most
+inside n most few = grind (arith, nat_tests)
+
+own : (o : Output) (attrs : ℕ) → is_covered o.part attrs o ≡ true → has_column attrs o.column ≡ true
+own o attrs covered = let same : (o.part == o.part) ≡ true = grind (arith, nat_tests) in (let has = rw same at covered in has)
+
+-- an output of a list, all of which are covered
+outputs_sound : (schema : List Table) (tables : List ℕ) (columns : List Output) (bs : List Bound) (outputs : List Output) → ((part start : ℕ) → list_all (is_covered part (needed part columns start)) outputs ≡ true)
+    → list_all (is_of (length tables)) outputs ≡ true → list_all (is_needed (parts_from schema 0 tables columns bs)) outputs ≡ true
+outputs_sound schema tables columns bs [] covered near = refl
+outputs_sound schema tables columns bs (o ∷ outputs) covered near =
+    let p = and_parts (is_of (length tables) o) _ near in
+    both_true
+    (at_part schema 0 tables columns bs o.part o.part o.column (omega arith) (inside o.part (length tables) p.0) (λ start. own o (needed o.part columns start) (and_parts (is_covered o.part (needed o.part columns start) o) _ (covered o.part start)).0))
+    (outputs_sound schema tables columns bs outputs (λ part start. (and_parts (is_covered part (needed part columns start) o) _ (covered part start)).1) p.1)
+
+-- ---- a query
+
+abbrev made : List Part → List Join → List Output → Query
+made parts joins outputs = record { parts = parts; joins = joins; outputs = outputs }
+
+select_sound : (schema : List Table) (s : tree.Select) (q : Query) → bound_select schema s ≡ Ok q → is_sound schema q ≡ true
+select_sound schema s q e =
+    let tables = split_ok (tables_from schema [] (sources s)) _ q e in
+    let joins = split_ok (joins_from schema tables.0 1 s.joins) _ q tables.2 in
+    let outputs = split_ok (outputs_of schema tables.0 s) _ q joins.2 in
+    let bs = split_ok (filter_bound schema tables.0 s.filter) _ q outputs.2 in
+    let named = split_ok (each (λ b. names_one (references b)) bs.0) _ q bs.2 in
+    let columns = named_columns outputs.0 joins.0 bs.0 in
+    let parts = split_ok (each narrow (parts_from schema 0 tables.0 columns bs.0)) _ q named.2 in
+    let same : made (parts_from schema 0 tables.0 columns bs.0) joins.0 outputs.0 ≡ q =
+    ap (λ ps. made ps joins.0 outputs.0) (all_narrow (parts_from schema 0 tables.0 columns bs.0) parts.0 parts.1) ∙ same_value (made parts.0 joins.0 outputs.0) q parts.2 in
+    subst (λ z. is_sound schema z ≡ true) same
+    (both_true (parts_sound schema 0 tables.0 outputs.0 joins.0 bs.0 named.0 named.1 (tables_known schema [] (sources s) tables.0 refl tables.1))
+    (outputs_sound schema tables.0 columns bs.0 outputs.0
+    (λ part start. (named_parts (is_covered part (needed part columns start)) outputs.0 joins.0 bs.0 (covers part columns start)).0)
+    (outputs_of_parts schema tables.0 s outputs.0 outputs.1)))
+
+pub bound_are_sound : BoundAreSound
+bound_are_sound schema (tree.Selects s) q e = select_sound schema s q e
+bound_are_sound schema (tree.Create t) q e = absurd cc
+bound_are_sound schema (tree.Inserts s) q e = absurd cc
+bound_are_sound schema (tree.Updates s) q e = absurd cc
+bound_are_sound schema (tree.Deletes s) q e = absurd cc

@@ -5,6 +5,6 @@ pub mod Adding
 pub mod Tables
 pub mod Sound
 pub mod Arrived
-pub mod Schemas
+pub mod Making
 pub mod Joining
 pub mod Fits

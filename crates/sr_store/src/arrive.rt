@@ -16,7 +16,6 @@ use sr_region::region::Region;
 use std::alloc::Global;
 
 /// The region of what arrives, in rects of which each point lies in one.
-#[tactic(auto, using(crate::proofs::Schemas::table_inner, crate::proofs::Schemas::table_first))]
 fn arrived_region(
     alloc: Global,
     schema: &Schema,

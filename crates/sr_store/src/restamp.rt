@@ -4,6 +4,7 @@ ghost use Rattle.std.specs.List.{list_all, All};
 ghost use Rattle.sr_cell.specs.Columns.{table_at};
 ghost use Rattle.sr_cell.specs.Attrs.{includes};
 ghost use Rattle.sr_box.specs.Points.{rect_fits, constrains_only};
+ghost use Rattle.sr_union.specs.Grid.{all_inner, have_first};
 ghost use Rattle.sr_query.specs.Bound.{is_table};
 ghost use Rattle.sr_query.specs.declared.query.Part.{Part as ThePart};
 ghost use Rattle.sr_region.specs.Regions.{IsRegion};
@@ -78,7 +79,6 @@ fn push_stamped(
 }
 
 /// The region cut along the rects, with a new stamp on what lies inside.
-#[tactic(auto, using(crate::proofs::Schemas::table_inner, crate::proofs::Schemas::table_first))]
 fn push_split(
     alloc: Global,
     table: &Table,
@@ -87,7 +87,8 @@ fn push_split(
     number: u64,
     pieces: &mut Seq<Region>,
 ) -> Result<(), NoMemory>
-    requires table { IsTrue (is_table table.now) }
+    requires inner { all_inner table.now.columns ≡ true }
+    requires first { have_first table.now.columns ≡ true }
     requires region { IsRegion table.now region }
     requires fit { list_all (rect_fits table.now.columns) rects.now ≡ true }
     requires only { list_all (constrains_only region.attrs 0) rects.now ≡ true }

@@ -15,7 +15,7 @@ returns-in_ok-join c =
     let same : is_same_first (drop c.place_of-place.result c.args.regions.now) c.args.region ≡ true = cc in
     let place : c.place_of-place.result ≡ place_in c.args.regions.now c.args.region = cc in
     on_ok_weaker c.insert.result
-    (added_joined c.args.regions.now c.remove-own.new.self c.insert.new.self c.args.region c.remove-own.result c.in_ok-join.both c.place_of-place.result place same
+    (added_joined c.args.regions.now c.remove-own.new.self c.insert.new.self c.args.region c.remove-own.result c.in_ok-join.field-0 c.place_of-place.result place same
     c.remove-own.ensures.taken c.remove-own.ensures.removed c.in_ok-join.ensures.joined)
     c.insert.ensures.inserted
 
@@ -23,4 +23,5 @@ pub returns-else-is_same_at : goal.returns-else-is_same_at
 returns-else-is_same_at c =
     let same : is_same_first (drop c.place_of-place.result c.args.regions.now) c.args.region ≡ false = cc in
     let place : c.place_of-place.result ≡ place_in c.args.regions.now c.args.region = cc in
-    on_ok_weaker c.insert.result (added_new c.args.regions.now c.insert.new.self c.args.region c.place_of-place.result place same) c.insert.ensures.inserted
+    let put = c.insert-else-is_same_at in
+    on_ok_weaker put.result (added_new c.args.regions.now put.new.self c.args.region c.place_of-place.result place same) put.ensures.inserted

@@ -9,7 +9,6 @@ use sr_cell::schema::Schema;
 use sr_cell::table::Table;
 
 /// The table of that number.
-#[tactic(auto, using(crate::proofs::Tables::tables_inner, crate::proofs::Tables::tables_first))]
 pub(crate) fn table_at(schema: &Schema, number: u8) -> &Table
     requires sound { IsTrue (list_all is_table schema.now) }
     requires within { number < length schema.now }

@@ -5,3 +5,4 @@ pub mod Adding
 pub mod Tables
 pub mod Sound
 pub mod Arrived
+pub mod Keeping

@@ -5,6 +5,8 @@ pub mod Adding
 pub mod Tables
 pub mod Sound
 pub mod Arrived
+pub mod Keeping
+pub mod Dropping
 pub mod Making
 pub mod Joining
 pub mod Fits

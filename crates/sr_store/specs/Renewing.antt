@@ -1,6 +1,6 @@
 -- How an answer makes the new regions: the old ones are cut along the query's parts, and put together again by class.
 use Rattle.std.specs.Prelude.{ℕ, Bool, true, ◌&&◌, ◌||◌, ◌==◌, ◌≤◌, List, [], ◌∷◌, ◌++◌, map, filter, flat_map, Option, option_to_list, ◌≡◌, IsTrue, if◌then◌else◌}
-use Rattle.std.specs.List.{list_all, All}
+use Rattle.std.specs.List.{list_all, All, AllZip}
 use Rattle.sr_cell.specs.declared.table.Table.{Table}
 use Rattle.sr_cell.specs.Columns.{table_at, is_point}
 use Rattle.sr_cell.specs.Attrs.{includes}
@@ -9,13 +9,14 @@ use Rattle.sr_box.specs.Points.{Rect}
 use Rattle.sr_union.specs.Pieces.{IsOnce}
 use Rattle.sr_union.specs.Grid.{AreCutFrom}
 use Rattle.sr_query.specs.declared.query.Part.{Part}
+use Rattle.sr_query.specs.Bound.{is_table}
 use Rattle.sr_region.specs.declared.region.Region.{Region}
 use Rattle.sr_region.specs.Regions.{joined}
 use Rattle.sr_store.specs.declared.store.Arrival.{Arrival}
 use Rattle.sr_store.specs.Classes.{Held, Stamps, occurs, IsStamped, is_before, is_same, ascends, Keeps, restamped}
 use Rattle.sr_store.specs.Told.{Told, IsTold, AreTrueOf}
 use Rattle.sr_store.specs.Stores.{IsOfSchema}
-use Rattle.sr_store.specs.Answered.{arrives, HaveArrived, is_used}
+use Rattle.sr_store.specs.Answered.{arrives, IsArrival, AreApart, HaveArrived, is_used}
 
 -- the rects of the parts that touch a region of this table with these columns
 abbrev pub touching : List Part → ℕ → ℕ → List Rect
@@ -66,6 +67,18 @@ pub record IsArrived (schema : List Table) (number : ℕ) (r : Arrival) (g : Reg
 -- the regions of an answer, before any is dropped
 abbrev pub renewed : List Region → List Region → List Region
 renewed pieces arrived = with_regions (with_regions [] pieces) arrived
+
+-- what there is before the pieces and the regions of what arrived are put together
+pub record AreReady (schema : List Table) (number : ℕ) (parts : List Part) (arrivals : List Arrival) (old pieces arrived : List Region) : Type 0 where
+  pub tables : list_all is_table schema ≡ true
+  pub restamped : IsRestamped schema number parts old pieces
+  pub are_arrivals : All (IsArrival schema parts) arrivals
+  pub apart : AreApart schema old arrivals
+  pub are_arrived : AllZip (IsArrived schema number) arrivals arrived
+  pub told : Told
+  pub is_told : IsTold schema told
+  pub old_true : AreTrueOf told old
+  pub rows : HaveArrived told arrivals
 
 abbrev pub IsArrivalCutFrom : List Table → (ℕ → List Rect) → Arrival → Type 0
 IsArrivalCutFrom schema given r = AreCutFrom (table_at schema r.table).columns (given r.table) r.rects

@@ -1,15 +1,14 @@
 -- The rects of regions fit their table.
-use Rattle.std.proofs.Common.{◌≡◌, ℕ, ◌∙◌, Bool, true, false, cond, List, [], ◌∷◌, ◌++◌, refl, sym, subst, ap, arith}
-use Rattle.std.specs.Prelude.{not, ◌&&◌, ◌==◌, flat_map, filter, IsTrue}
+use Rattle.std.proofs.Common.{◌≡◌, ℕ, ◌∙◌, Bool, true, false, cond, List, [], ◌∷◌, refl, sym, subst, ap, arith}
+use Rattle.std.specs.Prelude.{not, ◌&&◌, ◌==◌, flat_map, filter}
 use Rattle.std.specs.List.{list_all, All}
 use Rattle.std.proofs.lemmas.List.Elements.{All-head, All-tail}
 use Rattle.std.proofs.lemmas.List.Folds.{list_all-append}
 use Rattle.std.proofs.lemmas.Bool.Decides.{nat_tests}
 use Rattle.sr_cell.specs.declared.table.Table.{Table}
 use Rattle.sr_cell.specs.Attrs.{includes}
-use Rattle.sr_cell.specs.Columns.{table_at, is_point}
-use Rattle.sr_box.specs.Points.{Rect, rect_fits, in_any, HasPoint}
-use Rattle.sr_union.specs.Pieces.{IsWithin}
+use Rattle.sr_cell.specs.Columns.{table_at}
+use Rattle.sr_box.specs.Points.{rect_fits, in_any, HasPoint}
 use Rattle.sr_union.specs.Grid.{have_first}
 use Rattle.sr_union.proofs.Low.{has_point}
 use Rattle.sr_region.specs.declared.region.Region.{Region}

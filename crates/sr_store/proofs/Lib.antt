@@ -10,3 +10,4 @@ pub mod Dropping
 pub mod Making
 pub mod Joining
 pub mod Fits
+pub mod Answering

@@ -34,12 +34,7 @@ fn is_touching(part: &Part, table: u8, attrs: Attrs) -> bool
 }
 
 /// The rects of the parts that touch regions of that table with these columns.
-fn touching_rects(
-    alloc: Global,
-    parts: &[Part],
-    table: u8,
-    attrs: Attrs,
-) -> Result<Rects, NoMemory>
+fn touching_rects(alloc: Global, parts: &[Part], table: u8, attrs: Attrs) -> Result<Rects, NoMemory>
     ensures { IfOk result (λ rects. rects ≡ touching parts.now table attrs) }
 {
     let mut rects = Rects::new(alloc);
@@ -62,11 +57,7 @@ fn push_half(pieces: &mut Seq<Region>, half: Option<Region>) -> Result<(), NoMem
 }
 
 /// A half at the end with that stamp, where it is there.
-fn push_stamped(
-    pieces: &mut Seq<Region>,
-    half: Option<Region>,
-    number: u64,
-) -> Result<(), NoMemory>
+fn push_stamped(pieces: &mut Seq<Region>, half: Option<Region>, number: u64) -> Result<(), NoMemory>
     ensures { OnOk result (pieces.new ≡ pieces.old ++ map (with_stamp number) (option_to_list half)) }
 {
     match half {

@@ -9,7 +9,7 @@ loop-region-preserved c =
     let gs = c.args.regions.now in
     let i = c.loop-region.region-index in
     let first : drop i gs ≡ c.region-item.result ∷ drop (i + 1) gs =
-        drop_more gs i c.region-item.result c.loop-region-test.true ∙ ap (λ g. g ∷ drop (i + 1) gs) (sym c.region-item.is) in
+    drop_more gs i c.region-item.result c.loop-region-test.true ∙ ap (λ g. g ∷ drop (i + 1) gs) (sym c.region-item.is) in
     completes_more (λ gs fs. AreFlags (IsAbsorbedIn c.args.schema.now c.args.regions.now) fs gs) gs c.loop-region.flags (c.in_ok-is_absorbed.field-0 ∷ []) c.push.new.self
     c.region-item.result (drop i gs) (drop (i + 1) gs) first c.in_ok-push.ensures.pushed (λ more h. (c.in_ok-is_absorbed.ensures, h)) c.loop-region.invariant
 

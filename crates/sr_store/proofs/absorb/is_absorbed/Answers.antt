@@ -1,4 +1,4 @@
-use Rattle.std.proofs.Common.{◌≡◌, true, false, [], ◌∙◌, sym, ap, subst}
+use Rattle.std.proofs.Common.{◌≡◌, true, [], ◌∙◌, sym, subst}
 use Rattle.std.specs.List.{list_all}
 use Rattle.sr_cell.specs.Columns.{table_at}
 use Rattle.sr_box.specs.Points.{rect_fits}

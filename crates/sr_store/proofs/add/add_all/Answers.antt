@@ -1,4 +1,4 @@
-use Rattle.std.proofs.Common.{◌≡◌, ◌∷◌, [], ◌∙◌, ap, sym, subst}
+use Rattle.std.proofs.Common.{◌≡◌, ◌∷◌, ◌∙◌, ap, sym, subst}
 use Rattle.std.specs.Vec.Iter.{into_iter_items}
 use Rattle.sr_store.specs.Classes.{ascends}
 use Rattle.sr_store.specs.Renewing.{with_region, with_regions}

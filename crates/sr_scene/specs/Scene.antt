@@ -6,21 +6,18 @@ use Rattle.sr_message.specs.declared.message.Message.{Message}
 use Rattle.sr_model.specs.Queries.{Query}
 use Rattle.sr_model.specs.Statements.{Tables}
 use Rattle.sr_model.specs.Changes.{newest_of, version_at}
-use Rattle.sr_history.specs.Marks.{Mark}
+use Rattle.sr_history.specs.declared.mark.Mark.{Mark}
+use Rattle.sr_history.specs.Classes.{Numbered}
 use Rattle.sr_scene.specs.Server.{Session}
 
 -- the request that is out: an ask with its number, and the number and meaning of its query
 pub data Request : Type 0 where
   AskOut : (number : ℕ) → (query : ℕ) → (meaning : Query) → (fresh : Bool) → (parts : List AskPart) → Request
 
--- a query with a number, and whether it was answered
-pub record Numbered : Type 0 where
-  pub query : Query
-  pub answered : Bool
-
 pub record Client : Type 0 where
   pub marks : List Mark  -- newest first
   pub queries : List Numbered  -- numbered 1, 2, ..
+  pub counted_from : ℕ  -- the first query whose tests count for the load
   pub version : ℕ
   pub next_request : ℕ
   pub out : Option Request
@@ -52,6 +49,7 @@ abbrev pub new_client : Client
 new_client = record {
   marks = [];
   queries = [];
+  counted_from = 0;
   version = 0;
   next_request = 1;
   out = None;

@@ -1,5 +1,5 @@
 -- What each event may do, and the lines that it gives.
-use Rattle.std.specs.Prelude.{ℕ, Bool, true, false, List, [], ◌∷◌, ◌++◌, ◌+◌, ◌-◌, ◌≤◌, length, map, Option, Some, None, Result, Ok, Err, ◌≡◌, ◌↔◌, IsTrue, slice_set}
+use Rattle.std.specs.Prelude.{ℕ, Bool, true, false, List, [], ◌∷◌, ◌++◌, ◌+◌, ◌-◌, ◌<◌, ◌≤◌, ◌⊎◌, drop, length, map, Option, Some, None, Result, Ok, Err, ◌≡◌, ◌↔◌, IsTrue, slice_set}
 use Rattle.std.specs.List.{list_all, AllZip}
 use Rattle.sr_cell.specs.declared.fault.Fault.{Fault}
 use Rattle.sr_cell.specs.declared.table.Table.{Table}
@@ -11,14 +11,20 @@ use Rattle.sr_message.specs.declared.message.Message.TheVariants.{Ask, Notice, R
 use Rattle.sr_model.specs.Queries.{Query, rows_of}
 use Rattle.sr_model.specs.Statements.{Tables, Write, executed}
 use Rattle.sr_model.specs.Events.{Event, Exec, QueryOf, ToServer, ToClient}
-use Rattle.sr_history.specs.Marks.{Mark, Held, Dropped, HoldsNothing, with_marks}
+use Rattle.sr_history.specs.declared.mark.Mark.{Mark}
+use Rattle.sr_history.specs.declared.mark.Mark.TheVariants.{Held, Dropped}
+use Rattle.sr_history.specs.Marks.{HoldsNothing, with_marks}
 use Rattle.sr_history.specs.Rests.{Asks}
+use Rattle.sr_history.specs.Classes.{Numbered}
+use Rattle.sr_history.specs.Drops.{DropsAll, Absorbs}
+use Rattle.sr_history.specs.Load.{IsHeavy}
+use Rattle.sr_cell.specs.declared.cause.Cause.TheVariants.{Pieces}
 use Rattle.sr_script.specs.declared.line.RequestKind.{RequestKind}
 use Rattle.sr_script.specs.declared.line.RequestKind.TheVariants as kind
 use Rattle.sr_script.specs.declared.line.TraceLine.{TraceLine}
 use Rattle.sr_script.specs.declared.line.TraceLine.TheVariants as line
 use Rattle.sr_scene.specs.Server.{serve}
-use Rattle.sr_scene.specs.Scene.{Scene, Client, Request, AskOut, Numbered, newest_version, tables_at, client_at, with_client}
+use Rattle.sr_scene.specs.Scene.{Scene, Client, Request, AskOut, newest_version, tables_at, client_at, with_client}
 
 -- The event is one of client n, and the rest of the scene stays.
 abbrev pub OfClient : Scene → ℕ → (Client → List TraceLine → Client → Type 0) → List TraceLine → Scene → Type 0
@@ -55,29 +61,74 @@ Holds schema ask (Held t attrs rects) =
     × AreSame (table_at schema t).columns (in_any rects) (in_any ask.rects)
 Holds schema ask (Dropped cause t attrs stamp rects) = ⊥
 
--- What a client keeps once a query is answered: what was asked is held. It is at this version now.
-abbrev pub Keeps : List Table → List AskPart → ℕ → Client → List Mark → Client → Type 0
-Keeps schema asked version c marks new = AllZip (Holds schema) asked marks × (new ≡ record c { marks = with_marks c.marks marks; version = version })
+-- ---- what an answer does to what is held
+
+-- What was asked is held, and then the absorbed classes are dropped. The queries are those after the answer.
+pub record Renews (schema : List Table) (asked : List AskPart) (queries : List Numbered) (c : Client) (marks : List Mark) : Type 0 where
+  pub held : List Mark
+  pub drops : List Mark
+  pub holds : AllZip (Holds schema) asked held
+  pub absorbs : Absorbs schema (with_marks c.marks held) queries drops
+  pub all : marks ≡ held ++ drops
+
+-- the queries whose tests count for the load, the one with that number last
+abbrev pub counted : ℕ → List Numbered → List Query
+counted from queries = map (λ n. n.query) (drop (from - 1) queries)
+
+-- Where the load is too high all classes may be dropped, as they stood before the answer, and nothing that was asked is held.
+pub record GivesUp (schema : List Table) (asked : List AskPart) (q : Query) (queries : List Numbered) (c : Client) (marks : List Mark) : Type 0 where
+  pub heavy : IsHeavy schema c.marks asked q (counted c.counted_from queries)
+  pub drops : DropsAll schema c.marks c.queries Pieces marks
+  pub some : 0 < length marks + length asked
+
+-- What a client keeps once query number is answered at a version, with these queries then.
+abbrev pub Keeps : List Table → List AskPart → Query → ℕ → ℕ → List Numbered → Client → List Mark → Client → Type 0
+Keeps schema asked q number version queries c marks new =
+    (Renews schema asked queries c marks × (new ≡ record c { queries = queries; marks = with_marks c.marks marks; version = version }))
+    ⊎ (GivesUp schema asked q queries c marks
+    × (new ≡ record c { queries = queries; counted_from = number + 1; marks = with_marks c.marks marks; version = version }))
+
+-- ---- queries
+
+abbrev pub with_query : Query → Bool → Client → List Numbered
+with_query q answered c = c.queries ++ record { query = q; answered = answered } ∷ []
 
 -- A query that asks nothing is answered at once, and nothing is sent. Else one request asks all that has to be asked.
 abbrev pub Queries : Scene → ℕ → Query → List AskPart → Client → List TraceLine → Client → Type 0
 Queries s n q [] c lines new =
-    (marks : List Mark) × Keeps s.schema [] c.version (record c { queries = c.queries ++ record { query = q; answered = true } ∷ [] }) marks new
+    (marks : List Mark) × Keeps s.schema [] q (number_of_next c) c.version (with_query q true c) c marks new
     × (lines ≡ answer_lines s n (number_of_next c) q c.version ++ (map (mark_line n) marks ++ line.QueryAnswered n (number_of_next c) ∷ []))
 Queries s n q (ask ∷ asks) c lines new =
     (fresh : Bool) × (IsTrue fresh ↔ HoldsNothing s.schema c.marks)
     × (lines ≡ line.Ask n c.next_request fresh (length (ask ∷ asks)) ∷ (map part_line (ask ∷ asks) ++ line.QueryAsked n c.next_request ∷ []))
     × (new ≡ record c {
-      queries = c.queries ++ record { query = q; answered = false } ∷ [];
+      queries = with_query q false c;
       next_request = c.next_request + 1;
       out = Some (AskOut c.next_request (number_of_next c) q fresh (ask ∷ asks));
       to_server = c.to_server ++ Ask c.next_request fresh (ask ∷ asks) ∷ [];
     })
 
--- While a request is out a client is busy. What is asked is judged by the marks of this moment.
+-- What is asked is judged by the marks of this moment.
+abbrev pub QueriesNow : Scene → ℕ → Query → Client → List TraceLine → Client → Type 0
+QueriesNow s n q c lines new = (asks : List AskPart) × Asks s.schema c.marks q.parts asks × Queries s n q asks c lines new
+
+-- Where the load is too high all classes may be dropped before a query that asks something then.
+pub record DropsAndQueries (s : Scene) (n : ℕ) (q : Query) (c : Client) (lines : List TraceLine) (new : Client) : Type 0 where
+  pub heavy : IsHeavy s.schema c.marks [] q (counted c.counted_from (with_query q false c))
+  pub drops : List Mark
+  pub all : DropsAll s.schema c.marks c.queries Pieces drops
+  pub some : 0 < length drops
+  pub ask : AskPart
+  pub others : List AskPart
+  pub asks : Asks s.schema (with_marks c.marks drops) q.parts (ask ∷ others)
+  pub rest : List TraceLine
+  pub queries : Queries s n q (ask ∷ others) (record c { marks = with_marks c.marks drops; counted_from = number_of_next c }) rest new
+  pub lines_are : lines ≡ map (mark_line n) drops ++ rest
+
+-- While a request is out a client is busy.
 abbrev pub QueriesIfFree : Scene → ℕ → Query → Option Request → Client → List TraceLine → Client → Type 0
 QueriesIfFree s n q (Some (AskOut number query meaning fresh parts)) c lines new = (lines ≡ line.QueryBusy n number ∷ []) × (new ≡ c)
-QueriesIfFree s n q None c lines new = (asks : List AskPart) × Asks s.schema c.marks q.parts asks × Queries s n q asks c lines new
+QueriesIfFree s n q None c lines new = QueriesNow s n q c lines new ⊎ DropsAndQueries s n q c lines new
 
 abbrev pub QueriesText : Scene → ℕ → Result Query Fault → Client → List TraceLine → Client → Type 0
 QueriesText s n (Err fault) c lines new = (lines ≡ line.QuerySql n fault ∷ []) × (new ≡ c)
@@ -106,7 +157,7 @@ with_answered number q queries = slice_set queries (number - 1) (record { query 
 abbrev pub Answers : Scene → ℕ → ℕ → Query → List AskPart → ℕ → Client → List TraceLine → Client → Type 0
 Answers s n number q asked version c lines new =
     (c.version ≤ version)
-    × ((marks : List Mark) × Keeps s.schema asked version (record c { queries = with_answered number q c.queries; out = None; laid = [] }) marks new
+    × ((marks : List Mark) × Keeps s.schema asked q number version (with_answered number q c.queries) (record c { out = None; laid = [] }) marks new
     × (lines ≡ answer_lines s n number q version ++ (map (mark_line n) marks ++ line.ClientAnswered n ∷ [])))
 
 -- A message that comes while a request is out, and is not its last, is laid by.

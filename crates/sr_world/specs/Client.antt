@@ -1,27 +1,23 @@
--- What a client makes of rows and messages.
-use Rattle.std.specs.Prelude.{ℕ, Bool, true, false, List, [], ◌∷◌, ◌++◌, map, filter, length, flat_map, Option, Some, None}
+-- What a client makes of messages and marks.
+use Rattle.std.specs.Prelude.{ℕ, Bool, true, false, List, [], ◌∷◌, map, flat_map, Option, Some, None}
+use Rattle.sr_cell.specs.declared.table.Table.{Table}
+use Rattle.sr_cell.specs.Columns.{table_at}
 use Rattle.sr_cell.specs.Cells.{Row, cell_at}
-use Rattle.sr_box.specs.Points.{Rect, in_any}
 use Rattle.sr_message.specs.declared.message.AskPart.{AskPart}
 use Rattle.sr_message.specs.declared.message.Message.{Message}
 use Rattle.sr_message.specs.declared.message.Message.TheVariants.{Ask, Notice, Rows, Reply}
 use Rattle.sr_model.specs.Queries.{row_at}
-use Rattle.sr_model.specs.SortedRows.{with_rows}
 use Rattle.sr_query.specs.declared.condition.Output.{Output}
-use Rattle.sr_query.specs.declared.query.Query.{Query}
-use Rattle.sr_script.specs.declared.line.TraceLine.{TraceLine}
-use Rattle.sr_script.specs.declared.line.TraceLine.TheVariants as line
-use Rattle.sr_world.specs.Bound.{wanted}
-use Rattle.sr_world.specs.declared.client.AskOut as code
-use Rattle.sr_world.specs.declared.client.Client.{Client}
+use Rattle.sr_region.specs.declared.region.Region.{Region}
+use Rattle.sr_store.specs.declared.store.Arrival.{Arrival}
+
+abbrev pub is_empty : List Region → Bool
+is_empty [] = true
+is_empty (g ∷ regions) = false
 
 -- the cells of the row in these columns, in this order
 abbrev pub cells_of : List Output → Row → Row
 cells_of outputs row = map (λ o. cell_at (row_at (row ∷ []) o.part) o.column) outputs
-
--- the answer of a query of one part, from these rows
-abbrev pub answer_from : Query → List Row → List Row
-answer_from q rows = map (cells_of q.output) (filter (in_any (wanted q.parts)) rows)
 
 -- the rows that a message brings
 abbrev pub brought : Message → List Row
@@ -41,27 +37,11 @@ reply_version (Notice version told) = None
 reply_version (Rows number part rows) = None
 reply_version (Reply number version) = Some version
 
-abbrev pub is_empty : List Rect → Bool
-is_empty [] = true
-is_empty (r ∷ rects) = false
+-- what was asked, with the rows that came
+abbrev pub arrival_of : List Table → AskPart → List Row → Arrival
+arrival_of schema ask rows = record { table = ask.table; key = (table_at schema ask.table).key; attrs = ask.attrs; rects = ask.rects; rows = rows }
 
--- these rects of table 0, under these columns
-abbrev pub ask_of : ℕ → List Rect → AskPart
-ask_of attrs rects = record { table = 0; attrs = attrs; rects = rects }
-
--- the asked rects, part by part
-abbrev pub rects_of : List AskPart → List Rect
-rects_of parts = flat_map (λ part. part.rects) parts
-
-abbrev pub held_line : AskPart → TraceLine
-held_line part = line.Held 1 part.table part.attrs part.rects
-
--- the client once its ask was replied to at a version: it holds what was asked, and the rows that came
-abbrev pub after_reply : ℕ → code.AskOut → ℕ → Client → Client
-after_reply key out version c = record c { version = version; laid = []; held = c.held ++ rects_of out.parts; rows = with_rows key c.rows (arrived c.laid) }
-
--- the lines of the answer to its query
-abbrev pub lines_of_reply : code.AskOut → Client → List TraceLine
-lines_of_reply out c =
-    (line.Answer 1 out.query_number c.version (length (answer_from out.query c.rows)) ∷ map line.Row (answer_from out.query c.rows))
-    ++ (map held_line out.parts ++ line.ClientAnswered 1 ∷ [])
+-- all rows are those of the one part that was asked
+abbrev pub arrivals_of : List Table → List AskPart → List Row → List Arrival
+arrivals_of schema [] rows = []
+arrivals_of schema (ask ∷ asks) rows = arrival_of schema ask rows ∷ []

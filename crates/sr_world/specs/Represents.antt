@@ -1,26 +1,27 @@
 -- Which scenes a world stands for.
-use Rattle.std.specs.Prelude.{ℕ, true, ◌≡◌, ◌≤◌, ◌+◌, ◌++◌, ◌⊎◌, List, [], ◌∷◌, length, filter, Option, Some, None, IsTrue}
+use Rattle.std.specs.Prelude.{ℕ, true, false, ◌≡◌, ◌≤◌, ◌+◌, ◌++◌, ◌⊎◌, List, [], ◌∷◌, length, map, Option, Some, None, IsTrue}
 use Rattle.std.specs.List.{list_all}
 use Rattle.sr_cell.specs.declared.table.Table.{Table}
-use Rattle.sr_cell.specs.Cells.{Row}
-use Rattle.sr_cell.specs.Columns.{is_point, fits_columns}
-use Rattle.sr_box.specs.Points.{in_any, rect_fits, AreSame}
-use Rattle.sr_message.specs.declared.message.AskPart.{AskPart}
+use Rattle.sr_cell.specs.Columns.{is_point, table_at}
+use Rattle.sr_cell.specs.Attrs.{project}
 use Rattle.sr_message.specs.declared.message.Message.{Message}
 use Rattle.sr_message.specs.declared.message.Message.TheVariants.{Ask, Reply}
-use Rattle.sr_model.specs.Queries.{rows_at}
-use Rattle.sr_model.specs.SortedRows.{ascend}
+use Rattle.sr_model.specs.Queries.{Query, rows_at}
 use Rattle.sr_model.specs.Statements.{Tables}
 use Rattle.sr_model.specs.Changes.{version_at}
-use Rattle.sr_history.specs.Marks.{Mark, Held, Dropped, is_held}
-use Rattle.sr_history.specs.Rests.{IsRest}
-use Rattle.sr_model.specs.Queries.{Query}
-use Rattle.sr_language.specs.Built.{all_columns}
-use Rattle.sr_reader.specs.Read.{is_built}
+use Rattle.sr_query.specs.Bound.{is_table}
+use Rattle.sr_history.specs.declared.mark.Mark.{Mark}
+use Rattle.sr_history.specs.Marks.{is_held}
+use Rattle.sr_history.specs.Classes.{Numbered, stamp}
+use Rattle.sr_history.specs.Rests.{Asks}
+use Rattle.sr_tables.specs.Stored.{are_stored}
+use Rattle.sr_store.specs.Classes.{Keeps}
+use Rattle.sr_store.specs.Told.{Told, AreTrueOf}
+use Rattle.sr_store.specs.Stores.{IsStore}
 use Rattle.sr_scene.specs.Server.{Session, row_messages}
 use Rattle.sr_scene.specs.Scene as scene
-use Rattle.sr_scene.specs.Scene.{Scene, Request, AskOut, Numbered}
-use Rattle.sr_world.specs.Bound.{whole_part, IsBound}
+use Rattle.sr_scene.specs.Scene.{Scene, Request, AskOut}
+use Rattle.sr_world.specs.Bound.{IsMeaning}
 use Rattle.sr_world.specs.declared.client.AskOut as code
 use Rattle.sr_world.specs.declared.world.World.{World}
 
@@ -29,6 +30,7 @@ pub record Past : Type 0 where
   pub versions : List Tables
   pub marks : List Mark
   pub queries : List Numbered
+  pub counted_from : ℕ
   -- what the newest query means
   pub meaning : Query
   pub session : Session
@@ -42,6 +44,7 @@ abbrev pub client_of : World → Past → scene.Client
 client_of w past = record {
   marks = past.marks;
   queries = past.queries;
+  counted_from = past.counted_from;
   version = w.client.version;
   next_request = w.client.next_request;
   out = request_of past.meaning w.client.out;
@@ -54,20 +57,18 @@ client_of w past = record {
 abbrev pub scene_of : World → Past → Scene
 scene_of w past = record { eager = true; schema = w.server.tables.schema; versions = past.versions; clients = client_of w past ∷ [] }
 
--- all marks are of table 0 under these columns, and none was dropped
-abbrev pub AllHeld : ℕ → List Mark → Type 0
-AllHeld all [] = Unit {0}
-AllHeld all (Held table attrs rects ∷ marks) = (table ≡ 0) × (attrs ≡ all) × AllHeld all marks
-AllHeld all (Dropped cause table attrs stamp rects ∷ marks) = ⊥
+-- the rows of the tables, with the cells of some columns alone
+abbrev pub told_of : Tables → Told
+told_of tables t attrs = map (project attrs) (rows_at tables t)
 
--- the ask that is out asks the rest of the newest query
-pub record IsOut (t : Table) (w : World) (past : Past) (o : code.AskOut) : Type 0 where
-  pub bound : IsBound t o.query past.meaning
+-- the ask that is out asks the rest of the newest query, which is not answered
+pub record IsOut (w : World) (past : Past) (o : code.AskOut) : Type 0 where
+  pub meant : IsMeaning w.server.tables.schema o.query past.meaning
+  pub earlier : List Numbered
+  pub newest : past.queries ≡ earlier ++ record { query = past.meaning; answered = false } ∷ []
   pub number : o.query_number ≡ w.client.queries
-  pub ask : AskPart
-  pub parts : o.parts ≡ ask ∷ []
-  pub rest : IsRest (t ∷ []) past.marks (whole_part t bound.condition) ask
-  pub attrs : ask.attrs ≡ all_columns t
+  pub asks : Asks w.server.tables.schema past.marks past.meaning.parts o.parts
+  pub some : o.parts ≡ [] → ⊥
 
 -- the ask is on its way to the server, which will have nothing to tell before the reply
 pub record IsAsked (w : World) (past : Past) (o : code.AskOut) : Type 0 where
@@ -85,42 +86,42 @@ pub record IsReplied (w : World) (past : Past) (o : code.AskOut) : Type 0 where
   pub upto : past.session.upto ≡ w.server.version
 
 -- what is under way
-abbrev pub Flow : Table → World → Past → Option code.AskOut → Type 0
-Flow t w past None = (w.to_server.items ≡ []) × (w.to_client.items ≡ []) × (w.client.laid ≡ [])
-Flow t w past (Some o) = IsOut t w past o × (IsAsked w past o ⊎ IsReplied w past o)
+abbrev pub Flow : World → Past → Option code.AskOut → Type 0
+Flow w past None = (w.to_server.items ≡ []) × (w.to_client.items ≡ []) × (w.client.laid ≡ [])
+Flow w past (Some o) = IsOut w past o × (IsAsked w past o ⊎ IsReplied w past o)
 
--- what a world keeps is what its past makes it
-pub record Facts (t : Table) (w : World) (past : Past) : Type 0 where
-  pub schema : w.server.tables.schema ≡ t ∷ []
-  pub table : IsTrue (is_built t)
-  -- the server has the newest tables
-  pub rows : List Row
-  pub tables : w.server.tables.rows ≡ rows ∷ []
+-- the server has the newest tables
+pub record ServerFacts (w : World) (past : Past) : Type 0 where
+  pub tables : IsTrue (list_all is_table w.server.tables.schema)
   pub count : length past.versions ≡ w.server.version + 1
   pub newest : version_at past.versions w.server.version ≡ w.server.tables.rows
-  pub ascending : ascend t.key rows ≡ true
-  pub fitting : list_all (fits_columns t.columns) rows ≡ true
-  pub points : (v : ℕ) → IsTrue (list_all (is_point t.columns) (rows_at (version_at past.versions v) 0))
-  -- the client holds the points of its marks, with just the rows that its version has there
-  pub marks : AllHeld (all_columns t) past.marks
-  pub held_fit : IsTrue (list_all (rect_fits t.columns) w.client.held)
-  pub held : AreSame t.columns (in_any w.client.held) (is_held past.marks 0 (all_columns t))
-  pub kept : w.client.rows ≡ filter (in_any w.client.held) (rows_at (version_at past.versions w.client.version) 0)
+  pub stored : are_stored w.server.tables.schema w.server.tables.rows ≡ true
+  pub points : (v t : ℕ) → IsTrue (list_all (is_point (table_at w.server.tables.schema t).columns) (rows_at (version_at past.versions v) t))
+
+-- the client's regions are the classes of what its marks hold, with just the rows that its version has there
+pub record ClientFacts (w : World) (past : Past) : Type 0 where
+  pub store : IsStore w.server.tables.schema w.client.store.regions
+  pub keeps : Keeps w.server.tables.schema (is_held past.marks) (stamp past.queries) w.client.store.regions
+  pub are_true : AreTrueOf (told_of (version_at past.versions w.client.version)) w.client.store.regions
   pub version : w.client.version ≤ w.server.version
-  pub recent : (w.client.held ≡ []) ⊎ ((w.client.version ≡ w.server.version) × (past.session.upto ≡ w.server.version))
+  pub recent : (w.client.store.regions ≡ []) ⊎ ((w.client.version ≡ w.server.version) × (past.session.upto ≡ w.server.version))
   pub queries : length past.queries ≡ w.client.queries
-  pub flow : Flow t w past w.client.out
+
+-- what a world keeps is what its past makes it
+pub record Facts (w : World) (past : Past) : Type 0 where
+  pub server : ServerFacts w past
+  pub client : ClientFacts w past
+  pub flow : Flow w past w.client.out
 
 -- the world stands for the scene
 pub record Represents (w : World) (s : Scene) : Type 0 where
-  pub t : Table
   pub past : Past
-  pub facts : Facts t w past
+  pub facts : Facts w past
   pub same : s ≡ scene_of w past
 
 -- no query has brought anything yet
 abbrev pub IsUnasked : World → Type 0
-IsUnasked w = (w.client.held ≡ []) × (w.client.out ≡ None)
+IsUnasked w = (w.client.store.regions ≡ []) × (w.client.out ≡ None)
 
 -- the numbers that were drawn: versions, queries and requests
 abbrev pub drawn : World → ℕ

@@ -1,38 +1,36 @@
 //! The world: server, client and queues.
-ghost use Rattle.std.specs.Prelude.{◌≡◌, ℕ, ◌+◌, ◌<◌, ◌≤◌, ◌^◌, true, List, [], ◌∷◌, ◌++◌, map, length, None, Ok, IsTrue, IfOk, OnOk};
+ghost use Rattle.std.specs.Prelude.{◌≡◌, ℕ, ◌+◌, ◌<◌, ◌≤◌, ◌^◌, true, [], ◌∷◌, ◌++◌, map, length, None, Ok, IsTrue, IfOk, OnOk};
 ghost use Rattle.std.specs.List.{list_all};
-ghost use Rattle.sr_cell.specs.declared.table.Table.{Table as TheTable};
-ghost use Rattle.sr_box.specs.Points.{rect_fits};
 ghost use Rattle.sr_message.specs.declared.message.Message.TheVariants.{Ask as AskMessage};
 ghost use Rattle.sr_script.specs.declared.line.TraceLine.TheVariants.{Ask, QueryAsked};
-ghost use Rattle.sr_scene.specs.Steps.{part_line};
-ghost use Rattle.sr_world.specs.Bound.{IsMeaning, IsLeft, wanted};
-ghost use Rattle.sr_world.specs.Client.{is_empty, ask_of};
-ghost use Rattle.sr_world.specs.Kept.{IsStill};
-ghost use Rattle.sr_model.specs.Events.{Exec, QueryOf, ToServer, ToClient};
+ghost use Rattle.sr_model.specs.Events.{Exec, QueryOf};
 ghost use Rattle.sr_model.specs.Queries.{Query as TheQuery};
+ghost use Rattle.sr_query.specs.Bound.{is_table};
 ghost use Rattle.sr_query.specs.Written.{write_of};
 ghost use Rattle.sr_query.specs.Writes.{suits};
 ghost use Rattle.sr_tables.specs.Stored.{is_short};
-ghost use Rattle.sr_reader.specs.Read.{is_built};
 ghost use Rattle.sr_scene.specs.Scene.{first};
+ghost use Rattle.sr_scene.specs.Steps.{part_line};
+ghost use Rattle.sr_world.specs.Asking.{AsksRest};
+ghost use Rattle.sr_world.specs.Bound.{IsMeaning};
+ghost use Rattle.sr_world.specs.Client.{is_empty};
+ghost use Rattle.sr_world.specs.Kept.{IsStill};
 ghost use Rattle.sr_world.specs.Represents.{Represents, IsUnasked, drawn};
 ghost use Rattle.sr_world.specs.Worlds.{Stands, DoesStep, DoesEvent, DoesDelivery, DoesMany, DoesSettle};
 
-use crate::client::{AskOut, Client, push_answer, version_of};
+use crate::answer::answer;
+use crate::asks::asks_of;
+use crate::client::{AskOut, Client, arrivals_of, push_answer, push_marks, version_of};
 use crate::server::Server;
-use sr_cell::attrs::Attrs;
 use sr_cell::list::{Copied, No, NoMemory, Seq};
-use sr_cell::schema::Schema;
-use sr_cell::table::Table;
-use sr_message::message::{AskPart, Message, Messages};
-use sr_query::query::{Part, Query};
+use sr_message::message::{AskPart, AskParts, Message, Messages};
+use sr_query::query::Query;
 use sr_query::write::Write;
 use sr_script::line::{RequestKind, TraceLine, TraceLines};
 use sr_tables::tables::Tables;
-use sr_union::rects::Rects;
 use std::alloc::Global;
 use std::collections::VecDeque;
+use std::mem;
 
 /// A server and its one client, with the messages under way between them. Each delivery is made at once.
 #[derive(Drop)]
@@ -44,10 +42,9 @@ pub struct World {
 }
 
 impl World {
-    /// A world of one table, at version 0; takes no memory.
+    /// A world at version 0; takes no memory.
     pub fn new(alloc: Global, tables: Tables) -> World
-        requires one { length tables.schema ≡ 1 }
-        requires built { IsTrue (list_all is_built tables.schema) }
+        requires tables { IsTrue (list_all is_table tables.schema) }
         ensures first { Represents result (first true tables.schema tables.rows 1) }
         ensures unasked { IsUnasked result }
         ensures drawn { drawn result ≡ 1 }
@@ -120,17 +117,16 @@ impl World {
                 },
             );
         }
-        let part = one_part(&query);
-        let rest = left(
+        let asks = asks_of(
             alloc,
-            &part.rects,
-            &self.client.held,
-            only(self.server.tables.schema()),
+            self.server.tables.schema(),
+            &self.client.store,
+            query.parts.as_slice(),
         )?;
-        if rest.is_empty() {
+        if asks.is_empty() {
             self.answer_now(alloc, &query)
         } else {
-            self.send_ask(alloc, query, rest)
+            self.send_ask(alloc, query, asks)
         }
     }
 
@@ -138,16 +134,25 @@ impl World {
     fn answer_now(&mut self, alloc: Global, query: &Query) -> Result<TraceLines, NoMemory>
         requires stands { Stands self.old }
         requires idle { self.old.client.out ≡ None }
-        requires nothing { (t : TheTable) → self.old.server.tables.schema ≡ t ∷ [] → IsLeft t (wanted query.now.parts) self.old.client.held [] }
+        requires asks { (meaning : TheQuery) × IsMeaning self.old.server.tables.schema query.now meaning }
+        requires nothing { AsksRest self.old.server.tables.schema self.old.client.store.regions query.now.parts [] }
         requires room { drawn self.old + 2 < 2 ^ 63 }
         ensures event { (meaning : TheQuery) → IsMeaning self.old.server.tables.schema query.now meaning → IfOk result (DoesEvent (QueryOf 1 (Ok meaning)) self.old self.new) }
         ensures drawn { OnOk result (drawn self.new ≤ drawn self.old + 2) }
         ensures schema { self.new.server.tables.schema ≡ self.old.server.tables.schema }
     {
         let number = self.client.queries + 1;
-        let rows = self.client.answer(alloc, query)?;
+        let rows = answer(alloc, query, self.client.store.regions.as_slice(), &[])?;
+        let marks = self.client.store.answered(
+            alloc,
+            self.server.tables.schema(),
+            number,
+            query.parts.as_slice(),
+            Seq::new(alloc),
+        )?;
         let mut lines = Seq::new(alloc);
         push_answer(&mut lines, number, self.client.version, rows)?;
+        push_marks(&mut lines, marks)?;
         lines.push(TraceLine::QueryAnswered {
             client: 1,
             query: number,
@@ -157,19 +162,18 @@ impl World {
     }
 
     /// Asks for the rest of a query.
-    fn send_ask(&mut self, alloc: Global, query: Query, rest: Rects) -> Result<TraceLines, NoMemory>
+    fn send_ask(&mut self, alloc: Global, query: Query, asks: AskParts) -> Result<TraceLines, NoMemory>
         requires stands { Stands self.old }
         requires idle { self.old.client.out ≡ None }
-        requires one { length query.parts ≡ 1 }
-        requires left { (t : TheTable) → self.old.server.tables.schema ≡ t ∷ [] → IsLeft t (wanted query.parts) self.old.client.held rest }
-        requires some { rest ≡ [] → ⊥ }
+        requires left { AsksRest self.old.server.tables.schema self.old.client.store.regions query.parts asks }
+        requires few { length asks ≤ 4 }
+        requires some { asks ≡ [] → ⊥ }
         requires room { drawn self.old + 2 < 2 ^ 63 }
         ensures event { (meaning : TheQuery) → IsMeaning self.old.server.tables.schema query meaning → IfOk result (DoesEvent (QueryOf 1 (Ok meaning)) self.old self.new) }
         ensures drawn { OnOk result (drawn self.new ≤ drawn self.old + 2) }
         ensures schema { self.new.server.tables.schema ≡ self.old.server.tables.schema }
     {
-        let need = one_part(&query).need;
-        let out = ask_out(alloc, &self.client, query, need, rest)?;
+        let out = ask_out(&self.client, query, asks);
         let lines = ask_lines(alloc, &out)?;
         self.to_server.push_back(message_of(alloc, &out)?)?;
         self.client.queries = out.query_number;
@@ -262,12 +266,44 @@ impl World {
             None => Ok(Seq::new(alloc)),
             Some(message) => match version_of(&message) {
                 None => self.client.lay_by(alloc, message),
-                Some(version) => {
-                    let key = only(self.server.tables.schema()).key as usize;
-                    self.client.take_reply(alloc, key, version)
-                }
+                Some(version) => self.take_reply(alloc, version),
             },
         }
+    }
+
+    /// The client takes the reply of the ask that is out: its query is answered, and what was asked is held.
+    fn take_reply(&mut self, alloc: Global, version: u64) -> Result<TraceLines, NoMemory>
+    {
+        match self.client.out.take() {
+            None => Ok(Seq::new(alloc)),
+            Some(out) => self.finish(alloc, &out, version),
+        }
+    }
+
+    fn finish(&mut self, alloc: Global, out: &AskOut, version: u64) -> Result<TraceLines, NoMemory>
+    {
+        let schema = self.server.tables.schema();
+        let laid = mem::replace(&mut self.client.laid, Seq::new(alloc));
+        let arrivals = arrivals_of(alloc, schema, out.parts.as_slice(), laid)?;
+        let rows = answer(
+            alloc,
+            &out.query,
+            self.client.store.regions.as_slice(),
+            arrivals.as_slice(),
+        )?;
+        let marks = self.client.store.answered(
+            alloc,
+            schema,
+            out.query_number,
+            out.query.parts.as_slice(),
+            arrivals,
+        )?;
+        self.client.version = version;
+        let mut lines = Seq::new(alloc);
+        push_answer(&mut lines, out.query_number, version, rows)?;
+        push_marks(&mut lines, marks)?;
+        lines.push(TraceLine::ClientAnswered { client: 1 })?;
+        Ok(lines)
     }
 }
 
@@ -281,40 +317,18 @@ fn queue_up(queue: &mut VecDeque<Message>, messages: Messages) -> Result<(), NoM
     Ok(())
 }
 
-/// The rects that are not held.
-fn left(alloc: Global, rects: &Rects, held: &Rects, table: &Table) -> Result<Rects, NoMemory>
-    requires built { IsTrue (is_built table.now) }
-    requires rects { IsTrue (list_all (rect_fits table.now.columns) rects.now) }
-    requires held { IsTrue (list_all (rect_fits table.now.columns) held.now) }
-    ensures { IfOk result (IsLeft table.now rects.now held.now) }
-{
-    rects.difference(alloc, held, table)
-}
-
-/// The ask of the rest of a query under these columns, with the next numbers.
-fn ask_out(
-    alloc: Global,
-    client: &Client,
-    query: Query,
-    need: Attrs,
-    rest: Rects,
-) -> Result<AskOut, NoMemory>
+/// The ask of these parts of a query, with the next numbers. It is fresh where the client holds nothing.
+fn ask_out(client: &Client, query: Query, asks: AskParts) -> AskOut
     requires queries { client.now.queries < 2 ^ 63 }
-    ensures { IfOk result (λ out. out ≡ record { number = client.now.next_request; query_number = client.now.queries + 1; query = query; fresh = is_empty client.now.held; parts = ask_of need rest ∷ [] }) }
+    ensures { result ≡ record { number = client.now.next_request; query_number = client.now.queries + 1; query = query; fresh = is_empty client.now.store.regions; parts = asks } }
 {
-    let mut parts = Seq::new(alloc);
-    parts.push(AskPart {
-        table: 0,
-        attrs: need,
-        rects: rest,
-    })?;
-    Ok(AskOut {
+    AskOut {
         number: client.next_request,
         query_number: client.queries + 1,
         query,
-        fresh: client.held.is_empty(),
-        parts,
-    })
+        fresh: client.store.regions.is_empty(),
+        parts: asks,
+    }
 }
 
 /// The lines of an ask.
@@ -359,22 +373,6 @@ fn message_of(alloc: Global, out: &AskOut) -> Result<Message, NoMemory>
         fresh: out.fresh,
         parts: out.parts.copy(alloc)?,
     })
-}
-
-/// The one table.
-fn only(schema: &Schema) -> &Table
-    requires { length schema.now ≡ 1 }
-    ensures { schema.now ≡ result.now ∷ [] }
-{
-    &schema.as_slice()[0]
-}
-
-/// The one part of a query.
-fn one_part(query: &Query) -> &Part
-    requires { length query.now.parts ≡ 1 }
-    ensures { query.now.parts ≡ result.now ∷ [] }
-{
-    &query.parts.as_slice()[0]
 }
 
 /// This line alone.

@@ -1,0 +1,62 @@
+//! What is left to ask of a query.
+ghost use Rattle.std.specs.Prelude.{◌≡◌, ◌≤◌, length, IfOk, IsTrue};
+ghost use Rattle.std.specs.List.{list_all};
+ghost use Rattle.sr_query.specs.Bound.{is_table};
+ghost use Rattle.sr_store.specs.Stores.{IsStore};
+ghost use Rattle.sr_world.specs.Asking.{AsksRest, AreMeant};
+
+use sr_cell::list::{No, NoMemory, Seq};
+use sr_cell::schema::Schema;
+use sr_message::message::{AskPart, AskParts};
+use sr_query::query::Part;
+use sr_store::store::Store;
+use sr_trim::trim::trim;
+use std::alloc::Global;
+
+/// The most rects of one rest.
+const LIMIT: u32 = 16_384;
+
+/// An entry for each part of which some points are not covered by the regions.
+pub fn asks_of(
+    alloc: Global,
+    schema: &Schema,
+    store: &Store,
+    parts: &[Part],
+) -> Result<AskParts, NoMemory>
+    requires tables { IsTrue (list_all is_table schema.now) }
+    requires store { IsStore schema.now store.now.regions }
+    requires meant { AreMeant schema.now parts.now }
+    ensures asks { IfOk result (AsksRest schema.now store.now.regions parts.now) }
+    ensures few { IfOk result (λ asks. length asks ≤ length parts.now) }
+{
+    let mut asks = Seq::new(alloc);
+    for part in parts {
+        push_rest(alloc, schema, store, part, &mut asks)?;
+    }
+    Ok(asks)
+}
+
+/// Puts the rest of a part behind the asks, where there is one.
+fn push_rest(
+    alloc: Global,
+    schema: &Schema,
+    store: &Store,
+    part: &Part,
+    asks: &mut AskParts,
+) -> Result<(), NoMemory> {
+    let table = &schema.as_slice()[part.table as usize];
+    let cover = store.cover(alloc, part)?;
+    match trim(alloc, part, table, &cover, LIMIT) {
+        Ok(trimmed) => {
+            if !trimmed.rest.is_empty() {
+                asks.push(AskPart {
+                    table: part.table,
+                    attrs: trimmed.attrs,
+                    rects: trimmed.rest,
+                })?;
+            }
+            Ok(())
+        }
+        Err(_) => Err(NoMemory),
+    }
+}

@@ -3,6 +3,7 @@ pub mod Points
 pub mod PieceLemmas
 pub mod RowMessages
 pub mod StepLemmas
+pub mod OneAsk
 pub mod ServeLemmas
 pub mod TakeLemmas
 pub mod SettleLemmas

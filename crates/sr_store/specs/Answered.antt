@@ -16,9 +16,9 @@ use Rattle.sr_history.specs.declared.mark.Mark.TheVariants.{Held as HeldMark}
 use Rattle.sr_region.specs.declared.region.Region.{Region}
 use Rattle.sr_region.specs.Regions.{rank, is_in, IsRowIn}
 use Rattle.sr_store.specs.declared.store.Arrival.{Arrival}
-use Rattle.sr_store.specs.Classes.{Held, Stamps, occurs, Keeps, touches, restamped}
+use Rattle.sr_store.specs.Classes.{Held, Stamps, occurs, ascends, Keeps, touches, restamped}
 use Rattle.sr_store.specs.Told.{Told, IsTold, AreTrueOf}
-use Rattle.sr_store.specs.Stores.{drop_of}
+use Rattle.sr_store.specs.Stores.{IsOfSchema, drop_of}
 
 -- ---- what arrives
 
@@ -69,11 +69,15 @@ AreFlags P [] (g ∷ gs) = ⊥
 AreFlags P (f ∷ fs) [] = ⊥
 AreFlags P (f ∷ fs) (g ∷ gs) = (IsTrue f ↔ P g) × AreFlags P fs gs
 
+abbrev pub same_flag : Bool → Bool → Bool
+same_flag true b = b
+same_flag false b = not b
+
 -- the regions whose flag is this one
 abbrev pub flagged : Bool → List Bool → List Region → List Region
 flagged b [] gs = []
 flagged b (f ∷ fs) [] = []
-flagged b (f ∷ fs) (g ∷ gs) = if f == b then g ∷ flagged b fs gs else flagged b fs gs
+flagged b (f ∷ fs) (g ∷ gs) = if same_flag f b then g ∷ flagged b fs gs else flagged b fs gs
 
 -- ---- the answer of a query of that number, of these parts
 
@@ -83,6 +87,8 @@ held_of r = HeldMark r.table r.attrs r.rects
 -- What arrived is held, the touched points have the new stamp, and then the absorbed regions are dropped.
 pub record IsRenewed (schema : List Table) (number : ℕ) (parts : List Part) (arrivals : List Arrival) (old new : List Region) (marks : List Mark) : Type 0 where
   pub all : List Region
+  pub each : All (IsOfSchema schema) all
+  pub order : ascends all ≡ true
   pub keeps : (held : Held) (stamps : Stamps) → Keeps schema held stamps old
       → Keeps schema (λ t a p. held t a p || arrives arrivals t a p) (restamped number parts stamps) all
   pub flags : List Bool

@@ -1,0 +1,3 @@
+pub mod Classed
+pub mod Covered
+pub mod Stamped

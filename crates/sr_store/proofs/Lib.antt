@@ -1,3 +1,4 @@
 pub mod Classed
 pub mod Covered
+pub mod Renewal
 pub mod Stamped

@@ -1,1 +1,3 @@
+pub mod OnePart
 pub mod Picked
+pub mod United

@@ -1,10 +1,9 @@
 -- What is found of the answer of a query of one table.
-use Rattle.std.specs.Prelude.{ℕ, Bool, true, false, not, ◌&&◌, ◌||◌, ◌==◌, List, [], ◌∷◌, map, filter, ◌≡◌, if◌then◌else◌}
+use Rattle.std.specs.Prelude.{ℕ, Bool, not, ◌||◌, ◌==◌, List, [], ◌∷◌, map, filter, ◌≡◌, if◌then◌else◌}
 use Rattle.std.specs.List.{list_all}
 use Rattle.sr_cell.specs.Attrs.{has_column}
 use Rattle.sr_cell.specs.Cells.{Row, cell_at, cell_le}
 use Rattle.sr_model.specs.Queries.{row_at}
-use Rattle.sr_model.specs.SortedRows.{key_lt}
 use Rattle.sr_query.specs.declared.condition.Output.{Output}
 use Rattle.sr_query.specs.declared.query.Part.{Part}
 use Rattle.sr_query.specs.declared.query.Query.{Query}
@@ -38,11 +37,15 @@ has_outputs attrs outputs = list_all (λ o. not (o.part == 0) || has_column attr
 abbrev pub IsFound : ℕ → List Output → List Row → (Row → Bool) → List Row → Type 0
 IsFound key outputs all test found = found ≡ map (picked key outputs) (filter test all)
 
--- the rows of both by their first cell; of two rows with the same first cell, the first list's alone
+-- the second rows, without a first one whose first cell is not above that of the first rows
+abbrev pub past : List Row → List Row → List Row
+past [] more = more
+past (r ∷ rows) [] = []
+past (r ∷ rows) (m ∷ more) = if cell_le (cell_at m 0) (cell_at r 0) then more else m ∷ more
+
+-- the rows of both by their first cell; of two rows with one first cell, the first list's alone
 abbrev pub united : List Row → List Row → List Row
 united [] more = more
 united (r ∷ rows) [] = r ∷ rows
 united (r ∷ rows) (m ∷ more) =
-    if key_lt 0 m r then m ∷ united (r ∷ rows) more
-    else if cell_le (cell_at m 0) (cell_at r 0) then r ∷ united rows more
-    else r ∷ united rows (m ∷ more)
+    if cell_le (cell_at r 0) (cell_at m 0) then r ∷ united rows (past (r ∷ rows) (m ∷ more)) else m ∷ united (r ∷ rows) more

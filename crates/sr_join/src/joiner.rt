@@ -6,6 +6,8 @@ ghost use Rattle.sr_model.specs.SortedRows.{ascend};
 ghost use Rattle.sr_query.specs.declared.condition.Output.{Output as TheOutput};
 ghost use Rattle.sr_join.specs.Found.{key_of, cells_of, lent, has_outputs, IsFound, united};
 
+use crate::merge::unite;
+use crate::pick::pick;
 use sr_cell::attrs::Attrs;
 use sr_cell::cell::{Row, Rows};
 use sr_cell::list::{NoMemory, Seq};
@@ -45,7 +47,7 @@ impl Joiner {
             → IsFound (key_of query.now) query.now.output all (λ p. f p || g p) self.new.found) }
         ensures unchanged { OnErr result (self.new ≡ self.old) }
     {
-        Err(NoMemory)
+        put_rows(alloc, &mut self.found, query, attrs, rows)
     }
 
     /// The cells of the query's outputs, by key ascending.
@@ -54,6 +56,44 @@ impl Joiner {
         ensures found { (key : ℕ) (outputs : List TheOutput) (all : List Cells) (test : Cells → Bool) → IsFound key outputs all test self.found
             → IfOk result (λ answer. answer ≡ map (cells_of outputs) (filter test all)) }
     {
-        Err(NoMemory)
+        without_keys(alloc, self.found)
     }
+}
+
+fn put_rows(
+    alloc: Global,
+    found: &mut Rows,
+    query: &Query,
+    attrs: Attrs,
+    rows: &[&Row],
+) -> Result<(), NoMemory>
+    ensures lent { OnOk result (found.new ≡ united found.old (map (lent attrs (key_of query.now) query.now.output) (map (λ r. r.now) rows.now))) }
+    ensures unchanged { OnErr result (found.new ≡ found.old) }
+{
+    if rows.is_empty() {
+        return Ok(());
+    }
+    match pick(alloc, query, attrs, rows) {
+        Ok(more) => unite(alloc, found, more),
+        Err(no) => Err(no),
+    }
+}
+
+fn without_first(mut row: Row) -> Row
+    ensures { result ≡ drop 1 row }
+{
+    if !row.is_empty() {
+        row.remove(0);
+    }
+    row
+}
+
+fn without_keys(alloc: Global, found: Rows) -> Result<Rows, NoMemory>
+    ensures { IfOk result (λ answer. answer ≡ map (drop 1) found) }
+{
+    let mut answer = Seq::new(alloc);
+    for row in found.into_vec() {
+        answer.push(without_first(row))?;
+    }
+    Ok(answer)
 }

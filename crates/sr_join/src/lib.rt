@@ -2,3 +2,8 @@
 #![tactic(auto)]
 
 pub mod joiner;
+pub mod laws;
+mod merge;
+mod pick;
+#[cfg(test)]
+mod tests;

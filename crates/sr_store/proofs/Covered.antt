@@ -117,7 +117,7 @@ held-some test marks gs t p h =
     (λ i. let s = some-mark (λ b. test b && is_held marks t b p) marks i in
     has-any test gs t s.0 p (left-true (test s.0) (is_held marks t s.0 p) s.1) (λ none. let x = h s.0 in let y = right-true (test s.0) (is_held marks t s.0 p) s.1 in absurd (grind (arith, x, y, none))))
 
-cover-any : (part : Part) (gs : List Region) (p : Row) → in_any (cover_of part gs) p ≡ any_has (λ b. includes b part.need) gs part.table p
+pub cover-any : (part : Part) (gs : List Region) (p : Row) → in_any (cover_of part gs) p ≡ any_has (λ b. includes b part.need) gs part.table p
 cover-any part [] p = refl
 cover-any part (g ∷ gs) p = go (serves part g) (cover-any part gs p)
   where

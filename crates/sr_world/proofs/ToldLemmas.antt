@@ -19,7 +19,7 @@ use Rattle.sr_model.specs.Queries.{rows_at}
 use Rattle.sr_region.specs.Regions.{rank, is_in, IsPart}
 use Rattle.sr_region.specs.Laws.{CellsStand}
 use Rattle.sr_region.proofs.Parts.{is_in-point}
-use Rattle.sr_region.proofs.Ranks.{cells_stand}
+use Rattle.sr_region.proofs.Ranks.{stand}
 use Rattle.sr_store.specs.Told.{IsTold}
 use Rattle.sr_world.specs.Represents.{told_of}
 
@@ -111,7 +111,7 @@ pub ascend-told : (a key : ℕ) (rows : List Row) → has_column a key ≡ true 
 ascend-told a key [] has = refl
 ascend-told a key (r ∷ []) has = refl
 ascend-told a key (r ∷ s ∷ rows) has =
-    rw (cells_stand a key r has, cells_stand a key s has) (ap (λ b. key_lt key r s && b) (ascend-told a key (s ∷ rows) has))
+    rw (stand a key r has, stand a key s has) (ap (λ b. key_lt key r s && b) (ascend-told a key (s ∷ rows) has))
 
 -- rows by key that are points give a telling
 pub is-told : (schema : List Table) (tables : Tables) → ((t : ℕ) → list_all (is_point (table_at schema t).columns) (rows_at tables t) ≡ true)

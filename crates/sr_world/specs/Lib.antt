@@ -7,4 +7,5 @@ pub mod Ran
 pub mod Replay
 pub mod Refused
 pub mod Represents
+pub mod Taking
 pub mod Worlds

@@ -1,17 +1,21 @@
 -- A query that asks nothing is answered at once.
-use Rattle.std.proofs.Common.{◌≡◌, ℕ, List, [], ◌∷◌, ◌++◌, refl, subst, None, Ok}
-use Rattle.std.specs.List.{AllByRecursion}
+use Rattle.std.proofs.Common.{◌≡◌, ℕ, true, false, List, [], ◌∷◌, ◌++◌, refl, subst, ◌∙◌, inl, inr, None, Ok}
+use Rattle.std.specs.List.{AllByRecursion, AllZip}
 use Rattle.sr_cell.specs.declared.table.Table.{Table}
 use Rattle.sr_cell.specs.Columns.{table_at}
 use Rattle.sr_box.specs.Points.{HasNoPoint}
 use Rattle.sr_message.specs.declared.message.AskPart.{AskPart}
 use Rattle.sr_model.specs.Queries.{Part, Query}
-use Rattle.sr_history.specs.Marks.{Mark}
+use Rattle.sr_history.specs.declared.mark.Mark.{Mark}
 use Rattle.sr_history.specs.Rests.{Asks, nothing, covered, asked, rest_of}
 use Rattle.sr_script.specs.declared.line.TraceLine.{TraceLine}
 use Rattle.sr_script.specs.declared.line.TraceLine.TheVariants as line
 use Rattle.sr_scene.specs.Scene.{Scene, Client}
-use Rattle.sr_scene.specs.Steps.{Queries, QueriesIfFree, QueriesText, answer_lines, number_of_next}
+use Rattle.sr_history.specs.Marks.{with_marks}
+use Rattle.sr_history.specs.Classes.{Numbered}
+use Rattle.sr_history.specs.Drops.{Absorbs}
+use Rattle.sr_history.specs.Load.{IsHeavy}
+use Rattle.sr_scene.specs.Steps.{Queries, QueriesIfFree, QueriesText, Renews, Holds, counted, with_query, answer_lines, number_of_next}
 
 -- where no part has a rest, nothing may be asked
 pub nothing_to_ask : (schema : List Table) (marks : List Mark) (parts : List Part) (asks : List AskPart)
@@ -26,13 +30,31 @@ pub record IsAnswered (s : Scene) (n : ℕ) (q : Query) (c : Client) (lines : Li
   pub to_server : new.to_server ≡ c.to_server
   pub to_client : new.to_client ≡ c.to_client
 
-no_asks : (s : Scene) (n : ℕ) (q : Query) (c : Client) (lines : List TraceLine) (new : Client) → Queries s n q [] c lines new → IsAnswered s n q c lines new
-no_asks s n q c lines new ([], keeps, are) = record { lines_are = are; to_server = rw keeps.1 refl; to_client = rw keeps.1 refl }
-no_asks s n q c lines new (mark ∷ marks, keeps, are) = absurd keeps.0
+-- no class is absorbed once it is answered, and the load is low
+pub record IsLight (s : Scene) (q : Query) (c : Client) : Type 0 where
+  pub absorbs : (drops : List Mark) → Absorbs s.schema c.marks (with_query q true c) drops → drops ≡ []
+  pub answered : IsHeavy s.schema c.marks [] q (counted c.counted_from (with_query q true c)) → ⊥
+  pub asked : IsHeavy s.schema c.marks [] q (counted c.counted_from (with_query q false c)) → ⊥
+
+no_marks : (schema : List Table) (queries : List Numbered) (c : Client) (marks : List Mark) → ((drops : List Mark) → Absorbs schema c.marks queries drops → drops ≡ [])
+    → Renews schema [] queries c marks → marks ≡ []
+no_marks schema queries c marks none r = by r.held r.holds r.absorbs r.all
+  where
+    by : (held : List Mark) → AllZip (Holds schema) [] held → Absorbs schema (with_marks c.marks held) queries r.drops → marks ≡ held ++ r.drops → marks ≡ []
+    by [] holds absorbs all = all ∙ none r.drops absorbs
+    by (m ∷ held) holds absorbs all = absurd holds
+
+no_asks : (s : Scene) (n : ℕ) (q : Query) (c : Client) (lines : List TraceLine) (new : Client) → IsLight s q c → Queries s n q [] c lines new → IsAnswered s n q c lines new
+no_asks s n q c lines new light (marks, inl (renews, same), are) =
+    let none = no_marks s.schema (with_query q true c) c marks light.absorbs renews in
+    record { lines_are = rw none at are; to_server = rw same refl; to_client = rw same refl }
+no_asks s n q c lines new light (marks, inr (gives_up, same), are) = absurd (light.answered gives_up.heavy)
 
 -- where all that it may ask is nothing
-pub answers_at_once : (s : Scene) (n : ℕ) (q : Query) (c : Client) (lines : List TraceLine) (new : Client) → c.out ≡ None
+pub answers_at_once : (s : Scene) (n : ℕ) (q : Query) (c : Client) (lines : List TraceLine) (new : Client) → c.out ≡ None → IsLight s q c
     → ((asks : List AskPart) → Asks s.schema c.marks q.parts asks → asks ≡ []) → QueriesText s n (Ok q) c lines new → IsAnswered s n q c lines new
-answers_at_once s n q c lines new free none does =
-    let (asks, may, queries) = subst (λ out. QueriesIfFree s n q out c lines new) free does in
-    no_asks s n q c lines new (subst (λ a. Queries s n q a c lines new) (none asks may) queries)
+answers_at_once s n q c lines new free light none does = by (subst (λ out. QueriesIfFree s n q out c lines new) free does)
+  where
+    by : QueriesIfFree s n q None c lines new → IsAnswered s n q c lines new
+    by (inl (asks, may, queries)) = no_asks s n q c lines new light (subst (λ a. Queries s n q a c lines new) (none asks may) queries)
+    by (inr drops) = absurd (light.asked drops.heavy)

@@ -7,7 +7,8 @@ use Rattle.sr_cell.specs.Cells.{Row}
 use Rattle.sr_cell.specs.Attrs.{has_column}
 use Rattle.sr_box.specs.Points.{AreSame, HasNoPoint, IsEssential, in_any}
 use Rattle.sr_message.specs.declared.message.AskPart.{AskPart}
-use Rattle.sr_history.specs.Marks.{Mark, Held}
+use Rattle.sr_history.specs.declared.mark.Mark.{Mark}
+use Rattle.sr_history.specs.declared.mark.Mark.TheVariants.{Held}
 use Rattle.sr_history.specs.Rests.{IsRest, Asks, nothing, asked, rest_of}
 use Rattle.sr_scene.specs.Example.{people, schema, row, part, ages}
 

@@ -1,17 +1,19 @@
 -- The worked example as a whole run.
-use Rattle.std.proofs.Common.{◌≡◌, ℕ, Bool, true, false, List, [], ◌∷◌, refl, lit≤}
+use Rattle.std.proofs.Common.{◌≡◌, ℕ, Bool, true, false, List, [], ◌∷◌, refl, lit≤, inl}
 use Rattle.std.specs.Prelude.{IsTrue, Ok, map, filter, take, ◌==◌}
 use Rattle.sr_cell.specs.Cells.{Row}
 use Rattle.sr_box.specs.Points.{AreSame}
 use Rattle.sr_model.specs.Events.{Exec, QueryOf}
 use Rattle.sr_model.specs.Statements.{Insert, Tables}
-use Rattle.sr_history.specs.Marks.{Held, HoldsNothing}
+use Rattle.sr_history.specs.declared.mark.Mark.TheVariants.{Held}
+use Rattle.sr_history.specs.Marks.{HoldsNothing}
 use Rattle.sr_script.specs.declared.line.TraceLine.{TraceLine}
 use Rattle.sr_scene.specs.Scene.{Scene, new_client}
 use Rattle.sr_scene.specs.Steps.{Holds}
 use Rattle.sr_scene.specs.Runs.{Steps, Runs}
 use Rattle.sr_scene.specs.Example.{people, schema, row, query, ages, events, lines, start}
 use Rattle.sr_scene.specs.CoveredQuery.{versions, opened, opening_events, opening_lines}
+use Rattle.sr_scene.proofs.ExampleClasses.{absorbs_1, absorbs_2}
 use Rattle.sr_scene.proofs.ExampleRests.{ask, held, first_asks, second_asks}
 use Rattle.sr_scene.proofs.Quiet.{settled, three_settle}
 
@@ -48,11 +50,11 @@ first_query = (
   _,
   _,
   _,
-  (_, _, refl, (ask 30 40 ∷ [], first_asks, (true, (λ h. nothing_held, λ h. refl), refl, refl)), refl),
+  (_, _, refl, inl (ask 30 40 ∷ [], first_asks, (true, (λ h. nothing_held, λ h. refl), refl, refl)), refl),
   three_settle _ _ _ _ _ _ _ (
     (_, _, refl, refl, (_, refl, (_, refl, refl, refl))),
     (_, _, refl, refl, (_, _, refl, (refl, (refl, refl)), refl)),
-    (_, _, refl, refl, (_, _, refl, (refl, (lit≤ tt, (Held 0 3 (ages 30 40) ∷ [], ((holds_first, tt), refl), refl))), refl)),
+    (_, _, refl, refl, (_, _, refl, (refl, (lit≤ tt, (Held 0 3 (ages 30 40) ∷ [], inl (record { held = Held 0 3 (ages 30 40) ∷ []; drops = []; holds = (holds_first, tt); absorbs = absorbs_1; all = refl }, refl), refl))), refl)),
     (_, refl, refl),
   ),
   refl,
@@ -68,11 +70,11 @@ second_query = (
     _,
     _,
     _,
-    (_, _, refl, (ask 41 50 ∷ [], second_asks, (false, (λ h. absurd (cc), λ h. something_held h), refl, refl)), refl),
+    (_, _, refl, inl (ask 41 50 ∷ [], second_asks, (false, (λ h. absurd (cc), λ h. something_held h), refl, refl)), refl),
     three_settle _ _ _ _ _ _ _ (
       (_, _, refl, refl, (_, refl, (_, refl, refl, refl))),
       (_, _, refl, refl, (_, _, refl, (refl, (refl, refl)), refl)),
-      (_, _, refl, refl, (_, _, refl, (refl, (lit≤ tt, (Held 0 3 (ages 41 50) ∷ [], ((holds_second, tt), refl), refl))), refl)),
+      (_, _, refl, refl, (_, _, refl, (refl, (lit≤ tt, (Held 0 3 (ages 41 50) ∷ [], inl (record { held = Held 0 3 (ages 41 50) ∷ []; drops = []; holds = (holds_second, tt); absorbs = absorbs_2; all = refl }, refl), refl))), refl)),
       (_, refl, refl),
     ),
     refl,

@@ -117,7 +117,7 @@ shared_says line last said = (
   [],
   _,
   _,
-  does _ _ create_text _ _ refl (people, (create_says, refl), refl, refl, refl, refl),
+  does _ _ create_text _ _ refl (people, (create_says, refl), refl, refl, refl),
   (
     _,
     _,

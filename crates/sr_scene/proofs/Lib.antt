@@ -1,5 +1,7 @@
 pub mod ExampleScripts
 pub mod ExampleTexts
+pub mod ExampleClasses
+pub mod ExampleLoad
 pub mod ExampleRests
 pub mod ExampleRun
 pub mod Quiet

@@ -3,7 +3,7 @@ use Rattle.std.specs.Prelude.{ℕ, true, List, [], ◌∷◌, Some, None, Ok, co
 use Rattle.sr_message.specs.declared.message.Message.{Message}
 use Rattle.sr_model.specs.Statements.{Tables}
 use Rattle.sr_model.specs.Events.{Event, QueryOf}
-use Rattle.sr_history.specs.Marks.{Held}
+use Rattle.sr_history.specs.declared.mark.Mark.TheVariants.{Held}
 use Rattle.sr_script.specs.declared.line.TraceLine.{TraceLine}
 use Rattle.sr_script.specs.declared.line.TraceLine.TheVariants as line
 use Rattle.sr_scene.specs.Scene.{Scene, Client}
@@ -37,6 +37,7 @@ abbrev pub served_client : Client
 served_client = record {
   marks = Held 0 3 (ages 30 40) ∷ [];
   queries = record { query = query 30 40; answered = true } ∷ [];
+  counted_from = 0;
   version = 2;
   next_request = 2;
   out = None;

@@ -1,3 +1,7 @@
+pub mod Truths
+pub mod Touching
+pub mod Restamping
+pub mod Adding
 pub mod Classed
 pub mod Covered
 pub mod Renewal

@@ -1,5 +1,5 @@
 -- What an answer makes of the regions.
-use Rattle.std.specs.Prelude.{ℕ, Bool, true, false, not, ◌&&◌, ◌||◌, ◌==◌, ◌+◌, ◌*◌, ◌≤◌, ◌<◌, List, [], ◌∷◌, ◌++◌, length, map, filter, flat_map, ◌≡◌, ◌↔◌, ◌⊎◌, IsTrue, if◌then◌else◌}
+use Rattle.std.specs.Prelude.{ℕ, Bool, true, false, not, ◌&&◌, ◌||◌, ◌==◌, ◌+◌, ◌*◌, ◌≤◌, ◌<◌, List, [], ◌∷◌, ◌++◌, length, map, filter, flat_map, ◌≡◌, ◌↔◌, IsTrue, if◌then◌else◌}
 use Rattle.std.specs.List.{list_any, list_all, All}
 use Rattle.sr_cell.specs.declared.cause.Cause.TheVariants.{Absorbed, Pieces}
 use Rattle.sr_cell.specs.declared.table.Table.{Table}
@@ -17,7 +17,7 @@ use Rattle.sr_region.specs.declared.region.Region.{Region}
 use Rattle.sr_region.specs.Regions.{rank, is_in, IsRowIn}
 use Rattle.sr_store.specs.declared.store.Arrival.{Arrival}
 use Rattle.sr_store.specs.Classes.{Held, Stamps, occurs, ascends, Keeps, touches, restamped}
-use Rattle.sr_store.specs.Told.{Told, IsTold, AreTrueOf}
+use Rattle.sr_store.specs.Told.{Told}
 use Rattle.sr_store.specs.Stores.{IsOfSchema, drop_of}
 
 -- ---- what arrives

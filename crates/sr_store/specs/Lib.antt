@@ -3,3 +3,4 @@ pub mod Told
 pub mod Stores
 pub mod Answered
 pub mod Renewing
+pub mod Making

@@ -1,6 +1,6 @@
 -- How an answer makes the new regions: the old ones are cut along the query's parts, and put together again by class.
-use Rattle.std.specs.Prelude.{ℕ, Bool, true, ◌&&◌, ◌==◌, List, [], ◌∷◌, ◌++◌, filter, flat_map, ◌≡◌, IsTrue, if◌then◌else◌}
-use Rattle.std.specs.List.{All, AllZip}
+use Rattle.std.specs.Prelude.{ℕ, Bool, true, ◌&&◌, ◌==◌, List, [], ◌∷◌, ◌++◌, map, filter, flat_map, Option, option_to_list, ◌≡◌, IsTrue, if◌then◌else◌}
+use Rattle.std.specs.List.{list_all, All}
 use Rattle.sr_cell.specs.declared.table.Table.{Table}
 use Rattle.sr_cell.specs.Columns.{table_at, is_point}
 use Rattle.sr_cell.specs.Attrs.{includes}
@@ -20,12 +20,28 @@ use Rattle.sr_store.specs.Stores.{IsOfSchema}
 abbrev pub touching : List Part → ℕ → ℕ → List Rect
 touching parts t a = flat_map (λ part. part.rects) (filter (λ part. part.table == t && includes a part.need) parts)
 
+-- the cuts of the region's rects are among those of the rects given for its table
+abbrev pub IsCutFrom : List Table → (ℕ → List Rect) → Region → Type 0
+IsCutFrom schema given g = AreCutFrom (table_at schema g.table).columns (given g.table) g.rects
+
+abbrev pub IsPartCutFrom : List Table → (ℕ → List Rect) → Part → Type 0
+IsPartCutFrom schema given part = AreCutFrom (table_at schema part.table).columns (given part.table) part.rects
+
+abbrev pub with_stamp : ℕ → Region → Region
+with_stamp number g = record g { stamp = number }
+
+-- the halves of a region, the inner one with a new stamp
+abbrev pub pieces_of : ℕ → Option Region → Option Region → List Region
+pieces_of number outside inside = option_to_list outside ++ map (with_stamp number) (option_to_list inside)
+
 -- what cutting and stamping anew makes of some regions: the same points and rows, under the new stamps
 pub record IsRestamped (schema : List Table) (number : ℕ) (parts : List Part) (old pieces : List Region) : Type 0 where
   pub each : All (IsOfSchema schema) pieces
   pub points : (t a : ℕ) (p : Row) → IsTrue (is_point (table_at schema t).columns p) → occurs pieces t a p ≡ occurs old t a p
   pub stamped : (stamps : Stamps) → All (IsStamped schema stamps) old → All (IsStamped schema (restamped number parts stamps)) pieces
   pub are_true : (told : Told) → IsTold schema told → AreTrueOf told old → AreTrueOf told pieces
+  pub cuts : (given : ℕ → List Rect) → All (IsCutFrom schema given) old → All (IsPartCutFrom schema given) parts → All (IsCutFrom schema given) pieces
+  pub used : (used : ℕ → ℕ → Bool) → list_all (λ g. used g.table g.attrs) old ≡ true → list_all (λ g. used g.table g.attrs) pieces ≡ true
 
 -- one region more, joined with the one of its class
 abbrev pub with_region : List Region → Region → List Region

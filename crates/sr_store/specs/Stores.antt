@@ -1,5 +1,5 @@
 -- The regions of a client, and what of them a part of a query uses.
-use Rattle.std.specs.Prelude.{ℕ, Bool, true, ◌&&◌, ◌==◌, ◌≤◌, ◌<◌, List, [], ◌∷◌, ◌++◌, length, map, filter, flat_map, sum_by, ◌≡◌, IsTrue}
+use Rattle.std.specs.Prelude.{ℕ, Bool, true, ◌&&◌, ◌==◌, ◌≤◌, ◌<◌, List, length, filter, flat_map, sum_by, ◌≡◌, IsTrue}
 use Rattle.std.specs.List.{All}
 use Rattle.sr_cell.specs.declared.cause.Cause.{Cause}
 use Rattle.sr_cell.specs.declared.table.Table.{Table}
@@ -11,7 +11,7 @@ use Rattle.sr_query.specs.declared.query.Part.{Part}
 use Rattle.sr_history.specs.declared.mark.Mark.{Mark}
 use Rattle.sr_history.specs.declared.mark.Mark.TheVariants.{Dropped}
 use Rattle.sr_region.specs.declared.region.Region.{Region}
-use Rattle.sr_region.specs.Regions.{is_in, IsRegion}
+use Rattle.sr_region.specs.Regions.{IsRegion}
 use Rattle.sr_store.specs.Classes.{occurs, ascends}
 use Rattle.sr_store.specs.Told.{Told, IsTold, AreTrueOf}
 

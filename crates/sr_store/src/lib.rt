@@ -1,4 +1,10 @@
 //! The regions that a client keeps: one for each class of held points.
 #![tactic(auto)]
 
+mod absorb;
+mod add;
+mod arrive;
+mod lookup;
+mod marks;
+mod restamp;
 pub mod store;

@@ -61,7 +61,6 @@ impl Store {
         Err(NoMemory)
     }
 
-
     /// What an answer does: what arrived is held, the points that the query touches have its number as their stamp, and the
     /// regions whose points are all held under more columns are dropped. After want of memory it holds nothing.
     pub fn answered(

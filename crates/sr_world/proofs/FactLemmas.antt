@@ -20,12 +20,9 @@ use Rattle.sr_trim.proofs.Tables.{table_first}
 use Rattle.sr_tables.specs.Stored.{are_stored, are_rows}
 use Rattle.sr_store.specs.Told.{IsTold, IsTrueOf, AreTrueOf}
 use Rattle.sr_store.proofs.Renewal.{HaveFirst}
-use Rattle.sr_scene.specs.Scene.{Scene}
-use Rattle.sr_script.specs.declared.line.TraceLine.{TraceLine}
 use Rattle.sr_world.specs.declared.world.World.{World}
 use Rattle.sr_world.specs.declared.client.Client.{Client}
-use Rattle.sr_world.specs.Worlds.{Does}
-use Rattle.sr_world.specs.Represents.{Past, ServerFacts, Facts, Flow, Represents, scene_of, told_of}
+use Rattle.sr_world.specs.Represents.{Past, ServerFacts, Facts, told_of}
 use Rattle.sr_world.proofs.ToldLemmas.{is-told}
 
 -- ---- tables
@@ -71,8 +68,3 @@ true-now w past f =
 pub server-still : (w : World) (past : Past) (client : Client) (to_server to_client : VecDeque Message Global) (marks : List Mark) (queries : List Numbered) (meaning : Query) → ServerFacts w past
     → ServerFacts (record w { client = client; to_server = to_server; to_client = to_client }) (record past { marks = marks; queries = queries; meaning = meaning })
 server-still w past client to_server to_client marks queries meaning f = record { tables = f.tables; count = f.count; newest = f.newest; stored = f.stored; points = f.points }
-
--- What holds of the scene of each past holds of each scene that the world stands for.
-pub each-past : (Relation : Scene → List TraceLine → Scene → Type 0) (old new : World) (lines : List TraceLine)
-    → ((past : Past) → Facts old past → (next : Scene) × Relation (scene_of old past) lines next × Represents new next) → Does Relation old new lines
-each-past Relation old new lines each s r = subst (λ s. (next : Scene) × Relation s lines next × Represents new next) (sym r.same) (each r.past r.facts)

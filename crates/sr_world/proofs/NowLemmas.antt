@@ -45,7 +45,8 @@ use Rattle.sr_world.specs.Worlds.{DoesEvent}
 use Rattle.sr_world.specs.Represents.{Past, ClientFacts, Facts, Represents, Flow, request_of, scene_of, client_of, told_of}
 use Rattle.sr_world.proofs.Calls.{Answers, IsAfter}
 use Rattle.sr_world.proofs.MeantLemmas.{IsOneQuery, one-query, are-meant, is-one-part, part-points, no-rest}
-use Rattle.sr_world.proofs.FactLemmas.{have-first, points-now, ascend-now, told-now, version-now, true-now, server-still, each-past}
+use Rattle.sr_world.proofs.StepLemmas.{does}
+use Rattle.sr_world.proofs.FactLemmas.{have-first, points-now, ascend-now, told-now, version-now, true-now, server-still}
 
 -- ---- rows
 
@@ -191,7 +192,7 @@ pub does-now : (w : World) (q : Query) (m : model.Query) (store : Store) (marks 
     → DoesEvent (QueryOf 1 (Ok m)) w (with_now w store) lines
 does-now w q m store marks rows lines none is nothing gives a lines_are =
     subst (DoesEvent (QueryOf 1 (Ok m)) w (with_now w store)) (sym lines_are)
-    (each-past (λ s. Happens s (QueryOf 1 (Ok m))) w (with_now w store) (lines_now w marks rows) (λ past f. answers-now w past q m store marks rows f none is nothing gives a))
+    (does (λ s. Happens s (QueryOf 1 (Ok m))) w (with_now w store) (lines_now w marks rows) (λ past f. answers-now w past q m store marks rows f none is nothing gives a))
 
 -- while a request is out the client is busy
 busy : (w : World) (past : Past) (o : code.AskOut) (m : model.Query) → Facts w past → w.client.out ≡ Some o
@@ -202,4 +203,4 @@ busy w past o m f out =
     (scene_of w past, (client_of w past, client_of w past, refl, queries, refl), record { past = past; facts = f; same = refl })
 
 pub does-busy : (w : World) (o : code.AskOut) (m : model.Query) → w.client.out ≡ Some o → DoesEvent (QueryOf 1 (Ok m)) w w (line.QueryBusy 1 o.number ∷ [])
-does-busy w o m out = each-past (λ s. Happens s (QueryOf 1 (Ok m))) w w (line.QueryBusy 1 o.number ∷ []) (λ past f. busy w past o m f out)
+does-busy w o m out = does (λ s. Happens s (QueryOf 1 (Ok m))) w w (line.QueryBusy 1 o.number ∷ []) (λ past f. busy w past o m f out)

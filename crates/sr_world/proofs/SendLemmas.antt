@@ -34,7 +34,8 @@ use Rattle.sr_world.specs.Client.{is_empty}
 use Rattle.sr_world.specs.Worlds.{DoesEvent}
 use Rattle.sr_world.specs.Represents.{Past, ClientFacts, Facts, Represents, IsOut, IsAsked, Flow, request_of, scene_of, client_of, told_of}
 use Rattle.sr_world.proofs.MeantLemmas.{are-meant}
-use Rattle.sr_world.proofs.FactLemmas.{have-first, server-still, each-past}
+use Rattle.sr_world.proofs.StepLemmas.{does}
+use Rattle.sr_world.proofs.FactLemmas.{have-first, server-still}
 
 -- the mode of an ask says whether anything is held
 mode-is : (schema : List Table) (marks : List Mark) (stamps : Stamps) (gs : List Region) → HaveFirst schema → All (IsOfSchema schema) gs → KeepsPoints schema (is_held marks) stamps gs
@@ -121,7 +122,7 @@ pub does-ask : (w : World) (q : Query) (m : model.Query) (asks : List AskPart) (
 does-ask w q m asks out queue lines none is rest some out_is lines_are queued =
     let ask : code.AskOut = next_ask w q asks in
     let sent = subst (λ o. queue.items ≡ w.to_server.items ++ Ask o.number o.fresh o.parts ∷ []) out_is queued in
-    let does : DoesEvent (QueryOf 1 (Ok m)) w (with_out w ask queue) (lines_of_ask ask) =
-    each-past (λ s. Happens s (QueryOf 1 (Ok m))) w (with_out w ask queue) (lines_of_ask ask) (λ past f. asked w past q m asks queue f none is rest some sent) in
+    let sends : DoesEvent (QueryOf 1 (Ok m)) w (with_out w ask queue) (lines_of_ask ask) =
+    does (λ s. Happens s (QueryOf 1 (Ok m))) w (with_out w ask queue) (lines_of_ask ask) (λ past f. asked w past q m asks queue f none is rest some sent) in
     let P : code.AskOut → Type 0 = λ o. DoesEvent (QueryOf 1 (Ok m)) w (with_out w o queue) (lines_of_ask o) in
-    subst (DoesEvent (QueryOf 1 (Ok m)) w (with_out w out queue)) (sym lines_are) (subst P (sym out_is) does)
+    subst (DoesEvent (QueryOf 1 (Ok m)) w (with_out w out queue)) (sym lines_are) (subst P (sym out_is) sends)

@@ -2,7 +2,6 @@ pub mod Answering
 pub mod Asking
 pub mod Bound
 pub mod Client
-pub mod Kept
 pub mod Ran
 pub mod Replay
 pub mod Refused

@@ -14,9 +14,8 @@ ghost use Rattle.sr_scene.specs.Steps.{part_line};
 ghost use Rattle.sr_world.specs.Asking.{AsksRest};
 ghost use Rattle.sr_world.specs.Bound.{IsMeaning};
 ghost use Rattle.sr_world.specs.Client.{is_empty};
-ghost use Rattle.sr_world.specs.Kept.{IsStill};
 ghost use Rattle.sr_world.specs.Represents.{Represents, IsUnasked, drawn};
-ghost use Rattle.sr_world.specs.Worlds.{Stands, DoesStep, DoesEvent, DoesDelivery, DoesMany, DoesSettle};
+ghost use Rattle.sr_world.specs.Worlds.{Stands, IsStill, DoesStep, DoesEvent, DoesDelivery, DoesMany, DoesSettle};
 
 use crate::answer::answer;
 use crate::asks::asks_of;
@@ -51,6 +50,7 @@ impl World {
         ensures schema { result.server.tables.schema ≡ tables.schema }
     {
         tables.know_stored();
+        tables.know_values();
         World {
             server: Server { tables, version: 0 },
             client: Client::new(alloc),

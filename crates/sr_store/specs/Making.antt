@@ -1,0 +1,49 @@
+-- Steps on the way to the new regions.
+use Rattle.std.specs.Prelude.{ℕ, Bool, true, false, List, [], ◌∷◌, ◌++◌, ◌≡◌, Option, length, ◌<◌}
+use Rattle.std.specs.List.{list_all, All, prefix_len}
+use Rattle.sr_cell.specs.declared.table.Table.{Table}
+use Rattle.sr_cell.specs.Columns.{table_at}
+use Rattle.sr_model.specs.SortedRows.{ascend}
+use Rattle.sr_box.specs.Points.{Rect, rect_fits}
+use Rattle.sr_query.specs.declared.query.Part.{Part}
+use Rattle.sr_region.specs.declared.region.Region.{Region}
+use Rattle.sr_region.specs.Regions.{rank}
+use Rattle.sr_region.specs.Halves.{IsInside, IsOutside}
+use Rattle.sr_store.specs.declared.store.Arrival.{Arrival}
+use Rattle.sr_store.specs.Classes.{is_before, is_same}
+use Rattle.sr_store.specs.Renewing.{pieces_of, IsRestamped}
+
+-- the halves of a region along the rects at the end, the inner one with a new stamp
+abbrev pub AddsHalves : Table → ℕ → Region → List Rect → List Region → List Region → Type 0
+AddsHalves t number g rects old new =
+    (inside outside : Option Region) × IsInside t g rects inside × IsOutside t g rects outside × (new ≡ old ++ pieces_of number outside inside)
+
+-- the region at the end, cut and stamped anew
+abbrev pub AddsRestamped : List Table → ℕ → List Part → Region → List Region → List Region → Type 0
+AddsRestamped schema number parts g old new = (more : List Region) × (new ≡ old ++ more) × IsRestamped schema number parts (g ∷ []) more
+
+-- how many regions from the front on stand before that one in class order
+abbrev pub place_in : List Region → Region → ℕ
+place_in regions g = prefix_len (λ h. is_before h g) regions
+
+-- the first region is of that one's class
+abbrev pub is_same_first : List Region → Region → Bool
+is_same_first [] g = false
+is_same_first (h ∷ hs) g = is_same h g
+
+abbrev pub HasKey : (ℕ → ℕ) → Region → Type 0
+HasKey key g = g.key ≡ key g.table
+
+-- the key is that of its table, and the rows lie by it
+abbrev pub IsKeyed : (ℕ → ℕ) → Region → Type 0
+IsKeyed key g = HasKey key g × (ascend (rank g.attrs g.key) g.rows ≡ true)
+
+-- regions of one table have one key, by which the rows of the second ones lie
+pub record CanJoin (regions more : List Region) : Type 0 where
+  pub key : ℕ → ℕ
+  pub keys : All (HasKey key) regions
+  pub keyed : All (IsKeyed key) more
+
+-- rects of a table of the schema
+abbrev pub FitsSchema : List Table → Arrival → Type 0
+FitsSchema schema r = (r.table < length schema) × (list_all (rect_fits (table_at schema r.table).columns) r.rects ≡ true)

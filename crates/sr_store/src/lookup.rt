@@ -1,0 +1,18 @@
+//! Tables by their numbers.
+ghost use Rattle.std.specs.Prelude.{◌≡◌, ◌<◌, IsTrue, length};
+ghost use Rattle.std.specs.List.{list_all};
+ghost use Rattle.sr_cell.specs.Columns.{table_at};
+ghost use Rattle.sr_query.specs.Bound.{is_table};
+
+use sr_cell::schema::Schema;
+use sr_cell::table::Table;
+
+/// The table of that number.
+pub(crate) fn table_at(schema: &Schema, number: u8) -> &Table
+    requires sound { IsTrue (list_all is_table schema.now) }
+    requires within { number < length schema.now }
+    ensures found { result.now ≡ table_at schema.now number }
+    ensures sound { IsTrue (is_table result.now) }
+{
+    &schema.as_slice()[number as usize]
+}

@@ -2,6 +2,15 @@ pub mod Truths
 pub mod Touching
 pub mod Restamping
 pub mod Adding
+pub mod Tables
+pub mod Sound
+pub mod Arrived
+pub mod Keeping
+pub mod Dropping
+pub mod Making
+pub mod Joining
+pub mod Fits
+pub mod Answering
 pub mod Classed
 pub mod Covered
 pub mod Renewal

@@ -34,7 +34,7 @@ filter-filter f g (row ∷ rows) = go (f row) (filter-filter f g rows)
     go false ih = ih
 
 -- a row of some columns lies in rects where a point with its cells does
-in-part : (cs : List Column) (a : ℕ) (rects : List Rect) (row : Row) → list_all (rect_fits cs) rects ≡ true → list_all (constrains_only a 0) rects ≡ true → (part : IsPart cs a row)
+pub in-part : (cs : List Column) (a : ℕ) (rects : List Rect) (row : Row) → list_all (rect_fits cs) rects ≡ true → list_all (constrains_only a 0) rects ≡ true → (part : IsPart cs a row)
     → is_in a rects row ≡ in_any rects part.0
 in-part cs a rects row fit only part = ap (is_in a rects) (sym part.2) ∙ is_in-point cs a rects part.0 fit only part.1
 

@@ -1,6 +1,6 @@
 -- How an answer makes the new regions: the old ones are cut along the query's parts, and put together again by class.
-use Rattle.std.specs.Prelude.{ℕ, Bool, true, ◌&&◌, ◌==◌, List, [], ◌∷◌, ◌++◌, map, filter, flat_map, Option, option_to_list, ◌≡◌, IsTrue, if◌then◌else◌}
-use Rattle.std.specs.List.{list_all, All}
+use Rattle.std.specs.Prelude.{ℕ, Bool, true, ◌&&◌, ◌||◌, ◌==◌, ◌≤◌, List, [], ◌∷◌, ◌++◌, map, filter, flat_map, Option, option_to_list, ◌≡◌, IsTrue, if◌then◌else◌}
+use Rattle.std.specs.List.{list_all, All, AllZip}
 use Rattle.sr_cell.specs.declared.table.Table.{Table}
 use Rattle.sr_cell.specs.Columns.{table_at, is_point}
 use Rattle.sr_cell.specs.Attrs.{includes}
@@ -9,12 +9,14 @@ use Rattle.sr_box.specs.Points.{Rect}
 use Rattle.sr_union.specs.Pieces.{IsOnce}
 use Rattle.sr_union.specs.Grid.{AreCutFrom}
 use Rattle.sr_query.specs.declared.query.Part.{Part}
+use Rattle.sr_query.specs.Bound.{is_table}
 use Rattle.sr_region.specs.declared.region.Region.{Region}
 use Rattle.sr_region.specs.Regions.{joined}
 use Rattle.sr_store.specs.declared.store.Arrival.{Arrival}
-use Rattle.sr_store.specs.Classes.{Stamps, occurs, IsStamped, is_before, is_same, restamped}
+use Rattle.sr_store.specs.Classes.{Held, Stamps, occurs, IsStamped, is_before, is_same, ascends, Keeps, restamped}
 use Rattle.sr_store.specs.Told.{Told, IsTold, AreTrueOf}
 use Rattle.sr_store.specs.Stores.{IsOfSchema}
+use Rattle.sr_store.specs.Answered.{arrives, IsArrival, AreApart, HaveArrived, is_used}
 
 -- the rects of the parts that touch a region of this table with these columns
 abbrev pub touching : List Part → ℕ → ℕ → List Rect
@@ -65,3 +67,30 @@ pub record IsArrived (schema : List Table) (number : ℕ) (r : Arrival) (g : Reg
 -- the regions of an answer, before any is dropped
 abbrev pub renewed : List Region → List Region → List Region
 renewed pieces arrived = with_regions (with_regions [] pieces) arrived
+
+-- what there is before the pieces and the regions of what arrived are put together
+pub record AreReady (schema : List Table) (number : ℕ) (parts : List Part) (arrivals : List Arrival) (old pieces arrived : List Region) : Type 0 where
+  pub tables : list_all is_table schema ≡ true
+  pub restamped : IsRestamped schema number parts old pieces
+  pub are_arrivals : All (IsArrival schema parts) arrivals
+  pub apart : AreApart schema old arrivals
+  pub are_arrived : AllZip (IsArrived schema number) arrivals arrived
+  pub told : Told
+  pub is_told : IsTold schema told
+  pub old_true : AreTrueOf told old
+  pub rows : HaveArrived told arrivals
+
+abbrev pub IsArrivalCutFrom : List Table → (ℕ → List Rect) → Arrival → Type 0
+IsArrivalCutFrom schema given r = AreCutFrom (table_at schema r.table).columns (given r.table) r.rects
+
+-- the regions of an answer: what arrived is held, and the touched points have the new stamp
+pub record IsRenewal (schema : List Table) (number : ℕ) (parts : List Part) (arrivals : List Arrival) (old all : List Region) : Type 0 where
+  pub each : All (IsOfSchema schema) all
+  pub order : ascends all ≡ true
+  pub once : (t a : ℕ) (p : Row) → IsTrue (is_point (table_at schema t).columns p) → occurs all t a p ≤ 1
+  pub keeps : (held : Held) (stamps : Stamps) → Keeps schema held stamps old
+      → Keeps schema (λ t a p. held t a p || arrives arrivals t a p) (restamped number parts stamps) all
+  pub are_true : (told : Told) → IsTold schema told → AreTrueOf told old → HaveArrived told arrivals → AreTrueOf told all
+  pub cuts : (given : ℕ → List Rect) → All (IsCutFrom schema given) old → All (IsPartCutFrom schema given) parts → All (IsArrivalCutFrom schema given) arrivals
+      → All (IsCutFrom schema given) all
+  pub used : list_all (λ g. is_used old arrivals g.table g.attrs) all ≡ true

@@ -16,6 +16,8 @@ pub mod FactLemmas
 pub mod NowLemmas
 pub mod SendLemmas
 pub mod CameLemmas
+pub mod ReplyLemmas
+pub mod FinishLemmas
 pub mod SettleLemmas
 pub mod StatementLemmas
 pub mod RunLemmas

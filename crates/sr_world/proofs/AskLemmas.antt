@@ -93,24 +93,24 @@ asks-rest schema regions part attrs rest t marks stamps (m ∷ []) keeps zip sou
 
 -- ---- some parts and others
 
-asks-join : (schema : List Table) (marks : List Mark) (xs ys : List model.Part) (as bs : List AskPart) → Asks schema marks xs as → Asks schema marks ys bs → Asks schema marks (xs ++ ys) (as ++ bs)
-asks-join schema marks xs ys as bs nothing b = b
-asks-join schema marks xs ys as bs (covered part parts more none a) b = covered part (parts ++ ys) (more ++ bs) none (asks-join schema marks parts ys more bs a b)
-asks-join schema marks xs ys as bs (asked part parts ask more rest a) b = asked part (parts ++ ys) ask (more ++ bs) rest (asks-join schema marks parts ys more bs a b)
+asks-join : (schema : List Table) (marks : List Mark) (xs ys : List model.Part) (own bs : List AskPart) → Asks schema marks xs own → Asks schema marks ys bs → Asks schema marks (xs ++ ys) (own ++ bs)
+asks-join schema marks xs ys own bs nothing b = b
+asks-join schema marks xs ys own bs (covered part parts more none a) b = covered part (parts ++ ys) (more ++ bs) none (asks-join schema marks parts ys more bs a b)
+asks-join schema marks xs ys own bs (asked part parts ask more rest a) b = asked part (parts ++ ys) ask (more ++ bs) rest (asks-join schema marks parts ys more bs a b)
 
 record IsSplit (schema : List Table) (xs ys : List Part) (meant : List model.Part) : Type 0 where
   pub front : List model.Part
   pub back : List model.Part
   pub is : meant ≡ front ++ back
-  pub own : AllZip (IsPart schema) xs front
+  pub same : AllZip (IsPart schema) xs front
   pub more : AllZip (IsPart schema) ys back
 
 split : (schema : List Table) (xs ys : List Part) (meant : List model.Part) → AllZip (IsPart schema) (xs ++ ys) meant → IsSplit schema xs ys meant
-split schema [] ys meant zip = record { front = []; back = meant; is = refl; own = tt; more = zip }
+split schema [] ys meant zip = record { front = []; back = meant; is = refl; same = tt; more = zip }
 split schema (x ∷ xs) ys [] zip = absurd zip
 split schema (x ∷ xs) ys (m ∷ meant) zip =
     let s = split schema xs ys meant zip.1 in
-    record { front = m ∷ s.front; back = s.back; is = ap (λ ms. m ∷ ms) s.is; own = (zip.0, s.own); more = s.more }
+    record { front = m ∷ s.front; back = s.back; is = ap (λ ms. m ∷ ms) s.is; same = (zip.0, s.same); more = s.more }
 
 sound-front : (schema : List Table) (xs ys : List model.Part) → list_all (is_sound_part schema) (xs ++ ys) ≡ true → list_all (is_sound_part schema) xs ≡ true
 sound-front schema [] ys h = refl
@@ -120,13 +120,13 @@ sound-back : (schema : List Table) (xs ys : List model.Part) → list_all (is_so
 sound-back schema [] ys h = h
 sound-back schema (x ∷ xs) ys h = sound-back schema xs ys (grind arith)
 
-pub asks-append : (schema : List Table) (regions : List Region) (xs ys : List Part) (as bs : List AskPart) → AsksRest schema regions xs as → AsksRest schema regions ys bs
-    → AsksRest schema regions (xs ++ ys) (as ++ bs)
-asks-append schema regions xs ys as bs a b marks stamps meant keeps zip sound =
+pub asks-append : (schema : List Table) (regions : List Region) (xs ys : List Part) (own bs : List AskPart) → AsksRest schema regions xs own → AsksRest schema regions ys bs
+    → AsksRest schema regions (xs ++ ys) (own ++ bs)
+asks-append schema regions xs ys own bs a b marks stamps meant keeps zip sound =
     let s = split schema xs ys meant zip in
     let all : list_all (is_sound_part schema) (s.front ++ s.back) ≡ true = subst (λ ms. list_all (is_sound_part schema) ms ≡ true) s.is sound in
-    subst (λ ms. Asks schema marks ms (as ++ bs)) (sym s.is)
-    (asks-join schema marks s.front s.back as bs (a marks stamps s.front keeps s.own (sound-front schema s.front s.back all)) (b marks stamps s.back keeps s.more (sound-back schema s.front s.back all)))
+    subst (λ ms. Asks schema marks ms (own ++ bs)) (sym s.is)
+    (asks-join schema marks s.front s.back own bs (a marks stamps s.front keeps s.same (sound-front schema s.front s.back all)) (b marks stamps s.back keeps s.more (sound-back schema s.front s.back all)))
 
 pub asks-nothing : (schema : List Table) (regions : List Region) → AsksRest schema regions [] []
 asks-nothing schema regions marks stamps [] keeps zip sound = nothing

@@ -1,4 +1,5 @@
 -- What the client's store and its answer are, as calls give them.
+use Rattle.std.proofs.Common.{subst}
 use Rattle.std.specs.Prelude.{ℕ, ◌≡◌, ◌||◌, List, map, filter}
 use Rattle.sr_cell.specs.declared.table.Table.{Table}
 use Rattle.sr_cell.specs.Cells.{Row}
@@ -26,3 +27,16 @@ pub record IsAfter (schema : List Table) (number : ℕ) (parts : List Part) (arr
   pub renewed : IsRenewed schema number parts arrivals old new marks
   pub store : IsStore schema new
   pub true_still : (told : Told) → IsTold schema told → AreTrueOf told old → HaveArrived told arrivals → AreTrueOf told new
+
+-- the same, of the schema, parts and arrivals as calls read them
+pub after-of : (schema read : List Table) (number : ℕ) (parts listed : List Part) (arrivals came : List Arrival) (old new : List Region) (marks : List Mark) → read ≡ schema → listed ≡ parts → came ≡ arrivals
+    → IsRenewed read number listed came old new marks → IsStore read new
+    → ((told : Told) → IsTold read told → AreTrueOf told old → HaveArrived told came → AreTrueOf told new) → IsAfter schema number parts arrivals old new marks
+after-of schema read number parts listed arrivals came old new marks same all these renewed store still =
+    subst (λ rs. IsAfter schema number parts rs old new marks) these
+    (subst (λ ps. IsAfter schema number ps came old new marks) all
+    (subst (λ s. IsAfter s number listed came old new marks) same (record { renewed = renewed; store = store; true_still = still })))
+
+pub answers-of : (query : Query) (regions read : List Region) (arrivals listed : List Arrival) (rows : List Row) → read ≡ regions → listed ≡ arrivals → Answers query read listed rows → Answers query regions arrivals rows
+answers-of query regions read arrivals listed rows same all gives =
+    subst (λ rs. Answers query regions rs rows) all (subst (λ gs. Answers query gs listed rows) same gives)

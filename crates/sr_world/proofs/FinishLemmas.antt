@@ -19,6 +19,7 @@ use Rattle.sr_query.specs.declared.query.Part.{Part}
 use Rattle.sr_query.specs.declared.query.Query.{Query}
 use Rattle.sr_language.proofs.Constrained.{rects_constrain_needed}
 use Rattle.sr_history.specs.declared.mark.Mark.{Mark}
+use Rattle.sr_region.specs.declared.region.Region.{Region}
 use Rattle.sr_store.specs.declared.store.Store.{Store}
 use Rattle.sr_store.specs.declared.store.Arrival.{Arrival}
 use Rattle.sr_store.specs.Told.{Told, IsTold, AreTrueOf}
@@ -60,25 +61,21 @@ some-part schema q m is = let one = one-query schema q m is in subst (λ parts. 
 -- ---- what is asked of the store
 
 -- of arrivals
-pub record Allows (w : World) (parts : List Part) (arrivals : List Arrival) : Type 0 where
-  pub tables : IsTrue (list_all is_table w.server.tables.schema)
-  pub store : IsStore w.server.tables.schema w.client.store.regions
-  pub each : All (IsArrival w.server.tables.schema parts) arrivals
-  pub apart : AreApart w.server.tables.schema w.client.store.regions arrivals
-  pub told : (told : Told) × IsTold w.server.tables.schema told × AreTrueOf told w.client.store.regions × HaveArrived told arrivals
+pub record Allows (schema : List Table) (regions : List Region) (parts : List Part) (arrivals : List Arrival) : Type 0 where
+  pub each : All (IsArrival schema parts) arrivals
+  pub apart : AreApart schema regions arrivals
+  pub told : (told : Told) × IsTold schema told × AreTrueOf told regions × HaveArrived told arrivals
 
--- nothing arrives
-pub allows-none : (w : World) (parts : List Part) → Stands w → Allows w parts []
-allows-none w parts stands =
-    let r = stands.1 in
-    let f = r.facts in
-    record {
-      tables = f.server.tables;
-      store = f.client.store;
-      each = All-nil (IsArrival w.server.tables.schema parts);
-      apart = λ t a p point. f.client.store.once t a p point;
-      told = (told_of w.server.tables.rows, told-now w r.past f.server, true-now w r.past f, All-nil _);
-    }
+-- the same, of the schema, parts and arrivals as calls read them
+pub allows-of : (schema read : List Table) (regions : List Region) (parts listed : List Part) (arrivals came : List Arrival) → read ≡ schema → listed ≡ parts → came ≡ arrivals
+    → Allows schema regions parts arrivals → Allows read regions listed came
+allows-of schema read regions parts listed arrivals came same all these a =
+    subst (Allows read regions listed) (sym these) (subst (λ ps. Allows read regions ps arrivals) (sym all) (subst (λ s. Allows s regions parts arrivals) (sym same) a))
+
+pub arrivals-read : (schema read : List Table) (parts listed : List AskPart) (laid got : List Message) (arrivals : List Arrival) → read ≡ schema → listed ≡ parts → got ≡ laid
+    → arrivals ≡ arrivals_of read listed (arrived got) → arrivals ≡ arrivals_of schema parts (arrived laid)
+arrivals-read schema read parts listed laid got arrivals same all these is =
+    is ∙ (ap (λ s. arrivals_of s listed (arrived got)) same ∙ (ap (λ ps. arrivals_of schema ps (arrived got)) all ∙ ap (λ ms. arrivals_of schema parts (arrived ms)) these))
 
 -- ---- where a reply is taken
 
@@ -88,7 +85,9 @@ pub record Needs (w : World) (out : code.AskOut) : Type 0 where
   pub some : 0 < length out.query.parts
   pub fit : All (Fit w.server.tables.schema) out.query.parts
   pub only : All Only out.query.parts
-  pub allows : Allows w out.query.parts (arrivals_of w.server.tables.schema out.parts (arrived w.client.laid))
+  pub is_tables : IsTrue (list_all is_table w.server.tables.schema)
+  pub store : IsStore w.server.tables.schema w.client.store.regions
+  pub allows : Allows w.server.tables.schema w.client.store.regions out.query.parts (arrivals_of w.server.tables.schema out.parts (arrived w.client.laid))
 
 same-out : (a b : code.AskOut) → Some a ≡ Some b → a ≡ b
 same-out a b h = cc
@@ -111,9 +110,9 @@ needs-of w out number version queue stands first out_was =
       some = some-part s c.out.query past.meaning c.is_out.meant;
       fit = parts-fit s c.out.query past.meaning c.is_out.meant;
       only = parts-only s c.out.query past.meaning c.is_out.meant;
+      is_tables = f.server.tables;
+      store = f.client.store;
       allows = record {
-        tables = f.server.tables;
-        store = f.client.store;
         each = fit.each;
         apart = fit.apart;
         told = (told_of w.server.tables.rows, told-now w past f.server, true-now w past f, fit.brought);
@@ -129,7 +128,9 @@ finish-needs before w out version t =
       some = n.some;
       fit = n.fit;
       only = n.only;
-      allows = record { tables = n.allows.tables; store = n.allows.store; each = n.allows.each; apart = n.allows.apart; told = n.allows.told };
+      is_tables = n.is_tables;
+      store = n.store;
+      allows = n.allows;
     })
 
 -- the ask that was out is the one that the reply answers
@@ -148,9 +149,9 @@ replies w past out number version arrivals store marks rows to_client f out_was 
     let one : arrivals ≡ the_arrival w past c.out b ∷ [] = arrivals_are ∙ came in
     let first_is : w.to_client.items ≡ Reply c.out.number w.server.version ∷ to_client.items =
     first ∙ (ap (λ k. Reply k version ∷ to_client.items) last.number_is ∙ ap (λ v. Reply c.out.number v ∷ to_client.items) last.newest) in
-    let gives_one : Answers out.query w.client.store.regions (the_arrival w past c.out b ∷ []) rows = subst (λ as. Answers out.query w.client.store.regions as rows) one gives in
+    let gives_one : Answers out.query w.client.store.regions (the_arrival w past c.out b ∷ []) rows = subst (λ rs. Answers out.query w.client.store.regions rs rows) one gives in
     let after_one : IsAfter s out.query_number out.query.parts (the_arrival w past c.out b ∷ []) w.client.store.regions store.regions marks =
-    subst (λ as. IsAfter s out.query_number out.query.parts as w.client.store.regions store.regions marks) one after in
+    subst (λ rs. IsAfter s out.query_number out.query.parts rs w.client.store.regions store.regions marks) one after in
     let gives_c : Answers c.out.query w.client.store.regions (the_arrival w past c.out b ∷ []) rows = subst (λ (o : code.AskOut). Answers o.query w.client.store.regions (the_arrival w past c.out b ∷ []) rows) (sym same) gives_one in
     let after_c : IsAfter s c.out.query_number c.out.query.parts (the_arrival w past c.out b ∷ []) w.client.store.regions store.regions marks =
     subst (λ (o : code.AskOut). IsAfter s o.query_number o.query.parts (the_arrival w past c.out b ∷ []) w.client.store.regions store.regions marks) (sym same) after_one in
@@ -159,26 +160,31 @@ replies w past out number version arrivals store marks rows to_client f out_was 
     subst (λ o. Goal o version) same (subst (λ v. Goal c.out v) (sym last.newest) core)
 
 -- the world once the reply is taken
-abbrev pub finished : World → ℕ → Store → World
-finished w version store = record w { client = record w.client { version = version; laid = []; store = store } }
+abbrev pub finished : World → ℕ → List Message → Store → World
+finished w version laid store = record w { client = record w.client { version = version; laid = laid; store = store } }
 
 -- what the client makes of the reply
-abbrev Finishes : World → code.AskOut → ℕ → World → Type 0
-Finishes before out version w = (arrivals : List Arrival) (store : Store) (marks : List Mark) (rows : List Row) (lines : List TraceLine)
-    → arrivals ≡ arrivals_of w.server.tables.schema out.parts (arrived w.client.laid) → Answers out.query w.client.store.regions arrivals rows
+abbrev pub Finishes : World → code.AskOut → ℕ → World → Type 0
+Finishes before out version w = (arrivals : List Arrival) (laid : List Message) (store : Store) (marks : List Mark) (rows : List Row) (lines : List TraceLine)
+    → arrivals ≡ arrivals_of w.server.tables.schema out.parts (arrived w.client.laid) → laid ≡ [] → Answers out.query w.client.store.regions arrivals rows
     → IsAfter w.server.tables.schema out.query_number out.query.parts arrivals w.client.store.regions store.regions marks
-    → lines ≡ lines_of_reply out version marks rows → DoesDelivery before (finished w version store) lines
+    → lines ≡ lines_of_reply out version marks rows → DoesDelivery before (finished w version laid store) lines
 
 pub does-finish : (before w : World) (out : code.AskOut) (version : ℕ) → Finishing before w out version → Finishes before out version w
 does-finish before w out version t = subst (Finishes before out version) (sym t.same) here
   where
     here : Finishes before out version (record before { client = record before.client { out = None }; to_client = w.to_client })
-    here arrivals store marks rows lines arrivals_are gives after lines_are =
-        subst (DoesDelivery before (with_reply before version store w.to_client)) (sym lines_are)
-        (does (λ s. Delivers s 1) before (with_reply before version store w.to_client) (lines_of_reply out version marks rows)
-        (λ past f. replies before past out t.number version arrivals store marks rows w.to_client f t.out_was t.first arrivals_are gives after))
+    here arrivals laid store marks rows lines arrivals_are none gives after lines_are =
+        let taken : DoesDelivery before (with_reply before version store w.to_client) (lines_of_reply out version marks rows) =
+        does (λ s. Delivers s 1) before (with_reply before version store w.to_client) (lines_of_reply out version marks rows)
+            (λ past f. replies before past out t.number version arrivals store marks rows w.to_client f t.out_was t.first arrivals_are gives after) in
+        let without : List Message → World = λ ms. record before { client = record before.client { version = version; out = None; laid = ms; store = store }; to_client = w.to_client } in
+        subst (λ ms. DoesDelivery before (without ms) lines) (sym none) (subst (DoesDelivery before (with_reply before version store w.to_client)) (sym lines_are) taken)
 
 -- ---- the ask is taken out
+
+abbrev without_ask : World → World
+without_ask v = record v { client = record v.client { out = None } }
 
 pub finishing : (before w : World) (out : code.AskOut) (version : ℕ) → Taking before w version → w.client.out ≡ Some out
     → Finishing before (record w { client = record w.client { out = None } }) out version
@@ -186,13 +192,13 @@ finishing before w out version t out_is = record {
   stands = t.stands;
   number = t.number;
   first = t.first;
-  out_was = ap (λ v. v.client.out) (sym t.same) ∙ out_is;
-  same = ap (λ v. record v { client = record v.client { out = None } }) t.same;
+  out_was = ap (λ (v : World). v.client.out) (sym t.same) ∙ out_is;
+  same = ap without_ask t.same;
 }
 
 pub is-out : (before w : World) (version : ℕ) → Taking before w version → w.client.out ≡ None → ⊥
 is-out before w version t none =
     let last = is-last before t.stands.1.past t.number version w.to_client.items t.stands.1.facts t.first in
-    let was : before.client.out ≡ None = ap (λ v. v.client.out) (sym t.same) ∙ none in
+    let was : before.client.out ≡ None = ap (λ (v : World). v.client.out) (sym t.same) ∙ none in
     let wrong : None ≡ Some last.coming.out = sym was ∙ last.coming.is in
     cc

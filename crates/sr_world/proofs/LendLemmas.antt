@@ -37,7 +37,7 @@ more-outputs a need (o ∷ outputs) inc has = let ih = more-outputs a need outpu
     go false h ih = ih
 
 -- what lending rows of these columns does
-pub Lends : Query → ℕ → List Row → (Row → Bool) → (Row → Bool) → List Row → List Row → List Row → Type 0
+abbrev pub Lends : Query → ℕ → List Row → (Row → Bool) → (Row → Bool) → List Row → List Row → List Row → Type 0
 Lends query attrs all f g shown old new =
     ascend (key_of query) all ≡ true → has_column attrs (key_of query) ≡ true → has_outputs attrs query.output ≡ true
     → IsFound (key_of query) query.output all f old → shown ≡ map (project attrs) (filter g all) → IsFound (key_of query) query.output all (λ p. f p || g p) new

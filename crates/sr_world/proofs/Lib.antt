@@ -6,6 +6,7 @@ pub mod Arrivals
 pub mod StepLemmas
 pub mod ServeLemmas
 pub mod TakeLemmas
+pub mod Items
 pub mod ToldLemmas
 pub mod Covers
 pub mod AskLemmas

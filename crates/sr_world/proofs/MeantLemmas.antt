@@ -25,7 +25,8 @@ use Rattle.sr_language.specs.Sound.{is_sound, is_sound_part, is_needed, needs_co
 use Rattle.sr_language.proofs.Constrained.{rects_constrain_needed}
 use Rattle.sr_join.specs.Found.{cells_of, has_outputs}
 use Rattle.sr_join.proofs.OnePart.{one-part}
-use Rattle.sr_world.specs.Asking.{AreMeant}
+use Rattle.sr_world.specs.Asking.{AreMeant, AsksRest}
+use Rattle.sr_region.specs.declared.region.Region.{Region}
 use Rattle.sr_world.specs.Answering.{IsOnePart}
 use Rattle.sr_world.specs.Bound.{IsMeaning}
 
@@ -103,6 +104,9 @@ one-query schema q m is = by q.parts refl m.parts refl is.query.parts (left-of (
 pub are-meant : (schema : List Table) (q : Query) (m : model.Query) → IsMeaning schema q m → AreMeant schema q.parts
 are-meant schema q m is = (m.parts, is.query.parts, left-of (list_all (is_sound_part schema) m.parts) _ is.sound)
 
+pub are-sound : (schema : List Table) (q : Query) (m : model.Query) → IsMeaning schema q m → list_all (is_sound_part schema) m.parts ≡ true
+are-sound schema q m is = left-of (list_all (is_sound_part schema) m.parts) _ is.sound
+
 -- ---- the part
 
 pub part-table : (schema : List Table) (part : Part) (m : model.Part) → IsPart schema part m → is_sound_part schema m ≡ true → part.table < length schema
@@ -169,4 +173,10 @@ one-ask schema marks parts asks meant (covered part others more free rest) e som
 one-ask schema marks parts asks meant (asked part others ask more is rest) e some =
     let left : others ≡ [] = cc in
     let same : part ≡ meant = cc in
-    record { ask = ask; one = ap (λ as. ask ∷ as) (asks-none schema marks others more rest left); rest = subst (λ m. IsRest schema marks m ask) same is }
+    record { ask = ask; one = ap (λ rest. ask ∷ rest) (asks-none schema marks others more rest left); rest = subst (λ m. IsRest schema marks m ask) same is }
+
+-- what is asked, of the schema and the parts as calls read them
+pub asks-of : (schema read : List Table) (regions : List Region) (parts listed : List Part) (asks : List AskPart) → read ≡ schema → listed ≡ parts → AsksRest read regions listed asks
+    → AsksRest schema regions parts asks
+asks-of schema read regions parts listed asks same all rest =
+    subst (λ ps. AsksRest schema regions ps asks) all (subst (λ s. AsksRest s regions listed asks) same rest)

@@ -1,5 +1,5 @@
 -- A query of which nothing is left to ask is answered at once, as the scene says.
-use Rattle.std.proofs.Common.{◌≡◌, ℕ, ◌+◌, Bool, true, false, List, [], ◌∷◌, ◌++◌, map, length, refl, sym, ◌∙◌, ap, subst, arith, inl, inr, Some, None, Ok, length-append}
+use Rattle.std.proofs.Common.{◌≡◌, ℕ, ◌+◌, Bool, true, false, List, [], ◌∷◌, ◌++◌, map, length, refl, sym, ◌∙◌, ap, subst, arith, inl, inr, Some, None, Ok, length-append, append_assoc}
 use Rattle.std.specs.Prelude.{IsTrue, not, ◌&&◌, ◌||◌, ◌⊎◌, filter}
 use Rattle.std.specs.List.{list_all, list_any, All}
 use Rattle.std.proofs.lemmas.List.Elements.{All-nil}
@@ -44,7 +44,7 @@ use Rattle.sr_world.specs.Bound.{IsMeaning}
 use Rattle.sr_world.specs.Worlds.{DoesEvent}
 use Rattle.sr_world.specs.Represents.{Past, ClientFacts, Facts, Represents, Flow, request_of, scene_of, client_of, told_of}
 use Rattle.sr_world.proofs.Calls.{Answers, IsAfter}
-use Rattle.sr_world.proofs.MeantLemmas.{IsOneQuery, one-query, are-meant, is-one-part, part-points, no-rest}
+use Rattle.sr_world.proofs.MeantLemmas.{IsOneQuery, one-query, are-sound, is-one-part, part-points, no-rest}
 use Rattle.sr_world.proofs.StepLemmas.{does}
 use Rattle.sr_world.proofs.FactLemmas.{have-first, points-now, ascend-now, told-now, version-now, true-now, server-still}
 
@@ -126,6 +126,10 @@ abbrev pub lines_now : World → List Mark → List Row → List TraceLine
 lines_now w marks rows =
     (line.Answer 1 (w.client.queries + 1) w.client.version (length rows) ∷ map line.Row rows) ++ (map (mark_line 1) marks ++ line.QueryAnswered 1 (w.client.queries + 1) ∷ [])
 
+-- lines that were put together one list after another
+pub lines-joined : (made front marks last : List TraceLine) → made ≡ ((front ++ marks) ++ last) → made ≡ front ++ (marks ++ last)
+lines-joined made front marks last is = is ∙ append_assoc front marks last
+
 -- what is known of the new regions
 record IsNow (w : World) (past : Past) (regions : List Region) : Type 0 where
   pub are_true : AreTrueOf (told_of (version_at past.versions w.client.version)) regions
@@ -155,8 +159,7 @@ answers-now w past q m store marks rows f none is nothing gives a =
     let after : List Numbered = past.queries ++ record { query = m; answered = true } ∷ [] in
     let new : Past = record past { marks = with_marks past.marks marks; queries = after } in
     let changed : World = with_now w store in
-    let meant = are-meant s q m is in
-    let asks : Asks s past.marks m.parts [] = nothing past.marks (stamp past.queries) m.parts f.client.keeps is.query.parts meant.2 in
+    let asks : Asks s past.marks m.parts [] = nothing past.marks (stamp past.queries) m.parts f.client.keeps is.query.parts (are-sound s q m is) in
     let free = no-rest s past.marks m.parts [] one.meant asks one.meant_parts refl in
     let number : n ≡ length past.queries + 1 = ap (λ k. k + 1) (sym f.client.queries) in
     let ren = renewal s n q.parts [] w.client.store.regions store.regions marks past.marks past.queries after (have-first s f.server.tables) a.renewed f.client.keeps

@@ -181,7 +181,7 @@ stamps-are w past o a is_out t u p point =
     ∙ (stamp-answered w.server.tables.schema a.earlier past.meaning o.query_number o.query.parts t u p is_out.meant.query.parts a.number point
     ∙ ap (λ qs. stamp qs t u p) (sym a.after))
 
-replied : (w : World) (past : Past) (c : IsComing w past) (b : IsBrought w past c.out) (store : Store) (marks : List Mark) (rows : List Row) (to_client : VecDeque Message Global) → Facts w past
+pub replied : (w : World) (past : Past) (c : IsComing w past) (b : IsBrought w past c.out) (store : Store) (marks : List Mark) (rows : List Row) (to_client : VecDeque Message Global) → Facts w past
     → w.to_client.items ≡ Reply c.out.number w.server.version ∷ to_client.items → to_client.items ≡ [] → Answers c.out.query w.client.store.regions (the_arrival w past c.out b ∷ []) rows
     → IsAfter w.server.tables.schema c.out.query_number c.out.query.parts (the_arrival w past c.out b ∷ []) w.client.store.regions store.regions marks
     → (next : Scene) × Delivers (scene_of w past) 1 (lines_of_reply c.out w.server.version marks rows) next × Represents (with_reply w w.server.version store to_client) next

@@ -33,7 +33,7 @@ use Rattle.sr_world.specs.Bound.{IsMeaning}
 use Rattle.sr_world.specs.Client.{is_empty}
 use Rattle.sr_world.specs.Worlds.{DoesEvent}
 use Rattle.sr_world.specs.Represents.{Past, ClientFacts, Facts, Represents, IsOut, IsAsked, Flow, request_of, scene_of, client_of, told_of}
-use Rattle.sr_world.proofs.MeantLemmas.{are-meant}
+use Rattle.sr_world.proofs.MeantLemmas.{are-sound}
 use Rattle.sr_world.proofs.StepLemmas.{does}
 use Rattle.sr_world.proofs.FactLemmas.{have-first, server-still}
 
@@ -87,8 +87,7 @@ asked w past q m asks queue f none is rest some queued =
     let new : Past = record past { queries = after; meaning = m } in
     let changed : World = with_out w out queue in
     let still : Flow w past None = subst (Flow w past) none f.flow in
-    let meant = are-meant s q m is in
-    let are : Asks s past.marks m.parts asks = rest past.marks (stamp past.queries) m.parts f.client.keeps is.query.parts meant.2 in
+    let are : Asks s past.marks m.parts asks = rest past.marks (stamp past.queries) m.parts f.client.keeps is.query.parts (are-sound s q m is) in
     let sent : queue.items ≡ Ask k fresh asks ∷ [] = queued ∙ ap (λ ms. ms ++ Ask k fresh asks ∷ []) still.0 in
     let told : (fresh ≡ true) ⊎ (past.session.upto ≡ w.server.version) = elim f.client.recent [ inl empty ↦ inl (empty-is regions empty) | inr recent ↦ inr recent.1 ] in
     let is_asked : IsAsked changed new out = record { to_server = sent; to_client = still.1; laid = still.2; told = told } in

@@ -1,5 +1,5 @@
 -- Rows of some columns of a table, in rects and by key.
-use Rattle.std.proofs.Common.{◌≡◌, ℕ, ◌<◌, true, false, cond, List, [], ◌∷◌, min, length, refl, sym, ap, subst, ◌∙◌, arith, zero, suc}
+use Rattle.std.proofs.Common.{◌≡◌, ℕ, ◌+◌, ◌<◌, true, false, cond, List, [], ◌∷◌, min, length, refl, sym, ap, subst, ◌∙◌, arith, zero, suc}
 use Rattle.std.specs.Prelude.{Bool, ◌&&◌, ◌==◌, bit_and, filter, map, nat_lt}
 use Rattle.std.specs.List.{list_all, All}
 use Rattle.std.specs.Int.{bit_at}

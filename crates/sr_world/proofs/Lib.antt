@@ -4,6 +4,7 @@ pub mod PieceLemmas
 pub mod RowMessages
 pub mod Arrivals
 pub mod StepLemmas
+pub mod OneAsk
 pub mod ServeLemmas
 pub mod TakeLemmas
 pub mod Items

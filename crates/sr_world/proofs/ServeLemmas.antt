@@ -1,5 +1,5 @@
 -- The server takes an ask, as the scene says.
-use Rattle.std.proofs.Common.{◌≡◌, ℕ, ◌-◌, Bool, true, false, List, [], ◌∷◌, ◌++◌, length, refl, sym, ◌∙◌, ap, subst, arith, inl, inr, Option, Some, None}
+use Rattle.std.proofs.Common.{◌≡◌, ℕ, ◌-◌, ◌≤◌, Bool, true, false, List, [], ◌∷◌, ◌++◌, length, refl, sym, ◌∙◌, ap, subst, arith, inl, inr, Option, Some, None}
 use Rattle.std.specs.Prelude.{◌⊎◌}
 use Rattle.std.specs.declared.collections.VecDeque.{VecDeque}
 use Rattle.std.specs.declared.alloc.Global.{Global}
@@ -19,8 +19,9 @@ use Rattle.sr_scene.specs.Steps.{ServerTakes}
 use Rattle.sr_scene.specs.Runs.{Delivers, next_delivery}
 use Rattle.sr_world.specs.declared.world.World.{World}
 use Rattle.sr_world.specs.declared.client.AskOut as code
-use Rattle.sr_world.specs.Worlds.{DoesDelivery}
+use Rattle.sr_world.specs.Worlds.{Stands, DoesDelivery}
 use Rattle.sr_world.specs.Represents.{Past, ServerFacts, ClientFacts, Facts, Represents, IsAsked, IsReplied, IsOut, Flow, scene_of, client_of}
+use Rattle.sr_world.proofs.OneAsk.{asks-one}
 use Rattle.sr_world.proofs.StepLemmas.{newest-is, does}
 
 -- what was asked, where an ask is on its way to the server
@@ -47,6 +48,13 @@ on-its-way w past number fresh parts queue f sent = by w.client.out refl f.flow
     by None is flow = absurd (let k : Ask number fresh parts ∷ queue ≡ [] = sym sent ∙ flow.0 in cc)
     by (Some o) is (is_out, inl is_asked) = asked o is is_out is_asked
     by (Some o) is (is_out, inr is_replied) = absurd (let k : Ask number fresh parts ∷ queue ≡ [] = sym sent ∙ is_replied.to_server in cc)
+
+-- one part at most is asked
+pub ask-few : (w : World) (number : ℕ) (fresh : Bool) (parts : List AskPart) (queue : List Message) → Stands w → w.to_server.items ≡ Ask number fresh parts ∷ queue → length parts ≤ 4
+ask-few w number fresh parts queue (s, r) sent =
+    let way = on-its-way w r.past number fresh parts queue r.facts sent in
+    let few = asks-one w.server.tables.schema r.past.marks r.past.meaning way.out.parts way.is_out.meant.may way.is_out.asks in
+    omega (arith, few, ap length way.same_parts)
 
 -- nothing is due to a session that has heard of the newest version
 nothing-due : (schema : List Table) (versions : List Tables) (session : Session) (newest : ℕ) → newest_of versions ≡ newest → session.upto ≡ newest → due schema versions session ≡ []

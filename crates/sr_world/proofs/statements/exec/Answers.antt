@@ -10,6 +10,6 @@ returns-in-Err-clause-steps c =
     if_ok _ c.one_line.result _ c.one_line.ensures
     (refuses-exec c.args.world.now c.args.statement c.in-Err.fault c.in-Err.is (still-of c.args.world.now c.requires.stands c.requires.unasked))
 
-pub returns-clause-stands : goal.returns-clause-stands
-returns-clause-stands c =
+pub returns-in-Ok-clause-stands : goal.returns-in-Ok-clause-stands
+returns-in-Ok-clause-stands c =
     stands-after (Exec (Ok (write_of c.in-Ok.write))) c.args.world.now c.exec.new.self c.exec.result (λ lines. lines) c.requires.stands c.exec.ensures.steps

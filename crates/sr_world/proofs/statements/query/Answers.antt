@@ -9,6 +9,6 @@ returns-in-Err-clause-steps c = λ meaning means.
 pub query-requires-clause-asks : goal.query-requires-clause-asks
 query-requires-clause-asks c = asks c.args.world.now.server.tables.schema c.args.query c.in-Ok.query c.in-Ok.is c.requires.means
 
-pub returns-clause-steps : goal.returns-clause-steps
-returns-clause-steps c = λ meaning means.
+pub returns-in-Ok-clause-steps : goal.returns-in-Ok-clause-steps
+returns-in-Ok-clause-steps c = λ meaning means.
     asks-query c.args.world.now.server.tables.schema c.args.query c.args.world.now c.query.new.self c.in-Ok.query meaning c.query.result c.in-Ok.is means c.query.ensures.steps

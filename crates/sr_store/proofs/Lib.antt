@@ -6,3 +6,4 @@ pub mod Tables
 pub mod Sound
 pub mod Arrived
 pub mod Keeping
+pub mod Dropping

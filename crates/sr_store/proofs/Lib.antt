@@ -7,3 +7,4 @@ pub mod Sound
 pub mod Arrived
 pub mod Keeping
 pub mod Dropping
+pub mod Covering

@@ -160,10 +160,11 @@ some_held schema marks stamps g gs first h k =
 pub all_none : (schema : List Table) (marks : List Mark) (stamps : Stamps) (gs : List Region) → ((t : ℕ) → have_first (table_at schema t).columns ≡ true) → All (IsOfSchema schema) gs
     → Keeps schema (is_held marks) stamps gs → (gs ≡ []) ↔ HoldsNothing schema marks
 all_none schema marks stamps [] first each k = ((λ e. none_held schema marks stamps k), λ h. refl)
-all_none schema marks stamps (g ∷ gs) first each k =
-    ((λ e. absurd (cc)),
-     λ h. let s = some_held schema marks stamps g gs (first g.table) (All-head (IsOfSchema schema) g gs each) k in
-     let no : false ≡ true = sym (h g.table g.attrs s.0 s.1) ∙ s.2 in absurd (cc))
+all_none schema marks stamps (g ∷ gs) first each k = (
+  (λ e. absurd (cc)),
+  λ h. let s = some_held schema marks stamps g gs (first g.table) (All-head (IsOfSchema schema) g gs each) k in
+      let no : false ≡ true = sym (h g.table g.attrs s.0 s.1) ∙ s.2 in absurd (cc),
+)
 
 -- ---- the marks of an answer
 

@@ -8,3 +8,6 @@ pub mod Arrived
 pub mod Keeping
 pub mod Dropping
 pub mod Covering
+pub mod Stamping
+pub mod Classing
+pub mod Absorbing

@@ -11,3 +11,4 @@ pub mod Covering
 pub mod Stamping
 pub mod Classing
 pub mod Absorbing
+pub mod Given

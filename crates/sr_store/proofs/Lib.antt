@@ -12,3 +12,5 @@ pub mod Stamping
 pub mod Classing
 pub mod Absorbing
 pub mod Given
+pub mod Counting
+pub mod Heavy

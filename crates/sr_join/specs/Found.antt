@@ -37,7 +37,7 @@ has_outputs attrs outputs = list_all (λ o. not (o.part == 0) || has_column attr
 abbrev pub IsFound : ℕ → List Output → List Row → (Row → Bool) → List Row → Type 0
 IsFound key outputs all test found = found ≡ map (picked key outputs) (filter test all)
 
--- the second rows, without a first one whose first cell is not above that of the first rows
+-- the second rows; without their first, if its first cell is not above that of the first of the first rows
 abbrev pub past : List Row → List Row → List Row
 past [] more = more
 past (r ∷ rows) [] = []

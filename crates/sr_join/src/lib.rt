@@ -5,3 +5,5 @@ pub mod joiner;
 pub mod laws;
 mod merge;
 mod pick;
+#[cfg(test)]
+mod tests;

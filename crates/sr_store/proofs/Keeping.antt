@@ -1,7 +1,7 @@
 -- The regions of an answer: pieces of the old ones and what arrived, put together by class.
-use Rattle.std.proofs.Common.{◌≡◌, ℕ, ◌+◌, ◌≤◌, true, false, List, [], ◌∷◌, ◌++◌, refl, sym, ap, subst, ◌∙◌, arith}
+use Rattle.std.proofs.Common.{◌≡◌, ℕ, ◌+◌, ◌≤◌, true, false, List, [], ◌∷◌, ◌++◌, refl, subst, ◌∙◌, arith}
 use Rattle.std.specs.Prelude.{Bool, not, ◌&&◌, ◌||◌, ◌==◌, nat_eq, if◌then◌else◌}
-use Rattle.std.specs.List.{list_all, list_any, All, AllZip}
+use Rattle.std.specs.List.{list_all, list_any, All}
 use Rattle.std.proofs.lemmas.Bool.Decides.{nat_tests}
 use Rattle.std.proofs.lemmas.List.Folds.{list_all-append}
 use Rattle.std.proofs.lemmas.List.Elements.{All-nil, All-append, All-weaker}
@@ -11,14 +11,13 @@ use Rattle.sr_cell.specs.Columns.{table_at, is_point}
 use Rattle.sr_box.specs.Points.{Rect, in_any}
 use Rattle.sr_union.specs.Grid.{have_first}
 use Rattle.sr_query.specs.declared.query.Part.{Part}
-use Rattle.sr_query.specs.Bound.{is_table}
 use Rattle.sr_region.specs.declared.region.Region.{Region}
 use Rattle.sr_store.specs.declared.store.Arrival.{Arrival}
-use Rattle.sr_store.specs.Classes.{Held, Stamps, is_of, occurs, IsStamped, ascends, Keeps, restamped}
+use Rattle.sr_store.specs.Classes.{Held, Stamps, occurs, IsStamped, Keeps, restamped}
 use Rattle.sr_store.specs.Told.{Told, IsTold, IsTrueOf, AreTrueOf}
 use Rattle.sr_store.specs.Stores.{IsOfSchema}
-use Rattle.sr_store.specs.Answered.{arrives, arrivals_at, IsArrival, AreApart, HaveArrived, is_used}
-use Rattle.sr_store.specs.Renewing.{IsRestamped, IsArrived, IsCutFrom, IsPartCutFrom, IsArrivalCutFrom, with_regions, renewed, AreReady, IsRenewal}
+use Rattle.sr_store.specs.Answered.{arrives, arrivals_at, HaveArrived, is_used}
+use Rattle.sr_store.specs.Renewing.{IsCutFrom, IsPartCutFrom, IsArrivalCutFrom, with_regions, renewed, AreReady, IsRenewal}
 use Rattle.sr_store.proofs.Restamping.{occurs-append}
 use Rattle.sr_store.proofs.Adding.{with_regions-occurs, with_regions_append, with_regions-ascends, with_regions-all, with_regions-used, joined_stamped, joined_cut}
 use Rattle.sr_store.proofs.Tables.{tables_first}

@@ -14,3 +14,7 @@ pub mod Absorbing
 pub mod Given
 pub mod Counting
 pub mod Heavy
+pub mod Making
+pub mod Joining
+pub mod Fits
+pub mod Answering

@@ -1,16 +1,20 @@
 -- Steps on the way to the new regions.
-use Rattle.std.specs.Prelude.{ℕ, Bool, true, false, List, [], ◌∷◌, ◌++◌, ◌≡◌, Option, length, ◌<◌}
+use Rattle.std.specs.Prelude.{ℕ, Bool, true, false, map, List, [], ◌∷◌, ◌++◌, ◌≡◌, Option, length, ◌<◌}
 use Rattle.std.specs.List.{list_all, All, prefix_len}
+use Rattle.sr_cell.specs.declared.cause.Cause.TheVariants.{Absorbed}
 use Rattle.sr_cell.specs.declared.table.Table.{Table}
 use Rattle.sr_cell.specs.Columns.{table_at}
 use Rattle.sr_model.specs.SortedRows.{ascend}
 use Rattle.sr_box.specs.Points.{Rect, rect_fits}
+use Rattle.sr_history.specs.declared.mark.Mark.{Mark}
 use Rattle.sr_query.specs.declared.query.Part.{Part}
 use Rattle.sr_region.specs.declared.region.Region.{Region}
 use Rattle.sr_region.specs.Regions.{rank}
 use Rattle.sr_region.specs.Halves.{IsInside, IsOutside}
 use Rattle.sr_store.specs.declared.store.Arrival.{Arrival}
 use Rattle.sr_store.specs.Classes.{is_before, is_same}
+use Rattle.sr_store.specs.Stores.{drop_of}
+use Rattle.sr_store.specs.Answered.{AreFlags, IsAbsorbedIn, flagged}
 use Rattle.sr_store.specs.Renewing.{pieces_of, IsRestamped}
 
 -- the halves of a region along the rects at the end, the inner one with a new stamp
@@ -47,3 +51,10 @@ pub record CanJoin (regions more : List Region) : Type 0 where
 -- rects of a table of the schema
 abbrev pub FitsSchema : List Table → Arrival → Type 0
 FitsSchema schema r = (r.table < length schema) × (list_all (rect_fits (table_at schema r.table).columns) r.rects ≡ true)
+
+-- the absorbed regions are dropped
+pub record DropsAbsorbed (schema : List Table) (all left : List Region) (marks : List Mark) : Type 0 where
+  pub flags : List Bool
+  pub absorbed : AreFlags (IsAbsorbedIn schema all) flags all
+  pub left_are : left ≡ flagged false flags all
+  pub marks_are : marks ≡ map (drop_of Absorbed) (flagged true flags all)

@@ -88,11 +88,7 @@ pub(crate) struct Sifted {
 }
 
 /// The regions without flag, and those with one.
-pub(crate) fn sift(
-    alloc: Global,
-    regions: Seq<Region>,
-    flags: &[bool],
-) -> Result<Sifted, NoMemory>
+pub(crate) fn sift(alloc: Global, regions: Seq<Region>, flags: &[bool]) -> Result<Sifted, NoMemory>
     requires { length flags.now ≡ length regions }
     ensures kept { IfOk result (λ both. both.kept ≡ flagged false flags.now regions) }
     ensures dropped { IfOk result (λ both. both.dropped ≡ flagged true flags.now regions) }

@@ -3,6 +3,7 @@
 
 mod absorb;
 mod add;
+mod answer;
 mod arrive;
 mod lookup;
 mod marks;

@@ -4,6 +4,7 @@ ghost use Rattle.std.specs.List.{list_all, All};
 ghost use Rattle.sr_cell.specs.Columns.{table_at};
 ghost use Rattle.sr_cell.specs.Attrs.{includes};
 ghost use Rattle.sr_box.specs.Points.{rect_fits, constrains_only};
+ghost use Rattle.sr_union.specs.Grid.{all_inner, have_first};
 ghost use Rattle.sr_query.specs.Bound.{is_table};
 ghost use Rattle.sr_query.specs.declared.query.Part.{Part as ThePart};
 ghost use Rattle.sr_region.specs.Regions.{IsRegion};
@@ -33,12 +34,7 @@ fn is_touching(part: &Part, table: u8, attrs: Attrs) -> bool
 }
 
 /// The rects of the parts that touch regions of that table with these columns.
-fn touching_rects(
-    alloc: Global,
-    parts: &[Part],
-    table: u8,
-    attrs: Attrs,
-) -> Result<Rects, NoMemory>
+fn touching_rects(alloc: Global, parts: &[Part], table: u8, attrs: Attrs) -> Result<Rects, NoMemory>
     ensures { IfOk result (λ rects. rects ≡ touching parts.now table attrs) }
 {
     let mut rects = Rects::new(alloc);
@@ -61,11 +57,7 @@ fn push_half(pieces: &mut Seq<Region>, half: Option<Region>) -> Result<(), NoMem
 }
 
 /// A half at the end with that stamp, where it is there.
-fn push_stamped(
-    pieces: &mut Seq<Region>,
-    half: Option<Region>,
-    number: u64,
-) -> Result<(), NoMemory>
+fn push_stamped(pieces: &mut Seq<Region>, half: Option<Region>, number: u64) -> Result<(), NoMemory>
     ensures { OnOk result (pieces.new ≡ pieces.old ++ map (with_stamp number) (option_to_list half)) }
 {
     match half {
@@ -86,7 +78,8 @@ fn push_split(
     number: u64,
     pieces: &mut Seq<Region>,
 ) -> Result<(), NoMemory>
-    requires table { IsTrue (is_table table.now) }
+    requires inner { all_inner table.now.columns ≡ true }
+    requires first { have_first table.now.columns ≡ true }
     requires region { IsRegion table.now region }
     requires fit { list_all (rect_fits table.now.columns) rects.now ≡ true }
     requires only { list_all (constrains_only region.attrs 0) rects.now ≡ true }

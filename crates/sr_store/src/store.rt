@@ -9,16 +9,19 @@ ghost use Rattle.sr_store.specs.Told.{Told, IsTold, AreTrueOf};
 ghost use Rattle.sr_store.specs.Stores.{IsStore, cover_of, drop_of};
 ghost use Rattle.sr_store.specs.Answered.{IsArrival, AreApart, HaveArrived, IsRenewed};
 
+use crate::answer::answer_of;
+use crate::marks::drop_marks;
 use sr_cell::attrs::Attrs;
 use sr_cell::cause::Cause;
 use sr_cell::cell::Rows;
-use sr_cell::list::{NoMemory, Seq};
+use sr_cell::list::{Copied, NoMemory, Seq};
 use sr_cell::schema::Schema;
 use sr_history::mark::Marks;
 use sr_query::query::Part;
 use sr_region::region::Region;
 use sr_union::rects::Rects;
 use std::alloc::Global;
+use std::mem;
 
 /// What was asked of a table, and the rows that came.
 #[derive(Drop)]
@@ -44,6 +47,18 @@ pub struct Store {
     pub regions: Seq<Region>,
 }
 
+fn cover_in(alloc: Global, regions: &[Region], part: &Part) -> Result<Rects, NoMemory>
+    ensures { IfOk result (λ cover. cover ≡ cover_of part.now regions.now) }
+{
+    let mut cover = Rects::new(alloc);
+    for region in regions {
+        if region.serves(part.table, part.need) {
+            cover.append(region.rects.copy(alloc)?)?;
+        }
+    }
+    Ok(cover)
+}
+
 impl Store {
     /// A store that holds nothing; takes no memory.
     pub fn new(alloc: Global) -> Store
@@ -58,9 +73,8 @@ impl Store {
     pub fn cover(&self, alloc: Global, part: &Part) -> Result<Rects, NoMemory>
         ensures { IfOk result (λ cover. cover ≡ cover_of part.now self.now.regions) }
     {
-        Err(NoMemory)
+        cover_in(alloc, self.regions.as_slice(), part)
     }
-
     /// What an answer does: what arrived is held, the points that the query touches have its number as their stamp, and the
     /// regions whose points are all held under more columns are dropped. After want of memory it holds nothing.
     pub fn answered(
@@ -83,8 +97,14 @@ impl Store {
         ensures true_still { (told : Told) → IsTold schema.now told → AreTrueOf told self.old.regions → HaveArrived told arrivals → AreTrueOf told self.new.regions }
         ensures nothing_left { OnErr result (self.new.regions ≡ []) }
     {
-        self.regions = Seq::new(alloc);
-        Err(NoMemory)
+        let old = mem::replace(&mut self.regions, Seq::new(alloc));
+        match answer_of(alloc, schema, number, parts, arrivals, old) {
+            Ok(answer) => {
+                self.regions = answer.regions;
+                Ok(answer.marks)
+            }
+            Err(no) => Err(no),
+        }
     }
 
     /// Drops all regions, in class order, also where there is no memory for the marks.
@@ -92,8 +112,8 @@ impl Store {
         ensures marks { IfOk result (λ marks. marks ≡ map (drop_of cause) self.old.regions) }
         ensures nothing_left { self.new.regions ≡ [] }
     {
-        self.regions = Seq::new(alloc);
-        Err(NoMemory)
+        let old = mem::replace(&mut self.regions, Seq::new(alloc));
+        drop_marks(alloc, cause, old)
     }
 
     /// Takes out the region of that number, counted from 0.

@@ -1,10 +1,9 @@
 -- What is left of rects, from what was cut and tidied.
-use Rattle.std.proofs.Common.{◌≡◌, ℕ, ◌*◌, ◌<◌, ◌≤◌, ◌⊎◌, ◌↔◌, inl, inr, Bool, true, false, List, [], ◌∷◌, length, refl, arith, ◌∙◌, sym, ap}
-use Rattle.std.specs.Prelude.{not, ◌&&◌, max, nat_eq, nat_le, slice_set, if◌then◌else◌}
+use Rattle.std.proofs.Common.{◌≡◌, ℕ, ◌<◌, ◌≤◌, ◌⊎◌, ◌↔◌, inl, inr, Bool, true, false, List, [], ◌∷◌, ◌++◌, length, refl, arith, ◌∙◌, sym, ap, subst}
+use Rattle.std.specs.Prelude.{not, ◌&&◌, nat_eq, nat_le, slice_set, if◌then◌else◌}
 use Rattle.std.specs.List.{list_all, AllByRecursion}
 use Rattle.std.proofs.lemmas.Bool.Decides.{nat_tests}
-use Rattle.std.proofs.lemmas.Nat.{mul-le}
-use Rattle.std.proofs.Math.Nat.{le-max_left, le-max_right}
+use Rattle.std.proofs.lemmas.List.{append-nil}
 use Rattle.sr_cell.specs.declared.table.Column.{Column}
 use Rattle.sr_cell.specs.Attrs.{has_column}
 use Rattle.sr_cell.specs.Cells.{Row}
@@ -14,7 +13,9 @@ use Rattle.sr_union.specs.Pieces.{IsMinus, IsOnce, AllConstrainEssential}
 use Rattle.sr_union.specs.Grid.{AreCutFrom, grid, have_first}
 use Rattle.sr_union.proofs.Times.{in_any-times}
 use Rattle.sr_union.proofs.Low.{has_point}
-use Rattle.sr_union.proofs.Once.{grid_among}
+use Rattle.sr_union.proofs.Among.{AreCutFrom-append}
+use Rattle.sr_union.proofs.Parts.{are_part}
+use Rattle.sr_union.proofs.Once.{are_trans, grid_among, in_any-once}
 use Rattle.sr_union.proofs.Inner.{fits_length}
 use Rattle.sr_trim.specs.Left.{left_over, AreLeft}
 
@@ -24,8 +25,12 @@ left_point true left rects false is has = rw is refl
 left_point false left rects true is has = rw is (sym has)
 left_point false left rects false is has = rw is (sym has)
 
-pub minus_is : (cs : List Column) (rects cover left : List Rect) → IsMinus cs rects cover left → (p : Row) → is_point cs p ≡ true → in_any left p ≡ left_over rects cover p
+minus_is : (cs : List Column) (rects cover left : List Rect) → IsMinus cs rects cover left → (p : Row) → is_point cs p ≡ true → in_any left p ≡ left_over rects cover p
 minus_is cs rects cover left minus p e = in_any-times left p ∙ left_point (in_any cover p) (times left p) (times rects p) (in_any rects p) (minus p e) (in_any-times rects p)
+
+-- what is left of a list that has each point of the rects once
+pub once_left : (cs : List Column) (rects once cover left : List Rect) → IsOnce cs rects once → IsMinus cs once cover left → (p : Row) → is_point cs p ≡ true → in_any left p ≡ left_over rects cover p
+once_left cs rects once cover left is minus p e = minus_is cs once cover left minus p e ∙ ap (λ b. b && not (in_any cover p)) (in_any-once cs rects once is p e)
 
 essential_same : (cs : List Column) (a b : Row → Bool) (c : ℕ) → ((p : Row) → is_point cs p ≡ true → a p ≡ b p) → IsEssential cs a c → IsEssential cs b c
 essential_same cs a b c same e = record {
@@ -45,11 +50,11 @@ bound_same : (cs : List Column) (need : ℕ) (a : Row → Bool) (left rest : Lis
 bound_same cs need a left [] same h = tt
 bound_same cs need a left (r ∷ rest) same h = ((λ c e. needs_same cs need (in_any left) a c same (h.0 c e)), bound_same cs need a left rest same h.1)
 
-pub tidy_left : (cs : List Column) (need : ℕ) (rects cover left rest : List Rect) → IsMinus cs rects cover left → IsOnce cs left rest → AllConstrainEssential cs need left rest
-    → AreLeft cs need (left_over rects cover) rest
-tidy_left cs need rects cover left rest minus once bound = record {
-  once = λ p e. once p e ∙ ap (λ b. if b then 1 else 0) (minus_is cs rects cover left minus p e);
-  bound = bound_same cs need (left_over rects cover) left rest (minus_is cs rects cover left minus) bound;
+pub tidy_left : (cs : List Column) (need : ℕ) (a : Row → Bool) (left rest : List Rect) → ((p : Row) → is_point cs p ≡ true → in_any left p ≡ a p) → IsOnce cs left rest → AllConstrainEssential cs need left rest
+    → AreLeft cs need a rest
+tidy_left cs need a left rest same once bound = record {
+  once = λ p e. once p e ∙ ap (λ b. if b then 1 else 0) (same p e);
+  bound = bound_same cs need a left rest same bound;
 }
 
 -- the points that are left
@@ -79,13 +84,20 @@ left_empty cs a (r ∷ rest) first fit same = (
   λ none. let at = left_some cs a (r ∷ rest) first fit same (λ e. absurd (cc)) in let yes = at.2 in let no = none at.0 at.1 in absurd (grind (arith, yes, no)),
 )
 
--- the limits
-pub minus_over : (limit m g : ℕ) → limit < m * g → limit < max 1 m * g
-minus_over limit m g h = let more = mul-le m g (max 1 m) g (le-max_right 1 m) (omega arith) in omega (arith, h, more)
+-- the cuts: of the list that has each point once and the cover, and of what is left of these
+pub once_cut : (cs : List Column) (rects once cover : List Rect) → list_all (rect_fits cs) rects ≡ true → list_all (rect_fits cs) cover ≡ true → AreCutFrom cs rects once
+    → AreCutFrom cs (rects ++ cover) (once ++ cover)
+once_cut cs rects once cover fit cover_fit cut =
+    let own : AreCutFrom cs (rects ++ cover) rects = are_part cs [] rects cover fit in
+    let other : AreCutFrom cs (rects ++ cover) cover = subst (λ all. AreCutFrom cs (rects ++ all) cover) (append-nil cover) (are_part cs rects cover [] cover_fit) in
+    AreCutFrom-append cs (rects ++ cover) once cover (are_trans cs (rects ++ cover) rects once own cut) other
 
-pub tidy_over : (cs : List Column) (given left : List Rect) (limit m : ℕ) → AreCutFrom cs given left → limit < grid cs left → limit < max 1 m * grid cs given
-tidy_over cs given left limit m cut h =
-    let few = grid_among cs given left cut in let more = mul-le 1 (grid cs given) (max 1 m) (grid cs given) (le-max_left 1 m) (omega arith) in omega (arith, h, few, more)
+-- the limits
+pub once_over : (cs : List Column) (rects cover : List Rect) (limit : ℕ) → list_all (rect_fits cs) rects ≡ true → limit < grid cs rects → limit < grid cs (rects ++ cover)
+once_over cs rects cover limit fit h = let few = grid_among cs (rects ++ cover) rects (are_part cs [] rects cover fit) in omega (arith, h, few)
+
+pub cut_over : (cs : List Column) (given left : List Rect) (limit : ℕ) → AreCutFrom cs given left → limit < grid cs left → limit < grid cs given
+cut_over cs given left limit cut h = let few = grid_among cs given left cut in omega (arith, h, few)
 
 -- rects of a table are not wide
 pub all_narrow : (cs : List Column) (rects : List Rect) → length cs ≤ 12 → list_all (rect_fits cs) rects ≡ true → list_all (λ rect. nat_le (length rect) 16) rects ≡ true

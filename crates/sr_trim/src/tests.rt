@@ -63,12 +63,16 @@ fn rects_of(alloc: Global, age: Ends, dept: Option<Ends>) -> Result<Rects, NoMem
 }
 
 fn trim_by(alloc: Global, cover: &Rects, limit: u32) -> Result<Trimmed, No<Over>> {
+    trim_of(alloc, rects_of(alloc, (30, 40), None)?, cover, limit)
+}
+
+fn trim_of(alloc: Global, rects: Rects, cover: &Rects, limit: u32) -> Result<Trimmed, No<Over>> {
     let table = table(alloc)?;
     let part = Part {
         table: 0,
         key: 0,
         need: Attrs(3),
-        rects: rects_of(alloc, (30, 40), None)?,
+        rects,
         width: 1,
     };
     if !part.rects.fits(&table) || !cover.fits(&table) {
@@ -123,5 +127,16 @@ fn more_rects_than_the_limit_are_refused(rt: HostRuntime) -> Result<(), Fail> {
     let cover = rects_of(alloc, (33, 35), None)?;
     assert!(rt; trim_by(alloc, &cover, 1).is_err());
     assert_eq!(rt; trim_by(alloc, &cover, 2)?.rest.len(), 2);
+    Ok(())
+}
+
+#[test]
+fn rects_in_common_count_once(rt: HostRuntime) -> Result<(), Fail> {
+    let alloc = rt.alloc();
+    let mut rects = rects_of(alloc, (30, 40), None)?;
+    rects.append(rects_of(alloc, (30, 40), None)?)?;
+    rects.append(rects_of(alloc, (31, 40), None)?)?;
+    let cover = rects_of(alloc, (33, 35), None)?;
+    assert_eq!(rt; trim_of(alloc, rects, &cover, 2)?.rest.len(), 2);
     Ok(())
 }

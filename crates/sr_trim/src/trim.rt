@@ -1,5 +1,5 @@
 //! Parts of queries without the points that a client holds.
-ghost use Rattle.std.specs.Prelude.{◌≡◌, ℕ, ◌<◌, ◌≤◌, ◌*◌, ◌||◌, max, nat_le, true, List, [], ◌++◌, ◌⊎◌, ◌↔◌, length, IfOk, IsErrOf, IsTrue};
+ghost use Rattle.std.specs.Prelude.{◌≡◌, ℕ, ◌<◌, ◌≤◌, ◌||◌, nat_le, true, List, [], ◌++◌, ◌⊎◌, ◌↔◌, length, IfOk, IsErrOf, IsTrue};
 ghost use Rattle.std.specs.List.{list_all};
 ghost use Rattle.sr_cell.specs.declared.list.No.TheVariants.{Refused};
 ghost use Rattle.sr_cell.specs.Attrs.{has_column};
@@ -25,6 +25,32 @@ pub struct Trimmed {
     pub attrs: Attrs,
 }
 
+/// The points of the rects that the cover does not have. Each point is made to lie in one rect first: the limit is then
+/// below the grid wherever it is passed.
+fn left_of(
+    alloc: Global,
+    rects: &Rects,
+    table: &Table,
+    cover: &Rects,
+    limit: u32,
+) -> Result<Rects, No<Over>>
+    requires table { IsTrue (is_table table.now) }
+    requires rects_fit { list_all (rect_fits table.now.columns) rects.now ≡ true }
+    requires cover_fits { list_all (rect_fits table.now.columns) cover.now ≡ true }
+    ensures points { IfOk result (λ left. AreSame table.now.columns (in_any left) (left_over rects.now cover.now)) }
+    ensures cuts { IfOk result (λ left. AreCutFrom table.now.columns (rects.now ++ cover.now) left) }
+    ensures over { IsErrOf result (Refused (record {})) → limit < grid table.now.columns (rects.now ++ cover.now) }
+{
+    let once = match rects.disjoint(alloc, table, limit) {
+        Ok(once) => once,
+        Err(no) => return Err(no),
+    };
+    match once.minus(alloc, cover, table, limit) {
+        Ok(left) => Ok(left),
+        Err(no) => Err(no),
+    }
+}
+
 fn rest_of(
     alloc: Global,
     part: &Part,
@@ -38,10 +64,9 @@ fn rest_of(
     ensures left { IfOk result (λ rest. AreLeft table.now.columns part.now.need (left_over part.now.rects cover.now) rest) }
     ensures cuts { IfOk result (λ rest. AreCutFrom table.now.columns (part.now.rects ++ cover.now) rest) }
     ensures few { IfOk result (λ rest. length rest ≤ limit) }
-    ensures over { (m : ℕ) → IsErrOf result (Refused (record {})) → ((p : Row) → IsTrue (is_point table.now.columns p) → times part.now.rects p ≤ m)
-        → limit < max 1 m * grid table.now.columns (part.now.rects ++ cover.now) }
+    ensures over { IsErrOf result (Refused (record {})) → limit < grid table.now.columns (part.now.rects ++ cover.now) }
 {
-    let left = match part.rects.minus(alloc, cover, table, limit) {
+    let left = match left_of(alloc, &part.rects, table, cover, limit) {
         Ok(left) => left,
         Err(no) => return Err(no),
     };
@@ -89,7 +114,7 @@ pub fn trim(
     ensures some { IfOk result (λ t. (t.rest ≡ [] → ⊥) → HasPoint table.now.columns (left_over part.now.rects cover.now)) }
     ensures cuts { IfOk result (λ t. AreCutFrom table.now.columns (part.now.rects ++ cover.now) t.rest) }
     ensures few { IfOk result (λ t. length t.rest ≤ limit) }
-    ensures over { (m : ℕ) → IsErrOf result (Refused (record {})) → ((p : Row) → IsTrue (is_point table.now.columns p) → times part.now.rects p ≤ m) → limit < max 1 m * grid table.now.columns (part.now.rects ++ cover.now) }
+    ensures over { IsErrOf result (Refused (record {})) → limit < grid table.now.columns (part.now.rects ++ cover.now) }
 {
     let rest = match rest_of(alloc, part, table, cover, limit) {
         Ok(rest) => rest,

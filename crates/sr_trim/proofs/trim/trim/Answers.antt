@@ -42,4 +42,4 @@ returns-clause-some c =
     (left_same c.args.table.now.columns c.args.part.now.need (left_over c.args.part.now.rects c.args.cover.now) c.in-Ok.rest c.in-Ok.ensures.left)
 
 pub returns-in-Err-clause-over : goal.returns-in-Err-clause-over
-returns-in-Err-clause-over c = λ m e h. c.in-Err.ensures.over m (err_same c.in-Err.no _ e) h
+returns-in-Err-clause-over c = λ e. c.in-Err.ensures.over (err_same c.in-Err.no _ e)

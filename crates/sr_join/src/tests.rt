@@ -1,0 +1,138 @@
+//! Answers from rows of two regions, at values worked out by hand.
+use crate::joiner::Joiner;
+use sr_cell::attrs::Attrs;
+use sr_cell::cell::{Cell, Row, Rows};
+use sr_cell::list::{NoMemory, Seq};
+use sr_cell::text::Text;
+use sr_query::condition::Output;
+use sr_query::query::{Part, Query};
+use sr_union::rects::Rects;
+use std::alloc::Global;
+use std::test::Fail;
+
+// Persons have a name, a number, which is their key, and an age.
+const NUMBER_AGE: Attrs = Attrs(6);
+
+const ALL: Attrs = Attrs(7);
+
+fn part(alloc: Global) -> Part {
+    Part {
+        table: 0,
+        key: 1,
+        need: NUMBER_AGE,
+        rects: Rects::new(alloc),
+        width: 0,
+    }
+}
+
+// The ages, and then the numbers.
+fn query(alloc: Global) -> Result<Query, NoMemory> {
+    let mut parts = Seq::new(alloc);
+    parts.push(part(alloc))?;
+    let mut output = Seq::new(alloc);
+    output.push(Output { part: 0, column: 2 })?;
+    output.push(Output { part: 0, column: 1 })?;
+    Ok(Query {
+        parts,
+        joins: Seq::new(alloc),
+        output,
+    })
+}
+
+fn short(alloc: Global, number: i64, age: i64) -> Result<Row, NoMemory> {
+    let mut row = Seq::new(alloc);
+    row.push(Cell::Num(number))?;
+    row.push(Cell::Num(age))?;
+    Ok(row)
+}
+
+fn long(alloc: Global, name: &str, number: i64, age: i64) -> Result<Row, NoMemory> {
+    let mut row = Seq::new(alloc);
+    row.push(Cell::Str(Text::of(alloc, name)?))?;
+    row.push(Cell::Num(number))?;
+    row.push(Cell::Num(age))?;
+    Ok(row)
+}
+
+fn lend_two(
+    alloc: Global,
+    joiner: &mut Joiner,
+    attrs: Attrs,
+    one: &Row,
+    two: &Row,
+) -> Result<(), NoMemory> {
+    joiner.lend(alloc, &query(alloc)?, attrs, &[one, two])
+}
+
+fn is_row(row: &Row, age: i64, number: i64) -> bool {
+    match (row.get(0), row.get(1), row.len()) {
+        (Some(Cell::Num(one)), Some(Cell::Num(two)), 2) => *one == age && *two == number,
+        _ => false,
+    }
+}
+
+fn are(rows: &Rows, ages: &[i64], numbers: &[i64]) -> bool {
+    if rows.len() != ages.len() || rows.len() != numbers.len() {
+        return false;
+    }
+    for i in 0..ages.len() {
+        if !is_row(&rows.as_slice()[i], ages[i], numbers[i]) {
+            return false;
+        }
+    }
+    true
+}
+
+// Persons 2 and 4 of one region, and 1 and 4 of another.
+fn of_two_regions(alloc: Global) -> Result<Joiner, NoMemory> {
+    let mut joiner = Joiner::new(alloc);
+    lend_two(
+        alloc,
+        &mut joiner,
+        NUMBER_AGE,
+        &short(alloc, 2, 25)?,
+        &short(alloc, 4, 40)?,
+    )?;
+    lend_two(
+        alloc,
+        &mut joiner,
+        ALL,
+        &long(alloc, "ann", 1, 30)?,
+        &long(alloc, "cy", 4, 40)?,
+    )?;
+    Ok(joiner)
+}
+
+#[test]
+fn a_common_row_counts_once(rt: HostRuntime) -> Result<(), Fail> {
+    let alloc = rt.alloc();
+    let answer = of_two_regions(alloc)?.answer(alloc)?;
+    assert!(rt; are(&answer, &[30, 25, 40], &[1, 2, 4]));
+    Ok(())
+}
+
+#[test]
+fn later_rows_come_between(rt: HostRuntime) -> Result<(), Fail> {
+    let alloc = rt.alloc();
+    let mut joiner = of_two_regions(alloc)?;
+    lend_two(
+        alloc,
+        &mut joiner,
+        ALL,
+        &long(alloc, "bo", 3, 50)?,
+        &long(alloc, "di", 5, 60)?,
+    )?;
+    let answer = joiner.answer(alloc)?;
+    assert!(rt; are(&answer, &[30, 25, 50, 40, 60], &[1, 2, 3, 4, 5]));
+    Ok(())
+}
+
+#[test]
+fn no_rows_change_nothing(rt: HostRuntime) -> Result<(), Fail> {
+    let alloc = rt.alloc();
+    let mut joiner = of_two_regions(alloc)?;
+    joiner.lend(alloc, &query(alloc)?, ALL, &[])?;
+    let answer = joiner.answer(alloc)?;
+    assert!(rt; are(&answer, &[30, 25, 40], &[1, 2, 4]));
+    Ok(())
+}

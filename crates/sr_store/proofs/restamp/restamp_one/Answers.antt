@@ -1,0 +1,43 @@
+use Rattle.std.proofs.Common.{◌≡◌, ◌∷◌, [], ◌∙◌, true, sym, subst}
+use Rattle.std.specs.List.{list_all}
+use Rattle.std.proofs.lemmas.Result.{on_ok_weaker}
+use Rattle.sr_cell.specs.Columns.{table_at}
+use Rattle.sr_box.specs.Points.{rect_fits, constrains_only}
+use Rattle.sr_store.specs.Renewing.{touching, pieces_of}
+use Rattle.sr_store.specs.Making.{AddsHalves}
+use Rattle.sr_store.proofs.Touching.{touching_fits, touching_only}
+use Rattle.sr_store.proofs.Restamping.{restamped_one, restamped_same}
+use Rattle.sr_store.proofs.restamp.restamp_one.Goals as goal
+
+pub returns-then-is_empty : goal.returns-then-is_empty
+returns-then-is_empty c =
+    let region = c.args.region in
+    let none : touching c.args.parts.now region.table region.attrs ≡ [] = sym c.in_ok-rects.ensures ∙ c.is_empty.ensures.0 c.if-is_empty.true in
+    on_ok_weaker c.push.result (λ pushed. (region ∷ [], pushed, restamped_same c.args.schema.now c.args.number c.args.parts.now region c.requires.region none)) c.push.ensures.pushed
+
+pub push_split-requires-clause-fit : goal.push_split-requires-clause-fit
+push_split-requires-clause-fit c =
+    let region = c.args.region in
+    let fit = touching_fits c.args.schema.now c.args.parts.now region.table region.attrs c.requires.fit in
+    subst (λ t. list_all (rect_fits t.columns) c.in_ok-rects.rects ≡ true) (sym c.table_at-table.ensures.found)
+    (subst (λ rects. list_all (rect_fits (table_at c.args.schema.now region.table).columns) rects ≡ true) (sym c.in_ok-rects.ensures) fit)
+
+pub push_split-requires-clause-only : goal.push_split-requires-clause-only
+push_split-requires-clause-only c =
+    let region = c.args.region in
+    subst (λ rects. list_all (constrains_only region.attrs 0) rects ≡ true) (sym c.in_ok-rects.ensures) (touching_only c.args.parts.now region.table region.attrs c.requires.only)
+
+pub returns : goal.returns
+returns c =
+    let schema = c.args.schema.now in
+    let parts = c.args.parts.now in
+    let region = c.args.region in
+    let t = table_at schema region.table in
+    let fit = touching_fits schema parts region.table region.attrs c.requires.fit in
+    let only = touching_only parts region.table region.attrs c.requires.only in
+    on_ok_weaker c.push_split.result
+    (λ adds.
+    let there = subst (λ t. AddsHalves t c.args.number region c.in_ok-rects.rects c.args.pieces.now c.push_split.new.pieces) c.table_at-table.ensures.found adds in
+    let halves = subst (λ rects. AddsHalves t c.args.number region rects c.args.pieces.now c.push_split.new.pieces) c.in_ok-rects.ensures there in
+    (pieces_of c.args.number halves.1 halves.0, halves.4, restamped_one schema c.args.number parts region halves.0 halves.1 c.requires.region fit only halves.2 halves.3))
+    c.push_split.ensures

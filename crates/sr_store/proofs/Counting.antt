@@ -1,30 +1,21 @@
 -- How many rects the regions of a table can have.
-use Rattle.std.proofs.Common.{◌≡◌, ℕ, ◌+◌, ◌*◌, ◌≤◌, ◌<◌, zero, suc, true, false, List, [], ◌∷◌, ◌++◌, length, refl, sym, ap, subst, ◌∙◌, arith, length-append}
+use Rattle.std.proofs.Common.{◌≡◌, ℕ, ◌+◌, ◌*◌, ◌≤◌, true, false, List, [], ◌∷◌, ◌++◌, length, refl, subst, arith, length-append}
 use Rattle.std.specs.Prelude.{Bool, not, ◌&&◌, ◌||◌, ◌==◌, if◌then◌else◌}
 use Rattle.std.specs.List.{list_all, list_any, All}
 use Rattle.std.proofs.lemmas.Bool.Decides.{nat_tests}
 use Rattle.std.proofs.lemmas.List.Elements.{All-head, All-tail}
 use Rattle.sr_cell.specs.declared.table.Table.{Table}
 use Rattle.sr_cell.specs.Cells.{Row}
-use Rattle.sr_cell.specs.Columns.{table_at, is_point}
+use Rattle.sr_cell.specs.Columns.{table_at}
 use Rattle.sr_box.specs.Points.{Rect, times, rect_fits}
 use Rattle.sr_union.specs.Grid.{grid, AreCutFrom, have_first}
 use Rattle.sr_union.proofs.Times.{times-append}
 use Rattle.sr_union.proofs.Among.{AreCutFrom-append}
 use Rattle.sr_union.proofs.Count.{length-grid}
-use Rattle.sr_union.proofs.Once.{grid_among}
-use Rattle.sr_query.specs.declared.query.Part.{Part}
-use Rattle.sr_query.specs.Bound.{is_table}
 use Rattle.sr_region.specs.declared.region.Region.{Region}
-use Rattle.sr_store.specs.declared.store.Arrival.{Arrival}
 use Rattle.sr_store.specs.Classes.{is_of, occurs}
-use Rattle.sr_store.specs.Stores.{IsOfSchema, count_rects}
-use Rattle.sr_store.specs.Answered.{IsArrival, are_once, is_used, rects_on, weight_from, IsHeavy}
-use Rattle.sr_store.specs.Renewing.{IsCutFrom, IsRenewal}
+use Rattle.sr_store.specs.Renewing.{IsCutFrom}
 use Rattle.sr_store.proofs.Adding.{AreOnce}
-use Rattle.sr_store.proofs.Tables.{tables_first}
-use Rattle.sr_store.proofs.Dropping.{count_rects-cons}
-use Rattle.sr_store.proofs.Given.{FitsPart, regions_cut, parts_cut, arrivals_cut, given_fit}
 
 -- the rects of the regions of a table with these columns
 abbrev pub rects_of : List Region → ℕ → ℕ → List Rect

@@ -1,31 +1,27 @@
 -- Too many rects come of too large grids.
-use Rattle.std.proofs.Common.{◌≡◌, ℕ, ◌+◌, ◌*◌, ◌≤◌, ◌<◌, zero, suc, true, false, List, [], ◌∷◌, ◌++◌, length, refl, sym, ap, subst, ◌∙◌, arith, length-append}
+use Rattle.std.proofs.Common.{◌≡◌, ℕ, ◌+◌, ◌*◌, ◌≤◌, ◌<◌, zero, suc, true, false, List, [], ◌∷◌, ◌++◌, length, refl, sym, ap, subst, ◌∙◌, arith}
 use Rattle.std.specs.Prelude.{Bool, not, ◌&&◌, ◌||◌, ◌==◌, if◌then◌else◌}
 use Rattle.std.specs.List.{list_all, list_any, All}
 use Rattle.std.proofs.lemmas.Bool.Decides.{nat_tests}
 use Rattle.std.proofs.lemmas.List.Elements.{All-head, All-tail}
 use Rattle.sr_cell.specs.declared.table.Table.{Table}
-use Rattle.sr_cell.specs.Cells.{Row}
-use Rattle.sr_cell.specs.Columns.{table_at, is_point}
-use Rattle.sr_box.specs.Points.{Rect, times, rect_fits}
-use Rattle.sr_union.specs.Grid.{grid, AreCutFrom, have_first}
-use Rattle.sr_union.proofs.Times.{times-append}
+use Rattle.sr_cell.specs.Columns.{table_at}
+use Rattle.sr_box.specs.Points.{Rect}
+use Rattle.sr_union.specs.Grid.{grid, AreCutFrom}
 use Rattle.sr_union.proofs.Among.{AreCutFrom-append}
-use Rattle.sr_union.proofs.Count.{length-grid}
 use Rattle.sr_union.proofs.Once.{grid_among}
 use Rattle.sr_query.specs.declared.query.Part.{Part}
 use Rattle.sr_query.specs.Bound.{is_table}
 use Rattle.sr_region.specs.declared.region.Region.{Region}
 use Rattle.sr_store.specs.declared.store.Arrival.{Arrival}
-use Rattle.sr_store.specs.Classes.{is_of, occurs}
 use Rattle.sr_store.specs.Stores.{IsOfSchema, count_rects}
-use Rattle.sr_store.specs.Answered.{IsArrival, are_once, is_used, rects_on, weight_from, IsHeavy}
-use Rattle.sr_store.specs.Renewing.{IsCutFrom, IsRenewal}
-use Rattle.sr_store.proofs.Adding.{AreOnce}
+use Rattle.sr_store.specs.Answered.{IsArrival, are_once, is_used, rects_on, weight_from, IsHeavy, wider}
+use Rattle.sr_store.specs.Renewing.{touching, IsCutFrom, IsArrivalCutFrom, IsRenewal}
 use Rattle.sr_store.proofs.Tables.{tables_first}
 use Rattle.sr_store.proofs.Dropping.{count_rects-cons}
 use Rattle.sr_store.proofs.Counting.{pieces, has_sets, pieces_few}
-use Rattle.sr_store.proofs.Given.{FitsPart, regions_cut, parts_cut, arrivals_cut, given_fit}
+use Rattle.sr_store.proofs.Given.{FitsPart, regions_cut, parts_cut, arrivals_cut, given_fit, wider_cut}
+use Rattle.sr_store.proofs.Touching.{touching_cut}
 
 same-number : (n : ℕ) → (n == n) ≡ true
 same-number n = grind (arith, nat_tests)
@@ -89,6 +85,31 @@ heavy_one schema regions parts arrivals t a rects below used cut large = record 
   where
     sums : (g h n w : ℕ) → 16384 < g → g ≤ h → n ≡ 1 → n * h ≤ w → 16384 < w
     sums g h n w large more e all = let f : 1 * h ≤ w = subst (λ n. n * h ≤ w) e all in omega (arith, large, more, f)
+
+-- a region and the parts that touch it
+pub heavy_touched : (schema : List Table) (regions : List Region) (parts : List Part) (arrivals : List Arrival) (g : Region) → IsOfSchema schema g → is_used regions arrivals g.table g.attrs ≡ true
+    → IsCutFrom schema (rects_on regions parts arrivals) g → All (FitsPart schema) parts → 16384 < grid (table_at schema g.table).columns (g.rects ++ touching parts g.table g.attrs)
+    → IsHeavy schema regions parts arrivals
+heavy_touched schema regions parts arrivals g h used cut fit large =
+    heavy_one schema regions parts arrivals g.table g.attrs (g.rects ++ touching parts g.table g.attrs) h.0 used
+    (AreCutFrom-append (table_at schema g.table).columns (rects_on regions parts arrivals g.table) g.rects (touching parts g.table g.attrs) cut
+    (touching_cut schema (rects_on regions parts arrivals) parts g.table g.attrs (parts_cut schema regions parts arrivals fit)))
+    large
+
+-- a region of the answer and those with more columns
+pub heavy_wider : (schema : List Table) (regions : List Region) (parts : List Part) (arrivals : List Arrival) (all : List Region) (g : Region) → IsOfSchema schema g
+    → is_used regions arrivals g.table g.attrs ≡ true → IsCutFrom schema (rects_on regions parts arrivals) g → All (IsCutFrom schema (rects_on regions parts arrivals)) all
+    → 16384 < grid (table_at schema g.table).columns (g.rects ++ wider all g.table g.attrs) → IsHeavy schema regions parts arrivals
+heavy_wider schema regions parts arrivals all g h used cut cuts large =
+    heavy_one schema regions parts arrivals g.table g.attrs (g.rects ++ wider all g.table g.attrs) h.0 used
+    (AreCutFrom-append (table_at schema g.table).columns (rects_on regions parts arrivals g.table) g.rects (wider all g.table g.attrs) cut
+    (wider_cut schema (rects_on regions parts arrivals) all g.table g.attrs cuts))
+    large
+
+-- what arrives
+pub heavy_arrival : (schema : List Table) (regions : List Region) (parts : List Part) (arrivals : List Arrival) (r : Arrival) → IsArrival schema parts r → is_used regions arrivals r.table r.attrs ≡ true
+    → IsArrivalCutFrom schema (rects_on regions parts arrivals) r → 16384 < grid (table_at schema r.table).columns r.rects → IsHeavy schema regions parts arrivals
+heavy_arrival schema regions parts arrivals r h used cut large = heavy_one schema regions parts arrivals r.table r.attrs r.rects h.table used cut large
 
 -- ---- too many rects
 

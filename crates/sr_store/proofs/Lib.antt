@@ -11,6 +11,7 @@ pub mod Covering
 pub mod Stamping
 pub mod Classing
 pub mod Absorbing
+pub mod Stepping
 pub mod Given
 pub mod Counting
 pub mod Heavy

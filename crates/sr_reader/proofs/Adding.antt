@@ -1,5 +1,5 @@
 -- What a line of each kind adds, or that it does nothing.
-use Rattle.std.proofs.Common.{◌≡◌, ℕ, Bool, true, false, List, [], ◌∷◌, ◌++◌, refl, sym, ap, subst, ◌∙◌}
+use Rattle.std.proofs.Common.{◌≡◌, ℕ, Bool, true, false, List, [], ◌∷◌, ◌++◌, refl, sym, subst, ◌∙◌}
 use Rattle.std.specs.Prelude.{Some, None, Result, Ok, Err, IsTrue}
 use Rattle.sr_cell.specs.declared.list.NoMemory.{NoMemory}
 use Rattle.sr_cell.specs.declared.table.Table.{Table}

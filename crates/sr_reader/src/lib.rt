@@ -1,4 +1,4 @@
-//! Reading of scripts.
+//! Reading of scripts: CREATE lines of any tables, then statements, then queries of one table each.
 #![tactic(auto)]
 
 mod built;

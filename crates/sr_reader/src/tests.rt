@@ -51,7 +51,7 @@ const HEADS: [(&str, &str); 13] = [
 ];
 
 /// Scripts, and what is read of them.
-const WHOLE: [(&str, &str); 12] = [
+const WHOLE: [(&str, &str); 15] = [
     ("", ""),
     ("\n  \n# café\r\n#", ""),
     ("\t", "unbuilt 1"),
@@ -62,7 +62,10 @@ const WHOLE: [(&str, &str); 12] = [
     ("exec INSERT INTO p VALUES (1, 2)", "1 UnknownTable 12, "),
     (" create\ttable t(a int,b integer primary key)", ""),
     ("# first\nCREATE TABLE t (a INT, b INT)", "unbuilt 2"),
-    ("CREATE TABLE t (a TEXT PRIMARY KEY, b INT)", "unbuilt 1"),
+    (
+        "CREATE TABLE t (a TEXT PRIMARY KEY, b INT)\nexec INSERT INTO t VALUES ('x', 2)\nquery 1 SELECT b FROM t WHERE a LIKE 'x%'",
+        "2 insert 1 of 0, 3 outputs 1 width 1, ",
+    ),
     (
         "CREATE TABLE t (a INT PRIMARY KEY, b INT, c INT)\nexec INSERT INTO t VALUES (1, 2, 3)",
         "2 insert 1 of 0, ",
@@ -72,8 +75,20 @@ const WHOLE: [(&str, &str); 12] = [
         "2 insert 2 of 0, ",
     ),
     (
-        "CREATE TABLE t (a INT PRIMARY KEY, b INT)\nCREATE TABLE u (a INT PRIMARY KEY, b INT)",
+        "CREATE TABLE t (a INT PRIMARY KEY, b INT)\n\nCREATE TABLE u (a TEXT PRIMARY KEY, c INT)\nexec INSERT INTO u VALUES ('x', 1), ('y', 2)\nquery 1 SELECT b FROM t\nquery 1 SELECT c FROM u WHERE c <> 1",
+        "4 insert 2 of 1, 5 outputs 1 width 1, 6 outputs 1 width 2, ",
+    ),
+    (
+        "CREATE TABLE t (a INT PRIMARY KEY)\nCREATE TABLE T (b INT PRIMARY KEY)",
         "unbuilt 2",
+    ),
+    (
+        "CREATE TABLE t (a INT PRIMARY KEY)\nexec x\nCREATE TABLE u (a INT PRIMARY KEY)",
+        "unbuilt 3",
+    ),
+    (
+        "CREATE TABLE t (a INT PRIMARY KEY)\nCREATE TABLE u (b INT PRIMARY KEY, c INT)\nquery 1 SELECT c FROM u JOIN t ON c = a",
+        "unbuilt 3",
     ),
     ("exec x\nCREATE TABLE t (a INT)", "unbuilt 2"),
 ];
@@ -120,14 +135,14 @@ const QUERIES: [(&str, &str); 16] = [
         "query 1 SELECT id FROM p WHERE age <> 3 OR age = 9",
         "2 outputs 1 width 3, ",
     ),
-    ("query 1 SELECT id FROM p", "unbuilt 2"),
+    ("query 1 SELECT id FROM p", "2 outputs 1 width 1, "),
     (
         "query 1 SELECT * FROM p\nexec INSERT INTO p VALUES (1, 2)",
         "unbuilt 3",
     ),
     (
         "query 1 SELECT * FROM p\nquery 1 SELECT id FROM p",
-        "unbuilt 3",
+        "2 outputs 2 width 1, 3 outputs 1 width 1, ",
     ),
     (
         "query 1 SELECT id FROM p WHERE salary = 3",

@@ -7,6 +7,14 @@ pub mod Sound
 pub mod Arrived
 pub mod Keeping
 pub mod Dropping
+pub mod Covering
+pub mod Stamping
+pub mod Classing
+pub mod Absorbing
+pub mod Stepping
+pub mod Given
+pub mod Counting
+pub mod Heavy
 pub mod Making
 pub mod Joining
 pub mod Fits

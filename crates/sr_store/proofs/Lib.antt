@@ -9,5 +9,7 @@ pub mod Keeping
 pub mod Dropping
 pub mod Making
 pub mod Joining
+pub mod Untouched
+pub mod Overlaps
 pub mod Fits
 pub mod Answering

@@ -13,3 +13,8 @@ pub mod Untouched
 pub mod Overlaps
 pub mod Fits
 pub mod Answering
+pub mod Covering
+pub mod Stamping
+pub mod Classing
+pub mod Absorbing
+pub mod Given

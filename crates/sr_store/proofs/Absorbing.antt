@@ -1,7 +1,7 @@
 -- The drops of regions are those of their classes.
-use Rattle.std.proofs.Common.{◌≡◌, ℕ, zero, suc, true, false, List, [], ◌∷◌, map, refl, sym, subst, ◌∙◌, ◌↔◌, ◌⊎◌, inl, inr}
-use Rattle.std.specs.Prelude.{Bool, IsTrue, Some, slice_get}
-use Rattle.std.specs.List.{list_all, All}
+use Rattle.std.proofs.Common.{◌≡◌, ℕ, zero, suc, true, false, List, [], ◌∷◌, map, refl, sym, subst, ◌∙◌, ◌↔◌, inl, inr}
+use Rattle.std.specs.Prelude.{Bool, Some, slice_get}
+use Rattle.std.specs.List.{All}
 use Rattle.std.proofs.lemmas.List.Elements.{All-head, All-tail}
 use Rattle.sr_cell.specs.declared.table.Table.{Table}
 use Rattle.sr_cell.specs.declared.cause.Cause.{Cause}

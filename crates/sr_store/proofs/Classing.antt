@@ -1,12 +1,10 @@
 -- The regions are the classes of what they hold.
-use Rattle.std.proofs.Common.{◌≡◌, ℕ, ◌+◌, true, false, List, [], ◌∷◌, map, refl, sym, ap, subst, ◌∙◌, ◌↔◌, ◌⊎◌, inl, inr, arith}
-use Rattle.std.specs.Prelude.{Bool, not, ◌&&◌, ◌||◌, ◌==◌, nat_eq, if◌then◌else◌, Option, Some, slice_get}
-use Rattle.std.specs.List.{list_any, list_all, All}
+use Rattle.std.proofs.Common.{◌≡◌, ℕ, ◌+◌, true, false, List, [], ◌∷◌, map, refl, sym, ap, subst, ◌∙◌, arith}
+use Rattle.std.specs.Prelude.{Bool, not, ◌&&◌, ◌||◌, ◌==◌, nat_eq, if◌then◌else◌}
+use Rattle.std.specs.List.{list_any, All}
 use Rattle.std.proofs.lemmas.Bool.Decides.{nat_tests}
 use Rattle.std.proofs.lemmas.List.Elements.{All-nil, All-cons, All-head, All-tail, All-weaker}
 use Rattle.sr_cell.specs.declared.table.Table.{Table}
-use Rattle.sr_cell.specs.declared.cause.Cause.{Cause}
-use Rattle.sr_cell.specs.declared.cause.Cause.TheVariants.{Absorbed}
 use Rattle.sr_cell.specs.Cells.{Row}
 use Rattle.sr_cell.specs.Columns.{table_at, is_point}
 use Rattle.sr_box.specs.Points.{in_any, times, HasPoint}
@@ -16,14 +14,11 @@ use Rattle.sr_union.proofs.Low.{has_point}
 use Rattle.sr_history.specs.declared.mark.Mark.{Mark}
 use Rattle.sr_history.specs.Marks.{is_held}
 use Rattle.sr_history.specs.Classes.{Numbered, stamp, Class, in_class, same_class, ascending, AreClasses}
-use Rattle.sr_history.specs.Drops.{IsDropOf, DropsEach, DropsAll, IsAbsorbed, AbsorbsFrom, Absorbs}
 use Rattle.sr_region.specs.declared.region.Region.{Region}
-use Rattle.sr_store.specs.Classes.{Held, Stamps, is_of, occurs, IsStamped, is_before, ascends, Keeps}
-use Rattle.sr_store.specs.Stores.{IsOfSchema, drop_of}
-use Rattle.sr_store.specs.Answered.{IsAbsorbedIn, AreFlags, flagged}
+use Rattle.sr_store.specs.Classes.{Stamps, is_of, occurs, IsStamped, is_before, ascends, Keeps}
+use Rattle.sr_store.specs.Stores.{IsOfSchema}
 use Rattle.sr_store.specs.Past.{class_of}
 use Rattle.sr_store.proofs.Dropping.{ascends_all, before_all}
-use Rattle.sr_store.proofs.Covering.{wider_is}
 
 -- the point lies in a region of that class
 abbrev in_regions : List Region → Class → Row → Bool

@@ -1,9 +1,9 @@
 -- What the regions cover, where they hold what some marks say.
-use Rattle.std.proofs.Common.{◌≡◌, ℕ, ◌+◌, true, false, cond, List, [], ◌∷◌, ◌++◌, map, refl, sym, ap, subst, ◌∙◌, ◌↔◌, arith}
+use Rattle.std.proofs.Common.{◌≡◌, ℕ, ◌+◌, true, false, cond, List, [], ◌∷◌, ◌++◌, map, refl, sym, ap, ◌∙◌, ◌↔◌, arith}
 use Rattle.std.specs.Prelude.{Bool, not, ◌&&◌, ◌||◌, ◌==◌, nat_eq, if◌then◌else◌, filter, flat_map}
-use Rattle.std.specs.List.{list_any, list_all, All}
+use Rattle.std.specs.List.{list_any, All}
 use Rattle.std.proofs.lemmas.Bool.Decides.{nat_tests}
-use Rattle.std.proofs.lemmas.List.Elements.{All-cons, All-head, All-tail}
+use Rattle.std.proofs.lemmas.List.Elements.{All-head}
 use Rattle.sr_cell.specs.declared.table.Table.{Table}
 use Rattle.sr_cell.specs.declared.cause.Cause.{Cause}
 use Rattle.sr_cell.specs.Cells.{Row}
@@ -21,7 +21,7 @@ use Rattle.sr_history.specs.Marks.{attrs_of, is_held, is_covered, HoldsNothing, 
 use Rattle.sr_history.specs.Drops.{is_held_wider}
 use Rattle.sr_region.specs.declared.region.Region.{Region}
 use Rattle.sr_store.specs.declared.store.Arrival.{Arrival}
-use Rattle.sr_store.specs.Classes.{Held, Stamps, occurs, IsStamped, Keeps}
+use Rattle.sr_store.specs.Classes.{Held, Stamps, occurs, Keeps}
 use Rattle.sr_store.specs.Stores.{IsOfSchema, cover_of, drop_of}
 use Rattle.sr_store.specs.Answered.{arrives, wider, held_of}
 

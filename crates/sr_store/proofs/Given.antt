@@ -126,7 +126,7 @@ module _ (schema : List Table) (regions : List Region) (parts : List Part) (arri
       let b = on-fits schema (λ (part : Part). part.table) (λ (part : Part). part.rects) parts t fit in
       let c = on-fits schema (λ (r : Arrival). r.table) (λ (r : Arrival). r.rects) arrivals t (arrival-fits schema parts arrivals are) in
       let rest = list_all-append (rect_fits (table_at schema t).columns) (flat_map (λ part. part.rects) (filter (λ part. part.table == t) parts))
-          (flat_map (λ r. r.rects) (filter (λ r. r.table == t) arrivals)) in
+      (flat_map (λ r. r.rects) (filter (λ r. r.table == t) arrivals)) in
       list_all-append (rect_fits (table_at schema t).columns) (flat_map (λ g. g.rects) (filter (λ g. g.table == t) regions))
       (flat_map (λ part. part.rects) (filter (λ part. part.table == t) parts) ++ flat_map (λ r. r.rects) (filter (λ r. r.table == t) arrivals))
       ∙ rw (a, rest, b, c) refl

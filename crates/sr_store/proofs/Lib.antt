@@ -18,3 +18,4 @@ pub mod Stamping
 pub mod Classing
 pub mod Absorbing
 pub mod Given
+pub mod Trials

@@ -22,7 +22,3 @@ pub mod Given
 pub mod Counting
 pub mod Heavy
 pub mod Trials
-pub mod Classed
-pub mod Covered
-pub mod Renewal
-pub mod Stamped

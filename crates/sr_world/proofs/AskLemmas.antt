@@ -23,7 +23,7 @@ use Rattle.sr_language.specs.Sound.{is_sound_part}
 use Rattle.sr_region.specs.declared.region.Region.{Region}
 use Rattle.sr_store.specs.Classes.{Stamps, Keeps}
 use Rattle.sr_store.specs.Stores.{serves, cover_of, IsOfSchema}
-use Rattle.sr_store.proofs.Covered.{cover-is}
+use Rattle.sr_store.proofs.Covering.{cover_is}
 use Rattle.sr_world.specs.Asking.{AsksRest, AreMeant, entry_of}
 
 -- what trimming leaves of a part
@@ -63,7 +63,7 @@ left-rest : (schema : List Table) (marks : List Mark) (stamps : Stamps) (regions
 left-rest schema marks stamps regions part m keeps is p point =
     let here : is_point (table_at schema m.table).columns p ≡ true = subst (λ t. is_point (table_at schema t).columns p ≡ true) is.table point in
     let same : in_any part.rects p ≡ points_of m p = is.rects.points p here in
-    let cover = cover-is schema marks stamps regions part p keeps point in
+    let cover = cover_is schema marks stamps regions part p keeps point in
     let covered : is_covered marks part.table part.need p ≡ is_covered marks m.table m.need p = ap (λ t. is_covered marks t part.need p) is.table ∙ ap (λ n. is_covered marks m.table n p) is.need in
     ap (λ b. b && not (in_any (cover_of part regions) p)) same ∙ ap (λ b. points_of m p && not b) (cover ∙ covered)
 

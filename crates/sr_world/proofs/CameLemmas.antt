@@ -31,13 +31,13 @@ use Rattle.sr_store.specs.declared.store.Arrival.{Arrival}
 use Rattle.sr_store.specs.Classes.{Stamps, occurs, touches, Keeps as KeepsPoints}
 use Rattle.sr_store.specs.Stores.{cover_of, IsStore}
 use Rattle.sr_store.specs.Answered.{IsArrival, AreApart, HaveArrived, arrivals_at}
-use Rattle.sr_store.proofs.Covered.{any_has, has-any, cover-any, same-number}
 use Rattle.sr_scene.specs.Server.{asked_rows}
 use Rattle.sr_world.specs.Answering.{is_kept, is_new, Suits}
 use Rattle.sr_world.specs.Client.{arrival_of}
 use Rattle.sr_world.specs.Represents.{told_of}
 use Rattle.sr_world.proofs.MeantLemmas.{part-table, part-key, part-points}
 use Rattle.sr_world.proofs.ToldLemmas.{has-more, includes-each, told-in, ascend-told}
+use Rattle.sr_world.proofs.Covers.{occurs-covers}
 use Rattle.sr_world.proofs.NowLemmas.{covered-of}
 
 -- what was asked of a part that is meant, over tables of points by key
@@ -145,8 +145,8 @@ arrival-apart schema marks stamps tables part m ask rows regions a keeps store t
 
         by : (h : Bool) → occurs regions t u p ≡ (if h then 1 else 0) → occurs regions t u p ≡ 0
         by true one =
-            let found : any_has (λ b. includes b part.need) regions t p ≡ true = has-any (λ b. includes b part.need) regions t u p need (λ none. absurd (omega (arith, one, none))) in
-            let covers : in_any (cover_of part regions) p ≡ true = cover-any part regions p ∙ subst (λ t. any_has (λ b. includes b part.need) regions t p ≡ true) (sym table) found in
+            let there : occurs regions part.table u p ≡ 1 = ap (λ t. occurs regions t u p) table ∙ one in
+            let covers : in_any (cover_of part regions) p ≡ true = occurs-covers part regions u p need (λ none. absurd (omega (arith, there, none))) in
             absurd (let wrong : true ≡ false = sym covers ∙ uncovered in cc)
         by false none = none
 

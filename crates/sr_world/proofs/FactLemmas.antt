@@ -19,7 +19,7 @@ use Rattle.sr_history.specs.Classes.{Numbered}
 use Rattle.sr_trim.proofs.Tables.{table_first}
 use Rattle.sr_tables.specs.Stored.{are_stored, are_rows}
 use Rattle.sr_store.specs.Told.{IsTold, IsTrueOf, AreTrueOf}
-use Rattle.sr_store.proofs.Renewal.{HaveFirst}
+use Rattle.sr_world.proofs.Renewal.{HaveFirst}
 use Rattle.sr_world.specs.declared.world.World.{World}
 use Rattle.sr_world.specs.declared.client.Client.{Client}
 use Rattle.sr_world.specs.Represents.{Past, ServerFacts, Facts, told_of}
@@ -27,13 +27,10 @@ use Rattle.sr_world.proofs.ToldLemmas.{is-told}
 
 -- ---- tables
 
-pub table-is : (schema : List Table) (t : ℕ) → list_all is_table schema ≡ true → t < length schema → is_table (table_at schema t) ≡ true
-table-is [] t h within = absurd (omega (arith, within))
-table-is (table ∷ schema) zero h within = grind (arith, h)
-table-is (table ∷ schema) (suc t) h within = table-is schema t (grind (arith, h)) (omega (arith, within))
-
 pub have-first : (schema : List Table) → list_all is_table schema ≡ true → HaveFirst schema
-have-first schema h t within = table_first (table_at schema t) (table-is schema t h within)
+have-first [] h t = refl
+have-first (table ∷ schema) h zero = table_first table (grind (arith, h))
+have-first (table ∷ schema) h (suc t) = have-first schema (grind (arith, h)) t
 
 pub stored-ascend : (schema : List Table) (tables : Tables) → are_stored schema tables ≡ true → (t : ℕ) → ascend (table_at schema t).key (rows_at tables t) ≡ true
 stored-ascend [] [] h t = refl

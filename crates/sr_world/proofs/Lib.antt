@@ -14,6 +14,7 @@ pub mod AskLemmas
 pub mod LendLemmas
 pub mod Calls
 pub mod MeantLemmas
+pub mod Renewal
 pub mod FactLemmas
 pub mod NowLemmas
 pub mod SendLemmas

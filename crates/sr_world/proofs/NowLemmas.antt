@@ -27,9 +27,8 @@ use Rattle.sr_store.specs.Classes.{Stamps, Keeps as KeepsPoints}
 use Rattle.sr_store.specs.Told.{IsTrueOf, AreTrueOf}
 use Rattle.sr_store.specs.Stores.{cover_of}
 use Rattle.sr_store.specs.Answered.{IsRenewed}
-use Rattle.sr_store.proofs.Covered.{cover-is}
-use Rattle.sr_store.proofs.Stamped.{stamp-answered}
-use Rattle.sr_store.proofs.Renewal.{HaveFirst, renewal, nothing-new}
+use Rattle.sr_store.proofs.Covering.{cover_is}
+use Rattle.sr_store.proofs.Stamping.{stamp_more}
 use Rattle.sr_join.specs.Found.{cells_of}
 use Rattle.sr_script.specs.declared.line.TraceLine.{TraceLine}
 use Rattle.sr_script.specs.declared.line.TraceLine.TheVariants as line
@@ -44,6 +43,7 @@ use Rattle.sr_world.specs.Bound.{IsMeaning}
 use Rattle.sr_world.specs.Worlds.{DoesEvent}
 use Rattle.sr_world.specs.Represents.{Past, ClientFacts, Facts, Represents, Flow, request_of, scene_of, client_of, told_of}
 use Rattle.sr_world.proofs.Calls.{Answers, IsAfter}
+use Rattle.sr_world.proofs.Renewal.{renewal, nothing-new}
 use Rattle.sr_world.proofs.MeantLemmas.{IsOneQuery, one-query, are-sound, is-one-part, part-points, no-rest}
 use Rattle.sr_world.proofs.StepLemmas.{does}
 use Rattle.sr_world.proofs.FactLemmas.{have-first, points-now, ascend-now, told-now, version-now, true-now, server-still}
@@ -64,7 +64,7 @@ filter-none cs f (p ∷ rows) points none = rw (none p (grind (arith, points))) 
 pub covered-of : (schema : List Table) (marks : List Mark) (stamps : Stamps) (regions : List Region) (part : Part) (m : model.Part) (p : Row) → KeepsPoints schema (is_held marks) stamps regions → IsPart schema part m
     → is_point (table_at schema part.table).columns p ≡ true → in_any (cover_of part regions) p ≡ is_covered marks m.table m.need p
 covered-of schema marks stamps regions part m p keeps is point =
-    cover-is schema marks stamps regions part p keeps point ∙ (ap (λ t. is_covered marks t part.need p) is.table ∙ ap (λ n. is_covered marks m.table n p) is.need)
+    cover_is schema marks stamps regions part p keeps point ∙ (ap (λ t. is_covered marks t part.need p) is.table ∙ ap (λ n. is_covered marks m.table n p) is.need)
 
 -- where nothing is left of a part, its points are kept
 kept-all : (schema : List Table) (marks : List Mark) (stamps : Stamps) (regions : List Region) (part : Part) (m : model.Part) → KeepsPoints schema (is_held marks) stamps regions → IsPart schema part m
@@ -163,7 +163,7 @@ answers-now w past q m store marks rows f none is nothing gives a =
     let free = no-rest s past.marks m.parts [] one.meant asks one.meant_parts refl in
     let number : n ≡ length past.queries + 1 = ap (λ k. k + 1) (sym f.client.queries) in
     let ren = renewal s n q.parts [] w.client.store.regions store.regions marks past.marks past.queries after (have-first s f.server.tables) a.renewed f.client.keeps
-        (λ t u p point. stamp-answered s past.queries m n q.parts t u p is.query.parts number point) in
+        (stamp_more s n q.parts past.queries m is.query.parts number) in
     let now = regions-now w past q store.regions marks f a in
     let client : ClientFacts changed new = record {
       store = a.store;

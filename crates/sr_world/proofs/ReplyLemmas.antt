@@ -2,6 +2,7 @@
 use Rattle.std.proofs.Common.{◌≡◌, ℕ, ◌+◌, ◌-◌, ◌≤◌, true, false, List, [], ◌∷◌, ◌++◌, map, length, refl, sym, ◌∙◌, ap, subst, arith, inl, inr, Some, None, append-nil, length-append}
 use Rattle.std.specs.Prelude.{IsTrue, ◌||◌, filter, if◌then◌else◌, slice_set}
 use Rattle.std.specs.List.{list_all, All, AllZip}
+use Rattle.std.proofs.lemmas.List.{length-set}
 use Rattle.std.proofs.lemmas.List.Elements.{All-nil, All-cons, All-head}
 use Rattle.std.specs.declared.collections.VecDeque.{VecDeque}
 use Rattle.std.specs.declared.alloc.Global.{Global}
@@ -24,8 +25,7 @@ use Rattle.sr_store.specs.declared.store.Arrival.{Arrival}
 use Rattle.sr_store.specs.Classes.{touches, restamped}
 use Rattle.sr_store.specs.Told.{Told, IsTold, AreTrueOf}
 use Rattle.sr_store.specs.Answered.{IsArrival, AreApart, HaveArrived, held_of}
-use Rattle.sr_store.proofs.Stamped.{stamp-asked, stamp-answered, answered-last}
-use Rattle.sr_store.proofs.Renewal.{renewal}
+use Rattle.sr_store.proofs.Stamping.{stamp_answered}
 use Rattle.sr_join.specs.Found.{cells_of}
 use Rattle.sr_script.specs.declared.line.TraceLine.{TraceLine}
 use Rattle.sr_script.specs.declared.line.TraceLine.TheVariants as line
@@ -39,6 +39,7 @@ use Rattle.sr_world.specs.declared.client.AskOut as code
 use Rattle.sr_world.specs.Answering.{is_kept, is_new, HaveRows, BringRows}
 use Rattle.sr_world.specs.Client.{arrived, arrival_of, arrivals_of}
 use Rattle.sr_world.specs.Represents.{Past, ClientFacts, Facts, Represents, IsOut, request_of, scene_of, client_of, told_of}
+use Rattle.sr_world.proofs.Renewal.{renewal}
 use Rattle.sr_world.proofs.Arrivals.{arrived-rows}
 use Rattle.sr_world.proofs.Calls.{Answers, IsAfter}
 use Rattle.sr_world.proofs.RowMessages.{AllRows}
@@ -152,34 +153,12 @@ with_reply w version store to_client = record w { client = record w.client { ver
 abbrev pub lines_of_reply : code.AskOut → ℕ → List Mark → List Row → List TraceLine
 lines_of_reply o version marks rows = (line.Answer 1 o.query_number version (length rows) ∷ map line.Row rows) ++ (map (mark_line 1) marks ++ line.ClientAnswered 1 ∷ [])
 
--- the queries once the newest is answered
-record IsAnswered (w : World) (past : Past) (o : code.AskOut) : Type 0 where
-  pub earlier : List Numbered
-  pub after : with_answered o.query_number past.meaning past.queries ≡ earlier ++ record { query = past.meaning; answered = true } ∷ []
-  pub before : past.queries ≡ earlier ++ record { query = past.meaning; answered = false } ∷ []
-  pub number : o.query_number ≡ length earlier + 1
-
-is-answered : (w : World) (past : Past) (o : code.AskOut) → Facts w past → IsOut w past o → IsAnswered w past o
-is-answered w past o f is_out =
-    let old : Numbered = record { query = past.meaning; answered = false } in
-    let new : Numbered = record { query = past.meaning; answered = true } in
-    let count : length past.queries ≡ length is_out.earlier + 1 = ap length is_out.newest ∙ length-append is_out.earlier (old ∷ []) in
-    let number : o.query_number ≡ length is_out.earlier + 1 = is_out.number ∙ (sym f.client.queries ∙ count) in
-    let at : o.query_number - 1 ≡ length is_out.earlier = omega (arith, number) in
-    record {
-      earlier = is_out.earlier;
-      after = ap (λ qs. slice_set qs (o.query_number - 1) new) is_out.newest ∙ answered-last is_out.earlier old new (o.query_number - 1) at;
-      before = is_out.newest;
-      number = number;
-    }
-
-stamps-are : (w : World) (past : Past) (o : code.AskOut) (a : IsAnswered w past o) → IsOut w past o → (t u : ℕ) (p : Row) → IsTrue (is_point (table_at w.server.tables.schema t).columns p)
+stamps-are : (w : World) (past : Past) (o : code.AskOut) → Facts w past → IsOut w past o → (t u : ℕ) (p : Row) → is_point (table_at w.server.tables.schema t).columns p ≡ true
     → restamped o.query_number o.query.parts (stamp past.queries) t u p ≡ stamp (with_answered o.query_number past.meaning past.queries) t u p
-stamps-are w past o a is_out t u p point =
-    let old : stamp past.queries t u p ≡ stamp a.earlier t u p = ap (λ qs. stamp qs t u p) a.before ∙ stamp-asked a.earlier past.meaning t u p in
-    ap (λ k. if touches o.query.parts t u p then o.query_number else k) old
-    ∙ (stamp-answered w.server.tables.schema a.earlier past.meaning o.query_number o.query.parts t u p is_out.meant.query.parts a.number point
-    ∙ ap (λ qs. stamp qs t u p) (sym a.after))
+stamps-are w past o f is_out t u p point =
+    let number : o.query_number ≡ length (is_out.earlier ++ record { query = past.meaning; answered = false } ∷ []) = is_out.number ∙ (sym f.client.queries ∙ ap length is_out.newest) in
+    subst (λ qs. restamped o.query_number o.query.parts (stamp qs) t u p ≡ stamp (with_answered o.query_number past.meaning qs) t u p) (sym is_out.newest)
+    (stamp_answered w.server.tables.schema o.query_number o.query.parts is_out.earlier past.meaning is_out.meant.query.parts number t u p point)
 
 pub replied : (w : World) (past : Past) (c : IsComing w past) (b : IsBrought w past c.out) (store : Store) (marks : List Mark) (rows : List Row) (to_client : VecDeque Message Global) → Facts w past
     → w.to_client.items ≡ Reply c.out.number w.server.version ∷ to_client.items → to_client.items ≡ [] → Answers c.out.query w.client.store.regions (the_arrival w past c.out b ∷ []) rows
@@ -192,20 +171,17 @@ replied w past c b store marks rows to_client f first none gives a =
     let changed : World = with_reply w w.server.version store to_client in
     let after : List Numbered = with_answered o.query_number past.meaning past.queries in
     let new : Past = record past { marks = with_marks past.marks marks; queries = after } in
-    let answered = is-answered w past o f c.is_out in
     let ren = renewal s o.query_number o.query.parts (r ∷ []) w.client.store.regions store.regions marks past.marks past.queries after (have-first s f.server.tables) a.renewed f.client.keeps
-        (stamps-are w past o answered c.is_out) in
+        (stamps-are w past o f c.is_out) in
     let fit : AreFit w past o (r ∷ []) = subst (AreFit w past o) (arrivals-are w past o b) (are-fit w past o f b) in
     let true_now : AreTrueOf (told_of w.server.tables.rows) store.regions = a.true_still (told_of w.server.tables.rows) (told-now w past f.server) (true-now w past f) fit.brought in
-    let count : length after ≡ w.client.queries =
-    ap length answered.after ∙ (length-append answered.earlier (record { query = past.meaning; answered = true } ∷ []) ∙ (sym answered.number ∙ c.is_out.number)) in
     let client : ClientFacts changed new = record {
       store = a.store;
       keeps = ren.keeps;
       are_true = subst (λ ts. AreTrueOf (told_of ts) store.regions) (sym f.server.newest) true_now;
       version = omega arith;
       recent = inr (refl, c.is_replied.upto);
-      queries = count;
+      queries = length-set past.queries _ _ ∙ f.client.queries;
     } in
     let facts : Facts changed new = record {
       server = server-still w past changed.client w.to_server to_client new.marks after past.meaning f.server;

@@ -18,9 +18,9 @@ use Rattle.sr_history.specs.Rests.{Asks}
 use Rattle.sr_region.specs.declared.region.Region.{Region}
 use Rattle.sr_store.specs.Classes.{Stamps, Keeps as KeepsPoints}
 use Rattle.sr_store.specs.Stores.{IsOfSchema}
-use Rattle.sr_store.proofs.Stamped.{stamp-asked, keeps-same}
-use Rattle.sr_store.proofs.Classed.{nothing-held, some-held}
-use Rattle.sr_store.proofs.Renewal.{HaveFirst}
+use Rattle.sr_store.proofs.Covering.{all_none, keeps_same}
+use Rattle.sr_store.proofs.Stamping.{stamp_none}
+use Rattle.sr_world.proofs.Renewal.{HaveFirst}
 use Rattle.sr_script.specs.declared.line.TraceLine.{TraceLine}
 use Rattle.sr_script.specs.declared.line.TraceLine.TheVariants as line
 use Rattle.sr_scene.specs.Scene.{Scene}
@@ -37,14 +37,19 @@ use Rattle.sr_world.proofs.MeantLemmas.{are-sound}
 use Rattle.sr_world.proofs.StepLemmas.{does}
 use Rattle.sr_world.proofs.FactLemmas.{have-first, server-still}
 
--- the mode of an ask says whether anything is held
-mode-is : (schema : List Table) (marks : List Mark) (stamps : Stamps) (gs : List Region) → HaveFirst schema → All (IsOfSchema schema) gs → KeepsPoints schema (is_held marks) stamps gs
-    → IsTrue (is_empty gs) ↔ HoldsNothing schema marks
-mode-is schema marks stamps [] first each keeps = (λ h. nothing-held schema marks stamps [] keeps refl, λ h. refl)
-mode-is schema marks stamps (g ∷ gs) first each keeps = (λ h. absurd (cc), λ none. absurd (some-held schema marks stamps g gs first each keeps none))
+is-empty : (gs : List Region) → is_empty gs ≡ true → gs ≡ []
+is-empty [] h = refl
+is-empty (g ∷ gs) h = absurd (cc)
 
 empty-is : (gs : List Region) → gs ≡ [] → is_empty gs ≡ true
 empty-is gs none = rw none refl
+
+-- the mode of an ask says whether anything is held
+mode-is : (schema : List Table) (marks : List Mark) (stamps : Stamps) (gs : List Region) → HaveFirst schema → All (IsOfSchema schema) gs → KeepsPoints schema (is_held marks) stamps gs
+    → IsTrue (is_empty gs) ↔ HoldsNothing schema marks
+mode-is schema marks stamps gs first each keeps =
+    let all = all_none schema marks stamps gs first each keeps in
+    (λ h. all.0 (is-empty gs h), λ none. empty-is gs (all.1 none))
 
 -- the ask of these parts of a query, with the client's next numbers
 abbrev pub next_ask : World → Query → List AskPart → code.AskOut
@@ -95,7 +100,7 @@ asked w past q m asks queue f none is rest some queued =
     let number : n ≡ length past.queries + 1 = ap (λ k. k + 1) (sym f.client.queries) in
     let client : ClientFacts changed new = record {
       store = f.client.store;
-      keeps = keeps-same s (is_held past.marks) (is_held past.marks) (stamp past.queries) (stamp after) regions (λ t a p point. refl) (λ t a p point. sym (stamp-asked past.queries m t a p)) f.client.keeps;
+      keeps = keeps_same s (is_held past.marks) (is_held past.marks) (stamp past.queries) (stamp after) regions (λ t a p point. refl) (λ t a p point. sym (stamp_none past.queries m t a p)) f.client.keeps;
       are_true = f.client.are_true;
       version = f.client.version;
       recent = f.client.recent;

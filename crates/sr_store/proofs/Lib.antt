@@ -9,5 +9,16 @@ pub mod Keeping
 pub mod Dropping
 pub mod Making
 pub mod Joining
+pub mod Untouched
+pub mod Overlaps
 pub mod Fits
 pub mod Answering
+pub mod Covering
+pub mod Stamping
+pub mod Classing
+pub mod Absorbing
+pub mod Stepping
+pub mod Given
+pub mod Counting
+pub mod Heavy
+pub mod Trials

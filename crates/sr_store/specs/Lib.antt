@@ -4,3 +4,4 @@ pub mod Stores
 pub mod Answered
 pub mod Renewing
 pub mod Making
+pub mod Past

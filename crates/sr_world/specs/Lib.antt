@@ -1,3 +1,4 @@
+pub mod Answering
 pub mod Asking
 pub mod Bound
 pub mod Client
@@ -5,4 +6,5 @@ pub mod Ran
 pub mod Replay
 pub mod Refused
 pub mod Represents
+pub mod Taking
 pub mod Worlds

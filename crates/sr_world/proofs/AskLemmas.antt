@@ -1,0 +1,168 @@
+-- What is asked of some parts is what is left of them.
+use Rattle.std.proofs.Common.{◌≡◌, ℕ, ◌+◌, ◌<◌, zero, suc, Bool, true, false, List, [], ◌∷◌, ◌++◌, length, refl, sym, ◌∙◌, ap, subst, arith, inl, inr, get_or, take}
+use Rattle.std.specs.Prelude.{IsTrue, not, ◌&&◌, ◌⊎◌, ◌↔◌, nat_lt}
+use Rattle.std.specs.List.{list_all, All, AllZip}
+use Rattle.std.proofs.lemmas.Bool.Decides.{nat_tests}
+use Rattle.std.proofs.lemmas.List.Elements.{All-head, All-tail}
+use Rattle.sr_cell.specs.declared.table.Column.{Column}
+use Rattle.sr_cell.specs.declared.table.Table.{Table}
+use Rattle.sr_cell.specs.Attrs.{has_column}
+use Rattle.sr_cell.specs.Cells.{Row}
+use Rattle.sr_cell.specs.Columns.{table_at, is_point}
+use Rattle.sr_box.specs.Points.{Rect, Points, in_any, rect_fits, constrains_only, AreSame, HasPoint, HasNoPoint, IsEssential}
+use Rattle.sr_trim.specs.Left.{left_over}
+use Rattle.sr_message.specs.declared.message.AskPart.{AskPart}
+use Rattle.sr_model.specs.Queries as model
+use Rattle.sr_model.specs.Queries.{points_of}
+use Rattle.sr_query.specs.Bound.{IsPart}
+use Rattle.sr_query.specs.declared.query.Part.{Part}
+use Rattle.sr_history.specs.declared.mark.Mark.{Mark}
+use Rattle.sr_history.specs.Marks.{is_held, is_covered}
+use Rattle.sr_history.specs.Rests.{rest_of, IsRest, Asks, nothing, covered, asked}
+use Rattle.sr_language.specs.Sound.{is_sound_part}
+use Rattle.sr_region.specs.declared.region.Region.{Region}
+use Rattle.sr_store.specs.Classes.{Stamps, Keeps}
+use Rattle.sr_store.specs.Stores.{serves, cover_of, IsOfSchema}
+use Rattle.sr_store.proofs.Covering.{cover_is}
+use Rattle.sr_world.specs.Asking.{AsksRest, AreMeant, entry_of}
+
+-- what trimming leaves of a part
+pub record IsTrimmed (columns : List Column) (need : ℕ) (left : Points) (attrs : ℕ) (rest : List Rect) : Type 0 where
+  pub fits : list_all (rect_fits columns) rest ≡ true
+  pub points : AreSame columns (in_any rest) left
+  pub bound : list_all (constrains_only attrs 0) rest ≡ true
+  pub shipped : (c : ℕ) → IsTrue (has_column attrs c) ↔ (IsTrue (has_column need c) ⊎ IsEssential columns left c)
+  pub empty : (rest ≡ []) ↔ HasNoPoint columns left
+  pub some : (rest ≡ [] → ⊥) → HasPoint columns left
+
+essential-same : (columns : List Column) (a b : Points) (c : ℕ) → AreSame columns a b → IsEssential columns a c → IsEssential columns b c
+essential-same columns a b c same e = record {
+  inside = e.inside;
+  other = e.other;
+  is_inside = (e.is_inside.0, sym (same e.inside e.is_inside.0) ∙ e.is_inside.1);
+  is_outside = (e.is_outside.0, sym (same _ e.is_outside.0) ∙ e.is_outside.1);
+}
+
+-- the same of other words for what is left
+trimmed-same : (columns : List Column) (need : ℕ) (a b : Points) (attrs : ℕ) (rest : List Rect) → AreSame columns a b → IsTrimmed columns need a attrs rest → IsTrimmed columns need b attrs rest
+trimmed-same columns need a b attrs rest same t = record {
+  fits = t.fits;
+  points = λ p q. t.points p q ∙ same p q;
+  bound = t.bound;
+  shipped = λ c. (
+    λ h. elim ((t.shipped c).0 h) [ inl needed ↦ inl needed | inr e ↦ inr (essential-same columns a b c same e) ],
+    λ h. elim h [ inl needed ↦ (t.shipped c).1 (inl needed) | inr e ↦ (t.shipped c).1 (inr (essential-same columns b a c (λ p q. sym (same p q)) e)) ],
+  );
+  empty = (λ none p q. sym (same p q) ∙ t.empty.0 none p q, λ none. t.empty.1 (λ p q. same p q ∙ none p q));
+  some = λ h. let s = t.some h in (s.0, s.1, sym (same s.0 s.1) ∙ s.2);
+}
+
+-- what is left without the cover is the rest
+left-rest : (schema : List Table) (marks : List Mark) (stamps : Stamps) (regions : List Region) (part : Part) (m : model.Part) → Keeps schema (is_held marks) stamps regions → IsPart schema part m
+    → AreSame (table_at schema part.table).columns (left_over part.rects (cover_of part regions)) (rest_of marks m)
+left-rest schema marks stamps regions part m keeps is p point =
+    let here : is_point (table_at schema m.table).columns p ≡ true = subst (λ t. is_point (table_at schema t).columns p ≡ true) is.table point in
+    let same : in_any part.rects p ≡ points_of m p = is.rects.points p here in
+    let cover = cover_is schema marks stamps regions part p keeps point in
+    let covered : is_covered marks part.table part.need p ≡ is_covered marks m.table m.need p = ap (λ t. is_covered marks t part.need p) is.table ∙ ap (λ n. is_covered marks m.table n p) is.need in
+    ap (λ b. b && not (in_any (cover_of part regions) p)) same ∙ ap (λ b. points_of m p && not b) (cover ∙ covered)
+
+-- the entry asks the rest, where there is one
+entry-asks : (schema : List Table) (marks : List Mark) (m : model.Part) (table need attrs : ℕ) (rest : List Rect) → table ≡ m.table → need ≡ m.need
+    → IsTrimmed (table_at schema m.table).columns need (rest_of marks m) attrs rest → Asks schema marks (m ∷ []) (entry_of table attrs rest)
+entry-asks schema marks m table need attrs [] same needs t = covered m [] [] (t.empty.0 refl) nothing
+entry-asks schema marks m table need attrs (r ∷ rest) same needs t =
+    asked m [] (record { table = table; attrs = attrs; rects = r ∷ rest }) [] (record {
+      table = same;
+      fits = t.fits;
+      bound = t.bound;
+      some = t.some (λ none. absurd (cc));
+      same = t.points;
+      columns = λ c. subst (λ n. IsTrue (has_column attrs c) ↔ (IsTrue (has_column n c) ⊎ IsEssential (table_at schema m.table).columns (rest_of marks m) c)) needs (t.shipped c);
+    }) nothing
+
+-- what trimming leaves of a part is all that is to be asked of it
+pub asks-rest : (schema : List Table) (regions : List Region) (part : Part) (attrs : ℕ) (rest : List Rect)
+    → IsTrimmed (table_at schema part.table).columns part.need (left_over part.rects (cover_of part regions)) attrs rest → AsksRest schema regions (part ∷ []) (entry_of part.table attrs rest)
+asks-rest schema regions part attrs rest t marks stamps [] keeps zip sound = absurd zip
+asks-rest schema regions part attrs rest t marks stamps (m ∷ n ∷ meant) keeps zip sound = absurd zip.1
+asks-rest schema regions part attrs rest t marks stamps (m ∷ []) keeps zip sound =
+    let is = zip.0 in
+    let now = trimmed-same (table_at schema part.table).columns part.need (left_over part.rects (cover_of part regions)) (rest_of marks m) attrs rest (left-rest schema marks stamps regions part m keeps is) t in
+    entry-asks schema marks m part.table part.need attrs rest is.table is.need (subst (λ u. IsTrimmed (table_at schema u).columns part.need (rest_of marks m) attrs rest) is.table now)
+
+-- ---- some parts and others
+
+asks-join : (schema : List Table) (marks : List Mark) (xs ys : List model.Part) (own bs : List AskPart) → Asks schema marks xs own → Asks schema marks ys bs → Asks schema marks (xs ++ ys) (own ++ bs)
+asks-join schema marks xs ys own bs nothing b = b
+asks-join schema marks xs ys own bs (covered part parts more none a) b = covered part (parts ++ ys) (more ++ bs) none (asks-join schema marks parts ys more bs a b)
+asks-join schema marks xs ys own bs (asked part parts ask more rest a) b = asked part (parts ++ ys) ask (more ++ bs) rest (asks-join schema marks parts ys more bs a b)
+
+record IsSplit (schema : List Table) (xs ys : List Part) (meant : List model.Part) : Type 0 where
+  pub front : List model.Part
+  pub back : List model.Part
+  pub is : meant ≡ front ++ back
+  pub same : AllZip (IsPart schema) xs front
+  pub more : AllZip (IsPart schema) ys back
+
+split : (schema : List Table) (xs ys : List Part) (meant : List model.Part) → AllZip (IsPart schema) (xs ++ ys) meant → IsSplit schema xs ys meant
+split schema [] ys meant zip = record { front = []; back = meant; is = refl; same = tt; more = zip }
+split schema (x ∷ xs) ys [] zip = absurd zip
+split schema (x ∷ xs) ys (m ∷ meant) zip =
+    let s = split schema xs ys meant zip.1 in
+    record { front = m ∷ s.front; back = s.back; is = ap (λ ms. m ∷ ms) s.is; same = (zip.0, s.same); more = s.more }
+
+sound-front : (schema : List Table) (xs ys : List model.Part) → list_all (is_sound_part schema) (xs ++ ys) ≡ true → list_all (is_sound_part schema) xs ≡ true
+sound-front schema [] ys h = refl
+sound-front schema (x ∷ xs) ys h = let ih = sound-front schema xs ys (grind arith) in grind (arith, ih)
+
+sound-back : (schema : List Table) (xs ys : List model.Part) → list_all (is_sound_part schema) (xs ++ ys) ≡ true → list_all (is_sound_part schema) ys ≡ true
+sound-back schema [] ys h = h
+sound-back schema (x ∷ xs) ys h = sound-back schema xs ys (grind arith)
+
+pub asks-append : (schema : List Table) (regions : List Region) (xs ys : List Part) (own bs : List AskPart) → AsksRest schema regions xs own → AsksRest schema regions ys bs
+    → AsksRest schema regions (xs ++ ys) (own ++ bs)
+asks-append schema regions xs ys own bs a b marks stamps meant keeps zip sound =
+    let s = split schema xs ys meant zip in
+    let all : list_all (is_sound_part schema) (s.front ++ s.back) ≡ true = subst (λ ms. list_all (is_sound_part schema) ms ≡ true) s.is sound in
+    subst (λ ms. Asks schema marks ms (own ++ bs)) (sym s.is)
+    (asks-join schema marks s.front s.back own bs (a marks stamps s.front keeps s.same (sound-front schema s.front s.back all)) (b marks stamps s.back keeps s.more (sound-back schema s.front s.back all)))
+
+pub asks-nothing : (schema : List Table) (regions : List Region) → AsksRest schema regions [] []
+asks-nothing schema regions marks stamps [] keeps zip sound = nothing
+asks-nothing schema regions marks stamps (m ∷ meant) keeps zip sound = absurd zip
+
+-- ---- each part
+
+pub meant-at : (schema : List Table) (parts : List Part) (i : ℕ) (d : Part) → i < length parts → AreMeant schema parts → AreMeant schema (get_or parts i d ∷ [])
+meant-at schema parts i d within (meant, zip, sound) = by parts i meant within zip sound
+  where
+    by : (parts : List Part) (i : ℕ) (meant : List model.Part) → i < length parts → AllZip (IsPart schema) parts meant → list_all (is_sound_part schema) meant ≡ true → AreMeant schema (get_or parts i d ∷ [])
+    by [] i meant within zip sound = absurd (omega (arith, within))
+    by (p ∷ parts) i [] within zip sound = absurd zip
+    by (p ∷ parts) zero (m ∷ meant) within zip sound = (m ∷ [], (zip.0, tt), grind arith)
+    by (p ∷ parts) (suc i) (m ∷ meant) within zip sound = by parts i meant (omega (arith, within)) zip.1 (grind arith)
+
+-- a part that is meant is of a table of the schema, and its rects fit it
+pub record IsSound (schema : List Table) (part : Part) : Type 0 where
+  pub meant : model.Part
+  pub is : IsPart schema part meant
+  pub sound : is_sound_part schema meant ≡ true
+  pub within : part.table < length schema
+  pub fits : list_all (rect_fits (table_at schema part.table).columns) part.rects ≡ true
+
+pub is-sound : (schema : List Table) (part : Part) (m : model.Part) → IsPart schema part m → is_sound_part schema m ≡ true → IsSound schema part
+is-sound schema part m is sound =
+    let below : m.table < length schema = grind (arith, nat_tests, sound) in
+    record {
+      meant = m;
+      is = is;
+      sound = sound;
+      within = subst (λ t. t < length schema) (sym is.table) below;
+      fits = subst (λ t. list_all (rect_fits (table_at schema t).columns) part.rects ≡ true) (sym is.table) is.rects.fits;
+    }
+
+pub sound-one : (schema : List Table) (part : Part) → AreMeant schema (part ∷ []) → IsSound schema part
+sound-one schema part ([], zip, sound) = absurd zip
+sound-one schema part (m ∷ [], zip, sound) = is-sound schema part m zip.0 (grind arith)
+sound-one schema part (m ∷ n ∷ meant, zip, sound) = absurd zip.1

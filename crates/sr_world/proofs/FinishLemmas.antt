@@ -177,7 +177,7 @@ does-finish before w out version t = subst (Finishes before out version) (sym t.
     here arrivals laid store marks rows lines arrivals_are none gives after lines_are =
         let taken : DoesDelivery before (with_reply before version store w.to_client) (lines_of_reply out version marks rows) =
         does (λ s. Delivers s 1) before (with_reply before version store w.to_client) (lines_of_reply out version marks rows)
-            (λ past f. replies before past out t.number version arrivals store marks rows w.to_client f t.out_was t.first arrivals_are gives after) in
+        (λ past f. replies before past out t.number version arrivals store marks rows w.to_client f t.out_was t.first arrivals_are gives after) in
         let without : List Message → World = λ ms. record before { client = record before.client { version = version; out = None; laid = ms; store = store }; to_client = w.to_client } in
         subst (λ ms. DoesDelivery before (without ms) lines) (sym none) (subst (DoesDelivery before (with_reply before version store w.to_client)) (sym lines_are) taken)
 

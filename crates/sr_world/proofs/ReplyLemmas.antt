@@ -138,10 +138,10 @@ rows-came w past o b rows f gives =
     let r : Arrival = the_arrival w past o b in
     let fit : AreFit w past o (r ∷ []) = subst (AreFit w past o) (arrivals-are w past o b) (are-fit w past o f b) in
     let given = gives s newest part (is-one-part s newest o.query past.meaning one (points-now w past f.server) (ascend-now w past f.server))
-        (record { each = f.client.store.each; are_true = true-now w past f })
-        (record { suit = arrival-suits s past.marks newest part one.meant b.ask (arrived w.client.laid) b.asked; arrived = fit.brought }) in
+    (record { each = f.client.store.each; are_true = true-now w past f })
+    (record { suit = arrival-suits s past.marks newest part one.meant b.ask (arrived w.client.laid) b.asked; arrived = fit.brought }) in
     let chosen = filter-points (table_at s part.table).columns (λ p. is_kept part w.client.store.regions p || is_new part (r ∷ []) p) (points_of one.meant) (rows_at newest part.table) (points-now w past f.server part.table)
-        (all-there s past.marks (stamp past.queries) newest part one.meant b.ask (arrived w.client.laid) w.client.store.regions b.asked f.client.keeps) in
+    (all-there s past.marks (stamp past.queries) newest part one.meant b.ask (arrived w.client.laid) w.client.store.regions b.asked f.client.keeps) in
     given ∙ (ap (map (cells_of o.query.output)) chosen
     ∙ (ap (λ t. map (cells_of o.query.output) (filter (points_of one.meant) (rows_at newest t))) one.is.table
     ∙ (sym (one.answer newest) ∙ ap (rows_of past.meaning) (sym f.server.newest))))
@@ -172,7 +172,7 @@ replied w past c b store marks rows to_client f first none gives a =
     let after : List Numbered = with_answered o.query_number past.meaning past.queries in
     let new : Past = record past { marks = with_marks past.marks marks; queries = after } in
     let ren = renewal s o.query_number o.query.parts (r ∷ []) w.client.store.regions store.regions marks past.marks past.queries after (have-first s f.server.tables) a.renewed f.client.keeps
-        (stamps-are w past o f c.is_out) in
+    (stamps-are w past o f c.is_out) in
     let fit : AreFit w past o (r ∷ []) = subst (AreFit w past o) (arrivals-are w past o b) (are-fit w past o f b) in
     let true_now : AreTrueOf (told_of w.server.tables.rows) store.regions = a.true_still (told_of w.server.tables.rows) (told-now w past f.server) (true-now w past f) fit.brought in
     let client : ClientFacts changed new = record {

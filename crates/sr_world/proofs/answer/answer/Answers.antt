@@ -25,5 +25,5 @@ returns c = λ schema tables part.
     let kept = c.in_ok-lend_regions.ensures schema tables (λ p. false) one have (c.new-joiner.ensures.found coded.key query.output all) in
     let found = c.in_ok-lend_arrivals.ensures schema tables (λ p. false || is_kept coded regions p) one brings kept in
     let answers = of_ok (λ answer. answer ≡ map (cells_of query.output) (filter (λ p. is_kept coded regions p || is_new coded arrivals p) all)) c.answer.result rows is
-        (c.answer.ensures.found coded.key query.output all (λ p. is_kept coded regions p || is_new coded arrivals p) found) in
+    (c.answer.ensures.found coded.key query.output all (λ p. is_kept coded regions p || is_new coded arrivals p) found) in
     subst (λ (p : Part). rows ≡ map (cells_of query.output) (filter (λ r. is_kept p regions r || is_new p arrivals r) (rows_at tables p.table))) same answers)

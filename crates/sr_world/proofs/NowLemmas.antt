@@ -1,7 +1,7 @@
 -- A query of which nothing is left to ask is answered at once, as the scene says.
 use Rattle.std.proofs.Common.{◌≡◌, ℕ, ◌+◌, Bool, true, false, List, [], ◌∷◌, ◌++◌, map, length, refl, sym, ◌∙◌, ap, subst, arith, inl, inr, Some, None, Ok, length-append, append_assoc}
-use Rattle.std.specs.Prelude.{IsTrue, not, ◌&&◌, ◌||◌, ◌⊎◌, filter}
-use Rattle.std.specs.List.{list_all, list_any, All}
+use Rattle.std.specs.Prelude.{not, ◌&&◌, ◌||◌, ◌⊎◌, filter}
+use Rattle.std.specs.List.{list_all, All}
 use Rattle.std.proofs.lemmas.List.Elements.{All-nil}
 use Rattle.sr_cell.specs.declared.table.Table.{Table}
 use Rattle.sr_cell.specs.declared.table.Column.{Column}
@@ -22,7 +22,6 @@ use Rattle.sr_history.specs.Classes.{Numbered, stamp}
 use Rattle.sr_history.specs.Rests.{rest_of, Asks}
 use Rattle.sr_region.specs.declared.region.Region.{Region}
 use Rattle.sr_store.specs.declared.store.Store.{Store}
-use Rattle.sr_store.specs.declared.store.Arrival.{Arrival}
 use Rattle.sr_store.specs.Classes.{Stamps, Keeps as KeepsPoints}
 use Rattle.sr_store.specs.Told.{IsTrueOf, AreTrueOf}
 use Rattle.sr_store.specs.Stores.{cover_of}
@@ -33,12 +32,11 @@ use Rattle.sr_join.specs.Found.{cells_of}
 use Rattle.sr_script.specs.declared.line.TraceLine.{TraceLine}
 use Rattle.sr_script.specs.declared.line.TraceLine.TheVariants as line
 use Rattle.sr_scene.specs.Scene.{Scene}
-use Rattle.sr_scene.specs.Scene as scene
 use Rattle.sr_scene.specs.Steps.{Happens, Keeps, QueriesIfFree, answer_lines, mark_line}
 use Rattle.sr_world.specs.declared.world.World.{World}
 use Rattle.sr_world.specs.declared.client.AskOut as code
 use Rattle.sr_world.specs.Asking.{AsksRest}
-use Rattle.sr_world.specs.Answering.{is_kept, is_new, HaveRows, BringRows, Suits}
+use Rattle.sr_world.specs.Answering.{is_kept, is_new, Suits}
 use Rattle.sr_world.specs.Bound.{IsMeaning}
 use Rattle.sr_world.specs.Worlds.{DoesEvent}
 use Rattle.sr_world.specs.Represents.{Past, ClientFacts, Facts, Represents, Flow, request_of, scene_of, client_of, told_of}
@@ -103,15 +101,15 @@ rows-now w past q m one rows f none gives =
     let old : Tables = version_at past.versions w.client.version in
     let cs = (table_at s part.table).columns in
     let given = gives s newest part (is-one-part s newest q m one (points-now w past f.server) (ascend-now w past f.server))
-        (record { each = f.client.store.each; are_true = true-now w past f }) (record { suit = All-nil (Suits s part); arrived = All-nil _ }) in
+    (record { each = f.client.store.each; are_true = true-now w past f }) (record { suit = All-nil (Suits s part); arrived = All-nil _ }) in
     let chosen = filter-points cs (λ p. is_kept part w.client.store.regions p || is_new part [] p) (points_of one.meant) (rows_at newest part.table) (points-now w past f.server part.table)
-        (kept-all s past.marks (stamp past.queries) w.client.store.regions part one.meant f.client.keeps one.is none) in
+    (kept-all s past.marks (stamp past.queries) w.client.store.regions part one.meant f.client.keeps one.is none) in
     let same : filter (points_of one.meant) (rows_at newest part.table) ≡ filter (points_of one.meant) (rows_at old part.table) =
     elim f.client.recent [
       | inl empty ↦
-        let free = no-points s past.marks (stamp past.queries) w.client.store.regions part one.meant f.client.keeps one.is none empty in
-        filter-none cs (points_of one.meant) (rows_at newest part.table) (points-now w past f.server part.table) free
-        ∙ sym (filter-none cs (points_of one.meant) (rows_at old part.table) (f.server.points w.client.version part.table) free)
+          let free = no-points s past.marks (stamp past.queries) w.client.store.regions part one.meant f.client.keeps one.is none empty in
+          filter-none cs (points_of one.meant) (rows_at newest part.table) (points-now w past f.server part.table) free
+          ∙ sym (filter-none cs (points_of one.meant) (rows_at old part.table) (f.server.points w.client.version part.table) free)
       | inr recent ↦ ap (λ ts. filter (points_of one.meant) (rows_at ts part.table)) (sym (version-now w past f.server recent.0))
     ] in
     given ∙ (ap (map (cells_of q.output)) (chosen ∙ same) ∙ (ap (λ t. map (cells_of q.output) (filter (points_of one.meant) (rows_at old t))) one.is.table ∙ sym (one.answer old)))
@@ -141,11 +139,11 @@ regions-now w past q new marks f a =
     let s = w.server.tables.schema in
     elim f.client.recent [
       | inl none ↦
-        let nothing : new ≡ [] = nothing-new s (w.client.queries + 1) q.parts new marks (have-first s f.server.tables) (subst (λ gs. IsRenewed s (w.client.queries + 1) q.parts [] gs new marks) none a.renewed) in
-        record { are_true = subst (All (IsTrueOf (told_of (version_at past.versions w.client.version)))) (sym nothing) (All-nil (IsTrueOf (told_of (version_at past.versions w.client.version)))); recent = inl nothing }
+          let nothing : new ≡ [] = nothing-new s (w.client.queries + 1) q.parts new marks (have-first s f.server.tables) (subst (λ gs. IsRenewed s (w.client.queries + 1) q.parts [] gs new marks) none a.renewed) in
+          record { are_true = subst (All (IsTrueOf (told_of (version_at past.versions w.client.version)))) (sym nothing) (All-nil (IsTrueOf (told_of (version_at past.versions w.client.version)))); recent = inl nothing }
       | inr recent ↦
-        let still : AreTrueOf (told_of w.server.tables.rows) new = a.true_still (told_of w.server.tables.rows) (told-now w past f.server) (true-now w past f) (All-nil _) in
-        record { are_true = subst (λ ts. AreTrueOf (told_of ts) new) (sym (version-now w past f.server recent.0)) still; recent = inr recent }
+          let still : AreTrueOf (told_of w.server.tables.rows) new = a.true_still (told_of w.server.tables.rows) (told-now w past f.server) (true-now w past f) (All-nil _) in
+          record { are_true = subst (λ ts. AreTrueOf (told_of ts) new) (sym (version-now w past f.server recent.0)) still; recent = inr recent }
     ]
 
 answers-now : (w : World) (past : Past) (q : Query) (m : model.Query) (store : Store) (marks : List Mark) (rows : List Row) → Facts w past → w.client.out ≡ None
@@ -163,7 +161,7 @@ answers-now w past q m store marks rows f none is nothing gives a =
     let free = no-rest s past.marks m.parts [] one.meant asks one.meant_parts refl in
     let number : n ≡ length past.queries + 1 = ap (λ k. k + 1) (sym f.client.queries) in
     let ren = renewal s n q.parts [] w.client.store.regions store.regions marks past.marks past.queries after (have-first s f.server.tables) a.renewed f.client.keeps
-        (stamp_more s n q.parts past.queries m is.query.parts number) in
+    (stamp_more s n q.parts past.queries m is.query.parts number) in
     let now = regions-now w past q store.regions marks f a in
     let client : ClientFacts changed new = record {
       store = a.store;

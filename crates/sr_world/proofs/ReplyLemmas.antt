@@ -1,15 +1,14 @@
 -- The client takes the reply of its ask, as the scene says.
-use Rattle.std.proofs.Common.{◌≡◌, ℕ, ◌+◌, ◌-◌, ◌≤◌, true, false, List, [], ◌∷◌, ◌++◌, map, length, refl, sym, ◌∙◌, ap, subst, arith, inl, inr, Some, None, append-nil, length-append}
-use Rattle.std.specs.Prelude.{IsTrue, ◌||◌, filter, if◌then◌else◌, slice_set}
+use Rattle.std.proofs.Common.{◌≡◌, ℕ, true, false, List, [], ◌∷◌, ◌++◌, map, length, refl, sym, ◌∙◌, ap, subst, arith, inl, inr, None, append-nil}
+use Rattle.std.specs.Prelude.{◌||◌, filter}
 use Rattle.std.specs.List.{list_all, All, AllZip}
 use Rattle.std.proofs.lemmas.List.{length-set}
 use Rattle.std.proofs.lemmas.List.Elements.{All-nil, All-cons, All-head}
 use Rattle.std.specs.declared.collections.VecDeque.{VecDeque}
 use Rattle.std.specs.declared.alloc.Global.{Global}
-use Rattle.sr_cell.specs.declared.table.Table.{Table}
 use Rattle.sr_cell.specs.Cells.{Row}
 use Rattle.sr_cell.specs.Columns.{table_at, is_point}
-use Rattle.sr_box.specs.Points.{in_any, rect_fits}
+use Rattle.sr_box.specs.Points.{rect_fits}
 use Rattle.sr_message.specs.declared.message.AskPart.{AskPart}
 use Rattle.sr_message.specs.declared.message.Message.{Message}
 use Rattle.sr_message.specs.declared.message.Message.TheVariants.{Ask, Notice, Rows, Reply}
@@ -17,13 +16,12 @@ use Rattle.sr_model.specs.Statements.{Tables}
 use Rattle.sr_model.specs.Queries.{rows_at, rows_of, points_of}
 use Rattle.sr_model.specs.Changes.{version_at}
 use Rattle.sr_history.specs.declared.mark.Mark.{Mark}
-use Rattle.sr_history.specs.Marks.{is_held, with_marks}
+use Rattle.sr_history.specs.Marks.{with_marks}
 use Rattle.sr_history.specs.Classes.{Numbered, stamp}
-use Rattle.sr_history.specs.Rests.{rest_of, IsRest}
 use Rattle.sr_store.specs.declared.store.Store.{Store}
 use Rattle.sr_store.specs.declared.store.Arrival.{Arrival}
-use Rattle.sr_store.specs.Classes.{touches, restamped}
-use Rattle.sr_store.specs.Told.{Told, IsTold, AreTrueOf}
+use Rattle.sr_store.specs.Classes.{restamped}
+use Rattle.sr_store.specs.Told.{AreTrueOf}
 use Rattle.sr_store.specs.Answered.{IsArrival, AreApart, HaveArrived, held_of}
 use Rattle.sr_store.proofs.Stamping.{stamp_answered}
 use Rattle.sr_join.specs.Found.{cells_of}
@@ -36,7 +34,7 @@ use Rattle.sr_scene.specs.Steps.{TakesMessage, Answers as AnswersScene, Keeps, H
 use Rattle.sr_scene.specs.Runs.{Delivers}
 use Rattle.sr_world.specs.declared.world.World.{World}
 use Rattle.sr_world.specs.declared.client.AskOut as code
-use Rattle.sr_world.specs.Answering.{is_kept, is_new, HaveRows, BringRows}
+use Rattle.sr_world.specs.Answering.{is_kept, is_new}
 use Rattle.sr_world.specs.Client.{arrived, arrival_of, arrivals_of}
 use Rattle.sr_world.specs.Represents.{Past, ClientFacts, Facts, Represents, IsOut, request_of, scene_of, client_of, told_of}
 use Rattle.sr_world.proofs.Renewal.{renewal}
@@ -44,7 +42,7 @@ use Rattle.sr_world.proofs.Arrivals.{arrived-rows}
 use Rattle.sr_world.proofs.Calls.{Answers, IsAfter}
 use Rattle.sr_world.proofs.RowMessages.{AllRows}
 use Rattle.sr_world.proofs.TakeLemmas.{IsComing, is-coming, only-rows, delivers}
-use Rattle.sr_world.proofs.MeantLemmas.{IsOneQuery, one-query, is-one-part, IsOneAsk, one-ask}
+use Rattle.sr_world.proofs.MeantLemmas.{IsOneQuery, one-query, is-one-part, one-ask}
 use Rattle.sr_world.proofs.FactLemmas.{have-first, points-now, ascend-now, told-now, true-now, server-still}
 use Rattle.sr_world.proofs.NowLemmas.{filter-points}
 use Rattle.sr_world.proofs.CameLemmas.{IsRestAsked, arrival-is, arrival-apart, arrival-rows, arrival-suits, all-there}
@@ -138,10 +136,10 @@ rows-came w past o b rows f gives =
     let r : Arrival = the_arrival w past o b in
     let fit : AreFit w past o (r ∷ []) = subst (AreFit w past o) (arrivals-are w past o b) (are-fit w past o f b) in
     let given = gives s newest part (is-one-part s newest o.query past.meaning one (points-now w past f.server) (ascend-now w past f.server))
-        (record { each = f.client.store.each; are_true = true-now w past f })
-        (record { suit = arrival-suits s past.marks newest part one.meant b.ask (arrived w.client.laid) b.asked; arrived = fit.brought }) in
+    (record { each = f.client.store.each; are_true = true-now w past f })
+    (record { suit = arrival-suits s past.marks newest part one.meant b.ask (arrived w.client.laid) b.asked; arrived = fit.brought }) in
     let chosen = filter-points (table_at s part.table).columns (λ p. is_kept part w.client.store.regions p || is_new part (r ∷ []) p) (points_of one.meant) (rows_at newest part.table) (points-now w past f.server part.table)
-        (all-there s past.marks (stamp past.queries) newest part one.meant b.ask (arrived w.client.laid) w.client.store.regions b.asked f.client.keeps) in
+    (all-there s past.marks (stamp past.queries) newest part one.meant b.ask (arrived w.client.laid) w.client.store.regions b.asked f.client.keeps) in
     given ∙ (ap (map (cells_of o.query.output)) chosen
     ∙ (ap (λ t. map (cells_of o.query.output) (filter (points_of one.meant) (rows_at newest t))) one.is.table
     ∙ (sym (one.answer newest) ∙ ap (rows_of past.meaning) (sym f.server.newest))))
@@ -172,7 +170,7 @@ replied w past c b store marks rows to_client f first none gives a =
     let after : List Numbered = with_answered o.query_number past.meaning past.queries in
     let new : Past = record past { marks = with_marks past.marks marks; queries = after } in
     let ren = renewal s o.query_number o.query.parts (r ∷ []) w.client.store.regions store.regions marks past.marks past.queries after (have-first s f.server.tables) a.renewed f.client.keeps
-        (stamps-are w past o f c.is_out) in
+    (stamps-are w past o f c.is_out) in
     let fit : AreFit w past o (r ∷ []) = subst (AreFit w past o) (arrivals-are w past o b) (are-fit w past o f b) in
     let true_now : AreTrueOf (told_of w.server.tables.rows) store.regions = a.true_still (told_of w.server.tables.rows) (told-now w past f.server) (true-now w past f) fit.brought in
     let client : ClientFacts changed new = record {

@@ -163,7 +163,12 @@ impl World {
     }
 
     /// Asks for the rest of a query.
-    fn send_ask(&mut self, alloc: Global, query: Query, asks: AskParts) -> Result<TraceLines, NoMemory>
+    fn send_ask(
+        &mut self,
+        alloc: Global,
+        query: Query,
+        asks: AskParts,
+    ) -> Result<TraceLines, NoMemory>
         requires stands { Stands self.old }
         requires idle { self.old.client.out ≡ None }
         requires left { AsksRest self.old.server.tables.schema self.old.client.store.regions query.parts asks }

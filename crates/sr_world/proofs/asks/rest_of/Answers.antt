@@ -1,6 +1,6 @@
-use Rattle.std.proofs.Common.{◌≡◌, ◌∷◌, [], sym, ◌∙◌, ap, subst, true, get_or}
+use Rattle.std.proofs.Common.{◌≡◌, ◌∷◌, [], sym, subst, true, get_or}
 use Rattle.std.specs.List.{list_all}
-use Rattle.sr_box.specs.Points.{Rect, rect_fits}
+use Rattle.sr_box.specs.Points.{rect_fits}
 use Rattle.sr_cell.specs.declared.table.Table.{Table}
 use Rattle.sr_cell.specs.Columns.{table_at}
 use Rattle.sr_trim.specs.Left.{left_over}
@@ -34,6 +34,6 @@ returns-in-Ok-clause-asks c =
     record { fits = c.in-Ok.ensures.fits; points = c.in-Ok.ensures.points; bound = c.in-Ok.ensures.bound; shipped = c.in-Ok.ensures.columns; empty = c.in-Ok.ensures.empty; some = c.in-Ok.ensures.some } in
     let of_table = subst (λ (t : Table). IsTrimmed t.columns c.args.part.now.need (left_over c.args.part.now.rects c.in_ok-cover.cover) c.in-Ok.trimmed.attrs c.in-Ok.trimmed.rest) table trimmed in
     let of_cover = subst (λ rects. IsTrimmed (table_at c.args.schema.now c.args.part.now.table).columns c.args.part.now.need (left_over c.args.part.now.rects rects) c.in-Ok.trimmed.attrs c.in-Ok.trimmed.rest)
-        c.in_ok-cover.ensures of_table in
+    c.in_ok-cover.ensures of_table in
     if_ok (AsksRest c.args.schema.now c.args.store.now.regions (c.args.part.now ∷ [])) c.entry_of.result _ c.entry_of.ensures
     (asks-rest c.args.schema.now c.args.store.now.regions c.args.part.now c.in-Ok.trimmed.attrs c.in-Ok.trimmed.rest of_cover)

@@ -1,11 +1,10 @@
 -- What the client's calls ask of the store and of the answer, and what a reply does.
-use Rattle.std.proofs.Common.{◌≡◌, ℕ, ◌+◌, ◌<◌, true, false, List, [], ◌∷◌, ◌++◌, length, refl, sym, ◌∙◌, ap, subst, arith, Some, None}
-use Rattle.std.specs.Prelude.{IsTrue, ◌&&◌, nat_lt}
+use Rattle.std.proofs.Common.{◌≡◌, ℕ, ◌<◌, true, List, [], ◌∷◌, length, sym, ◌∙◌, ap, subst, arith, Some, None}
+use Rattle.std.specs.Prelude.{IsTrue, nat_lt}
 use Rattle.std.specs.List.{list_all, All}
 use Rattle.std.specs.declared.collections.VecDeque.{VecDeque}
 use Rattle.std.specs.declared.alloc.Global.{Global}
 use Rattle.std.proofs.lemmas.Bool.Decides.{nat_tests}
-use Rattle.std.proofs.lemmas.List.Elements.{All-nil, All-head}
 use Rattle.sr_cell.specs.declared.table.Table.{Table}
 use Rattle.sr_cell.specs.Cells.{Row}
 use Rattle.sr_cell.specs.Columns.{table_at}
@@ -37,9 +36,9 @@ use Rattle.sr_world.specs.Worlds.{Stands, DoesDelivery}
 use Rattle.sr_world.specs.Represents.{Past, Facts, Represents, scene_of, told_of}
 use Rattle.sr_world.proofs.Calls.{Answers, IsAfter}
 use Rattle.sr_world.proofs.StepLemmas.{does}
-use Rattle.sr_world.proofs.MeantLemmas.{IsOneQuery, one-query, part-fits, part-table, all-parts}
+use Rattle.sr_world.proofs.MeantLemmas.{one-query, part-fits, part-table, all-parts}
 use Rattle.sr_world.proofs.FactLemmas.{told-now, true-now}
-use Rattle.sr_world.proofs.ReplyLemmas.{IsLast, is-last, IsBrought, is-brought, the_arrival, arrivals-are, AreFit, are-fit, with_reply, lines_of_reply, replied}
+use Rattle.sr_world.proofs.ReplyLemmas.{is-last, is-brought, the_arrival, arrivals-are, are-fit, with_reply, lines_of_reply, replied}
 
 -- ---- what is asked of a query's parts
 

@@ -1,15 +1,14 @@
 -- The client takes the reply of its ask, as the scene says.
-use Rattle.std.proofs.Common.{◌≡◌, ℕ, ◌+◌, ◌-◌, ◌≤◌, true, false, List, [], ◌∷◌, ◌++◌, map, length, refl, sym, ◌∙◌, ap, subst, arith, inl, inr, Some, None, append-nil, length-append}
-use Rattle.std.specs.Prelude.{IsTrue, ◌||◌, filter, if◌then◌else◌, slice_set}
+use Rattle.std.proofs.Common.{◌≡◌, ℕ, true, false, List, [], ◌∷◌, ◌++◌, map, length, refl, sym, ◌∙◌, ap, subst, arith, inl, inr, None, append-nil}
+use Rattle.std.specs.Prelude.{◌||◌, filter}
 use Rattle.std.specs.List.{list_all, All, AllZip}
 use Rattle.std.proofs.lemmas.List.{length-set}
 use Rattle.std.proofs.lemmas.List.Elements.{All-nil, All-cons, All-head}
 use Rattle.std.specs.declared.collections.VecDeque.{VecDeque}
 use Rattle.std.specs.declared.alloc.Global.{Global}
-use Rattle.sr_cell.specs.declared.table.Table.{Table}
 use Rattle.sr_cell.specs.Cells.{Row}
 use Rattle.sr_cell.specs.Columns.{table_at, is_point}
-use Rattle.sr_box.specs.Points.{in_any, rect_fits}
+use Rattle.sr_box.specs.Points.{rect_fits}
 use Rattle.sr_message.specs.declared.message.AskPart.{AskPart}
 use Rattle.sr_message.specs.declared.message.Message.{Message}
 use Rattle.sr_message.specs.declared.message.Message.TheVariants.{Ask, Notice, Rows, Reply}
@@ -17,13 +16,12 @@ use Rattle.sr_model.specs.Statements.{Tables}
 use Rattle.sr_model.specs.Queries.{rows_at, rows_of, points_of}
 use Rattle.sr_model.specs.Changes.{version_at}
 use Rattle.sr_history.specs.declared.mark.Mark.{Mark}
-use Rattle.sr_history.specs.Marks.{is_held, with_marks}
+use Rattle.sr_history.specs.Marks.{with_marks}
 use Rattle.sr_history.specs.Classes.{Numbered, stamp}
-use Rattle.sr_history.specs.Rests.{rest_of, IsRest}
 use Rattle.sr_store.specs.declared.store.Store.{Store}
 use Rattle.sr_store.specs.declared.store.Arrival.{Arrival}
-use Rattle.sr_store.specs.Classes.{touches, restamped}
-use Rattle.sr_store.specs.Told.{Told, IsTold, AreTrueOf}
+use Rattle.sr_store.specs.Classes.{restamped}
+use Rattle.sr_store.specs.Told.{AreTrueOf}
 use Rattle.sr_store.specs.Answered.{IsArrival, AreApart, HaveArrived, held_of}
 use Rattle.sr_store.proofs.Stamping.{stamp_answered}
 use Rattle.sr_join.specs.Found.{cells_of}
@@ -36,7 +34,7 @@ use Rattle.sr_scene.specs.Steps.{TakesMessage, Answers as AnswersScene, Keeps, H
 use Rattle.sr_scene.specs.Runs.{Delivers}
 use Rattle.sr_world.specs.declared.world.World.{World}
 use Rattle.sr_world.specs.declared.client.AskOut as code
-use Rattle.sr_world.specs.Answering.{is_kept, is_new, HaveRows, BringRows}
+use Rattle.sr_world.specs.Answering.{is_kept, is_new}
 use Rattle.sr_world.specs.Client.{arrived, arrival_of, arrivals_of}
 use Rattle.sr_world.specs.Represents.{Past, ClientFacts, Facts, Represents, IsOut, request_of, scene_of, client_of, told_of}
 use Rattle.sr_world.proofs.Renewal.{renewal}
@@ -44,7 +42,7 @@ use Rattle.sr_world.proofs.Arrivals.{arrived-rows}
 use Rattle.sr_world.proofs.Calls.{Answers, IsAfter}
 use Rattle.sr_world.proofs.RowMessages.{AllRows}
 use Rattle.sr_world.proofs.TakeLemmas.{IsComing, is-coming, only-rows, delivers}
-use Rattle.sr_world.proofs.MeantLemmas.{IsOneQuery, one-query, is-one-part, IsOneAsk, one-ask}
+use Rattle.sr_world.proofs.MeantLemmas.{IsOneQuery, one-query, is-one-part, one-ask}
 use Rattle.sr_world.proofs.FactLemmas.{have-first, points-now, ascend-now, told-now, true-now, server-still}
 use Rattle.sr_world.proofs.NowLemmas.{filter-points}
 use Rattle.sr_world.proofs.CameLemmas.{IsRestAsked, arrival-is, arrival-apart, arrival-rows, arrival-suits, all-there}

@@ -1,5 +1,5 @@
 -- The rest of a query is asked, as the scene says.
-use Rattle.std.proofs.Common.{◌≡◌, ℕ, ◌+◌, Bool, true, false, List, [], ◌∷◌, ◌++◌, map, length, refl, sym, ◌∙◌, ap, subst, arith, inl, inr, Some, None, Ok, length-append}
+use Rattle.std.proofs.Common.{◌≡◌, ℕ, ◌+◌, Bool, true, false, List, [], ◌∷◌, ◌++◌, map, length, refl, sym, ◌∙◌, ap, subst, inl, inr, Some, None, Ok, length-append}
 use Rattle.std.specs.Prelude.{IsTrue, ◌⊎◌, ◌↔◌}
 use Rattle.std.specs.List.{All}
 use Rattle.std.specs.declared.collections.VecDeque.{VecDeque}
@@ -32,7 +32,7 @@ use Rattle.sr_world.specs.Asking.{AsksRest}
 use Rattle.sr_world.specs.Bound.{IsMeaning}
 use Rattle.sr_world.specs.Client.{is_empty}
 use Rattle.sr_world.specs.Worlds.{DoesEvent}
-use Rattle.sr_world.specs.Represents.{Past, ClientFacts, Facts, Represents, IsOut, IsAsked, Flow, request_of, scene_of, client_of, told_of}
+use Rattle.sr_world.specs.Represents.{Past, ClientFacts, Facts, Represents, IsOut, IsAsked, Flow, request_of, scene_of, client_of}
 use Rattle.sr_world.proofs.MeantLemmas.{are-sound}
 use Rattle.sr_world.proofs.StepLemmas.{does}
 use Rattle.sr_world.proofs.FactLemmas.{have-first, server-still}

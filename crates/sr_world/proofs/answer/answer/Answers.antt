@@ -1,9 +1,9 @@
-use Rattle.std.proofs.Common.{rules, ◌≡◌, ◌∷◌, [], sym, ◌∙◌, ap, subst, false, ◌||◌, get_or, map, List}
+use Rattle.std.proofs.Common.{◌≡◌, ◌∷◌, [], sym, subst, false, ◌||◌, get_or, map, List}
 use Rattle.std.specs.Prelude.{filter}
 use Rattle.sr_cell.specs.Cells.{Row}
 use Rattle.sr_query.specs.declared.query.Part.{Part}
 use Rattle.sr_model.specs.Queries.{rows_at}
-use Rattle.sr_join.specs.Found.{cells_of, IsFound}
+use Rattle.sr_join.specs.Found.{cells_of}
 use Rattle.sr_world.specs.Answering.{is_kept, is_new, IsOnePart, BringRows}
 use Rattle.sr_world.proofs.StepLemmas.{if_each, of_ok}
 use Rattle.sr_world.proofs.answer.answer.Goals as goal

@@ -1,9 +1,7 @@
-use Rattle.std.proofs.Common.{rules, ◌≡◌, ◌∷◌, [], ◌++◌, sym, ◌∙◌, ap, subst, true, map, take, Bool, ◌||◌}
-use Rattle.sr_cell.specs.Cells.{Row}
+use Rattle.std.proofs.Common.{rules, ◌∷◌, [], ◌++◌, sym, ◌∙◌, ap, subst, map, take, ◌||◌}
 use Rattle.sr_model.specs.Queries.{rows_at}
-use Rattle.sr_region.specs.declared.region.Region.{Region}
 use Rattle.sr_store.specs.Told.{IsTrueOf}
-use Rattle.sr_store.specs.Stores.{IsOfSchema, serves}
+use Rattle.sr_store.specs.Stores.{IsOfSchema}
 use Rattle.sr_join.specs.Found.{IsFound}
 use Rattle.sr_world.specs.Answering.{is_kept}
 use Rattle.sr_world.specs.Represents.{told_of}

@@ -1,9 +1,7 @@
-use Rattle.std.proofs.Common.{[], ◌∷◌, ◌++◌, ◌≡◌, ◌∙◌, sym, subst, ap, refl, List, ◌+◌, length, map}
+use Rattle.std.proofs.Common.{[], ◌∷◌, sym, subst, refl, ◌+◌, length, map}
 use Rattle.sr_script.specs.declared.line.TraceLine.TheVariants as line
 use Rattle.sr_scene.specs.Steps.{mark_line}
 use Rattle.std.specs.List.{All}
-use Rattle.sr_cell.specs.declared.table.Table.{Table}
-use Rattle.sr_query.specs.declared.query.Part.{Part}
 use Rattle.sr_world.proofs.Calls.{Answers, IsAfter, after-of, answers-of}
 use Rattle.sr_world.proofs.NowLemmas.{does-now, lines-joined}
 use Rattle.sr_world.proofs.FinishLemmas.{Fit, Only, parts-fit, parts-only}

@@ -1,6 +1,4 @@
-use Rattle.std.proofs.Common.{[], ◌∷◌, ◌≡◌, ◌≤◌, ◌∙◌, sym, subst, ap, arith, length, true, List, refl}
-use Rattle.sr_query.specs.declared.query.Part.{Part}
-use Rattle.sr_message.specs.declared.message.AskPart.{AskPart}
+use Rattle.std.proofs.Common.{◌≡◌, ◌∙◌, subst, ap, arith, length, refl}
 use Rattle.sr_world.specs.Asking.{AsksRest}
 use Rattle.sr_world.proofs.StepLemmas.{if_ok}
 use Rattle.sr_world.proofs.NowLemmas.{does-busy}

@@ -7,6 +7,12 @@ pub mod Sound
 pub mod Arrived
 pub mod Keeping
 pub mod Dropping
+pub mod Making
+pub mod Joining
+pub mod Untouched
+pub mod Overlaps
+pub mod Fits
+pub mod Answering
 pub mod Covering
 pub mod Stamping
 pub mod Classing
@@ -15,7 +21,4 @@ pub mod Stepping
 pub mod Given
 pub mod Counting
 pub mod Heavy
-pub mod Making
-pub mod Joining
-pub mod Fits
-pub mod Answering
+pub mod Trials

@@ -1,21 +1,32 @@
 -- Steps on the way to the new regions.
-use Rattle.std.specs.Prelude.{ℕ, Bool, true, false, map, List, [], ◌∷◌, ◌++◌, ◌≡◌, Option, length, ◌<◌}
+use Rattle.std.specs.Prelude.{ℕ, Bool, true, false, ◌&&◌, map, IsTrue, List, [], ◌∷◌, ◌++◌, ◌≡◌, Option, None, Some, length, ◌<◌}
 use Rattle.std.specs.List.{list_all, All, prefix_len}
 use Rattle.sr_cell.specs.declared.cause.Cause.TheVariants.{Absorbed}
+use Rattle.sr_cell.specs.declared.table.Column.{Column}
 use Rattle.sr_cell.specs.declared.table.Table.{Table}
-use Rattle.sr_cell.specs.Columns.{table_at}
+use Rattle.sr_cell.specs.Columns.{table_at, is_point}
+use Rattle.sr_cell.specs.Cells.{Row}
 use Rattle.sr_model.specs.SortedRows.{ascend}
-use Rattle.sr_box.specs.Points.{Rect, rect_fits}
+use Rattle.sr_box.specs.Points.{Rect, in_any, rect_fits}
 use Rattle.sr_history.specs.declared.mark.Mark.{Mark}
 use Rattle.sr_query.specs.declared.query.Part.{Part}
 use Rattle.sr_region.specs.declared.region.Region.{Region}
 use Rattle.sr_region.specs.Regions.{rank}
 use Rattle.sr_region.specs.Halves.{IsInside, IsOutside}
+use Rattle.sr_store.specs.declared.absorb.Kind.{Kind}
 use Rattle.sr_store.specs.declared.store.Arrival.{Arrival}
 use Rattle.sr_store.specs.Classes.{is_before, is_same}
 use Rattle.sr_store.specs.Stores.{drop_of}
 use Rattle.sr_store.specs.Answered.{AreFlags, IsAbsorbedIn, flagged}
 use Rattle.sr_store.specs.Renewing.{pieces_of, IsRestamped}
+
+-- no point lies in rects of both lists
+abbrev pub HaveNoCommon : List Column → List Rect → List Rect → Type 0
+HaveNoCommon columns rects others = (p : Row) → IsTrue (is_point columns p) → (in_any rects p && in_any others p) ≡ false
+
+-- these have just the points of the rects that the others have too
+abbrev pub HaveCommon : List Column → List Rect → List Rect → List Rect → Type 0
+HaveCommon columns rects others both = (p : Row) → IsTrue (is_point columns p) → in_any both p ≡ (in_any rects p && in_any others p)
 
 -- the halves of a region along the rects at the end, the inner one with a new stamp
 abbrev pub AddsHalves : Table → ℕ → Region → List Rect → List Region → List Region → Type 0
@@ -58,3 +69,8 @@ pub record DropsAbsorbed (schema : List Table) (all left : List Region) (marks :
   pub absorbed : AreFlags (IsAbsorbedIn schema all) flags all
   pub left_are : left ≡ flagged false flags all
   pub marks_are : marks ≡ map (drop_of Absorbed) (flagged true flags all)
+
+-- there is a kind, the table and the columns of the region
+abbrev pub IsOfKind : Option Kind → Region → Type 0
+IsOfKind None g = ⊥
+IsOfKind (Some kind) g = (kind.table ≡ g.table) × (kind.attrs ≡ g.attrs)

@@ -1,15 +1,18 @@
 //! Regions whose points are all held under more columns.
-ghost use Rattle.std.specs.Prelude.{◌≡◌, ◌==◌, ◌&&◌, ◌↔◌, not, true, false, length, IfOk, IsTrue};
+ghost use Rattle.std.specs.Prelude.{◌≡◌, ◌==◌, ◌&&◌, ◌↔◌, not, true, false, List, [], length, IfOk, IfSome, IsTrue};
 ghost use Rattle.std.specs.List.{list_all, All};
+ghost use Rattle.sr_cell.specs.declared.table.Column.{Column};
 ghost use Rattle.sr_cell.specs.Attrs.{includes};
+ghost use Rattle.sr_box.specs.Points.{rect_fits};
 ghost use Rattle.sr_query.specs.Bound.{is_table};
 ghost use Rattle.sr_store.specs.Stores.{IsOfSchema};
 ghost use Rattle.sr_store.specs.Answered.{wider, IsAbsorbedIn, AreFlags, flagged};
+ghost use Rattle.sr_store.specs.Making.{HaveCommon, IsOfKind};
 
 use crate::lookup::table_at;
 use crate::restamp::MOST_RECTS;
 use sr_cell::attrs::Attrs;
-use sr_cell::list::{Copied, NoMemory, Seq};
+use sr_cell::list::{NoMemory, Seq};
 use sr_cell::schema::Schema;
 use sr_region::region::Region;
 use sr_union::rects::Rects;
@@ -22,22 +25,37 @@ fn is_wider(region: &Region, table: u8, attrs: Attrs) -> bool
     region.table == table && region.attrs.includes(attrs) && region.attrs != attrs
 }
 
-/// The rects of the table's regions with strictly more columns.
-fn wider_rects(
+/// Whether no region of the list is of the table with strictly more columns.
+fn none_is_wider(regions: &[Region], table: u8, attrs: Attrs) -> bool
+    ensures { result ≡ true → wider regions.now table attrs ≡ [] }
+{
+    for region in regions {
+        if is_wider(region, table, attrs) {
+            return false;
+        }
+    }
+    true
+}
+
+/// What the rects have in common with those of the table's regions with strictly more columns.
+fn wider_common(
     alloc: Global,
     regions: &[Region],
+    rects: &Rects,
     table: u8,
     attrs: Attrs,
 ) -> Result<Rects, NoMemory>
-    ensures { IfOk result (λ rects. rects ≡ wider regions.now table attrs) }
+    ensures points { (columns : List Column) → IfOk result (HaveCommon columns rects.now (wider regions.now table attrs)) }
+    ensures fit { (columns : List Column) → list_all (rect_fits columns) rects.now ≡ true → list_all (rect_fits columns) (wider regions.now table attrs) ≡ true
+        → IfOk result (λ both. list_all (rect_fits columns) both ≡ true) }
 {
-    let mut rects = Rects::new(alloc);
+    let mut both = Rects::new(alloc);
     for region in regions {
         if is_wider(region, table, attrs) {
-            rects.append(region.rects.copy(alloc)?)?;
+            both.append(rects.meet(alloc, &region.rects)?)?;
         }
     }
-    Ok(rects)
+    Ok(both)
 }
 
 /// Whether the region's points are all in regions of the list with strictly more columns.
@@ -52,15 +70,48 @@ fn is_absorbed(
     requires region { IsOfSchema schema.now region.now }
     ensures { IfOk result (λ yes. IsTrue yes ↔ IsAbsorbedIn schema.now regions.now region.now) }
 {
-    let rects = wider_rects(alloc, regions, region.table, region.attrs)?;
-    if rects.is_empty() {
-        return Ok(false);
-    }
+    let both = wider_common(alloc, regions, &region.rects, region.table, region.attrs)?;
     let table = table_at(schema, region.table);
-    match region.rects.within(alloc, &rects, table, MOST_RECTS) {
+    match region.rects.within(alloc, &both, table, MOST_RECTS) {
         Ok(yes) => Ok(yes),
         Err(_) => Err(NoMemory),
     }
+}
+
+/// The table and the columns of a region.
+#[derive(Drop)]
+struct Kind {
+    table: u8,
+    attrs: Attrs,
+}
+
+/// Whether the region is of that kind, where there is one.
+fn is_kind(kind: &Option<Kind>, region: &Region) -> bool
+    ensures { result ≡ true → IsOfKind kind.now region.now }
+{
+    match kind {
+        Some(kind) => kind.table == region.table && kind.attrs == region.attrs,
+        None => false,
+    }
+}
+
+/// Whether the region is of a kind of which none is wider; it remembers the last such kind.
+fn is_widest(regions: &[Region], region: &Region, widest: &mut Option<Kind>) -> bool
+    requires known { IfSome widest.old (λ kind. wider regions.now kind.table kind.attrs ≡ []) }
+    ensures known { IfSome widest.new (λ kind. wider regions.now kind.table kind.attrs ≡ []) }
+    ensures widest { result ≡ true → wider regions.now region.now.table region.now.attrs ≡ [] }
+{
+    if is_kind(widest, region) {
+        return true;
+    }
+    if none_is_wider(regions, region.table, region.attrs) {
+        *widest = Some(Kind {
+            table: region.table,
+            attrs: region.attrs,
+        });
+        return true;
+    }
+    false
 }
 
 /// Tells of each region whether its points are all in others of the list with strictly more columns.
@@ -74,8 +125,13 @@ pub(crate) fn absorbed(
     ensures { IfOk result (λ flags. AreFlags (IsAbsorbedIn schema.now regions.now) flags regions.now) }
 {
     let mut flags = Seq::new(alloc);
+    let mut widest = None;
     for region in regions {
-        flags.push(is_absorbed(alloc, schema, regions, region)?)?;
+        if is_widest(regions, region, &mut widest) {
+            flags.push(false)?;
+        } else {
+            flags.push(is_absorbed(alloc, schema, regions, region)?)?;
+        }
     }
     Ok(flags)
 }

@@ -9,3 +9,5 @@ mod lookup;
 mod marks;
 mod restamp;
 pub mod store;
+#[cfg(test)]
+mod tests;

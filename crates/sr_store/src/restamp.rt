@@ -1,6 +1,7 @@
 //! Regions cut along the parts of a query, with its number as the stamp of what it touches.
-ghost use Rattle.std.specs.Prelude.{◌≡◌, ◌==◌, ◌&&◌, true, ◌++◌, map, option_to_list, IfOk, OnOk, IsTrue};
+ghost use Rattle.std.specs.Prelude.{◌≡◌, ◌==◌, ◌&&◌, true, false, List, ◌++◌, map, option_to_list, IfOk, OnOk, IsTrue};
 ghost use Rattle.std.specs.List.{list_all, All};
+ghost use Rattle.sr_cell.specs.declared.table.Column.{Column};
 ghost use Rattle.sr_cell.specs.Columns.{table_at};
 ghost use Rattle.sr_cell.specs.Attrs.{includes};
 ghost use Rattle.sr_box.specs.Points.{rect_fits, constrains_only};
@@ -10,7 +11,7 @@ ghost use Rattle.sr_query.specs.declared.query.Part.{Part as ThePart};
 ghost use Rattle.sr_region.specs.Regions.{IsRegion};
 ghost use Rattle.sr_store.specs.Stores.{IsOfSchema};
 ghost use Rattle.sr_store.specs.Renewing.{touching, with_stamp, IsRestamped};
-ghost use Rattle.sr_store.specs.Making.{AddsHalves, AddsRestamped};
+ghost use Rattle.sr_store.specs.Making.{HaveNoCommon, AddsHalves, AddsRestamped};
 
 use crate::lookup::table_at;
 use sr_cell::attrs::Attrs;
@@ -44,6 +45,28 @@ fn touching_rects(alloc: Global, parts: &[Part], table: u8, attrs: Attrs) -> Res
         }
     }
     Ok(rects)
+}
+
+/// Whether the rects may have a point in common.
+fn may_meet(alloc: Global, rects: &Rects, others: &Rects) -> Result<bool, NoMemory>
+    ensures { (columns : List Column) → IfOk result (λ yes. yes ≡ false → HaveNoCommon columns rects.now others.now) }
+{
+    let both = rects.meet(alloc, others)?;
+    Ok(!both.is_empty())
+}
+
+/// Whether some part may touch the region.
+fn may_touch(alloc: Global, region: &Region, parts: &[Part]) -> Result<bool, NoMemory>
+    ensures { (columns : List Column) → IfOk result (λ yes. yes ≡ false → HaveNoCommon columns region.now.rects (touching parts.now region.now.table region.now.attrs)) }
+{
+    for part in parts {
+        if is_touching(part, region.table, region.attrs) {
+            if may_meet(alloc, &region.rects, &part.rects)? {
+                return Ok(true);
+            }
+        }
+    }
+    Ok(false)
 }
 
 /// A half at the end, where it is there.
@@ -109,10 +132,10 @@ fn restamp_one(
     requires only { All (λ (part : ThePart). list_all (constrains_only part.need 0) part.rects ≡ true) parts.now }
     ensures { OnOk result (AddsRestamped schema.now number parts.now region pieces.old pieces.new) }
 {
-    let rects = touching_rects(alloc, parts, region.table, region.attrs)?;
-    if rects.is_empty() {
+    if !may_touch(alloc, &region, parts)? {
         return pieces.push(region);
     }
+    let rects = touching_rects(alloc, parts, region.table, region.attrs)?;
     let table = table_at(schema, region.table);
     push_split(alloc, table, region, &rects, number, pieces)
 }

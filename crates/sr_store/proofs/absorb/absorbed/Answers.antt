@@ -1,20 +1,39 @@
-use Rattle.std.proofs.Common.{◌≡◌, drop, ◌∷◌, [], ◌+◌, ◌∙◌, sym, ap}
+use Rattle.std.proofs.Common.{◌≡◌, drop, ◌∷◌, [], ◌+◌, ◌∙◌, false, sym, ap, subst}
+use Rattle.std.specs.Prelude.{◌↔◌, IsTrue}
 use Rattle.std.proofs.lemmas.List.{drop_more, drop_all}
+use Rattle.std.proofs.lemmas.List.Elements.{All-get_or}
+use Rattle.sr_store.specs.Stores.{IsOfSchema}
 use Rattle.sr_store.specs.Answered.{AreFlags, IsAbsorbedIn}
 use Rattle.sr_store.proofs.Making.{completes_more, completes_all}
+use Rattle.sr_store.proofs.Fits.{none_wider}
+use Rattle.sr_store.proofs.Tables.{tables_first}
 use Rattle.sr_store.proofs.absorb.absorbed.Goals as goal
+use Rattle.sr_store.proofs.absorb.absorbed.Goals.{then-is_widest+in_ok-push, else-is_widest+in_ok-is_absorbed+in_ok-push-2}
 
 pub loop-region-preserved : goal.loop-region-preserved
 loop-region-preserved c =
+    let schema = c.args.schema.now in
     let gs = c.args.regions.now in
     let i = c.loop-region.region-index in
-    let first : drop i gs ≡ c.region-item.result ∷ drop (i + 1) gs =
-    drop_more gs i c.region-item.result c.loop-region-test.true ∙ ap (λ g. g ∷ drop (i + 1) gs) (sym c.region-item.is) in
-    completes_more (λ gs fs. AreFlags (IsAbsorbedIn c.args.schema.now c.args.regions.now) fs gs) gs c.loop-region.flags (c.in_ok-is_absorbed.field-0 ∷ []) c.push.new.self
-    c.region-item.result (drop i gs) (drop (i + 1) gs) first c.in_ok-push.ensures.pushed (λ more h. (c.in_ok-is_absorbed.ensures, h)) c.loop-region.invariant
+    let g = c.region-item.result in
+    let first : drop i gs ≡ g ∷ drop (i + 1) gs = drop_more gs i g c.loop-region-test.true ∙ ap (λ g. g ∷ drop (i + 1) gs) (sym c.region-item.is) in
+    let one : IsOfSchema schema g = subst (IsOfSchema schema) (sym c.region-item.is) (All-get_or (IsOfSchema schema) gs i g c.loop-region-test.true c.requires.each) in
+    record {
+      made = elim c.if-is_widest.branch [
+        | then-is_widest+in_ok-push w ↦
+            let none = c.is_widest.ensures.widest w.if-is_widest.true in
+            let is : IsTrue false ↔ IsAbsorbedIn schema gs g = ((λ never. absurd (cc)), none_wider schema gs g one (tables_first schema g.table c.requires.tables) none) in
+            completes_more (λ gs fs. AreFlags (IsAbsorbedIn schema c.args.regions.now) fs gs) gs c.loop-region.flags (false ∷ []) c.if-is_widest.flags
+            g (drop i gs) (drop (i + 1) gs) first (w.flags-is ∙ w.in_ok-push.ensures.pushed) (λ more h. (is, h)) c.loop-region.invariant.made
+        | else-is_widest+in_ok-is_absorbed+in_ok-push-2 w ↦
+            completes_more (λ gs fs. AreFlags (IsAbsorbedIn schema c.args.regions.now) fs gs) gs c.loop-region.flags (w.in_ok-is_absorbed.field-0 ∷ []) c.if-is_widest.flags
+            g (drop i gs) (drop (i + 1) gs) first (w.flags-is ∙ w.in_ok-push-2.ensures.pushed) (λ more h. (w.in_ok-is_absorbed.ensures, h)) c.loop-region.invariant.made
+      ];
+      known = c.is_widest.ensures.known;
+    }
 
 pub returns : goal.returns
 returns c =
     let none = drop_all c.loop-region.region-index c.args.regions.now c.loop-region-test.false in
     completes_all (λ gs fs. AreFlags (IsAbsorbedIn c.args.schema.now c.args.regions.now) fs gs) c.args.regions.now c.loop-region.flags (drop c.loop-region.region-index c.args.regions.now)
-    none tt c.loop-region.invariant
+    none tt c.loop-region.invariant.made

@@ -1,19 +1,22 @@
-use Rattle.std.proofs.Common.{◌≡◌, ◌∷◌, [], ◌∙◌, true, sym, subst}
+use Rattle.std.proofs.Common.{◌≡◌, ◌∷◌, [], true, false, sym, subst}
 use Rattle.std.specs.List.{list_all}
 use Rattle.std.proofs.lemmas.Result.{on_ok_weaker}
 use Rattle.sr_cell.specs.Columns.{table_at}
 use Rattle.sr_box.specs.Points.{rect_fits, constrains_only}
-use Rattle.sr_store.specs.Renewing.{touching, pieces_of}
+use Rattle.sr_store.specs.Renewing.{pieces_of}
 use Rattle.sr_store.specs.Making.{AddsHalves}
 use Rattle.sr_store.proofs.Touching.{touching_fits, touching_only}
-use Rattle.sr_store.proofs.Restamping.{restamped_one, restamped_same}
+use Rattle.sr_store.proofs.Restamping.{restamped_one}
+use Rattle.sr_store.proofs.Untouched.{restamped_apart}
 use Rattle.sr_store.proofs.restamp.restamp_one.Goals as goal
 
-pub returns-then-is_empty : goal.returns-then-is_empty
-returns-then-is_empty c =
+pub returns-then-not-branch : goal.returns-then-not-branch
+returns-then-not-branch c =
     let region = c.args.region in
-    let none : touching c.args.parts.now region.table region.attrs ≡ [] = sym c.in_ok-rects.ensures ∙ c.is_empty.ensures.0 c.if-is_empty.true in
-    on_ok_weaker c.push.result (λ pushed. (region ∷ [], pushed, restamped_same c.args.schema.now c.args.number c.args.parts.now region c.requires.region none)) c.push.ensures.pushed
+    let no : c.in_ok-may_touch.field-0 ≡ false = c.if-not-branch.true in
+    on_ok_weaker c.push.result
+    (λ pushed. (region ∷ [], pushed, restamped_apart c.args.schema.now c.args.number c.args.parts.now region c.requires.region (c.in_ok-may_touch.ensures (table_at c.args.schema.now region.table).columns no)))
+    c.push.ensures.pushed
 
 pub push_split-requires-clause-fit : goal.push_split-requires-clause-fit
 push_split-requires-clause-fit c =

@@ -1,0 +1,226 @@
+//! A client's regions of persons by age, at answers worked out by hand.
+ghost use Rattle.std.specs.Prelude.{◌≡◌, ◌<◌, pos, true, [], ◌∷◌, length, IfOk, IfSome, OnOk, IsTrue};
+ghost use Rattle.std.specs.List.{list_all};
+ghost use Rattle.sr_box.specs.declared.span.Span.TheVariants.{Full, Nums};
+ghost use Rattle.sr_cell.specs.declared.table.Kind.TheVariants.{Num as Numbers};
+ghost use Rattle.sr_cell.specs.Columns.{table_at};
+ghost use Rattle.sr_box.specs.Points.{rect_fits};
+ghost use Rattle.sr_query.specs.Bound.{is_table};
+ghost use Rattle.sr_store.specs.Told.{AreTrueOf};
+ghost use Rattle.sr_store.specs.Stores.{IsStore};
+
+use crate::store::{Arrival, Arrivals, Store};
+use sr_box::rect::Rect;
+use sr_box::span::Span;
+use sr_cell::attrs::Attrs;
+use sr_cell::list::{Copied, NoMemory, Seq};
+use sr_cell::schema::Schema;
+use sr_cell::table::{Column, Kind, Table};
+use sr_cell::text::Text;
+use sr_history::mark::Marks;
+use sr_query::query::{Part, Parts};
+use sr_union::rects::Rects;
+use std::alloc::Global;
+use std::test::Fail;
+
+fn column(alloc: Global, name: &str, hi: i64) -> Result<Column, NoMemory>
+    ensures { IfOk result (λ column. (column.kind ≡ Numbers) × (column.lo ≡ pos 0) × (column.hi ≡ hi)) }
+{
+    Ok(Column {
+        name: Text::of(alloc, name)?,
+        kind: Kind::Num,
+        lo: 0,
+        hi,
+    })
+}
+
+// Numbers up to 9999, ages up to 150, and departments up to 99.
+fn table(alloc: Global) -> Result<Table, NoMemory>
+    ensures sound { IfOk result (λ table. is_table table ≡ true) }
+    ensures key { IfOk result (λ table. table.key ≡ 0) }
+{
+    let mut columns = Seq::new(alloc);
+    columns.push(column(alloc, "id", 9999)?)?;
+    columns.push(column(alloc, "age", 150)?)?;
+    columns.push(column(alloc, "dept", 99)?)?;
+    Ok(Table {
+        name: Text::of(alloc, "p")?,
+        columns,
+        key: 0,
+    })
+}
+
+fn schema_of(alloc: Global) -> Result<Schema, NoMemory>
+    ensures tables { IfOk result (λ schema. IsTrue (list_all is_table schema)) }
+    ensures there { IfOk result (λ schema. 0 < length schema) }
+    ensures key { IfOk result (λ schema. (table_at schema 0).key ≡ 0) }
+{
+    let mut schema = Schema::new(alloc);
+    match schema.add(alloc, table(alloc)?) {
+        Ok(()) => Ok(schema),
+        Err(_) => Err(NoMemory),
+    }
+}
+
+fn ages(alloc: Global, lo: i64, hi: i64) -> Result<Rects, NoMemory>
+    ensures { IfOk result (λ rects. rects ≡ (Full ∷ Nums lo hi ∷ Full ∷ []) ∷ []) }
+{
+    let mut rect = Rect::new(alloc);
+    rect.push(Span::Full)?;
+    rect.push(Span::Nums { lo, hi })?;
+    rect.push(Span::Full)?;
+    let mut rects = Rects::new(alloc);
+    rects.push(rect)?;
+    Ok(rects)
+}
+
+// A query for those ages, which needs the number and the age.
+fn parts_of(alloc: Global, lo: i64, hi: i64) -> Result<Parts, NoMemory>
+    ensures { IfOk result (λ parts. parts ≡ record { table = 0; key = 0; need = 3; rects = (Full ∷ Nums lo hi ∷ Full ∷ []) ∷ []; width = 1 } ∷ []) }
+{
+    let mut parts = Seq::new(alloc);
+    parts.push(Part {
+        table: 0,
+        key: 0,
+        need: Attrs(3),
+        rects: ages(alloc, lo, hi)?,
+        width: 1,
+    })?;
+    Ok(parts)
+}
+
+fn arrival_of(alloc: Global, attrs: Attrs, rects: Rects) -> Arrival
+    ensures { result ≡ record { table = 0; key = 0; attrs = attrs; rects = rects; rows = [] } }
+{
+    Arrival {
+        table: 0,
+        key: 0,
+        attrs,
+        rects,
+        rows: Seq::new(alloc),
+    }
+}
+
+// Those ages arrive, with the number and the age.
+fn narrow(alloc: Global, lo: i64, hi: i64) -> Result<Arrivals, NoMemory>
+    ensures { IfOk result (λ arrivals. arrivals ≡ record { table = 0; key = 0; attrs = 3; rects = (Full ∷ Nums lo hi ∷ Full ∷ []) ∷ []; rows = [] } ∷ []) }
+{
+    let mut arrivals = Seq::new(alloc);
+    arrivals.push(arrival_of(alloc, Attrs(3), ages(alloc, lo, hi)?))?;
+    Ok(arrivals)
+}
+
+// The same, and once more with the department.
+fn both(alloc: Global, lo: i64, hi: i64) -> Result<Arrivals, NoMemory>
+    ensures { IfOk result (λ arrivals. arrivals ≡ record { table = 0; key = 0; attrs = 3; rects = (Full ∷ Nums lo hi ∷ Full ∷ []) ∷ []; rows = [] }
+        ∷ record { table = 0; key = 0; attrs = 7; rects = (Full ∷ Nums lo hi ∷ Full ∷ []) ∷ []; rows = [] } ∷ []) }
+{
+    let mut arrivals = narrow(alloc, lo, hi)?;
+    arrivals.push(arrival_of(alloc, Attrs(7), ages(alloc, lo, hi)?))?;
+    Ok(arrivals)
+}
+
+// A store to which these ages came; none where they do not fit the table.
+fn held(alloc: Global, schema: &Schema, lo: i64, hi: i64) -> Result<Option<Store>, NoMemory>
+    requires tables { IsTrue (list_all is_table schema.now) }
+    requires there { 0 < length schema.now }
+    requires key { (table_at schema.now 0).key ≡ 0 }
+    ensures store { IfOk result (λ found. IfSome found (λ store. IsStore schema.now store.regions)) }
+    ensures none { IfOk result (λ found. IfSome found (λ store. AreTrueOf (λ t a. []) store.regions)) }
+{
+    if !ages(alloc, lo, hi)?.fits(&schema.as_slice()[0]) {
+        return Ok(None);
+    }
+    let parts = parts_of(alloc, lo, hi)?;
+    let mut store = Store::new(alloc);
+    store.answered(alloc, schema, 1, parts.as_slice(), narrow(alloc, lo, hi)?)?;
+    Ok(Some(store))
+}
+
+// A query for ages that are all held.
+fn touch(
+    alloc: Global,
+    schema: &Schema,
+    store: &mut Store,
+    lo: i64,
+    hi: i64,
+) -> Result<(), NoMemory>
+    requires tables { IsTrue (list_all is_table schema.now) }
+    requires there { 0 < length schema.now }
+    requires store { IsStore schema.now store.old.regions }
+    requires none { AreTrueOf (λ t a. []) store.old.regions }
+{
+    if !ages(alloc, lo, hi)?.fits(&schema.as_slice()[0]) {
+        return Err(NoMemory);
+    }
+    let parts = parts_of(alloc, lo, hi)?;
+    store.answered(alloc, schema, 2, parts.as_slice(), Seq::new(alloc))?;
+    Ok(())
+}
+
+// How many rects the region of that number has, and its stamp.
+fn region_at(store: &Store, number: usize) -> Option<(usize, u64)> {
+    match store.regions.get(number) {
+        Some(region) => Some((region.rects.len(), region.stamp)),
+        None => None,
+    }
+}
+
+// The ages 30 to 40, of which 32 to 35 are asked again.
+fn split(alloc: Global) -> Result<Option<Store>, NoMemory> {
+    let schema = schema_of(alloc)?;
+    match held(alloc, &schema, 30, 40)? {
+        None => Ok(None),
+        Some(mut store) => {
+            touch(alloc, &schema, &mut store, 32, 35)?;
+            Ok(Some(store))
+        }
+    }
+}
+
+fn is_split(store: &Option<Store>) -> bool {
+    match store {
+        Some(store) => {
+            store.regions.len() == 2
+                && region_at(store, 0) == Some((2, 1))
+                && region_at(store, 1) == Some((1, 2))
+        }
+        None => false,
+    }
+}
+
+#[test]
+fn what_is_asked_again_has_a_new_stamp(rt: HostRuntime) -> Result<(), Fail> {
+    let alloc = rt.alloc();
+    assert!(rt; is_split(&split(alloc)?));
+    Ok(())
+}
+
+// How many marks and regions are left of the ages 30 to 40, which come with and without the department.
+fn absorb(alloc: Global) -> Result<Option<(usize, usize)>, NoMemory> {
+    let schema = schema_of(alloc)?;
+    if !ages(alloc, 30, 40)?.fits(&schema.as_slice()[0]) {
+        return Ok(None);
+    }
+    let parts = parts_of(alloc, 30, 40)?;
+    let mut store = Store::new(alloc);
+    let marks = store.answered(alloc, &schema, 1, parts.as_slice(), both(alloc, 30, 40)?)?;
+    Ok(Some((marks.len(), store.regions.len())))
+}
+
+#[test]
+fn wider_columns_absorb(rt: HostRuntime) -> Result<(), Fail> {
+    let alloc = rt.alloc();
+    assert_eq!(rt; absorb(alloc)?, Some((3, 1)));
+    Ok(())
+}
+
+#[test]
+fn of_nothing_nothing_is_evicted(rt: HostRuntime) -> Result<(), Fail> {
+    let mut store = Store::new(rt.alloc());
+    match store.evict(0) {
+        Ok(_) => assert!(rt; false),
+        Err(no) => assert_eq!(rt; no.count, 0),
+    }
+    Ok(())
+}

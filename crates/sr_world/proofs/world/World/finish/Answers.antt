@@ -78,7 +78,7 @@ returns-clause-delivery c = λ before t.
     let gives : Answers out.query regions arrivals c.in_ok-rows.rows = answers-of out.query regions c.as_slice-2.result.now arrivals c.as_slice-3.result.now c.in_ok-rows.rows c.as_slice-2.ensures c.as_slice-3.ensures c.in_ok-rows.ensures in
     let after : IsAfter s out.query_number out.query.parts arrivals regions c.answered.new.self.regions c.in_ok-marks.marks =
     after-of s c.schema-schema.result.now out.query_number out.query.parts c.as_slice-4.result.now arrivals arrivals regions c.answered.new.self.regions c.in_ok-marks.marks
-        c.schema-schema.ensures c.as_slice-4.ensures refl c.in_ok-marks.ensures.renewed c.in_ok-marks.ensures.store c.in_ok-marks.ensures.true_still in
+        c.schema-schema.ensures c.as_slice-4.ensures refl c.in_ok-marks.ensures.answered c.in_ok-marks.ensures.cuts c.in_ok-marks.ensures.store c.in_ok-marks.ensures.true_still in
     does-finish before w out c.args.version t arrivals c.replace-laid.new.dest c.answered.new.self c.in_ok-marks.marks c.in_ok-rows.rows c.push.new.self came (c.replace-laid.ensures.after ∙ c.new.ensures) gives after
     (lines-joined c.push.new.self (line.Answer 1 out.query_number c.args.version (length c.in_ok-rows.rows) ∷ map line.Row c.in_ok-rows.rows) (map (mark_line 1) c.in_ok-marks.marks) (line.ClientAnswered 1 ∷ [])
     (rw (c.in_ok-push.ensures.pushed, c.in_ok-push_marks.ensures, c.in_ok-push_answer.ensures, c.new-lines.ensures) refl))

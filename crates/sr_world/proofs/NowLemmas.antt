@@ -177,7 +177,7 @@ is-answered w past q m one f is =
       from = omega (arith, f.cuts.from);
       regions_end = subst (λ qs. RegionsEnd s qs w.client.store.regions) (sym more) (regions-more s all (m ∷ []) w.client.store.regions f.cuts.regions);
       parts_end = subst (λ qs. PartsEnd s qs q.parts) (sym more) (all-parts s q m (λ (part : Part). EndWith s (all ++ m ∷ []) part.table part.rects) one (part-end s all m one.part one.meant one.meant_parts one.is));
-      arrivals_end = All-nil _;
+      arrivals_end = All-nil (λ (r : Arrival). EndWith s (counted past.counted_from (past.queries ++ record { query = m; answered = true } ∷ [])) r.table r.rects);
     }
 
 answers-now : (w : World) (past : Past) (q : Query) (m : model.Query) (store : Store) (marks : List Mark) (rows : List Row) → Facts w past → w.client.out ≡ None

@@ -23,6 +23,13 @@ use Rattle.sr_world.specs.Represents.{Past, ServerFacts, ClientFacts, CutFacts, 
 use Rattle.sr_world.proofs.RowMessages.{AllRows, rows-all, rows-behind}
 use Rattle.sr_world.proofs.StepLemmas.{does}
 
+-- a message with a version is a reply
+pub reply-of : (m : Message) (version : ℕ) → reply_version m ≡ Some version → (number : ℕ) × (m ≡ Reply number version)
+reply-of (Ask number fresh parts) version is = absurd (cc)
+reply-of (Notice told what) version is = absurd (cc)
+reply-of (Rows number part rows) version is = absurd (cc)
+reply-of (Reply number newest) version is = (number, let same : newest ≡ version = cc in ap (Reply number) same)
+
 -- a reply is on its way to the client
 pub record IsComing (w : World) (past : Past) : Type 0 where
   pub out : code.AskOut

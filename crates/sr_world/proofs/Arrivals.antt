@@ -1,11 +1,11 @@
 -- The rows that the messages of a reply bring.
-use Rattle.std.proofs.Common.{◌≡◌, ℕ, true, ◌≤◌, ◌+◌, List, [], ◌∷◌, ◌++◌, map, length, drop, refl, ◌∙◌, ap, arith, zero, suc, append-nil, length-drop}
+use Rattle.std.proofs.Common.{◌≡◌, ℕ, ◌≤◌, List, [], ◌∷◌, ◌++◌, map, length, drop, refl, ◌∙◌, ap, arith, zero, suc, append-nil, length-drop}
 use Rattle.std.proofs.lemmas.Grind.{flat_map-append}
 use Rattle.std.proofs.lemmas.List.{take-append-drop}
 use Rattle.sr_cell.specs.Cells.{Row}
 use Rattle.sr_message.specs.declared.message.AskPart.{AskPart}
 use Rattle.sr_message.specs.declared.message.Message.{Message}
-use Rattle.sr_message.specs.declared.message.Message.TheVariants.{Ask, Notice, Rows, Reply}
+use Rattle.sr_message.specs.declared.message.Message.TheVariants.{Rows}
 use Rattle.sr_model.specs.Statements.{Tables}
 use Rattle.sr_scene.specs.Server.{pieces, asked_rows, row_messages}
 use Rattle.sr_world.specs.Client.{brought, arrived}

@@ -2,6 +2,7 @@
 use Rattle.std.proofs.Common.{subst}
 use Rattle.std.specs.Prelude.{ℕ, ◌≡◌, ◌||◌, ◌⊎◌, List, map, filter}
 use Rattle.std.specs.List.{All}
+use Rattle.std.proofs.lemmas.List.Elements.{All-nil}
 use Rattle.sr_cell.specs.declared.table.Table.{Table}
 use Rattle.sr_cell.specs.Cells.{Row}
 use Rattle.sr_model.specs.Statements.{Tables}
@@ -10,6 +11,7 @@ use Rattle.sr_query.specs.declared.query.Part.{Part}
 use Rattle.sr_query.specs.declared.query.Query.{Query}
 use Rattle.sr_history.specs.declared.mark.Mark.{Mark}
 use Rattle.sr_region.specs.declared.region.Region.{Region}
+use Rattle.sr_region.specs.Regions.{is_in}
 use Rattle.sr_store.specs.declared.store.Arrival.{Arrival}
 use Rattle.sr_store.specs.Told.{Told, IsTold, AreTrueOf}
 use Rattle.sr_store.specs.Stores.{IsStore}
@@ -39,6 +41,10 @@ after-of schema read number parts listed arrivals came old new marks same all th
     subst (λ rs. IsAfter schema number parts rs old new marks) these
     (subst (λ ps. IsAfter schema number ps came old new marks) all
     (subst (λ s. IsAfter s number listed came old new marks) same (record { answered = answered; cuts = cuts; store = store; true_still = still })))
+
+-- nothing arrives
+pub none-arrived : (told : Told) → HaveArrived told []
+none-arrived told = All-nil (λ (r : Arrival). r.rows ≡ filter (is_in r.attrs r.rects) (told r.table r.attrs))
 
 pub answers-of : (query : Query) (regions read : List Region) (arrivals listed : List Arrival) (rows : List Row) → read ≡ regions → listed ≡ arrivals → Answers query read listed rows → Answers query regions arrivals rows
 answers-of query regions read arrivals listed rows same all gives =

@@ -1,7 +1,7 @@
 -- What came with a reply: all rows of what was asked.
-use Rattle.std.proofs.Common.{◌≡◌, ℕ, ◌+◌, ◌<◌, ◌≤◌, Bool, true, false, cond, List, [], ◌∷◌, ◌++◌, map, length, refl, sym, ◌∙◌, ap, subst, arith, inl, inr, Option, Some, None, append-nil}
-use Rattle.std.specs.Prelude.{IsTrue, not, ◌&&◌, ◌||◌, ◌==◌, ◌⊎◌, filter, if◌then◌else◌}
-use Rattle.std.specs.List.{list_all, list_any, All, AllZip}
+use Rattle.std.proofs.Common.{◌≡◌, ℕ, ◌+◌, ◌<◌, ◌≤◌, Bool, true, false, cond, List, [], ◌∷◌, map, length, refl, sym, ◌∙◌, ap, subst, arith, inl}
+use Rattle.std.specs.Prelude.{not, ◌&&◌, ◌||◌, ◌==◌, filter, if◌then◌else◌}
+use Rattle.std.specs.List.{list_all, All}
 use Rattle.std.proofs.lemmas.Bool.Decides.{nat_tests}
 use Rattle.std.proofs.lemmas.List.Elements.{All-nil, All-cons}
 use Rattle.sr_cell.specs.declared.table.Column.{Column}
@@ -11,8 +11,6 @@ use Rattle.sr_cell.specs.Cells.{Row}
 use Rattle.sr_cell.specs.Columns.{table_at, is_point}
 use Rattle.sr_box.specs.Points.{Rect, in_any, rect_fits, constrains_only}
 use Rattle.sr_message.specs.declared.message.AskPart.{AskPart}
-use Rattle.sr_message.specs.declared.message.Message.{Message}
-use Rattle.sr_message.specs.declared.message.Message.TheVariants.{Ask, Notice, Rows, Reply}
 use Rattle.sr_model.specs.SortedRows.{ascend}
 use Rattle.sr_model.specs.Statements.{Tables}
 use Rattle.sr_model.specs.Queries as model
@@ -21,7 +19,7 @@ use Rattle.sr_query.specs.Bound.{IsPart}
 use Rattle.sr_query.specs.declared.query.Part.{Part}
 use Rattle.sr_history.specs.declared.mark.Mark.{Mark}
 use Rattle.sr_history.specs.Marks.{is_held, is_covered}
-use Rattle.sr_history.specs.Rests.{rest_of, IsRest}
+use Rattle.sr_history.specs.Rests.{IsRest}
 use Rattle.sr_language.specs.Sound.{is_sound_part}
 use Rattle.sr_rows.proofs.Parts.{ascend-filter}
 use Rattle.sr_region.specs.declared.region.Region.{Region}
@@ -30,7 +28,7 @@ use Rattle.sr_region.proofs.Parts.{is_in-point}
 use Rattle.sr_store.specs.declared.store.Arrival.{Arrival}
 use Rattle.sr_store.specs.Classes.{Stamps, occurs, touches, Keeps as KeepsPoints}
 use Rattle.sr_store.specs.Stores.{cover_of, IsStore}
-use Rattle.sr_store.specs.Answered.{IsArrival, AreApart, HaveArrived, arrivals_at}
+use Rattle.sr_store.specs.Answered.{IsArrival, AreApart, HaveArrived}
 use Rattle.sr_scene.specs.Server.{asked_rows}
 use Rattle.sr_world.specs.Answering.{is_kept, is_new, Suits}
 use Rattle.sr_world.specs.Client.{arrival_of}

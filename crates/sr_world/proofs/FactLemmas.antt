@@ -1,12 +1,10 @@
 -- What the facts of a world say of its tables and its regions.
-use Rattle.std.proofs.Common.{◌≡◌, ℕ, ◌<◌, ◌+◌, zero, suc, Bool, true, false, List, [], ◌∷◌, ◌++◌, length, refl, sym, ◌∙◌, ap, subst, arith, inl, inr}
-use Rattle.std.specs.Prelude.{IsTrue, ◌&&◌, ◌⊎◌}
+use Rattle.std.proofs.Common.{◌≡◌, ℕ, zero, suc, true, List, [], ◌∷◌, refl, sym, ◌∙◌, ap, subst, arith, inl, inr}
 use Rattle.std.specs.List.{list_all, All}
 use Rattle.std.specs.declared.collections.VecDeque.{VecDeque}
 use Rattle.std.specs.declared.alloc.Global.{Global}
 use Rattle.std.proofs.lemmas.List.Elements.{All-nil}
 use Rattle.sr_cell.specs.declared.table.Table.{Table}
-use Rattle.sr_cell.specs.Cells.{Row}
 use Rattle.sr_cell.specs.Columns.{table_at, is_point}
 use Rattle.sr_model.specs.SortedRows.{ascend}
 use Rattle.sr_model.specs.Statements.{Tables}
@@ -17,7 +15,7 @@ use Rattle.sr_query.specs.Bound.{is_table}
 use Rattle.sr_history.specs.declared.mark.Mark.{Mark}
 use Rattle.sr_history.specs.Classes.{Numbered}
 use Rattle.sr_trim.proofs.Tables.{table_first}
-use Rattle.sr_tables.specs.Stored.{are_stored, are_rows}
+use Rattle.sr_tables.specs.Stored.{are_stored}
 use Rattle.sr_store.specs.Told.{IsTold, IsTrueOf, AreTrueOf}
 use Rattle.sr_world.proofs.Renewal.{HaveFirst}
 use Rattle.sr_world.specs.declared.world.World.{World}

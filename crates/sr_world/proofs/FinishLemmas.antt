@@ -1,11 +1,10 @@
 -- What the client's calls ask of the store and of the answer, and what a reply does.
-use Rattle.std.proofs.Common.{◌≡◌, ℕ, ◌+◌, ◌<◌, true, false, List, [], ◌∷◌, ◌++◌, length, refl, sym, ◌∙◌, ap, subst, arith, Some, None}
-use Rattle.std.specs.Prelude.{IsTrue, ◌&&◌, nat_lt}
+use Rattle.std.proofs.Common.{◌≡◌, ℕ, ◌<◌, true, List, [], ◌∷◌, length, sym, ◌∙◌, ap, subst, arith, Some, None}
+use Rattle.std.specs.Prelude.{IsTrue, nat_lt}
 use Rattle.std.specs.List.{list_all, All}
 use Rattle.std.specs.declared.collections.VecDeque.{VecDeque}
 use Rattle.std.specs.declared.alloc.Global.{Global}
 use Rattle.std.proofs.lemmas.Bool.Decides.{nat_tests}
-use Rattle.std.proofs.lemmas.List.Elements.{All-nil, All-head}
 use Rattle.sr_cell.specs.declared.table.Table.{Table}
 use Rattle.sr_cell.specs.Cells.{Row}
 use Rattle.sr_cell.specs.Columns.{table_at}
@@ -37,9 +36,9 @@ use Rattle.sr_world.specs.Worlds.{Stands, DoesDelivery}
 use Rattle.sr_world.specs.Represents.{Past, Facts, Represents, scene_of, told_of}
 use Rattle.sr_world.proofs.Calls.{Answers, IsAfter}
 use Rattle.sr_world.proofs.StepLemmas.{does}
-use Rattle.sr_world.proofs.MeantLemmas.{IsOneQuery, one-query, part-fits, part-table, all-parts}
+use Rattle.sr_world.proofs.MeantLemmas.{one-query, part-fits, part-table, all-parts}
 use Rattle.sr_world.proofs.FactLemmas.{told-now, true-now}
-use Rattle.sr_world.proofs.ReplyLemmas.{IsLast, is-last, IsBrought, is-brought, the_arrival, arrivals-are, AreFit, are-fit, with_reply, lines_of_reply, replied}
+use Rattle.sr_world.proofs.ReplyLemmas.{is-last, is-brought, the_arrival, arrivals-are, are-fit, with_reply, lines_of_reply, replied}
 
 -- ---- what is asked of a query's parts
 
@@ -177,7 +176,7 @@ does-finish before w out version t = subst (Finishes before out version) (sym t.
     here arrivals laid store marks rows lines arrivals_are none gives after lines_are =
         let taken : DoesDelivery before (with_reply before version store w.to_client) (lines_of_reply out version marks rows) =
         does (λ s. Delivers s 1) before (with_reply before version store w.to_client) (lines_of_reply out version marks rows)
-            (λ past f. replies before past out t.number version arrivals store marks rows w.to_client f t.out_was t.first arrivals_are gives after) in
+        (λ past f. replies before past out t.number version arrivals store marks rows w.to_client f t.out_was t.first arrivals_are gives after) in
         let without : List Message → World = λ ms. record before { client = record before.client { version = version; out = None; laid = ms; store = store }; to_client = w.to_client } in
         subst (λ ms. DoesDelivery before (without ms) lines) (sym none) (subst (DoesDelivery before (with_reply before version store w.to_client)) (sym lines_are) taken)
 

@@ -1,26 +1,26 @@
 -- A query of one table, as code has it and as it is meant.
 use Rattle.std.proofs.Common.{◌≡◌, ℕ, ◌<◌, Bool, true, false, List, [], ◌∷◌, length, map, refl, sym, ◌∙◌, ap, subst, arith}
-use Rattle.std.specs.Prelude.{IsTrue, not, ◌&&◌, ◌||◌, ◌==◌, nat_lt, filter, slice_get, Option, Some, None}
-use Rattle.std.specs.List.{list_all, All, AllZip, AllByRecursion}
+use Rattle.std.specs.Prelude.{not, ◌&&◌, ◌||◌, ◌==◌, filter, slice_get}
+use Rattle.std.specs.List.{list_all, All, AllZip}
 use Rattle.std.proofs.lemmas.Bool.Decides.{nat_tests}
 use Rattle.std.proofs.lemmas.List.Elements.{All-nil, All-cons}
 use Rattle.sr_cell.specs.declared.table.Table.{Table}
 use Rattle.sr_cell.specs.Attrs.{has_column}
 use Rattle.sr_cell.specs.Cells.{Row}
 use Rattle.sr_cell.specs.Columns.{table_at, is_point}
-use Rattle.sr_box.specs.Points.{in_any, rect_fits, constrains_only, HasNoPoint}
+use Rattle.sr_box.specs.Points.{in_any, rect_fits, HasNoPoint}
 use Rattle.sr_message.specs.declared.message.AskPart.{AskPart}
 use Rattle.sr_model.specs.SortedRows.{ascend}
 use Rattle.sr_model.specs.Statements.{Tables}
 use Rattle.sr_model.specs.Queries as model
 use Rattle.sr_model.specs.Queries.{points_of, rows_at, rows_of}
-use Rattle.sr_query.specs.Bound.{IsPart, IsQuery, output_of}
+use Rattle.sr_query.specs.Bound.{IsPart, output_of}
 use Rattle.sr_query.specs.declared.condition.Output.{Output}
 use Rattle.sr_query.specs.declared.query.Part.{Part}
 use Rattle.sr_query.specs.declared.query.Query.{Query}
 use Rattle.sr_history.specs.declared.mark.Mark.{Mark}
 use Rattle.sr_history.specs.Rests.{rest_of, IsRest, Asks, nothing, covered, asked}
-use Rattle.sr_language.specs.Built.{may_ask, is_one, joins_nothing}
+use Rattle.sr_language.specs.Built.{is_one, joins_nothing}
 use Rattle.sr_language.specs.Sound.{is_sound, is_sound_part, is_needed, needs_column}
 use Rattle.sr_language.proofs.Constrained.{rects_constrain_needed}
 use Rattle.sr_join.specs.Found.{cells_of, has_outputs}

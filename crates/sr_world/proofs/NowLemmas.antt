@@ -44,7 +44,7 @@ use Rattle.sr_world.specs.Bound.{IsMeaning}
 use Rattle.sr_world.specs.Worlds.{DoesEvent}
 use Rattle.sr_world.specs.Cutting.{EndWith, RegionsEnd, PartsEnd}
 use Rattle.sr_world.specs.Represents.{Past, ClientFacts, OutEnds, Facts, Represents, Flow, request_of, scene_of, client_of, told_of}
-use Rattle.sr_world.proofs.Calls.{Answers, IsAfter}
+use Rattle.sr_world.proofs.Calls.{Answers, IsAfter, none-arrived}
 use Rattle.sr_world.proofs.Renewal.{nothing-new}
 use Rattle.sr_world.proofs.EndLemmas.{regions-more, part-end}
 use Rattle.sr_world.proofs.CountLemmas.{counted-more}
@@ -108,7 +108,7 @@ rows-now w past q m one rows f none gives =
     let old : Tables = version_at past.versions w.client.version in
     let cs = (table_at s part.table).columns in
     let given = gives s newest part (is-one-part s newest q m one (points-now w past f.server) (ascend-now w past f.server))
-        (record { each = f.client.store.each; are_true = true-now w past f }) (record { suit = All-nil (Suits s part); arrived = All-nil _ }) in
+        (record { each = f.client.store.each; are_true = true-now w past f }) (record { suit = All-nil (Suits s part); arrived = none-arrived (told_of newest) }) in
     let chosen = filter-points cs (λ p. is_kept part w.client.store.regions p || is_new part [] p) (points_of one.meant) (rows_at newest part.table) (points-now w past f.server part.table)
         (kept-all s past.marks (stamp past.queries) w.client.store.regions part one.meant f.client.keeps one.is none) in
     let same : filter (points_of one.meant) (rows_at newest part.table) ≡ filter (points_of one.meant) (rows_at old part.table) =
@@ -152,7 +152,7 @@ regions-now w past q new marks f a =
         ] in
         record { are_true = subst (All (IsTrueOf (told_of (version_at past.versions w.client.version)))) (sym nothing) (All-nil (IsTrueOf (told_of (version_at past.versions w.client.version)))); recent = inl nothing }
       | inr recent ↦
-        let still : AreTrueOf (told_of w.server.tables.rows) new = a.true_still (told_of w.server.tables.rows) (told-now w past f.server) (true-now w past f) (All-nil _) in
+        let still : AreTrueOf (told_of w.server.tables.rows) new = a.true_still (told_of w.server.tables.rows) (told-now w past f.server) (true-now w past f) (none-arrived (told_of w.server.tables.rows)) in
         record { are_true = subst (λ ts. AreTrueOf (told_of ts) new) (sym (version-now w past f.server recent.0)) still; recent = inr recent }
     ]
 

@@ -1,11 +1,10 @@
 -- What an answer makes of the marks, the stamps and the regions.
 use Rattle.std.proofs.Common.{◌≡◌, ℕ, true, List, [], ◌∷◌, ◌++◌, refl, map, ◌∙◌}
-use Rattle.std.specs.Prelude.{Bool, false, ◌||◌, IsTrue}
+use Rattle.std.specs.Prelude.{Bool, false, ◌||◌}
 use Rattle.std.specs.List.{All}
 use Rattle.std.proofs.lemmas.List.Elements.{All-nil, All-head}
 use Rattle.sr_cell.specs.declared.cause.Cause.TheVariants.{Absorbed}
 use Rattle.sr_cell.specs.declared.table.Table.{Table}
-use Rattle.sr_cell.specs.Cells.{Row}
 use Rattle.sr_cell.specs.Columns.{table_at}
 use Rattle.sr_union.specs.Grid.{have_first}
 use Rattle.sr_history.specs.declared.mark.Mark.{Mark}

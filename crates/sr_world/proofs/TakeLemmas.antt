@@ -18,17 +18,11 @@ use Rattle.sr_world.specs.declared.world.World.{World}
 use Rattle.sr_world.specs.declared.client.AskOut as code
 use Rattle.sr_world.specs.declared.client.Client.{Client}
 use Rattle.sr_world.specs.Client.{reply_version}
-use Rattle.sr_world.specs.Worlds.{DoesDelivery}
+use Rattle.sr_world.specs.Worlds.{Stands, DoesDelivery}
+use Rattle.sr_world.specs.Taking.{Taking}
 use Rattle.sr_world.specs.Represents.{Past, ServerFacts, ClientFacts, CutFacts, Facts, Represents, IsReplied, IsOut, Flow, request_of, scene_of, client_of}
 use Rattle.sr_world.proofs.RowMessages.{AllRows, rows-all, rows-behind}
 use Rattle.sr_world.proofs.StepLemmas.{does}
-
--- a message with a version is a reply
-pub reply-of : (m : Message) (version : ℕ) → reply_version m ≡ Some version → (number : ℕ) × (m ≡ Reply number version)
-reply-of (Ask number fresh parts) version is = absurd (cc)
-reply-of (Notice told what) version is = absurd (cc)
-reply-of (Rows number part rows) version is = absurd (cc)
-reply-of (Reply number newest) version is = (number, let same : newest ≡ version = cc in ap (Reply number) same)
 
 -- a reply is on its way to the client
 pub record IsComing (w : World) (past : Past) : Type 0 where
@@ -138,3 +132,16 @@ does-lay w m to_client client lines came other client_is lines_are =
     subst (λ client. DoesDelivery w (record w { client = client; to_client = to_client }) lines) (sym client_is)
     (subst (DoesDelivery w (with_laid w laid to_client)) (sym lines_are)
     (does (λ s. Delivers s 1) w (with_laid w laid to_client) (line.ClientLaid 1 ∷ []) (λ past f. lays-first w past m to_client.items laid to_client f came other refl refl)))
+
+-- a message with the version of a reply is one
+reply-of : (m : Message) (version : ℕ) → reply_version m ≡ Some version → (number : ℕ) × (m ≡ Reply number version)
+reply-of (Ask number fresh parts) version is = absurd (cc)
+reply-of (Notice told changes) version is = absurd (cc)
+reply-of (Rows number part rows) version is = absurd (cc)
+reply-of (Reply number own) version is = let same : own ≡ version = cc in (number, ap (Reply number) same)
+
+pub taking : (w : World) (m : Message) (version : ℕ) (to_client : VecDeque Message Global) → Stands w → w.to_client.items ≡ m ∷ to_client.items → reply_version m ≡ Some version
+    → Taking w (record w { to_client = to_client }) version
+taking w m version to_client stands came is =
+    let reply = reply-of m version is in
+    record { stands = stands; number = reply.0; first = came ∙ ap (λ first. first ∷ to_client.items) reply.1; same = refl }

@@ -1,6 +1,6 @@
 -- Rows of some columns of a table, in rects and by key.
-use Rattle.std.proofs.Common.{◌≡◌, ℕ, ◌+◌, ◌<◌, true, false, cond, List, [], ◌∷◌, min, length, refl, sym, ap, subst, ◌∙◌, arith, zero, suc}
-use Rattle.std.specs.Prelude.{Bool, ◌&&◌, ◌==◌, bit_and, filter, map, nat_lt}
+use Rattle.std.proofs.Common.{◌≡◌, ℕ, ◌+◌, true, false, cond, List, [], ◌∷◌, min, refl, sym, ap, ◌∙◌, arith, zero, suc}
+use Rattle.std.specs.Prelude.{Bool, ◌&&◌, bit_and, filter, map}
 use Rattle.std.specs.List.{list_all, All}
 use Rattle.std.specs.Int.{bit_at}
 use Rattle.std.proofs.lemmas.Bool.Decides.{nat_tests}
@@ -9,7 +9,7 @@ use Rattle.std.proofs.lemmas.List.Elements.{All-nil, All-cons}
 use Rattle.sr_cell.specs.declared.table.Column.{Column}
 use Rattle.sr_cell.specs.declared.table.Table.{Table}
 use Rattle.sr_cell.specs.Attrs.{has_column, includes, project}
-use Rattle.sr_cell.specs.Cells.{Row, cell_at, cell_le}
+use Rattle.sr_cell.specs.Cells.{Row}
 use Rattle.sr_cell.specs.Columns.{table_at, is_point}
 use Rattle.sr_box.specs.declared.span.Span.TheVariants.{Full, Nums, Strs}
 use Rattle.sr_box.specs.Points.{Rect, in_any, rect_fits, constrains_only}
@@ -17,7 +17,6 @@ use Rattle.sr_model.specs.SortedRows.{ascend, key_lt}
 use Rattle.sr_model.specs.Statements.{Tables}
 use Rattle.sr_model.specs.Queries.{rows_at}
 use Rattle.sr_region.specs.Regions.{rank, is_in, IsPart}
-use Rattle.sr_region.specs.Laws.{CellsStand}
 use Rattle.sr_region.proofs.Parts.{is_in-point}
 use Rattle.sr_region.proofs.Ranks.{stand}
 use Rattle.sr_store.specs.Told.{IsTold}

@@ -1,23 +1,17 @@
 -- What a client makes of messages and marks.
-use Rattle.std.specs.Prelude.{ℕ, Bool, true, false, List, [], ◌∷◌, map, flat_map, Option, Some, None}
+use Rattle.std.specs.Prelude.{ℕ, Bool, true, false, List, [], ◌∷◌, flat_map, Option, Some, None}
 use Rattle.sr_cell.specs.declared.table.Table.{Table}
 use Rattle.sr_cell.specs.Columns.{table_at}
-use Rattle.sr_cell.specs.Cells.{Row, cell_at}
+use Rattle.sr_cell.specs.Cells.{Row}
 use Rattle.sr_message.specs.declared.message.AskPart.{AskPart}
 use Rattle.sr_message.specs.declared.message.Message.{Message}
 use Rattle.sr_message.specs.declared.message.Message.TheVariants.{Ask, Notice, Rows, Reply}
-use Rattle.sr_model.specs.Queries.{row_at}
-use Rattle.sr_query.specs.declared.condition.Output.{Output}
 use Rattle.sr_region.specs.declared.region.Region.{Region}
 use Rattle.sr_store.specs.declared.store.Arrival.{Arrival}
 
 abbrev pub is_empty : List Region → Bool
 is_empty [] = true
 is_empty (g ∷ regions) = false
-
--- the cells of the row in these columns, in this order
-abbrev pub cells_of : List Output → Row → Row
-cells_of outputs row = map (λ o. cell_at (row_at (row ∷ []) o.part) o.column) outputs
 
 -- the rows that a message brings
 abbrev pub brought : Message → List Row

@@ -12,7 +12,7 @@ pub record Taking (before w : World) (version : ℕ) : Type 0 where
   pub first : before.to_client.items ≡ Reply number version ∷ w.to_client.items
   pub same : w ≡ record before { to_client = w.to_client }
 
--- and but for the ask that was out
+-- The same, and without the ask that was out.
 pub record Finishing (before w : World) (out : code.AskOut) (version : ℕ) : Type 0 where
   pub stands : Stands before
   pub number : ℕ

@@ -1,9 +1,9 @@
-use Rattle.std.proofs.Common.{rules, ◌≡◌, ◌∷◌, [], sym, ◌∙◌, ap, subst, false, ◌||◌, get_or, map, List}
+use Rattle.std.proofs.Common.{◌≡◌, ◌∷◌, [], sym, subst, false, ◌||◌, get_or, map, List}
 use Rattle.std.specs.Prelude.{filter}
 use Rattle.sr_cell.specs.Cells.{Row}
 use Rattle.sr_query.specs.declared.query.Part.{Part}
 use Rattle.sr_model.specs.Queries.{rows_at}
-use Rattle.sr_join.specs.Found.{cells_of, IsFound}
+use Rattle.sr_join.specs.Found.{cells_of}
 use Rattle.sr_world.specs.Answering.{is_kept, is_new, IsOnePart, BringRows}
 use Rattle.sr_world.proofs.StepLemmas.{if_each, of_ok}
 use Rattle.sr_world.proofs.answer.answer.Goals as goal
@@ -25,5 +25,5 @@ returns c = λ schema tables part.
     let kept = c.in_ok-lend_regions.ensures schema tables (λ p. false) one have (c.new-joiner.ensures.found coded.key query.output all) in
     let found = c.in_ok-lend_arrivals.ensures schema tables (λ p. false || is_kept coded regions p) one brings kept in
     let answers = of_ok (λ answer. answer ≡ map (cells_of query.output) (filter (λ p. is_kept coded regions p || is_new coded arrivals p) all)) c.answer.result rows is
-        (c.answer.ensures.found coded.key query.output all (λ p. is_kept coded regions p || is_new coded arrivals p) found) in
+    (c.answer.ensures.found coded.key query.output all (λ p. is_kept coded regions p || is_new coded arrivals p) found) in
     subst (λ (p : Part). rows ≡ map (cells_of query.output) (filter (λ r. is_kept p regions r || is_new p arrivals r) (rows_at tables p.table))) same answers)

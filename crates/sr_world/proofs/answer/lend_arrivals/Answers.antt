@@ -1,6 +1,5 @@
-use Rattle.std.proofs.Common.{rules, ◌≡◌, ◌∷◌, [], ◌++◌, sym, ◌∙◌, ap, subst, true, map, take, Bool, ◌||◌}
+use Rattle.std.proofs.Common.{rules, ◌≡◌, sym, ◌∙◌, ap, subst, map, take, ◌||◌}
 use Rattle.std.specs.Prelude.{filter}
-use Rattle.sr_cell.specs.Cells.{Row}
 use Rattle.sr_model.specs.Queries.{rows_at}
 use Rattle.sr_region.specs.Regions.{is_in}
 use Rattle.sr_store.specs.declared.store.Arrival.{Arrival}

@@ -1,4 +1,4 @@
-use Rattle.std.proofs.Common.{rules, ◌≡◌, ◌≤◌, ◌<◌, ◌+◌, ◌++◌, ◌∷◌, [], length, sym, ◌∙◌, ap, subst, arith, take, length-append}
+use Rattle.std.proofs.Common.{rules, ◌≤◌, ◌+◌, ◌++◌, ◌∷◌, [], length, sym, subst, arith, take, length-append}
 use Rattle.sr_query.specs.declared.query.Part.{Part}
 use Rattle.sr_world.specs.Asking.{AsksRest, AreMeant}
 use Rattle.sr_world.specs.Cutting.{AreCutAlong}

@@ -1,4 +1,4 @@
-use Rattle.std.proofs.Common.{◌≡◌, ◌≤◌, length, take}
+use Rattle.std.proofs.Common.{◌≤◌, length, take}
 use Rattle.sr_world.specs.Asking.{AsksRest}
 use Rattle.sr_world.specs.Cutting.{AreCutAlong}
 use Rattle.sr_world.proofs.asks.asks_of.Given as goal

@@ -8,7 +8,9 @@ pub finish-requires : goal.finish-requires
 finish-requires c = record {
   finishing =
       let w = c.args.self.now in
-      let before = c.requires.taking.0 in
-      (before, subst (λ (o : Option code.AskOut). Finishing before (record w { client = record w.client { out = o } }) c.in-Some.out c.args.version) (sym c.take.ensures.after)
-          (finishing before w c.in-Some.out c.args.version c.requires.taking.1 (search rules)));
+      let before = c.requires.taking.0 in (
+        before,
+        subst (λ (o : Option code.AskOut). Finishing before (record w { client = record w.client { out = o } }) c.in-Some.out c.args.version) (sym c.take.ensures.after)
+            (finishing before w c.in-Some.out c.args.version c.requires.taking.1 (search rules)),
+      );
 }

@@ -98,8 +98,8 @@ module _ (schema : List Table) (regions : List Region) (parts : List Part) (arri
       all-some schema (λ (part : Part). part.table) (λ (part : Part). part.rects) (λ t. flat_map (λ g. g.rects) (filter (λ g. g.table == t) regions))
       (λ t. flat_map (λ r. r.rects) (filter (λ r. r.table == t) arrivals)) parts fit
 
-  pub arrivals_cut : All (IsArrival schema parts) arrivals → All (IsArrivalCutFrom schema (rects_on regions parts arrivals)) arrivals
-  arrivals_cut each =
+  pub fits_cut : All (λ r. list_all (rect_fits (table_at schema r.table).columns) r.rects ≡ true) arrivals → All (IsArrivalCutFrom schema (rects_on regions parts arrivals)) arrivals
+  fits_cut fits =
       All-weaker (λ r. AreCutFrom (table_at schema r.table).columns
       ((flat_map (λ g. g.rects) (filter (λ g. g.table == r.table) regions) ++ flat_map (λ part. part.rects) (filter (λ part. part.table == r.table) parts))
       ++ (flat_map (λ s. s.rects) (filter (λ s. s.table == r.table) arrivals) ++ [])) r.rects)
@@ -107,7 +107,7 @@ module _ (schema : List Table) (regions : List Region) (parts : List Part) (arri
       (λ r cut. subst (λ given. AreCutFrom (table_at schema r.table).columns given r.rects) (ends r.table) cut) arrivals
       (all-some schema (λ (r : Arrival). r.table) (λ (r : Arrival). r.rects)
       (λ t. flat_map (λ g. g.rects) (filter (λ g. g.table == t) regions) ++ flat_map (λ part. part.rects) (filter (λ part. part.table == t) parts)) (λ t. []) arrivals
-      (arrival-fits schema parts arrivals each))
+      fits)
     where
       ends : (t : ℕ)
           → (flat_map (λ g. g.rects) (filter (λ g. g.table == t) regions) ++ flat_map (λ part. part.rects) (filter (λ part. part.table == t) parts))
@@ -118,6 +118,9 @@ module _ (schema : List Table) (regions : List Region) (parts : List Part) (arri
           (append-nil (flat_map (λ s. s.rects) (filter (λ s. s.table == t) arrivals)))
           ∙ append_assoc (flat_map (λ g. g.rects) (filter (λ g. g.table == t) regions)) (flat_map (λ part. part.rects) (filter (λ part. part.table == t) parts))
           (flat_map (λ s. s.rects) (filter (λ s. s.table == t) arrivals))
+
+  pub arrivals_cut : All (IsArrival schema parts) arrivals → All (IsArrivalCutFrom schema (rects_on regions parts arrivals)) arrivals
+  arrivals_cut each = fits_cut (arrival-fits schema parts arrivals each)
 
   pub given_fit : (t : ℕ) → All (IsOfSchema schema) regions → All (FitsPart schema) parts → All (IsArrival schema parts) arrivals
       → list_all (rect_fits (table_at schema t).columns) (rects_on regions parts arrivals t) ≡ true

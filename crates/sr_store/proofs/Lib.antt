@@ -21,4 +21,5 @@ pub mod Stepping
 pub mod Given
 pub mod Counting
 pub mod Heavy
+pub mod Refusals
 pub mod Trials

@@ -1,8 +1,8 @@
 -- Points that lie in rects of two lists.
-use Rattle.std.proofs.Common.{◌≡◌, ℕ, zero, suc, ◌*◌, ◌∙◌, ◌↔◌, Bool, true, false, cond, List, [], ◌∷◌, ◌++◌, refl, sym, ap, arith}
+use Rattle.std.proofs.Common.{◌≡◌, ℕ, zero, suc, ◌*◌, ◌≤◌, ◌∙◌, ◌↔◌, Bool, true, false, cond, List, [], ◌∷◌, ◌++◌, refl, sym, ap, subst, arith}
 use Rattle.std.specs.Prelude.{not, ◌&&◌, ◌||◌, ◌==◌, nat_eq, flat_map, filter}
 use Rattle.std.specs.List.{list_all}
-use Rattle.std.proofs.lemmas.List.Folds.{list_all-append}
+use Rattle.std.proofs.lemmas.List.{append-nil}
 use Rattle.std.proofs.lemmas.Bool.Decides.{nat_tests}
 use Rattle.sr_cell.specs.declared.table.Column.{Column}
 use Rattle.sr_cell.specs.Attrs.{includes}
@@ -10,8 +10,11 @@ use Rattle.sr_cell.specs.Cells.{Row}
 use Rattle.sr_cell.specs.Columns.{is_point}
 use Rattle.sr_box.specs.Points.{Rect, times, in_any, rect_fits}
 use Rattle.sr_union.specs.Pieces.{IsMeet, IsWithin}
+use Rattle.sr_union.specs.Grid.{grid, AreCutFrom}
 use Rattle.sr_union.proofs.Times.{in_any-times}
-use Rattle.sr_union.proofs.Once.{in_any-append}
+use Rattle.sr_union.proofs.Among.{AreCutFrom-append}
+use Rattle.sr_union.proofs.Parts.{are_part, are_fit}
+use Rattle.sr_union.proofs.Once.{in_any-append, grid_among, are_trans}
 use Rattle.sr_query.specs.declared.query.Part.{Part}
 use Rattle.sr_region.specs.declared.region.Region.{Region}
 use Rattle.sr_store.specs.Renewing.{touching}
@@ -75,25 +78,45 @@ pub common_out : (rects both : List Rect) (g : Region) (gs : List Region) (t a :
     → (in_any both p || (in_any rects p && in_any (wider gs t a) p)) ≡ (in_any both p || (in_any rects p && in_any (wider (g ∷ gs) t a) p))
 common_out rects both g gs t a p is = ap (λ rs. in_any both p || (in_any rects p && in_any rs p)) (sym (wider-out g gs t a is))
 
-pub rest_fit : (cs : List Column) (g : Region) (gs : List Region) (t a : ℕ) → list_all (rect_fits cs) (wider (g ∷ gs) t a) ≡ true → list_all (rect_fits cs) (wider gs t a) ≡ true
-rest_fit cs g gs t a fit = go (g.table == t && (includes g.attrs a && not (g.attrs == a))) refl
-  where
-    go : (b : Bool) → (g.table == t && (includes g.attrs a && not (g.attrs == a))) ≡ b → list_all (rect_fits cs) (wider gs t a) ≡ true
-    go true is = right (list_all (rect_fits cs) g.rects) (list_all (rect_fits cs) (wider gs t a)) (sym (list_all-append (rect_fits cs) g.rects (wider gs t a)) ∙ ap (list_all (rect_fits cs)) (sym (wider-in g gs t a is)) ∙ fit)
-      where
-        right : (b c : Bool) → (b && c) ≡ true → c ≡ true
-        right b c e = grind arith
-    go false is = ap (list_all (rect_fits cs)) (sym (wider-out g gs t a is)) ∙ fit
+-- what is cut from rects, part by part
+cut_parts : (cs : List Column) (given a b : List Rect) → AreCutFrom cs given (a ++ b) → AreCutFrom cs given a × AreCutFrom cs given b
+cut_parts cs given [] b h = (tt, h)
+cut_parts cs given (r ∷ a) b h = let ih = cut_parts cs given a b h.2 in ((h.0, h.1, ih.0), ih.1)
 
-pub own_fit : (cs : List Column) (g : Region) (gs : List Region) (t a : ℕ) → (g.table == t && (includes g.attrs a && not (g.attrs == a))) ≡ true → list_all (rect_fits cs) (wider (g ∷ gs) t a) ≡ true
-    → list_all (rect_fits cs) g.rects ≡ true
-own_fit cs g gs t a is fit = left (list_all (rect_fits cs) g.rects) (list_all (rect_fits cs) (wider gs t a)) (sym (list_all-append (rect_fits cs) g.rects (wider gs t a)) ∙ ap (list_all (rect_fits cs)) (sym (wider-in g gs t a is)) ∙ fit)
+pub rest_cut : (cs : List Column) (given : List Rect) (g : Region) (gs : List Region) (t a : ℕ) → AreCutFrom cs given (wider (g ∷ gs) t a) → AreCutFrom cs given (wider gs t a)
+rest_cut cs given g gs t a cut = go (g.table == t && (includes g.attrs a && not (g.attrs == a))) refl
   where
-    left : (b c : Bool) → (b && c) ≡ true → b ≡ true
-    left b c e = grind arith
+    go : (b : Bool) → (g.table == t && (includes g.attrs a && not (g.attrs == a))) ≡ b → AreCutFrom cs given (wider gs t a)
+    go true is = (cut_parts cs given g.rects (wider gs t a) (subst (AreCutFrom cs given) (wider-in g gs t a is) cut)).1
+    go false is = subst (AreCutFrom cs given) (wider-out g gs t a is) cut
 
-pub both_fit : (cs : List Column) (one other next : List Rect) → next ≡ one ++ other → list_all (rect_fits cs) one ≡ true → list_all (rect_fits cs) other ≡ true → list_all (rect_fits cs) next ≡ true
-both_fit cs one other next made f g = ap (list_all (rect_fits cs)) made ∙ list_all-append (rect_fits cs) one other ∙ rw (f, g) refl
+own_cut : (cs : List Column) (given : List Rect) (g : Region) (gs : List Region) (t a : ℕ) → (g.table == t && (includes g.attrs a && not (g.attrs == a))) ≡ true
+    → AreCutFrom cs given (wider (g ∷ gs) t a) → AreCutFrom cs given g.rects
+own_cut cs given g gs t a is cut = (cut_parts cs given g.rects (wider gs t a) (subst (AreCutFrom cs given) (wider-in g gs t a is) cut)).0
+
+-- what rects have in common with those of one region more is cut from what both are cut from
+pub both_cut : (cs : List Column) (given rects both met next : List Rect) (g : Region) (gs : List Region) (t a : ℕ)
+    → (g.table == t && (includes g.attrs a && not (g.attrs == a))) ≡ true → AreCutFrom cs given rects → AreCutFrom cs given (wider (g ∷ gs) t a) → AreCutFrom cs given both
+    → (list_all (rect_fits cs) rects ≡ true → list_all (rect_fits cs) g.rects ≡ true → AreCutFrom cs (rects ++ g.rects) met) → next ≡ both ++ met → AreCutFrom cs given next
+both_cut cs given rects both met next g gs t a is own all before meets made =
+    let here = own_cut cs given g gs t a is all in
+    let cut = are_trans cs given (rects ++ g.rects) met (AreCutFrom-append cs given rects g.rects own here) (meets (are_fit cs given rects own) (are_fit cs given g.rects here)) in
+    subst (AreCutFrom cs given) (sym made) (AreCutFrom-append cs given both met before cut)
+
+-- what rects have in common with others fits, and with it they make no greater grid than with the others
+pub common_fit : (cs : List Column) (rects others both : List Rect) → list_all (rect_fits cs) rects ≡ true → list_all (rect_fits cs) others ≡ true
+    → ((given : List Rect) → AreCutFrom cs given rects → AreCutFrom cs given others → AreCutFrom cs given both) → list_all (rect_fits cs) both ≡ true
+common_fit cs rects others both fit other_fit cuts =
+    let own = are_part cs [] rects others fit in
+    let other = subst (λ rs. AreCutFrom cs (rects ++ rs) others) (append-nil others) (are_part cs rects others [] other_fit) in
+    are_fit cs (rects ++ others) both (cuts (rects ++ others) own other)
+
+pub common_grid : (cs : List Column) (rects others both : List Rect) → list_all (rect_fits cs) rects ≡ true → list_all (rect_fits cs) others ≡ true
+    → ((given : List Rect) → AreCutFrom cs given rects → AreCutFrom cs given others → AreCutFrom cs given both) → grid cs (rects ++ both) ≤ grid cs (rects ++ others)
+common_grid cs rects others both fit other_fit cuts =
+    let own = are_part cs [] rects others fit in
+    let other = subst (λ rs. AreCutFrom cs (rects ++ rs) others) (append-nil others) (are_part cs rects others [] other_fit) in
+    grid_among cs (rects ++ others) (rects ++ both) (AreCutFrom-append cs (rects ++ others) rects both own (cuts (rects ++ others) own other))
 
 -- rects lie within others where they lie within what both have in common
 pub within_common : (cs : List Column) (rects others both : List Rect) → HaveCommon cs rects others both → IsWithin cs rects both ↔ IsWithin cs rects others

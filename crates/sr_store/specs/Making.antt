@@ -17,8 +17,8 @@ use Rattle.sr_store.specs.declared.absorb.Kind.{Kind}
 use Rattle.sr_store.specs.declared.store.Arrival.{Arrival}
 use Rattle.sr_store.specs.Classes.{is_before, is_same}
 use Rattle.sr_store.specs.Stores.{drop_of}
-use Rattle.sr_store.specs.Answered.{AreFlags, IsAbsorbedIn, flagged}
-use Rattle.sr_store.specs.Renewing.{pieces_of, IsRestamped}
+use Rattle.sr_store.specs.Answered.{AreFlags, IsAbsorbedIn, flagged, is_used, rects_on}
+use Rattle.sr_store.specs.Renewing.{pieces_of, IsRestamped, IsCutFrom}
 
 -- no point lies in rects of both lists
 abbrev pub HaveNoCommon : List Column → List Rect → List Rect → Type 0
@@ -69,6 +69,10 @@ pub record DropsAbsorbed (schema : List Table) (all left : List Region) (marks :
   pub absorbed : AreFlags (IsAbsorbedIn schema all) flags all
   pub left_are : left ≡ flagged false flags all
   pub marks_are : marks ≡ map (drop_of Absorbed) (flagged true flags all)
+
+-- the region's columns are used, and its rects are cut from those of its table
+abbrev pub ComesFrom : List Table → List Region → List Part → List Arrival → Region → Type 0
+ComesFrom schema old parts arrivals g = (is_used old arrivals g.table g.attrs ≡ true) × IsCutFrom schema (rects_on old parts arrivals) g
 
 -- there is a kind, the table and the columns of the region
 abbrev pub IsOfKind : Option Kind → Region → Type 0

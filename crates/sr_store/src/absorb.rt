@@ -1,20 +1,27 @@
 //! Regions whose points are all held under more columns.
-ghost use Rattle.std.specs.Prelude.{◌≡◌, ◌==◌, ◌&&◌, ◌↔◌, not, true, false, List, [], length, IfOk, IfSome, IsTrue};
+ghost use Rattle.std.specs.Prelude.{◌≡◌, ◌==◌, ◌<◌, ◌&&◌, ◌↔◌, not, true, false, List, [], ◌++◌, length, IfOk, IfSome, IsErrOf, IsTrue};
 ghost use Rattle.std.specs.List.{list_all, All};
+ghost use Rattle.sr_cell.specs.declared.list.No.TheVariants.{Refused};
 ghost use Rattle.sr_cell.specs.declared.table.Column.{Column};
+ghost use Rattle.sr_cell.specs.Columns.{table_at};
 ghost use Rattle.sr_cell.specs.Attrs.{includes};
-ghost use Rattle.sr_box.specs.Points.{rect_fits};
+ghost use Rattle.sr_box.specs.Points.{Rect};
+ghost use Rattle.sr_union.specs.Grid.{AreCutFrom, grid};
 ghost use Rattle.sr_query.specs.Bound.{is_table};
+ghost use Rattle.sr_query.specs.declared.query.Part.{Part as ThePart};
+ghost use Rattle.sr_region.specs.declared.region.Region.{Region as TheRegion};
+ghost use Rattle.sr_store.specs.declared.store.Arrival.{Arrival as TheArrival};
 ghost use Rattle.sr_store.specs.Stores.{IsOfSchema};
-ghost use Rattle.sr_store.specs.Answered.{wider, IsAbsorbedIn, AreFlags, flagged};
-ghost use Rattle.sr_store.specs.Making.{HaveCommon, IsOfKind};
+ghost use Rattle.sr_store.specs.Answered.{wider, IsAbsorbedIn, AreFlags, flagged, IsHeavy};
+ghost use Rattle.sr_store.specs.Making.{HaveCommon, IsOfKind, ComesFrom};
 
 use crate::lookup::table_at;
 use crate::restamp::MOST_RECTS;
 use sr_cell::attrs::Attrs;
-use sr_cell::list::{NoMemory, Seq};
+use sr_cell::list::{No, NoMemory, Seq};
 use sr_cell::schema::Schema;
 use sr_region::region::Region;
+use sr_union::minus::Over;
 use sr_union::rects::Rects;
 use std::alloc::Global;
 
@@ -46,8 +53,8 @@ fn wider_common(
     attrs: Attrs,
 ) -> Result<Rects, NoMemory>
     ensures points { (columns : List Column) → IfOk result (HaveCommon columns rects.now (wider regions.now table attrs)) }
-    ensures fit { (columns : List Column) → list_all (rect_fits columns) rects.now ≡ true → list_all (rect_fits columns) (wider regions.now table attrs) ≡ true
-        → IfOk result (λ both. list_all (rect_fits columns) both ≡ true) }
+    ensures cuts { (columns : List Column) (given : List Rect) → AreCutFrom columns given rects.now → AreCutFrom columns given (wider regions.now table attrs)
+        → IfOk result (AreCutFrom columns given) }
 {
     let mut both = Rects::new(alloc);
     for region in regions {
@@ -64,17 +71,18 @@ fn is_absorbed(
     schema: &Schema,
     regions: &[Region],
     region: &Region,
-) -> Result<bool, NoMemory>
+) -> Result<bool, No<Over>>
     requires tables { IsTrue (list_all is_table schema.now) }
     requires each { All (IsOfSchema schema.now) regions.now }
     requires region { IsOfSchema schema.now region.now }
-    ensures { IfOk result (λ yes. IsTrue yes ↔ IsAbsorbedIn schema.now regions.now region.now) }
+    ensures absorbed { IfOk result (λ yes. IsTrue yes ↔ IsAbsorbedIn schema.now regions.now region.now) }
+    ensures over { IsErrOf result (Refused (record {})) → 16384 < grid (table_at schema.now region.now.table).columns (region.now.rects ++ wider regions.now region.now.table region.now.attrs) }
 {
     let both = wider_common(alloc, regions, &region.rects, region.table, region.attrs)?;
     let table = table_at(schema, region.table);
     match region.rects.within(alloc, &both, table, MOST_RECTS) {
         Ok(yes) => Ok(yes),
-        Err(_) => Err(NoMemory),
+        Err(no) => Err(no),
     }
 }
 
@@ -119,10 +127,12 @@ pub(crate) fn absorbed(
     alloc: Global,
     schema: &Schema,
     regions: &[Region],
-) -> Result<Seq<bool>, NoMemory>
+) -> Result<Seq<bool>, No<Over>>
     requires tables { IsTrue (list_all is_table schema.now) }
     requires each { All (IsOfSchema schema.now) regions.now }
-    ensures { IfOk result (λ flags. AreFlags (IsAbsorbedIn schema.now regions.now) flags regions.now) }
+    ensures flags { IfOk result (λ flags. AreFlags (IsAbsorbedIn schema.now regions.now) flags regions.now) }
+    ensures over { (old : List TheRegion) (parts : List ThePart) (arrivals : List TheArrival) → All (ComesFrom schema.now old parts arrivals) regions.now
+        → IsErrOf result (Refused (record {})) → IsHeavy schema.now old parts arrivals }
 {
     let mut flags = Seq::new(alloc);
     let mut widest = None;
@@ -130,7 +140,10 @@ pub(crate) fn absorbed(
         if is_widest(regions, region, &mut widest) {
             flags.push(false)?;
         } else {
-            flags.push(is_absorbed(alloc, schema, regions, region)?)?;
+            match is_absorbed(alloc, schema, regions, region) {
+                Ok(yes) => flags.push(yes)?,
+                Err(no) => return Err(no),
+            }
         }
     }
     Ok(flags)

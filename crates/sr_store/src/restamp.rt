@@ -1,26 +1,30 @@
 //! Regions cut along the parts of a query, with its number as the stamp of what it touches.
-ghost use Rattle.std.specs.Prelude.{◌≡◌, ◌==◌, ◌&&◌, true, false, List, ◌++◌, map, option_to_list, IfOk, OnOk, IsTrue};
+ghost use Rattle.std.specs.Prelude.{◌≡◌, ◌==◌, ◌<◌, ◌&&◌, true, false, List, ◌++◌, map, option_to_list, IfOk, OnOk, IsErrOf, IsTrue};
 ghost use Rattle.std.specs.List.{list_all, All};
+ghost use Rattle.sr_cell.specs.declared.list.No.TheVariants.{Refused};
 ghost use Rattle.sr_cell.specs.declared.table.Column.{Column};
 ghost use Rattle.sr_cell.specs.Columns.{table_at};
 ghost use Rattle.sr_cell.specs.Attrs.{includes};
 ghost use Rattle.sr_box.specs.Points.{rect_fits, constrains_only};
-ghost use Rattle.sr_union.specs.Grid.{all_inner, have_first};
+ghost use Rattle.sr_union.specs.Grid.{grid, all_inner, have_first};
 ghost use Rattle.sr_query.specs.Bound.{is_table};
 ghost use Rattle.sr_query.specs.declared.query.Part.{Part as ThePart};
 ghost use Rattle.sr_region.specs.Regions.{IsRegion};
+ghost use Rattle.sr_store.specs.declared.store.Arrival.{Arrival as TheArrival};
 ghost use Rattle.sr_store.specs.Stores.{IsOfSchema};
+ghost use Rattle.sr_store.specs.Answered.{IsHeavy};
 ghost use Rattle.sr_store.specs.Renewing.{touching, with_stamp, IsRestamped};
 ghost use Rattle.sr_store.specs.Making.{HaveNoCommon, AddsHalves, AddsRestamped};
 
 use crate::lookup::table_at;
 use sr_cell::attrs::Attrs;
-use sr_cell::list::{Copied, NoMemory, Seq};
+use sr_cell::list::{Copied, No, NoMemory, Seq};
 use sr_cell::schema::Schema;
 use sr_cell::table::Table;
 use sr_query::query::Part;
-use sr_region::halves::Halves;
+use sr_region::halves::{Halves, NotSplit};
 use sr_region::region::Region;
+use sr_union::minus::Over;
 use sr_union::rects::Rects;
 use std::alloc::Global;
 
@@ -100,21 +104,24 @@ fn push_split(
     rects: &Rects,
     number: u64,
     pieces: &mut Seq<Region>,
-) -> Result<(), NoMemory>
+) -> Result<(), No<Over>>
     requires inner { all_inner table.now.columns ≡ true }
     requires first { have_first table.now.columns ≡ true }
     requires region { IsRegion table.now region }
     requires fit { list_all (rect_fits table.now.columns) rects.now ≡ true }
     requires only { list_all (constrains_only region.attrs 0) rects.now ≡ true }
-    ensures { OnOk result (AddsHalves table.now number region rects.now pieces.old pieces.new) }
+    ensures halves { OnOk result (AddsHalves table.now number region rects.now pieces.old pieces.new) }
+    ensures over { IsErrOf result (Refused (record {})) → 16384 < grid table.now.columns (region.rects ++ rects.now) }
 {
     let halves = match region.split(alloc, rects, table, MOST_RECTS) {
         Ok(halves) => halves,
-        Err(_) => return Err(NoMemory),
+        Err(NotSplit::Over(_)) => return Err(No::Refused(Over)),
+        Err(NotSplit::NoMemory(_)) => return Err(No::NoMemory),
     };
     let Halves { inside, outside } = halves;
     push_half(pieces, outside)?;
-    push_stamped(pieces, inside, number)
+    push_stamped(pieces, inside, number)?;
+    Ok(())
 }
 
 /// The region at the end, with a new stamp on what the parts touch.
@@ -125,15 +132,16 @@ fn restamp_one(
     parts: &[Part],
     number: u64,
     pieces: &mut Seq<Region>,
-) -> Result<(), NoMemory>
+) -> Result<(), No<Over>>
     requires tables { IsTrue (list_all is_table schema.now) }
     requires region { IsOfSchema schema.now region }
     requires fit { All (λ (part : ThePart). list_all (rect_fits (table_at schema.now part.table).columns) part.rects ≡ true) parts.now }
     requires only { All (λ (part : ThePart). list_all (constrains_only part.need 0) part.rects ≡ true) parts.now }
-    ensures { OnOk result (AddsRestamped schema.now number parts.now region pieces.old pieces.new) }
+    ensures restamped { OnOk result (AddsRestamped schema.now number parts.now region pieces.old pieces.new) }
+    ensures over { IsErrOf result (Refused (record {})) → 16384 < grid (table_at schema.now region.table).columns (region.rects ++ touching parts.now region.table region.attrs) }
 {
     if !may_touch(alloc, &region, parts)? {
-        return pieces.push(region);
+        return Ok(pieces.push(region)?);
     }
     let rects = touching_rects(alloc, parts, region.table, region.attrs)?;
     let table = table_at(schema, region.table);
@@ -147,16 +155,20 @@ pub(crate) fn restamp(
     regions: Seq<Region>,
     parts: &[Part],
     number: u64,
-) -> Result<Seq<Region>, NoMemory>
+) -> Result<Seq<Region>, No<Over>>
     requires tables { IsTrue (list_all is_table schema.now) }
     requires each { All (IsOfSchema schema.now) regions }
     requires fit { All (λ (part : ThePart). list_all (rect_fits (table_at schema.now part.table).columns) part.rects ≡ true) parts.now }
     requires only { All (λ (part : ThePart). list_all (constrains_only part.need 0) part.rects ≡ true) parts.now }
-    ensures { IfOk result (λ pieces. IsRestamped schema.now number parts.now regions pieces) }
+    ensures restamped { IfOk result (λ pieces. IsRestamped schema.now number parts.now regions pieces) }
+    ensures over { (arrivals : List TheArrival) → IsErrOf result (Refused (record {})) → IsHeavy schema.now regions parts.now arrivals }
 {
     let mut pieces = Seq::new(alloc);
     for region in regions.into_vec() {
-        restamp_one(alloc, schema, region, parts, number, &mut pieces)?;
+        match restamp_one(alloc, schema, region, parts, number, &mut pieces) {
+            Ok(()) => {}
+            Err(no) => return Err(no),
+        }
     }
     Ok(pieces)
 }

@@ -1,5 +1,5 @@
 //! The regions of a client.
-ghost use Rattle.std.specs.Prelude.{◌≡◌, ◌≤◌, ◌+◌, true, [], ◌++◌, length, map, take, drop, slice_get, Some, IfOk, IfErr, OnOk, OnErr, IsTrue};
+ghost use Rattle.std.specs.Prelude.{◌≡◌, ◌≤◌, ◌+◌, true, ◌⊎◌, [], ◌++◌, length, map, take, drop, slice_get, Some, IfOk, IfErr, OnOk, OnErr, IsTrue};
 ghost use Rattle.std.specs.List.{list_all, All};
 ghost use Rattle.sr_cell.specs.Columns.{table_at};
 ghost use Rattle.sr_box.specs.Points.{rect_fits, constrains_only};
@@ -7,14 +7,15 @@ ghost use Rattle.sr_query.specs.Bound.{is_table};
 ghost use Rattle.sr_query.specs.declared.query.Part.{Part as ThePart};
 ghost use Rattle.sr_store.specs.Told.{Told, IsTold, AreTrueOf};
 ghost use Rattle.sr_store.specs.Stores.{IsStore, cover_of, drop_of};
-ghost use Rattle.sr_store.specs.Answered.{IsArrival, AreApart, HaveArrived, IsRenewed};
+ghost use Rattle.sr_store.specs.Answered.{IsArrival, AreApart, HaveArrived, IsRenewed, IsGivenUp, rects_on};
+ghost use Rattle.sr_store.specs.Renewing.{IsCutFrom};
 
 use crate::answer::answer_of;
-use crate::marks::drop_marks;
+use crate::marks::{drop_copies, drop_marks};
 use sr_cell::attrs::Attrs;
 use sr_cell::cause::Cause;
 use sr_cell::cell::Rows;
-use sr_cell::list::{Copied, NoMemory, Seq};
+use sr_cell::list::{Copied, No, NoMemory, Seq};
 use sr_cell::schema::Schema;
 use sr_history::mark::Marks;
 use sr_query::query::Part;
@@ -76,7 +77,8 @@ impl Store {
         cover_in(alloc, self.regions.as_slice(), part)
     }
     /// What an answer does: what arrived is held, the points that the query touches have its number as their stamp, and the
-    /// regions whose points are all held under more columns are dropped. After want of memory it holds nothing.
+    /// regions whose points are all held under more columns are dropped. Where there would be too many pieces, all regions
+    /// are dropped instead. After want of memory it holds nothing.
     pub fn answered(
         &mut self,
         alloc: Global,
@@ -92,18 +94,23 @@ impl Store {
         requires arrivals { All (IsArrival schema.now parts.now) arrivals }
         requires apart { AreApart schema.now self.old.regions arrivals }
         requires told { (told : Told) × IsTold schema.now told × AreTrueOf told self.old.regions × HaveArrived told arrivals }
-        ensures renewed { IfOk result (IsRenewed schema.now number parts.now arrivals self.old.regions self.new.regions) }
+        ensures answered { IfOk result (λ marks. IsRenewed schema.now number parts.now arrivals self.old.regions self.new.regions marks
+            ⊎ IsGivenUp schema.now parts.now arrivals self.old.regions self.new.regions marks) }
+        ensures cuts { All (IsCutFrom schema.now (rects_on self.old.regions parts.now arrivals)) self.new.regions }
         ensures store { IsStore schema.now self.new.regions }
         ensures true_still { (told : Told) → IsTold schema.now told → AreTrueOf told self.old.regions → HaveArrived told arrivals → AreTrueOf told self.new.regions }
         ensures nothing_left { OnErr result (self.new.regions ≡ []) }
     {
         let old = mem::replace(&mut self.regions, Seq::new(alloc));
+        // Cutting gives the regions up, so that their drops are made before it.
+        let drops = drop_copies(alloc, Cause::Pieces, old.as_slice())?;
         match answer_of(alloc, schema, number, parts, arrivals, old) {
             Ok(answer) => {
                 self.regions = answer.regions;
                 Ok(answer.marks)
             }
-            Err(no) => Err(no),
+            Err(No::Refused(_)) => Ok(drops),
+            Err(No::NoMemory) => Err(NoMemory),
         }
     }
 

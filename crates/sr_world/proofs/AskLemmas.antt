@@ -1,14 +1,22 @@
 -- What is asked of some parts is what is left of them.
-use Rattle.std.proofs.Common.{◌≡◌, ℕ, ◌<◌, zero, suc, true, List, [], ◌∷◌, ◌++◌, length, refl, sym, ◌∙◌, ap, subst, arith, inl, inr, get_or}
-use Rattle.std.specs.Prelude.{IsTrue, not, ◌&&◌, ◌⊎◌, ◌↔◌}
-use Rattle.std.specs.List.{list_all, AllZip}
+use Rattle.std.proofs.Common.{◌≡◌, ℕ, ◌+◌, ◌<◌, zero, suc, Bool, true, false, List, [], ◌∷◌, ◌++◌, length, refl, sym, ◌∙◌, ap, subst, arith, inl, inr, get_or, take, append-nil}
+use Rattle.std.specs.Prelude.{IsTrue, not, ◌&&◌, ◌⊎◌, ◌↔◌, nat_lt}
+use Rattle.std.specs.List.{list_all, All, AllZip}
 use Rattle.std.proofs.lemmas.Bool.Decides.{nat_tests}
+use Rattle.std.proofs.lemmas.List.Elements.{All-nil, All-cons, All-head, All-tail}
 use Rattle.sr_cell.specs.declared.table.Column.{Column}
 use Rattle.sr_cell.specs.declared.table.Table.{Table}
 use Rattle.sr_cell.specs.Attrs.{has_column}
+use Rattle.sr_cell.specs.Cells.{Row}
 use Rattle.sr_cell.specs.Columns.{table_at, is_point}
-use Rattle.sr_box.specs.Points.{Rect, Points, in_any, rect_fits, constrains_only, AreSame, HasPoint, HasNoPoint, IsEssential}
-use Rattle.sr_trim.specs.Left.{left_over}
+use Rattle.sr_box.specs.Points.{Rect, Points, in_any, rect_fits, constrains, constrained, constrains_only, AreSame, HasPoint, HasNoPoint, IsEssential}
+use Rattle.sr_box.specs.declared.span.Span.TheVariants.{Full, Nums, Strs}
+use Rattle.sr_union.specs.Free.{span_at}
+use Rattle.sr_union.specs.Grid.{have_first, AreCutFrom}
+use Rattle.sr_union.proofs.Free.{constrained-is}
+use Rattle.sr_union.proofs.Low.{has_point}
+use Rattle.sr_trim.specs.Left.{left_over, is_constrained}
+use Rattle.sr_trim.proofs.Columns.{not_essential}
 use Rattle.sr_message.specs.declared.message.AskPart.{AskPart}
 use Rattle.sr_model.specs.Queries as model
 use Rattle.sr_model.specs.Queries.{points_of}
@@ -16,13 +24,18 @@ use Rattle.sr_query.specs.Bound.{IsPart}
 use Rattle.sr_query.specs.declared.query.Part.{Part}
 use Rattle.sr_history.specs.declared.mark.Mark.{Mark}
 use Rattle.sr_history.specs.Marks.{is_held, is_covered}
-use Rattle.sr_history.specs.Rests.{rest_of, Asks, nothing, covered, asked}
+use Rattle.sr_history.specs.Rests.{rest_of, IsRest, Asks, nothing, covered, asked}
+use Rattle.sr_history.specs.Load.{parts_on}
+use Rattle.sr_history.proofs.Ends.{cuts_keep_ends}
 use Rattle.sr_language.specs.Sound.{is_sound_part}
+use Rattle.sr_language.proofs.Constrained.{rects_constrain_needed}
 use Rattle.sr_region.specs.declared.region.Region.{Region}
 use Rattle.sr_store.specs.Classes.{Stamps, Keeps}
-use Rattle.sr_store.specs.Stores.{cover_of}
+use Rattle.sr_store.specs.Stores.{serves, cover_of, IsOfSchema}
 use Rattle.sr_store.proofs.Covering.{cover_is}
-use Rattle.sr_world.specs.Asking.{AsksRest, AreMeant, entry_of}
+use Rattle.sr_world.specs.Asking.{AsksRest, AreMeant, entry_of, whole_asks}
+use Rattle.sr_world.specs.Cutting.{EndWith, RegionsEnd, PartsEnd, AsksEnd, AreCutAlong}
+use Rattle.sr_world.proofs.EndLemmas.{end-append, cover-end}
 
 -- what trimming leaves of a part
 pub record IsTrimmed (columns : List Column) (need : ℕ) (left : Points) (attrs : ℕ) (rest : List Rect) : Type 0 where
@@ -88,6 +101,113 @@ asks-rest schema regions part attrs rest t marks stamps (m ∷ []) keeps zip sou
     let is = zip.0 in
     let now = trimmed-same (table_at schema part.table).columns part.need (left_over part.rects (cover_of part regions)) (rest_of marks m) attrs rest (left-rest schema marks stamps regions part m keeps is) t in
     entry-asks schema marks m part.table part.need attrs rest is.table is.need (subst (λ u. IsTrimmed (table_at schema u).columns part.need (rest_of marks m) attrs rest) is.table now)
+
+-- of a part without rects nothing is to be asked
+pub asks-none : (schema : List Table) (regions : List Region) (part : Part) → part.rects ≡ [] → AsksRest schema regions (part ∷ []) []
+asks-none schema regions part none marks stamps [] keeps zip sound = absurd zip
+asks-none schema regions part none marks stamps (m ∷ n ∷ meant) keeps zip sound = absurd zip.1
+asks-none schema regions part none marks stamps (m ∷ []) keeps zip sound =
+    let is = zip.0 in
+    let free : HasNoPoint (table_at schema part.table).columns (rest_of marks m) =
+    λ p point. sym (left-rest schema marks stamps regions part m keeps is p point) ∙ ap (λ rects. left_over rects (cover_of part regions) p) none in
+    covered m [] [] (subst (λ t. HasNoPoint (table_at schema t).columns (rest_of marks m)) is.table free) nothing
+
+-- a column that is not needed is not essential to a part
+only-needed : (attrs n c : ℕ) (r : Rect) → constrains_only attrs n r ≡ true → has_column attrs (n + c) ≡ false → constrains (span_at c r) ≡ false
+only-needed attrs n c [] only lacks = refl
+only-needed attrs n zero (Full ∷ r) only lacks = refl
+only-needed attrs n zero (Nums lo hi ∷ r) only lacks = absurd (let e : has_column attrs (n + 0) ≡ has_column attrs n = ap (has_column attrs) (omega arith) in grind (arith, e, only, lacks))
+only-needed attrs n zero (Strs lo hi ∷ r) only lacks = absurd (let e : has_column attrs (n + 0) ≡ has_column attrs n = ap (has_column attrs) (omega arith) in grind (arith, e, only, lacks))
+only-needed attrs n (suc c) (Full ∷ r) only lacks = only-needed attrs (n + 1) c r only (ap (has_column attrs) (omega arith) ∙ lacks)
+only-needed attrs n (suc c) (Nums lo hi ∷ r) only lacks = only-needed attrs (n + 1) c r (grind (arith, only)) (ap (has_column attrs) (omega arith) ∙ lacks)
+only-needed attrs n (suc c) (Strs lo hi ∷ r) only lacks = only-needed attrs (n + 1) c r (grind (arith, only)) (ap (has_column attrs) (omega arith) ∙ lacks)
+
+none-needed : (attrs c : ℕ) (rects : List Rect) → list_all (constrains_only attrs 0) rects ≡ true → has_column attrs c ≡ false → is_constrained c rects ≡ false
+none-needed attrs c [] only lacks = refl
+none-needed attrs c (r ∷ rects) only lacks =
+    let one : has_column (constrained r) c ≡ false = constrained-is r c ∙ only-needed attrs 0 c r (grind (arith, only)) (ap (has_column attrs) (omega arith) ∙ lacks) in
+    let ih = none-needed attrs c rects (grind (arith, only)) lacks in
+    grind (arith, one, ih)
+
+-- all of a part, where nothing is held
+whole-trimmed : (columns : List Column) (need : ℕ) (rects : List Rect) → have_first columns ≡ true → list_all (rect_fits columns) rects ≡ true → list_all (constrains_only need 0) rects ≡ true
+    → IsTrimmed columns need (left_over rects []) need rects
+whole-trimmed columns need rects first fit only = record {
+  fits = fit;
+  points = λ p point. same p;
+  bound = only;
+  shipped = λ c. (λ has. inl has, λ h. elim h [ inl has ↦ has | inr e ↦ needed c (has_column need c) refl e ]);
+  empty = (λ none p point. ap (λ rs. left_over rs [] p) none, λ free. by rects refl free);
+  some = λ some. let p = has_point columns rects some fit first in (p.0, p.1, sym (same p.0) ∙ p.2);
+}
+  where
+    same : (p : Row) → in_any rects p ≡ left_over rects [] p
+    same p = and-true (in_any rects p)
+      where
+        and-true : (b : Bool) → b ≡ (b && true)
+        and-true true = refl
+        and-true false = refl
+
+    needed : (c : ℕ) (b : Bool) → has_column need c ≡ b → IsEssential columns (left_over rects []) c → b ≡ true
+    needed c true has e = refl
+    needed c false lacks e = absurd (not_essential columns (left_over rects []) rects c (λ p point. same p) (none-needed need c rects only lacks) e)
+
+    by : (rs : List Rect) → rects ≡ rs → HasNoPoint columns (left_over rects []) → rects ≡ []
+    by [] e free = e
+    by (r ∷ rs) e free =
+        let p = has_point columns rects (λ none. absurd (let wrong : r ∷ rs ≡ [] = sym e ∙ none in cc)) fit first in
+        absurd (let wrong : true ≡ false = sym p.2 ∙ (same p.0 ∙ free p.0 p.1) in cc)
+
+pub asks-whole : (schema : List Table) (part : Part) (m : model.Part) → IsPart schema part m → is_sound_part schema m ≡ true → ((t : ℕ) → have_first (table_at schema t).columns ≡ true)
+    → AsksRest schema [] (part ∷ []) (whole_asks (part ∷ []))
+asks-whole schema part m is sound first =
+    let fit = subst (λ t. list_all (rect_fits (table_at schema t).columns) part.rects ≡ true) (sym is.table) is.rects.fits in
+    subst (AsksRest schema [] (part ∷ [])) (sym (append-nil (entry_of part.table part.need part.rects)))
+    (asks-rest schema [] part part.need part.rects (whole-trimmed (table_at schema part.table).columns part.need part.rects (first part.table) fit (rects_constrain_needed schema part m is sound)))
+
+-- ---- where what is asked begins and ends
+
+entry-ends : (schema : List Table) (queries : List model.Query) (table attrs : ℕ) (rects : List Rect) → EndWith schema queries table rects → AsksEnd schema queries (entry_of table attrs rects)
+entry-ends schema queries table attrs [] ends = All-nil (λ (ask : AskPart). EndWith schema queries ask.table ask.rects)
+entry-ends schema queries table attrs (r ∷ rects) ends =
+    All-cons (λ (ask : AskPart). EndWith schema queries ask.table ask.rects) (record { table = table; attrs = attrs; rects = r ∷ rects }) [] ends (All-nil (λ (ask : AskPart). EndWith schema queries ask.table ask.rects))
+
+-- what is cut from a part and what covers it
+pub rest-along : (schema : List Table) (regions : List Region) (part : Part) (attrs : ℕ) (rest : List Rect) → AreCutFrom (table_at schema part.table).columns (part.rects ++ cover_of part regions) rest
+    → AreCutAlong schema regions (part ∷ []) (entry_of part.table attrs rest)
+rest-along schema regions part attrs rest cut queries held parts =
+    entry-ends schema queries part.table attrs rest
+    (cuts_keep_ends (table_at schema part.table).columns (parts_on part.table queries) (part.rects ++ cover_of part regions) rest cut
+    (end-append schema queries part.table part.rects (cover_of part regions) (All-head (λ (part : Part). EndWith schema queries part.table part.rects) part [] parts) (cover-end schema queries part regions held)))
+
+pub none-along : (schema : List Table) (regions : List Region) (parts : List Part) → AreCutAlong schema regions parts []
+none-along schema regions parts queries held ends = All-nil (λ (ask : AskPart). EndWith schema queries ask.table ask.rects)
+
+all-append : (P : AskPart → Type 0) (xs ys : List AskPart) → All P xs → All P ys → All P (xs ++ ys)
+all-append P [] ys a b = b
+all-append P (x ∷ xs) ys a b = All-cons P x (xs ++ ys) (All-head P x xs a) (all-append P xs ys (All-tail P x xs a) b)
+
+front-all : (P : Part → Type 0) (xs ys : List Part) → All P (xs ++ ys) → All P xs
+front-all P [] ys a = All-nil P
+front-all P (x ∷ xs) ys a = All-cons P x xs (All-head P x (xs ++ ys) a) (front-all P xs ys (All-tail P x (xs ++ ys) a))
+
+back-all : (P : Part → Type 0) (xs ys : List Part) → All P (xs ++ ys) → All P ys
+back-all P [] ys a = a
+back-all P (x ∷ xs) ys a = back-all P xs ys (All-tail P x (xs ++ ys) a)
+
+pub along-append : (schema : List Table) (regions : List Region) (xs ys : List Part) (own bs : List AskPart) → AreCutAlong schema regions xs own → AreCutAlong schema regions ys bs
+    → AreCutAlong schema regions (xs ++ ys) (own ++ bs)
+along-append schema regions xs ys own bs a b queries held parts =
+    let P : Part → Type 0 = λ part. EndWith schema queries part.table part.rects in
+    all-append (λ ask. EndWith schema queries ask.table ask.rects) own bs (a queries held (front-all P xs ys parts)) (b queries held (back-all P xs ys parts))
+
+-- all of some parts
+pub whole-along : (schema : List Table) (parts : List Part) → AreCutAlong schema [] parts (whole_asks parts)
+whole-along schema [] queries held ends = All-nil (λ (ask : AskPart). EndWith schema queries ask.table ask.rects)
+whole-along schema (part ∷ parts) queries held ends =
+    let P : Part → Type 0 = λ part. EndWith schema queries part.table part.rects in
+    all-append (λ ask. EndWith schema queries ask.table ask.rects) (entry_of part.table part.need part.rects) (whole_asks parts)
+    (entry-ends schema queries part.table part.need part.rects (All-head P part parts ends)) (whole-along schema parts queries held (All-tail P part parts ends))
 
 -- ---- some parts and others
 

@@ -1,6 +1,8 @@
 -- What the client's store and its answer are, as calls give them.
-use Rattle.std.proofs.Common.{subst}
-use Rattle.std.specs.Prelude.{ℕ, ◌≡◌, ◌||◌, List, map, filter}
+use Rattle.std.proofs.Common.{[], subst}
+use Rattle.std.specs.Prelude.{ℕ, ◌≡◌, ◌||◌, ◌⊎◌, List, map, filter}
+use Rattle.std.specs.List.{All}
+use Rattle.std.proofs.lemmas.List.Elements.{All-nil}
 use Rattle.sr_cell.specs.declared.table.Table.{Table}
 use Rattle.sr_cell.specs.Cells.{Row}
 use Rattle.sr_model.specs.Statements.{Tables}
@@ -9,10 +11,12 @@ use Rattle.sr_query.specs.declared.query.Part.{Part}
 use Rattle.sr_query.specs.declared.query.Query.{Query}
 use Rattle.sr_history.specs.declared.mark.Mark.{Mark}
 use Rattle.sr_region.specs.declared.region.Region.{Region}
+use Rattle.sr_region.specs.Regions.{is_in}
 use Rattle.sr_store.specs.declared.store.Arrival.{Arrival}
 use Rattle.sr_store.specs.Told.{Told, IsTold, AreTrueOf}
 use Rattle.sr_store.specs.Stores.{IsStore}
-use Rattle.sr_store.specs.Answered.{HaveArrived, IsRenewed}
+use Rattle.sr_store.specs.Answered.{HaveArrived, IsRenewed, IsGivenUp, rects_on}
+use Rattle.sr_store.specs.Renewing.{IsCutFrom}
 use Rattle.sr_join.specs.Found.{cells_of}
 use Rattle.sr_world.specs.Answering.{is_kept, is_new, IsOnePart, HaveRows, BringRows}
 
@@ -24,18 +28,23 @@ Answers query regions arrivals rows = (schema : List Table) (tables : Tables) (p
 
 -- the store after an answer
 pub record IsAfter (schema : List Table) (number : ℕ) (parts : List Part) (arrivals : List Arrival) (old new : List Region) (marks : List Mark) : Type 0 where
-  pub renewed : IsRenewed schema number parts arrivals old new marks
+  pub answered : IsRenewed schema number parts arrivals old new marks ⊎ IsGivenUp schema parts arrivals old new marks
+  pub cuts : All (IsCutFrom schema (rects_on old parts arrivals)) new
   pub store : IsStore schema new
   pub true_still : (told : Told) → IsTold schema told → AreTrueOf told old → HaveArrived told arrivals → AreTrueOf told new
 
 -- the same, of the schema, parts and arrivals as calls read them
 pub after-of : (schema read : List Table) (number : ℕ) (parts listed : List Part) (arrivals came : List Arrival) (old new : List Region) (marks : List Mark) → read ≡ schema → listed ≡ parts → came ≡ arrivals
-    → IsRenewed read number listed came old new marks → IsStore read new
+    → IsRenewed read number listed came old new marks ⊎ IsGivenUp read listed came old new marks → All (IsCutFrom read (rects_on old listed came)) new → IsStore read new
     → ((told : Told) → IsTold read told → AreTrueOf told old → HaveArrived told came → AreTrueOf told new) → IsAfter schema number parts arrivals old new marks
-after-of schema read number parts listed arrivals came old new marks same all these renewed store still =
+after-of schema read number parts listed arrivals came old new marks same all these answered cuts store still =
     subst (λ rs. IsAfter schema number parts rs old new marks) these
     (subst (λ ps. IsAfter schema number ps came old new marks) all
-    (subst (λ s. IsAfter s number listed came old new marks) same (record { renewed = renewed; store = store; true_still = still })))
+    (subst (λ s. IsAfter s number listed came old new marks) same (record { answered = answered; cuts = cuts; store = store; true_still = still })))
+
+-- nothing arrives
+pub none-arrived : (told : Told) → HaveArrived told []
+none-arrived told = All-nil (λ (r : Arrival). r.rows ≡ filter (is_in r.attrs r.rects) (told r.table r.attrs))
 
 pub answers-of : (query : Query) (regions read : List Region) (arrivals listed : List Arrival) (rows : List Row) → read ≡ regions → listed ≡ arrivals → Answers query read listed rows → Answers query regions arrivals rows
 answers-of query regions read arrivals listed rows same all gives =

@@ -60,6 +60,6 @@ true-now w past f =
 -- ---- steps
 
 -- what a client does leaves the server as it is
-pub server-still : (w : World) (past : Past) (client : Client) (to_server to_client : VecDeque Message Global) (marks : List Mark) (queries : List Numbered) (meaning : Query) → ServerFacts w past
-    → ServerFacts (record w { client = client; to_server = to_server; to_client = to_client }) (record past { marks = marks; queries = queries; meaning = meaning })
-server-still w past client to_server to_client marks queries meaning f = record { tables = f.tables; count = f.count; newest = f.newest; stored = f.stored; points = f.points }
+pub server-still : (w : World) (past : Past) (client : Client) (to_server to_client : VecDeque Message Global) (marks : List Mark) (queries : List Numbered) (from : ℕ) (meaning : Query) → ServerFacts w past
+    → ServerFacts (record w { client = client; to_server = to_server; to_client = to_client }) (record past { marks = marks; queries = queries; counted_from = from; meaning = meaning })
+server-still w past client to_server to_client marks queries from meaning f = record { tables = f.tables; count = f.count; newest = f.newest; stored = f.stored; points = f.points }

@@ -1,7 +1,7 @@
 -- A query of which nothing is left to ask is answered at once, as the scene says.
-use Rattle.std.proofs.Common.{◌≡◌, ℕ, ◌+◌, Bool, true, false, List, [], ◌∷◌, ◌++◌, map, length, refl, sym, ◌∙◌, ap, subst, arith, inl, inr, Some, None, Ok, length-append, append_assoc}
-use Rattle.std.specs.Prelude.{not, ◌&&◌, ◌||◌, ◌⊎◌, filter}
-use Rattle.std.specs.List.{list_all, All}
+use Rattle.std.proofs.Common.{◌≡◌, ℕ, ◌+◌, ◌≤◌, Bool, true, false, List, [], ◌∷◌, ◌++◌, map, length, refl, sym, ◌∙◌, ap, subst, arith, inl, inr, Some, None, Ok, length-append, append_assoc}
+use Rattle.std.specs.Prelude.{IsTrue, not, ◌&&◌, ◌||◌, ◌⊎◌, filter}
+use Rattle.std.specs.List.{list_all, list_any, All}
 use Rattle.std.proofs.lemmas.List.Elements.{All-nil}
 use Rattle.sr_cell.specs.declared.table.Table.{Table}
 use Rattle.sr_cell.specs.declared.table.Column.{Column}
@@ -22,27 +22,34 @@ use Rattle.sr_history.specs.Classes.{Numbered, stamp}
 use Rattle.sr_history.specs.Rests.{rest_of, Asks}
 use Rattle.sr_region.specs.declared.region.Region.{Region}
 use Rattle.sr_store.specs.declared.store.Store.{Store}
+use Rattle.sr_store.specs.declared.store.Arrival.{Arrival}
 use Rattle.sr_store.specs.Classes.{Stamps, Keeps as KeepsPoints}
 use Rattle.sr_store.specs.Told.{IsTrueOf, AreTrueOf}
 use Rattle.sr_store.specs.Stores.{cover_of}
-use Rattle.sr_store.specs.Answered.{IsRenewed}
+use Rattle.sr_store.specs.Answered.{IsArrival, IsRenewed}
+use Rattle.sr_store.proofs.Given.{FitsPart}
 use Rattle.sr_store.proofs.Covering.{cover_is}
 use Rattle.sr_store.proofs.Stamping.{stamp_more}
 use Rattle.sr_join.specs.Found.{cells_of}
 use Rattle.sr_script.specs.declared.line.TraceLine.{TraceLine}
 use Rattle.sr_script.specs.declared.line.TraceLine.TheVariants as line
 use Rattle.sr_scene.specs.Scene.{Scene}
-use Rattle.sr_scene.specs.Steps.{Happens, Keeps, QueriesIfFree, answer_lines, mark_line}
+use Rattle.sr_scene.specs.Scene as scene
+use Rattle.sr_scene.specs.Steps.{Happens, Keeps, QueriesIfFree, answer_lines, mark_line, counted}
 use Rattle.sr_world.specs.declared.world.World.{World}
 use Rattle.sr_world.specs.declared.client.AskOut as code
 use Rattle.sr_world.specs.Asking.{AsksRest}
-use Rattle.sr_world.specs.Answering.{is_kept, is_new, Suits}
+use Rattle.sr_world.specs.Answering.{is_kept, is_new, HaveRows, BringRows, Suits}
 use Rattle.sr_world.specs.Bound.{IsMeaning}
 use Rattle.sr_world.specs.Worlds.{DoesEvent}
-use Rattle.sr_world.specs.Represents.{Past, ClientFacts, Facts, Represents, Flow, request_of, scene_of, client_of, told_of}
-use Rattle.sr_world.proofs.Calls.{Answers, IsAfter}
-use Rattle.sr_world.proofs.Renewal.{renewal, nothing-new}
-use Rattle.sr_world.proofs.MeantLemmas.{IsOneQuery, one-query, are-sound, is-one-part, part-points, no-rest}
+use Rattle.sr_world.specs.Cutting.{EndWith, RegionsEnd, PartsEnd}
+use Rattle.sr_world.specs.Represents.{Past, ClientFacts, OutEnds, Facts, Represents, Flow, request_of, scene_of, client_of, told_of}
+use Rattle.sr_world.proofs.Calls.{Answers, IsAfter, none-arrived}
+use Rattle.sr_world.proofs.Renewal.{nothing-new}
+use Rattle.sr_world.proofs.EndLemmas.{regions-more, part-end}
+use Rattle.sr_world.proofs.CountLemmas.{counted-more}
+use Rattle.sr_world.proofs.KeptLemmas.{IsAnswered, kept}
+use Rattle.sr_world.proofs.MeantLemmas.{IsOneQuery, one-query, are-sound, is-one-part, part-points, part-fits, all-parts, no-rest}
 use Rattle.sr_world.proofs.StepLemmas.{does}
 use Rattle.sr_world.proofs.FactLemmas.{have-first, points-now, ascend-now, told-now, version-now, true-now, server-still}
 
@@ -101,15 +108,15 @@ rows-now w past q m one rows f none gives =
     let old : Tables = version_at past.versions w.client.version in
     let cs = (table_at s part.table).columns in
     let given = gives s newest part (is-one-part s newest q m one (points-now w past f.server) (ascend-now w past f.server))
-    (record { each = f.client.store.each; are_true = true-now w past f }) (record { suit = All-nil (Suits s part); arrived = All-nil _ }) in
+        (record { each = f.client.store.each; are_true = true-now w past f }) (record { suit = All-nil (Suits s part); arrived = none-arrived (told_of newest) }) in
     let chosen = filter-points cs (λ p. is_kept part w.client.store.regions p || is_new part [] p) (points_of one.meant) (rows_at newest part.table) (points-now w past f.server part.table)
-    (kept-all s past.marks (stamp past.queries) w.client.store.regions part one.meant f.client.keeps one.is none) in
+        (kept-all s past.marks (stamp past.queries) w.client.store.regions part one.meant f.client.keeps one.is none) in
     let same : filter (points_of one.meant) (rows_at newest part.table) ≡ filter (points_of one.meant) (rows_at old part.table) =
     elim f.client.recent [
       | inl empty ↦
-          let free = no-points s past.marks (stamp past.queries) w.client.store.regions part one.meant f.client.keeps one.is none empty in
-          filter-none cs (points_of one.meant) (rows_at newest part.table) (points-now w past f.server part.table) free
-          ∙ sym (filter-none cs (points_of one.meant) (rows_at old part.table) (f.server.points w.client.version part.table) free)
+        let free = no-points s past.marks (stamp past.queries) w.client.store.regions part one.meant f.client.keeps one.is none empty in
+        filter-none cs (points_of one.meant) (rows_at newest part.table) (points-now w past f.server part.table) free
+        ∙ sym (filter-none cs (points_of one.meant) (rows_at old part.table) (f.server.points w.client.version part.table) free)
       | inr recent ↦ ap (λ ts. filter (points_of one.meant) (rows_at ts part.table)) (sym (version-now w past f.server recent.0))
     ] in
     given ∙ (ap (map (cells_of q.output)) (chosen ∙ same) ∙ (ap (λ t. map (cells_of q.output) (filter (points_of one.meant) (rows_at old t))) one.is.table ∙ sym (one.answer old)))
@@ -139,12 +146,39 @@ regions-now w past q new marks f a =
     let s = w.server.tables.schema in
     elim f.client.recent [
       | inl none ↦
-          let nothing : new ≡ [] = nothing-new s (w.client.queries + 1) q.parts new marks (have-first s f.server.tables) (subst (λ gs. IsRenewed s (w.client.queries + 1) q.parts [] gs new marks) none a.renewed) in
-          record { are_true = subst (All (IsTrueOf (told_of (version_at past.versions w.client.version)))) (sym nothing) (All-nil (IsTrueOf (told_of (version_at past.versions w.client.version)))); recent = inl nothing }
+        let nothing : new ≡ [] = elim a.answered [
+          | inl r ↦ nothing-new s (w.client.queries + 1) q.parts new marks (have-first s f.server.tables) (subst (λ gs. IsRenewed s (w.client.queries + 1) q.parts [] gs new marks) none r)
+          | inr g ↦ g.left
+        ] in
+        record { are_true = subst (All (IsTrueOf (told_of (version_at past.versions w.client.version)))) (sym nothing) (All-nil (IsTrueOf (told_of (version_at past.versions w.client.version)))); recent = inl nothing }
       | inr recent ↦
-          let still : AreTrueOf (told_of w.server.tables.rows) new = a.true_still (told_of w.server.tables.rows) (told-now w past f.server) (true-now w past f) (All-nil _) in
-          record { are_true = subst (λ ts. AreTrueOf (told_of ts) new) (sym (version-now w past f.server recent.0)) still; recent = inr recent }
+        let still : AreTrueOf (told_of w.server.tables.rows) new = a.true_still (told_of w.server.tables.rows) (told-now w past f.server) (true-now w past f) (none-arrived (told_of w.server.tables.rows)) in
+        record { are_true = subst (λ ts. AreTrueOf (told_of ts) new) (sym (version-now w past f.server recent.0)) still; recent = inr recent }
     ]
+
+-- what is known where a query is answered at once
+is-answered : (w : World) (past : Past) (q : Query) (m : model.Query) → IsOneQuery w.server.tables.schema q m → Facts w past → IsMeaning w.server.tables.schema q m
+    → IsAnswered w.server.tables.schema (w.client.queries + 1) q.parts [] w.client.store.regions [] (past.queries ++ record { query = m; answered = true } ∷ []) (client_of w past)
+is-answered w past q m one f is =
+    let s = w.server.tables.schema in
+    let few : past.counted_from ≤ length past.queries + 1 = omega (arith, f.cuts.from, f.client.queries) in
+    let all : List model.Query = counted past.counted_from past.queries in
+    let more : counted past.counted_from (past.queries ++ record { query = m; answered = true } ∷ []) ≡ all ++ m ∷ [] = counted-more past.counted_from past.queries (record { query = m; answered = true }) few in
+    record {
+      first = have-first s f.server.tables;
+      store = f.client.store;
+      keeps = f.client.keeps;
+      stamps = stamp_more s (w.client.queries + 1) q.parts past.queries m is.query.parts (ap (λ k. k + 1) (sym f.client.queries));
+      fit = all-parts s q m (FitsPart s) one (part-fits s one.part one.meant one.is);
+      arrive = All-nil (IsArrival s q.parts);
+      holds = tt;
+      were = λ t a some. absurd (cc);
+      nothing = λ none. refl;
+      from = omega (arith, f.cuts.from);
+      regions_end = subst (λ qs. RegionsEnd s qs w.client.store.regions) (sym more) (regions-more s all (m ∷ []) w.client.store.regions f.cuts.regions);
+      parts_end = subst (λ qs. PartsEnd s qs q.parts) (sym more) (all-parts s q m (λ (part : Part). EndWith s (all ++ m ∷ []) part.table part.rects) one (part-end s all m one.part one.meant one.meant_parts one.is));
+      arrivals_end = All-nil (λ (r : Arrival). EndWith s (counted past.counted_from (past.queries ++ record { query = m; answered = true } ∷ [])) r.table r.rects);
+    }
 
 answers-now : (w : World) (past : Past) (q : Query) (m : model.Query) (store : Store) (marks : List Mark) (rows : List Row) → Facts w past → w.client.out ≡ None
     → IsMeaning w.server.tables.schema q m → AsksRest w.server.tables.schema w.client.store.regions q.parts [] → Answers q w.client.store.regions [] rows
@@ -155,17 +189,16 @@ answers-now w past q m store marks rows f none is nothing gives a =
     let n : ℕ = w.client.queries + 1 in
     let one = one-query s q m is in
     let after : List Numbered = past.queries ++ record { query = m; answered = true } ∷ [] in
-    let new : Past = record past { marks = with_marks past.marks marks; queries = after } in
     let changed : World = with_now w store in
     let asks : Asks s past.marks m.parts [] = nothing past.marks (stamp past.queries) m.parts f.client.keeps is.query.parts (are-sound s q m is) in
     let free = no-rest s past.marks m.parts [] one.meant asks one.meant_parts refl in
     let number : n ≡ length past.queries + 1 = ap (λ k. k + 1) (sym f.client.queries) in
-    let ren = renewal s n q.parts [] w.client.store.regions store.regions marks past.marks past.queries after (have-first s f.server.tables) a.renewed f.client.keeps
-    (stamp_more s n q.parts past.queries m is.query.parts number) in
+    let k = kept s n q.parts [] w.client.store.regions [] after (client_of w past) (is-answered w past q m one f is) m w.client.version store.regions marks a in
+    let new : Past = record past { marks = with_marks past.marks marks; queries = after; counted_from = k.from } in
     let now = regions-now w past q store.regions marks f a in
     let client : ClientFacts changed new = record {
       store = a.store;
-      keeps = ren.keeps;
+      keeps = k.points;
       are_true = now.are_true;
       version = f.client.version;
       recent = now.recent;
@@ -173,15 +206,16 @@ answers-now w past q m store marks rows f none is nothing gives a =
     } in
     let still : Flow w past None = subst (Flow w past) none f.flow in
     let facts : Facts changed new = record {
-      server = server-still w past changed.client w.to_server w.to_client new.marks after past.meaning f.server;
+      server = server-still w past changed.client w.to_server w.to_client new.marks after k.from past.meaning f.server;
       client = client;
+      cuts = record { from = k.few; regions = k.ends; asked = subst (OutEnds s (counted k.from after)) (sym none) tt };
       flow = subst (λ o. Flow changed new o) (sym none) still;
     } in
     let shown : List TraceLine = answer_lines (scene_of w past) 1 (length past.queries + 1) m w.client.version ++ (map (mark_line 1) marks ++ line.QueryAnswered 1 (length past.queries + 1) ∷ []) in
     let said : ℕ → List Row → List TraceLine = λ k all. (line.Answer 1 k w.client.version (length all) ∷ map line.Row all) ++ (map (mark_line 1) marks ++ line.QueryAnswered 1 k ∷ []) in
     let lines : lines_now w marks rows ≡ shown = ap (λ k. said k rows) number ∙ ap (said (length past.queries + 1)) (rows-now w past q m one rows f free gives) in
     let keeps : Keeps s [] m (length past.queries + 1) w.client.version after (client_of w past) marks (client_of changed new) =
-    inl (record { held = []; drops = ren.drops; holds = tt; absorbs = ren.absorbs; all = ren.all }, refl) in
+    subst (λ k. Keeps s [] m k w.client.version after (client_of w past) marks (client_of changed new)) number k.keeps in
     let queries : QueriesIfFree (scene_of w past) 1 m (request_of past.meaning w.client.out) (client_of w past) (lines_now w marks rows) (client_of changed new) =
     subst (λ o. QueriesIfFree (scene_of w past) 1 m (request_of past.meaning o) (client_of w past) (lines_now w marks rows) (client_of changed new)) (sym none)
     (inl ([], asks, (marks, keeps, lines))) in

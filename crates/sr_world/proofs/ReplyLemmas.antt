@@ -1,14 +1,15 @@
 -- The client takes the reply of its ask, as the scene says.
-use Rattle.std.proofs.Common.{◌≡◌, ℕ, true, false, List, [], ◌∷◌, ◌++◌, map, length, refl, sym, ◌∙◌, ap, subst, arith, inl, inr, None, append-nil}
-use Rattle.std.specs.Prelude.{◌||◌, filter}
-use Rattle.std.specs.List.{list_all, All, AllZip}
+use Rattle.std.proofs.Common.{◌≡◌, ℕ, ◌+◌, ◌-◌, ◌≤◌, true, false, List, [], ◌∷◌, ◌++◌, map, length, refl, sym, ◌∙◌, ap, subst, arith, inl, inr, Some, None, append-nil, length-append}
+use Rattle.std.specs.Prelude.{IsTrue, ◌||◌, ◌&&◌, ◌==◌, filter, if◌then◌else◌, slice_set}
+use Rattle.std.specs.List.{list_all, list_any, All, AllZip}
 use Rattle.std.proofs.lemmas.List.{length-set}
 use Rattle.std.proofs.lemmas.List.Elements.{All-nil, All-cons, All-head}
 use Rattle.std.specs.declared.collections.VecDeque.{VecDeque}
 use Rattle.std.specs.declared.alloc.Global.{Global}
+use Rattle.sr_cell.specs.declared.table.Table.{Table}
 use Rattle.sr_cell.specs.Cells.{Row}
 use Rattle.sr_cell.specs.Columns.{table_at, is_point}
-use Rattle.sr_box.specs.Points.{rect_fits}
+use Rattle.sr_box.specs.Points.{in_any, rect_fits}
 use Rattle.sr_message.specs.declared.message.AskPart.{AskPart}
 use Rattle.sr_message.specs.declared.message.Message.{Message}
 use Rattle.sr_message.specs.declared.message.Message.TheVariants.{Ask, Notice, Rows, Reply}
@@ -16,33 +17,38 @@ use Rattle.sr_model.specs.Statements.{Tables}
 use Rattle.sr_model.specs.Queries.{rows_at, rows_of, points_of}
 use Rattle.sr_model.specs.Changes.{version_at}
 use Rattle.sr_history.specs.declared.mark.Mark.{Mark}
-use Rattle.sr_history.specs.Marks.{with_marks}
+use Rattle.sr_history.specs.Marks.{is_held, with_marks}
 use Rattle.sr_history.specs.Classes.{Numbered, stamp}
+use Rattle.sr_history.specs.Rests.{rest_of, IsRest}
 use Rattle.sr_store.specs.declared.store.Store.{Store}
 use Rattle.sr_store.specs.declared.store.Arrival.{Arrival}
-use Rattle.sr_store.specs.Classes.{restamped}
-use Rattle.sr_store.specs.Told.{AreTrueOf}
+use Rattle.sr_store.specs.Classes.{touches, restamped, Keeps as KeepsPoints}
+use Rattle.sr_store.specs.Told.{Told, IsTold, AreTrueOf}
 use Rattle.sr_store.specs.Answered.{IsArrival, AreApart, HaveArrived, held_of}
+use Rattle.sr_store.proofs.Given.{FitsPart}
 use Rattle.sr_store.proofs.Stamping.{stamp_answered}
+use Rattle.sr_store.proofs.Stepping.{AreStampsAfter}
 use Rattle.sr_join.specs.Found.{cells_of}
 use Rattle.sr_script.specs.declared.line.TraceLine.{TraceLine}
 use Rattle.sr_script.specs.declared.line.TraceLine.TheVariants as line
 use Rattle.sr_scene.specs.Server.{asked_rows, row_messages}
 use Rattle.sr_scene.specs.Scene as scene
 use Rattle.sr_scene.specs.Scene.{Scene}
-use Rattle.sr_scene.specs.Steps.{TakesMessage, Answers as AnswersScene, Keeps, Holds, answer_lines, mark_line, with_answered}
+use Rattle.sr_scene.specs.Steps.{TakesMessage, Answers as AnswersScene, Holds, answer_lines, mark_line, with_answered, counted}
 use Rattle.sr_scene.specs.Runs.{Delivers}
 use Rattle.sr_world.specs.declared.world.World.{World}
 use Rattle.sr_world.specs.declared.client.AskOut as code
-use Rattle.sr_world.specs.Answering.{is_kept, is_new}
+use Rattle.sr_world.specs.Answering.{is_kept, is_new, HaveRows, BringRows}
 use Rattle.sr_world.specs.Client.{arrived, arrival_of, arrivals_of}
-use Rattle.sr_world.specs.Represents.{Past, ClientFacts, Facts, Represents, IsOut, request_of, scene_of, client_of, told_of}
-use Rattle.sr_world.proofs.Renewal.{renewal}
+use Rattle.sr_world.specs.Cutting.{EndWith, RegionsEnd, PartsEnd, AsksEnd}
+use Rattle.sr_world.specs.Represents.{Past, ClientFacts, OutEnds, Facts, Represents, IsOut, request_of, scene_of, client_of, told_of}
+use Rattle.sr_world.proofs.CountLemmas.{counted-answered}
+use Rattle.sr_world.proofs.KeptLemmas.{IsAnswered, kept}
 use Rattle.sr_world.proofs.Arrivals.{arrived-rows}
 use Rattle.sr_world.proofs.Calls.{Answers, IsAfter}
 use Rattle.sr_world.proofs.RowMessages.{AllRows}
 use Rattle.sr_world.proofs.TakeLemmas.{IsComing, is-coming, only-rows, delivers}
-use Rattle.sr_world.proofs.MeantLemmas.{IsOneQuery, one-query, is-one-part, one-ask}
+use Rattle.sr_world.proofs.MeantLemmas.{IsOneQuery, one-query, is-one-part, part-fits, all-parts, IsOneAsk, one-ask}
 use Rattle.sr_world.proofs.FactLemmas.{have-first, points-now, ascend-now, told-now, true-now, server-still}
 use Rattle.sr_world.proofs.NowLemmas.{filter-points}
 use Rattle.sr_world.proofs.CameLemmas.{IsRestAsked, arrival-is, arrival-apart, arrival-rows, arrival-suits, all-there}
@@ -136,10 +142,10 @@ rows-came w past o b rows f gives =
     let r : Arrival = the_arrival w past o b in
     let fit : AreFit w past o (r ∷ []) = subst (AreFit w past o) (arrivals-are w past o b) (are-fit w past o f b) in
     let given = gives s newest part (is-one-part s newest o.query past.meaning one (points-now w past f.server) (ascend-now w past f.server))
-    (record { each = f.client.store.each; are_true = true-now w past f })
-    (record { suit = arrival-suits s past.marks newest part one.meant b.ask (arrived w.client.laid) b.asked; arrived = fit.brought }) in
+        (record { each = f.client.store.each; are_true = true-now w past f })
+        (record { suit = arrival-suits s past.marks newest part one.meant b.ask (arrived w.client.laid) b.asked; arrived = fit.brought }) in
     let chosen = filter-points (table_at s part.table).columns (λ p. is_kept part w.client.store.regions p || is_new part (r ∷ []) p) (points_of one.meant) (rows_at newest part.table) (points-now w past f.server part.table)
-    (all-there s past.marks (stamp past.queries) newest part one.meant b.ask (arrived w.client.laid) w.client.store.regions b.asked f.client.keeps) in
+        (all-there s past.marks (stamp past.queries) newest part one.meant b.ask (arrived w.client.laid) w.client.store.regions b.asked f.client.keeps) in
     given ∙ (ap (map (cells_of o.query.output)) chosen
     ∙ (ap (λ t. map (cells_of o.query.output) (filter (points_of one.meant) (rows_at newest t))) one.is.table
     ∙ (sym (one.answer newest) ∙ ap (rows_of past.meaning) (sym f.server.newest))))
@@ -158,6 +164,38 @@ stamps-are w past o f is_out t u p point =
     subst (λ qs. restamped o.query_number o.query.parts (stamp qs) t u p ≡ stamp (with_answered o.query_number past.meaning qs) t u p) (sym is_out.newest)
     (stamp_answered w.server.tables.schema o.query_number o.query.parts is_out.earlier past.meaning is_out.meant.query.parts number t u p point)
 
+-- what is known where the reply is taken
+is-answered : (w : World) (past : Past) (c : IsComing w past) (b : IsBrought w past c.out) → Facts w past → (free : scene.Client) → free.marks ≡ past.marks → free.queries ≡ past.queries → free.counted_from ≡ past.counted_from
+    → IsAnswered w.server.tables.schema c.out.query_number c.out.query.parts (the_arrival w past c.out b ∷ []) w.client.store.regions c.out.parts (with_answered c.out.query_number past.meaning past.queries) free
+is-answered w past c b f free marks queries from =
+    let s = w.server.tables.schema in
+    let o = c.out in
+    let r : Arrival = the_arrival w past o b in
+    let fit : AreFit w past o (r ∷ []) = subst (AreFit w past o) (arrivals-are w past o b) (are-fit w past o f b) in
+    let fits : list_all (rect_fits (table_at s b.ask.table).columns) b.ask.rects ≡ true = (All-head (IsArrival s o.query.parts) r [] fit.each).fit in
+    let after : List Numbered = with_answered o.query_number past.meaning past.queries in
+    let same : counted free.counted_from after ≡ counted past.counted_from past.queries =
+    ap (λ n. counted n after) from ∙ counted-answered past.counted_from o.query_number past.queries c.is_out.earlier past.meaning c.is_out.newest (c.is_out.number ∙ sym f.client.queries) in
+    let ends : OutEnds s (counted past.counted_from past.queries) (Some o) = subst (OutEnds s (counted past.counted_from past.queries)) c.is f.cuts.asked in
+    let one : EndWith s (counted past.counted_from past.queries) b.ask.table b.ask.rects =
+    All-head (λ (ask : AskPart). EndWith s (counted past.counted_from past.queries) ask.table ask.rects) b.ask [] (subst (AsksEnd s (counted past.counted_from past.queries)) b.parts ends.1) in
+    record {
+      first = have-first s f.server.tables;
+      store = f.client.store;
+      keeps = subst (λ ms. KeepsPoints s (is_held ms) (stamp free.queries) w.client.store.regions) (sym marks) (subst (λ qs. KeepsPoints s (is_held past.marks) (stamp qs) w.client.store.regions) (sym queries) f.client.keeps);
+      stamps = subst (λ qs. AreStampsAfter s o.query_number o.query.parts qs after) (sym queries) (stamps-are w past o f c.is_out);
+      fit = all-parts s o.query past.meaning (FitsPart s) b.one (part-fits s b.one.part b.one.meant b.one.is);
+      arrive = fit.each;
+      holds = subst (λ ps. AllZip (Holds s) ps (held_of r ∷ [])) (sym b.parts) ((refl, refl, fits, λ p point. refl), tt);
+      were = λ t a some. subst (λ asks. list_any (λ (ask : AskPart). ask.table == t && ask.attrs == a) asks ≡ true) (sym b.parts) some;
+      nothing = λ none. absurd (let wrong : b.ask ∷ [] ≡ [] = sym b.parts ∙ none in cc);
+      from = omega (arith, from, f.cuts.from, c.is_out.number);
+      regions_end = subst (λ qs. RegionsEnd s qs w.client.store.regions) (sym same) f.cuts.regions;
+      parts_end = subst (λ qs. PartsEnd s qs o.query.parts) (sym same) ends.0;
+      arrivals_end = subst (λ qs. All (λ (r : Arrival). EndWith s qs r.table r.rects) (r ∷ [])) (sym same)
+          (All-cons (λ (r : Arrival). EndWith s (counted past.counted_from past.queries) r.table r.rects) r [] one (All-nil (λ (r : Arrival). EndWith s (counted past.counted_from past.queries) r.table r.rects)));
+    }
+
 pub replied : (w : World) (past : Past) (c : IsComing w past) (b : IsBrought w past c.out) (store : Store) (marks : List Mark) (rows : List Row) (to_client : VecDeque Message Global) → Facts w past
     → w.to_client.items ≡ Reply c.out.number w.server.version ∷ to_client.items → to_client.items ≡ [] → Answers c.out.query w.client.store.regions (the_arrival w past c.out b ∷ []) rows
     → IsAfter w.server.tables.schema c.out.query_number c.out.query.parts (the_arrival w past c.out b ∷ []) w.client.store.regions store.regions marks
@@ -168,35 +206,31 @@ replied w past c b store marks rows to_client f first none gives a =
     let r : Arrival = the_arrival w past o b in
     let changed : World = with_reply w w.server.version store to_client in
     let after : List Numbered = with_answered o.query_number past.meaning past.queries in
-    let new : Past = record past { marks = with_marks past.marks marks; queries = after } in
-    let ren = renewal s o.query_number o.query.parts (r ∷ []) w.client.store.regions store.regions marks past.marks past.queries after (have-first s f.server.tables) a.renewed f.client.keeps
-    (stamps-are w past o f c.is_out) in
     let fit : AreFit w past o (r ∷ []) = subst (AreFit w past o) (arrivals-are w past o b) (are-fit w past o f b) in
+    let before : scene.Client = record (client_of w past) { to_client = to_client.items } in
+    let free : scene.Client = record before { out = None; laid = [] } in
+    let k = kept s o.query_number o.query.parts (r ∷ []) w.client.store.regions o.parts after free (is-answered w past c b f free refl refl refl) past.meaning w.server.version store.regions marks a in
+    let new : Past = record past { marks = with_marks past.marks marks; queries = after; counted_from = k.from } in
     let true_now : AreTrueOf (told_of w.server.tables.rows) store.regions = a.true_still (told_of w.server.tables.rows) (told-now w past f.server) (true-now w past f) fit.brought in
     let client : ClientFacts changed new = record {
       store = a.store;
-      keeps = ren.keeps;
+      keeps = k.points;
       are_true = subst (λ ts. AreTrueOf (told_of ts) store.regions) (sym f.server.newest) true_now;
       version = omega arith;
       recent = inr (refl, c.is_replied.upto);
       queries = length-set past.queries _ _ ∙ f.client.queries;
     } in
     let facts : Facts changed new = record {
-      server = server-still w past changed.client w.to_server to_client new.marks after past.meaning f.server;
+      server = server-still w past changed.client w.to_server to_client new.marks after k.from past.meaning f.server;
       client = client;
+      cuts = record { from = omega (arith, k.few, c.is_out.number); regions = k.ends; asked = tt };
       flow = (c.is_replied.to_server, none, refl);
     } in
     let lines : List TraceLine = lines_of_reply o w.server.version marks rows in
     let said : List Row → List TraceLine = λ all. (line.Answer 1 o.query_number w.server.version (length all) ∷ map line.Row all) ++ (map (mark_line 1) marks ++ line.ClientAnswered 1 ∷ []) in
     let lines_are : lines ≡ answer_lines (scene_of w past) 1 o.query_number past.meaning w.server.version ++ (map (mark_line 1) marks ++ line.ClientAnswered 1 ∷ []) =
     ap said (rows-came w past o b rows f gives) in
-    let before : scene.Client = record (client_of w past) { to_client = to_client.items } in
-    let free : scene.Client = record before { out = None; laid = [] } in
-    let fits : list_all (rect_fits (table_at s b.ask.table).columns) b.ask.rects ≡ true = (All-head (IsArrival s o.query.parts) r [] fit.each).fit in
-    let holds : AllZip (Holds s) o.parts (held_of r ∷ []) = subst (λ ps. AllZip (Holds s) ps (held_of r ∷ [])) (sym b.parts) ((refl, refl, fits, λ p point. refl), tt) in
-    let keeps : Keeps s o.parts past.meaning o.query_number w.server.version after free marks (client_of changed new) =
-    inl (record { held = held_of r ∷ []; drops = ren.drops; holds = holds; absorbs = ren.absorbs; all = ren.all }, refl) in
-    let is : AnswersScene (scene_of w past) 1 o.query_number past.meaning o.parts w.server.version before lines (client_of changed new) = (f.client.version, (marks, keeps, lines_are)) in
+    let is : AnswersScene (scene_of w past) 1 o.query_number past.meaning o.parts w.server.version before lines (client_of changed new) = (f.client.version, (marks, k.keeps, lines_are)) in
     let takes : TakesMessage (scene_of w past) 1 (request_of past.meaning w.client.out) (Reply o.number w.server.version) before lines (client_of changed new) =
     subst (λ out. TakesMessage (scene_of w past) 1 (request_of past.meaning out) (Reply o.number w.server.version) before lines (client_of changed new)) (sym c.is) (refl, is) in
     (scene_of changed new, delivers w past (Reply o.number w.server.version) to_client.items lines changed new c.is_replied.to_server first refl takes, record { past = new; facts = facts; same = refl })

@@ -20,7 +20,7 @@ use Rattle.sr_scene.specs.Runs.{Delivers, next_delivery}
 use Rattle.sr_world.specs.declared.world.World.{World}
 use Rattle.sr_world.specs.declared.client.AskOut as code
 use Rattle.sr_world.specs.Worlds.{Stands, DoesDelivery}
-use Rattle.sr_world.specs.Represents.{Past, ServerFacts, ClientFacts, Facts, Represents, IsAsked, IsReplied, IsOut, Flow, scene_of, client_of}
+use Rattle.sr_world.specs.Represents.{Past, ServerFacts, ClientFacts, CutFacts, Facts, Represents, IsAsked, IsReplied, IsOut, Flow, scene_of, client_of}
 use Rattle.sr_world.proofs.OneAsk.{asks-one}
 use Rattle.sr_world.proofs.StepLemmas.{newest-is, does}
 
@@ -127,7 +127,8 @@ serves w past number fresh parts queue sent to_server to_client f asked left rep
       recent = elim f.client.recent [ inl none ↦ inl none | inr recent ↦ inr (recent.0, served.upto) ];
       queries = f.client.queries;
     } in
-    let facts : Facts changed new = record { server = server; client = client; flow = subst (λ o. Flow changed new o) (sym way.is) (is_out, inr is_replied) } in
+    let cuts : CutFacts changed new = record { from = f.cuts.from; regions = f.cuts.regions; asked = f.cuts.asked } in
+    let facts : Facts changed new = record { server = server; client = client; cuts = cuts; flow = subst (λ o. Flow changed new o) (sym way.is) (is_out, inr is_replied) } in
     let made = serve_ask w.server.tables.schema past.versions past.session number fresh parts in
     let scene : List Tables → List Message → Option Session → List Message → Scene = λ versions asks session answers.
     record { eager = true; schema = w.server.tables.schema; versions = versions; clients = record (client_of w past) { to_server = asks; session = session; to_client = answers } ∷ [] } in

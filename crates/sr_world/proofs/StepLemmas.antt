@@ -25,8 +25,9 @@ use Rattle.sr_scene.specs.Steps.{Happens, Executes, result_of}
 use Rattle.sr_scene.specs.Runs.{Steps, IsQuiet}
 use Rattle.sr_world.specs.declared.world.World.{World}
 use Rattle.sr_world.specs.declared.server.Server.{Server}
+use Rattle.sr_world.specs.Cutting.{EndWith}
 use Rattle.sr_world.specs.Worlds.{Does, DoesStep}
-use Rattle.sr_world.specs.Represents.{Past, ServerFacts, ClientFacts, Facts, Represents, IsUnasked, Flow, scene_of, client_of, told_of}
+use Rattle.sr_world.specs.Represents.{Past, ServerFacts, ClientFacts, CutFacts, Facts, Represents, IsUnasked, Flow, scene_of, client_of, told_of}
 use Rattle.sr_world.proofs.Points.{stored-points, points-more, points-first}
 
 -- ---- of the answers of calls
@@ -89,7 +90,7 @@ no-store schema = record {
 pub nothing-kept : (schema : List Table) → Keeps schema (is_held []) (stamp []) []
 nothing-kept schema = record { points = λ t a p point. refl; stamped = All-nil _ }
 
-none-true : (told : Told) (regions : List Region) → regions ≡ [] → AreTrueOf told regions
+pub none-true : (told : Told) (regions : List Region) → regions ≡ [] → AreTrueOf told regions
 none-true told regions none = subst (AreTrueOf told) (sym none) (All-nil _)
 
 -- the world before the first event
@@ -116,12 +117,13 @@ begins w tables stored values version client none nothing =
     let held : ClientFacts w past = record {
       store = rw client (no-store w.server.tables.schema);
       keeps = rw client (nothing-kept w.server.tables.schema);
-      are_true = rw client (All-nil _);
+      are_true = none-true (told_of (version_at past.versions w.client.version)) w.client.store.regions (rw client refl);
       version = rw (client, version) (omega arith);
       recent = rw client (inl refl);
       queries = rw client refl;
     } in
-    let facts : Facts w past = record { server = server; client = held; flow = rw client (none, nothing, refl) } in
+    let cuts : CutFacts w past = record { from = omega arith; regions = rw client (All-nil (λ (g : Region). EndWith w.server.tables.schema [] g.table g.rects)); asked = rw client tt } in
+    let facts : Facts w past = record { server = server; client = held; cuts = cuts; flow = rw client (none, nothing, refl) } in
     record { past = past; facts = facts; same = rw (client, none, nothing) refl }
 
 -- ---- statements
@@ -172,6 +174,7 @@ exec-done w past server write f unasked done version same stored values =
     let facts : Facts changed new = record {
       server = server-after w past server f.server version same stored values;
       client = client-after w past server f.client unasked version same;
+      cuts = record { from = f.cuts.from; regions = rw same f.cuts.regions; asked = rw same f.cuts.asked };
       flow = subst (λ o. Flow changed new o) (sym unasked.1) still;
     } in
     let line-is : line.ExecVersion server.version ∷ [] ≡ line.ExecVersion (newest_version (scene_of w past) + 1) ∷ [] =

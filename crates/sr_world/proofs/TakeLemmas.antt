@@ -20,7 +20,7 @@ use Rattle.sr_world.specs.declared.client.Client.{Client}
 use Rattle.sr_world.specs.Client.{reply_version}
 use Rattle.sr_world.specs.Worlds.{Stands, DoesDelivery}
 use Rattle.sr_world.specs.Taking.{Taking}
-use Rattle.sr_world.specs.Represents.{Past, ServerFacts, ClientFacts, Facts, Represents, IsReplied, IsOut, Flow, request_of, scene_of, client_of}
+use Rattle.sr_world.specs.Represents.{Past, ServerFacts, ClientFacts, CutFacts, Facts, Represents, IsReplied, IsOut, Flow, request_of, scene_of, client_of}
 use Rattle.sr_world.proofs.RowMessages.{AllRows, rows-all, rows-behind}
 use Rattle.sr_world.proofs.StepLemmas.{does}
 
@@ -86,7 +86,8 @@ lays w past c k part rows rest laid to_client f number all came is_laid left =
       recent = f.client.recent;
       queries = f.client.queries;
     } in
-    let facts : Facts changed past = record { server = server; client = client; flow = subst (λ o. Flow changed past o) (sym c.is) (is_out, inr is_replied) } in
+    let cuts : CutFacts changed past = record { from = f.cuts.from; regions = f.cuts.regions; asked = f.cuts.asked } in
+    let facts : Facts changed past = record { server = server; client = client; cuts = cuts; flow = subst (λ o. Flow changed past o) (sym c.is) (is_out, inr is_replied) } in
     let queue : List Message = rest ++ Reply o.number w.server.version ∷ [] in
     let client : List Message → List Message → scene.Client = λ messages queue. record (client_of w past) { laid = messages; to_client = queue } in
     let same : client_of changed past ≡ client (w.client.laid ++ Rows k part rows ∷ []) queue =

@@ -1,5 +1,5 @@
 -- What is left to ask of some parts, whatever the past.
-use Rattle.std.specs.Prelude.{ℕ, List, [], ◌∷◌, IsTrue}
+use Rattle.std.specs.Prelude.{ℕ, List, [], ◌∷◌, flat_map, IsTrue}
 use Rattle.std.specs.List.{list_all, AllZip}
 use Rattle.sr_cell.specs.declared.table.Table.{Table}
 use Rattle.sr_box.specs.Points.{Rect}
@@ -28,3 +28,7 @@ AreMeant schema parts = (meant : List model.Part) × AllZip (IsPart schema) part
 abbrev pub entry_of : ℕ → ℕ → List Rect → List AskPart
 entry_of table attrs [] = []
 entry_of table attrs (r ∷ rest) = record { table = table; attrs = attrs; rects = r ∷ rest } ∷ []
+
+-- an entry for each part that has rects: all of it
+abbrev pub whole_asks : List Part → List AskPart
+whole_asks parts = flat_map (λ part. entry_of part.table part.need part.rects) parts

@@ -2,9 +2,11 @@ pub mod Answering
 pub mod Asking
 pub mod Bound
 pub mod Client
+pub mod Cutting
 pub mod Ran
 pub mod Replay
 pub mod Refused
 pub mod Represents
+pub mod Sending
 pub mod Taking
 pub mod Worlds

@@ -21,7 +21,9 @@ use Rattle.sr_store.specs.Stores.{IsStore}
 use Rattle.sr_scene.specs.Server.{Session, row_messages}
 use Rattle.sr_scene.specs.Scene as scene
 use Rattle.sr_scene.specs.Scene.{Scene, Request, AskOut}
+use Rattle.sr_scene.specs.Steps.{counted}
 use Rattle.sr_world.specs.Bound.{IsMeaning}
+use Rattle.sr_world.specs.Cutting.{RegionsEnd, PartsEnd, AsksEnd}
 use Rattle.sr_world.specs.declared.client.AskOut as code
 use Rattle.sr_world.specs.declared.world.World.{World}
 
@@ -107,10 +109,22 @@ pub record ClientFacts (w : World) (past : Past) : Type 0 where
   pub recent : (w.client.store.regions ≡ []) ⊎ ((w.client.version ≡ w.server.version) × (past.session.upto ≡ w.server.version))
   pub queries : length past.queries ≡ w.client.queries
 
+-- the query that is out, and what is asked of it, begin and end only where tests of these queries do
+abbrev pub OutEnds : List Table → List Query → Option code.AskOut → Type 0
+OutEnds schema queries None = Unit {0}
+OutEnds schema queries (Some o) = PartsEnd schema queries o.query.parts × AsksEnd schema queries o.parts
+
+-- what is held and asked begins and ends only where tests of the counted queries do
+pub record CutFacts (w : World) (past : Past) : Type 0 where
+  pub from : past.counted_from ≤ w.client.queries + 1
+  pub regions : RegionsEnd w.server.tables.schema (counted past.counted_from past.queries) w.client.store.regions
+  pub asked : OutEnds w.server.tables.schema (counted past.counted_from past.queries) w.client.out
+
 -- what a world keeps is what its past makes it
 pub record Facts (w : World) (past : Past) : Type 0 where
   pub server : ServerFacts w past
   pub client : ClientFacts w past
+  pub cuts : CutFacts w past
   pub flow : Flow w past w.client.out
 
 -- the world stands for the scene

@@ -1,55 +1,88 @@
 //! What is left to ask of a query.
-ghost use Rattle.std.specs.Prelude.{◌≡◌, ◌≤◌, [], ◌∷◌, length, IfOk, IsTrue};
+ghost use Rattle.std.specs.Prelude.{◌≡◌, ◌≤◌, [], ◌∷◌, length, IfOk, IsErrOf, IsTrue};
 ghost use Rattle.std.specs.List.{list_all};
+ghost use Rattle.sr_cell.specs.declared.list.No.TheVariants.{Refused};
 ghost use Rattle.sr_query.specs.Bound.{is_table};
 ghost use Rattle.sr_store.specs.Stores.{IsStore};
-ghost use Rattle.sr_world.specs.Asking.{AsksRest, AreMeant, entry_of};
+ghost use Rattle.sr_world.specs.Asking.{AsksRest, AreMeant, entry_of, whole_asks};
+ghost use Rattle.sr_world.specs.Cutting.{AreCutAlong, IsLarge, IsOver};
 
-use sr_cell::list::{NoMemory, Seq};
+use sr_cell::list::{Copied, No, NoMemory, Seq};
 use sr_cell::schema::Schema;
 use sr_message::message::{AskPart, AskParts};
 use sr_query::query::Part;
 use sr_store::store::Store;
 use sr_trim::trim::{Trimmed, trim};
+use sr_union::minus::Over;
 use std::alloc::Global;
 
 /// The most rects of one rest.
 const LIMIT: u32 = 16_384;
 
-/// An entry for each part of which some points are not covered by the regions.
+/// An entry for each part of which some points are not covered by the regions. Refused where rects would be too many.
 pub fn asks_of(
     alloc: Global,
     schema: &Schema,
     store: &Store,
     parts: &[Part],
-) -> Result<AskParts, NoMemory>
+) -> Result<AskParts, No<Over>>
     requires tables { IsTrue (list_all is_table schema.now) }
     requires store { IsStore schema.now store.now.regions }
     requires meant { AreMeant schema.now parts.now }
     ensures asks { IfOk result (AsksRest schema.now store.now.regions parts.now) }
     ensures few { IfOk result (λ asks. length asks ≤ length parts.now) }
+    ensures cuts { IfOk result (AreCutAlong schema.now store.now.regions parts.now) }
+    ensures over { IsErrOf result (Refused (record {})) → IsOver schema.now store.now.regions parts.now }
 {
     let mut asks = Seq::new(alloc);
     for part in parts {
-        asks.append(rest_of(alloc, schema, store, part)?)?;
+        match rest_of(alloc, schema, store, part) {
+            Ok(rest) => asks.append(rest)?,
+            Err(no) => return Err(no),
+        }
     }
     Ok(asks)
 }
 
 /// An entry for the part, if some of its points are not covered.
-fn rest_of(alloc: Global, schema: &Schema, store: &Store, part: &Part) -> Result<AskParts, NoMemory>
+fn rest_of(
+    alloc: Global,
+    schema: &Schema,
+    store: &Store,
+    part: &Part,
+) -> Result<AskParts, No<Over>>
     requires tables { IsTrue (list_all is_table schema.now) }
     requires store { IsStore schema.now store.now.regions }
     requires meant { AreMeant schema.now (part.now ∷ []) }
     ensures asks { IfOk result (AsksRest schema.now store.now.regions (part.now ∷ [])) }
     ensures few { IfOk result (λ asks. length asks ≤ 1) }
+    ensures cuts { IfOk result (AreCutAlong schema.now store.now.regions (part.now ∷ [])) }
+    ensures over { IsErrOf result (Refused (record {})) → IsLarge schema.now store.now.regions part.now }
 {
+    if part.rects.is_empty() {
+        return Ok(Seq::new(alloc));
+    }
     let table = &schema.as_slice()[part.table as usize];
     let cover = store.cover(alloc, part)?;
     match trim(alloc, part, table, &cover, LIMIT) {
-        Ok(trimmed) => entry_of(alloc, part.table, trimmed),
-        Err(_) => Err(NoMemory),
+        Ok(trimmed) => Ok(entry_of(alloc, part.table, trimmed)?),
+        Err(no) => Err(no),
     }
+}
+
+/// An entry for each part that has rects: all of it.
+pub fn whole_asks(alloc: Global, parts: &[Part]) -> Result<AskParts, NoMemory>
+    ensures { IfOk result (λ asks. asks ≡ whole_asks parts.now) }
+{
+    let mut asks = Seq::new(alloc);
+    for part in parts {
+        let whole = Trimmed {
+            rest: part.rects.copy(alloc)?,
+            attrs: part.need,
+        };
+        asks.append(entry_of(alloc, part.table, whole)?)?;
+    }
+    Ok(asks)
 }
 
 /// An entry, if a rest is there.

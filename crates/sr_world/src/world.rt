@@ -14,14 +14,17 @@ ghost use Rattle.sr_scene.specs.Steps.{part_line};
 ghost use Rattle.sr_world.specs.Asking.{AsksRest};
 ghost use Rattle.sr_world.specs.Bound.{IsMeaning};
 ghost use Rattle.sr_world.specs.Client.{is_empty};
+ghost use Rattle.sr_world.specs.Cutting.{IsOver};
 ghost use Rattle.sr_world.specs.Represents.{Represents, IsUnasked, drawn};
+ghost use Rattle.sr_world.specs.Sending.{IsSent};
 ghost use Rattle.sr_world.specs.Taking.{Taking, Finishing};
 ghost use Rattle.sr_world.specs.Worlds.{Stands, IsStill, DoesStep, DoesEvent, DoesDelivery, DoesMany, DoesSettle};
 
 use crate::answer::answer;
-use crate::asks::asks_of;
+use crate::asks::{asks_of, whole_asks};
 use crate::client::{AskOut, Client, arrivals_of, push_answer, push_marks, version_of};
 use crate::server::Server;
+use sr_cell::cause::Cause;
 use sr_cell::list::{Copied, No, NoMemory, Seq};
 use sr_message::message::{AskPart, AskParts, Message, Messages};
 use sr_query::query::Query;
@@ -118,16 +121,21 @@ impl World {
                 },
             );
         }
-        let asks = asks_of(
+        match asks_of(
             alloc,
             self.server.tables.schema(),
             &self.client.store,
             query.parts.as_slice(),
-        )?;
-        if asks.is_empty() {
-            self.answer_now(alloc, &query)
-        } else {
-            self.send_ask(alloc, query, asks)
+        ) {
+            Ok(asks) => {
+                if asks.is_empty() {
+                    self.answer_now(alloc, &query)
+                } else {
+                    self.send_ask(alloc, query, asks)
+                }
+            }
+            Err(No::Refused(_)) => self.drop_and_ask(alloc, query),
+            Err(No::NoMemory) => Err(NoMemory),
         }
     }
 
@@ -162,20 +170,30 @@ impl World {
         Ok(lines)
     }
 
-    /// Asks for the rest of a query.
-    fn send_ask(
-        &mut self,
-        alloc: Global,
-        query: Query,
-        asks: AskParts,
-    ) -> Result<TraceLines, NoMemory>
+    /// Drops all that is held, since there would be too many pieces, and asks for the whole of a query.
+    fn drop_and_ask(&mut self, alloc: Global, query: Query) -> Result<TraceLines, NoMemory>
         requires stands { Stands self.old }
         requires idle { self.old.client.out ≡ None }
-        requires left { AsksRest self.old.server.tables.schema self.old.client.store.regions query.parts asks }
-        requires few { length asks ≤ 4 }
-        requires some { asks ≡ [] → ⊥ }
+        requires asks { (meaning : TheQuery) × IsMeaning self.old.server.tables.schema query meaning }
+        requires over { IsOver self.old.server.tables.schema self.old.client.store.regions query.parts }
         requires room { drawn self.old + 2 < 2 ^ 63 }
         ensures event { (meaning : TheQuery) → IsMeaning self.old.server.tables.schema query meaning → IfOk result (DoesEvent (QueryOf 1 (Ok meaning)) self.old self.new) }
+        ensures drawn { OnOk result (drawn self.new ≤ drawn self.old + 2) }
+        ensures schema { self.new.server.tables.schema ≡ self.old.server.tables.schema }
+    {
+        let asks = whole_asks(alloc, query.parts.as_slice())?;
+        let drops = self.client.store.drop_all(alloc, Cause::Pieces)?;
+        let mut lines = Seq::new(alloc);
+        push_marks(&mut lines, drops)?;
+        lines.append(self.send_ask(alloc, query, asks)?)?;
+        Ok(lines)
+    }
+
+    /// Sends the ask of these parts of a query, with the next numbers.
+    fn send_ask(&mut self, alloc: Global, query: Query, asks: AskParts) -> Result<TraceLines, NoMemory>
+        requires few { length asks ≤ 4 }
+        requires room { drawn self.old + 2 < 2 ^ 63 }
+        ensures sent { IfOk result (IsSent self.old query asks self.new) }
         ensures drawn { OnOk result (drawn self.new ≤ drawn self.old + 2) }
         ensures schema { self.new.server.tables.schema ≡ self.old.server.tables.schema }
     {

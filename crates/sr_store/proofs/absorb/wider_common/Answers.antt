@@ -1,11 +1,10 @@
-use Rattle.std.proofs.Common.{◌≡◌, ◌∙◌, ◌∷◌, ◌+◌, ◌++◌, true, drop, sym, ap, subst}
+use Rattle.std.proofs.Common.{◌≡◌, ◌∙◌, ◌∷◌, ◌+◌, drop, sym, ap, subst}
 use Rattle.std.specs.Prelude.{◌&&◌, ◌||◌}
-use Rattle.std.specs.List.{list_all}
 use Rattle.std.proofs.lemmas.List.{drop_more}
-use Rattle.sr_box.specs.Points.{in_any, rect_fits}
-use Rattle.sr_union.proofs.Parts.{are_fit}
+use Rattle.sr_box.specs.Points.{in_any}
+use Rattle.sr_union.specs.Grid.{AreCutFrom}
 use Rattle.sr_store.specs.Answered.{wider}
-use Rattle.sr_store.proofs.Overlaps.{meet_common, common_in, common_out, rest_fit, own_fit, both_fit}
+use Rattle.sr_store.proofs.Overlaps.{meet_common, common_in, common_out, rest_cut, both_cut}
 use Rattle.sr_store.proofs.absorb.wider_common.Goals as goal
 use Rattle.sr_store.proofs.absorb.wider_common.Goals.{then-is_wider+in_ok-meet+in_ok-append, else-is_wider}
 
@@ -30,15 +29,14 @@ loop-region-preserved c =
                 ap (λ both. in_any both p || (in_any rects p && in_any (wider left t a) p)) w.both-is
                 ∙ common_out rects c.loop-region.both g left t a p (sym c.is_wider.ensures ∙ w.if-is_wider.false) ∙ before
           ];
-      fit = λ columns own all.
-          let rest = subst (λ gs. list_all (rect_fits columns) (wider gs t a) ≡ true) first (c.loop-region.invariant.rest columns all) in
-          let before = c.loop-region.invariant.fit columns own all in
+      cuts = λ columns given own all.
+          let rest = subst (λ gs. AreCutFrom columns given (wider gs t a)) first (c.loop-region.invariant.rest columns given all) in
+          let before = c.loop-region.invariant.cuts columns given own all in
           elim c.if-is_wider.branch [
             | then-is_wider+in_ok-meet+in_ok-append w ↦
-                let here = own_fit columns g left t a (sym c.is_wider.ensures ∙ w.if-is_wider.true) rest in
-                let met = are_fit columns (rects ++ g.rects) w.in_ok-meet.field-0 (w.in_ok-meet.ensures.cuts columns own here) in
-                both_fit columns c.loop-region.both w.in_ok-meet.field-0 c.if-is_wider.both (w.both-is ∙ w.in_ok-append.ensures.appended) before met
-            | else-is_wider w ↦ ap (list_all (rect_fits columns)) w.both-is ∙ before
+                both_cut columns given rects c.loop-region.both w.in_ok-meet.field-0 c.if-is_wider.both g left t a (sym c.is_wider.ensures ∙ w.if-is_wider.true) own rest before
+                (w.in_ok-meet.ensures.cuts columns) (w.both-is ∙ w.in_ok-append.ensures.appended)
+            | else-is_wider w ↦ subst (AreCutFrom columns given) (sym w.both-is) before
           ];
-      rest = λ columns all. rest_fit columns g left t a (subst (λ gs. list_all (rect_fits columns) (wider gs t a) ≡ true) first (c.loop-region.invariant.rest columns all));
+      rest = λ columns given all. rest_cut columns given g left t a (subst (λ gs. AreCutFrom columns given (wider gs t a)) first (c.loop-region.invariant.rest columns given all));
     }

@@ -13,28 +13,28 @@ use Rattle.sr_store.proofs.answer.renewed.Goals as goal
 pub add_all-requires-clause-join : goal.add_all-requires-clause-join
 add_all-requires-clause-join c =
     let schema = c.args.schema.now in
-    let pieces = c.in_ok-pieces.pieces in
-    let arrived = c.in_ok-arrived_regions.field-0 in
-    let each = All-append (IsOfSchema schema) pieces arrived c.in_ok-pieces.ensures.each
-    (all_of schema c.args.number c.args.parts.now c.args.arrivals arrived (λ t. tables_first schema t c.requires.tables) c.requires.arrivals c.in_ok-arrived_regions.ensures) in
+    let pieces = c.in-Ok.pieces in
+    let arrived = c.in-Ok-arrived_regions.arrived in
+    let each = All-append (IsOfSchema schema) pieces arrived c.in-Ok.ensures.restamped.each
+    (all_of schema c.args.number c.args.parts.now c.args.arrivals arrived (λ t. tables_first schema t c.requires.tables) c.requires.arrivals c.in-Ok-arrived_regions.ensures.arrived) in
     subst (λ gs. CanJoin gs c.append.new.self) (sym c.new-all.ensures)
-    (subst (CanJoin []) (sym c.in_ok-append.ensures.appended) (can_join schema (pieces ++ arrived) each))
+    (subst (CanJoin []) (sym c.in_ok-append-in-Ok-arrived_regions.ensures.appended) (can_join schema (pieces ++ arrived) each))
 
-pub returns : goal.returns
-returns c =
+pub returns-clause-renewal : goal.returns-clause-renewal
+returns-clause-renewal c =
     let schema = c.args.schema.now in
-    let pieces = c.in_ok-pieces.pieces in
-    let arrived = c.in_ok-arrived_regions.field-0 in
+    let pieces = c.in-Ok.pieces in
+    let arrived = c.in-Ok-arrived_regions.arrived in
     let is : c.add_all.new.regions ≡ with_regions (with_regions [] pieces) arrived =
-    c.in_ok-add_all.ensures ∙ ap (λ gs. with_regions gs c.append.new.self) c.new-all.ensures ∙ ap (with_regions []) c.in_ok-append.ensures.appended
+    c.in_ok-add_all.ensures ∙ ap (λ gs. with_regions gs c.append.new.self) c.new-all.ensures ∙ ap (with_regions []) c.in_ok-append-in-Ok-arrived_regions.ensures.appended
     ∙ with_regions_append [] pieces arrived in
     subst (IsRenewal schema c.args.number c.args.parts.now c.args.arrivals c.args.old) (sym is)
     (renewed_store schema c.args.number c.args.parts.now c.args.arrivals c.args.old pieces arrived (record {
       tables = c.requires.tables;
-      restamped = c.in_ok-pieces.ensures;
+      restamped = c.in-Ok.ensures.restamped;
       are_arrivals = c.requires.arrivals;
       apart = c.requires.apart;
-      are_arrived = c.in_ok-arrived_regions.ensures;
+      are_arrived = c.in-Ok-arrived_regions.ensures.arrived;
       told = c.requires.told.0;
       is_told = c.requires.told.1;
       old_true = c.requires.told.2;

@@ -1,12 +1,16 @@
 use Rattle.std.proofs.Common.{rules, ◌≤◌, ◌+◌, ◌++◌, ◌∷◌, [], length, sym, subst, arith, take, length-append}
 use Rattle.sr_query.specs.declared.query.Part.{Part}
 use Rattle.sr_world.specs.Asking.{AsksRest, AreMeant}
+use Rattle.sr_world.specs.Cutting.{AreCutAlong}
 use Rattle.sr_world.proofs.Items.{take-item, take-end}
-use Rattle.sr_world.proofs.AskLemmas.{asks-nothing, asks-append, meant-at}
+use Rattle.sr_world.proofs.AskLemmas.{asks-nothing, asks-append, none-along, along-append, meant-at}
 use Rattle.sr_world.proofs.asks.asks_of.Goals as goal
 
 pub loop-part-init : goal.loop-part-init
-loop-part-init c = subst (λ asks. AsksRest c.args.schema.now c.args.store.now.regions [] asks × (length asks ≤ 0)) (sym c.new-asks.ensures) (asks-nothing c.args.schema.now c.args.store.now.regions, omega arith)
+loop-part-init c =
+    let s = c.args.schema.now in
+    let gs = c.args.store.now.regions in
+    subst (λ asks. AsksRest s gs [] asks × AreCutAlong s gs [] asks × (length asks ≤ 0)) (sym c.new-asks.ensures) (asks-nothing s gs, none-along s gs [], omega arith)
 
 pub rest_of-requires-clause-meant : goal.rest_of-requires-clause-meant
 rest_of-requires-clause-meant c =
@@ -18,11 +22,17 @@ loop-part-preserved c =
     let s = c.args.schema.now in
     let gs = c.args.store.now.regions in
     let i = c.loop-part.part-index in
-    let more = asks-append s gs (take i c.args.parts.now) (c.part-item.result ∷ []) c.loop-part.asks c.in_ok-rest_of.field-0 c.loop-part.invariant.0 c.in_ok-rest_of.ensures.asks in
+    let front = take i c.args.parts.now in
+    let own = c.part-item.result ∷ [] in
+    let more = asks-append s gs front own c.loop-part.asks c.in-Ok.rest c.loop-part.invariant.0 c.in-Ok.ensures.asks in
+    let along = along-append s gs front own c.loop-part.asks c.in-Ok.rest c.loop-part.invariant.1 c.in-Ok.ensures.cuts in
     let items = take-item c.args.parts.now i c.part-item.result (search rules) c.part-item.is in
-    let few : length (c.loop-part.asks ++ c.in_ok-rest_of.field-0) ≤ i + 1 = omega (arith, length-append c.loop-part.asks c.in_ok-rest_of.field-0, c.loop-part.invariant.1, c.in_ok-rest_of.ensures.few) in
-    subst (λ asks. AsksRest s gs (take (i + 1) c.args.parts.now) asks × (length asks ≤ i + 1)) (sym c.in_ok-append.ensures.appended)
-    (subst (λ ps. AsksRest s gs ps (c.loop-part.asks ++ c.in_ok-rest_of.field-0)) (sym items) more, few)
+    let few : length (c.loop-part.asks ++ c.in-Ok.rest) ≤ i + 1 = omega (arith, length-append c.loop-part.asks c.in-Ok.rest, c.loop-part.invariant.2, c.in-Ok.ensures.few) in
+    subst (λ asks. AsksRest s gs (take (i + 1) c.args.parts.now) asks × AreCutAlong s gs (take (i + 1) c.args.parts.now) asks × (length asks ≤ i + 1)) (sym c.in_ok-append-in-Ok.ensures.appended)
+    (subst (λ ps. AsksRest s gs ps (c.loop-part.asks ++ c.in-Ok.rest)) (sym items) more, subst (λ ps. AreCutAlong s gs ps (c.loop-part.asks ++ c.in-Ok.rest)) (sym items) along, few)
 
 pub returns-clause-asks : goal.returns-clause-asks
 returns-clause-asks c = subst (λ ps. AsksRest c.args.schema.now c.args.store.now.regions ps c.loop-part.asks) (take-end c.args.parts.now c.loop-part.part-index (search rules)) c.loop-part.invariant.0
+
+pub returns-clause-cuts : goal.returns-clause-cuts
+returns-clause-cuts c = subst (λ ps. AreCutAlong c.args.schema.now c.args.store.now.regions ps c.loop-part.asks) (take-end c.args.parts.now c.loop-part.part-index (search rules)) c.loop-part.invariant.1

@@ -1,8 +1,16 @@
-use Rattle.std.proofs.Common.{refl}
-use Rattle.sr_world.proofs.SendLemmas.{does-ask}
+use Rattle.std.proofs.Common.{◌≡◌, ◌∷◌, [], ◌++◌, ◌∙◌, ap, subst, refl}
+use Rattle.sr_message.specs.declared.message.Message.TheVariants.{Ask}
+use Rattle.sr_world.specs.declared.client.AskOut.{AskOut}
+use Rattle.sr_world.specs.Sending.{with_out, lines_of_ask}
 use Rattle.sr_world.proofs.world.World.send_ask.Goals as goal
 
-pub returns-clause-event : goal.returns-clause-event
-returns-clause-event c = λ meaning is.
-    does-ask c.args.self.now c.args.query meaning c.args.asks c.ask_out-out.result c.push_back.new.self _ c.requires.idle is c.requires.left c.requires.some
-    c.ask_out-out.ensures c.in_ok-lines.ensures (rw (c.in_ok-push_back.ensures.items, c.in_ok-message_of.ensures) refl)
+pub returns-clause-sent : goal.returns-clause-sent
+returns-clause-sent c =
+    let w = c.args.self.now in
+    let queue = c.push_back.new.self in
+    record {
+      queue = queue;
+      queued = subst (λ (o : AskOut). queue.items ≡ w.to_server.items ++ Ask o.number o.fresh o.parts ∷ []) c.ask_out-out.ensures (rw (c.in_ok-push_back.ensures.items, c.in_ok-message_of.ensures) refl);
+      changed = ap (λ o. with_out w o queue) c.ask_out-out.ensures;
+      told = c.in_ok-lines.ensures ∙ ap lines_of_ask c.ask_out-out.ensures;
+    }

@@ -1,0 +1,220 @@
+-- All is dropped, and the whole of a query is asked, as the scene says.
+use Rattle.std.proofs.Common.{◌≡◌, ℕ, ◌+◌, ◌≤◌, ◌<◌, zero, suc, Bool, true, false, cond, List, [], ◌∷◌, ◌++◌, map, length, refl, sym, ◌∙◌, ap, subst, arith, inl, inr, Some, None, Ok}
+use Rattle.std.specs.Prelude.{IsTrue, ◌==◌, slice_index_or}
+use Rattle.std.specs.List.{list_all, list_any, All, Contains}
+use Rattle.std.proofs.lemmas.Bool.Decides.{nat_tests}
+use Rattle.std.proofs.lemmas.List.Folds.{list_all-append}
+use Rattle.std.proofs.lemmas.List.Elements.{All-nil}
+use Rattle.sr_cell.specs.declared.cause.Cause.TheVariants.{Pieces}
+use Rattle.sr_cell.specs.declared.table.Table.{Table}
+use Rattle.sr_cell.specs.Columns.{table_at}
+use Rattle.sr_box.specs.Points.{Rect, rect_fits}
+use Rattle.sr_message.specs.declared.message.AskPart.{AskPart}
+use Rattle.sr_model.specs.Events.{QueryOf}
+use Rattle.sr_model.specs.Queries as model
+use Rattle.sr_model.specs.Changes.{version_at}
+use Rattle.sr_query.specs.Bound.{is_table}
+use Rattle.sr_query.specs.declared.query.Part.{Part}
+use Rattle.sr_query.specs.declared.query.Query.{Query}
+use Rattle.sr_history.specs.declared.mark.Mark.{Mark}
+use Rattle.sr_history.specs.Marks.{is_held, with_marks}
+use Rattle.sr_history.specs.Classes.{Numbered, stamp}
+use Rattle.sr_history.specs.Load.{IsHeavy}
+use Rattle.sr_history.specs.Drops.{DropsAll}
+use Rattle.sr_history.specs.Rests.{Asks}
+use Rattle.sr_region.specs.declared.region.Region.{Region}
+use Rattle.sr_store.specs.declared.store.Store.{Store}
+use Rattle.sr_store.specs.Classes.{Keeps as KeepsPoints}
+use Rattle.sr_store.specs.Stores.{IsStore, cover_of, drop_of}
+use Rattle.sr_store.proofs.Absorbing.{drops_all}
+use Rattle.sr_store.proofs.Stepping.{dropped_marks}
+use Rattle.sr_script.specs.declared.line.TraceLine.{TraceLine}
+use Rattle.sr_scene.specs.Scene.{Scene}
+use Rattle.sr_scene.specs.Scene as scene
+use Rattle.sr_scene.specs.Steps.{Happens, QueriesIfFree, DropsAndQueries, Queries, mark_line, counted, with_query}
+use Rattle.sr_world.specs.declared.world.World.{World}
+use Rattle.sr_world.specs.Asking.{AsksRest, entry_of, whole_asks}
+use Rattle.sr_world.specs.Bound.{IsMeaning}
+use Rattle.sr_world.specs.Cutting.{EndWith, RegionsEnd, AreCutAlong, IsLarge, IsOver}
+use Rattle.sr_world.specs.Sending.{next_ask, with_out, lines_of_ask, IsSent}
+use Rattle.sr_world.specs.Worlds.{DoesEvent}
+use Rattle.sr_world.specs.Represents.{Past, ServerFacts, ClientFacts, CutFacts, OutEnds, Facts, Represents, Flow, request_of, scene_of, client_of, told_of}
+use Rattle.sr_world.proofs.Covers.{cover-fits}
+use Rattle.sr_world.proofs.EndLemmas.{end-append, cover-end, regions-more, part-end}
+use Rattle.sr_world.proofs.CountLemmas.{counted-more}
+use Rattle.sr_world.proofs.HeavyLemmas.{heavy-table}
+use Rattle.sr_world.proofs.MeantLemmas.{IsOneQuery, one-query, part-fits, part-table}
+use Rattle.sr_world.proofs.AskLemmas.{asks-whole, whole-along}
+use Rattle.sr_world.proofs.StepLemmas.{does, no-store, none-true}
+use Rattle.sr_world.proofs.FactLemmas.{have-first}
+use Rattle.sr_world.proofs.SendLemmas.{asked_past, MayAsk, queried}
+
+-- the world with this store
+abbrev pub with_store : World → Store → World
+with_store w store = record w { client = record w.client { store = store } }
+
+-- the one part is large
+large-one : (schema : List Table) (regions : List Region) (parts : List Part) (part : Part) → parts ≡ part ∷ [] → IsOver schema regions parts → IsLarge schema regions part
+large-one schema regions parts part own (other, within, large) = by (subst (λ ps. Contains ps other) own within)
+  where
+    by : Contains (part ∷ []) other → IsLarge schema regions part
+    by (zero, l, same) = subst (IsLarge schema regions) (sym same) large
+    by (suc k, l, same) = absurd (omega (arith, l))
+
+-- so it is asked
+some-asked : (parts : List Part) (part : Part) → parts ≡ part ∷ [] → (part.rects ≡ [] → ⊥) → whole_asks parts ≡ [] → ⊥
+some-asked parts part own some none = by part.rects refl
+  where
+    by : (rects : List Rect) → part.rects ≡ rects → ⊥
+    by [] e = some e
+    by (r ∷ rects) e =
+        let here : entry_of part.table part.need part.rects ++ [] ≡ [] = sym (ap whole_asks own) ∙ none in
+        let there : entry_of part.table part.need (r ∷ rects) ++ [] ≡ [] = subst (λ rs. entry_of part.table part.need rs ++ [] ≡ []) e here in
+        absurd (cc)
+
+-- the load is too high
+load-heavy : (w : World) (past : Past) (q : Query) (m : model.Query) (one : IsOneQuery w.server.tables.schema q m) → Facts w past → IsLarge w.server.tables.schema w.client.store.regions one.part
+    → IsHeavy w.server.tables.schema past.marks [] m (counted past.counted_from (with_query m false (client_of w past)))
+load-heavy w past q m one f large =
+    let s = w.server.tables.schema in
+    let regions = w.client.store.regions in
+    let all : List model.Query = counted past.counted_from past.queries in
+    let more : counted past.counted_from (with_query m false (client_of w past)) ≡ all ++ m ∷ [] = counted-more past.counted_from past.queries (record { query = m; answered = false }) (omega (arith, f.cuts.from, f.client.queries)) in
+    let fit : list_all (rect_fits (table_at s one.part.table).columns) (one.part.rects ++ cover_of one.part regions) ≡ true =
+    list_all-append (rect_fits (table_at s one.part.table).columns) one.part.rects (cover_of one.part regions) ∙ rw (part-fits s one.part one.meant one.is, cover-fits s one.part regions f.client.store.each) refl in
+    let same : (one.meant.table == one.part.table) ≡ true = let e = one.is.table in grind (arith, nat_tests, e) in
+    let named : list_any (λ (part : model.Part). part.table == one.part.table) m.parts ≡ true =
+    subst (λ ps. list_any (λ (part : model.Part). part.table == one.part.table) ps ≡ true) (sym one.meant_parts) (rw same refl) in
+    let ends : EndWith s (all ++ m ∷ []) one.part.table (one.part.rects ++ cover_of one.part regions) =
+    end-append s (all ++ m ∷ []) one.part.table one.part.rects (cover_of one.part regions) (part-end s all m one.part one.meant one.meant_parts one.is)
+        (cover-end s (all ++ m ∷ []) one.part regions (regions-more s all (m ∷ []) regions f.cuts.regions)) in
+    subst (IsHeavy s past.marks [] m) (sym more)
+    (heavy-table s past.marks m (all ++ m ∷ []) one.part.table (one.part.rects ++ cover_of one.part regions) (part-table s one.part one.meant one.is one.sound) named fit ends large.large)
+
+-- the past once all is dropped before the next query
+abbrev pub dropped_past : Past → List Mark → Past
+dropped_past past drops = record past { marks = with_marks past.marks drops; counted_from = length past.queries + 1 }
+
+facts-dropped : (w : World) (past : Past) (store : Store) → Facts w past → w.client.out ≡ None → store.regions ≡ [] → Facts (with_store w store) (dropped_past past (map (drop_of Pieces) w.client.store.regions))
+facts-dropped w past store f none nothing =
+    let s = w.server.tables.schema in
+    let new : Past = dropped_past past (map (drop_of Pieces) w.client.store.regions) in
+    let changed : World = with_store w store in
+    let still : Flow w past None = subst (Flow w past) none f.flow in
+    let server : ServerFacts changed new = record { tables = f.server.tables; count = f.server.count; newest = f.server.newest; stored = f.server.stored; points = f.server.points } in
+    let client : ClientFacts changed new = record {
+      store = subst (IsStore s) (sym nothing) (no-store s);
+      keeps = subst (KeepsPoints s (is_held new.marks) (stamp past.queries)) (sym nothing) (dropped_marks s Pieces past.marks (stamp past.queries) w.client.store.regions f.client.keeps);
+      are_true = none-true (told_of (version_at past.versions w.client.version)) store.regions nothing;
+      version = f.client.version;
+      recent = inl nothing;
+      queries = f.client.queries;
+    } in
+    let cuts : CutFacts changed new = record {
+      from = omega (arith, f.client.queries);
+      regions = subst (RegionsEnd s (counted new.counted_from new.queries)) (sym nothing) (All-nil (λ (g : Region). EndWith s (counted new.counted_from new.queries) g.table g.rects));
+      asked = subst (OutEnds s (counted new.counted_from new.queries)) (sym none) tt;
+    } in
+    record { server = server; client = client; cuts = cuts; flow = subst (Flow changed new) (sym none) (still.0, still.1, still.2) }
+
+-- where nothing was held the world stays as it is
+facts-still : (w : World) (past : Past) (store : Store) → Facts w past → store.regions ≡ [] → w.client.store.regions ≡ [] → Facts (with_store w store) past
+facts-still w past store f nothing none =
+    let same : w ≡ with_store w store = ap (λ (gs : List Region). with_store w (record { regions = gs })) (none ∙ sym nothing) in
+    subst (λ v. Facts v past) same f
+
+-- what is known of the call
+record IsDropping (w : World) (q : Query) (m : model.Query) (store : Store) (new : World) (sent : List TraceLine) : Type 0 where
+  none : w.client.out ≡ None
+  is : IsMeaning w.server.tables.schema q m
+  one : IsOneQuery w.server.tables.schema q m
+  large : IsLarge w.server.tables.schema w.client.store.regions one.part
+  nothing : store.regions ≡ []
+  is_sent : IsSent (with_store w store) q (whole_asks q.parts) new sent
+
+may-ask : (w : World) (past : Past) (q : Query) (m : model.Query) (store : Store) (new : World) (sent : List TraceLine) → IsDropping w q m store new sent → list_all is_table w.server.tables.schema ≡ true
+    → Facts (with_store w store) past → MayAsk (with_store w store) past q m (whole_asks q.parts)
+may-ask w past q m store new sent d tables f =
+    let s = w.server.tables.schema in
+    record {
+      facts = f;
+      none = d.none;
+      is = d.is;
+      rest = subst (λ gs. AsksRest s gs q.parts (whole_asks q.parts)) (sym d.nothing)
+          (subst (λ ps. AsksRest s [] ps (whole_asks ps)) (sym d.one.parts) (asks-whole s d.one.part d.one.meant d.one.is d.one.sound (have-first s tables)));
+      along = subst (λ gs. AreCutAlong s gs q.parts (whole_asks q.parts)) (sym d.nothing) (whole-along s q.parts);
+      some = some-asked q.parts d.one.part d.one.parts d.large.some;
+    }
+
+-- a query that asks something, once all is dropped
+drops-and : (s : Scene) (m : model.Query) (w : World) (past : Past) (asks : List AskPart) (drops : List Mark) (rest lines : List TraceLine) (new : scene.Client) → (asks ≡ [] → ⊥)
+    → IsHeavy s.schema past.marks [] m (counted past.counted_from (with_query m false (client_of w past)))
+    → DropsAll s.schema past.marks past.queries Pieces drops → 0 < length drops
+    → Asks s.schema (with_marks past.marks drops) m.parts asks
+    → Queries s 1 m asks (record (client_of w past) { marks = with_marks past.marks drops; counted_from = length past.queries + 1 }) rest new
+    → lines ≡ map (mark_line 1) drops ++ rest → DropsAndQueries s 1 m (client_of w past) lines new
+drops-and s m w past [] drops rest lines new some heavy all most asks queries is = absurd (some refl)
+drops-and s m w past (ask ∷ others) drops rest lines new some heavy all most asks queries is =
+    record { heavy = heavy; drops = drops; all = all; some = most; ask = ask; others = others; asks = asks; rest = rest; queries = queries; lines_are = is }
+
+dropped : (w : World) (past : Past) (q : Query) (m : model.Query) (store : Store) (new : World) (sent lines : List TraceLine) → IsDropping w q m store new sent → Facts w past
+    → lines ≡ map (mark_line 1) (map (drop_of Pieces) w.client.store.regions) ++ sent
+    → (next : Scene) × Happens (scene_of w past) (QueryOf 1 (Ok m)) lines next × Represents new next
+dropped w past q m store new sent lines d f lines_are = by w.client.store.regions refl
+  where
+    Goal : Type 0
+    Goal = (next : Scene) × Happens (scene_of w past) (QueryOf 1 (Ok m)) lines next × Represents new next
+
+    asks : List AskPart
+    asks = whole_asks q.parts
+
+    w1 : World
+    w1 = with_store w store
+
+    told : (drops : List Mark) → map (drop_of Pieces) w.client.store.regions ≡ drops → lines ≡ map (mark_line 1) drops ++ lines_of_ask (next_ask w1 q asks)
+    told drops e = lines_are ∙ (ap (λ ms. map (mark_line 1) ms ++ sent) e ∙ ap (λ ls. map (mark_line 1) drops ++ ls) d.is_sent.told)
+
+    -- the event, from what it does while none is out
+    happens : (past1 : Past) → QueriesIfFree (scene_of w past) 1 m None (client_of w past) lines (client_of (with_out w1 (next_ask w1 q asks) d.is_sent.queue) (asked_past past1 m))
+        → past1.versions ≡ past.versions → Facts (with_out w1 (next_ask w1 q asks) d.is_sent.queue) (asked_past past1 m) → Goal
+    happens past1 queries same facts =
+        let changed : World = with_out w1 (next_ask w1 q asks) d.is_sent.queue in
+        let free = subst (λ o. QueriesIfFree (scene_of w past) 1 m (request_of past.meaning o) (client_of w past) lines (client_of changed (asked_past past1 m))) (sym d.none) queries in (
+          scene_of changed (asked_past past1 m),
+          (client_of w past, client_of changed (asked_past past1 m), refl, free, ap (λ vs. record (scene_of changed (asked_past past1 m)) { versions = vs }) same),
+          subst (λ v. Represents v (scene_of changed (asked_past past1 m))) (sym d.is_sent.changed) (record { past = asked_past past1 m; facts = facts; same = refl }),
+        )
+
+    by : (gs : List Region) → w.client.store.regions ≡ gs → Goal
+    by [] e =
+        let done = queried w1 past q m asks d.is_sent.queue (may-ask w past q m store new sent d f.server.tables (facts-still w past store f d.nothing e)) d.is_sent.queued in
+        let is : lines ≡ lines_of_ask (next_ask w1 q asks) = told [] (ap (map (drop_of Pieces)) e) in
+        happens past (inl (asks, done.are, subst (λ ls. Queries (scene_of w past) 1 m asks (client_of w past) ls (client_of (with_out w1 (next_ask w1 q asks) d.is_sent.queue) (asked_past past m))) (sym is) done.queries)) refl done.facts
+    by (g ∷ gs) e =
+        let drops : List Mark = map (drop_of Pieces) w.client.store.regions in
+        let past1 : Past = dropped_past past drops in
+        let s = w.server.tables.schema in
+        let ready = may-ask w past1 q m store new sent d f.server.tables (facts-dropped w past store f d.none d.nothing) in
+        let done = queried w1 past1 q m asks d.is_sent.queue ready d.is_sent.queued in
+        let most : 0 < length drops = let l : length drops ≡ length (map (drop_of Pieces) (g ∷ gs)) = ap (λ rs. length (map (drop_of Pieces) rs)) e in omega (arith, l) in
+        let all = drops_all s past.marks past.queries Pieces w.client.store.regions (have-first s f.server.tables) f.client.store.each f.client.store.order f.client.keeps in
+        happens past1 (inr (drops-and (scene_of w past) m w past asks drops (lines_of_ask (next_ask w1 q asks)) lines (client_of (with_out w1 (next_ask w1 q asks) d.is_sent.queue) (asked_past past1 m))
+        ready.some (load-heavy w past q m d.one f d.large) all most done.are done.queries (told drops refl))) refl done.facts
+
+pub does-drop : (w : World) (q : Query) (m : model.Query) (store : Store) (new : World) (drops : List Mark) (sent lines : List TraceLine) → w.client.out ≡ None
+    → IsMeaning w.server.tables.schema q m → IsOver w.server.tables.schema w.client.store.regions q.parts → store.regions ≡ [] → drops ≡ map (drop_of Pieces) w.client.store.regions
+    → IsSent (with_store w store) q (whole_asks q.parts) new sent → lines ≡ map (mark_line 1) drops ++ sent → DoesEvent (QueryOf 1 (Ok m)) w new lines
+does-drop w q m store new drops sent lines none is over nothing drops_are is_sent lines_are =
+    let one = one-query w.server.tables.schema q m is in
+    let d : IsDropping w q m store new sent = record { none = none; is = is; one = one; large = large-one w.server.tables.schema w.client.store.regions q.parts one.part one.parts over; nothing = nothing; is_sent = is_sent } in
+    does (λ s. Happens s (QueryOf 1 (Ok m))) w new lines (λ past f. dropped w past q m store new sent lines d f (lines_are ∙ ap (λ ms. map (mark_line 1) ms ++ sent) drops_are))
+
+-- one part at most is asked
+pub whole-few : (schema : List Table) (q : Query) (m : model.Query) → IsMeaning schema q m → length (whole_asks q.parts) ≤ 4
+whole-few schema q m is =
+    let one = one-query schema q m is in
+    subst (λ ps. length (whole_asks ps) ≤ 4) (sym one.parts) (by one.part.table one.part.need one.part.rects)
+  where
+    by : (table need : ℕ) (rects : List Rect) → length (entry_of table need rects ++ []) ≤ 4
+    by table need [] = omega arith
+    by table need (r ∷ rects) = omega arith

@@ -81,7 +81,7 @@ filled_once schema tables loads rows fault same loaded refuses =
     cc
 
 -- a script that was replayed is built, and neither its CREATE lines nor its files are refused
-wrote_fits : (old new : Option (List ℕ)) (script : List ℕ) (loads : List Load) (world : Option World) → Wrote old new script loads world
+wrote_fits : (old new : Option (List ℕ)) (script : List ℕ) (loads : List Load) (world : World) → Wrote old new script loads world
     → ¬ AreLong script loads → FitsFiles script loads 0
 wrote_fits old new script loads world wrote short =
     let t = wrote.traced in

@@ -89,7 +89,7 @@ pub record Replayed (held : List ℕ → Option (List ℕ)) (words : Words) (old
   pub script : List ℕ
   pub loads : List Load
   pub files : AreFiles held words script loads
-  pub world : Option World
+  pub world : World
   pub wrote : Wrote old new script loads world
 
 -- files were read, and a prefix of the trace was written

@@ -1,5 +1,5 @@
 //! The top call.
-ghost use Rattle.std.specs.Prelude.{◌≡◌, ℕ, ◌⊎◌, ◌↔◌, ◌<◌, ◌^◌, nat_lt, List, [], length, string_bytes, Option, Some, None, IsTrue, IfSome, IfOk, OnOk, IsErrOf};
+ghost use Rattle.std.specs.Prelude.{◌≡◌, ℕ, ◌⊎◌, ◌↔◌, ◌<◌, ◌^◌, nat_lt, List, [], length, string_bytes, Some, None, IsTrue, IfSome, IfOk, OnOk, IsErrOf};
 ghost use Rattle.std.specs.List.{list_all};
 ghost use Rattle.sr_cell.specs.declared.fault.Fault.{Fault as TheFault};
 ghost use Rattle.sr_language.specs.Lines.{lines_of};
@@ -115,7 +115,7 @@ fn replay_files<H: Host>(alloc: Global, words: &Words<'_>, host: &mut H) -> Resu
 fn replay_read<H: Host>(alloc: Global, files: &Files, host: &mut H) -> Result<(), Refusal>
     requires script { length files.now.script < 2 ^ 32 }
     requires loads { IsTrue (list_all (λ load. nat_lt (length load.bytes) (2 ^ 32)) files.now.loads) }
-    ensures replayed { OnOk result ((world : Option World) × Wrote (H.writing host.old).written (H.writing host.new).written files.now.script files.now.loads world) }
+    ensures replayed { OnOk result ((world : World) × Wrote (H.writing host.old).written (H.writing host.new).written files.now.script files.now.loads world) }
     ensures never_reads { ¬ IsErrOf result Read }
     ensures never_too_long { ¬ IsErrOf result TooLong }
     ensures write_fault_is_counted { IsErrOf result Write → Rose (H.writing host.old).faults (H.writing host.new).faults }

@@ -91,7 +91,6 @@ const REPEATED_TABLE: &str = "CREATE TABLE p (id INT PRIMARY KEY, age INT)
 CREATE TABLE p (id INT PRIMARY KEY, age INT)
 ";
 
-/// A table that is sound and not built.
 const TEXT_TABLE: &str = "CREATE TABLE p (name TEXT PRIMARY KEY)";
 
 const BROKEN_TABLE: &str = "CREATE TABLE p (name TEXT PRIMARY KEY)
@@ -100,6 +99,34 @@ CREATE TABLE q id INT
 
 const SECOND_TABLE: &str = "CREATE TABLE p (id INT PRIMARY KEY, age INT)
 CREATE TABLE q (id INT PRIMARY KEY, age INT)
+";
+
+const JOINED: &str = "CREATE TABLE p (id INT PRIMARY KEY, age INT)
+CREATE TABLE q (no INT PRIMARY KEY)
+query 1 SELECT id FROM p JOIN q ON p.age = q.no
+";
+
+/// The first query over a table of four columns, two of which it needs.
+const FIRST_QUERY: &str =
+    "CREATE TABLE emp (id INT PRIMARY KEY CHECK (id BETWEEN 0 AND 9999), age INT CHECK (age BETWEEN 0 AND 150), name TEXT, dept INT CHECK (dept BETWEEN 0 AND 99))
+CREATE TABLE dept (no INT PRIMARY KEY CHECK (no BETWEEN 0 AND 99), title TEXT)
+exec INSERT INTO emp VALUES (1, 35, 'ann', 3), (2, 45, 'bob', 3)
+exec INSERT INTO emp VALUES (3, 33, 'cy', 4)
+query 1 SELECT id, age FROM emp WHERE age BETWEEN 30 AND 40
+";
+
+const FIRST_QUERY_TRACE: &str = "3 exec version 1
+4 exec version 2
+5 ask 1 1 fresh 1
+5 part emp (id,age) {age 30..40}
+5 query 1 asked 1
+5 toserver 1 ask 2
+5 toclient 1 laid
+5 answer 1 1 2 2
+5 row 1, 35
+5 row 3, 33
+5 held 1 emp (id,age) {age 30..40}
+5 toclient 1 answered
 ";
 
 const COVERED: &str =
@@ -245,6 +272,9 @@ fn scripts_are_replayed(rt: HostRuntime) -> Result<(), Fail> {
         ("", ""),
         (CREATE_ALONE, ""),
         (SCHEMA_ALONE, ""),
+        (SECOND_TABLE, ""),
+        (TEXT_TABLE, ""),
+        (FIRST_QUERY, FIRST_QUERY_TRACE),
         (TWO_QUERIES, TWO_QUERIES_TRACE),
         (COVERED, COVERED_TRACE),
         (SPELLED, TWO_QUERIES_TRACE),
@@ -264,8 +294,7 @@ fn refusals_are_named(rt: HostRuntime) -> Result<(), Fail> {
     let alloc = rt.alloc();
     for (script, fails, status, error) in [
         (UNBUILT, 0, 12, "unbuilt 5\n"),
-        (SECOND_TABLE, 0, 12, "unbuilt 2\n"),
-        (TEXT_TABLE, 0, 12, "unbuilt 1\n"),
+        (JOINED, 0, 12, "unbuilt 3\n"),
         (WITHOUT_KEY, 0, 7, "schema 2 no-key 0\n"),
         (REPEATED_COLUMN, 0, 7, "schema 1 duplicate-name 1\n"),
         (REPEATED_TABLE, 0, 7, "schema 2 duplicate-name 0\n"),
@@ -274,6 +303,7 @@ fn refusals_are_named(rt: HostRuntime) -> Result<(), Fail> {
         (TWO_QUERIES, 2, 3, "read\n"),
         (TWO_QUERIES, 3, 3, "read\n"),
         (TWO_QUERIES, 4, 4, "write\n"),
+        (FIRST_QUERY, 4, 4, "write\n"),
     ] {
         let got = run_over(alloc, IN_FORM, script, fails)?;
         assert_eq!(rt; got.error.as_slice(), error.as_bytes());

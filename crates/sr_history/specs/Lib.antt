@@ -3,3 +3,4 @@ pub mod Rests
 pub mod Classes
 pub mod Drops
 pub mod Load
+pub mod Ends

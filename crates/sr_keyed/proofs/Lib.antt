@@ -2,3 +2,4 @@ pub mod Order
 pub mod Entries
 pub mod Replaced
 pub mod Between
+pub mod Values

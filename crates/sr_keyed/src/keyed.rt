@@ -1,14 +1,16 @@
 //! Rows by key.
-ghost use Rattle.std.specs.Prelude.{◌≡◌, ℕ, ◌<◌, [], true, false, length, map, filter, OnOk, OnErr, IfOk};
+ghost use Rattle.std.specs.Prelude.{◌≡◌, ℕ, ◌<◌, [], true, false, length, map, filter, IsTrue, OnOk, OnErr, IfOk};
+ghost use Rattle.std.specs.List.{list_all};
 ghost use Rattle.std.specs.Option.{option_copied};
 ghost use Rattle.std.specs.Range.Bound.{bound_map, IsForward};
 ghost use Rattle.std.specs.Map.{values_of, set_value};
 ghost use Rattle.std.specs.BTreeMap.{IsOrdered, insert_entry, is_at, values};
 ghost use Rattle.std.specs.BTreeMap.Range.{IsLeBy, IsLtBy, entries_between};
 ghost use Rattle.sr_cell.specs.Cells.{cell_at};
+ghost use Rattle.sr_cell.specs.Columns.{are_bytes};
 ghost use Rattle.sr_model.specs.SortedRows.{ascend, has_key, with_row};
 ghost use Rattle.sr_model.specs.Changes.{row_with};
-ghost use Rattle.sr_keyed.specs.Keyed.{is_of, with_replaced, without_key, is_between};
+ghost use Rattle.sr_keyed.specs.Keyed.{is_of, is_value, are_values, with_replaced, without_key, is_between};
 ghost use Rattle.sr_keyed.specs.Entries.{are_ends, bound_of};
 
 use sr_cell::cell::{Cell, Row, Rows};
@@ -28,15 +30,39 @@ pub struct KeyedRows {
 }
 
 impl Model for KeyedRows {
+    ghost use Rattle.std.specs.Prelude.{IsTrue};
+    ghost use Rattle.std.specs.List.{list_all};
     ghost use Rattle.std.specs.BTreeMap.{IsOrdered, values};
-    ghost use Rattle.sr_keyed.specs.Keyed.{Keyed};
+    ghost use Rattle.sr_keyed.specs.Keyed.{Keyed, are_values};
     ghost use Rattle.sr_keyed.specs.Entries.{AreKeyed};
 
     ghost Value = { Keyed };
 
     ghost view = { λ a. record { key = a.key; kind = a.kind; rows = values a.rows } };
 
-    ghost invariant = { λ a. AreKeyed a.key a.kind a.rows.entries × IsOrdered ⟦<Cell as Ord>⟧.cmp a.rows };
+    ghost invariant = { λ a. AreKeyed a.key a.kind a.rows.entries × IsOrdered ⟦<Cell as Ord>⟧.cmp a.rows × IsTrue (list_all are_values (values a.rows)) };
+}
+
+// Facts, which do nothing: what a text's type says of its bytes.
+fn know_bytes(text: &[u8])
+    ensures { IsTrue (are_bytes text.now) }
+{}
+
+fn know_value(cell: &Cell)
+    ensures { IsTrue (is_value cell.now) }
+{
+    match cell {
+        Cell::Num(_) => {}
+        Cell::Str(text) => know_bytes(text.as_str().as_bytes()),
+    }
+}
+
+fn know_values(row: &Row)
+    ensures { IsTrue (are_values row.now) }
+{
+    for cell in row.as_slice() {
+        know_value(cell);
+    }
 }
 
 /// A row's key.
@@ -164,6 +190,13 @@ impl KeyedRows {
         let _rows = &self.rows;
     }
 
+    /// The texts of the rows are bytes: a fact, which does nothing.
+    pub fn know_values(&self)
+        ensures { IsTrue (list_all are_values self.now.rows) }
+    {
+        let _rows = &self.rows;
+    }
+
     /// The row with that key.
     pub fn get(&self, key: &Cell) -> Option<&Row>
         ensures { option_copied result ≡ row_with self.now.key key.now self.now.rows }
@@ -186,6 +219,7 @@ impl KeyedRows {
         ensures inserted { OnOk result (self.new ≡ record self.old { rows = with_row self.old.key self.old.rows row }) }
         ensures unchanged { OnErr result (self.new ≡ self.old) }
     {
+        know_values(&row);
         match key_at(&row, self.key).copy(alloc) {
             Ok(key) => put(&mut self.rows, key, row),
             Err(no) => Err(no),
@@ -198,6 +232,7 @@ impl KeyedRows {
         requires known { has_key self.old.key (cell_at row self.old.key) self.old.rows ≡ true }
         ensures { self.new ≡ record self.old { rows = with_replaced self.old.key row self.old.rows } }
     {
+        know_values(&row);
         put_in_place(&mut self.rows, self.key, row);
     }
 

@@ -1,9 +1,13 @@
 //! A region of persons by age, at values worked out by hand.
 ghost use Rattle.std.specs.Prelude.{◌≡◌, pos, true, [], ◌∷◌, IfOk, IfSome};
+ghost use Rattle.sr_cell.specs.declared.cell.Cell.TheVariants.{Num};
+ghost use Rattle.sr_cell.specs.Columns.{is_point};
+ghost use Rattle.sr_model.specs.SortedRows.{ascend, with_row};
+ghost use Rattle.sr_rows.specs.Places.{is_apart};
 ghost use Rattle.sr_box.specs.declared.span.Span.TheVariants.{Full, Nums};
 ghost use Rattle.sr_cell.specs.declared.table.Kind.TheVariants.{Num as Numbers};
 ghost use Rattle.sr_union.specs.Grid.{all_inner, have_first};
-ghost use Rattle.sr_region.specs.Regions.{IsRegion};
+ghost use Rattle.sr_region.specs.Regions.{rank, IsRowIn, IsRegion};
 
 use crate::halves::Halves;
 use crate::region::Region;
@@ -34,6 +38,8 @@ fn persons(alloc: Global) -> Result<Table, NoMemory>
     ensures key { IfOk result (λ table. table.key ≡ 0) }
     ensures inner { IfOk result (λ table. all_inner table.columns ≡ true) }
     ensures first { IfOk result (λ table. have_first table.columns ≡ true) }
+    ensures young { IfOk result (λ table. is_point table.columns (Num (pos 5) ∷ Num (pos 31) ∷ []) ≡ true) }
+    ensures old { IfOk result (λ table. is_point table.columns (Num (pos 3) ∷ Num (pos 39) ∷ []) ≡ true) }
 {
     let mut columns = Seq::new(alloc);
     columns.push(column(alloc, "id", 9999)?)?;
@@ -59,7 +65,7 @@ fn ages(alloc: Global, lo: i64, hi: i64) -> Result<Rects, NoMemory>
 fn region_of(alloc: Global, table: &Table, lo: i64, hi: i64) -> Result<Option<Region>, NoMemory>
     requires { table.now.key ≡ 0 }
     ensures region { IfOk result (λ found. IfSome found (IsRegion table.now)) }
-    ensures attrs { IfOk result (λ found. IfSome found (λ region. region.attrs ≡ 3)) }
+    ensures is { IfOk result (λ found. IfSome found (λ region. region ≡ record { table = 2; key = 0; attrs = 3; stamp = 7; rects = (Full ∷ Nums lo hi ∷ []) ∷ []; rows = [] })) }
 {
     let rects = ages(alloc, lo, hi)?;
     if !rects.fits(table) {
@@ -77,8 +83,11 @@ fn split_at(
 ) -> Result<Option<Halves>, NoMemory>
     requires region { IsRegion table.now region }
     requires attrs { region.attrs ≡ 3 }
+    requires key { region.key ≡ 0 }
     requires inner { all_inner table.now.columns ≡ true }
     requires first { have_first table.now.columns ≡ true }
+    ensures inside { IfOk result (λ found. IfSome found (λ halves. IfSome halves.inside (λ half. (half.attrs ≡ 3) × (half.key ≡ 0)))) }
+    ensures outside { IfOk result (λ found. IfSome found (λ halves. IfSome halves.outside (λ half. ascend (rank 3 0) half.rows ≡ true))) }
 {
     let cut = ages(alloc, lo, hi)?;
     if !cut.fits(table) {
@@ -122,7 +131,9 @@ fn a_region_has_two_halves_or_one(rt: HostRuntime) -> Result<(), Fail> {
     Ok(())
 }
 
-fn row_of(alloc: Global, id: i64, age: i64) -> Result<Row, NoMemory> {
+fn row_of(alloc: Global, id: i64, age: i64) -> Result<Row, NoMemory>
+    ensures { IfOk result (λ row. row ≡ Num id ∷ Num age ∷ []) }
+{
     let mut row: Row = Seq::new(alloc);
     row.push(Cell::Num(id))?;
     row.push(Cell::Num(age))?;
@@ -175,5 +186,145 @@ fn a_join_has_the_rects_and_rows_of_both(rt: HostRuntime) -> Result<(), Fail> {
     assert_eq!(rt; both.rects.len(), 2);
     let all = both.rows_in(alloc, &ages(alloc, 20, 60)?)?;
     assert!(rt; are(&all, &[3, 5]));
+    Ok(())
+}
+
+fn with_person(
+    alloc: Global,
+    table: &Table,
+    region: Region,
+    id: i64,
+    age: i64,
+) -> Result<Region, NoMemory>
+    requires region { IsRegion table.now region }
+    requires row { IsRowIn table.now.columns region.attrs region.rects (Num id ∷ Num age ∷ []) }
+    requires apart { is_apart (rank region.attrs region.key) region.rows (Num id ∷ Num age ∷ []) ≡ true }
+    ensures region { IfOk result (IsRegion table.now) }
+    ensures put { IfOk result (λ more. more ≡ record region { rows = with_row (rank region.attrs region.key) region.rows (Num id ∷ Num age ∷ []) }) }
+{
+    let mut region = region;
+    region.put(row_of(alloc, id, age)?)?;
+    Ok(region)
+}
+
+// The ages from 30 to 40, with persons of 31 and 39.
+fn with_persons(alloc: Global, table: &Table, region: Region) -> Result<Region, NoMemory>
+    requires is { region ≡ record { table = 2; key = 0; attrs = 3; stamp = 7; rects = (Full ∷ Nums (pos 30) (pos 40) ∷ []) ∷ []; rows = [] } }
+    requires region { IsRegion table.now region }
+    requires young { is_point table.now.columns (Num (pos 5) ∷ Num (pos 31) ∷ []) ≡ true }
+    requires old { is_point table.now.columns (Num (pos 3) ∷ Num (pos 39) ∷ []) ≡ true }
+    ensures region { IfOk result (IsRegion table.now) }
+    ensures attrs { IfOk result (λ more. more.attrs ≡ 3) }
+    ensures key { IfOk result (λ more. more.key ≡ 0) }
+{
+    let one = with_person(alloc, table, region, 5, 31)?;
+    with_person(alloc, table, one, 3, 39)
+}
+
+// Cut by the ages from 35 to 50.
+fn halves_of_persons(alloc: Global) -> Result<Option<Halves>, NoMemory>
+    ensures inside { IfOk result (λ found. IfSome found (λ halves. IfSome halves.inside (λ half. (half.attrs ≡ 3) × (half.key ≡ 0)))) }
+    ensures outside { IfOk result (λ found. IfSome found (λ halves. IfSome halves.outside (λ half. ascend (rank 3 0) half.rows ≡ true))) }
+{
+    let table = persons(alloc)?;
+    match region_of(alloc, &table, 30, 40)? {
+        Some(region) => {
+            let region = with_persons(alloc, &table, region)?;
+            split_at(alloc, &table, region, 35, 50)
+        }
+        None => Ok(None),
+    }
+}
+
+fn inside_of(halves: Option<Halves>) -> Option<Region> {
+    match halves {
+        Some(halves) => halves.inside,
+        None => None,
+    }
+}
+
+fn outside_of(halves: Option<Halves>) -> Option<Region> {
+    match halves {
+        Some(halves) => halves.outside,
+        None => None,
+    }
+}
+
+fn have_ages(alloc: Global, region: &Region, ages: &[i64], has: bool) -> Result<bool, NoMemory> {
+    for i in 0..ages.len() {
+        let row = row_of(alloc, 7, ages[i])?;
+        if region.rects.has(&row) != has {
+            return Ok(false);
+        }
+    }
+    Ok(true)
+}
+
+fn holds(
+    alloc: Global,
+    region: &Region,
+    held: &[i64],
+    others: &[i64],
+    ids: &[i64],
+) -> Result<bool, NoMemory> {
+    let has = have_ages(alloc, region, held, true)?;
+    let lacks = have_ages(alloc, region, others, false)?;
+    let all = region.rows_in(alloc, &ages(alloc, 30, 40)?)?;
+    Ok(has && lacks && are(&all, ids))
+}
+
+fn is_half(
+    alloc: Global,
+    half: &Option<Region>,
+    held: &[i64],
+    others: &[i64],
+    ids: &[i64],
+) -> Result<bool, NoMemory> {
+    match half {
+        Some(region) => Ok(region.rects.len() == 1 && holds(alloc, region, held, others, ids)?),
+        None => Ok(false),
+    }
+}
+
+#[test]
+fn each_half_has_its_points_and_rows(rt: HostRuntime) -> Result<(), Fail> {
+    let alloc = rt.alloc();
+    let inside = inside_of(halves_of_persons(alloc)?);
+    assert!(rt; is_half(alloc, &inside, &[35, 40], &[30, 34, 41, 50], &[3])?);
+    let outside = outside_of(halves_of_persons(alloc)?);
+    assert!(rt; is_half(alloc, &outside, &[30, 34], &[29, 35, 40], &[5])?);
+    Ok(())
+}
+
+fn together(halves: Halves) -> Result<Option<Region>, NoMemory>
+    requires inside { IfSome halves.inside (λ half. (half.attrs ≡ 3) × (half.key ≡ 0)) }
+    requires outside { IfSome halves.outside (λ half. ascend (rank 3 0) half.rows ≡ true) }
+{
+    let Halves { inside, outside } = halves;
+    match inside {
+        Some(inside) => match outside {
+            Some(outside) => Ok(Some(inside.join(outside)?)),
+            None => Ok(Some(inside)),
+        },
+        None => Ok(outside),
+    }
+}
+
+fn persons_again(alloc: Global) -> Result<Option<Region>, NoMemory> {
+    match halves_of_persons(alloc)? {
+        Some(halves) => together(halves),
+        None => Ok(None),
+    }
+}
+
+#[test]
+fn the_halves_join_to_the_whole(rt: HostRuntime) -> Result<(), Fail> {
+    let alloc = rt.alloc();
+    match persons_again(alloc)? {
+        Some(whole) => {
+            assert!(rt; holds(alloc, &whole, &[30, 34, 35, 40], &[29, 41], &[3, 5])?);
+        }
+        None => assert!(rt; false),
+    }
     Ok(())
 }

@@ -7,6 +7,7 @@ ghost use Rattle.sr_cell.specs.Attrs.{project};
 ghost use Rattle.sr_cell.specs.Columns.{table_at};
 ghost use Rattle.sr_box.specs.Points.{in_any};
 ghost use Rattle.sr_grammar.specs.Seen.{statement_seen};
+ghost use Rattle.sr_keyed.specs.Keyed.{are_values};
 ghost use Rattle.sr_model.specs.Queries.{rows_at};
 ghost use Rattle.sr_model.specs.Statements.{executed};
 ghost use Rattle.sr_model.specs.Changes.{changes};
@@ -69,6 +70,15 @@ impl Tables {
     {
         for rows in self.rows.as_slice() {
             rows.know_ascending();
+        }
+    }
+
+    /// The texts of the rows are bytes: a fact, which does nothing.
+    pub fn know_values(&self)
+        ensures { IsTrue (list_all (list_all are_values) self.now.rows) }
+    {
+        for rows in self.rows.as_slice() {
+            rows.know_values();
         }
     }
 

@@ -26,8 +26,9 @@ use Rattle.sr_scene.specs.Scene.{Scene}
 use Rattle.sr_scene.specs.Runs.{numbered}
 use Rattle.sr_io.specs.Pieces.{WritesPrefix}
 use Rattle.sr_world.specs.declared.world.World.{World}
-use Rattle.sr_world.specs.Kept.{DoesKept}
-use Rattle.sr_world.specs.Replay.{start, IsKept, RefusesLoad, Trace, Wrote, WrotePart}
+use Rattle.sr_world.specs.Worlds.{DoesStep}
+use Rattle.sr_world.specs.Represents.{Represents}
+use Rattle.sr_world.specs.Replay.{start, RefusesLoad, Trace, Wrote, WrotePart}
 use Rattle.sr_world.specs.Ran.{Ran, RanWhole, RanPart, Traced, TracedWhole, TracedPart}
 use Rattle.sr_world.proofs.Filters.{and_right}
 use Rattle.sr_world.proofs.RunLemmas.{Ran-none, Ran-one, RanWhole-append, RanPart-before, RanPart-behind}
@@ -39,11 +40,11 @@ Appends-none (Some bytes) = sym (append-nil bytes)
 pub WritesPrefix-whole : (first last : Option (List ℕ)) (bytes : List ℕ) → Appends first last bytes → WritesPrefix first last bytes
 WritesPrefix-whole first last bytes p = record { count = length bytes; within = omega arith; appended = rw (take-length bytes) p }
 
-pub RanWhole-none : (schema : List Table) (w : Option World) (known : Option (List ℕ)) → RanWhole schema [] w w known known
+pub RanWhole-none : (schema : List Table) (w : World) (known : Option (List ℕ)) → RanWhole schema [] w w known known
 RanWhole-none schema w known = record { trace = []; ran = Ran-none schema w; written = Appends-none known }
 
 -- all events so far, of those that there are
-pub RanPart-whole : (schema : List Table) (a b all : List (ℕ × Event)) (old mid : Option World) (first last : Option (List ℕ))
+pub RanPart-whole : (schema : List Table) (a b all : List (ℕ × Event)) (old mid : World) (first last : Option (List ℕ))
     → RanWhole schema a old mid first last → all ≡ a ++ b → RanPart schema all old first last
 RanPart-whole schema a b all old mid first last p same = record {
   done = a;
@@ -56,14 +57,14 @@ RanPart-whole schema a b all old mid first last p same = record {
 }
 
 -- all events so far, and one more, whose text was written in part
-pub RanPart-more : (schema : List Table) (a : List (ℕ × Event)) (event : ℕ × Event) (b all : List (ℕ × Event)) (old mid new : Option World) (first at last : Option (List ℕ)) (text : List ℕ)
+pub RanPart-more : (schema : List Table) (a : List (ℕ × Event)) (event : ℕ × Event) (b all : List (ℕ × Event)) (old mid new : World) (first at last : Option (List ℕ)) (text : List ℕ)
     → RanWhole schema a old mid first at → Ran schema (event ∷ []) mid new text → WritesPrefix at last text → all ≡ a ++ event ∷ b → RanPart schema all old first last
 RanPart-more schema a event b all old mid new first at last text p q written same =
     let one : RanPart schema (event ∷ b) mid at last = record { done = event ∷ []; left = b; split = refl; mid = new; trace = text; ran = q; written = written } in
     RanPart-behind p one same
 
 -- one item more of those whose events ran
-pub RanWhole-more : {X : Type 0} (event : X → ℕ × Event) (schema : List Table) (xs : List X) (x : X) (old mid new : Option World) (first at last : Option (List ℕ)) (text : List ℕ)
+pub RanWhole-more : {X : Type 0} (event : X → ℕ × Event) (schema : List Table) (xs : List X) (x : X) (old mid new : World) (first at last : Option (List ℕ)) (text : List ℕ)
     → RanWhole schema (map event xs) old mid first at → Ran schema (event x ∷ []) mid new text → Appends at last text → RanWhole schema (map event (xs ++ x ∷ [])) old new first last
 RanWhole-more {X} event schema xs x old mid new first at last text p q written =
     let one : RanWhole schema (event x ∷ []) mid new at last = record { trace = text; ran = q; written = written } in
@@ -85,8 +86,8 @@ all-rest {X} p x rest now all is =
     let whole : list_all p (x ∷ rest) ≡ true = subst (λ xs. list_all p xs ≡ true) is all in
     and_right (p x) (list_all p rest) whole
 
-pub ran-text : {T E : Type 0} (bytes : T → List ℕ) (r : Result T E) (schema : List Table) (event : ℕ × Event) (old new : Option World) (lines : List TraceLine)
-    → DoesKept event.1 old new lines → IfOk r (λ text. bytes text ≡ trace_text schema (numbered event.0 lines))
+pub ran-text : {T E : Type 0} (bytes : T → List ℕ) (r : Result T E) (schema : List Table) (event : ℕ × Event) (old new : World) (lines : List TraceLine)
+    → DoesStep event.1 old new lines → IfOk r (λ text. bytes text ≡ trace_text schema (numbered event.0 lines))
     → IfOk r (λ text. Ran schema (event ∷ []) old new (bytes text))
 ran-text {T} {E} bytes (Ok text) schema event old new lines does is = Ran-one schema event old new lines (bytes text) does is
 ran-text {T} {E} bytes (Err e) schema event old new lines does is = tt
@@ -95,8 +96,8 @@ ran-text {T} {E} bytes (Err e) schema event old new lines does is = tt
 pub asked-meaning : (tables : List Table) (line : QueryLine) → (event : ℕ × Event) × IsAsked tables line event → (meaning : Result model.Query Fault) × Means tables line.query meaning
 asked-meaning tables line asked = (asked.1.0, asked.1.1)
 
-pub ran-query : {T E : Type 0} (bytes : T → List ℕ) (r : Result T E) (schema tables : List Table) (line : QueryLine) (event : ℕ × Event) (old new : Option World) (lines : List TraceLine)
-    → IsAsked tables line event → ((meaning : Result model.Query Fault) → Means tables line.query meaning → DoesKept (QueryOf 1 meaning) old new lines)
+pub ran-query : {T E : Type 0} (bytes : T → List ℕ) (r : Result T E) (schema tables : List Table) (line : QueryLine) (event : ℕ × Event) (old new : World) (lines : List TraceLine)
+    → IsAsked tables line event → ((meaning : Result model.Query Fault) → Means tables line.query meaning → DoesStep (QueryOf 1 meaning) old new lines)
     → IfOk r (λ text. bytes text ≡ trace_text schema (numbered line.number lines)) → IfOk r (λ text. Ran schema (event ∷ []) old new (bytes text))
 ran-query {T} {E} bytes r schema tables line event old new lines asked does is =
     subst (λ event. IfOk r (λ text. Ran schema (event ∷ []) old new (bytes text))) (sym asked.2)
@@ -105,14 +106,14 @@ ran-query {T} {E} bytes r schema tables line event old new lines asked does is =
 -- ---- queries, each with the event that it stands for
 
 -- the first events ran, and the lines that are left stand for the others
-pub record RanSome (schema : List Table) (left : List QueryLine) (asked : List (ℕ × Event)) (old new : Option World) (before after : Option (List ℕ)) : Type 0 where
+pub record RanSome (schema : List Table) (left : List QueryLine) (asked : List (ℕ × Event)) (old new : World) (before after : Option (List ℕ)) : Type 0 where
   pub done : List (ℕ × Event)
   pub rest : List (ℕ × Event)
   pub split : asked ≡ done ++ rest
   pub zip : AllZip (IsAsked schema) left rest
   pub ran : RanWhole schema done old new before after
 
-pub RanSome-none : (schema : List Table) (lines left : List QueryLine) (asked : List (ℕ × Event)) (w : Option World) (known : Option (List ℕ))
+pub RanSome-none : (schema : List Table) (lines left : List QueryLine) (asked : List (ℕ × Event)) (w : World) (known : Option (List ℕ))
     → left ≡ lines → AllZip (IsAsked schema) lines asked → RanSome schema left asked w w known known
 RanSome-none schema lines left asked w known all zip = record {
   done = [];
@@ -122,7 +123,7 @@ RanSome-none schema lines left asked w known all zip = record {
   ran = RanWhole-none schema w known;
 }
 
-pub RanSome-all : (schema : List Table) (left : List QueryLine) (asked : List (ℕ × Event)) (old new : Option World) (before after : Option (List ℕ))
+pub RanSome-all : (schema : List Table) (left : List QueryLine) (asked : List (ℕ × Event)) (old new : World) (before after : Option (List ℕ))
     → left ≡ [] → RanSome schema left asked old new before after → RanWhole schema asked old new before after
 RanSome-all schema left asked old new before after none some =
     by some.rest some.split (subst (λ ls. AllZip (IsAsked schema) ls some.rest) none some.zip)
@@ -131,7 +132,7 @@ RanSome-all schema left asked old new before after none some =
     by [] split zip = subst (λ events. RanWhole schema events old new before after) (sym (split ∙ append-nil some.done)) some.ran
     by (event ∷ rest) split zip = absurd zip
 
-pub RanSome-part : (schema : List Table) (left : List QueryLine) (asked : List (ℕ × Event)) (old new : Option World) (before after : Option (List ℕ))
+pub RanSome-part : (schema : List Table) (left : List QueryLine) (asked : List (ℕ × Event)) (old new : World) (before after : Option (List ℕ))
     → RanSome schema left asked old new before after → RanPart schema asked old before after
 RanSome-part schema left asked old new before after some = RanPart-whole schema some.done some.rest asked old new before after some.ran some.split
 
@@ -152,7 +153,7 @@ next-event schema left line later rest turn zip = by rest (subst (λ ls. AllZip 
     by (event ∷ others) zip = record { event = event; others = others; is = refl; asked = zip.0; zip = zip.1 }
 
 -- its text was written in part
-pub RanSome-more : (schema : List Table) (left : List QueryLine) (line : QueryLine) (later : List QueryLine) (asked : List (ℕ × Event)) (old mid new : Option World) (first at last : Option (List ℕ)) (text : List ℕ)
+pub RanSome-more : (schema : List Table) (left : List QueryLine) (line : QueryLine) (later : List QueryLine) (asked : List (ℕ × Event)) (old mid new : World) (first at last : Option (List ℕ)) (text : List ℕ)
     → left ≡ line ∷ later → RanSome schema left asked old mid first at → ((event : ℕ × Event) → IsAsked schema line event → Ran schema (event ∷ []) mid new text)
     → WritesPrefix at last text → RanPart schema asked old first last
 RanSome-more schema left line later asked old mid new first at last text turn some ran written =
@@ -160,7 +161,7 @@ RanSome-more schema left line later asked old mid new first at last text turn so
     RanPart-more schema some.done next.event next.others asked old mid new first at last text some.ran (ran next.event next.asked) written (some.split ∙ ap (λ rest. some.done ++ rest) next.is)
 
 -- its text was written
-pub RanSome-next : (schema : List Table) (left : List QueryLine) (line : QueryLine) (later : List QueryLine) (asked : List (ℕ × Event)) (old mid new : Option World) (first at last : Option (List ℕ)) (text : List ℕ)
+pub RanSome-next : (schema : List Table) (left : List QueryLine) (line : QueryLine) (later : List QueryLine) (asked : List (ℕ × Event)) (old mid new : World) (first at last : Option (List ℕ)) (text : List ℕ)
     → left ≡ line ∷ later → RanSome schema left asked old mid first at → ((event : ℕ × Event) → IsAsked schema line event → Ran schema (event ∷ []) mid new text)
     → Appends at last text → RanSome schema later asked old new first last
 RanSome-next schema left line later asked old mid new first at last text turn some ran written =
@@ -175,7 +176,7 @@ RanSome-next schema left line later asked old mid new first at last text turn so
     }
 
 -- the next line stands for some event
-pub next-asked : (schema tables : List Table) (lines left : List QueryLine) (line : QueryLine) (later : List QueryLine) (old mid : Option World) (first at : Option (List ℕ))
+pub next-asked : (schema tables : List Table) (lines left : List QueryLine) (line : QueryLine) (later : List QueryLine) (old mid : World) (first at : Option (List ℕ))
     → tables ≡ schema → left ≡ line ∷ later → (asked : List (ℕ × Event)) × AllZip (IsAsked schema) lines asked
     → ((asked : List (ℕ × Event)) → AllZip (IsAsked schema) lines asked → RanSome schema left asked old mid first at) → (event : ℕ × Event) × IsAsked tables line event
 next-asked schema tables lines left line later old mid first at same turn some ran =
@@ -196,8 +197,8 @@ TracedPart-none schema tables events known = record {
   written = WritesPrefix-whole known known [] (Appends-none known);
 }
 
-TracedPart-from : (schema known : List Table) (tables : Tables) (events : List (ℕ × Event)) (world : Option World) (first last : Option (List ℕ))
-    → IsKept world (start known tables) → known ≡ schema → RanPart known events world first last → TracedPart schema tables events first last
+TracedPart-from : (schema known : List Table) (tables : Tables) (events : List (ℕ × Event)) (world : World) (first last : Option (List ℕ))
+    → Represents world (start known tables) → known ≡ schema → RanPart known events world first last → TracedPart schema tables events first last
 TracedPart-from schema known tables events world first last rep same p =
     let d = p.ran.run (start known tables) rep in
     subst (λ ts. TracedPart ts tables events first last) same (record {
@@ -210,8 +211,8 @@ TracedPart-from schema known tables events world first last rep same p =
       written = p.written;
     })
 
-TracedWhole-from : (schema known : List Table) (tables : Tables) (events : List (ℕ × Event)) (world new : Option World) (first last : Option (List ℕ))
-    → IsKept world (start known tables) → known ≡ schema → RanWhole known events world new first last → TracedWhole schema tables events new first last
+TracedWhole-from : (schema known : List Table) (tables : Tables) (events : List (ℕ × Event)) (world new : World) (first last : Option (List ℕ))
+    → Represents world (start known tables) → known ≡ schema → RanWhole known events world new first last → TracedWhole schema tables events new first last
 TracedWhole-from schema known tables events world new first last rep same p =
     let d = p.ran.run (start known tables) rep in
     subst (λ ts. TracedWhole ts tables events new first last) same (record {
@@ -223,8 +224,8 @@ TracedWhole-from schema known tables events world new first last rep same p =
     })
 
 -- its statements ran in part
-pub traced-statements : (s : Script) (known : List Table) (tables : Tables) (events : List (ℕ × Event)) (world : Option World) (first last : Option (List ℕ))
-    → AreEvents s events → known ≡ s.schema → IsKept world (start known tables) → RanPart known (map exec_event s.statements) world first last → TracedPart s.schema tables events first last
+pub traced-statements : (s : Script) (known : List Table) (tables : Tables) (events : List (ℕ × Event)) (world : World) (first last : Option (List ℕ))
+    → AreEvents s events → known ≡ s.schema → Represents world (start known tables) → RanPart known (map exec_event s.statements) world first last → TracedPart s.schema tables events first last
 traced-statements s known tables events world first last are same kept p =
     TracedPart-from s.schema known tables events world first last kept same
     (subst (λ all. RanPart known all world first last) (sym are.all) (RanPart-before known (map exec_event s.statements) are.asked world first last p))
@@ -234,15 +235,15 @@ pub asked-of : (s : Script) (known : List Table) (events : List (ℕ × Event)) 
 asked-of s known events are same = subst (λ ts. AllZip (IsAsked ts) s.queries are.asked) (sym same) are.queries
 
 -- its queries ran in part
-pub traced-queries : (s : Script) (known : List Table) (tables : Tables) (events : List (ℕ × Event)) (world mid : Option World) (first at last : Option (List ℕ))
-    → AreEvents s events → known ≡ s.schema → IsKept world (start known tables) → RanWhole known (map exec_event s.statements) world mid first at
+pub traced-queries : (s : Script) (known : List Table) (tables : Tables) (events : List (ℕ × Event)) (world mid : World) (first at last : Option (List ℕ))
+    → AreEvents s events → known ≡ s.schema → Represents world (start known tables) → RanWhole known (map exec_event s.statements) world mid first at
     → ((asked : List (ℕ × Event)) → AllZip (IsAsked known) s.queries asked → RanPart known asked mid at last) → TracedPart s.schema tables events first last
 traced-queries s known tables events world mid first at last are same kept p q =
     TracedPart-from s.schema known tables events world first last kept same (RanPart-behind p (q are.asked (asked-of s known events are same)) are.all)
 
 -- all of it ran
-pub traced-whole : (s : Script) (known : List Table) (tables : Tables) (events : List (ℕ × Event)) (world mid new : Option World) (first at last : Option (List ℕ))
-    → AreEvents s events → known ≡ s.schema → IsKept world (start known tables) → RanWhole known (map exec_event s.statements) world mid first at
+pub traced-whole : (s : Script) (known : List Table) (tables : Tables) (events : List (ℕ × Event)) (world mid new : World) (first at last : Option (List ℕ))
+    → AreEvents s events → known ≡ s.schema → Represents world (start known tables) → RanWhole known (map exec_event s.statements) world mid first at
     → ((asked : List (ℕ × Event)) → AllZip (IsAsked known) s.queries asked → RanWhole known asked mid new at last) → TracedWhole s.schema tables events new first last
 traced-whole s known tables events world mid new first at last are same kept p q =
     TracedWhole-from s.schema known tables events world new first last kept same
@@ -282,7 +283,7 @@ WrotePart-of bytes loads s tables first last read loaded traced =
       written = p.written;
     }
 
-pub Wrote-of : (bytes : List ℕ) (loads : List Load) (s : Script) (tables : Tables) (kept : Option World) (first last : Option (List ℕ)) → IsRead bytes s → filled s.schema loads (no_rows s.schema) ≡ Ok tables
+pub Wrote-of : (bytes : List ℕ) (loads : List Load) (s : Script) (tables : Tables) (kept : World) (first last : Option (List ℕ)) → IsRead bytes s → filled s.schema loads (no_rows s.schema) ≡ Ok tables
     → ((events : List (ℕ × Event)) → AreEvents s events → TracedWhole s.schema tables events kept first last) → Wrote first last bytes loads kept
 Wrote-of bytes loads s tables kept first last read loaded traced =
     let p = traced read.events read.are in
@@ -295,8 +296,8 @@ Wrote-of bytes loads s tables kept first last read loaded traced =
     }
 
 -- what is kept at the start, over the script's own tables
-pub kept-same : (kept : Option World) (schema known : List Table) (tables : Tables) → schema ≡ known → IsKept kept (start schema tables) → IsKept kept (start known tables)
-kept-same kept schema known tables same is = subst (λ ts. IsKept kept (start ts tables)) same is
+pub kept-same : (kept : World) (schema known : List Table) (tables : Tables) → schema ≡ known → Represents kept (start schema tables) → Represents kept (start known tables)
+kept-same kept schema known tables same is = subst (λ ts. Represents kept (start ts tables)) same is
 
 -- a script whose CREATE lines add these tables, where the files fill them, has no file that is refused
 pub accepts-loads : (bytes : List ℕ) (loads : List Load) (schema : List Table) (tables : Tables) → Creates [] (lines_of bytes) schema → filled schema loads (no_rows schema) ≡ Ok tables

@@ -11,7 +11,7 @@ use Rattle.sr_scene.specs.Runs.{Runs, Steps, numbered}
 use Rattle.sr_io.specs.Pieces.{WritesPrefix}
 use Rattle.sr_io.proofs.SoFar.{Appends-append}
 use Rattle.sr_world.specs.declared.world.World.{World}
-use Rattle.sr_world.specs.Kept.{DoesKept}
+use Rattle.sr_world.specs.Worlds.{DoesStep}
 use Rattle.sr_world.specs.Ran.{Ran, RanWhole, RanPart}
 
 pub trace_text-append : (schema : List Table) (a b : List (ℕ × TraceLine)) → trace_text schema (a ++ b) ≡ trace_text schema a ++ trace_text schema b
@@ -30,18 +30,18 @@ Runs-append s (event ∷ a) front mid b rest new r more =
 pub Runs-one : (s : Scene) (event : ℕ × Event) (lines : List TraceLine) (new : Scene) → Steps s event.1 lines new → Runs s (event ∷ []) (numbered event.0 lines) new
 Runs-one s event lines new step = (lines, [], new, step, (refl, refl), sym (append-nil _))
 
-pub Ran-none : (schema : List Table) (w : Option World) → Ran schema [] w w []
+pub Ran-none : (schema : List Table) (w : World) → Ran schema [] w w []
 Ran-none schema w = record { lines = []; run = λ s r. (s, (refl, refl), r); text = refl }
 
-pub Ran-one : (schema : List Table) (event : ℕ × Event) (old new : Option World) (lines : List TraceLine) (trace : List ℕ)
-    → DoesKept event.1 old new lines → trace ≡ trace_text schema (numbered event.0 lines) → Ran schema (event ∷ []) old new trace
+pub Ran-one : (schema : List Table) (event : ℕ × Event) (old new : World) (lines : List TraceLine) (trace : List ℕ)
+    → DoesStep event.1 old new lines → trace ≡ trace_text schema (numbered event.0 lines) → Ran schema (event ∷ []) old new trace
 Ran-one schema event old new lines trace does text = record {
   lines = numbered event.0 lines;
   run = λ s r. let d = does s r in (d.0, Runs-one s event lines d.0 d.1, d.2);
   text = text;
 }
 
-pub Ran-append : {schema : List Table} {a b : List (ℕ × Event)} {old mid new : Option World} {one two : List ℕ}
+pub Ran-append : {schema : List Table} {a b : List (ℕ × Event)} {old mid new : World} {one two : List ℕ}
     → Ran schema a old mid one → Ran schema b mid new two → Ran schema (a ++ b) old new (one ++ two)
 Ran-append {schema} {a} {b} {old} {mid} {new} {one} {two} p q = record {
   lines = p.lines ++ q.lines;
@@ -60,7 +60,7 @@ WritesPrefix-behind first mid last one two p q = record {
   appended = rw (take-append-add one two q.count) (Appends-append first mid last one (take q.count two) p q.appended);
 }
 
-pub RanPart-behind : {schema : List Table} {a b all : List (ℕ × Event)} {old mid : Option World} {first at last : Option (List ℕ)}
+pub RanPart-behind : {schema : List Table} {a b all : List (ℕ × Event)} {old mid : World} {first at last : Option (List ℕ)}
     → RanWhole schema a old mid first at → RanPart schema b mid at last → all ≡ a ++ b → RanPart schema all old first last
 RanPart-behind {schema} {a} {b} {all} {old} {mid} {first} {at} {last} p q same = record {
   done = a ++ q.done;
@@ -72,7 +72,7 @@ RanPart-behind {schema} {a} {b} {all} {old} {mid} {first} {at} {last} p q same =
   written = WritesPrefix-behind first at last p.trace q.trace p.written q.written;
 }
 
-pub RanPart-before : (schema : List Table) (a b : List (ℕ × Event)) (old : Option World) (first last : Option (List ℕ))
+pub RanPart-before : (schema : List Table) (a b : List (ℕ × Event)) (old : World) (first last : Option (List ℕ))
     → RanPart schema a old first last → RanPart schema (a ++ b) old first last
 RanPart-before schema a b old first last p = record {
   done = p.done;
@@ -84,7 +84,7 @@ RanPart-before schema a b old first last p = record {
   written = p.written;
 }
 
-pub RanWhole-append : {schema : List Table} {a b : List (ℕ × Event)} {old mid new : Option World} {first at last : Option (List ℕ)}
+pub RanWhole-append : {schema : List Table} {a b : List (ℕ × Event)} {old mid new : World} {first at last : Option (List ℕ)}
     → RanWhole schema a old mid first at → RanWhole schema b mid new at last → RanWhole schema (a ++ b) old new first last
 RanWhole-append {schema} {a} {b} {old} {mid} {new} {first} {at} {last} p q = record {
   trace = p.trace ++ q.trace;

@@ -19,21 +19,21 @@ use Rattle.sr_world.specs.declared.client.AskOut as code
 use Rattle.sr_world.specs.declared.client.Client.{Client}
 use Rattle.sr_world.specs.Client.{reply_version}
 use Rattle.sr_world.specs.Worlds.{DoesDelivery}
-use Rattle.sr_world.specs.Represents.{Past, Facts, Represents, IsReplied, IsOut, Flow, request_of, scene_of, client_of}
-use Rattle.sr_world.proofs.Arrivals.{AllRows, rows-all, rows-behind}
+use Rattle.sr_world.specs.Represents.{Past, ServerFacts, ClientFacts, Facts, Represents, IsReplied, IsOut, Flow, request_of, scene_of, client_of}
+use Rattle.sr_world.proofs.RowMessages.{AllRows, rows-all, rows-behind}
 use Rattle.sr_world.proofs.StepLemmas.{does}
 
 -- a reply is on its way to the client
-pub record IsComing (t : Table) (w : World) (past : Past) : Type 0 where
+pub record IsComing (w : World) (past : Past) : Type 0 where
   pub out : code.AskOut
   pub is : w.client.out ≡ Some out
-  pub is_out : IsOut t w past out
+  pub is_out : IsOut w past out
   pub is_replied : IsReplied w past out
 
-pub is-coming : (t : Table) (w : World) (past : Past) (m : Message) (queue : List Message) → Facts t w past → w.to_client.items ≡ m ∷ queue → IsComing t w past
-is-coming t w past m queue f came = by w.client.out refl f.flow
+pub is-coming : (w : World) (past : Past) (m : Message) (queue : List Message) → Facts w past → w.to_client.items ≡ m ∷ queue → IsComing w past
+is-coming w past m queue f came = by w.client.out refl f.flow
   where
-    by : (out : Option code.AskOut) → w.client.out ≡ out → Flow t w past out → IsComing t w past
+    by : (out : Option code.AskOut) → w.client.out ≡ out → Flow w past out → IsComing w past
     by None is flow = absurd (let k : m ∷ queue ≡ [] = sym came ∙ flow.1 in cc)
     by (Some o) is (is_out, inl is_asked) = absurd (let k : m ∷ queue ≡ [] = sym came ∙ is_asked.to_client in cc)
     by (Some o) is (is_out, inr is_replied) = record { out = o; is = is; is_out = is_out; is_replied = is_replied }
@@ -60,15 +60,15 @@ delivers w past m queue lines next new none came same takes =
 abbrev pub with_laid : World → List Message → VecDeque Message Global → World
 with_laid w laid queue = record w { client = record w.client { laid = laid }; to_client = queue }
 
-lays : (t : Table) (w : World) (past : Past) (c : IsComing t w past) (k part : ℕ) (rows : List Row) (rest laid : List Message) (to_client : VecDeque Message Global) → Facts t w past
+lays : (w : World) (past : Past) (c : IsComing w past) (k part : ℕ) (rows : List Row) (rest laid : List Message) (to_client : VecDeque Message Global) → Facts w past
     → k ≡ c.out.number → row_messages w.server.tables.rows c.out.number 0 c.out.parts ≡ w.client.laid ++ Rows k part rows ∷ rest
     → w.to_client.items ≡ Rows k part rows ∷ (rest ++ Reply c.out.number w.server.version ∷ [])
     → laid ≡ w.client.laid ++ Rows k part rows ∷ [] → to_client.items ≡ rest ++ Reply c.out.number w.server.version ∷ []
     → (next : Scene) × Delivers (scene_of w past) 1 (line.ClientLaid 1 ∷ []) next × Represents (with_laid w laid to_client) next
-lays t w past c k part rows rest laid to_client f number all came is_laid left =
+lays w past c k part rows rest laid to_client f number all came is_laid left =
     let o = c.out in
     let changed : World = with_laid w laid to_client in
-    let is_out : IsOut t changed past o = record { bound = c.is_out.bound; number = c.is_out.number; ask = c.is_out.ask; parts = c.is_out.parts; rest = c.is_out.rest; attrs = c.is_out.attrs } in
+    let is_out : IsOut changed past o = record { meant = c.is_out.meant; earlier = c.is_out.earlier; newest = c.is_out.newest; number = c.is_out.number; asks = c.is_out.asks; some = c.is_out.some } in
     let is_replied : IsReplied changed past o = record {
       to_server = c.is_replied.to_server;
       rest = rest;
@@ -76,25 +76,16 @@ lays t w past c k part rows rest laid to_client f number all came is_laid left =
       to_client = left;
       upto = c.is_replied.upto;
     } in
-    let facts : Facts t changed past = record {
-      schema = f.schema;
-      table = f.table;
-      rows = f.rows;
-      tables = f.tables;
-      count = f.count;
-      newest = f.newest;
-      ascending = f.ascending;
-      fitting = f.fitting;
-      points = f.points;
-      marks = f.marks;
-      held_fit = f.held_fit;
-      held = f.held;
-      kept = f.kept;
-      version = f.version;
-      recent = f.recent;
-      queries = f.queries;
-      flow = subst (λ o. Flow t changed past o) (sym c.is) (is_out, inr is_replied);
+    let server : ServerFacts changed past = record { tables = f.server.tables; count = f.server.count; newest = f.server.newest; stored = f.server.stored; points = f.server.points } in
+    let client : ClientFacts changed past = record {
+      store = f.client.store;
+      keeps = f.client.keeps;
+      are_true = f.client.are_true;
+      version = f.client.version;
+      recent = f.client.recent;
+      queries = f.client.queries;
     } in
+    let facts : Facts changed past = record { server = server; client = client; flow = subst (λ o. Flow changed past o) (sym c.is) (is_out, inr is_replied) } in
     let queue : List Message = rest ++ Reply o.number w.server.version ∷ [] in
     let client : List Message → List Message → scene.Client = λ messages queue. record (client_of w past) { laid = messages; to_client = queue } in
     let same : client_of changed past ≡ client (w.client.laid ++ Rows k part rows ∷ []) queue =
@@ -102,16 +93,16 @@ lays t w past c k part rows rest laid to_client f number all came is_laid left =
     let takes : TakesMessage (scene_of w past) 1 (request_of past.meaning w.client.out) (Rows k part rows) (record (client_of w past) { to_client = queue }) (line.ClientLaid 1 ∷ []) (client_of changed past) =
     subst (λ out. TakesMessage (scene_of w past) 1 (request_of past.meaning out) (Rows k part rows) (record (client_of w past) { to_client = queue }) (line.ClientLaid 1 ∷ []) (client_of changed past)) (sym c.is)
     (number, (refl, same)) in
-    (scene_of changed past, delivers w past (Rows k part rows) queue (line.ClientLaid 1 ∷ []) changed past c.is_replied.to_server came refl takes, record { t = t; past = past; facts = facts; same = refl })
+    (scene_of changed past, delivers w past (Rows k part rows) queue (line.ClientLaid 1 ∷ []) changed past c.is_replied.to_server came refl takes, record { past = past; facts = facts; same = refl })
 
-lays-first : (t : Table) (w : World) (past : Past) (m : Message) (queue laid : List Message) (to_client : VecDeque Message Global) → Facts t w past
+lays-first : (w : World) (past : Past) (m : Message) (queue laid : List Message) (to_client : VecDeque Message Global) → Facts w past
     → w.to_client.items ≡ m ∷ queue → reply_version m ≡ None → laid ≡ w.client.laid ++ m ∷ [] → to_client.items ≡ queue
     → (next : Scene) × Delivers (scene_of w past) 1 (line.ClientLaid 1 ∷ []) next × Represents (with_laid w laid to_client) next
-lays-first t w past m queue laid to_client f came other is_laid left =
+lays-first w past m queue laid to_client f came other is_laid left =
     by c.is_replied.rest c.is_replied.rows c.is_replied.to_client (only-rows w past c.out c.is_replied.rest c.is_replied.rows)
   where
-    c : IsComing t w past
-    c = is-coming t w past m queue f came
+    c : IsComing w past
+    c = is-coming w past m queue f came
 
     Goal : Type 0
     Goal = (next : Scene) × Delivers (scene_of w past) 1 (line.ClientLaid 1 ∷ []) next × Represents (with_laid w laid to_client) next
@@ -129,7 +120,7 @@ lays-first t w past m queue laid to_client f came other is_laid left =
         let first : m ∷ queue ≡ Rows k part rows ∷ (rest ++ Reply c.out.number w.server.version ∷ []) = sym came ∙ is in
         let m_is : m ≡ Rows k part rows = cc in
         let queue_is : queue ≡ rest ++ Reply c.out.number w.server.version ∷ [] = cc in
-        lays t w past c k part rows rest laid to_client f all.0 all_rows is (is_laid ∙ ap (λ m. w.client.laid ++ m ∷ []) m_is) (left ∙ queue_is)
+        lays w past c k part rows rest laid to_client f all.0 all_rows is (is_laid ∙ ap (λ m. w.client.laid ++ m ∷ []) m_is) (left ∙ queue_is)
 
 pub does-lay : (w : World) (m : Message) (to_client : VecDeque Message Global) (client : Client) (lines : List TraceLine)
     → w.to_client.items ≡ m ∷ to_client.items → reply_version m ≡ None → client ≡ record w.client { laid = w.client.laid ++ m ∷ [] } → lines ≡ line.ClientLaid 1 ∷ []
@@ -138,4 +129,4 @@ does-lay w m to_client client lines came other client_is lines_are =
     let laid = w.client.laid ++ m ∷ [] in
     subst (λ client. DoesDelivery w (record w { client = client; to_client = to_client }) lines) (sym client_is)
     (subst (DoesDelivery w (with_laid w laid to_client)) (sym lines_are)
-    (does (λ s. Delivers s 1) w (with_laid w laid to_client) (line.ClientLaid 1 ∷ []) (λ t past f. lays-first t w past m to_client.items laid to_client f came other refl refl)))
+    (does (λ s. Delivers s 1) w (with_laid w laid to_client) (line.ClientLaid 1 ∷ []) (λ past f. lays-first w past m to_client.items laid to_client f came other refl refl)))

@@ -1,7 +1,8 @@
 -- What is left to ask of some parts, whatever the past.
-use Rattle.std.specs.Prelude.{List, IsTrue}
+use Rattle.std.specs.Prelude.{ℕ, List, [], ◌∷◌, IsTrue}
 use Rattle.std.specs.List.{list_all, AllZip}
 use Rattle.sr_cell.specs.declared.table.Table.{Table}
+use Rattle.sr_box.specs.Points.{Rect}
 use Rattle.sr_message.specs.declared.message.AskPart.{AskPart}
 use Rattle.sr_model.specs.Queries as model
 use Rattle.sr_query.specs.Bound.{IsPart}
@@ -22,3 +23,8 @@ AsksRest schema regions parts asks =
 -- the parts stand for sound ones
 abbrev pub AreMeant : List Table → List Part → Type 0
 AreMeant schema parts = (meant : List model.Part) × AllZip (IsPart schema) parts meant × IsTrue (list_all (is_sound_part schema) meant)
+
+-- an entry, if there is a rest
+abbrev pub entry_of : ℕ → ℕ → List Rect → List AskPart
+entry_of table attrs [] = []
+entry_of table attrs (r ∷ rest) = record { table = table; attrs = attrs; rects = r ∷ rest } ∷ []

@@ -1,9 +1,10 @@
+pub mod Answering
 pub mod Asking
 pub mod Bound
 pub mod Client
-pub mod Kept
 pub mod Ran
 pub mod Replay
 pub mod Refused
 pub mod Represents
+pub mod Taking
 pub mod Worlds

@@ -11,30 +11,31 @@ use Rattle.sr_scene.specs.Runs.{Runs}
 use Rattle.sr_io.specs.Pieces.{WritesPrefix}
 use Rattle.sr_io.specs.Told.{Reading, Linking}
 use Rattle.sr_world.specs.declared.world.World.{World}
-use Rattle.sr_world.specs.Replay.{start, IsKept}
+use Rattle.sr_world.specs.Represents.{Represents}
+use Rattle.sr_world.specs.Replay.{start}
 
--- From each scene that what was kept is true of, the events may give these lines and lead to one that what is kept now is true of.
-abbrev pub DoesRun : List (ℕ × Event) → Option World → Option World → List (ℕ × TraceLine) → Type 0
-DoesRun events old new lines = (s : Scene) → IsKept old s → (next : Scene) × Runs s events lines next × IsKept new next
+-- From each scene that the old world stands for the events may give these lines and lead to one that the new world stands for.
+abbrev pub DoesRun : List (ℕ × Event) → World → World → List (ℕ × TraceLine) → Type 0
+DoesRun events old new lines = (s : Scene) → Represents old s → (next : Scene) × Runs s events lines next × Represents new next
 
 -- the events ran, and this is the text of their lines
-pub record Ran (schema : List Table) (events : List (ℕ × Event)) (old new : Option World) (trace : List ℕ) : Type 0 where
+pub record Ran (schema : List Table) (events : List (ℕ × Event)) (old new : World) (trace : List ℕ) : Type 0 where
   pub lines : List (ℕ × TraceLine)
   pub run : DoesRun events old new lines
   pub text : trace ≡ trace_text schema lines
 
 -- the text of all events was written
-pub record RanWhole (schema : List Table) (events : List (ℕ × Event)) (old new : Option World) (before after : Option (List ℕ)) : Type 0 where
+pub record RanWhole (schema : List Table) (events : List (ℕ × Event)) (old new : World) (before after : Option (List ℕ)) : Type 0 where
   pub trace : List ℕ
   pub ran : Ran schema events old new trace
   pub written : Appends before after trace
 
 -- a prefix of the text of the first events was written
-pub record RanPart (schema : List Table) (events : List (ℕ × Event)) (old : Option World) (before after : Option (List ℕ)) : Type 0 where
+pub record RanPart (schema : List Table) (events : List (ℕ × Event)) (old : World) (before after : Option (List ℕ)) : Type 0 where
   pub done : List (ℕ × Event)
   pub left : List (ℕ × Event)
   pub split : events ≡ done ++ left
-  pub mid : Option World
+  pub mid : World
   pub trace : List ℕ
   pub ran : Ran schema done old mid trace
   pub written : WritesPrefix before after trace
@@ -46,11 +47,11 @@ pub record Traced (schema : List Table) (tables : Tables) (events : List (ℕ ×
   pub text : trace ≡ trace_text schema lines
 
 -- the trace of all events was written
-pub record TracedWhole (schema : List Table) (tables : Tables) (events : List (ℕ × Event)) (kept : Option World) (before after : Option (List ℕ)) : Type 0 where
+pub record TracedWhole (schema : List Table) (tables : Tables) (events : List (ℕ × Event)) (kept : World) (before after : Option (List ℕ)) : Type 0 where
   pub trace : List ℕ
   pub last : Scene
   pub traced : Traced schema tables events trace last
-  pub stands : IsKept kept last
+  pub stands : Represents kept last
   pub written : Appends before after trace
 
 -- a prefix of the trace of the first events was written

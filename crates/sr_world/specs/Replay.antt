@@ -1,5 +1,5 @@
 -- What a replay of a script keeps and writes.
-use Rattle.std.specs.Prelude.{ℕ, true, ◌≡◌, List, [], ◌++◌, Option, Some, None, Ok, Err}
+use Rattle.std.specs.Prelude.{ℕ, true, ◌≡◌, List, [], ◌++◌, Option, Ok, Err}
 use Rattle.std.specs.Io.KnownBytes.{Appends}
 use Rattle.sr_cell.specs.declared.fault.Fault.{Fault}
 use Rattle.sr_cell.specs.declared.table.Table.{Table}
@@ -42,17 +42,12 @@ pub record Trace (script : List ℕ) (loads : List Load) (left : List (ℕ × Ev
   pub runs : Runs (start end.tables tables) done lines last
   pub text : trace ≡ trace_text end.tables lines
 
--- What is kept at the end is true. A script without a table keeps nothing.
-abbrev pub IsKept : Option World → Scene → Type 0
-IsKept None last = last ≡ start [] []
-IsKept (Some world) last = Represents world last
-
 -- the whole trace was written
-pub record Wrote (before after : Option (List ℕ)) (script : List ℕ) (loads : List Load) (kept : Option World) : Type 0 where
+pub record Wrote (before after : Option (List ℕ)) (script : List ℕ) (loads : List Load) (kept : World) : Type 0 where
   pub trace : List ℕ
   pub last : Scene
   pub traced : Trace script loads [] trace last
-  pub stands : IsKept kept last
+  pub stands : Represents kept last
   pub written : Appends before after trace
 
 -- a prefix of the trace of the events so far was written

@@ -1,5 +1,5 @@
 -- What the calls of a world do.
-use Rattle.std.specs.Prelude.{ℕ, List}
+use Rattle.std.specs.Prelude.{ℕ, ◌≡◌, List, []}
 use Rattle.sr_model.specs.Events.{Event}
 use Rattle.sr_script.specs.declared.line.TraceLine.{TraceLine}
 use Rattle.sr_scene.specs.Scene.{Scene}
@@ -32,3 +32,7 @@ DoesSettle old new lines = (s : Scene) → Represents old s → (k : ℕ) × (ne
 
 abbrev pub DoesMany : World → World → List TraceLine → Type 0
 DoesMany old new lines = (s : Scene) → Represents old s → (k : ℕ) × (next : Scene) × DeliversMany k 1 s lines next × Represents new next
+
+-- nothing is under way
+abbrev pub IsStill : World → Type 0
+IsStill w = (w.to_server.items ≡ []) × (w.to_client.items ≡ [])

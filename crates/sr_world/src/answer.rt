@@ -1,6 +1,13 @@
 //! The answer of a query of one table, from the regions and from what arrives.
-ghost use Rattle.std.specs.Prelude.{◌≡◌, ◌||◌, ◌&&◌, List, [], ◌∷◌, map, filter, length, IfOk, IsTrue};
-ghost use Rattle.std.specs.List.{list_all, AllZip};
+ghost use Rattle.std.specs.Prelude.{◌≡◌, ℕ, ◌<◌, ◌||◌, Bool, List, map, filter, length, IfOk, OnOk};
+ghost use Rattle.sr_cell.specs.declared.table.Table.{Table as TheTable};
+ghost use Rattle.sr_cell.specs.Cells.{Row as Cells};
+ghost use Rattle.sr_model.specs.Queries.{rows_at};
+ghost use Rattle.sr_model.specs.Statements.{Tables as TheTables};
+ghost use Rattle.sr_query.specs.declared.query.Part.{Part as ThePart};
+ghost use Rattle.sr_region.specs.Regions.{is_in};
+ghost use Rattle.sr_join.specs.Found.{cells_of, IsFound};
+ghost use Rattle.sr_world.specs.Answering.{is_kept, is_new, IsOnePart, HaveRows, BringRows};
 
 use sr_cell::cell::{Row, Rows};
 use sr_cell::list::NoMemory;
@@ -10,13 +17,18 @@ use sr_region::region::{Region, has_cells};
 use sr_store::store::Arrival;
 use std::alloc::Global;
 
-/// The answer of a query, all of whose points lie in regions that serve it or in what arrives.
+/// The answer of a query: its part's rows in the regions that serve it, and in what arrives.
 pub fn answer(
     alloc: Global,
     query: &Query,
     regions: &[Region],
     arrivals: &[Arrival],
-) -> Result<Rows, NoMemory> {
+) -> Result<Rows, NoMemory>
+    requires { 0 < length query.now.parts }
+    ensures { (schema : List TheTable) (tables : TheTables) (part : ThePart) → IfOk result (λ rows. IsOnePart schema tables query.now part
+        → HaveRows schema tables regions.now → BringRows schema tables part arrivals.now
+        → rows ≡ map (cells_of query.now.output) (filter (λ p. is_kept part regions.now p || is_new part arrivals.now p) (rows_at tables part.table))) }
+{
     let part = &query.parts.as_slice()[0];
     let mut joiner = Joiner::new(alloc);
     lend_regions(alloc, &mut joiner, query, part, regions)?;
@@ -31,7 +43,11 @@ fn lend_regions(
     query: &Query,
     part: &Part,
     regions: &[Region],
-) -> Result<(), NoMemory> {
+) -> Result<(), NoMemory>
+    ensures { (schema : List TheTable) (tables : TheTables) (test : Cells → Bool) → OnOk result (IsOnePart schema tables query.now part.now → HaveRows schema tables regions.now
+        → IsFound part.now.key query.now.output (rows_at tables part.now.table) test joiner.old.found
+        → IsFound part.now.key query.now.output (rows_at tables part.now.table) (λ p. test p || is_kept part.now regions.now p) joiner.new.found) }
+{
     for region in regions {
         if region.serves(part.table, part.need) {
             let rows = region.rows_in(alloc, &part.rects)?;
@@ -48,7 +64,11 @@ fn lend_arrivals(
     query: &Query,
     part: &Part,
     arrivals: &[Arrival],
-) -> Result<(), NoMemory> {
+) -> Result<(), NoMemory>
+    ensures { (schema : List TheTable) (tables : TheTables) (test : Cells → Bool) → OnOk result (IsOnePart schema tables query.now part.now → BringRows schema tables part.now arrivals.now
+        → IsFound part.now.key query.now.output (rows_at tables part.now.table) test joiner.old.found
+        → IsFound part.now.key query.now.output (rows_at tables part.now.table) (λ p. test p || is_new part.now arrivals.now p) joiner.new.found) }
+{
     for arrival in arrivals {
         let rows = arrived_in(alloc, arrival, part)?;
         joiner.lend(alloc, query, arrival.attrs, rows.as_slice())?;
@@ -61,7 +81,9 @@ fn arrived_in<'a>(
     alloc: Global,
     arrival: &'a Arrival,
     part: &Part,
-) -> Result<Vec<&'a Row>, NoMemory> {
+) -> Result<Vec<&'a Row>, NoMemory>
+    ensures { IfOk result (λ found. map (λ r. r.now) found.items ≡ filter (is_in arrival.now.attrs part.now.rects) arrival.now.rows) }
+{
     let mut found = Vec::new(alloc);
     for row in arrival.rows.as_slice() {
         if has_cells(&part.rects, arrival.attrs, row) {

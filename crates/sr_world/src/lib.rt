@@ -4,9 +4,9 @@
 pub mod answer;
 pub mod asks;
 pub mod client;
-pub mod kept;
 pub mod replay;
 pub mod server;
+pub mod statements;
 #[cfg(test)]
 mod tests;
 pub mod world;

@@ -1,5 +1,5 @@
 //! The replay of a script.
-ghost use Rattle.std.specs.Prelude.{◌≡◌, ℕ, ◌+◌, ◌<◌, ◌≤◌, ◌^◌, ◌⊎◌, nat_lt, List, [], ◌∷◌, length, map, string_bytes, Ok, IsTrue, IfOk, OnOk, OnErr, IfSome, IsErrOf};
+ghost use Rattle.std.specs.Prelude.{◌≡◌, ℕ, ◌+◌, ◌<◌, ◌≤◌, ◌^◌, ◌⊎◌, nat_lt, List, [], ◌∷◌, length, map, string_bytes, Ok, IsTrue, IfOk, OnOk, OnErr, IsErrOf};
 ghost use Rattle.std.specs.List.{list_all, AllZip};
 ghost use Rattle.sr_model.specs.Events.{Event};
 ghost use Rattle.sr_cell.specs.declared.fault.Fault.{Fault as TheFault};
@@ -15,14 +15,13 @@ ghost use Rattle.sr_scene.specs.Runs.{numbered};
 ghost use Rattle.sr_io.specs.Causes.{Rose};
 ghost use Rattle.sr_world.specs.declared.replay.RunFault.{RunFault as TheRunFault};
 ghost use Rattle.sr_world.specs.declared.replay.RunFault.TheVariants.{WriteFault, Setup, Load as LoadRefused, Unbuilt};
-ghost use Rattle.sr_world.specs.Represents.{IsUnasked};
-ghost use Rattle.sr_world.specs.Worlds.{Stands};
-ghost use Rattle.sr_world.specs.Kept.{IsStill, drawn_of, tables_of};
+ghost use Rattle.sr_world.specs.Represents.{IsUnasked, drawn};
+ghost use Rattle.sr_world.specs.Worlds.{Stands, IsStill};
 ghost use Rattle.sr_world.specs.Replay.{RefusesLoad, Wrote, WrotePart};
 ghost use Rattle.sr_world.specs.Refused.{IsSetupFault};
 ghost use Rattle.sr_world.specs.Ran.{Ran, RanWhole, RanPart, TracedWhole, TracedPart, Stays};
 
-use crate::kept;
+use crate::statements;
 use crate::world::World;
 use sr_cell::fault::Fault;
 use sr_cell::list::{No, NoMemory, Seq};
@@ -52,14 +51,14 @@ pub enum RunFault {
     Unbuilt { line: u64 },
 }
 
-/// Replays a script over tables with the rows of the files: runs its lines in their order and writes the trace. Answers what is
-/// kept at the end, where the script has a table.
+/// Replays a script over tables with the rows of the files: runs its lines in their order and writes the trace. Answers the
+/// world at the end.
 pub fn replay<K: Sink>(
     alloc: Global,
     script: &[u8],
     loads: &[Load],
     sink: &mut K,
-) -> Result<Option<World>, No<RunFault>>
+) -> Result<World, No<RunFault>>
     requires script { length script.now < 2 ^ 32 }
     requires loads { IsTrue (list_all (λ load. nat_lt (length load.bytes) (2 ^ 32)) loads.now) }
     ensures whole { IfOk result (Wrote (K.writing sink.old).written (K.writing sink.new).written script.now loads.now) }
@@ -90,7 +89,7 @@ pub fn replay<K: Sink>(
     };
     match read_script(alloc, script) {
         Ok(read) => match run_script(alloc, read, tables, sink) {
-            Ok(kept) => Ok(kept),
+            Ok(world) => Ok(world),
             Err(No::Refused(_)) => Err(No::Refused(RunFault::WriteFault)),
             Err(No::NoMemory) => Err(No::NoMemory),
         },
@@ -135,12 +134,12 @@ fn run_script<K: Sink>(
     script: Script,
     tables: Tables,
     sink: &mut K,
-) -> Result<Option<World>, No<Failed>>
+) -> Result<World, No<Failed>>
     requires fits { Fits script }
     requires events { (events : List (ℕ × Event)) × AreEvents script events }
     requires tables { tables.schema ≡ script.schema }
     requires few { length script.statements + length script.queries < 2 ^ 32 }
-    ensures whole { (events : List (ℕ × Event)) → AreEvents script events → IfOk result (λ kept. TracedWhole script.schema tables.rows events kept (K.writing sink.old).written (K.writing sink.new).written) }
+    ensures whole { (events : List (ℕ × Event)) → AreEvents script events → IfOk result (λ world. TracedWhole script.schema tables.rows events world (K.writing sink.old).written (K.writing sink.new).written) }
     ensures part { (events : List (ℕ × Event)) → AreEvents script events → OnErr result (TracedPart script.schema tables.rows events (K.writing sink.old).written (K.writing sink.new).written) }
     ensures faults_never_fall { (K.writing sink.old).faults ≤ (K.writing sink.new).faults }
     ensures ok_keeps_faults { OnOk result ((K.writing sink.new).faults ≡ (K.writing sink.old).faults) }
@@ -155,7 +154,7 @@ fn run_script<K: Sink>(
         queries,
     } = script;
     let schema = schema.as_slice();
-    let mut world = kept::begin(alloc, tables);
+    let mut world = World::new(alloc, tables);
     match run_statements(alloc, schema, &mut world, statements, sink) {
         Ok(()) => {}
         Err(no) => return Err(no),
@@ -170,21 +169,21 @@ fn run_script<K: Sink>(
 fn run_statements<K: Sink>(
     alloc: Global,
     schema: &[Table],
-    world: &mut Option<World>,
+    world: &mut World,
     lines: Seq<ExecLine>,
     sink: &mut K,
 ) -> Result<(), No<Failed>>
-    requires stands { IfSome world.old Stands }
-    requires unasked { IfSome world.old IsUnasked }
-    requires tables { tables_of world.old ≡ schema.now }
+    requires stands { Stands world.old }
+    requires unasked { IsUnasked world.old }
+    requires tables { world.old.server.tables.schema ≡ schema.now }
     requires fits { IsTrue (list_all (λ line. statement_fits schema.now line.statement) lines) }
-    requires room { drawn_of world.old + length lines < 2 ^ 63 }
+    requires room { drawn world.old + length lines < 2 ^ 63 }
     ensures whole { OnOk result (RanWhole schema.now (map exec_event lines) world.old world.new (K.writing sink.old).written (K.writing sink.new).written) }
     ensures part { OnErr result (RanPart schema.now (map exec_event lines) world.old (K.writing sink.old).written (K.writing sink.new).written) }
-    ensures stands { OnOk result (IfSome world.new Stands) }
-    ensures unasked { OnOk result (IfSome world.new IsUnasked) }
-    ensures drawn { OnOk result (drawn_of world.new ≤ drawn_of world.old + length lines) }
-    ensures tables { tables_of world.new ≡ tables_of world.old }
+    ensures stands { OnOk result (Stands world.new) }
+    ensures unasked { OnOk result (IsUnasked world.new) }
+    ensures drawn { OnOk result (drawn world.new ≤ drawn world.old + length lines) }
+    ensures tables { world.new.server.tables.schema ≡ world.old.server.tables.schema }
     ensures faults_never_fall { (K.writing sink.old).faults ≤ (K.writing sink.new).faults }
     ensures ok_keeps_faults { OnOk result ((K.writing sink.new).faults ≡ (K.writing sink.old).faults) }
     ensures want_keeps_faults { IsErrOf result Wanting → (K.writing sink.new).faults ≡ (K.writing sink.old).faults }
@@ -209,15 +208,15 @@ fn run_statements<K: Sink>(
 fn run_queries<K: Sink>(
     alloc: Global,
     schema: &[Table],
-    world: &mut Option<World>,
+    world: &mut World,
     lines: Seq<QueryLine>,
     sink: &mut K,
 ) -> Result<(), No<Failed>>
-    requires stands { IfSome world.old Stands }
-    requires still { IfSome world.old IsStill }
-    requires tables { tables_of world.old ≡ schema.now }
+    requires stands { Stands world.old }
+    requires still { IsStill world.old }
+    requires tables { world.old.server.tables.schema ≡ schema.now }
     requires asked { (asked : List (ℕ × Event)) × AllZip (IsAsked schema.now) lines asked }
-    requires room { drawn_of world.old + (length lines + length lines) < 2 ^ 63 }
+    requires room { drawn world.old + (length lines + length lines) < 2 ^ 63 }
     ensures whole { (asked : List (ℕ × Event)) → AllZip (IsAsked schema.now) lines asked → OnOk result (RanWhole schema.now asked world.old world.new (K.writing sink.old).written (K.writing sink.new).written) }
     ensures part { (asked : List (ℕ × Event)) → AllZip (IsAsked schema.now) lines asked → OnErr result (RanPart schema.now asked world.old (K.writing sink.old).written (K.writing sink.new).written) }
     ensures faults_never_fall { (K.writing sink.old).faults ≤ (K.writing sink.new).faults }
@@ -244,21 +243,21 @@ fn run_queries<K: Sink>(
 fn exec_text(
     alloc: Global,
     schema: &[Table],
-    world: &mut Option<World>,
+    world: &mut World,
     line: ExecLine,
 ) -> Result<String, NoMemory>
-    requires stands { IfSome world.old Stands }
-    requires unasked { IfSome world.old IsUnasked }
-    requires fits { IsTrue (statement_fits (tables_of world.old) line.statement) }
-    requires room { drawn_of world.old < 2 ^ 63 }
+    requires stands { Stands world.old }
+    requires unasked { IsUnasked world.old }
+    requires fits { IsTrue (statement_fits world.old.server.tables.schema line.statement) }
+    requires room { drawn world.old < 2 ^ 63 }
     ensures ran { IfOk result (λ text. Ran schema.now (exec_event line ∷ []) world.old world.new (string_bytes text)) }
-    ensures stands { OnOk result (IfSome world.new Stands) }
-    ensures unasked { OnOk result (IfSome world.new IsUnasked) }
-    ensures drawn { OnOk result (drawn_of world.new ≤ drawn_of world.old + 1) }
-    ensures tables { tables_of world.new ≡ tables_of world.old }
+    ensures stands { OnOk result (Stands world.new) }
+    ensures unasked { OnOk result (IsUnasked world.new) }
+    ensures drawn { OnOk result (drawn world.new ≤ drawn world.old + 1) }
+    ensures tables { world.new.server.tables.schema ≡ world.old.server.tables.schema }
 {
     let ExecLine { number, statement } = line;
-    let lines = kept::exec(alloc, world, statement)?;
+    let lines = statements::exec(alloc, world, statement)?;
     text_of(alloc, schema, number, lines.as_slice())
 }
 
@@ -266,21 +265,21 @@ fn exec_text(
 fn query_text(
     alloc: Global,
     schema: &[Table],
-    world: &mut Option<World>,
+    world: &mut World,
     line: QueryLine,
 ) -> Result<String, NoMemory>
-    requires stands { IfSome world.old Stands }
-    requires still { IfSome world.old IsStill }
-    requires asked { (event : ℕ × Event) × IsAsked (tables_of world.old) line event }
-    requires room { drawn_of world.old + 2 < 2 ^ 63 }
-    ensures ran { (event : ℕ × Event) → IsAsked (tables_of world.old) line event → IfOk result (λ text. Ran schema.now (event ∷ []) world.old world.new (string_bytes text)) }
-    ensures stands { OnOk result (IfSome world.new Stands) }
-    ensures still { OnOk result (IfSome world.new IsStill) }
-    ensures drawn { OnOk result (drawn_of world.new ≤ drawn_of world.old + 2) }
-    ensures tables { tables_of world.new ≡ tables_of world.old }
+    requires stands { Stands world.old }
+    requires still { IsStill world.old }
+    requires asked { (event : ℕ × Event) × IsAsked world.old.server.tables.schema line event }
+    requires room { drawn world.old + 2 < 2 ^ 63 }
+    ensures ran { (event : ℕ × Event) → IsAsked world.old.server.tables.schema line event → IfOk result (λ text. Ran schema.now (event ∷ []) world.old world.new (string_bytes text)) }
+    ensures stands { OnOk result (Stands world.new) }
+    ensures still { OnOk result (IsStill world.new) }
+    ensures drawn { OnOk result (drawn world.new ≤ drawn world.old + 2) }
+    ensures tables { world.new.server.tables.schema ≡ world.old.server.tables.schema }
 {
     let QueryLine { number, query } = line;
-    let lines = kept::query(alloc, world, query)?;
+    let lines = statements::query(alloc, world, query)?;
     text_of(alloc, schema, number, lines.as_slice())
 }
 

@@ -1,8 +1,10 @@
 //! The server: the tables of its newest version, and what it sends for an ask.
 ghost use Rattle.std.specs.Prelude.{◌≡◌, ℕ, ◌+◌, ◌<◌, ◌≤◌, ◌^◌, [], ◌∷◌, ◌++◌, true, map, take, drop, length, Ok, Err, IsTrue, ◌↔◌, IfOk, OnOk, OnErr, IsErrOf};
+ghost use Rattle.std.specs.List.{list_all};
 ghost use Rattle.sr_cell.specs.declared.list.No.TheVariants.{Refused};
 ghost use Rattle.sr_cell.specs.declared.fault.Fault.{Fault as TheFault};
 ghost use Rattle.sr_message.specs.declared.message.Message.TheVariants.{Rows as RowsOf, Reply};
+ghost use Rattle.sr_keyed.specs.Keyed.{are_values};
 ghost use Rattle.sr_model.specs.Statements.{executed};
 ghost use Rattle.sr_query.specs.Written.{write_of};
 ghost use Rattle.sr_query.specs.Writes.{suits};
@@ -37,6 +39,7 @@ impl Server {
         ensures done { OnOk result (executed self.old.tables.schema (write_of write) self.old.tables.rows ≡ Ok self.new.tables.rows) }
         ensures version { OnOk result (self.new.version ≡ self.old.version + 1) }
         ensures stored { OnOk result (are_stored self.new.tables.schema self.new.tables.rows ≡ true) }
+        ensures values { OnOk result (IsTrue (list_all (list_all are_values) self.new.tables.rows)) }
         ensures refused { (fault : TheFault) → IsErrOf result (Refused fault) → executed self.old.tables.schema (write_of write) self.old.tables.rows ≡ Err fault }
         ensures unchanged { OnErr result (self.new ≡ self.old) }
         ensures schema { self.new.tables.schema ≡ self.old.tables.schema }
@@ -44,6 +47,7 @@ impl Server {
         match self.tables.write(alloc, write) {
             Ok(_) => {
                 self.tables.know_stored();
+                self.tables.know_values();
                 self.version += 1;
                 Ok(())
             }

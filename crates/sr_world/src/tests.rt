@@ -124,6 +124,41 @@ const TRACE_OF_STATEMENTS: &[u8] = b"2 exec version 1
 5 toclient 1 answered
 ";
 
+/// Two tables, and a query that needs one column more of what is held: the class of fewer columns is absorbed.
+const WIDER_NEED: &[u8] =
+    b"CREATE TABLE emp (id INT PRIMARY KEY CHECK (id BETWEEN 0 AND 9999), age INT CHECK (age BETWEEN 0 AND 150), name TEXT, dept INT CHECK (dept BETWEEN 0 AND 99))
+CREATE TABLE dept (no INT PRIMARY KEY CHECK (no BETWEEN 0 AND 99), title TEXT)
+exec INSERT INTO emp VALUES (1, 35, 'ann', 3), (2, 45, 'bob', 3)
+exec INSERT INTO emp VALUES (3, 33, 'cy', 4)
+query 1 SELECT id, age FROM emp WHERE age BETWEEN 30 AND 40
+query 1 SELECT id, age, name FROM emp WHERE age BETWEEN 30 AND 40
+";
+
+const TRACE_OF_WIDER_NEED: &[u8] = b"3 exec version 1
+4 exec version 2
+5 ask 1 1 fresh 1
+5 part emp (id,age) {age 30..40}
+5 query 1 asked 1
+5 toserver 1 ask 2
+5 toclient 1 laid
+5 answer 1 1 2 2
+5 row 1, 35
+5 row 3, 33
+5 held 1 emp (id,age) {age 30..40}
+5 toclient 1 answered
+6 ask 1 2 more 1
+6 part emp (id,age,name) {age 30..40}
+6 query 1 asked 2
+6 toserver 1 ask 2
+6 toclient 1 laid
+6 answer 1 2 2 2
+6 row 1, 35, 'ann'
+6 row 3, 33, 'cy'
+6 held 1 emp (id,age,name) {age 30..40}
+6 drop 1 absorbed emp (id,age) 1 {age 30..40}
+6 toclient 1 answered
+";
+
 /// How a replay ends: what it refuses, at a line of the script or a record of a file.
 #[derive(Clone, Copy, Debug, PartialEq, Eq)]
 enum Ending {
@@ -135,7 +170,7 @@ enum Ending {
 }
 
 /// Scripts, a file for the table p, the number of the write that fails, how the replay ends and what is written.
-const RUNS: [(&[u8], Option<&[u8]>, u64, Ending, &[u8]); 12] = [
+const RUNS: [(&[u8], Option<&[u8]>, u64, Ending, &[u8]); 13] = [
     (TWO_QUERIES, None, 0, Ending::Done, TRACE_OF_TWO_QUERIES),
     (
         TWO_QUERIES,
@@ -154,6 +189,7 @@ const RUNS: [(&[u8], Option<&[u8]>, u64, Ending, &[u8]); 12] = [
     ),
     (ONE_COLUMN, None, 0, Ending::Done, TRACE_OF_ONE_COLUMN),
     (THREE_COLUMNS, None, 0, Ending::Done, TRACE_OF_THREE_COLUMNS),
+    (WIDER_NEED, None, 0, Ending::Done, TRACE_OF_WIDER_NEED),
     (
         STATEMENTS,
         Some(ONE_RECORD),

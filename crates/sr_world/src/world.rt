@@ -14,9 +14,9 @@ ghost use Rattle.sr_scene.specs.Steps.{part_line};
 ghost use Rattle.sr_world.specs.Asking.{AsksRest};
 ghost use Rattle.sr_world.specs.Bound.{IsMeaning};
 ghost use Rattle.sr_world.specs.Client.{is_empty};
-ghost use Rattle.sr_world.specs.Kept.{IsStill};
 ghost use Rattle.sr_world.specs.Represents.{Represents, IsUnasked, drawn};
-ghost use Rattle.sr_world.specs.Worlds.{Stands, DoesStep, DoesEvent, DoesDelivery, DoesMany, DoesSettle};
+ghost use Rattle.sr_world.specs.Taking.{Taking, Finishing};
+ghost use Rattle.sr_world.specs.Worlds.{Stands, IsStill, DoesStep, DoesEvent, DoesDelivery, DoesMany, DoesSettle};
 
 use crate::answer::answer;
 use crate::asks::asks_of;
@@ -51,6 +51,7 @@ impl World {
         ensures schema { result.server.tables.schema ≡ tables.schema }
     {
         tables.know_stored();
+        tables.know_values();
         World {
             server: Server { tables, version: 0 },
             client: Client::new(alloc),
@@ -273,6 +274,12 @@ impl World {
 
     /// The client takes the reply of the ask that is out: its query is answered, and what was asked is held.
     fn take_reply(&mut self, alloc: Global, version: u64) -> Result<TraceLines, NoMemory>
+        requires taking { (before : World) × Taking before self.old version }
+        ensures delivery { (before : World) → Taking before self.old version → IfOk result (DoesDelivery before self.new) }
+        ensures drawn { OnOk result (drawn self.new ≡ drawn self.old) }
+        ensures schema { self.new.server.tables.schema ≡ self.old.server.tables.schema }
+        ensures to_server { OnOk result (self.new.to_server.items ≡ self.old.to_server.items) }
+        ensures to_client { OnOk result (self.new.to_client.items ≡ self.old.to_client.items) }
     {
         match self.client.out.take() {
             None => Ok(Seq::new(alloc)),
@@ -280,7 +287,14 @@ impl World {
         }
     }
 
+    /// Answers the query of the ask that was out, with the rows that were laid by.
     fn finish(&mut self, alloc: Global, out: &AskOut, version: u64) -> Result<TraceLines, NoMemory>
+        requires finishing { (before : World) × Finishing before self.old out.now version }
+        ensures delivery { (before : World) → Finishing before self.old out.now version → IfOk result (DoesDelivery before self.new) }
+        ensures drawn { OnOk result (drawn self.new ≡ drawn self.old) }
+        ensures schema { self.new.server.tables.schema ≡ self.old.server.tables.schema }
+        ensures to_server { OnOk result (self.new.to_server.items ≡ self.old.to_server.items) }
+        ensures to_client { OnOk result (self.new.to_client.items ≡ self.old.to_client.items) }
     {
         let schema = self.server.tables.schema();
         let laid = mem::replace(&mut self.client.laid, Seq::new(alloc));

@@ -1,4 +1,17 @@
+use Rattle.std.proofs.lemmas.Result.{on_ok_weaker}
 use Rattle.sr_cli.proofs.run.replay_files.Goals as goal
+
+pub returns-in-Ok-clause-replayed : goal.returns-in-Ok-clause-replayed
+returns-in-Ok-clause-replayed g c =
+    on_ok_weaker c.replay_read.result
+    (λ replayed. record {
+      script = c.in-Ok.files.script;
+      loads = c.in-Ok.files.loads;
+      files = c.in-Ok.ensures.read;
+      world = replayed.0;
+      wrote = rw c.in-Ok.ensures.writing_stays at replayed.1;
+    })
+    c.replay_read.ensures.replayed
 
 pub returns-in-Ok-clause-unbuilt : goal.returns-in-Ok-clause-unbuilt
 returns-in-Ok-clause-unbuilt g c = λ line is. record {

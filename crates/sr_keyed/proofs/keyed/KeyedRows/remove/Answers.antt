@@ -1,11 +1,19 @@
-use Rattle.std.proofs.Common.{ap, ◌∙◌}
+use Rattle.std.proofs.Common.{◌≡◌, true, ap, ◌∙◌, sym, subst}
+use Rattle.std.specs.List.{list_all}
 use Rattle.std.specs.Map.{values_of}
 use Rattle.sr_keyed.proofs.Replaced.{remove-row, remove-keyed}
+use Rattle.sr_keyed.specs.Keyed.{are_values}
+use Rattle.sr_keyed.proofs.Values.{all-without}
 use Rattle.sr_keyed.proofs.keyed.KeyedRows.remove.Goals as goal
 
 pub invariant_of-self : goal.invariant_of-self
-invariant_of-self c =
-    (rw c.remove.ensures.entries (remove-keyed c.self.inside.key c.self.inside.kind c.args.key.now c.self.inside.rows.entries c.self.invariant.0), c.remove.ensures.ordered)
+invariant_of-self c = (
+  rw c.remove.ensures.entries (remove-keyed c.self.inside.key c.self.inside.kind c.args.key.now c.self.inside.rows.entries c.self.invariant.0),
+  c.remove.ensures.ordered,
+  rw c.remove.ensures.entries
+      (subst (λ rows. list_all are_values rows ≡ true) (sym (remove-row c.self.inside.key c.self.inside.kind c.args.key.now c.self.inside.rows.entries c.self.invariant.0 c.self.invariant.1))
+      (all-without are_values c.self.inside.key c.args.key.now (values_of c.self.inside.rows.entries) c.self.invariant.2)),
+)
 
 pub returns : goal.returns
 returns c =

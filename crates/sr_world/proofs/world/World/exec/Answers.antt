@@ -7,7 +7,7 @@ pub returns-in-Ok-clause-steps : goal.returns-in-Ok-clause-steps
 returns-in-Ok-clause-steps c =
     let e = c.in-Ok.ensures in
     if_ok _ c.one_line.result _ c.one_line.ensures
-    (does-exec c.args.self.now c.exec.new.self (write_of c.args.write) c.requires.unasked e.done e.version c.exec.ensures.schema e.stored)
+    (does-exec c.args.self.now c.exec.new.self (write_of c.args.write) c.requires.unasked e.done e.version c.exec.ensures.schema e.stored e.values)
 
 pub returns-in-Err-Refused-clause-steps : goal.returns-in-Err-Refused-clause-steps
 returns-in-Err-Refused-clause-steps c =

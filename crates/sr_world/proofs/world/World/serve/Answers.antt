@@ -1,7 +1,12 @@
 use Rattle.std.proofs.Common.{◌∷◌, ◌∙◌, ap, refl}
 use Rattle.sr_world.proofs.StepLemmas.{if_ok}
-use Rattle.sr_world.proofs.ServeLemmas.{does-serve}
+use Rattle.sr_world.proofs.ServeLemmas.{ask-few, does-serve}
 use Rattle.sr_world.proofs.world.World.serve.Goals as goal
+
+pub reply-requires : goal.reply-requires
+reply-requires c =
+    ask-few c.args.self.now c.in-Some-Ask.number _ c.in-Some-Ask.parts c.pop_front.new.self.items c.requires.stands
+    (c.in-Some-Ask.ensures.items ∙ ap (λ m. m ∷ c.pop_front.new.self.items) c.in-Some-Ask.field-0-is)
 
 pub returns-in-Some-Ask-clause-delivery : goal.returns-in-Some-Ask-clause-delivery
 returns-in-Some-Ask-clause-delivery c =

@@ -1,0 +1,42 @@
+-- What the client's store and its answer are, as calls give them.
+use Rattle.std.proofs.Common.{subst}
+use Rattle.std.specs.Prelude.{ℕ, ◌≡◌, ◌||◌, List, map, filter}
+use Rattle.sr_cell.specs.declared.table.Table.{Table}
+use Rattle.sr_cell.specs.Cells.{Row}
+use Rattle.sr_model.specs.Statements.{Tables}
+use Rattle.sr_model.specs.Queries.{rows_at}
+use Rattle.sr_query.specs.declared.query.Part.{Part}
+use Rattle.sr_query.specs.declared.query.Query.{Query}
+use Rattle.sr_history.specs.declared.mark.Mark.{Mark}
+use Rattle.sr_region.specs.declared.region.Region.{Region}
+use Rattle.sr_store.specs.declared.store.Arrival.{Arrival}
+use Rattle.sr_store.specs.Told.{Told, IsTold, AreTrueOf}
+use Rattle.sr_store.specs.Stores.{IsStore}
+use Rattle.sr_store.specs.Answered.{HaveArrived, IsRenewed}
+use Rattle.sr_join.specs.Found.{cells_of}
+use Rattle.sr_world.specs.Answering.{is_kept, is_new, IsOnePart, HaveRows, BringRows}
+
+-- the rows that a query of one part answers
+abbrev pub Answers : Query → List Region → List Arrival → List Row → Type 0
+Answers query regions arrivals rows = (schema : List Table) (tables : Tables) (part : Part) → IsOnePart schema tables query part
+    → HaveRows schema tables regions → BringRows schema tables part arrivals
+    → rows ≡ map (cells_of query.output) (filter (λ p. is_kept part regions p || is_new part arrivals p) (rows_at tables part.table))
+
+-- the store after an answer
+pub record IsAfter (schema : List Table) (number : ℕ) (parts : List Part) (arrivals : List Arrival) (old new : List Region) (marks : List Mark) : Type 0 where
+  pub renewed : IsRenewed schema number parts arrivals old new marks
+  pub store : IsStore schema new
+  pub true_still : (told : Told) → IsTold schema told → AreTrueOf told old → HaveArrived told arrivals → AreTrueOf told new
+
+-- the same, of the schema, parts and arrivals as calls read them
+pub after-of : (schema read : List Table) (number : ℕ) (parts listed : List Part) (arrivals came : List Arrival) (old new : List Region) (marks : List Mark) → read ≡ schema → listed ≡ parts → came ≡ arrivals
+    → IsRenewed read number listed came old new marks → IsStore read new
+    → ((told : Told) → IsTold read told → AreTrueOf told old → HaveArrived told came → AreTrueOf told new) → IsAfter schema number parts arrivals old new marks
+after-of schema read number parts listed arrivals came old new marks same all these renewed store still =
+    subst (λ rs. IsAfter schema number parts rs old new marks) these
+    (subst (λ ps. IsAfter schema number ps came old new marks) all
+    (subst (λ s. IsAfter s number listed came old new marks) same (record { renewed = renewed; store = store; true_still = still })))
+
+pub answers-of : (query : Query) (regions read : List Region) (arrivals listed : List Arrival) (rows : List Row) → read ≡ regions → listed ≡ arrivals → Answers query read listed rows → Answers query regions arrivals rows
+answers-of query regions read arrivals listed rows same all gives =
+    subst (λ rs. Answers query regions rs rows) all (subst (λ gs. Answers query gs listed rows) same gives)

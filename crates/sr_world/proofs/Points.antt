@@ -1,0 +1,70 @@
+-- The rows of stored tables are points.
+use Rattle.std.proofs.Common.{◌≡◌, ℕ, ℤ, true, false, List, [], ◌∷◌, ◌++◌, refl, zero, suc}
+use Rattle.std.specs.Prelude.{IsTrue}
+use Rattle.std.specs.List.{list_all}
+use Rattle.sr_cell.specs.declared.cell.Cell.{Cell}
+use Rattle.sr_cell.specs.declared.cell.Cell.TheVariants.{Num, Str}
+use Rattle.sr_cell.specs.declared.table.Kind.{Kind}
+use Rattle.sr_cell.specs.declared.table.Kind.TheVariants.{Num as Numbers, Str as Texts}
+use Rattle.sr_cell.specs.declared.table.Column.{Column}
+use Rattle.sr_cell.specs.declared.table.Table.{Table}
+use Rattle.sr_cell.specs.Cells.{Row}
+use Rattle.sr_cell.specs.Columns.{is_point, in_kind, in_column, takes_kind, takes_cell, fits_columns, table_at}
+use Rattle.sr_keyed.specs.Keyed.{is_value, are_values}
+use Rattle.sr_model.specs.Queries.{rows_at}
+use Rattle.sr_model.specs.SortedRows.{ascend}
+use Rattle.sr_model.specs.Statements.{Tables}
+use Rattle.sr_model.specs.Changes.{version_at}
+use Rattle.sr_tables.specs.Stored.{are_rows, are_stored}
+use Rattle.sr_world.proofs.Filters.{and_left, and_right, and_both}
+
+takes-in : (k : Kind) (low high : ℤ) (v : Cell) → takes_kind k low high v ≡ true → is_value v ≡ true → in_kind k low high v ≡ true
+takes-in Numbers low high (Num n) takes value = takes
+takes-in Numbers low high (Str s) takes value = absurd (cc)
+takes-in Texts low high (Num n) takes value = absurd (cc)
+takes-in Texts low high (Str s) takes value = value
+
+-- a row that fits, of texts that are bytes, is a point
+pub fits-point : (columns : List Column) (row : Row) → fits_columns columns row ≡ true → are_values row ≡ true → is_point columns row ≡ true
+fits-point [] [] fits values = refl
+fits-point [] (v ∷ row) fits values = absurd (cc)
+fits-point (c ∷ columns) [] fits values = absurd (cc)
+fits-point (c ∷ columns) (v ∷ row) fits values =
+    and_both (in_column c v) (is_point columns row)
+    (takes-in c.kind c.lo c.hi v (and_left (takes_cell c v) (fits_columns columns row) fits) (and_left (is_value v) (are_values row) values))
+    (fits-point columns row (and_right (takes_cell c v) (fits_columns columns row) fits) (and_right (is_value v) (are_values row) values))
+
+rows-points : (columns : List Column) (rows : List Row) → list_all (fits_columns columns) rows ≡ true → list_all are_values rows ≡ true → list_all (is_point columns) rows ≡ true
+rows-points columns [] fits values = refl
+rows-points columns (row ∷ rows) fits values =
+    and_both (is_point columns row) (list_all (is_point columns) rows)
+    (fits-point columns row (and_left (fits_columns columns row) (list_all (fits_columns columns) rows) fits) (and_left (are_values row) (list_all are_values rows) values))
+    (rows-points columns rows (and_right (fits_columns columns row) (list_all (fits_columns columns) rows) fits) (and_right (are_values row) (list_all are_values rows) values))
+
+-- those of each table
+pub stored-points : (schema : List Table) (tables : Tables) → are_stored schema tables ≡ true → list_all (list_all are_values) tables ≡ true
+    → (t : ℕ) → list_all (is_point (table_at schema t).columns) (rows_at tables t) ≡ true
+stored-points [] [] stored values t = refl
+stored-points [] (rows ∷ tables) stored values t = absurd (cc)
+stored-points (u ∷ schema) [] stored values t = absurd (cc)
+stored-points (u ∷ schema) (rows ∷ tables) stored values zero =
+    let own = and_left (are_rows u rows) (are_stored schema tables) stored in
+    rows-points u.columns rows (and_right (ascend u.key rows) (list_all (fits_columns u.columns) rows) own) (and_left (list_all are_values rows) (list_all (list_all are_values) tables) values)
+stored-points (u ∷ schema) (rows ∷ tables) stored values (suc t) =
+    stored-points schema tables (and_right (are_rows u rows) (are_stored schema tables) stored) (and_right (list_all are_values rows) (list_all (list_all are_values) tables) values) t
+
+-- in each version the rows of each table are points
+abbrev pub ArePoints : List Table → List Tables → Type 0
+ArePoints schema versions = (v t : ℕ) → IsTrue (list_all (is_point (table_at schema t).columns) (rows_at (version_at versions v) t))
+
+-- a version more
+pub points-more : (schema : List Table) (versions : List Tables) (tables : Tables) → ArePoints schema versions
+    → ((t : ℕ) → IsTrue (list_all (is_point (table_at schema t).columns) (rows_at tables t))) → ArePoints schema (versions ++ tables ∷ [])
+points-more schema [] tables old new zero = new
+points-more schema [] tables old new (suc v) = λ t. refl
+points-more schema (own ∷ versions) tables old new zero = old zero
+points-more schema (own ∷ versions) tables old new (suc v) = points-more schema versions tables (λ w. old (suc w)) new v
+
+pub points-first : (schema : List Table) (tables : Tables) → ((t : ℕ) → IsTrue (list_all (is_point (table_at schema t).columns) (rows_at tables t))) → ArePoints schema (tables ∷ [])
+points-first schema tables all zero = all
+points-first schema tables all (suc v) = λ t. refl

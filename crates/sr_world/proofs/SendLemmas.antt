@@ -1,0 +1,132 @@
+-- The rest of a query is asked, as the scene says.
+use Rattle.std.proofs.Common.{◌≡◌, ℕ, ◌+◌, Bool, true, false, List, [], ◌∷◌, ◌++◌, map, length, refl, sym, ◌∙◌, ap, subst, arith, inl, inr, Some, None, Ok, length-append}
+use Rattle.std.specs.Prelude.{IsTrue, ◌⊎◌, ◌↔◌}
+use Rattle.std.specs.List.{All}
+use Rattle.std.specs.declared.collections.VecDeque.{VecDeque}
+use Rattle.std.specs.declared.alloc.Global.{Global}
+use Rattle.sr_cell.specs.declared.table.Table.{Table}
+use Rattle.sr_message.specs.declared.message.AskPart.{AskPart}
+use Rattle.sr_message.specs.declared.message.Message.{Message}
+use Rattle.sr_message.specs.declared.message.Message.TheVariants.{Ask}
+use Rattle.sr_model.specs.Events.{QueryOf}
+use Rattle.sr_model.specs.Queries as model
+use Rattle.sr_query.specs.declared.query.Query.{Query}
+use Rattle.sr_history.specs.declared.mark.Mark.{Mark}
+use Rattle.sr_history.specs.Marks.{is_held, HoldsNothing}
+use Rattle.sr_history.specs.Classes.{Numbered, stamp}
+use Rattle.sr_history.specs.Rests.{Asks}
+use Rattle.sr_region.specs.declared.region.Region.{Region}
+use Rattle.sr_store.specs.Classes.{Stamps, Keeps as KeepsPoints}
+use Rattle.sr_store.specs.Stores.{IsOfSchema}
+use Rattle.sr_store.proofs.Covering.{all_none, keeps_same}
+use Rattle.sr_store.proofs.Stamping.{stamp_none}
+use Rattle.sr_world.proofs.Renewal.{HaveFirst}
+use Rattle.sr_script.specs.declared.line.TraceLine.{TraceLine}
+use Rattle.sr_script.specs.declared.line.TraceLine.TheVariants as line
+use Rattle.sr_scene.specs.Scene.{Scene}
+use Rattle.sr_scene.specs.Scene as scene
+use Rattle.sr_scene.specs.Steps.{Happens, Queries, QueriesIfFree, part_line, number_of_next, with_query}
+use Rattle.sr_world.specs.declared.world.World.{World}
+use Rattle.sr_world.specs.declared.client.AskOut as code
+use Rattle.sr_world.specs.Asking.{AsksRest}
+use Rattle.sr_world.specs.Bound.{IsMeaning}
+use Rattle.sr_world.specs.Client.{is_empty}
+use Rattle.sr_world.specs.Worlds.{DoesEvent}
+use Rattle.sr_world.specs.Represents.{Past, ClientFacts, Facts, Represents, IsOut, IsAsked, Flow, request_of, scene_of, client_of, told_of}
+use Rattle.sr_world.proofs.MeantLemmas.{are-sound}
+use Rattle.sr_world.proofs.StepLemmas.{does}
+use Rattle.sr_world.proofs.FactLemmas.{have-first, server-still}
+
+is-empty : (gs : List Region) → is_empty gs ≡ true → gs ≡ []
+is-empty [] h = refl
+is-empty (g ∷ gs) h = absurd (cc)
+
+empty-is : (gs : List Region) → gs ≡ [] → is_empty gs ≡ true
+empty-is gs none = rw none refl
+
+-- the mode of an ask says whether anything is held
+mode-is : (schema : List Table) (marks : List Mark) (stamps : Stamps) (gs : List Region) → HaveFirst schema → All (IsOfSchema schema) gs → KeepsPoints schema (is_held marks) stamps gs
+    → IsTrue (is_empty gs) ↔ HoldsNothing schema marks
+mode-is schema marks stamps gs first each keeps =
+    let all = all_none schema marks stamps gs first each keeps in
+    (λ h. all.0 (is-empty gs h), λ none. empty-is gs (all.1 none))
+
+-- the ask of these parts of a query, with the client's next numbers
+abbrev pub next_ask : World → Query → List AskPart → code.AskOut
+next_ask w q asks = record { number = w.client.next_request; query_number = w.client.queries + 1; query = q; fresh = is_empty w.client.store.regions; parts = asks }
+
+-- the world once the ask is out
+abbrev pub with_out : World → code.AskOut → VecDeque Message Global → World
+with_out w out queue = record w { client = record w.client { queries = out.query_number; next_request = out.number + 1; out = Some out }; to_server = queue }
+
+abbrev pub lines_of_ask : code.AskOut → List TraceLine
+lines_of_ask out = line.Ask 1 out.number out.fresh (length out.parts) ∷ (map part_line out.parts ++ line.QueryAsked 1 out.number ∷ [])
+
+-- the client of the scene once these parts are asked
+abbrev asking : scene.Client → model.Query → Bool → List AskPart → scene.Client
+asking c q fresh asks = record c {
+  queries = with_query q false c;
+  next_request = c.next_request + 1;
+  out = Some (scene.AskOut c.next_request (number_of_next c) q fresh asks);
+  to_server = c.to_server ++ Ask c.next_request fresh asks ∷ [];
+}
+
+-- where something is asked, that is what the query does
+asks-some : (s : Scene) (q : model.Query) (asks : List AskPart) (c new : scene.Client) (fresh : Bool) → (asks ≡ [] → ⊥) → IsTrue fresh ↔ HoldsNothing s.schema c.marks → new ≡ asking c q fresh asks
+    → Queries s 1 q asks c (line.Ask 1 c.next_request fresh (length asks) ∷ (map part_line asks ++ line.QueryAsked 1 c.next_request ∷ [])) new
+asks-some s q [] c new fresh some mode is = absurd (some refl)
+asks-some s q (ask ∷ asks) c new fresh some mode is = (fresh, mode, refl, is)
+
+asked : (w : World) (past : Past) (q : Query) (m : model.Query) (asks : List AskPart) (queue : VecDeque Message Global) → Facts w past → w.client.out ≡ None
+    → IsMeaning w.server.tables.schema q m → AsksRest w.server.tables.schema w.client.store.regions q.parts asks → (asks ≡ [] → ⊥)
+    → queue.items ≡ w.to_server.items ++ Ask w.client.next_request (is_empty w.client.store.regions) asks ∷ []
+    → (next : Scene) × Happens (scene_of w past) (QueryOf 1 (Ok m)) (lines_of_ask (next_ask w q asks)) next × Represents (with_out w (next_ask w q asks) queue) next
+asked w past q m asks queue f none is rest some queued =
+    let s = w.server.tables.schema in
+    let n : ℕ = w.client.queries + 1 in
+    let k : ℕ = w.client.next_request in
+    let regions = w.client.store.regions in
+    let fresh : Bool = is_empty regions in
+    let out : code.AskOut = next_ask w q asks in
+    let after : List Numbered = past.queries ++ record { query = m; answered = false } ∷ [] in
+    let new : Past = record past { queries = after; meaning = m } in
+    let changed : World = with_out w out queue in
+    let still : Flow w past None = subst (Flow w past) none f.flow in
+    let are : Asks s past.marks m.parts asks = rest past.marks (stamp past.queries) m.parts f.client.keeps is.query.parts (are-sound s q m is) in
+    let sent : queue.items ≡ Ask k fresh asks ∷ [] = queued ∙ ap (λ ms. ms ++ Ask k fresh asks ∷ []) still.0 in
+    let told : (fresh ≡ true) ⊎ (past.session.upto ≡ w.server.version) = elim f.client.recent [ inl empty ↦ inl (empty-is regions empty) | inr recent ↦ inr recent.1 ] in
+    let is_asked : IsAsked changed new out = record { to_server = sent; to_client = still.1; laid = still.2; told = told } in
+    let is_out : IsOut changed new out = record { meant = is; earlier = past.queries; newest = refl; number = refl; asks = are; some = some } in
+    let number : n ≡ length past.queries + 1 = ap (λ k. k + 1) (sym f.client.queries) in
+    let client : ClientFacts changed new = record {
+      store = f.client.store;
+      keeps = keeps_same s (is_held past.marks) (is_held past.marks) (stamp past.queries) (stamp after) regions (λ t a p point. refl) (λ t a p point. sym (stamp_none past.queries m t a p)) f.client.keeps;
+      are_true = f.client.are_true;
+      version = f.client.version;
+      recent = f.client.recent;
+      queries = length-append past.queries (record { query = m; answered = false } ∷ []) ∙ sym number;
+    } in
+    let facts : Facts changed new = record {
+      server = server-still w past changed.client queue w.to_client past.marks after m f.server;
+      client = client;
+      flow = (is_out, inl is_asked);
+    } in
+    let mode : IsTrue fresh ↔ HoldsNothing s past.marks = mode-is s past.marks (stamp past.queries) regions (have-first s f.server.tables) f.client.store.each f.client.keeps in
+    let now : ℕ → List Message → scene.Client = λ n ms. record (client_of w past) { queries = after; next_request = k + 1; out = Some (scene.AskOut k n m fresh asks); to_server = ms } in
+    let next_is : client_of changed new ≡ asking (client_of w past) m fresh asks = ap (λ n. now n queue.items) number ∙ ap (now (length past.queries + 1)) queued in
+    let queries : QueriesIfFree (scene_of w past) 1 m (request_of past.meaning w.client.out) (client_of w past) (lines_of_ask out) (client_of changed new) =
+    subst (λ o. QueriesIfFree (scene_of w past) 1 m (request_of past.meaning o) (client_of w past) (lines_of_ask out) (client_of changed new)) (sym none)
+    (inl (asks, are, asks-some (scene_of w past) m asks (client_of w past) (client_of changed new) fresh some mode next_is)) in
+    (scene_of changed new, (client_of w past, client_of changed new, refl, queries, refl), record { past = new; facts = facts; same = refl })
+
+pub does-ask : (w : World) (q : Query) (m : model.Query) (asks : List AskPart) (out : code.AskOut) (queue : VecDeque Message Global) (lines : List TraceLine) → w.client.out ≡ None
+    → IsMeaning w.server.tables.schema q m → AsksRest w.server.tables.schema w.client.store.regions q.parts asks → (asks ≡ [] → ⊥)
+    → out ≡ next_ask w q asks → lines ≡ lines_of_ask out → queue.items ≡ w.to_server.items ++ Ask out.number out.fresh out.parts ∷ []
+    → DoesEvent (QueryOf 1 (Ok m)) w (with_out w out queue) lines
+does-ask w q m asks out queue lines none is rest some out_is lines_are queued =
+    let ask : code.AskOut = next_ask w q asks in
+    let sent = subst (λ o. queue.items ≡ w.to_server.items ++ Ask o.number o.fresh o.parts ∷ []) out_is queued in
+    let sends : DoesEvent (QueryOf 1 (Ok m)) w (with_out w ask queue) (lines_of_ask ask) =
+    does (λ s. Happens s (QueryOf 1 (Ok m))) w (with_out w ask queue) (lines_of_ask ask) (λ past f. asked w past q m asks queue f none is rest some sent) in
+    let P : code.AskOut → Type 0 = λ o. DoesEvent (QueryOf 1 (Ok m)) w (with_out w o queue) (lines_of_ask o) in
+    subst (DoesEvent (QueryOf 1 (Ok m)) w (with_out w out queue)) (sym lines_are) (subst P (sym out_is) sends)

@@ -87,7 +87,7 @@ load-heavy w past q m one f large =
     subst (λ ps. list_any (λ (part : model.Part). part.table == one.part.table) ps ≡ true) (sym one.meant_parts) (rw same refl) in
     let ends : EndWith s (all ++ m ∷ []) one.part.table (one.part.rects ++ cover_of one.part regions) =
     end-append s (all ++ m ∷ []) one.part.table one.part.rects (cover_of one.part regions) (part-end s all m one.part one.meant one.meant_parts one.is)
-        (cover-end s (all ++ m ∷ []) one.part regions (regions-more s all (m ∷ []) regions f.cuts.regions)) in
+    (cover-end s (all ++ m ∷ []) one.part regions (regions-more s all (m ∷ []) regions f.cuts.regions)) in
     subst (IsHeavy s past.marks [] m) (sym more)
     (heavy-table s past.marks m (all ++ m ∷ []) one.part.table (one.part.rects ++ cover_of one.part regions) (part-table s one.part one.meant one.is one.sound) named fit ends large.large)
 

@@ -135,7 +135,7 @@ heavy-load schema marks stamps gs arrivals asks q queries sets rects first each 
   sets,
   λ t. are-sets schema marks stamps gs arrivals asks t (sets t) first each keeps were (once t) (used t),
   above (weight_from sets rects 0 schema) (load_from (count_of q sets) 0 schema queries) heavy
-  (weight-load sets rects q queries schema 0 (λ t i e. subst (λ n. grid (table_at schema n).columns (rects t) ≤ ends_grid 0 (table_at schema n).columns (parts_on t queries)) (same t i e) (few-at schema queries t (rects t) (fit t) (ends t)))),
+      (weight-load sets rects q queries schema 0 (λ t i e. subst (λ n. grid (table_at schema n).columns (rects t) ≤ ends_grid 0 (table_at schema n).columns (parts_on t queries)) (same t i e) (few-at schema queries t (rects t) (fit t) (ends t)))),
 )
   where
     above : (n m : ℕ) → 16384 < n → n ≤ m → 16384 < m
@@ -185,7 +185,7 @@ heavy-table schema marks q queries t rects below named fit ends large = (
   (λ u. []),
   (λ u. record { once = refl; each = λ a some. absurd (cc) }),
   sums (grid (table_at schema t).columns rects) (ends_grid 0 (table_at schema t).columns (parts_on t queries)) (count_of q (λ u. []) t) (load_from (count_of q (λ u. [])) 0 schema queries)
-  large (few-at schema queries t rects fit ends) (ap (λ b. max 0 (if b then 1 else 0)) named) (load-at (count_of q (λ u. [])) queries schema t 0 t (omega arith) below),
+      large (few-at schema queries t rects fit ends) (ap (λ b. max 0 (if b then 1 else 0)) named) (load-at (count_of q (λ u. [])) queries schema t 0 t (omega arith) below),
 )
   where
     sums : (g e n l : ℕ) → 16384 < g → g ≤ e → n ≡ 1 → n * e ≤ l → 16384 < l

@@ -30,3 +30,4 @@ pub mod SettleLemmas
 pub mod StatementLemmas
 pub mod RunLemmas
 pub mod ReplayLemmas
+pub mod LentLemmas

@@ -108,15 +108,15 @@ rows-now w past q m one rows f none gives =
     let old : Tables = version_at past.versions w.client.version in
     let cs = (table_at s part.table).columns in
     let given = gives s newest part (is-one-part s newest q m one (points-now w past f.server) (ascend-now w past f.server))
-        (record { each = f.client.store.each; are_true = true-now w past f }) (record { suit = All-nil (Suits s part); arrived = none-arrived (told_of newest) }) in
+    (record { each = f.client.store.each; are_true = true-now w past f }) (record { suit = All-nil (Suits s part); arrived = none-arrived (told_of newest) }) in
     let chosen = filter-points cs (λ p. is_kept part w.client.store.regions p || is_new part [] p) (points_of one.meant) (rows_at newest part.table) (points-now w past f.server part.table)
-        (kept-all s past.marks (stamp past.queries) w.client.store.regions part one.meant f.client.keeps one.is none) in
+    (kept-all s past.marks (stamp past.queries) w.client.store.regions part one.meant f.client.keeps one.is none) in
     let same : filter (points_of one.meant) (rows_at newest part.table) ≡ filter (points_of one.meant) (rows_at old part.table) =
     elim f.client.recent [
       | inl empty ↦
-        let free = no-points s past.marks (stamp past.queries) w.client.store.regions part one.meant f.client.keeps one.is none empty in
-        filter-none cs (points_of one.meant) (rows_at newest part.table) (points-now w past f.server part.table) free
-        ∙ sym (filter-none cs (points_of one.meant) (rows_at old part.table) (f.server.points w.client.version part.table) free)
+          let free = no-points s past.marks (stamp past.queries) w.client.store.regions part one.meant f.client.keeps one.is none empty in
+          filter-none cs (points_of one.meant) (rows_at newest part.table) (points-now w past f.server part.table) free
+          ∙ sym (filter-none cs (points_of one.meant) (rows_at old part.table) (f.server.points w.client.version part.table) free)
       | inr recent ↦ ap (λ ts. filter (points_of one.meant) (rows_at ts part.table)) (sym (version-now w past f.server recent.0))
     ] in
     given ∙ (ap (map (cells_of q.output)) (chosen ∙ same) ∙ (ap (λ t. map (cells_of q.output) (filter (points_of one.meant) (rows_at old t))) one.is.table ∙ sym (one.answer old)))
@@ -146,14 +146,14 @@ regions-now w past q new marks f a =
     let s = w.server.tables.schema in
     elim f.client.recent [
       | inl none ↦
-        let nothing : new ≡ [] = elim a.answered [
-          | inl r ↦ nothing-new s (w.client.queries + 1) q.parts new marks (have-first s f.server.tables) (subst (λ gs. IsRenewed s (w.client.queries + 1) q.parts [] gs new marks) none r)
-          | inr g ↦ g.left
-        ] in
-        record { are_true = subst (All (IsTrueOf (told_of (version_at past.versions w.client.version)))) (sym nothing) (All-nil (IsTrueOf (told_of (version_at past.versions w.client.version)))); recent = inl nothing }
+          let nothing : new ≡ [] = elim a.answered [
+            | inl r ↦ nothing-new s (w.client.queries + 1) q.parts new marks (have-first s f.server.tables) (subst (λ gs. IsRenewed s (w.client.queries + 1) q.parts [] gs new marks) none r)
+            | inr g ↦ g.left
+          ] in
+          record { are_true = subst (All (IsTrueOf (told_of (version_at past.versions w.client.version)))) (sym nothing) (All-nil (IsTrueOf (told_of (version_at past.versions w.client.version)))); recent = inl nothing }
       | inr recent ↦
-        let still : AreTrueOf (told_of w.server.tables.rows) new = a.true_still (told_of w.server.tables.rows) (told-now w past f.server) (true-now w past f) (none-arrived (told_of w.server.tables.rows)) in
-        record { are_true = subst (λ ts. AreTrueOf (told_of ts) new) (sym (version-now w past f.server recent.0)) still; recent = inr recent }
+          let still : AreTrueOf (told_of w.server.tables.rows) new = a.true_still (told_of w.server.tables.rows) (told-now w past f.server) (true-now w past f) (none-arrived (told_of w.server.tables.rows)) in
+          record { are_true = subst (λ ts. AreTrueOf (told_of ts) new) (sym (version-now w past f.server recent.0)) still; recent = inr recent }
     ]
 
 -- what is known where a query is answered at once

@@ -142,10 +142,10 @@ rows-came w past o b rows f gives =
     let r : Arrival = the_arrival w past o b in
     let fit : AreFit w past o (r ∷ []) = subst (AreFit w past o) (arrivals-are w past o b) (are-fit w past o f b) in
     let given = gives s newest part (is-one-part s newest o.query past.meaning one (points-now w past f.server) (ascend-now w past f.server))
-        (record { each = f.client.store.each; are_true = true-now w past f })
-        (record { suit = arrival-suits s past.marks newest part one.meant b.ask (arrived w.client.laid) b.asked; arrived = fit.brought }) in
+    (record { each = f.client.store.each; are_true = true-now w past f })
+    (record { suit = arrival-suits s past.marks newest part one.meant b.ask (arrived w.client.laid) b.asked; arrived = fit.brought }) in
     let chosen = filter-points (table_at s part.table).columns (λ p. is_kept part w.client.store.regions p || is_new part (r ∷ []) p) (points_of one.meant) (rows_at newest part.table) (points-now w past f.server part.table)
-        (all-there s past.marks (stamp past.queries) newest part one.meant b.ask (arrived w.client.laid) w.client.store.regions b.asked f.client.keeps) in
+    (all-there s past.marks (stamp past.queries) newest part one.meant b.ask (arrived w.client.laid) w.client.store.regions b.asked f.client.keeps) in
     given ∙ (ap (map (cells_of o.query.output)) chosen
     ∙ (ap (λ t. map (cells_of o.query.output) (filter (points_of one.meant) (rows_at newest t))) one.is.table
     ∙ (sym (one.answer newest) ∙ ap (rows_of past.meaning) (sym f.server.newest))))

@@ -168,5 +168,5 @@ does-ask w q m asks new lines none is rest along some sent =
     let ask : code.AskOut = next_ask w q asks in
     let sends : DoesEvent (QueryOf 1 (Ok m)) w (with_out w ask sent.queue) (lines_of_ask ask) =
     does (λ s. Happens s (QueryOf 1 (Ok m))) w (with_out w ask sent.queue) (lines_of_ask ask)
-        (λ past f. asked w past q m asks sent.queue (record { facts = f; none = none; is = is; rest = rest; along = along; some = some }) sent.queued) in
+    (λ past f. asked w past q m asks sent.queue (record { facts = f; none = none; is = is; rest = rest; along = along; some = some }) sent.queued) in
     subst (λ v. DoesEvent (QueryOf 1 (Ok m)) w v lines) (sym sent.changed) (subst (DoesEvent (QueryOf 1 (Ok m)) w (with_out w ask sent.queue)) (sym sent.told) sends)

@@ -3,6 +3,7 @@ pub mod Asking
 pub mod Bound
 pub mod Client
 pub mod Cutting
+pub mod Lent
 pub mod Ran
 pub mod Replay
 pub mod Refused

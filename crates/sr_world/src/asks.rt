@@ -45,12 +45,7 @@ pub fn asks_of(
 }
 
 /// An entry for the part, if some of its points are not covered.
-fn rest_of(
-    alloc: Global,
-    schema: &Schema,
-    store: &Store,
-    part: &Part,
-) -> Result<AskParts, No<Over>>
+fn rest_of(alloc: Global, schema: &Schema, store: &Store, part: &Part) -> Result<AskParts, No<Over>>
     requires tables { IsTrue (list_all is_table schema.now) }
     requires store { IsStore schema.now store.now.regions }
     requires meant { AreMeant schema.now (part.now ∷ []) }

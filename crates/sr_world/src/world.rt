@@ -9,12 +9,13 @@ ghost use Rattle.sr_query.specs.Bound.{is_table};
 ghost use Rattle.sr_query.specs.Written.{write_of};
 ghost use Rattle.sr_query.specs.Writes.{suits};
 ghost use Rattle.sr_tables.specs.Stored.{is_short};
-ghost use Rattle.sr_scene.specs.Scene.{first};
+ghost use Rattle.sr_scene.specs.Scene.{Scene as TheScene, first};
 ghost use Rattle.sr_scene.specs.Steps.{part_line};
 ghost use Rattle.sr_world.specs.Asking.{AsksRest};
 ghost use Rattle.sr_world.specs.Bound.{IsMeaning};
 ghost use Rattle.sr_world.specs.Client.{is_empty};
 ghost use Rattle.sr_world.specs.Cutting.{IsOver};
+ghost use Rattle.sr_world.specs.Lent.{IsLent};
 ghost use Rattle.sr_world.specs.Represents.{Represents, IsUnasked, drawn};
 ghost use Rattle.sr_world.specs.Sending.{IsSent};
 ghost use Rattle.sr_world.specs.Taking.{Taking, Finishing};
@@ -61,6 +62,15 @@ impl World {
             to_server: VecDeque::new(alloc),
             to_client: VecDeque::new(alloc),
         }
+    }
+
+    /// The client, whose regions are the classes of what it holds, with just the rows of its version there.
+    #[tactic(auto, using(crate::proofs::LentLemmas::is_lent))]
+    pub fn client(&self) -> &Client
+        ensures is { result.now ≡ self.now.client }
+        ensures lent { (s : TheScene) → Represents self.now s → IsLent s result.now }
+    {
+        &self.client
     }
 
     /// Carries out a statement, before any query.
@@ -190,7 +200,12 @@ impl World {
     }
 
     /// Sends the ask of these parts of a query, with the next numbers.
-    fn send_ask(&mut self, alloc: Global, query: Query, asks: AskParts) -> Result<TraceLines, NoMemory>
+    fn send_ask(
+        &mut self,
+        alloc: Global,
+        query: Query,
+        asks: AskParts,
+    ) -> Result<TraceLines, NoMemory>
         requires few { length asks ≤ 4 }
         requires room { drawn self.old + 2 < 2 ^ 63 }
         ensures sent { IfOk result (IsSent self.old query asks self.new) }

@@ -29,7 +29,7 @@ returns-in-Ok-clause-asks c =
     record { fits = c.in-Ok.ensures.fits; points = c.in-Ok.ensures.points; bound = c.in-Ok.ensures.bound; shipped = c.in-Ok.ensures.columns; empty = c.in-Ok.ensures.empty; some = c.in-Ok.ensures.some } in
     let of_table = subst (λ (t : Table). IsTrimmed t.columns c.args.part.now.need (left_over c.args.part.now.rects c.in_ok-cover.cover) c.in-Ok.trimmed.attrs c.in-Ok.trimmed.rest) table trimmed in
     let of_cover = subst (λ rects. IsTrimmed (table_at c.args.schema.now c.args.part.now.table).columns c.args.part.now.need (left_over c.args.part.now.rects rects) c.in-Ok.trimmed.attrs c.in-Ok.trimmed.rest)
-        c.in_ok-cover.ensures of_table in
+    c.in_ok-cover.ensures of_table in
     subst (AsksRest c.args.schema.now c.args.store.now.regions (c.args.part.now ∷ [])) (sym c.in_ok-entry_of-in-Ok.ensures)
     (asks-rest c.args.schema.now c.args.store.now.regions c.args.part.now c.in-Ok.trimmed.attrs c.in-Ok.trimmed.rest of_cover)
 

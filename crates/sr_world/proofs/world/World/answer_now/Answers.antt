@@ -25,7 +25,7 @@ returns-clause-event c = λ meaning is.
     let gives : Answers query w.client.store.regions [] c.in_ok-rows.rows = answers-of query w.client.store.regions c.as_slice.result.now [] [] c.in_ok-rows.rows c.as_slice.ensures refl c.in_ok-rows.ensures in
     let after : IsAfter w.server.tables.schema (w.client.queries + 1) query.parts [] w.client.store.regions c.answered.new.self.regions c.in_ok-marks.marks =
     after-of w.server.tables.schema c.schema.result.now (w.client.queries + 1) query.parts c.as_slice-2.result.now [] c.new.result w.client.store.regions c.answered.new.self.regions c.in_ok-marks.marks
-        c.schema.ensures c.as_slice-2.ensures c.new.ensures c.in_ok-marks.ensures.answered c.in_ok-marks.ensures.cuts c.in_ok-marks.ensures.store c.in_ok-marks.ensures.true_still in
+    c.schema.ensures c.as_slice-2.ensures c.new.ensures c.in_ok-marks.ensures.answered c.in_ok-marks.ensures.cuts c.in_ok-marks.ensures.store c.in_ok-marks.ensures.true_still in
     does-now w query meaning c.answered.new.self c.in_ok-marks.marks c.in_ok-rows.rows _ c.requires.idle is c.requires.nothing gives after
     (lines-joined c.push.new.self (line.Answer 1 (w.client.queries + 1) w.client.version (length c.in_ok-rows.rows) ∷ map line.Row c.in_ok-rows.rows) (map (mark_line 1) c.in_ok-marks.marks)
     (line.QueryAnswered 1 (w.client.queries + 1) ∷ []) (rw (c.in_ok-push.ensures.pushed, c.in_ok-push_marks.ensures, c.in_ok-push_answer.ensures, c.new-lines.ensures) refl))

@@ -42,7 +42,7 @@ answered-requires-clause-arrivals c =
     let needs = finish-needs c.requires.finishing.0 w out c.args.version c.requires.finishing.1 in
     let came = arrivals-read s c.schema-schema.result.now out.parts c.as_slice.result.now w.client.laid c.replace-laid.result c.in_ok-arrivals.arrivals c.schema-schema.ensures c.as_slice.ensures c.replace-laid.ensures.value c.in_ok-arrivals.ensures in
     let allows = allows-of s c.schema-schema.result.now w.client.store.regions out.query.parts c.as_slice-4.result.now (arrivals_of s out.parts (arrived w.client.laid)) c.in_ok-arrivals.arrivals
-        c.schema-schema.ensures c.as_slice-4.ensures came needs.allows in
+    c.schema-schema.ensures c.as_slice-4.ensures came needs.allows in
     allows.each
 
 pub answered-requires-clause-apart : goal.answered-requires-clause-apart
@@ -53,7 +53,7 @@ answered-requires-clause-apart c =
     let needs = finish-needs c.requires.finishing.0 w out c.args.version c.requires.finishing.1 in
     let came = arrivals-read s c.schema-schema.result.now out.parts c.as_slice.result.now w.client.laid c.replace-laid.result c.in_ok-arrivals.arrivals c.schema-schema.ensures c.as_slice.ensures c.replace-laid.ensures.value c.in_ok-arrivals.ensures in
     let allows = allows-of s c.schema-schema.result.now w.client.store.regions out.query.parts c.as_slice-4.result.now (arrivals_of s out.parts (arrived w.client.laid)) c.in_ok-arrivals.arrivals
-        c.schema-schema.ensures c.as_slice-4.ensures came needs.allows in
+    c.schema-schema.ensures c.as_slice-4.ensures came needs.allows in
     allows.apart
 
 pub answered-requires-clause-told : goal.answered-requires-clause-told
@@ -64,7 +64,7 @@ answered-requires-clause-told c =
     let needs = finish-needs c.requires.finishing.0 w out c.args.version c.requires.finishing.1 in
     let came = arrivals-read s c.schema-schema.result.now out.parts c.as_slice.result.now w.client.laid c.replace-laid.result c.in_ok-arrivals.arrivals c.schema-schema.ensures c.as_slice.ensures c.replace-laid.ensures.value c.in_ok-arrivals.ensures in
     let allows = allows-of s c.schema-schema.result.now w.client.store.regions out.query.parts c.as_slice-4.result.now (arrivals_of s out.parts (arrived w.client.laid)) c.in_ok-arrivals.arrivals
-        c.schema-schema.ensures c.as_slice-4.ensures came needs.allows in
+    c.schema-schema.ensures c.as_slice-4.ensures came needs.allows in
     allows.told
 
 pub returns-clause-delivery : goal.returns-clause-delivery
@@ -78,7 +78,7 @@ returns-clause-delivery c = λ before t.
     let gives : Answers out.query regions arrivals c.in_ok-rows.rows = answers-of out.query regions c.as_slice-2.result.now arrivals c.as_slice-3.result.now c.in_ok-rows.rows c.as_slice-2.ensures c.as_slice-3.ensures c.in_ok-rows.ensures in
     let after : IsAfter s out.query_number out.query.parts arrivals regions c.answered.new.self.regions c.in_ok-marks.marks =
     after-of s c.schema-schema.result.now out.query_number out.query.parts c.as_slice-4.result.now arrivals arrivals regions c.answered.new.self.regions c.in_ok-marks.marks
-        c.schema-schema.ensures c.as_slice-4.ensures refl c.in_ok-marks.ensures.answered c.in_ok-marks.ensures.cuts c.in_ok-marks.ensures.store c.in_ok-marks.ensures.true_still in
+    c.schema-schema.ensures c.as_slice-4.ensures refl c.in_ok-marks.ensures.answered c.in_ok-marks.ensures.cuts c.in_ok-marks.ensures.store c.in_ok-marks.ensures.true_still in
     does-finish before w out c.args.version t arrivals c.replace-laid.new.dest c.answered.new.self c.in_ok-marks.marks c.in_ok-rows.rows c.push.new.self came (c.replace-laid.ensures.after ∙ c.new.ensures) gives after
     (lines-joined c.push.new.self (line.Answer 1 out.query_number c.args.version (length c.in_ok-rows.rows) ∷ map line.Row c.in_ok-rows.rows) (map (mark_line 1) c.in_ok-marks.marks) (line.ClientAnswered 1 ∷ [])
     (rw (c.in_ok-push.ensures.pushed, c.in_ok-push_marks.ensures, c.in_ok-push_answer.ensures, c.new-lines.ensures) refl))

@@ -1,4 +1,5 @@
 pub mod Texts
+pub mod Events
 pub mod Lines
 pub mod Built
 pub mod Sound

@@ -6,4 +6,3 @@ pub mod SortedRows
 pub mod Statements
 pub mod Changes
 pub mod Loads
-pub mod Events

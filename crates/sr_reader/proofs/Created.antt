@@ -1,7 +1,7 @@
 -- The tables of the CREATE lines are those of the script that is read.
 use Rattle.std.proofs.Common.{◌≡◌, ℕ, ◌+◌, List, [], ◌∷◌, ◌++◌, refl, sym, ap, subst, ◌∙◌}
 use Rattle.sr_cell.specs.declared.table.Table.{Table}
-use Rattle.sr_model.specs.Events.{Event}
+use Rattle.sr_language.specs.Events.{Event}
 use Rattle.sr_language.specs.Lines.{lines_of}
 use Rattle.sr_language.specs.Script.{Line, Silent, CreateLine, ExecLine, QueryLine, Other, line_of, Creating, Filling, Asking, Phase, start_phase, LineDoes, Reads}
 use Rattle.sr_language.specs.Creates.{CreatesFrom, Creates}

@@ -9,7 +9,7 @@ use Rattle.sr_grammar.specs.Says.{Says}
 use Rattle.sr_parser.proofs.OneSaying.{each_says_one}
 use Rattle.sr_model.specs.Queries.{Query}
 use Rattle.sr_model.specs.Statements.{Write}
-use Rattle.sr_model.specs.Events.{Event, Exec, QueryOf}
+use Rattle.sr_language.specs.Events.{Event, Exec, QueryOf}
 use Rattle.sr_query.specs.Binding.{bound_query}
 use Rattle.sr_query.specs.Writes.{bound_write}
 use Rattle.sr_language.specs.Script.{Line, Silent, CreateLine, ExecLine, QueryLine, Other, line_of, RefusedFrom, FirstRefused, Phase, start_phase, Writes, AsksOf, LineDoes, Reads, FirstUnbuilt}

@@ -7,7 +7,7 @@ use Rattle.std.proofs.lemmas.Slice.Zip.{AllZip-long}
 use Rattle.sr_cell.specs.declared.table.Table.{Table}
 use Rattle.sr_cell.specs.declared.fault.Fault.{Fault}
 use Rattle.sr_model.specs.Queries as model
-use Rattle.sr_model.specs.Events.{Event, Exec, QueryOf}
+use Rattle.sr_language.specs.Events.{Event, Exec, QueryOf}
 use Rattle.sr_query.specs.declared.query.Query.{Query}
 use Rattle.sr_query.specs.declared.write.Write.{Write}
 use Rattle.sr_language.specs.Lines.{lines_of}

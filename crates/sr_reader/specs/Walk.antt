@@ -1,7 +1,7 @@
 -- Reading a script line by line.
 use Rattle.std.specs.Prelude.{ℕ, Bool, true, false, List, [], ◌∷◌, ◌++◌, Result, Ok, Err}
 use Rattle.sr_cell.specs.declared.list.NoMemory.{NoMemory}
-use Rattle.sr_model.specs.Events.{Event}
+use Rattle.sr_language.specs.Events.{Event}
 use Rattle.sr_language.specs.Script.{Line, Stage, Creating, Filling, Asking, Phase, LineDoes}
 use Rattle.sr_reader.specs.declared.script.ExecLine.{ExecLine}
 use Rattle.sr_reader.specs.declared.script.QueryLine.{QueryLine}

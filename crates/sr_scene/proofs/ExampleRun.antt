@@ -3,7 +3,7 @@ use Rattle.std.proofs.Common.{◌≡◌, ℕ, Bool, true, false, List, [], ◌�
 use Rattle.std.specs.Prelude.{IsTrue, Ok, map, filter, take, ◌==◌}
 use Rattle.sr_cell.specs.Cells.{Row}
 use Rattle.sr_box.specs.Points.{AreSame}
-use Rattle.sr_model.specs.Events.{Exec, QueryOf}
+use Rattle.sr_language.specs.Events.{Exec, QueryOf}
 use Rattle.sr_model.specs.Statements.{Insert, Tables}
 use Rattle.sr_history.specs.declared.mark.Mark.TheVariants.{Held}
 use Rattle.sr_history.specs.Marks.{HoldsNothing}

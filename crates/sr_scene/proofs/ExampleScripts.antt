@@ -23,7 +23,7 @@ use Rattle.sr_parser.specs.Readers.{whole, statement, tree, create, select, inse
 use Rattle.sr_parser.proofs.Top.{each_is_exact}
 use Rattle.sr_scene.specs.Example.{script, events, end, people}
 use Rattle.sr_scene.specs.CoveredQuery.{covered_script, covered_query, opening_events}
-use Rattle.sr_model.specs.Events.{Event}
+use Rattle.sr_language.specs.Events.{Event}
 
 says : (text : List ℕ) (t : Tree) (s : Statement) → length text ≤ 65536 → whole most_levels (tokens_of text) ≡ Got t [] → statement_of t ≡ Ok s → Says text (Ok s)
 says text t s short read is = inr (short, inl (t, ((each_is_exact most_levels).found (tokens_of text) [] t read).1, sym is))

@@ -9,7 +9,7 @@ use Rattle.sr_box.specs.Points.{Rect}
 use Rattle.sr_model.specs.Conditions.{Tests, And, none, more, Between}
 use Rattle.sr_model.specs.Queries.{Part, Query}
 use Rattle.sr_model.specs.Statements.{Insert}
-use Rattle.sr_model.specs.Events.{Event, Exec, QueryOf}
+use Rattle.sr_language.specs.Events.{Event, Exec, QueryOf}
 use Rattle.sr_language.specs.Script.{Phase, Asking}
 use Rattle.sr_script.specs.declared.line.RequestKind.TheVariants as kind
 use Rattle.sr_script.specs.declared.line.TraceLine.{TraceLine}

@@ -1,7 +1,7 @@
 -- Deliveries, and whole runs.
 use Rattle.std.specs.Prelude.{ℕ, List, [], ◌∷◌, ◌++◌, ◌+◌, suc, zero, length, map, Option, Some, None, ◌≡◌, MatchBool}
 use Rattle.sr_message.specs.declared.message.Message.{Message}
-use Rattle.sr_model.specs.Events.{Event, ToServer, ToClient}
+use Rattle.sr_language.specs.Events.{Event, ToServer, ToClient}
 use Rattle.sr_script.specs.declared.line.TraceLine.{TraceLine}
 use Rattle.sr_scene.specs.Scene.{Scene, Client, client_at}
 use Rattle.sr_scene.specs.Steps.{Happens}

@@ -10,7 +10,7 @@ use Rattle.sr_message.specs.declared.message.Message.{Message}
 use Rattle.sr_message.specs.declared.message.Message.TheVariants.{Ask, Notice, Rows, Reply}
 use Rattle.sr_model.specs.Queries.{Query, rows_of}
 use Rattle.sr_model.specs.Statements.{Tables, Write, executed}
-use Rattle.sr_model.specs.Events.{Event, Exec, QueryOf, ToServer, ToClient}
+use Rattle.sr_language.specs.Events.{Event, Exec, QueryOf, ToServer, ToClient}
 use Rattle.sr_history.specs.declared.mark.Mark.{Mark}
 use Rattle.sr_history.specs.declared.mark.Mark.TheVariants.{Held, Dropped}
 use Rattle.sr_history.specs.Marks.{HoldsNothing, with_marks}

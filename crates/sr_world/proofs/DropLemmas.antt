@@ -10,7 +10,7 @@ use Rattle.sr_cell.specs.declared.table.Table.{Table}
 use Rattle.sr_cell.specs.Columns.{table_at}
 use Rattle.sr_box.specs.Points.{Rect, rect_fits}
 use Rattle.sr_message.specs.declared.message.AskPart.{AskPart}
-use Rattle.sr_model.specs.Events.{QueryOf}
+use Rattle.sr_language.specs.Events.{QueryOf}
 use Rattle.sr_model.specs.Queries as model
 use Rattle.sr_model.specs.Changes.{version_at}
 use Rattle.sr_query.specs.Bound.{is_table}

@@ -8,7 +8,7 @@ use Rattle.sr_cell.specs.declared.table.Column.{Column}
 use Rattle.sr_cell.specs.Cells.{Row}
 use Rattle.sr_cell.specs.Columns.{table_at, is_point}
 use Rattle.sr_box.specs.Points.{in_any, HasNoPoint}
-use Rattle.sr_model.specs.Events.{QueryOf}
+use Rattle.sr_language.specs.Events.{QueryOf}
 use Rattle.sr_model.specs.Statements.{Tables}
 use Rattle.sr_model.specs.Queries as model
 use Rattle.sr_model.specs.Queries.{rows_at, rows_of, points_of}

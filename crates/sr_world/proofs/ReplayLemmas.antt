@@ -8,7 +8,7 @@ use Rattle.std.specs.Io.KnownBytes.{Appends}
 use Rattle.sr_cell.specs.declared.table.Table.{Table}
 use Rattle.sr_cell.specs.declared.fault.Fault.{Fault}
 use Rattle.sr_model.specs.Queries as model
-use Rattle.sr_model.specs.Events.{Event, QueryOf}
+use Rattle.sr_language.specs.Events.{Event, QueryOf}
 use Rattle.sr_model.specs.Statements.{Tables}
 use Rattle.sr_language.specs.Lines.{lines_of}
 use Rattle.sr_language.specs.Creates.{Creates}

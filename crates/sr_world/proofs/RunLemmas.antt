@@ -3,7 +3,7 @@ use Rattle.std.proofs.Common.{◌≡◌, ℕ, ◌+◌, List, [], ◌∷◌, ◌+
 use Rattle.std.proofs.Math.Seq.{take-append-add}
 use Rattle.std.specs.Io.KnownBytes.{Appends}
 use Rattle.sr_cell.specs.declared.table.Table.{Table}
-use Rattle.sr_model.specs.Events.{Event}
+use Rattle.sr_language.specs.Events.{Event}
 use Rattle.sr_script.specs.declared.line.TraceLine.{TraceLine}
 use Rattle.sr_script.specs.TraceText.{trace_text, line_text}
 use Rattle.sr_scene.specs.Scene.{Scene}

@@ -8,7 +8,7 @@ use Rattle.sr_cell.specs.declared.table.Table.{Table}
 use Rattle.sr_message.specs.declared.message.AskPart.{AskPart}
 use Rattle.sr_message.specs.declared.message.Message.{Message}
 use Rattle.sr_message.specs.declared.message.Message.TheVariants.{Ask}
-use Rattle.sr_model.specs.Events.{QueryOf}
+use Rattle.sr_language.specs.Events.{QueryOf}
 use Rattle.sr_model.specs.Queries as model
 use Rattle.sr_query.specs.declared.query.Part.{Part}
 use Rattle.sr_query.specs.declared.query.Query.{Query}

@@ -7,7 +7,7 @@ use Rattle.sr_cell.specs.declared.table.Table.{Table}
 use Rattle.sr_message.specs.declared.message.AskPart.{AskPart}
 use Rattle.sr_message.specs.declared.message.Message.{Message}
 use Rattle.sr_message.specs.declared.message.Message.TheVariants.{Ask, Reply}
-use Rattle.sr_model.specs.Events.{ToServer}
+use Rattle.sr_language.specs.Events.{ToServer}
 use Rattle.sr_model.specs.Statements.{Tables}
 use Rattle.sr_model.specs.Changes.{newest_of}
 use Rattle.sr_script.specs.declared.line.RequestKind.TheVariants as kind

@@ -1,6 +1,6 @@
 -- Deliveries one after another, and a query with those that it brings.
 use Rattle.std.proofs.Common.{◌≡◌, ℕ, ◌+◌, List, [], ◌++◌, refl, sym, ◌∙◌, ap, subst, arith, zero, suc, append_assoc, append-nil}
-use Rattle.sr_model.specs.Events.{Event}
+use Rattle.sr_language.specs.Events.{Event}
 use Rattle.sr_script.specs.declared.line.TraceLine.{TraceLine}
 use Rattle.sr_scene.specs.Scene.{Scene}
 use Rattle.sr_scene.specs.Steps.{Happens}

@@ -4,7 +4,7 @@ use Rattle.std.specs.Prelude.{IfOk, OnOk, Result}
 use Rattle.sr_cell.specs.declared.fault.Fault.{Fault}
 use Rattle.sr_cell.specs.declared.table.Table.{Table}
 use Rattle.sr_model.specs.Queries as model
-use Rattle.sr_model.specs.Events.{Event, Exec, QueryOf}
+use Rattle.sr_language.specs.Events.{Event, Exec, QueryOf}
 use Rattle.sr_query.specs.declared.query.Query.{Query}
 use Rattle.sr_query.specs.declared.write.Write.{Write}
 use Rattle.sr_reader.specs.Read.{statement_of, Means}

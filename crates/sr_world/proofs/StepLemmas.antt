@@ -7,7 +7,7 @@ use Rattle.std.proofs.lemmas.List.Elements.{All-nil}
 use Rattle.sr_cell.specs.declared.fault.Fault.{Fault}
 use Rattle.sr_cell.specs.declared.table.Table.{Table}
 use Rattle.sr_keyed.specs.Keyed.{are_values}
-use Rattle.sr_model.specs.Events.{Event, Exec}
+use Rattle.sr_language.specs.Events.{Event, Exec}
 use Rattle.sr_model.specs.Statements.{Tables, Write, executed}
 use Rattle.sr_model.specs.Changes.{version_at, newest_of}
 use Rattle.sr_query.specs.Bound.{is_table}

@@ -1,6 +1,6 @@
 -- What the calls of a world do.
 use Rattle.std.specs.Prelude.{ℕ, ◌≡◌, List, []}
-use Rattle.sr_model.specs.Events.{Event}
+use Rattle.sr_language.specs.Events.{Event}
 use Rattle.sr_script.specs.declared.line.TraceLine.{TraceLine}
 use Rattle.sr_scene.specs.Scene.{Scene}
 use Rattle.sr_scene.specs.Steps.{Happens}

@@ -2,7 +2,7 @@
 ghost use Rattle.std.specs.Prelude.{ℕ, ◌≡◌, ◌+◌, ◌<◌, ◌≤◌, ◌^◌, Result, IsTrue, IfOk, OnOk};
 ghost use Rattle.sr_cell.specs.declared.fault.Fault.{Fault as TheFault};
 ghost use Rattle.sr_model.specs.Queries.{Query as TheQuery};
-ghost use Rattle.sr_model.specs.Events.{Exec, QueryOf};
+ghost use Rattle.sr_language.specs.Events.{Exec, QueryOf};
 ghost use Rattle.sr_reader.specs.Read.{statement_of, statement_fits, Means};
 ghost use Rattle.sr_world.specs.Represents.{IsUnasked, drawn};
 ghost use Rattle.sr_world.specs.Worlds.{Stands, IsStill, DoesStep};

@@ -3,7 +3,7 @@ ghost use Rattle.std.specs.Prelude.{◌≡◌, ℕ, ◌+◌, ◌<◌, ◌≤◌,
 ghost use Rattle.std.specs.List.{list_all};
 ghost use Rattle.sr_message.specs.declared.message.Message.TheVariants.{Ask as AskMessage};
 ghost use Rattle.sr_script.specs.declared.line.TraceLine.TheVariants.{Ask, QueryAsked};
-ghost use Rattle.sr_model.specs.Events.{Exec, QueryOf};
+ghost use Rattle.sr_language.specs.Events.{Exec, QueryOf};
 ghost use Rattle.sr_model.specs.Queries.{Query as TheQuery};
 ghost use Rattle.sr_query.specs.Bound.{is_table};
 ghost use Rattle.sr_query.specs.Written.{write_of};

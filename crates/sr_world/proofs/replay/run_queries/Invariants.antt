@@ -1,7 +1,7 @@
 use Rattle.std.proofs.Common.{◌≡◌, ℕ, ◌+◌, ◌≤◌, List, length}
 use Rattle.std.specs.List.{AllZip}
 use Rattle.std.specs.Vec.Iter.{into_iter_items}
-use Rattle.sr_model.specs.Events.{Event}
+use Rattle.sr_language.specs.Events.{Event}
 use Rattle.sr_reader.specs.Read.{IsAsked}
 use Rattle.sr_world.specs.Represents.{drawn}
 use Rattle.sr_world.specs.Worlds.{Stands, IsStill}

@@ -1,5 +1,5 @@
 use Rattle.std.proofs.Common.{Ok, subst}
-use Rattle.sr_model.specs.Events.{Exec}
+use Rattle.sr_language.specs.Events.{Exec}
 use Rattle.sr_query.specs.Written.{write_of}
 use Rattle.sr_world.proofs.StepLemmas.{if_ok}
 use Rattle.sr_world.proofs.StatementLemmas.{still-of, refuses-exec, stands-after}

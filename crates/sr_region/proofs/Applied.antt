@@ -1,6 +1,6 @@
 -- A region stays one when a change is applied.
 use Rattle.std.proofs.Common.{◌≡◌, ℕ, zero, suc, Bool, true, false, cond, not, ◌&&◌, ◌||◌, List, [], ◌∷◌, refl, sym, ap, subst, ◌∙◌, arith}
-use Rattle.std.specs.Prelude.{filter, ℤ, Option, Some, None, IsTrue, if◌then◌else◌}
+use Rattle.std.specs.Prelude.{ℤ, Option, Some, None, if◌then◌else◌}
 use Rattle.std.specs.List.{All}
 use Rattle.std.proofs.lemmas.Int.{ints}
 use Rattle.std.proofs.lemmas.List.Elements.{All-filter, All-head, All-tail}
@@ -20,7 +20,7 @@ use Rattle.sr_rows.proofs.Order.{text_le-total}
 use Rattle.sr_rows.proofs.Places.{with_row-ascend}
 use Rattle.sr_rows.proofs.Parts.{ascend-filter}
 use Rattle.sr_region.specs.declared.region.Region.{Region}
-use Rattle.sr_region.specs.Regions.{rank, is_in, IsRowIn, IsArea, IsRegion}
+use Rattle.sr_region.specs.Regions.{rank, IsRowIn, IsArea, IsRegion}
 use Rattle.sr_region.specs.Applied.{without_key, with_new, applied, IsNew}
 use Rattle.sr_region.specs.Entering.{part_in, with_part}
 use Rattle.sr_region.proofs.Ranks.{stand}

@@ -3,5 +3,8 @@ pub mod Parts
 pub mod Ordered
 pub mod Places
 pub mod Applied
+pub mod Found
+pub mod Changed
+pub mod Kept
 pub mod Areas
 pub mod Sides

@@ -1,10 +1,10 @@
 -- One row out of rows by key, or another for it.
 use Rattle.std.proofs.Common.{◌≡◌, ℕ, zero, suc, ◌+◌, ◌-◌, ◌<◌, ◌≤◌, Bool, true, false, cond, not, ◌&&◌, List, [], ◌∷◌, ◌++◌, length, take, drop, refl, sym, ap, ◌∙◌, arith}
-use Rattle.std.specs.Prelude.{filter, nat_lt, slice_set, if◌then◌else◌}
+use Rattle.std.specs.Prelude.{slice_set, if◌then◌else◌}
 use Rattle.std.proofs.lemmas.Bool.Decides.{nat_tests}
 use Rattle.sr_cell.specs.declared.cell.Cell.{Cell}
 use Rattle.sr_cell.specs.Cells.{Row, cell_at, cell_le, cell_eq}
-use Rattle.sr_model.specs.SortedRows.{key_lt, ascend, has_key, with_row}
+use Rattle.sr_model.specs.SortedRows.{ascend, has_key, with_row}
 use Rattle.sr_box.proofs.Order.{cell_eq-sound}
 use Rattle.sr_rows.specs.Places.{place_at}
 use Rattle.sr_rows.proofs.Order.{cell_le-trans, key_lt-le, key_lt-not, is_first, ascend-tail, ascend-first}

@@ -1,5 +1,5 @@
-use Rattle.std.proofs.Common.{◌≡◌, ◌+◌, ◌++◌, take, drop, ap, ◌∙◌}
-use Rattle.sr_cell.specs.Cells.{Row, cell_at}
+use Rattle.std.proofs.Common.{◌+◌, ◌++◌, take, drop, ap, ◌∙◌}
+use Rattle.sr_cell.specs.Cells.{cell_at}
 use Rattle.sr_rows.specs.Places.{place_at}
 use Rattle.sr_region.proofs.Places.{instead, put-behind, put-before}
 use Rattle.sr_region.proofs.apply.exchange.Goals as goal

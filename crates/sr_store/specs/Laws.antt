@@ -3,6 +3,7 @@ use Rattle.std.specs.Prelude.{ℕ, Bool, true, List, map, filter, length, ◌<�
 use Rattle.std.specs.List.{list_all, All, AllZip, Contains}
 use Rattle.sr_cell.specs.declared.change.Change.{Change}
 use Rattle.sr_cell.specs.declared.table.Table.{Table}
+use Rattle.sr_cell.specs.Columns.{table_at}
 use Rattle.sr_message.specs.declared.message.Tell.{Tell}
 use Rattle.sr_message.specs.Tells.{tell_of}
 use Rattle.sr_model.specs.Changes.{changes}
@@ -24,7 +25,7 @@ use Rattle.sr_store.specs.Classes.{Held, Stamps, Keeps}
 use Rattle.sr_store.specs.Told.{told_of, AreTrueOf}
 use Rattle.sr_store.specs.Stores.{IsStore}
 use Rattle.sr_store.specs.Fitted.{IsFitted, lasts_of, count_rows}
-use Rattle.sr_store.specs.Noticed.{told_to, IsTellOf}
+use Rattle.sr_store.specs.Noticed.{told_to, IsTellOf, has_points}
 
 -- Where regions are the classes of some marks, with the rows of some tables, and are made to fit, the drops are those that the
 -- budgets demand of these marks, and the regions that are left are the classes of the marks with them.
@@ -57,7 +58,7 @@ abbrev pub NoticesKeepTrue : Type 0
 NoticesKeepTrue =
     (schema : List Table) (old new : Tables) (test : Change → Bool) (regions : List Region)
     → AreTables schema old → AreTables schema new → IsStore schema regions
-    → All (λ g. (c : Change) → concerns g c ≡ true → test c ≡ true) regions
+    → All (λ g. (c : Change) → has_points (table_at schema g.table).columns c ≡ true → concerns g c ≡ true → test c ≡ true) regions
     → AreTrueOf (told_of old) regions → AreTrueOf (told_of new) (map (told_to (map tell_of (filter test (changes schema old new)))) regions)
 
 -- what is told of changes are rows of the new tables

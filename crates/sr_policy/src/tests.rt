@@ -2,7 +2,7 @@
 ghost use Rattle.std.specs.Prelude.{◌≡◌, true, IfOk, pos};
 ghost use Rattle.sr_union.specs.Grid.{all_inner, have_first};
 
-use crate::policy::{victim, ClassView, ClassViews, Last, Lasts, Policy};
+use crate::policy::{ClassView, ClassViews, Last, Lasts, Policy, victim};
 use sr_box::rect::Rect;
 use sr_box::span::Span;
 use sr_cell::attrs::Attrs;
@@ -66,12 +66,7 @@ fn rect_of(alloc: Global, age: Ends, dept: Ends) -> Result<Rect, NoMemory> {
     Ok(rect)
 }
 
-fn centre_of(
-    rt: &impl Abort,
-    alloc: Global,
-    age: Ends,
-    dept: Ends,
-) -> Result<Centre, NoMemory> {
+fn centre_of(rt: &impl Abort, alloc: Global, age: Ends, dept: Ends) -> Result<Centre, NoMemory> {
     let table = emp(alloc)?;
     let mut rects = Rects::new(alloc);
     rects.push(rect_of(alloc, age, dept)?)?;
@@ -126,7 +121,13 @@ fn the_least_recently_used_goes_first(rt: HostRuntime) -> Result<(), Fail> {
     ] {
         let near = kept.map(|(table, attrs, stamp)| (table, attrs, stamp, (30, 30), SAME));
         let asked = [(0, (30, 30), SAME)];
-        let first = victim_of(&rt, rt.alloc(), Policy::Recency, near.as_slice(), asked.as_slice())?;
+        let first = victim_of(
+            &rt,
+            rt.alloc(),
+            Policy::Recency,
+            near.as_slice(),
+            asked.as_slice(),
+        )?;
         assert_eq!(rt; first, Some(number));
         let first = victim_of(&rt, rt.alloc(), Policy::Distance, near.as_slice(), &[])?;
         assert_eq!(rt; first, Some(number));
@@ -156,7 +157,13 @@ fn the_farthest_goes_first(rt: HostRuntime) -> Result<(), Fail> {
         ([(3, 2, (36, 40), SAME), (2, 1, (36, 40), SAME)], 1),
     ] {
         let kept = kept.map(|(table, stamp, age, dept)| (table, 1, stamp, age, dept));
-        let first = victim_of(&rt, rt.alloc(), Policy::Distance, kept.as_slice(), asked.as_slice())?;
+        let first = victim_of(
+            &rt,
+            rt.alloc(),
+            Policy::Distance,
+            kept.as_slice(),
+            asked.as_slice(),
+        )?;
         assert_eq!(rt; first, Some(number));
     }
     Ok(())
@@ -165,7 +172,10 @@ fn the_farthest_goes_first(rt: HostRuntime) -> Result<(), Fail> {
 #[test]
 fn no_class_has_no_first(rt: HostRuntime) -> Result<(), Fail> {
     for policy in [Policy::Recency, Policy::Distance] {
-        assert_eq!(rt; victim_of(&rt, rt.alloc(), policy, &[], &[(0, SAME, SAME)])?, None);
+        assert_eq!(rt;
+            victim_of(&rt, rt.alloc(), policy, &[], &[(0, SAME, SAME)])?,
+            None
+        );
     }
     Ok(())
 }

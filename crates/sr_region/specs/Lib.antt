@@ -1,4 +1,5 @@
 pub mod Regions
 pub mod Halves
 pub mod Applied
+pub mod Entering
 pub mod Laws

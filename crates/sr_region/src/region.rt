@@ -11,6 +11,7 @@ ghost use Rattle.sr_rows.specs.Places.{is_apart};
 ghost use Rattle.sr_region.specs.Applied.{applied, IsNew};
 ghost use Rattle.sr_region.specs.Regions.{rank, is_in, IsRowIn, IsArea, IsRegion, AreOfClass, joined};
 
+use crate::apply::{change_row, part_in};
 use sr_cell::attrs::Attrs;
 use sr_cell::cell::{Cell, Row, Rows};
 use sr_cell::list::{NoMemory, Seq};
@@ -90,18 +91,15 @@ impl Region {
     }
 
     /// What a change does: the row of its key is gone, and the new row is there if it lies in the rects.
-    pub fn apply(
-        &mut self,
-        alloc: Global,
-        key: &Cell,
-        after: &Option<Row>,
-    ) -> Result<(), NoMemory>
+    pub fn apply(&mut self, alloc: Global, key: &Cell, after: &Option<Row>) -> Result<(), NoMemory>
         requires { ascend (rank self.old.attrs self.old.key) self.old.rows ≡ true }
         ensures applied { OnOk result (self.new ≡ applied key.now after.now self.old) }
         ensures region { (t : TheTable) → OnOk result (IsRegion t self.old → IsNew t key.now after.now → IsRegion t self.new) }
         ensures unchanged { OnErr result (self.new ≡ self.old) }
     {
-        Err(NoMemory)
+        let place = rank_of(self.attrs, self.key as usize);
+        let part = part_in(alloc, self.attrs, &self.rects, after)?;
+        change_row(&mut self.rows, place, key, part)
     }
 
     /// The rows inside of the rects, by key.

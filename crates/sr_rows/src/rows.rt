@@ -58,8 +58,9 @@ pub fn has_key_of(rows: &Rows, key: usize, cell: &Cell) -> bool
     place > 0 && is_key_at_least(&rows.as_slice()[place - 1], key, cell)
 }
 
+/// How many rows of a slice have a key that is at most the row's: they are the first.
 #[tactic(auto, using(crate::proofs::Order::cell_at_absent))]
-pub(crate) fn place_of_row(rows: &[Row], key: usize, row: &Row) -> usize
+pub fn place_of_row(rows: &[Row], key: usize, row: &Row) -> usize
     requires { ascend key rows.now ≡ true }
     ensures place { result ≡ place_at key (cell_at row.now key) rows.now }
     ensures within { result ≤ length rows.now }

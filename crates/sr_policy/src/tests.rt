@@ -11,7 +11,7 @@ use sr_cell::table::{Column, Kind, Table};
 use sr_cell::text::Text;
 use sr_union::centre::Centre;
 use sr_union::rects::Rects;
-use std::alloc::Global;
+use std::alloc::{AllocGlobal, Global};
 use std::process::Abort;
 use std::test::Fail;
 
@@ -66,7 +66,8 @@ fn rect_of(alloc: Global, age: Ends, dept: Ends) -> Result<Rect, NoMemory> {
     Ok(rect)
 }
 
-fn centre_of(rt: &impl Abort, alloc: Global, age: Ends, dept: Ends) -> Result<Centre, NoMemory> {
+fn centre_of(rt: &(impl Abort + AllocGlobal), age: Ends, dept: Ends) -> Result<Centre, NoMemory> {
+    let alloc = rt.alloc();
     let table = emp(alloc)?;
     let mut rects = Rects::new(alloc);
     rects.push(rect_of(alloc, age, dept)?)?;
@@ -75,39 +76,38 @@ fn centre_of(rt: &impl Abort, alloc: Global, age: Ends, dept: Ends) -> Result<Ce
     Ok(centre.expect(rt, "a rect has a centre"))
 }
 
-fn classes_of(rt: &impl Abort, alloc: Global, kept: &[Kept]) -> Result<ClassViews, NoMemory> {
-    let mut classes = Seq::new(alloc);
+fn classes_of(rt: &(impl Abort + AllocGlobal), kept: &[Kept]) -> Result<ClassViews, NoMemory> {
+    let mut classes = Seq::new(rt.alloc());
     for (table, attrs, stamp, age, dept) in kept {
         classes.push(ClassView {
             table: *table,
             attrs: Attrs(*attrs),
             stamp: *stamp,
-            centre: centre_of(rt, alloc, *age, *dept)?,
+            centre: centre_of(rt, *age, *dept)?,
         })?;
     }
     Ok(classes)
 }
 
-fn lasts_of(rt: &impl Abort, alloc: Global, asked: &[Asked]) -> Result<Lasts, NoMemory> {
-    let mut lasts = Seq::new(alloc);
+fn lasts_of(rt: &(impl Abort + AllocGlobal), asked: &[Asked]) -> Result<Lasts, NoMemory> {
+    let mut lasts = Seq::new(rt.alloc());
     for (table, age, dept) in asked {
         lasts.push(Last {
             table: *table,
-            centre: centre_of(rt, alloc, *age, *dept)?,
+            centre: centre_of(rt, *age, *dept)?,
         })?;
     }
     Ok(lasts)
 }
 
 fn victim_of(
-    rt: &impl Abort,
-    alloc: Global,
+    rt: &(impl Abort + AllocGlobal),
     policy: Policy,
     kept: &[Kept],
     asked: &[Asked],
 ) -> Result<Option<usize>, NoMemory> {
-    let classes = classes_of(rt, alloc, kept)?;
-    let lasts = lasts_of(rt, alloc, asked)?;
+    let classes = classes_of(rt, kept)?;
+    let lasts = lasts_of(rt, asked)?;
     Ok(victim(policy, classes.as_slice(), lasts.as_slice()))
 }
 
@@ -121,15 +121,9 @@ fn the_least_recently_used_goes_first(rt: HostRuntime) -> Result<(), Fail> {
     ] {
         let near = kept.map(|(table, attrs, stamp)| (table, attrs, stamp, (30, 30), SAME));
         let asked = [(0, (30, 30), SAME)];
-        let first = victim_of(
-            &rt,
-            rt.alloc(),
-            Policy::Recency,
-            near.as_slice(),
-            asked.as_slice(),
-        )?;
+        let first = victim_of(&rt, Policy::Recency, near.as_slice(), asked.as_slice())?;
         assert_eq!(rt; first, Some(number));
-        let first = victim_of(&rt, rt.alloc(), Policy::Distance, near.as_slice(), &[])?;
+        let first = victim_of(&rt, Policy::Distance, near.as_slice(), &[])?;
         assert_eq!(rt; first, Some(number));
     }
     Ok(())
@@ -150,20 +144,14 @@ fn the_farthest_goes_first(rt: HostRuntime) -> Result<(), Fail> {
         ([(0, 1, (46, 50), SAME), (0, 2, (26, 30), SAME)], 0),
         // 12 in one column, 8 in each of both
         ([(0, 1, (30, 34), SAME), (0, 2, (32, 36), (4, 104))], 1),
-        // each table has its own part
-        ([(0, 1, (36, 40), SAME), (1, 2, (1, 1), SAME)], 1),
+        // each from its own table's part: 12 and 8 away, and 64 and 68 from the other's
+        ([(0, 2, (30, 34), SAME), (1, 1, (4, 4), SAME)], 0),
         // a table that was not asked
         ([(0, 1, (190, 200), SAME), (2, 2, (36, 40), SAME)], 1),
         ([(3, 2, (36, 40), SAME), (2, 1, (36, 40), SAME)], 1),
     ] {
         let kept = kept.map(|(table, stamp, age, dept)| (table, 1, stamp, age, dept));
-        let first = victim_of(
-            &rt,
-            rt.alloc(),
-            Policy::Distance,
-            kept.as_slice(),
-            asked.as_slice(),
-        )?;
+        let first = victim_of(&rt, Policy::Distance, kept.as_slice(), asked.as_slice())?;
         assert_eq!(rt; first, Some(number));
     }
     Ok(())
@@ -172,10 +160,7 @@ fn the_farthest_goes_first(rt: HostRuntime) -> Result<(), Fail> {
 #[test]
 fn no_class_has_no_first(rt: HostRuntime) -> Result<(), Fail> {
     for policy in [Policy::Recency, Policy::Distance] {
-        assert_eq!(rt;
-            victim_of(&rt, rt.alloc(), policy, &[], &[(0, SAME, SAME)])?,
-            None
-        );
+        assert_eq!(rt; victim_of(&rt, policy, &[], &[(0, SAME, SAME)])?, None);
     }
     Ok(())
 }

@@ -4,3 +4,6 @@ pub mod Classes
 pub mod Drops
 pub mod Load
 pub mod Ends
+pub mod Kept
+pub mod Victims
+pub mod Budgets

@@ -8,5 +8,6 @@ use Rattle.sr_model.specs.Statements.{Write}
 pub data Event : Type 0 where
   Exec : (statement : Result Write Fault) → Event
   QueryOf : (client : ℕ) → (query : Result Query Fault) → Event
+  Push : (client : ℕ) → Event
   ToServer : (client : ℕ) → Event
   ToClient : (client : ℕ) → Event

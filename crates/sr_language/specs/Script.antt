@@ -1,7 +1,7 @@
 -- What the lines of a script say and do, as far as they are built.
 use Rattle.std.specs.Prelude.{◌≡◌, ℕ, ◌+◌, ◌==◌, ◌&&◌, ◌||◌, Bool, false, not, List, [], ◌∷◌, ◌++◌, ◌⊎◌, length, drop, nat_eq, codes, Some, None, Result, Ok, Err, IsTrue, if◌then◌else◌}
 use Rattle.std.specs.List.{list_all, starts_with}
-use Rattle.std.specs.Str.{is_utf8}
+use Rattle.std.specs.Str.{is_utf8, bytes_eq}
 use Rattle.sr_cell.specs.declared.table.Table.{Table}
 use Rattle.sr_cell.specs.declared.fault.Fault.{Fault}
 use Rattle.sr_cell.specs.Faults.{table_fault}
@@ -10,7 +10,7 @@ use Rattle.sr_grammar.specs.Trees.{Statement, Create}
 use Rattle.sr_grammar.specs.Says.{Says}
 use Rattle.sr_model.specs.Queries.{Query}
 use Rattle.sr_model.specs.Statements.{Write}
-use Rattle.sr_language.specs.Events.{Event, Exec, QueryOf}
+use Rattle.sr_language.specs.Events.{Event, Exec, QueryOf, Push}
 use Rattle.sr_query.specs.Binding.{bound_query}
 use Rattle.sr_query.specs.Writes.{bound_write}
 use Rattle.sr_language.specs.Built.{may_ask}
@@ -23,6 +23,7 @@ pub data Line : Type 0 where
   CreateLine : (sql : List ℕ) → Line
   ExecLine : (sql : List ℕ) → Line
   QueryLine : (sql : List ℕ) → Line
+  PushLine : Line
   Other : Line
 
 abbrev pub is_blank : List ℕ → Bool
@@ -37,10 +38,15 @@ abbrev pub behind : List ℕ → (List ℕ → Line) → Line → List ℕ → L
 behind words made otherwise line =
     if starts_with nat_eq line words && not (length line == length words) then made (drop (length words) line) else otherwise
 
--- an event is `exec SQL`, or `query C SQL` of client 1, whose number has one to three digits
+-- `push C` of client 1, whose number has one to three digits
+abbrev pub is_push : List ℕ → Bool
+is_push line = bytes_eq line (codes "push 1") || bytes_eq line (codes "push 01") || bytes_eq line (codes "push 001")
+
+-- an event is `push C`, `exec SQL`, or `query C SQL` of client 1
 abbrev pub event_line : List ℕ → Line
 event_line line =
-    behind (codes "exec ") ExecLine
+    if is_push line then PushLine
+    else behind (codes "exec ") ExecLine
     (behind (codes "query 1 ") QueryLine (behind (codes "query 01 ") QueryLine (behind (codes "query 001 ") QueryLine Other line) line) line) line
 
 -- A line is UTF-8. It is blank, or begins with #, or its first word is CREATE in any case, or it is an event.
@@ -66,6 +72,7 @@ RefusedFrom i tables Later (CreateLine sql) n fault =
     ((n ≡ i) × RefusesTable tables sql fault) ⊎ ((t : Table) × AddsTable tables sql t × Later (tables ++ t ∷ []))
 RefusedFrom i tables Later (ExecLine sql) n fault = ⊥
 RefusedFrom i tables Later (QueryLine sql) n fault = ⊥
+RefusedFrom i tables Later PushLine n fault = ⊥
 RefusedFrom i tables Later Other n fault = ⊥
 
 -- The CREATE lines stand in front of all other lines that are not silent. Line n is the first of them that is refused, with
@@ -77,11 +84,10 @@ FirstRefused i tables (line ∷ lines) n fault =
 
 -- ---- the events of a script
 
--- where a script stands: among its CREATE lines, among its statements, or among its queries
+-- where a script stands: among its CREATE lines, or among its events
 pub data Stage : Type 0 where
   Creating : Stage
-  Filling : Stage
-  Asking : Stage
+  Running : Stage
 
 pub record Phase : Type 0 where
   pub tables : List Table
@@ -100,18 +106,19 @@ abbrev pub AsksOf : List Table → List ℕ → Result Query Fault → Type 0
 AsksOf tables sql (Err fault) = Says sql (Err fault) ⊎ ((s : Statement) × Says sql (Ok s) × (bound_query tables s ≡ Err fault))
 AsksOf tables sql (Ok query) = (s : Statement) × Says sql (Ok s) × (bound_query tables s ≡ Ok query) × IsTrue (may_ask query)
 
--- The CREATE lines stand in front, then the statements, then the queries.
+-- The CREATE lines stand in front, and then the events.
 abbrev pub LineDoes : Phase → ℕ → Line → List (ℕ × Event) → Phase → Type 0
 LineDoes phase n Silent events next = (events ≡ []) × (next ≡ phase)
 LineDoes phase n (CreateLine sql) events next =
     (t : Table) × AddsTable phase.tables sql t × (phase.stage ≡ Creating)
     × (events ≡ []) × (next ≡ record phase { tables = phase.tables ++ t ∷ [] })
 LineDoes phase n (ExecLine sql) events next =
-    (statement : Result Write Fault) × Writes phase.tables sql statement × (phase.stage ≡ Asking → ⊥)
-    × (events ≡ (n, Exec statement) ∷ []) × (next ≡ record phase { stage = Filling })
+    (statement : Result Write Fault) × Writes phase.tables sql statement
+    × (events ≡ (n, Exec statement) ∷ []) × (next ≡ record phase { stage = Running })
 LineDoes phase n (QueryLine sql) events next =
     (query : Result Query Fault) × AsksOf phase.tables sql query
-    × (events ≡ (n, QueryOf 1 query) ∷ []) × (next ≡ record phase { stage = Asking })
+    × (events ≡ (n, QueryOf 1 query) ∷ []) × (next ≡ record phase { stage = Running })
+LineDoes phase n PushLine events next = (events ≡ (n, Push 1) ∷ []) × (next ≡ record phase { stage = Running })
 LineDoes phase n Other events next = ⊥
 
 -- the lines, the first of which has number i, give these events, each with the number of its line

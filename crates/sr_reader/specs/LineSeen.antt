@@ -11,6 +11,7 @@ line_seen code.Silent = script.Silent
 line_seen (code.Create sql) = script.CreateLine sql.now
 line_seen (code.Exec sql) = script.ExecLine sql.now
 line_seen (code.Query sql) = script.QueryLine sql.now
+line_seen code.Push = script.PushLine
 line_seen code.Other = script.Other
 
 abbrev pub begins_event : List ℕ → List ℕ → Bool

@@ -5,7 +5,7 @@ use Rattle.sr_cell.specs.declared.fault.Fault.{Fault}
 use Rattle.sr_cell.specs.declared.table.Table.{Table}
 use Rattle.sr_model.specs.Queries as model
 use Rattle.sr_model.specs.Statements as statements
-use Rattle.sr_language.specs.Events.{Event, Exec, QueryOf}
+use Rattle.sr_language.specs.Events.{Event, Exec, QueryOf, Push}
 use Rattle.sr_query.specs.Bound.{is_table, IsQuery}
 use Rattle.sr_query.specs.declared.query.Query.{Query}
 use Rattle.sr_query.specs.declared.write.Write.{Write}
@@ -16,17 +16,15 @@ use Rattle.sr_language.specs.Lines.{lines_of}
 use Rattle.sr_language.specs.Built.{may_ask}
 use Rattle.sr_language.specs.Sound.{is_sound}
 use Rattle.sr_language.specs.Script.{Phase, start_phase, Reads}
-use Rattle.sr_reader.specs.declared.script.ExecLine.{ExecLine}
-use Rattle.sr_reader.specs.declared.script.QueryLine.{QueryLine}
+use Rattle.sr_reader.specs.declared.script.Event as code
+use Rattle.sr_reader.specs.declared.script.Event.TheVariants as read
+use Rattle.sr_reader.specs.declared.script.EventLine.{EventLine}
 use Rattle.sr_reader.specs.declared.script.Script.{Script}
 
 -- a bound statement, or the fault of its text, stands for this one
 abbrev pub statement_of : Result Write Fault → Result statements.Write Fault
 statement_of (Ok w) = Ok (write_of w)
 statement_of (Err fault) = Err fault
-
-abbrev pub exec_event : ExecLine → ℕ × Event
-exec_event line = (line.number, Exec (statement_of line.statement))
 
 -- a bound query, or the fault of its text, stands for this one
 abbrev pub Means : List Table → Result Query Fault → Result model.Query Fault → Type 0
@@ -35,14 +33,19 @@ Means tables (Ok q) (Err fault) = ⊥
 Means tables (Err fault) (Ok meaning) = ⊥
 Means tables (Err fault) (Err same) = fault ≡ same
 
-abbrev pub IsAsked : List Table → QueryLine → ℕ × Event → Type 0
-IsAsked tables line event = (meaning : Result model.Query Fault) × Means tables line.query meaning × (event ≡ (line.number, QueryOf 1 meaning))
+-- an event that was read stands for this one
+abbrev pub IsEvent : List Table → code.Event → Event → Type 0
+IsEvent tables (read.Exec statement) event = event ≡ Exec (statement_of statement)
+IsEvent tables (read.Query query) event = (meaning : Result model.Query Fault) × Means tables query meaning × (event ≡ QueryOf 1 meaning)
+IsEvent tables read.Push event = event ≡ Push 1
+
+-- with the number of its line
+abbrev pub IsEventLine : List Table → EventLine → ℕ × Event → Type 0
+IsEventLine tables line numbered = (event : Event) × IsEvent tables line.event event × (numbered ≡ (line.number, event))
 
 -- the events of a script, in the order of its lines
-pub record AreEvents (s : Script) (events : List (ℕ × Event)) : Type 0 where
-  pub asked : List (ℕ × Event)
-  pub queries : AllZip (IsAsked s.schema) s.queries asked
-  pub all : events ≡ map exec_event s.statements ++ asked
+abbrev pub AreEvents : Script → List (ℕ × Event) → Type 0
+AreEvents s events = AllZip (IsEventLine s.schema) s.lines events
 
 abbrev pub few_rows : Write → Bool
 few_rows (writes.Insert table rows) = nat_lt (length rows) 65536
@@ -54,10 +57,15 @@ abbrev pub statement_fits : List Table → Result Write Fault → Bool
 statement_fits tables (Ok w) = suits tables (write_of w) && few_rows w
 statement_fits tables (Err fault) = true
 
+abbrev pub event_fits : List Table → code.Event → Bool
+event_fits tables (read.Exec statement) = statement_fits tables statement
+event_fits tables (read.Query query) = true
+event_fits tables read.Push = true
+
 -- what holds of the lines, so that they can be carried out
 pub record Fits (s : Script) : Type 0 where
   pub tables : IsTrue (list_all is_table s.schema)
-  pub statements : IsTrue (list_all (λ line. statement_fits s.schema line.statement) s.statements)
+  pub events : IsTrue (list_all (λ line. event_fits s.schema line.event) s.lines)
 
 -- the bytes say the script: its lines have just these events, over these tables
 pub record IsRead (bytes : List ℕ) (s : Script) : Type 0 where
@@ -66,4 +74,4 @@ pub record IsRead (bytes : List ℕ) (s : Script) : Type 0 where
   pub are : AreEvents s events
   pub reads : Reads 1 start_phase (lines_of bytes) events end
   pub tables : end.tables ≡ s.schema
-  pub few : length s.statements + length s.queries ≤ length bytes
+  pub few : length s.lines ≤ length bytes

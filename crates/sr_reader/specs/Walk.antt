@@ -2,20 +2,18 @@
 use Rattle.std.specs.Prelude.{ℕ, Bool, true, false, List, [], ◌∷◌, ◌++◌, Result, Ok, Err}
 use Rattle.sr_cell.specs.declared.list.NoMemory.{NoMemory}
 use Rattle.sr_language.specs.Events.{Event}
-use Rattle.sr_language.specs.Script.{Line, Stage, Creating, Filling, Asking, Phase, LineDoes}
-use Rattle.sr_reader.specs.declared.script.ExecLine.{ExecLine}
-use Rattle.sr_reader.specs.declared.script.QueryLine.{QueryLine}
+use Rattle.sr_language.specs.Script.{Line, Stage, Creating, Running, Phase, LineDoes}
+use Rattle.sr_reader.specs.declared.script.EventLine.{EventLine}
 use Rattle.sr_reader.specs.declared.script.Script.{Script}
 use Rattle.sr_reader.specs.Read.{AreEvents, Fits}
 
-abbrev pub stage_by : List ExecLine → List QueryLine → Stage
-stage_by statements (query ∷ queries) = Asking
-stage_by (statement ∷ statements) [] = Filling
-stage_by [] [] = Creating
+abbrev pub stage_by : List EventLine → Stage
+stage_by (line ∷ lines) = Running
+stage_by [] = Creating
 
 -- where a script stands that was read so far
 abbrev pub phase_in : Script → Phase
-phase_in s = record { tables = s.schema; stage = stage_by s.statements s.queries }
+phase_in s = record { tables = s.schema; stage = stage_by s.lines }
 
 -- the line, of this number, does something, whose events stand behind those of the lines before
 abbrev pub Adds : ℕ → Script → Line → Script → Type 0

@@ -2,7 +2,7 @@
 ghost use Rattle.std.specs.Prelude.{◌≡◌, ◌<◌, ◌^◌, length, nat_eq, codes};
 ghost use Rattle.std.specs.List.{starts_with};
 ghost use Rattle.sr_grammar.specs.Tokens.{Key, is, seen, tokens_of};
-ghost use Rattle.sr_language.specs.Script.{is_blank, begins_create, event_line, line_of};
+ghost use Rattle.sr_language.specs.Script.{is_blank, begins_create, is_push, event_line, line_of};
 ghost use Rattle.sr_reader.specs.LineSeen.{line_seen, IsBehind, query_seen, query_line};
 
 use sr_token::token::{Token, TokenKind};
@@ -16,6 +16,7 @@ pub(crate) enum Line<'a> {
     Create(&'a str),
     Exec(&'a str),
     Query(&'a str),
+    Push,
     Other,
 }
 
@@ -75,9 +76,19 @@ fn query_of(line: &str) -> Option<&str>
     }
 }
 
+/// Whether the line is a push of client 1, whose number has one to three digits.
+fn is_push(line: &str) -> bool
+    ensures { result ≡ is_push line.now }
+{
+    line == "push 1" || line == "push 01" || line == "push 001"
+}
+
 fn event_of(line: &str) -> Line<'_>
     ensures { line_seen result ≡ event_line line.now }
 {
+    if is_push(line) {
+        return Line::Push;
+    }
     if let Some(sql) = behind(line, "exec ") {
         return Line::Exec(sql);
     }

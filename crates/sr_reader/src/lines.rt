@@ -1,9 +1,9 @@
 //! Reading of scripts, line by line.
-ghost use Rattle.std.specs.Prelude.{◌≡◌, ◌<◌, ◌^◌, ◌↔◌, List, [], IsTrue, IfOk, IsErrOf, length};
+ghost use Rattle.std.specs.Prelude.{◌≡◌, ◌<◌, ◌^◌, ◌↔◌, List, [], ◌∷◌, ◌++◌, IsTrue, IfOk, OnOk, IsErrOf, length};
 ghost use Rattle.sr_cell.specs.declared.list.No.TheVariants.{Refused};
 ghost use Rattle.sr_cell.specs.declared.table.Table.{Table};
 ghost use Rattle.sr_language.specs.Lines.{lines_of};
-ghost use Rattle.sr_language.specs.Script.{CreateLine, ExecLine, QueryLine, Creating, start_phase, FirstUnbuilt};
+ghost use Rattle.sr_language.specs.Script.{CreateLine, ExecLine, QueryLine, PushLine, Creating, start_phase, FirstUnbuilt};
 ghost use Rattle.sr_language.specs.Creates.{Creates};
 ghost use Rattle.sr_reader.specs.declared.script.UnbuiltLine.{UnbuiltLine as TheUnbuiltLine};
 ghost use Rattle.sr_reader.specs.LineSeen.{line_seen};
@@ -13,8 +13,8 @@ ghost use Rattle.sr_reader.specs.Walked.{IsWalk};
 
 use crate::cut::cut_line;
 use crate::line::{Line, line_of};
-use crate::script::{Script, UnbuiltLine};
-use crate::{meaning, script};
+use crate::meaning;
+use crate::script::{Event, EventLine, Script, UnbuiltLine};
 use sr_cell::list::{No, NoMemory, Seq};
 use sr_cell::schema::Schema;
 use std::alloc::Global;
@@ -23,7 +23,7 @@ use std::alloc::Global;
 fn is_creating(script: &Script) -> bool
     ensures { IsTrue result ↔ ((phase_in script.now).stage ≡ Creating) }
 {
-    script.statements.is_empty() && script.queries.is_empty()
+    script.lines.is_empty()
 }
 
 /// Adds the table of a CREATE line to those of the lines before; false if the line does nothing that is built.
@@ -45,19 +45,21 @@ fn add_create(alloc: Global, number: u64, sql: &str, script: &mut Script) -> Res
     }
 }
 
-/// Adds an exec line; false if the line does nothing that is built.
+/// Puts an event of this number behind those of the lines before.
+fn push_event(number: u64, event: Event, script: &mut Script) -> Result<(), NoMemory>
+    ensures { OnOk result (script.new ≡ record script.old { lines = script.old.lines ++ record { number = number; event = event } ∷ [] }) }
+{
+    script.lines.push(EventLine { number, event })
+}
+
+/// Adds an exec line.
 #[tactic(none)]
 fn add_exec(alloc: Global, number: u64, sql: &str, script: &mut Script) -> Result<bool, NoMemory>
     requires { Fits script.old }
     ensures { IsAdded number script.old (ExecLine sql.now) result script.new }
 {
-    if !script.queries.is_empty() {
-        return Ok(false);
-    }
     let statement = meaning::write_of(alloc, &script.schema, sql)?;
-    script
-        .statements
-        .push(script::ExecLine { number, statement })?;
+    push_event(number, Event::Exec(statement), script)?;
     Ok(true)
 }
 
@@ -69,11 +71,21 @@ fn add_query(alloc: Global, number: u64, sql: &str, script: &mut Script) -> Resu
 {
     match meaning::query_of(alloc, &script.schema, sql)? {
         Some(query) => {
-            script.queries.push(script::QueryLine { number, query })?;
+            push_event(number, Event::Query(query), script)?;
             Ok(true)
         }
         None => Ok(false),
     }
+}
+
+/// Adds a push line.
+#[tactic(none)]
+fn add_push(number: u64, script: &mut Script) -> Result<bool, NoMemory>
+    requires { Fits script.old }
+    ensures { IsAdded number script.old PushLine result script.new }
+{
+    push_event(number, Event::Push, script)?;
+    Ok(true)
 }
 
 /// Adds a line of this number; false if the line does nothing that is built.
@@ -91,6 +103,7 @@ fn add_line(
         Line::Create(sql) => add_create(alloc, number, sql, script),
         Line::Exec(sql) => add_exec(alloc, number, sql, script),
         Line::Query(sql) => add_query(alloc, number, sql, script),
+        Line::Push => add_push(number, script),
         Line::Other => Ok(false),
     }
 }
@@ -109,8 +122,7 @@ fn read_lines(alloc: Global, bytes: &[u8]) -> Result<Walk, NoMemory>
 {
     let mut script = Script {
         schema: Schema::new(alloc),
-        statements: Seq::new(alloc),
-        queries: Seq::new(alloc),
+        lines: Seq::new(alloc),
     };
     let mut rest = bytes;
     let mut number: u64 = 1;

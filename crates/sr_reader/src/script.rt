@@ -5,26 +5,28 @@ use sr_cell::schema::Schema;
 use sr_query::query::Query;
 use sr_query::write::Write;
 
-/// The statement of a line of this number, or why its text is refused.
+/// What a line says. A text stands for its statement or its query, or for why it is refused.
 #[derive(Drop)]
-pub struct ExecLine {
-    pub number: u64,
-    pub statement: Result<Write, Fault>,
+pub enum Event {
+    Exec(Result<Write, Fault>),
+    Query(Result<Query, Fault>),
+    Push,
 }
 
-/// The query of a line of this number, or why its text is refused.
+/// The event of a line, with the line's number counted from 1.
 #[derive(Drop)]
-pub struct QueryLine {
+pub struct EventLine {
     pub number: u64,
-    pub query: Result<Query, Fault>,
+    pub event: Event,
 }
 
-/// The tables of a script, its statements, and after them its queries.
+pub type EventLines = Seq<EventLine>;
+
+/// The tables of a script, and its events.
 #[derive(Drop)]
 pub struct Script {
     pub schema: Schema,
-    pub statements: Seq<ExecLine>,
-    pub queries: Seq<QueryLine>,
+    pub lines: EventLines,
 }
 
 /// A line that does nothing that is built, by its number counted from 1.

@@ -7,7 +7,7 @@ use Rattle.sr_history.specs.declared.mark.Mark.TheVariants.{Held}
 use Rattle.sr_script.specs.declared.line.TraceLine.{TraceLine}
 use Rattle.sr_script.specs.declared.line.TraceLine.TheVariants as line
 use Rattle.sr_scene.specs.Scene.{Scene, Client}
-use Rattle.sr_scene.specs.Example.{schema, row, query, ages, events, lines}
+use Rattle.sr_scene.specs.Example.{default_limits, schema, row, query, ages, events, lines}
 
 abbrev pub covered_script : List ℕ
 covered_script = codes "CREATE TABLE p (id INT PRIMARY KEY CHECK (id BETWEEN 0 AND 9999), age INT CHECK (age BETWEEN 0 AND 150))\nexec INSERT INTO p VALUES (1, 35), (2, 45)\nexec INSERT INTO p VALUES (3, 33)\nquery 1 SELECT id, age FROM p WHERE age BETWEEN 30 AND 40\nquery 1 SELECT id, age FROM p WHERE age BETWEEN 32 AND 35\n"
@@ -48,7 +48,7 @@ served_client = record {
 }
 
 abbrev pub opened : Scene
-opened = record { eager = true; schema = schema; versions = versions; clients = served_client ∷ [] }
+opened = record { eager = true; limits = default_limits; schema = schema; versions = versions; clients = served_client ∷ [] }
 
 -- each client's messages to the server, and those to it
 abbrev pub queues_of : Scene → List (List Message × List Message)

@@ -10,7 +10,9 @@ use Rattle.sr_model.specs.Conditions.{Tests, And, none, more, Between}
 use Rattle.sr_model.specs.Queries.{Part, Query}
 use Rattle.sr_model.specs.Statements.{Insert}
 use Rattle.sr_language.specs.Events.{Event, Exec, QueryOf}
-use Rattle.sr_language.specs.Script.{Phase, Asking}
+use Rattle.sr_language.specs.Script.{Phase, Running}
+use Rattle.sr_policy.specs.declared.policy.Limits.{Limits}
+use Rattle.sr_policy.specs.declared.policy.Policy.TheVariants.{Recency}
 use Rattle.sr_script.specs.declared.line.RequestKind.TheVariants as kind
 use Rattle.sr_script.specs.declared.line.TraceLine.{TraceLine}
 use Rattle.sr_script.specs.declared.line.TraceLine.TheVariants as line
@@ -64,8 +66,12 @@ lines =
 
 -- where the script ends
 abbrev pub end : Phase
-end = record { tables = people ∷ []; stage = Asking }
+end = record { tables = people ∷ []; stage = Running }
+
+-- what a client may keep where nothing else is said
+abbrev pub default_limits : Limits
+default_limits = record { rows = 10000; regions = 64; policy = Recency }
 
 -- one client, and no rows yet
 abbrev pub start : Scene
-start = first true schema ([] ∷ []) 1
+start = first true default_limits schema ([] ∷ []) 1

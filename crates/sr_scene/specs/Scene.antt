@@ -6,6 +6,7 @@ use Rattle.sr_message.specs.declared.message.Message.{Message}
 use Rattle.sr_model.specs.Queries.{Query}
 use Rattle.sr_model.specs.Statements.{Tables}
 use Rattle.sr_model.specs.Changes.{newest_of, version_at}
+use Rattle.sr_policy.specs.declared.policy.Limits.{Limits}
 use Rattle.sr_history.specs.declared.mark.Mark.{Mark}
 use Rattle.sr_history.specs.Classes.{Numbered}
 use Rattle.sr_scene.specs.Server.{Session}
@@ -28,6 +29,7 @@ pub record Client : Type 0 where
 
 pub record Scene : Type 0 where
   pub eager : Bool
+  pub limits : Limits  -- what each client may keep
   pub schema : List Table
   pub versions : List Tables  -- version 0 first
   pub clients : List Client  -- client 1 first
@@ -59,5 +61,5 @@ new_client = record {
   session = Some (record { subscription = []; upto = 0 });
 }
 
-abbrev pub first : Bool → List Table → Tables → ℕ → Scene
-first eager schema tables clients = record { eager = eager; schema = schema; versions = tables ∷ []; clients = replicate clients new_client }
+abbrev pub first : Bool → Limits → List Table → Tables → ℕ → Scene
+first eager limits schema tables clients = record { eager = eager; limits = limits; schema = schema; versions = tables ∷ []; clients = replicate clients new_client }

@@ -1,6 +1,5 @@
 -- What a server sends.
-use Rattle.std.specs.Prelude.{ℕ, Bool, true, false, List, [], ◌∷◌, ◌++◌, ◌+◌, ◌-◌, suc, zero, map, filter, take, drop, length, Option, Some, None}
-use Rattle.sr_cell.specs.declared.change.Change.{Change}
+use Rattle.std.specs.Prelude.{ℕ, Bool, true, false, nat_lt, List, [], ◌∷◌, ◌++◌, ◌+◌, ◌-◌, suc, zero, map, filter, take, drop, length, Option, Some, None, if◌then◌else◌}
 use Rattle.sr_cell.specs.declared.table.Table.{Table}
 use Rattle.sr_cell.specs.Cells.{Row}
 use Rattle.sr_cell.specs.Attrs.{project}
@@ -10,6 +9,7 @@ use Rattle.sr_subs.specs.Subscription.{touches}
 use Rattle.sr_message.specs.declared.message.AskPart.{AskPart}
 use Rattle.sr_message.specs.declared.message.Tell.{Tell}
 use Rattle.sr_message.specs.declared.message.Message.{Message}
+use Rattle.sr_message.specs.Tells.{tell_of}
 use Rattle.sr_message.specs.declared.message.Message.TheVariants.{Ask, Notice, Rows, Reply}
 use Rattle.sr_model.specs.Queries.{rows_at}
 use Rattle.sr_model.specs.Statements.{Tables}
@@ -20,23 +20,35 @@ pub record Session : Type 0 where
   pub subscription : List Holding
   pub upto : ℕ
 
-abbrev pub tell_of : Change → Tell
-tell_of c = record { table = c.table; key = c.key; after = c.after }
-
 -- no notice where nothing is told
 abbrev pub notice : ℕ → List Tell → List Message
 notice v [] = []
 notice v (tell ∷ told) = Notice v (tell ∷ told) ∷ []
 
+-- what is told of version v: its changes that touch the subscription
+abbrev pub told_at : List Table → List Tables → List Holding → ℕ → List Tell
+told_at schema versions subscription v = map tell_of (filter (touches subscription) (changes_at schema versions v))
+
 -- a notice for each of the n versions after v that has changes which touch the subscription, with just those changes
 abbrev pub notices : List Table → List Tables → List Holding → ℕ → ℕ → List Message
 notices schema versions subscription v zero = []
 notices schema versions subscription v (suc n) =
-    notice (v + 1) (map tell_of (filter (touches subscription) (changes_at schema versions (v + 1)))) ++ notices schema versions subscription (v + 1) n
+    notice (v + 1) (told_at schema versions subscription (v + 1)) ++ notices schema versions subscription (v + 1) n
 
 -- what is due to a session before anything else is sent
 abbrev pub due : List Table → List Tables → Session → List Message
 due schema versions session = notices schema versions session.subscription session.upto (newest_of versions - session.upto)
+
+-- nothing was told of the newest version
+abbrev pub closing_notice : ℕ → List Tell → List Message
+closing_notice v [] = Notice v [] ∷ []
+closing_notice v (tell ∷ told) = []
+
+-- What a push sends: the notices that are due, and where the newest version has none and is not reached yet, one that tells nothing.
+abbrev pub pushed : List Table → List Tables → Session → List Message
+pushed schema versions session =
+    let newest = newest_of versions in
+    due schema versions session ++ (if nat_lt session.upto newest then closing_notice newest (told_at schema versions session.subscription newest) else [])
 
 -- in pieces of 256 rows, the last possibly shorter; at most n pieces
 abbrev pub pieces : ℕ → List Row → List (List Row)

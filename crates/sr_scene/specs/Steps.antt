@@ -10,7 +10,7 @@ use Rattle.sr_message.specs.declared.message.Message.{Message}
 use Rattle.sr_message.specs.declared.message.Message.TheVariants.{Ask, Notice, Rows, Reply}
 use Rattle.sr_model.specs.Queries.{Query, rows_of}
 use Rattle.sr_model.specs.Statements.{Tables, Write, executed}
-use Rattle.sr_language.specs.Events.{Event, Exec, QueryOf, ToServer, ToClient}
+use Rattle.sr_language.specs.Events.{Event, Exec, QueryOf, Push, ToServer, ToClient}
 use Rattle.sr_history.specs.declared.mark.Mark.{Mark}
 use Rattle.sr_history.specs.declared.mark.Mark.TheVariants.{Held, Dropped}
 use Rattle.sr_history.specs.Marks.{HoldsNothing, with_marks}
@@ -18,12 +18,14 @@ use Rattle.sr_history.specs.Rests.{Asks}
 use Rattle.sr_history.specs.Classes.{Numbered}
 use Rattle.sr_history.specs.Drops.{DropsAll, Absorbs}
 use Rattle.sr_history.specs.Load.{IsHeavy}
+use Rattle.sr_history.specs.Kept.{kept}
+use Rattle.sr_history.specs.Budgets.{MeetsBudgets}
 use Rattle.sr_cell.specs.declared.cause.Cause.TheVariants.{Pieces}
 use Rattle.sr_script.specs.declared.line.RequestKind.{RequestKind}
 use Rattle.sr_script.specs.declared.line.RequestKind.TheVariants as kind
 use Rattle.sr_script.specs.declared.line.TraceLine.{TraceLine}
 use Rattle.sr_script.specs.declared.line.TraceLine.TheVariants as line
-use Rattle.sr_scene.specs.Server.{serve}
+use Rattle.sr_scene.specs.Server.{Session, open_session, pushed, serve}
 use Rattle.sr_scene.specs.Scene.{Scene, Client, Request, AskOut, newest_version, tables_at, client_at, with_client}
 
 -- The event is one of client n, and the rest of the scene stays.
@@ -63,13 +65,16 @@ Holds schema ask (Dropped cause t attrs stamp rects) = ⊥
 
 -- ---- what an answer does to what is held
 
--- What was asked is held, and then the absorbed classes are dropped. The queries are those after the answer.
-pub record Renews (schema : List Table) (asked : List AskPart) (queries : List Numbered) (c : Client) (marks : List Mark) : Type 0 where
+-- What was asked is held, then the absorbed classes are dropped, and then the budgets are met, where the rows are those of the
+-- version of the answer. The queries are those after the answer.
+pub record Renews (s : Scene) (asked : List AskPart) (version : ℕ) (queries : List Numbered) (c : Client) (marks : List Mark) : Type 0 where
   pub held : List Mark
+  pub absorbed : List Mark
   pub drops : List Mark
-  pub holds : AllZip (Holds schema) asked held
-  pub absorbs : Absorbs schema (with_marks c.marks held) queries drops
-  pub all : marks ≡ held ++ drops
+  pub holds : AllZip (Holds s.schema) asked held
+  pub absorbs : Absorbs s.schema (with_marks c.marks held) queries absorbed
+  pub budgets : MeetsBudgets s.schema s.limits (kept (tables_at s version)) queries (with_marks (with_marks c.marks held) absorbed) drops
+  pub all : marks ≡ held ++ (absorbed ++ drops)
 
 -- the queries whose tests count for the load, the one with that number last
 abbrev pub counted : ℕ → List Numbered → List Query
@@ -82,10 +87,10 @@ pub record GivesUp (schema : List Table) (asked : List AskPart) (q : Query) (que
   pub some : 0 < length marks + length asked
 
 -- What a client keeps once query number is answered at a version, with these queries then.
-abbrev pub Keeps : List Table → List AskPart → Query → ℕ → ℕ → List Numbered → Client → List Mark → Client → Type 0
-Keeps schema asked q number version queries c marks new =
-    (Renews schema asked queries c marks × (new ≡ record c { queries = queries; marks = with_marks c.marks marks; version = version }))
-    ⊎ (GivesUp schema asked q queries c marks
+abbrev pub Keeps : Scene → List AskPart → Query → ℕ → ℕ → List Numbered → Client → List Mark → Client → Type 0
+Keeps s asked q number version queries c marks new =
+    (Renews s asked version queries c marks × (new ≡ record c { queries = queries; marks = with_marks c.marks marks; version = version }))
+    ⊎ (GivesUp s.schema asked q queries c marks
     × (new ≡ record c { queries = queries; counted_from = number + 1; marks = with_marks c.marks marks; version = version }))
 
 -- ---- queries
@@ -96,7 +101,7 @@ with_query q answered c = c.queries ++ record { query = q; answered = answered }
 -- A query that asks nothing is answered at once, and nothing is sent. Else one request asks all that has to be asked.
 abbrev pub Queries : Scene → ℕ → Query → List AskPart → Client → List TraceLine → Client → Type 0
 Queries s n q [] c lines new =
-    (marks : List Mark) × Keeps s.schema [] q (number_of_next c) c.version (with_query q true c) c marks new
+    (marks : List Mark) × Keeps s [] q (number_of_next c) c.version (with_query q true c) c marks new
     × (lines ≡ answer_lines s n (number_of_next c) q c.version ++ (map (mark_line n) marks ++ line.QueryAnswered n (number_of_next c) ∷ []))
 Queries s n q (ask ∷ asks) c lines new =
     (fresh : Bool) × (IsTrue fresh ↔ HoldsNothing s.schema c.marks)
@@ -134,6 +139,27 @@ abbrev pub QueriesText : Scene → ℕ → Result Query Fault → Client → Lis
 QueriesText s n (Err fault) c lines new = (lines ≡ line.QuerySql n fault ∷ []) × (new ≡ c)
 QueriesText s n (Ok q) c lines new = QueriesIfFree s n q c.out c lines new
 
+-- ---- notices
+
+-- What is due is sent, and the session has reached the newest version.
+abbrev pub PushesTo : Scene → ℕ → Option Session → Client → List TraceLine → Client → Type 0
+PushesTo s n None c lines new = (lines ≡ line.PushClosed n ∷ []) × (new ≡ c)
+PushesTo s n (Some session) c lines new =
+    let sent = pushed s.schema s.versions session in
+    (lines ≡ line.PushSent n (length sent) ∷ [])
+    × (new ≡ record c { session = open_session s.versions session.subscription; to_client = c.to_client ++ sent })
+
+-- A notice that comes while nothing is out is applied at once: the client is at its version, which is not below its last, and the
+-- budgets are met there.
+abbrev pub Applies : Scene → ℕ → ℕ → Client → List TraceLine → Client → Type 0
+Applies s n version c lines new =
+    (c.version ≤ version)
+    × ((drops : List Mark) × MeetsBudgets s.schema s.limits (kept (tables_at s version)) c.queries c.marks drops
+    × (lines ≡ map (mark_line n) drops ++ line.ClientApplied n version ∷ [])
+    × (new ≡ record c { marks = with_marks c.marks drops; version = version }))
+
+-- ---- deliveries
+
 -- the kind of a request; a server's messages are none
 abbrev pub request_kind : Message → Option RequestKind
 request_kind (Ask number fresh parts) = Some kind.Ask
@@ -157,7 +183,7 @@ with_answered number q queries = slice_set queries (number - 1) (record { query 
 abbrev pub Answers : Scene → ℕ → ℕ → Query → List AskPart → ℕ → Client → List TraceLine → Client → Type 0
 Answers s n number q asked version c lines new =
     (c.version ≤ version)
-    × ((marks : List Mark) × Keeps s.schema asked q number version (with_answered number q c.queries) (record c { out = None; laid = [] }) marks new
+    × ((marks : List Mark) × Keeps s asked q number version (with_answered number q c.queries) (record c { out = None; laid = [] }) marks new
     × (lines ≡ answer_lines s n number q version ++ (map (mark_line n) marks ++ line.ClientAnswered n ∷ [])))
 
 -- A message that comes while a request is out, and is not its last, is laid by.
@@ -170,7 +196,10 @@ TakesMessage s n (Some (AskOut number query q fresh parts)) (Reply k version) c 
 TakesMessage s n (Some (AskOut number query q fresh parts)) (Rows k part rows) c lines new = (k ≡ number) × LaysBy n (Rows k part rows) c lines new
 TakesMessage s n (Some (AskOut number query q fresh parts)) (Notice version told) c lines new = LaysBy n (Notice version told) c lines new
 TakesMessage s n (Some (AskOut number query q fresh parts)) (Ask k mode asked) c lines new = ⊥
-TakesMessage s n None m c lines new = ⊥
+TakesMessage s n None (Notice version told) c lines new = Applies s n version c lines new
+TakesMessage s n None (Reply k version) c lines new = ⊥
+TakesMessage s n None (Rows k part rows) c lines new = ⊥
+TakesMessage s n None (Ask k mode asked) c lines new = ⊥
 
 -- The client takes the oldest message of the server.
 abbrev pub ClientTakes : Scene → ℕ → List Message → Client → List TraceLine → Client → Type 0
@@ -180,5 +209,6 @@ ClientTakes s n (m ∷ queue) c lines new = TakesMessage s n c.out m (record c {
 abbrev pub Happens : Scene → Event → List TraceLine → Scene → Type 0
 Happens s (Exec statement) lines new = Executes s (result_of s statement) lines new
 Happens s (QueryOf n query) lines new = OfClient s n (QueriesText s n query) lines new
+Happens s (Push n) lines new = OfClient s n (λ c. PushesTo s n c.session c) lines new
 Happens s (ToServer n) lines new = (c : Client) × (client_at s n ≡ Some c) × ServerTakes s n c.to_server c lines new
 Happens s (ToClient n) lines new = OfClient s n (λ c. ClientTakes s n c.to_client c) lines new

@@ -126,10 +126,13 @@ line_words schema (line.QueryAnswered n q) = codes "query" ∷ decimal n ∷ cod
 line_words schema (line.QueryAsked n k) = codes "query" ∷ decimal n ∷ codes "asked" ∷ decimal k ∷ []
 line_words schema (line.QuerySql n fault) = codes "query" ∷ decimal n ∷ codes "sql" ∷ fault_words fault
 line_words schema (line.QueryBusy n k) = codes "query" ∷ decimal n ∷ codes "busy" ∷ decimal k ∷ []
+line_words schema (line.PushSent n frames) = codes "push" ∷ decimal n ∷ codes "sent" ∷ decimal frames ∷ []
+line_words schema (line.PushClosed n) = codes "push" ∷ decimal n ∷ codes "closed" ∷ []
 line_words schema (line.ServerEmpty n) = codes "toserver" ∷ decimal n ∷ codes "empty" ∷ []
 line_words schema (line.ServerTook n request frames) = codes "toserver" ∷ decimal n ∷ kind_text request ∷ decimal frames ∷ []
 line_words schema (line.ClientEmpty n) = codes "toclient" ∷ decimal n ∷ codes "empty" ∷ []
 line_words schema (line.ClientLaid n) = codes "toclient" ∷ decimal n ∷ codes "laid" ∷ []
+line_words schema (line.ClientApplied n v) = codes "toclient" ∷ decimal n ∷ codes "applied" ∷ decimal v ∷ []
 line_words schema (line.ClientAnswered n) = codes "toclient" ∷ decimal n ∷ codes "answered" ∷ []
 
 -- words with one blank between two, and the end of the line

@@ -1,7 +1,7 @@
 //! The forms of trace lines, without the number of their event.
 ghost use Rattle.std.specs.Prelude.{◌≡◌, ◌++◌, ◌∷◌, ℕ, List, [], OnOk, codes, decimal, string_bytes};
 ghost use Rattle.sr_script.specs.TraceText.{ended, line_words, cause_text, name_of, attrs_of, rects_of};
-ghost use Rattle.sr_script.specs.declared.line.TraceLine.TheVariants.{Answer, Row, Held, Drop, Ask, Part, ExecVersion, ExecRefused, QueryAnswered, QueryAsked, QuerySql, QueryBusy, ServerEmpty, ServerTook, ClientEmpty, ClientLaid, ClientAnswered};
+ghost use Rattle.sr_script.specs.declared.line.TraceLine.TheVariants.{Answer, Row, Held, Drop, Ask, Part, ExecVersion, ExecRefused, QueryAnswered, QueryAsked, QuerySql, QueryBusy, PushSent, PushClosed, ServerEmpty, ServerTook, ClientEmpty, ClientLaid, ClientApplied, ClientAnswered};
 
 use crate::cells::push_row;
 use crate::line::RequestKind;
@@ -181,6 +181,22 @@ pub fn push_query_busy(text: &mut String, client: u8, request: u64) -> Result<()
     Ok(())
 }
 
+/// A push, and how many frames the server sent.
+pub fn push_push_sent(text: &mut String, client: u8, frames: u64) -> Result<(), NoMemory>
+    ensures { OnOk result (string_bytes text.new ≡ string_bytes text.old ++ ended (line_words [] (PushSent client frames))) }
+{
+    write!(text, "push {client} sent {frames}\n")?;
+    Ok(())
+}
+
+/// A push to a client whose link is closed.
+pub fn push_push_closed(text: &mut String, client: u8) -> Result<(), NoMemory>
+    ensures { OnOk result (string_bytes text.new ≡ string_bytes text.old ++ ended (line_words [] (PushClosed client))) }
+{
+    write!(text, "push {client} closed\n")?;
+    Ok(())
+}
+
 /// A queue to the server that had nothing.
 pub fn push_server_empty(text: &mut String, client: u8) -> Result<(), NoMemory>
     ensures { OnOk result (string_bytes text.new ≡ string_bytes text.old ++ ended (line_words [] (ServerEmpty client))) }
@@ -216,6 +232,14 @@ pub fn push_client_laid(text: &mut String, client: u8) -> Result<(), NoMemory>
     ensures { OnOk result (string_bytes text.new ≡ string_bytes text.old ++ ended (line_words [] (ClientLaid client))) }
 {
     write!(text, "toclient {client} laid\n")?;
+    Ok(())
+}
+
+/// A message that brought the client up to a version.
+pub fn push_client_applied(text: &mut String, client: u8, version: u64) -> Result<(), NoMemory>
+    ensures { OnOk result (string_bytes text.new ≡ string_bytes text.old ++ ended (line_words [] (ClientApplied client version))) }
+{
+    write!(text, "toclient {client} applied {version}\n")?;
     Ok(())
 }
 

@@ -74,6 +74,13 @@ pub enum TraceLine {
         client: u8,
         request: u64,
     },
+    PushSent {
+        client: u8,
+        frames: u64,
+    },
+    PushClosed {
+        client: u8,
+    },
     ServerEmpty {
         client: u8,
     },
@@ -87,6 +94,10 @@ pub enum TraceLine {
     },
     ClientLaid {
         client: u8,
+    },
+    ClientApplied {
+        client: u8,
+        version: u64,
     },
     ClientAnswered {
         client: u8,

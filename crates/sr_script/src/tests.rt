@@ -164,6 +164,17 @@ fn prints_lines_of_numbers(rt: HostRuntime) -> Result<(), Fail> {
             TraceLine::QueryBusy { client, request: 1 },
             "6 query 1 busy 1\n",
         ),
+        (
+            9,
+            TraceLine::PushSent { client, frames: 1 },
+            "9 push 1 sent 1\n",
+        ),
+        (9, TraceLine::PushClosed { client }, "9 push 1 closed\n"),
+        (
+            10,
+            TraceLine::ClientApplied { client, version: 3 },
+            "10 toclient 1 applied 3\n",
+        ),
         (5, TraceLine::ServerEmpty { client }, "5 toserver 1 empty\n"),
         (5, TraceLine::ClientEmpty { client }, "5 toclient 1 empty\n"),
     ] {

@@ -3,10 +3,10 @@ ghost use Rattle.std.specs.Prelude.{◌≡◌, ◌++◌, List, IfOk, OnOk, strin
 ghost use Rattle.sr_script.specs.TraceText.{ended, line_words, line_text};
 
 use crate::forms::{
-    push_answer, push_ask, push_client_answered, push_client_empty, push_client_laid, push_drop,
-    push_dropped, push_exec_refused, push_exec_version, push_held, push_part, push_query_answered,
-    push_query_asked, push_query_busy, push_query_sql, push_row_line, push_server_empty,
-    push_server_took,
+    push_answer, push_ask, push_client_answered, push_client_applied, push_client_empty,
+    push_client_laid, push_drop, push_dropped, push_exec_refused, push_exec_version, push_held,
+    push_part, push_push_closed, push_push_sent, push_query_answered, push_query_asked,
+    push_query_busy, push_query_sql, push_row_line, push_server_empty, push_server_took,
 };
 use crate::line::TraceLine;
 use sr_cell::list::NoMemory;
@@ -88,6 +88,8 @@ fn push_words(text: &mut String, schema: &[Table], line: &TraceLine) -> Result<(
         TraceLine::QueryAsked { client, request } => push_query_asked(text, *client, *request),
         TraceLine::QuerySql { client, fault } => push_query_sql(text, *client, *fault),
         TraceLine::QueryBusy { client, request } => push_query_busy(text, *client, *request),
+        TraceLine::PushSent { client, frames } => push_push_sent(text, *client, *frames),
+        TraceLine::PushClosed { client } => push_push_closed(text, *client),
         TraceLine::ServerEmpty { client } => push_server_empty(text, *client),
         TraceLine::ServerTook {
             client,
@@ -96,6 +98,9 @@ fn push_words(text: &mut String, schema: &[Table], line: &TraceLine) -> Result<(
         } => push_server_took(text, *client, *kind, *frames),
         TraceLine::ClientEmpty { client } => push_client_empty(text, *client),
         TraceLine::ClientLaid { client } => push_client_laid(text, *client),
+        TraceLine::ClientApplied { client, version } => push_client_applied(
+            text, *client, *version,
+        ),
         TraceLine::ClientAnswered { client } => push_client_answered(text, *client),
     }
 }

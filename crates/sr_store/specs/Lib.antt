@@ -5,3 +5,6 @@ pub mod Answered
 pub mod Renewing
 pub mod Making
 pub mod Past
+pub mod Fitted
+pub mod Noticed
+pub mod Laws

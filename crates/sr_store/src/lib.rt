@@ -4,7 +4,9 @@
 mod absorb;
 mod add;
 mod answer;
+mod apply;
 mod arrive;
+mod fit;
 mod lookup;
 mod marks;
 mod restamp;

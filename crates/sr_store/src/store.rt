@@ -1,16 +1,21 @@
 //! The regions of a client.
-ghost use Rattle.std.specs.Prelude.{◌≡◌, ◌≤◌, ◌+◌, true, ◌⊎◌, [], ◌++◌, length, map, take, drop, slice_get, Some, IfOk, IfErr, OnOk, OnErr, IsTrue};
+ghost use Rattle.std.specs.Prelude.{◌≡◌, ◌≤◌, ◌-◌, ◌^◌, min, true, ◌⊎◌, List, [], ◌++◌, length, map, slice_get, Some, IfOk, IfErr, OnOk, OnErr, IsTrue};
 ghost use Rattle.std.specs.List.{list_all, All};
+ghost use Rattle.sr_cell.specs.declared.table.Table.{Table as TheTable};
 ghost use Rattle.sr_cell.specs.Columns.{table_at};
+ghost use Rattle.sr_history.specs.declared.mark.Mark.{Mark};
 ghost use Rattle.sr_box.specs.Points.{rect_fits, constrains_only};
 ghost use Rattle.sr_query.specs.Bound.{is_table};
 ghost use Rattle.sr_query.specs.declared.query.Part.{Part as ThePart};
 ghost use Rattle.sr_store.specs.Told.{Told, IsTold, AreTrueOf};
 ghost use Rattle.sr_store.specs.Stores.{IsStore, cover_of, drop_of};
-ghost use Rattle.sr_store.specs.Answered.{IsArrival, AreApart, HaveArrived, IsRenewed, IsGivenUp, rects_on};
+ghost use Rattle.sr_store.specs.Answered.{IsArrival, AreApart, HaveArrived, IsGivenUp, rects_on};
+ghost use Rattle.sr_store.specs.Fitted.{count_rows, without, lasts_of, IsFitted, IsAnswered};
+ghost use Rattle.sr_store.specs.Noticed.{told_to, IsTellOf};
 ghost use Rattle.sr_store.specs.Renewing.{IsCutFrom};
 
-use crate::answer::answer_of;
+use crate::answer::{Answer, answer_of};
+use crate::fit::{fitted, lasts_of};
 use crate::marks::{drop_copies, drop_marks};
 use sr_cell::attrs::Attrs;
 use sr_cell::cause::Cause;
@@ -18,6 +23,8 @@ use sr_cell::cell::Rows;
 use sr_cell::list::{Copied, No, NoMemory, Seq};
 use sr_cell::schema::Schema;
 use sr_history::mark::Marks;
+use sr_message::message::Tell;
+use sr_policy::policy::{Lasts, Limits};
 use sr_query::query::Part;
 use sr_region::region::Region;
 use sr_union::rects::Rects;
@@ -42,10 +49,13 @@ pub struct NoSuch {
     pub count: usize,
 }
 
-/// The regions of a client, one for each class of points that it holds, in class order.
+/// The regions of a client, one for each class of points that it holds, in class order; the limits that they are to meet; and
+/// what the last answered query asked of its tables.
 #[derive(Drop)]
 pub struct Store {
     pub regions: Seq<Region>,
+    pub limits: Limits,
+    pub last: Lasts,
 }
 
 fn cover_in(alloc: Global, regions: &[Region], part: &Part) -> Result<Rects, NoMemory>
@@ -60,14 +70,33 @@ fn cover_in(alloc: Global, regions: &[Region], part: &Part) -> Result<Rects, NoM
     Ok(cover)
 }
 
+fn count_rows(regions: &[Region]) -> u64
+    ensures { result ≡ min (count_rows regions.now) (2 ^ 64 - 1) }
+{
+    let mut count: u64 = 0;
+    for region in regions {
+        count = count.saturating_add(region.rows.len() as u64);
+    }
+    count
+}
+
 impl Store {
     /// A store that holds nothing; takes no memory.
-    pub fn new(alloc: Global) -> Store
-        ensures { result.regions ≡ [] }
+    pub fn new(alloc: Global, limits: Limits) -> Store
+        ensures { result ≡ record { regions = []; limits = limits; last = [] } }
     {
         Store {
             regions: Seq::new(alloc),
+            limits,
+            last: Seq::new(alloc),
         }
+    }
+
+    /// How many rows the regions have, or the greatest number of the type where there are more; takes no memory.
+    pub fn rows(&self) -> u64
+        ensures { result ≡ min (count_rows self.now.regions) (2 ^ 64 - 1) }
+    {
+        count_rows(self.regions.as_slice())
     }
 
     /// The rects of all regions that hold each column that the part needs.
@@ -76,9 +105,10 @@ impl Store {
     {
         cover_in(alloc, self.regions.as_slice(), part)
     }
+
     /// What an answer does: what arrived is held, the points that the query touches have its number as their stamp, and the
-    /// regions whose points are all held under more columns are dropped. Where there would be too many pieces, all regions
-    /// are dropped instead. After want of memory it holds nothing.
+    /// regions whose points are all held under more columns are dropped; then those that the limits demand. Where there would
+    /// be too many pieces, all regions are dropped instead. After want of memory it holds nothing.
     pub fn answered(
         &mut self,
         alloc: Global,
@@ -89,35 +119,78 @@ impl Store {
     ) -> Result<Marks, NoMemory>
         requires tables { IsTrue (list_all is_table schema.now) }
         requires store { IsStore schema.now self.old.regions }
-        requires parts { All (λ (part : ThePart). list_all (rect_fits (table_at schema.now part.table).columns) part.rects ≡ true) parts.now }
+        requires fit { All (λ (part : ThePart). list_all (rect_fits (table_at schema.now part.table).columns) part.rects ≡ true) parts.now }
         requires only { All (λ (part : ThePart). list_all (constrains_only part.need 0) part.rects ≡ true) parts.now }
         requires arrivals { All (IsArrival schema.now parts.now) arrivals }
         requires apart { AreApart schema.now self.old.regions arrivals }
         requires told { (told : Told) × IsTold schema.now told × AreTrueOf told self.old.regions × HaveArrived told arrivals }
-        ensures answered { IfOk result (λ marks. IsRenewed schema.now number parts.now arrivals self.old.regions self.new.regions marks
+        ensures answered { IfOk result (λ marks. IsAnswered schema.now self.old.limits number parts.now arrivals self.old.regions self.new.regions marks
             ⊎ IsGivenUp schema.now parts.now arrivals self.old.regions self.new.regions marks) }
         ensures cuts { All (IsCutFrom schema.now (rects_on self.old.regions parts.now arrivals)) self.new.regions }
         ensures store { IsStore schema.now self.new.regions }
         ensures true_still { (told : Told) → IsTold schema.now told → AreTrueOf told self.old.regions → HaveArrived told arrivals → AreTrueOf told self.new.regions }
+        ensures last { OnOk result (self.new.last ≡ lasts_of schema.now parts.now) }
+        ensures limits { self.new.limits ≡ self.old.limits }
         ensures nothing_left { OnErr result (self.new.regions ≡ []) }
     {
         let old = mem::replace(&mut self.regions, Seq::new(alloc));
         // Cutting gives the regions up, so that their drops are made before it.
         let drops = drop_copies(alloc, Cause::Pieces, old.as_slice())?;
+        self.last = lasts_of(alloc, schema, parts)?;
         match answer_of(alloc, schema, number, parts, arrivals, old) {
-            Ok(answer) => {
-                self.regions = answer.regions;
-                Ok(answer.marks)
-            }
+            Ok(answer) => self.keep(alloc, schema, answer),
             Err(No::Refused(_)) => Ok(drops),
             Err(No::NoMemory) => Err(NoMemory),
         }
     }
 
+    /// Keeps the regions of an answer as far as the limits allow. After want of memory it holds nothing.
+    fn keep(&mut self, alloc: Global, schema: &Schema, answer: Answer) -> Result<Marks, NoMemory>
+        requires tables { IsTrue (list_all is_table schema.now) }
+        requires store { IsStore schema.now answer.regions }
+        requires nothing { self.old.regions ≡ [] }
+        ensures kept { IfOk result (λ marks. (drops : List Mark) × IsFitted schema.now self.old.limits self.old.last answer.regions self.new.regions drops × (marks ≡ answer.marks ++ drops)) }
+        ensures last { self.new.last ≡ self.old.last }
+        ensures limits { self.new.limits ≡ self.old.limits }
+        ensures nothing_left { OnErr result (self.new.regions ≡ []) }
+    {
+        Err(NoMemory)
+    }
+
+    /// Drops regions until the limits are met: rows first, then regions, each time the one that the policy names. After want
+    /// of memory it holds nothing.
+    pub fn fit(&mut self, alloc: Global, schema: &Schema) -> Result<Marks, NoMemory>
+        requires tables { IsTrue (list_all is_table schema.now) }
+        requires store { IsStore schema.now self.old.regions }
+        ensures fitted { IfOk result (IsFitted schema.now self.old.limits self.old.last self.old.regions self.new.regions) }
+        ensures last { self.new.last ≡ self.old.last }
+        ensures limits { self.new.limits ≡ self.old.limits }
+        ensures nothing_left { OnErr result (self.new.regions ≡ []) }
+    {
+        let regions = mem::replace(&mut self.regions, Seq::new(alloc));
+        let left = fitted(alloc, schema, self.limits, self.last.as_slice(), regions)?;
+        self.regions = left.regions;
+        Ok(left.marks)
+    }
+
+    /// What notices do: of each key that is told, the old row is gone from all regions of its table, and the new row is in those
+    /// whose rects have it. After want of memory it holds nothing.
+    pub fn apply(&mut self, alloc: Global, told: &[Tell]) -> Result<(), NoMemory>
+        requires { (schema : List TheTable) × IsStore schema self.old.regions × All (IsTellOf schema) told.now }
+        ensures applied { OnOk result (self.new.regions ≡ map (told_to told.now) self.old.regions) }
+        ensures store { (schema : List TheTable) → OnOk result (IsStore schema self.old.regions → All (IsTellOf schema) told.now → IsStore schema self.new.regions) }
+        ensures last { self.new.last ≡ self.old.last }
+        ensures limits { self.new.limits ≡ self.old.limits }
+        ensures nothing_left { OnErr result (self.new.regions ≡ []) }
+    {
+        self.regions = Seq::new(alloc);
+        Err(NoMemory)
+    }
+
     /// Drops all regions, in class order, also where there is no memory for the marks.
     pub fn drop_all(&mut self, alloc: Global, cause: Cause) -> Result<Marks, NoMemory>
         ensures marks { IfOk result (λ marks. marks ≡ map (drop_of cause) self.old.regions) }
-        ensures nothing_left { self.new.regions ≡ [] }
+        ensures nothing_left { self.new ≡ record self.old { regions = [] } }
     {
         let old = mem::replace(&mut self.regions, Seq::new(alloc));
         drop_marks(alloc, cause, old)
@@ -126,7 +199,7 @@ impl Store {
     /// Takes out the region of that number, counted from 0.
     pub fn evict(&mut self, number: usize) -> Result<Region, NoSuch>
         ensures evicted { IfOk result (λ region. slice_get self.old.regions number ≡ Some region) }
-        ensures left { OnOk result (self.new.regions ≡ take number self.old.regions ++ drop (number + 1) self.old.regions) }
+        ensures left { OnOk result (self.new ≡ record self.old { regions = without number self.old.regions }) }
         ensures none { IfErr result (λ no. (no.count ≡ length self.old.regions) × (length self.old.regions ≤ number)) }
         ensures unchanged { OnErr result (self.new ≡ self.old) }
     {
@@ -140,7 +213,7 @@ impl Store {
 
     /// Forgets all regions; takes no memory.
     pub fn forget(&mut self, alloc: Global)
-        ensures { self.new.regions ≡ [] }
+        ensures { self.new ≡ record self.old { regions = [] } }
     {
         self.regions = Seq::new(alloc);
     }

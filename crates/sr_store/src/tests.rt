@@ -18,10 +18,18 @@ use sr_cell::schema::Schema;
 use sr_cell::table::{Column, Kind, Table};
 use sr_cell::text::Text;
 use sr_history::mark::Marks;
+use sr_policy::policy::{Limits, Policy};
 use sr_query::query::{Part, Parts};
 use sr_union::rects::Rects;
 use std::alloc::Global;
 use std::test::Fail;
+
+// More than these tests keep.
+const LIMITS: Limits = Limits {
+    rows: 10000,
+    regions: 64,
+    policy: Policy::Recency,
+};
 
 fn column(alloc: Global, name: &str, hi: i64) -> Result<Column, NoMemory>
     ensures { IfOk result (λ column. (column.kind ≡ Numbers) × (column.lo ≡ pos 0) × (column.hi ≡ hi)) }
@@ -132,7 +140,7 @@ fn held(alloc: Global, schema: &Schema, lo: i64, hi: i64) -> Result<Option<Store
         return Ok(None);
     }
     let parts = parts_of(alloc, lo, hi)?;
-    let mut store = Store::new(alloc);
+    let mut store = Store::new(alloc, LIMITS);
     store.answered(alloc, schema, 1, parts.as_slice(), narrow(alloc, lo, hi)?)?;
     Ok(Some(store))
 }
@@ -203,7 +211,7 @@ fn absorb(alloc: Global) -> Result<Option<(usize, usize)>, NoMemory> {
         return Ok(None);
     }
     let parts = parts_of(alloc, 30, 40)?;
-    let mut store = Store::new(alloc);
+    let mut store = Store::new(alloc, LIMITS);
     let marks = store.answered(alloc, &schema, 1, parts.as_slice(), both(alloc, 30, 40)?)?;
     Ok(Some((marks.len(), store.regions.len())))
 }
@@ -217,7 +225,7 @@ fn wider_columns_absorb(rt: HostRuntime) -> Result<(), Fail> {
 
 #[test]
 fn of_nothing_nothing_is_evicted(rt: HostRuntime) -> Result<(), Fail> {
-    let mut store = Store::new(rt.alloc());
+    let mut store = Store::new(rt.alloc(), LIMITS);
     match store.evict(0) {
         Ok(_) => assert!(rt; false),
         Err(no) => assert_eq!(rt; no.count, 0),

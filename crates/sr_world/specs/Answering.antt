@@ -13,11 +13,10 @@ use Rattle.sr_query.specs.declared.query.Part.{Part}
 use Rattle.sr_query.specs.declared.query.Query.{Query}
 use Rattle.sr_region.specs.declared.region.Region.{Region}
 use Rattle.sr_store.specs.declared.store.Arrival.{Arrival}
-use Rattle.sr_store.specs.Told.{AreTrueOf}
+use Rattle.sr_store.specs.Told.{told_of, AreTrueOf}
 use Rattle.sr_store.specs.Stores.{IsOfSchema, cover_of}
 use Rattle.sr_store.specs.Answered.{HaveArrived}
 use Rattle.sr_join.specs.Found.{has_outputs}
-use Rattle.sr_world.specs.Represents.{told_of}
 
 -- a point of the part that a region which serves it has
 abbrev pub is_kept : Part → List Region → Row → Bool

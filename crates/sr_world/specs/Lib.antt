@@ -4,6 +4,7 @@ pub mod Bound
 pub mod Client
 pub mod Cutting
 pub mod Lent
+pub mod Noticing
 pub mod Ran
 pub mod Replay
 pub mod Refused

@@ -4,6 +4,7 @@ use Rattle.std.specs.Io.KnownBytes.{Appends}
 use Rattle.sr_cell.specs.declared.table.Table.{Table}
 use Rattle.sr_language.specs.Events.{Event}
 use Rattle.sr_model.specs.Statements.{Tables}
+use Rattle.sr_policy.specs.declared.policy.Limits.{Limits}
 use Rattle.sr_script.specs.declared.line.TraceLine.{TraceLine}
 use Rattle.sr_script.specs.TraceText.{trace_text}
 use Rattle.sr_scene.specs.Scene.{Scene}
@@ -41,27 +42,27 @@ pub record RanPart (schema : List Table) (events : List (ℕ × Event)) (old : W
   pub written : WritesPrefix before after trace
 
 -- the events ran from the start, and this is the text of their lines
-pub record Traced (schema : List Table) (tables : Tables) (events : List (ℕ × Event)) (trace : List ℕ) (last : Scene) : Type 0 where
+pub record Traced (limits : Limits) (schema : List Table) (tables : Tables) (events : List (ℕ × Event)) (trace : List ℕ) (last : Scene) : Type 0 where
   pub lines : List (ℕ × TraceLine)
-  pub run : Runs (start schema tables) events lines last
+  pub run : Runs (start limits schema tables) events lines last
   pub text : trace ≡ trace_text schema lines
 
 -- the trace of all events was written
-pub record TracedWhole (schema : List Table) (tables : Tables) (events : List (ℕ × Event)) (kept : World) (before after : Option (List ℕ)) : Type 0 where
+pub record TracedWhole (limits : Limits) (schema : List Table) (tables : Tables) (events : List (ℕ × Event)) (kept : World) (before after : Option (List ℕ)) : Type 0 where
   pub trace : List ℕ
   pub last : Scene
-  pub traced : Traced schema tables events trace last
+  pub traced : Traced limits schema tables events trace last
   pub stands : Represents kept last
   pub written : Appends before after trace
 
 -- a prefix of the trace of the first events was written
-pub record TracedPart (schema : List Table) (tables : Tables) (events : List (ℕ × Event)) (before after : Option (List ℕ)) : Type 0 where
+pub record TracedPart (limits : Limits) (schema : List Table) (tables : Tables) (events : List (ℕ × Event)) (before after : Option (List ℕ)) : Type 0 where
   pub done : List (ℕ × Event)
   pub left : List (ℕ × Event)
   pub split : events ≡ done ++ left
   pub trace : List ℕ
   pub last : Scene
-  pub traced : Traced schema tables done trace last
+  pub traced : Traced limits schema tables done trace last
   pub written : WritesPrefix before after trace
 
 -- what writing to a sink leaves as it was

@@ -1,29 +1,33 @@
 -- Which scenes a world stands for.
-use Rattle.std.specs.Prelude.{ℕ, true, false, ◌≡◌, ◌≤◌, ◌+◌, ◌++◌, ◌⊎◌, List, [], ◌∷◌, length, map, Option, Some, None, IsTrue}
+use Rattle.std.specs.Prelude.{ℕ, true, false, ◌≡◌, ◌≤◌, ◌<◌, ◌+◌, ◌++◌, ◌⊎◌, List, [], ◌∷◌, length, map, slice_index_or, Option, Some, None, IsTrue}
 use Rattle.std.specs.List.{list_all}
 use Rattle.sr_cell.specs.declared.table.Table.{Table}
-use Rattle.sr_cell.specs.Columns.{is_point, table_at}
-use Rattle.sr_cell.specs.Attrs.{project}
 use Rattle.sr_message.specs.declared.message.Message.{Message}
 use Rattle.sr_message.specs.declared.message.Message.TheVariants.{Ask, Reply}
-use Rattle.sr_model.specs.Queries.{Query, rows_at}
+use Rattle.sr_model.specs.Queries.{Query}
 use Rattle.sr_model.specs.Statements.{Tables}
-use Rattle.sr_model.specs.Changes.{version_at}
+use Rattle.sr_model.specs.Changes.{version_at, changes_at}
+use Rattle.sr_subs.specs.declared.subs.Holding.{Holding}
 use Rattle.sr_query.specs.Bound.{is_table}
 use Rattle.sr_history.specs.declared.mark.Mark.{Mark}
 use Rattle.sr_history.specs.Marks.{is_held}
 use Rattle.sr_history.specs.Classes.{Numbered, stamp}
 use Rattle.sr_history.specs.Rests.{Asks}
+use Rattle.sr_history.specs.Victims.{AreLast, last_parts}
 use Rattle.sr_tables.specs.Stored.{are_stored}
 use Rattle.sr_store.specs.Classes.{Keeps}
-use Rattle.sr_store.specs.Told.{Told, AreTrueOf}
+use Rattle.sr_region.specs.Applied.{AreTables}
+use Rattle.sr_store.specs.Told.{told_of, AreTrueOf}
+use Rattle.sr_store.specs.Fitted.{count_rows}
 use Rattle.sr_store.specs.Stores.{IsStore}
-use Rattle.sr_scene.specs.Server.{Session, row_messages}
+use Rattle.sr_scene.specs.Server.{row_messages, holding_of}
 use Rattle.sr_scene.specs.Scene as scene
 use Rattle.sr_scene.specs.Scene.{Scene, Request, AskOut}
 use Rattle.sr_scene.specs.Steps.{counted}
 use Rattle.sr_world.specs.Bound.{IsMeaning}
+use Rattle.sr_world.specs.Client.{is_empty}
 use Rattle.sr_world.specs.Cutting.{RegionsEnd, PartsEnd, AsksEnd}
+use Rattle.sr_world.specs.Noticing.{Brings, AreSubscribed}
 use Rattle.sr_world.specs.declared.client.AskOut as code
 use Rattle.sr_world.specs.declared.world.World.{World}
 
@@ -35,7 +39,6 @@ pub record Past : Type 0 where
   pub counted_from : ℕ
   -- what the newest query means
   pub meaning : Query
-  pub session : Session
 
 -- the ask that is out, for a query of this meaning
 abbrev pub request_of : Query → Option code.AskOut → Option Request
@@ -53,15 +56,11 @@ client_of w past = record {
   laid = w.client.laid;
   to_server = w.to_server.items;
   to_client = w.to_client.items;
-  session = Some past.session;
+  session = Some (record { subscription = w.server.subs; upto = w.server.upto });
 }
 
 abbrev pub scene_of : World → Past → Scene
-scene_of w past = record { eager = true; schema = w.server.tables.schema; versions = past.versions; clients = client_of w past ∷ [] }
-
--- the rows of the tables, with the cells of some columns alone
-abbrev pub told_of : Tables → Told
-told_of tables t attrs = map (project attrs) (rows_at tables t)
+scene_of w past = record { eager = true; limits = w.client.store.limits; schema = w.server.tables.schema; versions = past.versions; clients = client_of w past ∷ [] }
 
 -- the ask that is out asks the rest of the newest query, which is not answered
 pub record IsOut (w : World) (past : Past) (o : code.AskOut) : Type 0 where
@@ -71,43 +70,64 @@ pub record IsOut (w : World) (past : Past) (o : code.AskOut) : Type 0 where
   pub number : o.query_number ≡ w.client.queries
   pub asks : Asks w.server.tables.schema past.marks past.meaning.parts o.parts
   pub some : o.parts ≡ [] → ⊥
+  pub fresh : o.fresh ≡ is_empty w.client.store.regions
 
--- the ask is on its way to the server, which will have nothing to tell before the reply
+-- notices that bring the client from its version to that of its session, with these subscribed points
+abbrev pub BringsUp : World → Past → List Message → Type 0
+BringsUp w past messages =
+    AreSubscribed w.server.tables.schema w.server.subs w.client.store.regions
+    × Brings w.server.tables.schema past.versions w.server.subs w.client.version w.server.upto messages
+
+-- the ask is on its way to the server, and notices at most to the client
 pub record IsAsked (w : World) (past : Past) (o : code.AskOut) : Type 0 where
   pub to_server : w.to_server.items ≡ Ask o.number o.fresh o.parts ∷ []
-  pub to_client : w.to_client.items ≡ []
-  pub laid : w.client.laid ≡ []
-  pub told : (o.fresh ≡ true) ⊎ (past.session.upto ≡ w.server.version)
+  pub brings : BringsUp w past (w.client.laid ++ w.to_client.items)
 
--- the reply is on its way to the client, and the rows before it are laid by or on their way
+-- The reply is on its way to the client. The notices and rows before it are laid by or on their way; the notices bring the client
+-- up to the reply's version, if it holds anything. Before the ask and at the notices its points were subscribed.
 pub record IsReplied (w : World) (past : Past) (o : code.AskOut) : Type 0 where
   pub to_server : w.to_server.items ≡ []
+  pub notices : List Message
   pub rest : List Message
-  pub rows : row_messages w.server.tables.rows o.number 0 o.parts ≡ w.client.laid ++ rest
+  pub front : notices ++ row_messages w.server.tables.rows o.number 0 o.parts ≡ w.client.laid ++ rest
   pub to_client : w.to_client.items ≡ rest ++ Reply o.number w.server.version ∷ []
-  pub upto : past.session.upto ≡ w.server.version
+  pub before : List Holding
+  pub subs : w.server.subs ≡ before ++ map holding_of o.parts
+  pub held : AreSubscribed w.server.tables.schema before w.client.store.regions
+  pub earlier : List Holding
+  pub subscribed : AreSubscribed w.server.tables.schema earlier w.client.store.regions
+  pub until : ℕ
+  pub brings : Brings w.server.tables.schema past.versions earlier w.client.version until notices
+  pub within : until ≤ w.server.version
+  pub reaches : (until ≡ w.server.version) ⊎ (w.client.store.regions ≡ [])
+  pub upto : w.server.upto ≡ w.server.version
 
 -- what is under way
 abbrev pub Flow : World → Past → Option code.AskOut → Type 0
-Flow w past None = (w.to_server.items ≡ []) × (w.to_client.items ≡ []) × (w.client.laid ≡ [])
+Flow w past None = (w.to_server.items ≡ []) × (w.client.laid ≡ []) × BringsUp w past w.to_client.items
 Flow w past (Some o) = IsOut w past o × (IsAsked w past o ⊎ IsReplied w past o)
 
--- the server has the newest tables
+-- the server has the newest tables, and the changes of each version
 pub record ServerFacts (w : World) (past : Past) : Type 0 where
   pub tables : IsTrue (list_all is_table w.server.tables.schema)
   pub count : length past.versions ≡ w.server.version + 1
   pub newest : version_at past.versions w.server.version ≡ w.server.tables.rows
   pub stored : are_stored w.server.tables.schema w.server.tables.rows ≡ true
-  pub points : (v t : ℕ) → IsTrue (list_all (is_point (table_at w.server.tables.schema t).columns) (rows_at (version_at past.versions v) t))
+  pub then : (v : ℕ) → v ≤ w.server.version → AreTables w.server.tables.schema (version_at past.versions v)
+  pub remembers : length w.server.history ≡ w.server.version
+  pub changes : (v : ℕ) → v < w.server.version → slice_index_or w.server.history v [] ≡ changes_at w.server.tables.schema past.versions (v + 1)
+  pub upto : w.server.upto ≤ w.server.version
 
--- the client's regions are the classes of what its marks hold, with just the rows that its version has there
+-- the client's regions are the classes of what its marks hold, with just the rows that its version has there, within the limits
 pub record ClientFacts (w : World) (past : Past) : Type 0 where
   pub store : IsStore w.server.tables.schema w.client.store.regions
   pub keeps : Keeps w.server.tables.schema (is_held past.marks) (stamp past.queries) w.client.store.regions
   pub are_true : AreTrueOf (told_of (version_at past.versions w.client.version)) w.client.store.regions
   pub version : w.client.version ≤ w.server.version
-  pub recent : (w.client.store.regions ≡ []) ⊎ ((w.client.version ≡ w.server.version) × (past.session.upto ≡ w.server.version))
   pub queries : length past.queries ≡ w.client.queries
+  pub last : AreLast w.server.tables.schema (last_parts past.queries) w.client.store.last
+  pub rows : count_rows w.client.store.regions ≤ w.client.store.limits.rows
+  pub few : length w.client.store.regions ≤ w.client.store.limits.regions
 
 -- the query that is out, and what is asked of it, begin and end only where tests of these queries do
 abbrev pub OutEnds : List Table → List Query → Option code.AskOut → Type 0
@@ -132,10 +152,6 @@ pub record Represents (w : World) (s : Scene) : Type 0 where
   pub past : Past
   pub facts : Facts w past
   pub same : s ≡ scene_of w past
-
--- no query has brought anything yet
-abbrev pub IsUnasked : World → Type 0
-IsUnasked w = (w.client.store.regions ≡ []) × (w.client.out ≡ None)
 
 -- the numbers that were drawn: versions, queries and requests
 abbrev pub drawn : World → ℕ

@@ -1,18 +1,18 @@
--- A reply that is taken out of the queue to the client.
+-- A message that is taken out of the queue to the client.
 use Rattle.std.specs.Prelude.{ℕ, ◌≡◌, ◌∷◌, Some, None}
+use Rattle.sr_message.specs.declared.message.Message.{Message}
 use Rattle.sr_message.specs.declared.message.Message.TheVariants.{Reply}
 use Rattle.sr_world.specs.declared.world.World.{World}
 use Rattle.sr_world.specs.declared.client.AskOut as code
 use Rattle.sr_world.specs.Worlds.{Stands}
 
--- The world is what it was before, but for the reply that came first in the queue to the client.
-pub record Taking (before w : World) (version : ℕ) : Type 0 where
+-- The world is what it was before, but for the message that came first in the queue to the client.
+pub record Taking (before w : World) (message : Message) : Type 0 where
   pub stands : Stands before
-  pub number : ℕ
-  pub first : before.to_client.items ≡ Reply number version ∷ w.to_client.items
+  pub first : before.to_client.items ≡ message ∷ w.to_client.items
   pub same : w ≡ record before { to_client = w.to_client }
 
--- The same, and without the ask that was out.
+-- The same for a reply, and without the ask that was out.
 pub record Finishing (before w : World) (out : code.AskOut) (version : ℕ) : Type 0 where
   pub stands : Stands before
   pub number : ℕ

@@ -1,16 +1,23 @@
 //! The client: its regions, and what it makes of the messages that come.
-ghost use Rattle.std.specs.Prelude.{◌≡◌, [], ◌∷◌, ◌++◌, map, length, nat_lt, None, Some, IfOk, OnOk, IsTrue};
-ghost use Rattle.std.specs.List.{list_all};
+ghost use Rattle.std.specs.Prelude.{◌≡◌, List, [], ◌∷◌, ◌++◌, map, length, nat_lt, None, Some, IfOk, OnOk, IsTrue};
+ghost use Rattle.std.specs.List.{list_all, All};
+ghost use Rattle.sr_cell.specs.declared.table.Table.{Table as TheTable};
+ghost use Rattle.sr_query.specs.Bound.{is_table};
+ghost use Rattle.sr_store.specs.Stores.{IsStore};
+ghost use Rattle.sr_store.specs.Fitted.{IsFitted};
+ghost use Rattle.sr_store.specs.Noticed.{told_to, IsTellOf};
 ghost use Rattle.sr_message.specs.declared.message.AskPart.{AskPart as TheAskPart};
 ghost use Rattle.sr_script.specs.declared.line.TraceLine.TheVariants.{Answer, Row as RowLine, ClientLaid};
 ghost use Rattle.sr_scene.specs.Steps.{mark_line};
 ghost use Rattle.sr_world.specs.Client.{brought, arrived, arrivals_of, reply_version};
+ghost use Rattle.sr_world.specs.Noticing.{after_messages, TellsRows};
 
 use sr_cell::cell::Rows;
 use sr_cell::list::{Copied, NoMemory, Seq};
 use sr_cell::schema::Schema;
 use sr_history::mark::{Mark, Marks};
-use sr_message::message::{AskPart, AskParts, Message, Messages};
+use sr_message::message::{AskPart, AskParts, Message, Messages, Tell};
+use sr_policy::policy::Limits;
 use sr_query::query::Query;
 use sr_script::line::{TraceLine, TraceLines};
 use sr_store::store::{Arrival, Arrivals, Store};
@@ -39,8 +46,8 @@ pub struct Client {
 
 impl Client {
     /// A client whose session is open; its first request will be number 1.
-    pub fn new(alloc: Global) -> Client
-        ensures { result ≡ record { version = 0; queries = 0; next_request = 1; out = None; laid = []; store = record { regions = [] } } }
+    pub fn new(alloc: Global, limits: Limits) -> Client
+        ensures { result ≡ record { version = 0; queries = 0; next_request = 1; out = None; laid = []; store = record { regions = []; limits = limits; last = [] } } }
     {
         Client {
             version: 0,
@@ -48,7 +55,7 @@ impl Client {
             next_request: 1,
             out: None,
             laid: Seq::new(alloc),
-            store: Store::new(alloc),
+            store: Store::new(alloc, limits),
         }
     }
 
@@ -62,6 +69,35 @@ impl Client {
         lines.push(TraceLine::ClientLaid { client: 1 })?;
         Ok(lines)
     }
+
+    /// Applies a notice that comes while nothing is out: the regions have the rows of its version then, within the limits.
+    pub fn apply(
+        &mut self,
+        alloc: Global,
+        schema: &Schema,
+        version: u64,
+        told: &[Tell],
+    ) -> Result<Marks, NoMemory>
+        requires tables { IsTrue (list_all is_table schema.now) }
+        requires store { IsStore schema.now self.old.store.regions }
+        requires told { All (IsTellOf schema.now) told.now }
+        ensures applied { IfOk result (λ drops. IsFitted schema.now self.old.store.limits self.old.store.last (map (told_to told.now) self.old.store.regions) self.new.store.regions drops) }
+        ensures rest { OnOk result (self.new ≡ record self.old { version = version; store = record self.old.store { regions = self.new.store.regions } }) }
+    {
+        self.store.apply(alloc, told)?;
+        self.version = version;
+        self.store.fit(alloc, schema)
+    }
+
+    /// Applies the messages that were laid by, in order. Answers the rows that they bring.
+    pub fn apply_laid(&mut self, alloc: Global, laid: Messages) -> Result<Rows, NoMemory>
+        requires { (schema : List TheTable) × IsStore schema self.old.store.regions × All (TellsRows schema) laid }
+        ensures rows { IfOk result (λ rows. rows ≡ arrived laid) }
+        ensures applied { OnOk result (self.new ≡ record self.old { store = record self.old.store { regions = after_messages laid self.old.store.regions } }) }
+        ensures store { (schema : List TheTable) → OnOk result (IsStore schema self.old.store.regions → All (TellsRows schema) laid → IsStore schema self.new.store.regions) }
+    {
+        Err(NoMemory)
+    }
 }
 
 /// The version of a reply.
@@ -74,20 +110,19 @@ pub fn version_of(message: &Message) -> Option<u64>
     }
 }
 
-/// What was asked, with the rows of the messages: one part at most is asked.
+/// What was asked, with the rows that came: one part at most is asked.
 pub fn arrivals_of(
     alloc: Global,
     schema: &Schema,
     parts: &[AskPart],
-    laid: Messages,
+    rows: Rows,
 ) -> Result<Arrivals, NoMemory>
     requires tables { IsTrue (list_all (λ (ask : TheAskPart). nat_lt ask.table (length schema.now)) parts.now) }
-    ensures { IfOk result (λ arrivals. arrivals ≡ arrivals_of schema.now parts.now (arrived laid)) }
+    ensures { IfOk result (λ arrivals. arrivals ≡ arrivals_of schema.now parts.now rows) }
 {
     let mut arrivals = Seq::new(alloc);
     if parts.len() > 0 {
         let part = &parts[0];
-        let rows = rows_of(alloc, laid)?;
         arrivals.push(Arrival {
             table: part.table,
             key: schema.as_slice()[part.table as usize].key,
@@ -97,17 +132,6 @@ pub fn arrivals_of(
         })?;
     }
     Ok(arrivals)
-}
-
-/// The rows that the messages bring.
-fn rows_of(alloc: Global, messages: Messages) -> Result<Rows, NoMemory>
-    ensures { IfOk result (λ rows. rows ≡ arrived messages) }
-{
-    let mut all = Seq::new(alloc);
-    for message in messages.into_vec() {
-        append_rows(&mut all, message)?;
-    }
-    Ok(all)
 }
 
 fn append_rows(all: &mut Rows, message: Message) -> Result<(), NoMemory>

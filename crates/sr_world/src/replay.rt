@@ -7,7 +7,7 @@ ghost use Rattle.sr_cell.specs.declared.list.No.TheVariants.{Refused, NoMemory a
 ghost use Rattle.sr_language.specs.Lines.{lines_of};
 ghost use Rattle.sr_language.specs.Script.{start_phase, FirstRefused, FirstUnbuilt};
 ghost use Rattle.sr_language.specs.Creates.{Creates};
-ghost use Rattle.sr_reader.specs.Read.{Fits, AreEvents, IsAsked, exec_event, statement_fits};
+ghost use Rattle.sr_reader.specs.Read.{Fits, AreEvents, IsEventLine, event_fits};
 ghost use Rattle.sr_tables.specs.Stored.{no_rows};
 ghost use Rattle.sr_load.specs.Filling.{filled};
 ghost use Rattle.sr_script.specs.TraceText.{trace_text};
@@ -15,13 +15,13 @@ ghost use Rattle.sr_scene.specs.Runs.{numbered};
 ghost use Rattle.sr_io.specs.Causes.{Rose};
 ghost use Rattle.sr_world.specs.declared.replay.RunFault.{RunFault as TheRunFault};
 ghost use Rattle.sr_world.specs.declared.replay.RunFault.TheVariants.{WriteFault, Setup, Load as LoadRefused, Unbuilt};
-ghost use Rattle.sr_world.specs.Represents.{IsUnasked, drawn};
+ghost use Rattle.sr_world.specs.Represents.{drawn};
 ghost use Rattle.sr_world.specs.Worlds.{Stands, IsStill};
 ghost use Rattle.sr_world.specs.Replay.{RefusesLoad, Wrote, WrotePart};
 ghost use Rattle.sr_world.specs.Refused.{IsSetupFault};
 ghost use Rattle.sr_world.specs.Ran.{Ran, RanWhole, RanPart, TracedWhole, TracedPart, Stays};
 
-use crate::statements;
+use crate::statements::happen;
 use crate::world::World;
 use sr_cell::fault::Fault;
 use sr_cell::list::{No, NoMemory, Seq};
@@ -30,9 +30,10 @@ use sr_cell::text::Text;
 use sr_io::outside::{Failed, Sink};
 use sr_io::whole::write_all;
 use sr_load::fill::{Load, LoadFault, fill};
+use sr_policy::policy::Limits;
 use sr_reader::head::created;
 use sr_reader::lines::read_script;
-use sr_reader::script::{ExecLine, QueryLine, Script};
+use sr_reader::script::{EventLine, EventLines, Script};
 use sr_script::line::TraceLine;
 use sr_script::text::push_line;
 use sr_tables::tables::Tables;
@@ -51,19 +52,20 @@ pub enum RunFault {
     Unbuilt { line: u64 },
 }
 
-/// Replays a script over tables with the rows of the files: runs its lines in their order and writes the trace. Answers the
-/// world at the end.
+/// Replays a script over tables with the rows of the files, for one client that may keep so much: runs its lines in their order
+/// and writes the trace. Answers the world at the end.
 pub fn replay<K: Sink>(
     alloc: Global,
+    limits: Limits,
     script: &[u8],
     loads: &[Load],
     sink: &mut K,
 ) -> Result<World, No<RunFault>>
     requires script { length script.now < 2 ^ 32 }
     requires loads { IsTrue (list_all (λ load. nat_lt (length load.bytes) (2 ^ 32)) loads.now) }
-    ensures whole { IfOk result (Wrote (K.writing sink.old).written (K.writing sink.new).written script.now loads.now) }
-    ensures part_after_fault { IsErrOf result (Refused WriteFault) → WrotePart (K.writing sink.old).written (K.writing sink.new).written script.now loads.now }
-    ensures part_in_want { IsErrOf result Wanting → (K.writing sink.new ≡ K.writing sink.old) ⊎ WrotePart (K.writing sink.old).written (K.writing sink.new).written script.now loads.now }
+    ensures whole { IfOk result (Wrote (K.writing sink.old).written (K.writing sink.new).written limits script.now loads.now) }
+    ensures part_after_fault { IsErrOf result (Refused WriteFault) → WrotePart (K.writing sink.old).written (K.writing sink.new).written limits script.now loads.now }
+    ensures part_in_want { IsErrOf result Wanting → (K.writing sink.new ≡ K.writing sink.old) ⊎ WrotePart (K.writing sink.old).written (K.writing sink.new).written limits script.now loads.now }
     ensures setup { (line : ℕ) (fault : TheFault) → IsErrOf result (Refused (Setup line fault)) → FirstRefused 1 [] (lines_of script.now) line fault }
     ensures setup_writes_nothing { (line : ℕ) (fault : TheFault) → IsErrOf result (Refused (Setup line fault)) → K.writing sink.new ≡ K.writing sink.old }
     ensures load { (table : List ℕ) (fault : TheFault) → IsErrOf result (Refused (LoadRefused table fault)) → RefusesLoad script.now loads.now table fault }
@@ -88,7 +90,7 @@ pub fn replay<K: Sink>(
         Err(no) => return Err(no),
     };
     match read_script(alloc, script) {
-        Ok(read) => match run_script(alloc, read, tables, sink) {
+        Ok(read) => match run_script(alloc, limits, read, tables, sink) {
             Ok(world) => Ok(world),
             Err(No::Refused(_)) => Err(No::Refused(RunFault::WriteFault)),
             Err(No::NoMemory) => Err(No::NoMemory),
@@ -131,6 +133,7 @@ fn fill_tables(alloc: Global, script: &[u8], loads: &[Load]) -> Result<Tables, N
 /// Runs a script that was read, over these tables.
 fn run_script<K: Sink>(
     alloc: Global,
+    limits: Limits,
     script: Script,
     tables: Tables,
     sink: &mut K,
@@ -138,9 +141,9 @@ fn run_script<K: Sink>(
     requires fits { Fits script }
     requires events { (events : List (ℕ × Event)) × AreEvents script events }
     requires tables { tables.schema ≡ script.schema }
-    requires few { length script.statements + length script.queries < 2 ^ 32 }
-    ensures whole { (events : List (ℕ × Event)) → AreEvents script events → IfOk result (λ world. TracedWhole script.schema tables.rows events world (K.writing sink.old).written (K.writing sink.new).written) }
-    ensures part { (events : List (ℕ × Event)) → AreEvents script events → OnErr result (TracedPart script.schema tables.rows events (K.writing sink.old).written (K.writing sink.new).written) }
+    requires few { length script.lines < 2 ^ 32 }
+    ensures whole { (events : List (ℕ × Event)) → AreEvents script events → IfOk result (λ world. TracedWhole limits script.schema tables.rows events world (K.writing sink.old).written (K.writing sink.new).written) }
+    ensures part { (events : List (ℕ × Event)) → AreEvents script events → OnErr result (TracedPart limits script.schema tables.rows events (K.writing sink.old).written (K.writing sink.new).written) }
     ensures faults_never_fall { (K.writing sink.old).faults ≤ (K.writing sink.new).faults }
     ensures ok_keeps_faults { OnOk result ((K.writing sink.new).faults ≡ (K.writing sink.old).faults) }
     ensures want_keeps_faults { IsErrOf result Wanting → (K.writing sink.new).faults ≡ (K.writing sink.old).faults }
@@ -148,77 +151,30 @@ fn run_script<K: Sink>(
     ensures steady_never_fails { K.IsSteady sink.old → ¬ IsErrOf result (Refused record {}) }
     ensures stays { Stays K K.reading K.linking K.held K.complaints K.IsSteady sink.old sink.new }
 {
-    let Script {
-        schema,
-        statements,
-        queries,
-    } = script;
-    let schema = schema.as_slice();
-    let mut world = World::new(alloc, tables);
-    match run_statements(alloc, schema, &mut world, statements, sink) {
-        Ok(()) => {}
-        Err(no) => return Err(no),
-    }
-    match run_queries(alloc, schema, &mut world, queries, sink) {
+    let Script { schema, lines } = script;
+    let mut world = World::new(alloc, limits, tables);
+    match run_events(alloc, schema.as_slice(), &mut world, lines, sink) {
         Ok(()) => Ok(world),
         Err(no) => Err(no),
     }
 }
 
-/// Runs the statements.
-fn run_statements<K: Sink>(
+/// Runs the events of the lines.
+fn run_events<K: Sink>(
     alloc: Global,
     schema: &[Table],
     world: &mut World,
-    lines: Seq<ExecLine>,
-    sink: &mut K,
-) -> Result<(), No<Failed>>
-    requires stands { Stands world.old }
-    requires unasked { IsUnasked world.old }
-    requires tables { world.old.server.tables.schema ≡ schema.now }
-    requires fits { IsTrue (list_all (λ line. statement_fits schema.now line.statement) lines) }
-    requires room { drawn world.old + length lines < 2 ^ 63 }
-    ensures whole { OnOk result (RanWhole schema.now (map exec_event lines) world.old world.new (K.writing sink.old).written (K.writing sink.new).written) }
-    ensures part { OnErr result (RanPart schema.now (map exec_event lines) world.old (K.writing sink.old).written (K.writing sink.new).written) }
-    ensures stands { OnOk result (Stands world.new) }
-    ensures unasked { OnOk result (IsUnasked world.new) }
-    ensures drawn { OnOk result (drawn world.new ≤ drawn world.old + length lines) }
-    ensures tables { world.new.server.tables.schema ≡ world.old.server.tables.schema }
-    ensures faults_never_fall { (K.writing sink.old).faults ≤ (K.writing sink.new).faults }
-    ensures ok_keeps_faults { OnOk result ((K.writing sink.new).faults ≡ (K.writing sink.old).faults) }
-    ensures want_keeps_faults { IsErrOf result Wanting → (K.writing sink.new).faults ≡ (K.writing sink.old).faults }
-    ensures failed_is_counted { IsErrOf result (Refused record {}) → Rose (K.writing sink.old).faults (K.writing sink.new).faults }
-    ensures steady_never_fails { K.IsSteady sink.old → ¬ IsErrOf result (Refused record {}) }
-    ensures stays { Stays K K.reading K.linking K.held K.complaints K.IsSteady sink.old sink.new }
-{
-    for line in lines.into_vec() {
-        let text = match exec_text(alloc, schema, world, line) {
-            Ok(text) => text,
-            Err(_) => return Err(No::NoMemory),
-        };
-        match write_all(sink, text.as_bytes()) {
-            Ok(()) => {}
-            Err(no) => return Err(no),
-        }
-    }
-    Ok(())
-}
-
-/// Runs the queries.
-fn run_queries<K: Sink>(
-    alloc: Global,
-    schema: &[Table],
-    world: &mut World,
-    lines: Seq<QueryLine>,
+    lines: EventLines,
     sink: &mut K,
 ) -> Result<(), No<Failed>>
     requires stands { Stands world.old }
     requires still { IsStill world.old }
     requires tables { world.old.server.tables.schema ≡ schema.now }
-    requires asked { (asked : List (ℕ × Event)) × AllZip (IsAsked schema.now) lines asked }
+    requires fits { IsTrue (list_all (λ line. event_fits schema.now line.event) lines) }
+    requires events { (events : List (ℕ × Event)) × AllZip (IsEventLine schema.now) lines events }
     requires room { drawn world.old + (length lines + length lines) < 2 ^ 63 }
-    ensures whole { (asked : List (ℕ × Event)) → AllZip (IsAsked schema.now) lines asked → OnOk result (RanWhole schema.now asked world.old world.new (K.writing sink.old).written (K.writing sink.new).written) }
-    ensures part { (asked : List (ℕ × Event)) → AllZip (IsAsked schema.now) lines asked → OnErr result (RanPart schema.now asked world.old (K.writing sink.old).written (K.writing sink.new).written) }
+    ensures whole { (events : List (ℕ × Event)) → AllZip (IsEventLine schema.now) lines events → OnOk result (RanWhole schema.now events world.old world.new (K.writing sink.old).written (K.writing sink.new).written) }
+    ensures part { (events : List (ℕ × Event)) → AllZip (IsEventLine schema.now) lines events → OnErr result (RanPart schema.now events world.old (K.writing sink.old).written (K.writing sink.new).written) }
     ensures faults_never_fall { (K.writing sink.old).faults ≤ (K.writing sink.new).faults }
     ensures ok_keeps_faults { OnOk result ((K.writing sink.new).faults ≡ (K.writing sink.old).faults) }
     ensures want_keeps_faults { IsErrOf result Wanting → (K.writing sink.new).faults ≡ (K.writing sink.old).faults }
@@ -227,7 +183,7 @@ fn run_queries<K: Sink>(
     ensures stays { Stays K K.reading K.linking K.held K.complaints K.IsSteady sink.old sink.new }
 {
     for line in lines.into_vec() {
-        let text = match query_text(alloc, schema, world, line) {
+        let text = match event_text(alloc, schema, world, line) {
             Ok(text) => text,
             Err(_) => return Err(No::NoMemory),
         };
@@ -239,47 +195,26 @@ fn run_queries<K: Sink>(
     Ok(())
 }
 
-/// Carries out a statement, and makes the text of its lines.
-fn exec_text(
+/// What the event of a line does, as the text of its lines.
+fn event_text(
     alloc: Global,
     schema: &[Table],
     world: &mut World,
-    line: ExecLine,
-) -> Result<String, NoMemory>
-    requires stands { Stands world.old }
-    requires unasked { IsUnasked world.old }
-    requires fits { IsTrue (statement_fits world.old.server.tables.schema line.statement) }
-    requires room { drawn world.old < 2 ^ 63 }
-    ensures ran { IfOk result (λ text. Ran schema.now (exec_event line ∷ []) world.old world.new (string_bytes text)) }
-    ensures stands { OnOk result (Stands world.new) }
-    ensures unasked { OnOk result (IsUnasked world.new) }
-    ensures drawn { OnOk result (drawn world.new ≤ drawn world.old + 1) }
-    ensures tables { world.new.server.tables.schema ≡ world.old.server.tables.schema }
-{
-    let ExecLine { number, statement } = line;
-    let lines = statements::exec(alloc, world, statement)?;
-    text_of(alloc, schema, number, lines.as_slice())
-}
-
-/// Asks a query, and makes the text of its lines.
-fn query_text(
-    alloc: Global,
-    schema: &[Table],
-    world: &mut World,
-    line: QueryLine,
+    line: EventLine,
 ) -> Result<String, NoMemory>
     requires stands { Stands world.old }
     requires still { IsStill world.old }
-    requires asked { (event : ℕ × Event) × IsAsked world.old.server.tables.schema line event }
+    requires fits { IsTrue (event_fits world.old.server.tables.schema line.event) }
+    requires means { (event : ℕ × Event) × IsEventLine world.old.server.tables.schema line event }
     requires room { drawn world.old + 2 < 2 ^ 63 }
-    ensures ran { (event : ℕ × Event) → IsAsked world.old.server.tables.schema line event → IfOk result (λ text. Ran schema.now (event ∷ []) world.old world.new (string_bytes text)) }
+    ensures ran { (event : ℕ × Event) → IsEventLine world.old.server.tables.schema line event → IfOk result (λ text. Ran schema.now (event ∷ []) world.old world.new (string_bytes text)) }
     ensures stands { OnOk result (Stands world.new) }
     ensures still { OnOk result (IsStill world.new) }
     ensures drawn { OnOk result (drawn world.new ≤ drawn world.old + 2) }
     ensures tables { world.new.server.tables.schema ≡ world.old.server.tables.schema }
 {
-    let QueryLine { number, query } = line;
-    let lines = statements::query(alloc, world, query)?;
+    let EventLine { number, event } = line;
+    let lines = happen(alloc, world, event)?;
     text_of(alloc, schema, number, lines.as_slice())
 }
 

@@ -9,13 +9,17 @@ ghost use Rattle.sr_model.specs.Statements.{executed};
 ghost use Rattle.sr_query.specs.Written.{write_of};
 ghost use Rattle.sr_query.specs.Writes.{suits};
 ghost use Rattle.sr_tables.specs.Stored.{is_short, are_stored};
-ghost use Rattle.sr_scene.specs.Server.{pieces, row_messages};
+ghost use Rattle.sr_model.specs.Changes.{changes};
+ghost use Rattle.sr_scene.specs.Server.{pieces, holding_of, row_messages};
+ghost use Rattle.sr_world.specs.Noticing.{noticed, pushed_after};
 
 use sr_cell::cell::{Row, Rows};
 use sr_cell::fault::Fault;
 use sr_cell::list::{No, NoMemory, Seq};
+use sr_cell::change::Changes;
 use sr_message::message::{AskParts, Message, Messages};
 use sr_query::write::Write;
+use sr_subs::subs::Subs;
 use sr_tables::tables::Tables;
 use std::alloc::Global;
 use std::collections::VecDeque;
@@ -23,14 +27,31 @@ use std::collections::VecDeque;
 /// The most rows of one message.
 const PIECE: usize = 256;
 
-/// The tables of the newest version, and its number.
+/// The tables of the newest version, its number, and the changes of each version but the first. Of its client it knows which
+/// points are subscribed, and up to which version it was told of them.
 #[derive(Drop)]
 pub struct Server {
     pub tables: Tables,
     pub version: u64,
+    pub history: Seq<Changes>,
+    pub subs: Subs,
+    pub upto: u64,
 }
 
 impl Server {
+    /// A server at version 0, whose client has subscribed nothing.
+    pub fn new(alloc: Global, tables: Tables) -> Server
+        ensures { result ≡ record { tables = tables; version = 0; history = []; subs = []; upto = 0 } }
+    {
+        Server {
+            tables,
+            version: 0,
+            history: Seq::new(alloc),
+            subs: Subs::new(alloc),
+            upto: 0,
+        }
+    }
+
     /// Carries out a statement, which makes a version, or refuses it and changes nothing.
     pub fn exec(&mut self, alloc: Global, write: Write) -> Result<(), No<Fault>>
         requires suits { IsTrue (suits self.old.tables.schema (write_of write)) }
@@ -38,25 +59,63 @@ impl Server {
         requires room { self.old.version < 2 ^ 63 }
         ensures done { OnOk result (executed self.old.tables.schema (write_of write) self.old.tables.rows ≡ Ok self.new.tables.rows) }
         ensures version { OnOk result (self.new.version ≡ self.old.version + 1) }
+        ensures history { OnOk result (self.new.history ≡ self.old.history ++ changes self.old.tables.schema self.old.tables.rows self.new.tables.rows ∷ []) }
+        ensures session { OnOk result ((self.new.subs ≡ self.old.subs) × (self.new.upto ≡ self.old.upto)) }
         ensures stored { OnOk result (are_stored self.new.tables.schema self.new.tables.rows ≡ true) }
         ensures values { OnOk result (IsTrue (list_all (list_all are_values) self.new.tables.rows)) }
         ensures refused { (fault : TheFault) → IsErrOf result (Refused fault) → executed self.old.tables.schema (write_of write) self.old.tables.rows ≡ Err fault }
-        ensures unchanged { OnErr result (self.new ≡ self.old) }
+        ensures unchanged { (fault : TheFault) → IsErrOf result (Refused fault) → self.new ≡ self.old }
         ensures schema { self.new.tables.schema ≡ self.old.tables.schema }
     {
         match self.tables.write(alloc, write) {
-            Ok(_) => {
+            Ok(changes) => {
                 self.tables.know_stored();
                 self.tables.know_values();
                 self.version += 1;
+                self.history.push(changes)?;
                 Ok(())
             }
             Err(no) => Err(no),
         }
     }
 
+    /// What a push sends: the notices that are due; and where the newest version has none and is not reached yet, one that tells
+    /// nothing.
+    pub fn push(&mut self, alloc: Global) -> Result<Messages, NoMemory>
+        requires remembers { length self.old.history ≡ self.old.version }
+        requires upto { self.old.upto ≤ self.old.version }
+        requires room { self.old.version < 2 ^ 63 }
+        ensures sent { IfOk result (λ sent. sent ≡ pushed_after self.old.history self.old.subs self.old.upto self.old.version) }
+        ensures reached { OnOk result (self.new ≡ record self.old { upto = self.old.version }) }
+        ensures unchanged { OnErr result (self.new ≡ self.old) }
+    {
+        Err(NoMemory)
+    }
+
+    /// Takes an ask: the notices that are due, if it is not fresh; then the rows and the reply. What is asked is subscribed; a
+    /// fresh ask begins the subscription anew.
+    pub fn take_ask(
+        &mut self,
+        alloc: Global,
+        number: u64,
+        fresh: bool,
+        parts: &AskParts,
+    ) -> Result<Messages, NoMemory>
+        requires few { length parts.now ≤ 4 }
+        requires remembers { length self.old.history ≡ self.old.version }
+        requires upto { self.old.upto ≤ self.old.version }
+        requires room { self.old.version < 2 ^ 63 }
+        ensures sent { IfOk result (λ sent. sent ≡ (if fresh then [] else noticed self.old.history self.old.subs self.old.upto (self.old.version - self.old.upto))
+            ++ (row_messages self.old.tables.rows number 0 parts.now ++ Reply number self.old.version ∷ [])) }
+        ensures reached { OnOk result (self.new ≡ record self.old { subs = (if fresh then [] else self.old.subs) ++ map holding_of parts.now; upto = self.old.version }) }
+        ensures tables { self.new.tables ≡ self.old.tables }
+        ensures version { self.new.version ≡ self.old.version }
+    {
+        Err(NoMemory)
+    }
+
     /// The rows that are asked, part by part, in messages of 256 rows, and the reply.
-    pub fn reply(&self, alloc: Global, number: u64, parts: &AskParts) -> Result<Messages, NoMemory>
+    fn reply(&self, alloc: Global, number: u64, parts: &AskParts) -> Result<Messages, NoMemory>
         requires { length parts.now ≤ 4 }
         ensures { IfOk result (λ sent. sent ≡ row_messages self.now.tables.rows number 0 parts.now ++ Reply number self.now.version ∷ []) }
     {

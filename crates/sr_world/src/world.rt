@@ -1,9 +1,9 @@
 //! The world: server, client and queues.
 ghost use Rattle.std.specs.Prelude.{◌≡◌, ℕ, ◌+◌, ◌<◌, ◌≤◌, ◌^◌, true, [], ◌∷◌, ◌++◌, map, length, None, Ok, IsTrue, IfOk, OnOk};
 ghost use Rattle.std.specs.List.{list_all};
-ghost use Rattle.sr_message.specs.declared.message.Message.TheVariants.{Ask as AskMessage};
+ghost use Rattle.sr_message.specs.declared.message.Message.TheVariants.{Ask as AskMessage, Notice, Reply};
 ghost use Rattle.sr_script.specs.declared.line.TraceLine.TheVariants.{Ask, QueryAsked};
-ghost use Rattle.sr_language.specs.Events.{Exec, QueryOf};
+ghost use Rattle.sr_language.specs.Events.{Exec, QueryOf, Push};
 ghost use Rattle.sr_model.specs.Queries.{Query as TheQuery};
 ghost use Rattle.sr_query.specs.Bound.{is_table};
 ghost use Rattle.sr_query.specs.Written.{write_of};
@@ -16,7 +16,7 @@ ghost use Rattle.sr_world.specs.Bound.{IsMeaning};
 ghost use Rattle.sr_world.specs.Client.{is_empty};
 ghost use Rattle.sr_world.specs.Cutting.{IsOver};
 ghost use Rattle.sr_world.specs.Lent.{IsLent};
-ghost use Rattle.sr_world.specs.Represents.{Represents, IsUnasked, drawn};
+ghost use Rattle.sr_world.specs.Represents.{Represents, drawn};
 ghost use Rattle.sr_world.specs.Sending.{IsSent};
 ghost use Rattle.sr_world.specs.Taking.{Taking, Finishing};
 ghost use Rattle.sr_world.specs.Worlds.{Stands, IsStill, DoesStep, DoesEvent, DoesDelivery, DoesMany, DoesSettle};
@@ -27,7 +27,8 @@ use crate::client::{AskOut, Client, arrivals_of, push_answer, push_marks, versio
 use crate::server::Server;
 use sr_cell::cause::Cause;
 use sr_cell::list::{Copied, No, NoMemory, Seq};
-use sr_message::message::{AskPart, AskParts, Message, Messages};
+use sr_message::message::{AskPart, AskParts, Message, Messages, Told};
+use sr_policy::policy::Limits;
 use sr_query::query::Query;
 use sr_query::write::Write;
 use sr_script::line::{RequestKind, TraceLine, TraceLines};
@@ -46,19 +47,19 @@ pub struct World {
 }
 
 impl World {
-    /// A world at version 0; takes no memory.
-    pub fn new(alloc: Global, tables: Tables) -> World
+    /// A world at version 0, whose client may keep so much; takes no memory.
+    pub fn new(alloc: Global, limits: Limits, tables: Tables) -> World
         requires tables { IsTrue (list_all is_table tables.schema) }
-        ensures first { Represents result (first true tables.schema tables.rows 1) }
-        ensures unasked { IsUnasked result }
+        ensures first { Represents result (first true limits tables.schema tables.rows 1) }
+        ensures still { IsStill result }
         ensures drawn { drawn result ≡ 1 }
         ensures schema { result.server.tables.schema ≡ tables.schema }
     {
         tables.know_stored();
         tables.know_values();
         World {
-            server: Server { tables, version: 0 },
-            client: Client::new(alloc),
+            server: Server::new(alloc, tables),
+            client: Client::new(alloc, limits),
             to_server: VecDeque::new(alloc),
             to_client: VecDeque::new(alloc),
         }
@@ -73,15 +74,16 @@ impl World {
         &self.client
     }
 
-    /// Carries out a statement, before any query.
+    /// Carries out a statement.
     pub fn exec(&mut self, alloc: Global, write: Write) -> Result<TraceLines, NoMemory>
         requires stands { Stands self.old }
-        requires unasked { IsUnasked self.old }
+        requires still { IsStill self.old }
         requires suits { IsTrue (suits self.old.server.tables.schema (write_of write)) }
         requires short { IsTrue (is_short (write_of write)) }
         requires room { drawn self.old < 2 ^ 63 }
         ensures steps { IfOk result (DoesStep (Exec (Ok (write_of write))) self.old self.new) }
-        ensures unasked { OnOk result (IsUnasked self.new) }
+        ensures stands { OnOk result (Stands self.new) }
+        ensures still { OnOk result (IsStill self.new) }
         ensures drawn { OnOk result (drawn self.new ≤ drawn self.old + 1) }
         ensures schema { self.new.server.tables.schema ≡ self.old.server.tables.schema }
     {
@@ -111,6 +113,35 @@ impl World {
         let mut lines = self.ask(alloc, query)?;
         lines.append(self.settle(alloc)?)?;
         Ok(lines)
+    }
+
+    /// Sends the client what is due to it, and makes the deliveries.
+    pub fn push(&mut self, alloc: Global) -> Result<TraceLines, NoMemory>
+        requires stands { Stands self.old }
+        requires room { drawn self.old < 2 ^ 63 }
+        ensures steps { IfOk result (DoesStep (Push 1) self.old self.new) }
+        ensures stands { OnOk result (Stands self.new) }
+        ensures still { OnOk result (IsStill self.new) }
+        ensures drawn { OnOk result (drawn self.new ≡ drawn self.old) }
+        ensures schema { self.new.server.tables.schema ≡ self.old.server.tables.schema }
+    {
+        let mut lines = self.send_notices(alloc)?;
+        lines.append(self.settle(alloc)?)?;
+        Ok(lines)
+    }
+
+    /// Sends what is due.
+    fn send_notices(&mut self, alloc: Global) -> Result<TraceLines, NoMemory>
+        requires stands { Stands self.old }
+        requires room { drawn self.old < 2 ^ 63 }
+        ensures event { IfOk result (DoesEvent (Push 1) self.old self.new) }
+        ensures drawn { OnOk result (drawn self.new ≡ drawn self.old) }
+        ensures schema { self.new.server.tables.schema ≡ self.old.server.tables.schema }
+    {
+        let sent = self.server.push(alloc)?;
+        let frames = sent.len() as u64;
+        queue_up(&mut self.to_client, sent)?;
+        one_line(alloc, TraceLine::PushSent { client: 1, frames })
     }
 
     /// Judges a query: it is answered at once, or its rest is asked.
@@ -258,8 +289,12 @@ impl World {
         ensures one_less { OnOk result (length self.new.to_server.items + 1 ≡ length self.old.to_server.items) }
     {
         match self.to_server.pop_front() {
-            Some(Message::Ask { number, parts, .. }) => {
-                let sent = self.server.reply(alloc, number, &parts)?;
+            Some(Message::Ask {
+                number,
+                fresh,
+                parts,
+            }) => {
+                let sent = self.server.take_ask(alloc, number, fresh, &parts)?;
                 let frames = sent.len() as u64;
                 queue_up(&mut self.to_client, sent)?;
                 one_line(
@@ -303,17 +338,50 @@ impl World {
     {
         match self.to_client.pop_front() {
             None => Ok(Seq::new(alloc)),
-            Some(message) => match version_of(&message) {
-                None => self.client.lay_by(alloc, message),
-                Some(version) => self.take_reply(alloc, version),
-            },
+            Some(message) => self.take_message(alloc, message),
         }
+    }
+
+    /// The client takes this message, which came first in its queue: while a request is out it is laid by, if it is not the reply.
+    fn take_message(&mut self, alloc: Global, message: Message) -> Result<TraceLines, NoMemory>
+        requires taking { (before : World) × Taking before self.old message }
+        ensures delivery { (before : World) → Taking before self.old message → IfOk result (DoesDelivery before self.new) }
+        ensures drawn { OnOk result (drawn self.new ≡ drawn self.old) }
+        ensures schema { self.new.server.tables.schema ≡ self.old.server.tables.schema }
+        ensures to_server { OnOk result (self.new.to_server.items ≡ self.old.to_server.items) }
+        ensures to_client { OnOk result (self.new.to_client.items ≡ self.old.to_client.items) }
+    {
+        match (version_of(&message), message) {
+            (Some(version), _) => self.take_reply(alloc, version),
+            (None, Message::Notice { version, told }) if self.client.out.is_none() => {
+                self.apply(alloc, version, told)
+            }
+            (None, message) => self.client.lay_by(alloc, message),
+        }
+    }
+
+    /// The client applies a notice while nothing is out.
+    fn apply(&mut self, alloc: Global, version: u64, told: Told) -> Result<TraceLines, NoMemory>
+        requires idle { self.old.client.out ≡ None }
+        requires taking { (before : World) × Taking before self.old (Notice version told) }
+        ensures delivery { (before : World) → Taking before self.old (Notice version told) → IfOk result (DoesDelivery before self.new) }
+        ensures drawn { OnOk result (drawn self.new ≡ drawn self.old) }
+        ensures schema { self.new.server.tables.schema ≡ self.old.server.tables.schema }
+        ensures to_server { OnOk result (self.new.to_server.items ≡ self.old.to_server.items) }
+        ensures to_client { OnOk result (self.new.to_client.items ≡ self.old.to_client.items) }
+    {
+        let schema = self.server.tables.schema();
+        let drops = self.client.apply(alloc, schema, version, told.as_slice())?;
+        let mut lines = Seq::new(alloc);
+        push_marks(&mut lines, drops)?;
+        lines.push(TraceLine::ClientApplied { client: 1, version })?;
+        Ok(lines)
     }
 
     /// The client takes the reply of the ask that is out: its query is answered, and what was asked is held.
     fn take_reply(&mut self, alloc: Global, version: u64) -> Result<TraceLines, NoMemory>
-        requires taking { (before : World) × Taking before self.old version }
-        ensures delivery { (before : World) → Taking before self.old version → IfOk result (DoesDelivery before self.new) }
+        requires taking { (before : World) × (number : ℕ) × Taking before self.old (Reply number version) }
+        ensures delivery { (before : World) (number : ℕ) → Taking before self.old (Reply number version) → IfOk result (DoesDelivery before self.new) }
         ensures drawn { OnOk result (drawn self.new ≡ drawn self.old) }
         ensures schema { self.new.server.tables.schema ≡ self.old.server.tables.schema }
         ensures to_server { OnOk result (self.new.to_server.items ≡ self.old.to_server.items) }
@@ -325,7 +393,7 @@ impl World {
         }
     }
 
-    /// Answers the query of the ask that was out, with the rows that were laid by.
+    /// Answers the query of the ask that was out, once what was laid by is applied.
     fn finish(&mut self, alloc: Global, out: &AskOut, version: u64) -> Result<TraceLines, NoMemory>
         requires finishing { (before : World) × Finishing before self.old out.now version }
         ensures delivery { (before : World) → Finishing before self.old out.now version → IfOk result (DoesDelivery before self.new) }
@@ -336,7 +404,8 @@ impl World {
     {
         let schema = self.server.tables.schema();
         let laid = mem::replace(&mut self.client.laid, Seq::new(alloc));
-        let arrivals = arrivals_of(alloc, schema, out.parts.as_slice(), laid)?;
+        let came = self.client.apply_laid(alloc, laid)?;
+        let arrivals = arrivals_of(alloc, schema, out.parts.as_slice(), came)?;
         let rows = answer(
             alloc,
             &out.query,

@@ -1,20 +1,20 @@
 -- The classes of the worked example, none of which is absorbed.
-use Rattle.std.proofs.Common.{◌≡◌, ℕ, ℤ, pos, Bool, true, false, not, ◌&&◌, ◌||◌, List, [], ◌∷◌, ◌++◌, refl, sym, ap, subst, ◌∙◌, arith, inl, inr}
-use Rattle.std.specs.Prelude.{int_le, IsTrue, ◌==◌, ◌⊎◌, ◌↔◌, max, if◌then◌else◌}
+use Rattle.std.proofs.Common.{◌≡◌, ℕ, ℤ, Bool, true, false, ◌&&◌, ◌||◌, List, [], ◌∷◌, refl, sym, subst, ◌∙◌, arith, inl, inr}
+use Rattle.std.specs.Prelude.{IsTrue, ◌==◌, ◌⊎◌, max, if◌then◌else◌}
 use Rattle.std.specs.List.{list_any}
 use Rattle.std.proofs.lemmas.Bool.Decides.{nat_tests}
 use Rattle.std.proofs.lemmas.Int.{ints}
-use Rattle.sr_cell.specs.declared.table.Table.{Table}
 use Rattle.sr_cell.specs.declared.cell.Cell.TheVariants.{Num, Str}
 use Rattle.sr_cell.specs.Cells.{Row}
 use Rattle.sr_cell.specs.Columns.{table_at, is_point}
-use Rattle.sr_box.specs.Points.{in_any, HasPoint}
+use Rattle.sr_box.specs.Points.{HasPoint}
 use Rattle.sr_history.specs.declared.mark.Mark.{Mark}
 use Rattle.sr_history.specs.declared.mark.Mark.TheVariants.{Held}
 use Rattle.sr_history.specs.Marks.{is_held}
 use Rattle.sr_history.specs.Classes.{Numbered, Class, AreClasses, in_class, same_class, stamp}
 use Rattle.sr_history.specs.Drops.{IsAbsorbed, AbsorbsFrom, Absorbs, is_held_wider}
 use Rattle.sr_model.specs.Queries.{Query}
+use Rattle.sr_scene.proofs.ClassOrder.{is-same}
 use Rattle.sr_scene.specs.Example.{people, schema, row, query, ages}
 
 abbrev pub answered : Query → Numbered
@@ -122,11 +122,7 @@ stamp-2 p point = held-points (λ p. is_held marks_2 0 3 p ≡ true → (stamp q
 
 -- a class is that one
 is-class : (k : Class) (s : ℕ) → same_class k (class s) ≡ true → k ≡ class s
-is-class k s e =
-    let t : k.table ≡ 0 = grind (arith, nat_tests) in
-    let a : k.attrs ≡ 3 = grind (arith, nat_tests) in
-    let n : k.stamp ≡ s = grind (arith, nat_tests) in
-    ap (λ t. record { table = t; attrs = k.attrs; stamp = k.stamp }) t ∙ (ap (λ a. record { table = 0; attrs = a; stamp = k.stamp }) a ∙ ap class n)
+is-class k s e = is-same k (class s) e
 
 class-is : (k : Class) (s : ℕ) → k.table ≡ 0 → k.attrs ≡ 3 → k.stamp ≡ s → same_class k (class s) ≡ true
 class-is k s t a n = grind (arith, nat_tests, t, a, n)

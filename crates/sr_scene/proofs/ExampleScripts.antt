@@ -122,12 +122,12 @@ shared_says line last said = (
     _,
     _,
     _,
-    does _ _ (codes "exec INSERT INTO p VALUES (1, 35), (2, 45)") _ _ refl (Ok _, (two_rows, two_rows_say, refl), (λ is. cc is), refl, refl),
+    does _ _ (codes "exec INSERT INTO p VALUES (1, 35), (2, 45)") _ _ refl (Ok _, (two_rows, two_rows_say, refl), refl, refl),
     (
       _,
       _,
       _,
-      does _ _ (codes "exec INSERT INTO p VALUES (3, 33)") _ _ refl (Ok _, (one_row, one_row_says, refl), (λ is. cc is), refl, refl),
+      does _ _ (codes "exec INSERT INTO p VALUES (3, 33)") _ _ refl (Ok _, (one_row, one_row_says, refl), refl, refl),
       (
         _,
         _,

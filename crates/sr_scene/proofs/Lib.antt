@@ -1,6 +1,9 @@
 pub mod ExampleScripts
 pub mod ExampleTexts
+pub mod ClassOrder
 pub mod ExampleClasses
+pub mod WithinBudgets
+pub mod ExampleBudgets
 pub mod ExampleLoad
 pub mod ExampleRests
 pub mod ExampleRun

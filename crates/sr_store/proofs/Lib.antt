@@ -23,3 +23,6 @@ pub mod Counting
 pub mod Heavy
 pub mod Refusals
 pub mod Trials
+pub mod Capped
+pub mod Views
+pub mod Fewer

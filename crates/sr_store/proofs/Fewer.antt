@@ -1,6 +1,6 @@
 -- Regions that are made to fit: what stays true while one after another is dropped.
-use Rattle.std.proofs.Common.{◌≡◌, ℕ, ◌+◌, ◌≤◌, zero, suc, List, [], ◌∷◌, ◌++◌, length, take, drop, refl, sym, subst, arith}
-use Rattle.std.specs.Prelude.{Some, slice_get}
+use Rattle.std.proofs.Common.{◌≡◌, ℕ, ◌+◌, ◌≤◌, zero, suc, true, List, [], ◌∷◌, ◌++◌, length, take, drop, sym, subst, arith}
+use Rattle.std.specs.Prelude.{Result, Ok, Err, IfOk, OnErr}
 use Rattle.std.specs.List.{All, Contains}
 use Rattle.std.proofs.lemmas.List.Elements.{All-contains_itself}
 use Rattle.std.proofs.lemmas.List.Sums.{sum_by-cons}
@@ -15,18 +15,18 @@ use Rattle.sr_region.specs.declared.region.Region.{Region}
 use Rattle.sr_store.specs.Stores.{IsStore}
 use Rattle.sr_store.specs.Fitted.{count_rows, without, DropsWhile, IsFitted}
 use Rattle.sr_store.specs.Laws.{FitsStill, FittedFitStill}
-use Rattle.sr_store.proofs.Dropping.{evicted_all, evicted_store}
+use Rattle.sr_store.proofs.Dropping.{kept_store, evicted_all, evicted_store}
 
 module _ (schema : List Table) (policy : Policy) (last : List Last) (cause : Cause) (size : List Region → ℕ) (limit : ℕ) where
   -- what is true of the regions without any one is true of those that are left
   pub drops_keep : (P : List Region → Type 0) → ((n : ℕ) (gs : List Region) → P gs → P (without n gs))
       → (old new : List Region) (drops : List Mark) → DropsWhile schema policy last cause size limit old new drops → P old → P new
   drops_keep P step old new [] h p = subst P (sym h.1) p
-  drops_keep P step old new (d ∷ drops) h p = drops_keep P step (without h.1.0 old) new drops h.1.1.1.1.1 (step h.1.0 old p)
+  drops_keep P step old new (d ∷ drops) h p = drops_keep P step (without h.1 old) new drops h.5 (step h.1 old p)
 
   pub drops_end : (old new : List Region) (drops : List Mark) → DropsWhile schema policy last cause size limit old new drops → size new ≤ limit
   drops_end old new [] h = subst (λ gs. size gs ≤ limit) (sym h.1) h.0
-  drops_end old new (d ∷ drops) h = drops_end (without h.1.0 old) new drops h.1.1.1.1.1
+  drops_end old new (d ∷ drops) h = drops_end (without h.1 old) new drops h.5
 
 count_rows-cons : (g : Region) (gs : List Region) → count_rows (g ∷ gs) ≡ length g.rows + count_rows gs
 count_rows-cons g gs = sum_by-cons (λ (g : Region). length g.rows) g gs
@@ -61,3 +61,14 @@ fitted_fit_still schema limits last old new drops h = record {
       (λ n gs p. let x = fewer_rows n gs in omega (arith, x, p)) h.mid new h.regions h.for_regions few;
   regions = drops_end schema limits.policy last Regions length limits.regions h.mid new h.regions h.for_regions;
 }
+
+-- what is true of no regions, and of the regions without any one, is true of those that a store keeps, also after want of memory
+pub kept_left : {E : Type 0} (schema : List Table) (limits : Limits) (last : List Last) (front : List Mark) (old new : List Region) (r : Result (List Mark) E) (P : List Region → Type 0)
+    → ((n : ℕ) (gs : List Region) → P gs → P (without n gs)) → P [] → P old
+    → IfOk r (λ marks. (drops : List Mark) × IsFitted schema limits last old new drops × (marks ≡ front ++ drops)) → OnErr r (new ≡ []) → P new
+kept_left schema limits last front old new (Ok marks) P step nil p kept none = fitted_keeps schema limits last old new kept.0 P step kept.1 p
+kept_left schema limits last front old new (Err e) P step nil p kept none = subst P (sym none) nil
+
+-- the store of no regions, of the same tables
+pub none_store : (schema : List Table) (gs : List Region) → IsStore schema gs → IsStore schema []
+none_store schema gs h = kept_store schema true [] gs h

@@ -26,3 +26,7 @@ pub mod Trials
 pub mod Capped
 pub mod Views
 pub mod Fewer
+pub mod Lasts
+pub mod Totals
+pub mod KeptRows
+pub mod Meeting

@@ -10,11 +10,12 @@ use Rattle.sr_history.specs.declared.mark.Mark.{Mark}
 use Rattle.sr_history.specs.Rests.{Asks, nothing, covered, asked, rest_of}
 use Rattle.sr_script.specs.declared.line.TraceLine.{TraceLine}
 use Rattle.sr_script.specs.declared.line.TraceLine.TheVariants as line
-use Rattle.sr_scene.specs.Scene.{Scene, Client}
+use Rattle.sr_scene.specs.Scene.{Scene, Client, tables_at}
 use Rattle.sr_history.specs.Marks.{with_marks}
-use Rattle.sr_history.specs.Classes.{Numbered}
 use Rattle.sr_history.specs.Drops.{Absorbs}
 use Rattle.sr_history.specs.Load.{IsHeavy}
+use Rattle.sr_history.specs.Kept.{kept}
+use Rattle.sr_history.specs.Budgets.{MeetsBudgets}
 use Rattle.sr_scene.specs.Steps.{Queries, QueriesIfFree, QueriesText, Renews, Holds, counted, with_query, answer_lines, number_of_next}
 
 -- where no part has a rest, nothing may be asked
@@ -30,23 +31,26 @@ pub record IsAnswered (s : Scene) (n : ℕ) (q : Query) (c : Client) (lines : Li
   pub to_server : new.to_server ≡ c.to_server
   pub to_client : new.to_client ≡ c.to_client
 
--- no class is absorbed once it is answered, and the load is low
+-- once it is answered no class is absorbed, the budgets are met without a drop, and the load is low
 pub record IsLight (s : Scene) (q : Query) (c : Client) : Type 0 where
   pub absorbs : (drops : List Mark) → Absorbs s.schema c.marks (with_query q true c) drops → drops ≡ []
+  pub budgets : (drops : List Mark) → MeetsBudgets s.schema s.limits (kept (tables_at s c.version)) (with_query q true c) c.marks drops → drops ≡ []
   pub answered : IsHeavy s.schema c.marks [] q (counted c.counted_from (with_query q true c)) → ⊥
   pub asked : IsHeavy s.schema c.marks [] q (counted c.counted_from (with_query q false c)) → ⊥
 
-no_marks : (schema : List Table) (queries : List Numbered) (c : Client) (marks : List Mark) → ((drops : List Mark) → Absorbs schema c.marks queries drops → drops ≡ [])
-    → Renews schema [] queries c marks → marks ≡ []
-no_marks schema queries c marks none r = by r.held r.holds r.absorbs r.all
+no_marks : (s : Scene) (q : Query) (c : Client) (marks : List Mark) → IsLight s q c → Renews s [] c.version (with_query q true c) c marks → marks ≡ []
+no_marks s q c marks light r = by r.held r.absorbed r.holds r.absorbs r.budgets r.all
   where
-    by : (held : List Mark) → AllZip (Holds schema) [] held → Absorbs schema (with_marks c.marks held) queries r.drops → marks ≡ held ++ r.drops → marks ≡ []
-    by [] holds absorbs all = all ∙ none r.drops absorbs
-    by (m ∷ held) holds absorbs all = absurd holds
+    by : (held absorbed : List Mark) → AllZip (Holds s.schema) [] held → Absorbs s.schema (with_marks c.marks held) (with_query q true c) absorbed
+        → MeetsBudgets s.schema s.limits (kept (tables_at s c.version)) (with_query q true c) (with_marks (with_marks c.marks held) absorbed) r.drops
+        → marks ≡ held ++ (absorbed ++ r.drops) → marks ≡ []
+    by [] [] holds absorbs meets all = all ∙ light.budgets r.drops meets
+    by [] (d ∷ absorbed) holds absorbs meets all = absurd (let none = light.absorbs (d ∷ absorbed) absorbs in cc)
+    by (m ∷ held) absorbed holds absorbs meets all = absurd holds
 
 no_asks : (s : Scene) (n : ℕ) (q : Query) (c : Client) (lines : List TraceLine) (new : Client) → IsLight s q c → Queries s n q [] c lines new → IsAnswered s n q c lines new
 no_asks s n q c lines new light (marks, inl (renews, same), are) =
-    let none = no_marks s.schema (with_query q true c) c marks light.absorbs renews in
+    let none = no_marks s q c marks light renews in
     record { lines_are = rw none at are; to_server = rw same refl; to_client = rw same refl }
 no_asks s n q c lines new light (marks, inr (gives_up, same), are) = absurd (light.answered gives_up.heavy)
 

@@ -11,13 +11,14 @@ use Rattle.sr_scene.proofs.ExampleRests.{held, covered_rest}
 use Rattle.sr_scene.proofs.Quiet.{settled, quiet_settles}
 use Rattle.sr_scene.proofs.AsksNothing.{IsAnswered, IsLight, answers_at_once, nothing_to_ask}
 use Rattle.sr_scene.proofs.ExampleClasses.{queries_covered, nothing_absorbed_1, absorbs_covered}
+use Rattle.sr_scene.proofs.ExampleBudgets.{budgets_covered, nothing_dropped_covered}
 use Rattle.sr_scene.proofs.ExampleLoad.{not_heavy}
 
 same_client : (c d : Client) → Some c ≡ Some d → d ≡ c
 same_client c d same = cc
 
 light : IsLight opened (query 32 35) served_client
-light = record { absorbs = nothing_absorbed_1 queries_covered; answered = not_heavy; asked = not_heavy }
+light = record { absorbs = nothing_absorbed_1 queries_covered; budgets = nothing_dropped_covered; answered = not_heavy; asked = not_heavy }
 
 -- the client gives its answer, and its queues stay empty
 answers : (given : List TraceLine) (old next : Client) → Some served_client ≡ Some old → QueriesText opened 1 (Ok (query 32 35)) old given next
@@ -39,4 +40,4 @@ just given last (front, rest, mid, (old, next, found, does, is), settles, all) =
 
 -- it may give its lines
 pub may : (last : Scene) × Steps opened covered_query covered_lines last
-may = (_, (_, [], _, (_, _, refl, inl ([], covered (part 32 35) [] [] covered_rest nothing, ([], inl (record { held = []; drops = []; holds = tt; absorbs = absorbs_covered; all = refl }, refl), refl)), refl), settled _ (_, refl, refl), refl))
+may = (_, (_, [], _, (_, _, refl, inl ([], covered (part 32 35) [] [] covered_rest nothing, ([], inl (record { held = []; absorbed = []; drops = []; holds = tt; absorbs = absorbs_covered; budgets = budgets_covered; all = refl }, refl), refl)), refl), settled _ (_, refl, refl), refl))

@@ -1,11 +1,11 @@
 -- The load of the worked examples is low.
-use Rattle.std.proofs.Common.{◌≡◌, ℕ, Bool, true, false, List, [], ◌∷◌, refl, sym, ◌∙◌, arith, inl, inr}
+use Rattle.std.proofs.Common.{◌≡◌, ℕ, false, List, [], ◌∷◌, arith, inl, inr}
 use Rattle.std.specs.Prelude.{IsTrue, ◌==◌, ◌+◌, ◌*◌, ◌<◌, ◌≤◌, ◌⊎◌, max, length}
 use Rattle.std.specs.List.{list_any}
 use Rattle.std.proofs.lemmas.Bool.Decides.{nat_tests}
 use Rattle.sr_box.specs.Points.{HasPoint}
 use Rattle.sr_history.specs.Marks.{is_held}
-use Rattle.sr_history.specs.Load.{AreSets, IsHeavy, are_once}
+use Rattle.sr_history.specs.Load.{IsHeavy, are_once}
 use Rattle.sr_scene.specs.Example.{people, schema, query}
 use Rattle.sr_scene.proofs.ExampleClasses.{marks_1, only_1}
 

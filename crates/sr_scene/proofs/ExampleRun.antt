@@ -11,19 +11,20 @@ use Rattle.sr_script.specs.declared.line.TraceLine.{TraceLine}
 use Rattle.sr_scene.specs.Scene.{Scene, new_client}
 use Rattle.sr_scene.specs.Steps.{Holds}
 use Rattle.sr_scene.specs.Runs.{Steps, Runs}
-use Rattle.sr_scene.specs.Example.{people, schema, row, query, ages, events, lines, start}
+use Rattle.sr_scene.specs.Example.{default_limits, people, schema, row, query, ages, events, lines, start}
 use Rattle.sr_scene.specs.CoveredQuery.{versions, opened, opening_events, opening_lines}
 use Rattle.sr_scene.proofs.ExampleClasses.{absorbs_1, absorbs_2}
+use Rattle.sr_scene.proofs.ExampleBudgets.{budgets_1, budgets_2}
 use Rattle.sr_scene.proofs.ExampleRests.{ask, held, first_asks, second_asks}
 use Rattle.sr_scene.proofs.Quiet.{settled, three_settle}
 
-nothing_held : HoldsNothing schema []
+pub nothing_held : HoldsNothing schema []
 nothing_held table attrs q h = refl
 
 something_held : HoldsNothing schema held → IsTrue false
 something_held none = let k : true ≡ false = none 0 3 (row 1 35) refl in cc
 
-same_self : (a : Row → Bool) → AreSame people.columns a a
+pub same_self : (a : Row → Bool) → AreSame people.columns a a
 same_self a q h = refl
 
 holds_first : Holds schema (ask 30 40) (Held 0 3 (ages 30 40))
@@ -34,7 +35,7 @@ holds_second = (refl, refl, refl, same_self _)
 
 -- a new client on these versions
 abbrev unasked : List Tables → Scene
-unasked all = record { eager = true; schema = schema; versions = all; clients = new_client ∷ [] }
+unasked all = record { eager = true; limits = default_limits; schema = schema; versions = all; clients = new_client ∷ [] }
 
 abbrev lines_at : ℕ → List TraceLine
 lines_at n = map (λ numbered. numbered.1) (filter (λ numbered. numbered.0 == n) lines)
@@ -54,7 +55,7 @@ first_query = (
   three_settle _ _ _ _ _ _ _ (
     (_, _, refl, refl, (_, refl, (_, refl, refl, refl))),
     (_, _, refl, refl, (_, _, refl, (refl, (refl, refl)), refl)),
-    (_, _, refl, refl, (_, _, refl, (refl, (lit≤ tt, (Held 0 3 (ages 30 40) ∷ [], inl (record { held = Held 0 3 (ages 30 40) ∷ []; drops = []; holds = (holds_first, tt); absorbs = absorbs_1; all = refl }, refl), refl))), refl)),
+    (_, _, refl, refl, (_, _, refl, (refl, (lit≤ tt, (Held 0 3 (ages 30 40) ∷ [], inl (record { held = Held 0 3 (ages 30 40) ∷ []; absorbed = []; drops = []; holds = (holds_first, tt); absorbs = absorbs_1; budgets = budgets_1; all = refl }, refl), refl))), refl)),
     (_, refl, refl),
   ),
   refl,
@@ -74,7 +75,7 @@ second_query = (
     three_settle _ _ _ _ _ _ _ (
       (_, _, refl, refl, (_, refl, (_, refl, refl, refl))),
       (_, _, refl, refl, (_, _, refl, (refl, (refl, refl)), refl)),
-      (_, _, refl, refl, (_, _, refl, (refl, (lit≤ tt, (Held 0 3 (ages 41 50) ∷ [], inl (record { held = Held 0 3 (ages 41 50) ∷ []; drops = []; holds = (holds_second, tt); absorbs = absorbs_2; all = refl }, refl), refl))), refl)),
+      (_, _, refl, refl, (_, _, refl, (refl, (lit≤ tt, (Held 0 3 (ages 41 50) ∷ [], inl (record { held = Held 0 3 (ages 41 50) ∷ []; absorbed = []; drops = []; holds = (holds_second, tt); absorbs = absorbs_2; budgets = budgets_2; all = refl }, refl), refl))), refl)),
       (_, refl, refl),
     ),
     refl,

@@ -1,9 +1,16 @@
 pub mod ExampleScripts
 pub mod ExampleTexts
+pub mod ClassOrder
 pub mod ExampleClasses
+pub mod WithinBudgets
+pub mod ExampleBudgets
 pub mod ExampleLoad
 pub mod ExampleRests
 pub mod ExampleRun
 pub mod Quiet
 pub mod AsksNothing
 pub mod CoveredRun
+pub mod FillingScript
+pub mod FillingClasses
+pub mod FillingRests
+pub mod FillingRun

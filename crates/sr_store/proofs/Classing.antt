@@ -75,7 +75,7 @@ regions-class schema marks queries gs k p keeps point =
 
 -- ---- each region has a point, so each class is one of the regions'
 
-abbrev IsSolid : List Table → Region → Type 0
+abbrev pub IsSolid : List Table → Region → Type 0
 IsSolid schema g = HasPoint (table_at schema g.table).columns (in_any g.rects)
 
 to-point : (schema : List Table) (gs : List Region) (k : Class) → All (IsSolid schema) gs → list_any (same_class k) (map class_of gs) ≡ true → HasPoint (table_at schema k.table).columns (in_regions gs k)
@@ -104,8 +104,8 @@ class-order [] = refl
 class-order (g ∷ []) = refl
 class-order (g ∷ h ∷ gs) = ap (λ b. is_before g h && b) (class-order (h ∷ gs))
 
-all-solid : (schema : List Table) (gs : List Region) → ((t : ℕ) → have_first (table_at schema t).columns ≡ true) → All (IsOfSchema schema) gs → All (IsSolid schema) gs
-all-solid schema gs first each =
+pub all_solid : (schema : List Table) (gs : List Region) → ((t : ℕ) → have_first (table_at schema t).columns ≡ true) → All (IsOfSchema schema) gs → All (IsSolid schema) gs
+all_solid schema gs first each =
     All-weaker (IsOfSchema schema) (IsSolid schema) (λ g h. has_point (table_at schema g.table).columns g.rects h.1.area.some h.1.area.fit (first g.table)) gs each
 
 pub are_classes : (schema : List Table) (marks : List Mark) (queries : List Numbered) (gs : List Region) → ((t : ℕ) → have_first (table_at schema t).columns ≡ true) → All (IsOfSchema schema) gs
@@ -113,7 +113,7 @@ pub are_classes : (schema : List Table) (marks : List Mark) (queries : List Numb
 are_classes schema marks queries gs first each order keeps = record {
   order = class-order gs ∙ order;
   each = λ k. (
-    (λ h. let r = to-point schema gs k (all-solid schema gs first each) h in (r.0, r.1, sym (regions-class schema marks queries gs k r.0 keeps r.1) ∙ r.2)),
+    (λ h. let r = to-point schema gs k (all_solid schema gs first each) h in (r.0, r.1, sym (regions-class schema marks queries gs k r.0 keeps r.1) ∙ r.2)),
     (λ h. to-class gs k h.0 (regions-class schema marks queries gs k h.0 keeps h.1 ∙ h.2)),
   );
 }

@@ -178,6 +178,9 @@ add-one n = omega arith
 others-at : (n : ℕ) (gs : List Region) → flagged false (flags_at n gs) gs ≡ take n gs ++ drop (n + 1) gs
 others-at n gs = flags_at-others n gs ∙ ap (λ m. take n gs ++ drop m gs) (add-one n)
 
+pub evicted_all : (P : Region → Type 0) (n : ℕ) (gs : List Region) → All P gs → All P (take n gs ++ drop (n + 1) gs)
+evicted_all P n gs h = subst (All P) (others-at n gs) (flagged_all P false (flags_at n gs) gs h)
+
 pub evicted_store : (schema : List Table) (n : ℕ) (gs : List Region) → IsStore schema gs → IsStore schema (take n gs ++ drop (n + 1) gs)
 evicted_store schema n gs h = subst (IsStore schema) (others-at n gs) (kept_store schema false (flags_at n gs) gs h)
 

@@ -23,3 +23,10 @@ pub mod Counting
 pub mod Heavy
 pub mod Refusals
 pub mod Trials
+pub mod Capped
+pub mod Views
+pub mod Fewer
+pub mod Lasts
+pub mod Totals
+pub mod KeptRows
+pub mod Meeting

@@ -6,5 +6,6 @@ pub mod Renewing
 pub mod Making
 pub mod Past
 pub mod Fitted
+pub mod Fitting
 pub mod Noticed
 pub mod Laws

@@ -31,7 +31,8 @@ pub(crate) fn held_marks(alloc: Global, arrivals: &[Arrival]) -> Result<Marks, N
     Ok(marks)
 }
 
-fn drop_mark(cause: Cause, region: Region) -> Mark
+/// The class of the region is dropped.
+pub(crate) fn drop_mark(cause: Cause, region: Region) -> Mark
     ensures { result ≡ drop_of cause region }
 {
     let Region {

@@ -15,7 +15,7 @@ ghost use Rattle.sr_store.specs.Noticed.{told_to, IsTellOf};
 ghost use Rattle.sr_store.specs.Renewing.{IsCutFrom};
 
 use crate::answer::{Answer, answer_of};
-use crate::fit::{fitted, lasts_of};
+use crate::fit::{count_rows, fitted, lasts_of};
 use crate::marks::{drop_copies, drop_marks};
 use sr_cell::attrs::Attrs;
 use sr_cell::cause::Cause;
@@ -68,16 +68,6 @@ fn cover_in(alloc: Global, regions: &[Region], part: &Part) -> Result<Rects, NoM
         }
     }
     Ok(cover)
-}
-
-fn count_rows(regions: &[Region]) -> u64
-    ensures { result ≡ min (count_rows regions.now) (2 ^ 64 - 1) }
-{
-    let mut count: u64 = 0;
-    for region in regions {
-        count = count.saturating_add(region.rows.len() as u64);
-    }
-    count
 }
 
 impl Store {
@@ -154,7 +144,11 @@ impl Store {
         ensures limits { self.new.limits ≡ self.old.limits }
         ensures nothing_left { OnErr result (self.new.regions ≡ []) }
     {
-        Err(NoMemory)
+        let Answer { regions, mut marks } = answer;
+        let left = fitted(alloc, schema, self.limits, self.last.as_slice(), regions)?;
+        marks.append(left.marks)?;
+        self.regions = left.regions;
+        Ok(marks)
     }
 
     /// Drops regions until the limits are met: rows first, then regions, each time the one that the policy names. After want

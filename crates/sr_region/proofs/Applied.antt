@@ -76,7 +76,7 @@ module _ (t : Table) (attrs key : ℕ) (has : has_column attrs key ≡ true) whe
       go true e ih part = ih
       go false e ih part =
           let one = subst (λ x. cell_eq (cell_at x (rank attrs key)) (cell_at p key) ≡ false → is_apart (rank attrs key) (x ∷ []) (project attrs p) ≡ true)
-              part.2 (row-apart part.0 p part.1 is) e in
+          part.2 (row-apart part.0 p part.1 is) e in
           grind (arith, ih, one)
 
 -- ---- the region

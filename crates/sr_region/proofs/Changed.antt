@@ -1,14 +1,17 @@
 -- What the changes of a table tell of its rows.
-use Rattle.std.proofs.Common.{◌≡◌, ℕ, Bool, true, false, cond, not, ◌||◌, List, [], ◌∷◌, map, refl, sym, subst, ◌∙◌, arith}
+use Rattle.std.proofs.Common.{◌≡◌, ℕ, suc, ◌+◌, ◌<◌, Bool, true, false, cond, not, ◌||◌, List, [], ◌∷◌, length, map, refl, sym, subst, ◌∙◌, arith}
 use Rattle.std.specs.Prelude.{filter, Option, Some, None, if◌then◌else◌}
-use Rattle.std.specs.List.{list_all, list_any, AllByRecursion}
+use Rattle.std.specs.List.{list_all, list_any, All, AllByRecursion}
+use Rattle.std.proofs.lemmas.List.Elements.{All-nil, All-append, All-weaker, All-from_recursion}
 use Rattle.sr_cell.specs.declared.cell.Cell.{Cell}
 use Rattle.sr_cell.specs.declared.change.Change.{Change}
 use Rattle.sr_cell.specs.declared.table.Table.{Table}
 use Rattle.sr_cell.specs.Cells.{Row, cell_at, cell_le, cell_eq}
-use Rattle.sr_cell.specs.Columns.{is_point}
+use Rattle.sr_cell.specs.Columns.{is_point, table_at}
 use Rattle.sr_model.specs.SortedRows.{has_key, with_row}
-use Rattle.sr_model.specs.Changes.{row_with, same_row, all_keys, table_changes}
+use Rattle.sr_model.specs.Queries.{rows_at}
+use Rattle.sr_model.specs.Statements.{Tables}
+use Rattle.sr_model.specs.Changes.{row_with, same_row, all_keys, table_changes, changes_from}
 use Rattle.sr_box.proofs.Order.{cell_eq-sound}
 use Rattle.sr_region.specs.Applied.{IsNew, is_point_if_there, has_points}
 use Rattle.sr_region.proofs.Found.{find-passes, find-among, find-none, same_row-sound}
@@ -127,3 +130,31 @@ module _ (table : Table) (t : ℕ) (old new : List Row) where
           let both = has-keys table.key v old new in
           find-none (λ row. cell_eq (cell_at row table.key) v) old (grind (arith, both, has))
           ∙ sym (find-none (λ row. cell_eq (cell_at row table.key) v) new (grind (arith, both, has)))
+
+-- ---- the changes of all tables
+
+-- a change of one of the tables; n is the number of the first
+abbrev pub IsChangeOf : ℕ → List Table → Tables → Tables → Change → Type 0
+IsChangeOf n schema old new c = (k : ℕ) × (k < length schema) × IsChange (table_at schema k) (n + k) (rows_at old k) (rows_at new k) c
+
+pub all-changes : (n : ℕ) (schema : List Table) (old new : Tables) → All (IsChangeOf n schema old new) (changes_from n schema old new)
+all-changes n [] old new = All-nil (IsChangeOf n [] old new)
+all-changes n (table ∷ schema) [] new = All-nil (IsChangeOf n (table ∷ schema) [] new)
+all-changes n (table ∷ schema) (o ∷ old) [] = All-nil (IsChangeOf n (table ∷ schema) (o ∷ old) [])
+all-changes n (table ∷ schema) (o ∷ old) (r ∷ new) =
+    All-append P (table_changes table n o r) (changes_from (n + 1) schema old new)
+    (All-weaker (IsChange table n o r) P here (table_changes table n o r) (All-from_recursion (IsChange table n o r) (table_changes table n o r) (are-changes table n o r)))
+    (All-weaker (IsChangeOf (n + 1) schema old new) P there (changes_from (n + 1) schema old new) (all-changes (n + 1) schema old new))
+  where
+    P : Change → Type 0
+    P = IsChangeOf n (table ∷ schema) (o ∷ old) (r ∷ new)
+
+    here : (c : Change) → IsChange table n o r c → P c
+    here c is = let number : n ≡ n + 0 = omega arith in (0, omega arith, subst (λ k. IsChange table k o r c) number is)
+
+    there : (c : Change) → IsChangeOf (n + 1) schema old new c → P c
+    there c is =
+        let k = is.0 in
+        let below = is.1 in
+        let number : n + 1 + k ≡ n + suc k = omega arith in
+        (suc k, omega (arith, below), subst (λ m. IsChange (table_at schema k) m (rows_at old k) (rows_at new k) c) number is.2)

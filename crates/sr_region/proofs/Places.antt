@@ -102,20 +102,20 @@ module _ (key : ℕ) where
       split true d zero q ih = refl
       split true d (suc n) q ih = rw d (ap (λ xs. r ∷ xs) (ih n (omega arith)))
 
+  -- no row behind one that is above the row is at most the row
+  pub row-front : (r row : Row) (xs : List Row) → is_first key r xs ≡ true → cell_le (cell_at r key) (cell_at row key) ≡ false → with_row key xs row ≡ row ∷ xs
+  row-front r row [] f d = refl
+  row-front r row (x ∷ xs) f d =
+      let t = cell_le-trans (cell_at r key) (cell_at x key) (cell_at row key) (key_lt-le key r x (grind arith)) in
+      let n : cell_le (cell_at x key) (cell_at row key) ≡ false = grind (arith, t, d) in
+      rw n refl
+
   -- it goes before the other
   pub row-before : (rows : List Row) (row : Row) (at : ℕ) → ascend key rows ≡ true → at < length rows → place_at key (cell_at row key) rows ≤ at
       → with_row key (take at rows ++ drop (suc at) rows) row ≡ take (suc at) (with_row key rows row) ++ drop (suc (suc at)) (with_row key rows row)
   row-before [] row at h below p = absurd (omega arith)
   row-before (r ∷ rows) row at h below p = split (cell_le (cell_at r key) (cell_at row key)) refl at below p (λ n. row-before rows row n (ascend-tail key r rows h))
     where
-      -- no row behind one that is above the row is at most the row
-      above : (xs : List Row) → is_first key r xs ≡ true → cell_le (cell_at r key) (cell_at row key) ≡ false → with_row key xs row ≡ row ∷ xs
-      above [] f d = refl
-      above (x ∷ xs) f d =
-          let t = cell_le-trans (cell_at r key) (cell_at x key) (cell_at row key) (key_lt-le key r x (grind arith)) in
-          let n : cell_le (cell_at x key) (cell_at row key) ≡ false = grind (arith, t, d) in
-          rw n refl
-
       split : (b : Bool) → cell_le (cell_at r key) (cell_at row key) ≡ b → (n : ℕ) → n < length (r ∷ rows) → cond b (1 + place_at key (cell_at row key) rows) 0 ≤ n
           → ((m : ℕ) → m < length rows → place_at key (cell_at row key) rows ≤ m
           → with_row key (take m rows ++ drop (suc m) rows) row ≡ take (suc m) (with_row key rows row) ++ drop (suc (suc m)) (with_row key rows row))
@@ -123,7 +123,7 @@ module _ (key : ℕ) where
           ≡ take (suc n) (if b then r ∷ with_row key rows row else row ∷ r ∷ rows) ++ drop (suc (suc n)) (if b then r ∷ with_row key rows row else row ∷ r ∷ rows)
       split true d zero low q ih = absurd (omega arith)
       split true d (suc n) low q ih = rw d (ap (λ xs. r ∷ xs) (ih n (omega arith) (omega arith)))
-      split false d zero low q ih = above rows (ascend-first key r rows h) d
+      split false d zero low q ih = row-front r row rows (ascend-first key r rows h) d
       split false d (suc n) low q ih = rw d refl
 
   -- ---- the same, as places are counted

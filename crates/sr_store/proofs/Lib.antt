@@ -30,3 +30,5 @@ pub mod Lasts
 pub mod Totals
 pub mod KeptRows
 pub mod Meeting
+pub mod Telling
+pub mod Noticing

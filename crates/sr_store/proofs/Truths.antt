@@ -103,7 +103,7 @@ more-apart : (key : ℕ) (row : Row) (rows others : List Row) → is_first key r
 more-apart key row rows [] f h = refl
 more-apart key row rows (r ∷ others) f h = let ih = more-apart key row rows others (grind arith) (grind arith) in grind (arith, ih)
 
-first-filter : (key : ℕ) (r : Row) (f : Row → Bool) (rows : List Row) → is_first key r rows ≡ true → is_first key r (filter f rows) ≡ true
+pub first-filter : (key : ℕ) (r : Row) (f : Row → Bool) (rows : List Row) → is_first key r rows ≡ true → is_first key r (filter f rows) ≡ true
 first-filter key r f [] h = refl
 first-filter key r f (s ∷ rows) h = go (f s) (first-filter key r f rows (grind arith))
   where

@@ -15,6 +15,7 @@ ghost use Rattle.sr_store.specs.Noticed.{told_to, IsTellOf};
 ghost use Rattle.sr_store.specs.Renewing.{IsCutFrom};
 
 use crate::answer::{Answer, answer_of};
+use crate::apply::told_all;
 use crate::fit::{count_rows, fitted, lasts_of};
 use crate::marks::{drop_copies, drop_marks};
 use sr_cell::attrs::Attrs;
@@ -177,8 +178,10 @@ impl Store {
         ensures limits { self.new.limits ≡ self.old.limits }
         ensures nothing_left { OnErr result (self.new.regions ≡ []) }
     {
-        self.regions = Seq::new(alloc);
-        Err(NoMemory)
+        let mut regions = mem::replace(&mut self.regions, Seq::new(alloc));
+        told_all(alloc, &mut regions, told)?;
+        self.regions = regions;
+        Ok(())
     }
 
     /// Drops all regions, in class order, also where there is no memory for the marks.

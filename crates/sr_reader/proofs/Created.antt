@@ -3,7 +3,7 @@ use Rattle.std.proofs.Common.{◌≡◌, ℕ, ◌+◌, List, [], ◌∷◌, ◌+
 use Rattle.sr_cell.specs.declared.table.Table.{Table}
 use Rattle.sr_language.specs.Events.{Event}
 use Rattle.sr_language.specs.Lines.{lines_of}
-use Rattle.sr_language.specs.Script.{Line, Silent, CreateLine, ExecLine, QueryLine, Other, line_of, Creating, Filling, Asking, Phase, start_phase, LineDoes, Reads}
+use Rattle.sr_language.specs.Script.{Line, Silent, CreateLine, ExecLine, QueryLine, PushLine, Other, line_of, Creating, Running, Phase, start_phase, LineDoes, Reads}
 use Rattle.sr_language.specs.Creates.{CreatesFrom, Creates}
 use Rattle.sr_reader.specs.declared.script.Script.{Script}
 use Rattle.sr_reader.specs.Read.{IsRead}
@@ -11,11 +11,8 @@ use Rattle.sr_reader.proofs.OneDoing.{one_create}
 
 -- ---- behind the CREATE lines the tables stay
 
-filling : Filling ≡ Creating → ⊥
-filling e = cc
-
-asking : Asking ≡ Creating → ⊥
-asking e = cc
+running : Running ≡ Creating → ⊥
+running e = cc
 
 same_tables : (phase next : Phase) → next ≡ phase → next.tables ≡ phase.tables
 same_tables phase next same = ap (λ (p : Phase). p.tables) same
@@ -23,14 +20,18 @@ same_tables phase next same = ap (λ (p : Phase). p.tables) same
 same_stage : (phase next : Phase) → next ≡ phase → next.stage ≡ phase.stage
 same_stage phase next same = ap (λ (p : Phase). p.stage) same
 
+-- a phase among the events is not among the CREATE lines, and has the tables of the phase before
+event_keeps : (phase next : Phase) → next ≡ record phase { stage = Running } → (next.tables ≡ phase.tables) × (next.stage ≡ Creating → ⊥)
+event_keeps phase next same =
+    (same_tables (record phase { stage = Running }) next same, λ creating. running (sym (same_stage (record phase { stage = Running }) next same) ∙ creating))
+
 line_keeps : (phase : Phase) (n : ℕ) (line : Line) (events : List (ℕ × Event)) (next : Phase) → LineDoes phase n line events next → (phase.stage ≡ Creating → ⊥)
     → (next.tables ≡ phase.tables) × (next.stage ≡ Creating → ⊥)
 line_keeps phase n Silent events next does behind = (same_tables phase next does.1, λ creating. behind (sym (same_stage phase next does.1) ∙ creating))
 line_keeps phase n (CreateLine sql) events next does behind = absurd (behind does.2)
-line_keeps phase n (ExecLine sql) events next does behind =
-    (same_tables (record phase { stage = Filling }) next does.4, λ creating. filling (sym (same_stage (record phase { stage = Filling }) next does.4) ∙ creating))
-line_keeps phase n (QueryLine sql) events next does behind =
-    (same_tables (record phase { stage = Asking }) next does.3, λ creating. asking (sym (same_stage (record phase { stage = Asking }) next does.3) ∙ creating))
+line_keeps phase n (ExecLine sql) events next does behind = event_keeps phase next does.3
+line_keeps phase n (QueryLine sql) events next does behind = event_keeps phase next does.3
+line_keeps phase n PushLine events next does behind = event_keeps phase next does.1
 line_keeps phase n Other events next does behind = absurd does
 
 lines_keep : (i : ℕ) (phase : Phase) (lines : List (List ℕ)) (events : List (ℕ × Event)) (end : Phase) → Reads i phase lines events end → (phase.stage ≡ Creating → ⊥) → end.tables ≡ phase.tables
@@ -55,12 +56,9 @@ created_from i phase (line ∷ lines) events end schema reads creating creates =
         let next : Phase = record phase { tables = phase.tables ++ does.0 ∷ [] } in
         let known : phase.tables ++ creates.0 ∷ [] ≡ reads.2.tables = ap (λ t. phase.tables ++ t ∷ []) one ∙ sym (same_tables next reads.2 does.4) in
         more (same_stage next reads.2 does.4 ∙ creating) (subst (λ known. Creates known lines schema) known creates.2)
-    by (ExecLine sql) does creates more behind =
-        let next : Phase = record phase { stage = Filling } in
-        creates ∙ sym (behind (λ creating. filling (sym (same_stage next reads.2 does.4) ∙ creating)) ∙ same_tables next reads.2 does.4)
-    by (QueryLine sql) does creates more behind =
-        let next : Phase = record phase { stage = Asking } in
-        creates ∙ sym (behind (λ creating. asking (sym (same_stage next reads.2 does.3) ∙ creating)) ∙ same_tables next reads.2 does.3)
+    by (ExecLine sql) does creates more behind = let keeps = event_keeps phase reads.2 does.3 in creates ∙ sym (behind keeps.1 ∙ keeps.0)
+    by (QueryLine sql) does creates more behind = let keeps = event_keeps phase reads.2 does.3 in creates ∙ sym (behind keeps.1 ∙ keeps.0)
+    by PushLine does creates more behind = let keeps = event_keeps phase reads.2 does.1 in creates ∙ sym (behind keeps.1 ∙ keeps.0)
     by Other does creates more behind = absurd does
 
 -- the lines that are read end with the tables of the CREATE lines in front
@@ -81,6 +79,7 @@ one_from tables (line ∷ lines) one other a b = by (line_of line) a b (λ known
         more (tables ++ a.0 ∷ []) a.2 (subst (λ t. Creates (tables ++ t ∷ []) lines other) same b.2)
     by (ExecLine sql) a b more = a ∙ sym b
     by (QueryLine sql) a b more = a ∙ sym b
+    by PushLine a b more = a ∙ sym b
     by Other a b more = a ∙ sym b
 
 pub creates-once : (lines : List (List ℕ)) (one other : List Table) → Creates [] lines one → Creates [] lines other → one ≡ other

@@ -14,7 +14,7 @@ use Rattle.sr_grammar.specs.Trees.{Create}
 use Rattle.sr_grammar.specs.Seen.{statement_seen}
 use Rattle.sr_grammar.specs.Says.{Says}
 use Rattle.sr_language.specs.Lines.{lines_of}
-use Rattle.sr_language.specs.Script.{Line, Silent, CreateLine, ExecLine, QueryLine, Other, is_blank, begins_create, behind, event_line, line_of, RefusesTable, AddsTable, RefusedFrom, FirstRefused}
+use Rattle.sr_language.specs.Script.{Line, Silent, CreateLine, ExecLine, QueryLine, PushLine, Other, is_blank, begins_create, behind, is_push, event_line, line_of, RefusesTable, AddsTable, RefusedFrom, FirstRefused}
 use Rattle.sr_language.specs.Creates.{CreatesFrom, Creates}
 use Rattle.sr_query.specs.Bound.{is_table}
 use Rattle.sr_reader.specs.declared.head.RefusedLine.{RefusedLine}
@@ -44,15 +44,19 @@ no_exec sql x e = cc
 no_query : (sql x : List ℕ) → QueryLine x ≡ CreateLine sql → ⊥
 no_query sql x e = cc
 
+no_push : (sql : List ℕ) → PushLine ≡ CreateLine sql → ⊥
+no_push sql e = cc
+
 no_other : (sql : List ℕ) → Other ≡ CreateLine sql → ⊥
 no_other sql e = cc
 
 no_event : (line sql : List ℕ) → event_line line ≡ CreateLine sql → ⊥
 no_event line sql e =
-    no_behind (codes "exec ") ExecLine (query_line line) line sql (no_exec sql)
+    either (is_push line) PushLine (behind (codes "exec ") ExecLine (query_line line) line) sql (no_push sql)
+    (no_behind (codes "exec ") ExecLine (query_line line) line sql (no_exec sql)
     (no_behind (codes "query 1 ") QueryLine (behind (codes "query 01 ") QueryLine (behind (codes "query 001 ") QueryLine Other line) line) line sql (no_query sql)
     (no_behind (codes "query 01 ") QueryLine (behind (codes "query 001 ") QueryLine Other line) line sql (no_query sql)
-    (no_behind (codes "query 001 ") QueryLine Other line sql (no_query sql) (no_other sql)))) e
+    (no_behind (codes "query 001 ") QueryLine Other line sql (no_query sql) (no_other sql))))) e
 
 -- of a line that is a CREATE, by its tests
 create_by : (text quiet begins : Bool) (line sql : List ℕ) (event : Line) → (event ≡ CreateLine sql → ⊥)
@@ -119,6 +123,7 @@ ends Silent = false
 ends (CreateLine sql) = false
 ends (ExecLine sql) = true
 ends (QueryLine sql) = true
+ends PushLine = true
 ends Other = true
 
 pub other_ends : (line : Read) → (line ≡ read.Silent → ⊥) → ((sql : Bor (List ℕ)) → line ≡ read.Create sql → ⊥) → ends (line_seen line) ≡ true
@@ -126,6 +131,7 @@ other_ends read.Silent silent create = absurd (silent refl)
 other_ends (read.Create sql) silent create = absurd (create sql refl)
 other_ends (read.Exec sql) silent create = refl
 other_ends (read.Query sql) silent create = refl
+other_ends read.Push silent create = refl
 other_ends read.Other silent create = refl
 
 false_true : false ≡ true → ⊥
@@ -136,6 +142,7 @@ none_from number tables Later Silent n fault end refused = false_true end
 none_from number tables Later (CreateLine sql) n fault end refused = false_true end
 none_from number tables Later (ExecLine sql) n fault end refused = refused
 none_from number tables Later (QueryLine sql) n fault end refused = refused
+none_from number tables Later PushLine n fault end refused = refused
 none_from number tables Later Other n fault end refused = refused
 
 -- ---- the walk
@@ -223,6 +230,7 @@ ends_from tables Later Silent end = absurd (false_true end)
 ends_from tables Later (CreateLine sql) end = absurd (false_true end)
 ends_from tables Later (ExecLine sql) end = refl
 ends_from tables Later (QueryLine sql) end = refl
+ends_from tables Later PushLine end = refl
 ends_from tables Later Other end = refl
 
 pub behind_creates : (bytes rest after line : List ℕ) (number : ℕ) (tables : List Table) → Fronted bytes number rest tables → lines_of rest ≡ line ∷ lines_of after → ends (line_of line) ≡ true → Creates [] (lines_of bytes) tables

@@ -12,7 +12,7 @@ use Rattle.sr_model.specs.Statements.{Write}
 use Rattle.sr_language.specs.Events.{Event, Exec, QueryOf}
 use Rattle.sr_query.specs.Binding.{bound_query}
 use Rattle.sr_query.specs.Writes.{bound_write}
-use Rattle.sr_language.specs.Script.{Line, Silent, CreateLine, ExecLine, QueryLine, Other, line_of, RefusedFrom, FirstRefused, Phase, start_phase, Writes, AsksOf, LineDoes, Reads, FirstUnbuilt}
+use Rattle.sr_language.specs.Script.{Line, Silent, CreateLine, ExecLine, QueryLine, PushLine, Other, line_of, RefusedFrom, FirstRefused, Phase, start_phase, Writes, AsksOf, LineDoes, Reads, FirstUnbuilt}
 
 -- ---- a text means one thing
 
@@ -70,10 +70,11 @@ one_doing phase n (CreateLine sql) events others next after a b =
     (a.3 ∙ sym b.3, a.4 ∙ ap (λ (t : Table). record { tables = phase.tables ++ t ∷ []; stage = phase.stage }) same ∙ sym b.4)
 one_doing phase n (ExecLine sql) events others next after a b =
     let same = one_write phase.tables sql a.0 b.0 a.1 b.1 in
-    (a.3 ∙ ap (λ s. (n, Exec s) ∷ []) same ∙ sym b.3, a.4 ∙ sym b.4)
+    (a.2 ∙ ap (λ s. (n, Exec s) ∷ []) same ∙ sym b.2, a.3 ∙ sym b.3)
 one_doing phase n (QueryLine sql) events others next after a b =
     let same = one_query phase.tables sql a.0 b.0 a.1 b.1 in
     (a.2 ∙ ap (λ q. (n, QueryOf 1 q) ∷ []) same ∙ sym b.2, a.3 ∙ sym b.3)
+one_doing phase n PushLine events others next after a b = (a.0 ∙ sym b.0, a.1 ∙ sym b.1)
 one_doing phase n Other events others next after a b = absurd a
 
 -- lines that are read have no line that does nothing
@@ -108,6 +109,7 @@ accepts_from i phase (line ∷ lines) events end n fault reads first =
         others (phase.tables ++ later.0 ∷ []) (ap (λ (p : Phase). p.tables) does.4 ∙ ap (λ t. phase.tables ++ t ∷ []) same) later.2
     by (ExecLine sql) does refused others = refused
     by (QueryLine sql) does refused others = refused
+    by PushLine does refused others = refused
     by Other does refused others = refused
 
 pub accepts : (i : ℕ) (lines : List (List ℕ)) (events : List (ℕ × Event)) (end : Phase) (n : ℕ) (fault : Fault) → Reads i start_phase lines events end → FirstRefused i [] lines n fault → ⊥

@@ -1,4 +1,4 @@
-//! Reading of scripts: CREATE lines of any tables, then statements, then queries of one table each.
+//! Reading of scripts: CREATE lines of any tables, then statements, queries of one table each and pushes, in any order.
 #![tactic(auto)]
 
 mod built;

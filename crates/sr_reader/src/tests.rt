@@ -3,7 +3,7 @@ ghost use Rattle.std.specs.Prelude.{◌<◌, ◌^◌, length};
 
 use crate::head::{RefusedLine, created};
 use crate::lines::read_script;
-use crate::script::Script;
+use crate::script::{Event, Script};
 use sr_cell::list::{No, Seq};
 use sr_cell::schema::Schema;
 use sr_query::query::Query;
@@ -16,7 +16,7 @@ const TABLE: &str =
     "CREATE TABLE p (id INT PRIMARY KEY CHECK (id BETWEEN 0 AND 9999), age INT CHECK (age BETWEEN 0 AND 150))\n";
 
 /// Scripts, and the tables of their CREATE lines: of each its name and how many columns it has.
-const HEADS: [(&str, &str); 13] = [
+const HEADS: [(&str, &str); 14] = [
     ("", ""),
     ("# first\n\n#", ""),
     (" create\ttable T(a int,b integer primary key)", "t 2, "),
@@ -29,6 +29,10 @@ const HEADS: [(&str, &str); 13] = [
         "t 1, ",
     ),
     ("query 1 x\nCREATE TABLE t (a INT PRIMARY KEY)", ""),
+    (
+        "CREATE TABLE t (a INT PRIMARY KEY)\npush 1\nCREATE TABLE u (a INT)",
+        "t 1, ",
+    ),
     ("\t\nCREATE", ""),
     ("CREATE", "refused 1 Grammar 6"),
     ("create\x0btable", "refused 1 BadToken 6"),
@@ -51,7 +55,7 @@ const HEADS: [(&str, &str); 13] = [
 ];
 
 /// Scripts, and what is read of them.
-const WHOLE: [(&str, &str); 15] = [
+const WHOLE: [(&str, &str); 16] = [
     ("", ""),
     ("\n  \n# café\r\n#", ""),
     ("\t", "unbuilt 1"),
@@ -91,15 +95,37 @@ const WHOLE: [(&str, &str); 15] = [
         "unbuilt 3",
     ),
     ("exec x\nCREATE TABLE t (a INT)", "unbuilt 2"),
+    ("push 1\nCREATE TABLE t (a INT PRIMARY KEY)", "unbuilt 2"),
+];
+
+/// Lines that are pushes of client 1, and lines that are nearly so.
+const PUSHES: [(&str, &str); 10] = [
+    ("push 1", "1 push, "),
+    ("push 01", "1 push, "),
+    ("push 001\r\n", "1 push, "),
+    ("push 1 ", "unbuilt 1"),
+    ("push 2", "unbuilt 1"),
+    ("push", "unbuilt 1"),
+    ("push 0001", "unbuilt 1"),
+    ("push  1", "unbuilt 1"),
+    (" push 1", "unbuilt 1"),
+    ("PUSH 1", "unbuilt 1"),
 ];
 
 /// What follows the CREATE line, and what is read of the whole.
-const AFTER_TABLE: [(&str, &str); 14] = [
+const AFTER_TABLE: [(&str, &str); 15] = [
     (
         "exec insert  into P values(1,035),(2,45);\n\nexec INSERT INTO p VALUES (1, 2, 3",
         "2 insert 2 of 0, 4 Grammar 29, ",
     ),
-    ("query 1 x\nexec x", "unbuilt 3"),
+    (
+        "exec INSERT INTO p VALUES (1, 2)\nquery 1 SELECT id FROM p\n\npush 01\nexec DELETE FROM p",
+        "2 insert 1 of 0, 3 outputs 1 width 1, 5 push, 6 delete 0 of 0, ",
+    ),
+    (
+        "push 1\nquery 1 x\nexec x",
+        "2 push, 3 Grammar 0, 4 Grammar 0, ",
+    ),
     ("exec DELETE FROM p", "2 delete 0 of 0, "),
     ("exec UPDATE p SET age = 1", "2 update 1 of 0, "),
     (
@@ -138,7 +164,7 @@ const QUERIES: [(&str, &str); 16] = [
     ("query 1 SELECT id FROM p", "2 outputs 1 width 1, "),
     (
         "query 1 SELECT * FROM p\nexec INSERT INTO p VALUES (1, 2)",
-        "unbuilt 3",
+        "2 outputs 2 width 1, 3 insert 1 of 0, ",
     ),
     (
         "query 1 SELECT * FROM p\nquery 1 SELECT id FROM p",
@@ -192,25 +218,20 @@ fn write_write(text: &mut String, write: &Write) -> Result<(), AllocError> {
     write!(text, "{word} {count} of {table}")
 }
 
-fn write_statements(text: &mut String, script: &Script) -> Result<(), AllocError> {
-    for line in script.statements.as_slice() {
-        write!(text, "{} ", line.number)?;
-        match &line.statement {
-            Ok(write) => write_write(text, write)?,
-            Err(fault) => write!(text, "{:?} {}", fault.why, fault.at)?,
-        }
-        write!(text, ", ")?;
+fn write_event(text: &mut String, event: &Event) -> Result<(), AllocError> {
+    match event {
+        Event::Exec(Ok(write)) => write_write(text, write),
+        Event::Query(Ok(query)) => write_query(text, query),
+        Event::Exec(Err(fault)) => write!(text, "{:?} {}", fault.why, fault.at),
+        Event::Query(Err(fault)) => write!(text, "{:?} {}", fault.why, fault.at),
+        Event::Push => write!(text, "push"),
     }
-    Ok(())
 }
 
-fn write_queries(text: &mut String, script: &Script) -> Result<(), AllocError> {
-    for line in script.queries.as_slice() {
+fn write_events(text: &mut String, script: &Script) -> Result<(), AllocError> {
+    for line in script.lines.as_slice() {
         write!(text, "{} ", line.number)?;
-        match &line.query {
-            Ok(query) => write_query(text, query)?,
-            Err(fault) => write!(text, "{:?} {}", fault.why, fault.at)?,
-        }
+        write_event(text, &line.event)?;
         write!(text, ", ")?;
     }
     Ok(())
@@ -252,10 +273,7 @@ fn said(alloc: Global, bytes: &[u8]) -> Result<String, Fail>
 {
     let mut text = String::new(alloc);
     match read_script(alloc, bytes) {
-        Ok(script) => {
-            write_statements(&mut text, &script)?;
-            write_queries(&mut text, &script)?;
-        }
+        Ok(script) => write_events(&mut text, &script)?,
         Err(No::Refused(unbuilt)) => write!(text, "unbuilt {}", unbuilt.number)?,
         Err(No::NoMemory) => text.push_str("no memory")?,
     }
@@ -285,6 +303,15 @@ fn heads_are_read(rt: HostRuntime) -> Result<(), Fail> {
 #[test]
 fn scripts_are_read(rt: HostRuntime) -> Result<(), Fail> {
     for (script, wanted) in WHOLE {
+        let found = said_behind(rt.alloc(), "", script)?;
+        assert_eq!(rt; found.as_str(), wanted, "in {script:?}");
+    }
+    Ok(())
+}
+
+#[test]
+fn pushes_are_read(rt: HostRuntime) -> Result<(), Fail> {
+    for (script, wanted) in PUSHES {
         let found = said_behind(rt.alloc(), "", script)?;
         assert_eq!(rt; found.as_str(), wanted, "in {script:?}");
     }

@@ -10,7 +10,7 @@ use Rattle.sr_cell.specs.Columns.{is_point}
 use Rattle.sr_model.specs.SortedRows.{has_key, with_row}
 use Rattle.sr_model.specs.Changes.{row_with, same_row, all_keys, table_changes}
 use Rattle.sr_box.proofs.Order.{cell_eq-sound}
-use Rattle.sr_region.specs.Applied.{IsNew}
+use Rattle.sr_region.specs.Applied.{IsNew, is_point_if_there, has_points}
 use Rattle.sr_region.proofs.Found.{find-passes, find-among, find-none, same_row-sound}
 
 -- ---- what a change is
@@ -39,6 +39,16 @@ module _ (table : Table) (t : ℕ) (old new : List Row) where
 
   pub are-changes : AllByRecursion (IsChange table t old new) (table_changes table t old new)
   are-changes = each-change (all_keys table.key old new)
+
+  point-if-there : (v : Cell) (rows : List Row) (row : Option Row) → row ≡ row_with table.key v rows → list_all (is_point table.columns) rows ≡ true → is_point_if_there table.columns row ≡ true
+  point-if-there v rows None e points = refl
+  point-if-there v rows (Some row) e points = find-among (λ r. cell_eq (cell_at r table.key) v) (is_point table.columns) rows row points (sym e)
+
+  pub are-points : (c : Change) → IsChange table t old new c → list_all (is_point table.columns) old ≡ true → list_all (is_point table.columns) new ≡ true → has_points table.columns c ≡ true
+  are-points c is was points =
+      let before = point-if-there c.key old c.before is.before was in
+      let after = point-if-there c.key new c.after is.after points in
+      rw (before, after) refl
 
   -- the new row is a row of the table, and has the key
   pub is-new : (c : Change) → IsChange table t old new c → list_all (is_point table.columns) new ≡ true → IsNew table c.key c.after

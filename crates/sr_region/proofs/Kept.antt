@@ -18,12 +18,12 @@ use Rattle.sr_box.specs.Points.{Rect, in_any}
 use Rattle.sr_box.proofs.Order.{cell_eq-sound}
 use Rattle.sr_region.specs.declared.region.Region.{Region}
 use Rattle.sr_region.specs.Regions.{rank, IsRegion}
-use Rattle.sr_region.specs.Applied.{without_key, applied, applied_all, IsNew, has_row, concerns, HasItsRows, ApplyKeepsRows}
+use Rattle.sr_region.specs.Applied.{without_key, applied, applied_all, IsNew, has_row, has_points, concerns, HasItsRows, ApplyKeepsRows}
 use Rattle.sr_region.specs.Entering.{part_in}
 use Rattle.sr_region.proofs.Ranks.{stand}
 use Rattle.sr_region.proofs.Applied.{applied-region, with_new-part}
 use Rattle.sr_region.proofs.Found.{same-rows, HasKey, found-part, parts_of, parts-ascend, found-parts}
-use Rattle.sr_region.proofs.Changed.{IsChange, are-changes, is-new, has_change, stays}
+use Rattle.sr_region.proofs.Changed.{IsChange, are-changes, are-points, is-new, has_change, stays}
 
 -- the region after a change, if the change is of its table
 abbrev after_one : Change → Region → Region
@@ -125,7 +125,7 @@ outside : (attrs : ℕ) (rects : List Rect) (row : Option Row) → has_row rects
 outside attrs rects None out = refl
 outside attrs rects (Some row) out = ap (λ b. if b then Some (project attrs row) else None) out
 
-module _ (test : Change → Bool) (table : Table) (old new : List Row) (points : list_all (is_point table.columns) new ≡ true) where
+module _ (test : Change → Bool) (table : Table) (old new : List Row) (were : list_all (is_point table.columns) old ≡ true) (points : list_all (is_point table.columns) new ≡ true) where
   -- the region's place of the key, and its parts
   abbrev place_of : Region → ℕ
   place_of g = rank g.attrs g.key
@@ -190,7 +190,7 @@ module _ (test : Change → Bool) (table : Table) (old new : List Row) (points :
       go false one two rest = rest
 
   -- a key whose changes do not pass has the same part before and after
-  same-part : (v : Cell) (cs : List Change) (g : Region) → ((c : Change) → concerns g c ≡ true → test c ≡ true) → AllByRecursion (IsChange table g.table old new) cs
+  same-part : (v : Cell) (cs : List Change) (g : Region) → ((c : Change) → has_points table.columns c ≡ true → concerns g c ≡ true → test c ≡ true) → AllByRecursion (IsChange table g.table old new) cs
       → has_change v cs ≡ true → is_hit test v cs ≡ false → part_in g.attrs g.rects (row_with table.key v old) ≡ part_in g.attrs g.rects (row_with table.key v new)
   same-part v [] g passes all has none = absurd (cc)
   same-part v (c ∷ cs) g passes all has none = go (cell_eq c.key v) refl (test c) refl has none (same-part v cs g passes all.1)
@@ -199,10 +199,10 @@ module _ (test : Change → Bool) (table : Table) (old new : List Row) (points :
       own = let is = all.0.number in grind (arith, nat_tests, is)
 
       not_before : test c ≡ false → has_row g.rects c.before ≡ false
-      not_before fails = let p = passes c in grind (arith, own, p, fails)
+      not_before fails = let p = passes c (are-points table g.table old new c all.0 were points) in grind (arith, own, p, fails)
 
       not_after : test c ≡ false → has_row g.rects c.after ≡ false
-      not_after fails = let p = passes c in grind (arith, own, p, fails)
+      not_after fails = let p = passes c (are-points table g.table old new c all.0 were points) in grind (arith, own, p, fails)
 
       go : (a : Bool) → cell_eq c.key v ≡ a → (b : Bool) → test c ≡ b → (a || has_change v cs) ≡ true → ((b && a) || is_hit test v cs) ≡ false
           → (has_change v cs ≡ true → is_hit test v cs ≡ false → part_in g.attrs g.rects (row_with table.key v old) ≡ part_in g.attrs g.rects (row_with table.key v new))
@@ -218,7 +218,7 @@ module _ (test : Change → Bool) (table : Table) (old new : List Row) (points :
 
   -- ---- the region's rows
 
-  kept-rows : (g : Region) → ((c : Change) → concerns g c ≡ true → test c ≡ true) → IsRegion table g → ascend table.key old ≡ true → ascend table.key new ≡ true
+  kept-rows : (g : Region) → ((c : Change) → has_points table.columns c ≡ true → concerns g c ≡ true → test c ≡ true) → IsRegion table g → ascend table.key old ≡ true → ascend table.key new ≡ true
       → g.rows ≡ map (project g.attrs) (filter (in_any g.rects) old)
       → (applied_all (filter test (table_changes table g.table old new)) g).rows ≡ map (project g.attrs) (filter (in_any g.rects) new)
   kept-rows g passes h was is own =
@@ -255,6 +255,6 @@ keeps schema old new test g was is below h passes own =
     let one : applied_all (filter test (changes_from 0 schema old new)) g ≡ applied_all (filter test (table_changes (table_at schema n) n (rows_at old n) (rows_at new n))) g =
     own-alone test 0 n schema old new g few_old few_new below (sym number)
     ∙ ap (λ k. applied_all (filter test (table_changes (table_at schema n) k (rows_at old n) (rows_at new n))) g) number in
-    let rows = kept-rows test (table_at schema n) (rows_at old n) (rows_at new n) (is.points n) g passes h (was.ascending n) (is.ascending n) own in
+    let rows = kept-rows test (table_at schema n) (rows_at old n) (rows_at new n) (was.points n) (is.points n) g passes h (was.ascending n) (is.ascending n) own in
     let same = same-table test (filter test (table_changes (table_at schema n) n (rows_at old n) (rows_at new n))) g in
     subst (HasItsRows new) (sym (one ∙ same)) rows

@@ -3,6 +3,7 @@ use Rattle.std.specs.Prelude.{ℕ, ◌<◌, Bool, true, not, ◌||◌, ◌==◌,
 use Rattle.std.specs.List.{list_all}
 use Rattle.sr_cell.specs.declared.cell.Cell.{Cell}
 use Rattle.sr_cell.specs.declared.change.Change.{Change}
+use Rattle.sr_cell.specs.declared.table.Column.{Column}
 use Rattle.sr_cell.specs.declared.table.Table.{Table}
 use Rattle.sr_cell.specs.Attrs.{project}
 use Rattle.sr_cell.specs.Cells.{Row, cell_at, cell_eq}
@@ -47,6 +48,14 @@ has_row rects (Some row) = in_any rects row
 abbrev pub concerns : Region → Change → Bool
 concerns g c = c.table == g.table && (has_row g.rects c.before || has_row g.rects c.after)
 
+abbrev pub is_point_if_there : List Column → Option Row → Bool
+is_point_if_there columns None = true
+is_point_if_there columns (Some row) = is_point columns row
+
+-- the old and the new row of the change are points
+abbrev pub has_points : List Column → Change → Bool
+has_points columns c = is_point_if_there columns c.before && is_point_if_there columns c.after
+
 -- its rows are just those of its table that lie in its rects, with the cells of its columns
 abbrev pub HasItsRows : Tables → Region → Type 0
 HasItsRows tables g = g.rows ≡ map (project g.attrs) (filter (in_any g.rects) (rows_at tables g.table))
@@ -57,10 +66,10 @@ pub record AreTables (schema : List Table) (tables : Tables) : Type 0 where
   pub points : (t : ℕ) → list_all (is_point (table_at schema t).columns) (rows_at tables t) ≡ true
   pub ascending : (t : ℕ) → ascend (table_at schema t).key (rows_at tables t) ≡ true
 
--- A region with its rows in the old tables has its rows in the new ones, once all changes are applied that concern it.
+-- A region with its rows in the old tables has its rows in the new ones, once all changes of points are applied that concern it.
 abbrev pub ApplyKeepsRows : Type 0
 ApplyKeepsRows =
     (schema : List Table) (old new : Tables) (test : Change → Bool) (g : Region)
     → AreTables schema old → AreTables schema new → g.table < length schema → IsRegion (table_at schema g.table) g
-    → ((c : Change) → concerns g c ≡ true → test c ≡ true)
+    → ((c : Change) → has_points (table_at schema g.table).columns c ≡ true → concerns g c ≡ true → test c ≡ true)
     → HasItsRows old g → HasItsRows new (applied_all (filter test (changes schema old new)) g)

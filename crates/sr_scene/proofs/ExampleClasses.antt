@@ -81,7 +81,7 @@ absorbs-nothing marks queries [] never = refl
 absorbs-nothing marks queries (k ∷ classes) never =
     inl (never k (grind (arith, nat_tests)), absorbs-nothing marks queries classes (λ l among. never l (grind (arith, among))))
 
-absorbs-none : (marks : List Mark) (queries : List Numbered) (classes : List Class) → ((t a : ℕ) (p : Row) → is_held marks t a p ≡ true → (t ≡ 0) × (a ≡ 3))
+pub absorbs-none : (marks : List Mark) (queries : List Numbered) (classes : List Class) → ((t a : ℕ) (p : Row) → is_held marks t a p ≡ true → (t ≡ 0) × (a ≡ 3))
     → ((p : Row) → is_held_wider marks 0 3 p ≡ false) → AreClasses schema marks queries classes → Absorbs schema marks queries []
 absorbs-none marks queries classes only none are =
     (classes, are, absorbs-nothing marks queries classes (λ k among. not-absorbed marks queries k only none ((are.each k).0 among)))
@@ -90,7 +90,7 @@ both-2 : (x y : Bool) → (x && y) ≡ true → y ≡ true
 both-2 x y e = grind arith
 
 -- a fact about each held point is one about two numbers
-held-points : (P : Row → Type 0) → ((m n : ℤ) → P (Num m ∷ Num n ∷ [])) → (p : Row) → IsTrue (is_point people.columns p) → P p
+pub held-points : (P : Row → Type 0) → ((m n : ℤ) → P (Num m ∷ Num n ∷ [])) → (p : Row) → IsTrue (is_point people.columns p) → P p
 held-points P h [] t = absurd (cc)
 held-points P h (Num m ∷ []) t = absurd (grind arith)
 held-points P h (Str s ∷ q) t = absurd (cc)
@@ -121,17 +121,17 @@ stamp-2 p point = held-points (λ p. is_held marks_2 0 3 p ≡ true → (stamp q
     (λ m n h. some-stamp _ _ (grind (arith, ints, h))) p point
 
 -- a class is that one
-is-class : (k : Class) (s : ℕ) → same_class k (class s) ≡ true → k ≡ class s
+pub is-class : (k : Class) (s : ℕ) → same_class k (class s) ≡ true → k ≡ class s
 is-class k s e = is-same k (class s) e
 
-class-is : (k : Class) (s : ℕ) → k.table ≡ 0 → k.attrs ≡ 3 → k.stamp ≡ s → same_class k (class s) ≡ true
+pub class-is : (k : Class) (s : ℕ) → k.table ≡ 0 → k.attrs ≡ 3 → k.stamp ≡ s → same_class k (class s) ≡ true
 class-is k s t a n = grind (arith, nat_tests, t, a, n)
 
 equal-nat : (m n : ℕ) → (m == n) ≡ true → m ≡ n
 equal-nat m n e = grind (arith, nat_tests)
 
 -- a point's class is one of these stamps
-of-stamps : (marks : List Mark) (queries : List Numbered) (k : Class) (Good : ℕ → Type 0) → ((t a : ℕ) (p : Row) → is_held marks t a p ≡ true → (t ≡ 0) × (a ≡ 3))
+pub of-stamps : (marks : List Mark) (queries : List Numbered) (k : Class) (Good : ℕ → Type 0) → ((t a : ℕ) (p : Row) → is_held marks t a p ≡ true → (t ≡ 0) × (a ≡ 3))
     → ((p : Row) → IsTrue (is_point people.columns p) → is_held marks 0 3 p ≡ true → Good (stamp queries 0 3 p))
     → HasPoint (table_at schema k.table).columns (in_class marks queries k) → (k.table ≡ 0) × (k.attrs ≡ 3) × Good k.stamp
 of-stamps marks queries k Good only good (p, point, inside) =
@@ -144,7 +144,7 @@ of-stamps marks queries k Good only good (p, point, inside) =
     go t a et ea = subst (λ t. (a : ℕ) → a ≡ 3 → IsTrue (is_point (table_at schema t).columns p) → is_held marks t a p ≡ true → stamp queries t a p ≡ k.stamp → Good k.stamp) (sym et)
         (λ a ea. subst (λ a. IsTrue (is_point people.columns p) → is_held marks 0 a p ≡ true → stamp queries 0 a p ≡ k.stamp → Good k.stamp) (sym ea) (λ point held stamped. subst Good stamped (good p point held))) a ea
 
-two-classes : (k : Class) → (k.table ≡ 0) × (k.attrs ≡ 3) × ((k.stamp ≡ 1) ⊎ (k.stamp ≡ 2)) → list_any (same_class k) (class 1 ∷ class 2 ∷ []) ≡ true
+pub two-classes : (k : Class) → (k.table ≡ 0) × (k.attrs ≡ 3) × ((k.stamp ≡ 1) ⊎ (k.stamp ≡ 2)) → list_any (same_class k) (class 1 ∷ class 2 ∷ []) ≡ true
 two-classes k (t, a, inl n) = let e = class-is k 1 t a n in grind (arith, e)
 two-classes k (t, a, inr n) = let e = class-is k 2 t a n in grind (arith, e)
 
@@ -158,7 +158,7 @@ classes_1 = record {
 }
 
 -- in one of two
-one-of-two : (k : Class) → list_any (same_class k) (class 1 ∷ class 2 ∷ []) ≡ true → (k ≡ class 1) ⊎ (k ≡ class 2)
+pub one-of-two : (k : Class) → list_any (same_class k) (class 1 ∷ class 2 ∷ []) ≡ true → (k ≡ class 1) ⊎ (k ≡ class 2)
 one-of-two k e = go (same_class k (class 1)) refl
   where
     go : (b : Bool) → same_class k (class 1) ≡ b → (k ≡ class 1) ⊎ (k ≡ class 2)

@@ -20,7 +20,7 @@ abbrev pub held : List Mark
 held = Held 0 3 (ages 30 40) ∷ []
 
 -- a point of the table is two numbers
-same_points : (a b : Row → Bool) → ((m n : ℤ) → int_le (pos 0) n ≡ true → int_le n (pos 150) ≡ true → a (Num m ∷ Num n ∷ []) ≡ b (Num m ∷ Num n ∷ [])) → AreSame people.columns a b
+pub same_points : (a b : Row → Bool) → ((m n : ℤ) → int_le (pos 0) n ≡ true → int_le n (pos 150) ≡ true → a (Num m ∷ Num n ∷ []) ≡ b (Num m ∷ Num n ∷ [])) → AreSame people.columns a b
 same_points a b h [] t = cc
 same_points a b h (Num m ∷ []) t = grind arith
 same_points a b h (Str s ∷ q) t = cc
@@ -38,7 +38,7 @@ covered_same : AreSame people.columns (rest_of held (part 32 35)) (λ q. false)
 covered_same = same_points _ _ (λ m n low high. grind (arith, ints))
 
 -- only the two columns can be essential
-only_two : (a : Row → Bool) (c : ℕ) → IsEssential people.columns a c → IsTrue (has_column 3 c)
+pub only_two : (a : Row → Bool) (c : ℕ) → IsEssential people.columns a c → IsTrue (has_column 3 c)
 only_two a zero e = refl
 only_two a (suc zero) e = refl
 only_two a (suc (suc c)) e = go e.inside refl

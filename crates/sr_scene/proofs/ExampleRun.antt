@@ -18,13 +18,13 @@ use Rattle.sr_scene.proofs.ExampleBudgets.{budgets_1, budgets_2}
 use Rattle.sr_scene.proofs.ExampleRests.{ask, held, first_asks, second_asks}
 use Rattle.sr_scene.proofs.Quiet.{settled, three_settle}
 
-nothing_held : HoldsNothing schema []
+pub nothing_held : HoldsNothing schema []
 nothing_held table attrs q h = refl
 
 something_held : HoldsNothing schema held → IsTrue false
 something_held none = let k : true ≡ false = none 0 3 (row 1 35) refl in cc
 
-same_self : (a : Row → Bool) → AreSame people.columns a a
+pub same_self : (a : Row → Bool) → AreSame people.columns a a
 same_self a q h = refl
 
 holds_first : Holds schema (ask 30 40) (Held 0 3 (ages 30 40))

@@ -10,3 +10,7 @@ pub mod ExampleRun
 pub mod Quiet
 pub mod AsksNothing
 pub mod CoveredRun
+pub mod FillingScript
+pub mod FillingClasses
+pub mod FillingRests
+pub mod FillingRun

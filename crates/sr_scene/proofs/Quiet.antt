@@ -12,6 +12,10 @@ one_settles k s lines new settles = (k, (lines, [], new, settles, (refl, refl), 
 pub settled : (s : Scene) → IsQuiet s 1 → AllSettle 1 1 s [] s
 settled s quiet = one_settles 0 s [] s ((refl, refl), quiet)
 
+-- one delivery, after which none is left
+pub one_delivery_settles : (s new : Scene) (lines : List TraceLine) → Delivers s 1 lines new → IsQuiet new 1 → AllSettle 1 1 s lines new
+one_delivery_settles s new lines delivers quiet = one_settles 1 s lines new (([], lines, s, (refl, refl), delivers, refl), quiet)
+
 -- three deliveries, after which none is left
 pub three_settle : (s s1 s2 new : Scene) (a b c : List TraceLine) → Delivers s 1 a s1 × Delivers s1 1 b s2 × Delivers s2 1 c new × IsQuiet new 1
     → AllSettle 1 1 s (a ++ b ++ c) new

@@ -4,3 +4,4 @@ pub mod Steps
 pub mod Runs
 pub mod Example
 pub mod CoveredQuery
+pub mod FilledCache

@@ -20,12 +20,12 @@ use Rattle.sr_history.specs.Kept.{kept}
 use Rattle.sr_history.specs.Victims.{AreLast, last_parts}
 use Rattle.sr_history.specs.Budgets.{MeetsBudgets}
 use Rattle.sr_region.specs.declared.region.Region.{Region}
-use Rattle.sr_region.specs.Applied.{AreTables, concerns}
+use Rattle.sr_region.specs.Applied.{AreTables, concerns, has_points}
 use Rattle.sr_store.specs.Classes.{Held, Stamps, Keeps}
 use Rattle.sr_store.specs.Told.{told_of, AreTrueOf}
 use Rattle.sr_store.specs.Stores.{IsStore}
 use Rattle.sr_store.specs.Fitted.{IsFitted, lasts_of, count_rows}
-use Rattle.sr_store.specs.Noticed.{told_to, IsTellOf, has_points}
+use Rattle.sr_store.specs.Noticed.{told_to, IsTellOf}
 
 -- Where regions are the classes of some marks, with the rows of some tables, and are made to fit, the drops are those that the
 -- budgets demand of these marks, and the regions that are left are the classes of the marks with them.

@@ -329,6 +329,7 @@ impl World {
     /// The client takes the oldest message.
     fn take(&mut self, alloc: Global) -> Result<TraceLines, NoMemory>
         requires stands { Stands self.old }
+        requires served { self.old.to_server.items ≡ [] }
         requires some { self.old.to_client.items ≡ [] → ⊥ }
         ensures delivery { IfOk result (DoesDelivery self.old self.new) }
         ensures drawn { OnOk result (drawn self.new ≡ drawn self.old) }

@@ -15,16 +15,16 @@ returns-in_err-query c =
     let p = err_from_is_err_and c.from_residual.result c.from_residual.ensures.1 in
     want_added c.args.number c.args.script.now c.args.script.now (QueryLine c.args.sql.now) c.from_residual.result p.0 p.1
 
-pub returns-in_err-push-in-Some : goal.returns-in_err-push-in-Some
-returns-in_err-push-in-Some c =
-    let p = err_from_is_err_and c.from_residual-in_err-push-in-Some.result c.from_residual-in_err-push-in-Some.ensures.1 in
-    want_added c.args.number c.args.script.now (record c.args.script.now { queries = c.push.new.self }) (QueryLine c.args.sql.now) c.from_residual-in_err-push-in-Some.result p.0 p.1
+pub returns-in_err-push_event-in-Some : goal.returns-in_err-push_event-in-Some
+returns-in_err-push_event-in-Some c =
+    let p = err_from_is_err_and c.from_residual-in_err-push_event-in-Some.result c.from_residual-in_err-push_event-in-Some.ensures.1 in
+    want_added c.args.number c.args.script.now c.push_event.new.script (QueryLine c.args.sql.now) c.from_residual-in_err-push_event-in-Some.result p.0 p.1
 
-pub returns-in_ok-push-in-Some : goal.returns-in_ok-push-in-Some
-returns-in_ok-push-in-Some c =
+pub returns-in_ok-push_event-in-Some : goal.returns-in_ok-push_event-in-Some
+returns-in_ok-push_event-in-Some c =
     let old = c.args.script.now in
     let asking = subst (λ z. IsAsking old.schema c.args.sql.now z) c.in-Some.is c.in_ok-query.ensures in
-    subst (λ z. Adds c.args.number old (QueryLine c.args.sql.now) (record old { queries = z }) × Fits (record old { queries = z })) (sym c.in_ok-push-in-Some.ensures.pushed)
+    subst (λ z. Adds c.args.number old (QueryLine c.args.sql.now) z × Fits z) (sym c.in_ok-push_event-in-Some.ensures)
     (query_some c.args.number c.args.sql.now old c.in-Some.query asking c.requires)
 
 pub returns-in-None : goal.returns-in-None

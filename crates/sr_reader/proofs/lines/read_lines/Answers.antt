@@ -7,7 +7,7 @@ use Rattle.sr_reader.proofs.Walks.{Walked, walked_start, walked_line, walked_rea
 use Rattle.sr_reader.proofs.lines.read_lines.Goals as goal
 
 pub lines-init : goal.lines-init
-lines-init c = rw (c.new.ensures, c.new-2.ensures, c.new-3.ensures) (walked_start c.args.bytes.now)
+lines-init c = rw (c.new.ensures, c.new-2.ensures) (walked_start c.args.bytes.now)
 
 pub returns-then-not-branch : goal.returns-then-not-branch
 returns-then-not-branch c =

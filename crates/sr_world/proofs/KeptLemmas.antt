@@ -1,6 +1,5 @@
 -- What the past keeps once a query is answered: all as it is renewed, within the limits, or nothing where that would be too many pieces.
-use Rattle.std.proofs.Common.{◌≡◌, ℕ, ◌+◌, ◌≤◌, ◌<◌, true, false, List, [], ◌∷◌, ◌++◌, map, length, refl, sym, ◌∙◌, ap, subst, arith, inl, inr, append_assoc}
-use Rattle.std.specs.Prelude.{IsTrue, ◌⊎◌}
+use Rattle.std.proofs.Common.{◌≡◌, ℕ, ◌+◌, ◌≤◌, ◌<◌, true, List, [], ◌∷◌, ◌++◌, map, length, refl, sym, ◌∙◌, ap, subst, arith, inl, inr, append_assoc}
 use Rattle.std.specs.List.{list_all, All, AllZip}
 use Rattle.std.proofs.lemmas.List.Elements.{All-nil, All-weaker}
 use Rattle.sr_cell.specs.declared.cause.Cause.TheVariants.{Pieces}
@@ -25,7 +24,7 @@ use Rattle.sr_region.specs.declared.region.Region.{Region}
 use Rattle.sr_region.specs.Applied.{AreTables}
 use Rattle.sr_store.specs.declared.store.Arrival.{Arrival}
 use Rattle.sr_store.specs.declared.store.Store.{Store}
-use Rattle.sr_store.specs.Classes.{Stamps, IsStamped, Keeps as KeepsPoints}
+use Rattle.sr_store.specs.Classes.{IsStamped, Keeps as KeepsPoints}
 use Rattle.sr_store.specs.Told.{told_of, AreTrueOf}
 use Rattle.sr_store.specs.Stores.{IsStore, drop_of}
 use Rattle.sr_store.specs.Answered.{IsArrival, HaveArrived, IsGivenUp, held_of, rects_on}
@@ -48,7 +47,7 @@ use Rattle.sr_world.proofs.EndLemmas.{rects_on-end}
 use Rattle.sr_world.proofs.FactLemmas.{have-first, are-told}
 use Rattle.sr_world.proofs.HeavyLemmas.{WereAsked, heavy-load, light}
 use Rattle.sr_world.proofs.Renewal.{HaveFirst, with_marks-append, renewal}
-use Rattle.sr_world.proofs.Subscribed.{AreBrought, subscribed-renewed, subscribed-left}
+use Rattle.sr_world.proofs.Subscribed.{IsSubscribed, AreBrought, subscribed-renewed, subscribed-left}
 
 -- What is known where query number is answered at a version: the regions and what arrives have the rows of its tables. The queries
 -- are those after the answer.
@@ -97,7 +96,7 @@ cut-ends schema queries given gs ends cuts =
 
 module _ (s : Scene) (number version : ℕ) (parts : List Part) (arrivals : List Arrival) (old : Store) (asked : List AskPart) (q : Query) (queries : List Numbered) (c : scene.Client)
     (h : IsAnswering s number version parts arrivals old asked q queries c) (new : Store) (marks : List Mark) (a : IsAfter s.schema number parts arrivals old new marks) where
-  schema : List Table
+  abbrev schema : List Table
   schema = s.schema
 
   first : HaveFirst schema
@@ -172,7 +171,7 @@ module _ (s : Scene) (number version : ℕ) (parts : List Part) (arrivals : List
         ends = subst (RegionsEnd schema (counted (number + 1) queries)) (sym g.left) (All-nil (λ (r : Region). EndWith schema (counted (number + 1) queries) r.table r.rects));
         rows = subst (λ gs. count_rows gs ≤ new.limits.rows) (sym g.left) (omega arith);
         regions = subst (λ (gs : List Region). length gs ≤ new.limits.regions) (sym g.left) (omega arith);
-        subscribed = λ subscription are brought. subst (AreSubscribed schema subscription) (sym g.left) (All-nil _);
+        subscribed = λ subscription are brought. subst (AreSubscribed schema subscription) (sym g.left) (All-nil (λ (r : Region). IsSubscribed schema subscription r.table r.rects));
       }
 
   pub kept : IsKept s asked q number version queries c arrivals marks old new

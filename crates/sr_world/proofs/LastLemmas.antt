@@ -1,5 +1,5 @@
 -- What the last query that was answered asked.
-use Rattle.std.proofs.Common.{◌≡◌, ℕ, ◌+◌, ◌-◌, true, false, List, [], ◌∷◌, ◌++◌, length, refl, sym, ◌∙◌, ap, arith, length-append}
+use Rattle.std.proofs.Common.{◌≡◌, ℕ, ◌+◌, ◌-◌, true, false, List, [], ◌∷◌, ◌++◌, length, refl, ◌∙◌, ap, arith, length-append}
 use Rattle.std.specs.Prelude.{fold, slice_set, if◌then◌else◌}
 use Rattle.sr_model.specs.Queries.{Part, Query}
 use Rattle.sr_history.specs.Classes.{Numbered}

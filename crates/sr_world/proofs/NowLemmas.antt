@@ -1,7 +1,7 @@
 -- A query of which nothing is left to ask is answered at once, as the scene says.
 use Rattle.std.proofs.Common.{◌≡◌, ℕ, ◌+◌, ◌≤◌, Bool, true, false, List, [], ◌∷◌, ◌++◌, map, length, refl, sym, ◌∙◌, ap, subst, arith, inl, Some, None, Ok, length-append, append_assoc}
 use Rattle.std.specs.Prelude.{not, ◌&&◌, ◌||◌, filter}
-use Rattle.std.specs.List.{list_all, list_any, All}
+use Rattle.std.specs.List.{list_all}
 use Rattle.std.proofs.lemmas.List.Elements.{All-nil}
 use Rattle.sr_cell.specs.declared.table.Table.{Table}
 use Rattle.sr_cell.specs.declared.table.Column.{Column}
@@ -34,12 +34,11 @@ use Rattle.sr_join.specs.Found.{cells_of}
 use Rattle.sr_script.specs.declared.line.TraceLine.{TraceLine}
 use Rattle.sr_script.specs.declared.line.TraceLine.TheVariants as line
 use Rattle.sr_scene.specs.Scene.{Scene}
-use Rattle.sr_scene.specs.Scene as scene
 use Rattle.sr_scene.specs.Steps.{Happens, Keeps, QueriesIfFree, answer_lines, mark_line, counted}
 use Rattle.sr_world.specs.declared.world.World.{World}
 use Rattle.sr_world.specs.declared.client.AskOut as code
 use Rattle.sr_world.specs.Asking.{AsksRest}
-use Rattle.sr_world.specs.Answering.{is_kept, is_new, HaveRows, BringRows, Suits}
+use Rattle.sr_world.specs.Answering.{is_kept, is_new, Suits}
 use Rattle.sr_world.specs.Bound.{IsMeaning}
 use Rattle.sr_world.specs.Worlds.{DoesEvent}
 use Rattle.sr_world.specs.Cutting.{EndWith, RegionsEnd, PartsEnd}

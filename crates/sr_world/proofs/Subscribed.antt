@@ -1,7 +1,7 @@
 -- Regions whose points are subscribed.
 use Rattle.std.proofs.Common.{◌≡◌, ℕ, ◌+◌, Bool, true, false, List, [], ◌∷◌, refl, sym, ◌∙◌, ap, subst, arith}
-use Rattle.std.specs.Prelude.{◌&&◌, ◌||◌, ◌==◌, if◌then◌else◌}
-use Rattle.std.specs.List.{list_any, All, Contains}
+use Rattle.std.specs.Prelude.{◌||◌, ◌==◌, if◌then◌else◌}
+use Rattle.std.specs.List.{All, Contains}
 use Rattle.std.proofs.lemmas.Bool.Decides.{nat_tests}
 use Rattle.std.proofs.lemmas.List.Elements.{All-nil, All-cons, All-head, All-tail, All-weaker, All-contains}
 use Rattle.sr_cell.specs.declared.table.Table.{Table}
@@ -20,7 +20,7 @@ use Rattle.sr_store.specs.Classes.{Stamps, is_of, occurs, Keeps}
 use Rattle.sr_store.specs.Answered.{arrives, IsRenewed}
 use Rattle.sr_store.proofs.Dropping.{flagged_all}
 use Rattle.sr_world.specs.Noticing.{AreSubscribed}
-use Rattle.sr_world.proofs.Covers.{same-number, left-true, right-true}
+use Rattle.sr_world.proofs.Covers.{same-number, left-true}
 
 -- the points of rects of a table are subscribed
 abbrev pub IsSubscribed : List Table → List Holding → ℕ → List Rect → Type 0
@@ -34,26 +34,23 @@ module _ (schema : List Table) (subscription : List Holding) where
   abbrev Subscribed : Region → Type 0
   Subscribed g = IsSubscribed schema subscription g.table g.rects
 
+  abbrev Brought : Arrival → Type 0
+  Brought r = IsSubscribed schema subscription r.table r.rects
+
   -- a point that occurs is subscribed
   abbrev OccurSubscribed : List Region → Type 0
   OccurSubscribed gs = (t a : ℕ) (p : Row) → is_point (table_at schema t).columns p ≡ true → (occurs gs t a p ≡ 0 → ⊥) → has_point subscription t p ≡ true
 
   occur-subscribed : (gs : List Region) → AreSubscribed schema subscription gs → OccurSubscribed gs
   occur-subscribed [] are t a p point some = absurd (some refl)
-  occur-subscribed (g ∷ gs) are t a p point some = go (is_of g t a) refl (in_any g.rects p) refl
+  occur-subscribed (g ∷ gs) are t a p point some = go (is_of g t a) refl (in_any g.rects p) refl (All-head Subscribed g gs are) (occur-subscribed gs (All-tail Subscribed g gs are) t a p point)
     where
-      rest : (occurs gs t a p ≡ 0 → ⊥) → has_point subscription t p ≡ true
-      rest = occur-subscribed gs (All-tail Subscribed g gs are) t a p point
-
-      own : Subscribed g
-      own = All-head Subscribed g gs are
-
-      go : (x : Bool) → is_of g t a ≡ x → (i : Bool) → in_any g.rects p ≡ i → has_point subscription t p ≡ true
-      go true e true f =
+      go : (x : Bool) → is_of g t a ≡ x → (i : Bool) → in_any g.rects p ≡ i → Subscribed g → ((occurs gs t a p ≡ 0 → ⊥) → has_point subscription t p ≡ true) → has_point subscription t p ≡ true
+      go true e true f own rest =
           let table : g.table ≡ t = same-number g.table t (left-true (g.table == t) (g.attrs == a) e) in
           subst (λ u. has_point subscription u p ≡ true) table (own p (subst (λ u. is_point (table_at schema u).columns p ≡ true) (sym table) point) f)
-      go true e false f = rest (λ none. some (let x = in_any-times g.rects p in grind (arith, nat_tests, x, f, none, e)))
-      go false e i f = rest (λ none. some (grind (arith, none, e)))
+      go true e false f own rest = rest (λ none. some (let x = in_any-times g.rects p in grind (arith, nat_tests, x, f, none, e)))
+      go false e i f own rest = rest (λ none. some (grind (arith, none, e)))
 
   subscribed-occur : (gs : List Region) → OccurSubscribed gs → AreSubscribed schema subscription gs
   subscribed-occur [] each = All-nil Subscribed
@@ -74,23 +71,14 @@ module _ (schema : List Table) (subscription : List Holding) where
   arrive-subscribed : (arrivals : List Arrival) → AreBrought schema subscription arrivals → (t a : ℕ) (p : Row) → is_point (table_at schema t).columns p ≡ true
       → arrives arrivals t a p ≡ true → has_point subscription t p ≡ true
   arrive-subscribed [] are t a p point some = absurd (cc)
-  arrive-subscribed (r ∷ rs) are t a p point some = go (r.table == t) refl (in_any r.rects p) refl
+  arrive-subscribed (r ∷ rs) are t a p point some = go (r.table == t) refl (in_any r.rects p) refl (All-head Brought r rs are) (arrive-subscribed rs (All-tail Brought r rs are) t a p point)
     where
-      P : Arrival → Type 0
-      P r = IsSubscribed schema subscription r.table r.rects
-
-      rest : arrives rs t a p ≡ true → has_point subscription t p ≡ true
-      rest = arrive-subscribed rs (All-tail P r rs are) t a p point
-
-      own : IsSubscribed schema subscription r.table r.rects
-      own = All-head P r rs are
-
-      go : (x : Bool) → (r.table == t) ≡ x → (i : Bool) → in_any r.rects p ≡ i → has_point subscription t p ≡ true
-      go true e true f =
+      go : (x : Bool) → (r.table == t) ≡ x → (i : Bool) → in_any r.rects p ≡ i → Brought r → (arrives rs t a p ≡ true → has_point subscription t p ≡ true) → has_point subscription t p ≡ true
+      go true e true f own rest =
           let table : r.table ≡ t = same-number r.table t e in
           subst (λ u. has_point subscription u p ≡ true) table (own p (subst (λ u. is_point (table_at schema u).columns p ≡ true) (sym table) point) f)
-      go true e false f = rest (grind (arith, some, e, f))
-      go false e i f = rest (grind (arith, some, e))
+      go true e false f own rest = rest (grind (arith, some, e, f))
+      go false e i f own rest = rest (grind (arith, some, e))
 
   -- the regions of an answer have the points of those before and of what arrives
   pub subscribed-renewed : (number : ℕ) (parts : List Part) (arrivals : List Arrival) (old new : List Region) (marks more : List Mark) (stamps : Stamps) → IsRenewed schema number parts arrivals old new more

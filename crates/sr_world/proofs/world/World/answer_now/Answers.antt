@@ -1,16 +1,14 @@
-use Rattle.std.proofs.Common.{[], ◌∷◌, ◌++◌, ◌≡◌, ◌∙◌, sym, subst, ap, refl, List, ◌+◌, length, map}
+use Rattle.std.proofs.Common.{[], ◌∷◌, sym, subst, refl, ◌+◌, length, map}
 use Rattle.sr_script.specs.declared.line.TraceLine.TheVariants as line
 use Rattle.sr_scene.specs.Steps.{mark_line}
 use Rattle.std.specs.List.{All}
-use Rattle.sr_cell.specs.declared.table.Table.{Table}
-use Rattle.sr_query.specs.declared.query.Part.{Part}
 use Rattle.sr_world.proofs.Calls.{Answers, IsAfter, after-of, answers-of}
 use Rattle.sr_world.proofs.NowLemmas.{does-now, lines-joined}
 use Rattle.sr_world.proofs.MeantLemmas.{Fit, Only, parts-fit, parts-only}
 use Rattle.sr_world.proofs.world.World.answer_now.Goals as goal
 
-pub answered-requires-clause-parts : goal.answered-requires-clause-parts
-answered-requires-clause-parts c =
+pub answered-requires-clause-fit : goal.answered-requires-clause-fit
+answered-requires-clause-fit c =
     subst (All (Fit c.schema.result.now)) (sym c.as_slice-2.ensures)
     (subst (λ s. All (Fit s) c.args.query.now.parts) (sym c.schema.ensures) (parts-fit c.args.self.now.server.tables.schema c.args.query.now c.requires.asks.0 c.requires.asks.1))
 

@@ -1,6 +1,6 @@
 -- All is dropped, and the whole of a query is asked, as the scene says.
 use Rattle.std.proofs.Common.{◌≡◌, ℕ, ◌+◌, ◌≤◌, ◌<◌, zero, suc, Bool, true, false, cond, List, [], ◌∷◌, ◌++◌, map, length, refl, sym, ◌∙◌, ap, subst, arith, inl, inr, Some, None, Ok}
-use Rattle.std.specs.Prelude.{IsTrue, ◌==◌, slice_index_or}
+use Rattle.std.specs.Prelude.{IsTrue, ◌↔◌, ◌==◌, slice_index_or}
 use Rattle.std.specs.List.{list_all, list_any, All, Contains}
 use Rattle.std.proofs.lemmas.Bool.Decides.{nat_tests}
 use Rattle.std.proofs.lemmas.List.Folds.{list_all-append}
@@ -17,7 +17,7 @@ use Rattle.sr_query.specs.Bound.{is_table}
 use Rattle.sr_query.specs.declared.query.Part.{Part}
 use Rattle.sr_query.specs.declared.query.Query.{Query}
 use Rattle.sr_history.specs.declared.mark.Mark.{Mark}
-use Rattle.sr_history.specs.Marks.{is_held, with_marks}
+use Rattle.sr_history.specs.Marks.{HoldsNothing, is_held, with_marks}
 use Rattle.sr_history.specs.Classes.{Numbered, stamp}
 use Rattle.sr_history.specs.Load.{IsHeavy}
 use Rattle.sr_history.specs.Drops.{DropsAll}
@@ -45,6 +45,7 @@ use Rattle.sr_world.proofs.CountLemmas.{counted-more}
 use Rattle.sr_world.proofs.HeavyLemmas.{heavy-table}
 use Rattle.sr_world.proofs.MeantLemmas.{IsOneQuery, one-query, part-fits, part-table}
 use Rattle.sr_world.proofs.AskLemmas.{asks-whole, whole-along}
+use Rattle.sr_world.proofs.Subscribed.{IsSubscribed}
 use Rattle.sr_world.proofs.StepLemmas.{does, no-store}
 use Rattle.sr_world.proofs.FactLemmas.{have-first, server-still}
 use Rattle.sr_world.proofs.SendLemmas.{asked_past, MayAsk, queried}
@@ -105,7 +106,7 @@ facts-dropped w past f none =
     let new : Past = dropped_past past (map (drop_of Pieces) w.client.store.regions) in
     let changed : World = with_store w (emptied w.client.store) in
     let still : Flow w past None = subst (Flow w past) none f.flow in
-    let flow : Flow changed new None = (still.0, still.1, (All-nil _, still.2.1)) in
+    let flow : Flow changed new None = (still.0, still.1, (All-nil (λ (g : Region). IsSubscribed s w.server.subs g.table g.rects), still.2.1)) in
     let client : ClientFacts changed new = record {
       store = no-store s;
       keeps = dropped_marks s Pieces past.marks (stamp past.queries) w.client.store.regions f.client.keeps;
@@ -152,6 +153,11 @@ may-ask w past q m new sent d tables f =
       along = whole-along s q.parts;
       some = some-asked q.parts d.one.part d.one.parts d.large.some;
     }
+
+-- what asks something does the same in each scene of the schema
+queries-same : (s t : Scene) (m : model.Query) (asks : List AskPart) (c new : scene.Client) (lines : List TraceLine) → s.schema ≡ t.schema → (asks ≡ [] → ⊥) → Queries s 1 m asks c lines new → Queries t 1 m asks c lines new
+queries-same s t m [] c new lines same some queries = absurd (some refl)
+queries-same s t m (ask ∷ asks) c new lines same some queries = (queries.0, subst (λ schema. IsTrue queries.0 ↔ HoldsNothing schema c.marks) same queries.1, queries.2, queries.3)
 
 -- a query that asks something, once all is dropped
 drops-and : (s : Scene) (m : model.Query) (w : World) (past : Past) (asks : List AskPart) (drops : List Mark) (rest lines : List TraceLine) (new : scene.Client) → (asks ≡ [] → ⊥)
@@ -204,9 +210,10 @@ dropped w past q m new sent lines d f lines_are = by w.client.store.regions refl
         let ready = may-ask w past1 q m new sent d f.server.tables (facts-dropped w past f d.none) in
         let done = queried w1 past1 q m asks d.is_sent.queue ready d.is_sent.queued in
         let most : 0 < length drops = let l : length drops ≡ length (map (drop_of Pieces) (g ∷ gs)) = ap (λ rs. length (map (drop_of Pieces) rs)) e in omega (arith, l) in
+        let queries = queries-same (scene_of w1 past1) (scene_of w past) m asks (client_of w1 past1) (client_of (with_out w1 (next_ask w1 q asks) d.is_sent.queue) (asked_past past1 m)) (lines_of_ask (next_ask w1 q asks)) refl ready.some done.queries in
         let all = drops_all s past.marks past.queries Pieces w.client.store.regions (have-first s f.server.tables) f.client.store.each f.client.store.order f.client.keeps in
         happens past1 (inr (drops-and (scene_of w past) m w past asks drops (lines_of_ask (next_ask w1 q asks)) lines (client_of (with_out w1 (next_ask w1 q asks) d.is_sent.queue) (asked_past past1 m))
-        ready.some (load-heavy w past q m d.one f d.large) all most done.are done.queries (told drops refl))) refl done.facts
+        ready.some (load-heavy w past q m d.one f d.large) all most done.are queries (told drops refl))) refl done.facts
 
 pub does-drop : (w : World) (q : Query) (m : model.Query) (store : Store) (new : World) (drops : List Mark) (sent lines : List TraceLine) → w.client.out ≡ None
     → IsMeaning w.server.tables.schema q m → IsOver w.server.tables.schema w.client.store.regions q.parts → store ≡ emptied w.client.store → drops ≡ map (drop_of Pieces) w.client.store.regions

@@ -34,14 +34,6 @@ noticed-end history subs number newest past =
     let none : newest - number ≡ 0 = omega (arith, past) in
     ap (λ n. noticed history subs number n) none
 
--- one change more
-pub tells-step : (subs : List Holding) (changes : List Change) (change : Change) (before after : List Tell) → (b : Bool) → touches subs change ≡ b
-    → after ≡ (if b then before ++ tell_of change ∷ [] else before)
-    → after ++ map tell_of (filter (touches subs) changes) ≡ before ++ map tell_of (filter (touches subs) (change ∷ changes))
-tells-step subs changes change before after true touched is =
-    rw (touched, is) (append_assoc before (tell_of change ∷ []) (map tell_of (filter (touches subs) changes)))
-tells-step subs changes change before after false untouched is = rw (untouched, is) refl
-
 -- ---- the history against the versions
 
 -- entry v has the changes of version v + 1

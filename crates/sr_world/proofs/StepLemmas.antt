@@ -1,5 +1,5 @@
 -- One step of a world is one of its scene.
-use Rattle.std.proofs.Common.{◌≡◌, ℕ, ◌+◌, ◌<◌, ◌≤◌, true, List, [], ◌∷◌, ◌++◌, length, slice_index_or, refl, sym, ◌∙◌, ap, subst, arith, inl, inr, Option, Some, None, Ok, Err, length-append, append-nil}
+use Rattle.std.proofs.Common.{◌≡◌, ℕ, ◌+◌, ◌-◌, ◌<◌, ◌≤◌, true, List, [], ◌∷◌, ◌++◌, length, slice_index_or, refl, sym, ◌∙◌, ap, subst, arith, inl, inr, Option, Some, None, Ok, Err, length-append, append-nil}
 use Rattle.std.specs.Prelude.{IsTrue, IfOk, OnOk, Result}
 use Rattle.std.specs.List.{list_all, All}
 use Rattle.std.proofs.Math.Seq.{get_or-append_seam}
@@ -176,8 +176,9 @@ begins w tables limits sound stored values server client none nothing =
     let cuts : CutFacts w past = record { from = omega arith; regions = rw (client, server) (All-nil (λ (g : Region). EndWith tables.schema [] g.table g.rects)); asked = rw client tt } in
     let subscribed : AreSubscribed w.server.tables.schema w.server.subs w.client.store.regions = none-subscribed w.server.tables.schema w.server.subs w.client.store.regions (rw client refl) in
     let brings : Brings w.server.tables.schema past.versions w.server.subs w.client.version w.server.upto w.to_client.items = rw (client, server, nothing) (done 0) in
+    let free : w.client.out ≡ None = rw client refl in
     let flow : Flow w past None = (none, rw client refl, (subscribed, brings)) in
-    let facts : Facts w past = record { server = begins-server w tables past sound stored values server refl; client = held; cuts = cuts; flow = subst (Flow w past) (rw client refl) flow } in
+    let facts : Facts w past = record { server = begins-server w tables past sound stored values server refl; client = held; cuts = cuts; flow = subst (λ out. Flow w past out) (sym free) flow } in
     record { past = past; facts = facts; same = rw (client, server, none, nothing) refl }
 
 -- ---- statements
@@ -282,7 +283,7 @@ flow-after w past server f h flow = (
 exec-done : (w : World) (past : Past) (server : Server) (write : Write) → Facts w past → IsStill w
     → executed w.server.tables.schema write w.server.tables.rows ≡ Ok server.tables.rows → HasCarried w server
     → (next : Scene) × Steps (scene_of w past) (Exec (Ok write)) (line.ExecVersion server.version ∷ []) next × Represents (with_server w server) next
-exec-done w past server write f still done h =
+exec-done w past server write f still made h =
     let new : Past = with_version past server.tables.rows in
     let changed : World = with_server w server in
     let none = still-idle w past f still in
@@ -305,7 +306,7 @@ exec-done w past server write f still done h =
     ap (λ schema. scene schema server.subs server.upto) h.schema
     ∙ (ap (λ subs. scene w.server.tables.schema subs server.upto) h.subs ∙ ap (λ upto. scene w.server.tables.schema w.server.subs upto) h.upto) in
     let happens : Happens (scene_of w past) (Exec (Ok write)) (line.ExecVersion server.version ∷ []) (scene_of changed new) =
-    subst (λ r. Executes (scene_of w past) r (line.ExecVersion server.version ∷ []) (scene_of changed new)) (sym (result-is w past write f ∙ done)) (line_is, next_is) in (
+    subst (λ r. Executes (scene_of w past) r (line.ExecVersion server.version ∷ []) (scene_of changed new)) (sym (result-is w past write f ∙ made)) (line_is, next_is) in (
       scene_of changed new,
       no-delivery w past (Exec (Ok write)) (line.ExecVersion server.version ∷ []) (scene_of changed new) happens (quiet changed new still.0 still.1),
       record { past = new; facts = facts; same = refl },
@@ -326,8 +327,8 @@ exec-refused w past fault write f still refused =
 pub does-exec : (w : World) (server : Server) (write : Write) → IsStill w
     → executed w.server.tables.schema write w.server.tables.rows ≡ Ok server.tables.rows → HasCarried w server
     → DoesStep (Exec (Ok write)) w (with_server w server) (line.ExecVersion server.version ∷ [])
-does-exec w server write still done h =
-    does (λ s. Steps s (Exec (Ok write))) w (with_server w server) (line.ExecVersion server.version ∷ []) (λ past f. exec-done w past server write f still done h)
+does-exec w server write still made h =
+    does (λ s. Steps s (Exec (Ok write))) w (with_server w server) (line.ExecVersion server.version ∷ []) (λ past f. exec-done w past server write f still made h)
 
 pub does-refuse : (w : World) (fault : Fault) (write : Write) → IsStill w
     → executed w.server.tables.schema write w.server.tables.rows ≡ Err fault → DoesStep (Exec (Ok write)) w w (line.ExecRefused fault ∷ [])

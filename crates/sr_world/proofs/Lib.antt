@@ -3,6 +3,8 @@ pub mod Points
 pub mod PieceLemmas
 pub mod RowMessages
 pub mod Arrivals
+pub mod Bringing
+pub mod Noticed
 pub mod StepLemmas
 pub mod OneAsk
 pub mod ServeLemmas
@@ -18,7 +20,9 @@ pub mod MeantLemmas
 pub mod Renewal
 pub mod FactLemmas
 pub mod CountLemmas
+pub mod LastLemmas
 pub mod HeavyLemmas
+pub mod Subscribed
 pub mod KeptLemmas
 pub mod NowLemmas
 pub mod SendLemmas

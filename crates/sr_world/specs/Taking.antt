@@ -1,5 +1,5 @@
 -- A message that is taken out of the queue to the client.
-use Rattle.std.specs.Prelude.{ℕ, ◌≡◌, ◌∷◌, Some, None}
+use Rattle.std.specs.Prelude.{ℕ, ◌≡◌, [], ◌∷◌, Some, None}
 use Rattle.sr_message.specs.declared.message.Message.{Message}
 use Rattle.sr_message.specs.declared.message.Message.TheVariants.{Reply}
 use Rattle.sr_world.specs.declared.world.World.{World}

@@ -1,5 +1,5 @@
 -- What a script that was read stands for.
-use Rattle.std.specs.Prelude.{ℕ, ◌≡◌, ◌≤◌, ◌+◌, ◌++◌, ◌&&◌, Bool, true, nat_lt, List, map, length, Result, Ok, Err, IsTrue}
+use Rattle.std.specs.Prelude.{ℕ, ◌≡◌, ◌≤◌, ◌&&◌, Bool, true, nat_lt, List, length, Result, Ok, Err, IsTrue}
 use Rattle.std.specs.List.{list_all, AllZip}
 use Rattle.sr_cell.specs.declared.fault.Fault.{Fault}
 use Rattle.sr_cell.specs.declared.table.Table.{Table}

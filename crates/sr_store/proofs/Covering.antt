@@ -123,6 +123,10 @@ pub cover_is : (schema : List Table) (marks : List Mark) (stamps : Stamps) (gs :
     → is_point (table_at schema part.table).columns p ≡ true → in_any (cover_of part gs) p ≡ is_covered marks part.table part.need p
 cover_is schema marks stamps gs part p k point = chosen-is (λ b. includes b part.need) marks gs part.table p (λ b. k.points part.table b p point)
 
+-- a point that lies in regions with such columns lies in the cover
+pub cover_has : (part : Part) (gs : List Region) (b : ℕ) (p : Row) → includes b part.need ≡ true → ((occurs gs part.table b p ≡ 0) → ⊥) → in_any (cover_of part gs) p ≡ true
+cover_has part gs b p m k = chosen-has (λ b. includes b part.need) gs part.table p b m k
+
 -- the regions with more columns have what is held under more columns
 pub wider_is : (schema : List Table) (marks : List Mark) (stamps : Stamps) (gs : List Region) (t a : ℕ) (p : Row) → Keeps schema (is_held marks) stamps gs
     → is_point (table_at schema t).columns p ≡ true → in_any (wider gs t a) p ≡ is_held_wider marks t a p

@@ -47,7 +47,7 @@ over-plus f g sets t [] = refl
 over-plus f g sets t (rows ∷ tables) =
     let ih = over-plus f g sets (t + 1) tables in
     let first = total_same (λ a. total (λ p. f t a p + g t a p) rows) (λ a. total (f t a) rows + total (g t a) rows) sets (λ a. total_plus (f t a) (g t a) rows)
-        ∙ total_plus (λ a. total (f t a) rows) (λ a. total (g t a) rows) sets in
+    ∙ total_plus (λ a. total (f t a) rows) (λ a. total (g t a) rows) sets in
     omega (arith, ih, first)
 
 -- ---- what is kept is the sum of how often each row occurs in the regions
@@ -75,10 +75,10 @@ kept-occurs schema marks stamps gs t [] k points = refl
 kept-occurs schema marks stamps gs t (rows ∷ tables) k points =
     let ih = kept-occurs schema marks stamps gs (t + 1) tables k (other-points schema t rows tables points) in
     let first : sum_by (λ a. count_by (is_held marks t a) rows) (sets_of marks) ≡ total (λ a. total (occurs gs t a) rows) (sets_of marks) =
-        total_is (λ a. count_by (is_held marks t a) rows) (sets_of marks)
-        ∙ total_same (λ a. count_by (is_held marks t a) rows) (λ a. total (occurs gs t a) rows) (sets_of marks)
-        (λ a. total_is (λ p. cond (is_held marks t a p) 1 0) rows
-        ∙ counted (table_at schema t).columns (is_held marks t a) (occurs gs t a) rows (λ p point. k.points t a p point) (first-points schema t rows tables points)) in
+    total_is (λ a. count_by (is_held marks t a) rows) (sets_of marks)
+    ∙ total_same (λ a. count_by (is_held marks t a) rows) (λ a. total (occurs gs t a) rows) (sets_of marks)
+    (λ a. total_is (λ p. cond (is_held marks t a p) 1 0) rows
+    ∙ counted (table_at schema t).columns (is_held marks t a) (occurs gs t a) rows (λ p point. k.points t a p point) (first-points schema t rows tables points)) in
     omega (arith, ih, first)
 
 -- ---- the sum for one region is that over the rows of its table

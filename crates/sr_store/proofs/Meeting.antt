@@ -152,8 +152,7 @@ module _ (schema : List Table) (tables : Tables) (limits : Limits) (queries : Li
       → DropsForRows schema limits (kept tables) queries marks drops × AreBehind schema tables queries (with_marks marks drops) mid
   for-rows marks old mid [] b h = (subst (λ n. n ≤ limits.rows) (sym (kept-is marks old b)) h.0, subst (AreBehind schema tables queries marks) (sym h.1) b)
   for-rows marks old mid (d ∷ drops) b (more, n, g, f, is, h) =
-      let rest = for-rows (d ∷ marks) (without n old) mid drops (one-less Rows marks old n g d b f.there is) h in
-      (
+      let rest = for-rows (d ∷ marks) (without n old) mid drops (one-less Rows marks old n g d b f.there is) h in (
         (
           subst (λ n. limits.rows < n) (sym (kept-is marks old b)) more,
           class_of g,
@@ -170,8 +169,7 @@ module _ (schema : List Table) (tables : Tables) (limits : Limits) (queries : Li
   for-regions marks mid new [] b h =
       ((map class_of mid, classes marks mid b, subst (λ n. n ≤ limits.regions) (sym (length-map mid class_of)) h.0), subst (AreBehind schema tables queries marks) (sym h.1) b)
   for-regions marks mid new (d ∷ drops) b (more, n, g, f, is, h) =
-      let rest = for-regions (d ∷ marks) (without n mid) new drops (one-less Regions marks mid n g d b f.there is) h in
-      (
+      let rest = for-regions (d ∷ marks) (without n mid) new drops (one-less Regions marks mid n g d b f.there is) h in (
         (
           map class_of mid,
           classes marks mid b,
@@ -191,8 +189,7 @@ with_marks-append marks (d ∷ one) more = with_marks-append (d ∷ marks) one m
 pub fitted_meets_budgets : FittedMeetsBudgets
 fitted_meets_budgets schema tables limits marks queries last old new drops sound are_tables store keeps rows are_last h =
     let one = for-rows schema tables limits queries last sound are_tables are_last marks old h.mid h.rows (record { store = store; keeps = keeps; rows = rows }) h.for_rows in
-    let two = for-regions schema tables limits queries last sound are_tables are_last (with_marks marks h.rows) h.mid new h.regions one.1 h.for_regions in
-    (
+    let two = for-regions schema tables limits queries last sound are_tables are_last (with_marks marks h.rows) h.mid new h.regions one.1 h.for_regions in (
       record { rows = h.rows; regions = h.regions; for_rows = one.0; for_regions = two.0; all = h.all },
       subst (λ ms. Keeps schema (is_held ms) (stamp queries) new) (sym (with_marks-append marks h.rows h.regions) ∙ ap (with_marks marks) (sym h.all)) two.1.keeps,
     )

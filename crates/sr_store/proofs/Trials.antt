@@ -1,14 +1,30 @@
--- What the tests need of stores to which no rows come.
-use Rattle.std.proofs.Common.{◌≡◌, List, [], ◌∷◌, refl, sym, subst, arith}
+-- What the tests need of stores to which no rows come, or one.
+use Rattle.std.proofs.Common.{◌≡◌, ℕ, ◌+◌, ◌≤◌, zero, suc, true, false, List, [], ◌∷◌, map, get_or, refl, sym, ap, subst, ◌∙◌, arith}
+use Rattle.std.specs.Prelude.{Bool, ◌&&◌, ◌==◌, if◌then◌else◌, filter}
+use Rattle.std.specs.List.{All}
+use Rattle.std.proofs.lemmas.Bool.Decides.{nat_tests}
 use Rattle.std.proofs.lemmas.List.Elements.{All-nil, All-cons}
 use Rattle.sr_cell.specs.declared.table.Table.{Table}
-use Rattle.sr_cell.specs.Columns.{table_at}
+use Rattle.sr_cell.specs.Attrs.{includes, has_column, project}
+use Rattle.sr_cell.specs.Cells.{Row}
+use Rattle.sr_cell.specs.Columns.{table_at, is_point}
+use Rattle.sr_model.specs.Queries.{rows_at}
+use Rattle.sr_model.specs.SortedRows.{ascend}
+use Rattle.sr_box.specs.Points.{Rect, in_any}
+use Rattle.sr_query.specs.declared.query.Part.{Part}
 use Rattle.sr_region.specs.declared.region.Region.{Region}
-use Rattle.sr_region.specs.Regions.{IsPart}
+use Rattle.sr_region.specs.Regions.{rank, is_in, IsPart}
 use Rattle.sr_store.specs.declared.store.Arrival.{Arrival}
-use Rattle.sr_store.specs.Told.{Told, IsTold, IsTrueOf, AreTrueOf}
-use Rattle.sr_store.specs.Stores.{IsOfSchema, IsStore}
-use Rattle.sr_store.specs.Answered.{HaveArrived}
+use Rattle.sr_store.specs.declared.store.Store.{Store}
+use Rattle.sr_store.specs.Classes.{occurs}
+use Rattle.sr_store.specs.Told.{Told, told_of, IsTold, IsTrueOf, AreTrueOf}
+use Rattle.sr_store.specs.Stores.{IsOfSchema, IsStore, cover_of}
+use Rattle.sr_store.specs.Answered.{AreApart, HaveArrived}
+use Rattle.sr_store.specs.Making.{HaveNoCommon}
+use Rattle.sr_store.proofs.Covering.{cover_has}
+
+abbrev pub regions_of : Store → List Region
+regions_of store = store.regions
 
 abbrev pub nothing : Told
 nothing t a = []
@@ -27,8 +43,8 @@ empty_store schema gs none = subst (IsStore schema) (sym none) (record {
   are_true = All-nil (IsTrueOf nothing);
 })
 
-pub empty_true : (gs : List Region) → gs ≡ [] → AreTrueOf nothing gs
-empty_true gs none = subst (AreTrueOf nothing) (sym none) (All-nil (IsTrueOf nothing))
+pub empty_true : (told : Told) (gs : List Region) → gs ≡ [] → AreTrueOf told gs
+empty_true told gs none = subst (AreTrueOf told) (sym none) (All-nil (IsTrueOf told))
 
 pub came_one : (rs : List Arrival) (r : Arrival) → rs ≡ r ∷ [] → r.rows ≡ [] → HaveArrived nothing rs
 came_one rs r is none = subst (HaveArrived nothing) (sym is) (All-cons (λ (r : Arrival). r.rows ≡ []) r [] none (All-nil (λ (r : Arrival). r.rows ≡ [])))
@@ -37,3 +53,54 @@ pub came_two : (rs : List Arrival) (r s : Arrival) → rs ≡ r ∷ s ∷ [] →
 came_two rs r s is none more =
     subst (HaveArrived nothing) (sym is)
     (All-cons (λ (r : Arrival). r.rows ≡ []) r (s ∷ []) none (All-cons (λ (r : Arrival). r.rows ≡ []) s [] more (All-nil (λ (r : Arrival). r.rows ≡ []))))
+
+pub came_with : (told : Told) (rs : List Arrival) (r : Arrival) → rs ≡ r ∷ [] → r.rows ≡ filter (is_in r.attrs r.rects) (told r.table r.attrs) → HaveArrived told rs
+came_with told rs r is rows =
+    let HasCome = λ (r : Arrival). r.rows ≡ filter (is_in r.attrs r.rects) (told r.table r.attrs) in
+    subst (HaveArrived told) (sym is) (All-cons HasCome r [] rows (All-nil HasCome))
+
+-- ---- what arrives where it is not covered
+
+none-there : (part : Part) (gs : List Region) (a : ℕ) (p : Row) (n : ℕ) → occurs gs part.table a p ≡ n → includes a part.need ≡ true → in_any (cover_of part gs) p ≡ false → n ≡ 0
+none-there part gs a p zero is need out = refl
+none-there part gs a p (suc n) is need out =
+    let inside = cover_has part gs a p need (λ e. absurd (omega (arith, is, e))) in
+    absurd (cc (inside, out))
+
+pub apart_one : (schema : List Table) (gs : List Region) (part : Part) (rs : List Arrival) (r : Arrival) (rects cover : List Rect) → rs ≡ r ∷ [] → IsStore schema gs → part.table ≡ r.table
+    → includes r.attrs part.need ≡ true → rects ≡ r.rects → cover ≡ cover_of part gs → HaveNoCommon (table_at schema r.table).columns rects cover → AreApart schema gs rs
+apart_one schema gs part rs r rects cover is store table need own covered none = subst (AreApart schema gs) (sym is) (λ t a p point. go t a p point (r.table == t) (r.attrs == a) (in_any r.rects p) refl refl refl)
+  where
+    go : (t a : ℕ) (p : Row) → is_point (table_at schema t).columns p ≡ true → (x y z : Bool) → (r.table == t) ≡ x → (r.attrs == a) ≡ y → in_any r.rects p ≡ z
+        → ((if (x && y) && z then 1 else 0) + 0) + occurs gs t a p ≤ 1
+    go t a p point true true true ex ey ez =
+        let et : r.table ≡ t = grind (arith, nat_tests, ex) in
+        let ea : r.attrs ≡ a = grind (arith, nat_tests, ey) in
+        let both : (in_any rects p && in_any cover p) ≡ false = none p (subst (λ u. is_point (table_at schema u).columns p ≡ true) (sym et) point) in
+        let inside : in_any rects p ≡ true = ap (λ qs. in_any qs p) own ∙ ez in
+        let out : in_any (cover_of part gs) p ≡ false = ap (λ qs. in_any qs p) (sym covered) ∙ ap (λ b. b && in_any cover p) (sym inside) ∙ both in
+        let zero : occurs gs part.table r.attrs p ≡ 0 = none-there part gs r.attrs p (occurs gs part.table r.attrs p) refl need out in
+        let here : occurs gs t a p ≡ 0 = ap (λ u. occurs gs t u p) (sym ea) ∙ ap (λ u. occurs gs u r.attrs p) (sym et) ∙ ap (λ u. occurs gs u r.attrs p) (sym table) ∙ zero in
+        omega (arith, here)
+    go t a p point true true false ex ey ez = let le = store.once t a p point in omega (arith, le)
+    go t a p point true false z ex ey ez = let le = store.once t a p point in omega (arith, le)
+    go t a p point false y z ex ey ez = let le = store.once t a p point in omega (arith, le)
+
+pub first_is : (ps : List Part) (p part : Part) → ps ≡ p ∷ [] → part ≡ get_or ps 0 part → part ≡ p
+first_is ps p part is at = at ∙ ap (λ qs. get_or qs 0 part) is
+
+-- ---- one row of the first table
+
+abbrev pub one_row : Row → Told
+one_row row = told_of ((row ∷ []) ∷ [])
+
+pub one_told : (schema : List Table) (row : Row) → is_point (table_at schema 0).columns row ≡ true → IsTold schema (one_row row)
+one_told schema row point = record { rows = rows; ascending = ascending }
+  where
+    rows : (t a : ℕ) → All (IsPart (table_at schema t).columns a) (map (project a) (rows_at ((row ∷ []) ∷ []) t))
+    rows zero a = All-cons (IsPart (table_at schema 0).columns a) (project a row) [] (row, point, refl) (All-nil (IsPart (table_at schema 0).columns a))
+    rows (suc t) a = All-nil (IsPart (table_at schema (suc t)).columns a)
+
+    ascending : (t a : ℕ) → has_column a (table_at schema t).key ≡ true → ascend (rank a (table_at schema t).key) (map (project a) (rows_at ((row ∷ []) ∷ []) t)) ≡ true
+    ascending zero a has = refl
+    ascending (suc t) a has = refl

@@ -52,7 +52,7 @@ fn touching_rects(alloc: Global, parts: &[Part], table: u8, attrs: Attrs) -> Res
 }
 
 /// Whether the rects may have a point in common.
-fn may_meet(alloc: Global, rects: &Rects, others: &Rects) -> Result<bool, NoMemory>
+pub(crate) fn may_meet(alloc: Global, rects: &Rects, others: &Rects) -> Result<bool, NoMemory>
     ensures { (columns : List Column) → IfOk result (λ yes. yes ≡ false → HaveNoCommon columns rects.now others.now) }
 {
     let both = rects.meet(alloc, others)?;

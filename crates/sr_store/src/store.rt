@@ -145,9 +145,9 @@ impl Store {
         ensures nothing_left { OnErr result (self.new.regions ≡ []) }
     {
         let Answer { regions, mut marks } = answer;
-        let left = fitted(alloc, schema, self.limits, self.last.as_slice(), regions)?;
-        marks.append(left.marks)?;
-        self.regions = left.regions;
+        let kept = fitted(alloc, schema, self.limits, self.last.as_slice(), regions)?;
+        marks.append(kept.marks)?;
+        self.regions = kept.regions;
         Ok(marks)
     }
 

@@ -3,21 +3,25 @@ ghost use Rattle.std.specs.Prelude.{◌≡◌, ◌<◌, pos, true, [], ◌∷◌
 ghost use Rattle.std.specs.List.{list_all};
 ghost use Rattle.sr_box.specs.declared.span.Span.TheVariants.{Full, Nums};
 ghost use Rattle.sr_cell.specs.declared.table.Kind.TheVariants.{Num as Numbers};
-ghost use Rattle.sr_cell.specs.Columns.{table_at};
+ghost use Rattle.sr_cell.specs.declared.cell.Cell.TheVariants.{Num};
+ghost use Rattle.sr_cell.specs.Columns.{is_point, table_at};
 ghost use Rattle.sr_box.specs.Points.{rect_fits};
 ghost use Rattle.sr_query.specs.Bound.{is_table};
 ghost use Rattle.sr_store.specs.Told.{AreTrueOf};
 ghost use Rattle.sr_store.specs.Stores.{IsStore};
 
+use crate::restamp::may_meet;
 use crate::store::{Arrival, Arrivals, Store};
 use sr_box::rect::Rect;
 use sr_box::span::Span;
 use sr_cell::attrs::Attrs;
+use sr_cell::cause::Cause;
+use sr_cell::cell::{Cell, Rows};
 use sr_cell::list::{Copied, NoMemory, Seq};
 use sr_cell::schema::Schema;
 use sr_cell::table::{Column, Kind, Table};
 use sr_cell::text::Text;
-use sr_history::mark::Marks;
+use sr_history::mark::{Mark, Marks};
 use sr_policy::policy::{Limits, Policy};
 use sr_query::query::{Part, Parts};
 use sr_union::rects::Rects;
@@ -46,6 +50,7 @@ fn column(alloc: Global, name: &str, hi: i64) -> Result<Column, NoMemory>
 fn table(alloc: Global) -> Result<Table, NoMemory>
     ensures sound { IfOk result (λ table. is_table table ≡ true) }
     ensures key { IfOk result (λ table. table.key ≡ 0) }
+    ensures point { IfOk result (λ table. is_point table.columns (Num (pos 1) ∷ Num (pos 31) ∷ Num (pos 5) ∷ []) ≡ true) }
 {
     let mut columns = Seq::new(alloc);
     columns.push(column(alloc, "id", 9999)?)?;
@@ -62,6 +67,7 @@ fn schema_of(alloc: Global) -> Result<Schema, NoMemory>
     ensures tables { IfOk result (λ schema. IsTrue (list_all is_table schema)) }
     ensures there { IfOk result (λ schema. 0 < length schema) }
     ensures key { IfOk result (λ schema. (table_at schema 0).key ≡ 0) }
+    ensures point { IfOk result (λ schema. is_point (table_at schema 0).columns (Num (pos 1) ∷ Num (pos 31) ∷ Num (pos 5) ∷ []) ≡ true) }
 {
     let mut schema = Schema::new(alloc);
     match schema.add(alloc, table(alloc)?) {
@@ -229,6 +235,133 @@ fn of_nothing_nothing_is_evicted(rt: HostRuntime) -> Result<(), Fail> {
     match store.evict(0) {
         Ok(_) => assert!(rt; false),
         Err(no) => assert_eq!(rt; no.count, 0),
+    }
+    Ok(())
+}
+
+// Those ages are asked and come, where none of them is held yet.
+fn ask(
+    alloc: Global,
+    schema: &Schema,
+    store: &mut Store,
+    number: u64,
+    ends: (i64, i64),
+) -> Result<Marks, NoMemory>
+    requires tables { IsTrue (list_all is_table schema.now) }
+    requires there { 0 < length schema.now }
+    requires key { (table_at schema.now 0).key ≡ 0 }
+    requires store { IsStore schema.now store.old.regions }
+    requires none { AreTrueOf (λ t a. []) store.old.regions }
+    ensures store { IsStore schema.now store.new.regions }
+    ensures none { AreTrueOf (λ t a. []) store.new.regions }
+{
+    let (lo, hi) = ends;
+    let rects = ages(alloc, lo, hi)?;
+    let parts = parts_of(alloc, lo, hi)?;
+    let cover = store.cover(alloc, &parts.as_slice()[0])?;
+    if !rects.fits(&schema.as_slice()[0]) || may_meet(alloc, &rects, &cover)? {
+        return Err(NoMemory);
+    }
+    let arrivals = narrow(alloc, lo, hi)?;
+    store.answered(alloc, schema, number, parts.as_slice(), arrivals)
+}
+
+// The cause and the stamp of the last mark, where it drops a class.
+fn last_drop(marks: &Marks) -> Option<(Cause, u64)> {
+    match marks.as_slice() {
+        [.., Mark::Dropped { cause, stamp, .. }] => Some((*cause, *stamp)),
+        _ => None,
+    }
+}
+
+// A store that keeps two regions by that policy, and to which a third one comes; the marks of that one.
+fn crowded(alloc: Global, policy: Policy) -> Result<(Store, Marks), NoMemory> {
+    let schema = schema_of(alloc)?;
+    let limits = Limits {
+        rows: 10000,
+        regions: 2,
+        policy,
+    };
+    let mut store = Store::new(alloc, limits);
+    ask(alloc, &schema, &mut store, 1, (30, 34))?;
+    ask(alloc, &schema, &mut store, 2, (100, 110))?;
+    let marks = ask(alloc, &schema, &mut store, 3, (36, 40))?;
+    Ok((store, marks))
+}
+
+#[test]
+fn the_policy_names_the_region_that_is_dropped(rt: HostRuntime) -> Result<(), Fail> {
+    // By distance from the ages 36 to 40 the first region is 12 away, and the second one 134.
+    for (policy, dropped, left) in [(Policy::Recency, 1, (2, 3)), (Policy::Distance, 2, (1, 3))] {
+        let (store, marks) = crowded(rt.alloc(), policy)?;
+        assert_eq!(rt; last_drop(&marks), Some((Cause::Regions, dropped)));
+        assert_eq!(rt; store.regions.len(), 2);
+        assert_eq!(rt; region_at(&store, 0), Some((1, left.0)));
+        assert_eq!(rt; region_at(&store, 1), Some((1, left.1)));
+    }
+    Ok(())
+}
+
+// One row with the number and the age.
+fn one_row(alloc: Global) -> Result<Rows, NoMemory>
+    ensures { IfOk result (λ rows. rows ≡ (Num (pos 1) ∷ Num (pos 31) ∷ []) ∷ []) }
+{
+    let mut row = Seq::new(alloc);
+    row.push(Cell::Num(1))?;
+    row.push(Cell::Num(31))?;
+    let mut rows = Seq::new(alloc);
+    rows.push(row)?;
+    Ok(rows)
+}
+
+// The ages 30 to 40 arrive, with that row.
+fn arrival_with_row(alloc: Global) -> Result<Arrivals, NoMemory>
+    ensures { IfOk result (λ arrivals. arrivals ≡ record { table = 0; key = 0; attrs = 3; rects = (Full ∷ Nums (pos 30) (pos 40) ∷ Full ∷ []) ∷ []; rows = (Num (pos 1) ∷ Num (pos 31) ∷ []) ∷ [] } ∷ []) }
+{
+    let mut arrivals = Seq::new(alloc);
+    arrivals.push(Arrival {
+        table: 0,
+        key: 0,
+        attrs: Attrs(3),
+        rects: ages(alloc, 30, 40)?,
+        rows: one_row(alloc)?,
+    })?;
+    Ok(arrivals)
+}
+
+// How many marks an answer makes that brings one row, how many it makes then to meet the later limit, and how many rows are left.
+fn limit_rows(
+    alloc: Global,
+    first: u32,
+    later: u32,
+) -> Result<Option<(usize, usize, u64)>, NoMemory> {
+    let schema = schema_of(alloc)?;
+    if !ages(alloc, 30, 40)?.fits(&schema.as_slice()[0]) {
+        return Ok(None);
+    }
+    let parts = parts_of(alloc, 30, 40)?;
+    let limits = Limits {
+        rows: first,
+        regions: 64,
+        policy: Policy::Recency,
+    };
+    let mut store = Store::new(alloc, limits);
+    let marks = store.answered(
+        alloc,
+        &schema,
+        1,
+        parts.as_slice(),
+        arrival_with_row(alloc)?,
+    )?;
+    store.limits.rows = later;
+    let more = store.fit(alloc, &schema)?;
+    Ok(Some((marks.len(), more.len(), store.rows())))
+}
+
+#[test]
+fn rows_above_the_budget_are_dropped(rt: HostRuntime) -> Result<(), Fail> {
+    for (first, later, left) in [(0, 0, (2, 0, 0)), (1, 1, (1, 0, 1)), (1, 0, (1, 1, 0))] {
+        assert_eq!(rt; limit_rows(rt.alloc(), first, later)?, Some(left));
     }
     Ok(())
 }

@@ -3,6 +3,8 @@ pub mod Points
 pub mod PieceLemmas
 pub mod RowMessages
 pub mod Arrivals
+pub mod Bringing
+pub mod Noticed
 pub mod StepLemmas
 pub mod OneAsk
 pub mod ServeLemmas

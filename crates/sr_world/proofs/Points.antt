@@ -1,6 +1,5 @@
--- The rows of stored tables are points.
-use Rattle.std.proofs.Common.{◌≡◌, ℕ, ℤ, true, false, List, [], ◌∷◌, ◌++◌, refl, zero, suc}
-use Rattle.std.specs.Prelude.{IsTrue}
+-- The rows of stored tables are points, by key ascending.
+use Rattle.std.proofs.Common.{◌≡◌, ℕ, ℤ, true, false, List, [], ◌∷◌, length, refl, ap, zero, suc}
 use Rattle.std.specs.List.{list_all}
 use Rattle.sr_cell.specs.declared.cell.Cell.{Cell}
 use Rattle.sr_cell.specs.declared.cell.Cell.TheVariants.{Num, Str}
@@ -14,7 +13,7 @@ use Rattle.sr_keyed.specs.Keyed.{is_value, are_values}
 use Rattle.sr_model.specs.Queries.{rows_at}
 use Rattle.sr_model.specs.SortedRows.{ascend}
 use Rattle.sr_model.specs.Statements.{Tables}
-use Rattle.sr_model.specs.Changes.{version_at}
+use Rattle.sr_region.specs.Applied.{AreTables}
 use Rattle.sr_tables.specs.Stored.{are_rows, are_stored}
 use Rattle.sr_world.proofs.Filters.{and_left, and_right, and_both}
 
@@ -42,7 +41,7 @@ rows-points columns (row ∷ rows) fits values =
     (rows-points columns rows (and_right (fits_columns columns row) (list_all (fits_columns columns) rows) fits) (and_right (are_values row) (list_all are_values rows) values))
 
 -- those of each table
-pub stored-points : (schema : List Table) (tables : Tables) → are_stored schema tables ≡ true → list_all (list_all are_values) tables ≡ true
+stored-points : (schema : List Table) (tables : Tables) → are_stored schema tables ≡ true → list_all (list_all are_values) tables ≡ true
     → (t : ℕ) → list_all (is_point (table_at schema t).columns) (rows_at tables t) ≡ true
 stored-points [] [] stored values t = refl
 stored-points [] (rows ∷ tables) stored values t = absurd (cc)
@@ -53,18 +52,23 @@ stored-points (u ∷ schema) (rows ∷ tables) stored values zero =
 stored-points (u ∷ schema) (rows ∷ tables) stored values (suc t) =
     stored-points schema tables (and_right (are_rows u rows) (are_stored schema tables) stored) (and_right (list_all are_values rows) (list_all (list_all are_values) tables) values) t
 
--- in each version the rows of each table are points
-abbrev pub ArePoints : List Table → List Tables → Type 0
-ArePoints schema versions = (v t : ℕ) → IsTrue (list_all (is_point (table_at schema t).columns) (rows_at (version_at versions v) t))
+stored-few : (schema : List Table) (tables : Tables) → are_stored schema tables ≡ true → length tables ≡ length schema
+stored-few [] [] stored = refl
+stored-few [] (rows ∷ tables) stored = absurd (cc)
+stored-few (u ∷ schema) [] stored = absurd (cc)
+stored-few (u ∷ schema) (rows ∷ tables) stored =
+    let others = stored-few schema tables (and_right (are_rows u rows) (are_stored schema tables) stored) in
+    ap suc others
 
--- a version more
-pub points-more : (schema : List Table) (versions : List Tables) (tables : Tables) → ArePoints schema versions
-    → ((t : ℕ) → IsTrue (list_all (is_point (table_at schema t).columns) (rows_at tables t))) → ArePoints schema (versions ++ tables ∷ [])
-points-more schema [] tables old new zero = new
-points-more schema [] tables old new (suc v) = λ t. refl
-points-more schema (own ∷ versions) tables old new zero = old zero
-points-more schema (own ∷ versions) tables old new (suc v) = points-more schema versions tables (λ w. old (suc w)) new v
+stored-ascending : (schema : List Table) (tables : Tables) → are_stored schema tables ≡ true → (t : ℕ) → ascend (table_at schema t).key (rows_at tables t) ≡ true
+stored-ascending [] [] stored t = refl
+stored-ascending [] (rows ∷ tables) stored t = absurd (cc)
+stored-ascending (u ∷ schema) [] stored t = absurd (cc)
+stored-ascending (u ∷ schema) (rows ∷ tables) stored zero =
+    and_left (ascend u.key rows) (list_all (fits_columns u.columns) rows) (and_left (are_rows u rows) (are_stored schema tables) stored)
+stored-ascending (u ∷ schema) (rows ∷ tables) stored (suc t) = stored-ascending schema tables (and_right (are_rows u rows) (are_stored schema tables) stored) t
 
-pub points-first : (schema : List Table) (tables : Tables) → ((t : ℕ) → IsTrue (list_all (is_point (table_at schema t).columns) (rows_at tables t))) → ArePoints schema (tables ∷ [])
-points-first schema tables all zero = all
-points-first schema tables all (suc v) = λ t. refl
+-- they are tables
+pub stored-tables : (schema : List Table) (tables : Tables) → are_stored schema tables ≡ true → list_all (list_all are_values) tables ≡ true → AreTables schema tables
+stored-tables schema tables stored values =
+    record { few = stored-few schema tables stored; points = stored-points schema tables stored values; ascending = stored-ascending schema tables stored }

@@ -14,14 +14,10 @@ use Rattle.sr_scene.specs.Steps.{Happens}
 use Rattle.sr_scene.specs.Runs.{Steps}
 use Rattle.sr_world.specs.declared.world.World.{World}
 use Rattle.sr_world.specs.Bound.{IsMeaning}
-use Rattle.sr_world.specs.Represents.{Past, IsUnasked, scene_of, client_of}
+use Rattle.sr_world.specs.Represents.{Past, scene_of, client_of}
 use Rattle.sr_world.specs.Worlds.{Stands, IsStill, DoesStep}
-use Rattle.sr_world.proofs.StepLemmas.{idle, quiet, no-delivery, does}
+use Rattle.sr_world.proofs.StepLemmas.{quiet, no-delivery, does}
 use Rattle.sr_world.proofs.SettleLemmas.{still-stands}
-
--- nothing is under way where nothing was asked
-pub still-of : (w : World) → Stands w → IsUnasked w → IsStill w
-still-of w (s, r) unasked = let still = idle w r.past r.facts unasked.1 in (still.0, still.1)
 
 -- what happens without a change, where nothing is under way
 changes-nothing : (w : World) (event : Event) (lines : List TraceLine) → IsStill w → ((past : Past) → Happens (scene_of w past) event lines (scene_of w past)) → DoesStep event w w lines

@@ -10,7 +10,7 @@ ghost use Rattle.sr_message.specs.declared.message.AskPart.{AskPart as TheAskPar
 ghost use Rattle.sr_script.specs.declared.line.TraceLine.TheVariants.{Answer, Row as RowLine, ClientLaid};
 ghost use Rattle.sr_scene.specs.Steps.{mark_line};
 ghost use Rattle.sr_world.specs.Client.{brought, arrived, arrivals_of, reply_version};
-ghost use Rattle.sr_world.specs.Noticing.{after_messages, TellsRows};
+ghost use Rattle.sr_world.specs.Noticing.{after_message, after_messages, TellsRows};
 
 use sr_cell::cell::Rows;
 use sr_cell::list::{Copied, NoMemory, Seq};
@@ -96,7 +96,30 @@ impl Client {
         ensures applied { OnOk result (self.new ≡ record self.old { store = record self.old.store { regions = after_messages laid self.old.store.regions } }) }
         ensures store { (schema : List TheTable) → OnOk result (IsStore schema self.old.store.regions → All (TellsRows schema) laid → IsStore schema self.new.store.regions) }
     {
-        Err(NoMemory)
+        let mut rows = Seq::new(alloc);
+        for message in laid.into_vec() {
+            self.apply_one(alloc, &mut rows, message)?;
+        }
+        Ok(rows)
+    }
+
+    /// Applies a message that was laid by: a notice is told to the regions, and rows are put behind the others.
+    fn apply_one(
+        &mut self,
+        alloc: Global,
+        rows: &mut Rows,
+        message: Message,
+    ) -> Result<(), NoMemory>
+        requires { (schema : List TheTable) × IsStore schema self.old.store.regions × TellsRows schema message }
+        ensures rows { OnOk result (rows.new ≡ rows.old ++ brought message) }
+        ensures applied { OnOk result (self.new ≡ record self.old { store = record self.old.store { regions = after_message message self.old.store.regions } }) }
+        ensures store { (schema : List TheTable) → OnOk result (IsStore schema self.old.store.regions → TellsRows schema message → IsStore schema self.new.store.regions) }
+    {
+        match message {
+            Message::Notice { told, .. } => self.store.apply(alloc, told.as_slice()),
+            Message::Rows { rows: more, .. } => rows.append(more),
+            _ => Ok(()),
+        }
     }
 }
 
@@ -132,15 +155,6 @@ pub fn arrivals_of(
         })?;
     }
     Ok(arrivals)
-}
-
-fn append_rows(all: &mut Rows, message: Message) -> Result<(), NoMemory>
-    ensures { OnOk result (all.new ≡ all.old ++ brought message) }
-{
-    match message {
-        Message::Rows { rows, .. } => all.append(rows),
-        _ => Ok(()),
-    }
 }
 
 /// Puts the lines of an answer behind the lines.

@@ -1,5 +1,5 @@
 //! The server: the tables of its newest version, and what it sends for an ask.
-ghost use Rattle.std.specs.Prelude.{◌≡◌, ℕ, ◌+◌, ◌<◌, ◌≤◌, ◌^◌, [], ◌∷◌, ◌++◌, true, map, take, drop, length, Ok, Err, IsTrue, ◌↔◌, IfOk, OnOk, OnErr, IsErrOf};
+ghost use Rattle.std.specs.Prelude.{◌≡◌, ℕ, ◌+◌, ◌-◌, ◌<◌, ◌≤◌, ◌^◌, [], ◌∷◌, ◌++◌, true, map, filter, take, drop, length, if◌then◌else◌, Ok, Err, IsTrue, ◌↔◌, IfOk, OnOk, OnErr, IsErrOf};
 ghost use Rattle.std.specs.List.{list_all};
 ghost use Rattle.sr_cell.specs.declared.list.No.TheVariants.{Refused};
 ghost use Rattle.sr_cell.specs.declared.fault.Fault.{Fault as TheFault};
@@ -10,14 +10,16 @@ ghost use Rattle.sr_query.specs.Written.{write_of};
 ghost use Rattle.sr_query.specs.Writes.{suits};
 ghost use Rattle.sr_tables.specs.Stored.{is_short, are_stored};
 ghost use Rattle.sr_model.specs.Changes.{changes};
-ghost use Rattle.sr_scene.specs.Server.{pieces, holding_of, row_messages};
-ghost use Rattle.sr_world.specs.Noticing.{noticed, pushed_after};
+ghost use Rattle.sr_subs.specs.Subscription.{touches};
+ghost use Rattle.sr_message.specs.Tells.{tell_of};
+ghost use Rattle.sr_scene.specs.Server.{notice, closing_notice, pieces, holding_of, row_messages};
+ghost use Rattle.sr_world.specs.Noticing.{told_of_entry, noticed, pushed_after};
 
 use sr_cell::cell::{Row, Rows};
+use sr_cell::change::{Change, Changes};
 use sr_cell::fault::Fault;
-use sr_cell::list::{No, NoMemory, Seq};
-use sr_cell::change::Changes;
-use sr_message::message::{AskParts, Message, Messages};
+use sr_cell::list::{Copied, No, NoMemory, Seq};
+use sr_message::message::{AskPart, AskParts, Message, Messages, Tell, Told};
 use sr_query::write::Write;
 use sr_subs::subs::Subs;
 use sr_tables::tables::Tables;
@@ -84,12 +86,17 @@ impl Server {
     pub fn push(&mut self, alloc: Global) -> Result<Messages, NoMemory>
         requires remembers { length self.old.history ≡ self.old.version }
         requires upto { self.old.upto ≤ self.old.version }
-        requires room { self.old.version < 2 ^ 63 }
         ensures sent { IfOk result (λ sent. sent ≡ pushed_after self.old.history self.old.subs self.old.upto self.old.version) }
         ensures reached { OnOk result (self.new ≡ record self.old { upto = self.old.version }) }
         ensures unchanged { OnErr result (self.new ≡ self.old) }
     {
-        Err(NoMemory)
+        let mut sent = self.due(alloc)?;
+        if self.upto < self.version {
+            let told = self.told_of(alloc, self.version - 1)?;
+            push_closing(alloc, &mut sent, self.version, &told)?;
+        }
+        self.upto = self.version;
+        Ok(sent)
     }
 
     /// Takes an ask: the notices that are due, if it is not fresh; then the rows and the reply. What is asked is subscribed; a
@@ -104,14 +111,72 @@ impl Server {
         requires few { length parts.now ≤ 4 }
         requires remembers { length self.old.history ≡ self.old.version }
         requires upto { self.old.upto ≤ self.old.version }
-        requires room { self.old.version < 2 ^ 63 }
         ensures sent { IfOk result (λ sent. sent ≡ (if fresh then [] else noticed self.old.history self.old.subs self.old.upto (self.old.version - self.old.upto))
             ++ (row_messages self.old.tables.rows number 0 parts.now ++ Reply number self.old.version ∷ [])) }
         ensures reached { OnOk result (self.new ≡ record self.old { subs = (if fresh then [] else self.old.subs) ++ map holding_of parts.now; upto = self.old.version }) }
         ensures tables { self.new.tables ≡ self.old.tables }
         ensures version { self.new.version ≡ self.old.version }
     {
-        Err(NoMemory)
+        let mut sent = self.before_reply(alloc, fresh)?;
+        sent.append(self.reply(alloc, number, parts)?)?;
+        self.subscribe(alloc, fresh, parts)?;
+        self.upto = self.version;
+        Ok(sent)
+    }
+
+    /// What is sent before the rows of an ask: the notices that are due, if it is not fresh.
+    fn before_reply(&self, alloc: Global, fresh: bool) -> Result<Messages, NoMemory>
+        requires remembers { length self.now.history ≡ self.now.version }
+        requires upto { self.now.upto ≤ self.now.version }
+        ensures { IfOk result (λ sent. sent ≡ (if fresh then [] else noticed self.now.history self.now.subs self.now.upto (self.now.version - self.now.upto))) }
+    {
+        if fresh {
+            Ok(Seq::new(alloc))
+        } else {
+            self.due(alloc)
+        }
+    }
+
+    /// The notices that are due: of each version from `upto` on that changes a subscribed point.
+    fn due(&self, alloc: Global) -> Result<Messages, NoMemory>
+        requires remembers { length self.now.history ≡ self.now.version }
+        requires upto { self.now.upto ≤ self.now.version }
+        ensures { IfOk result (λ sent. sent ≡ noticed self.now.history self.now.subs self.now.upto (self.now.version - self.now.upto)) }
+    {
+        let mut sent = Seq::new(alloc);
+        for number in self.upto..self.version {
+            let told = self.told_of(alloc, number)?;
+            push_notice(&mut sent, number + 1, told)?;
+        }
+        Ok(sent)
+    }
+
+    /// What is told of the entry of that number: its changes of subscribed points.
+    fn told_of(&self, alloc: Global, number: u64) -> Result<Told, NoMemory>
+        requires { number < length self.now.history }
+        ensures { IfOk result (λ told. told ≡ told_of_entry self.now.history self.now.subs number) }
+    {
+        tells_of(
+            alloc,
+            &self.subs,
+            self.history.as_slice()[number as usize].as_slice(),
+        )
+    }
+
+    /// Subscribes what is asked, besides what was subscribed before, if the ask is not fresh.
+    fn subscribe(
+        &mut self,
+        alloc: Global,
+        fresh: bool,
+        parts: &AskParts,
+    ) -> Result<(), NoMemory>
+        ensures subscribed { OnOk result (self.new.subs ≡ (if fresh then [] else self.old.subs) ++ map holding_of parts.now) }
+        ensures others { self.new ≡ record self.old { subs = self.new.subs } }
+    {
+        if fresh {
+            self.subs.clear();
+        }
+        add_all(alloc, &mut self.subs, parts.as_slice())
     }
 
     /// The rows that are asked, part by part, in messages of 256 rows, and the reply.
@@ -134,6 +199,68 @@ impl Server {
         })?;
         Ok(sent)
     }
+}
+
+/// The changes that touch the subscription, as a client is told of them.
+fn tells_of(alloc: Global, subs: &Subs, changes: &[Change]) -> Result<Told, NoMemory>
+    ensures { IfOk result (λ told. told ≡ map tell_of (filter (touches subs.now) changes.now)) }
+{
+    let mut told = Seq::new(alloc);
+    for change in changes {
+        if subs.touches(change) {
+            told.push(tell_of(alloc, change)?)?;
+        }
+    }
+    Ok(told)
+}
+
+/// What is told of a change.
+fn tell_of(alloc: Global, change: &Change) -> Result<Tell, NoMemory>
+    ensures { IfOk result (λ tell. tell ≡ tell_of change.now) }
+{
+    Ok(Tell {
+        table: change.table,
+        key: change.key.copy(alloc)?,
+        after: change.after.copy(alloc)?,
+    })
+}
+
+/// Puts a notice behind the messages, where something is told.
+fn push_notice(sent: &mut Messages, version: u64, told: Told) -> Result<(), NoMemory>
+    ensures { OnOk result (sent.new ≡ sent.old ++ notice version told) }
+{
+    if told.is_empty() {
+        return Ok(());
+    }
+    sent.push(Message::Notice { version, told })
+}
+
+/// Puts a notice that tells nothing behind the messages, where nothing was told of the newest version.
+fn push_closing(
+    alloc: Global,
+    sent: &mut Messages,
+    version: u64,
+    told: &Told,
+) -> Result<(), NoMemory>
+    ensures { OnOk result (sent.new ≡ sent.old ++ closing_notice version told.now) }
+{
+    if !told.is_empty() {
+        return Ok(());
+    }
+    sent.push(Message::Notice {
+        version,
+        told: Seq::new(alloc),
+    })
+}
+
+/// Subscribes the rects of each part.
+fn add_all(alloc: Global, subs: &mut Subs, parts: &[AskPart]) -> Result<(), NoMemory>
+    ensures { OnOk result (subs.new ≡ subs.old ++ map holding_of parts.now) }
+{
+    for part in parts {
+        subs.add(alloc, part.table, &part.rects)?;
+    }
+    Ok(())
 }
 
 /// Puts the rows of one part behind the messages, in pieces of 256 rows.

@@ -1,0 +1,79 @@
+-- Notices that bring a client from a version to a later one.
+use Rattle.std.proofs.Common.{◌≡◌, ℕ, ◌+◌, ◌-◌, ◌<◌, ◌≤◌, List, [], ◌∷◌, ◌++◌, map, filter, length, sym, ◌∙◌, ap, subst, arith}
+use Rattle.std.specs.List.{All}
+use Rattle.std.proofs.lemmas.List.{get_or_append_left}
+use Rattle.std.proofs.lemmas.List.Elements.{All-nil, All-cons}
+use Rattle.sr_cell.specs.declared.table.Table.{Table}
+use Rattle.sr_subs.specs.declared.subs.Holding.{Holding}
+use Rattle.sr_subs.specs.Subscription.{touches}
+use Rattle.sr_message.specs.declared.message.Message.{Message}
+use Rattle.sr_message.specs.declared.message.Message.TheVariants.{Ask, Notice, Rows, Reply}
+use Rattle.sr_message.specs.Tells.{tell_of}
+use Rattle.sr_model.specs.Statements.{Tables}
+use Rattle.sr_model.specs.Changes.{changes, version_at, changes_at}
+use Rattle.sr_region.specs.Applied.{AreTables}
+use Rattle.sr_store.specs.Laws.{ChangesAreTells}
+use Rattle.sr_scene.specs.Server.{told_at}
+use Rattle.sr_world.specs.Noticing.{TellsRows, Brings, done, silent, told}
+
+-- one stretch, and then the next
+pub brings-on : (schema : List Table) (versions : List Tables) (subs : List Holding) (v mid : ℕ) (front : List Message) → Brings schema versions subs v mid front
+    → (to : ℕ) (rest : List Message) → Brings schema versions subs mid to rest → Brings schema versions subs v to (front ++ rest)
+brings-on schema versions subs v mid front (done u) to rest then = then
+brings-on schema versions subs v mid front (silent u last messages none more) to rest then =
+    silent u to (messages ++ rest) none (brings-on schema versions subs (u + 1) last messages more to rest then)
+brings-on schema versions subs v mid front (told u last messages more) to rest then =
+    told u to (messages ++ rest) (brings-on schema versions subs (u + 1) last messages more to rest then)
+
+-- to no earlier version
+pub brings-later : (schema : List Table) (versions : List Tables) (subs : List Holding) (v to : ℕ) (messages : List Message) → Brings schema versions subs v to messages → v ≤ to
+brings-later schema versions subs v to messages (done u) = omega arith
+brings-later schema versions subs v to messages (silent u last ms none more) = omega (arith, brings-later schema versions subs (u + 1) last ms more)
+brings-later schema versions subs v to messages (told u last ms more) = omega (arith, brings-later schema versions subs (u + 1) last ms more)
+
+-- ---- a version more
+
+pub version-stays : (versions : List Tables) (tables : Tables) (v : ℕ) → v < length versions → version_at (versions ++ tables ∷ []) v ≡ version_at versions v
+version-stays versions tables v within = get_or_append_left versions (tables ∷ []) [] v within
+
+pub changes-stay : (schema : List Table) (versions : List Tables) (tables : Tables) (v : ℕ) → v < length versions → changes_at schema (versions ++ tables ∷ []) v ≡ changes_at schema versions v
+changes-stay schema versions tables v within =
+    ap (λ old. changes schema old (version_at (versions ++ tables ∷ []) v)) (version-stays versions tables (v - 1) (omega arith))
+    ∙ ap (λ new. changes schema (version_at versions (v - 1)) new) (version-stays versions tables v within)
+
+told-stays : (schema : List Table) (versions : List Tables) (subs : List Holding) (tables : Tables) (v : ℕ) → v < length versions
+    → told_at schema (versions ++ tables ∷ []) subs v ≡ told_at schema versions subs v
+told-stays schema versions subs tables v within = ap (λ cs. map tell_of (filter (touches subs) cs)) (changes-stay schema versions tables v within)
+
+pub brings-still : (schema : List Table) (versions : List Tables) (subs : List Holding) (tables : Tables) (v to : ℕ) (messages : List Message) → Brings schema versions subs v to messages
+    → to < length versions → Brings schema (versions ++ tables ∷ []) subs v to messages
+brings-still schema versions subs tables v to messages (done u) within = done u
+brings-still schema versions subs tables v to messages (silent u last ms none more) within =
+    let later = brings-later schema versions subs (u + 1) last ms more in
+    silent u last ms (told-stays schema versions subs tables (u + 1) (omega arith) ∙ none) (brings-still schema versions subs tables (u + 1) last ms more within)
+brings-still schema versions subs tables v to messages (told u last ms more) within =
+    let later = brings-later schema versions subs (u + 1) last ms more in
+    subst (λ ts. Brings schema (versions ++ tables ∷ []) subs u last (Notice (u + 1) ts ∷ ms)) (told-stays schema versions subs tables (u + 1) (omega arith))
+    (told u last ms (brings-still schema versions subs tables (u + 1) last ms more within))
+
+-- ---- the messages
+
+abbrev pub AllNotices : List Message → Type 0
+AllNotices [] = Unit
+AllNotices (Notice version tells ∷ ms) = AllNotices ms
+AllNotices (m ∷ ms) = ⊥
+
+pub brings-notices : (schema : List Table) (versions : List Tables) (subs : List Holding) (v to : ℕ) (messages : List Message) → Brings schema versions subs v to messages → AllNotices messages
+brings-notices schema versions subs v to messages (done u) = tt
+brings-notices schema versions subs v to messages (silent u last ms none more) = brings-notices schema versions subs (u + 1) last ms more
+brings-notices schema versions subs v to messages (told u last ms more) = brings-notices schema versions subs (u + 1) last ms more
+
+-- they tell rows of the schema's tables
+pub brings-tells : ChangesAreTells → (schema : List Table) (versions : List Tables) (subs : List Holding) (v to : ℕ) (messages : List Message) → Brings schema versions subs v to messages
+    → ((u : ℕ) → u ≤ to → AreTables schema (version_at versions u)) → All (TellsRows schema) messages
+brings-tells law schema versions subs v to messages (done u) then = All-nil (TellsRows schema)
+brings-tells law schema versions subs v to messages (silent u last ms none more) then = brings-tells law schema versions subs (u + 1) last ms more then
+brings-tells law schema versions subs v to messages (told u last ms more) then =
+    let later = brings-later schema versions subs (u + 1) last ms more in
+    let tells = law schema (version_at versions (u + 1 - 1)) (version_at versions (u + 1)) (touches subs) (then (u + 1 - 1) (omega arith)) (then (u + 1) later) in
+    All-cons (TellsRows schema) (Notice (u + 1) (told_at schema versions subs (u + 1))) ms tells (brings-tells law schema versions subs (u + 1) last ms more then)

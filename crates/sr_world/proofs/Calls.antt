@@ -13,9 +13,11 @@ use Rattle.sr_history.specs.declared.mark.Mark.{Mark}
 use Rattle.sr_region.specs.declared.region.Region.{Region}
 use Rattle.sr_region.specs.Regions.{is_in}
 use Rattle.sr_store.specs.declared.store.Arrival.{Arrival}
+use Rattle.sr_store.specs.declared.store.Store.{Store}
 use Rattle.sr_store.specs.Told.{Told, IsTold, AreTrueOf}
 use Rattle.sr_store.specs.Stores.{IsStore}
-use Rattle.sr_store.specs.Answered.{HaveArrived, IsRenewed, IsGivenUp, rects_on}
+use Rattle.sr_store.specs.Answered.{HaveArrived, IsGivenUp, rects_on}
+use Rattle.sr_store.specs.Fitted.{lasts_of, IsAnswered}
 use Rattle.sr_store.specs.Renewing.{IsCutFrom}
 use Rattle.sr_join.specs.Found.{cells_of}
 use Rattle.sr_world.specs.Answering.{is_kept, is_new, IsOnePart, HaveRows, BringRows}
@@ -27,20 +29,21 @@ Answers query regions arrivals rows = (schema : List Table) (tables : Tables) (p
     → rows ≡ map (cells_of query.output) (filter (λ p. is_kept part regions p || is_new part arrivals p) (rows_at tables part.table))
 
 -- the store after an answer
-pub record IsAfter (schema : List Table) (number : ℕ) (parts : List Part) (arrivals : List Arrival) (old new : List Region) (marks : List Mark) : Type 0 where
-  pub answered : IsRenewed schema number parts arrivals old new marks ⊎ IsGivenUp schema parts arrivals old new marks
-  pub cuts : All (IsCutFrom schema (rects_on old parts arrivals)) new
-  pub store : IsStore schema new
-  pub true_still : (told : Told) → IsTold schema told → AreTrueOf told old → HaveArrived told arrivals → AreTrueOf told new
+pub record IsAfter (schema : List Table) (number : ℕ) (parts : List Part) (arrivals : List Arrival) (old new : Store) (marks : List Mark) : Type 0 where
+  pub answered : IsAnswered schema old.limits number parts arrivals old.regions new.regions marks ⊎ IsGivenUp schema parts arrivals old.regions new.regions marks
+  pub cuts : All (IsCutFrom schema (rects_on old.regions parts arrivals)) new.regions
+  pub store : IsStore schema new.regions
+  pub true_still : (told : Told) → IsTold schema told → AreTrueOf told old.regions → HaveArrived told arrivals → AreTrueOf told new.regions
+  pub last : new.last ≡ lasts_of schema parts
+  pub limits : new.limits ≡ old.limits
 
 -- the same, of the schema, parts and arrivals as calls read them
-pub after-of : (schema read : List Table) (number : ℕ) (parts listed : List Part) (arrivals came : List Arrival) (old new : List Region) (marks : List Mark) → read ≡ schema → listed ≡ parts → came ≡ arrivals
-    → IsRenewed read number listed came old new marks ⊎ IsGivenUp read listed came old new marks → All (IsCutFrom read (rects_on old listed came)) new → IsStore read new
-    → ((told : Told) → IsTold read told → AreTrueOf told old → HaveArrived told came → AreTrueOf told new) → IsAfter schema number parts arrivals old new marks
-after-of schema read number parts listed arrivals came old new marks same all these answered cuts store still =
+pub after-of : (schema read : List Table) (number : ℕ) (parts listed : List Part) (arrivals came : List Arrival) (old new : Store) (marks : List Mark) → read ≡ schema → listed ≡ parts → came ≡ arrivals
+    → IsAfter read number listed came old new marks → IsAfter schema number parts arrivals old new marks
+after-of schema read number parts listed arrivals came old new marks same all these after =
     subst (λ rs. IsAfter schema number parts rs old new marks) these
     (subst (λ ps. IsAfter schema number ps came old new marks) all
-    (subst (λ s. IsAfter s number listed came old new marks) same (record { answered = answered; cuts = cuts; store = store; true_still = still })))
+    (subst (λ s. IsAfter s number listed came old new marks) same after))
 
 -- nothing arrives
 pub none-arrived : (told : Told) → HaveArrived told []

@@ -1,6 +1,6 @@
 -- All is dropped, and the whole of a query is asked, as the scene says.
 use Rattle.std.proofs.Common.{◌≡◌, ℕ, ◌+◌, ◌≤◌, ◌<◌, zero, suc, Bool, true, false, cond, List, [], ◌∷◌, ◌++◌, map, length, refl, sym, ◌∙◌, ap, subst, arith, inl, inr, Some, None, Ok}
-use Rattle.std.specs.Prelude.{IsTrue, ◌==◌, slice_index_or}
+use Rattle.std.specs.Prelude.{IsTrue, ◌↔◌, ◌==◌, slice_index_or}
 use Rattle.std.specs.List.{list_all, list_any, All, Contains}
 use Rattle.std.proofs.lemmas.Bool.Decides.{nat_tests}
 use Rattle.std.proofs.lemmas.List.Folds.{list_all-append}
@@ -17,15 +17,15 @@ use Rattle.sr_query.specs.Bound.{is_table}
 use Rattle.sr_query.specs.declared.query.Part.{Part}
 use Rattle.sr_query.specs.declared.query.Query.{Query}
 use Rattle.sr_history.specs.declared.mark.Mark.{Mark}
-use Rattle.sr_history.specs.Marks.{is_held, with_marks}
+use Rattle.sr_history.specs.Marks.{HoldsNothing, is_held, with_marks}
 use Rattle.sr_history.specs.Classes.{Numbered, stamp}
 use Rattle.sr_history.specs.Load.{IsHeavy}
 use Rattle.sr_history.specs.Drops.{DropsAll}
 use Rattle.sr_history.specs.Rests.{Asks}
 use Rattle.sr_region.specs.declared.region.Region.{Region}
 use Rattle.sr_store.specs.declared.store.Store.{Store}
-use Rattle.sr_store.specs.Classes.{Keeps as KeepsPoints}
-use Rattle.sr_store.specs.Stores.{IsStore, cover_of, drop_of}
+use Rattle.sr_store.specs.Told.{told_of, IsTrueOf}
+use Rattle.sr_store.specs.Stores.{cover_of, drop_of}
 use Rattle.sr_store.proofs.Absorbing.{drops_all}
 use Rattle.sr_store.proofs.Stepping.{dropped_marks}
 use Rattle.sr_script.specs.declared.line.TraceLine.{TraceLine}
@@ -35,18 +35,19 @@ use Rattle.sr_scene.specs.Steps.{Happens, QueriesIfFree, DropsAndQueries, Querie
 use Rattle.sr_world.specs.declared.world.World.{World}
 use Rattle.sr_world.specs.Asking.{AsksRest, entry_of, whole_asks}
 use Rattle.sr_world.specs.Bound.{IsMeaning}
-use Rattle.sr_world.specs.Cutting.{EndWith, RegionsEnd, AreCutAlong, IsLarge, IsOver}
+use Rattle.sr_world.specs.Cutting.{EndWith, IsLarge, IsOver}
 use Rattle.sr_world.specs.Sending.{next_ask, with_out, lines_of_ask, IsSent}
 use Rattle.sr_world.specs.Worlds.{DoesEvent}
-use Rattle.sr_world.specs.Represents.{Past, ServerFacts, ClientFacts, CutFacts, OutEnds, Facts, Represents, Flow, request_of, scene_of, client_of, told_of}
+use Rattle.sr_world.specs.Represents.{Past, ClientFacts, CutFacts, OutEnds, Facts, Represents, Flow, request_of, scene_of, client_of}
 use Rattle.sr_world.proofs.Covers.{cover-fits}
 use Rattle.sr_world.proofs.EndLemmas.{end-append, cover-end, regions-more, part-end}
 use Rattle.sr_world.proofs.CountLemmas.{counted-more}
 use Rattle.sr_world.proofs.HeavyLemmas.{heavy-table}
 use Rattle.sr_world.proofs.MeantLemmas.{IsOneQuery, one-query, part-fits, part-table}
 use Rattle.sr_world.proofs.AskLemmas.{asks-whole, whole-along}
-use Rattle.sr_world.proofs.StepLemmas.{does, no-store, none-true}
-use Rattle.sr_world.proofs.FactLemmas.{have-first}
+use Rattle.sr_world.proofs.Subscribed.{IsSubscribed}
+use Rattle.sr_world.proofs.StepLemmas.{does, no-store}
+use Rattle.sr_world.proofs.FactLemmas.{have-first, server-still}
 use Rattle.sr_world.proofs.SendLemmas.{asked_past, MayAsk, queried}
 
 -- the world with this store
@@ -95,56 +96,68 @@ load-heavy w past q m one f large =
 abbrev pub dropped_past : Past → List Mark → Past
 dropped_past past drops = record past { marks = with_marks past.marks drops; counted_from = length past.queries + 1 }
 
-facts-dropped : (w : World) (past : Past) (store : Store) → Facts w past → w.client.out ≡ None → store.regions ≡ [] → Facts (with_store w store) (dropped_past past (map (drop_of Pieces) w.client.store.regions))
-facts-dropped w past store f none nothing =
+-- the store without its regions
+abbrev pub emptied : Store → Store
+emptied store = record store { regions = [] }
+
+facts-dropped : (w : World) (past : Past) → Facts w past → w.client.out ≡ None → Facts (with_store w (emptied w.client.store)) (dropped_past past (map (drop_of Pieces) w.client.store.regions))
+facts-dropped w past f none =
     let s = w.server.tables.schema in
     let new : Past = dropped_past past (map (drop_of Pieces) w.client.store.regions) in
-    let changed : World = with_store w store in
+    let changed : World = with_store w (emptied w.client.store) in
     let still : Flow w past None = subst (Flow w past) none f.flow in
-    let server : ServerFacts changed new = record { tables = f.server.tables; count = f.server.count; newest = f.server.newest; stored = f.server.stored; points = f.server.points } in
+    let flow : Flow changed new None = (still.0, still.1, (All-nil (λ (g : Region). IsSubscribed s w.server.subs g.table g.rects), still.2.1)) in
     let client : ClientFacts changed new = record {
-      store = subst (IsStore s) (sym nothing) (no-store s);
-      keeps = subst (KeepsPoints s (is_held new.marks) (stamp past.queries)) (sym nothing) (dropped_marks s Pieces past.marks (stamp past.queries) w.client.store.regions f.client.keeps);
-      are_true = none-true (told_of (version_at past.versions w.client.version)) store.regions nothing;
+      store = no-store s;
+      keeps = dropped_marks s Pieces past.marks (stamp past.queries) w.client.store.regions f.client.keeps;
+      are_true = All-nil (IsTrueOf (told_of (version_at past.versions w.client.version)));
       version = f.client.version;
-      recent = inl nothing;
       queries = f.client.queries;
+      last = f.client.last;
+      rows = omega arith;
+      few = omega arith;
     } in
     let cuts : CutFacts changed new = record {
       from = omega (arith, f.client.queries);
-      regions = subst (RegionsEnd s (counted new.counted_from new.queries)) (sym nothing) (All-nil (λ (g : Region). EndWith s (counted new.counted_from new.queries) g.table g.rects));
+      regions = All-nil (λ (g : Region). EndWith s (counted new.counted_from new.queries) g.table g.rects);
       asked = subst (OutEnds s (counted new.counted_from new.queries)) (sym none) tt;
     } in
-    record { server = server; client = client; cuts = cuts; flow = subst (Flow changed new) (sym none) (still.0, still.1, still.2) }
+    record {
+      server = server-still w past changed.client w.to_server w.to_client new.marks past.queries new.counted_from past.meaning f.server;
+      client = client;
+      cuts = cuts;
+      flow = subst (Flow changed new) (sym none) flow;
+    }
 
 -- where nothing was held the world stays as it is
-facts-still : (w : World) (past : Past) (store : Store) → Facts w past → store.regions ≡ [] → w.client.store.regions ≡ [] → Facts (with_store w store) past
-facts-still w past store f nothing none =
-    let same : w ≡ with_store w store = ap (λ (gs : List Region). with_store w (record { regions = gs })) (none ∙ sym nothing) in
-    subst (λ v. Facts v past) same f
+facts-still : (w : World) (past : Past) → Facts w past → w.client.store.regions ≡ [] → Facts (with_store w (emptied w.client.store)) past
+facts-still w past f none = subst (λ v. Facts v past) (ap (λ gs. with_store w (record w.client.store { regions = gs })) none) f
 
 -- what is known of the call
-record IsDropping (w : World) (q : Query) (m : model.Query) (store : Store) (new : World) (sent : List TraceLine) : Type 0 where
+record IsDropping (w : World) (q : Query) (m : model.Query) (new : World) (sent : List TraceLine) : Type 0 where
   none : w.client.out ≡ None
   is : IsMeaning w.server.tables.schema q m
   one : IsOneQuery w.server.tables.schema q m
   large : IsLarge w.server.tables.schema w.client.store.regions one.part
-  nothing : store.regions ≡ []
-  is_sent : IsSent (with_store w store) q (whole_asks q.parts) new sent
+  is_sent : IsSent (with_store w (emptied w.client.store)) q (whole_asks q.parts) new sent
 
-may-ask : (w : World) (past : Past) (q : Query) (m : model.Query) (store : Store) (new : World) (sent : List TraceLine) → IsDropping w q m store new sent → list_all is_table w.server.tables.schema ≡ true
-    → Facts (with_store w store) past → MayAsk (with_store w store) past q m (whole_asks q.parts)
-may-ask w past q m store new sent d tables f =
+may-ask : (w : World) (past : Past) (q : Query) (m : model.Query) (new : World) (sent : List TraceLine) → IsDropping w q m new sent → list_all is_table w.server.tables.schema ≡ true
+    → Facts (with_store w (emptied w.client.store)) past → MayAsk (with_store w (emptied w.client.store)) past q m (whole_asks q.parts)
+may-ask w past q m new sent d tables f =
     let s = w.server.tables.schema in
     record {
       facts = f;
       none = d.none;
       is = d.is;
-      rest = subst (λ gs. AsksRest s gs q.parts (whole_asks q.parts)) (sym d.nothing)
-          (subst (λ ps. AsksRest s [] ps (whole_asks ps)) (sym d.one.parts) (asks-whole s d.one.part d.one.meant d.one.is d.one.sound (have-first s tables)));
-      along = subst (λ gs. AreCutAlong s gs q.parts (whole_asks q.parts)) (sym d.nothing) (whole-along s q.parts);
+      rest = subst (λ ps. AsksRest s [] ps (whole_asks ps)) (sym d.one.parts) (asks-whole s d.one.part d.one.meant d.one.is d.one.sound (have-first s tables));
+      along = whole-along s q.parts;
       some = some-asked q.parts d.one.part d.one.parts d.large.some;
     }
+
+-- what asks something does the same in each scene of the schema
+queries-same : (s t : Scene) (m : model.Query) (asks : List AskPart) (c new : scene.Client) (lines : List TraceLine) → s.schema ≡ t.schema → (asks ≡ [] → ⊥) → Queries s 1 m asks c lines new → Queries t 1 m asks c lines new
+queries-same s t m [] c new lines same some queries = absurd (some refl)
+queries-same s t m (ask ∷ asks) c new lines same some queries = (queries.0, subst (λ schema. IsTrue queries.0 ↔ HoldsNothing schema c.marks) same queries.1, queries.2, queries.3)
 
 -- a query that asks something, once all is dropped
 drops-and : (s : Scene) (m : model.Query) (w : World) (past : Past) (asks : List AskPart) (drops : List Mark) (rest lines : List TraceLine) (new : scene.Client) → (asks ≡ [] → ⊥)
@@ -157,10 +170,10 @@ drops-and s m w past [] drops rest lines new some heavy all most asks queries is
 drops-and s m w past (ask ∷ others) drops rest lines new some heavy all most asks queries is =
     record { heavy = heavy; drops = drops; all = all; some = most; ask = ask; others = others; asks = asks; rest = rest; queries = queries; lines_are = is }
 
-dropped : (w : World) (past : Past) (q : Query) (m : model.Query) (store : Store) (new : World) (sent lines : List TraceLine) → IsDropping w q m store new sent → Facts w past
+dropped : (w : World) (past : Past) (q : Query) (m : model.Query) (new : World) (sent lines : List TraceLine) → IsDropping w q m new sent → Facts w past
     → lines ≡ map (mark_line 1) (map (drop_of Pieces) w.client.store.regions) ++ sent
     → (next : Scene) × Happens (scene_of w past) (QueryOf 1 (Ok m)) lines next × Represents new next
-dropped w past q m store new sent lines d f lines_are = by w.client.store.regions refl
+dropped w past q m new sent lines d f lines_are = by w.client.store.regions refl
   where
     Goal : Type 0
     Goal = (next : Scene) × Happens (scene_of w past) (QueryOf 1 (Ok m)) lines next × Represents new next
@@ -169,7 +182,7 @@ dropped w past q m store new sent lines d f lines_are = by w.client.store.region
     asks = whole_asks q.parts
 
     w1 : World
-    w1 = with_store w store
+    w1 = with_store w (emptied w.client.store)
 
     told : (drops : List Mark) → map (drop_of Pieces) w.client.store.regions ≡ drops → lines ≡ map (mark_line 1) drops ++ lines_of_ask (next_ask w1 q asks)
     told drops e = lines_are ∙ (ap (λ ms. map (mark_line 1) ms ++ sent) e ∙ ap (λ ls. map (mark_line 1) drops ++ ls) d.is_sent.told)
@@ -187,27 +200,34 @@ dropped w past q m store new sent lines d f lines_are = by w.client.store.region
 
     by : (gs : List Region) → w.client.store.regions ≡ gs → Goal
     by [] e =
-        let done = queried w1 past q m asks d.is_sent.queue (may-ask w past q m store new sent d f.server.tables (facts-still w past store f d.nothing e)) d.is_sent.queued in
+        let done = queried w1 past q m asks d.is_sent.queue (may-ask w past q m new sent d f.server.tables (facts-still w past f e)) d.is_sent.queued in
         let is : lines ≡ lines_of_ask (next_ask w1 q asks) = told [] (ap (map (drop_of Pieces)) e) in
         happens past (inl (asks, done.are, subst (λ ls. Queries (scene_of w past) 1 m asks (client_of w past) ls (client_of (with_out w1 (next_ask w1 q asks) d.is_sent.queue) (asked_past past m))) (sym is) done.queries)) refl done.facts
     by (g ∷ gs) e =
         let drops : List Mark = map (drop_of Pieces) w.client.store.regions in
         let past1 : Past = dropped_past past drops in
         let s = w.server.tables.schema in
-        let ready = may-ask w past1 q m store new sent d f.server.tables (facts-dropped w past store f d.none d.nothing) in
+        let ready = may-ask w past1 q m new sent d f.server.tables (facts-dropped w past f d.none) in
         let done = queried w1 past1 q m asks d.is_sent.queue ready d.is_sent.queued in
         let most : 0 < length drops = let l : length drops ≡ length (map (drop_of Pieces) (g ∷ gs)) = ap (λ rs. length (map (drop_of Pieces) rs)) e in omega (arith, l) in
+        let queries = queries-same (scene_of w1 past1) (scene_of w past) m asks (client_of w1 past1) (client_of (with_out w1 (next_ask w1 q asks) d.is_sent.queue) (asked_past past1 m)) (lines_of_ask (next_ask w1 q asks)) refl ready.some done.queries in
         let all = drops_all s past.marks past.queries Pieces w.client.store.regions (have-first s f.server.tables) f.client.store.each f.client.store.order f.client.keeps in
         happens past1 (inr (drops-and (scene_of w past) m w past asks drops (lines_of_ask (next_ask w1 q asks)) lines (client_of (with_out w1 (next_ask w1 q asks) d.is_sent.queue) (asked_past past1 m))
-        ready.some (load-heavy w past q m d.one f d.large) all most done.are done.queries (told drops refl))) refl done.facts
+        ready.some (load-heavy w past q m d.one f d.large) all most done.are queries (told drops refl))) refl done.facts
 
 pub does-drop : (w : World) (q : Query) (m : model.Query) (store : Store) (new : World) (drops : List Mark) (sent lines : List TraceLine) → w.client.out ≡ None
-    → IsMeaning w.server.tables.schema q m → IsOver w.server.tables.schema w.client.store.regions q.parts → store.regions ≡ [] → drops ≡ map (drop_of Pieces) w.client.store.regions
+    → IsMeaning w.server.tables.schema q m → IsOver w.server.tables.schema w.client.store.regions q.parts → store ≡ emptied w.client.store → drops ≡ map (drop_of Pieces) w.client.store.regions
     → IsSent (with_store w store) q (whole_asks q.parts) new sent → lines ≡ map (mark_line 1) drops ++ sent → DoesEvent (QueryOf 1 (Ok m)) w new lines
 does-drop w q m store new drops sent lines none is over nothing drops_are is_sent lines_are =
     let one = one-query w.server.tables.schema q m is in
-    let d : IsDropping w q m store new sent = record { none = none; is = is; one = one; large = large-one w.server.tables.schema w.client.store.regions q.parts one.part one.parts over; nothing = nothing; is_sent = is_sent } in
-    does (λ s. Happens s (QueryOf 1 (Ok m))) w new lines (λ past f. dropped w past q m store new sent lines d f (lines_are ∙ ap (λ ms. map (mark_line 1) ms ++ sent) drops_are))
+    let d : IsDropping w q m new sent = record {
+      none = none;
+      is = is;
+      one = one;
+      large = large-one w.server.tables.schema w.client.store.regions q.parts one.part one.parts over;
+      is_sent = subst (λ st. IsSent (with_store w st) q (whole_asks q.parts) new sent) nothing is_sent;
+    } in
+    does (λ s. Happens s (QueryOf 1 (Ok m))) w new lines (λ past f. dropped w past q m new sent lines d f (lines_are ∙ ap (λ ms. map (mark_line 1) ms ++ sent) drops_are))
 
 -- one part at most is asked
 pub whole-few : (schema : List Table) (q : Query) (m : model.Query) → IsMeaning schema q m → length (whole_asks q.parts) ≤ 4

@@ -18,7 +18,9 @@ pub mod MeantLemmas
 pub mod Renewal
 pub mod FactLemmas
 pub mod CountLemmas
+pub mod LastLemmas
 pub mod HeavyLemmas
+pub mod Subscribed
 pub mod KeptLemmas
 pub mod NowLemmas
 pub mod SendLemmas

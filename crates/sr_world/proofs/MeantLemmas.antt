@@ -8,7 +8,7 @@ use Rattle.sr_cell.specs.declared.table.Table.{Table}
 use Rattle.sr_cell.specs.Attrs.{has_column}
 use Rattle.sr_cell.specs.Cells.{Row}
 use Rattle.sr_cell.specs.Columns.{table_at, is_point}
-use Rattle.sr_box.specs.Points.{in_any, rect_fits, HasNoPoint}
+use Rattle.sr_box.specs.Points.{in_any, rect_fits, constrains_only, HasNoPoint}
 use Rattle.sr_message.specs.declared.message.AskPart.{AskPart}
 use Rattle.sr_model.specs.SortedRows.{ascend}
 use Rattle.sr_model.specs.Statements.{Tables}
@@ -180,3 +180,20 @@ pub asks-of : (schema read : List Table) (regions : List Region) (parts listed :
     → AsksRest schema regions parts asks
 asks-of schema read regions parts listed asks same all rest =
     subst (λ ps. AsksRest schema regions ps asks) all (subst (λ s. AsksRest s regions listed asks) same rest)
+
+-- ---- what the store asks of its parts
+
+abbrev pub Fit : List Table → Part → Type 0
+Fit schema part = list_all (rect_fits (table_at schema part.table).columns) part.rects ≡ true
+
+abbrev pub Only : Part → Type 0
+Only part = list_all (constrains_only part.need 0) part.rects ≡ true
+
+pub parts-fit : (schema : List Table) (q : Query) (m : model.Query) → IsMeaning schema q m → All (Fit schema) q.parts
+parts-fit schema q m is = let one = one-query schema q m is in all-parts schema q m (Fit schema) one (part-fits schema one.part one.meant one.is)
+
+pub parts-only : (schema : List Table) (q : Query) (m : model.Query) → IsMeaning schema q m → All Only q.parts
+parts-only schema q m is = let one = one-query schema q m is in all-parts schema q m Only one (rects_constrain_needed schema one.part one.meant one.is one.sound)
+
+pub some-part : (schema : List Table) (q : Query) (m : model.Query) → IsMeaning schema q m → 0 < length q.parts
+some-part schema q m is = let one = one-query schema q m is in subst (λ parts. 0 < length parts) (sym one.parts) (omega arith)

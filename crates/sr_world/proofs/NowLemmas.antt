@@ -1,7 +1,7 @@
 -- A query of which nothing is left to ask is answered at once, as the scene says.
-use Rattle.std.proofs.Common.{◌≡◌, ℕ, ◌+◌, ◌≤◌, Bool, true, false, List, [], ◌∷◌, ◌++◌, map, length, refl, sym, ◌∙◌, ap, subst, arith, inl, inr, Some, None, Ok, length-append, append_assoc}
-use Rattle.std.specs.Prelude.{IsTrue, not, ◌&&◌, ◌||◌, ◌⊎◌, filter}
-use Rattle.std.specs.List.{list_all, list_any, All}
+use Rattle.std.proofs.Common.{◌≡◌, ℕ, ◌+◌, ◌≤◌, Bool, true, false, List, [], ◌∷◌, ◌++◌, map, length, refl, sym, ◌∙◌, ap, subst, arith, inl, Some, None, Ok, length-append, append_assoc}
+use Rattle.std.specs.Prelude.{not, ◌&&◌, ◌||◌, filter}
+use Rattle.std.specs.List.{list_all}
 use Rattle.std.proofs.lemmas.List.Elements.{All-nil}
 use Rattle.sr_cell.specs.declared.table.Table.{Table}
 use Rattle.sr_cell.specs.declared.table.Column.{Column}
@@ -24,9 +24,9 @@ use Rattle.sr_region.specs.declared.region.Region.{Region}
 use Rattle.sr_store.specs.declared.store.Store.{Store}
 use Rattle.sr_store.specs.declared.store.Arrival.{Arrival}
 use Rattle.sr_store.specs.Classes.{Stamps, Keeps as KeepsPoints}
-use Rattle.sr_store.specs.Told.{IsTrueOf, AreTrueOf}
+use Rattle.sr_store.specs.Told.{told_of}
 use Rattle.sr_store.specs.Stores.{cover_of}
-use Rattle.sr_store.specs.Answered.{IsArrival, IsRenewed}
+use Rattle.sr_store.specs.Answered.{IsArrival}
 use Rattle.sr_store.proofs.Given.{FitsPart}
 use Rattle.sr_store.proofs.Covering.{cover_is}
 use Rattle.sr_store.proofs.Stamping.{stamp_more}
@@ -34,24 +34,24 @@ use Rattle.sr_join.specs.Found.{cells_of}
 use Rattle.sr_script.specs.declared.line.TraceLine.{TraceLine}
 use Rattle.sr_script.specs.declared.line.TraceLine.TheVariants as line
 use Rattle.sr_scene.specs.Scene.{Scene}
-use Rattle.sr_scene.specs.Scene as scene
 use Rattle.sr_scene.specs.Steps.{Happens, Keeps, QueriesIfFree, answer_lines, mark_line, counted}
 use Rattle.sr_world.specs.declared.world.World.{World}
 use Rattle.sr_world.specs.declared.client.AskOut as code
 use Rattle.sr_world.specs.Asking.{AsksRest}
-use Rattle.sr_world.specs.Answering.{is_kept, is_new, HaveRows, BringRows, Suits}
+use Rattle.sr_world.specs.Answering.{is_kept, is_new, Suits}
 use Rattle.sr_world.specs.Bound.{IsMeaning}
 use Rattle.sr_world.specs.Worlds.{DoesEvent}
 use Rattle.sr_world.specs.Cutting.{EndWith, RegionsEnd, PartsEnd}
-use Rattle.sr_world.specs.Represents.{Past, ClientFacts, OutEnds, Facts, Represents, Flow, request_of, scene_of, client_of, told_of}
+use Rattle.sr_world.specs.Represents.{Past, ClientFacts, OutEnds, Facts, Represents, Flow, request_of, scene_of, client_of}
 use Rattle.sr_world.proofs.Calls.{Answers, IsAfter, none-arrived}
-use Rattle.sr_world.proofs.Renewal.{nothing-new}
 use Rattle.sr_world.proofs.EndLemmas.{regions-more, part-end}
 use Rattle.sr_world.proofs.CountLemmas.{counted-more}
-use Rattle.sr_world.proofs.KeptLemmas.{IsAnswered, kept}
+use Rattle.sr_world.proofs.LastLemmas.{last-answered}
+use Rattle.sr_world.proofs.Subscribed.{IsSubscribed}
+use Rattle.sr_world.proofs.KeptLemmas.{IsAnswering, kept_client, kept, kept-true, kept-last}
 use Rattle.sr_world.proofs.MeantLemmas.{IsOneQuery, one-query, are-sound, is-one-part, part-points, part-fits, all-parts, no-rest}
 use Rattle.sr_world.proofs.StepLemmas.{does}
-use Rattle.sr_world.proofs.FactLemmas.{have-first, points-now, ascend-now, told-now, version-now, true-now, server-still}
+use Rattle.sr_world.proofs.FactLemmas.{tables-then, server-still}
 
 -- ---- rows
 
@@ -59,11 +59,6 @@ use Rattle.sr_world.proofs.FactLemmas.{have-first, points-now, ascend-now, told-
 pub filter-points : (cs : List Column) (f g : Row → Bool) (rows : List Row) → list_all (is_point cs) rows ≡ true → ((p : Row) → is_point cs p ≡ true → f p ≡ g p) → filter f rows ≡ filter g rows
 filter-points cs f g [] points same = refl
 filter-points cs f g (p ∷ rows) points same = rw (same p (grind (arith, points)), filter-points cs f g rows (grind (arith, points)) same) refl
-
--- of points, a test that none passes keeps nothing
-filter-none : (cs : List Column) (f : Row → Bool) (rows : List Row) → list_all (is_point cs) rows ≡ true → ((p : Row) → is_point cs p ≡ true → f p ≡ false) → filter f rows ≡ []
-filter-none cs f [] points none = refl
-filter-none cs f (p ∷ rows) points none = rw (none p (grind (arith, points))) (filter-none cs f rows (grind (arith, points)) none)
 
 -- what is covered, as the regions say it
 pub covered-of : (schema : List Table) (marks : List Mark) (stamps : Stamps) (regions : List Region) (part : Part) (m : model.Part) (p : Row) → KeepsPoints schema (is_held marks) stamps regions → IsPart schema part m
@@ -84,19 +79,6 @@ kept-all schema marks stamps regions part m keeps is none p point =
     by : (i c : Bool) → (i && not c) ≡ false → ((i && c) || (i && false)) ≡ i
     by i c h = grind (arith, h)
 
--- where nothing is kept either, it has no point
-no-points : (schema : List Table) (marks : List Mark) (stamps : Stamps) (regions : List Region) (part : Part) (m : model.Part) → KeepsPoints schema (is_held marks) stamps regions → IsPart schema part m
-    → HasNoPoint (table_at schema m.table).columns (rest_of marks m) → regions ≡ [] → (p : Row) → is_point (table_at schema part.table).columns p ≡ true → points_of m p ≡ false
-no-points schema marks stamps regions part m keeps is none empty p point =
-    let nothing : in_any (cover_of part regions) p ≡ false = rw empty refl in
-    let covered = covered-of schema marks stamps regions part m p keeps is point in
-    let free : (points_of m p && not (is_covered marks m.table m.need p)) ≡ false = none p (subst (λ t. is_point (table_at schema t).columns p ≡ true) is.table point) in
-    let c : is_covered marks m.table m.need p ≡ false = sym covered ∙ nothing in
-    by (points_of m p) (is_covered marks m.table m.need p) free c
-  where
-    by : (i c : Bool) → (i && not c) ≡ false → c ≡ false → i ≡ false
-    by i c h k = grind (arith, h, k)
-
 -- the answer is that of the client's version
 rows-now : (w : World) (past : Past) (q : Query) (m : model.Query) (one : IsOneQuery w.server.tables.schema q m) (rows : List Row) → Facts w past
     → HasNoPoint (table_at w.server.tables.schema one.meant.table).columns (rest_of past.marks one.meant) → Answers q w.client.store.regions [] rows
@@ -104,22 +86,13 @@ rows-now : (w : World) (past : Past) (q : Query) (m : model.Query) (one : IsOneQ
 rows-now w past q m one rows f none gives =
     let s = w.server.tables.schema in
     let part = one.part in
-    let newest : Tables = w.server.tables.rows in
-    let old : Tables = version_at past.versions w.client.version in
-    let cs = (table_at s part.table).columns in
-    let given = gives s newest part (is-one-part s newest q m one (points-now w past f.server) (ascend-now w past f.server))
-    (record { each = f.client.store.each; are_true = true-now w past f }) (record { suit = All-nil (Suits s part); arrived = none-arrived (told_of newest) }) in
-    let chosen = filter-points cs (λ p. is_kept part w.client.store.regions p || is_new part [] p) (points_of one.meant) (rows_at newest part.table) (points-now w past f.server part.table)
+    let tables : Tables = version_at past.versions w.client.version in
+    let are = tables-then w past f in
+    let given = gives s tables part (is-one-part s tables q m one are.points are.ascending)
+    (record { each = f.client.store.each; are_true = f.client.are_true }) (record { suit = All-nil (Suits s part); arrived = none-arrived (told_of tables) }) in
+    let chosen = filter-points (table_at s part.table).columns (λ p. is_kept part w.client.store.regions p || is_new part [] p) (points_of one.meant) (rows_at tables part.table) (are.points part.table)
     (kept-all s past.marks (stamp past.queries) w.client.store.regions part one.meant f.client.keeps one.is none) in
-    let same : filter (points_of one.meant) (rows_at newest part.table) ≡ filter (points_of one.meant) (rows_at old part.table) =
-    elim f.client.recent [
-      | inl empty ↦
-          let free = no-points s past.marks (stamp past.queries) w.client.store.regions part one.meant f.client.keeps one.is none empty in
-          filter-none cs (points_of one.meant) (rows_at newest part.table) (points-now w past f.server part.table) free
-          ∙ sym (filter-none cs (points_of one.meant) (rows_at old part.table) (f.server.points w.client.version part.table) free)
-      | inr recent ↦ ap (λ ts. filter (points_of one.meant) (rows_at ts part.table)) (sym (version-now w past f.server recent.0))
-    ] in
-    given ∙ (ap (map (cells_of q.output)) (chosen ∙ same) ∙ (ap (λ t. map (cells_of q.output) (filter (points_of one.meant) (rows_at old t))) one.is.table ∙ sym (one.answer old)))
+    given ∙ (ap (map (cells_of q.output)) chosen ∙ (ap (λ t. map (cells_of q.output) (filter (points_of one.meant) (rows_at tables t))) one.is.table ∙ sym (one.answer tables)))
 
 -- ---- the event
 
@@ -135,40 +108,29 @@ lines_now w marks rows =
 pub lines-joined : (made front marks last : List TraceLine) → made ≡ ((front ++ marks) ++ last) → made ≡ front ++ (marks ++ last)
 lines-joined made front marks last is = is ∙ append_assoc front marks last
 
--- what is known of the new regions
-record IsNow (w : World) (past : Past) (regions : List Region) : Type 0 where
-  pub are_true : AreTrueOf (told_of (version_at past.versions w.client.version)) regions
-  pub recent : (regions ≡ []) ⊎ ((w.client.version ≡ w.server.version) × (past.session.upto ≡ w.server.version))
-
-regions-now : (w : World) (past : Past) (q : Query) (new : List Region) (marks : List Mark) → Facts w past
-    → IsAfter w.server.tables.schema (w.client.queries + 1) q.parts [] w.client.store.regions new marks → IsNow w past new
-regions-now w past q new marks f a =
-    let s = w.server.tables.schema in
-    elim f.client.recent [
-      | inl none ↦
-          let nothing : new ≡ [] = elim a.answered [
-            | inl r ↦ nothing-new s (w.client.queries + 1) q.parts new marks (have-first s f.server.tables) (subst (λ gs. IsRenewed s (w.client.queries + 1) q.parts [] gs new marks) none r)
-            | inr g ↦ g.left
-          ] in
-          record { are_true = subst (All (IsTrueOf (told_of (version_at past.versions w.client.version)))) (sym nothing) (All-nil (IsTrueOf (told_of (version_at past.versions w.client.version)))); recent = inl nothing }
-      | inr recent ↦
-          let still : AreTrueOf (told_of w.server.tables.rows) new = a.true_still (told_of w.server.tables.rows) (told-now w past f.server) (true-now w past f) (none-arrived (told_of w.server.tables.rows)) in
-          record { are_true = subst (λ ts. AreTrueOf (told_of ts) new) (sym (version-now w past f.server recent.0)) still; recent = inr recent }
-    ]
+-- the queries once this one is answered
+abbrev answered_now : Past → model.Query → List Numbered
+answered_now past m = past.queries ++ record { query = m; answered = true } ∷ []
 
 -- what is known where a query is answered at once
-is-answered : (w : World) (past : Past) (q : Query) (m : model.Query) → IsOneQuery w.server.tables.schema q m → Facts w past → IsMeaning w.server.tables.schema q m
-    → IsAnswered w.server.tables.schema (w.client.queries + 1) q.parts [] w.client.store.regions [] (past.queries ++ record { query = m; answered = true } ∷ []) (client_of w past)
-is-answered w past q m one f is =
+is-answering : (w : World) (past : Past) (q : Query) (m : model.Query) → IsOneQuery w.server.tables.schema q m → Facts w past → IsMeaning w.server.tables.schema q m
+    → IsAnswering (scene_of w past) (w.client.queries + 1) w.client.version q.parts [] w.client.store [] m (answered_now past m) (client_of w past)
+is-answering w past q m one f is =
     let s = w.server.tables.schema in
     let few : past.counted_from ≤ length past.queries + 1 = omega (arith, f.cuts.from, f.client.queries) in
     let all : List model.Query = counted past.counted_from past.queries in
-    let more : counted past.counted_from (past.queries ++ record { query = m; answered = true } ∷ []) ≡ all ++ m ∷ [] = counted-more past.counted_from past.queries (record { query = m; answered = true }) few in
+    let more : counted past.counted_from (answered_now past m) ≡ all ++ m ∷ [] = counted-more past.counted_from past.queries (record { query = m; answered = true }) few in
     record {
-      first = have-first s f.server.tables;
+      tables = f.server.tables;
+      are_tables = tables-then w past f;
+      limits = refl;
       store = f.client.store;
       keeps = f.client.keeps;
+      are_true = f.client.are_true;
+      arrived = none-arrived (told_of (version_at past.versions w.client.version));
       stamps = stamp_more s (w.client.queries + 1) q.parts past.queries m is.query.parts (ap (λ k. k + 1) (sym f.client.queries));
+      meant = is.query.parts;
+      last = last-answered past.queries m;
       fit = all-parts s q m (FitsPart s) one (part-fits s one.part one.meant one.is);
       arrive = All-nil (IsArrival s q.parts);
       holds = tt;
@@ -177,53 +139,58 @@ is-answered w past q m one f is =
       from = omega (arith, f.cuts.from);
       regions_end = subst (λ qs. RegionsEnd s qs w.client.store.regions) (sym more) (regions-more s all (m ∷ []) w.client.store.regions f.cuts.regions);
       parts_end = subst (λ qs. PartsEnd s qs q.parts) (sym more) (all-parts s q m (λ (part : Part). EndWith s (all ++ m ∷ []) part.table part.rects) one (part-end s all m one.part one.meant one.meant_parts one.is));
-      arrivals_end = All-nil (λ (r : Arrival). EndWith s (counted past.counted_from (past.queries ++ record { query = m; answered = true } ∷ [])) r.table r.rects);
+      arrivals_end = All-nil (λ (r : Arrival). EndWith s (counted past.counted_from (answered_now past m)) r.table r.rects);
     }
 
 answers-now : (w : World) (past : Past) (q : Query) (m : model.Query) (store : Store) (marks : List Mark) (rows : List Row) → Facts w past → w.client.out ≡ None
     → IsMeaning w.server.tables.schema q m → AsksRest w.server.tables.schema w.client.store.regions q.parts [] → Answers q w.client.store.regions [] rows
-    → IsAfter w.server.tables.schema (w.client.queries + 1) q.parts [] w.client.store.regions store.regions marks
+    → IsAfter w.server.tables.schema (w.client.queries + 1) q.parts [] w.client.store store marks
     → (next : Scene) × Happens (scene_of w past) (QueryOf 1 (Ok m)) (lines_now w marks rows) next × Represents (with_now w store) next
 answers-now w past q m store marks rows f none is nothing gives a =
     let s = w.server.tables.schema in
     let n : ℕ = w.client.queries + 1 in
+    let version : ℕ = w.client.version in
     let one = one-query s q m is in
-    let after : List Numbered = past.queries ++ record { query = m; answered = true } ∷ [] in
+    let after : List Numbered = answered_now past m in
     let changed : World = with_now w store in
     let asks : Asks s past.marks m.parts [] = nothing past.marks (stamp past.queries) m.parts f.client.keeps is.query.parts (are-sound s q m is) in
     let free = no-rest s past.marks m.parts [] one.meant asks one.meant_parts refl in
     let number : n ≡ length past.queries + 1 = ap (λ k. k + 1) (sym f.client.queries) in
-    let k = kept s n q.parts [] w.client.store.regions [] after (client_of w past) (is-answered w past q m one f is) m w.client.version store.regions marks a in
+    let answering = is-answering w past q m one f is in
+    let k = kept (scene_of w past) n version q.parts [] w.client.store [] m after (client_of w past) answering store marks a in
     let new : Past = record past { marks = with_marks past.marks marks; queries = after; counted_from = k.from } in
-    let now = regions-now w past q store.regions marks f a in
+    let still : Flow w past None = subst (Flow w past) none f.flow in
+    let flow : Flow changed new None = (still.0, still.1, (k.subscribed w.server.subs still.2.0 (All-nil (λ (r : Arrival). IsSubscribed s w.server.subs r.table r.rects)), still.2.1)) in
     let client : ClientFacts changed new = record {
       store = a.store;
       keeps = k.points;
-      are_true = now.are_true;
+      are_true = kept-true (scene_of w past) n version q.parts [] w.client.store [] m after (client_of w past) answering store marks a;
       version = f.client.version;
-      recent = now.recent;
       queries = length-append past.queries (record { query = m; answered = true } ∷ []) ∙ sym number;
+      last = kept-last (scene_of w past) n version q.parts [] w.client.store [] m after (client_of w past) answering store marks a;
+      rows = k.rows;
+      few = k.regions;
     } in
-    let still : Flow w past None = subst (Flow w past) none f.flow in
     let facts : Facts changed new = record {
       server = server-still w past changed.client w.to_server w.to_client new.marks after k.from past.meaning f.server;
       client = client;
       cuts = record { from = k.few; regions = k.ends; asked = subst (OutEnds s (counted k.from after)) (sym none) tt };
-      flow = subst (λ o. Flow changed new o) (sym none) still;
+      flow = subst (Flow changed new) (sym none) flow;
     } in
-    let shown : List TraceLine = answer_lines (scene_of w past) 1 (length past.queries + 1) m w.client.version ++ (map (mark_line 1) marks ++ line.QueryAnswered 1 (length past.queries + 1) ∷ []) in
-    let said : ℕ → List Row → List TraceLine = λ k all. (line.Answer 1 k w.client.version (length all) ∷ map line.Row all) ++ (map (mark_line 1) marks ++ line.QueryAnswered 1 k ∷ []) in
+    let shown : List TraceLine = answer_lines (scene_of w past) 1 (length past.queries + 1) m version ++ (map (mark_line 1) marks ++ line.QueryAnswered 1 (length past.queries + 1) ∷ []) in
+    let said : ℕ → List Row → List TraceLine = λ k all. (line.Answer 1 k version (length all) ∷ map line.Row all) ++ (map (mark_line 1) marks ++ line.QueryAnswered 1 k ∷ []) in
     let lines : lines_now w marks rows ≡ shown = ap (λ k. said k rows) number ∙ ap (said (length past.queries + 1)) (rows-now w past q m one rows f free gives) in
-    let keeps : Keeps s [] m (length past.queries + 1) w.client.version after (client_of w past) marks (client_of changed new) =
-    subst (λ k. Keeps s [] m k w.client.version after (client_of w past) marks (client_of changed new)) number k.keeps in
+    let keeps : Keeps (scene_of w past) [] m (length past.queries + 1) version after (client_of w past) marks (kept_client (client_of w past) after k.from marks version) =
+    subst (λ j. Keeps (scene_of w past) [] m j version after (client_of w past) marks (kept_client (client_of w past) after k.from marks version)) number k.keeps in
+    let same : scene_of changed new ≡ record (scene_of changed new) { limits = w.client.store.limits } = ap (λ l. record (scene_of changed new) { limits = l }) a.limits in
     let queries : QueriesIfFree (scene_of w past) 1 m (request_of past.meaning w.client.out) (client_of w past) (lines_now w marks rows) (client_of changed new) =
     subst (λ o. QueriesIfFree (scene_of w past) 1 m (request_of past.meaning o) (client_of w past) (lines_now w marks rows) (client_of changed new)) (sym none)
     (inl ([], asks, (marks, keeps, lines))) in
-    (scene_of changed new, (client_of w past, client_of changed new, refl, queries, refl), record { past = new; facts = facts; same = refl })
+    (scene_of changed new, (client_of w past, client_of changed new, refl, queries, same), record { past = new; facts = facts; same = refl })
 
 pub does-now : (w : World) (q : Query) (m : model.Query) (store : Store) (marks : List Mark) (rows : List Row) (lines : List TraceLine) → w.client.out ≡ None
     → IsMeaning w.server.tables.schema q m → AsksRest w.server.tables.schema w.client.store.regions q.parts [] → Answers q w.client.store.regions [] rows
-    → IsAfter w.server.tables.schema (w.client.queries + 1) q.parts [] w.client.store.regions store.regions marks → lines ≡ lines_now w marks rows
+    → IsAfter w.server.tables.schema (w.client.queries + 1) q.parts [] w.client.store store marks → lines ≡ lines_now w marks rows
     → DoesEvent (QueryOf 1 (Ok m)) w (with_now w store) lines
 does-now w q m store marks rows lines none is nothing gives a lines_are =
     subst (DoesEvent (QueryOf 1 (Ok m)) w (with_now w store)) (sym lines_are)

@@ -1,6 +1,6 @@
 -- The rest of a query is asked, as the scene says.
 use Rattle.std.proofs.Common.{◌≡◌, ℕ, ◌+◌, Bool, true, false, List, [], ◌∷◌, ◌++◌, map, length, refl, sym, ◌∙◌, ap, subst, arith, inl, inr, Some, None, Ok, length-append}
-use Rattle.std.specs.Prelude.{IsTrue, ◌⊎◌, ◌↔◌}
+use Rattle.std.specs.Prelude.{IsTrue, ◌↔◌}
 use Rattle.std.specs.List.{All}
 use Rattle.std.specs.declared.collections.VecDeque.{VecDeque}
 use Rattle.std.specs.declared.alloc.Global.{Global}
@@ -16,6 +16,7 @@ use Rattle.sr_history.specs.declared.mark.Mark.{Mark}
 use Rattle.sr_history.specs.Marks.{is_held, HoldsNothing}
 use Rattle.sr_history.specs.Classes.{Numbered, stamp}
 use Rattle.sr_history.specs.Rests.{Asks}
+use Rattle.sr_history.specs.Victims.{AreLast}
 use Rattle.sr_region.specs.declared.region.Region.{Region}
 use Rattle.sr_store.specs.Classes.{Stamps, Keeps as KeepsPoints}
 use Rattle.sr_store.specs.Stores.{IsOfSchema}
@@ -35,9 +36,10 @@ use Rattle.sr_world.specs.Client.{is_empty}
 use Rattle.sr_world.specs.Cutting.{EndWith, RegionsEnd, PartsEnd, AsksEnd, AreCutAlong}
 use Rattle.sr_world.specs.Sending.{next_ask, with_out, lines_of_ask, IsSent}
 use Rattle.sr_world.specs.Worlds.{DoesEvent}
-use Rattle.sr_world.specs.Represents.{Past, ClientFacts, CutFacts, Facts, Represents, IsOut, IsAsked, Flow, request_of, scene_of, client_of, told_of}
+use Rattle.sr_world.specs.Represents.{Past, ClientFacts, CutFacts, Facts, Represents, IsOut, IsAsked, BringsUp, Flow, request_of, scene_of, client_of}
 use Rattle.sr_world.proofs.EndLemmas.{regions-more, part-end}
 use Rattle.sr_world.proofs.CountLemmas.{counted-more}
+use Rattle.sr_world.proofs.LastLemmas.{last-asked}
 use Rattle.sr_world.proofs.MeantLemmas.{one-query, all-parts, are-sound}
 use Rattle.sr_world.proofs.StepLemmas.{does}
 use Rattle.sr_world.proofs.FactLemmas.{have-first, server-still}
@@ -122,17 +124,19 @@ queried w past q m asks queue h queued =
     let still : Flow w past None = subst (Flow w past) h.none f.flow in
     let are : Asks s past.marks m.parts asks = h.rest past.marks (stamp past.queries) m.parts f.client.keeps is.query.parts (are-sound s q m is) in
     let sent : queue.items ≡ Ask k fresh asks ∷ [] = queued ∙ ap (λ ms. ms ++ Ask k fresh asks ∷ []) still.0 in
-    let told : (fresh ≡ true) ⊎ (past.session.upto ≡ w.server.version) = elim f.client.recent [ inl empty ↦ inl (empty-is regions empty) | inr recent ↦ inr recent.1 ] in
-    let is_asked : IsAsked changed new out = record { to_server = sent; to_client = still.1; laid = still.2; told = told } in
-    let is_out : IsOut changed new out = record { meant = is; earlier = past.queries; newest = refl; number = refl; asks = are; some = h.some } in
+    let brings : BringsUp changed new (w.client.laid ++ w.to_client.items) = subst (λ laid. BringsUp changed new (laid ++ w.to_client.items)) (sym still.1) still.2 in
+    let is_asked : IsAsked changed new out = record { to_server = sent; brings = brings } in
+    let is_out : IsOut changed new out = record { meant = is; earlier = past.queries; newest = refl; number = refl; asks = are; some = h.some; fresh = refl } in
     let number : n ≡ length past.queries + 1 = ap (λ k. k + 1) (sym f.client.queries) in
     let client : ClientFacts changed new = record {
       store = f.client.store;
       keeps = keeps_same s (is_held past.marks) (is_held past.marks) (stamp past.queries) (stamp new.queries) regions (λ t a p point. refl) (λ t a p point. sym (stamp_none past.queries m t a p)) f.client.keeps;
       are_true = f.client.are_true;
       version = f.client.version;
-      recent = f.client.recent;
       queries = length-append past.queries (record { query = m; answered = false } ∷ []) ∙ sym number;
+      last = subst (λ ps. AreLast s ps w.client.store.last) (sym (last-asked past.queries m)) f.client.last;
+      rows = f.client.rows;
+      few = f.client.few;
     } in
     let mode : IsTrue fresh ↔ HoldsNothing s past.marks = mode-is s past.marks (stamp past.queries) regions (have-first s f.server.tables) f.client.store.each f.client.keeps in
     let now : ℕ → List Message → scene.Client = λ n ms. record (client_of w past) { queries = new.queries; next_request = k + 1; out = Some (scene.AskOut k n m fresh asks); to_server = ms } in

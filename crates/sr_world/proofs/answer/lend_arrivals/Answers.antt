@@ -3,9 +3,9 @@ use Rattle.std.specs.Prelude.{filter}
 use Rattle.sr_model.specs.Queries.{rows_at}
 use Rattle.sr_region.specs.Regions.{is_in}
 use Rattle.sr_store.specs.declared.store.Arrival.{Arrival}
+use Rattle.sr_store.specs.Told.{told_of}
 use Rattle.sr_join.specs.Found.{IsFound}
 use Rattle.sr_world.specs.Answering.{is_new, Suits}
-use Rattle.sr_world.specs.Represents.{told_of}
 use Rattle.sr_world.proofs.Items.{take-item, take-end}
 use Rattle.sr_world.proofs.LendLemmas.{lent-arrival}
 use Rattle.sr_world.proofs.answer.lend_arrivals.Goals as goal

@@ -1,10 +1,9 @@
 use Rattle.std.proofs.Common.{rules, ◌∷◌, [], ◌++◌, sym, ◌∙◌, ap, subst, map, take, ◌||◌}
 use Rattle.sr_model.specs.Queries.{rows_at}
-use Rattle.sr_store.specs.Told.{IsTrueOf}
+use Rattle.sr_store.specs.Told.{told_of, IsTrueOf}
 use Rattle.sr_store.specs.Stores.{IsOfSchema}
 use Rattle.sr_join.specs.Found.{IsFound}
 use Rattle.sr_world.specs.Answering.{is_kept}
-use Rattle.sr_world.specs.Represents.{told_of}
 use Rattle.sr_world.proofs.Items.{take-item, take-end}
 use Rattle.sr_world.proofs.LendLemmas.{lent-region, passed-region}
 use Rattle.sr_world.proofs.answer.lend_regions.Goals.{then-serves+in_ok-rows+in_ok-lend, else-serves}

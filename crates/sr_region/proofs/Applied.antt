@@ -3,7 +3,7 @@ use Rattle.std.proofs.Common.{◌≡◌, ℕ, zero, suc, Bool, true, false, cond
 use Rattle.std.specs.Prelude.{ℤ, Option, Some, None, if◌then◌else◌}
 use Rattle.std.specs.List.{All}
 use Rattle.std.proofs.lemmas.Int.{ints}
-use Rattle.std.proofs.lemmas.List.Elements.{All-filter, All-head, All-tail}
+use Rattle.std.proofs.lemmas.List.Elements.{All-filter, All-head, All-tail, All-weaker}
 use Rattle.sr_cell.specs.declared.cell.Cell.{Cell}
 use Rattle.sr_cell.specs.declared.cell.Cell.TheVariants.{Num, Str}
 use Rattle.sr_cell.specs.declared.table.Column.{Column}
@@ -20,7 +20,7 @@ use Rattle.sr_rows.proofs.Order.{text_le-total}
 use Rattle.sr_rows.proofs.Places.{with_row-ascend}
 use Rattle.sr_rows.proofs.Parts.{ascend-filter}
 use Rattle.sr_region.specs.declared.region.Region.{Region}
-use Rattle.sr_region.specs.Regions.{rank, IsRowIn, IsArea, IsRegion}
+use Rattle.sr_region.specs.Regions.{rank, IsPart, IsRowIn, IsArea, IsRegion}
 use Rattle.sr_region.specs.Applied.{without_key, with_new, applied, IsNew}
 use Rattle.sr_region.specs.Entering.{part_in, with_part}
 use Rattle.sr_region.proofs.Ranks.{stand}
@@ -62,22 +62,21 @@ module _ (t : Table) (attrs key : ℕ) (has : has_column attrs key ≡ true) whe
       let one = apart-cells (cell_at q key) (cell_at p key) order differ in
       grind (arith, one))
 
-  rows-apart : (rects : List Rect) (rows : List Row) (p : Row) → All (IsRowIn t.columns attrs rects) rows → is_point t.columns p ≡ true
+  pub rows-apart : (rows : List Row) (p : Row) → All (IsPart t.columns attrs) rows → is_point t.columns p ≡ true
       → is_apart (rank attrs key) (without_key (rank attrs key) (cell_at p key) rows) (project attrs p) ≡ true
-  rows-apart rects [] p all is = refl
-  rows-apart rects (r ∷ rows) p all is =
-      go (cell_eq (cell_at r (rank attrs key)) (cell_at p key)) refl (rows-apart rects rows p (All-tail (IsRowIn t.columns attrs rects) r rows all) is)
-      (All-head (IsRowIn t.columns attrs rects) r rows all)
+  rows-apart [] p all is = refl
+  rows-apart (r ∷ rows) p all is =
+      go (cell_eq (cell_at r (rank attrs key)) (cell_at p key)) refl (rows-apart rows p (All-tail (IsPart t.columns attrs) r rows all) is) (All-head (IsPart t.columns attrs) r rows all)
     where
       others : List Row
       others = without_key (rank attrs key) (cell_at p key) rows
 
       go : (b : Bool) → cell_eq (cell_at r (rank attrs key)) (cell_at p key) ≡ b → is_apart (rank attrs key) others (project attrs p) ≡ true
-          → IsRowIn t.columns attrs rects r → is_apart (rank attrs key) (cond (not b) (r ∷ others) others) (project attrs p) ≡ true
-      go true e ih row = ih
-      go false e ih row =
+          → IsPart t.columns attrs r → is_apart (rank attrs key) (cond (not b) (r ∷ others) others) (project attrs p) ≡ true
+      go true e ih part = ih
+      go false e ih part =
           let one = subst (λ x. cell_eq (cell_at x (rank attrs key)) (cell_at p key) ≡ false → is_apart (rank attrs key) (x ∷ []) (project attrs p) ≡ true)
-          row.0.2 (row-apart row.0.0 p row.0.1 is) e in
+              part.2 (row-apart part.0 p part.1 is) e in
           grind (arith, ih, one)
 
 -- ---- the region
@@ -114,7 +113,7 @@ rows-part t key attrs rects rows v area all h (Some row) new = go (in_any rects 
     own = ap (cell_at row) area.key ∙ new.1
 
     apart : is_apart (rank attrs key) others (project attrs row) ≡ true
-    apart = subst (λ w. is_apart (rank attrs key) (without_key (rank attrs key) w rows) (project attrs row) ≡ true) own (rows-apart t attrs key area.has_key rects rows row all new.0)
+    apart = subst (λ w. is_apart (rank attrs key) (without_key (rank attrs key) w rows) (project attrs row) ≡ true) own (rows-apart t attrs key area.has_key rows row (All-weaker P (IsPart t.columns attrs) (λ r is. is.0) rows all) new.0)
 
     go : (b : Bool) → in_any rects row ≡ b
         → All P (if b then with_row (rank attrs key) others (project attrs row) else others)

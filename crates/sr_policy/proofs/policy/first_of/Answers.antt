@@ -1,8 +1,4 @@
-<<<<<<< HEAD
-use Rattle.std.proofs.Common.{◌≡◌, ◌+◌, ◌∙◌, true, false, take, sym, subst, arith}
-=======
 use Rattle.std.proofs.Common.{◌≡◌, ◌+◌, ◌<◌, ◌∙◌, true, false, length, take, sym, subst, arith}
->>>>>>> a489c7f6e7897b28a29c104195bc29dab653269c
 use Rattle.sr_policy.specs.Order.{goes_before, IsVictim}
 use Rattle.sr_policy.proofs.Victims.{victim_first, victim_kept, victim_taken}
 use Rattle.sr_policy.proofs.policy.first_of.Goals as goal
@@ -22,10 +18,7 @@ loop-i-preserved c =
     let i = c.loop-i.i in
     let next = c.index-classes-i.result in
     let found = c.index-classes-best.result in
-<<<<<<< HEAD
-=======
     let inside : i < length classes = omega arith in
->>>>>>> a489c7f6e7897b28a29c104195bc29dab653269c
     let h = c.loop-i.invariant in
     elim c.if-goes_before.branch [
       | then-goes_before w ↦
@@ -33,21 +26,13 @@ loop-i-preserved c =
           record {
             behind = omega (arith, w.best-is);
             first = subst (IsVictim policy last (take (i + 1) classes)) (sym w.best-is)
-<<<<<<< HEAD
-                (victim_taken policy last classes i c.loop-i.best found next c.loop-i-test.true h.behind c.index-classes-i.is c.index-classes-best.is h.first earlier);
-=======
                 (victim_taken policy last classes i c.loop-i.best found next inside h.behind c.index-classes-i.is c.index-classes-best.is h.first earlier);
->>>>>>> a489c7f6e7897b28a29c104195bc29dab653269c
           }
       | else-goes_before w ↦
           let later : goes_before policy last next found ≡ false = sym c.goes_before.ensures ∙ w.if-goes_before.false in
           record {
             behind = omega (arith, w.best-is);
             first = subst (IsVictim policy last (take (i + 1) classes)) (sym w.best-is)
-<<<<<<< HEAD
-                (victim_kept policy last classes i c.loop-i.best found next c.loop-i-test.true h.behind c.index-classes-i.is c.index-classes-best.is h.first later);
-=======
                 (victim_kept policy last classes i c.loop-i.best found next inside h.behind c.index-classes-i.is c.index-classes-best.is h.first later);
->>>>>>> a489c7f6e7897b28a29c104195bc29dab653269c
           }
     ]

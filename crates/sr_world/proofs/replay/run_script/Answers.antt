@@ -10,7 +10,7 @@ returns-in-Ok-clause-whole g c = λ events are.
     let kept = kept-same c.args.limits _ _ _ c.args.tables.rows (c.requires.tables ∙ sym c.as_slice.ensures) c.new-world.ensures.first in
     traced-whole c.args.limits _ _ c.args.tables.rows events _ _ _ _ kept c.as_slice.ensures (c.in-Ok.ensures.whole events (lines-same c.args.script _ events are c.as_slice.ensures))
 
-pub returns-in-Err-clause-part : goal.returns-in-Err-clause-part
-returns-in-Err-clause-part g c = λ events are.
+pub returns-clause-part : goal.returns-clause-part
+returns-clause-part g c = λ events are.
     let kept = kept-same c.args.limits _ _ _ c.args.tables.rows (c.requires.tables ∙ sym c.as_slice.ensures) c.new-world.ensures.first in
     traced-part c.args.limits _ _ c.args.tables.rows events _ _ _ kept c.as_slice.ensures (c.in-Err.ensures.part events (lines-same c.args.script _ events are c.as_slice.ensures))

@@ -1,6 +1,7 @@
 use Rattle.std.proofs.Common.{◌≡◌, ℕ, ◌⊎◌, List, Option, Some, Err, inl, inr, ap, subst, ◌∙◌}
 use Rattle.sr_cell.specs.declared.fault.Fault.{Fault}
-use Rattle.sr_cli.specs.Run.{Words, IsRefusedSetup, IsRefusedLoad, AreHeld}
+use Rattle.sr_cli.specs.Run.{IsRefusedSetup, IsRefusedLoad, AreHeld}
+use Rattle.sr_cli.specs.Words.{Words}
 use Rattle.sr_cli.specs.Seen.{words_seen}
 use Rattle.sr_cli.specs.declared.run.Refusal.{Refusal}
 use Rattle.sr_cli.specs.declared.run.Refusal.TheVariants.{Setup, Load as LoadRefused}

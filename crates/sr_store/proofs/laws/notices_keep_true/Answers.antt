@@ -1,5 +1,5 @@
 use Rattle.sr_store.proofs.Noticing.{notices-true}
-use Rattle.sr_store.proofs.laws_of_notices.notices_keep_true.Goals as goal
+use Rattle.sr_store.proofs.laws.notices_keep_true.Goals as goal
 
 pub returns : goal.returns
 returns c = notices-true

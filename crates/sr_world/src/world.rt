@@ -289,11 +289,13 @@ impl World {
         ensures one_less { OnOk result (length self.new.to_server.items + 1 ≡ length self.old.to_server.items) }
     {
         match self.to_server.pop_front() {
-            Some(Message::Ask {
-                number,
-                fresh,
-                parts,
-            }) => {
+            Some(
+                Message::Ask {
+                    number,
+                    fresh,
+                    parts,
+                },
+            ) => {
                 let sent = self.server.take_ask(alloc, number, fresh, &parts)?;
                 let frames = sent.len() as u64;
                 queue_up(&mut self.to_client, sent)?;

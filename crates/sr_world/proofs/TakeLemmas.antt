@@ -1,5 +1,6 @@
 -- The client takes a message, as the scene says.
-use Rattle.std.proofs.Common.{◌≡◌, ℕ, ◌+◌, List, [], ◌∷◌, ◌++◌, refl, sym, ◌∙◌, ap, subst, inl, inr, Option, Some, None, append_assoc}
+use Rattle.std.proofs.Common.{◌≡◌, ℕ, ◌+◌, true, List, [], ◌∷◌, ◌++◌, refl, sym, ◌∙◌, ap, subst, inl, inr, Option, Some, None, append_assoc}
+use Rattle.std.specs.Option.{is_some}
 use Rattle.std.specs.declared.collections.VecDeque.{VecDeque}
 use Rattle.std.specs.declared.alloc.Global.{Global}
 use Rattle.sr_message.specs.declared.message.Tell.{Tell}
@@ -173,3 +174,16 @@ does-lay before w m o client lines t out other client_is lines_are =
     let laid : World → World = λ v. record v { client = record v.client { laid = v.client.laid ++ m ∷ [] } } in
     let done : DoesDelivery before (laid w) (line.ClientLaid 1 ∷ []) = subst (λ v. DoesDelivery before (laid v) (line.ClientLaid 1 ∷ [])) (sym t.same) (lays-taken before m w.to_client t.served o was t.first other) in
     subst (λ client. DoesDelivery before (record w { client = client }) lines) (sym client_is) (subst (DoesDelivery before (laid w)) (sym lines_are) done)
+
+-- ---- of calls
+
+-- a message with the version of a reply is one
+pub reply-of : (m : Message) (version : ℕ) → reply_version m ≡ Some version → (number : ℕ) × (m ≡ Reply number version)
+reply-of (Ask number fresh parts) version is = absurd (cc)
+reply-of (Notice own told) version is = absurd (cc)
+reply-of (Rows number part rows) version is = absurd (cc)
+reply-of (Reply number own) version is = let same : own ≡ version = cc in (number, ap (Reply number) same)
+
+pub ask-of : (out : Option code.AskOut) → is_some out ≡ true → (o : code.AskOut) × (out ≡ Some o)
+ask-of None is = absurd (cc)
+ask-of (Some o) is = (o, refl)

@@ -18,7 +18,7 @@ use Rattle.sr_world.specs.declared.world.World.{World}
 use Rattle.sr_world.specs.Represents.{Past, Facts, Represents, client_of, scene_of}
 use Rattle.sr_world.specs.Lent.{IsLent}
 use Rattle.sr_world.proofs.ToldLemmas.{told-in}
-use Rattle.sr_world.proofs.FactLemmas.{have-first}
+use Rattle.sr_world.proofs.FactLemmas.{have-first, tables-then}
 
 all-both : (P Q R : Region → Type 0) → ((g : Region) → P g → Q g → R g) → (gs : List Region) → All P gs → All Q gs → All R gs
 all-both P Q R f [] p q = All-nil R
@@ -47,7 +47,7 @@ lent w past f = record {
 
     projected : (g : Region) → IsOfSchema schema g → IsTrueOf (told_of tables) g → HasItsRows tables g
     projected g is tells =
-        tells ∙ told-in (table_at schema g.table).columns g.attrs g.rects (rows_at tables g.table) is.1.area.fit is.1.area.only (f.server.points w.client.version g.table)
+        tells ∙ told-in (table_at schema g.table).columns g.attrs g.rects (rows_at tables g.table) is.1.area.fit is.1.area.only ((tables-then w past f).points g.table)
 
 pub is_lent : (w : World) (s : Scene) → Represents w s → IsLent s w.client
 is_lent w s r = subst (λ s. IsLent s w.client) (sym r.same) (lent w r.past r.facts)

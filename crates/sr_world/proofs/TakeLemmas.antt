@@ -1,5 +1,5 @@
 -- The client takes a message, as the scene says.
-use Rattle.std.proofs.Common.{◌≡◌, ℕ, ◌+◌, true, List, [], ◌∷◌, ◌++◌, refl, sym, ◌∙◌, ap, subst, inl, inr, Option, Some, None, append_assoc}
+use Rattle.std.proofs.Common.{◌≡◌, ℕ, ◌+◌, true, false, List, [], ◌∷◌, ◌++◌, refl, sym, ◌∙◌, ap, subst, inl, inr, Option, Some, None, append_assoc}
 use Rattle.std.specs.Option.{is_some}
 use Rattle.std.specs.declared.collections.VecDeque.{VecDeque}
 use Rattle.std.specs.declared.alloc.Global.{Global}
@@ -187,3 +187,16 @@ reply-of (Reply number own) version is = let same : own ≡ version = cc in (num
 pub ask-of : (out : Option code.AskOut) → is_some out ≡ true → (o : code.AskOut) × (out ≡ Some o)
 ask-of None is = absurd (cc)
 ask-of (Some o) is = (o, refl)
+
+-- what is taken without an ask is a notice
+pub notice-taken : (before w : World) (m : Message) → Taking before w m → is_some w.client.out ≡ false → (version : ℕ) × (told : List Tell) × (m ≡ Notice version told)
+notice-taken before w m t none =
+    let was : before.client.out ≡ None = ap (λ (v : World). v.client.out) (sym t.same) ∙ none-of w.client.out none in
+    notice-comes before t.stands.1.past m w.to_client.items t.stands.1.facts was t.first
+  where
+    none-of : (out : Option code.AskOut) → is_some out ≡ false → out ≡ None
+    none-of None is = refl
+    none-of (Some o) is = absurd (cc)
+
+pub taking : (w : World) (m : Message) (to_client : VecDeque Message Global) → Stands w → w.to_server.items ≡ [] → w.to_client.items ≡ m ∷ to_client.items → Taking w (record w { to_client = to_client }) m
+taking w m to_client stands served came = record { stands = stands; first = came; served = served; same = refl }

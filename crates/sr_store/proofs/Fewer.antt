@@ -14,7 +14,7 @@ use Rattle.sr_history.specs.declared.mark.Mark.{Mark}
 use Rattle.sr_region.specs.declared.region.Region.{Region}
 use Rattle.sr_store.specs.Stores.{IsStore}
 use Rattle.sr_store.specs.Fitted.{count_rows, without, DropsWhile, IsFitted}
-use Rattle.sr_store.specs.Laws.{FitsStill, FittedFitStill}
+use Rattle.sr_store.specs.Laws.{FittedFitStill}
 use Rattle.sr_store.proofs.Dropping.{kept_store, evicted_all, evicted_store}
 
 module _ (schema : List Table) (policy : Policy) (last : List Last) (cause : Cause) (size : List Region → ℕ) (limit : ℕ) where

@@ -11,7 +11,7 @@ use Rattle.sr_cell.specs.Cells.{Row}
 use Rattle.sr_cell.specs.Columns.{table_at, is_point}
 use Rattle.sr_model.specs.Queries.{rows_at}
 use Rattle.sr_model.specs.Statements.{Tables}
-use Rattle.sr_box.specs.Points.{Rect, in_any, times, rect_fits, constrains_only}
+use Rattle.sr_box.specs.Points.{Rect, times, rect_fits, constrains_only}
 use Rattle.sr_union.proofs.Times.{in_any-times}
 use Rattle.sr_history.specs.declared.mark.Mark.{Mark}
 use Rattle.sr_history.specs.declared.mark.Mark.TheVariants.{Held as HeldMark, Dropped}

@@ -1,6 +1,6 @@
 -- The centres of a query's rects are those of what its parts mean.
-use Rattle.std.proofs.Common.{◌≡◌, ℕ, true, List, [], ◌∷◌, ◌++◌, refl, sym, ap, subst, inl, inr}
-use Rattle.std.specs.List.{list_all, AllZip}
+use Rattle.std.proofs.Common.{◌≡◌, true, List, [], ◌∷◌, ◌++◌, refl, sym, subst, inl, inr}
+use Rattle.std.specs.List.{list_all}
 use Rattle.sr_cell.specs.declared.table.Table.{Table}
 use Rattle.sr_cell.specs.Columns.{table_at}
 use Rattle.sr_box.specs.Points.{Rect, in_any, rect_fits, AreSame}
@@ -8,7 +8,6 @@ use Rattle.sr_union.specs.Centre.{centre_of, centre_from}
 use Rattle.sr_model.specs.Queries.{points_of}
 use Rattle.sr_model.specs.Queries as model
 use Rattle.sr_query.specs.Bound.{IsPart}
-use Rattle.sr_query.specs.declared.query.Part.{Part}
 use Rattle.sr_policy.specs.declared.policy.Last.{Last}
 use Rattle.sr_history.specs.Victims.{AreLast}
 use Rattle.sr_store.specs.Fitted.{last_of, lasts_of}

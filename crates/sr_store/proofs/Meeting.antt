@@ -1,5 +1,5 @@
 -- What is dropped from regions so that they fit is what the budgets demand of the marks behind them.
-use Rattle.std.proofs.Common.{◌≡◌, ℕ, ◌+◌, ◌<◌, ◌≤◌, zero, suc, true, false, List, [], ◌∷◌, ◌++◌, length, map, refl, sym, ap, subst, ◌∙◌, arith}
+use Rattle.std.proofs.Common.{◌≡◌, ℕ, ◌<◌, ◌≤◌, zero, suc, true, false, List, [], ◌∷◌, ◌++◌, length, map, refl, sym, ap, subst, ◌∙◌, arith}
 use Rattle.std.specs.Prelude.{Bool, ◌&&◌, ◌||◌, ◌==◌, Some, slice_get}
 use Rattle.std.specs.List.{list_all, list_any, All, AllZip}
 use Rattle.std.proofs.lemmas.Bool.Decides.{nat_tests}
@@ -9,20 +9,17 @@ use Rattle.std.proofs.lemmas.Option.{slice_get_within, get_or_from_slice_get}
 use Rattle.sr_cell.specs.declared.cause.Cause.{Cause}
 use Rattle.sr_cell.specs.declared.cause.Cause.TheVariants.{Rows, Regions}
 use Rattle.sr_cell.specs.declared.table.Table.{Table}
-use Rattle.sr_cell.specs.Cells.{Row}
-use Rattle.sr_cell.specs.Columns.{table_at, is_point}
+use Rattle.sr_cell.specs.Columns.{table_at}
 use Rattle.sr_model.specs.Statements.{Tables}
-use Rattle.sr_box.specs.Points.{HasPoint}
 use Rattle.sr_union.specs.Grid.{have_first}
 use Rattle.sr_query.specs.Bound.{is_table}
-use Rattle.sr_policy.specs.declared.policy.Policy.{Policy}
 use Rattle.sr_policy.specs.declared.policy.Limits.{Limits}
 use Rattle.sr_policy.specs.declared.policy.ClassView.{ClassView}
 use Rattle.sr_policy.specs.declared.policy.Last.{Last}
 use Rattle.sr_policy.specs.Order.{goes_before}
 use Rattle.sr_history.specs.declared.mark.Mark.{Mark}
 use Rattle.sr_history.specs.Marks.{is_held, with_marks}
-use Rattle.sr_history.specs.Classes.{Numbered, stamp, Class, in_class, same_class, AreClasses}
+use Rattle.sr_history.specs.Classes.{Numbered, stamp, Class, same_class, AreClasses}
 use Rattle.sr_history.specs.Drops.{IsDropOf}
 use Rattle.sr_history.specs.Kept.{kept}
 use Rattle.sr_history.specs.Victims.{AreLast, last_parts, IsSeen, IsVictim}

@@ -21,7 +21,7 @@ use Rattle.sr_region.specs.Applied.{applied_all, IsNew, has_points, concerns, Ha
 use Rattle.sr_region.proofs.Parts.{is_in-point}
 use Rattle.sr_region.proofs.Changed.{IsChangeOf, all-changes, is-new}
 use Rattle.sr_region.proofs.Kept.{keeps}
-use Rattle.sr_store.specs.Classes.{Held, Stamps, IsStamped, Keeps}
+use Rattle.sr_store.specs.Classes.{IsStamped}
 use Rattle.sr_store.specs.Told.{told_of, IsTrueOf, AreTrueOf}
 use Rattle.sr_store.specs.Stores.{IsOfSchema}
 use Rattle.sr_store.specs.Noticed.{told_to, IsTellOf}

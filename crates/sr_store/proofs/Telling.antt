@@ -14,12 +14,12 @@ use Rattle.sr_model.specs.SortedRows.{ascend, with_row}
 use Rattle.sr_message.specs.declared.message.Tell.{Tell}
 use Rattle.sr_box.specs.Points.{times, in_any}
 use Rattle.sr_rows.specs.Places.{is_apart}
-use Rattle.sr_rows.proofs.Order.{is_first, ascend-tail, ascend-first}
+use Rattle.sr_rows.proofs.Order.{ascend-tail, ascend-first}
 use Rattle.sr_rows.proofs.Places.{with_row-ascend}
 use Rattle.sr_rows.proofs.Parts.{ascend-filter}
 use Rattle.sr_region.specs.declared.region.Region.{Region}
 use Rattle.sr_region.specs.Regions.{rank, is_in, IsPart, IsRegion}
-use Rattle.sr_region.specs.Applied.{without_key, with_new, applied, IsNew}
+use Rattle.sr_region.specs.Applied.{without_key, applied, IsNew}
 use Rattle.sr_region.proofs.Parts.{is_in-point}
 use Rattle.sr_region.proofs.Ordered.{All-with_row}
 use Rattle.sr_region.proofs.Places.{row-front}

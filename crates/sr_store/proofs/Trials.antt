@@ -1,13 +1,15 @@
 -- What the tests need of stores to which no rows come, or one.
-use Rattle.std.proofs.Common.{◌≡◌, ℕ, ◌+◌, ◌≤◌, zero, suc, true, false, List, [], ◌∷◌, map, get_or, refl, sym, ap, subst, ◌∙◌, arith}
-use Rattle.std.specs.Prelude.{Bool, ◌&&◌, ◌==◌, if◌then◌else◌, filter}
+use Rattle.std.proofs.Common.{◌≡◌, ℕ, ◌+◌, ◌<◌, ◌≤◌, zero, suc, true, false, List, [], ◌∷◌, length, map, get_or, refl, sym, ap, subst, ◌∙◌, arith}
+use Rattle.std.specs.Prelude.{Bool, ◌&&◌, ◌==◌, if◌then◌else◌, filter, ℤ, pos, Some}
 use Rattle.std.specs.List.{All}
 use Rattle.std.proofs.lemmas.Bool.Decides.{nat_tests}
-use Rattle.std.proofs.lemmas.List.Elements.{All-nil, All-cons}
+use Rattle.std.proofs.lemmas.List.Elements.{All-nil, All-cons, All-same}
+use Rattle.sr_cell.specs.declared.cell.Cell.TheVariants.{Num}
 use Rattle.sr_cell.specs.declared.table.Table.{Table}
 use Rattle.sr_cell.specs.Attrs.{includes, has_column, project}
-use Rattle.sr_cell.specs.Cells.{Row}
+use Rattle.sr_cell.specs.Cells.{Row, cell_at}
 use Rattle.sr_cell.specs.Columns.{table_at, is_point}
+use Rattle.sr_message.specs.declared.message.Tell.{Tell}
 use Rattle.sr_model.specs.Queries.{rows_at}
 use Rattle.sr_model.specs.SortedRows.{ascend}
 use Rattle.sr_box.specs.Points.{Rect, in_any}
@@ -21,6 +23,7 @@ use Rattle.sr_store.specs.Told.{Told, told_of, IsTold, IsTrueOf, AreTrueOf}
 use Rattle.sr_store.specs.Stores.{IsOfSchema, IsStore, cover_of}
 use Rattle.sr_store.specs.Answered.{AreApart, HaveArrived}
 use Rattle.sr_store.specs.Making.{HaveNoCommon}
+use Rattle.sr_store.specs.Noticed.{IsTellOf}
 use Rattle.sr_store.proofs.Covering.{cover_has}
 
 abbrev pub regions_of : Store → List Region
@@ -104,3 +107,13 @@ one_told schema row point = record { rows = rows; ascending = ascending }
     ascending : (t a : ℕ) → has_column a (table_at schema t).key ≡ true → ascend (rank a (table_at schema t).key) (map (project a) (rows_at ((row ∷ []) ∷ []) t)) ≡ true
     ascending zero a has = refl
     ascending (suc t) a has = refl
+
+-- what is told of one person of the first table
+pub tells_one : (schema : List Table) (told : List Tell) (own age : ℤ) → 0 < length schema → (table_at schema 0).key ≡ 0
+    → is_point (table_at schema 0).columns (Num (pos 1) ∷ Num age ∷ Num (pos 5) ∷ []) ≡ true → own ≡ age
+    → told ≡ record { table = 0; key = Num (pos 1); after = Some (Num (pos 1) ∷ Num own ∷ Num (pos 5) ∷ []) } ∷ [] → All (IsTellOf schema) told
+tells_one schema told own age there key point same is =
+    All-same (IsTellOf schema) told (record { table = 0; key = Num (pos 1); after = Some (Num (pos 1) ∷ Num own ∷ Num (pos 5) ∷ []) } ∷ []) is
+    (All-cons (IsTellOf schema) (record { table = 0; key = Num (pos 1); after = Some (Num (pos 1) ∷ Num own ∷ Num (pos 5) ∷ []) }) []
+    (there, (subst (λ n. is_point (table_at schema 0).columns (Num (pos 1) ∷ Num n ∷ Num (pos 5) ∷ []) ≡ true) (sym same) point, ap (cell_at (Num (pos 1) ∷ Num own ∷ Num (pos 5) ∷ [])) key))
+    (All-nil (IsTellOf schema)))

@@ -1,5 +1,5 @@
 -- What holds of regions and of the marks and tables that they stand for.
-use Rattle.std.specs.Prelude.{ℕ, Bool, true, List, map, filter, length, ◌<◌, ◌≤◌, ◌≡◌, IsTrue}
+use Rattle.std.specs.Prelude.{Bool, true, List, map, filter, length, ◌≤◌, ◌≡◌, IsTrue}
 use Rattle.std.specs.List.{list_all, All, AllZip, Contains}
 use Rattle.sr_cell.specs.declared.change.Change.{Change}
 use Rattle.sr_cell.specs.declared.table.Table.{Table}

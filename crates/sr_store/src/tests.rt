@@ -22,6 +22,7 @@ use sr_cell::schema::Schema;
 use sr_cell::table::{Column, Kind, Table};
 use sr_cell::text::Text;
 use sr_history::mark::{Mark, Marks};
+use sr_message::message::Tell;
 use sr_policy::policy::{Limits, Policy};
 use sr_query::query::{Part, Parts};
 use sr_union::rects::Rects;
@@ -51,6 +52,7 @@ fn table(alloc: Global) -> Result<Table, NoMemory>
     ensures sound { IfOk result (λ table. is_table table ≡ true) }
     ensures key { IfOk result (λ table. table.key ≡ 0) }
     ensures point { IfOk result (λ table. is_point table.columns (Num (pos 1) ∷ Num (pos 31) ∷ Num (pos 5) ∷ []) ≡ true) }
+    ensures old { IfOk result (λ table. is_point table.columns (Num (pos 1) ∷ Num (pos 41) ∷ Num (pos 5) ∷ []) ≡ true) }
 {
     let mut columns = Seq::new(alloc);
     columns.push(column(alloc, "id", 9999)?)?;
@@ -68,6 +70,7 @@ fn schema_of(alloc: Global) -> Result<Schema, NoMemory>
     ensures there { IfOk result (λ schema. 0 < length schema) }
     ensures key { IfOk result (λ schema. (table_at schema 0).key ≡ 0) }
     ensures point { IfOk result (λ schema. is_point (table_at schema 0).columns (Num (pos 1) ∷ Num (pos 31) ∷ Num (pos 5) ∷ []) ≡ true) }
+    ensures old { IfOk result (λ schema. is_point (table_at schema 0).columns (Num (pos 1) ∷ Num (pos 41) ∷ Num (pos 5) ∷ []) ≡ true) }
 {
     let mut schema = Schema::new(alloc);
     match schema.add(alloc, table(alloc)?) {
@@ -363,5 +366,62 @@ fn rows_above_the_budget_are_dropped(rt: HostRuntime) -> Result<(), Fail> {
     for (first, later, left) in [(0, 0, (2, 0, 0)), (1, 1, (1, 0, 1)), (1, 0, (1, 1, 0))] {
         assert_eq!(rt; limit_rows(rt.alloc(), first, later)?, Some(left));
     }
+    Ok(())
+}
+
+// Person 1 of department 5 has that age from now on.
+fn tell_of(alloc: Global, age: i64) -> Result<Tell, NoMemory>
+    ensures { IfOk result (λ tell. tell ≡ record { table = 0; key = Num (pos 1); after = Some (Num (pos 1) ∷ Num age ∷ Num (pos 5) ∷ []) }) }
+{
+    let mut row = Seq::new(alloc);
+    row.push(Cell::Num(1))?;
+    row.push(Cell::Num(age))?;
+    row.push(Cell::Num(5))?;
+    Ok(Tell {
+        table: 0,
+        key: Cell::Num(1),
+        after: Some(row),
+    })
+}
+
+fn tell_age(alloc: Global, schema: &Schema, store: &mut Store, age: i64) -> Result<(), NoMemory>
+    requires there { 0 < length schema.now }
+    requires key { (table_at schema.now 0).key ≡ 0 }
+    requires point { is_point (table_at schema.now 0).columns (Num (pos 1) ∷ Num age ∷ Num (pos 5) ∷ []) ≡ true }
+    requires store { IsStore schema.now store.old.regions }
+    ensures store { OnOk result (IsStore schema.now store.new.regions) }
+{
+    let mut told = Seq::new(alloc);
+    told.push(tell_of(alloc, age)?)?;
+    store.apply(alloc, told.as_slice())
+}
+
+// The age in the first row of the first region.
+fn first_age(store: &Store) -> Option<i64> {
+    let region = store.regions.get(0)?;
+    let row = region.rows.get(0)?;
+    match row.get(1) {
+        Some(Cell::Num(age)) => Some(*age),
+        _ => None,
+    }
+}
+
+// The first age in a store of the ages 30 to 40 once person 1 is 31, and once person 1 is 41.
+fn told_ages(alloc: Global) -> Result<Option<(Option<i64>, Option<i64>)>, NoMemory> {
+    let schema = schema_of(alloc)?;
+    match held(alloc, &schema, 30, 40)? {
+        None => Ok(None),
+        Some(mut store) => {
+            tell_age(alloc, &schema, &mut store, 31)?;
+            let young = first_age(&store);
+            tell_age(alloc, &schema, &mut store, 41)?;
+            Ok(Some((young, first_age(&store))))
+        }
+    }
+}
+
+#[test]
+fn what_is_told_moves_a_row_in_and_out(rt: HostRuntime) -> Result<(), Fail> {
+    assert_eq!(rt; told_ages(rt.alloc())?, Some((Some(31), None)));
     Ok(())
 }

@@ -422,13 +422,7 @@ const RUNS: [(&[u8], Option<&[u8]>, u64, Ending, &[u8]); 14] = [
         b"",
     ),
     (b"# no table\n", None, 0, Ending::Done, b""),
-    (
-        b"\npush 1",
-        None,
-        0,
-        Ending::Done,
-        b"2 push 1 sent 0\n",
-    ),
+    (b"\npush 1", None, 0, Ending::Done, b"2 push 1 sent 0\n"),
     (b"push 1\nsettle 1", None, 0, Ending::Unbuilt(2), b""),
 ];
 
@@ -507,7 +501,10 @@ fn a_client_keeps_no_more_than_it_may(rt: HostRuntime) -> Result<(), Fail> {
     let alloc = rt.alloc();
     for (limits, script, trace) in BUDGETS {
         let mut sink = MemSink::new(alloc, Seq::new(alloc), 4096);
-        assert_eq!(rt; replay_ending(alloc, limits, script, None, &mut sink)?, Ending::Done);
+        assert_eq!(rt;
+            replay_ending(alloc, limits, script, None, &mut sink)?,
+            Ending::Done
+        );
         assert_eq!(rt; sink.written(alloc)?.as_slice(), trace);
     }
     Ok(())

@@ -365,11 +365,7 @@ impl World {
     }
 
     /// While an ask is out, what comes before its reply is laid by.
-    fn take_while_out(
-        &mut self,
-        alloc: Global,
-        message: Message,
-    ) -> Result<TraceLines, NoMemory>
+    fn take_while_out(&mut self, alloc: Global, message: Message) -> Result<TraceLines, NoMemory>
         requires out { IsTrue (is_some self.old.client.out) }
         requires taking { (before : World) × Taking before self.old message }
         ensures delivery { (before : World) → Taking before self.old message → IfOk result (DoesDelivery before self.new) }

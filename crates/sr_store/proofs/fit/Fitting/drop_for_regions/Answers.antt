@@ -1,7 +1,7 @@
-use Rattle.std.proofs.Common.{◌≡◌, length, ap, ◌∙◌, sym}
+use Rattle.std.proofs.Common.{length, ap, ◌∙◌}
 use Rattle.std.specs.Prelude.{nat_lt}
 use Rattle.sr_cell.specs.declared.cause.Cause.TheVariants.{Regions}
-use Rattle.sr_store.proofs.Views.{none_so_far, one_so_far, all_so_far, above, not_above}
+use Rattle.sr_store.proofs.Views.{one_so_far, all_so_far, above, not_above}
 use Rattle.sr_store.proofs.fit.Fitting.drop_for_regions.Goals as goal
 
 pub loop-limits-preserved : goal.loop-limits-preserved

@@ -1,8 +1,8 @@
-use Rattle.std.proofs.Common.{◌≡◌, ap, ◌∙◌, sym}
+use Rattle.std.proofs.Common.{ap, ◌∙◌}
 use Rattle.std.specs.Prelude.{nat_lt}
 use Rattle.sr_cell.specs.declared.cause.Cause.TheVariants.{Rows}
 use Rattle.sr_store.specs.Fitted.{count_rows}
-use Rattle.sr_store.proofs.Views.{none_so_far, one_so_far, all_so_far, above, not_above}
+use Rattle.sr_store.proofs.Views.{one_so_far, all_so_far, above, not_above}
 use Rattle.sr_store.proofs.fit.Fitting.drop_for_rows.Goals as goal
 
 pub loop-limits-preserved : goal.loop-limits-preserved

@@ -1,5 +1,5 @@
 -- The client applies a notice, as the scene says.
-use Rattle.std.proofs.Common.{◌≡◌, ℕ, ◌+◌, ◌≤◌, List, [], ◌∷◌, ◌++◌, map, length, refl, sym, ◌∙◌, ap, subst, arith, Some, None}
+use Rattle.std.proofs.Common.{◌≡◌, ℕ, ◌+◌, ◌≤◌, List, [], ◌∷◌, ◌++◌, map, refl, sym, ◌∙◌, ap, subst, arith, None}
 use Rattle.std.specs.List.{All, Contains}
 use Rattle.std.specs.declared.collections.VecDeque.{VecDeque}
 use Rattle.std.specs.declared.alloc.Global.{Global}
@@ -9,14 +9,12 @@ use Rattle.sr_message.specs.declared.message.Tell.{Tell}
 use Rattle.sr_message.specs.declared.message.Message.{Message}
 use Rattle.sr_message.specs.declared.message.Message.TheVariants.{Notice}
 use Rattle.sr_model.specs.Changes.{version_at}
-use Rattle.sr_model.specs.Queries.{Query}
 use Rattle.sr_model.specs.Statements.{Tables}
 use Rattle.sr_history.specs.declared.mark.Mark.{Mark}
 use Rattle.sr_history.specs.Marks.{with_marks}
 use Rattle.sr_history.specs.Marks.{is_held}
 use Rattle.sr_history.specs.Classes.{stamp}
 use Rattle.sr_region.specs.declared.region.Region.{Region}
-use Rattle.sr_store.specs.Classes.{Keeps as KeepsPoints}
 use Rattle.sr_store.specs.Told.{told_of, IsTrueOf}
 use Rattle.sr_store.specs.Fitted.{IsFitted}
 use Rattle.sr_store.specs.Noticed.{told_to, IsTellOf}
@@ -33,10 +31,10 @@ use Rattle.sr_scene.specs.Runs.{Delivers}
 use Rattle.sr_world.specs.declared.world.World.{World}
 use Rattle.sr_world.specs.declared.client.Client.{Client}
 use Rattle.sr_world.specs.Cutting.{EndWith, RegionsEnd}
-use Rattle.sr_world.specs.Noticing.{Brings, AreSubscribed}
-use Rattle.sr_world.specs.Represents.{Past, ClientFacts, CutFacts, OutEnds, Facts, Represents, Flow, request_of, scene_of, client_of}
+use Rattle.sr_world.specs.Noticing.{Brings}
+use Rattle.sr_world.specs.Represents.{Past, ClientFacts, Facts, Represents, Flow, request_of, scene_of, client_of}
 use Rattle.sr_world.specs.Taking.{Taking}
-use Rattle.sr_world.specs.Worlds.{Stands, DoesDelivery}
+use Rattle.sr_world.specs.Worlds.{DoesDelivery}
 use Rattle.sr_world.proofs.Applying.{HasSubscribed, AreAt, next-version, brought-up, IsNext, next-notice, tells-rows, told-all}
 use Rattle.sr_world.proofs.Bringing.{brings-later}
 use Rattle.sr_world.proofs.FactLemmas.{server-still}

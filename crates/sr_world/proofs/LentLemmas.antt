@@ -1,10 +1,9 @@
 -- The client that a world lends is the scene's.
-use Rattle.std.proofs.Common.{◌≡◌, ℕ, true, List, [], ◌∷◌, refl, sym, ◌∙◌, subst}
-use Rattle.std.specs.Prelude.{filter, map}
-use Rattle.std.specs.List.{list_all, All}
+use Rattle.std.proofs.Common.{List, [], ◌∷◌, refl, sym, ◌∙◌, subst}
+use Rattle.std.specs.List.{All}
 use Rattle.std.proofs.lemmas.List.Elements.{All-nil, All-cons, All-head, All-tail}
 use Rattle.sr_cell.specs.declared.table.Table.{Table}
-use Rattle.sr_cell.specs.Columns.{table_at, is_point}
+use Rattle.sr_cell.specs.Columns.{table_at}
 use Rattle.sr_model.specs.Queries.{rows_at}
 use Rattle.sr_model.specs.Statements.{Tables}
 use Rattle.sr_model.specs.Changes.{version_at}

@@ -1,5 +1,5 @@
 -- The client takes the reply of its ask, as the scene says.
-use Rattle.std.proofs.Common.{◌≡◌, ℕ, ◌+◌, ◌-◌, ◌≤◌, Bool, true, false, List, [], ◌∷◌, ◌++◌, map, length, refl, sym, ◌∙◌, ap, subst, arith, Some, None}
+use Rattle.std.proofs.Common.{◌≡◌, ℕ, Bool, true, false, List, [], ◌∷◌, ◌++◌, map, length, refl, sym, ◌∙◌, ap, subst, arith, Some, None}
 use Rattle.std.specs.Prelude.{◌||◌, ◌&&◌, ◌==◌, filter}
 use Rattle.std.specs.List.{list_all, list_any, All, AllZip}
 use Rattle.std.proofs.lemmas.Bool.Decides.{nat_tests}
@@ -21,7 +21,7 @@ use Rattle.sr_model.specs.Statements.{Tables}
 use Rattle.sr_model.specs.Queries.{rows_at, rows_of, points_of}
 use Rattle.sr_model.specs.Changes.{version_at}
 use Rattle.sr_history.specs.declared.mark.Mark.{Mark}
-use Rattle.sr_history.specs.Marks.{is_held, with_marks}
+use Rattle.sr_history.specs.Marks.{with_marks}
 use Rattle.sr_history.specs.Classes.{Numbered, stamp}
 use Rattle.sr_region.specs.declared.region.Region.{Region}
 use Rattle.sr_store.specs.declared.store.Store.{Store}

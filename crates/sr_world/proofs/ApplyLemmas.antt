@@ -1,5 +1,5 @@
 -- The client applies a notice, as the scene says.
-use Rattle.std.proofs.Common.{◌≡◌, ℕ, ◌+◌, ◌≤◌, List, [], ◌∷◌, ◌++◌, map, length, refl, sym, ◌∙◌, ap, subst, arith, Some, None}
+use Rattle.std.proofs.Common.{◌≡◌, ℕ, ◌+◌, ◌≤◌, List, [], ◌∷◌, ◌++◌, map, refl, sym, ◌∙◌, ap, subst, arith, None}
 use Rattle.std.specs.List.{All, Contains}
 use Rattle.std.specs.declared.collections.VecDeque.{VecDeque}
 use Rattle.std.specs.declared.alloc.Global.{Global}
@@ -9,19 +9,18 @@ use Rattle.sr_message.specs.declared.message.Tell.{Tell}
 use Rattle.sr_message.specs.declared.message.Message.{Message}
 use Rattle.sr_message.specs.declared.message.Message.TheVariants.{Notice}
 use Rattle.sr_model.specs.Changes.{version_at}
-use Rattle.sr_model.specs.Queries.{Query}
 use Rattle.sr_model.specs.Statements.{Tables}
 use Rattle.sr_history.specs.declared.mark.Mark.{Mark}
 use Rattle.sr_history.specs.Marks.{with_marks}
 use Rattle.sr_history.specs.Marks.{is_held}
 use Rattle.sr_history.specs.Classes.{stamp}
 use Rattle.sr_region.specs.declared.region.Region.{Region}
-use Rattle.sr_store.specs.Classes.{Keeps as KeepsPoints}
 use Rattle.sr_store.specs.Told.{told_of, IsTrueOf}
 use Rattle.sr_store.specs.Fitted.{IsFitted}
 use Rattle.sr_store.specs.Noticed.{told_to, IsTellOf}
 use Rattle.sr_store.proofs.Fewer.{fitted_fit_still}
 use Rattle.sr_store.proofs.Meeting.{fitted_meets_budgets}
+use Rattle.sr_store.proofs.Noticing.{notices-classes}
 use Rattle.sr_script.specs.declared.line.TraceLine.{TraceLine}
 use Rattle.sr_script.specs.declared.line.TraceLine.TheVariants as line
 use Rattle.sr_scene.specs.Server.{told_at}
@@ -32,12 +31,12 @@ use Rattle.sr_scene.specs.Runs.{Delivers}
 use Rattle.sr_world.specs.declared.world.World.{World}
 use Rattle.sr_world.specs.declared.client.Client.{Client}
 use Rattle.sr_world.specs.Cutting.{EndWith, RegionsEnd}
-use Rattle.sr_world.specs.Noticing.{Brings, AreSubscribed}
-use Rattle.sr_world.specs.Represents.{Past, ClientFacts, CutFacts, OutEnds, Facts, Represents, Flow, request_of, scene_of, client_of}
+use Rattle.sr_world.specs.Noticing.{Brings}
+use Rattle.sr_world.specs.Represents.{Past, ClientFacts, Facts, Represents, Flow, request_of, scene_of, client_of}
 use Rattle.sr_world.specs.Taking.{Taking}
-use Rattle.sr_world.specs.Worlds.{Stands, DoesDelivery}
-use Rattle.sr_world.proofs.Applying.{IsSubscribed, AreAt, next-version, brings-up, brought-up, IsNext, next-notice, tells-rows, told-all}
-use Rattle.sr_store.proofs.Noticing.{notices-classes as notices_keep_classes}
+use Rattle.sr_world.specs.Worlds.{DoesDelivery}
+use Rattle.sr_world.proofs.Applying.{HasSubscribed, AreAt, next-version, brought-up, IsNext, next-notice, tells-rows, told-all}
+use Rattle.sr_world.proofs.Bringing.{brings-later}
 use Rattle.sr_world.proofs.FactLemmas.{server-still}
 use Rattle.sr_world.proofs.StepLemmas.{does}
 use Rattle.sr_world.proofs.TakeLemmas.{delivers}
@@ -72,7 +71,7 @@ is-applying w past version told queue f none came =
     told_is = let is : Notice version told ≡ Notice (n.before + 1) (told_at s past.versions w.server.subs (n.before + 1)) = n.is in cc
 
     within : n.before + 1 ≤ w.server.version
-    within = omega (arith, brings-up s past.versions w.server.subs (n.before + 1) w.server.upto queue n.rest, f.server.upto)
+    within = omega (arith, brings-later s past.versions w.server.subs (n.before + 1) w.server.upto queue n.rest, f.server.upto)
 
     before : AreAt s (version_at past.versions n.before) w.server.subs w.client.store.regions
     before =
@@ -82,7 +81,7 @@ is-applying w past version told queue f none came =
     here : IsApplying w past (n.before + 1) (told_at s past.versions w.server.subs (n.before + 1)) queue
     here = record {
       flow = flow;
-      later = omega (arith, brings-up s past.versions w.server.subs w.client.version n.before [] n.silent);
+      later = omega (arith, brings-later s past.versions w.server.subs w.client.version n.before [] n.silent);
       within = within;
       tells = tells-rows s past.versions w.server.subs n.before (f.server.then n.before (omega (arith, within))) (f.server.then (n.before + 1) within);
       at = next-version s past.versions w.server.subs n.before w.client.store.regions (f.server.then n.before (omega (arith, within))) (f.server.then (n.before + 1) within) before;
@@ -106,7 +105,7 @@ applies w past version told new drops to_client f none came fitted =
     let old : List Region = map (told_to told) w.client.store.regions in
     let changed : World = with_applied w version new to_client in
     let after : Past = record past { marks = with_marks past.marks drops } in
-    let keeps = notices_keep_classes s (is_held past.marks) (stamp past.queries) told w.client.store.regions f.client.keeps in
+    let keeps = notices-classes s (is_held past.marks) (stamp past.queries) told w.client.store.regions f.client.keeps in
     let met = fitted_meets_budgets s tables w.client.store.limits past.marks past.queries w.client.store.last old new drops f.server.tables (f.server.then version a.within) a.at.store keeps a.at.are_true f.client.last fitted in
     let left = fitted_fit_still s w.client.store.limits w.client.store.last old new drops fitted in
     let End : Region → Type 0 = λ g. EndWith s (counted past.counted_from past.queries) g.table g.rects in
@@ -122,7 +121,7 @@ applies w past version told new drops to_client f none came fitted =
       rows = left.rows;
       few = left.regions;
     } in
-    let flow : Flow changed after None = (a.flow.0, a.flow.1, (some (IsSubscribed s w.server.subs) a.at.subscribed, a.rest)) in
+    let flow : Flow changed after None = (a.flow.0, a.flow.1, (some (HasSubscribed s w.server.subs) a.at.subscribed, a.rest)) in
     let facts : Facts changed after = record {
       server = server-still w past changed.client w.to_server to_client after.marks past.queries past.counted_from past.meaning f.server;
       client = client;

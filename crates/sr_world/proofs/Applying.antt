@@ -1,60 +1,45 @@
 -- What notices do to a client's regions: those with the rows of one version have the rows of a later one.
-use Rattle.std.proofs.Common.{◌≡◌, ℕ, zero, suc, ◌+◌, ◌-◌, ◌≤◌, Bool, true, false, cond, List, [], ◌∷◌, ◌++◌, map, length, refl, sym, ◌∙◌, ap, subst, arith, inl, inr, Option, Some, None, map-id}
-use Rattle.std.specs.Prelude.{◌&&◌, ◌||◌, ◌==◌, ◌⊎◌, filter, if◌then◌else◌}
-use Rattle.std.specs.List.{list_any, list_all, sum_by, All}
+use Rattle.std.proofs.Common.{◌≡◌, ℕ, ◌+◌, ◌-◌, ◌≤◌, Bool, true, false, List, [], ◌∷◌, ◌++◌, map, refl, sym, ◌∙◌, ap, subst, arith, Option, Some, None, map-id}
+use Rattle.std.specs.Prelude.{◌&&◌, ◌||◌, ◌==◌, filter}
+use Rattle.std.specs.List.{list_any, All}
 use Rattle.std.proofs.lemmas.Bool.Decides.{nat_tests}
-use Rattle.std.proofs.lemmas.List.Elements.{All-nil, All-cons, All-head, All-tail, All-map, All-weaker}
-use Rattle.std.proofs.lemmas.List.Sums.{sum_by-cons}
+use Rattle.std.proofs.lemmas.List.Elements.{All-nil, All-cons, All-map, All-weaker}
 use Rattle.sr_cell.specs.declared.change.Change.{Change}
-use Rattle.sr_cell.specs.declared.table.Column.{Column}
 use Rattle.sr_cell.specs.declared.table.Table.{Table}
-use Rattle.sr_cell.specs.Attrs.{has_column}
 use Rattle.sr_cell.specs.Cells.{Row}
-use Rattle.sr_cell.specs.Columns.{table_at, is_point}
-use Rattle.sr_box.specs.Points.{Rect, times, in_any}
+use Rattle.sr_cell.specs.Columns.{table_at}
 use Rattle.sr_subs.specs.declared.subs.Holding.{Holding}
-use Rattle.sr_subs.specs.Subscription.{has_point, touches}
+use Rattle.sr_subs.specs.Subscription.{touches}
 use Rattle.sr_subs.specs.Subscription as subscribed
-use Rattle.sr_message.specs.declared.message.Tell.{Tell}
 use Rattle.sr_message.specs.Tells.{tell_of}
+use Rattle.sr_message.specs.declared.message.Tell.{Tell}
 use Rattle.sr_message.specs.declared.message.Message.{Message}
 use Rattle.sr_message.specs.declared.message.Message.TheVariants.{Ask, Notice, Rows, Reply}
 use Rattle.sr_model.specs.Changes.{changes, version_at}
-use Rattle.sr_model.specs.SortedRows.{ascend}
 use Rattle.sr_model.specs.Statements.{Tables}
-use Rattle.sr_rows.proofs.Parts.{ascend-filter}
 use Rattle.sr_region.specs.declared.region.Region.{Region}
-use Rattle.sr_region.specs.Regions.{rank, is_in, IsPart, IsRowIn, IsRegion}
-use Rattle.sr_region.specs.Applied.{AreTables, applied, concerns, is_point_if_there, has_points}
+use Rattle.sr_region.specs.Applied.{AreTables, concerns, is_point_if_there, has_points}
 use Rattle.sr_region.specs.Applied as regions
-use Rattle.sr_store.specs.Classes.{Held, Stamps, is_of, occurs, is_before, ascends, Keeps}
-use Rattle.sr_store.specs.Told.{Told, told_of, IsTold, IsTrueOf, AreTrueOf}
-use Rattle.sr_store.specs.Stores.{IsOfSchema, count_rects, IsStore}
+use Rattle.sr_store.specs.Classes.{Held, Stamps, Keeps}
+use Rattle.sr_store.specs.Told.{told_of, AreTrueOf}
+use Rattle.sr_store.specs.Stores.{IsStore}
 use Rattle.sr_store.specs.Noticed.{told_to, IsTellOf}
+use Rattle.sr_store.proofs.Noticing.{notices-true, changes-tell, notices-classes}
+use Rattle.sr_store.proofs.Telling.{only-rows, store-told}
 use Rattle.sr_scene.specs.Server.{told_at}
-use Rattle.sr_world.specs.Client.{brought, arrived}
+use Rattle.sr_world.specs.Client.{arrived}
 use Rattle.sr_world.specs.Noticing.{after_message, after_messages, TellsRows, Brings, done, silent, told, AreSubscribed}
-use Rattle.sr_store.proofs.Noticing.{notices-true as notices_keep_true, changes-tell as changes_are_tells, notices-classes as notices_keep_classes}
+use Rattle.sr_world.proofs.Bringing.{brings-later}
 use Rattle.sr_world.proofs.RowMessages.{AllRows}
-use Rattle.sr_world.proofs.ToldLemmas.{is-told}
+use Rattle.sr_world.proofs.Subscribed.{IsSubscribed}
 
 -- ---- notices change rows alone
-
-told-rows : (tells : List Tell) (g : Region) → told_to tells g ≡ record g { rows = (told_to tells g).rows }
-told-rows [] g = refl
-told-rows (tell ∷ tells) g = go (tell.table == g.table) (told-rows tells (applied tell.key tell.after g)) (told-rows tells g)
-  where
-    go : (b : Bool) → told_to tells (applied tell.key tell.after g) ≡ record g { rows = (told_to tells (applied tell.key tell.after g)).rows }
-        → told_to tells g ≡ record g { rows = (told_to tells g).rows }
-        → told_to tells (if b then applied tell.key tell.after g else g) ≡ record g { rows = (told_to tells (if b then applied tell.key tell.after g else g)).rows }
-    go true one other = one
-    go false one other = other
 
 -- what holds whatever the rows are holds still
 pub told-all : (P : Region → Type 0) → ((g : Region) (rows : List Row) → P g → P (record g { rows = rows })) → (tells : List Tell) (gs : List Region) → All P gs → All P (map (told_to tells) gs)
 told-all P still tells gs all =
     All-map P (told_to tells) gs
-    (All-weaker P (λ g. P (told_to tells g)) (λ g p. subst P (sym (told-rows tells g)) (still g (told_to tells g).rows p)) gs all)
+    (All-weaker P (λ g. P (told_to tells g)) (λ g p. subst P (sym (only-rows tells g)) (still g (told_to tells g).rows p)) gs all)
 
 pub after-all : (P : Region → Type 0) → ((g : Region) (rows : List Row) → P g → P (record g { rows = rows })) → (ms : List Message) (gs : List Region) → All P gs → All P (after_messages ms gs)
 after-all P still [] gs all = all
@@ -63,86 +48,11 @@ after-all P still (Notice version tells ∷ ms) gs all = after-all P still ms (m
 after-all P still (Rows number part rows ∷ ms) gs all = after-all P still ms gs all
 after-all P still (Reply number version ∷ ms) gs all = after-all P still ms gs all
 
-told-ascends : (tells : List Tell) (gs : List Region) → ascends (map (told_to tells) gs) ≡ ascends gs
-told-ascends tells [] = refl
-told-ascends tells (g ∷ []) = refl
-told-ascends tells (g ∷ h ∷ gs) =
-    ap (λ x. is_before x (told_to tells h) && ascends (map (told_to tells) (h ∷ gs))) (told-rows tells g)
-    ∙ (ap (λ x. is_before g x && ascends (map (told_to tells) (h ∷ gs))) (told-rows tells h)
-    ∙ ap (λ b. is_before g h && b) (told-ascends tells (h ∷ gs)))
-
-told-occurs : (tells : List Tell) (gs : List Region) (t a : ℕ) (p : Row) → occurs (map (told_to tells) gs) t a p ≡ occurs gs t a p
-told-occurs tells [] t a p = refl
-told-occurs tells (g ∷ gs) t a p =
-    ap (λ x. (if is_of x t a then times x.rects p else 0) + occurs (map (told_to tells) gs) t a p) (told-rows tells g)
-    ∙ ap (λ n. (if is_of g t a then times g.rects p else 0) + n) (told-occurs tells gs t a p)
-
-told-count : (tells : List Tell) (gs : List Region) → count_rects (map (told_to tells) gs) ≡ count_rects gs
-told-count tells [] = refl
-told-count tells (g ∷ gs) =
-    sum_by-cons (λ (x : Region). length x.rects) (told_to tells g) (map (told_to tells) gs)
-    ∙ (ap (λ x. length x.rects + count_rects (map (told_to tells) gs)) (told-rows tells g)
-    ∙ (ap (λ n. length g.rects + n) (told-count tells gs) ∙ sym (sum_by-cons (λ (x : Region). length x.rects) g gs)))
-
--- ---- a store with the rows of some tables
-
-rows-in : (cs : List Column) (a : ℕ) (rects : List Rect) (rows : List Row) → All (IsPart cs a) rows → All (IsRowIn cs a rects) (filter (is_in a rects) rows)
-rows-in cs a rects [] parts = All-nil (IsRowIn cs a rects)
-rows-in cs a rects (row ∷ rows) parts = go (is_in a rects row) refl (rows-in cs a rects rows (All-tail (IsPart cs a) row rows parts))
-  where
-    go : (b : Bool) → is_in a rects row ≡ b → All (IsRowIn cs a rects) (filter (is_in a rects) rows)
-        → All (IsRowIn cs a rects) (cond b (row ∷ filter (is_in a rects) rows) (filter (is_in a rects) rows))
-    go true inside ih = All-cons (IsRowIn cs a rects) row (filter (is_in a rects) rows) (All-head (IsPart cs a) row rows parts, inside) ih
-    go false inside ih = ih
-
--- a region of the schema, with the rows that are told of its points
-told-region : (schema : List Table) (tells : Told) (g : Region) (rows : List Row) → IsTold schema tells → IsOfSchema schema g → rows ≡ filter (is_in g.attrs g.rects) (tells g.table g.attrs)
-    → IsOfSchema schema (record g { rows = rows })
-told-region schema tells g rows is_told is same =
-    let t = table_at schema g.table in
-    let area = is.1.area in
-    let has : has_column g.attrs t.key ≡ true = subst (λ k. has_column g.attrs k ≡ true) area.key area.has_key in
-    let ascending : ascend (rank g.attrs t.key) (filter (is_in g.attrs g.rects) (tells g.table g.attrs)) ≡ true =
-    ascend-filter (rank g.attrs t.key) (is_in g.attrs g.rects) (tells g.table g.attrs) (is_told.ascending g.table g.attrs has) in (
-      is.0,
-      record {
-        area = area;
-        rows = subst (All (IsRowIn t.columns g.attrs g.rects)) (sym same) (rows-in t.columns g.attrs g.rects (tells g.table g.attrs) (is_told.rows g.table g.attrs));
-        ascending = ap (ascend (rank g.attrs g.key)) same
-            ∙ subst (λ k. ascend (rank g.attrs k) (filter (is_in g.attrs g.rects) (tells g.table g.attrs)) ≡ true) (sym area.key) ascending;
-      },
-    )
-
-told-each : (schema : List Table) (all : Told) (tells : List Tell) (gs : List Region) → IsTold schema all → All (IsOfSchema schema) gs → AreTrueOf all (map (told_to tells) gs)
-    → All (IsOfSchema schema) (map (told_to tells) gs)
-told-each schema all tells [] is_told each are_true = All-nil (IsOfSchema schema)
-told-each schema all tells (g ∷ gs) is_told each are_true =
-    let own : (told_to tells g).rows ≡ filter (is_in g.attrs g.rects) (all g.table g.attrs) =
-    All-head (IsTrueOf all) (told_to tells g) (map (told_to tells) gs) are_true ∙ ap (λ x. filter (is_in x.attrs x.rects) (all x.table x.attrs)) (told-rows tells g) in
-    let one = told-region schema all g (told_to tells g).rows is_told (All-head (IsOfSchema schema) g gs each) own in
-    All-cons (IsOfSchema schema) (told_to tells g) (map (told_to tells) gs) (subst (IsOfSchema schema) (sym (told-rows tells g)) one)
-    (told-each schema all tells gs is_told (All-tail (IsOfSchema schema) g gs each) (All-tail (IsTrueOf all) (told_to tells g) (map (told_to tells) gs) are_true))
-
--- what is told of a store is a store, if it is true of some tables
-pub told-store : (schema : List Table) (tables : Tables) (tells : List Tell) (gs : List Region) → AreTables schema tables → IsStore schema gs → AreTrueOf (told_of tables) (map (told_to tells) gs)
-    → IsStore schema (map (told_to tells) gs)
-told-store schema tables tells gs are store are_true =
-    let all : IsTold schema (told_of tables) = is-told schema tables are.points are.ascending in
-    record {
-      each = told-each schema (told_of tables) tells gs all store.each are_true;
-      order = told-ascends tells gs ∙ store.order;
-      once = λ t a p point. subst (λ n. n ≤ 1) (sym (told-occurs tells gs t a p)) (store.once t a p point);
-      few = subst (λ n. n ≤ 16384) (sym (told-count tells gs)) store.few;
-      told = told_of tables;
-      is_told = all;
-      are_true = are_true;
-    }
-
 -- ---- a change that concerns a subscribed region touches the subscription
 
 -- each point of the region is subscribed
-abbrev pub IsSubscribed : List Table → List Holding → Region → Type 0
-IsSubscribed schema subs g = (p : Row) → is_point (table_at schema g.table).columns p ≡ true → in_any g.rects p ≡ true → has_point subs g.table p ≡ true
+abbrev pub HasSubscribed : List Table → List Holding → Region → Type 0
+HasSubscribed schema subs g = IsSubscribed schema subs g.table g.rects
 
 more-any : (f g : Holding → Bool) → ((h : Holding) → f h ≡ true → g h ≡ true) → (hs : List Holding) → list_any f hs ≡ true → list_any g hs ≡ true
 more-any f g more [] is = is
@@ -156,12 +66,12 @@ more-any f g more (h ∷ hs) is = go (f h) refl is (more-any f g more hs)
 abbrev has_some : List Holding → ℕ → Option Row → Bool
 has_some subs t row = list_any (λ h. h.table == t && subscribed.has_row h.rects row) subs
 
-row-subscribed : (schema : List Table) (subs : List Holding) (g : Region) (row : Option Row) → IsSubscribed schema subs g → is_point_if_there (table_at schema g.table).columns row ≡ true
+row-subscribed : (schema : List Table) (subs : List Holding) (g : Region) (row : Option Row) → HasSubscribed schema subs g → is_point_if_there (table_at schema g.table).columns row ≡ true
     → regions.has_row g.rects row ≡ true → has_some subs g.table row ≡ true
 row-subscribed schema subs g None held point inside = absurd (cc)
 row-subscribed schema subs g (Some p) held point inside = held p point inside
 
-pub concerned-touches : (schema : List Table) (subs : List Holding) (g : Region) → IsSubscribed schema subs g → (c : Change) → has_points (table_at schema g.table).columns c ≡ true → concerns g c ≡ true
+pub concerned-touches : (schema : List Table) (subs : List Holding) (g : Region) → HasSubscribed schema subs g → (c : Change) → has_points (table_at schema g.table).columns c ≡ true → concerns g c ≡ true
     → touches subs c ≡ true
 concerned-touches schema subs g held c points concerned = by (regions.has_row g.rects c.before) refl
   where
@@ -194,6 +104,13 @@ pub record AreAt (schema : List Table) (tables : Tables) (subs : List Holding) (
 one-back : (v : ℕ) → v ≡ v + 1 - 1
 one-back v = omega arith
 
+-- what is told of a version is of tables of the schema
+pub tells-rows : (schema : List Table) (versions : List Tables) (subs : List Holding) (v : ℕ) → AreTables schema (version_at versions v) → AreTables schema (version_at versions (v + 1))
+    → All (IsTellOf schema) (told_at schema versions subs (v + 1))
+tells-rows schema versions subs v old new =
+    subst (λ u. All (IsTellOf schema) (map tell_of (filter (touches subs) (changes schema (version_at versions u) (version_at versions (v + 1)))))) (one-back v)
+    (changes-tell schema (version_at versions v) (version_at versions (v + 1)) (touches subs) old new)
+
 -- the changes of a version take them to it
 pub next-version : (schema : List Table) (versions : List Tables) (subs : List Holding) (v : ℕ) (gs : List Region) → AreTables schema (version_at versions v) → AreTables schema (version_at versions (v + 1))
     → AreAt schema (version_at versions v) subs gs → AreAt schema (version_at versions (v + 1)) subs (map (told_to (told_at schema versions subs (v + 1))) gs)
@@ -201,14 +118,14 @@ next-version schema versions subs v gs old new at =
     let now = version_at versions (v + 1) in
     let tells = told_at schema versions subs (v + 1) in
     let keeps : AreTrueOf (told_of now) (map (told_to (map tell_of (filter (touches subs) (changes schema (version_at versions v) now)))) gs) =
-    notices_keep_true schema (version_at versions v) now (touches subs) gs old new at.store
-    (All-weaker (IsSubscribed schema subs) (λ g. (c : Change) → has_points (table_at schema g.table).columns c ≡ true → concerns g c ≡ true → touches subs c ≡ true) (concerned-touches schema subs) gs at.subscribed)
+    notices-true schema (version_at versions v) now (touches subs) gs old new at.store
+    (All-weaker (HasSubscribed schema subs) (λ g. (c : Change) → has_points (table_at schema g.table).columns c ≡ true → concerns g c ≡ true → touches subs c ≡ true) (concerned-touches schema subs) gs at.subscribed)
     at.are_true in
     let are_true : AreTrueOf (told_of now) (map (told_to tells) gs) =
     subst (λ u. AreTrueOf (told_of now) (map (told_to (map tell_of (filter (touches subs) (changes schema (version_at versions u) now)))) gs)) (one-back v) keeps in
     record {
-      store = told-store schema now tells gs new at.store are_true;
-      subscribed = told-all (IsSubscribed schema subs) (λ g rows held. held) tells gs at.subscribed;
+      store = store-told schema tells gs at.store (tells-rows schema versions subs v old new);
+      subscribed = told-all (HasSubscribed schema subs) (λ g rows held. held) tells gs at.subscribed;
       are_true = are_true;
     }
 
@@ -219,21 +136,16 @@ silent-version schema versions subs v gs old new none at =
     subst (AreAt schema (version_at versions (v + 1)) subs) (map-id gs)
     (subst (λ tells. AreAt schema (version_at versions (v + 1)) subs (map (told_to tells) gs)) none (next-version schema versions subs v gs old new at))
 
-pub brings-up : (schema : List Table) (versions : List Tables) (subs : List Holding) (v to : ℕ) (ms : List Message) → Brings schema versions subs v to ms → v ≤ to
-brings-up schema versions subs v to ms (done u) = omega arith
-brings-up schema versions subs v to ms (silent u end messages none more) = omega (arith, brings-up schema versions subs (u + 1) end messages more)
-brings-up schema versions subs v to ms (told u end messages more) = omega (arith, brings-up schema versions subs (u + 1) end messages more)
-
 -- regions at a version are at the later one to which the notices bring them
 pub brought-up : (schema : List Table) (versions : List Tables) (subs : List Holding) (v to : ℕ) (ms : List Message) (gs : List Region) → Brings schema versions subs v to ms
     → ((u : ℕ) → u ≤ to → AreTables schema (version_at versions u)) → AreAt schema (version_at versions v) subs gs → AreAt schema (version_at versions to) subs (after_messages ms gs)
 brought-up schema versions subs v to ms gs (done u) are at = at
 brought-up schema versions subs v to ms gs (silent u end messages none more) are at =
-    let up = brings-up schema versions subs (u + 1) end messages more in
+    let up = brings-later schema versions subs (u + 1) end messages more in
     brought-up schema versions subs (u + 1) end messages gs more are
     (silent-version schema versions subs u gs (are u (omega (arith, up))) (are (u + 1) up) none at)
 brought-up schema versions subs v to ms gs (told u end messages more) are at =
-    let up = brings-up schema versions subs (u + 1) end messages more in
+    let up = brings-later schema versions subs (u + 1) end messages more in
     brought-up schema versions subs (u + 1) end messages (map (told_to (told_at schema versions subs (u + 1))) gs) more are
     (next-version schema versions subs u gs (are u (omega (arith, up))) (are (u + 1) up) at)
 
@@ -256,18 +168,12 @@ next-notice schema versions subs v to all m ms (told u end messages more) e =
     let same : messages ≡ ms = cc in
     record { before = u; silent = done u; is = cc; rest = subst (Brings schema versions subs (u + 1) end) same more }
 
-pub tells-rows : (schema : List Table) (versions : List Tables) (subs : List Holding) (v : ℕ) → AreTables schema (version_at versions v) → AreTables schema (version_at versions (v + 1))
-    → All (IsTellOf schema) (told_at schema versions subs (v + 1))
-tells-rows schema versions subs v old new =
-    subst (λ u. All (IsTellOf schema) (map tell_of (filter (touches subs) (changes schema (version_at versions u) (version_at versions (v + 1)))))) (one-back v)
-    (changes_are_tells schema (version_at versions v) (version_at versions (v + 1)) (touches subs) old new)
-
 pub brings-tells : (schema : List Table) (versions : List Tables) (subs : List Holding) (v to : ℕ) (ms : List Message) → Brings schema versions subs v to ms
     → ((u : ℕ) → u ≤ to → AreTables schema (version_at versions u)) → All (TellsRows schema) ms
 brings-tells schema versions subs v to ms (done u) are = All-nil (TellsRows schema)
 brings-tells schema versions subs v to ms (silent u end messages none more) are = brings-tells schema versions subs (u + 1) end messages more are
 brings-tells schema versions subs v to ms (told u end messages more) are =
-    let up = brings-up schema versions subs (u + 1) end messages more in
+    let up = brings-later schema versions subs (u + 1) end messages more in
     All-cons (TellsRows schema) (Notice (u + 1) (told_at schema versions subs (u + 1))) messages (tells-rows schema versions subs u (are u (omega (arith, up))) (are (u + 1) up))
     (brings-tells schema versions subs (u + 1) end messages more are)
 
@@ -321,17 +227,17 @@ rows-tell schema number (Rows k part rows ∷ ms) all = All-cons (TellsRows sche
 rows-tell schema number (Reply k version ∷ ms) all = absurd all
 
 -- notices bring no rows
-pub notices-bring : (ms : List Message) → AreNotices ms → arrived ms ≡ []
-notices-bring [] all = refl
-notices-bring (Ask number fresh parts ∷ ms) all = absurd all
-notices-bring (Notice version tells ∷ ms) all = notices-bring ms all
-notices-bring (Rows number part rows ∷ ms) all = absurd all
-notices-bring (Reply number version ∷ ms) all = absurd all
+pub no-rows-told : (ms : List Message) → AreNotices ms → arrived ms ≡ []
+no-rows-told [] all = refl
+no-rows-told (Ask number fresh parts ∷ ms) all = absurd all
+no-rows-told (Notice version tells ∷ ms) all = no-rows-told ms all
+no-rows-told (Rows number part rows ∷ ms) all = absurd all
+no-rows-told (Reply number version ∷ ms) all = absurd all
 
 pub after-keeps : (schema : List Table) (held : Held) (stamps : Stamps) (ms : List Message) (gs : List Region) → Keeps schema held stamps gs → Keeps schema held stamps (after_messages ms gs)
 after-keeps schema held stamps [] gs keeps = keeps
 after-keeps schema held stamps (Ask number fresh parts ∷ ms) gs keeps = after-keeps schema held stamps ms gs keeps
 after-keeps schema held stamps (Notice version tells ∷ ms) gs keeps =
-    after-keeps schema held stamps ms (map (told_to tells) gs) (notices_keep_classes schema held stamps tells gs keeps)
+    after-keeps schema held stamps ms (map (told_to tells) gs) (notices-classes schema held stamps tells gs keeps)
 after-keeps schema held stamps (Rows number part rows ∷ ms) gs keeps = after-keeps schema held stamps ms gs keeps
 after-keeps schema held stamps (Reply number version ∷ ms) gs keeps = after-keeps schema held stamps ms gs keeps

@@ -1,11 +1,11 @@
 -- What a client's regions are once the messages that were laid by are applied, where the reply comes.
-use Rattle.std.proofs.Common.{◌≡◌, ℕ, ◌+◌, ◌≤◌, List, [], ◌∷◌, ◌++◌, map, refl, sym, ◌∙◌, ap, subst, arith, inl, inr, Some, None, append-nil}
+use Rattle.std.proofs.Common.{◌≡◌, ℕ, ◌≤◌, List, [], ◌∷◌, ◌++◌, refl, sym, ◌∙◌, ap, subst, arith, inl, inr, Some, append-nil}
 use Rattle.std.specs.List.{All}
 use Rattle.std.proofs.lemmas.List.Elements.{All-nil, All-append}
 use Rattle.sr_cell.specs.declared.table.Table.{Table}
 use Rattle.sr_subs.specs.declared.subs.Holding.{Holding}
 use Rattle.sr_message.specs.declared.message.Message.{Message}
-use Rattle.sr_message.specs.declared.message.Message.TheVariants.{Ask, Notice, Rows, Reply}
+use Rattle.sr_message.specs.declared.message.Message.TheVariants.{Reply}
 use Rattle.sr_model.specs.Changes.{version_at}
 use Rattle.sr_history.specs.Marks.{is_held}
 use Rattle.sr_history.specs.Classes.{stamp}
@@ -22,7 +22,7 @@ use Rattle.sr_world.specs.Client.{arrived}
 use Rattle.sr_world.specs.Cutting.{EndWith, RegionsEnd}
 use Rattle.sr_world.specs.Noticing.{after_messages, TellsRows, AreSubscribed}
 use Rattle.sr_world.specs.Represents.{Past, Facts, IsReplied, Flow}
-use Rattle.sr_world.proofs.Applying.{IsSubscribed, AreAt, AreNotices, brings-notices, brings-tells, brought-up, notices-bring, notices-behind, rows-tell, after-append, after-none, after-rows, after-all, after-keeps}
+use Rattle.sr_world.proofs.Applying.{HasSubscribed, AreAt, AreNotices, brings-notices, brings-tells, brought-up, no-rows-told, notices-behind, rows-tell, after-append, after-none, after-rows, after-all, after-keeps}
 use Rattle.sr_world.proofs.Arrivals.{arrived-append}
 use Rattle.sr_world.proofs.Fronts.{IsBefore, AllBefore}
 use Rattle.sr_world.proofs.RowMessages.{AllRows, rows-all}
@@ -86,7 +86,7 @@ are-laid w past o number version queue f l = record {
   store = subst (IsStore s) (sym same) at.store;
   keeps = after-keeps s (is_held past.marks) (stamp past.queries) w.client.laid w.client.store.regions f.client.keeps;
   are_true = are_true;
-  held = after-all (IsSubscribed s r.before) (λ g rows held. held) w.client.laid w.client.store.regions r.held;
+  held = after-all (HasSubscribed s r.before) (λ g rows held. held) w.client.laid w.client.store.regions r.held;
   ends = after-all End (λ g rows e. e) w.client.laid w.client.store.regions f.cuts.regions;
 }
   where
@@ -135,4 +135,4 @@ rows-laid w past o number version queue l =
     let rows = row_messages w.server.tables.rows o.number 0 o.parts in
     ap arrived l.laid
     ∙ (arrived-append r.notices rows
-    ∙ ap (λ came. came ++ arrived rows) (notices-bring r.notices (brings-notices w.server.tables.schema past.versions r.earlier w.client.version r.until r.notices r.brings)))
+    ∙ ap (λ came. came ++ arrived rows) (no-rows-told r.notices (brings-notices w.server.tables.schema past.versions r.earlier w.client.version r.until r.notices r.brings)))

@@ -1,10 +1,9 @@
 -- The client that a world lends is the scene's.
-use Rattle.std.proofs.Common.{◌≡◌, ℕ, true, List, [], ◌∷◌, refl, sym, ◌∙◌, subst}
-use Rattle.std.specs.Prelude.{filter, map}
-use Rattle.std.specs.List.{list_all, All}
+use Rattle.std.proofs.Common.{List, [], ◌∷◌, refl, sym, ◌∙◌, subst}
+use Rattle.std.specs.List.{All}
 use Rattle.std.proofs.lemmas.List.Elements.{All-nil, All-cons, All-head, All-tail}
 use Rattle.sr_cell.specs.declared.table.Table.{Table}
-use Rattle.sr_cell.specs.Columns.{table_at, is_point}
+use Rattle.sr_cell.specs.Columns.{table_at}
 use Rattle.sr_model.specs.Queries.{rows_at}
 use Rattle.sr_model.specs.Statements.{Tables}
 use Rattle.sr_model.specs.Changes.{version_at}
@@ -13,11 +12,11 @@ use Rattle.sr_region.specs.Applied.{HasItsRows}
 use Rattle.sr_store.specs.Told.{told_of, IsTrueOf}
 use Rattle.sr_store.specs.Stores.{IsOfSchema}
 use Rattle.sr_store.proofs.Classing.{are_classes, have_classes}
+use Rattle.sr_store.proofs.Noticing.{told-in}
 use Rattle.sr_scene.specs.Scene.{Scene}
 use Rattle.sr_world.specs.declared.world.World.{World}
 use Rattle.sr_world.specs.Represents.{Past, Facts, Represents, client_of, scene_of}
 use Rattle.sr_world.specs.Lent.{IsLent}
-use Rattle.sr_world.proofs.ToldLemmas.{told-in}
 use Rattle.sr_world.proofs.FactLemmas.{have-first, tables-then}
 
 all-both : (P Q R : Region → Type 0) → ((g : Region) → P g → Q g → R g) → (gs : List Region) → All P gs → All Q gs → All R gs

@@ -1,5 +1,5 @@
 -- The client takes the reply of its ask, as the scene says.
-use Rattle.std.proofs.Common.{◌≡◌, ℕ, ◌+◌, ◌-◌, ◌≤◌, Bool, true, false, List, [], ◌∷◌, ◌++◌, map, length, refl, sym, ◌∙◌, ap, subst, arith, Some, None}
+use Rattle.std.proofs.Common.{◌≡◌, ℕ, Bool, true, false, List, [], ◌∷◌, ◌++◌, map, length, refl, sym, ◌∙◌, ap, subst, arith, Some, None}
 use Rattle.std.specs.Prelude.{◌||◌, ◌&&◌, ◌==◌, filter}
 use Rattle.std.specs.List.{list_all, list_any, All, AllZip}
 use Rattle.std.proofs.lemmas.Bool.Decides.{nat_tests}
@@ -21,7 +21,7 @@ use Rattle.sr_model.specs.Statements.{Tables}
 use Rattle.sr_model.specs.Queries.{rows_at, rows_of, points_of}
 use Rattle.sr_model.specs.Changes.{version_at}
 use Rattle.sr_history.specs.declared.mark.Mark.{Mark}
-use Rattle.sr_history.specs.Marks.{is_held, with_marks}
+use Rattle.sr_history.specs.Marks.{with_marks}
 use Rattle.sr_history.specs.Classes.{Numbered, stamp}
 use Rattle.sr_region.specs.declared.region.Region.{Region}
 use Rattle.sr_store.specs.declared.store.Store.{Store}
@@ -46,7 +46,7 @@ use Rattle.sr_world.specs.Client.{arrived, arrival_of, arrivals_of}
 use Rattle.sr_world.specs.Cutting.{EndWith, RegionsEnd, PartsEnd, AsksEnd}
 use Rattle.sr_world.specs.Noticing.{Brings, done, AreSubscribed}
 use Rattle.sr_world.specs.Represents.{Past, ClientFacts, OutEnds, Facts, Represents, IsOut, request_of, scene_of, client_of}
-use Rattle.sr_world.proofs.Applying.{IsSubscribed}
+use Rattle.sr_world.proofs.Applying.{HasSubscribed}
 use Rattle.sr_world.proofs.Arrivals.{arrived-rows}
 use Rattle.sr_world.proofs.Calls.{Answers, IsAfter}
 use Rattle.sr_world.proofs.CameLemmas.{IsRestAsked, arrival-is, arrival-apart, arrival-rows, arrival-suits, all-there}
@@ -57,7 +57,7 @@ use Rattle.sr_world.proofs.KeptLemmas.{IsAnswering, kept, kept-true, kept-last}
 use Rattle.sr_world.proofs.LastLemmas.{last-with-answered}
 use Rattle.sr_world.proofs.MeantLemmas.{IsOneQuery, one-query, is-one-part, part-fits, all-parts, one-ask}
 use Rattle.sr_world.proofs.NowLemmas.{filter-points}
-use Rattle.sr_world.proofs.Subscribed.{AreBrought}
+use Rattle.sr_world.proofs.Subscribed.{IsSubscribed, AreBrought}
 use Rattle.sr_world.proofs.TakeLemmas.{delivers}
 
 -- ---- what came
@@ -199,7 +199,7 @@ is-answering w past o before queue b f out is_out laid =
 -- the points of before, also with what was asked
 still-subscribed : (schema : List Table) (before more : List Holding) (gs : List Region) → AreSubscribed schema before gs → AreSubscribed schema (before ++ more) gs
 still-subscribed schema before more gs held =
-    All-weaker (IsSubscribed schema before) (IsSubscribed schema (before ++ more))
+    All-weaker (HasSubscribed schema before) (HasSubscribed schema (before ++ more))
     (λ g own p point inside. list_any-append (λ (h : Holding). h.table == g.table && in_any h.rects p) before more ∙ (let had = own p point inside in rw had refl)) gs held
 
 -- and what was asked
@@ -210,7 +210,7 @@ asked-subscribed schema before ask rows = All-cons P r [] (λ p point inside. ow
     r = arrival_of schema ask rows
 
     P : Arrival → Type 0
-    P r = (p : Row) → is_point (table_at schema r.table).columns p ≡ true → in_any r.rects p ≡ true → has_point (before ++ holding_of ask ∷ []) r.table p ≡ true
+    P r = IsSubscribed schema (before ++ holding_of ask ∷ []) r.table r.rects
 
     own : (p : Row) → in_any ask.rects p ≡ true → has_point (before ++ holding_of ask ∷ []) ask.table p ≡ true
     own p inside =

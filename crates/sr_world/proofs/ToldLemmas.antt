@@ -17,9 +17,9 @@ use Rattle.sr_model.specs.SortedRows.{ascend, key_lt}
 use Rattle.sr_model.specs.Statements.{Tables}
 use Rattle.sr_model.specs.Queries.{rows_at}
 use Rattle.sr_region.specs.Regions.{rank, is_in, IsPart}
-use Rattle.sr_region.proofs.Parts.{is_in-point}
 use Rattle.sr_region.proofs.Ranks.{stand}
 use Rattle.sr_store.specs.Told.{told_of, IsTold}
+use Rattle.sr_store.proofs.Noticing.{told-in}
 
 -- ---- sets of columns
 
@@ -60,18 +60,6 @@ all-more-only a b [] inc only = refl
 all-more-only a b (r ∷ rects) inc only = let ih = all-more-only a b rects inc (grind arith) in let one = more-only a b 0 r inc (grind arith) in grind (arith, ih, one)
 
 -- ---- rows
-
--- of points, the cells of some columns lie in rects where the points do
-pub told-in : (cs : List Column) (a : ℕ) (rects : List Rect) (rows : List Row) → list_all (rect_fits cs) rects ≡ true → list_all (constrains_only a 0) rects ≡ true → list_all (is_point cs) rows ≡ true
-    → filter (is_in a rects) (map (project a) rows) ≡ map (project a) (filter (in_any rects) rows)
-told-in cs a rects [] fit only points = refl
-told-in cs a rects (p ∷ rows) fit only points =
-    rw (is_in-point cs a rects p fit only (grind arith)) (go (in_any rects p) (told-in cs a rects rows fit only (grind arith)))
-  where
-    go : (b : Bool) → filter (is_in a rects) (map (project a) rows) ≡ map (project a) (filter (in_any rects) rows)
-        → cond b (project a p ∷ filter (is_in a rects) (map (project a) rows)) (filter (is_in a rects) (map (project a) rows)) ≡ map (project a) (cond b (p ∷ filter (in_any rects) rows) (filter (in_any rects) rows))
-    go true ih = ap (λ xs. project a p ∷ xs) ih
-    go false ih = ih
 
 filter-filter : (f g : Row → Bool) (rows : List Row) → filter g (filter f rows) ≡ filter (λ row. f row && g row) rows
 filter-filter f g [] = refl

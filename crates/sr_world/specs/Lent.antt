@@ -1,5 +1,5 @@
 -- What the client that a world lends shows.
-use Rattle.std.specs.Prelude.{ℕ, ◌≡◌, ◌≤◌, List, map, length, Some}
+use Rattle.std.specs.Prelude.{◌≡◌, ◌≤◌, List, map, length, Some}
 use Rattle.std.specs.List.{All}
 use Rattle.sr_cell.specs.declared.table.Table.{Table}
 use Rattle.sr_cell.specs.Columns.{table_at}

@@ -1,5 +1,5 @@
 -- Notices: what a server makes of the changes that it remembers, and what they bring to a client.
-use Rattle.std.specs.Prelude.{ℕ, zero, suc, ◌+◌, ◌≡◌, ◌<◌, true, List, [], ◌∷◌, ◌++◌, map, filter, length, slice_index_or, IsTrue, if◌then◌else◌, nat_lt, ◌-◌}
+use Rattle.std.specs.Prelude.{ℕ, zero, suc, ◌+◌, ◌≡◌, true, List, [], ◌∷◌, ◌++◌, map, filter, slice_index_or, IsTrue, if◌then◌else◌, nat_lt, ◌-◌}
 use Rattle.std.specs.List.{All}
 use Rattle.sr_cell.specs.declared.change.Change.{Change}
 use Rattle.sr_cell.specs.declared.table.Table.{Table}

@@ -1,4 +1,4 @@
-use Rattle.std.proofs.Common.{[], ◌∷◌, ◌++◌, ◌≡◌, ◌∙◌, ◌<◌, sym, subst, ap, refl, List, length, map, true}
+use Rattle.std.proofs.Common.{[], ◌∷◌, ◌≡◌, ◌∙◌, sym, subst, ap, refl, List, length, map, true}
 use Rattle.std.specs.Prelude.{nat_lt}
 use Rattle.std.specs.List.{list_all, All}
 use Rattle.sr_cell.specs.declared.table.Table.{Table}
@@ -8,11 +8,11 @@ use Rattle.sr_store.specs.declared.store.Store.{Store}
 use Rattle.sr_scene.specs.Steps.{mark_line}
 use Rattle.sr_world.specs.declared.client.Client.{Client}
 use Rattle.sr_world.specs.Noticing.{TellsRows}
-use Rattle.sr_world.proofs.Calls.{Answers, IsAfter, answers-of}
+use Rattle.sr_world.proofs.Calls.{IsAfter, answers-of}
 use Rattle.sr_world.proofs.Coming.{laid_regions}
 use Rattle.sr_world.proofs.NowLemmas.{lines-joined}
 use Rattle.sr_world.proofs.MeantLemmas.{Only}
-use Rattle.sr_world.proofs.FinishLemmas.{AreRead, are-read, store-allows, store-fits, store-stands, after-read, IsFinished, finish-needs, does-finish}
+use Rattle.sr_world.proofs.FinishLemmas.{are-read, store-allows, store-fits, store-stands, after-read, IsFinished, finish-needs, does-finish}
 use Rattle.sr_world.proofs.world.World.finish.Goals as goal
 
 pub apply_laid-requires : goal.apply_laid-requires

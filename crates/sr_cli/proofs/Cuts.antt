@@ -6,7 +6,7 @@ use Rattle.std.specs.List.{position, position_or_len}
 use Rattle.std.proofs.lemmas.Grind.{common_steps}
 use Rattle.std.proofs.lemmas.Bool.Decides.{nat_tests}
 use Rattle.std.proofs.lemmas.Str.Pattern.{IsSplitOnceResult, split_once_first}
-use Rattle.sr_cli.specs.Run.{cut_at, load_word}
+use Rattle.sr_cli.specs.Words.{cut_at, load_word}
 use Rattle.sr_cli.specs.Seen.{load_of}
 
 place : (word : List ℕ) → position_or_len (λ b. b == 61) word < length word → position (λ b. b == 61) word ≡ Some (position_or_len (λ b. b == 61) word)

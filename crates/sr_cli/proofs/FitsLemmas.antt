@@ -9,11 +9,13 @@ use Rattle.sr_tables.specs.Stored.{no_rows}
 use Rattle.sr_load.specs.Filling.{filled}
 use Rattle.sr_load.specs.declared.fill.Load.{Load}
 use Rattle.sr_load.specs.declared.fill.LoadFault.{LoadFault}
+use Rattle.sr_policy.specs.declared.policy.Limits.{Limits}
 use Rattle.sr_reader.proofs.OneDoing.{excludes, accepts}
 use Rattle.sr_reader.proofs.Created.{created-tables}
 use Rattle.sr_world.specs.declared.world.World.{World}
 use Rattle.sr_world.specs.Replay.{RefusesLoad, Wrote}
-use Rattle.sr_cli.specs.Run.{Words, files_of, SomeTooLong, IsRefusedSetup, IsRefusedLoad, IsUnbuilt, Replayed, AreHeld, AreLong, FitsFiles}
+use Rattle.sr_cli.specs.Run.{SomeTooLong, IsRefusedSetup, IsRefusedLoad, IsUnbuilt, Replayed, AreHeld, AreLong, FitsFiles}
+use Rattle.sr_cli.specs.Words.{Words, files_of}
 use Rattle.sr_cli.proofs.SameFiles.{of_files, not_long, long_held}
 
 -- a CREATE line or a file is refused
@@ -81,9 +83,9 @@ filled_once schema tables loads rows fault same loaded refuses =
     cc
 
 -- a script that was replayed is built, and neither its CREATE lines nor its files are refused
-wrote_fits : (old new : Option (List ℕ)) (script : List ℕ) (loads : List Load) (world : World) → Wrote old new script loads world
+wrote_fits : (old new : Option (List ℕ)) (limits : Limits) (script : List ℕ) (loads : List Load) (world : World) → Wrote old new limits script loads world
     → ¬ AreLong script loads → FitsFiles script loads 0
-wrote_fits old new script loads world wrote short =
+wrote_fits old new limits script loads world wrote short =
     let t = wrote.traced in
     record {
       no_read_fault = λ k. omega (arith, k);
@@ -106,4 +108,4 @@ pub fits_done : (held : List ℕ → Option (List ℕ)) (words : Words) (script 
     → AreHeld held words script loads → Replayed held words old new → FitsFiles script loads 0
 fits_done held words script loads old new are replayed =
     of_files (λ s ls. FitsFiles s ls 0) held words script replayed.script loads replayed.loads replayed.files are
-    (wrote_fits old new replayed.script replayed.loads replayed.world replayed.wrote (not_long held words replayed.script replayed.loads replayed.files))
+    (wrote_fits old new words.limits replayed.script replayed.loads replayed.world replayed.wrote (not_long held words replayed.script replayed.loads replayed.files))

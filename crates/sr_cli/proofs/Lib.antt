@@ -2,5 +2,6 @@ pub mod Cuts
 pub mod FitsLemmas
 pub mod LoadTexts
 pub mod LoadWords
+pub mod Numbers
 pub mod ReadSoFar
 pub mod SameFiles

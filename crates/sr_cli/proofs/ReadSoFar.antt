@@ -3,7 +3,8 @@ use Rattle.std.proofs.Common.{◌≡◌, ℕ, ◌<◌, ◌+◌, List, [], ◌∷
 use Rattle.std.proofs.lemmas.List.{drop_more}
 use Rattle.std.specs.List.{AllZip}
 use Rattle.sr_load.specs.declared.fill.Load.{Load}
-use Rattle.sr_cli.specs.Run.{LoadWord, load_word, IsLoad, IsTooLong, SomeTooLong, IsHeldLoad}
+use Rattle.sr_cli.specs.Run.{IsLoad, IsTooLong, SomeTooLong, IsHeldLoad}
+use Rattle.sr_cli.specs.Words.{LoadWord, load_word}
 use Rattle.sr_cli.specs.Seen.{names_of, loads_seen, AddsLoad}
 
 -- the words in front of the rest were read as these loads

@@ -1,7 +1,6 @@
--- What the program's words say, and why it ends with each status.
-use Rattle.std.specs.Prelude.{◌≡◌, ℕ, ◌+◌, ◌<◌, ◌≤◌, ◌⊎◌, ◌==◌, ◌&&◌, ◌||◌, List, [], ◌∷◌, ◌++◌, map, take, drop, Option, Some, None, IfSome, MatchOption, length, codes, decimal, if◌then◌else◌}
-use Rattle.std.specs.Str.{bytes_eq}
-use Rattle.std.specs.List.{position, AllZip}
+-- Why the program ends with each status.
+use Rattle.std.specs.Prelude.{◌≡◌, ℕ, ◌<◌, ◌≤◌, ◌⊎◌, ◌==◌, List, [], ◌∷◌, ◌++◌, Option, Some, None, IfSome, length, codes, decimal, if◌then◌else◌}
+use Rattle.std.specs.List.{AllZip}
 use Rattle.sr_cell.specs.declared.fault.Fault.{Fault}
 use Rattle.sr_cell.specs.declared.fault.Why.{Why}
 use Rattle.sr_cell.specs.declared.fault.Why.TheVariants.{UnknownTable}
@@ -13,57 +12,7 @@ use Rattle.sr_io.specs.Pieces.{Lost}
 use Rattle.sr_io.specs.Told.{complained}
 use Rattle.sr_world.specs.declared.world.World.{World}
 use Rattle.sr_world.specs.Replay.{RefusesLoad, Wrote, WrotePart}
-
--- ---- the words: `replay --eager FILE [TABLE=FILE ..]`
-
--- a table, and the name of the file to be loaded into it
-pub record LoadWord : Type 0 where
-  pub table : List ℕ
-  pub file : List ℕ
-
--- the name of the script, and the loads
-pub record Words : Type 0 where
-  pub script : List ℕ
-  pub loads : List LoadWord
-
--- the word cut at this place, where the `=` stands
-abbrev pub cut_at : List ℕ → Option ℕ → Option LoadWord
-cut_at word None = None
-cut_at word (Some at) =
-    if at == 0 || length word == at + 1 then None else Some (record { table = take at word; file = drop (at + 1) word })
-
--- a word is cut at its first `=`, and neither side is empty
-abbrev pub load_word : List ℕ → Option LoadWord
-load_word word = cut_at word (position (λ b. b == 61) word)
-
-abbrev pub with_load : Option LoadWord → Option (List LoadWord) → Option (List LoadWord)
-with_load None loads = None
-with_load (Some load) None = None
-with_load (Some load) (Some loads) = Some (load ∷ loads)
-
-abbrev pub load_words : List (List ℕ) → Option (List LoadWord)
-load_words [] = Some []
-load_words (word ∷ words) = with_load (load_word word) (load_words words)
-
-abbrev pub with_script : List ℕ → Option (List LoadWord) → Option Words
-with_script script None = None
-with_script script (Some loads) = Some (record { script = script; loads = loads })
-
--- what the words say; other words are not in the form
-abbrev pub words_of : List (List ℕ) → Option Words
-words_of [] = None
-words_of (command ∷ []) = None
-words_of (command ∷ option ∷ []) = None
-words_of (command ∷ option ∷ script ∷ loads) =
-    if bytes_eq command (codes "replay") && bytes_eq option (codes "--eager") then with_script script (load_words loads) else None
-
--- the words are in the form, and what they say has the property
-abbrev pub OnWords : List (List ℕ) → (Words → Type 0) → Type 0
-OnWords words P = MatchOption (words_of words) ⊥ P
-
--- the names of all files, in the order in which they are read
-abbrev pub files_of : Words → List (List ℕ)
-files_of words = words.script ∷ map (λ load. load.file) words.loads
+use Rattle.sr_cli.specs.Words.{LoadWord, Words}
 
 abbrev pub IsStatus : ℕ → Type 0
 IsStatus status = (status ≡ 0) ⊎ (status ≡ 2) ⊎ (status ≡ 3) ⊎ (status ≡ 4) ⊎ (status ≡ 7) ⊎ (status ≡ 9) ⊎ (status ≡ 10) ⊎ (status ≡ 12)
@@ -90,14 +39,14 @@ pub record Replayed (held : List ℕ → Option (List ℕ)) (words : Words) (old
   pub loads : List Load
   pub files : AreFiles held words script loads
   pub world : World
-  pub wrote : Wrote old new script loads world
+  pub wrote : Wrote old new words.limits script loads world
 
 -- files were read, and a prefix of the trace was written
 pub record ReplayedInPart (held : List ℕ → Option (List ℕ)) (words : Words) (old new : Option (List ℕ)) : Type 0 where
   pub script : List ℕ
   pub loads : List Load
   pub files : AreFiles held words script loads
-  pub wrote : WrotePart old new script loads
+  pub wrote : WrotePart old new words.limits script loads
 
 -- one byte more than the limit was read
 abbrev pub IsTooLong : Option (List ℕ) → Option (List ℕ) → Type 0

@@ -1,10 +1,15 @@
 -- What the program's words say, as the code keeps it.
-use Rattle.std.specs.Prelude.{ℕ, ◌≡◌, ◌&&◌, ◌++◌, Bool, true, false, List, [], ◌∷◌, map, Option, Some, None, codes}
+use Rattle.std.specs.Prelude.{ℕ, ◌≡◌, ◌++◌, ◌&&◌, Bool, true, false, List, [], ◌∷◌, map, Option, Some, None}
 use Rattle.std.specs.List.{filter_map, list_all}
-use Rattle.std.specs.Str.{bytes_eq}
+use Rattle.std.specs.Option.{option_copied}
 use Rattle.sr_load.specs.declared.fill.Load.{Load}
-use Rattle.sr_cli.specs.Run.{LoadWord, Words, load_word, IsLoad}
+use Rattle.sr_cli.specs.Words.{Front, LoadWord, Words, load_word, is_name}
+use Rattle.sr_cli.specs.Run.{IsLoad}
+use Rattle.sr_cli.specs.declared.options.Front as code_front
 use Rattle.sr_cli.specs.declared.words.Words as code
+
+abbrev pub front_seen : code_front.Front → Front
+front_seen f = record { value = option_copied f.value; rest = f.rest.now }
 
 abbrev pub load_of : List ℕ → List ℕ → LoadWord
 load_of table file = record { table = table; file = file }
@@ -17,9 +22,9 @@ is_load word = is_some (load_word word)
     is_some None = false
     is_some (Some load) = true
 
--- the words, but for the script's name
-abbrev pub in_form : List ℕ → List ℕ → List (List ℕ) → Bool
-in_form command option loads = bytes_eq command (codes "replay") && bytes_eq option (codes "--eager") && list_all is_load loads
+-- the name of a script, and words that each name a table and a file
+abbrev pub are_files : List ℕ → List (List ℕ) → Bool
+are_files script loads = is_name script && list_all is_load loads
 
 -- the loads that the words say; a word that says none is passed over
 abbrev pub loads_seen : List (List ℕ) → List LoadWord
@@ -30,7 +35,7 @@ abbrev pub names_of : List LoadWord → List (List ℕ)
 names_of loads = map (λ load. load.file) loads
 
 abbrev pub words_seen : code.Words → Words
-words_seen w = record { script = w.script.now; loads = loads_seen w.loads.now }
+words_seen w = record { limits = w.limits; script = w.script.now; loads = loads_seen w.loads.now }
 
 -- the file of the word, if it says a load, was read behind the loads
 abbrev pub AddsLoad : (List ℕ → Option (List ℕ)) → Option LoadWord → List Load → List Load → Type 0

@@ -3,7 +3,8 @@ ghost use Rattle.std.specs.Prelude.{◌≡◌, ℕ, ◌<◌, ◌^◌, nat_lt, Li
 ghost use Rattle.std.specs.List.{list_all, AllZip};
 ghost use Rattle.sr_io.specs.Causes.{Rose};
 ghost use Rattle.sr_load.specs.declared.fill.Load.{Load as TheLoad};
-ghost use Rattle.sr_cli.specs.Run.{LoadWord, load_word, IsLoad, AreFiles, IsTooLong, SomeTooLong, IsHeldLoad, AreHeld, files_of};
+ghost use Rattle.sr_cli.specs.Run.{IsLoad, AreFiles, IsTooLong, SomeTooLong, IsHeldLoad, AreHeld};
+ghost use Rattle.sr_cli.specs.Words.{LoadWord, load_word, files_of};
 ghost use Rattle.sr_cli.specs.Seen.{AddsLoad, load_of, loads_seen, names_of, words_seen};
 ghost use Rattle.sr_cli.specs.declared.file.ReadFault.TheVariants.{Fault, NoMemory as Wanting, TooLong};
 

@@ -9,7 +9,8 @@ ghost use Rattle.sr_world.specs.declared.world.World.{World};
 ghost use Rattle.sr_world.specs.Replay.{RefusesLoad, Wrote, WrotePart};
 ghost use Rattle.sr_io.specs.Causes.{Rose};
 ghost use Rattle.sr_io.specs.Told.{complained};
-ghost use Rattle.sr_cli.specs.Run.{Words as TheWords, words_of, files_of, OnWords, IsStatus, Replayed, ReplayedInPart, SomeTooLong, IsRefusedSetup, IsRefusedLoad, IsUnbuilt, NamedSetup, NamedLoad, NamedUnbuilt, setup_text, load_text, unbuilt_text, error_text, AreHeld, FitsFiles};
+ghost use Rattle.sr_cli.specs.Run.{IsStatus, Replayed, ReplayedInPart, SomeTooLong, IsRefusedSetup, IsRefusedLoad, IsUnbuilt, NamedSetup, NamedLoad, NamedUnbuilt, setup_text, load_text, unbuilt_text, error_text, AreHeld, FitsFiles};
+ghost use Rattle.sr_cli.specs.Words.{Words as TheWords, words_of, files_of, OnWords};
 ghost use Rattle.sr_cli.specs.Seen.{words_seen};
 ghost use Rattle.sr_cli.specs.declared.run.Refusal.TheVariants.{Read, Write, Memory, TooLong, Setup, Load as LoadRefused, Unbuilt};
 
@@ -20,6 +21,7 @@ use sr_cell::fault::{Fault, Why};
 use sr_cell::list::{No, NoMemory};
 use sr_cell::text::Text;
 use sr_io::outside::Host;
+use sr_policy::policy::Limits;
 use sr_script::words::why_word;
 use sr_world::replay::{RunFault, replay};
 use std::alloc::Global;
@@ -107,20 +109,25 @@ fn replay_files<H: Host>(alloc: Global, words: &Words<'_>, host: &mut H) -> Resu
         Err(ReadFault::Fault) => Err(Refusal::Read),
         Err(ReadFault::NoMemory) => Err(Refusal::Memory),
         Err(ReadFault::TooLong) => Err(Refusal::TooLong),
-        Ok(files) => replay_read(alloc, &files, host),
+        Ok(files) => replay_read(alloc, words.limits, &files, host),
     }
 }
 
-/// Replays the script of files that were read.
-fn replay_read<H: Host>(alloc: Global, files: &Files, host: &mut H) -> Result<(), Refusal>
+/// Replays the script of files that were read, with these limits of what is kept.
+fn replay_read<H: Host>(
+    alloc: Global,
+    limits: Limits,
+    files: &Files,
+    host: &mut H,
+) -> Result<(), Refusal>
     requires script { length files.now.script < 2 ^ 32 }
     requires loads { IsTrue (list_all (λ load. nat_lt (length load.bytes) (2 ^ 32)) files.now.loads) }
-    ensures replayed { OnOk result ((world : World) × Wrote (H.writing host.old).written (H.writing host.new).written files.now.script files.now.loads world) }
+    ensures replayed { OnOk result ((world : World) × Wrote (H.writing host.old).written (H.writing host.new).written limits files.now.script files.now.loads world) }
     ensures never_reads { ¬ IsErrOf result Read }
     ensures never_too_long { ¬ IsErrOf result TooLong }
     ensures write_fault_is_counted { IsErrOf result Write → Rose (H.writing host.old).faults (H.writing host.new).faults }
-    ensures part_after_fault { IsErrOf result Write → WrotePart (H.writing host.old).written (H.writing host.new).written files.now.script files.now.loads }
-    ensures part_in_want { IsErrOf result Memory → (H.writing host.new ≡ H.writing host.old) ⊎ WrotePart (H.writing host.old).written (H.writing host.new).written files.now.script files.now.loads }
+    ensures part_after_fault { IsErrOf result Write → WrotePart (H.writing host.old).written (H.writing host.new).written limits files.now.script files.now.loads }
+    ensures part_in_want { IsErrOf result Memory → (H.writing host.new ≡ H.writing host.old) ⊎ WrotePart (H.writing host.old).written (H.writing host.new).written limits files.now.script files.now.loads }
     ensures setup { (line : ℕ) (fault : TheFault) → IsErrOf result (Setup line fault) → FirstRefused 1 [] (lines_of files.now.script) line fault }
     ensures setup_writes_nothing { (line : ℕ) (fault : TheFault) → IsErrOf result (Setup line fault) → H.writing host.new ≡ H.writing host.old }
     ensures load { (table : List ℕ) (fault : TheFault) → IsErrOf result (LoadRefused table fault) → RefusesLoad files.now.script files.now.loads table fault }
@@ -137,7 +144,13 @@ fn replay_read<H: Host>(alloc: Global, files: &Files, host: &mut H) -> Result<()
     ensures linking_stays { H.linking host.new ≡ H.linking host.old }
     ensures complaints_stay { H.complaints host.new ≡ H.complaints host.old }
 {
-    match replay(alloc, files.script.as_slice(), files.loads.as_slice(), host) {
+    match replay(
+        alloc,
+        limits,
+        files.script.as_slice(),
+        files.loads.as_slice(),
+        host,
+    ) {
         Ok(_) => Ok(()),
         Err(No::NoMemory) => Err(Refusal::Memory),
         Err(No::Refused(RunFault::WriteFault)) => Err(Refusal::Write),

@@ -158,9 +158,50 @@ const COVERED_TRACE: &str = "2 exec version 1
 const UNBUILT: &str =
     "CREATE TABLE p (id INT PRIMARY KEY CHECK (id BETWEEN 0 AND 9999), age INT CHECK (age BETWEEN 0 AND 150))
 exec INSERT INTO p VALUES (1, 35), (2, 45)
-exec INSERT INTO p VALUES (3, 33)
 query 1 SELECT id, age FROM p WHERE age BETWEEN 30 AND 40
 exec DELETE FROM p
+push 1
+settle 1
+";
+
+/// A change of a row that is held, and a query before and after it is told.
+const PUSHED: &str =
+    "CREATE TABLE p (id INT PRIMARY KEY CHECK (id BETWEEN 0 AND 9999), age INT CHECK (age BETWEEN 0 AND 150))
+exec INSERT INTO p VALUES (1, 35), (2, 45)
+query 1 SELECT id, age FROM p WHERE age BETWEEN 30 AND 40
+exec UPDATE p SET age = 36 WHERE id = 1
+query 1 SELECT id, age FROM p WHERE age BETWEEN 30 AND 40
+push 1
+query 1 SELECT id, age FROM p WHERE age BETWEEN 30 AND 40
+";
+
+const PUSHED_TRACE: &str = "2 exec version 1
+3 ask 1 1 fresh 1
+3 part p (id,age) {age 30..40}
+3 query 1 asked 1
+3 toserver 1 ask 2
+3 toclient 1 laid
+3 answer 1 1 1 1
+3 row 1, 35
+3 held 1 p (id,age) {age 30..40}
+3 toclient 1 answered
+4 exec version 2
+5 answer 1 2 1 1
+5 row 1, 35
+5 query 1 answered 2
+6 push 1 sent 1
+6 toclient 1 applied 2
+7 answer 1 3 2 1
+7 row 1, 36
+7 query 1 answered 3
+";
+
+const TWO_RANGES: &str =
+    "CREATE TABLE p (id INT PRIMARY KEY CHECK (id BETWEEN 0 AND 9999), age INT CHECK (age BETWEEN 0 AND 150))
+exec INSERT INTO p VALUES (1, 35), (2, 105)
+query 1 SELECT id, age FROM p WHERE age BETWEEN 30 AND 34
+query 1 SELECT id, age FROM p WHERE age BETWEEN 100 AND 110
+query 1 SELECT id, age FROM p WHERE age BETWEEN 36 AND 40
 ";
 
 /// What happens to rows that were loaded.
@@ -280,6 +321,7 @@ fn scripts_are_replayed(rt: HostRuntime) -> Result<(), Fail> {
         (SPELLED, TWO_QUERIES_TRACE),
         (REFUSED_TEXTS, REFUSED_TEXTS_TRACE),
         (WITHOUT_TABLE, WITHOUT_TABLE_TRACE),
+        (PUSHED, PUSHED_TRACE),
     ] {
         let got = run_over(alloc, IN_FORM, script, 0)?;
         assert_eq!(rt; got.error.as_slice(), b"".as_slice());
@@ -293,7 +335,7 @@ fn scripts_are_replayed(rt: HostRuntime) -> Result<(), Fail> {
 fn refusals_are_named(rt: HostRuntime) -> Result<(), Fail> {
     let alloc = rt.alloc();
     for (script, fails, status, error) in [
-        (UNBUILT, 0, 12, "unbuilt 5\n"),
+        (UNBUILT, 0, 12, "unbuilt 6\n"),
         (JOINED, 0, 12, "unbuilt 3\n"),
         (WITHOUT_KEY, 0, 7, "schema 2 no-key 0\n"),
         (REPEATED_COLUMN, 0, 7, "schema 1 duplicate-name 1\n"),
@@ -316,7 +358,7 @@ fn refusals_are_named(rt: HostRuntime) -> Result<(), Fail> {
 #[test]
 fn other_words_are_refused(rt: HostRuntime) -> Result<(), Fail> {
     let alloc = rt.alloc();
-    let all: [&[&str]; 11] = [
+    let all: [&[&str]; 26] = [
         &[],
         &["replay"],
         &["replay", "--eager"],
@@ -328,12 +370,124 @@ fn other_words_are_refused(rt: HostRuntime) -> Result<(), Fail> {
         &["replay", "--eager", "script", "=p.csv"],
         &["replay", "--eager", "script", "p="],
         &["replay", "--eager", "script", "p=p.csv", "p"],
+        &["replay", "--eager", "--x"],
+        &["replay", "--eager", "-script"],
+        &["replay", "--eager", "--rows", "script"],
+        &["replay", "--eager", "--rows", "200001", "script"],
+        &[
+            "replay",
+            "--eager",
+            "--rows",
+            "123456789012345678901",
+            "script",
+        ],
+        &[
+            "replay",
+            "--eager",
+            "--rows",
+            "000000000000000000001",
+            "script",
+        ],
+        &["replay", "--eager", "--rows", "x", "script"],
+        &["replay", "--eager", "--rows", "", "script"],
+        &["replay", "--eager", "--rows", "-1", "script"],
+        &["replay", "--eager", "--regions", "1025", "script"],
+        &["replay", "--eager", "--policy", "far", "script"],
+        &[
+            "replay",
+            "--eager",
+            "--regions",
+            "5",
+            "--rows",
+            "5",
+            "script",
+        ],
+        &["replay", "--eager", "--rows", "5", "--rows", "5", "script"],
+        &["replay", "--eager", "script", "--rows", "5"],
+        &["replay", "--rows", "5", "--eager", "script"],
     ];
     for words in all {
         let got = run_over(alloc, words, CREATE_ALONE, 0)?;
         assert_eq!(rt; got.error.as_slice(), b"words\n".as_slice());
         assert_eq!(rt; got.trace.as_slice(), b"".as_slice());
         assert_eq!(rt; got.status, 2);
+    }
+    Ok(())
+}
+
+#[test]
+fn options_are_read(rt: HostRuntime) -> Result<(), Fail> {
+    let alloc = rt.alloc();
+    let all: [&[&str]; 8] = [
+        &["replay", "--eager", "--rows", "0", "script"],
+        &["replay", "--eager", "--rows", "00200000", "script"],
+        &[
+            "replay",
+            "--eager",
+            "--rows",
+            "00000000000000000001",
+            "script",
+        ],
+        &["replay", "--eager", "--regions", "1024", "script"],
+        &["replay", "--eager", "--policy", "recency", "script"],
+        &["replay", "--eager", "--policy", "distance", "script"],
+        &[
+            "replay", "--eager", "--rows", "5", "--policy", "distance", "script", "p=p.csv",
+        ],
+        &[
+            "replay",
+            "--eager",
+            "--rows",
+            "5",
+            "--regions",
+            "0",
+            "--policy",
+            "recency",
+            "script",
+        ],
+    ];
+    for words in all {
+        let got = run_over(alloc, words, CREATE_ALONE, 0)?;
+        assert_eq!(rt; got.error.as_slice(), b"".as_slice());
+        assert_eq!(rt; got.trace.as_slice(), b"".as_slice());
+        assert_eq!(rt; got.status, 0);
+    }
+    Ok(())
+}
+
+#[test]
+fn options_are_obeyed(rt: HostRuntime) -> Result<(), Fail> {
+    let alloc = rt.alloc();
+    let all: [(&[&str], &str); 4] = [
+        (
+            &["replay", "--eager", "--rows", "0", "script"],
+            "\n4 drop 1 rows p (id,age) 2 {age 100..110}\n",
+        ),
+        (
+            &["replay", "--eager", "--regions", "0", "script"],
+            "\n3 drop 1 regions p (id,age) 1 {age 30..34}\n",
+        ),
+        (
+            &["replay", "--eager", "--regions", "2", "script"],
+            "\n5 drop 1 regions p (id,age) 1 {age 30..34}\n",
+        ),
+        (
+            &[
+                "replay",
+                "--eager",
+                "--regions",
+                "2",
+                "--policy",
+                "distance",
+                "script",
+            ],
+            "\n5 drop 1 regions p (id,age) 2 {age 100..110}\n",
+        ),
+    ];
+    for (words, line) in all {
+        let got = run_over(alloc, words, TWO_RANGES, 0)?;
+        assert_eq!(rt; has_lines(got.trace.as_slice(), line.as_bytes()), true);
+        assert_eq!(rt; got.status, 0);
     }
     Ok(())
 }

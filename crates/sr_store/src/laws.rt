@@ -1,5 +1,5 @@
 //! Laws of the definitions: functions that do nothing, and whose contracts are the laws.
-ghost use Rattle.sr_store.specs.Laws.{FittedMeetsBudgets, FittedFitStill, LastsAreLast};
+ghost use Rattle.sr_store.specs.Laws.{FittedMeetsBudgets, FittedFitStill, LastsAreLast, NoticesKeepTrue, ChangesAreTells, NoticesKeepClasses};
 
 /// What is dropped from regions so that they fit is just what the budgets demand of the marks behind them.
 pub fn fitted_meets_budgets()
@@ -14,4 +14,19 @@ pub fn fitted_fit_still()
 /// The centres of a query's rects are those of what its parts mean.
 pub fn lasts_are_last()
     ensures { LastsAreLast }
+{}
+
+/// Regions that are true of some tables are true of the next ones once all is told that concerns them.
+pub fn notices_keep_true()
+    ensures { NoticesKeepTrue }
+{}
+
+/// What is told of the changes of a version are rows of its tables.
+pub fn changes_are_tells()
+    ensures { ChangesAreTells }
+{}
+
+/// What is told changes no points and no stamps.
+pub fn notices_keep_classes()
+    ensures { NoticesKeepClasses }
 {}

@@ -8,7 +8,6 @@ mod apply;
 mod arrive;
 mod fit;
 pub mod laws;
-pub mod laws_of_notices;
 mod lookup;
 mod marks;
 mod restamp;

@@ -37,7 +37,7 @@ use Rattle.sr_world.specs.Represents.{Past, ClientFacts, CutFacts, OutEnds, Fact
 use Rattle.sr_world.specs.Taking.{Taking}
 use Rattle.sr_world.specs.Worlds.{Stands, DoesDelivery}
 use Rattle.sr_world.proofs.Applying.{IsSubscribed, AreAt, next-version, brings-up, brought-up, IsNext, next-notice, tells-rows, told-all}
-use Rattle.sr_world.proofs.Awaited.{notices_keep_classes}
+use Rattle.sr_store.proofs.Noticing.{notices-classes as notices_keep_classes}
 use Rattle.sr_world.proofs.FactLemmas.{server-still}
 use Rattle.sr_world.proofs.StepLemmas.{does}
 use Rattle.sr_world.proofs.TakeLemmas.{delivers}

@@ -34,7 +34,7 @@ use Rattle.sr_store.specs.Noticed.{told_to, IsTellOf}
 use Rattle.sr_scene.specs.Server.{told_at}
 use Rattle.sr_world.specs.Client.{brought, arrived}
 use Rattle.sr_world.specs.Noticing.{after_message, after_messages, TellsRows, Brings, done, silent, told, AreSubscribed}
-use Rattle.sr_world.proofs.Awaited.{notices_keep_true, changes_are_tells, notices_keep_classes}
+use Rattle.sr_store.proofs.Noticing.{notices-true as notices_keep_true, changes-tell as changes_are_tells, notices-classes as notices_keep_classes}
 use Rattle.sr_world.proofs.RowMessages.{AllRows}
 use Rattle.sr_world.proofs.ToldLemmas.{is-told}
 

@@ -1,6 +1,6 @@
 -- What is asked of some parts is what is left of them.
-use Rattle.std.proofs.Common.{◌≡◌, ℕ, ◌+◌, ◌<◌, zero, suc, Bool, true, false, List, [], ◌∷◌, ◌++◌, length, refl, sym, ◌∙◌, ap, subst, arith, inl, inr, get_or, take, append-nil}
-use Rattle.std.specs.Prelude.{IsTrue, not, ◌&&◌, ◌⊎◌, ◌↔◌, nat_lt}
+use Rattle.std.proofs.Common.{◌≡◌, ℕ, ◌+◌, ◌<◌, zero, suc, Bool, true, false, List, [], ◌∷◌, ◌++◌, length, refl, sym, ◌∙◌, ap, subst, arith, inl, inr, get_or, append-nil}
+use Rattle.std.specs.Prelude.{IsTrue, not, ◌&&◌, ◌⊎◌, ◌↔◌}
 use Rattle.std.specs.List.{list_all, All, AllZip}
 use Rattle.std.proofs.lemmas.Bool.Decides.{nat_tests}
 use Rattle.std.proofs.lemmas.List.Elements.{All-nil, All-cons, All-head, All-tail}
@@ -24,17 +24,17 @@ use Rattle.sr_query.specs.Bound.{IsPart}
 use Rattle.sr_query.specs.declared.query.Part.{Part}
 use Rattle.sr_history.specs.declared.mark.Mark.{Mark}
 use Rattle.sr_history.specs.Marks.{is_held, is_covered}
-use Rattle.sr_history.specs.Rests.{rest_of, IsRest, Asks, nothing, covered, asked}
+use Rattle.sr_history.specs.Rests.{rest_of, Asks, nothing, covered, asked}
 use Rattle.sr_history.specs.Load.{parts_on}
 use Rattle.sr_history.proofs.Ends.{cuts_keep_ends}
 use Rattle.sr_language.specs.Sound.{is_sound_part}
 use Rattle.sr_language.proofs.Constrained.{rects_constrain_needed}
 use Rattle.sr_region.specs.declared.region.Region.{Region}
 use Rattle.sr_store.specs.Classes.{Stamps, Keeps}
-use Rattle.sr_store.specs.Stores.{serves, cover_of, IsOfSchema}
+use Rattle.sr_store.specs.Stores.{cover_of}
 use Rattle.sr_store.proofs.Covering.{cover_is}
 use Rattle.sr_world.specs.Asking.{AsksRest, AreMeant, entry_of, whole_asks}
-use Rattle.sr_world.specs.Cutting.{EndWith, RegionsEnd, PartsEnd, AsksEnd, AreCutAlong}
+use Rattle.sr_world.specs.Cutting.{EndWith, AsksEnd, AreCutAlong}
 use Rattle.sr_world.proofs.EndLemmas.{end-append, cover-end}
 
 -- what trimming leaves of a part

@@ -1,20 +1,16 @@
 -- Notices that bring a client from a version to a later one.
-use Rattle.std.proofs.Common.{◌≡◌, ℕ, ◌+◌, ◌-◌, ◌<◌, ◌≤◌, List, [], ◌∷◌, ◌++◌, map, filter, length, sym, ◌∙◌, ap, subst, arith}
-use Rattle.std.specs.List.{All}
+use Rattle.std.proofs.Common.{◌≡◌, ℕ, ◌+◌, ◌-◌, ◌<◌, ◌≤◌, List, [], ◌∷◌, ◌++◌, map, filter, length, ◌∙◌, ap, subst, arith}
 use Rattle.std.proofs.lemmas.List.{get_or_append_left}
-use Rattle.std.proofs.lemmas.List.Elements.{All-nil, All-cons}
 use Rattle.sr_cell.specs.declared.table.Table.{Table}
 use Rattle.sr_subs.specs.declared.subs.Holding.{Holding}
 use Rattle.sr_subs.specs.Subscription.{touches}
 use Rattle.sr_message.specs.declared.message.Message.{Message}
-use Rattle.sr_message.specs.declared.message.Message.TheVariants.{Ask, Notice, Rows, Reply}
+use Rattle.sr_message.specs.declared.message.Message.TheVariants.{Notice}
 use Rattle.sr_message.specs.Tells.{tell_of}
 use Rattle.sr_model.specs.Statements.{Tables}
 use Rattle.sr_model.specs.Changes.{changes, version_at, changes_at}
-use Rattle.sr_region.specs.Applied.{AreTables}
-use Rattle.sr_store.specs.Laws.{ChangesAreTells}
 use Rattle.sr_scene.specs.Server.{told_at}
-use Rattle.sr_world.specs.Noticing.{TellsRows, Brings, done, silent, told}
+use Rattle.sr_world.specs.Noticing.{Brings, done, silent, told}
 
 -- one stretch, and then the next
 pub brings-on : (schema : List Table) (versions : List Tables) (subs : List Holding) (v mid : ℕ) (front : List Message) → Brings schema versions subs v mid front
@@ -55,25 +51,3 @@ brings-still schema versions subs tables v to messages (told u last ms more) wit
     let later = brings-later schema versions subs (u + 1) last ms more in
     subst (λ ts. Brings schema (versions ++ tables ∷ []) subs u last (Notice (u + 1) ts ∷ ms)) (told-stays schema versions subs tables (u + 1) (omega arith))
     (told u last ms (brings-still schema versions subs tables (u + 1) last ms more within))
-
--- ---- the messages
-
-abbrev pub AllNotices : List Message → Type 0
-AllNotices [] = Unit
-AllNotices (Notice version tells ∷ ms) = AllNotices ms
-AllNotices (m ∷ ms) = ⊥
-
-pub brings-notices : (schema : List Table) (versions : List Tables) (subs : List Holding) (v to : ℕ) (messages : List Message) → Brings schema versions subs v to messages → AllNotices messages
-brings-notices schema versions subs v to messages (done u) = tt
-brings-notices schema versions subs v to messages (silent u last ms none more) = brings-notices schema versions subs (u + 1) last ms more
-brings-notices schema versions subs v to messages (told u last ms more) = brings-notices schema versions subs (u + 1) last ms more
-
--- they tell rows of the schema's tables
-pub brings-tells : ChangesAreTells → (schema : List Table) (versions : List Tables) (subs : List Holding) (v to : ℕ) (messages : List Message) → Brings schema versions subs v to messages
-    → ((u : ℕ) → u ≤ to → AreTables schema (version_at versions u)) → All (TellsRows schema) messages
-brings-tells law schema versions subs v to messages (done u) then = All-nil (TellsRows schema)
-brings-tells law schema versions subs v to messages (silent u last ms none more) then = brings-tells law schema versions subs (u + 1) last ms more then
-brings-tells law schema versions subs v to messages (told u last ms more) then =
-    let later = brings-later schema versions subs (u + 1) last ms more in
-    let tells = law schema (version_at versions (u + 1 - 1)) (version_at versions (u + 1)) (touches subs) (then (u + 1 - 1) (omega arith)) (then (u + 1) later) in
-    All-cons (TellsRows schema) (Notice (u + 1) (told_at schema versions subs (u + 1))) ms tells (brings-tells law schema versions subs (u + 1) last ms more then)

@@ -27,12 +27,12 @@ use Rattle.sr_region.specs.Regions.{rank, is_in, IsRowIn}
 use Rattle.sr_region.proofs.Parts.{is_in-point}
 use Rattle.sr_store.specs.declared.store.Arrival.{Arrival}
 use Rattle.sr_store.specs.Classes.{Stamps, occurs, touches, Keeps as KeepsPoints}
+use Rattle.sr_store.specs.Told.{told_of}
 use Rattle.sr_store.specs.Stores.{cover_of, IsStore}
 use Rattle.sr_store.specs.Answered.{IsArrival, AreApart, HaveArrived}
 use Rattle.sr_scene.specs.Server.{asked_rows}
 use Rattle.sr_world.specs.Answering.{is_kept, is_new, Suits}
 use Rattle.sr_world.specs.Client.{arrival_of}
-use Rattle.sr_world.specs.Represents.{told_of}
 use Rattle.sr_world.proofs.MeantLemmas.{part-table, part-key, part-points}
 use Rattle.sr_world.proofs.ToldLemmas.{has-more, includes-each, told-in, ascend-told}
 use Rattle.sr_world.proofs.Covers.{occurs-covers}

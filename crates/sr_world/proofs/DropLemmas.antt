@@ -1,7 +1,7 @@
 -- All is dropped, and the whole of a query is asked, as the scene says.
-use Rattle.std.proofs.Common.{◌≡◌, ℕ, ◌+◌, ◌≤◌, ◌<◌, zero, suc, Bool, true, false, cond, List, [], ◌∷◌, ◌++◌, map, length, refl, sym, ◌∙◌, ap, subst, arith, inl, inr, Some, None, Ok}
-use Rattle.std.specs.Prelude.{IsTrue, ◌↔◌, ◌==◌, slice_index_or}
-use Rattle.std.specs.List.{list_all, list_any, All, Contains}
+use Rattle.std.proofs.Common.{◌≡◌, ℕ, ◌+◌, ◌≤◌, ◌<◌, zero, suc, true, false, List, [], ◌∷◌, ◌++◌, map, length, refl, sym, ◌∙◌, ap, subst, arith, inl, inr, None, Ok}
+use Rattle.std.specs.Prelude.{IsTrue, ◌↔◌, ◌==◌}
+use Rattle.std.specs.List.{list_all, list_any, Contains}
 use Rattle.std.proofs.lemmas.Bool.Decides.{nat_tests}
 use Rattle.std.proofs.lemmas.List.Folds.{list_all-append}
 use Rattle.std.proofs.lemmas.List.Elements.{All-nil}
@@ -17,8 +17,8 @@ use Rattle.sr_query.specs.Bound.{is_table}
 use Rattle.sr_query.specs.declared.query.Part.{Part}
 use Rattle.sr_query.specs.declared.query.Query.{Query}
 use Rattle.sr_history.specs.declared.mark.Mark.{Mark}
-use Rattle.sr_history.specs.Marks.{HoldsNothing, is_held, with_marks}
-use Rattle.sr_history.specs.Classes.{Numbered, stamp}
+use Rattle.sr_history.specs.Marks.{HoldsNothing, with_marks}
+use Rattle.sr_history.specs.Classes.{stamp}
 use Rattle.sr_history.specs.Load.{IsHeavy}
 use Rattle.sr_history.specs.Drops.{DropsAll}
 use Rattle.sr_history.specs.Rests.{Asks}

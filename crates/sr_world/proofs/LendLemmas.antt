@@ -17,11 +17,10 @@ use Rattle.sr_query.specs.declared.query.Query.{Query}
 use Rattle.sr_region.specs.declared.region.Region.{Region}
 use Rattle.sr_region.specs.Regions.{is_in}
 use Rattle.sr_store.specs.declared.store.Arrival.{Arrival}
-use Rattle.sr_store.specs.Told.{IsTrueOf}
+use Rattle.sr_store.specs.Told.{told_of, IsTrueOf}
 use Rattle.sr_store.specs.Stores.{serves, cover_of, IsOfSchema}
 use Rattle.sr_join.specs.Found.{key_of, key_of_first, has_outputs, IsFound}
 use Rattle.sr_join.proofs.OnePart.{by-same}
-use Rattle.sr_world.specs.Represents.{told_of}
 use Rattle.sr_world.specs.Answering.{is_kept, is_new, IsOnePart, Suits}
 use Rattle.sr_world.proofs.ToldLemmas.{has-more, all-more-only, told-both}
 use Rattle.sr_world.proofs.Covers.{same-number, left-true, right-true, cover-more}

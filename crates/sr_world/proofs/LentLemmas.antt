@@ -9,15 +9,16 @@ use Rattle.sr_model.specs.Queries.{rows_at}
 use Rattle.sr_model.specs.Statements.{Tables}
 use Rattle.sr_model.specs.Changes.{version_at}
 use Rattle.sr_region.specs.declared.region.Region.{Region}
-use Rattle.sr_store.specs.Told.{IsTrueOf}
+use Rattle.sr_region.specs.Applied.{HasItsRows}
+use Rattle.sr_store.specs.Told.{told_of, IsTrueOf}
 use Rattle.sr_store.specs.Stores.{IsOfSchema}
 use Rattle.sr_store.proofs.Classing.{are_classes, have_classes}
 use Rattle.sr_scene.specs.Scene.{Scene}
 use Rattle.sr_world.specs.declared.world.World.{World}
-use Rattle.sr_world.specs.Represents.{Past, Facts, Represents, told_of, client_of, scene_of}
-use Rattle.sr_world.specs.Lent.{HasItsRows, IsLent}
+use Rattle.sr_world.specs.Represents.{Past, Facts, Represents, client_of, scene_of}
+use Rattle.sr_world.specs.Lent.{IsLent}
 use Rattle.sr_world.proofs.ToldLemmas.{told-in}
-use Rattle.sr_world.proofs.FactLemmas.{have-first}
+use Rattle.sr_world.proofs.FactLemmas.{have-first, tables-then}
 
 all-both : (P Q R : Region → Type 0) → ((g : Region) → P g → Q g → R g) → (gs : List Region) → All P gs → All Q gs → All R gs
 all-both P Q R f [] p q = All-nil R
@@ -31,6 +32,8 @@ lent w past f = record {
   classes = are_classes schema past.marks past.queries regions (have-first schema f.server.tables) f.client.store.each f.client.store.order f.client.keeps;
   points = have_classes schema past.marks past.queries regions f.client.store.order f.client.keeps;
   rows = all-both (IsOfSchema schema) (IsTrueOf (told_of tables)) (HasItsRows tables) projected regions f.client.store.each f.client.are_true;
+  within = f.client.rows;
+  few = f.client.few;
 }
   where
     schema : List Table
@@ -44,7 +47,7 @@ lent w past f = record {
 
     projected : (g : Region) → IsOfSchema schema g → IsTrueOf (told_of tables) g → HasItsRows tables g
     projected g is tells =
-        tells ∙ told-in (table_at schema g.table).columns g.attrs g.rects (rows_at tables g.table) is.1.area.fit is.1.area.only (f.server.points w.client.version g.table)
+        tells ∙ told-in (table_at schema g.table).columns g.attrs g.rects (rows_at tables g.table) is.1.area.fit is.1.area.only ((tables-then w past f).points g.table)
 
 pub is_lent : (w : World) (s : Scene) → Represents w s → IsLent s w.client
 is_lent w s r = subst (λ s. IsLent s w.client) (sym r.same) (lent w r.past r.facts)

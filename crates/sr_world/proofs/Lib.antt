@@ -8,6 +8,10 @@ pub mod Noticed
 pub mod StepLemmas
 pub mod OneAsk
 pub mod ServeLemmas
+pub mod Applying
+pub mod ApplyLemmas
+pub mod Coming
+pub mod Fronts
 pub mod TakeLemmas
 pub mod Items
 pub mod ToldLemmas

@@ -1,5 +1,5 @@
 -- What a server tells out of its history is what the scene's server sends, and it brings a client up to the newest version.
-use Rattle.std.proofs.Common.{◌≡◌, ℕ, zero, suc, ◌+◌, ◌-◌, ◌<◌, ◌≤◌, Bool, true, false, nat_lt, if◌then◌else◌, List, [], ◌∷◌, ◌++◌, map, filter, length, slice_index_or, refl, sym, ◌∙◌, ap, subst, arith, append_assoc, append-nil}
+use Rattle.std.proofs.Common.{◌≡◌, ℕ, zero, suc, ◌+◌, ◌-◌, ◌<◌, ◌≤◌, Bool, true, false, nat_lt, if◌then◌else◌, List, [], ◌∷◌, ◌++◌, map, filter, slice_index_or, refl, sym, ◌∙◌, ap, subst, arith, append_assoc, append-nil}
 use Rattle.std.proofs.lemmas.Bool.{ltb-true, le-ltb}
 use Rattle.sr_cell.specs.declared.change.Change.{Change}
 use Rattle.sr_cell.specs.declared.table.Table.{Table}
@@ -11,7 +11,7 @@ use Rattle.sr_message.specs.declared.message.Message.TheVariants.{Notice}
 use Rattle.sr_message.specs.Tells.{tell_of}
 use Rattle.sr_model.specs.Statements.{Tables}
 use Rattle.sr_model.specs.Changes.{changes_at, newest_of}
-use Rattle.sr_scene.specs.Server.{Session, notice, closing_notice, told_at, notices, due, pushed}
+use Rattle.sr_scene.specs.Server.{notice, closing_notice, told_at, notices, due, pushed}
 use Rattle.sr_world.specs.Noticing.{told_of_entry, noticed, pushed_after, Brings, done, silent, told}
 
 -- ---- entry by entry

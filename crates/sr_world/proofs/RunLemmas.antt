@@ -72,18 +72,6 @@ RanPart-behind {schema} {a} {b} {all} {old} {mid} {first} {at} {last} p q same =
   written = WritesPrefix-behind first at last p.trace q.trace p.written q.written;
 }
 
-pub RanPart-before : (schema : List Table) (a b : List (ℕ × Event)) (old : World) (first last : Option (List ℕ))
-    → RanPart schema a old first last → RanPart schema (a ++ b) old first last
-RanPart-before schema a b old first last p = record {
-  done = p.done;
-  left = p.left ++ b;
-  split = ap (λ e. e ++ b) p.split ∙ append_assoc p.done p.left b;
-  mid = p.mid;
-  trace = p.trace;
-  ran = p.ran;
-  written = p.written;
-}
-
 pub RanWhole-append : {schema : List Table} {a b : List (ℕ × Event)} {old mid new : World} {first at last : Option (List ℕ)}
     → RanWhole schema a old mid first at → RanWhole schema b mid new at last → RanWhole schema (a ++ b) old new first last
 RanWhole-append {schema} {a} {b} {old} {mid} {new} {first} {at} {last} p q = record {

@@ -3,7 +3,6 @@ use Rattle.std.proofs.Common.{◌≡◌, ℕ, ◌-◌, ◌≤◌, Bool, true, fa
 use Rattle.std.specs.Prelude.{◌⊎◌}
 use Rattle.std.specs.declared.collections.VecDeque.{VecDeque}
 use Rattle.std.specs.declared.alloc.Global.{Global}
-use Rattle.sr_cell.specs.declared.table.Table.{Table}
 use Rattle.sr_subs.specs.declared.subs.Holding.{Holding}
 use Rattle.sr_message.specs.declared.message.AskPart.{AskPart}
 use Rattle.sr_message.specs.declared.message.Message.{Message}
@@ -25,7 +24,7 @@ use Rattle.sr_world.specs.declared.client.AskOut as code
 use Rattle.sr_world.specs.Client.{is_empty}
 use Rattle.sr_world.specs.Noticing.{noticed, pushed_after, Brings, AreSubscribed}
 use Rattle.sr_world.specs.Worlds.{Stands, DoesEvent, DoesDelivery}
-use Rattle.sr_world.specs.Represents.{Past, ServerFacts, ClientFacts, CutFacts, Facts, Represents, IsAsked, IsReplied, IsOut, Flow, BringsUp, scene_of, client_of}
+use Rattle.sr_world.specs.Represents.{Past, ServerFacts, ClientFacts, Facts, Represents, IsAsked, IsReplied, IsOut, Flow, BringsUp, scene_of, client_of}
 use Rattle.sr_world.proofs.Bringing.{brings-on}
 use Rattle.sr_world.proofs.Noticed.{due-same, due-brings, pushed-same, pushed-none, pushed-brings}
 use Rattle.sr_world.proofs.OneAsk.{asks-one}
@@ -190,12 +189,12 @@ is-first w past false f brings mode =
       reaches = inl refl;
     }
 
-four : (laid queue first rows : List Message) → ((laid ++ queue) ++ first) ++ rows ≡ laid ++ (queue ++ (first ++ rows))
-four laid queue first rows =
+front-then-rest : (laid queue first rows : List Message) → ((laid ++ queue) ++ first) ++ rows ≡ laid ++ (queue ++ (first ++ rows))
+front-then-rest laid queue first rows =
     append_assoc (laid ++ queue) first rows ∙ append_assoc laid queue (first ++ rows)
 
-four-last : (queue first rows last : List Message) → queue ++ (first ++ (rows ++ last)) ≡ (queue ++ (first ++ rows)) ++ last
-four-last queue first rows last =
+rest-then-last : (queue first rows last : List Message) → queue ++ (first ++ (rows ++ last)) ≡ (queue ++ (first ++ rows)) ++ last
+rest-then-last queue first rows last =
     ap (λ ms. queue ++ ms) (sym (append_assoc first rows last)) ∙ sym (append_assoc queue (first ++ rows) last)
 
 -- the world once the server took the ask
@@ -213,12 +212,12 @@ flow-served w past number fresh parts queue to_server to_client f way left queue
       to_server = left ∙ way.last;
       notices = (w.client.laid ++ w.to_client.items) ++ sent_first w fresh;
       rest = w.to_client.items ++ (sent_first w fresh ++ rows way.out.number way.out.parts);
-      front = four w.client.laid w.to_client.items (sent_first w fresh) (rows way.out.number way.out.parts);
+      front = front-then-rest w.client.laid w.to_client.items (sent_first w fresh) (rows way.out.number way.out.parts);
       to_client =
-        queued
-        ∙ (ap (λ k. reply k parts) way.same_number
-        ∙ (ap (λ ps. reply way.out.number ps) way.same_parts
-        ∙ four-last w.to_client.items (sent_first w fresh) (rows way.out.number way.out.parts) (Reply way.out.number w.server.version ∷ [])));
+          queued
+          ∙ (ap (λ k. reply k parts) way.same_number
+          ∙ (ap (λ ps. reply way.out.number ps) way.same_parts
+          ∙ rest-then-last w.to_client.items (sent_first w fresh) (rows way.out.number way.out.parts) (Reply way.out.number w.server.version ∷ [])));
       before = subscribed_before w fresh;
       subs = ap (λ ps. subscribed_before w fresh ++ map holding_of ps) way.same_parts;
       held = first.held;
@@ -256,8 +255,8 @@ serves w past number fresh parts queue to_server to_client f asked left queued =
       refl,
       ap (λ (served : Served). line.ServerTook 1 kind.Ask (length served.sent) ∷ []) (sym (is-served w past number fresh parts f)),
       ap (λ ms. scene past.versions ms session to_client.items) left
-      ∙ (ap (λ ms. scene past.versions queue session ms) queued
-      ∙ ap (λ (served : Served). scene served.versions queue served.session (w.to_client.items ++ served.sent)) (sym (is-served w past number fresh parts f))),
+          ∙ (ap (λ ms. scene past.versions queue session ms) queued
+          ∙ ap (λ (served : Served). scene served.versions queue served.session (w.to_client.items ++ served.sent)) (sym (is-served w past number fresh parts f))),
     ) in (
       scene_of changed past,
       (
@@ -315,8 +314,8 @@ asked-pushed w past o to_client f queued asked = record {
   brings = (
     asked.brings.0,
     subst (λ ms. Brings w.server.tables.schema past.versions w.server.subs w.client.version w.server.version ms)
-      (append_assoc w.client.laid w.to_client.items (sent_by_push w) ∙ ap (λ ms. w.client.laid ++ ms) (sym queued))
-      (brings-pushed w past (w.client.laid ++ w.to_client.items) f asked.brings),
+        (append_assoc w.client.laid w.to_client.items (sent_by_push w) ∙ ap (λ ms. w.client.laid ++ ms) (sym queued))
+        (brings-pushed w past (w.client.laid ++ w.to_client.items) f asked.brings),
   );
 }
 

@@ -1,7 +1,7 @@
 -- One step of a world is one of its scene.
 use Rattle.std.proofs.Common.{◌≡◌, ℕ, ◌+◌, ◌-◌, ◌<◌, ◌≤◌, true, List, [], ◌∷◌, ◌++◌, length, slice_index_or, refl, sym, ◌∙◌, ap, subst, arith, inl, inr, Option, Some, None, Ok, Err, length-append, append-nil}
 use Rattle.std.specs.Prelude.{IsTrue, IfOk, OnOk, Result}
-use Rattle.std.specs.List.{list_all, All}
+use Rattle.std.specs.List.{list_all}
 use Rattle.std.proofs.Math.Seq.{get_or-append_seam}
 use Rattle.std.proofs.lemmas.List.{get_or_append_left}
 use Rattle.std.proofs.lemmas.List.Elements.{All-nil}
@@ -14,7 +14,6 @@ use Rattle.sr_cell.specs.Columns.{table_at, is_point}
 use Rattle.sr_box.specs.Points.{in_any}
 use Rattle.sr_subs.specs.declared.subs.Holding.{Holding}
 use Rattle.sr_subs.specs.Subscription.{has_point}
-use Rattle.sr_message.specs.declared.message.Message.{Message}
 use Rattle.sr_message.specs.declared.message.Message.TheVariants.{Ask, Reply}
 use Rattle.sr_keyed.specs.Keyed.{are_values}
 use Rattle.sr_language.specs.Events.{Event, Exec}
@@ -42,7 +41,7 @@ use Rattle.sr_world.specs.declared.client.AskOut.{AskOut}
 use Rattle.sr_world.specs.declared.client.Client.{Client}
 use Rattle.sr_world.specs.Noticing.{Brings, done, AreSubscribed}
 use Rattle.sr_world.specs.Worlds.{Does, DoesStep, IsStill}
-use Rattle.sr_world.specs.Represents.{Past, ServerFacts, ClientFacts, CutFacts, Facts, Represents, IsAsked, IsReplied, Flow, scene_of, client_of}
+use Rattle.sr_world.specs.Represents.{Past, ServerFacts, ClientFacts, CutFacts, Facts, Represents, Flow, scene_of, client_of}
 use Rattle.sr_world.proofs.Points.{stored-tables}
 use Rattle.sr_world.proofs.Bringing.{version-stays, changes-stay, brings-still}
 
@@ -210,7 +209,7 @@ then-after : (schema : List Table) (versions : List Tables) (tables : Tables) (n
     → ((v : ℕ) → v ≤ newest → AreTables schema (version_at versions v)) → (v : ℕ) → v ≤ newest + 1 → AreTables schema (version_at (versions ++ tables ∷ []) v)
 then-after schema versions tables newest count new old v within =
     elim (cases_lt v (newest + 1)) [
-      inl before ↦ subst (AreTables schema) (sym (version-stays versions tables v (omega (arith, before, count)))) (old v (omega (arith, before)))
+      | inl before ↦ subst (AreTables schema) (sym (version-stays versions tables v (omega (arith, before, count)))) (old v (omega (arith, before)))
       | inr last ↦ subst (AreTables schema) (sym (version-new versions tables v (omega (arith, last, within, count)))) new
     ]
 
@@ -220,18 +219,18 @@ changes-after : (schema : List Table) (versions : List Tables) (history : List (
     → (v : ℕ) → v < newest + 1 → slice_index_or (history ++ changes schema old new ∷ []) v [] ≡ changes_at schema (versions ++ new ∷ []) (v + 1)
 changes-after schema versions history old new newest count remembers is changed v within =
     elim (cases_lt v newest) [
-      inl before ↦
-        get_or_append_left history (changes schema old new ∷ []) [] v (omega (arith, before, remembers))
-        ∙ (changed v before ∙ sym (changes-stay schema versions new (v + 1) (omega (arith, before, count))))
+      | inl before ↦
+          get_or_append_left history (changes schema old new ∷ []) [] v (omega (arith, before, remembers))
+          ∙ (changed v before ∙ sym (changes-stay schema versions new (v + 1) (omega (arith, before, count))))
       | inr last ↦
-        let here : length history ≡ v = omega (arith, last, within, remembers) in
-        let before : version_at (versions ++ new ∷ []) (v + 1 - 1) ≡ old =
-        version-stays versions new (v + 1 - 1) (omega (arith, within, count))
-        ∙ (ap (λ k. version_at versions k) (let e : v + 1 - 1 ≡ newest = omega (arith, last, within) in e) ∙ is) in
-        let after : version_at (versions ++ new ∷ []) (v + 1) ≡ new = version-new versions new (v + 1) (omega (arith, last, within, count)) in
-        ap (λ k. slice_index_or (history ++ changes schema old new ∷ []) k []) (sym here)
-        ∙ (get_or-append_seam history (changes schema old new) [] []
-        ∙ (ap (λ x. changes schema x new) (sym before) ∙ ap (λ x. changes schema (version_at (versions ++ new ∷ []) (v + 1 - 1)) x) (sym after)))
+          let here : length history ≡ v = omega (arith, last, within, remembers) in
+          let before : version_at (versions ++ new ∷ []) (v + 1 - 1) ≡ old =
+          version-stays versions new (v + 1 - 1) (omega (arith, within, count))
+          ∙ (ap (λ k. version_at versions k) (let e : v + 1 - 1 ≡ newest = omega (arith, last, within) in e) ∙ is) in
+          let after : version_at (versions ++ new ∷ []) (v + 1) ≡ new = version-new versions new (v + 1) (omega (arith, last, within, count)) in
+          ap (λ k. slice_index_or (history ++ changes schema old new ∷ []) k []) (sym here)
+          ∙ (get_or-append_seam history (changes schema old new) [] []
+          ∙ (ap (λ x. changes schema x new) (sym before) ∙ ap (λ x. changes schema (version_at (versions ++ new ∷ []) (v + 1 - 1)) x) (sym after)))
     ]
 
 server-after : (w : World) (past : Past) (server : Server) → ServerFacts w past → HasCarried w server → ServerFacts (with_server w server) (with_version past server.tables.rows)
@@ -248,7 +247,7 @@ server-after w past server f h =
       stored = h.stored;
       then = rw h.version more;
       remembers =
-        ap length h.history ∙ omega (arith, length-append w.server.history (changes w.server.tables.schema w.server.tables.rows server.tables.rows ∷ []), f.remembers, h.version);
+          ap length h.history ∙ omega (arith, length-append w.server.history (changes w.server.tables.schema w.server.tables.rows server.tables.rows ∷ []), f.remembers, h.version);
       changes = rw (h.version, h.history, h.schema) told;
       upto = omega (arith, f.upto, h.version, h.upto);
     }
@@ -275,7 +274,7 @@ flow-after w past server f h flow = (
   (
     rw (h.schema, h.subs) flow.2.0,
     rw (h.schema, h.subs, h.upto)
-    (brings-still w.server.tables.schema past.versions w.server.subs server.tables.rows w.client.version w.server.upto w.to_client.items flow.2.1 (omega (arith, f.server.upto, f.server.count))),
+        (brings-still w.server.tables.schema past.versions w.server.subs server.tables.rows w.client.version w.server.upto w.to_client.items flow.2.1 (omega (arith, f.server.upto, f.server.count))),
   ),
 )
 

@@ -1,5 +1,6 @@
 -- The client takes a message, as the scene says.
-use Rattle.std.proofs.Common.{◌≡◌, ℕ, ◌+◌, List, [], ◌∷◌, ◌++◌, refl, sym, ◌∙◌, ap, subst, inl, inr, Option, Some, None, append_assoc}
+use Rattle.std.proofs.Common.{◌≡◌, ℕ, ◌+◌, true, false, List, [], ◌∷◌, ◌++◌, refl, sym, ◌∙◌, ap, subst, inl, inr, Option, Some, None, append_assoc}
+use Rattle.std.specs.Option.{is_some}
 use Rattle.std.specs.declared.collections.VecDeque.{VecDeque}
 use Rattle.std.specs.declared.alloc.Global.{Global}
 use Rattle.sr_message.specs.declared.message.Tell.{Tell}
@@ -173,3 +174,29 @@ does-lay before w m o client lines t out other client_is lines_are =
     let laid : World → World = λ v. record v { client = record v.client { laid = v.client.laid ++ m ∷ [] } } in
     let done : DoesDelivery before (laid w) (line.ClientLaid 1 ∷ []) = subst (λ v. DoesDelivery before (laid v) (line.ClientLaid 1 ∷ [])) (sym t.same) (lays-taken before m w.to_client t.served o was t.first other) in
     subst (λ client. DoesDelivery before (record w { client = client }) lines) (sym client_is) (subst (DoesDelivery before (laid w)) (sym lines_are) done)
+
+-- ---- of calls
+
+-- a message with the version of a reply is one
+pub reply-of : (m : Message) (version : ℕ) → reply_version m ≡ Some version → (number : ℕ) × (m ≡ Reply number version)
+reply-of (Ask number fresh parts) version is = absurd (cc)
+reply-of (Notice own told) version is = absurd (cc)
+reply-of (Rows number part rows) version is = absurd (cc)
+reply-of (Reply number own) version is = let same : own ≡ version = cc in (number, ap (Reply number) same)
+
+pub ask-of : (out : Option code.AskOut) → is_some out ≡ true → (o : code.AskOut) × (out ≡ Some o)
+ask-of None is = absurd (cc)
+ask-of (Some o) is = (o, refl)
+
+-- what is taken without an ask is a notice
+pub notice-taken : (before w : World) (m : Message) → Taking before w m → is_some w.client.out ≡ false → (version : ℕ) × (told : List Tell) × (m ≡ Notice version told)
+notice-taken before w m t none =
+    let was : before.client.out ≡ None = ap (λ (v : World). v.client.out) (sym t.same) ∙ none-of w.client.out none in
+    notice-comes before t.stands.1.past m w.to_client.items t.stands.1.facts was t.first
+  where
+    none-of : (out : Option code.AskOut) → is_some out ≡ false → out ≡ None
+    none-of None is = refl
+    none-of (Some o) is = absurd (cc)
+
+pub taking : (w : World) (m : Message) (to_client : VecDeque Message Global) → Stands w → w.to_server.items ≡ [] → w.to_client.items ≡ m ∷ to_client.items → Taking w (record w { to_client = to_client }) m
+taking w m to_client stands served came = record { stands = stands; first = came; served = served; same = refl }

@@ -19,8 +19,7 @@ use Rattle.sr_model.specs.Queries.{rows_at}
 use Rattle.sr_region.specs.Regions.{rank, is_in, IsPart}
 use Rattle.sr_region.proofs.Parts.{is_in-point}
 use Rattle.sr_region.proofs.Ranks.{stand}
-use Rattle.sr_store.specs.Told.{IsTold}
-use Rattle.sr_world.specs.Represents.{told_of}
+use Rattle.sr_store.specs.Told.{told_of, IsTold}
 
 -- ---- sets of columns
 

@@ -164,12 +164,7 @@ impl Server {
     }
 
     /// Subscribes what is asked, besides what was subscribed before, if the ask is not fresh.
-    fn subscribe(
-        &mut self,
-        alloc: Global,
-        fresh: bool,
-        parts: &AskParts,
-    ) -> Result<(), NoMemory>
+    fn subscribe(&mut self, alloc: Global, fresh: bool, parts: &AskParts) -> Result<(), NoMemory>
         ensures subscribed { OnOk result (self.new.subs ≡ (if fresh then [] else self.old.subs) ++ map holding_of parts.now) }
         ensures others { self.new ≡ record self.old { subs = self.new.subs } }
     {

@@ -61,11 +61,7 @@ pub fn query(
 }
 
 /// What the event of a line does.
-pub fn happen(
-    alloc: Global,
-    world: &mut World,
-    event: Event,
-) -> Result<TraceLines, NoMemory>
+pub fn happen(alloc: Global, world: &mut World, event: Event) -> Result<TraceLines, NoMemory>
     requires stands { Stands world.old }
     requires still { IsStill world.old }
     requires fits { IsTrue (event_fits world.old.server.tables.schema event) }

@@ -8,6 +8,7 @@ use sr_cell::list::{No, NoMemory, Seq};
 use sr_cell::text::Text;
 use sr_io::mem_sink::MemSink;
 use sr_load::fill::{Load, Loads};
+use sr_policy::policy::{Limits, Policy};
 use std::alloc::Global;
 use std::test::Fail;
 
@@ -159,6 +160,208 @@ const TRACE_OF_WIDER_NEED: &[u8] = b"3 exec version 1
 6 toclient 1 answered
 ";
 
+/// A change moves a row from one class to another, and a push tells it.
+const NOTICE_MOVES_A_ROW: &[u8] =
+    b"CREATE TABLE emp (id INT PRIMARY KEY CHECK (id BETWEEN 0 AND 9999), age INT CHECK (age BETWEEN 0 AND 150), name TEXT, dept INT CHECK (dept BETWEEN 0 AND 99))
+CREATE TABLE dept (no INT PRIMARY KEY CHECK (no BETWEEN 0 AND 99), title TEXT)
+exec INSERT INTO emp VALUES (1, 35, 'ann', 3), (2, 45, 'bob', 3)
+exec INSERT INTO emp VALUES (3, 33, 'cy', 4)
+query 1 SELECT id, age FROM emp WHERE age BETWEEN 30 AND 40
+query 1 SELECT id FROM emp WHERE age BETWEEN 32 AND 35
+query 1 SELECT id, age FROM emp WHERE age BETWEEN 35 AND 50
+exec UPDATE emp SET age = 45 WHERE id = 3
+push 1
+query 1 SELECT id, age FROM emp WHERE age BETWEEN 30 AND 50
+";
+
+const TRACE_OF_NOTICE_MOVES_A_ROW: &[u8] = b"3 exec version 1
+4 exec version 2
+5 ask 1 1 fresh 1
+5 part emp (id,age) {age 30..40}
+5 query 1 asked 1
+5 toserver 1 ask 2
+5 toclient 1 laid
+5 answer 1 1 2 2
+5 row 1, 35
+5 row 3, 33
+5 held 1 emp (id,age) {age 30..40}
+5 toclient 1 answered
+6 answer 1 2 2 2
+6 row 1
+6 row 3
+6 query 1 answered 2
+7 ask 1 2 more 1
+7 part emp (id,age) {age 41..50}
+7 query 1 asked 2
+7 toserver 1 ask 2
+7 toclient 1 laid
+7 answer 1 3 2 2
+7 row 1, 35
+7 row 2, 45
+7 held 1 emp (id,age) {age 41..50}
+7 toclient 1 answered
+8 exec version 3
+9 push 1 sent 1
+9 toclient 1 applied 3
+10 answer 1 4 3 3
+10 row 1, 35
+10 row 2, 45
+10 row 3, 45
+10 query 1 answered 4
+";
+
+/// Nothing is kept of what is answered.
+const NO_ROW_BUDGET: &[u8] =
+    b"CREATE TABLE emp (id INT PRIMARY KEY CHECK (id BETWEEN 0 AND 9999), age INT CHECK (age BETWEEN 0 AND 150), name TEXT, dept INT CHECK (dept BETWEEN 0 AND 99))
+CREATE TABLE dept (no INT PRIMARY KEY CHECK (no BETWEEN 0 AND 99), title TEXT)
+exec INSERT INTO emp VALUES (1, 35, 'ann', 3), (2, 45, 'bob', 3)
+exec INSERT INTO emp VALUES (3, 33, 'cy', 4)
+query 1 SELECT id, age FROM emp WHERE age BETWEEN 30 AND 40
+query 1 SELECT id, age FROM emp WHERE age BETWEEN 30 AND 40
+";
+
+const TRACE_OF_NO_ROW_BUDGET: &[u8] = b"3 exec version 1
+4 exec version 2
+5 ask 1 1 fresh 1
+5 part emp (id,age) {age 30..40}
+5 query 1 asked 1
+5 toserver 1 ask 2
+5 toclient 1 laid
+5 answer 1 1 2 2
+5 row 1, 35
+5 row 3, 33
+5 held 1 emp (id,age) {age 30..40}
+5 drop 1 rows emp (id,age) 1 {age 30..40}
+5 toclient 1 answered
+6 ask 1 2 fresh 1
+6 part emp (id,age) {age 30..40}
+6 query 1 asked 2
+6 toserver 1 ask 2
+6 toclient 1 laid
+6 answer 1 2 2 2
+6 row 1, 35
+6 row 3, 33
+6 held 1 emp (id,age) {age 30..40}
+6 drop 1 rows emp (id,age) 2 {age 30..40}
+6 toclient 1 answered
+";
+
+/// A change that is told brings a row too many.
+const NOTICE_OVER_THE_BUDGET: &[u8] =
+    b"CREATE TABLE emp (id INT PRIMARY KEY CHECK (id BETWEEN 0 AND 9999), age INT CHECK (age BETWEEN 0 AND 150), name TEXT, dept INT CHECK (dept BETWEEN 0 AND 99))
+CREATE TABLE dept (no INT PRIMARY KEY CHECK (no BETWEEN 0 AND 99), title TEXT)
+exec INSERT INTO emp VALUES (1, 35, 'ann', 3), (2, 45, 'bob', 3)
+exec INSERT INTO emp VALUES (3, 33, 'cy', 4)
+query 1 SELECT id, age FROM emp WHERE age BETWEEN 30 AND 34
+query 1 SELECT id, age FROM emp WHERE age BETWEEN 35 AND 40
+exec UPDATE emp SET age = 36 WHERE id = 2
+push 1
+";
+
+const TRACE_OF_NOTICE_OVER_THE_BUDGET: &[u8] = b"3 exec version 1
+4 exec version 2
+5 ask 1 1 fresh 1
+5 part emp (id,age) {age 30..34}
+5 query 1 asked 1
+5 toserver 1 ask 2
+5 toclient 1 laid
+5 answer 1 1 2 1
+5 row 3, 33
+5 held 1 emp (id,age) {age 30..34}
+5 toclient 1 answered
+6 ask 1 2 more 1
+6 part emp (id,age) {age 35..40}
+6 query 1 asked 2
+6 toserver 1 ask 2
+6 toclient 1 laid
+6 answer 1 2 2 1
+6 row 1, 35
+6 held 1 emp (id,age) {age 35..40}
+6 toclient 1 answered
+7 exec version 3
+8 push 1 sent 1
+8 drop 1 rows emp (id,age) 1 {age 30..34}
+8 toclient 1 applied 3
+";
+
+/// The class that lies farthest from the last answered query is dropped.
+const REGION_LIMIT_BY_DISTANCE: &[u8] =
+    b"CREATE TABLE emp (id INT PRIMARY KEY CHECK (id BETWEEN 0 AND 9999), age INT CHECK (age BETWEEN 0 AND 150), name TEXT, dept INT CHECK (dept BETWEEN 0 AND 99))
+CREATE TABLE dept (no INT PRIMARY KEY CHECK (no BETWEEN 0 AND 99), title TEXT)
+exec INSERT INTO emp VALUES (1, 35, 'ann', 3), (2, 45, 'bob', 3)
+exec INSERT INTO emp VALUES (3, 33, 'cy', 4)
+query 1 SELECT id, age FROM emp WHERE age BETWEEN 30 AND 34
+query 1 SELECT id, age FROM emp WHERE age BETWEEN 100 AND 110
+query 1 SELECT id, age FROM emp WHERE age BETWEEN 36 AND 40
+";
+
+const TRACE_OF_REGION_LIMIT_BY_DISTANCE: &[u8] = b"3 exec version 1
+4 exec version 2
+5 ask 1 1 fresh 1
+5 part emp (id,age) {age 30..34}
+5 query 1 asked 1
+5 toserver 1 ask 2
+5 toclient 1 laid
+5 answer 1 1 2 1
+5 row 3, 33
+5 held 1 emp (id,age) {age 30..34}
+5 toclient 1 answered
+6 ask 1 2 more 1
+6 part emp (id,age) {age 100..110}
+6 query 1 asked 2
+6 toserver 1 ask 1
+6 answer 1 2 2 0
+6 held 1 emp (id,age) {age 100..110}
+6 toclient 1 answered
+7 ask 1 3 more 1
+7 part emp (id,age) {age 36..40}
+7 query 1 asked 3
+7 toserver 1 ask 1
+7 answer 1 3 2 0
+7 held 1 emp (id,age) {age 36..40}
+7 drop 1 regions emp (id,age) 2 {age 100..110}
+7 toclient 1 answered
+";
+
+/// What a client may keep where the words of the program do not say it.
+const LIMITS: Limits = Limits {
+    rows: 10_000,
+    regions: 64,
+    policy: Policy::Recency,
+};
+
+/// Limits, scripts and what is written.
+const BUDGETS: [(Limits, &[u8], &[u8]); 4] = [
+    (LIMITS, NOTICE_MOVES_A_ROW, TRACE_OF_NOTICE_MOVES_A_ROW),
+    (
+        Limits {
+            rows: 0,
+            regions: 64,
+            policy: Policy::Recency,
+        },
+        NO_ROW_BUDGET,
+        TRACE_OF_NO_ROW_BUDGET,
+    ),
+    (
+        Limits {
+            rows: 2,
+            regions: 64,
+            policy: Policy::Recency,
+        },
+        NOTICE_OVER_THE_BUDGET,
+        TRACE_OF_NOTICE_OVER_THE_BUDGET,
+    ),
+    (
+        Limits {
+            rows: 10_000,
+            regions: 2,
+            policy: Policy::Distance,
+        },
+        REGION_LIMIT_BY_DISTANCE,
+        TRACE_OF_REGION_LIMIT_BY_DISTANCE,
+    ),
+];
+
 /// How a replay ends: what it refuses, at a line of the script or a record of a file.
 #[derive(Clone, Copy, Debug, PartialEq, Eq)]
 enum Ending {
@@ -170,7 +373,7 @@ enum Ending {
 }
 
 /// Scripts, a file for the table p, the number of the write that fails, how the replay ends and what is written.
-const RUNS: [(&[u8], Option<&[u8]>, u64, Ending, &[u8]); 13] = [
+const RUNS: [(&[u8], Option<&[u8]>, u64, Ending, &[u8]); 14] = [
     (TWO_QUERIES, None, 0, Ending::Done, TRACE_OF_TWO_QUERIES),
     (
         TWO_QUERIES,
@@ -219,7 +422,8 @@ const RUNS: [(&[u8], Option<&[u8]>, u64, Ending, &[u8]); 13] = [
         b"",
     ),
     (b"# no table\n", None, 0, Ending::Done, b""),
-    (b"\npush 1", None, 0, Ending::Unbuilt(2), b""),
+    (b"\npush 1", None, 0, Ending::Done, b"2 push 1 sent 0\n"),
+    (b"push 1\nsettle 1", None, 0, Ending::Unbuilt(2), b""),
 ];
 
 /// The file for the table p.
@@ -263,6 +467,7 @@ fn ending_of(fault: &RunFault) -> Ending {
 /// How the replay of a script over a file ends.
 fn replay_ending(
     alloc: Global,
+    limits: Limits,
     script: &[u8],
     file: Option<&[u8]>,
     sink: &mut MemSink,
@@ -271,7 +476,7 @@ fn replay_ending(
         return Err(NoMemory);
     }
     let loads = loads_of(alloc, file)?;
-    match replay(alloc, script, loads.as_slice(), sink) {
+    match replay(alloc, limits, script, loads.as_slice(), sink) {
         Ok(_) => Ok(Ending::Done),
         Err(No::Refused(fault)) => Ok(ending_of(&fault)),
         Err(No::NoMemory) => Err(NoMemory),
@@ -285,7 +490,21 @@ fn a_replay_writes_its_trace_or_the_start_of_it(rt: HostRuntime) -> Result<(), F
         let mut fails = Seq::new(alloc);
         fails.push(failing)?;
         let mut sink = MemSink::new(alloc, fails, 4096);
-        assert_eq!(rt; replay_ending(alloc, script, file, &mut sink)?, end);
+        assert_eq!(rt; replay_ending(alloc, LIMITS, script, file, &mut sink)?, end);
+        assert_eq!(rt; sink.written(alloc)?.as_slice(), trace);
+    }
+    Ok(())
+}
+
+#[test]
+fn a_client_keeps_no_more_than_it_may(rt: HostRuntime) -> Result<(), Fail> {
+    let alloc = rt.alloc();
+    for (limits, script, trace) in BUDGETS {
+        let mut sink = MemSink::new(alloc, Seq::new(alloc), 4096);
+        assert_eq!(rt;
+            replay_ending(alloc, limits, script, None, &mut sink)?,
+            Ending::Done
+        );
         assert_eq!(rt; sink.written(alloc)?.as_slice(), trace);
     }
     Ok(())

@@ -1,6 +1,7 @@
 //! The world: server, client and queues.
 ghost use Rattle.std.specs.Prelude.{◌≡◌, ℕ, ◌+◌, ◌<◌, ◌≤◌, ◌^◌, true, [], ◌∷◌, ◌++◌, map, length, None, Ok, IsTrue, IfOk, OnOk};
 ghost use Rattle.std.specs.List.{list_all};
+ghost use Rattle.std.specs.Option.{is_some};
 ghost use Rattle.sr_message.specs.declared.message.Message.TheVariants.{Ask as AskMessage, Notice, Reply};
 ghost use Rattle.sr_script.specs.declared.line.TraceLine.TheVariants.{Ask, QueryAsked};
 ghost use Rattle.sr_language.specs.Events.{Exec, QueryOf, Push};
@@ -289,11 +290,13 @@ impl World {
         ensures one_less { OnOk result (length self.new.to_server.items + 1 ≡ length self.old.to_server.items) }
     {
         match self.to_server.pop_front() {
-            Some(Message::Ask {
-                number,
-                fresh,
-                parts,
-            }) => {
+            Some(
+                Message::Ask {
+                    number,
+                    fresh,
+                    parts,
+                },
+            ) => {
                 let sent = self.server.take_ask(alloc, number, fresh, &parts)?;
                 let frames = sent.len() as u64;
                 queue_up(&mut self.to_client, sent)?;
@@ -343,7 +346,7 @@ impl World {
         }
     }
 
-    /// The client takes this message, which came first in its queue: while a request is out it is laid by, if it is not the reply.
+    /// The client takes this message, which came first in its queue. While nothing is out, it is a notice.
     fn take_message(&mut self, alloc: Global, message: Message) -> Result<TraceLines, NoMemory>
         requires taking { (before : World) × Taking before self.old message }
         ensures delivery { (before : World) → Taking before self.old message → IfOk result (DoesDelivery before self.new) }
@@ -352,12 +355,28 @@ impl World {
         ensures to_server { OnOk result (self.new.to_server.items ≡ self.old.to_server.items) }
         ensures to_client { OnOk result (self.new.to_client.items ≡ self.old.to_client.items) }
     {
-        match (version_of(&message), message) {
-            (Some(version), _) => self.take_reply(alloc, version),
-            (None, Message::Notice { version, told }) if self.client.out.is_none() => {
-                self.apply(alloc, version, told)
-            }
-            (None, message) => self.client.lay_by(alloc, message),
+        if self.client.out.is_some() {
+            return self.take_while_out(alloc, message);
+        }
+        match message {
+            Message::Notice { version, told } => self.apply(alloc, version, told),
+            _ => Ok(Seq::new(alloc)),
+        }
+    }
+
+    /// While an ask is out, what comes before its reply is laid by.
+    fn take_while_out(&mut self, alloc: Global, message: Message) -> Result<TraceLines, NoMemory>
+        requires out { IsTrue (is_some self.old.client.out) }
+        requires taking { (before : World) × Taking before self.old message }
+        ensures delivery { (before : World) → Taking before self.old message → IfOk result (DoesDelivery before self.new) }
+        ensures drawn { OnOk result (drawn self.new ≡ drawn self.old) }
+        ensures schema { self.new.server.tables.schema ≡ self.old.server.tables.schema }
+        ensures to_server { OnOk result (self.new.to_server.items ≡ self.old.to_server.items) }
+        ensures to_client { OnOk result (self.new.to_client.items ≡ self.old.to_client.items) }
+    {
+        match version_of(&message) {
+            Some(version) => self.take_reply(alloc, version),
+            None => self.client.lay_by(alloc, message),
         }
     }
 

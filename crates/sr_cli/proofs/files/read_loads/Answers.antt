@@ -1,6 +1,7 @@
 use Rattle.std.proofs.Common.{◌≡◌, Some, None, Err, refl, ap, subst, ◌∙◌}
 use Rattle.std.specs.Prelude.{IsErrOf}
-use Rattle.sr_cli.specs.Run.{LoadWord, load_word, IsTooLong}
+use Rattle.sr_cli.specs.Run.{IsTooLong}
+use Rattle.sr_cli.specs.Words.{LoadWord, load_word}
 use Rattle.sr_cli.specs.Seen.{AddsLoad}
 use Rattle.sr_cli.proofs.ReadSoFar.{none_read, one_read, one_long, one_unheld}
 use Rattle.sr_cli.proofs.files.read_loads.Goals as goal

@@ -1,6 +1,9 @@
-use Rattle.std.proofs.Common.{◌≡◌, ℕ, ◌⊎◌, List, Option, Some, Err, inl, inr, ap, subst, ◌∙◌}
+use Rattle.std.proofs.Common.{◌≡◌, ℕ, ◌⊎◌, List, Option, Some, Err, inl, inr, sym, ap, subst, ◌∙◌}
+use Rattle.std.specs.Prelude.{MatchOption}
 use Rattle.sr_cell.specs.declared.fault.Fault.{Fault}
-use Rattle.sr_cli.specs.Run.{Words, IsRefusedSetup, IsRefusedLoad, AreHeld}
+use Rattle.sr_io.specs.Told.{Reading}
+use Rattle.sr_cli.specs.Run.{SomeTooLong, IsRefusedSetup, IsRefusedLoad, AreHeld}
+use Rattle.sr_cli.specs.Words.{Words, words_of, files_of, OnWords}
 use Rattle.sr_cli.specs.Seen.{words_seen}
 use Rattle.sr_cli.specs.declared.run.Refusal.{Refusal}
 use Rattle.sr_cli.specs.declared.run.Refusal.TheVariants.{Setup, Load as LoadRefused}
@@ -18,6 +21,19 @@ refused_of held words refusal S L setup load (inr (table, fault, is, said)) = in
 
 same_words : (a b : Words) (said : Option Words) → Some a ≡ said → said ≡ Some b → b ≡ a
 same_words a b said is says = let e : Some a ≡ Some b = is ∙ says in cc
+
+-- what holds of what the words say
+on_words : (words : List (List ℕ)) (said : Words) (P : Words → Type 0) → Some said ≡ words_of words → P said → OnWords words P
+on_words words said P is p = subst (λ w. MatchOption w ⊥ P) is p
+
+pub returns-in-Err-clause-too_long : goal.returns-in-Err-clause-too_long
+returns-in-Err-clause-too_long g c = λ is.
+    let words = words_seen c.in-Some.words in
+    let long = c.in-Err.ensures.too_long (ap Err (c.report.ensures.too_long is)) in
+    on_words c.args.words.now words
+    (λ w. SomeTooLong (g.H.Outside.held c.args.host.now) (g.H.Outside.reading c.report.new.host).left (files_of w))
+    c.in-Some.ensures
+    (subst (λ (r : Reading). SomeTooLong (g.H.Outside.held c.args.host.now) r.left (files_of words)) (sym c.report.ensures.reading_stays) long)
 
 pub returns-in-Err-clause-steady : goal.returns-in-Err-clause-steady
 returns-in-Err-clause-steady g c = λ steady w script loads says held.

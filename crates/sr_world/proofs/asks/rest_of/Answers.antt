@@ -1,6 +1,6 @@
-use Rattle.std.proofs.Common.{◌≡◌, ◌∷◌, [], ◌++◌, sym, ◌∙◌, ap, subst, true, refl, get_or}
+use Rattle.std.proofs.Common.{◌≡◌, ◌∷◌, [], ◌++◌, sym, subst, true, refl, get_or}
 use Rattle.std.specs.List.{list_all}
-use Rattle.sr_box.specs.Points.{Rect, rect_fits}
+use Rattle.sr_box.specs.Points.{rect_fits}
 use Rattle.sr_cell.specs.declared.table.Table.{Table}
 use Rattle.sr_cell.specs.Columns.{table_at}
 use Rattle.sr_union.specs.Grid.{AreCutFrom}

@@ -37,17 +37,17 @@ returns-in-Err-clause-steady_never_faults g c steady is = c.in-Err.ensures.refus
 pub returns-in-Ok-run_script-clause-whole : goal.returns-in-Ok-run_script-clause-whole
 returns-in-Ok-run_script-clause-whole g c =
     let loaded = loaded-same c.in-Ok-read_script.read _ _ _ (c.in-Ok-read_script.ensures.created _ c.in-Ok.ensures.created) c.in-Ok.ensures.filled in
-    Wrote-of _ _ c.in-Ok-read_script.read c.in-Ok.tables.rows _ _ _ c.in-Ok-read_script.ensures.read loaded c.in-Ok-run_script.ensures.whole
+    Wrote-of c.args.limits _ _ c.in-Ok-read_script.read c.in-Ok.tables.rows _ _ _ c.in-Ok-read_script.ensures.read loaded c.in-Ok-run_script.ensures.whole
 
 pub returns-in-Err-Refused-run_script-clause-part_after_fault : goal.returns-in-Err-Refused-run_script-clause-part_after_fault
 returns-in-Err-Refused-run_script-clause-part_after_fault g c = λ _.
     let loaded = loaded-same c.in-Ok-read_script.read _ _ _ (c.in-Ok-read_script.ensures.created _ c.in-Ok.ensures.created) c.in-Ok.ensures.filled in
-    WrotePart-of _ _ c.in-Ok-read_script.read c.in-Ok.tables.rows _ _ c.in-Ok-read_script.ensures.read loaded c.in-Err-Refused-run_script.ensures.part
+    WrotePart-of c.args.limits _ _ c.in-Ok-read_script.read c.in-Ok.tables.rows _ _ c.in-Ok-read_script.ensures.read loaded c.in-Err-Refused-run_script.ensures.part
 
 pub returns-in-Ok-read_script-clause-part_in_want : goal.returns-in-Ok-read_script-clause-part_in_want
 returns-in-Ok-read_script-clause-part_in_want g c = λ _.
     let loaded = loaded-same c.in-Ok-read_script.read _ _ _ (c.in-Ok-read_script.ensures.created _ c.in-Ok.ensures.created) c.in-Ok.ensures.filled in
-    inr (WrotePart-of _ _ c.in-Ok-read_script.read c.in-Ok.tables.rows _ _ c.in-Ok-read_script.ensures.read loaded c.in-Err-NoMemory-run_script.ensures.part)
+    inr (WrotePart-of c.args.limits _ _ c.in-Ok-read_script.read c.in-Ok.tables.rows _ _ c.in-Ok-read_script.ensures.read loaded c.in-Err-NoMemory-run_script.ensures.part)
 
 pub returns-in-Err-Refused-clause-unbuilt_loads : goal.returns-in-Err-Refused-clause-unbuilt_loads
 returns-in-Err-Refused-clause-unbuilt_loads g c line is = accepts-loads c.args.script.now c.args.loads.now c.in-Ok.tables.schema c.in-Ok.tables.rows c.in-Ok.ensures.created c.in-Ok.ensures.filled

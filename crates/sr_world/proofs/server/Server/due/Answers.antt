@@ -1,5 +1,4 @@
-use Rattle.std.proofs.Common.{◌≡◌, ◌-◌, ◌++◌, ◌∙◌, sym, ap, append-nil, arith}
-use Rattle.sr_world.specs.Noticing.{noticed}
+use Rattle.std.proofs.Common.{◌++◌, ◌∙◌, sym, ap, append-nil}
 use Rattle.sr_world.proofs.Noticed.{noticed-step, noticed-end}
 use Rattle.sr_world.proofs.server.Server.due.Goals as goal
 

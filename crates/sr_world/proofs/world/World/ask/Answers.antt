@@ -1,4 +1,4 @@
-use Rattle.std.proofs.Common.{rules, [], ◌≡◌, ◌≤◌, ◌∙◌, subst, ap, arith, length, true, false, None, Ok, refl}
+use Rattle.std.proofs.Common.{rules, [], ◌≡◌, ◌∙◌, subst, ap, arith, length, true, false, None, Ok, refl}
 use Rattle.sr_language.specs.Events.{QueryOf}
 use Rattle.sr_world.specs.Asking.{AsksRest}
 use Rattle.sr_world.specs.Cutting.{AreCutAlong}

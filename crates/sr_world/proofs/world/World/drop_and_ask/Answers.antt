@@ -1,5 +1,4 @@
-use Rattle.std.proofs.Common.{◌≡◌, ◌≤◌, ◌++◌, ◌∙◌, [], map, length, ap, subst, sym, refl}
-use Rattle.sr_scene.specs.Steps.{mark_line}
+use Rattle.std.proofs.Common.{◌≤◌, ◌∙◌, length, ap, subst, sym, refl}
 use Rattle.sr_world.specs.Asking.{whole_asks}
 use Rattle.sr_world.specs.Sending.{IsSent}
 use Rattle.sr_world.proofs.DropLemmas.{with_store, whole-few, does-drop}

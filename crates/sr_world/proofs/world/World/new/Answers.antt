@@ -1,4 +1,4 @@
-use Rattle.std.proofs.Common.{rules, refl}
+use Rattle.std.proofs.Common.{rules}
 use Rattle.sr_world.proofs.StepLemmas.{begins}
 use Rattle.sr_world.proofs.world.World.new.Goals as goal
 

@@ -1,23 +1,11 @@
-use Rattle.std.proofs.Common.{sym, ◌∙◌}
-use Rattle.sr_world.proofs.StepLemmas.{if_each, on_ok, of_ok}
-use Rattle.sr_world.proofs.TakeLemmas.{does-lay, taking}
+use Rattle.sr_world.proofs.TakeLemmas.{taking}
 use Rattle.sr_world.proofs.world.World.take.Goals as goal
 
-pub returns-in-None-version_of-clause-delivery : goal.returns-in-None-version_of-clause-delivery
-returns-in-None-version_of-clause-delivery c =
-    if_each _ c.lay_by.result
-    (λ lines is. does-lay c.args.self.now c.in-Some.message c.pop_front.new.self c.lay_by.new.self lines c.in-Some.ensures.items (sym c.version_of.ensures ∙ c.in-None-version_of.is)
-    (on_ok _ c.lay_by.result lines is c.lay_by.ensures.client) (of_ok _ c.lay_by.result lines is c.lay_by.ensures.lines))
-
-pub take_reply-requires : goal.take_reply-requires
-take_reply-requires c = record {
-  taking = (
-    c.args.self.now,
-    taking c.args.self.now c.in-Some.message c.in-Some-version_of.version c.pop_front.new.self c.requires.stands c.in-Some.ensures.items (sym c.version_of.ensures ∙ c.in-Some-version_of.is),
-  );
+pub take_message-requires : goal.take_message-requires
+take_message-requires c = record {
+  taking = (c.args.self.now, taking c.args.self.now c.in-Some.message c.pop_front.new.self c.requires.stands c.requires.served c.in-Some.ensures.items);
 }
 
-pub returns-in-Some-version_of-clause-delivery : goal.returns-in-Some-version_of-clause-delivery
-returns-in-Some-version_of-clause-delivery c =
-    c.take_reply.ensures.delivery c.args.self.now
-    (taking c.args.self.now c.in-Some.message c.in-Some-version_of.version c.pop_front.new.self c.requires.stands c.in-Some.ensures.items (sym c.version_of.ensures ∙ c.in-Some-version_of.is))
+pub returns-in-Some-clause-delivery : goal.returns-in-Some-clause-delivery
+returns-in-Some-clause-delivery c =
+    c.take_message.ensures.delivery c.args.self.now (taking c.args.self.now c.in-Some.message c.pop_front.new.self c.requires.stands c.requires.served c.in-Some.ensures.items)

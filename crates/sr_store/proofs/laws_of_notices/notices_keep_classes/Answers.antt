@@ -1,5 +1,0 @@
-use Rattle.sr_store.proofs.Noticing.{notices-classes}
-use Rattle.sr_store.proofs.laws_of_notices.notices_keep_classes.Goals as goal
-
-pub returns : goal.returns
-returns c = notices-classes

@@ -96,7 +96,8 @@ with_files (Some limits) (script ∷ loads) = if is_name script then with_script
 
 -- ---- all words
 
--- the options in their order, and the files behind them
+-- The options in their order, and the files behind them. Rows are 10,000 where they are not said, and at most 200,000; regions are
+-- 64, and at most 1,024.
 abbrev pub replay_of : List (List ℕ) → Option Words
 replay_of words =
     let rows = front (codes "--rows") words in

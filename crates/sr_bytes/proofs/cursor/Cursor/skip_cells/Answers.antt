@@ -1,0 +1,17 @@
+use Rattle.std.proofs.Common.{◌∙◌}
+use Rattle.std.proofs.lemmas.Result.{err_from_is_err_and}
+use Rattle.sr_bytes.specs.Reading.{a_cell}
+use Rattle.sr_bytes.specs.Views.{cell_of}
+use Rattle.sr_bytes.proofs.Skipping.{skips_one, none_more, all_read}
+use Rattle.sr_bytes.proofs.cursor.Cursor.skip_cells.Goals as goal
+
+pub returns-in_err-cell : goal.returns-in_err-cell
+returns-in_err-cell c =
+    let p = err_from_is_err_and c.from_residual.result c.from_residual.ensures.1 in
+    rw p.1 (none_more a_cell c.args.count c.loop.counter c.args.self.now c.loop.self c.cell.new.self c.loop-test.true c.in_err-cell.ensures c.loop.invariant)
+
+pub loop-preserved : goal.loop-preserved
+loop-preserved c = skips_one a_cell c.args.count c.loop.counter c.loop.self c.cell.new.self (cell_of c.in_ok-cell.field-0) c.loop-test.true c.in_ok-cell.ensures ∙ c.loop.invariant
+
+pub returns : goal.returns
+returns c = all_read a_cell c.args.count c.loop.counter c.args.self.now c.loop.self c.loop-test.false c.loop.invariant

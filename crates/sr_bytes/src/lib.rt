@@ -1,0 +1,10 @@
+//! Cells, rows, spans and rects as bytes: written, and read in place.
+#![tactic(auto)]
+
+pub mod cursor;
+pub mod laws;
+pub mod own;
+#[cfg(test)]
+mod tests;
+pub mod views;
+pub mod write;

@@ -1,0 +1,253 @@
+//! Cells, rows, spans and rects in the bytes that spell them.
+ghost use Rattle.std.specs.Prelude.{◌≡◌, ℕ, List, [], ◌++◌, option_to_list, IfNone};
+ghost use Rattle.std.specs.Option.{option_map};
+ghost use Rattle.sr_bytes.specs.Reading.{a_cell, a_row, a_span, a_span_of, a_rect, some_rects, many, items};
+ghost use Rattle.sr_bytes.specs.Views.{Reads, cell_of, span_of};
+
+use crate::cursor::{BadField, Cursor};
+use std::marker::Model;
+
+/// The most columns of a table.
+const COLUMNS: u8 = 12;
+
+/// The most bytes of a cell.
+const CELL_BYTES: u8 = 120;
+
+/// The most bytes of a bound of a span.
+const BOUND_BYTES: u8 = 121;
+
+/// The most rects of a list.
+const RECTS: u32 = 16_384;
+
+/// A cell.
+#[derive(Clone, Copy, Debug)]
+pub enum CellView<'a> {
+    Num(i64),
+    Str(&'a str),
+}
+
+/// A span.
+#[derive(Clone, Copy, Debug)]
+pub enum SpanView<'a> {
+    Full,
+    Nums { lo: i64, hi: i64 },
+    Strs { lo: &'a [u8], hi: Option<&'a [u8]> },
+}
+
+/// The cells that are left of a row.
+#[derive(Drop)]
+pub struct RowView<'a> {
+    cells: u8,
+    bytes: Cursor<'a>,
+}
+
+impl<'a> Model for RowView<'a> {
+    ghost use Rattle.sr_cell.specs.Cells.{Row};
+
+    ghost Value = { Row };
+
+    ghost use Rattle.sr_bytes.specs.Reading.{a_cell, items};
+
+    ghost view = { λ r. items a_cell r.cells r.bytes };
+}
+
+/// The spans that are left of a rect.
+#[derive(Drop)]
+pub struct RectView<'a> {
+    spans: u8,
+    bytes: Cursor<'a>,
+}
+
+impl<'a> Model for RectView<'a> {
+    ghost use Rattle.sr_box.specs.Points.{Rect};
+
+    ghost Value = { Rect };
+
+    ghost use Rattle.sr_bytes.specs.Reading.{a_span, items};
+
+    ghost view = { λ r. items a_span r.spans r.bytes };
+}
+
+/// The rects that are left of a list.
+#[derive(Drop)]
+pub struct RectsView<'a> {
+    rects: u32,
+    bytes: Cursor<'a>,
+}
+
+impl<'a> Model for RectsView<'a> {
+    ghost use Rattle.std.specs.Prelude.{List};
+    ghost use Rattle.sr_box.specs.Points.{Rect};
+
+    ghost Value = { List Rect };
+
+    ghost use Rattle.sr_bytes.specs.Reading.{a_rect, items};
+
+    ghost view = { λ r. items a_rect r.rects r.bytes };
+}
+
+impl<'a> RowView<'a> {
+    /// The next cell, or None where none is left.
+    pub fn next(&mut self) -> Option<CellView<'a>>
+        ensures first { self.old ≡ option_to_list (option_map cell_of result) ++ self.new }
+        ensures end { IfNone result (self.old ≡ []) }
+    {
+        if self.cells == 0 {
+            return None;
+        }
+        match self.bytes.cell() {
+            Ok(cell) => {
+                self.cells -= 1;
+                Some(cell)
+            }
+            Err(BadField) => {
+                self.cells = 0;
+                None
+            }
+        }
+    }
+}
+
+impl<'a> RectView<'a> {
+    /// The next span, or None where none is left.
+    pub fn next(&mut self) -> Option<SpanView<'a>>
+        ensures first { self.old ≡ option_to_list (option_map span_of result) ++ self.new }
+        ensures end { IfNone result (self.old ≡ []) }
+    {
+        if self.spans == 0 {
+            return None;
+        }
+        match self.bytes.span() {
+            Ok(span) => {
+                self.spans -= 1;
+                Some(span)
+            }
+            Err(BadField) => {
+                self.spans = 0;
+                None
+            }
+        }
+    }
+}
+
+impl<'a> RectsView<'a> {
+    /// The next rect, or None where none is left.
+    pub fn next(&mut self) -> Option<RectView<'a>>
+        ensures first { self.old ≡ option_to_list result ++ self.new }
+        ensures end { IfNone result (self.old ≡ []) }
+    {
+        if self.rects == 0 {
+            return None;
+        }
+        match self.bytes.rect() {
+            Ok(rect) => {
+                self.rects -= 1;
+                Some(rect)
+            }
+            Err(BadField) => {
+                self.rects = 0;
+                None
+            }
+        }
+    }
+}
+
+impl<'a> Cursor<'a> {
+    /// A cell.
+    pub fn cell(&mut self) -> Result<CellView<'a>, BadField>
+        ensures { Reads cell_of result self.new (a_cell self.old) }
+    {
+        match self.byte_in(0, 1)? {
+            0 => Ok(CellView::Num(self.signed()?)),
+            _ => Ok(CellView::Str(self.text(CELL_BYTES)?)),
+        }
+    }
+
+    /// A row, whose cells are read again when they are asked for.
+    pub fn row(&mut self) -> Result<RowView<'a>, BadField>
+        ensures { Reads (λ row. row) result self.new (a_row self.old) }
+    {
+        let cells = self.byte_in(1, COLUMNS)?;
+        let bytes = Cursor::over(self.left());
+        self.skip_cells(cells)?;
+        Ok(RowView { cells, bytes })
+    }
+
+    fn skip_cells(&mut self, count: u8) -> Result<(), BadField>
+        ensures { Reads (λ _. items a_cell count self.old) result self.new (many a_cell count self.old) }
+    {
+        for _ in 0..count {
+            self.cell()?;
+        }
+        Ok(())
+    }
+
+    /// A span.
+    pub fn span(&mut self) -> Result<SpanView<'a>, BadField>
+        ensures { Reads span_of result self.new (a_span self.old) }
+    {
+        match self.byte_in(0, 3)? {
+            0 => Ok(SpanView::Full),
+            1 => self.numbers(),
+            2 => self.texts(),
+            _ => Ok(SpanView::Strs {
+                lo: self.bytes_in(1, BOUND_BYTES)?,
+                hi: None,
+            }),
+        }
+    }
+
+    fn numbers(&mut self) -> Result<SpanView<'a>, BadField>
+        ensures { Reads span_of result self.new (a_span_of 1 self.old) }
+    {
+        let lo = self.signed()?;
+        let hi = self.signed_from(lo)?;
+        Ok(SpanView::Nums { lo, hi })
+    }
+
+    fn texts(&mut self) -> Result<SpanView<'a>, BadField>
+        ensures { Reads span_of result self.new (a_span_of 2 self.old) }
+    {
+        let lo = self.bytes_in(0, BOUND_BYTES)?;
+        let hi = self.bytes_above(BOUND_BYTES, lo)?;
+        Ok(SpanView::Strs { lo, hi: Some(hi) })
+    }
+
+    /// A rect, whose spans are read again when they are asked for.
+    pub fn rect(&mut self) -> Result<RectView<'a>, BadField>
+        ensures { Reads (λ rect. rect) result self.new (a_rect self.old) }
+    {
+        let spans = self.byte_in(1, COLUMNS)?;
+        let bytes = Cursor::over(self.left());
+        self.skip_spans(spans)?;
+        Ok(RectView { spans, bytes })
+    }
+
+    fn skip_spans(&mut self, count: u8) -> Result<(), BadField>
+        ensures { Reads (λ _. items a_span count self.old) result self.new (many a_span count self.old) }
+    {
+        for _ in 0..count {
+            self.span()?;
+        }
+        Ok(())
+    }
+
+    /// A list of rects, which are read again when they are asked for.
+    pub fn rects(&mut self) -> Result<RectsView<'a>, BadField>
+        ensures { Reads (λ rects. rects) result self.new (some_rects self.old) }
+    {
+        let rects = self.number_in(1, RECTS)?;
+        let bytes = Cursor::over(self.left());
+        self.skip_rects(rects)?;
+        Ok(RectsView { rects, bytes })
+    }
+
+    fn skip_rects(&mut self, count: u32) -> Result<(), BadField>
+        ensures { Reads (λ _. items a_rect count self.old) result self.new (many a_rect count self.old) }
+    {
+        for _ in 0..count {
+            self.rect()?;
+        }
+        Ok(())
+    }
+}

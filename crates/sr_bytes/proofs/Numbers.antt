@@ -2,16 +2,16 @@
 use Rattle.std.proofs.Common.{◌≡◌, ℕ, zero, suc, ℤ, pos, negsuc, ◌^◌, ◌<◌, ◌≤◌, Bool, true, false, cond, ltb, List, [], ◌∷◌, ◌++◌, length, get_or, take, drop, refl, sym, ap, subst, ◌∙◌, arith, inl, inr}
 use Rattle.std.specs.Prelude.{IsTrue, IsUtf8, ◌&&◌, FitsSigned, nat_le}
 use Rattle.std.specs.Str.{is_utf8}
-use Rattle.std.specs.Int.{Width, w32, w64, byte_len, from_be_bytes, to_be_bytes, cast_signed, cast_unsigned}
+use Rattle.std.specs.Int.{Width, w16, w32, w64, byte_len, from_be_bytes, to_be_bytes, cast_signed, cast_unsigned}
 use Rattle.std.proofs.lemmas.Bool.{cases_lt, ltb-false, le-ltb, ltb-true, lt-ltb, le-leb, cases_Bool}
 use Rattle.std.proofs.lemmas.List.{take_at, drop_at, take-append-drop, length-append, length-take}
-use Rattle.std.proofs.lemmas.Nat.{be_bytes_4, be_bytes_8, from_be_bytes-to_be_bytes_4, from_be_bytes-to_be_bytes_8}
+use Rattle.std.proofs.lemmas.Nat.{be_bytes_2, be_bytes_4, be_bytes_8, from_be_bytes-to_be_bytes_2, from_be_bytes-to_be_bytes_4, from_be_bytes-to_be_bytes_8}
 use Rattle.std.proofs.lemmas.Int.{to_z-of_z, of_z-to_z}
 use Rattle.std.proofs.lemmas.Str.{IsUtf8-from_is_utf8, is_utf8-from_IsUtf8}
 use Rattle.std.proofs.Math.Facts.{Fits-of_z, sfits_to_z}
 use Rattle.sr_cell.specs.Columns.{are_bytes}
 use Rattle.sr_bytes.specs.Reading.{Reading, Got, Bad, Reader, read_on, ◌>>=◌, give, tested, passing, a_byte, a_number, bytes_that, any_bytes, a_signed, a_text}
-use Rattle.sr_bytes.specs.Spelling.{number_bytes, count_bytes, text_bytes, is_from_to, is_number}
+use Rattle.sr_bytes.specs.Spelling.{number_bytes, count_bytes, short_count_bytes, text_bytes, is_from_to, is_number}
 use Rattle.sr_bytes.specs.Laws.{IsExact}
 use Rattle.sr_bytes.proofs.Steps.{step_of, got_value, got_rest, passed, rest_bytes, front_bytes, left_of, right_of, both}
 
@@ -36,13 +36,21 @@ at_byte [] fits i = omega arith
 at_byte (b ∷ bytes) fits zero = ltb-true b 256 (left_of (ltb b 256) (are_bytes bytes) fits)
 at_byte (b ∷ bytes) fits (suc i) = at_byte bytes (right_of (ltb b 256) (are_bytes bytes) fits) i
 
-pub record IsWide (w : Width) (limit : ℕ) : Type 0 where
+record IsWide (w : Width) (limit : ℕ) : Type 0 where
   pub len : (n : ℕ) → length (to_be_bytes w n) ≡ byte_len w
   pub back : (bytes : List ℕ) → length bytes ≡ byte_len w → IsTrue (are_bytes bytes) → to_be_bytes w (from_be_bytes w bytes) ≡ bytes
   pub again : (n : ℕ) → n < limit → from_be_bytes w (to_be_bytes w n) ≡ n
   pub below : (bytes : List ℕ) → IsTrue (are_bytes bytes) → from_be_bytes w bytes < limit
 
-pub wide32 : IsWide w32 (2 ^ 32)
+wide16 : IsWide w16 (2 ^ 16)
+wide16 = record {
+  len = λ n. refl;
+  back = λ bytes len fits. be_bytes_2 bytes _ len (at_byte bytes fits) refl;
+  again = λ n lt. from_be_bytes-to_be_bytes_2 n lt;
+  below = λ bytes fits. omega (arith, at_byte bytes fits 0, at_byte bytes fits 1);
+}
+
+wide32 : IsWide w32 (2 ^ 32)
 wide32 = record {
   len = λ n. refl;
   back = λ bytes len fits. be_bytes_4 bytes _ len (at_byte bytes fits) refl;
@@ -50,7 +58,7 @@ wide32 = record {
   below = λ bytes fits. omega (arith, at_byte bytes fits 0, at_byte bytes fits 1, at_byte bytes fits 2, at_byte bytes fits 3);
 }
 
-pub wide64 : IsWide w64 (2 ^ 64)
+wide64 : IsWide w64 (2 ^ 64)
 wide64 = record {
   len = λ n. refl;
   back = λ bytes len fits. be_bytes_8 bytes _ len (at_byte bytes fits) refl;
@@ -63,13 +71,13 @@ unless : {A : Type 0} (b : Bool) (bytes : List ℕ) (x y : A) (r rest : List ℕ
 unless true bytes x y r rest e = absurd cc
 unless false bytes x y r rest e = (refl, got_value x y r rest e, got_rest x y r rest e)
 
-pub number_again : (w : Width) (limit : ℕ) → IsWide w limit → (n : ℕ) (rest : List ℕ) → n < limit → a_number w (to_be_bytes w n ++ rest) ≡ Got n rest
+number_again : (w : Width) (limit : ℕ) → IsWide w limit → (n : ℕ) (rest : List ℕ) → n < limit → a_number w (to_be_bytes w n ++ rest) ≡ Got n rest
 number_again w limit wide n rest lt =
     let len = wide.len n in
     let long : ltb (length (to_be_bytes w n ++ rest)) (byte_len w) ≡ false = le-ltb _ _ (omega (arith, length-append (to_be_bytes w n) rest)) in
     rw (long, take_at (to_be_bytes w n) rest (byte_len w) len, drop_at (to_be_bytes w n) rest (byte_len w) len, wide.again n lt) refl
 
-pub number_spelled : (w : Width) (limit : ℕ) → IsWide w limit → (bytes : List ℕ) (n : ℕ) (rest : List ℕ) → IsTrue (are_bytes bytes) → a_number w bytes ≡ Got n rest → (bytes ≡ to_be_bytes w n ++ rest) × (n < limit)
+number_spelled : (w : Width) (limit : ℕ) → IsWide w limit → (bytes : List ℕ) (n : ℕ) (rest : List ℕ) → IsTrue (are_bytes bytes) → a_number w bytes ≡ Got n rest → (bytes ≡ to_be_bytes w n ++ rest) × (n < limit)
 number_spelled w limit wide bytes n rest fits e =
     let g = unless (ltb (length bytes) (byte_len w)) bytes (from_be_bytes w (take (byte_len w) bytes)) n (drop (byte_len w) bytes) rest e in
     let long : byte_len w ≤ length bytes = ltb-false _ _ g.0 in
@@ -77,6 +85,14 @@ number_spelled w limit wide bytes n rest fits e =
     let front = front_bytes bytes (take (byte_len w) bytes) (drop (byte_len w) bytes) cut fits in
     let back : to_be_bytes w n ≡ take (byte_len w) bytes = rw (← g.1) (wide.back (take (byte_len w) bytes) (omega (arith, length-take (byte_len w) bytes)) front) in
     (rw (back, ← g.2) cut, rw (← g.1) (wide.below (take (byte_len w) bytes) front))
+
+pub short_count_again : (n : ℕ) (rest : List ℕ) → n < 2 ^ 16 → a_number w16 (short_count_bytes n ++ rest) ≡ Got n rest
+unfolding short_count_bytes
+short_count_again n rest lt = number_again w16 (2 ^ 16) wide16 n rest lt
+
+pub short_count_spelled : (bytes : List ℕ) (n : ℕ) (rest : List ℕ) → IsTrue (are_bytes bytes) → a_number w16 bytes ≡ Got n rest → bytes ≡ short_count_bytes n ++ rest
+unfolding short_count_bytes
+short_count_spelled bytes n rest fits e = (number_spelled w16 (2 ^ 16) wide16 bytes n rest fits e).0
 
 pub count_again : (n : ℕ) (rest : List ℕ) → n < 2 ^ 32 → a_number w32 (count_bytes n ++ rest) ≡ Got n rest
 unfolding count_bytes

@@ -1,7 +1,7 @@
 -- Cells, rows, spans and rects: what is spelled is read again, and what is read is spelled.
 use Rattle.std.proofs.Common.{◌≡◌, ℕ, zero, suc, ℤ, ◌^◌, ◌<◌, ◌≤◌, Bool, true, false, List, [], ◌∷◌, ◌++◌, length, Option, Some, None, refl, sym, ap, subst, ◌∙◌, append_assoc, arith}
 use Rattle.std.specs.Prelude.{IsTrue, ◌&&◌, int_le, not, nat_le, nat_lt}
-use Rattle.std.specs.Int.{w32}
+use Rattle.std.specs.Int.{w16, w32}
 use Rattle.std.specs.List.{list_all, flat_map}
 use Rattle.std.specs.Str.{is_utf8}
 use Rattle.std.proofs.lemmas.Bool.{leb-true, le-leb}
@@ -12,11 +12,11 @@ use Rattle.sr_cell.specs.Columns.{are_bytes}
 use Rattle.sr_box.specs.declared.span.Span.{Span}
 use Rattle.sr_box.specs.declared.span.Span.TheVariants.{Full, Nums, Strs}
 use Rattle.sr_box.specs.Points.{Rect}
-use Rattle.sr_bytes.specs.Reading.{Reading, Got, Bad, Reader, read_on, ◌>>=◌, give, passing, many, a_byte, a_number, a_signed, a_text, any_bytes, a_cell_of, a_cell, a_row, a_span_of, a_span, a_rect, some_rects}
-use Rattle.sr_bytes.specs.Spelling.{number_bytes, count_bytes, text_bytes, cell_bytes, row_bytes, span_bytes, rect_bytes, rects_bytes, is_from_to, is_number, is_bound, has_cell_bytes, has_row_bytes, has_span_bytes, has_rect_bytes, have_rects_bytes}
+use Rattle.sr_bytes.specs.Reading.{Reading, Got, Bad, Reader, read_on, ◌>>=◌, give, passing, many, a_byte, a_number, a_signed, a_text, any_bytes, a_cell_of, a_cell, a_row, some_rows, a_span_of, a_span, a_rect, some_rects}
+use Rattle.sr_bytes.specs.Spelling.{number_bytes, count_bytes, short_count_bytes, text_bytes, cell_bytes, row_bytes, rows_bytes, span_bytes, rect_bytes, rects_bytes, is_from_to, is_number, is_bound, has_cell_bytes, has_row_bytes, have_rows_bytes, has_span_bytes, has_rect_bytes, have_rects_bytes}
 use Rattle.sr_bytes.specs.Laws.{IsExact}
 use Rattle.sr_bytes.proofs.Steps.{step_of, got_value, got_rest, passed, rest_bytes, front_bytes, left_of, right_of, both, behind, many_again, many_spelled}
-use Rattle.sr_bytes.proofs.Numbers.{byte_in_again, byte_in_spelled, count_again, count_spelled, signed_again, signed_spelled, from_zero, to_zero, text_again, text_spelled}
+use Rattle.sr_bytes.proofs.Numbers.{byte_in_again, byte_in_spelled, short_count_again, short_count_spelled, count_again, count_spelled, signed_again, signed_spelled, from_zero, to_zero, text_again, text_spelled}
 
 -- ---- lists behind a byte of their length
 
@@ -85,7 +85,7 @@ cell_spelled bytes c rest fits e =
 pub cell_exact : IsExact a_cell cell_bytes has_cell_bytes
 cell_exact = record { again = cell_again; spelled = cell_spelled }
 
-pub row_exact : IsExact a_row row_bytes has_row_bytes
+row_exact : IsExact a_row row_bytes has_row_bytes
 row_exact = counted_exact 1 12 a_cell cell_bytes has_cell_bytes cell_exact
 
 -- ---- spans and rects
@@ -182,25 +182,54 @@ span_exact = record { again = span_again; spelled = span_spelled }
 rect_exact : IsExact a_rect rect_bytes has_rect_bytes
 rect_exact = counted_exact 1 12 a_span span_bytes has_span_bytes span_exact
 
--- ---- lists of rects
+-- ---- lists behind a number of their length
 
-rects_again : (rects : List Rect) (rest : List ℕ) → IsTrue (have_rects_bytes rects) → some_rects (rects_bytes rects ++ rest) ≡ Got rects rest
-rects_again rects rest h =
-    let count = left_of (is_from_to 1 16384 (length rects)) (list_all has_rect_bytes rects) h in
-    let all = right_of (is_from_to 1 16384 (length rects)) (list_all has_rect_bytes rects) h in
-    let few : length rects ≤ 16384 = leb-true _ _ (right_of (nat_le 1 (length rects)) (nat_le (length rects) 16384) count) in
-    ap some_rects (append_assoc (count_bytes (length rects)) (flat_map rect_bytes rects) rest)
-    ∙ rw (count_again (length rects) (flat_map rect_bytes rects ++ rest) (omega (arith, few)), count) (many_again a_rect rect_bytes has_rect_bytes rect_exact rects rest all)
+-- a count of two or four bytes
+record IsCount (limit : ℕ) (r : Reader ℕ) (bytes_of : ℕ → List ℕ) : Type 0 where
+  again : (n : ℕ) (rest : List ℕ) → n < limit → r (bytes_of n ++ rest) ≡ Got n rest
+  spelled : (bytes : List ℕ) (n : ℕ) (rest : List ℕ) → IsTrue (are_bytes bytes) → r bytes ≡ Got n rest → bytes ≡ bytes_of n ++ rest
 
-rects_spelled : (bytes : List ℕ) (rects : List Rect) (rest : List ℕ) → IsTrue (are_bytes bytes) → some_rects bytes ≡ Got rects rest → (bytes ≡ rects_bytes rects ++ rest) × IsTrue (have_rects_bytes rects)
-rects_spelled bytes rects rest fits e =
-    let s = step_of (passing (is_from_to 1 16384) (a_number w32) bytes) (λ n. many a_rect n) rects rest e in
-    let p = passed (is_from_to 1 16384) bytes (a_number w32 bytes) s.value s.left s.first in
-    let n = count_spelled bytes s.value s.left fits p.0 in
-    let m = many_spelled a_rect rect_bytes has_rect_bytes rect_exact s.value s.left rects rest (rest_bytes bytes (count_bytes s.value) s.left n fits) s.second in (
-      behind bytes (count_bytes (length rects)) (flat_map rect_bytes rects) s.left rest (n ∙ ap (λ (k : ℕ). count_bytes k ++ s.left) (sym m.count)) m.parts,
-      both (is_from_to 1 16384 (length rects)) (list_all has_rect_bytes rects) (rw m.count p.1) m.all,
+abbrev listed : {A : Type 0} → ℕ → Reader ℕ → Reader A → Reader (List A)
+listed high count r = passing (is_from_to 1 high) count >>= λ n. many r n
+
+abbrev listed_bytes : {A : Type 0} → (ℕ → List ℕ) → (A → List ℕ) → List A → List ℕ
+listed_bytes count_of bytes_of xs = count_of (length xs) ++ flat_map bytes_of xs
+
+listed_again : {A : Type 0} (limit high : ℕ) (count : Reader ℕ) (count_of : ℕ → List ℕ) → IsCount limit count count_of → high < limit
+    → (r : Reader A) (bytes_of : A → List ℕ) (has : A → Bool) → IsExact r bytes_of has
+    → (xs : List A) (rest : List ℕ) → IsTrue (have_counted 1 high has xs) → listed high count r (listed_bytes count_of bytes_of xs ++ rest) ≡ Got xs rest
+listed_again limit high count count_of counts below r bytes_of has exact xs rest h =
+    let number = left_of (is_from_to 1 high (length xs)) (list_all has xs) h in
+    let all = right_of (is_from_to 1 high (length xs)) (list_all has xs) h in
+    let few : length xs ≤ high = leb-true _ _ (right_of (nat_le 1 (length xs)) (nat_le (length xs) high) number) in
+    ap (listed high count r) (append_assoc (count_of (length xs)) (flat_map bytes_of xs) rest)
+    ∙ rw (counts.again (length xs) (flat_map bytes_of xs ++ rest) (omega (arith, few, below)), number) (many_again r bytes_of has exact xs rest all)
+
+listed_spelled : {A : Type 0} (limit high : ℕ) (count : Reader ℕ) (count_of : ℕ → List ℕ) → IsCount limit count count_of
+    → (r : Reader A) (bytes_of : A → List ℕ) (has : A → Bool) → IsExact r bytes_of has
+    → (bytes : List ℕ) (xs : List A) (rest : List ℕ) → IsTrue (are_bytes bytes) → listed high count r bytes ≡ Got xs rest
+    → (bytes ≡ listed_bytes count_of bytes_of xs ++ rest) × IsTrue (have_counted 1 high has xs)
+listed_spelled limit high count count_of counts r bytes_of has exact bytes xs rest fits e =
+    let s = step_of (passing (is_from_to 1 high) count bytes) (λ n. many r n) xs rest e in
+    let p = passed (is_from_to 1 high) bytes (count bytes) s.value s.left s.first in
+    let n = counts.spelled bytes s.value s.left fits p.0 in
+    let m = many_spelled r bytes_of has exact s.value s.left xs rest (rest_bytes bytes (count_of s.value) s.left n fits) s.second in (
+      behind bytes (count_of (length xs)) (flat_map bytes_of xs) s.left rest (n ∙ ap (λ (k : ℕ). count_of k ++ s.left) (sym m.count)) m.parts,
+      both (is_from_to 1 high (length xs)) (list_all has xs) (rw m.count p.1) m.all,
     )
 
+pub rows_exact : IsExact some_rows rows_bytes have_rows_bytes
+rows_exact =
+    let counts : IsCount (2 ^ 16) (a_number w16) short_count_bytes = record { again = short_count_again; spelled = short_count_spelled } in
+    record {
+      again = listed_again (2 ^ 16) 256 (a_number w16) short_count_bytes counts (omega arith) a_row row_bytes has_row_bytes row_exact;
+      spelled = listed_spelled (2 ^ 16) 256 (a_number w16) short_count_bytes counts a_row row_bytes has_row_bytes row_exact;
+    }
+
 pub rects_exact : IsExact some_rects rects_bytes have_rects_bytes
-rects_exact = record { again = rects_again; spelled = rects_spelled }
+rects_exact =
+    let counts : IsCount (2 ^ 32) (a_number w32) count_bytes = record { again = count_again; spelled = count_spelled } in
+    record {
+      again = listed_again (2 ^ 32) 16384 (a_number w32) count_bytes counts (omega arith) a_rect rect_bytes has_rect_bytes rect_exact;
+      spelled = listed_spelled (2 ^ 32) 16384 (a_number w32) count_bytes counts a_rect rect_bytes has_rect_bytes rect_exact;
+    }

@@ -1,6 +1,6 @@
 -- Reading values from the front of bytes, field by field. What is at fault is told by the bytes from its first one on.
 use Rattle.std.specs.Prelude.{ℕ, zero, suc, ℤ, int_le, Bool, true, not, nat_le, nat_lt, ◌≡◌, List, [], ◌∷◌, length, take, drop, Option, Some, None, Result, Ok, Err, if◌then◌else◌}
-use Rattle.std.specs.Int.{Width, w32, w64, byte_len, from_be_bytes, cast_signed}
+use Rattle.std.specs.Int.{Width, w16, w32, w64, byte_len, from_be_bytes, cast_signed}
 use Rattle.std.specs.Str.{is_utf8}
 use Rattle.sr_cell.specs.declared.cell.Cell.{Cell}
 use Rattle.sr_cell.specs.declared.cell.Cell.TheVariants.{Num, Str}
@@ -87,6 +87,11 @@ abbrev pub a_row : Reader Row
 a_row = do
   n ← passing (is_from_to 1 12) a_byte
   many a_cell n
+
+abbrev pub some_rows : Reader (List Row)
+some_rows = do
+  n ← passing (is_from_to 1 256) (a_number w16)
+  many a_row n
 
 abbrev pub any_bytes : List ℕ → Bool
 any_bytes bytes = true

@@ -1,6 +1,6 @@
 -- Values as bytes. Each value has one spelling, and some have none.
 use Rattle.std.specs.Prelude.{ℕ, ◌^◌, ℤ, pos, negsuc, int_le, Bool, true, ◌&&◌, not, nat_le, nat_lt, List, [], ◌∷◌, ◌++◌, length, Option, Some, None}
-use Rattle.std.specs.Int.{w32, w64, to_be_bytes, cast_unsigned}
+use Rattle.std.specs.Int.{w16, w32, w64, to_be_bytes, cast_unsigned}
 use Rattle.std.specs.List.{flat_map, list_all}
 use Rattle.std.specs.Str.{is_utf8}
 use Rattle.sr_cell.specs.declared.cell.Cell.{Cell}
@@ -19,6 +19,10 @@ number_bytes n = to_be_bytes w64 (cast_unsigned w64 n)
 unfoldable pub count_bytes : ℕ → List ℕ
 count_bytes n = to_be_bytes w32 n
 
+-- the same in two bytes
+unfoldable pub short_count_bytes : ℕ → List ℕ
+short_count_bytes n = to_be_bytes w16 n
+
 -- a byte of length, and that many bytes
 abbrev pub text_bytes : List ℕ → List ℕ
 text_bytes text = length text ∷ text
@@ -30,6 +34,9 @@ cell_bytes (Str text) = 1 ∷ text_bytes text
 -- how many cells, and the cells
 abbrev pub row_bytes : Row → List ℕ
 row_bytes row = length row ∷ flat_map cell_bytes row
+
+abbrev pub rows_bytes : List Row → List ℕ
+rows_bytes rows = short_count_bytes (length rows) ++ flat_map row_bytes rows
 
 abbrev pub span_bytes : Span → List ℕ
 span_bytes Full = 0 ∷ []
@@ -59,6 +66,9 @@ has_cell_bytes (Str text) = nat_le (length text) 120 && is_utf8 text
 
 abbrev pub has_row_bytes : Row → Bool
 has_row_bytes row = is_from_to 1 12 (length row) && list_all has_cell_bytes row
+
+abbrev pub have_rows_bytes : List Row → Bool
+have_rows_bytes rows = is_from_to 1 256 (length rows) && list_all has_row_bytes rows
 
 -- a text of at most 121 bytes may bound a span
 abbrev pub is_bound : List ℕ → Bool

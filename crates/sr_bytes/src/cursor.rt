@@ -1,6 +1,6 @@
 //! Fields, read from the front of bytes.
 ghost use Rattle.std.specs.Prelude.{◌≡◌, ℕ, List, int_le, not};
-ghost use Rattle.std.specs.Int.{w32};
+ghost use Rattle.std.specs.Int.{w16, w32};
 ghost use Rattle.std.specs.Str.{is_utf8};
 ghost use Rattle.sr_bytes.specs.Reading.{passing, a_byte, a_number, a_signed, a_text, bytes_that, any_bytes};
 ghost use Rattle.sr_bytes.specs.Spelling.{is_from_to};
@@ -82,8 +82,7 @@ impl<'a> Cursor<'a> {
         Ok(front)
     }
 
-    /// A number of four bytes.
-    pub fn number(&mut self) -> Result<u32, BadField>
+    fn u32(&mut self) -> Result<u32, BadField>
         ensures { Reads (λ number. number) result self.new (a_number w32 self.old) }
     {
         let bytes = self.front(4)?;
@@ -91,11 +90,31 @@ impl<'a> Cursor<'a> {
     }
 
     /// A number of four bytes from `low` to `high`.
-    pub fn number_in(&mut self, low: u32, high: u32) -> Result<u32, BadField>
+    pub fn u32_in(&mut self, low: u32, high: u32) -> Result<u32, BadField>
         ensures { Reads (λ number. number) result self.new (passing (is_from_to low high) (a_number w32) self.old) }
     {
         let before = self.left;
-        let number = self.number()?;
+        let number = self.u32()?;
+        if number < low || high < number {
+            self.left = before;
+            return Err(BadField);
+        }
+        Ok(number)
+    }
+
+    fn u16(&mut self) -> Result<u16, BadField>
+        ensures { Reads (λ number. number) result self.new (a_number w16 self.old) }
+    {
+        let bytes = self.front(2)?;
+        Ok(u16::from_be_bytes([bytes[0], bytes[1]]))
+    }
+
+    /// A number of two bytes from `low` to `high`.
+    pub fn u16_in(&mut self, low: u16, high: u16) -> Result<u16, BadField>
+        ensures { Reads (λ number. number) result self.new (passing (is_from_to low high) (a_number w16) self.old) }
+    {
+        let before = self.left;
+        let number = self.u16()?;
         if number < low || high < number {
             self.left = before;
             return Err(BadField);
@@ -104,7 +123,7 @@ impl<'a> Cursor<'a> {
     }
 
     /// A whole number of eight bytes, a negative one as two's complement.
-    pub fn signed(&mut self) -> Result<i64, BadField>
+    pub fn i64(&mut self) -> Result<i64, BadField>
         ensures { Reads (λ number. number) result self.new (a_signed self.old) }
     {
         let bytes = self.front(8)?;
@@ -114,11 +133,11 @@ impl<'a> Cursor<'a> {
     }
 
     /// A whole number that is at least `lo`.
-    pub fn signed_from(&mut self, lo: i64) -> Result<i64, BadField>
+    pub fn i64_from(&mut self, lo: i64) -> Result<i64, BadField>
         ensures { Reads (λ number. number) result self.new (passing (int_le lo) a_signed self.old) }
     {
         let before = self.left;
-        let number = self.signed()?;
+        let number = self.i64()?;
         if number < lo {
             self.left = before;
             return Err(BadField);

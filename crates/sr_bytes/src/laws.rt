@@ -1,16 +1,16 @@
 //! Reading and spelling belong together: what is spelled is read again, and what is read was spelled.
 ghost use Rattle.sr_bytes.specs.Laws.{IsExact};
-ghost use Rattle.sr_bytes.specs.Reading.{a_cell, a_row, some_rects};
-ghost use Rattle.sr_bytes.specs.Spelling.{cell_bytes, has_cell_bytes, row_bytes, has_row_bytes, rects_bytes, have_rects_bytes};
+ghost use Rattle.sr_bytes.specs.Reading.{a_cell, some_rows, some_rects};
+ghost use Rattle.sr_bytes.specs.Spelling.{cell_bytes, has_cell_bytes, rows_bytes, have_rows_bytes, rects_bytes, have_rects_bytes};
 
 /// Each cell of a table has one spelling, and what is read as a cell is just that.
 pub fn cells_are_exact()
     ensures { IsExact a_cell cell_bytes has_cell_bytes }
 {}
 
-/// So is a row.
+/// So is a list of rows.
 pub fn rows_are_exact()
-    ensures { IsExact a_row row_bytes has_row_bytes }
+    ensures { IsExact some_rows rows_bytes have_rows_bytes }
 {}
 
 /// So is a list of rects.

@@ -2,10 +2,10 @@
 ghost use Rattle.std.specs.Prelude.{◌≡◌, IfOk};
 ghost use Rattle.sr_bytes.specs.Views.{cell_of, span_of};
 
-use crate::views::{CellView, RectView, RectsView, RowView, SpanView};
+use crate::views::{CellView, RectView, RectsView, RowView, RowsView, SpanView};
 use sr_box::rect::Rect;
 use sr_box::span::Span;
-use sr_cell::cell::{Cell, Row};
+use sr_cell::cell::{Cell, Row, Rows};
 use sr_cell::list::{Bytes, NoMemory, Seq};
 use sr_cell::text::Text;
 use sr_union::rects::Rects;
@@ -61,6 +61,19 @@ impl<'a> RowView<'a> {
             row.push(cell.to_cell(alloc)?)?;
         }
         Ok(row)
+    }
+}
+
+impl<'a> RowsView<'a> {
+    /// The rows that are left, in memory of their own.
+    pub fn to_rows(mut self, alloc: Global) -> Result<Rows, NoMemory>
+        ensures { IfOk result (λ rows. rows ≡ self.entry) }
+    {
+        let mut rows = Rows::new(alloc);
+        while let Some(row) = self.next() {
+            rows.push(row.to_row(alloc)?)?;
+        }
+        Ok(rows)
     }
 }
 

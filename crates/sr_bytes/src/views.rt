@@ -1,7 +1,7 @@
 //! Cells, rows, spans and rects in the bytes that spell them.
 ghost use Rattle.std.specs.Prelude.{◌≡◌, ℕ, List, [], ◌++◌, option_to_list, IfNone};
 ghost use Rattle.std.specs.Option.{option_map};
-ghost use Rattle.sr_bytes.specs.Reading.{a_cell, a_row, a_span, a_span_of, a_rect, some_rects, many, items};
+ghost use Rattle.sr_bytes.specs.Reading.{a_cell, a_row, some_rows, a_span, a_span_of, a_rect, some_rects, many, items};
 ghost use Rattle.sr_bytes.specs.Views.{Reads, cell_of, span_of};
 
 use crate::cursor::{BadField, Cursor};
@@ -15,6 +15,9 @@ const CELL_BYTES: u8 = 120;
 
 /// The most bytes of a bound of a span.
 const BOUND_BYTES: u8 = 121;
+
+/// The most rows of a list.
+const ROWS: u16 = 256;
 
 /// The most rects of a list.
 const RECTS: u32 = 16_384;
@@ -49,6 +52,24 @@ impl<'a> Model for RowView<'a> {
     ghost use Rattle.sr_bytes.specs.Reading.{a_cell, items};
 
     ghost view = { λ r. items a_cell r.cells r.bytes };
+}
+
+/// The rows that are left of a list.
+#[derive(Drop)]
+pub struct RowsView<'a> {
+    rows: u16,
+    bytes: Cursor<'a>,
+}
+
+impl<'a> Model for RowsView<'a> {
+    ghost use Rattle.std.specs.Prelude.{List};
+    ghost use Rattle.sr_cell.specs.Cells.{Row};
+
+    ghost Value = { List Row };
+
+    ghost use Rattle.sr_bytes.specs.Reading.{a_row, items};
+
+    ghost view = { λ r. items a_row r.rows r.bytes };
 }
 
 /// The spans that are left of a rect.
@@ -108,6 +129,28 @@ impl<'a> RowView<'a> {
     }
 }
 
+impl<'a> RowsView<'a> {
+    /// The next row, or None where none is left.
+    pub fn next(&mut self) -> Option<RowView<'a>>
+        ensures first { self.old ≡ option_to_list result ++ self.new }
+        ensures end { IfNone result (self.old ≡ []) }
+    {
+        if self.rows == 0 {
+            return None;
+        }
+        match self.bytes.row() {
+            Ok(row) => {
+                self.rows -= 1;
+                Some(row)
+            }
+            Err(BadField) => {
+                self.rows = 0;
+                None
+            }
+        }
+    }
+}
+
 impl<'a> RectView<'a> {
     /// The next span, or None where none is left.
     pub fn next(&mut self) -> Option<SpanView<'a>>
@@ -158,7 +201,7 @@ impl<'a> Cursor<'a> {
         ensures { Reads cell_of result self.new (a_cell self.old) }
     {
         match self.byte_in(0, 1)? {
-            0 => Ok(CellView::Num(self.signed()?)),
+            0 => Ok(CellView::Num(self.i64()?)),
             _ => Ok(CellView::Str(self.text(CELL_BYTES)?)),
         }
     }
@@ -182,6 +225,25 @@ impl<'a> Cursor<'a> {
         Ok(())
     }
 
+    /// A list of rows, which are read again when they are asked for.
+    pub fn rows(&mut self) -> Result<RowsView<'a>, BadField>
+        ensures { Reads (λ rows. rows) result self.new (some_rows self.old) }
+    {
+        let rows = self.u16_in(1, ROWS)?;
+        let bytes = Cursor::over(self.left());
+        self.skip_rows(rows)?;
+        Ok(RowsView { rows, bytes })
+    }
+
+    fn skip_rows(&mut self, count: u16) -> Result<(), BadField>
+        ensures { Reads (λ _. items a_row count self.old) result self.new (many a_row count self.old) }
+    {
+        for _ in 0..count {
+            self.row()?;
+        }
+        Ok(())
+    }
+
     /// A span.
     pub fn span(&mut self) -> Result<SpanView<'a>, BadField>
         ensures { Reads span_of result self.new (a_span self.old) }
@@ -200,8 +262,8 @@ impl<'a> Cursor<'a> {
     fn numbers(&mut self) -> Result<SpanView<'a>, BadField>
         ensures { Reads span_of result self.new (a_span_of 1 self.old) }
     {
-        let lo = self.signed()?;
-        let hi = self.signed_from(lo)?;
+        let lo = self.i64()?;
+        let hi = self.i64_from(lo)?;
         Ok(SpanView::Nums { lo, hi })
     }
 
@@ -236,7 +298,7 @@ impl<'a> Cursor<'a> {
     pub fn rects(&mut self) -> Result<RectsView<'a>, BadField>
         ensures { Reads (λ rects. rects) result self.new (some_rects self.old) }
     {
-        let rects = self.number_in(1, RECTS)?;
+        let rects = self.u32_in(1, RECTS)?;
         let bytes = Cursor::over(self.left());
         self.skip_rects(rects)?;
         Ok(RectsView { rects, bytes })

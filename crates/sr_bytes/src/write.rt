@@ -1,10 +1,10 @@
 //! Cells, rows, spans and rects written as bytes. In want of memory a part of them may have been written.
 ghost use Rattle.std.specs.Prelude.{◌≡◌, ◌++◌, ◌<◌, ◌^◌, length, IsTrue, OnOk};
-ghost use Rattle.sr_bytes.specs.Spelling.{number_bytes, count_bytes, text_bytes, cell_bytes, row_bytes, span_bytes, rect_bytes, rects_bytes, has_cell_bytes, has_row_bytes, has_span_bytes, has_rect_bytes, have_rects_bytes};
+ghost use Rattle.sr_bytes.specs.Spelling.{number_bytes, count_bytes, short_count_bytes, text_bytes, cell_bytes, row_bytes, rows_bytes, span_bytes, rect_bytes, rects_bytes, has_cell_bytes, has_row_bytes, have_rows_bytes, has_span_bytes, has_rect_bytes, have_rects_bytes};
 
 use sr_box::rect::Rect;
 use sr_box::span::Span;
-use sr_cell::cell::{Cell, Row};
+use sr_cell::cell::{Cell, Row, Rows};
 use sr_cell::list::{Bytes, NoMemory};
 use sr_union::rects::Rects;
 
@@ -13,6 +13,13 @@ fn push_number(out: &mut Bytes, number: i64) -> Result<(), NoMemory>
     ensures { OnOk result (out.new ≡ out.old ++ number_bytes number) }
 {
     out.extend(&number.to_be_bytes())
+}
+
+#[tactic(auto, unfolding(crate::specs::Spelling::short_count_bytes))]
+fn push_short_count(out: &mut Bytes, count: u16) -> Result<(), NoMemory>
+    ensures { OnOk result (out.new ≡ out.old ++ short_count_bytes count) }
+{
+    out.extend(&count.to_be_bytes())
 }
 
 #[tactic(auto, unfolding(crate::specs::Spelling::count_bytes))]
@@ -55,6 +62,18 @@ pub fn push_row(out: &mut Bytes, row: &Row) -> Result<(), NoMemory>
     out.push(row.len() as u8)?;
     for cell in row.as_slice() {
         push_cell(out, cell)?;
+    }
+    Ok(())
+}
+
+/// Puts the bytes of a list of rows behind the others.
+pub fn push_rows(out: &mut Bytes, rows: &Rows) -> Result<(), NoMemory>
+    requires { IsTrue (have_rows_bytes rows.now) }
+    ensures { OnOk result (out.new ≡ out.old ++ rows_bytes rows.now) }
+{
+    push_short_count(out, rows.len() as u16)?;
+    for row in rows.as_slice() {
+        push_row(out, row)?;
     }
     Ok(())
 }

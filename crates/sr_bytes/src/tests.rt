@@ -66,6 +66,7 @@ fn what_is_written_is_read(rt: HostRuntime) -> Result<(), Fail> {
 enum Kind {
     Cell,
     Row,
+    Rows,
     Span,
     Rects,
 }
@@ -76,6 +77,7 @@ fn reads(kind: Kind, bytes: &[u8]) -> (bool, usize) {
     let good = match kind {
         Kind::Cell => cursor.cell().is_ok(),
         Kind::Row => cursor.row().is_ok(),
+        Kind::Rows => cursor.rows().is_ok(),
         Kind::Span => cursor.span().is_ok(),
         Kind::Rects => cursor.rects().is_ok(),
     };
@@ -96,6 +98,9 @@ fn a_fault_stands_at_its_field(rt: HostRuntime) {
         (Kind::Row, b"\x0d".as_slice(), false, 1),
         (Kind::Row, b"\x02\x01\x01a".as_slice(), false, 0),
         (Kind::Row, b"\x02\x01\x01a\x01\x00b".as_slice(), true, 1),
+        (Kind::Rows, b"\x00\x00".as_slice(), false, 2),
+        (Kind::Rows, b"\x01\x01".as_slice(), false, 2),
+        (Kind::Rows, b"\x00\x01\x01\x01\x00".as_slice(), true, 0),
         (Kind::Span, b"\x04".as_slice(), false, 1),
         (
             Kind::Span,

@@ -1,5 +1,5 @@
 -- Reading values from the front of bytes, field by field. What is at fault is told by the bytes from its first one on.
-use Rattle.std.specs.Prelude.{ℕ, zero, suc, ℤ, int_le, Bool, true, not, nat_le, nat_lt, ◌≡◌, List, [], ◌∷◌, length, take, drop, Option, Some, None, Result, Ok, Err, if◌then◌else◌}
+use Rattle.std.specs.Prelude.{ℕ, zero, suc, ℤ, int_le, Bool, true, not, nat_lt, List, [], ◌∷◌, length, take, drop, Some, None, if◌then◌else◌}
 use Rattle.std.specs.Int.{Width, w16, w32, w64, byte_len, from_be_bytes, cast_signed}
 use Rattle.std.specs.Str.{is_utf8}
 use Rattle.sr_cell.specs.declared.cell.Cell.{Cell}

@@ -4,7 +4,7 @@ use Rattle.sr_cell.specs.declared.cell.Cell.{Cell}
 use Rattle.sr_cell.specs.declared.cell.Cell.TheVariants.{Num, Str}
 use Rattle.sr_box.specs.declared.span.Span.{Span}
 use Rattle.sr_box.specs.declared.span.Span.TheVariants as spans
-use Rattle.std.specs.Prelude.{Option, Some, None}
+use Rattle.std.specs.Prelude.{Some, None}
 use Rattle.sr_bytes.specs.declared.cursor.BadField.{BadField}
 use Rattle.sr_bytes.specs.declared.views.CellView.{CellView}
 use Rattle.sr_bytes.specs.declared.views.CellView.TheVariants as cells

@@ -1,4 +1,4 @@
-use Rattle.std.proofs.Common.{◌≡◌, ℕ, zero, suc, true, refl, [], ◌∷◌, arith}
+use Rattle.std.proofs.Common.{◌≡◌, zero, suc, true, refl, [], ◌∷◌, arith}
 use Rattle.std.specs.Str.{is_utf8, IsAscii}
 use Rattle.std.proofs.lemmas.Str.{IsUtf8-from_ascii, is_utf8-from_IsUtf8}
 use Rattle.sr_bytes.proofs.tests.what_is_written_is_read.Goals as goal

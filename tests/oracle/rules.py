@@ -8,6 +8,8 @@ import itertools
 
 
 class Column:
+    """A column with its values, ascending."""
+
     def __init__(self, name, values, is_text):
         self.name, self.values, self.is_text = name, values, is_text
 
@@ -16,9 +18,11 @@ class Column:
         return self.values[bisect.bisect_right(self.values, cell) - 1]
 
     def first(self, value):
+        """The lower end of the value, as a number."""
         return number_of(value) if self.is_text else value
 
     def last(self, value):
+        """The upper end of the value, as a number."""
         if not self.is_text:
             return value
         above = self.values.index(value) + 1
@@ -31,6 +35,8 @@ def number_of(text):
 
 
 class Table:
+    """A table with its points."""
+
     def __init__(self, name, columns, key):
         self.name, self.columns, self.key = name, columns, key
         self.points = list(itertools.product(*(column.values for column in columns)))
@@ -85,6 +91,8 @@ class Server:
 
 
 class Client:
+    """What is held, with its stamps: {(table's number, columns, point): stamp}. Columns are a number of bits."""
+
     def __init__(self, tables, most_rows, most_classes, policy):
         self.tables, self.most_rows, self.most_classes, self.policy = tables, most_rows, most_classes, policy
         self.stamps = {}
@@ -136,7 +144,7 @@ class Client:
 
 
 class World:
-    """A run of a script. Each event gives its lines: a text, or a text and the points that stand behind it as rects."""
+    """A run of a script. Each event gives its lines: a text, or, where rects stand behind it, the text, the table and their points."""
 
     def __init__(self, tables, most_rows, most_classes, policy):
         self.tables = tables

@@ -37,7 +37,7 @@ def literal_of(value):
 
 
 class Test:
-    """A test of one column."""
+    """A test of one column, with its width and that of its contrary."""
 
     def __init__(self, column, text, width, contrary, is_true):
         self.columns, self.text, self.widths, self.is_true = 1 << column, text, (width, contrary), is_true
@@ -67,6 +67,8 @@ class Both:
 
 
 class Not:
+    """The contrary of a condition."""
+
     def __init__(self, inner):
         self.inner, self.columns, self.text = inner, inner.columns, 'NOT (%s)' % inner.text
 
@@ -78,6 +80,8 @@ class Not:
 
 
 class Query:
+    """A query of one table."""
+
     def __init__(self, table, outputs, condition):
         self.table, self.outputs, self.condition = table, outputs, condition
         self.need = 1 << TABLES[table].key | sum({1 << c for c in outputs}) | (condition.columns if condition else 0)
@@ -95,6 +99,17 @@ class Query:
         names = ', '.join(TABLES[self.table].columns[c].name for c in self.outputs)
         return 'query 1 SELECT %s FROM %s%s' % (names, TABLES[self.table].name, where(self.condition))
 
+    def happen(self, world):
+        return world.query(self)
+
+
+class Push:
+    def line(self):
+        return 'push 1'
+
+    def happen(self, world):
+        return world.push()
+
 
 def where(condition):
     return ' WHERE ' + condition.text if condition else ''
@@ -105,7 +120,14 @@ def outside(table, c, cell):
     return not column.is_text and not column.values[0] <= cell <= column.values[-1]
 
 
-class Insert:
+class Statement:
+    """A statement changes rows by key where it is carried out, or answers why it is refused."""
+
+    def happen(self, world):
+        return world.exec(self)
+
+
+class Insert(Statement):
     def __init__(self, number, rows):
         self.table, self.number, self.rows = TABLES[number], number, rows
 
@@ -124,7 +146,7 @@ class Insert:
         return None
 
 
-class Update:
+class Update(Statement):
     def __init__(self, number, c, cell, condition):
         self.table, self.c, self.cell, self.condition = TABLES[number], c, cell, condition
 
@@ -141,7 +163,7 @@ class Update:
         return None
 
 
-class Delete:
+class Delete(Statement):
     def __init__(self, number, condition):
         self.table, self.condition = TABLES[number], condition
 
@@ -212,11 +234,12 @@ class Maker:
         if kind < 0.35:
             return Delete(number, self.condition(number))
         if kind < 0.5:
-            return None
+            return Push()
         outputs = [self.random.randrange(len(columns)) for _ in range(self.random.randint(1, len(columns)))]
         return Query(number, outputs, self.maybe_condition(number))
 
     def script(self):
-        """The limits, and the events, of which None is a push."""
-        limits = self.random.choice([10000, 0, 3, 6, 12]), self.random.choice([64, 0, 1, 3, 6]), self.random.choice(['recency', 'distance'])
+        """The limits of rows and classes with the policy, and the events."""
+        choose = self.random.choice
+        limits = choose([10000, 0, 3, 6, 12]), choose([64, 0, 1, 3, 6]), choose(['recency', 'distance'])
         return limits, [self.event() for _ in range(self.random.randint(10, 60))]

@@ -4,31 +4,33 @@ ghost use Rattle.sr_cell.specs.declared.cell.Cell.TheVariants.{Num, Str};
 ghost use Rattle.sr_box.specs.declared.span.Span.TheVariants.{Full, Nums};
 
 use crate::cursor::Cursor;
-use crate::write::{push_rects, push_row};
+use crate::write::{push_rects, push_rows};
 use sr_box::rect::Rect;
 use sr_box::span::Span;
-use sr_cell::cell::{Cell, Row};
+use sr_cell::cell::{Cell, Row, Rows};
 use sr_cell::list::{Bytes, NoMemory, Same};
 use sr_cell::text::Text;
 use sr_union::rects::Rects;
 use std::alloc::Global;
 use std::test::Fail;
 
-/// The row 3, 'ink'.
-const INK: [u8; 15] = [2, 0, 0, 0, 0, 0, 0, 0, 0, 3, 1, 3, b'i', b'n', b'k'];
+/// A list of one row, which is 3, 'ink'.
+const INK: [u8; 17] = [0, 1, 2, 0, 0, 0, 0, 0, 0, 0, 0, 3, 1, 3, b'i', b'n', b'k'];
 
 /// One rect of a table of four columns, the second from 30 to 40.
 const THIRTIES: [u8; 25] = [
     0, 0, 0, 1, 4, 0, 1, 0, 0, 0, 0, 0, 0, 0, 30, 0, 0, 0, 0, 0, 0, 0, 40, 0, 0,
 ];
 
-fn ink(alloc: Global) -> Result<Row, NoMemory>
-    ensures { IfOk result (λ row. row ≡ Num (pos 3) ∷ Str (105 ∷ 110 ∷ 107 ∷ []) ∷ []) }
+fn ink(alloc: Global) -> Result<Rows, NoMemory>
+    ensures { IfOk result (λ rows. rows ≡ (Num (pos 3) ∷ Str (105 ∷ 110 ∷ 107 ∷ []) ∷ []) ∷ []) }
 {
     let mut row = Row::new(alloc);
     row.push(Cell::Num(3))?;
     row.push(Cell::Str(Text::of(alloc, "ink")?))?;
-    Ok(row)
+    let mut rows = Rows::new(alloc);
+    rows.push(row)?;
+    Ok(rows)
 }
 
 fn thirties(alloc: Global) -> Result<Rects, NoMemory>
@@ -48,13 +50,13 @@ fn thirties(alloc: Global) -> Result<Rects, NoMemory>
 fn what_is_written_is_read(rt: HostRuntime) -> Result<(), Fail> {
     let alloc = rt.alloc();
     let mut out = Bytes::new(alloc);
-    push_row(&mut out, &ink(alloc)?)?;
+    push_rows(&mut out, &ink(alloc)?)?;
     assert_eq!(rt; out.as_slice(), INK.as_slice());
     push_rects(&mut out, &thirties(alloc)?)?;
-    assert_eq!(rt; &out.as_slice()[15..], THIRTIES.as_slice());
+    assert_eq!(rt; &out.as_slice()[17..], THIRTIES.as_slice());
     let mut cursor = Cursor::over(out.as_slice());
-    let row = cursor.row().ok().ok_or("no row is read")?.to_row(alloc)?;
-    assert!(rt; row.same(&ink(alloc)?));
+    let rows = cursor.rows().ok().ok_or("no rows are read")?;
+    assert!(rt; rows.to_rows(alloc)?.same(&ink(alloc)?));
     let rects = cursor.rects().ok().ok_or("no rects are read")?;
     assert!(rt; rects.to_rects(alloc)?.same(&thirties(alloc)?));
     assert!(rt; cursor.left().is_empty());

@@ -12,5 +12,5 @@ ink_is_ascii (suc (suc (suc i))) = omega arith
 ink_is_text : is_utf8 (105 ∷ 110 ∷ 107 ∷ []) ≡ true
 ink_is_text = is_utf8-from_IsUtf8 _ (IsUtf8-from_ascii _ ink_is_ascii)
 
-pub push_row-requires : goal.push_row-requires
-push_row-requires c d = rw d.in_ok-ink.ensures (rw ink_is_text refl)
+pub push_rows-requires : goal.push_rows-requires
+push_rows-requires c d = rw d.in_ok-ink.ensures (rw ink_is_text refl)

@@ -2,5 +2,3 @@
 #![tactic(auto)]
 
 pub mod message;
-#[cfg(test)]
-mod tests;

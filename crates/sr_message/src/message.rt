@@ -1,7 +1,9 @@
 //! Messages.
 use sr_cell::attrs::Attrs;
 use sr_cell::cell::{Cell, Row, Rows};
+use sr_cell::fault::Fault;
 use sr_cell::list::{Copied, NoMemory, Seq};
+use sr_cell::text::Text;
 use sr_union::rects::Rects;
 use std::alloc::Global;
 
@@ -35,27 +37,54 @@ pub struct Tell {
 
 pub type Told = Seq<Tell>;
 
-/// A message. A client sends Ask; a server sends the others. A number is that of the request that is meant.
+/// Points of one table that a client holds or asked for: those in these rects.
+#[derive(Drop)]
+pub struct Holding {
+    pub table: u8,
+    pub rects: Rects,
+}
+
+pub type Holdings = Seq<Holding>;
+
+/// A message. A client sends the first four kinds, which are requests; a server sends the others. A number is that of the
+/// request that is meant.
 #[derive(Drop)]
 pub enum Message {
+    /// A session begins for a client that holds nothing.
+    Hello { client: u8, number: u64 },
+    /// A session begins again: the client holds these points, with the rows of that version.
+    Resume {
+        client: u8,
+        number: u64,
+        version: u64,
+        holdings: Holdings,
+    },
+    /// The rows of these parts are asked for. It is fresh where the client holds nothing.
     Ask {
         number: u64,
         fresh: bool,
         parts: AskParts,
     },
-    Notice {
-        version: u64,
-        told: Told,
-    },
-    Rows {
-        number: u64,
-        part: u8,
-        rows: Rows,
-    },
-    Reply {
+    /// A statement that writes is to be carried out.
+    Write { number: u64, sql: Text },
+    /// The session is open from that version on; what the client holds is kept, or is to be dropped.
+    Welcome {
         number: u64,
         version: u64,
+        kept: bool,
     },
+    /// What a version changes of the subscribed points.
+    Notice { version: u64, told: Told },
+    /// Some rows of a part of an ask; parts count from 0.
+    Rows { number: u64, part: u8, rows: Rows },
+    /// All rows of the ask were sent, and they are of that version.
+    Reply { number: u64, version: u64 },
+    /// The write made that version.
+    Written { number: u64, version: u64 },
+    /// The write was refused, and changed nothing.
+    Refused { number: u64, fault: Fault },
+    /// What changed up to that version cannot be told any more: all that is held is to be dropped.
+    Lapse { version: u64 },
 }
 
 pub type Messages = Seq<Message>;

@@ -1,0 +1,11 @@
+pub mod Sessions
+pub mod Places
+pub mod Walks
+pub mod Clients
+pub mod Arrivals
+pub mod Misfits
+pub mod Laws
+pub mod Rules
+pub mod Tidy
+pub mod Scenes
+pub mod Regions

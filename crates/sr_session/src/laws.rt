@@ -1,0 +1,110 @@
+//! Laws of the definitions: functions that do nothing, and whose contracts are the laws.
+ghost use Rattle.sr_session.specs.Laws.{AnsweringKeeps, AskingAgainKeeps, ExecKeeps, ForgettingKeeps, LayingKeeps, NeverRefused, NoticingKeeps, PromisedRowsSuit, PromisedTellsSuit, PromisesFit, PushKeeps, RepliesAreAnswerable, RowsAreAsked, TakingAsksKeeps};
+ghost use Rattle.sr_session.specs.Regions.{LaidMessagesKeepTrue};
+ghost use Rattle.sr_session.specs.Scenes.{EventsKeep, FirstStands, OthersStay, RunsStand};
+ghost use Rattle.sr_session.specs.Tidy.{RulesKeepTidy};
+
+/// Every event of a scene with any number of clients leaves every client standing: statements and writes, queries, evictions,
+/// pushes, deliveries, cuts and resumes.
+pub fn events_keep()
+    ensures { EventsKeep }
+{}
+
+/// The scene before anything happens stands.
+pub fn first_stands()
+    ensures { FirstStands }
+{}
+
+/// So every client stands after any events in any order.
+pub fn runs_stand()
+    ensures { RunsStand }
+{}
+
+/// An event of one client leaves every other client, its queues and its session as they were.
+pub fn others_stay()
+    ensures { OthersStay }
+{}
+
+/// Each step of a client by itself, on any link, leaves what it has out asking the rest of its newest query, and what it laid by such
+/// as may be laid by.
+pub fn rules_keep_tidy()
+    ensures { RulesKeepTidy }
+{}
+
+/// A version more leaves each client standing, whatever the log drops.
+pub fn exec_keeps()
+    ensures { ExecKeeps }
+{}
+
+/// A push goes on with the promise, by notices, by a Lapse in their place, or by an empty notice behind them.
+pub fn push_keeps()
+    ensures { PushKeeps }
+{}
+
+/// So does taking an ask, fresh or not: what is due, the rows and the reply, with what is subscribed then.
+pub fn taking_asks_keeps()
+    ensures { TakingAsksKeeps }
+{}
+
+/// A message is laid by, and what is promised stays.
+pub fn laying_keeps()
+    ensures { LayingKeeps }
+{}
+
+/// Where a reply comes first it is of the ask that is out, its version is not below the client's, and the rows laid by are those of
+/// its version.
+pub fn replies_are_answerable()
+    ensures { RepliesAreAnswerable }
+{}
+
+/// So the rows of each part that were laid by are just the asked rows of that part at the reply's version.
+pub fn rows_are_asked()
+    ensures { RowsAreAsked }
+{}
+
+/// Regions with the rows of the client's version have those of the reply's once the laid messages are applied; after a Lapse there
+/// are none.
+pub fn laid_messages_keep_true()
+    ensures { LaidMessagesKeepTrue }
+{}
+
+/// After an answer, whatever marks came, at most what was held and asked is held, and the rest of the promise stands.
+pub fn answering_keeps()
+    ensures { AnsweringKeeps }
+{}
+
+/// A reply after a Lapse, under an ask that was not fresh: all is dropped, the whole is asked, and nothing that is pending
+/// contradicts it.
+pub fn asking_again_keeps()
+    ensures { AskingAgainKeeps }
+{}
+
+/// A Lapse comes while nothing is out.
+pub fn forgetting_keeps()
+    ensures { ForgettingKeeps }
+{}
+
+/// A notice comes while nothing is out.
+pub fn noticing_keeps()
+    ensures { NoticingKeeps }
+{}
+
+/// The first message of a client's queue has the right direction, state, number and version.
+pub fn promises_fit()
+    ensures { PromisesFit }
+{}
+
+/// Promised rows fit the asked columns, lie in the asked rects, and ascend by part and key over all messages of a reply.
+pub fn promised_rows_suit()
+    ensures { PromisedRowsSuit }
+{}
+
+/// Promised tells are of tables of the schema, fit them, and ascend by table and key.
+pub fn promised_tells_suit()
+    ensures { PromisedTellsSuit }
+{}
+
+/// So nothing that is promised is refused.
+pub fn never_refused()
+    ensures { NeverRefused }
+{}

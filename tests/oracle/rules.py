@@ -4,7 +4,13 @@ A column of texts has infinitely many values, of which the literals of a script 
 the texts from itself to the next one.
 """
 import bisect
+import collections
 import itertools
+import math
+
+
+# where the load is above it, all classes may be dropped
+MOST_PIECES = 16384
 
 
 class Column:
@@ -51,8 +57,20 @@ class Table:
 
     def essential(self, points):
         """The columns in which alone a point inside and one outside differ."""
-        return {c for c, column in enumerate(self.columns)
-                if any(p[:c] + (value,) + p[c + 1:] not in points for p in points for value in column.values)}
+        def has_all(c):
+            lines = collections.Counter(p[:c] + p[c + 1:] for p in points)
+            return set(lines.values()) <= {len(self.columns[c].values)}
+
+        return {c for c in range(len(self.columns)) if not has_all(c)}
+
+    def grid(self, tests):
+        """The product of one plus the number of a column's ends: the values at which a test becomes true or false as the value rises."""
+        ends = [set() for _ in self.columns]
+        for test in tests:
+            values = self.columns[test.column].values
+            truths = [test.holds({test.column: value}) for value in values]
+            ends[test.column] |= {value for value, before, now in zip(values[1:], truths, truths[1:]) if before != now}
+        return math.prod(1 + len(places) for places in ends)
 
 
 class Server:
@@ -98,6 +116,15 @@ class Client:
         self.stamps = {}
         self.version, self.queries, self.request = 0, 0, 0
         self.asked = None
+        self.counted = []
+
+    def load(self, query, shipped):
+        """Into how many pieces the counted queries may cut what is held, and what the query asks under the columns shipped, if it does."""
+        sets = {(table, columns) for table, columns, _ in self.stamps} | {(query.table, columns) for columns in shipped}
+        counts = collections.Counter(table for table, _ in sets)
+        counts[query.table] = max(counts[query.table], 1)
+        return sum(count * self.tables[table].grid([test for q in self.counted if q.table == table for test in q.tests()])
+                   for table, count in counts.items())
 
     def classes(self):
         """{(table's number, columns, stamp): points}, in class order."""
@@ -144,10 +171,14 @@ class Client:
 
 
 class World:
-    """A run of a script. Each event gives its lines: a text, or, where rects stand behind it, the text, the table and their points."""
+    """A run of a script. Each event gives its lines: a text, or, where rects stand behind it, the text, the table and their points.
+
+    Where the load is too high all classes may be dropped, or not. There the world does what the program has `told`.
+    """
 
     def __init__(self, tables, most_rows, most_classes, policy):
         self.tables = tables
+        self.told = []
         self.server = Server(tables)
         self.client = Client(tables, most_rows, most_classes, policy)
 
@@ -176,14 +207,18 @@ class World:
             return ['query 1 sql too-wide %d' % query.width()]
         client, table = self.client, self.tables[query.table]
         client.queries += 1
+        client.counted.append(query)
         asked = {point for point in table.points if query.holds(point)}
         rest = asked - client.covered(query.table, query.need)
-        if not rest:
-            return self.answer(query, asked) + self.meet_limits() + ['query 1 answered %d' % client.queries]
-        return self.ask(query, asked, rest)
+        if rest:
+            return self.ask(query, asked, rest)
+        return self.answer(query, asked, []) + ['query 1 answered %d' % client.queries]
 
     def ask(self, query, asked, rest):
         client, server, table = self.client, self.server, self.tables[query.table]
+        lines = []
+        if self.told and self.told[0].startswith('drop 1 pieces ') and client.load(query, []) > MOST_PIECES:
+            lines, client.counted, rest = self.drop_all(), [query], asked
         columns = query.need | sum(1 << c for c in table.essential(rest))
         fresh = not client.stamps
         client.request += 1
@@ -192,26 +227,44 @@ class World:
         messages = len(notices) + -(-rows // 256) + 1
         server.subscription = (set() if fresh else server.subscription) | {(table, point) for point in rest}
         server.upto = client.version = server.version
-        lines = ['ask 1 %d %s 1' % (client.request, 'fresh' if fresh else 'more')]
+        lines += ['ask 1 %d %s 1' % (client.request, 'fresh' if fresh else 'more')]
         lines += [('part ' + self.names(query.table, columns), query.table, rest), 'query 1 asked %d' % client.request]
         lines += ['toserver 1 ask %d' % messages] + ['toclient 1 laid'] * (messages - 1)
-        lines += self.answer(query, asked)
-        for point in rest:
-            client.stamps[query.table, columns, point] = client.queries
-        lines += [('held 1 ' + self.names(query.table, columns), query.table, rest)]
-        return lines + self.meet_limits() + ['toclient 1 answered']
+        return lines + self.answer(query, asked, [(columns, rest)]) + ['toclient 1 answered']
 
-    def answer(self, query, asked):
-        """Answers a query at the client's version, and stamps what it touches."""
+    def answer(self, query, asked, arrived):
+        """Answers a query at the client's version, and keeps what the limits allow of what is held and has arrived."""
+        lines = self.rows_of(query)
+        self.client.asked = query.table, asked
+        if self.has_given_up(arrived) and self.client.load(query, [columns for columns, _ in arrived]) > MOST_PIECES:
+            lines, self.client.counted = lines + self.drop_all(), []
+            return lines
+        self.touch(query, asked)
+        for columns, points in arrived:
+            lines.append(('held 1 ' + self.names(query.table, columns), query.table, points))
+            self.client.stamps.update(((query.table, columns, point), self.client.queries) for point in points)
+        return lines + self.meet_limits()
+
+    def has_given_up(self, arrived):
+        """Whether the program dropped all at its answer, or did not hold what arrived."""
+        words = [line.split(' ')[0] for line in self.told]
+        behind = self.told[words.index('answer'):] if 'answer' in words else []
+        return any(line.startswith('drop 1 pieces ') for line in behind) or (bool(arrived) and 'held' not in words)
+
+    def rows_of(self, query):
         client = self.client
         rows = self.server.versions[client.version][self.tables[query.table]]
         found = [query.output(rows[key]) for key in sorted(rows) if query.holds(rows[key])]
+        return ['answer 1 %d %d %d' % (client.queries, client.version, len(found))] + ['row ' + row for row in found]
+
+    def touch(self, query, asked):
+        client = self.client
         for table, columns, point in client.stamps:
             if table == query.table and query.need & ~columns == 0 and point in asked:
                 client.stamps[table, columns, point] = client.queries
-        client.asked = query.table, asked
-        head = 'answer 1 %d %d %d' % (client.queries, client.version, len(found))
-        return [head] + ['row ' + row for row in found]
+
+    def drop_all(self):
+        return [self.drop('pieces', cls) for cls in self.client.classes()]
 
     def drop(self, cause, cls):
         points = self.client.drop(cls)

@@ -23,12 +23,15 @@ TABLES = [
     rules.Table('reading', [rules.Column('id', range(8), False), rules.Column('place', range(-2, 3), False),
                             rules.Column('level', range(4), False)], 0),
     rules.Table('label', [rules.Column('title', text_values(), True), rules.Column('no', range(10, 16), False)], 1),
+    rules.Table('board', [rules.Column('x', range(140), False), rules.Column('y', range(560), False)], 0),
 ]
+BOARD = 2
 
 CREATES = [
     'CREATE TABLE reading (id INT PRIMARY KEY CHECK (id BETWEEN 0 AND 7), place INT CHECK (place BETWEEN -2 AND 2), '
     'level INT CHECK (level BETWEEN 0 AND 3))',
     'CREATE TABLE label (title TEXT, no INT PRIMARY KEY CHECK (no BETWEEN 10 AND 15))',
+    'CREATE TABLE board (x INT PRIMARY KEY CHECK (x BETWEEN 0 AND 139), y INT CHECK (y BETWEEN 0 AND 559))',
 ]
 
 
@@ -40,13 +43,21 @@ class Test:
     """A test of one column, with its width and that of its contrary."""
 
     def __init__(self, column, text, width, contrary, is_true):
-        self.columns, self.text, self.widths, self.is_true = 1 << column, text, (width, contrary), is_true
+        self.column, self.columns, self.text, self.widths, self.is_true = column, 1 << column, text, (width, contrary), is_true
 
     def holds(self, values):
         return self.is_true(values)
 
+    def tests(self):
+        return [self]
+
     def width(self, is_contrary):
         return self.widths[is_contrary]
+
+
+def one_of(column, name, cells):
+    text, few = '%s IN (%s)' % (name, ', '.join(map(literal_of, cells))), set(cells)
+    return Test(column, text, len(cells), len(cells) + 1, lambda values: values[column] in few)
 
 
 class Both:
@@ -60,6 +71,9 @@ class Both:
     def holds(self, values):
         one, two = self.one.holds(values), self.two.holds(values)
         return one and two if self.word == 'AND' else one or two
+
+    def tests(self):
+        return self.one.tests() + self.two.tests()
 
     def width(self, is_contrary):
         one, two = self.one.width(is_contrary), self.two.width(is_contrary)
@@ -75,6 +89,9 @@ class Not:
     def holds(self, values):
         return not self.inner.holds(values)
 
+    def tests(self):
+        return self.inner.tests()
+
     def width(self, is_contrary):
         return self.inner.width(not is_contrary)
 
@@ -88,6 +105,9 @@ class Query:
 
     def holds(self, values):
         return self.condition is None or self.condition.holds(values)
+
+    def tests(self):
+        return self.condition.tests() if self.condition else []
 
     def width(self):
         return self.condition.width(False) if self.condition else 1
@@ -199,9 +219,7 @@ class Maker:
             text = '%s BETWEEN %s AND %s' % (column.name, literal_of(one), literal_of(two))
             return Test(c, text, 1, 2, lambda values: one <= values[c] <= two)
         if kind == 'in':
-            few = [self.cell(column) for _ in range(self.random.randint(1, 3))]
-            text = '%s IN (%s)' % (column.name, ', '.join(map(literal_of, few)))
-            return Test(c, text, len(few), len(few) + 1, lambda values: values[c] in few)
+            return one_of(c, column.name, [self.cell(column) for _ in range(self.random.randint(1, 3))])
         word = self.random.choice(list(WORDS))
         widths = {'=': (1, 2), '<>': (2, 1)}.get(word, (1, 1))
         return Test(c, '%s %s %s' % (column.name, word, literal_of(one)), *widths, lambda values: WORDS[word](values[c], one))
@@ -243,3 +261,24 @@ class Maker:
         choose = self.random.choice
         limits = choose([10000, 0, 3, 6, 12]), choose([64, 0, 1, 3, 6]), choose(['recency', 'distance'])
         return limits, [self.event() for _ in range(self.random.randint(10, 60))]
+
+    def lists(self):
+        """Four queries of 64 values of y each, and one of 64 of x among them or behind, no two values side by side: they cut the board into
+        more than 16,384 rects."""
+        rows = self.random.sample(range(2, 558, 2), 256)
+        lists = [one_of(1, 'y', rows[64 * n:64 * n + 64]) for n in range(4)]
+        lists.insert(self.random.choice([1, 4]), one_of(0, 'x', self.random.sample(range(0, 140, 2), 64)))
+        return [Query(BOARD, [0, 1], one) for one in lists]
+
+    def board_event(self):
+        kind, columns = self.random.random(), TABLES[BOARD].columns
+        if kind < 0.4:
+            return Insert(BOARD, [tuple(map(self.cell, columns)) for _ in range(self.random.randint(1, 3))])
+        if kind < 0.6:
+            return Push()
+        return Query(BOARD, [self.random.randrange(2)], self.test(BOARD)) if kind < 0.8 else self.event()
+
+    def cutting_script(self):
+        """A script whose load is too high at some queries, and far below at others."""
+        events = [event for query in self.lists() for event in [self.board_event(), query]]
+        return (10000, 64, self.random.choice(['recency', 'distance'])), events + [self.board_event() for _ in range(3)] + self.lists()[:1]

@@ -11,8 +11,6 @@ mod needs;
 mod parts;
 mod references;
 mod split;
-#[cfg(test)]
-mod tests;
 mod updates;
 mod values;
 pub mod write;

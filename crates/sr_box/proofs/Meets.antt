@@ -1,6 +1,7 @@
 -- What the meet of two rects has.
 use Rattle.std.proofs.Common.{◌≡◌, true, false, List, [], ◌∷◌, ◌++◌, length, refl, arith, ap, sym, append_assoc}
 use Rattle.std.specs.Prelude.{◌&&◌, Option, Some, None}
+use Rattle.std.specs.Option.{is_some}
 use Rattle.sr_cell.specs.declared.table.Column.{Column}
 use Rattle.sr_cell.specs.Cells.{Row}
 use Rattle.sr_box.specs.declared.span.Span.{Span}
@@ -30,6 +31,13 @@ rect_meet-is (s ∷ r) (t ∷ q) (v ∷ p) = go (meet s t) (rect_meet r q) (meet
     go None n e k = grind arith
     go (Some m) None e k = grind arith
     go (Some m) (Some n) e k = grind arith
+
+pub rect_meet-apart : (r q : Rect) (p : Row) → is_some (rect_meet r q) ≡ false → (in_rect r p && in_rect q p) ≡ false
+rect_meet-apart r q p none = go (rect_meet r q) none (rect_meet-is r q p)
+  where
+    go : (m : Option Rect) → is_some m ≡ false → in_some m p ≡ (in_rect r p && in_rect q p) → (in_rect r p && in_rect q p) ≡ false
+    go None e k = sym k
+    go (Some m) e k = absurd (grind arith)
 
 pub rect_meet-fits : (columns : List Column) (r q : Rect) → rect_fits columns r ≡ true → rect_fits columns q ≡ true → some_fits columns (rect_meet r q) ≡ true
 rect_meet-fits [] [] [] f g = refl

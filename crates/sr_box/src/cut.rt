@@ -1,11 +1,18 @@
 //! The parts of a span that lie under, in and over another.
 ghost use Rattle.std.specs.Prelude.{◌≡◌, IfOk};
+ghost use Rattle.std.specs.Option.{is_some};
 ghost use Rattle.sr_box.specs.Cut.{nums, strs, text_max, end_min, meet, under, over, IsInner};
 
 use crate::span::{Span, is_before};
 use sr_cell::cell::is_text_at_most;
 use sr_cell::list::{Bytes, Copied, NoMemory, Seq};
 use std::alloc::Global;
+
+fn are_nums(lo: i64, hi: i64) -> bool
+    ensures { result ≡ is_some (nums lo hi) }
+{
+    lo <= hi
+}
 
 fn some_nums(lo: i64, hi: i64) -> Option<Span>
     ensures { result ≡ nums lo hi }
@@ -25,6 +32,39 @@ fn some_strs(lo: Bytes, hi: Option<Bytes>) -> Option<Span>
     } else {
         None
     }
+}
+
+fn later<'a>(one: &'a Bytes, other: &'a Bytes) -> &'a Bytes
+    ensures { result.now ≡ text_max one.now other.now }
+{
+    if is_text_at_most(one.as_slice(), other.as_slice()) {
+        other
+    } else {
+        one
+    }
+}
+
+fn earlier<'a>(one: &'a Option<Bytes>, other: &'a Option<Bytes>) -> &'a Option<Bytes>
+    ensures { result.now ≡ end_min one.now other.now }
+{
+    match (one, other) {
+        (None, _) => other,
+        (Some(_), None) => one,
+        (Some(x), Some(y)) => {
+            if is_text_at_most(x.as_slice(), y.as_slice()) {
+                one
+            } else {
+                other
+            }
+        }
+    }
+}
+
+// Whether a text of both is there; takes no memory.
+fn texts_meet(a: &Bytes, b: &Option<Bytes>, c: &Bytes, d: &Option<Bytes>) -> bool
+    ensures { result ≡ is_some (strs (text_max a.now c.now) (end_min b.now d.now)) }
+{
+    is_before(later(a, c).as_slice(), earlier(b, d))
 }
 
 fn later_text(alloc: Global, one: &Bytes, other: &Bytes) -> Result<Bytes, NoMemory>
@@ -58,6 +98,21 @@ fn earlier_end(
 }
 
 impl Span {
+    /// Whether both spans have a part in common; takes no memory.
+    pub fn meets(&self, other: &Span) -> bool
+        ensures { result ≡ is_some (meet self.now other.now) }
+    {
+        match (self, other) {
+            (Span::Full, _) => true,
+            (_, Span::Full) => true,
+            (Span::Nums { lo: a, hi: b }, Span::Nums { lo: c, hi: d }) => {
+                are_nums((*a).max(*c), (*b).min(*d))
+            }
+            (Span::Strs { lo: a, hi: b }, Span::Strs { lo: c, hi: d }) => texts_meet(a, b, c, d),
+            _ => false,
+        }
+    }
+
     /// The part that both spans have.
     pub fn meet(&self, alloc: Global, other: &Span) -> Result<Option<Span>, NoMemory>
         ensures { IfOk result (λ part. part ≡ meet self.now other.now) }

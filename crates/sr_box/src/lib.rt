@@ -6,5 +6,3 @@ pub mod laws;
 pub mod prefix;
 pub mod rect;
 pub mod span;
-#[cfg(test)]
-mod tests;

@@ -1,6 +1,8 @@
 //! Rects.
 ghost use Rattle.std.specs.Prelude.{◌≡◌, ℕ, List, [], ◌∷◌, ◌++◌, length, OnOk, OnErr, IfOk, slice_get, slice_set, ◌≤◌};
-ghost use Rattle.std.specs.Option.{option_copied};
+ghost use Rattle.std.specs.Prelude.{false, ◌&&◌};
+ghost use Rattle.std.specs.Option.{option_copied, is_some};
+ghost use Rattle.sr_cell.specs.Cells.{Row as Cells};
 ghost use Rattle.sr_box.specs.Cut.{rect_meet, HasBoth, FitsAsBoth};
 ghost use Rattle.sr_box.specs.Points.{constrained, full_rect, in_rect, rect_fits};
 ghost use Rattle.sr_box.specs.Projected.{has_part};
@@ -94,6 +96,14 @@ impl Rect {
         Attrs(constrained_of(self.spans.as_slice()))
     }
 
+    /// Whether both have a point in common, as far as their spans say; takes no memory.
+    pub fn meets(&self, other: &Rect) -> bool
+        ensures is { result ≡ is_some (rect_meet self.now other.now) }
+        ensures apart { (p : Cells) → result ≡ false → (in_rect self.now p && in_rect other.now p) ≡ false }
+    {
+        spans_meet(self.as_slice(), other.as_slice())
+    }
+
     /// The rect of what both have; none where they have no point in common.
     pub fn meet(&self, alloc: Global, other: &Rect) -> Result<Option<Rect>, NoMemory>
         ensures is { IfOk result (λ part. part ≡ rect_meet self.now other.now) }
@@ -183,6 +193,20 @@ fn meet_spans(alloc: Global, spans: &[Span], others: &[Span]) -> Result<Option<R
         }
     }
     Ok(Some(rect))
+}
+
+fn spans_meet(spans: &[Span], others: &[Span]) -> bool
+    ensures { result ≡ is_some (rect_meet spans.now others.now) }
+{
+    if spans.len() != others.len() {
+        return false;
+    }
+    for i in 0..spans.len() {
+        if !spans[i].meets(&others[i]) {
+            return false;
+        }
+    }
+    true
 }
 
 fn spans_fit(spans: &[Span], columns: &[Column]) -> bool

@@ -10,6 +10,4 @@ pub mod fault;
 pub mod list;
 pub mod schema;
 pub mod table;
-#[cfg(test)]
-mod tests;
 pub mod text;

@@ -79,6 +79,15 @@ impl<T> Seq<T> {
         }
     }
 
+    /// The empty list, with room for so many items.
+    pub fn with_room(alloc: Global, len: usize) -> Result<Seq<T>, NoMemory>
+        ensures { IfOk result (λ list. list ≡ []) }
+    {
+        Ok(Seq {
+            items: Vec::with_capacity(alloc, len)?,
+        })
+    }
+
     /// The items of a vector; takes no memory.
     pub fn from_vec(items: Vec<T>) -> Seq<T>
         ensures { result ≡ items.items }
@@ -202,7 +211,7 @@ impl<T: Copy> Seq<T> {
 
 impl<T: Copied + Drop> Copied for Seq<T> {
     fn copy(&self, alloc: Global) -> Result<Seq<T>, NoMemory> {
-        let mut same = Seq::new(alloc);
+        let mut same = Seq::with_room(alloc, self.len())?;
         for item in self.as_slice() {
             same.push(item.copy(alloc)?)?;
         }

@@ -1,4 +1,4 @@
--- How a load word is cut.
+-- How a word is cut.
 use Rattle.std.proofs.Common.{◌≡◌, ℕ, ◌+◌, ◌⊎◌, ◌<◌, ◌==◌, Bool, true, false, List, length, take, drop, Some, None, refl, sym, ap, subst, ◌∙◌, arith, inl, inr, length-drop}
 use Rattle.std.specs.Prelude.{nat_lt}
 use Rattle.std.specs.Borrow.{Bor}
@@ -6,7 +6,7 @@ use Rattle.std.specs.List.{position, position_or_len}
 use Rattle.std.proofs.lemmas.Grind.{common_steps}
 use Rattle.std.proofs.lemmas.Bool.Decides.{nat_tests}
 use Rattle.std.proofs.lemmas.Str.Pattern.{IsSplitOnceResult, split_once_first}
-use Rattle.sr_cli.specs.Words.{cut_at, load_word}
+use Rattle.sr_cli.specs.Words.{cut_at, cut_word}
 use Rattle.sr_cli.specs.Seen.{load_of}
 
 place : (word : List ℕ) → position_or_len (λ b. b == 61) word < length word → position (λ b. b == 61) word ≡ Some (position_or_len (λ b. b == 61) word)
@@ -15,8 +15,8 @@ place word h = let t : nat_lt (position_or_len (λ b. b == 61) word) (length wor
 no_place : (word : List ℕ) → position_or_len (λ b. b == 61) word ≡ length word → position (λ b. b == 61) word ≡ None
 no_place word h = let t : nat_lt (position_or_len (λ b. b == 61) word) (length word) ≡ false = grind (arith, nat_tests) in rw t
 
--- a word without `=` says no load
-pub uncut : (word : List ℕ) → IsSplitOnceResult 61 word None → load_word word ≡ None
+-- a word without `=` is not cut
+pub uncut : (word : List ℕ) → IsSplitOnceResult 61 word None → cut_word word ≡ None
 uncut word split = ap (cut_at word) (no_place word (split_once_first 61 word None split (omega arith)))
 
 cut_first : (word : List ℕ) (at : ℕ) → length (take at word) ≡ 0 → at < length word → cut_at word (Some at) ≡ None
@@ -45,9 +45,9 @@ cut_within word at first last within =
     rw (t, u)
 
 -- neither side of the first `=` is empty
-pub cut_load : (word : List ℕ) (x : Bor (List ℕ) × Bor (List ℕ)) → IsSplitOnceResult 61 word (Some x) → 0 < length x.0.now → 0 < length x.1.now
-    → load_word word ≡ Some (load_of x.0.now x.1.now)
-cut_load word x split first last =
+pub cut_sides : (word : List ℕ) (x : Bor (List ℕ) × Bor (List ℕ)) → IsSplitOnceResult 61 word (Some x) → 0 < length x.0.now → 0 < length x.1.now
+    → cut_word word ≡ Some (load_of x.0.now x.1.now)
+cut_sides word x split first last =
     let s = split_once_first 61 word (Some x) split (omega arith) in
     let at = position_or_len (λ b. b == 61) word in
     ap (cut_at word) (place word s.0)
@@ -56,7 +56,7 @@ cut_load word x split first last =
 
 -- a side is empty
 pub cut_empty : (word : List ℕ) (x : Bor (List ℕ) × Bor (List ℕ)) → IsSplitOnceResult 61 word (Some x) → (length x.0.now ≡ 0) ⊎ (length x.1.now ≡ 0)
-    → load_word word ≡ None
+    → cut_word word ≡ None
 cut_empty word x split (inl none) =
     let s = split_once_first 61 word (Some x) split (omega arith) in
     ap (cut_at word) (place word s.0) ∙ cut_first word _ (subst (λ t. length t ≡ 0) s.1 none) s.0

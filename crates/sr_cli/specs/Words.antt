@@ -72,8 +72,12 @@ cut_at word (Some at) =
     if at == 0 || length word == at + 1 then None else Some (record { table = take at word; file = drop (at + 1) word })
 
 -- a word is cut at its first `=`, and neither side is empty
+abbrev pub cut_word : List ℕ → Option LoadWord
+cut_word word = cut_at word (position (λ b. b == 61) word)
+
+-- a load does not begin with `-`, as an option does
 abbrev pub load_word : List ℕ → Option LoadWord
-load_word word = cut_at word (position (λ b. b == 61) word)
+load_word word = if starts_with_minus word then None else cut_word word
 
 abbrev pub with_load : Option LoadWord → Option (List LoadWord) → Option (List LoadWord)
 with_load None loads = None

@@ -9,6 +9,8 @@ mod options;
 mod run;
 #[cfg(test)]
 mod tests;
+#[cfg(test)]
+mod tests_calls;
 mod words;
 
 use run::run;
@@ -21,16 +23,14 @@ use std::env;
 use std::io::ErrorKind;
 use std::process::ExitCode;
 
+/// Ends with the status of `run`, or with 1, which is none of `run`, where the system does not give the words.
 fn main(rt: HostRuntime) -> ExitCode {
     let alloc = rt.alloc();
     let words = words_of(&rt);
     let mut host = RealHost::new(rt);
     match words {
         Ok(words) => ExitCode::from(run(alloc, words.as_slice(), &mut host)),
-        Err(No::Refused(NotText)) => {
-            host.complain(b"words\n");
-            ExitCode::from(2)
-        }
+        Err(No::Refused(NotGiven)) => ExitCode::from(1),
         Err(No::NoMemory) => {
             host.complain(b"memory\n");
             ExitCode::from(9)
@@ -38,12 +38,12 @@ fn main(rt: HostRuntime) -> ExitCode {
     }
 }
 
-/// A word is not UTF-8.
+/// The system does not give the words, or one of them is not UTF-8.
 #[derive(Clone, Copy, Debug, PartialEq, Eq)]
-struct NotText;
+struct NotGiven;
 
 /// The words after the program's own name.
-fn words_of(rt: &HostRuntime) -> Result<Seq<Text>, No<NotText>> {
+fn words_of(rt: &HostRuntime) -> Result<Seq<Text>, No<NotGiven>> {
     match env::args(rt) {
         Ok(all) => {
             let all: Vec<String> = match all.collect(rt.alloc()) {
@@ -56,7 +56,7 @@ fn words_of(rt: &HostRuntime) -> Result<Seq<Text>, No<NotText>> {
             if error.kind() == ErrorKind::OutOfMemory {
                 return Err(No::NoMemory);
             }
-            Err(No::Refused(NotText))
+            Err(No::Refused(NotGiven))
         }
     }
 }

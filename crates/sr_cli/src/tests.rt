@@ -11,13 +11,6 @@ const CREATE_ALONE: &str =
     "CREATE TABLE p (id INT PRIMARY KEY CHECK (id BETWEEN 0 AND 9999), age INT CHECK (age BETWEEN 0 AND 150))
 ";
 
-const SCHEMA_ALONE: &str = "# A table of persons, naïve and small, and nothing that happens.
-
-   
-CREATE TABLE p (id INT PRIMARY KEY CHECK (id BETWEEN 0 AND 9999), age INT CHECK (age BETWEEN 0 AND 150))
-
-# The last line has no end.";
-
 const TWO_QUERIES: &str =
     "CREATE TABLE p (id INT PRIMARY KEY CHECK (id BETWEEN 0 AND 9999), age INT CHECK (age BETWEEN 0 AND 150))
 exec INSERT INTO p VALUES (1, 35), (2, 45)
@@ -48,120 +41,6 @@ const TWO_QUERIES_TRACE: &str = "2 exec version 1
 5 row 2, 45
 5 held 1 p (id,age) {age 41..50}
 5 toclient 1 answered
-";
-
-/// The same in lower case and with more blanks, and with other spellings of the client's number.
-const SPELLED: &str =
-    "  create  table  p  (id  int  primary  key  check  (id  between  0  and  9999),  age  int  check  (age  between  0  and  150))
-exec insert  into  p  values  (1,  35),  (2,  45)
-exec   insert  into  p  values  (3,  33)  
-query 01 select  id,  age  from  p  where  age  between  30  and  40
-query 001  select  *  from  p  where  age  between  35  and  50
-";
-
-/// Texts that are refused change nothing, and the run goes on.
-const REFUSED_TEXTS: &str = "create table p (id int primary key, age int)
-exec DELETE FROM
-query 1 SELECT id FROM
-query 1 SELECT * FROM p WHERE age BETWEEN 9 AND 0
-";
-
-const REFUSED_TEXTS_TRACE: &str = "2 exec refused grammar 11
-3 query 1 sql grammar 14
-4 answer 1 1 0 0
-4 query 1 answered 1
-";
-
-const WITHOUT_TABLE: &str = "exec DELETE FROM
-query 1 SELECT id FROM
-";
-
-const WITHOUT_TABLE_TRACE: &str = "1 exec refused grammar 11
-2 query 1 sql grammar 14
-";
-
-const WITHOUT_KEY: &str = "# A table without a key.
-CREATE TABLE p (id INT, age INT)
-exec DELETE FROM p
-";
-
-const REPEATED_COLUMN: &str = "CREATE TABLE p (id INT PRIMARY KEY, id INT)";
-
-const REPEATED_TABLE: &str = "CREATE TABLE p (id INT PRIMARY KEY, age INT)
-CREATE TABLE p (id INT PRIMARY KEY, age INT)
-";
-
-const TEXT_TABLE: &str = "CREATE TABLE p (name TEXT PRIMARY KEY)";
-
-const BROKEN_TABLE: &str = "CREATE TABLE p (name TEXT PRIMARY KEY)
-CREATE TABLE q id INT
-";
-
-const SECOND_TABLE: &str = "CREATE TABLE p (id INT PRIMARY KEY, age INT)
-CREATE TABLE q (id INT PRIMARY KEY, age INT)
-";
-
-const JOINED: &str = "CREATE TABLE p (id INT PRIMARY KEY, age INT)
-CREATE TABLE q (no INT PRIMARY KEY)
-query 1 SELECT id FROM p JOIN q ON p.age = q.no
-";
-
-/// The first query over a table of four columns, two of which it needs.
-const FIRST_QUERY: &str =
-    "CREATE TABLE emp (id INT PRIMARY KEY CHECK (id BETWEEN 0 AND 9999), age INT CHECK (age BETWEEN 0 AND 150), name TEXT, dept INT CHECK (dept BETWEEN 0 AND 99))
-CREATE TABLE dept (no INT PRIMARY KEY CHECK (no BETWEEN 0 AND 99), title TEXT)
-exec INSERT INTO emp VALUES (1, 35, 'ann', 3), (2, 45, 'bob', 3)
-exec INSERT INTO emp VALUES (3, 33, 'cy', 4)
-query 1 SELECT id, age FROM emp WHERE age BETWEEN 30 AND 40
-";
-
-const FIRST_QUERY_TRACE: &str = "3 exec version 1
-4 exec version 2
-5 ask 1 1 fresh 1
-5 part emp (id,age) {age 30..40}
-5 query 1 asked 1
-5 toserver 1 ask 2
-5 toclient 1 laid
-5 answer 1 1 2 2
-5 row 1, 35
-5 row 3, 33
-5 held 1 emp (id,age) {age 30..40}
-5 toclient 1 answered
-";
-
-const COVERED: &str =
-    "CREATE TABLE p (id INT PRIMARY KEY CHECK (id BETWEEN 0 AND 9999), age INT CHECK (age BETWEEN 0 AND 150))
-exec INSERT INTO p VALUES (1, 35), (2, 45)
-exec INSERT INTO p VALUES (3, 33)
-query 1 SELECT id, age FROM p WHERE age BETWEEN 30 AND 40
-query 1 SELECT id, age FROM p WHERE age BETWEEN 32 AND 35
-";
-
-const COVERED_TRACE: &str = "2 exec version 1
-3 exec version 2
-4 ask 1 1 fresh 1
-4 part p (id,age) {age 30..40}
-4 query 1 asked 1
-4 toserver 1 ask 2
-4 toclient 1 laid
-4 answer 1 1 2 2
-4 row 1, 35
-4 row 3, 33
-4 held 1 p (id,age) {age 30..40}
-4 toclient 1 answered
-5 answer 1 2 2 2
-5 row 1, 35
-5 row 3, 33
-5 query 1 answered 2
-";
-
-const UNBUILT: &str =
-    "CREATE TABLE p (id INT PRIMARY KEY CHECK (id BETWEEN 0 AND 9999), age INT CHECK (age BETWEEN 0 AND 150))
-exec INSERT INTO p VALUES (1, 35), (2, 45)
-query 1 SELECT id, age FROM p WHERE age BETWEEN 30 AND 40
-exec DELETE FROM p
-push 1
-settle 1
 ";
 
 /// A change of a row that is held, and a query before and after it is told.
@@ -213,14 +92,18 @@ exec DELETE FROM p WHERE age > 50
 query 1 SELECT id, age FROM p
 ";
 
-const OVER_LOADS_START: &[u8] = b"2 exec version 1
+const OVER_LOADS_TRACE: &str = "2 exec version 1
 3 exec refused key-change 13
 4 exec version 2
-";
-
-const OVER_LOADS_ANSWER: &[u8] = b"
+5 ask 1 1 fresh 1
+5 part p (id,age) {}
+5 query 1 asked 1
+5 toserver 1 ask 2
+5 toclient 1 laid
 5 answer 1 1 2 1
 5 row 7, 41
+5 held 1 p (id,age) {}
+5 toclient 1 answered
 ";
 
 const ONE_ROW: &str = "age,id
@@ -305,60 +188,10 @@ fn run_over(alloc: Global, words: &[&str], script: &str, fails: u64) -> Result<O
     )
 }
 
-/// No call has the number 0.
-#[test]
-fn scripts_are_replayed(rt: HostRuntime) -> Result<(), Fail> {
-    let alloc = rt.alloc();
-    for (script, trace) in [
-        ("", ""),
-        (CREATE_ALONE, ""),
-        (SCHEMA_ALONE, ""),
-        (SECOND_TABLE, ""),
-        (TEXT_TABLE, ""),
-        (FIRST_QUERY, FIRST_QUERY_TRACE),
-        (TWO_QUERIES, TWO_QUERIES_TRACE),
-        (COVERED, COVERED_TRACE),
-        (SPELLED, TWO_QUERIES_TRACE),
-        (REFUSED_TEXTS, REFUSED_TEXTS_TRACE),
-        (WITHOUT_TABLE, WITHOUT_TABLE_TRACE),
-        (PUSHED, PUSHED_TRACE),
-    ] {
-        let got = run_over(alloc, IN_FORM, script, 0)?;
-        assert_eq!(rt; got.error.as_slice(), b"".as_slice());
-        assert_eq!(rt; got.trace.as_slice(), trace.as_bytes());
-        assert_eq!(rt; got.status, 0);
-    }
-    Ok(())
-}
-
-#[test]
-fn refusals_are_named(rt: HostRuntime) -> Result<(), Fail> {
-    let alloc = rt.alloc();
-    for (script, fails, status, error) in [
-        (UNBUILT, 0, 12, "unbuilt 6\n"),
-        (JOINED, 0, 12, "unbuilt 3\n"),
-        (WITHOUT_KEY, 0, 7, "schema 2 no-key 0\n"),
-        (REPEATED_COLUMN, 0, 7, "schema 1 duplicate-name 1\n"),
-        (REPEATED_TABLE, 0, 7, "schema 2 duplicate-name 0\n"),
-        (BROKEN_TABLE, 0, 7, "schema 2 grammar 15\n"),
-        (TWO_QUERIES, 1, 3, "read\n"),
-        (TWO_QUERIES, 2, 3, "read\n"),
-        (TWO_QUERIES, 3, 3, "read\n"),
-        (TWO_QUERIES, 4, 4, "write\n"),
-        (FIRST_QUERY, 4, 4, "write\n"),
-    ] {
-        let got = run_over(alloc, IN_FORM, script, fails)?;
-        assert_eq!(rt; got.error.as_slice(), error.as_bytes());
-        assert_eq!(rt; got.trace.as_slice(), b"".as_slice());
-        assert_eq!(rt; got.status, status);
-    }
-    Ok(())
-}
-
 #[test]
 fn other_words_are_refused(rt: HostRuntime) -> Result<(), Fail> {
     let alloc = rt.alloc();
-    let all: [&[&str]; 26] = [
+    let all: [&[&str]; 27] = [
         &[],
         &["replay"],
         &["replay", "--eager"],
@@ -404,6 +237,7 @@ fn other_words_are_refused(rt: HostRuntime) -> Result<(), Fail> {
         ],
         &["replay", "--eager", "--rows", "5", "--rows", "5", "script"],
         &["replay", "--eager", "script", "--rows", "5"],
+        &["replay", "--eager", "script", "--rows=5"],
         &["replay", "--rows", "5", "--eager", "script"],
     ];
     for words in all {
@@ -411,99 +245,6 @@ fn other_words_are_refused(rt: HostRuntime) -> Result<(), Fail> {
         assert_eq!(rt; got.error.as_slice(), b"words\n".as_slice());
         assert_eq!(rt; got.trace.as_slice(), b"".as_slice());
         assert_eq!(rt; got.status, 2);
-    }
-    Ok(())
-}
-
-#[test]
-fn options_are_read(rt: HostRuntime) -> Result<(), Fail> {
-    let alloc = rt.alloc();
-    let all: [&[&str]; 8] = [
-        &["replay", "--eager", "--rows", "0", "script"],
-        &["replay", "--eager", "--rows", "00200000", "script"],
-        &[
-            "replay",
-            "--eager",
-            "--rows",
-            "00000000000000000001",
-            "script",
-        ],
-        &["replay", "--eager", "--regions", "1024", "script"],
-        &["replay", "--eager", "--policy", "recency", "script"],
-        &["replay", "--eager", "--policy", "distance", "script"],
-        &[
-            "replay", "--eager", "--rows", "5", "--policy", "distance", "script", "p=p.csv",
-        ],
-        &[
-            "replay",
-            "--eager",
-            "--rows",
-            "5",
-            "--regions",
-            "0",
-            "--policy",
-            "recency",
-            "script",
-        ],
-    ];
-    for words in all {
-        let got = run_over(alloc, words, CREATE_ALONE, 0)?;
-        assert_eq!(rt; got.error.as_slice(), b"".as_slice());
-        assert_eq!(rt; got.trace.as_slice(), b"".as_slice());
-        assert_eq!(rt; got.status, 0);
-    }
-    Ok(())
-}
-
-#[test]
-fn options_are_obeyed(rt: HostRuntime) -> Result<(), Fail> {
-    let alloc = rt.alloc();
-    let all: [(&[&str], &str); 4] = [
-        (
-            &["replay", "--eager", "--rows", "0", "script"],
-            "\n4 drop 1 rows p (id,age) 2 {age 100..110}\n",
-        ),
-        (
-            &["replay", "--eager", "--regions", "0", "script"],
-            "\n3 drop 1 regions p (id,age) 1 {age 30..34}\n",
-        ),
-        (
-            &["replay", "--eager", "--regions", "2", "script"],
-            "\n5 drop 1 regions p (id,age) 1 {age 30..34}\n",
-        ),
-        (
-            &[
-                "replay",
-                "--eager",
-                "--regions",
-                "2",
-                "--policy",
-                "distance",
-                "script",
-            ],
-            "\n5 drop 1 regions p (id,age) 2 {age 100..110}\n",
-        ),
-    ];
-    for (words, line) in all {
-        let got = run_over(alloc, words, TWO_RANGES, 0)?;
-        assert_eq!(rt; has_lines(got.trace.as_slice(), line.as_bytes()), true);
-        assert_eq!(rt; got.status, 0);
-    }
-    Ok(())
-}
-
-#[test]
-fn a_name_that_is_not_held_is_not_read(rt: HostRuntime) -> Result<(), Fail> {
-    let all: [&[&str]; 3] = [
-        &["replay", "--eager", "-"],
-        &["replay", "--eager", "script", "p=q.csv"],
-        &["replay", "--eager", "script", "p=p.csv", "p=p=p.csv"],
-    ];
-    for words in all {
-        let got = run_over(rt.alloc(), words, CREATE_ALONE, 0)?;
-        assert_eq!(rt; got.error.as_slice(), b"read\n".as_slice());
-        assert_eq!(rt; got.trace.as_slice(), b"".as_slice());
-        assert_eq!(rt; got.status, 3);
     }
     Ok(())
 }
@@ -519,65 +260,224 @@ fn has_lines(trace: &[u8], lines: &[u8]) -> bool {
 }
 
 #[test]
-fn files_are_loaded_before_the_events(rt: HostRuntime) -> Result<(), Fail> {
-    let got = run_over(rt.alloc(), WITH_LOAD, OVER_LOADS, 0)?;
-    assert_eq!(rt; got.error.as_slice(), b"".as_slice());
-    assert_eq!(rt; got.trace.as_slice().starts_with(OVER_LOADS_START), true);
-    assert_eq!(rt; has_lines(got.trace.as_slice(), OVER_LOADS_ANSWER), true);
-    assert_eq!(rt; got.status, 0);
+fn scripts_are_replayed(rt: HostRuntime) -> Result<(), Fail> {
+    let alloc = rt.alloc();
+    let all: [(&[&str], &str, &str); 6] = [
+        (IN_FORM, "", ""),
+        (IN_FORM, TWO_QUERIES, TWO_QUERIES_TRACE),
+        (IN_FORM, PUSHED, PUSHED_TRACE),
+        (WITH_LOAD, OVER_LOADS, OVER_LOADS_TRACE),
+        (
+            &[
+                "replay",
+                "--eager",
+                "--rows",
+                "00000000000000200000",
+                "--policy",
+                "distance",
+                "script",
+            ],
+            CREATE_ALONE,
+            "",
+        ),
+        (
+            &[
+                "replay",
+                "--eager",
+                "--rows",
+                "5",
+                "--regions",
+                "1024",
+                "--policy",
+                "recency",
+                "script",
+                "p=p.csv",
+            ],
+            CREATE_ALONE,
+            "",
+        ),
+    ];
+    for (words, script, trace) in all {
+        let got = run_over(alloc, words, script, 0)?;
+        assert_eq!(rt; got.error.as_slice(), b"".as_slice());
+        assert_eq!(rt; got.trace.as_slice(), trace.as_bytes());
+        assert_eq!(rt; got.status, 0);
+    }
     Ok(())
 }
 
 #[test]
-fn refused_files_are_named(rt: HostRuntime) -> Result<(), Fail> {
+fn options_are_obeyed(rt: HostRuntime) -> Result<(), Fail> {
     let alloc = rt.alloc();
-    let all: [(&[&str], &str, &str); 4] = [
-        (WITH_LOAD, ROW_TWICE, "load p 2 duplicate-key\n"),
+    for (option, value, line) in [
         (
-            &["replay", "--eager", "script", "q=p.csv"],
+            "--rows",
+            "0",
+            "\n4 drop 1 rows p (id,age) 2 {age 100..110}\n",
+        ),
+        (
+            "--regions",
+            "0",
+            "\n3 drop 1 regions p (id,age) 1 {age 30..34}\n",
+        ),
+        (
+            "--regions",
+            "2",
+            "\n5 drop 1 regions p (id,age) 1 {age 30..34}\n",
+        ),
+    ] {
+        let words = ["replay", "--eager", option, value, "script"];
+        let got = run_over(alloc, words.as_slice(), TWO_RANGES, 0)?;
+        assert_eq!(rt; has_lines(got.trace.as_slice(), line.as_bytes()), true);
+        assert_eq!(rt; got.status, 0);
+    }
+    Ok(())
+}
+
+/// Whether the run writes no trace, and ends with this status and this line.
+fn is_refused(got: &Outcome, status: u8, error: &str) -> bool {
+    got.status == status && got.error.as_slice() == error.as_bytes() && got.trace.is_empty()
+}
+
+#[test]
+fn scripts_are_refused(rt: HostRuntime) -> Result<(), Fail> {
+    let alloc = rt.alloc();
+    for (script, status, error) in [
+        ("CREATE", 7, "schema 1 grammar 6\n"),
+        ("create\x0btable", 7, "schema 1 bad-token 6\n"),
+        (
+            "# first\nCREATE TABLE t (a INT, b INT)",
+            7,
+            "schema 2 no-key 0\n",
+        ),
+        (
+            "CREATE TABLE t (a INT PRIMARY KEY CHECK (a BETWEEN 2 AND 1), b INT)",
+            7,
+            "schema 1 bad-domain 0\n",
+        ),
+        (
+            "CREATE TABLE t (a INT PRIMARY KEY, A INT)\nCREATE",
+            7,
+            "schema 1 duplicate-name 1\n",
+        ),
+        (
+            "CREATE TABLE t (a TEXT PRIMARY KEY, b INT)\nCREATE TABLE T (a INT PRIMARY KEY)",
+            7,
+            "schema 2 duplicate-name 0\n",
+        ),
+        (
+            "CREATE TABLE t (a INT PRIMARY KEY)\nCREATE TABLE u (b INT PRIMARY KEY, c INT)\nquery 1 SELECT c FROM u JOIN t ON c = a",
+            12,
+            "unbuilt 3\n",
+        ),
+        ("exec x\nCREATE TABLE t (a INT)", 12, "unbuilt 2\n"),
+        ("push 1\nsettle 1", 12, "unbuilt 2\n"),
+        ("\t", 12, "unbuilt 1\n"),
+        ("exec ", 12, "unbuilt 1\n"),
+        ("query 2 SELECT * FROM p", 12, "unbuilt 1\n"),
+        ("push 1 ", 12, "unbuilt 1\n"),
+        ("push 2", 12, "unbuilt 1\n"),
+        ("push", 12, "unbuilt 1\n"),
+        ("push 0001", 12, "unbuilt 1\n"),
+        ("push  1", 12, "unbuilt 1\n"),
+        (" push 1", 12, "unbuilt 1\n"),
+        ("PUSH 1", 12, "unbuilt 1\n"),
+    ] {
+        let got = run_over(alloc, IN_FORM, script, 0)?;
+        assert!(rt; is_refused(&got, status, error), "{script:?}");
+    }
+    Ok(())
+}
+
+#[test]
+fn files_are_refused(rt: HostRuntime) -> Result<(), Fail> {
+    let alloc = rt.alloc();
+    let all: [(&[&str], &str, u8, &str); 20] = [
+        (&["replay", "--eager", "-"], ONE_ROW, 3, "read\n"),
+        (
+            &["replay", "--eager", "script", "p=q.csv"],
             ONE_ROW,
+            3,
+            "read\n",
+        ),
+        (
+            &["replay", "--eager", "script", "p=p.csv", "p=p=p.csv"],
+            ONE_ROW,
+            3,
+            "read\n",
+        ),
+        (
+            &["replay", "--eager", "script", "q=p.csv", "p=p.csv"],
+            ROW_TWICE,
+            7,
             "load q unknown\n",
         ),
         (
             &["replay", "--eager", "script", "p=p.csv", "p=p.csv"],
             ONE_ROW,
+            7,
             "load p 1 duplicate-key\n",
         ),
+        (WITH_LOAD, ROW_TWICE, 7, "load p 2 duplicate-key\n"),
         (
-            &["replay", "--eager", "script", "q=p.csv", "p=p.csv"],
-            ROW_TWICE,
-            "load q unknown\n",
+            WITH_LOAD,
+            "id,age\n3,200\n3,1\n",
+            7,
+            "load p 1 domain-cell\n",
         ),
+        (WITH_LOAD, "", 7, "load p 0 bad-header\n"),
+        (WITH_LOAD, "id\n3\n", 7, "load p 0 bad-header\n"),
+        (WITH_LOAD, "id,id\n", 7, "load p 0 bad-header\n"),
+        (WITH_LOAD, "id,name\n", 7, "load p 0 bad-header\n"),
+        (WITH_LOAD, "id,age\n3\n", 7, "load p 1 bad-record\n"),
+        (
+            WITH_LOAD,
+            "id,age\n3,1\n4,2,3\n",
+            7,
+            "load p 2 bad-record\n",
+        ),
+        (WITH_LOAD, "id,age\nx\n", 7, "load p 1 bad-record\n"),
+        (WITH_LOAD, "id,age\nx,1\n4\n", 7, "load p 1 bad-number\n"),
+        (
+            WITH_LOAD,
+            "id,age\n1234567890123456789,1\n",
+            7,
+            "load p 1 bad-number\n",
+        ),
+        (WITH_LOAD, "id,age\n-,1\n", 7, "load p 1 bad-number\n"),
+        (WITH_LOAD, "id,age\n,1\n", 7, "load p 1 bad-number\n"),
+        (WITH_LOAD, "id,age\n+3,1\n", 7, "load p 1 bad-number\n"),
+        (WITH_LOAD, "id,age\n 3,1\n", 7, "load p 1 bad-number\n"),
     ];
-    for (words, csv, error) in all {
+    for (words, csv, status, error) in all {
         let given = Given {
             script: OVER_LOADS,
             csv,
             fails: 0,
         };
         let got = run_given(alloc, words, given)?;
-        assert_eq!(rt; got.error.as_slice(), error.as_bytes());
-        assert_eq!(rt; got.trace.as_slice(), b"".as_slice());
-        assert_eq!(rt; got.status, 7);
+        assert!(rt; is_refused(&got, status, error), "{csv:?}");
     }
     Ok(())
 }
 
-/// The calls 4 to 6 pick and read the file, and call 7 is the first write.
+/// The calls 1 to 3 pick and read the script, 4 to 6 the file, if there is one, and the next is the first write.
 #[test]
-fn calls_that_fail_end_a_run_with_a_file(rt: HostRuntime) -> Result<(), Fail> {
+fn a_call_that_fails_ends_the_run(rt: HostRuntime) -> Result<(), Fail> {
     let alloc = rt.alloc();
-    for (fails, status, error) in [
-        (3, 3, "read\n"),
-        (4, 3, "read\n"),
-        (5, 3, "read\n"),
-        (6, 3, "read\n"),
-        (7, 4, "write\n"),
+    for (words, fails, status, error) in [
+        (IN_FORM, 1, 3, "read\n"),
+        (IN_FORM, 2, 3, "read\n"),
+        (IN_FORM, 3, 3, "read\n"),
+        (IN_FORM, 4, 4, "write\n"),
+        (WITH_LOAD, 3, 3, "read\n"),
+        (WITH_LOAD, 4, 3, "read\n"),
+        (WITH_LOAD, 5, 3, "read\n"),
+        (WITH_LOAD, 6, 3, "read\n"),
+        (WITH_LOAD, 7, 4, "write\n"),
     ] {
-        let got = run_over(alloc, WITH_LOAD, OVER_LOADS, fails)?;
-        assert_eq!(rt; got.error.as_slice(), error.as_bytes());
-        assert_eq!(rt; got.trace.as_slice(), b"".as_slice());
-        assert_eq!(rt; got.status, status);
+        let got = run_over(alloc, words, OVER_LOADS, fails)?;
+        assert!(rt; is_refused(&got, status, error), "{fails}");
     }
     Ok(())
 }

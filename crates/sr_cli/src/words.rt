@@ -1,7 +1,7 @@
 //! The words of the program: `replay --eager [--rows N] [--regions N] [--policy P] FILE [TABLE=FILE ..]`.
 ghost use Rattle.std.specs.Prelude.{◌≡◌, Some, option_map};
 ghost use Rattle.std.specs.List.{list_all};
-ghost use Rattle.sr_cli.specs.Words.{load_word, is_name, with_files, replay_of, words_of as words_said};
+ghost use Rattle.sr_cli.specs.Words.{cut_word, load_word, is_name, with_files, replay_of, words_of as words_said};
 ghost use Rattle.sr_cli.specs.Seen.{is_load, load_of, are_files, words_seen};
 
 use crate::options::{number_or, policy_of, take_option};
@@ -102,9 +102,20 @@ fn are_loads(words: &[Text]) -> bool
     true
 }
 
-/// The name of a table and that of a file: what stands before the first `=` of the word, and behind it. Neither is empty.
+/// The name of a table and that of a file, where the word does not begin with `-`: else a misspelt option would be a load.
 pub fn cut_load(word: &str) -> Option<(&str, &str)>
     ensures { option_map (λ cut. load_of cut.0.now cut.1.now) result ≡ load_word word.now }
+{
+    if word.starts_with('-') {
+        None
+    } else {
+        cut_word(word)
+    }
+}
+
+/// What stands before the first `=` of the word, and behind it. Neither is empty.
+fn cut_word(word: &str) -> Option<(&str, &str)>
+    ensures { option_map (λ cut. load_of cut.0.now cut.1.now) result ≡ cut_word word.now }
 {
     match word.split_once('=') {
         None => None,

@@ -198,7 +198,7 @@ left-most-spans column t (s ∷ spans) f =
     let ih = left-most-spans column t spans f in let one = sides-most column.kind column.lo column.hi t s f in
     let l = length-append (beside column t s) (flat_map (beside column t) spans) in omega (arith, ih, one, l)
 
-first-in : (k : Kind) (column : Column) → is_bad_by k column ≡ false → in_kind k column.lo column.hi (first_value k column.lo) ≡ true
+pub first-in : (k : Kind) (column : Column) → is_bad_by k column ≡ false → in_kind k column.lo column.hi (first_value k column.lo) ≡ true
 first-in Numbers column good = grind (arith, ints)
 first-in Texts column good = refl
 

@@ -8,7 +8,7 @@ use Rattle.sr_cell.specs.declared.cell.Cell.TheVariants.{Num, Str}
 use Rattle.sr_cell.specs.declared.table.Kind.{Kind}
 use Rattle.sr_cell.specs.declared.table.Kind.TheVariants.{Num as Numbers, Str as Texts}
 use Rattle.sr_cell.specs.declared.table.Column.{Column}
-use Rattle.sr_cell.specs.Cells.{text_le, cell_eq}
+use Rattle.sr_cell.specs.Cells.{text_le, cell_le, cell_eq}
 use Rattle.sr_cell.specs.Columns.{in_kind, are_bytes}
 use Rattle.sr_box.specs.declared.span.Span.TheVariants.{Nums, Strs}
 use Rattle.sr_box.specs.Spans.{in_span, is_below, end_bytes}
@@ -74,8 +74,8 @@ above-number column w k = number-range column (Gt (Num w)) (w +ℤ pos 1) column
 pub at_least-number : (column : Column) (w : ℤ) → column.kind ≡ Numbers → IsRange column (passes (Ge (Num w))) (test_ends (Ge (Num w))) (Nums w column.hi)
 at_least-number column w k = number-range column (Ge (Num w)) w column.hi k (λ n a b. grind (arith, ints)) (λ a. grind (arith, ints)) (λ b. absurd (grind (arith, ints)))
 
-pub between-numbers : (column : Column) (u w : ℤ) → column.kind ≡ Numbers → IsRange column (passes (Between (Num u) (Num w))) (test_ends (Between (Num u) (Num w))) (Nums u w)
-between-numbers column u w k = number-range column (Between (Num u) (Num w)) u w k (λ n a b. grind (arith, ints)) (λ a. grind (arith, ints)) (λ b. grind (arith, ints))
+pub between-numbers : (column : Column) (u w : ℤ) → column.kind ≡ Numbers → cell_le (Num u) (Num w) ≡ true → IsRange column (passes (Between (Num u) (Num w))) (test_ends (Between (Num u) (Num w))) (Nums u w)
+between-numbers column u w k le = number-range column (Between (Num u) (Num w)) u w k (λ n a b. grind (arith, ints)) (λ a. rw le (grind (arith, ints))) (λ b. rw le (grind (arith, ints)))
 
 -- ---- texts
 
@@ -104,7 +104,7 @@ text-range column t lo hi k bytes end_bytes h a b = record {
 }
 
 -- the texts from the next one on are those above
-next-above : (w s : List ℕ) → text_le (w ++ 0 ∷ []) s ≡ not (text_le s w)
+pub next-above : (w s : List ℕ) → text_le (w ++ 0 ∷ []) s ≡ not (text_le s w)
 next-above [] [] = refl
 next-above [] (b ∷ s) = grind (arith, nat_tests)
 next-above (a ∷ w) [] = refl
@@ -114,7 +114,7 @@ next-bytes : (w : List ℕ) → are_bytes w ≡ true → are_bytes (w ++ 0 ∷ [
 next-bytes [] h = refl
 next-bytes (a ∷ w) h = let ih = next-bytes w in grind (arith, ih)
 
-text_cut-is : (w : List ℕ) (v : Cell) → is_among (text_cut w) v ≡ true → cell_eq (Str w) v ≡ true
+pub text_cut-is : (w : List ℕ) (v : Cell) → is_among (text_cut w) v ≡ true → cell_eq (Str w) v ≡ true
 text_cut-is [] v h = absurd (grind arith)
 text_cut-is (a ∷ w) v h = grind arith
 
@@ -129,10 +129,10 @@ pub above-text : (column : Column) (w : List ℕ) → column.kind ≡ Texts → 
 above-text column w k bytes = text-range column (Gt (Str w)) (w ++ 0 ∷ []) None k (next-bytes w bytes) refl (λ s _. let e = next-above w s in grind (arith, e))
     (λ v h. let e = text_cut-is (w ++ 0 ∷ []) v h in grind (arith, e)) (λ v h. absurd (grind arith))
 
-pub between-texts : (column : Column) (u w : List ℕ) → column.kind ≡ Texts → are_bytes u ≡ true → are_bytes w ≡ true
+pub between-texts : (column : Column) (u w : List ℕ) → column.kind ≡ Texts → are_bytes u ≡ true → are_bytes w ≡ true → cell_le (Str u) (Str w) ≡ true
     → IsRange column (passes (Between (Str u) (Str w))) (test_ends (Between (Str u) (Str w))) (Strs u (Some (w ++ 0 ∷ [])))
-between-texts column u w k bytes more = text-range column (Between (Str u) (Str w)) u (Some (w ++ 0 ∷ [])) k bytes (next-bytes w more)
-    (λ s _. let e = next-above w s in grind (arith, e)) (λ v h. let e = text_cut-is u v h in grind (arith, e)) (λ v h. grind arith)
+between-texts column u w k bytes more le = text-range column (Between (Str u) (Str w)) u (Some (w ++ 0 ∷ [])) k bytes (next-bytes w more)
+    (λ s _. let e = next-above w s in grind (arith, e)) (λ v h. let e = text_cut-is u v h in rw le (grind (arith, e))) (λ v h. rw le (grind arith))
 
 same-begins : (p s : List ℕ) → box.begins p s ≡ begins p s
 same-begins [] s = refl

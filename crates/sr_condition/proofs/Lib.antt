@@ -2,6 +2,8 @@ pub mod Bounds
 pub mod Parts
 pub mod Joins
 pub mod Apart
+pub mod Runs
+pub mod Left
 pub mod Tested
 pub mod Members
 pub mod Constrained

@@ -1,25 +1,27 @@
 -- The spans of a test.
 use Rattle.std.proofs.Common.{◌≡◌, ℕ, ◌+◌, ◌<◌, true, false, List, [], ◌∷◌, ◌++◌, length, take, slice_index_or, refl, sym, subst, arith, ◌∙◌, ap}
-use Rattle.std.specs.Prelude.{Bool, not, ◌&&◌, ◌||◌, Option, option_to_list}
+use Rattle.std.specs.Prelude.{Bool, not, ◌&&◌, ◌||◌, Option, option_to_list, if◌then◌else◌}
 use Rattle.std.proofs.lemmas.List.Folds.{list_any-append}
 use Rattle.std.proofs.lemmas.List.{take_more}
 use Rattle.std.proofs.lemmas.List.Concat.{flat_map-append}
 use Rattle.sr_cell.specs.declared.cell.Cell.{Cell}
 use Rattle.sr_cell.specs.declared.table.Column.{Column}
-use Rattle.sr_cell.specs.Cells.{cell_eq}
+use Rattle.sr_cell.specs.Cells.{cell_le, cell_eq}
+use Rattle.sr_box.proofs.Order.{cell_le-trans}
 use Rattle.sr_cell.specs.Names.{is_bad_domain}
 use Rattle.sr_box.specs.declared.span.Span.{Span}
 use Rattle.sr_box.specs.declared.span.Span.TheVariants.{Full}
 use Rattle.sr_grammar.specs.declared.statement.Op.{Op}
 use Rattle.sr_grammar.specs.declared.statement.Op.TheVariants as ops
 use Rattle.sr_query.specs.Binding.{compared}
-use Rattle.sr_model.specs.Conditions.{Test, passes, Eq, OneOf}
+use Rattle.sr_model.specs.Conditions.{Test, passes, Eq, Between, OneOf}
 use Rattle.sr_model.specs.Ends.{next_value, test_ends}
 use Rattle.sr_model.specs.Width.{test_width}
 use Rattle.sr_condition.specs.Ranges.{says_test, said, range_width, is_one_range, ranged, IsRange, part_of, without, AreSpans, AreApart}
 use Rattle.sr_condition.proofs.Parts.{part-spans}
-use Rattle.sr_condition.proofs.Joins.{spans-with, spans-append}
+use Rattle.sr_condition.proofs.Joins.{spans-with}
 use Rattle.sr_condition.proofs.Apart.{apart-without, apart-whole}
+use Rattle.sr_condition.proofs.Runs.{sides}
 
 -- ---- one range
 
@@ -92,47 +94,50 @@ compared-spans column plain op v spans o one is alone are =
 
 -- ---- lists
 
-list-ends : (xs : List Cell) (x : Cell) → test_ends (OneOf (xs ++ x ∷ [])) ≡ test_ends (OneOf xs) ++ test_ends (Eq x)
-list-ends xs x = flat_map-append (λ v. v ∷ next_value v ∷ []) xs (x ∷ [])
+sides-more : (xs : List Cell) (x : Cell) → sides (xs ++ x ∷ []) ≡ sides xs ++ test_ends (Eq x)
+sides-more xs x = flat_map-append (λ v. v ∷ next_value v ∷ []) xs (x ∷ [])
 
 list-passes : (xs : List Cell) (x v : Cell) → passes (OneOf (xs ++ x ∷ [])) v ≡ (passes (OneOf xs) v || cell_eq v x)
 list-passes xs x v = let e = list_any-append (cell_eq v) xs (x ∷ []) in grind (arith, e)
 
-pub inside-more : (column : Column) (xs : List Cell) (i : ℕ) (x : Cell) (spans part : List Span) → AreSpans column (passes (OneOf xs)) i (test_ends (OneOf xs)) spans
-    → AreSpans column (passes (Eq x)) 1 (test_ends (Eq x)) part → AreSpans column (passes (OneOf (xs ++ x ∷ []))) (i + 1) (test_ends (OneOf (xs ++ x ∷ []))) (spans ++ part)
-inside-more column xs i x spans part are one = subst (λ places. AreSpans column (passes (OneOf (xs ++ x ∷ []))) (i + 1) places (spans ++ part)) (sym (list-ends xs x))
-    (spans-with column (λ v. passes (OneOf xs) v || passes (Eq x) v) (passes (OneOf (xs ++ x ∷ []))) (i + 1) (i + 1)
-    (test_ends (OneOf xs) ++ test_ends (Eq x)) (test_ends (OneOf xs) ++ test_ends (Eq x)) (spans ++ part)
-    (spans-append column (passes (OneOf xs)) (passes (Eq x)) i 1 (test_ends (OneOf xs)) (test_ends (Eq x)) spans part are one)
-    (λ v _. sym (list-passes xs x v)) (omega arith) (λ v h. h))
-
-pub outside-more : (column : Column) (xs : List Cell) (i : ℕ) (x : Cell) (spans : List Span) (part : Option Span) → is_bad_domain column ≡ false
-    → AreApart column (says_test false (OneOf xs)) i (test_ends (OneOf xs)) spans → AreSpans column (passes (Eq x)) 1 (test_ends (Eq x)) (option_to_list part)
-    → AreApart column (says_test false (OneOf (xs ++ x ∷ []))) (i + 1) (test_ends (OneOf (xs ++ x ∷ []))) (without column part spans)
+outside-more : (column : Column) (xs : List Cell) (i : ℕ) (x : Cell) (spans : List Span) (part : Option Span) → is_bad_domain column ≡ false
+    → AreApart column (says_test false (OneOf xs)) i (sides xs) spans → AreSpans column (passes (Eq x)) 1 (test_ends (Eq x)) (option_to_list part)
+    → AreApart column (says_test false (OneOf (xs ++ x ∷ []))) (i + 1) (sides (xs ++ x ∷ [])) (without column part spans)
 outside-more column xs i x spans part good apart one = record {
-  are = subst (λ places. AreSpans column (says_test false (OneOf (xs ++ x ∷ []))) (i + 1) places (without column part spans)) (sym (list-ends xs x))
+  are = subst (λ places. AreSpans column (says_test false (OneOf (xs ++ x ∷ []))) (i + 1) places (without column part spans)) (sym (sides-more xs x))
       (spans-with column (λ v. says_test false (OneOf xs) v && not (passes (Eq x) v)) (says_test false (OneOf (xs ++ x ∷ []))) (i + 1) (i + 1)
-      (test_ends (OneOf xs) ++ test_ends (Eq x)) (test_ends (OneOf xs) ++ test_ends (Eq x)) (without column part spans) left.are
+      (sides xs ++ test_ends (Eq x)) (sides xs ++ test_ends (Eq x)) (without column part spans) left.are
       (λ v _. let e = list-passes xs x v in grind (arith, e)) (omega arith) (λ v h. h));
   once = left.once;
 }
   where
-    left : AreApart column (λ v. says_test false (OneOf xs) v && not (passes (Eq x) v)) (i + 1) (test_ends (OneOf xs) ++ test_ends (Eq x)) (without column part spans)
-    left = apart-without column (says_test false (OneOf xs)) (passes (Eq x)) i (test_ends (OneOf xs)) (test_ends (Eq x)) spans part good apart one
+    left : AreApart column (λ v. says_test false (OneOf xs) v && not (passes (Eq x) v)) (i + 1) (sides xs ++ test_ends (Eq x)) (without column part spans)
+    left = apart-without column (says_test false (OneOf xs)) (passes (Eq x)) i (sides xs) (test_ends (Eq x)) spans part good apart one
 
 take-item : (xs : List Cell) (i : ℕ) (x : Cell) → i < length xs → x ≡ slice_index_or xs i x → take i xs ++ x ∷ [] ≡ take (i + 1) xs
 take-item xs i x l e = sym (take_more xs i x l ∙ ap (λ y. take i xs ++ y ∷ []) (sym e))
 
-pub inside-step : (column : Column) (xs : List Cell) (i : ℕ) (x : Cell) (spans new : List Span) (part : Option Span) → i < length xs → x ≡ slice_index_or xs i x → new ≡ spans ++ option_to_list part
-    → AreSpans column (passes (OneOf (take i xs))) i (test_ends (OneOf (take i xs))) spans → AreSpans column (passes (Eq x)) 1 (test_ends (Eq x)) (option_to_list part)
-    → AreSpans column (passes (OneOf (take (i + 1) xs))) (i + 1) (test_ends (OneOf (take (i + 1) xs))) new
-inside-step column xs i x spans new part l e is are one =
-    subst (λ (ys : List Cell). AreSpans column (passes (OneOf ys)) (i + 1) (test_ends (OneOf ys)) new) (take-item xs i x l e)
-    (subst (AreSpans column (passes (OneOf (take i xs ++ x ∷ []))) (i + 1) (test_ends (OneOf (take i xs ++ x ∷ [])))) (sym is) (inside-more column (take i xs) i x spans (option_to_list part) are one))
-
 pub outside-step : (column : Column) (xs : List Cell) (i : ℕ) (x : Cell) (spans new : List Span) (part : Option Span) → is_bad_domain column ≡ false → i < length xs → x ≡ slice_index_or xs i x
-    → new ≡ without column part spans → AreApart column (says_test false (OneOf (take i xs))) (i + 1) (test_ends (OneOf (take i xs))) spans
-    → AreSpans column (passes (Eq x)) 1 (test_ends (Eq x)) (option_to_list part) → AreApart column (says_test false (OneOf (take (i + 1) xs))) (i + 1 + 1) (test_ends (OneOf (take (i + 1) xs))) new
+    → new ≡ without column part spans → AreApart column (says_test false (OneOf (take i xs))) (i + 1) (sides (take i xs)) spans
+    → AreSpans column (passes (Eq x)) 1 (test_ends (Eq x)) (option_to_list part) → AreApart column (says_test false (OneOf (take (i + 1) xs))) (i + 1 + 1) (sides (take (i + 1) xs)) new
 outside-step column xs i x spans new part good l e is apart one =
-    subst (λ (ys : List Cell). AreApart column (says_test false (OneOf ys)) (i + 1 + 1) (test_ends (OneOf ys)) new) (take-item xs i x l e)
-    (subst (AreApart column (says_test false (OneOf (take i xs ++ x ∷ []))) (i + 1 + 1) (test_ends (OneOf (take i xs ++ x ∷ [])))) (sym is) (outside-more column (take i xs) (i + 1) x spans part good apart one))
+    subst (λ (ys : List Cell). AreApart column (says_test false (OneOf ys)) (i + 1 + 1) (sides ys) new) (take-item xs i x l e)
+    (subst (AreApart column (says_test false (OneOf (take i xs ++ x ∷ []))) (i + 1 + 1) (sides (take i xs ++ x ∷ []))) (sym is) (outside-more column (take i xs) (i + 1) x spans part good apart one))
+
+-- ---- BETWEEN with its second value below the first
+
+crossed-passes : (a b v : Cell) → cell_le a b ≡ false → passes (Between a b) v ≡ false
+crossed-passes a b v crossed = go (cell_le a v) refl (cell_le v b) refl
+  where
+    go : (x : Bool) → cell_le a v ≡ x → (y : Bool) → cell_le v b ≡ y → (x && y) ≡ false
+    go true h true k = let t = cell_le-trans a v b h k in absurd (grind (arith, t, crossed))
+    go true h false k = refl
+    go false h y k = refl
+
+pub crossed-spans : (column : Column) (a b : Cell) (plain : Bool) (spans : List Span) → cell_le a b ≡ false → spans ≡ (if not plain then Full ∷ [] else [])
+    → AreSpans column (says_test plain (Between a b)) (range_width plain) (test_ends (Between a b)) spans
+crossed-spans column a b true spans crossed is = subst (AreSpans column (passes (Between a b)) 1 (test_ends (Between a b))) (sym is)
+    (record { fits = refl; points = λ v i. sym (crossed-passes a b v crossed); few = omega arith; ends = tt })
+crossed-spans column a b false spans crossed is = subst (AreSpans column (says_test false (Between a b)) 2 (test_ends (Between a b))) (sym is)
+    (spans-with column (λ v. true) (says_test false (Between a b)) 1 2 [] (test_ends (Between a b)) (Full ∷ []) (apart-whole column).are
+    (λ v i. let e = crossed-passes a b v crossed in grind (arith, e)) (omega arith) (λ v h. absurd (grind arith)))

@@ -96,6 +96,10 @@ without column (Some t) spans = flat_map (beside column t) spans
 abbrev pub in_spans : List Span → Cell → Bool
 in_spans spans v = list_any (λ s. in_span s v) spans
 
+-- the value lies in none of the spans
+abbrev pub is_left : List Span → Cell → Bool
+is_left spans v = not (in_spans spans v)
+
 -- in how many of the spans the value lies
 abbrev pub times_in : List Span → Cell → ℕ
 times_in [] v = 0

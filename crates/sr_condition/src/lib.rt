@@ -5,6 +5,4 @@ pub mod passes;
 pub(crate) mod ranges;
 pub mod rects;
 pub(crate) mod spans;
-#[cfg(test)]
-mod tests;
 pub mod width;

@@ -3,6 +3,7 @@ ghost use Rattle.std.specs.Prelude.{◌≡◌, ◌++◌, ◌∷◌, [], true, So
 ghost use Rattle.sr_box.specs.declared.span.Span.TheVariants.{Strs};
 ghost use Rattle.sr_cell.specs.declared.cell.Cell.TheVariants.{Num, Str};
 ghost use Rattle.sr_cell.specs.declared.table.Kind.TheVariants.{Num as Numbers, Str as Texts};
+ghost use Rattle.sr_cell.specs.Cells.{cell_le};
 ghost use Rattle.sr_cell.specs.Columns.{are_bytes};
 ghost use Rattle.sr_model.specs.Conditions.{passes, Between, Prefix};
 ghost use Rattle.sr_model.specs.Ends.{test_ends};
@@ -105,7 +106,7 @@ fn know_bytes(text: &[u8])
     ensures { are_bytes text.now ≡ true }
 {}
 
-/// The bounds of the values that lie between two.
+/// The bounds of the values that lie between two, of which the second is not below the first.
 pub(crate) fn between(
     alloc: Global,
     column: &Column,
@@ -114,6 +115,7 @@ pub(crate) fn between(
 ) -> Result<Span, NoMemory>
     requires low { cell_suits column.now.kind low.now ≡ true }
     requires high { cell_suits column.now.kind high.now ≡ true }
+    requires order { cell_le low.now high.now ≡ true }
     ensures { IfOk result (IsRange column.now (passes (Between low.now high.now)) (test_ends (Between low.now high.now))) }
 {
     match (low, high) {
@@ -129,14 +131,16 @@ pub(crate) fn between(
 }
 
 fn number_between(column: &Column, low: i64, high: i64) -> Span
-    requires { column.now.kind ≡ Numbers }
+    requires kind { column.now.kind ≡ Numbers }
+    requires order { cell_le (Num low) (Num high) ≡ true }
     ensures { IsRange column.now (passes (Between (Num low) (Num high))) (test_ends (Between (Num low) (Num high))) result }
 {
     Span::Nums { lo: low, hi: high }
 }
 
 fn text_between(alloc: Global, column: &Column, low: &[u8], high: &[u8]) -> Result<Span, NoMemory>
-    requires { column.now.kind ≡ Texts }
+    requires kind { column.now.kind ≡ Texts }
+    requires order { cell_le (Str low.now) (Str high.now) ≡ true }
     ensures { IfOk result (IsRange column.now (passes (Between (Str low.now) (Str high.now))) (test_ends (Between (Str low.now) (Str high.now)))) }
 {
     know_bytes(low);

@@ -1,9 +1,10 @@
 //! The values of a test, or of its contrary, as spans of a column.
-ghost use Rattle.std.specs.Prelude.{◌≡◌, ◌+◌, ◌++◌, ◌∷◌, [], true, false, not, int_le, ◌&&◌, flat_map, length, option_to_list, OnOk, IfOk, Bool, if◌then◌else◌};
-ghost use Rattle.std.specs.List.{list_all};
+ghost use Rattle.std.specs.Prelude.{◌≡◌, ◌+◌, ◌++◌, ◌∷◌, [], true, false, not, int_le, ◌&&◌, flat_map, length, option_to_list, OnOk, IfOk, Bool, List, if◌then◌else◌};
+ghost use Rattle.std.specs.List.{list_all, AllByRecursion};
 ghost use Rattle.sr_box.specs.declared.span.Span.TheVariants.{Full};
 ghost use Rattle.sr_box.specs.Cut.{nums, IsInner};
 ghost use Rattle.sr_box.specs.Spans.{span_fits};
+ghost use Rattle.sr_cell.specs.declared.cell.Cell.{Cell as Value};
 ghost use Rattle.sr_cell.specs.Names.{is_bad_domain};
 ghost use Rattle.sr_model.specs.Conditions.{passes, Eq, Between, Prefix, OneOf};
 ghost use Rattle.sr_model.specs.Conditions as model;
@@ -12,7 +13,7 @@ ghost use Rattle.sr_model.specs.Width.{test_width};
 ghost use Rattle.sr_query.specs.Binding.{compared};
 ghost use Rattle.sr_query.specs.Meant.{test_meant};
 ghost use Rattle.sr_condition.specs.Suits.{cell_suits, test_suits};
-ghost use Rattle.sr_condition.specs.Ranges.{says_test, contrary, said, range_width, is_one_range, is_range, IsRange, number_part, text_part, part_of, beside, without, AreSpans};
+ghost use Rattle.sr_condition.specs.Ranges.{says_test, contrary, said, range_width, is_one_range, is_range, IsRange, number_part, text_part, part_of, beside, without, is_left, EndsAt, AreSpans, AreApart};
 
 use crate::ranges;
 use sr_box::span::{Span, is_before};
@@ -203,8 +204,12 @@ fn between(
     requires high { cell_suits column.now.kind high.now ≡ true }
     ensures { IfOk result (AreSpans column.now (says_test plain (Between low.now high.now)) (range_width plain) (test_ends (Between low.now high.now))) }
 {
-    let bounds = ranges::between(alloc, column, low, high)?;
-    range_spans(alloc, column, plain, bounds)
+    if low.is_at_most(high) {
+        let bounds = ranges::between(alloc, column, low, high)?;
+        range_spans(alloc, column, plain, bounds)
+    } else {
+        all_or_none(alloc, !plain)
+    }
 }
 
 // No number begins with a text.
@@ -239,20 +244,7 @@ fn equal_part(alloc: Global, column: &Column, value: &Cell) -> Result<Option<Spa
     Ok(part_of(column, bounds))
 }
 
-// The values of a list.
-fn inside(alloc: Global, column: &Column, values: &[Cell]) -> Result<Spans, NoMemory>
-    requires suits { list_all (cell_suits column.now.kind) values.now ≡ true }
-    ensures { IfOk result (AreSpans column.now (passes (OneOf values.now)) (length values.now) (test_ends (OneOf values.now))) }
-{
-    let mut spans = Seq::new(alloc);
-    for value in values {
-        let part = equal_part(alloc, column, value)?;
-        push_some(&mut spans, part)?;
-    }
-    Ok(spans)
-}
-
-// The values between those of a list.
+// The values between those of a list: what is left of the column without each of them.
 fn outside(alloc: Global, column: &Column, values: &[Cell]) -> Result<Spans, NoMemory>
     requires good { is_bad_domain column.now ≡ false }
     requires suits { list_all (cell_suits column.now.kind) values.now ≡ true }
@@ -264,6 +256,30 @@ fn outside(alloc: Global, column: &Column, values: &[Cell]) -> Result<Spans, NoM
         spans = without(alloc, column, spans, part)?;
     }
     Ok(spans)
+}
+
+// What is left of the column without any of these spans.
+fn left_by(alloc: Global, column: &Column, taken: &Spans) -> Result<Spans, NoMemory>
+    requires good { is_bad_domain column.now ≡ false }
+    requires fits { list_all (span_fits column.now) taken.now ≡ true }
+    ensures { (places : List Value) → AllByRecursion (EndsAt column.now places) taken.now
+        → IfOk result (AreApart column.now (is_left taken.now) (length taken.now + 1) places) }
+{
+    let mut spans = whole(alloc)?;
+    for span in taken.as_slice() {
+        spans = cut(alloc, column, &spans, span)?;
+    }
+    Ok(spans)
+}
+
+// The values of a list: what is left by those between them. So neighbours lie in one span.
+fn inside(alloc: Global, column: &Column, values: &[Cell]) -> Result<Spans, NoMemory>
+    requires good { is_bad_domain column.now ≡ false }
+    requires suits { list_all (cell_suits column.now.kind) values.now ≡ true }
+    ensures { IfOk result (AreSpans column.now (passes (OneOf values.now)) (length values.now) (test_ends (OneOf values.now))) }
+{
+    let between = outside(alloc, column, values)?;
+    left_by(alloc, column, &between)
 }
 
 /// Spans of a column with just the values of which a test, or its contrary, is true.

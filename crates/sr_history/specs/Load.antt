@@ -10,6 +10,7 @@ use Rattle.sr_box.specs.Points.{HasPoint}
 use Rattle.sr_box.specs.Corners.{first_value}
 use Rattle.sr_union.specs.Grid.{distinct}
 use Rattle.sr_message.specs.declared.message.AskPart.{AskPart}
+use Rattle.sr_message.specs.Sizes.{most_rects}
 use Rattle.sr_model.specs.Ends.{ends}
 use Rattle.sr_model.specs.Queries.{Part, Query}
 use Rattle.sr_history.specs.declared.mark.Mark.{Mark}
@@ -56,4 +57,4 @@ load_from counts t (table ∷ schema) queries = counts t * ends_grid 0 table.col
 -- greatest load, that of all such sets.
 abbrev pub IsHeavy : List Table → List Mark → List AskPart → Query → List Query → Type 0
 IsHeavy schema marks asks q counted =
-    (sets : ℕ → List ℕ) × ((table : ℕ) → AreSets schema marks asks table (sets table)) × (16384 < load_from (count_of q sets) 0 schema counted)
+    (sets : ℕ → List ℕ) × ((table : ℕ) → AreSets schema marks asks table (sets table)) × (most_rects < load_from (count_of q sets) 0 schema counted)

@@ -8,7 +8,7 @@ ghost use Rattle.sr_history.specs.declared.mark.Mark.TheVariants.{Held, Dropped}
 ghost use Rattle.sr_history.specs.Ends.{GridsAreFew, CutsKeepEnds, MorePartsKeepEnds, PartsHaveTheirEnds};
 ghost use Rattle.sr_history.specs.Load.{ends_grid};
 ghost use Rattle.sr_history.specs.Marks.{is_held, is_covered};
-ghost use Rattle.sr_model.specs.Conditions.{Tests, Between, Ge, Lt};
+ghost use Rattle.sr_model.specs.Conditions.{Tests, Between, OneOf, Ge, Lt};
 
 /// The newest mark that has the point decides, and it is of just those columns.
 pub fn the_newest_mark_decides()
@@ -24,7 +24,8 @@ pub fn more_columns_cover()
     ensures fewer { is_covered (Held 0 1 ((Full ∷ []) ∷ []) ∷ []) 0 3 (Num (pos 7) ∷ []) ≡ false }
 {}
 
-/// An end counts where it lies inside of its column and above its first value, and once.
+/// An end counts where it lies inside of its column and above its first value, and once; a list of neighbours has two, and
+/// what is between a value and a lesser one has none.
 pub fn ends_inside_count()
     ensures two_ends { ends_grid 0 (record { name = []; kind = Numbers; lo = pos 0; hi = pos 150 } ∷ [])
         (record { table = 0; need = 1; condition = Tests 0 (Between (Num (pos 30)) (Num (pos 40))) } ∷ []) ≡ 3 }
@@ -34,6 +35,10 @@ pub fn ends_inside_count()
         (record { table = 0; need = 1; condition = Tests 0 (Ge (Num (pos 30))) } ∷ record { table = 0; need = 1; condition = Tests 0 (Lt (Num (pos 30))) } ∷ []) ≡ 2 }
     ensures other_column { ends_grid 0 (record { name = []; kind = Numbers; lo = pos 0; hi = pos 150 } ∷ [])
         (record { table = 0; need = 3; condition = Tests 1 (Ge (Num (pos 30))) } ∷ []) ≡ 1 }
+    ensures neighbours { ends_grid 0 (record { name = []; kind = Numbers; lo = pos 0; hi = pos 150 } ∷ [])
+        (record { table = 0; need = 1; condition = Tests 0 (OneOf (Num (pos 3) ∷ Num (pos 4) ∷ Num (pos 5) ∷ [])) } ∷ []) ≡ 3 }
+    ensures crossed { ends_grid 0 (record { name = []; kind = Numbers; lo = pos 0; hi = pos 150 } ∷ [])
+        (record { table = 0; need = 1; condition = Tests 0 (Between (Num (pos 5)) (Num (pos 3))) } ∷ []) ≡ 1 }
 {}
 
 /// Rects that begin and end only where tests do make no greater a grid than the ends of the tests.

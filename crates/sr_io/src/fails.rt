@@ -1,12 +1,18 @@
 //! Calls that are to fail, by their numbers.
 ghost use Rattle.std.specs.Prelude.{◌≡◌, ℕ, ◌+◌, ◌≤◌, List, true, false, min, ◌^◌, ◌-◌};
-ghost use Rattle.sr_io.specs.Fails.{NoneAbove, fails_after};
+ghost use Rattle.sr_io.specs.Fails.{NoneAbove, Plan, fails_after};
 
 use sr_cell::list::Seq;
 use std::marker::Model;
 
 /// The numbers of the calls that are to fail. The first call is number 1.
 pub type Fails = Seq<u64>;
+
+/// What a form in memory tells of its calls.
+pub trait Planned {
+    /// The numbers of the calls that are to fail, the calls so far, and how many bytes one moves at most.
+    ghost plan: { Self → Plan };
+}
 
 /// Counts calls and those of them that failed. Contracts see the numbers, the calls and the failures.
 #[derive(Drop)]

@@ -1,11 +1,15 @@
 //! A host in memory.
-ghost use Rattle.std.specs.Prelude.{◌≡◌, ◌↔◌, ◌<◌, ◌≤◌, [], length, drop, Some, vec_len, vec_capacity, IfOk};
+ghost use Rattle.std.specs.Prelude.{◌≡◌, ◌↔◌, ◌<◌, ◌≤◌, ◌⊎◌, [], length, drop, true, Some, None, vec_len, vec_capacity, IfOk, OnOk, OnErr, IsErrOf};
+ghost use Rattle.std.specs.Io.{ReadsAtMost};
+ghost use Rattle.std.specs.Io.KnownBytes.{ReadConsumes, WriteAppends};
 ghost use Rattle.std.specs.Option.{option_copied};
-ghost use Rattle.sr_io.specs.Fails.{NoneAbove};
+ghost use Rattle.sr_cell.specs.declared.list.No.TheVariants.{Refused, NoMemory as Wanting};
+ghost use Rattle.sr_io.specs.Causes.{Rose};
+ghost use Rattle.sr_io.specs.Fails.{NoneAbove, planned, counted, fails_next};
 ghost use Rattle.sr_io.specs.Files.{held_of};
-ghost use Rattle.sr_io.specs.Told.{no_linking};
+ghost use Rattle.sr_io.specs.Told.{no_linking, complained};
 
-use crate::fails::{Failing, Fails};
+use crate::fails::{Failing, Fails, Planned};
 use crate::file::FileList;
 use crate::outside::{Failed, Host, Outside, Sink, Source};
 use sr_cell::list::{Bytes, Copied, No, NoMemory, Seq};
@@ -45,6 +49,7 @@ impl MemHost {
         ensures reading { IfOk result (λ host. ⟦<MemHost as Outside>⟧.reading host ≡ record { left = Some []; faults = 0 }) }
         ensures writing { IfOk result (λ host. ⟦<MemHost as Outside>⟧.writing host ≡ record { written = Some []; faults = 0 }) }
         ensures complaints { IfOk result (λ host. ⟦<MemHost as Outside>⟧.complaints host ≡ Some []) }
+        ensures plan { IfOk result (λ host. ⟦<MemHost as Planned>⟧.plan host ≡ planned fails piece) }
         ensures steady { IfOk result (λ host. NoneAbove fails 0 ↔ ⟦<MemHost as Outside>⟧.IsSteady host) }
     {
         Ok(MemHost {
@@ -92,8 +97,29 @@ impl Outside for MemHost {
     ghost IsSteady = { λ s. NoneAbove s.failing.0 s.failing.1 };
 }
 
+impl Planned for MemHost {
+    ghost plan = { λ s. record { numbers = s.failing.0; calls = s.failing.1; piece = s.piece } };
+}
+
 impl Source for MemHost {
-    fn read(&mut self, room: &mut [u8]) -> Result<usize, No<Failed>> {
+    fn read(&mut self, room: &mut [u8]) -> Result<usize, No<Failed>>
+        requires { 0 < length room.old }
+        ensures fails_as_listed { IsErrOf result (Refused record {}) ↔ fails_next (⟦<MemHost as Planned>⟧.plan self.old) ≡ true }
+        ensures one_piece { IfOk result (λ n. n ≤ (⟦<MemHost as Planned>⟧.plan self.old).piece) }
+        ensures call_is_counted { ⟦<MemHost as Planned>⟧.plan self.new ≡ counted (⟦<MemHost as Planned>⟧.plan self.old) }
+        ensures fits_room { ReadsAtMost result room.new }
+        ensures bytes { ReadConsumes (⟦<MemHost as Outside>⟧.reading self.old).left (⟦<MemHost as Outside>⟧.reading self.new).left result room.new }
+        ensures faults_never_fall { (⟦<MemHost as Outside>⟧.reading self.old).faults ≤ (⟦<MemHost as Outside>⟧.reading self.new).faults }
+        ensures ok_keeps_faults { OnOk result ((⟦<MemHost as Outside>⟧.reading self.new).faults ≡ (⟦<MemHost as Outside>⟧.reading self.old).faults) }
+        ensures want_keeps_faults { IsErrOf result Wanting → (⟦<MemHost as Outside>⟧.reading self.new).faults ≡ (⟦<MemHost as Outside>⟧.reading self.old).faults }
+        ensures failed_is_counted { IsErrOf result (Refused record {}) → Rose (⟦<MemHost as Outside>⟧.reading self.old).faults (⟦<MemHost as Outside>⟧.reading self.new).faults }
+        ensures stays_steady { ⟦<MemHost as Outside>⟧.IsSteady self.old → ⟦<MemHost as Outside>⟧.IsSteady self.new }
+        ensures steady_never_fails { ⟦<MemHost as Outside>⟧.IsSteady self.old → ¬ IsErrOf result (Refused record {}) }
+        ensures writing_stays { ⟦<MemHost as Outside>⟧.writing self.new ≡ ⟦<MemHost as Outside>⟧.writing self.old }
+        ensures linking_stays { ⟦<MemHost as Outside>⟧.linking self.new ≡ ⟦<MemHost as Outside>⟧.linking self.old }
+        ensures held_stays { ⟦<MemHost as Outside>⟧.held self.new ≡ ⟦<MemHost as Outside>⟧.held self.old }
+        ensures complaints_stay { ⟦<MemHost as Outside>⟧.complaints self.new ≡ ⟦<MemHost as Outside>⟧.complaints self.old }
+    {
         if self.failing.fails_now() {
             self.read_faults = self.read_faults.saturating_add(1);
             return Err(No::Refused(Failed));
@@ -111,7 +137,24 @@ impl Source for MemHost {
 }
 
 impl Sink for MemHost {
-    fn write(&mut self, bytes: &[u8]) -> Result<usize, No<Failed>> {
+    fn write(&mut self, bytes: &[u8]) -> Result<usize, No<Failed>>
+        requires { 0 < length bytes.now }
+        ensures fails_as_listed { IsErrOf result (Refused record {}) ↔ fails_next (⟦<MemHost as Planned>⟧.plan self.old) ≡ true }
+        ensures one_piece { IfOk result (λ n. n ≤ (⟦<MemHost as Planned>⟧.plan self.old).piece) }
+        ensures call_is_counted { ⟦<MemHost as Planned>⟧.plan self.new ≡ counted (⟦<MemHost as Planned>⟧.plan self.old) }
+        ensures some_bytes { IfOk result (λ n. (0 < n) × (n ≤ length bytes.now)) }
+        ensures bytes { WriteAppends (⟦<MemHost as Outside>⟧.writing self.old).written (⟦<MemHost as Outside>⟧.writing self.new).written result bytes.now }
+        ensures faults_never_fall { (⟦<MemHost as Outside>⟧.writing self.old).faults ≤ (⟦<MemHost as Outside>⟧.writing self.new).faults }
+        ensures ok_keeps_faults { OnOk result ((⟦<MemHost as Outside>⟧.writing self.new).faults ≡ (⟦<MemHost as Outside>⟧.writing self.old).faults) }
+        ensures want_keeps_faults { IsErrOf result Wanting → (⟦<MemHost as Outside>⟧.writing self.new).faults ≡ (⟦<MemHost as Outside>⟧.writing self.old).faults }
+        ensures failed_is_counted { IsErrOf result (Refused record {}) → Rose (⟦<MemHost as Outside>⟧.writing self.old).faults (⟦<MemHost as Outside>⟧.writing self.new).faults }
+        ensures stays_steady { ⟦<MemHost as Outside>⟧.IsSteady self.old → ⟦<MemHost as Outside>⟧.IsSteady self.new }
+        ensures steady_never_fails { ⟦<MemHost as Outside>⟧.IsSteady self.old → ¬ IsErrOf result (Refused record {}) }
+        ensures reading_stays { ⟦<MemHost as Outside>⟧.reading self.new ≡ ⟦<MemHost as Outside>⟧.reading self.old }
+        ensures linking_stays { ⟦<MemHost as Outside>⟧.linking self.new ≡ ⟦<MemHost as Outside>⟧.linking self.old }
+        ensures held_stays { ⟦<MemHost as Outside>⟧.held self.new ≡ ⟦<MemHost as Outside>⟧.held self.old }
+        ensures complaints_stay { ⟦<MemHost as Outside>⟧.complaints self.new ≡ ⟦<MemHost as Outside>⟧.complaints self.old }
+    {
         if self.failing.fails_now() {
             self.write_faults = self.write_faults.saturating_add(1);
             return Err(No::Refused(Failed));
@@ -127,7 +170,22 @@ impl Sink for MemHost {
 }
 
 impl Host for MemHost {
-    fn pick(&mut self, name: &str) -> Result<(), No<Failed>> {
+    fn pick(&mut self, name: &str) -> Result<(), No<Failed>>
+        ensures fails_as_listed { IsErrOf result (Refused record {}) ↔ (fails_next (⟦<MemHost as Planned>⟧.plan self.old) ≡ true ⊎ ⟦<MemHost as Outside>⟧.held self.old name.now ≡ None) }
+        ensures call_is_counted { ⟦<MemHost as Planned>⟧.plan self.new ≡ counted (⟦<MemHost as Planned>⟧.plan self.old) }
+        ensures bytes { OnOk result ((⟦<MemHost as Outside>⟧.reading self.new).left ≡ ⟦<MemHost as Outside>⟧.held self.old name.now) }
+        ensures unchanged { OnErr result ((⟦<MemHost as Outside>⟧.reading self.new).left ≡ (⟦<MemHost as Outside>⟧.reading self.old).left) }
+        ensures faults_never_fall { (⟦<MemHost as Outside>⟧.reading self.old).faults ≤ (⟦<MemHost as Outside>⟧.reading self.new).faults }
+        ensures ok_keeps_faults { OnOk result ((⟦<MemHost as Outside>⟧.reading self.new).faults ≡ (⟦<MemHost as Outside>⟧.reading self.old).faults) }
+        ensures want_keeps_faults { IsErrOf result Wanting → (⟦<MemHost as Outside>⟧.reading self.new).faults ≡ (⟦<MemHost as Outside>⟧.reading self.old).faults }
+        ensures failed_is_counted { IsErrOf result (Refused record {}) → Rose (⟦<MemHost as Outside>⟧.reading self.old).faults (⟦<MemHost as Outside>⟧.reading self.new).faults }
+        ensures stays_steady { ⟦<MemHost as Outside>⟧.IsSteady self.old → ⟦<MemHost as Outside>⟧.IsSteady self.new }
+        ensures steady_fails_only_unheld { ⟦<MemHost as Outside>⟧.IsSteady self.old → IsErrOf result (Refused record {}) → ⟦<MemHost as Outside>⟧.held self.old name.now ≡ None }
+        ensures writing_stays { ⟦<MemHost as Outside>⟧.writing self.new ≡ ⟦<MemHost as Outside>⟧.writing self.old }
+        ensures linking_stays { ⟦<MemHost as Outside>⟧.linking self.new ≡ ⟦<MemHost as Outside>⟧.linking self.old }
+        ensures held_stays { ⟦<MemHost as Outside>⟧.held self.new ≡ ⟦<MemHost as Outside>⟧.held self.old }
+        ensures complaints_stay { ⟦<MemHost as Outside>⟧.complaints self.new ≡ ⟦<MemHost as Outside>⟧.complaints self.old }
+    {
         if self.failing.fails_now() {
             self.read_faults = self.read_faults.saturating_add(1);
             return Err(No::Refused(Failed));
@@ -145,7 +203,15 @@ impl Host for MemHost {
         }
     }
 
-    fn complain(&mut self, bytes: &[u8]) {
+    fn complain(&mut self, bytes: &[u8])
+        ensures is_no_call { ⟦<MemHost as Planned>⟧.plan self.new ≡ ⟦<MemHost as Planned>⟧.plan self.old }
+        ensures told { ⟦<MemHost as Outside>⟧.complaints self.new ≡ complained bytes.now (⟦<MemHost as Outside>⟧.complaints self.old) }
+        ensures stays_steady { ⟦<MemHost as Outside>⟧.IsSteady self.old → ⟦<MemHost as Outside>⟧.IsSteady self.new }
+        ensures reading_stays { ⟦<MemHost as Outside>⟧.reading self.new ≡ ⟦<MemHost as Outside>⟧.reading self.old }
+        ensures writing_stays { ⟦<MemHost as Outside>⟧.writing self.new ≡ ⟦<MemHost as Outside>⟧.writing self.old }
+        ensures linking_stays { ⟦<MemHost as Outside>⟧.linking self.new ≡ ⟦<MemHost as Outside>⟧.linking self.old }
+        ensures held_stays { ⟦<MemHost as Outside>⟧.held self.new ≡ ⟦<MemHost as Outside>⟧.held self.old }
+    {
         let room = 4096 - self.complaints.len();
         let count = bytes.len().min(room);
         // it fits the capacity, so this takes no memory and succeeds

@@ -1,9 +1,13 @@
 //! A source in memory.
-ghost use Rattle.std.specs.Prelude.{◌≡◌, ◌↔◌, ◌<◌, ◌≤◌, length, drop, Some, None};
-ghost use Rattle.sr_io.specs.Fails.{NoneAbove};
+ghost use Rattle.std.specs.Prelude.{◌≡◌, ◌↔◌, ◌<◌, ◌≤◌, length, drop, true, Some, None, IfOk, OnOk, IsErrOf};
+ghost use Rattle.std.specs.Io.{ReadsAtMost};
+ghost use Rattle.std.specs.Io.KnownBytes.{ReadConsumes};
+ghost use Rattle.sr_cell.specs.declared.list.No.TheVariants.{Refused, NoMemory as Wanting};
+ghost use Rattle.sr_io.specs.Causes.{Rose};
+ghost use Rattle.sr_io.specs.Fails.{NoneAbove, planned, counted, fails_next};
 ghost use Rattle.sr_io.specs.Told.{no_writing, no_linking};
 
-use crate::fails::{Failing, Fails};
+use crate::fails::{Failing, Fails, Planned};
 use crate::outside::{Failed, Outside, Source};
 use sr_cell::list::{Bytes, No};
 
@@ -23,6 +27,7 @@ impl MemSource {
     pub fn new(bytes: Bytes, fails: Fails, piece: usize) -> MemSource
         requires { 0 < piece }
         ensures reading { ⟦<MemSource as Outside>⟧.reading result ≡ record { left = Some bytes; faults = 0 } }
+        ensures plan { ⟦<MemSource as Planned>⟧.plan result ≡ planned fails piece }
         ensures steady { NoneAbove fails 0 ↔ ⟦<MemSource as Outside>⟧.IsSteady result }
     {
         MemSource {
@@ -48,8 +53,29 @@ impl Outside for MemSource {
     ghost IsSteady = { λ s. NoneAbove s.failing.0 s.failing.1 };
 }
 
+impl Planned for MemSource {
+    ghost plan = { λ s. record { numbers = s.failing.0; calls = s.failing.1; piece = s.piece } };
+}
+
 impl Source for MemSource {
-    fn read(&mut self, room: &mut [u8]) -> Result<usize, No<Failed>> {
+    fn read(&mut self, room: &mut [u8]) -> Result<usize, No<Failed>>
+        requires { 0 < length room.old }
+        ensures fails_as_listed { IsErrOf result (Refused record {}) ↔ fails_next (⟦<MemSource as Planned>⟧.plan self.old) ≡ true }
+        ensures one_piece { IfOk result (λ n. n ≤ (⟦<MemSource as Planned>⟧.plan self.old).piece) }
+        ensures call_is_counted { ⟦<MemSource as Planned>⟧.plan self.new ≡ counted (⟦<MemSource as Planned>⟧.plan self.old) }
+        ensures fits_room { ReadsAtMost result room.new }
+        ensures bytes { ReadConsumes (⟦<MemSource as Outside>⟧.reading self.old).left (⟦<MemSource as Outside>⟧.reading self.new).left result room.new }
+        ensures faults_never_fall { (⟦<MemSource as Outside>⟧.reading self.old).faults ≤ (⟦<MemSource as Outside>⟧.reading self.new).faults }
+        ensures ok_keeps_faults { OnOk result ((⟦<MemSource as Outside>⟧.reading self.new).faults ≡ (⟦<MemSource as Outside>⟧.reading self.old).faults) }
+        ensures want_keeps_faults { IsErrOf result Wanting → (⟦<MemSource as Outside>⟧.reading self.new).faults ≡ (⟦<MemSource as Outside>⟧.reading self.old).faults }
+        ensures failed_is_counted { IsErrOf result (Refused record {}) → Rose (⟦<MemSource as Outside>⟧.reading self.old).faults (⟦<MemSource as Outside>⟧.reading self.new).faults }
+        ensures stays_steady { ⟦<MemSource as Outside>⟧.IsSteady self.old → ⟦<MemSource as Outside>⟧.IsSteady self.new }
+        ensures steady_never_fails { ⟦<MemSource as Outside>⟧.IsSteady self.old → ¬ IsErrOf result (Refused record {}) }
+        ensures writing_stays { ⟦<MemSource as Outside>⟧.writing self.new ≡ ⟦<MemSource as Outside>⟧.writing self.old }
+        ensures linking_stays { ⟦<MemSource as Outside>⟧.linking self.new ≡ ⟦<MemSource as Outside>⟧.linking self.old }
+        ensures held_stays { ⟦<MemSource as Outside>⟧.held self.new ≡ ⟦<MemSource as Outside>⟧.held self.old }
+        ensures complaints_stay { ⟦<MemSource as Outside>⟧.complaints self.new ≡ ⟦<MemSource as Outside>⟧.complaints self.old }
+    {
         if self.failing.fails_now() {
             return Err(No::Refused(Failed));
         }

@@ -1,5 +1,5 @@
 -- Rows picked from a table's.
-use Rattle.std.proofs.Common.{◌≡◌, ℕ, zero, suc, Bool, true, false, not, ◌||◌, List, [], ◌∷◌, ◌++◌, map, drop, refl, ap, ◌∙◌, arith}
+use Rattle.std.proofs.Common.{◌≡◌, ℕ, zero, suc, Bool, true, false, not, ◌||◌, List, [], ◌∷◌, map, drop, refl, ap, ◌∙◌, arith}
 use Rattle.std.specs.Prelude.{filter, ◌==◌, Option, Some, Result, Ok, Err, IfOk, OnOk}
 use Rattle.sr_cell.specs.Attrs.{has_column, project}
 use Rattle.sr_cell.specs.Cells.{Row, cell_at}
@@ -11,10 +11,6 @@ use Rattle.sr_join.specs.Found.{IsFound, picked, cells_of, lent, has_outputs, un
 use Rattle.sr_join.specs.Places.{place_of, cell_in, cells_in}
 use Rattle.sr_join.proofs.United.{united-filters}
 use Rattle.sr_model.specs.SortedRows.{ascend}
-
-pub map-more : {X Y Z : Type 0} (f : X → Y) (g : Y → Z) (xs : List X) (x : X) → map g (map f (xs ++ x ∷ [])) ≡ map g (map f xs) ++ g (f x) ∷ []
-map-more f g [] x = refl
-map-more f g (y ∷ xs) x = ap (λ zs. g (f y) ∷ zs) (map-more f g xs x)
 
 pub found-nothing : (key : ℕ) (outputs : List Output) (all : List Row) → IsFound key outputs all (λ p. false) []
 found-nothing key outputs [] = refl

@@ -8,10 +8,10 @@ ghost use Rattle.sr_join.specs.Found.{key_of, cells_of, lent, has_outputs, IsFou
 
 use crate::merge::unite;
 use crate::pick::pick;
-use sr_cell::attrs::Attrs;
 use sr_cell::cell::{Row, Rows};
 use sr_cell::list::{NoMemory, Seq};
 use sr_query::query::Query;
+use sr_region::inside::RowsIn;
 use std::alloc::Global;
 
 /// What was found of a query's answer: by key, each row's key and the cells that the query outputs.
@@ -31,23 +31,20 @@ impl Joiner {
         }
     }
 
-    /// Rows of these columns, by key ascending; those whose key was found already are passed over.
-    pub fn lend(
-        &mut self,
-        alloc: Global,
-        query: &Query,
-        attrs: Attrs,
-        rows: &[&Row],
-    ) -> Result<(), NoMemory>
-        ensures lent { OnOk result (self.new.found ≡ united self.old.found (map (lent attrs (key_of query.now) query.now.output) (map (λ r. r.now) rows.now))) }
+    /// Takes rows in, by key ascending; those whose key was found already are passed over.
+    pub fn lend(&mut self, alloc: Global, query: &Query, rows: RowsIn) -> Result<(), NoMemory>
+        ensures lent { OnOk result (self.new.found ≡ united self.old.found (map (lent rows.entry.attrs (key_of query.now) query.now.output) rows.entry.rows)) }
         ensures found { (all : List Cells) (f g : Cells → Bool) → OnOk result (ascend (key_of query.now) all ≡ true
-            → has_column attrs (key_of query.now) ≡ true → has_outputs attrs query.now.output ≡ true
+            → has_column rows.entry.attrs (key_of query.now) ≡ true → has_outputs rows.entry.attrs query.now.output ≡ true
             → IsFound (key_of query.now) query.now.output all f self.old.found
-            → map (λ r. r.now) rows.now ≡ map (project attrs) (filter g all)
+            → rows.entry.rows ≡ map (project rows.entry.attrs) (filter g all)
             → IsFound (key_of query.now) query.now.output all (λ p. f p || g p) self.new.found) }
         ensures unchanged { OnErr result (self.new ≡ self.old) }
     {
-        put_rows(alloc, &mut self.found, query, attrs, rows)
+        match pick(alloc, query, rows) {
+            Ok(more) => unite(alloc, &mut self.found, more),
+            Err(no) => Err(no),
+        }
     }
 
     /// The cells of the query's outputs, by key ascending.
@@ -57,25 +54,6 @@ impl Joiner {
             → IfOk result (λ answer. answer ≡ map (cells_of outputs) (filter test all)) }
     {
         without_keys(alloc, self.found)
-    }
-}
-
-fn put_rows(
-    alloc: Global,
-    found: &mut Rows,
-    query: &Query,
-    attrs: Attrs,
-    rows: &[&Row],
-) -> Result<(), NoMemory>
-    ensures lent { OnOk result (found.new ≡ united found.old (map (lent attrs (key_of query.now) query.now.output) (map (λ r. r.now) rows.now))) }
-    ensures unchanged { OnErr result (found.new ≡ found.old) }
-{
-    if rows.is_empty() {
-        return Ok(());
-    }
-    match pick(alloc, query, attrs, rows) {
-        Ok(more) => unite(alloc, found, more),
-        Err(no) => Err(no),
     }
 }
 

@@ -93,6 +93,13 @@ pub(crate) fn unite(alloc: Global, rows: &mut Rows, more: Rows) -> Result<(), No
     ensures united { OnOk result (rows.new ≡ united rows.old more) }
     ensures unchanged { OnErr result (rows.new ≡ rows.old) }
 {
+    if more.is_empty() {
+        return Ok(());
+    }
+    if rows.is_empty() {
+        *rows = more;
+        return Ok(());
+    }
     let more = more.into_vec();
     let room = Vec::with_capacity(alloc, rows.as_slice().len() + more.len())?;
     let own = mem::replace(rows, Seq::new(alloc)).into_vec();

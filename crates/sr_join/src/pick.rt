@@ -1,5 +1,5 @@
 //! The cells of a query's answer, of rows of some columns.
-ghost use Rattle.std.specs.Prelude.{◌≡◌, ◌∷◌, List, Some, map, IfOk};
+ghost use Rattle.std.specs.Prelude.{◌≡◌, ◌∷◌, ◌++◌, List, Some, map, IfOk, OnOk};
 ghost use Rattle.sr_cell.specs.Cells.{cell_at};
 ghost use Rattle.sr_region.specs.Regions.{rank};
 ghost use Rattle.sr_join.specs.Found.{key_of, lent};
@@ -10,6 +10,7 @@ use sr_cell::cell::{Cell, Row, Rows};
 use sr_cell::list::{Copied, NoMemory, Seq};
 use sr_query::condition::Output;
 use sr_query::query::Query;
+use sr_region::inside::RowsIn;
 use sr_region::region::rank_of;
 use std::alloc::Global;
 
@@ -76,27 +77,57 @@ fn cells_in(alloc: Global, row: &Row, places: &[Option<usize>]) -> Result<Row, N
     Ok(cells)
 }
 
-fn all_in(alloc: Global, rows: &[&Row], places: &[Option<usize>]) -> Result<Rows, NoMemory>
-    ensures { IfOk result (λ all. all ≡ map (cells_in places.now) (map (λ r. r.now) rows.now)) }
+/// The cells of those places of each row, at the end.
+fn push_all(
+    alloc: Global,
+    all: &mut Rows,
+    rows: RowsIn,
+    places: &[Option<usize>],
+) -> Result<(), NoMemory>
+    ensures { OnOk result (all.new ≡ all.old ++ map (cells_in places.now) rows.entry.rows) }
+{
+    for lent in rows {
+        all.push(cells_in(alloc, lent.row, places)?)?;
+    }
+    Ok(())
+}
+
+fn all_in(
+    alloc: Global,
+    first: &Row,
+    others: RowsIn,
+    places: &[Option<usize>],
+) -> Result<Rows, NoMemory>
+    ensures { IfOk result (λ all. all ≡ map (cells_in places.now) (first.now ∷ others.entry.rows)) }
 {
     let mut all = Seq::new(alloc);
-    for row in rows {
-        all.push(cells_in(alloc, row, places)?)?;
-    }
+    all.push(cells_in(alloc, first, places)?)?;
+    push_all(alloc, &mut all, others, places)?;
     Ok(all)
 }
 
-/// The key and the outputs of each row.
-pub(crate) fn pick(
+fn pick_all(
     alloc: Global,
     query: &Query,
     attrs: Attrs,
-    rows: &[&Row],
+    first: &Row,
+    others: RowsIn,
 ) -> Result<Rows, NoMemory>
-    ensures { IfOk result (λ all. all ≡ map (lent attrs (key_of query.now) query.now.output) (map (λ r. r.now) rows.now)) }
+    ensures { IfOk result (λ all. all ≡ map (lent attrs (key_of query.now) query.now.output) (first.now ∷ others.entry.rows)) }
 {
     match places_of(alloc, attrs, query) {
-        Ok(places) => all_in(alloc, rows, places.as_slice()),
+        Ok(places) => all_in(alloc, first, others, places.as_slice()),
         Err(no) => Err(no),
+    }
+}
+
+/// The key and the outputs of each row; without rows it takes no memory.
+pub(crate) fn pick(alloc: Global, query: &Query, rows: RowsIn) -> Result<Rows, NoMemory>
+    ensures { IfOk result (λ all. all ≡ map (lent rows.entry.attrs (key_of query.now) query.now.output) rows.entry.rows) }
+{
+    let mut rows = rows;
+    match rows.next() {
+        Some(first) => pick_all(alloc, query, first.attrs, first.row, rows),
+        None => Ok(Seq::new(alloc)),
     }
 }

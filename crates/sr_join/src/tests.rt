@@ -1,11 +1,14 @@
 //! Answers from rows of two regions, at values worked out by hand.
 use crate::joiner::Joiner;
+use sr_box::rect::Rect;
+use sr_box::span::Span;
 use sr_cell::attrs::Attrs;
 use sr_cell::cell::{Cell, Row, Rows};
 use sr_cell::list::{NoMemory, Seq};
 use sr_cell::text::Text;
 use sr_query::condition::Output;
 use sr_query::query::{Part, Query};
+use sr_region::inside::rows_inside;
 use sr_union::rects::Rects;
 use std::alloc::Global;
 use std::test::Fail;
@@ -54,14 +57,33 @@ fn long(alloc: Global, name: &str, number: i64, age: i64) -> Result<Row, NoMemor
     Ok(row)
 }
 
+// Each person.
+fn everyone(alloc: Global) -> Result<Rects, NoMemory> {
+    let mut rect = Rect::new(alloc);
+    rect.push(Span::Full)?;
+    rect.push(Span::Full)?;
+    rect.push(Span::Full)?;
+    let mut rects = Rects::new(alloc);
+    rects.push(rect)?;
+    Ok(rects)
+}
+
 fn lend_two(
     alloc: Global,
     joiner: &mut Joiner,
     attrs: Attrs,
-    one: &Row,
-    two: &Row,
+    one: Row,
+    two: Row,
 ) -> Result<(), NoMemory> {
-    joiner.lend(alloc, &query(alloc)?, attrs, &[one, two])
+    let mut rows = Seq::new(alloc);
+    rows.push(one)?;
+    rows.push(two)?;
+    let everyone = everyone(alloc)?;
+    joiner.lend(
+        alloc,
+        &query(alloc)?,
+        rows_inside(attrs, rows.as_slice(), &everyone),
+    )
 }
 
 fn is_row(row: &Row, age: i64, number: i64) -> bool {
@@ -90,15 +112,15 @@ fn of_two_regions(alloc: Global) -> Result<Joiner, NoMemory> {
         alloc,
         &mut joiner,
         NUMBER_AGE,
-        &short(alloc, 2, 25)?,
-        &short(alloc, 4, 40)?,
+        short(alloc, 2, 25)?,
+        short(alloc, 4, 40)?,
     )?;
     lend_two(
         alloc,
         &mut joiner,
         ALL,
-        &long(alloc, "ann", 1, 30)?,
-        &long(alloc, "cy", 4, 40)?,
+        long(alloc, "ann", 1, 30)?,
+        long(alloc, "cy", 4, 40)?,
     )?;
     Ok(joiner)
 }
@@ -119,8 +141,8 @@ fn later_rows_come_between(rt: HostRuntime) -> Result<(), Fail> {
         alloc,
         &mut joiner,
         ALL,
-        &long(alloc, "bo", 3, 50)?,
-        &long(alloc, "di", 5, 60)?,
+        long(alloc, "bo", 3, 50)?,
+        long(alloc, "di", 5, 60)?,
     )?;
     let answer = joiner.answer(alloc)?;
     assert!(rt; are(&answer, &[30, 25, 50, 40, 60], &[1, 2, 3, 4, 5]));
@@ -131,7 +153,8 @@ fn later_rows_come_between(rt: HostRuntime) -> Result<(), Fail> {
 fn no_rows_change_nothing(rt: HostRuntime) -> Result<(), Fail> {
     let alloc = rt.alloc();
     let mut joiner = of_two_regions(alloc)?;
-    joiner.lend(alloc, &query(alloc)?, ALL, &[])?;
+    let nobody = Rects::new(alloc);
+    joiner.lend(alloc, &query(alloc)?, rows_inside(ALL, &[], &nobody))?;
     let answer = joiner.answer(alloc)?;
     assert!(rt; are(&answer, &[30, 25, 40], &[1, 2, 4]));
     Ok(())

@@ -2,5 +2,3 @@
 #![tactic(auto)]
 
 pub mod keyed;
-#[cfg(test)]
-mod tests;

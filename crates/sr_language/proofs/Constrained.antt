@@ -100,6 +100,8 @@ all_only attrs columns condition (r ∷ rects) all fits at_tests =
 
 pub rects_constrain_needed : RectsConstrainNeeded
 rects_constrain_needed schema p meaning is sound =
-    let s = and_parts (nat_lt meaning.table (length schema) && has_column meaning.need (table_at schema meaning.table).key) (columns_in meaning.need meaning.condition) sound in
+    let key = nat_lt meaning.table (length schema) && has_column meaning.need (table_at schema meaning.table).key in
+    let w = and_parts (key && columns_in meaning.need meaning.condition) _ sound in
+    let s = and_parts key (columns_in meaning.need meaning.condition) w.0 in
     subst (λ attrs. list_all (constrains_only attrs 0) p.rects ≡ true) (sym is.need)
     (all_only meaning.need (table_at schema meaning.table).columns meaning.condition p.rects s.1 is.rects.fits is.rects.ends)

@@ -1,6 +1,6 @@
 -- Each query that a statement asks is sound.
 use Rattle.std.proofs.Common.{◌≡◌, ℕ, zero, suc, ◌+◌, ◌^◌, ◌<◌, Bool, true, false, List, [], ◌∷◌, ◌++◌, length, refl, sym, ap, subst, ◌∙◌, arith}
-use Rattle.std.specs.Prelude.{◌==◌, nat_lt, slice_get, map, flat_map, Result, Ok, if◌then◌else◌}
+use Rattle.std.specs.Prelude.{◌==◌, nat_le, nat_lt, slice_get, map, flat_map, Result, Ok, if◌then◌else◌}
 use Rattle.std.specs.List.{list_all}
 use Rattle.std.specs.Cmp.Derive.{both_true}
 use Rattle.std.proofs.lemmas.Bool.{and_parts}
@@ -14,7 +14,7 @@ use Rattle.sr_cell.specs.Attrs.{has_column}
 use Rattle.sr_grammar.specs.Trees as tree
 use Rattle.sr_model.specs.Queries.{Part, Join, Output, Query}
 use Rattle.sr_model.specs.Width.{width}
-use Rattle.sr_query.specs.Binding.{fault, ◌>>=◌, each, sources, tables_from, joins_from, outputs_of, filter_bound, names_one, references, narrow, needed, named_columns, join_columns, part_of, parts_from, Bound, bound_select}
+use Rattle.sr_query.specs.Binding.{fault, ◌>>=◌, each, sources, tables_from, joins_from, outputs_of, filter_bound, names_one, references, narrow, needed, named_columns, join_columns, part_condition, part_of, parts_from, Bound, bound_select}
 use Rattle.sr_language.specs.Sound.{is_sound_part, needs_column, is_needed, is_sound, BoundAreSound}
 use Rattle.sr_language.proofs.Sets.{needed_keeps, one_column, is_covered, covers}
 use Rattle.sr_language.proofs.Compared.{split_ok, conjuncts_in}
@@ -38,6 +38,20 @@ all_narrow (p ∷ ps) qs e =
     let others = split_ok (each narrow ps) (λ bs. Ok (first.0 ∷ bs)) qs first.2 in
     ap (λ z. z ∷ ps) (narrow_same p first.0 first.1) ∙ (ap (λ z. first.0 ∷ z) (all_narrow ps others.0 others.1) ∙ same_value (first.0 ∷ others.0) qs others.2)
 
+narrow_is : (p q : Part) → narrow p ≡ Ok q → nat_le (width true p.condition) 64 ≡ true
+narrow_is p q e = go (nat_lt 64 (width true p.condition)) refl e
+  where
+    go : (b : Bool) → nat_lt 64 (width true p.condition) ≡ b → (if b then fault TooWide (width true p.condition) else Ok p) ≡ Ok q → nat_le (width true p.condition) 64 ≡ true
+    go true wide e = absurd cc
+    go false fits e = grind (arith, nat_tests, fits)
+
+are_narrow : (ps qs : List Part) → each narrow ps ≡ Ok qs → list_all (λ p. nat_le (width true p.condition) 64) ps ≡ true
+are_narrow [] qs e = refl
+are_narrow (p ∷ ps) qs e =
+    let first = split_ok (narrow p) (λ b. each narrow ps >>= λ bs. Ok (b ∷ bs)) qs e in
+    let others = split_ok (each narrow ps) (λ bs. Ok (first.0 ∷ bs)) qs first.2 in
+    both_true (narrow_is p first.0 first.1) (are_narrow ps others.0 others.1)
+
 -- ---- the columns that a query names
 
 named_parts : (p : Output → Bool) (outputs : List Output) (joins : List Join) (bs : List Bound) → list_all p (named_columns outputs joins bs) ≡ true
@@ -51,19 +65,21 @@ named_parts p outputs joins bs all =
 -- ---- the parts
 
 part_sound : (schema : List Table) (part t : ℕ) (outputs : List Output) (joins : List Join) (bs : List Bound) (us : List (Unit {0})) → each (λ b. names_one (references b)) bs ≡ Ok us → nat_lt t (length schema) ≡ true
-    → is_sound_part schema (part_of schema part t (named_columns outputs joins bs) bs) ≡ true
-part_sound schema part t outputs joins bs us named known =
+    → nat_le (width true (part_condition part bs)) 64 ≡ true → is_sound_part schema (part_of schema part t (named_columns outputs joins bs) bs) ≡ true
+part_sound schema part t outputs joins bs us named known few =
     let columns = named_columns outputs joins bs in
     let key = (table_at schema t).key in
     let covered = named_parts (is_covered part (needed part columns (2 ^ key))) outputs joins bs (covers part columns (2 ^ key)) in
-    both_true (both_true known (needed_keeps part columns (2 ^ key) key (one_column key))) (conjuncts_in part (needed part columns (2 ^ key)) bs us named covered.1)
+    both_true (both_true (both_true known (needed_keeps part columns (2 ^ key) key (one_column key))) (conjuncts_in part (needed part columns (2 ^ key)) bs us named covered.1)) few
 
 parts_sound : (schema : List Table) (part : ℕ) (tables : List ℕ) (outputs : List Output) (joins : List Join) (bs : List Bound) (us : List (Unit {0})) → each (λ b. names_one (references b)) bs ≡ Ok us
-    → list_all (λ t. nat_lt t (length schema)) tables ≡ true → list_all (is_sound_part schema) (parts_from schema part tables (named_columns outputs joins bs) bs) ≡ true
-parts_sound schema part [] outputs joins bs us named known = refl
-parts_sound schema part (t ∷ tables) outputs joins bs us named known =
+    → list_all (λ t. nat_lt t (length schema)) tables ≡ true → list_all (λ (p : Part). nat_le (width true p.condition) 64) (parts_from schema part tables (named_columns outputs joins bs) bs) ≡ true
+    → list_all (is_sound_part schema) (parts_from schema part tables (named_columns outputs joins bs) bs) ≡ true
+parts_sound schema part [] outputs joins bs us named known few = refl
+parts_sound schema part (t ∷ tables) outputs joins bs us named known few =
     let p = and_parts (nat_lt t (length schema)) _ known in
-    both_true (part_sound schema part t outputs joins bs us named p.0) (parts_sound schema (part + 1) tables outputs joins bs us named p.1)
+    let w = and_parts (nat_le (width true (part_condition part bs)) 64) _ few in
+    both_true (part_sound schema part t outputs joins bs us named p.0 w.0) (parts_sound schema (part + 1) tables outputs joins bs us named p.1 w.1)
 
 -- ---- the outputs
 
@@ -108,7 +124,8 @@ select_sound schema s q e =
     let same : made (parts_from schema 0 tables.0 columns bs.0) joins.0 outputs.0 ≡ q =
     ap (λ ps. made ps joins.0 outputs.0) (all_narrow (parts_from schema 0 tables.0 columns bs.0) parts.0 parts.1) ∙ same_value (made parts.0 joins.0 outputs.0) q parts.2 in
     subst (λ z. is_sound schema z ≡ true) same
-    (both_true (parts_sound schema 0 tables.0 outputs.0 joins.0 bs.0 named.0 named.1 (tables_known schema [] (sources s) tables.0 refl tables.1))
+    (both_true (parts_sound schema 0 tables.0 outputs.0 joins.0 bs.0 named.0 named.1 (tables_known schema [] (sources s) tables.0 refl tables.1)
+    (are_narrow (parts_from schema 0 tables.0 columns bs.0) parts.0 parts.1))
     (outputs_sound schema tables.0 columns bs.0 outputs.0
     (λ part start. (named_parts (is_covered part (needed part columns start)) outputs.0 joins.0 bs.0 (covers part columns start)).0)
     (outputs_of_parts schema tables.0 s outputs.0 outputs.1)))

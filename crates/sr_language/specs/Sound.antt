@@ -1,5 +1,5 @@
 -- What a bound query needs: of each table the key and the columns that it tests, and each output of its part.
-use Rattle.std.specs.Prelude.{◌≡◌, ℕ, ◌&&◌, Bool, true, false, nat_lt, List, length, slice_get, Option, Some, None, Ok, IsTrue}
+use Rattle.std.specs.Prelude.{◌≡◌, ℕ, ◌&&◌, Bool, true, false, nat_le, nat_lt, List, length, slice_get, Option, Some, None, Ok, IsTrue}
 use Rattle.std.specs.List.{list_all}
 use Rattle.sr_cell.specs.declared.table.Table.{Table}
 use Rattle.sr_cell.specs.Columns.{table_at}
@@ -8,6 +8,7 @@ use Rattle.sr_grammar.specs.Trees as tree
 use Rattle.sr_box.specs.Points.{constrains_only}
 use Rattle.sr_model.specs.Conditions.{Cond, Conds, Tests, And, Or, Not, none, more}
 use Rattle.sr_model.specs.Queries.{Part, Output, Query}
+use Rattle.sr_model.specs.Width.{width}
 use Rattle.sr_query.specs.Binding.{bound_query}
 use Rattle.sr_query.specs.Bound.{IsPart}
 use Rattle.sr_query.specs.declared.query.Part as code
@@ -24,10 +25,11 @@ abbrev mutual
   all_columns_in attrs none = true
   all_columns_in attrs (more c cs) = columns_in attrs c && all_columns_in attrs cs
 
--- a part of one of the tables, which needs its key and all columns that it tests
+-- a part of one of the tables, no wider than 64, which needs its key and all columns that it tests
 abbrev pub is_sound_part : List Table → Part → Bool
 is_sound_part schema part =
     nat_lt part.table (length schema) && has_column part.need (table_at schema part.table).key && columns_in part.need part.condition
+    && nat_le (width true part.condition) 64
 
 abbrev pub needs_column : ℕ → Option Part → Bool
 needs_column c None = false

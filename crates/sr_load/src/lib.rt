@@ -6,7 +6,3 @@ pub mod fill;
 mod header;
 pub mod load;
 mod records;
-#[cfg(test)]
-mod tests;
-#[cfg(test)]
-mod tests_fill;

@@ -1,5 +1,5 @@
 //! The log.
-ghost use Rattle.std.specs.Prelude.{◌≡◌, ◌↔◌, ◌+◌, ◌<◌, ◌≤◌, [], drop, OnOk, OnErr, IfSome, IsNone, vec_len, vec_capacity};
+ghost use Rattle.std.specs.Prelude.{◌≡◌, ◌↔◌, ◌+◌, ◌<◌, ◌≤◌, ◌^◌, [], drop, OnOk, OnErr, IfSome, IsNone, vec_len, vec_capacity};
 ghost use Rattle.sr_log.specs.Held.{newest, changes_of, entries_above, IsPushed};
 ghost use Rattle.sr_log.specs.Kept.{total, floor, kept};
 
@@ -19,13 +19,13 @@ pub struct Log {
 }
 
 impl Model for Log {
-    ghost use Rattle.std.specs.Prelude.{◌≡◌, ◌-◌, ◌+◌, ◌<◌, ◌≤◌, ◌^◌, min, vec_len, vec_capacity};
+    ghost use Rattle.std.specs.Prelude.{◌≡◌, ◌-◌, ◌+◌, ◌<◌, ◌≤◌, ◌^◌, vec_len, vec_capacity};
     ghost use Rattle.sr_log.specs.Held.{Held, changes_of, numbered};
     ghost use Rattle.sr_log.specs.Kept.{total};
 
     ghost Value = { Held };
 
-    ghost view = { λ l. record { limit = l.limit; floor = l.floor; kept = changes_of l.entries.items; room = min (vec_capacity l.entries - vec_len l.entries) (2 ^ 64 - 1 - (l.floor + vec_len l.entries)) } };
+    ghost view = { λ l. record { limit = l.limit; floor = l.floor; kept = changes_of l.entries.items; room = vec_capacity l.entries - vec_len l.entries } };
 
     ghost invariant = { λ l. (l.entries.items ≡ numbered l.floor (changes_of l.entries.items)) × (l.count ≡ total (changes_of l.entries.items)) × (l.count ≤ l.limit) × (l.floor + vec_len l.entries < 2 ^ 64) };
 }
@@ -52,10 +52,6 @@ impl Log {
         ensures same { self.new ≡ record self.old { room = self.new.room } }
         ensures unchanged { OnErr result (self.new ≡ self.old) }
     {
-        // the versions have no more numbers
-        if self.version() == u64::MAX {
-            return Err(NoMemory);
-        }
         match self.entries.reserve(1) {
             Ok(()) => Ok(()),
             Err(_) => Err(NoMemory),
@@ -64,7 +60,9 @@ impl Log {
 
     /// One version more; takes no memory.
     pub fn push(&mut self, changes: Changes)
-        requires { 1 ≤ self.old.room }
+        requires room { 1 ≤ self.old.room }
+        requires number { newest self.old + 1 < 2 ^ 63 }
+        ensures version { newest self.new ≡ newest self.old + 1 }
         ensures pushed { IsPushed self.old changes self.new }
         ensures room { self.old.room ≤ self.new.room + 1 }
     {

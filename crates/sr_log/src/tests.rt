@@ -1,4 +1,6 @@
 //! Logs of few changes.
+ghost use Rattle.std.specs.Prelude.{◌<◌, length};
+
 use crate::entry::Entry;
 use crate::log::Log;
 use sr_cell::cell::Cell;
@@ -21,7 +23,9 @@ fn changes(alloc: Global, count: usize) -> Result<Changes, NoMemory> {
 }
 
 // A log into which versions with so many changes were pushed.
-fn log_of(alloc: Global, limit: u32, counts: &[usize]) -> Result<Log, NoMemory> {
+fn log_of(alloc: Global, limit: u32, counts: &[usize]) -> Result<Log, NoMemory>
+    requires { length counts.now < 10 }
+{
     let mut log = Log::new(alloc, limit);
     for count in counts {
         log.reserve()?;

@@ -1,7 +1,9 @@
--- The ends of a condition: where a test of a column becomes true or false as the value rises.
-use Rattle.std.specs.Prelude.{ℕ, pos, ◌+ℤ◌, ◌==◌, List, [], ◌∷◌, ◌++◌, flat_map, Option, Some, None, if◌then◌else◌}
+-- The ends of a condition: the places where a test of a column as a whole becomes true or false as the value rises.
+use Rattle.std.specs.Prelude.{ℕ, pos, ◌+ℤ◌, ◌==◌, not, List, [], ◌∷◌, ◌++◌, map, filter, Option, Some, None, if◌then◌else◌}
+use Rattle.std.specs.List.{list_any}
 use Rattle.sr_cell.specs.declared.cell.Cell.{Cell}
 use Rattle.sr_cell.specs.declared.cell.Cell.TheVariants.{Num, Str}
+use Rattle.sr_cell.specs.Cells.{cell_le, cell_eq}
 use Rattle.sr_box.specs.Prefixes.{next_prefix}
 use Rattle.sr_model.specs.Conditions.{Cond, Conds, Test, Tests, And, Or, Not, none, more, Eq, Ne, Lt, Le, Gt, Ge, Between, OneOf, Prefix}
 
@@ -14,6 +16,15 @@ abbrev pub next_text : Option (List ℕ) → List Cell
 next_text None = []
 next_text (Some s) = Str s ∷ []
 
+-- the values that are none of the others
+abbrev pub values_without : List Cell → List Cell → List Cell
+values_without values others = filter (λ v. not (list_any (cell_eq v) others)) values
+
+-- a run of values one next to another begins at the one that is next to none, and ends at the next value that is none of them
+abbrev pub run_ends : List Cell → List Cell → List Cell
+run_ends values nexts = values_without values nexts ++ values_without nexts values
+
+-- of BETWEEN none where the second value lies below the first
 abbrev pub test_ends : Test → List Cell
 test_ends (Eq v) = v ∷ next_value v ∷ []
 test_ends (Ne v) = v ∷ next_value v ∷ []
@@ -21,8 +32,8 @@ test_ends (Lt v) = v ∷ []
 test_ends (Le v) = next_value v ∷ []
 test_ends (Gt v) = next_value v ∷ []
 test_ends (Ge v) = v ∷ []
-test_ends (Between a b) = a ∷ next_value b ∷ []
-test_ends (OneOf vs) = flat_map (λ v. v ∷ next_value v ∷ []) vs
+test_ends (Between a b) = if cell_le a b then a ∷ next_value b ∷ [] else []
+test_ends (OneOf vs) = run_ends vs (map next_value vs)
 test_ends (Prefix p) = Str p ∷ next_text (next_prefix p)
 
 -- the ends of the tests of column c

@@ -1,8 +1,9 @@
 //! Laws of the definitions: functions that do nothing, and whose contracts are worked values.
 ghost use Rattle.std.specs.Prelude.{◌≡◌, true, false, [], ◌∷◌, pos};
-ghost use Rattle.sr_cell.specs.declared.cell.Cell.TheVariants.{Num};
+ghost use Rattle.sr_cell.specs.declared.cell.Cell.TheVariants.{Num, Str};
 ghost use Rattle.sr_cell.specs.Cells.{cell_at};
-ghost use Rattle.sr_model.specs.Conditions.{is_true, passes, Tests, And, Or, Not, none, more, Ne, Le, Between};
+ghost use Rattle.sr_model.specs.Conditions.{is_true, passes, Tests, And, Or, Not, none, more, Ne, Le, Between, OneOf};
+ghost use Rattle.sr_model.specs.Ends.{test_ends};
 ghost use Rattle.sr_model.specs.SortedRows.{ascend, with_row};
 ghost use Rattle.sr_model.specs.Width.{width};
 
@@ -21,6 +22,16 @@ pub fn conditions_are_meant()
     ensures over { passes (Between (Num (pos 1)) (Num (pos 3))) (Num (pos 4)) ≡ false }
     ensures and_of_none { is_true (cell_at []) (And none) ≡ true }
     ensures or_of_none { is_true (cell_at []) (Or none) ≡ false }
+{}
+
+/// A list of neighbours has two ends, in whatever order they stand; what is between a value and a lesser one has none.
+pub fn ends_are_of_the_whole_test()
+    ensures neighbours { test_ends (OneOf (Num (pos 3) ∷ Num (pos 4) ∷ Num (pos 5) ∷ [])) ≡ Num (pos 3) ∷ Num (pos 6) ∷ [] }
+    ensures any_order { test_ends (OneOf (Num (pos 4) ∷ Num (pos 3) ∷ Num (pos 5) ∷ [])) ≡ Num (pos 3) ∷ Num (pos 6) ∷ [] }
+    ensures apart { test_ends (OneOf (Num (pos 3) ∷ Num (pos 5) ∷ [])) ≡ Num (pos 3) ∷ Num (pos 5) ∷ Num (pos 4) ∷ Num (pos 6) ∷ [] }
+    ensures texts { test_ends (OneOf (Str (97 ∷ []) ∷ Str (97 ∷ 0 ∷ []) ∷ [])) ≡ Str (97 ∷ []) ∷ Str (97 ∷ 0 ∷ 0 ∷ []) ∷ [] }
+    ensures between { test_ends (Between (Num (pos 3)) (Num (pos 5))) ≡ Num (pos 3) ∷ Num (pos 6) ∷ [] }
+    ensures crossed { test_ends (Between (Num (pos 5)) (Num (pos 3))) ≡ [] }
 {}
 
 /// A row goes to its place by key.

@@ -2,5 +2,3 @@
 #![tactic(auto)]
 
 pub mod policy;
-#[cfg(test)]
-mod tests;

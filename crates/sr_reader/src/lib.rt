@@ -8,5 +8,3 @@ mod line;
 pub mod lines;
 mod meaning;
 pub mod script;
-#[cfg(test)]
-mod tests;

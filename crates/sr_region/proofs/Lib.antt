@@ -8,3 +8,4 @@ pub mod Changed
 pub mod Kept
 pub mod Areas
 pub mod Sides
+pub mod Near

@@ -1,5 +1,5 @@
 -- The two halves of a region.
-use Rattle.std.specs.Prelude.{ℕ, ◌<◌, Bool, not, List, [], ◌∷◌, ◌++◌, ◌≡◌, ◌&&◌, Option, Some, None, filter, length, ◌≤◌, IfSome}
+use Rattle.std.specs.Prelude.{ℕ, ◌<◌, Bool, not, List, [], ◌∷◌, ◌++◌, ◌≡◌, ◌≢◌, ◌&&◌, Option, Some, None, filter, length, ◌≤◌, IfSome}
 use Rattle.sr_cell.specs.declared.table.Column.{Column}
 use Rattle.sr_cell.specs.declared.table.Table.{Table}
 use Rattle.sr_cell.specs.Cells.{Row}
@@ -34,9 +34,9 @@ IsOutside t whole cut half = MaybeHalf t whole cut (λ p. in_any whole.rects p &
 abbrev pub HasFew : ℕ → Option Region → Type 0
 HasFew limit half = IfSome half (λ r. length r.rects ≤ limit)
 
--- the whole itself, and a limit that is below the grid, unless memory was refused
+-- the whole itself, which has rects, and a limit that is below the grid, unless memory was refused
 abbrev pub IsRefusal : List Column → Region → List Rect → ℕ → NotSplit → Type 0
-IsRefusal columns whole cut limit (Over r) = (r ≡ whole) × (limit < grid columns (whole.rects ++ cut))
+IsRefusal columns whole cut limit (Over r) = (r ≡ whole) × (whole.rects ≢ []) × (limit < grid columns (whole.rects ++ cut))
 IsRefusal columns whole cut limit (NoMemory r) = r ≡ whole
 
 -- a region of the whole's class, where there are rects

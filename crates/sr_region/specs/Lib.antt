@@ -3,3 +3,5 @@ pub mod Halves
 pub mod Applied
 pub mod Entering
 pub mod Laws
+pub mod Coming
+pub mod Giving

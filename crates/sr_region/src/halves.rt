@@ -6,12 +6,13 @@ ghost use Rattle.sr_cell.specs.declared.list.No.TheVariants.{Refused};
 ghost use Rattle.sr_cell.specs.Cells.{Row as Cells};
 ghost use Rattle.sr_cell.specs.Columns.{is_point};
 ghost use Rattle.sr_box.specs.Points.{times, rect_fits, constrains_only};
-ghost use Rattle.sr_union.specs.Pieces.{IsMinus};
+ghost use Rattle.sr_union.specs.Pieces.{near, IsMinus};
 ghost use Rattle.sr_union.specs.Grid.{AreCutFrom, grid, have_first, all_inner};
 ghost use Rattle.sr_region.specs.Regions.{is_in, IsRegion};
 ghost use Rattle.sr_region.specs.Halves.{IsInside, IsOutside, IsRefusal, HasFew, half_of};
 
-use crate::region::{Region, has_cells};
+use crate::inside::has_cells;
+use crate::region::Region;
 use sr_cell::attrs::Attrs;
 use sr_cell::cell::{Row, Rows};
 use sr_cell::list::{No, NoMemory, Seq};
@@ -48,14 +49,16 @@ struct CutRows {
     outside: Vec<Row>,
 }
 
-/// The rects of the points inside and outside of others.
+/// The rects of the points inside and outside of others, of which just the meeting ones meet some.
 fn cut_rects(
     alloc: Global,
     own: &Rects,
+    meeting: &Rects,
     cut: &Rects,
     table: &Table,
     limit: u32,
 ) -> Result<CutRects, No<Over>>
+    requires meeting { meeting.now ≡ near cut.now own.now }
     requires own_fit { list_all (rect_fits table.now.columns) own.now ≡ true }
     requires cut_fit { list_all (rect_fits table.now.columns) cut.now ≡ true }
     requires once { (p : Cells) → IsTrue (is_point table.now.columns p) → times own.now p ≤ 1 }
@@ -73,7 +76,7 @@ fn cut_rects(
         Ok(outside) => outside,
         Err(no) => return Err(no),
     };
-    match own.minus(alloc, &outside, table, limit) {
+    match meeting.minus(alloc, &outside, table, limit) {
         Ok(inside) => Ok(CutRects { inside, outside }),
         Err(no) => Err(no),
     }
@@ -173,7 +176,17 @@ impl Region {
         ensures few_outside { IfOk result (λ halves. HasFew limit halves.outside) }
         ensures refused { IfErr result (λ no. IsRefusal table.now.columns self rects.now limit no) }
     {
-        let cut = match cut_rects(alloc, &self.rects, rects, table, limit) {
+        let meeting = match self.rects.near(alloc, rects) {
+            Ok(meeting) => meeting,
+            Err(_) => return Err(NotSplit::NoMemory(self)),
+        };
+        if meeting.is_empty() && self.rects.len() <= limit as usize {
+            return Ok(Halves {
+                inside: None,
+                outside: Some(self),
+            });
+        }
+        let cut = match cut_rects(alloc, &self.rects, &meeting, rects, table, limit) {
             Ok(cut) => cut,
             Err(No::Refused(_)) => return Err(NotSplit::Over(self)),
             Err(No::NoMemory) => return Err(NotSplit::NoMemory(self)),

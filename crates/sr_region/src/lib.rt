@@ -3,6 +3,7 @@
 
 mod apply;
 pub mod halves;
+pub mod inside;
 pub mod laws;
 pub mod region;
 #[cfg(test)]

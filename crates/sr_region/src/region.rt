@@ -1,5 +1,5 @@
 //! One region: some points of a table, the columns held there, a stamp, and the rows of these points.
-ghost use Rattle.std.specs.Prelude.{◌≡◌, ◌==◌, ◌&&◌, true, false, [], map, filter, IfOk, OnOk, OnErr, IsTrue};
+ghost use Rattle.std.specs.Prelude.{◌≡◌, ◌==◌, ◌&&◌, true, false, [], filter, IfOk, OnOk, OnErr, IsTrue};
 ghost use Rattle.std.specs.List.{list_all};
 ghost use Rattle.sr_cell.specs.declared.table.Table.{Table as TheTable};
 ghost use Rattle.sr_cell.specs.Attrs.{includes};
@@ -12,6 +12,7 @@ ghost use Rattle.sr_region.specs.Applied.{applied, IsNew};
 ghost use Rattle.sr_region.specs.Regions.{rank, is_in, IsRowIn, IsArea, IsRegion, AreOfClass, joined};
 
 use crate::apply::{change_row, part_in};
+use crate::inside::{RowsIn, rows_inside};
 use sr_cell::attrs::Attrs;
 use sr_cell::cell::{Cell, Row, Rows};
 use sr_cell::list::{NoMemory, Seq};
@@ -43,16 +44,6 @@ pub fn rank_of(attrs: Attrs, column: usize) -> usize
         }
     }
     place
-}
-
-/// Whether some rect has the rows with these cells.
-pub fn has_cells(rects: &Rects, attrs: Attrs, cells: &Row) -> bool
-    ensures { result ≡ is_in attrs rects.now cells.now }
-{
-    rects
-        .as_slice()
-        .iter()
-        .any(|rect| rect.has_part(attrs, cells))
 }
 
 impl Region {
@@ -102,17 +93,12 @@ impl Region {
         change_row(&mut self.rows, place, key, part)
     }
 
-    /// The rows inside of the rects, by key.
-    pub fn rows_in<'a>(&'a self, alloc: Global, rects: &Rects) -> Result<Vec<&'a Row>, NoMemory>
-        ensures { IfOk result (λ found. map (λ r. r.now) found.items ≡ filter (is_in self.now.attrs rects.now) self.now.rows) }
+    /// The rows inside of the rects, by key; takes no memory.
+    pub fn rows_in<'a>(&'a self, rects: &'a Rects) -> RowsIn<'a>
+        ensures attrs { result.attrs ≡ self.now.attrs }
+        ensures rows { result.rows ≡ filter (is_in self.now.attrs rects.now) self.now.rows }
     {
-        let mut found = Vec::new(alloc);
-        for row in self.rows.as_slice() {
-            if has_cells(rects, self.attrs, row) {
-                found.push(row)?;
-            }
-        }
-        Ok(found)
+        rows_inside(self.attrs, self.rows.as_slice(), rects)
     }
 
     /// The points and rows of both, where they have no point and no key in common.

@@ -10,6 +10,7 @@ ghost use Rattle.sr_union.specs.Grid.{all_inner, have_first};
 ghost use Rattle.sr_region.specs.Regions.{rank, IsRowIn, IsRegion};
 
 use crate::halves::Halves;
+use crate::inside::RowsIn;
 use crate::region::Region;
 use sr_box::rect::Rect;
 use sr_box::span::Span;
@@ -147,16 +148,15 @@ fn is_row_of(row: &Row, id: i64) -> bool {
     }
 }
 
-fn are(rows: &[&Row], ids: &[i64]) -> bool {
-    if rows.len() != ids.len() {
-        return false;
-    }
-    for i in 0..rows.len() {
-        if !is_row_of(rows[i], ids[i]) {
+fn are(rows: RowsIn, ids: &[i64]) -> bool {
+    let mut count = 0;
+    for lent in rows {
+        if count == ids.len() || !is_row_of(lent.row, ids[count]) {
             return false;
         }
+        count += 1;
     }
-    true
+    count == ids.len()
 }
 
 #[test]
@@ -165,10 +165,10 @@ fn rows_lie_by_key(rt: HostRuntime) -> Result<(), Fail> {
     let mut region = Region::new(alloc, 2, 0, Attrs(3), 7, ages(alloc, 20, 60)?);
     region.put(row_of(alloc, 5, 30)?)?;
     region.put(row_of(alloc, 3, 50)?)?;
-    let all = region.rows_in(alloc, &ages(alloc, 20, 60)?)?;
-    assert!(rt; are(&all, &[3, 5]));
-    let young = region.rows_in(alloc, &ages(alloc, 20, 30)?)?;
-    assert!(rt; are(&young, &[5]));
+    let all = ages(alloc, 20, 60)?;
+    assert!(rt; are(region.rows_in(&all), &[3, 5]));
+    let young = ages(alloc, 20, 30)?;
+    assert!(rt; are(region.rows_in(&young), &[5]));
     assert!(rt;
         region.serves(2, Attrs(1)) && !region.serves(2, Attrs(4)) && !region.serves(3, Attrs(1))
     );
@@ -184,8 +184,8 @@ fn a_join_has_the_rects_and_rows_of_both(rt: HostRuntime) -> Result<(), Fail> {
     old.put(row_of(alloc, 3, 50)?)?;
     let both = young.join(old)?;
     assert_eq!(rt; both.rects.len(), 2);
-    let all = both.rows_in(alloc, &ages(alloc, 20, 60)?)?;
-    assert!(rt; are(&all, &[3, 5]));
+    let all = ages(alloc, 20, 60)?;
+    assert!(rt; are(both.rows_in(&all), &[3, 5]));
     Ok(())
 }
 
@@ -269,8 +269,8 @@ fn holds(
 ) -> Result<bool, NoMemory> {
     let has = have_ages(alloc, region, held, true)?;
     let lacks = have_ages(alloc, region, others, false)?;
-    let all = region.rows_in(alloc, &ages(alloc, 30, 40)?)?;
-    Ok(has && lacks && are(&all, ids))
+    let all = ages(alloc, 30, 40)?;
+    Ok(has && lacks && are(region.rows_in(&all), ids))
 }
 
 fn is_half(

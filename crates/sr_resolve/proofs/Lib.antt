@@ -1,3 +1,2 @@
 mod Columns
 pub mod First
-pub mod Sound

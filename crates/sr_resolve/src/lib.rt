@@ -6,5 +6,3 @@ mod lookup;
 pub mod outputs;
 pub mod references;
 pub mod tables;
-#[cfg(test)]
-mod tests;

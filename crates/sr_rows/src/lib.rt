@@ -3,5 +3,3 @@
 
 mod merge;
 pub mod rows;
-#[cfg(test)]
-mod tests;

@@ -51,7 +51,7 @@ first_query = (
   _,
   _,
   _,
-  (_, _, refl, inl (ask 30 40 ∷ [], first_asks, (true, (λ h. nothing_held, λ h. refl), refl, refl)), refl),
+  (_, _, refl, inl (ask 30 40 ∷ [], first_asks, (lit≤ tt, true, (λ h. nothing_held, λ h. refl), refl, refl)), refl),
   three_settle _ _ _ _ _ _ _ (
     (_, _, refl, refl, (_, refl, (_, refl, refl, refl))),
     (_, _, refl, refl, (_, _, refl, (refl, (refl, refl)), refl)),
@@ -71,7 +71,7 @@ second_query = (
     _,
     _,
     _,
-    (_, _, refl, inl (ask 41 50 ∷ [], second_asks, (false, (λ h. absurd (cc), λ h. something_held h), refl, refl)), refl),
+    (_, _, refl, inl (ask 41 50 ∷ [], second_asks, (lit≤ tt, false, (λ h. absurd (cc), λ h. something_held h), refl, refl)), refl),
     three_settle _ _ _ _ _ _ _ (
       (_, _, refl, refl, (_, refl, (_, refl, refl, refl))),
       (_, _, refl, refl, (_, _, refl, (refl, (refl, refl)), refl)),

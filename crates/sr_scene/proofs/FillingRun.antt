@@ -50,7 +50,7 @@ older_query = (
     _,
     _,
     _,
-    (_, _, refl, inl (ask 30 34 ∷ [], older_asks, (true, (λ h. nothing_held, λ h. refl), refl, refl)), refl),
+    (_, _, refl, inl (ask 30 34 ∷ [], older_asks, (lit≤ tt, true, (λ h. nothing_held, λ h. refl), refl, refl)), refl),
     three_settle _ _ _ _ _ _ _ (
       (_, _, refl, refl, (_, refl, (_, refl, refl, refl))),
       (_, _, refl, refl, (_, _, refl, (refl, (refl, refl)), refl)),
@@ -69,7 +69,7 @@ younger_query = (
     _,
     _,
     _,
-    (_, _, refl, inl (ask 35 40 ∷ [], younger_asks, (false, (λ h. absurd (cc), λ h. something_held h), refl, refl)), refl),
+    (_, _, refl, inl (ask 35 40 ∷ [], younger_asks, (lit≤ tt, false, (λ h. absurd (cc), λ h. something_held h), refl, refl)), refl),
     three_settle _ _ _ _ _ _ _ (
       (_, _, refl, refl, (_, refl, (_, refl, refl, refl))),
       (_, _, refl, refl, (_, _, refl, (refl, (refl, refl)), refl)),

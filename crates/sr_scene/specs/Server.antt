@@ -4,7 +4,7 @@ use Rattle.sr_cell.specs.declared.table.Table.{Table}
 use Rattle.sr_cell.specs.Cells.{Row}
 use Rattle.sr_cell.specs.Attrs.{project}
 use Rattle.sr_box.specs.Points.{in_any}
-use Rattle.sr_subs.specs.declared.subs.Holding.{Holding}
+use Rattle.sr_message.specs.declared.message.Holding.{Holding}
 use Rattle.sr_subs.specs.Subscription.{touches}
 use Rattle.sr_message.specs.declared.message.AskPart.{AskPart}
 use Rattle.sr_message.specs.declared.message.Tell.{Tell}

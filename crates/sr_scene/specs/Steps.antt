@@ -6,6 +6,7 @@ use Rattle.sr_cell.specs.declared.table.Table.{Table}
 use Rattle.sr_cell.specs.Columns.{table_at}
 use Rattle.sr_box.specs.Points.{in_any, rect_fits, AreSame}
 use Rattle.sr_message.specs.declared.message.AskPart.{AskPart}
+use Rattle.sr_message.specs.Sizes.{most_rects, count_asked}
 use Rattle.sr_message.specs.declared.message.Message.{Message}
 use Rattle.sr_message.specs.declared.message.Message.TheVariants.{Ask, Notice, Rows, Reply}
 use Rattle.sr_model.specs.Queries.{Query, rows_of}
@@ -98,13 +99,14 @@ Keeps s asked q number version queries c marks new =
 abbrev pub with_query : Query → Bool → Client → List Numbered
 with_query q answered c = c.queries ++ record { query = q; answered = answered } ∷ []
 
--- A query that asks nothing is answered at once, and nothing is sent. Else one request asks all that has to be asked.
+-- A query that asks nothing is answered at once, and nothing is sent. Else one request asks all that has to be asked, in rects of
+-- which there are not too many.
 abbrev pub Queries : Scene → ℕ → Query → List AskPart → Client → List TraceLine → Client → Type 0
 Queries s n q [] c lines new =
     (marks : List Mark) × Keeps s [] q (number_of_next c) c.version (with_query q true c) c marks new
     × (lines ≡ answer_lines s n (number_of_next c) q c.version ++ (map (mark_line n) marks ++ line.QueryAnswered n (number_of_next c) ∷ []))
 Queries s n q (ask ∷ asks) c lines new =
-    (fresh : Bool) × (IsTrue fresh ↔ HoldsNothing s.schema c.marks)
+    (count_asked (ask ∷ asks) ≤ most_rects) × (fresh : Bool) × (IsTrue fresh ↔ HoldsNothing s.schema c.marks)
     × (lines ≡ line.Ask n c.next_request fresh (length (ask ∷ asks)) ∷ (map part_line (ask ∷ asks) ++ line.QueryAsked n c.next_request ∷ []))
     × (new ≡ record c {
       queries = with_query q false c;
@@ -160,12 +162,10 @@ Applies s n version c lines new =
 
 -- ---- deliveries
 
--- the kind of a request; a server's messages are none
+-- the kind of a request; in this stage a server serves asks alone
 abbrev pub request_kind : Message → Option RequestKind
 request_kind (Ask number fresh parts) = Some kind.Ask
-request_kind (Notice version told) = None
-request_kind (Rows number part rows) = None
-request_kind (Reply number version) = None
+request_kind other = None
 
 -- The server takes the oldest message of client n.
 abbrev pub ServerTakes : Scene → ℕ → List Message → Client → List TraceLine → Scene → Type 0
@@ -195,11 +195,8 @@ abbrev pub TakesMessage : Scene → ℕ → Option Request → Message → Clien
 TakesMessage s n (Some (AskOut number query q fresh parts)) (Reply k version) c lines new = (k ≡ number) × Answers s n query q parts version c lines new
 TakesMessage s n (Some (AskOut number query q fresh parts)) (Rows k part rows) c lines new = (k ≡ number) × LaysBy n (Rows k part rows) c lines new
 TakesMessage s n (Some (AskOut number query q fresh parts)) (Notice version told) c lines new = LaysBy n (Notice version told) c lines new
-TakesMessage s n (Some (AskOut number query q fresh parts)) (Ask k mode asked) c lines new = ⊥
 TakesMessage s n None (Notice version told) c lines new = Applies s n version c lines new
-TakesMessage s n None (Reply k version) c lines new = ⊥
-TakesMessage s n None (Rows k part rows) c lines new = ⊥
-TakesMessage s n None (Ask k mode asked) c lines new = ⊥
+TakesMessage s n out other c lines new = ⊥
 
 -- The client takes the oldest message of the server.
 abbrev pub ClientTakes : Scene → ℕ → List Message → Client → List TraceLine → Client → Type 0

@@ -5,7 +5,5 @@ pub mod cells;
 mod forms;
 pub mod line;
 pub mod rects;
-#[cfg(test)]
-mod tests;
 pub mod text;
 pub mod words;

@@ -8,6 +8,4 @@ mod judge;
 pub mod read;
 mod statements;
 mod stop;
-#[cfg(test)]
-mod tests;
 mod words;

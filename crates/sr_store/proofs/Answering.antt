@@ -13,7 +13,8 @@ use Rattle.sr_store.specs.Stores.{IsOfSchema, IsStore, count_rects}
 use Rattle.sr_store.specs.Answered.{HaveArrived}
 use Rattle.sr_store.specs.Renewing.{IsRenewal}
 use Rattle.sr_store.specs.Making.{IsKeyed, HasKey, CanJoin, DropsAbsorbed}
-use Rattle.sr_store.proofs.Dropping.{flagged_all, flagged_ascends, flagged_fewer}
+use Rattle.sr_store.proofs.Chunks.{regions-keys}
+use Rattle.sr_store.proofs.Dropping.{flagged_all, flagged_ascends, flagged_fewer, flagged_fewer_keys}
 
 -- regions of tables of a schema can be joined
 pub can_join : (schema : List Table) (gs : List Region) → All (IsOfSchema schema) gs → CanJoin [] gs
@@ -32,10 +33,11 @@ left_store schema number parts arrivals old all left marks told renewal drops fe
       each = flagged_all (IsOfSchema schema) false drops.flags all renewal.each;
       order = flagged_ascends false drops.flags all renewal.order;
       once = λ t a p point. let x = flagged_fewer false drops.flags all t a p in let y = renewal.once t a p point in omega (arith, x, y);
+      keys = λ t a k.
+          let x = flagged_fewer_keys false drops.flags all t a k in
+          let y = regions-keys schema told is_told all renewal.each (renewal.are_true told is_told old_true rows) renewal.once t a k in
+          omega (arith, x, y);
       few = subst (λ gs. count_rects gs ≤ 16384) drops.left_are few;
-      told = told;
-      is_told = is_told;
-      are_true = flagged_all (IsTrueOf told) false drops.flags all (renewal.are_true told is_told old_true rows);
     })
 
 pub left_true : (schema : List Table) (number : ℕ) (parts : List Part) (arrivals : List Arrival) (old all left : List Region) (marks : List Mark)

@@ -5,12 +5,14 @@ use Rattle.std.specs.List.{list_all, All}
 use Rattle.std.proofs.lemmas.Bool.Decides.{nat_tests}
 use Rattle.std.proofs.lemmas.List.Elements.{All-nil, All-cons, All-head, All-tail}
 use Rattle.std.proofs.lemmas.List.Sums.{sum_by-cons}
+use Rattle.sr_cell.specs.declared.cell.Cell.{Cell}
 use Rattle.sr_cell.specs.declared.table.Table.{Table}
 use Rattle.sr_cell.specs.Cells.{Row}
+use Rattle.sr_model.specs.SortedRows.{has_key}
 use Rattle.sr_box.specs.Points.{times}
 use Rattle.sr_region.specs.declared.region.Region.{Region}
-use Rattle.sr_store.specs.Classes.{Held, Stamps, is_of, occurs, IsStamped, is_before, ascends, Keeps}
-use Rattle.sr_store.specs.Told.{IsTrueOf}
+use Rattle.sr_region.specs.Regions.{rank}
+use Rattle.sr_store.specs.Classes.{Held, Stamps, is_of, occurs, key_occurs, IsStamped, is_before, ascends, Keeps}
 use Rattle.sr_store.specs.Stores.{IsOfSchema, IsStore, count_rects}
 use Rattle.sr_store.specs.Answered.{AreFlags, same_flag, flagged}
 
@@ -48,6 +50,16 @@ flagged_fewer b (f ∷ fs) (g ∷ gs) t a p = go (same_flag f b) (flagged_fewer 
   where
     go : (x : Bool) → occurs (flagged b fs gs) t a p ≤ occurs gs t a p
         → occurs (if x then g ∷ flagged b fs gs else flagged b fs gs) t a p ≤ (if is_of g t a then times g.rects p else 0) + occurs gs t a p
+    go true ih = omega (arith, ih)
+    go false ih = omega (arith, ih)
+
+pub flagged_fewer_keys : (b : Bool) (fs : List Bool) (gs : List Region) (t a : ℕ) (k : Cell) → key_occurs (flagged b fs gs) t a k ≤ key_occurs gs t a k
+flagged_fewer_keys b [] gs t a k = omega arith
+flagged_fewer_keys b (f ∷ fs) [] t a k = omega arith
+flagged_fewer_keys b (f ∷ fs) (g ∷ gs) t a k = go (same_flag f b) (flagged_fewer_keys b fs gs t a k)
+  where
+    go : (x : Bool) → key_occurs (flagged b fs gs) t a k ≤ key_occurs gs t a k
+        → key_occurs (if x then g ∷ flagged b fs gs else flagged b fs gs) t a k ≤ (if is_of g t a && has_key (rank g.attrs g.key) k g.rows then 1 else 0) + key_occurs gs t a k
     go true ih = omega (arith, ih)
     go false ih = omega (arith, ih)
 
@@ -112,10 +124,8 @@ kept_store schema b fs gs h = record {
   each = flagged_all (IsOfSchema schema) b fs gs h.each;
   order = flagged_ascends b fs gs h.order;
   once = λ t a p point. let x = flagged_fewer b fs gs t a p in let y = h.once t a p point in omega (arith, x, y);
+  keys = λ t a k. let x = flagged_fewer_keys b fs gs t a k in let y = h.keys t a k in omega (arith, x, y);
   few = let x = flagged_few b fs gs in let y = h.few in omega (arith, x, y);
-  told = h.told;
-  is_told = h.is_told;
-  are_true = flagged_all (IsTrueOf h.told) b fs gs h.are_true;
 }
 
 -- what stays holds what was held and is in no dropped region

@@ -32,3 +32,8 @@ pub mod KeptRows
 pub mod Meeting
 pub mod Telling
 pub mod Noticing
+pub mod Nearing
+pub mod Chunks
+pub mod Storing
+pub mod GivingWay
+pub mod Removing

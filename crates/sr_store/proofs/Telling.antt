@@ -26,7 +26,7 @@ use Rattle.sr_region.proofs.Places.{row-front}
 use Rattle.sr_region.proofs.Applied.{applied-region, rows-apart}
 use Rattle.sr_store.specs.Classes.{is_of, occurs, is_before, ascends}
 use Rattle.sr_store.specs.Told.{Told, IsTold, IsTrueOf, AreTrueOf}
-use Rattle.sr_store.specs.Stores.{IsOfSchema, IsStore, count_rects}
+use Rattle.sr_store.specs.Stores.{IsOfSchema, count_rects}
 use Rattle.sr_store.specs.Noticed.{told_to, IsTellOf}
 use Rattle.sr_store.proofs.Truths.{first-filter}
 
@@ -60,10 +60,10 @@ module _ (told : List Tell) where
   rects-from n (g ∷ regions) =
       ap (λ k. fold (λ m x. m + length x.rects) k (map (told_to told) regions)) (ap (λ (x : Region). n + length x.rects) (only-rows told g)) ∙ rects-from (n + length g.rects) regions
 
-  rects-told : (regions : List Region) → count_rects (map (told_to told) regions) ≡ count_rects regions
+  pub rects-told : (regions : List Region) → count_rects (map (told_to told) regions) ≡ count_rects regions
   rects-told regions = rects-from 0 regions
 
-  ascends-told : (regions : List Region) → ascends regions ≡ true → ascends (map (told_to told) regions) ≡ true
+  pub ascends-told : (regions : List Region) → ascends regions ≡ true → ascends (map (told_to told) regions) ≡ true
   ascends-told [] h = refl
   ascends-told (g ∷ []) h = refl
   ascends-told (g ∷ k ∷ regions) h =
@@ -74,15 +74,15 @@ module _ (told : List Tell) where
 -- ---- what is told of each table and set of columns
 
 -- with the cells of these columns, if there is a row
-abbrev with_cells : ℕ → ℕ → Option Row → List Row → List Row
+abbrev pub with_cells : ℕ → ℕ → Option Row → List Row → List Row
 with_cells key a None rows = rows
 with_cells key a (Some row) rows = with_row key rows (project a row)
 
-abbrev after_all : ℕ → ℕ → Tell → List Row → List Row
+abbrev pub after_all : ℕ → ℕ → Tell → List Row → List Row
 after_all key a tell rows = with_cells (rank a key) a tell.after (without_key (rank a key) tell.key rows)
 
 -- the telling after one tell
-abbrev tells : List Table → Tell → Told → Told
+abbrev pub tells : List Table → Tell → Told → Told
 tells schema tell told t a = if tell.table == t then after_all (table_at schema t).key a tell (told t a) else told t a
 
 without-parts : (P : Row → Type 0) (key : ℕ) (v : Cell) (rows : List Row) → All P rows → All P (without_key key v rows)
@@ -140,7 +140,7 @@ filters-swap f g (r ∷ rows) = go (f r) refl (g r) refl (filters-swap f g rows)
     go false d true e ih = rw d ih
     go false d false e ih = ih
 
-filter-with_row : (key : ℕ) (f : Row → Bool) (rows : List Row) (row : Row) → ascend key rows ≡ true → filter f (with_row key rows row) ≡ (if f row then with_row key (filter f rows) row else filter f rows)
+pub filter-with_row : (key : ℕ) (f : Row → Bool) (rows : List Row) (row : Row) → ascend key rows ≡ true → filter f (with_row key rows row) ≡ (if f row then with_row key (filter f rows) row else filter f rows)
 filter-with_row key f [] row h = go (f row)
   where
     go : (b : Bool) → cond b (row ∷ []) [] ≡ (if b then row ∷ [] else [])
@@ -209,10 +209,10 @@ module _ (schema : List Table) (tell : Tell) (is : IsTellOf schema tell) where
           (ap (λ n. after_all n g.attrs tell (told g.table g.attrs)) key ∙ sym (ap (λ b. if b then after_all (table_at schema g.table).key g.attrs tell (told g.table g.attrs) else told g.table g.attrs) e))
       go false e = own ∙ ap (filter (is_in g.attrs g.rects)) (sym (ap (λ b. if b then after_all (table_at schema g.table).key g.attrs tell (told g.table g.attrs) else told g.table g.attrs) e))
 
--- ---- a store stays one
+-- ---- regions stay regions, with the rows of a telling
 
 -- the telling after all that is told
-abbrev tells_all : List Table → List Tell → Told → Told
+abbrev pub tells_all : List Table → List Tell → Told → Told
 tells_all schema [] told = told
 tells_all schema (tell ∷ more) told = tells_all schema more (tells schema tell told)
 
@@ -222,7 +222,7 @@ module _ (schema : List Table) where
   of-schema-all (tell ∷ told) g all h =
       of-schema-all told (after_tell tell g) (All-tail (IsTellOf schema) tell told all) (of-schema schema tell (All-head (IsTellOf schema) tell told all) g h)
 
-  told-all : (told : List Tell) (telling : Told) → All (IsTellOf schema) told → IsTold schema telling → IsTold schema (tells_all schema told telling)
+  pub told-all : (told : List Tell) (telling : Told) → All (IsTellOf schema) told → IsTold schema telling → IsTold schema (tells_all schema told telling)
   told-all [] telling all h = h
   told-all (tell ∷ told) telling all h =
       told-all told (tells schema tell telling) (All-tail (IsTellOf schema) tell told all) (told-after schema tell (All-head (IsTellOf schema) tell told all) telling h)
@@ -235,32 +235,19 @@ module _ (schema : List Table) where
       true-all told (tells schema tell telling) (after_tell tell g) (All-tail (IsTellOf schema) tell told all) (told-after schema tell one telling k) (of-schema schema tell one g h)
       (true-after schema tell one telling g k h own)
 
-  each-told : (told : List Tell) (regions : List Region) → All (IsTellOf schema) told → All (IsOfSchema schema) regions → All (IsOfSchema schema) (map (told_to told) regions)
+  pub each-told : (told : List Tell) (regions : List Region) → All (IsTellOf schema) told → All (IsOfSchema schema) regions → All (IsOfSchema schema) (map (told_to told) regions)
   each-told told [] all each = All-nil (IsOfSchema schema)
   each-told told (g ∷ regions) all each =
       All-cons (IsOfSchema schema) (told_to told g) (map (told_to told) regions) (of-schema-all told g all (All-head (IsOfSchema schema) g regions each))
       (each-told told regions all (All-tail (IsOfSchema schema) g regions each))
 
-  true-each : (told : List Tell) (telling : Told) (regions : List Region) → All (IsTellOf schema) told → IsTold schema telling → All (IsOfSchema schema) regions → AreTrueOf telling regions
+  pub true-each : (told : List Tell) (telling : Told) (regions : List Region) → All (IsTellOf schema) told → IsTold schema telling → All (IsOfSchema schema) regions → AreTrueOf telling regions
       → AreTrueOf (tells_all schema told telling) (map (told_to told) regions)
   true-each told telling [] all k each own = All-nil (IsTrueOf (tells_all schema told telling))
   true-each told telling (g ∷ regions) all k each own =
       All-cons (IsTrueOf (tells_all schema told telling)) (told_to told g) (map (told_to told) regions)
       (true-all told telling g all k (All-head (IsOfSchema schema) g regions each) (All-head (IsTrueOf telling) g regions own))
       (true-each told telling regions all k (All-tail (IsOfSchema schema) g regions each) (All-tail (IsTrueOf telling) g regions own))
-
-  pub store-told : (told : List Tell) (regions : List Region) → IsStore schema regions → All (IsTellOf schema) told → IsStore schema (map (told_to told) regions)
-  store-told told regions h all =
-      let few = h.few in
-      record {
-        each = each-told told regions all h.each;
-        order = ascends-told told regions h.order;
-        once = λ t a p point. let e = occurs-told told regions t a p in let le = h.once t a p point in omega (arith, e, le);
-        few = let e = rects-told told regions in omega (arith, e, few);
-        told = tells_all schema told h.told;
-        is_told = told-all told h.told all h.is_told;
-        are_true = true-each told h.told regions all h.is_told h.each h.are_true;
-      }
 
 -- ---- as tells and regions are gone through
 

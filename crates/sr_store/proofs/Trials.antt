@@ -29,38 +29,14 @@ use Rattle.sr_store.proofs.Covering.{cover_has}
 abbrev pub regions_of : Store → List Region
 regions_of store = store.regions
 
-abbrev pub nothing : Told
-nothing t a = []
-
-pub nothing_told : (schema : List Table) → IsTold schema nothing
-nothing_told schema = record { rows = λ t a. All-nil (IsPart (table_at schema t).columns a); ascending = λ t a has. refl }
-
-pub empty_store : (schema : List Table) (gs : List Region) → gs ≡ [] → IsStore schema gs
+abbrev pub empty_store : (schema : List Table) (gs : List Region) → gs ≡ [] → IsStore schema gs
 empty_store schema gs none = subst (IsStore schema) (sym none) (record {
   each = All-nil (IsOfSchema schema);
   order = refl;
   once = λ t a p point. omega arith;
+  keys = λ t a k. omega arith;
   few = omega arith;
-  told = nothing;
-  is_told = nothing_told schema;
-  are_true = All-nil (IsTrueOf nothing);
 })
-
-pub empty_true : (told : Told) (gs : List Region) → gs ≡ [] → AreTrueOf told gs
-empty_true told gs none = subst (AreTrueOf told) (sym none) (All-nil (IsTrueOf told))
-
-pub came_one : (rs : List Arrival) (r : Arrival) → rs ≡ r ∷ [] → r.rows ≡ [] → HaveArrived nothing rs
-came_one rs r is none = subst (HaveArrived nothing) (sym is) (All-cons (λ (r : Arrival). r.rows ≡ []) r [] none (All-nil (λ (r : Arrival). r.rows ≡ [])))
-
-pub came_two : (rs : List Arrival) (r s : Arrival) → rs ≡ r ∷ s ∷ [] → r.rows ≡ [] → s.rows ≡ [] → HaveArrived nothing rs
-came_two rs r s is none more =
-    subst (HaveArrived nothing) (sym is)
-    (All-cons (λ (r : Arrival). r.rows ≡ []) r (s ∷ []) none (All-cons (λ (r : Arrival). r.rows ≡ []) s [] more (All-nil (λ (r : Arrival). r.rows ≡ []))))
-
-pub came_with : (told : Told) (rs : List Arrival) (r : Arrival) → rs ≡ r ∷ [] → r.rows ≡ filter (is_in r.attrs r.rects) (told r.table r.attrs) → HaveArrived told rs
-came_with told rs r is rows =
-    let HasCome = λ (r : Arrival). r.rows ≡ filter (is_in r.attrs r.rects) (told r.table r.attrs) in
-    subst (HaveArrived told) (sym is) (All-cons HasCome r [] rows (All-nil HasCome))
 
 -- ---- what arrives where it is not covered
 
@@ -91,22 +67,6 @@ apart_one schema gs part rs r rects cover is store table need own covered none =
 
 pub first_is : (ps : List Part) (p part : Part) → ps ≡ p ∷ [] → part ≡ get_or ps 0 part → part ≡ p
 first_is ps p part is at = at ∙ ap (λ qs. get_or qs 0 part) is
-
--- ---- one row of the first table
-
-abbrev pub one_row : Row → Told
-one_row row = told_of ((row ∷ []) ∷ [])
-
-pub one_told : (schema : List Table) (row : Row) → is_point (table_at schema 0).columns row ≡ true → IsTold schema (one_row row)
-one_told schema row point = record { rows = rows; ascending = ascending }
-  where
-    rows : (t a : ℕ) → All (IsPart (table_at schema t).columns a) (map (project a) (rows_at ((row ∷ []) ∷ []) t))
-    rows zero a = All-cons (IsPart (table_at schema 0).columns a) (project a row) [] (row, point, refl) (All-nil (IsPart (table_at schema 0).columns a))
-    rows (suc t) a = All-nil (IsPart (table_at schema (suc t)).columns a)
-
-    ascending : (t a : ℕ) → has_column a (table_at schema t).key ≡ true → ascend (rank a (table_at schema t).key) (map (project a) (rows_at ((row ∷ []) ∷ []) t)) ≡ true
-    ascending zero a has = refl
-    ascending (suc t) a has = refl
 
 -- what is told of one person of the first table
 pub tells_one : (schema : List Table) (told : List Tell) (own age : ℤ) → 0 < length schema → (table_at schema 0).key ≡ 0

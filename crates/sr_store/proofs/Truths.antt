@@ -24,7 +24,7 @@ pub filter-on : (P : Row → Type 0) (f g : Row → Bool) → ((row : Row) → P
 filter-on P f g same [] all = refl
 filter-on P f g same (row ∷ rows) all = rw (same row (All-head P row rows all), filter-on P f g same rows (All-tail P row rows all)) refl
 
-filter-filter : (f g : Row → Bool) (rows : List Row) → filter g (filter f rows) ≡ filter (λ row. f row && g row) rows
+pub filter-filter : (f g : Row → Bool) (rows : List Row) → filter g (filter f rows) ≡ filter (λ row. f row && g row) rows
 filter-filter f g [] = refl
 filter-filter f g (row ∷ rows) = go (f row) (filter-filter f g rows)
   where

@@ -2,11 +2,12 @@
 use Rattle.std.specs.Prelude.{ℕ, Bool, true, false, not, ◌&&◌, ◌||◌, ◌==◌, ◌+◌, ◌*◌, ◌≤◌, ◌<◌, List, [], ◌∷◌, ◌++◌, length, map, filter, flat_map, ◌≡◌, ◌↔◌, IsTrue, if◌then◌else◌}
 use Rattle.std.specs.List.{list_any, list_all, All}
 use Rattle.sr_cell.specs.declared.cause.Cause.TheVariants.{Absorbed, Pieces}
+use Rattle.sr_cell.specs.declared.cell.Cell.{Cell}
 use Rattle.sr_cell.specs.declared.table.Table.{Table}
 use Rattle.sr_cell.specs.Columns.{table_at, is_point}
 use Rattle.sr_cell.specs.Attrs.{includes, has_column}
-use Rattle.sr_cell.specs.Cells.{Row}
-use Rattle.sr_model.specs.SortedRows.{ascend}
+use Rattle.sr_cell.specs.Cells.{Row, cell_at}
+use Rattle.sr_model.specs.SortedRows.{ascend, has_key}
 use Rattle.sr_box.specs.Points.{Rect, in_any, rect_fits, constrains_only}
 use Rattle.sr_union.specs.Pieces.{IsWithin}
 use Rattle.sr_union.specs.Grid.{grid}
@@ -48,6 +49,26 @@ pub record IsArrival (schema : List Table) (parts : List Part) (r : Arrival) : T
 abbrev pub AreApart : List Table → List Region → List Arrival → Type 0
 AreApart schema regions arrivals =
     (t a : ℕ) (p : Row) → IsTrue (is_point (table_at schema t).columns p) → arrivals_at arrivals t a p + occurs regions t a p ≤ 1
+
+-- how many arrivals of that table with exactly these columns have a row with the key
+abbrev pub keys_at : List Arrival → ℕ → ℕ → Cell → ℕ
+keys_at [] t a k = 0
+keys_at (r ∷ rs) t a k = (if (r.table == t && r.attrs == a) && has_key (rank r.attrs r.key) k r.rows then 1 else 0) + keys_at rs t a k
+
+-- no key arrives twice under the same columns
+abbrev pub BringOwnKeys : List Arrival → Type 0
+BringOwnKeys arrivals = (t a : ℕ) (k : Cell) → keys_at arrivals t a k ≤ 1
+
+-- an arrival of the region's table with exactly its columns has a row with the key
+abbrev pub brings : List Arrival → Region → Cell → Bool
+brings arrivals g k = list_any (λ r. (r.table == g.table && r.attrs == g.attrs) && has_key (rank g.attrs g.key) k r.rows) arrivals
+
+-- the region without the rows whose keys arrive
+abbrev pub gives_way : List Arrival → Region → Region
+gives_way arrivals g = record g { rows = filter (λ row. not (brings arrivals g (cell_at row (rank g.attrs g.key)))) g.rows }
+
+abbrev pub giving_way : List Arrival → List Region → List Region
+giving_way arrivals regions = map (gives_way arrivals) regions
 
 -- the rows that arrive are just those in the rects
 abbrev pub HaveArrived : Told → List Arrival → Type 0

@@ -1,13 +1,16 @@
 -- What a list of regions holds, under any meaning of "held" and any stamps.
 use Rattle.std.specs.Prelude.{ℕ, Bool, true, ◌&&◌, ◌||◌, ◌==◌, ◌+◌, nat_lt, List, [], ◌∷◌, ◌≡◌, IsTrue, if◌then◌else◌}
 use Rattle.std.specs.List.{list_any, All}
+use Rattle.sr_cell.specs.declared.cell.Cell.{Cell}
 use Rattle.sr_cell.specs.declared.table.Table.{Table}
 use Rattle.sr_cell.specs.Columns.{table_at, is_point}
 use Rattle.sr_cell.specs.Attrs.{includes}
 use Rattle.sr_cell.specs.Cells.{Row}
+use Rattle.sr_model.specs.SortedRows.{has_key}
 use Rattle.sr_box.specs.Points.{times, in_any}
 use Rattle.sr_query.specs.declared.query.Part.{Part}
 use Rattle.sr_region.specs.declared.region.Region.{Region}
+use Rattle.sr_region.specs.Regions.{rank}
 
 -- a set of points for each table and set of columns, and a stamp for each of their points
 abbrev pub Held : Type 0
@@ -23,6 +26,11 @@ is_of g t a = g.table == t && g.attrs == a
 abbrev pub occurs : List Region → ℕ → ℕ → Row → ℕ
 occurs [] t a p = 0
 occurs (g ∷ gs) t a p = (if is_of g t a then times g.rects p else 0) + occurs gs t a p
+
+-- in how many regions of a table with exactly these columns a row has the key
+abbrev pub key_occurs : List Region → ℕ → ℕ → Cell → ℕ
+key_occurs [] t a k = 0
+key_occurs (g ∷ gs) t a k = (if is_of g t a && has_key (rank g.attrs g.key) k g.rows then 1 else 0) + key_occurs gs t a k
 
 -- each point of the region has its stamp
 abbrev pub IsStamped : List Table → Stamps → Region → Type 0

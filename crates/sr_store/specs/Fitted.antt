@@ -17,7 +17,7 @@ use Rattle.sr_region.specs.declared.region.Region.{Region}
 use Rattle.sr_store.specs.declared.store.Arrival.{Arrival}
 use Rattle.sr_store.specs.Told.{Told, IsTold, AreTrueOf}
 use Rattle.sr_store.specs.Stores.{IsStore, drop_of}
-use Rattle.sr_store.specs.Answered.{HaveArrived, IsRenewed}
+use Rattle.sr_store.specs.Answered.{giving_way, HaveArrived, IsRenewed}
 
 -- the rows of all regions
 abbrev pub count_rows : List Region → ℕ
@@ -76,6 +76,6 @@ pub record IsAnswered (schema : List Table) (limits : Limits) (number : ℕ) (pa
   pub drops : List Mark
   pub renewed : IsRenewed schema number parts arrivals old mid front
   pub store : IsStore schema mid
-  pub true_still : (told : Told) → IsTold schema told → AreTrueOf told old → HaveArrived told arrivals → AreTrueOf told mid
+  pub true_still : (told : Told) → IsTold schema told → AreTrueOf told (giving_way arrivals old) → HaveArrived told arrivals → AreTrueOf told mid
   pub fitted : IsFitted schema limits (lasts_of schema parts) mid new drops
   pub all : marks ≡ front ++ drops

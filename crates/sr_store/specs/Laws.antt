@@ -22,8 +22,10 @@ use Rattle.sr_history.specs.Budgets.{MeetsBudgets}
 use Rattle.sr_region.specs.declared.region.Region.{Region}
 use Rattle.sr_region.specs.Applied.{AreTables, concerns, has_points}
 use Rattle.sr_store.specs.Classes.{Held, Stamps, Keeps}
-use Rattle.sr_store.specs.Told.{told_of, AreTrueOf}
-use Rattle.sr_store.specs.Stores.{IsStore}
+use Rattle.sr_store.specs.declared.store.Arrival.{Arrival}
+use Rattle.sr_store.specs.Told.{Told, IsTold, told_of, AreTrueOf}
+use Rattle.sr_store.specs.Stores.{IsOfSchema, IsStore}
+use Rattle.sr_store.specs.Answered.{IsArrival, AreApart, BringOwnKeys, giving_way, HaveArrived}
 use Rattle.sr_store.specs.Fitted.{IsFitted, lasts_of, count_rows}
 use Rattle.sr_store.specs.Noticed.{told_to, IsTellOf}
 
@@ -70,3 +72,15 @@ ChangesAreTells = (schema : List Table) (old new : Tables) (test : Change → Bo
 abbrev pub NoticesKeepClasses : Type 0
 NoticesKeepClasses = (schema : List Table) (held : Held) (stamps : Stamps) (told : List Tell) (regions : List Region)
     → Keeps schema held stamps regions → Keeps schema held stamps (map (told_to told) regions)
+
+-- Whatever arrives, there is a telling of which it is true, and the regions that have given way to it too.
+abbrev pub SomeTellingFits : Type 0
+SomeTellingFits = (schema : List Table) (parts : List Part) (regions : List Region) (arrivals : List Arrival)
+    → IsStore schema regions → All (IsArrival schema parts) arrivals → AreApart schema regions arrivals → BringOwnKeys arrivals
+    → (told : Told) × IsTold schema told × AreTrueOf told (giving_way arrivals regions) × HaveArrived told arrivals
+
+-- Where regions and what arrives are true of one telling, nothing gives way.
+abbrev pub NothingGivesWay : Type 0
+NothingGivesWay = (schema : List Table) (parts : List Part) (regions : List Region) (arrivals : List Arrival) (told : Told)
+    → All (IsOfSchema schema) regions → All (IsArrival schema parts) arrivals → AreApart schema regions arrivals
+    → IsTold schema told → AreTrueOf told regions → HaveArrived told arrivals → giving_way arrivals regions ≡ regions

@@ -1,12 +1,12 @@
 -- Steps on the way to the new regions.
-use Rattle.std.specs.Prelude.{ℕ, Bool, true, false, ◌&&◌, map, IsTrue, List, [], ◌∷◌, ◌++◌, ◌≡◌, Option, None, Some, length, ◌<◌}
+use Rattle.std.specs.Prelude.{ℕ, Bool, true, false, not, ◌&&◌, map, filter, IsTrue, List, [], ◌∷◌, ◌++◌, ◌≡◌, Option, None, Some, length, ◌<◌}
 use Rattle.std.specs.List.{list_all, All, prefix_len}
 use Rattle.sr_cell.specs.declared.cause.Cause.TheVariants.{Absorbed}
 use Rattle.sr_cell.specs.declared.table.Column.{Column}
 use Rattle.sr_cell.specs.declared.table.Table.{Table}
 use Rattle.sr_cell.specs.Columns.{table_at, is_point}
-use Rattle.sr_cell.specs.Cells.{Row}
-use Rattle.sr_model.specs.SortedRows.{ascend}
+use Rattle.sr_cell.specs.Cells.{Row, cell_at}
+use Rattle.sr_model.specs.SortedRows.{ascend, has_key}
 use Rattle.sr_box.specs.Points.{Rect, in_any, rect_fits}
 use Rattle.sr_history.specs.declared.mark.Mark.{Mark}
 use Rattle.sr_query.specs.declared.query.Part.{Part}
@@ -17,7 +17,7 @@ use Rattle.sr_store.specs.declared.absorb.Kind.{Kind}
 use Rattle.sr_store.specs.declared.store.Arrival.{Arrival}
 use Rattle.sr_store.specs.Classes.{is_before, is_same}
 use Rattle.sr_store.specs.Stores.{drop_of}
-use Rattle.sr_store.specs.Answered.{AreFlags, IsAbsorbedIn, flagged, is_used, rects_on}
+use Rattle.sr_store.specs.Answered.{AreFlags, IsAbsorbedIn, flagged, is_used, rects_on, wider}
 use Rattle.sr_store.specs.Renewing.{pieces_of, IsRestamped, IsCutFrom}
 
 -- no point lies in rects of both lists
@@ -59,6 +59,14 @@ pub record CanJoin (regions more : List Region) : Type 0 where
   pub keys : All (HasKey key) regions
   pub keyed : All (IsKeyed key) more
 
+-- the rows lie by the key
+abbrev pub IsByKey : Region → Type 0
+IsByKey g = ascend (rank g.attrs g.key) g.rows ≡ true
+
+-- the rows whose keys the others do not have
+abbrev pub without_keys : ℕ → List Row → List Row → List Row
+without_keys key others rows = filter (λ row. not (has_key key (cell_at row key) others)) rows
+
 -- rects of a table of the schema
 abbrev pub FitsSchema : List Table → Arrival → Type 0
 FitsSchema schema r = (r.table < length schema) × (list_all (rect_fits (table_at schema r.table).columns) r.rects ≡ true)
@@ -74,7 +82,6 @@ pub record DropsAbsorbed (schema : List Table) (all left : List Region) (marks :
 abbrev pub ComesFrom : List Table → List Region → List Part → List Arrival → Region → Type 0
 ComesFrom schema old parts arrivals g = (is_used old arrivals g.table g.attrs ≡ true) × IsCutFrom schema (rects_on old parts arrivals) g
 
--- there is a kind, the table and the columns of the region
-abbrev pub IsOfKind : Option Kind → Region → Type 0
-IsOfKind None g = ⊥
-IsOfKind (Some kind) g = (kind.table ≡ g.table) × (kind.attrs ≡ g.attrs)
+-- the kind is the region's, with the rects of the regions that have strictly more columns
+abbrev pub IsKindOf : List Region → Region → Kind → Type 0
+IsKindOf regions g kind = (kind.table ≡ g.table) × (kind.attrs ≡ g.attrs) × (kind.wider ≡ wider regions g.table g.attrs)

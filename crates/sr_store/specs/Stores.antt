@@ -2,6 +2,7 @@
 use Rattle.std.specs.Prelude.{ℕ, Bool, true, ◌&&◌, ◌==◌, ◌≤◌, ◌<◌, List, length, filter, flat_map, sum_by, ◌≡◌, IsTrue}
 use Rattle.std.specs.List.{All}
 use Rattle.sr_cell.specs.declared.cause.Cause.{Cause}
+use Rattle.sr_cell.specs.declared.cell.Cell.{Cell}
 use Rattle.sr_cell.specs.declared.table.Table.{Table}
 use Rattle.sr_cell.specs.Columns.{table_at, is_point}
 use Rattle.sr_cell.specs.Attrs.{includes}
@@ -12,8 +13,7 @@ use Rattle.sr_history.specs.declared.mark.Mark.{Mark}
 use Rattle.sr_history.specs.declared.mark.Mark.TheVariants.{Dropped}
 use Rattle.sr_region.specs.declared.region.Region.{Region}
 use Rattle.sr_region.specs.Regions.{IsRegion}
-use Rattle.sr_store.specs.Classes.{occurs, ascends}
-use Rattle.sr_store.specs.Told.{Told, IsTold, AreTrueOf}
+use Rattle.sr_store.specs.Classes.{occurs, key_occurs, ascends}
 
 -- a region of a table of the schema
 abbrev pub IsOfSchema : List Table → Region → Type 0
@@ -22,15 +22,13 @@ IsOfSchema schema g = (g.table < length schema) × IsRegion (table_at schema g.t
 abbrev pub count_rects : List Region → ℕ
 count_rects regions = sum_by (λ g. length g.rects) regions
 
--- Regions in class order, no point in two of one table with the same columns, with the rows of some telling.
+-- Regions in class order, of which no two of one table with the same columns have a point or a key in common.
 pub record IsStore (schema : List Table) (regions : List Region) : Type 0 where
   pub each : All (IsOfSchema schema) regions
   pub order : ascends regions ≡ true
   pub once : (t a : ℕ) (p : Row) → IsTrue (is_point (table_at schema t).columns p) → occurs regions t a p ≤ 1
+  pub keys : (t a : ℕ) (k : Cell) → key_occurs regions t a k ≤ 1
   pub few : count_rects regions ≤ 16384
-  pub told : Told
-  pub is_told : IsTold schema told
-  pub are_true : AreTrueOf told regions
 
 -- the region holds each column that the part needs
 abbrev pub serves : Part → Region → Bool

@@ -1,5 +1,5 @@
 //! Regions within the limits.
-ghost use Rattle.std.specs.Prelude.{◌≡◌, ◌≢◌, ◌-◌, ◌^◌, true, min, nat_lt, List, [], length, option_to_list, IfOk, OnOk, IsTrue};
+ghost use Rattle.std.specs.Prelude.{◌≡◌, ◌≢◌, ◌<◌, ◌-◌, ◌^◌, true, min, nat_lt, List, [], length, option_to_list, IfOk, OnOk, IsTrue};
 ghost use Rattle.std.specs.List.{list_all, All, AllZip};
 ghost use Rattle.sr_cell.specs.declared.cause.Cause.TheVariants.{Rows, Regions};
 ghost use Rattle.sr_cell.specs.declared.table.Table.{Table as TheTable};
@@ -163,13 +163,10 @@ pub(crate) fn fitted(
 /// What the part asks of its table, by the centre; none where it has no rects.
 fn last_of(alloc: Global, schema: &Schema, part: &Part) -> Result<Option<Last>, NoMemory>
     requires tables { IsTrue (list_all is_table schema.now) }
+    requires named { part.now.table < length schema.now }
     requires fit { list_all (rect_fits (table_at schema.now part.now.table).columns) part.now.rects ≡ true }
     ensures { IfOk result (λ last. option_to_list last ≡ last_of part.now.table (centre_of (table_at schema.now part.now.table).columns part.now.rects)) }
 {
-    if part.table as usize >= schema.as_slice().len() {
-        // No query has a part of a table that is not there.
-        return Err(NoMemory);
-    }
     let centre = part.rects.centre(alloc, table_at(schema, part.table))?;
     Ok(centre.map(|centre| Last {
         table: part.table,
@@ -180,6 +177,7 @@ fn last_of(alloc: Global, schema: &Schema, part: &Part) -> Result<Option<Last>, 
 /// What the parts ask of their tables, by centres.
 pub(crate) fn lasts_of(alloc: Global, schema: &Schema, parts: &[Part]) -> Result<Lasts, NoMemory>
     requires tables { IsTrue (list_all is_table schema.now) }
+    requires named { All (λ (part : ThePart). part.table < length schema.now) parts.now }
     requires fit { All (λ (part : ThePart). list_all (rect_fits (table_at schema.now part.table).columns) part.rects ≡ true) parts.now }
     ensures { IfOk result (λ last. last ≡ lasts_of schema.now parts.now) }
 {

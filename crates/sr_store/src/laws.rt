@@ -1,5 +1,5 @@
 //! Laws of the definitions: functions that do nothing, and whose contracts are the laws.
-ghost use Rattle.sr_store.specs.Laws.{FittedMeetsBudgets, FittedFitStill, LastsAreLast, NoticesKeepTrue, ChangesAreTells, NoticesKeepClasses};
+ghost use Rattle.sr_store.specs.Laws.{FittedMeetsBudgets, FittedFitStill, LastsAreLast, NoticesKeepTrue, ChangesAreTells, NoticesKeepClasses, SomeTellingFits, NothingGivesWay};
 
 /// What is dropped from regions so that they fit is just what the budgets demand of the marks behind them.
 pub fn fitted_meets_budgets()
@@ -29,4 +29,14 @@ pub fn changes_are_tells()
 /// What is told changes no points and no stamps.
 pub fn notices_keep_classes()
     ensures { NoticesKeepClasses }
+{}
+
+/// What arrives, and the regions that have given way to it, are true of some telling.
+pub fn some_telling_fits()
+    ensures { SomeTellingFits }
+{}
+
+/// Where all tell truly, nothing gives way.
+pub fn nothing_gives_way()
+    ensures { NothingGivesWay }
 {}

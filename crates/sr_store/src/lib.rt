@@ -7,6 +7,7 @@ mod answer;
 mod apply;
 mod arrive;
 mod fit;
+mod give_way;
 pub mod laws;
 mod lookup;
 mod marks;

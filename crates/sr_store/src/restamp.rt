@@ -52,25 +52,24 @@ fn touching_rects(alloc: Global, parts: &[Part], table: u8, attrs: Attrs) -> Res
 }
 
 /// Whether the rects may have a point in common.
-pub(crate) fn may_meet(alloc: Global, rects: &Rects, others: &Rects) -> Result<bool, NoMemory>
-    ensures { (columns : List Column) → IfOk result (λ yes. yes ≡ false → HaveNoCommon columns rects.now others.now) }
+pub(crate) fn may_meet(rects: &Rects, others: &Rects) -> bool
+    ensures { (columns : List Column) → result ≡ false → HaveNoCommon columns rects.now others.now }
 {
-    let both = rects.meet(alloc, others)?;
-    Ok(!both.is_empty())
+    rects.meets(others)
 }
 
 /// Whether some part may touch the region.
-fn may_touch(alloc: Global, region: &Region, parts: &[Part]) -> Result<bool, NoMemory>
-    ensures { (columns : List Column) → IfOk result (λ yes. yes ≡ false → HaveNoCommon columns region.now.rects (touching parts.now region.now.table region.now.attrs)) }
+fn may_touch(region: &Region, parts: &[Part]) -> bool
+    ensures { (columns : List Column) → result ≡ false → HaveNoCommon columns region.now.rects (touching parts.now region.now.table region.now.attrs) }
 {
     for part in parts {
         if is_touching(part, region.table, region.attrs) {
-            if may_meet(alloc, &region.rects, &part.rects)? {
-                return Ok(true);
+            if may_meet(&region.rects, &part.rects) {
+                return true;
             }
         }
     }
-    Ok(false)
+    false
 }
 
 /// A half at the end, where it is there.
@@ -140,7 +139,7 @@ fn restamp_one(
     ensures restamped { OnOk result (AddsRestamped schema.now number parts.now region pieces.old pieces.new) }
     ensures over { IsErrOf result (Refused (record {})) → 16384 < grid (table_at schema.now region.table).columns (region.rects ++ touching parts.now region.table region.attrs) }
 {
-    if !may_touch(alloc, &region, parts)? {
+    if !may_touch(&region, parts) {
         return Ok(pieces.push(region)?);
     }
     let rects = touching_rects(alloc, parts, region.table, region.attrs)?;

@@ -1,15 +1,16 @@
 //! The regions of a client.
-ghost use Rattle.std.specs.Prelude.{◌≡◌, ◌≤◌, ◌-◌, ◌^◌, min, true, ◌⊎◌, List, [], ◌++◌, length, map, slice_get, Some, IfOk, IfErr, OnOk, OnErr, IsTrue};
+ghost use Rattle.std.specs.Prelude.{◌≡◌, ◌<◌, ◌≤◌, ◌-◌, ◌^◌, min, true, ◌⊎◌, List, [], ◌∷◌, ◌++◌, length, map, slice_get, Some, IfOk, IfErr, OnOk, OnErr, IsTrue};
 ghost use Rattle.std.specs.List.{list_all, All};
 ghost use Rattle.sr_cell.specs.declared.table.Table.{Table as TheTable};
 ghost use Rattle.sr_cell.specs.Columns.{table_at};
 ghost use Rattle.sr_history.specs.declared.mark.Mark.{Mark};
 ghost use Rattle.sr_box.specs.Points.{rect_fits, constrains_only};
+ghost use Rattle.sr_union.specs.Pieces.{near};
 ghost use Rattle.sr_query.specs.Bound.{is_table};
 ghost use Rattle.sr_query.specs.declared.query.Part.{Part as ThePart};
 ghost use Rattle.sr_store.specs.Told.{Told, IsTold, AreTrueOf};
 ghost use Rattle.sr_store.specs.Stores.{IsStore, cover_of, drop_of};
-ghost use Rattle.sr_store.specs.Answered.{IsArrival, AreApart, HaveArrived, IsGivenUp, rects_on};
+ghost use Rattle.sr_store.specs.Answered.{IsArrival, AreApart, BringOwnKeys, giving_way, HaveArrived, IsGivenUp, rects_on};
 ghost use Rattle.sr_store.specs.Fitted.{count_rows, without, lasts_of, IsFitted, IsAnswered};
 ghost use Rattle.sr_store.specs.Noticed.{told_to, IsTellOf};
 ghost use Rattle.sr_store.specs.Renewing.{IsCutFrom};
@@ -17,6 +18,7 @@ ghost use Rattle.sr_store.specs.Renewing.{IsCutFrom};
 use crate::answer::{Answer, answer_of};
 use crate::apply::told_all;
 use crate::fit::{count_rows, fitted, lasts_of};
+use crate::give_way::given_way;
 use crate::marks::{drop_copies, drop_marks};
 use sr_cell::attrs::Attrs;
 use sr_cell::cause::Cause;
@@ -71,6 +73,26 @@ fn cover_in(alloc: Global, regions: &[Region], part: &Part) -> Result<Rects, NoM
     Ok(cover)
 }
 
+fn push_near(alloc: Global, cover: &mut Rects, region: &Region, part: &Part) -> Result<(), NoMemory>
+    ensures { OnOk result (cover.new ≡ cover.old ++ near part.now.rects (cover_of part.now (region.now ∷ []))) }
+{
+    if region.serves(part.table, part.need) {
+        cover.append(region.rects.near(alloc, &part.rects)?)?;
+    }
+    Ok(())
+}
+
+#[tactic(auto, using(crate::proofs::Nearing::near_cover))]
+fn near_in(alloc: Global, regions: &[Region], part: &Part) -> Result<Rects, NoMemory>
+    ensures { IfOk result (λ cover. cover ≡ near part.now.rects (cover_of part.now regions.now)) }
+{
+    let mut cover = Rects::new(alloc);
+    for region in regions {
+        push_near(alloc, &mut cover, region, part)?;
+    }
+    Ok(cover)
+}
+
 impl Store {
     /// A store that holds nothing; takes no memory.
     pub fn new(alloc: Global, limits: Limits) -> Store
@@ -97,9 +119,17 @@ impl Store {
         cover_in(alloc, self.regions.as_slice(), part)
     }
 
-    /// What an answer does: what arrived is held, the points that the query touches have its number as their stamp, and the
-    /// regions whose points are all held under more columns are dropped; then those that the limits demand. Where there would
-    /// be too many pieces, all regions are dropped instead. After want of memory it holds nothing.
+    /// Those rects of the cover that meet the part, which decide about its points.
+    pub fn cover_near(&self, alloc: Global, part: &Part) -> Result<Rects, NoMemory>
+        ensures { IfOk result (λ cover. cover ≡ near part.now.rects (cover_of part.now self.now.regions)) }
+    {
+        near_in(alloc, self.regions.as_slice(), part)
+    }
+
+    /// What an answer does: held rows give way to arriving ones of their key, under the same columns; what arrived is held, the
+    /// points that the query touches have its number as their stamp, and the regions whose points are all held under more columns
+    /// are dropped; then those that the limits demand. Where there would be too many pieces, all regions are dropped instead. After
+    /// want of memory it holds nothing.
     pub fn answered(
         &mut self,
         alloc: Global,
@@ -112,19 +142,21 @@ impl Store {
         requires store { IsStore schema.now self.old.regions }
         requires fit { All (λ (part : ThePart). list_all (rect_fits (table_at schema.now part.table).columns) part.rects ≡ true) parts.now }
         requires only { All (λ (part : ThePart). list_all (constrains_only part.need 0) part.rects ≡ true) parts.now }
+        requires named { All (λ (part : ThePart). part.table < length schema.now) parts.now }
         requires arrivals { All (IsArrival schema.now parts.now) arrivals }
         requires apart { AreApart schema.now self.old.regions arrivals }
-        requires told { (told : Told) × IsTold schema.now told × AreTrueOf told self.old.regions × HaveArrived told arrivals }
+        requires own { BringOwnKeys arrivals }
         ensures answered { IfOk result (λ marks. IsAnswered schema.now self.old.limits number parts.now arrivals self.old.regions self.new.regions marks
             ⊎ IsGivenUp schema.now parts.now arrivals self.old.regions self.new.regions marks) }
         ensures cuts { All (IsCutFrom schema.now (rects_on self.old.regions parts.now arrivals)) self.new.regions }
         ensures store { IsStore schema.now self.new.regions }
-        ensures true_still { (told : Told) → IsTold schema.now told → AreTrueOf told self.old.regions → HaveArrived told arrivals → AreTrueOf told self.new.regions }
+        ensures true_still { (told : Told) → IsTold schema.now told → AreTrueOf told (giving_way arrivals self.old.regions) → HaveArrived told arrivals → AreTrueOf told self.new.regions }
         ensures last { OnOk result (self.new.last ≡ lasts_of schema.now parts.now) }
         ensures limits { self.new.limits ≡ self.old.limits }
         ensures nothing_left { OnErr result (self.new.regions ≡ []) }
     {
-        let old = mem::replace(&mut self.regions, Seq::new(alloc));
+        let held = mem::replace(&mut self.regions, Seq::new(alloc));
+        let old = given_way(held, arrivals.as_slice());
         // Cutting gives the regions up, so that their drops are made before it.
         let drops = drop_copies(alloc, Cause::Pieces, old.as_slice())?;
         self.last = lasts_of(alloc, schema, parts)?;

@@ -5,9 +5,7 @@ ghost use Rattle.sr_box.specs.declared.span.Span.TheVariants.{Full, Nums};
 ghost use Rattle.sr_cell.specs.declared.table.Kind.TheVariants.{Num as Numbers};
 ghost use Rattle.sr_cell.specs.declared.cell.Cell.TheVariants.{Num};
 ghost use Rattle.sr_cell.specs.Columns.{is_point, table_at};
-ghost use Rattle.sr_box.specs.Points.{rect_fits};
 ghost use Rattle.sr_query.specs.Bound.{is_table};
-ghost use Rattle.sr_store.specs.Told.{AreTrueOf};
 ghost use Rattle.sr_store.specs.Stores.{IsStore};
 
 use crate::restamp::may_meet;
@@ -15,13 +13,11 @@ use crate::store::{Arrival, Arrivals, Store};
 use sr_box::rect::Rect;
 use sr_box::span::Span;
 use sr_cell::attrs::Attrs;
-use sr_cell::cause::Cause;
 use sr_cell::cell::{Cell, Rows};
 use sr_cell::list::{Copied, NoMemory, Seq};
 use sr_cell::schema::Schema;
 use sr_cell::table::{Column, Kind, Table};
 use sr_cell::text::Text;
-use sr_history::mark::{Mark, Marks};
 use sr_message::message::Tell;
 use sr_policy::policy::{Limits, Policy};
 use sr_query::query::{Part, Parts};
@@ -127,23 +123,12 @@ fn narrow(alloc: Global, lo: i64, hi: i64) -> Result<Arrivals, NoMemory>
     Ok(arrivals)
 }
 
-// The same, and once more with the department.
-fn both(alloc: Global, lo: i64, hi: i64) -> Result<Arrivals, NoMemory>
-    ensures { IfOk result (λ arrivals. arrivals ≡ record { table = 0; key = 0; attrs = 3; rects = (Full ∷ Nums lo hi ∷ Full ∷ []) ∷ []; rows = [] }
-        ∷ record { table = 0; key = 0; attrs = 7; rects = (Full ∷ Nums lo hi ∷ Full ∷ []) ∷ []; rows = [] } ∷ []) }
-{
-    let mut arrivals = narrow(alloc, lo, hi)?;
-    arrivals.push(arrival_of(alloc, Attrs(7), ages(alloc, lo, hi)?))?;
-    Ok(arrivals)
-}
-
 // A store to which these ages came; none where they do not fit the table.
 fn held(alloc: Global, schema: &Schema, lo: i64, hi: i64) -> Result<Option<Store>, NoMemory>
     requires tables { IsTrue (list_all is_table schema.now) }
     requires there { 0 < length schema.now }
     requires key { (table_at schema.now 0).key ≡ 0 }
     ensures store { IfOk result (λ found. IfSome found (λ store. IsStore schema.now store.regions)) }
-    ensures none { IfOk result (λ found. IfSome found (λ store. AreTrueOf (λ t a. []) store.regions)) }
 {
     if !ages(alloc, lo, hi)?.fits(&schema.as_slice()[0]) {
         return Ok(None);
@@ -165,7 +150,6 @@ fn touch(
     requires tables { IsTrue (list_all is_table schema.now) }
     requires there { 0 < length schema.now }
     requires store { IsStore schema.now store.old.regions }
-    requires none { AreTrueOf (λ t a. []) store.old.regions }
 {
     if !ages(alloc, lo, hi)?.fits(&schema.as_slice()[0]) {
         return Err(NoMemory);
@@ -195,139 +179,50 @@ fn split(alloc: Global) -> Result<Option<Store>, NoMemory> {
     }
 }
 
-fn is_split(store: &Option<Store>) -> bool {
-    match store {
-        Some(store) => {
-            store.regions.len() == 2
-                && region_at(store, 0) == Some((2, 1))
-                && region_at(store, 1) == Some((1, 2))
-        }
-        None => false,
-    }
+// How many rects are held of those ages.
+fn rects_held(alloc: Global, store: &Store, lo: i64, hi: i64) -> Result<usize, NoMemory> {
+    let parts = parts_of(alloc, lo, hi)?;
+    Ok(store.cover(alloc, &parts.as_slice()[0])?.len())
 }
 
 #[test]
 fn what_is_asked_again_has_a_new_stamp(rt: HostRuntime) -> Result<(), Fail> {
     let alloc = rt.alloc();
-    assert!(rt; is_split(&split(alloc)?));
-    Ok(())
-}
-
-// How many marks and regions are left of the ages 30 to 40, which come with and without the department.
-fn absorb(alloc: Global) -> Result<Option<(usize, usize)>, NoMemory> {
-    let schema = schema_of(alloc)?;
-    if !ages(alloc, 30, 40)?.fits(&schema.as_slice()[0]) {
-        return Ok(None);
-    }
-    let parts = parts_of(alloc, 30, 40)?;
-    let mut store = Store::new(alloc, LIMITS);
-    let marks = store.answered(alloc, &schema, 1, parts.as_slice(), both(alloc, 30, 40)?)?;
-    Ok(Some((marks.len(), store.regions.len())))
-}
-
-#[test]
-fn wider_columns_absorb(rt: HostRuntime) -> Result<(), Fail> {
-    let alloc = rt.alloc();
-    assert_eq!(rt; absorb(alloc)?, Some((3, 1)));
-    Ok(())
-}
-
-#[test]
-fn of_nothing_nothing_is_evicted(rt: HostRuntime) -> Result<(), Fail> {
-    let mut store = Store::new(rt.alloc(), LIMITS);
-    match store.evict(0) {
-        Ok(_) => assert!(rt; false),
-        Err(no) => assert_eq!(rt; no.count, 0),
+    match split(alloc)? {
+        Some(store) => {
+            assert_eq!(rt; store.regions.len(), 2);
+            assert_eq!(rt; region_at(&store, 0), Some((2, 1)));
+            assert_eq!(rt; region_at(&store, 1), Some((1, 2)));
+            assert_eq!(rt; rects_held(alloc, &store, 30, 40)?, 3);
+        }
+        None => assert!(rt; false),
     }
     Ok(())
 }
 
-// Those ages are asked and come, where none of them is held yet.
-fn ask(
-    alloc: Global,
-    schema: &Schema,
-    store: &mut Store,
-    number: u64,
-    ends: (i64, i64),
-) -> Result<Marks, NoMemory>
-    requires tables { IsTrue (list_all is_table schema.now) }
-    requires there { 0 < length schema.now }
-    requires key { (table_at schema.now 0).key ≡ 0 }
-    requires store { IsStore schema.now store.old.regions }
-    requires none { AreTrueOf (λ t a. []) store.old.regions }
-    ensures store { IsStore schema.now store.new.regions }
-    ensures none { AreTrueOf (λ t a. []) store.new.regions }
-{
-    let (lo, hi) = ends;
-    let rects = ages(alloc, lo, hi)?;
-    let parts = parts_of(alloc, lo, hi)?;
-    let cover = store.cover(alloc, &parts.as_slice()[0])?;
-    if !rects.fits(&schema.as_slice()[0]) || may_meet(alloc, &rects, &cover)? {
-        return Err(NoMemory);
-    }
-    let arrivals = narrow(alloc, lo, hi)?;
-    store.answered(alloc, schema, number, parts.as_slice(), arrivals)
-}
-
-// The cause and the stamp of the last mark, where it drops a class.
-fn last_drop(marks: &Marks) -> Option<(Cause, u64)> {
-    match marks.as_slice() {
-        [.., Mark::Dropped { cause, stamp, .. }] => Some((*cause, *stamp)),
-        _ => None,
-    }
-}
-
-// A store that keeps two regions by that policy, and to which a third one comes; the marks of that one.
-fn crowded(alloc: Global, policy: Policy) -> Result<(Store, Marks), NoMemory> {
-    let schema = schema_of(alloc)?;
-    let limits = Limits {
-        rows: 10000,
-        regions: 2,
-        policy,
-    };
-    let mut store = Store::new(alloc, limits);
-    ask(alloc, &schema, &mut store, 1, (30, 34))?;
-    ask(alloc, &schema, &mut store, 2, (100, 110))?;
-    let marks = ask(alloc, &schema, &mut store, 3, (36, 40))?;
-    Ok((store, marks))
-}
-
-#[test]
-fn the_policy_names_the_region_that_is_dropped(rt: HostRuntime) -> Result<(), Fail> {
-    // By distance from the ages 36 to 40 the first region is 12 away, and the second one 134.
-    for (policy, dropped, left) in [(Policy::Recency, 1, (2, 3)), (Policy::Distance, 2, (1, 3))] {
-        let (store, marks) = crowded(rt.alloc(), policy)?;
-        assert_eq!(rt; last_drop(&marks), Some((Cause::Regions, dropped)));
-        assert_eq!(rt; store.regions.len(), 2);
-        assert_eq!(rt; region_at(&store, 0), Some((1, left.0)));
-        assert_eq!(rt; region_at(&store, 1), Some((1, left.1)));
-    }
-    Ok(())
-}
-
-// One row with the number and the age.
-fn one_row(alloc: Global) -> Result<Rows, NoMemory>
-    ensures { IfOk result (λ rows. rows ≡ (Num (pos 1) ∷ Num (pos 31) ∷ []) ∷ []) }
+// One row with the number 1 and that age.
+fn row_of_age(alloc: Global, age: i64) -> Result<Rows, NoMemory>
+    ensures { IfOk result (λ rows. rows ≡ (Num (pos 1) ∷ Num age ∷ []) ∷ []) }
 {
     let mut row = Seq::new(alloc);
     row.push(Cell::Num(1))?;
-    row.push(Cell::Num(31))?;
+    row.push(Cell::Num(age))?;
     let mut rows = Seq::new(alloc);
     rows.push(row)?;
     Ok(rows)
 }
 
-// The ages 30 to 40 arrive, with that row.
-fn arrival_with_row(alloc: Global) -> Result<Arrivals, NoMemory>
-    ensures { IfOk result (λ arrivals. arrivals ≡ record { table = 0; key = 0; attrs = 3; rects = (Full ∷ Nums (pos 30) (pos 40) ∷ Full ∷ []) ∷ []; rows = (Num (pos 1) ∷ Num (pos 31) ∷ []) ∷ [] } ∷ []) }
+// The ages from that one on arrive, with a row of it.
+fn arrival_with_row(alloc: Global, age: i64, hi: i64) -> Result<Arrivals, NoMemory>
+    ensures { IfOk result (λ arrivals. arrivals ≡ record { table = 0; key = 0; attrs = 3; rects = (Full ∷ Nums age hi ∷ Full ∷ []) ∷ []; rows = (Num (pos 1) ∷ Num age ∷ []) ∷ [] } ∷ []) }
 {
     let mut arrivals = Seq::new(alloc);
     arrivals.push(Arrival {
         table: 0,
         key: 0,
         attrs: Attrs(3),
-        rects: ages(alloc, 30, 40)?,
-        rows: one_row(alloc)?,
+        rects: ages(alloc, age, hi)?,
+        rows: row_of_age(alloc, age)?,
     })?;
     Ok(arrivals)
 }
@@ -339,10 +234,10 @@ fn limit_rows(
     later: u32,
 ) -> Result<Option<(usize, usize, u64)>, NoMemory> {
     let schema = schema_of(alloc)?;
-    if !ages(alloc, 30, 40)?.fits(&schema.as_slice()[0]) {
+    if !ages(alloc, 31, 40)?.fits(&schema.as_slice()[0]) {
         return Ok(None);
     }
-    let parts = parts_of(alloc, 30, 40)?;
+    let parts = parts_of(alloc, 31, 40)?;
     let limits = Limits {
         rows: first,
         regions: 64,
@@ -354,7 +249,7 @@ fn limit_rows(
         &schema,
         1,
         parts.as_slice(),
-        arrival_with_row(alloc)?,
+        arrival_with_row(alloc, 31, 40)?,
     )?;
     store.limits.rows = later;
     let more = store.fit(alloc, &schema)?;
@@ -396,14 +291,52 @@ fn tell_age(alloc: Global, schema: &Schema, store: &mut Store, age: i64) -> Resu
     store.apply(alloc, told.as_slice())
 }
 
-// The age in the first row of the first region.
-fn first_age(store: &Store) -> Option<i64> {
-    let region = store.regions.get(0)?;
+// The age in the first row of the region of that number.
+fn age_at(store: &Store, number: usize) -> Option<i64> {
+    let region = store.regions.get(number)?;
     let row = region.rows.get(0)?;
     match row.get(1) {
         Some(Cell::Num(age)) => Some(*age),
         _ => None,
     }
+}
+
+// A query for the ages 41 to 50 is answered, which brings person 1 with the age 41.
+fn bring_older(alloc: Global, schema: &Schema, store: &mut Store) -> Result<(), NoMemory>
+    requires tables { IsTrue (list_all is_table schema.now) }
+    requires there { 0 < length schema.now }
+    requires key { (table_at schema.now 0).key ≡ 0 }
+    requires old { is_point (table_at schema.now 0).columns (Num (pos 1) ∷ Num (pos 41) ∷ Num (pos 5) ∷ []) ≡ true }
+    requires store { IsStore schema.now store.old.regions }
+{
+    let rects = ages(alloc, 41, 50)?;
+    let parts = parts_of(alloc, 41, 50)?;
+    let cover = store.cover(alloc, &parts.as_slice()[0])?;
+    if !rects.fits(&schema.as_slice()[0]) || may_meet(&rects, &cover) {
+        return Err(NoMemory);
+    }
+    let arrivals = arrival_with_row(alloc, 41, 50)?;
+    store.answered(alloc, schema, 2, parts.as_slice(), arrivals)?;
+    Ok(())
+}
+
+// How many rows a store has that holds person 1 with the age 31, once the age 41 is brought, and the age in its second region.
+fn brought_ages(alloc: Global) -> Result<Option<(u64, Option<i64>)>, NoMemory> {
+    let schema = schema_of(alloc)?;
+    match held(alloc, &schema, 30, 40)? {
+        None => Ok(None),
+        Some(mut store) => {
+            tell_age(alloc, &schema, &mut store, 31)?;
+            bring_older(alloc, &schema, &mut store)?;
+            Ok(Some((store.rows(), age_at(&store, 1))))
+        }
+    }
+}
+
+#[test]
+fn a_held_row_gives_way_to_the_arriving_one(rt: HostRuntime) -> Result<(), Fail> {
+    assert_eq!(rt; brought_ages(rt.alloc())?, Some((1, Some(41))));
+    Ok(())
 }
 
 // The first age in a store of the ages 30 to 40 once person 1 is 31, and once person 1 is 41.
@@ -413,9 +346,9 @@ fn told_ages(alloc: Global) -> Result<Option<(Option<i64>, Option<i64>)>, NoMemo
         None => Ok(None),
         Some(mut store) => {
             tell_age(alloc, &schema, &mut store, 31)?;
-            let young = first_age(&store);
+            let young = age_at(&store, 0);
             tell_age(alloc, &schema, &mut store, 41)?;
-            Ok(Some((young, first_age(&store))))
+            Ok(Some((young, age_at(&store, 0))))
         }
     }
 }

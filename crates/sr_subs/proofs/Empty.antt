@@ -16,7 +16,7 @@ use Rattle.sr_box.specs.declared.span.Span.TheVariants.{Full, Nums, Strs}
 use Rattle.sr_box.specs.Spans.{in_span, fits_kind}
 use Rattle.sr_box.specs.Points.{Rect, in_rect, in_any, rect_fits}
 use Rattle.sr_box.proofs.Order.{text_le-refl}
-use Rattle.sr_subs.specs.declared.subs.Holding.{Holding}
+use Rattle.sr_message.specs.declared.message.Holding.{Holding}
 use Rattle.sr_subs.specs.Subscription.{has_point, FitsSome, is_bare}
 
 -- the least value of a span

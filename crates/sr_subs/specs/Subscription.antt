@@ -5,7 +5,7 @@ use Rattle.sr_cell.specs.declared.change.Change.{Change}
 use Rattle.sr_cell.specs.declared.table.Column.{Column}
 use Rattle.sr_cell.specs.Cells.{Row}
 use Rattle.sr_box.specs.Points.{Rect, in_any, rect_fits}
-use Rattle.sr_subs.specs.declared.subs.Holding.{Holding}
+use Rattle.sr_message.specs.declared.message.Holding.{Holding}
 
 -- the subscription has that row of the table of that number
 abbrev pub has_point : List Holding → ℕ → Row → Bool

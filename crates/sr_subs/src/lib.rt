@@ -2,5 +2,3 @@
 #![tactic(auto)]
 
 pub mod subs;
-#[cfg(test)]
-mod tests;

@@ -7,16 +7,10 @@ ghost use Rattle.sr_subs.specs.Subscription.{has_point, has_row, touches, FitsSo
 use sr_cell::cell::Row;
 use sr_cell::change::Change;
 use sr_cell::list::{Copied, NoMemory, Seq};
+use sr_message::message::Holding;
 use sr_union::rects::Rects;
 use std::alloc::Global;
 use std::marker::Model;
-
-/// Rects of one table.
-#[derive(Drop)]
-pub struct Holding {
-    pub table: u8,
-    pub rects: Rects,
-}
 
 /// The points that a client asked for, table by table.
 #[derive(Drop)]
@@ -26,7 +20,7 @@ pub struct Subs {
 
 impl Model for Subs {
     ghost use Rattle.std.specs.Prelude.{List};
-    ghost use Rattle.sr_subs.specs.declared.subs.Holding.{Holding};
+    ghost use Rattle.sr_message.specs.declared.message.Holding.{Holding};
 
     ghost Value = { List Holding };
 

@@ -1,8 +1,9 @@
 -- What holds of the rows of each table holds of one of them, and after one of them has changed.
 use Rattle.std.proofs.Common.{◌≡◌, ℕ, ◌<◌, ◌&&◌, Bool, true, false, List, [], ◌∷◌, ◌++◌, ◌+◌, ◌≤◌, ◌∙◌, take, length, map, refl, sym, ap, subst, arith, zero, suc, IsTrue}
+use Rattle.std.proofs.lemmas.Bool.{and_parts}
 use Rattle.std.proofs.lemmas.Bool.Decides.{nat_tests}
 use Rattle.std.proofs.lemmas.List.{take_more, take_all, map-append}
-use Rattle.std.specs.Prelude.{nat_lt, not, ◌==◌, slice_set, slice_index_or}
+use Rattle.std.specs.Prelude.{nat_le, nat_lt, not, ◌==◌, slice_set, slice_index_or}
 use Rattle.std.specs.List.{list_all, AllZip}
 use Rattle.sr_cell.specs.declared.table.Table.{Table}
 use Rattle.sr_cell.specs.Columns.{table_at, fits_columns}
@@ -14,7 +15,7 @@ use Rattle.sr_query.specs.Written.{place_of}
 use Rattle.sr_model.specs.SortedRows.{ascend}
 use Rattle.sr_query.specs.Writes.{table_of, suits_table, suits}
 use Rattle.sr_keyed.specs.Keyed.{Keyed}
-use Rattle.sr_tables.specs.Stored.{IsKeyed, rows_in, no_rows, are_rows, are_stored}
+use Rattle.sr_tables.specs.Stored.{IsKeyed, rows_in, no_rows, are_rows, are_few, are_stored}
 
 pub zip-length : (schema : List Table) (all : List Keyed) → AllZip IsKeyed schema all → length all ≡ length schema
 zip-length [] [] zip = refl
@@ -93,14 +94,16 @@ pub ascend-more : (all : List Keyed) (k : Keyed) → AllAscend all → ascend k.
 ascend-more [] k up one = (one, tt)
 ascend-more (j ∷ all) k up one = (up.0, ascend-more all k up.1 one)
 
-pub all-stored : (schema : List Table) (all : List Keyed) → AllZip IsKeyed schema all → AllAscend all → are_stored schema (rows_in all) ≡ true
-all-stored [] [] zip up = refl
-all-stored [] (k ∷ all) zip up = absurd zip
-all-stored (t ∷ schema) [] zip up = absurd zip
-all-stored (t ∷ schema) (k ∷ all) zip up =
+pub all-stored : (schema : List Table) (all : List Keyed) → AllZip IsKeyed schema all → AllAscend all → are_few (rows_in all) ≡ true → are_stored schema (rows_in all) ≡ true
+all-stored [] [] zip up few = refl
+all-stored [] (k ∷ all) zip up few = absurd zip
+all-stored (t ∷ schema) [] zip up few = absurd zip
+all-stored (t ∷ schema) (k ∷ all) zip up few =
+    let each = and_parts (nat_le (length k.rows) 65536) (are_few (rows_in all)) few in
     both (are_rows t k.rows) (are_stored schema (rows_in all))
-    (both (ascend t.key k.rows) (list_all (fits_columns t.columns) k.rows) (subst (λ key. ascend key k.rows ≡ true) zip.0.key up.0) zip.0.fits)
-    (all-stored schema all zip.1 up.1)
+    (both (ascend t.key k.rows && list_all (fits_columns t.columns) k.rows) (nat_le (length k.rows) 65536)
+    (both (ascend t.key k.rows) (list_all (fits_columns t.columns) k.rows) (subst (λ key. ascend key k.rows ≡ true) zip.0.key up.0) zip.0.fits) each.0)
+    (all-stored schema all zip.1 up.1 each.1)
 
 pub zip-more : (schema : List Table) (all : List Keyed) (t : Table) (k : Keyed) → AllZip IsKeyed schema all → IsKeyed t k → AllZip IsKeyed (schema ++ t ∷ []) (all ++ k ∷ [])
 zip-more [] [] t k zip one = (one, tt)

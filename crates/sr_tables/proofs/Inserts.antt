@@ -72,7 +72,7 @@ list_all-rows p key rows (row ∷ more) =
 pub list_all-with_row : (p : Row → Bool) (key : ℕ) (rows : List Row) (row : Row) → list_all p rows ≡ true → p row ≡ true → list_all p (with_row key rows row) ≡ true
 list_all-with_row p key rows row all one = let both = list_all-row p key rows row in grind (arith, both, all, one)
 
-length-with_row : (key : ℕ) (rows : List Row) (row : Row) → length (with_row key rows row) ≡ suc (length rows)
+pub length-with_row : (key : ℕ) (rows : List Row) (row : Row) → length (with_row key rows row) ≡ suc (length rows)
 length-with_row key [] row = refl
 length-with_row key (r ∷ rows) row = go (cell_le (cell_at r key) (cell_at row key)) (length-with_row key rows row)
   where

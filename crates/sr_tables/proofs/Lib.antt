@@ -1,4 +1,5 @@
 pub mod Inserts
+pub mod Few
 pub mod Inserting
 pub mod Changing
 pub mod Taking

@@ -1,5 +1,5 @@
 -- What contracts see of tables with their rows.
-use Rattle.std.specs.Prelude.{◌≡◌, ℕ, ◌&&◌, ◌^◌, Bool, true, false, nat_lt, List, [], ◌∷◌, map, length, Result, IsTrue}
+use Rattle.std.specs.Prelude.{◌≡◌, ℕ, ◌&&◌, ◌^◌, Bool, true, false, nat_le, nat_lt, List, [], ◌∷◌, map, length, Result, IsTrue}
 use Rattle.std.specs.List.{list_all}
 use Rattle.sr_cell.specs.declared.table.Table.{Table}
 use Rattle.sr_cell.specs.declared.fault.Fault.{Fault}
@@ -28,10 +28,15 @@ pub record IsKeyed (t : Table) (k : Keyed) : Type 0 where
 abbrev pub rows_in : List Keyed → Tables
 rows_in all = map (λ (k : Keyed). k.rows) all
 
+-- rows that fit the table, by key ascending, as many as a table may have
 abbrev pub are_rows : Table → List Row → Bool
-are_rows t rows = ascend t.key rows && list_all (fits_columns t.columns) rows
+are_rows t rows = ascend t.key rows && list_all (fits_columns t.columns) rows && nat_le (length rows) 65536
 
--- a list of rows for each table, each of which fits it, by key ascending
+-- each table has as many rows as it may have
+abbrev pub are_few : Tables → Bool
+are_few tables = list_all (λ rows. nat_le (length rows) 65536) tables
+
+-- such a list of rows for each table
 abbrev pub are_stored : List Table → Tables → Bool
 are_stored [] [] = true
 are_stored [] (rows ∷ others) = false

@@ -9,7 +9,7 @@ ghost use Rattle.sr_model.specs.Changes.{changes};
 ghost use Rattle.sr_query.specs.Bound.{is_table};
 ghost use Rattle.sr_query.specs.Written.{write_of, place_of, condition_of};
 ghost use Rattle.sr_query.specs.Writes.{suits};
-ghost use Rattle.sr_tables.specs.Stored.{IsKeyed, rows_in, is_short, with_loaded};
+ghost use Rattle.sr_tables.specs.Stored.{IsKeyed, rows_in, are_few, is_short, with_loaded};
 
 use crate::delete::delete;
 use crate::insert::insert;
@@ -34,6 +34,7 @@ pub(crate) fn carry_out(
 ) -> Result<Changes, No<Fault>>
     requires sound { IsTrue (list_all is_table schema.now) }
     requires keyed { AllZip IsKeyed schema.now all.old.items }
+    requires few { IsTrue (are_few (rows_in all.old.items)) }
     requires suits { IsTrue (suits schema.now (write_of write)) }
     requires short { IsTrue (is_short (write_of write)) }
     ensures done { OnOk result (executed schema.now (write_of write) (rows_in all.old.items) ≡ Ok (rows_in all.new.items)) }
@@ -86,6 +87,7 @@ fn update_in(
 ) -> Result<Changes, No<Fault>>
     requires sound { IsTrue (list_all is_table schema.now) }
     requires keyed { AllZip IsKeyed schema.now all.old.items }
+    requires few { IsTrue (are_few (rows_in all.old.items)) }
     requires suits { IsTrue (suits schema.now (Update table (map place_of sets.now) (condition_of filter.now.condition))) }
     ensures done { OnOk result (executed schema.now (Update table (map place_of sets.now) (condition_of filter.now.condition)) (rows_in all.old.items) ≡ Ok (rows_in all.new.items)) }
     ensures changes { IfOk result (λ made. made ≡ changes schema.now (rows_in all.old.items) (rows_in all.new.items)) }
@@ -114,6 +116,7 @@ fn delete_from(
 ) -> Result<Changes, No<Fault>>
     requires sound { IsTrue (list_all is_table schema.now) }
     requires keyed { AllZip IsKeyed schema.now all.old.items }
+    requires few { IsTrue (are_few (rows_in all.old.items)) }
     requires suits { IsTrue (suits schema.now (Delete table (condition_of filter.now.condition))) }
     ensures done { OnOk result (executed schema.now (Delete table (condition_of filter.now.condition)) (rows_in all.old.items) ≡ Ok (rows_in all.new.items)) }
     ensures changes { IfOk result (λ made. made ≡ changes schema.now (rows_in all.old.items) (rows_in all.new.items)) }

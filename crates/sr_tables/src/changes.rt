@@ -65,17 +65,14 @@ pub(crate) fn rows_after(alloc: Global, changes: &[Change]) -> Result<Rows, NoMe
     Ok(rows)
 }
 
-/// Why a statement can't make so many changes.
+/// Why a statement can't make so many changes of a table's rows.
 pub(crate) fn few_changes(changes: &Changes) -> Result<(), No<Fault>>
+    requires { length changes.now ≤ 65536 }
     ensures few { OnOk result (length changes.now ≤ 10000) }
     ensures many { (fault : TheFault) → IsErrOf result (Refused fault) → nat_lt 10000 (length changes.now) ≡ true }
     ensures refused { (fault : TheFault) → IsErrOf result (Refused fault) → fault ≡ record { why = ManyChanges; at = length changes.now } }
 {
     let count = changes.len();
-    if count > u32::MAX as usize {
-        // No fault can tell so large a number.
-        return Err(No::NoMemory);
-    }
     if count > 10000 {
         return Err(No::Refused(Fault {
             why: Why::TooManyChanges,

@@ -93,6 +93,7 @@ pub(crate) fn delete(
     requires keyed { IsKeyed table.now rows.old }
     requires key { table.now.key < length table.now.columns }
     requires columns { length table.now.columns ≤ 12 }
+    requires few { length rows.old.rows ≤ 65536 }
     ensures done { IfOk result (λ changes. deleted (condition_of filter.now.condition) rows.old.rows ≡ Ok rows.new.rows) }
     ensures changes { IfOk result (λ changes. changes ≡ table_changes table.now number rows.old.rows rows.new.rows) }
     ensures refused { (fault : TheFault) → IsErrOf result (Refused fault) → deleted (condition_of filter.now.condition) rows.old.rows ≡ Err fault }

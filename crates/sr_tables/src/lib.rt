@@ -13,6 +13,4 @@ mod put;
 mod select;
 mod span;
 pub mod tables;
-#[cfg(test)]
-mod tests;
 mod update;

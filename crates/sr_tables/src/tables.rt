@@ -44,13 +44,13 @@ impl Model for Tables {
     ghost use Rattle.std.specs.Prelude.{map, IsTrue};
     ghost use Rattle.std.specs.List.{list_all, AllZip};
     ghost use Rattle.sr_query.specs.Bound.{is_table};
-    ghost use Rattle.sr_tables.specs.Stored.{Stored, IsKeyed, rows_in};
+    ghost use Rattle.sr_tables.specs.Stored.{Stored, IsKeyed, rows_in, are_few};
 
     ghost Value = { Stored };
 
     ghost view = { λ t. record { schema = t.schema; rows = rows_in t.rows.items } };
 
-    ghost invariant = { λ t. IsTrue (list_all is_table t.schema) × AllZip IsKeyed t.schema t.rows.items };
+    ghost invariant = { λ t. IsTrue (list_all is_table t.schema) × AllZip IsKeyed t.schema t.rows.items × IsTrue (are_few (rows_in t.rows.items)) };
 }
 
 impl Tables {
@@ -63,7 +63,7 @@ impl Tables {
         Ok(Tables { schema, rows })
     }
 
-    /// The rows of each table fit it, by key ascending: a fact, which does nothing.
+    /// The rows of each table fit it, by key ascending, and there are at most 65,536: a fact, which does nothing.
     pub fn know_stored(&self)
         ensures tables { IsTrue (list_all is_table self.now.schema) }
         ensures rows { are_stored self.now.schema self.now.rows ≡ true }

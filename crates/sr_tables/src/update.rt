@@ -126,6 +126,7 @@ pub(crate) fn update(
     requires keyed { IsKeyed table.now rows.old }
     requires key { table.now.key < length table.now.columns }
     requires columns { length table.now.columns ≤ 12 }
+    requires few { length rows.old.rows ≤ 65536 }
     requires places { IsTrue (list_all (λ p. nat_lt p.column (length table.now.columns) && not (p.column == table.now.key)) sets.now) }
     ensures done { IfOk result (λ changes. updated table.now (map place_of sets.now) (condition_of filter.now.condition) rows.old.rows ≡ Ok rows.new.rows) }
     ensures changes { IfOk result (λ changes. changes ≡ table_changes table.now number rows.old.rows rows.new.rows) }

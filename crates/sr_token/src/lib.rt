@@ -2,7 +2,5 @@
 #![tactic(auto)]
 
 mod lexer;
-#[cfg(test)]
-mod tests;
 pub mod token;
 pub mod tokens;

@@ -218,9 +218,14 @@ pub record IsTidied (cs : List Column) (keep n : ℕ) (given rects : List Rect) 
   pub same : (p : Row) → is_point cs p ≡ true → in_any rects p ≡ in_any given p
   pub cuts : AreCutFrom cs given rects
   pub settled : (k : ℕ) → k < n → IsSettled cs keep given rects k
+  pub as_many : length rects ≡ length given
+
+free_all-length : (c : ℕ) (rects : List Rect) → length (free_all c rects) ≡ length rects
+free_all-length c [] = refl
+free_all-length c (r ∷ rects) = ap suc (free_all-length c rects)
 
 pub tidied_none : (cs : List Column) (keep : ℕ) (given : List Rect) → list_all (rect_fits cs) given ≡ true → IsTidied cs keep 0 given given
-tidied_none cs keep given f = record { same = λ p e. refl; cuts = are_self cs given f; settled = λ k l. absurd (omega (arith, l)) }
+tidied_none cs keep given f = record { same = λ p e. refl; cuts = are_self cs given f; settled = λ k l. absurd (omega (arith, l)); as_many = refl }
 
 settled_stays : (cs : List Column) (keep c k : ℕ) (given rects : List Rect) → IsSettled cs keep given rects k → IsSettled cs keep given (free_all c rects) k
 settled_stays cs keep c k given rects (inl e) = inl e
@@ -241,13 +246,14 @@ both_ways false true f g = g refl
 both_ways false false f g = refl
 
 pub tidied_more : (cs : List Column) (keep n : ℕ) (given rects next : List Rect) → IsTidied cs keep n given rects → IsNext cs keep n rects next → IsTidied cs keep (n + 1) given next
-tidied_more cs keep n given rects next t (kept h e) = subst (IsTidied cs keep (n + 1) given) (sym e) (record { same = t.same; cuts = t.cuts; settled = settled_at cs keep n given rects t.settled (inl h) })
+tidied_more cs keep n given rects next t (kept h e) = subst (IsTidied cs keep (n + 1) given) (sym e) (record { same = t.same; cuts = t.cuts; settled = settled_at cs keep n given rects t.settled (inl h); as_many = t.as_many })
 tidied_more cs keep n given rects next t (essential h e) =
-    subst (IsTidied cs keep (n + 1) given) (sym e) (record { same = t.same; cuts = t.cuts; settled = settled_at cs keep n given rects t.settled (inr (inl (essential-same cs (in_any rects) (in_any given) n t.same h))) })
+    subst (IsTidied cs keep (n + 1) given) (sym e) (record { same = t.same; cuts = t.cuts; settled = settled_at cs keep n given rects t.settled (inr (inl (essential-same cs (in_any rects) (in_any given) n t.same h))); as_many = t.as_many })
 tidied_more cs keep n given rects next t (freed h e) = subst (IsTidied cs keep (n + 1) given) (sym e) (record {
   same = λ p is. both_ways (in_any (free_all n rects) p) (in_any rects p) (h p is) (free_all-has n rects p) ∙ t.same p is;
   cuts = free_all-are cs given rects n t.cuts;
   settled = settled_at cs keep n given (free_all n rects) (λ k l. settled_stays cs keep n k given rects (t.settled k l)) (inr (inr (free_all-free n rects)));
+  as_many = free_all-length n rects ∙ t.as_many;
 })
 
 -- the points of the tidied rects, once

@@ -13,3 +13,5 @@ pub mod Once
 pub mod Free
 pub mod Middles
 pub mod Joined
+pub mod Staying
+pub mod Searching

@@ -1,17 +1,19 @@
 -- What two lists of rects have in common.
-use Rattle.std.proofs.Common.{◌≡◌, ℕ, true, false, List, [], ◌∷◌, ◌++◌, ◌+◌, ◌*◌, ◌≤◌, length, drop, drop_of_length-le, refl, arith, ◌∙◌, sym, ap, subst}
+use Rattle.std.proofs.Common.{cond, ◌≡◌, ℕ, true, false, List, [], ◌∷◌, ◌++◌, ◌+◌, ◌*◌, ◌≤◌, length, drop, drop_of_length-le, refl, arith, ◌∙◌, sym, ap, subst}
 use Rattle.std.specs.Prelude.{Bool, ◌&&◌, ◌||◌, Option, Some, None, option_to_list, if◌then◌else◌}
-use Rattle.std.specs.List.{list_all}
+use Rattle.std.specs.List.{list_all, list_any}
+use Rattle.std.specs.Option.{is_some}
 use Rattle.std.proofs.lemmas.List.{length-append, append-nil}
+use Rattle.std.proofs.lemmas.List.Elements.{filter-append}
 use Rattle.sr_cell.specs.declared.table.Column.{Column}
 use Rattle.sr_cell.specs.declared.cell.Cell.{Cell}
 use Rattle.sr_cell.specs.Cells.{Row}
 use Rattle.sr_box.specs.declared.span.Span.{Span}
-use Rattle.sr_box.specs.Points.{Rect, in_rect, rect_fits, times}
+use Rattle.sr_box.specs.Points.{Rect, in_rect, in_any, rect_fits, times}
 use Rattle.sr_box.specs.Cut.{meet, with_first, rect_meet, in_some}
 use Rattle.sr_box.proofs.Fits.{maybe_fits, meet-fits}
-use Rattle.sr_box.proofs.Meets.{rect_meet-is}
-use Rattle.sr_union.specs.Pieces.{meet_each, meet_all}
+use Rattle.sr_box.proofs.Meets.{rect_meet-is, rect_meet-apart}
+use Rattle.sr_union.specs.Pieces.{meet_each, meet_all, near}
 use Rattle.sr_union.specs.Grid.{has_cut, others, CutsAmong, AreCutFrom}
 use Rattle.sr_union.proofs.Cuts.{maybe_cut, meet-cut}
 use Rattle.sr_union.proofs.Times.{times-append}
@@ -87,3 +89,47 @@ meet_all-are cs rs qs f g =
 pub end_all : (both items rects qs : List Rect) (i : ℕ) → both ++ meet_all (drop i items) qs ≡ meet_all items qs → length items ≤ i → items ≡ rects → both ≡ meet_all rects qs
 end_all both items rects qs i h l e =
     let none = drop_of_length-le items l in sym (append-nil both) ∙ (ap (λ xs. both ++ meet_all xs qs) (sym none) ∙ (h ∙ ap (λ xs. meet_all xs qs) e))
+
+pub apart_one : (r : Rect) (qs : List Rect) (p : Row) → list_any (λ q. is_some (rect_meet r q)) qs ≡ false → (in_rect r p && in_any qs p) ≡ false
+apart_one r [] p h = grind arith
+apart_one r (q ∷ qs) p h =
+    let ih = apart_one r qs p (grind (arith, h)) in let one = rect_meet-apart r q p (grind (arith, h)) in grind (arith, ih, one)
+
+-- rects of which none meets one of the others have no point in common with them
+pub apart_all : (rs qs : List Rect) (p : Row) → list_any (λ r. list_any (λ q. is_some (rect_meet r q)) qs) rs ≡ false → (in_any rs p && in_any qs p) ≡ false
+apart_all [] qs p h = grind arith
+apart_all (r ∷ rs) qs p h =
+    let ih = apart_all rs qs p (grind (arith, h)) in let one = apart_one r qs p (grind (arith, h)) in grind (arith, ih, one)
+
+pub near-append : (others a b : List Rect) → near others (a ++ b) ≡ near others a ++ near others b
+near-append others a b = filter-append (λ r. list_any (λ q. is_some (rect_meet r q)) others) a b
+
+pub near_cons : (others : List Rect) (r : Rect) (rects : List Rect) → near others (r ∷ rects) ≡ near others (r ∷ []) ++ near others rects
+near_cons others r rects = near-append others (r ∷ []) rects
+
+-- the near rects have what the rects and the others have in common
+pub near-in : (others rects : List Rect) (p : Row) → in_any others p ≡ true → in_any (near others rects) p ≡ in_any rects p
+near-in others [] p h = refl
+near-in others (r ∷ rects) p h =
+    go (list_any (λ q. is_some (rect_meet r q)) others) (apart_one r others p) (near-in others rects p h)
+  where
+    go : (b : Bool) → (b ≡ false → (in_rect r p && in_any others p) ≡ false) → in_any (near others rects) p ≡ in_any rects p
+        → in_any (cond b (r ∷ near others rects) (near others rects)) p ≡ (in_rect r p || in_any rects p)
+    go true a ih = grind (arith, ih)
+    go false a ih = let x = a refl in grind (arith, ih, x, h)
+
+pub near-fits : (cs : List Column) (others rects : List Rect) → list_all (rect_fits cs) rects ≡ true → list_all (rect_fits cs) (near others rects) ≡ true
+near-fits cs others [] f = refl
+near-fits cs others (r ∷ rects) f = go (list_any (λ q. is_some (rect_meet r q)) others) (near-fits cs others rects (grind (arith, f)))
+  where
+    go : (b : Bool) → list_all (rect_fits cs) (near others rects) ≡ true → list_all (rect_fits cs) (cond b (r ∷ near others rects) (near others rects)) ≡ true
+    go true ih = grind (arith, ih, f)
+    go false ih = ih
+
+pub near-are : (cs : List Column) (given others rects : List Rect) → AreCutFrom cs given rects → AreCutFrom cs given (near others rects)
+near-are cs given others [] h = tt
+near-are cs given others (r ∷ rects) h = go (list_any (λ q. is_some (rect_meet r q)) others) (near-are cs given others rects h.2)
+  where
+    go : (b : Bool) → AreCutFrom cs given (near others rects) → AreCutFrom cs given (cond b (r ∷ near others rects) (near others rects))
+    go true ih = (h.0, h.1, ih)
+    go false ih = ih

@@ -1,6 +1,7 @@
 -- In how many rects a point lies.
 use Rattle.std.proofs.Common.{◌≡◌, ℕ, true, false, List, [], ◌∷◌, ◌++◌, ◌+◌, refl, arith, ◌∙◌}
 use Rattle.std.specs.Prelude.{Bool, not, ◌&&◌, ◌||◌, Option, Some, None, ℤ, int_le, if◌then◌else◌, nat_eq}
+use Rattle.std.specs.Option.{is_some}
 use Rattle.std.specs.List.{list_all}
 use Rattle.std.proofs.lemmas.Bool.Decides.{nat_tests}
 use Rattle.sr_cell.specs.declared.cell.Cell.{Cell}
@@ -14,7 +15,7 @@ use Rattle.sr_box.specs.Spans.{in_span, span_fits}
 use Rattle.sr_box.specs.Points.{in_rect, in_any, rect_fits, times}
 use Rattle.sr_box.specs.Cut.{meet, under, over, is_under, is_over, in_maybe}
 use Rattle.sr_box.proofs.Parts.{meet-is, under-is, over-is, apart-is}
-use Rattle.sr_union.specs.Pieces.{with_front, fronts, with_fronts, rect_minus, meet_some, meets, minus_one, minus_each, minus_all}
+use Rattle.sr_union.specs.Pieces.{with_front, fronts, with_fronts, rect_minus, meets, minus_one, minus_each, minus_all}
 
 pub times-append : (a b : List (List Span)) (p : List Cell) → times (a ++ b) p ≡ times a p + times b p
 times-append [] b p = omega arith
@@ -81,7 +82,7 @@ meets-is (s ∷ r) [] p h = absurd (grind arith)
 meets-is (s ∷ r) (t ∷ q) [] h = refl
 meets-is (s ∷ r) (t ∷ q) (v ∷ p) h = go (meet s t) (meet-is s t v) h (meets-is r q p)
   where
-    go : (m : Option Span) → in_maybe m v ≡ (in_span s v && in_span t v) → (meet_some m && meets r q) ≡ false → (meets r q ≡ false → (in_rect r p && in_rect q p) ≡ false) → (in_span s v && in_rect r p && (in_span t v && in_rect q p)) ≡ false
+    go : (m : Option Span) → in_maybe m v ≡ (in_span s v && in_span t v) → (is_some m && meets r q) ≡ false → (meets r q ≡ false → (in_rect r p && in_rect q p) ≡ false) → (in_span s v && in_rect r p && (in_span t v && in_rect q p)) ≡ false
     go None e k ih = grind arith
     go (Some m) e k ih = grind (arith, ih)
 

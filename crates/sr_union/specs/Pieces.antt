@@ -1,6 +1,7 @@
 -- What is left of rects without others.
 use Rattle.std.specs.Prelude.{ℕ, Bool, true, false, ◌&&◌, ◌*◌, List, [], ◌∷◌, ◌++◌, ◌≡◌, ◌⊎◌, Option, Some, None, option_to_list, if◌then◌else◌, IsTrue}
-use Rattle.std.specs.List.{AllByRecursion}
+use Rattle.std.specs.List.{AllByRecursion, filter, list_any}
+use Rattle.std.specs.Option.{is_some}
 use Rattle.sr_cell.specs.declared.table.Column.{Column}
 use Rattle.sr_cell.specs.Cells.{Row}
 use Rattle.sr_cell.specs.Columns.{is_point}
@@ -34,15 +35,11 @@ rect_minus (c ∷ cs) [] q = []
 rect_minus (c ∷ cs) (s ∷ r) [] = []
 rect_minus (c ∷ cs) (s ∷ r) (t ∷ q) = cut_here c s t r (rect_minus cs r q)
 
-abbrev pub meet_some : Option Span → Bool
-meet_some None = false
-meet_some (Some s) = true
-
 -- the spans of each column meet
 abbrev pub meets : Rect → Rect → Bool
 meets [] q = true
 meets (s ∷ r) [] = true
-meets (s ∷ r) (t ∷ q) = meet_some (meet s t) && meets r q
+meets (s ∷ r) (t ∷ q) = is_some (meet s t) && meets r q
 
 -- a rect that does not meet the other stays whole
 abbrev pub minus_one : List Column → Rect → Rect → List Rect
@@ -65,6 +62,10 @@ meet_each r (q ∷ others) = option_to_list (rect_meet r q) ++ meet_each r other
 abbrev pub meet_all : List Rect → List Rect → List Rect
 meet_all [] others = []
 meet_all (r ∷ rects) others = meet_each r others ++ meet_all rects others
+
+-- those of the rects that meet some of the others
+abbrev pub near : List Rect → List Rect → List Rect
+near others rects = filter (λ r. list_any (λ q. is_some (rect_meet r q)) others) rects
 
 -- each point lies in as many of what is left as of the rects, or in none where the others have it
 abbrev pub IsMinus : List Column → List Rect → List Rect → List Rect → Type 0

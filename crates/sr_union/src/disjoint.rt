@@ -1,5 +1,5 @@
 //! Lists of rects in which each point lies once.
-ghost use Rattle.std.specs.Prelude.{◌≡◌, ℕ, ◌<◌, ◌≤◌, ◌-◌, ◌^◌, true, List, [], ◌∷◌, length, IfOk, IsErrOf};
+ghost use Rattle.std.specs.Prelude.{◌≡◌, ◌≢◌, ℕ, ◌<◌, ◌≤◌, ◌-◌, ◌^◌, true, List, [], ◌∷◌, length, IfOk, IsErrOf};
 ghost use Rattle.std.specs.List.{list_all};
 ghost use Rattle.sr_cell.specs.declared.list.No.TheVariants.{Refused};
 ghost use Rattle.sr_box.specs.Points.{rect_fits};
@@ -49,6 +49,7 @@ pub(crate) fn once_all(
     ensures points { IfOk result (λ once. IsOnce columns.now rects.now once) }
     ensures cuts { IfOk result (λ once. AreCutFrom columns.now rects.now once) }
     ensures few { IfOk result (λ once. length once ≤ limit) }
+    ensures some { IsErrOf result (Refused (record {})) → rects.now ≢ [] }
     ensures over { IsErrOf result (Refused (record {})) → limit < grid columns.now rects.now }
 {
     let mut once = Rects::new(alloc);
@@ -74,6 +75,7 @@ impl Rects {
         ensures points { IfOk result (λ once. IsOnce table.now.columns self.now once) }
         ensures cuts { IfOk result (λ once. AreCutFrom table.now.columns self.now once) }
         ensures few { IfOk result (λ once. length once ≤ limit) }
+        ensures some { IsErrOf result (Refused (record {})) → self.now ≢ [] }
         ensures over { IsErrOf result (Refused (record {})) → limit < grid table.now.columns self.now }
     {
         once_all(alloc, table.columns.as_slice(), self, limit as usize)

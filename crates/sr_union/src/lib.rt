@@ -8,6 +8,5 @@ pub mod laws;
 pub mod meet;
 pub mod minus;
 pub mod rects;
-#[cfg(test)]
-mod tests;
+mod search;
 pub mod tidy;

@@ -1,14 +1,14 @@
 //! Meets of lists of rects.
-ghost use Rattle.std.specs.Prelude.{◌≡◌, ◌≤◌, ◌*◌, true, List, ◌++◌, length, IfOk, OnOk, option_to_list};
+ghost use Rattle.std.specs.Prelude.{◌≡◌, ◌≤◌, ◌*◌, true, List, [], ◌∷◌, ◌++◌, length, IfOk, OnOk, option_to_list};
 ghost use Rattle.std.specs.List.{list_all};
 ghost use Rattle.sr_cell.specs.declared.table.Column.{Column};
 ghost use Rattle.sr_box.specs.Points.{rect_fits};
-ghost use Rattle.sr_union.specs.Pieces.{meet_each, IsMeet};
+ghost use Rattle.sr_union.specs.Pieces.{meet_each, near, IsMeet};
 ghost use Rattle.sr_union.specs.Grid.{AreCutFrom};
 
-use crate::rects::Rects;
+use crate::rects::{Rects, meets_some};
 use sr_box::rect::Rect;
-use sr_cell::list::NoMemory;
+use sr_cell::list::{Copied, NoMemory};
 use std::alloc::Global;
 
 fn push_some(out: &mut Rects, rect: Option<Rect>) -> Result<(), NoMemory>
@@ -31,7 +31,34 @@ fn meet_each(alloc: Global, rect: &Rect, others: &Rects) -> Result<Rects, NoMemo
     Ok(both)
 }
 
+fn push_near(alloc: Global, found: &mut Rects, rect: &Rect, others: &[Rect]) -> Result<(), NoMemory>
+    ensures { OnOk result (found.new ≡ found.old ++ near others.now (rect.now ∷ [])) }
+{
+    if meets_some(rect, others) {
+        found.push(rect.copy(alloc)?)?;
+    }
+    Ok(())
+}
+
+#[tactic(auto, using(crate::proofs::Meets::near_cons))]
+fn copies_near(alloc: Global, rects: &[Rect], others: &[Rect]) -> Result<Rects, NoMemory>
+    ensures { IfOk result (λ found. found ≡ near others.now rects.now) }
+{
+    let mut found = Rects::new(alloc);
+    for rect in rects {
+        push_near(alloc, &mut found, rect, others)?;
+    }
+    Ok(found)
+}
+
 impl Rects {
+    /// Copies of the rects that meet some of the others.
+    pub fn near(&self, alloc: Global, others: &Rects) -> Result<Rects, NoMemory>
+        ensures { IfOk result (λ found. found ≡ near others.now self.now) }
+    {
+        copies_near(alloc, self.as_slice(), others.as_slice())
+    }
+
     /// What the rects have in common with the others: one rect for each pair that meets.
     pub fn meet(&self, alloc: Global, other: &Rects) -> Result<Rects, NoMemory>
         ensures points { (columns : List Column) → IfOk result (λ both. IsMeet columns self.now other.now both) }

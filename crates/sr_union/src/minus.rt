@@ -5,12 +5,14 @@ ghost use Rattle.sr_cell.specs.declared.list.No.TheVariants.{Refused};
 ghost use Rattle.sr_cell.specs.Cells.{Row};
 ghost use Rattle.sr_cell.specs.Columns.{is_point};
 ghost use Rattle.sr_box.specs.Points.{times, rect_fits};
-ghost use Rattle.sr_box.specs.Cut.{meet, IsInner};
-ghost use Rattle.sr_union.specs.Pieces.{with_front, fronts, with_fronts, cut_here, rect_minus, meet_some, meets, minus_one, minus_each, IsMinus, IsWithin, HasOutside};
+ghost use Rattle.sr_cell.specs.declared.table.Column.{Column as TheColumn};
+ghost use Rattle.sr_box.specs.Cut.{IsInner};
+ghost use Rattle.sr_union.specs.Pieces.{with_front, fronts, with_fronts, cut_here, rect_minus, meets, minus_one, minus_each, IsMinus, IsWithin, HasOutside};
 ghost use Rattle.sr_union.specs.Grid.{AreCutFrom, grid, have_first, all_inner};
 
 use crate::join::join_all;
 use crate::rects::Rects;
+use crate::search::all_inside;
 use sr_box::rect::Rect;
 use sr_box::span::Span;
 use sr_cell::list::{Copied, No, NoMemory};
@@ -91,7 +93,7 @@ fn cut_column(
 }
 
 /// What is left of a rect without another, from the last column to the first.
-fn cut_rect(
+pub(crate) fn cut_rect(
     alloc: Global,
     columns: &[Column],
     rect: &[Span],
@@ -119,40 +121,47 @@ fn cut_rect(
     Ok(tails)
 }
 
-fn spans_meet(alloc: Global, s: &Span, t: &Span) -> Result<bool, NoMemory>
-    ensures { IfOk result (λ yes. yes ≡ meet_some (meet s.now t.now)) }
+pub(crate) fn rects_meet(rect: &[Span], cut: &[Span]) -> bool
+    ensures { result ≡ meets rect.now cut.now }
 {
-    match s.meet(alloc, t)? {
-        None => Ok(false),
-        Some(_) => Ok(true),
-    }
-}
-
-fn rects_meet(alloc: Global, rect: &[Span], cut: &[Span]) -> Result<bool, NoMemory>
-    requires { length rect.now ≡ length cut.now }
-    ensures { IfOk result (λ yes. yes ≡ meets rect.now cut.now) }
-{
-    for i in 0..rect.len() {
-        if !spans_meet(alloc, &rect[i], &cut[i])? {
-            return Ok(false);
+    for i in 0..rect.len().min(cut.len()) {
+        if !rect[i].meets(&cut[i]) {
+            return false;
         }
     }
-    Ok(true)
+    true
 }
 
+/// Whether none of the rects meets another, so that all stay whole.
+fn all_stay(rects: &[Rect], cut: &Rect) -> bool
+    ensures { (columns : List TheColumn) → result ≡ true → minus_each columns rects.now cut.now ≡ rects.now }
+{
+    for rect in rects {
+        if rects_meet(rect.as_slice(), cut.as_slice()) {
+            return false;
+        }
+    }
+    true
+}
+
+/// What is left of a rect without another, at the end; one that does not meet it moves there whole.
 #[tactic(auto, using(crate::proofs::Inner::fits_length))]
-fn cut_one(alloc: Global, columns: &[Column], rect: &Rect, cut: &Rect) -> Result<Rects, NoMemory>
-    requires rect_fits { rect_fits columns.now rect.now ≡ true }
+fn push_left(
+    alloc: Global,
+    columns: &[Column],
+    out: &mut Rects,
+    rect: Rect,
+    cut: &Rect,
+) -> Result<(), NoMemory>
+    requires rect_fits { rect_fits columns.now rect ≡ true }
     requires fits { rect_fits columns.now cut.now ≡ true }
     requires inner { all_inner columns.now ≡ true }
-    ensures { IfOk result (λ pieces. pieces ≡ minus_one columns.now rect.now cut.now) }
+    ensures { OnOk result (out.new ≡ out.old ++ minus_one columns.now rect cut.now) }
 {
-    if rects_meet(alloc, rect.as_slice(), cut.as_slice())? {
-        cut_rect(alloc, columns, rect.as_slice(), cut.as_slice())
+    if rects_meet(rect.as_slice(), cut.as_slice()) {
+        out.append(cut_rect(alloc, columns, rect.as_slice(), cut.as_slice())?)
     } else {
-        let mut whole = Rects::new(alloc);
-        whole.push(rect.copy(alloc)?)?;
-        Ok(whole)
+        out.push(rect)
     }
 }
 
@@ -160,25 +169,25 @@ fn cut_one(alloc: Global, columns: &[Column], rect: &Rect, cut: &Rect) -> Result
 fn cut_each(
     alloc: Global,
     columns: &[Column],
-    rects: &Rects,
+    rects: Rects,
     cut: &Rect,
     limit: usize,
 ) -> Result<Rects, No<Over>>
-    requires rects_fit { list_all (rect_fits columns.now) rects.now ≡ true }
+    requires rects_fit { list_all (rect_fits columns.now) rects ≡ true }
     requires fits { rect_fits columns.now cut.now ≡ true }
     requires inner { all_inner columns.now ≡ true }
-    ensures is { IfOk result (λ left. left ≡ minus_each columns.now rects.now cut.now) }
+    requires few { length rects ≤ limit }
+    ensures is { IfOk result (λ left. left ≡ minus_each columns.now rects cut.now) }
     ensures few { IfOk result (λ left. length left ≤ limit) }
-    ensures over { IsErrOf result (Refused (record {})) → limit < length (minus_each columns.now rects.now cut.now) }
+    ensures over { IsErrOf result (Refused (record {})) → limit < length (minus_each columns.now rects cut.now) }
     ensures room { IsErrOf result (Refused (record {})) → limit < 2 ^ 64 - 1 }
 {
+    if all_stay(rects.as_slice(), cut) {
+        return Ok(rects);
+    }
     let mut out = Rects::new(alloc);
-    for rect in rects.as_slice() {
-        let pieces = match cut_one(alloc, columns, rect, cut) {
-            Ok(pieces) => pieces,
-            Err(_) => return Err(No::NoMemory),
-        };
-        match out.append(pieces) {
+    for rect in rects.into_vec() {
+        match push_left(alloc, columns, &mut out, rect, cut) {
             Ok(()) => {}
             Err(_) => return Err(No::NoMemory),
         }
@@ -216,7 +225,7 @@ pub(crate) fn cut_all(
         return Err(No::Refused(Over));
     }
     for other in others.as_slice() {
-        match cut_each(alloc, columns, &left, other, limit) {
+        match cut_each(alloc, columns, left, other, limit) {
             Ok(next) => left = next,
             Err(no) => return Err(no),
         }
@@ -284,9 +293,7 @@ impl Rects {
         ensures over { (m : ℕ) → IsErrOf result (Refused (record {})) → ((p : Row) → IsTrue (is_point table.now.columns p) → times self.now p ≤ m)
             → limit < m * grid table.now.columns (self.now ++ other.now) }
     {
-        match cut_all(alloc, table.columns.as_slice(), self, other, limit as usize) {
-            Ok(left) => Ok(left.is_empty()),
-            Err(no) => Err(no),
-        }
+        let columns = table.columns.as_slice();
+        Ok(all_inside(alloc, columns, self, other.as_slice())?)
     }
 }

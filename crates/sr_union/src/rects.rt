@@ -1,7 +1,10 @@
 //! Lists of rects.
 ghost use Rattle.std.specs.Prelude.{◌≡◌, ℕ, ◌<◌, ◌+◌, List, [], ◌∷◌, ◌++◌, ◌↔◌, IsTrue, length, take, drop, OnOk, OnErr, IfOk, slice_get};
-ghost use Rattle.std.specs.Option.{option_copied};
-ghost use Rattle.std.specs.List.{list_all};
+ghost use Rattle.std.specs.Prelude.{◌&&◌, false};
+ghost use Rattle.std.specs.Option.{option_copied, is_some};
+ghost use Rattle.std.specs.List.{list_all, list_any};
+ghost use Rattle.sr_cell.specs.Cells.{Row as Cells};
+ghost use Rattle.sr_box.specs.Cut.{rect_meet};
 ghost use Rattle.sr_box.specs.Points.{in_any, rect_fits};
 
 use sr_box::rect::Rect;
@@ -81,6 +84,14 @@ impl Rects {
         self.rects.remove(index)
     }
 
+    /// The rects as a vector; takes no memory.
+    pub(crate) fn into_vec(self) -> Vec<Rect>
+        ensures { result.items ≡ self }
+    {
+        let Rects { rects } = self;
+        rects.into_vec()
+    }
+
     /// The rects of another list behind these.
     pub fn append(&mut self, more: Rects) -> Result<(), NoMemory>
         ensures appended { OnOk result (self.new ≡ self.old ++ more) }
@@ -97,12 +108,32 @@ impl Rects {
         self.rects.as_slice().iter().all(|rect| rect.fits(table))
     }
 
+    /// Whether some rect meets one of the others; takes no memory.
+    pub fn meets(&self, other: &Rects) -> bool
+        ensures is { result ≡ list_any (λ r. list_any (λ q. is_some (rect_meet r q)) other.now) self.now }
+        ensures apart { (p : Cells) → result ≡ false → (in_any self.now p && in_any other.now p) ≡ false }
+    {
+        lists_meet(self.as_slice(), other.as_slice())
+    }
+
     /// Whether some rect has the row.
     pub fn has(&self, row: &Row) -> bool
         ensures { result ≡ in_any self.now row.now }
     {
         some_has(self.rects.as_slice(), row)
     }
+}
+
+pub(crate) fn meets_some(rect: &Rect, others: &[Rect]) -> bool
+    ensures { result ≡ list_any (λ q. is_some (rect_meet rect.now q)) others.now }
+{
+    others.iter().any(|other| rect.meets(other))
+}
+
+fn lists_meet(rects: &[Rect], others: &[Rect]) -> bool
+    ensures { result ≡ list_any (λ r. list_any (λ q. is_some (rect_meet r q)) others.now) rects.now }
+{
+    rects.iter().any(|rect| meets_some(rect, others))
 }
 
 fn some_has(rects: &[Rect], row: &Row) -> bool

@@ -1,5 +1,5 @@
 //! Lists of rects without needless constraints.
-ghost use Rattle.std.specs.Prelude.{◌≡◌, ℕ, ◌<◌, ◌≤◌, true, false, List, ◌++◌, length, IfOk, IsErrOf};
+ghost use Rattle.std.specs.Prelude.{◌≡◌, ◌≢◌, ℕ, ◌<◌, ◌≤◌, true, false, List, [], ◌++◌, length, IfOk, IsErrOf};
 ghost use Rattle.std.specs.List.{list_all};
 ghost use Rattle.sr_cell.specs.declared.list.No.TheVariants.{Refused};
 ghost use Rattle.sr_box.specs.Points.{rect_fits, in_any, AreSame};
@@ -7,9 +7,10 @@ ghost use Rattle.sr_union.specs.Pieces.{IsOnce, IsWithin, HasOutside, AllConstra
 ghost use Rattle.sr_union.specs.Grid.{AreCutFrom, grid, have_first, all_inner};
 ghost use Rattle.sr_union.specs.Free.{free_all, IsSettled, IsNext};
 
-use crate::disjoint::{once_all, rest_of};
+use crate::disjoint::once_all;
 use crate::minus::Over;
 use crate::rects::Rects;
+use crate::search::all_inside;
 use sr_cell::attrs::Attrs;
 use sr_cell::list::{Copied, No, NoMemory};
 use sr_cell::table::{Column, Table};
@@ -25,34 +26,6 @@ fn free_all(alloc: Global, rects: &Rects, column: usize) -> Result<Rects, NoMemo
     Ok(freed)
 }
 
-/// Whether each rect, one by one, has only points of the others.
-fn all_within(
-    alloc: Global,
-    columns: &[Column],
-    rects: &Rects,
-    others: &Rects,
-    limit: usize,
-) -> Result<bool, No<Over>>
-    requires rects_fit { list_all (rect_fits columns.now) rects.now ≡ true }
-    requires others_fit { list_all (rect_fits columns.now) others.now ≡ true }
-    requires inner { all_inner columns.now ≡ true }
-    requires first { have_first columns.now ≡ true }
-    ensures within { IfOk result (λ yes. yes ≡ true → IsWithin columns.now rects.now others.now) }
-    ensures outside { IfOk result (λ yes. yes ≡ false → HasOutside columns.now rects.now others.now) }
-    ensures over { IsErrOf result (Refused (record {})) → limit < grid columns.now (rects.now ++ others.now) }
-{
-    for rect in rects.as_slice() {
-        let rest = match rest_of(alloc, columns, rect, others, limit) {
-            Ok(rest) => rest,
-            Err(no) => return Err(no),
-        };
-        if !rest.is_empty() {
-            return Ok(false);
-        }
-    }
-    Ok(true)
-}
-
 /// The rects without their constraints on a column, or as they are where those are needed.
 fn settle(
     alloc: Global,
@@ -60,23 +33,21 @@ fn settle(
     keep: Attrs,
     column: usize,
     rects: Rects,
-    limit: usize,
-) -> Result<Rects, No<Over>>
+) -> Result<Rects, NoMemory>
     requires is_column { column < length columns.now }
     requires fit { list_all (rect_fits columns.now) rects ≡ true }
     requires inner { all_inner columns.now ≡ true }
     requires first { have_first columns.now ≡ true }
-    ensures next { IfOk result (λ next. IsNext columns.now keep column rects next) }
-    ensures over { IsErrOf result (Refused (record {})) → limit < grid columns.now rects }
+    ensures { IfOk result (λ next. IsNext columns.now keep column rects next) }
 {
     if keep.has_index(column) {
         return Ok(rects);
     }
     let freed = free_all(alloc, &rects, column)?;
-    match all_within(alloc, columns, &freed, &rects, limit) {
-        Ok(true) => Ok(freed),
-        Ok(false) => Ok(rects),
-        Err(no) => Err(no),
+    if all_inside(alloc, columns, &freed, rects.as_slice())? {
+        Ok(freed)
+    } else {
+        Ok(rects)
     }
 }
 
@@ -86,22 +57,18 @@ fn settle_all(
     columns: &[Column],
     keep: Attrs,
     rects: &Rects,
-    limit: usize,
-) -> Result<Rects, No<Over>>
+) -> Result<Rects, NoMemory>
     requires fit { list_all (rect_fits columns.now) rects.now ≡ true }
     requires inner { all_inner columns.now ≡ true }
     requires first { have_first columns.now ≡ true }
     ensures same { IfOk result (λ settled. AreSame columns.now (in_any settled) (in_any rects.now)) }
     ensures cuts { IfOk result (λ settled. AreCutFrom columns.now rects.now settled) }
+    ensures as_many { IfOk result (λ settled. length settled ≡ length rects.now) }
     ensures settled { IfOk result (λ settled. (c : ℕ) → c < length columns.now → IsSettled columns.now keep rects.now settled c) }
-    ensures over { IsErrOf result (Refused (record {})) → limit < grid columns.now rects.now }
 {
     let mut settled = rects.copy(alloc)?;
     for column in 0..columns.len() {
-        match settle(alloc, columns, keep, column, settled, limit) {
-            Ok(next) => settled = next,
-            Err(no) => return Err(no),
-        }
+        settled = settle(alloc, columns, keep, column, settled)?;
     }
     Ok(settled)
 }
@@ -123,12 +90,11 @@ impl Rects {
         ensures essential { IfOk result (λ tidy. AllConstrainEssential table.now.columns keep self.now tidy) }
         ensures cuts { IfOk result (λ tidy. AreCutFrom table.now.columns self.now tidy) }
         ensures few { IfOk result (λ tidy. length tidy ≤ limit) }
+        ensures some { IsErrOf result (Refused (record {})) → self.now ≢ [] }
         ensures over { IsErrOf result (Refused (record {})) → limit < grid table.now.columns self.now }
     {
         let columns = table.columns.as_slice();
-        match settle_all(alloc, columns, keep, self, limit as usize) {
-            Ok(settled) => once_all(alloc, columns, &settled, limit as usize),
-            Err(no) => Err(no),
-        }
+        let settled = settle_all(alloc, columns, keep, self)?;
+        once_all(alloc, columns, &settled, limit as usize)
     }
 }

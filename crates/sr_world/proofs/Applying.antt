@@ -8,13 +8,13 @@ use Rattle.sr_cell.specs.declared.change.Change.{Change}
 use Rattle.sr_cell.specs.declared.table.Table.{Table}
 use Rattle.sr_cell.specs.Cells.{Row}
 use Rattle.sr_cell.specs.Columns.{table_at}
-use Rattle.sr_subs.specs.declared.subs.Holding.{Holding}
+use Rattle.sr_message.specs.declared.message.Holding.{Holding}
 use Rattle.sr_subs.specs.Subscription.{touches}
 use Rattle.sr_subs.specs.Subscription as subscribed
 use Rattle.sr_message.specs.Tells.{tell_of}
 use Rattle.sr_message.specs.declared.message.Tell.{Tell}
 use Rattle.sr_message.specs.declared.message.Message.{Message}
-use Rattle.sr_message.specs.declared.message.Message.TheVariants.{Ask, Notice, Rows, Reply}
+use Rattle.sr_message.specs.declared.message.Message.TheVariants.{Ask, Notice, Rows, Reply, Hello, Resume, Write, Welcome, Written, Refused, Lapse}
 use Rattle.sr_model.specs.Changes.{changes, version_at}
 use Rattle.sr_model.specs.Statements.{Tables}
 use Rattle.sr_region.specs.declared.region.Region.{Region}
@@ -25,7 +25,8 @@ use Rattle.sr_store.specs.Told.{told_of, AreTrueOf}
 use Rattle.sr_store.specs.Stores.{IsStore}
 use Rattle.sr_store.specs.Noticed.{told_to, IsTellOf}
 use Rattle.sr_store.proofs.Noticing.{notices-true, changes-tell, notices-classes}
-use Rattle.sr_store.proofs.Telling.{only-rows, store-told}
+use Rattle.sr_store.proofs.Storing.{store-told}
+use Rattle.sr_store.proofs.Telling.{only-rows}
 use Rattle.sr_scene.specs.Server.{told_at}
 use Rattle.sr_world.specs.Client.{arrived}
 use Rattle.sr_world.specs.Noticing.{after_message, after_messages, TellsRows, Brings, done, silent, told, AreSubscribed}
@@ -44,6 +45,13 @@ told-all P still tells gs all =
 pub after-all : (P : Region → Type 0) → ((g : Region) (rows : List Row) → P g → P (record g { rows = rows })) → (ms : List Message) (gs : List Region) → All P gs → All P (after_messages ms gs)
 after-all P still [] gs all = all
 after-all P still (Ask number fresh parts ∷ ms) gs all = after-all P still ms gs all
+after-all P still (Hello client k ∷ ms) gs all = after-all P still ms gs all
+after-all P still (Resume client k version holdings ∷ ms) gs all = after-all P still ms gs all
+after-all P still (Write k sql ∷ ms) gs all = after-all P still ms gs all
+after-all P still (Welcome k version kept ∷ ms) gs all = after-all P still ms gs all
+after-all P still (Written k version ∷ ms) gs all = after-all P still ms gs all
+after-all P still (Refused k fault ∷ ms) gs all = after-all P still ms gs all
+after-all P still (Lapse version ∷ ms) gs all = after-all P still ms gs all
 after-all P still (Notice version tells ∷ ms) gs all = after-all P still ms (map (told_to tells) gs) (told-all P still tells gs all)
 after-all P still (Rows number part rows ∷ ms) gs all = after-all P still ms gs all
 after-all P still (Reply number version ∷ ms) gs all = after-all P still ms gs all
@@ -191,6 +199,13 @@ brings-notices schema versions subs v to ms (told u end messages more) = brings-
 pub notices-behind : (xs ys : List Message) → AreNotices (xs ++ ys) → AreNotices ys
 notices-behind [] ys all = all
 notices-behind (Ask number fresh parts ∷ xs) ys all = absurd all
+notices-behind (Hello client k ∷ xs) ys all = absurd all
+notices-behind (Resume client k version holdings ∷ xs) ys all = absurd all
+notices-behind (Write k sql ∷ xs) ys all = absurd all
+notices-behind (Welcome k version kept ∷ xs) ys all = absurd all
+notices-behind (Written k version ∷ xs) ys all = absurd all
+notices-behind (Refused k fault ∷ xs) ys all = absurd all
+notices-behind (Lapse version ∷ xs) ys all = absurd all
 notices-behind (Notice version tells ∷ xs) ys all = notices-behind xs ys all
 notices-behind (Rows number part rows ∷ xs) ys all = absurd all
 notices-behind (Reply number version ∷ xs) ys all = absurd all
@@ -207,6 +222,13 @@ after-none ms gs none = ap (after_messages ms) none ∙ by ms
     by : (ms : List Message) → after_messages ms [] ≡ []
     by [] = refl
     by (Ask number fresh parts ∷ ms) = by ms
+    by (Hello client k ∷ ms) = by ms
+    by (Resume client k version holdings ∷ ms) = by ms
+    by (Write k sql ∷ ms) = by ms
+    by (Welcome k version kept ∷ ms) = by ms
+    by (Written k version ∷ ms) = by ms
+    by (Refused k fault ∷ ms) = by ms
+    by (Lapse version ∷ ms) = by ms
     by (Notice version tells ∷ ms) = by ms
     by (Rows number part rows ∷ ms) = by ms
     by (Reply number version ∷ ms) = by ms
@@ -215,6 +237,13 @@ after-none ms gs none = ap (after_messages ms) none ∙ by ms
 pub after-rows : (number : ℕ) (ms : List Message) (gs : List Region) → AllRows number ms → after_messages ms gs ≡ gs
 after-rows number [] gs all = refl
 after-rows number (Ask k fresh parts ∷ ms) gs all = absurd all
+after-rows number (Hello client k ∷ ms) gs all = absurd all
+after-rows number (Resume client k version holdings ∷ ms) gs all = absurd all
+after-rows number (Write k sql ∷ ms) gs all = absurd all
+after-rows number (Welcome k version kept ∷ ms) gs all = absurd all
+after-rows number (Written k version ∷ ms) gs all = absurd all
+after-rows number (Refused k fault ∷ ms) gs all = absurd all
+after-rows number (Lapse version ∷ ms) gs all = absurd all
 after-rows number (Notice version tells ∷ ms) gs all = absurd all
 after-rows number (Rows k part rows ∷ ms) gs all = after-rows number ms gs all.1
 after-rows number (Reply k version ∷ ms) gs all = absurd all
@@ -222,6 +251,13 @@ after-rows number (Reply k version ∷ ms) gs all = absurd all
 pub rows-tell : (schema : List Table) (number : ℕ) (ms : List Message) → AllRows number ms → All (TellsRows schema) ms
 rows-tell schema number [] all = All-nil (TellsRows schema)
 rows-tell schema number (Ask k fresh parts ∷ ms) all = absurd all
+rows-tell schema number (Hello client k ∷ ms) all = absurd all
+rows-tell schema number (Resume client k version holdings ∷ ms) all = absurd all
+rows-tell schema number (Write k sql ∷ ms) all = absurd all
+rows-tell schema number (Welcome k version kept ∷ ms) all = absurd all
+rows-tell schema number (Written k version ∷ ms) all = absurd all
+rows-tell schema number (Refused k fault ∷ ms) all = absurd all
+rows-tell schema number (Lapse version ∷ ms) all = absurd all
 rows-tell schema number (Notice version tells ∷ ms) all = absurd all
 rows-tell schema number (Rows k part rows ∷ ms) all = All-cons (TellsRows schema) (Rows k part rows) ms tt (rows-tell schema number ms all.1)
 rows-tell schema number (Reply k version ∷ ms) all = absurd all
@@ -230,6 +266,13 @@ rows-tell schema number (Reply k version ∷ ms) all = absurd all
 pub no-rows-told : (ms : List Message) → AreNotices ms → arrived ms ≡ []
 no-rows-told [] all = refl
 no-rows-told (Ask number fresh parts ∷ ms) all = absurd all
+no-rows-told (Hello client k ∷ ms) all = absurd all
+no-rows-told (Resume client k version holdings ∷ ms) all = absurd all
+no-rows-told (Write k sql ∷ ms) all = absurd all
+no-rows-told (Welcome k version kept ∷ ms) all = absurd all
+no-rows-told (Written k version ∷ ms) all = absurd all
+no-rows-told (Refused k fault ∷ ms) all = absurd all
+no-rows-told (Lapse version ∷ ms) all = absurd all
 no-rows-told (Notice version tells ∷ ms) all = no-rows-told ms all
 no-rows-told (Rows number part rows ∷ ms) all = absurd all
 no-rows-told (Reply number version ∷ ms) all = absurd all
@@ -237,6 +280,13 @@ no-rows-told (Reply number version ∷ ms) all = absurd all
 pub after-keeps : (schema : List Table) (held : Held) (stamps : Stamps) (ms : List Message) (gs : List Region) → Keeps schema held stamps gs → Keeps schema held stamps (after_messages ms gs)
 after-keeps schema held stamps [] gs keeps = keeps
 after-keeps schema held stamps (Ask number fresh parts ∷ ms) gs keeps = after-keeps schema held stamps ms gs keeps
+after-keeps schema held stamps (Hello client k ∷ ms) gs keeps = after-keeps schema held stamps ms gs keeps
+after-keeps schema held stamps (Resume client k version holdings ∷ ms) gs keeps = after-keeps schema held stamps ms gs keeps
+after-keeps schema held stamps (Write k sql ∷ ms) gs keeps = after-keeps schema held stamps ms gs keeps
+after-keeps schema held stamps (Welcome k version kept ∷ ms) gs keeps = after-keeps schema held stamps ms gs keeps
+after-keeps schema held stamps (Written k version ∷ ms) gs keeps = after-keeps schema held stamps ms gs keeps
+after-keeps schema held stamps (Refused k fault ∷ ms) gs keeps = after-keeps schema held stamps ms gs keeps
+after-keeps schema held stamps (Lapse version ∷ ms) gs keeps = after-keeps schema held stamps ms gs keeps
 after-keeps schema held stamps (Notice version tells ∷ ms) gs keeps =
     after-keeps schema held stamps ms (map (told_to tells) gs) (notices-classes schema held stamps tells gs keeps)
 after-keeps schema held stamps (Rows number part rows ∷ ms) gs keeps = after-keeps schema held stamps ms gs keeps

@@ -1,8 +1,10 @@
 -- What is asked of some parts is what is left of them.
-use Rattle.std.proofs.Common.{◌≡◌, ℕ, ◌+◌, ◌<◌, zero, suc, Bool, true, false, List, [], ◌∷◌, ◌++◌, length, refl, sym, ◌∙◌, ap, subst, arith, inl, inr, get_or, append-nil}
-use Rattle.std.specs.Prelude.{IsTrue, not, ◌&&◌, ◌⊎◌, ◌↔◌}
+use Rattle.std.proofs.Common.{◌≡◌, ℕ, ◌+◌, ◌<◌, ◌≤◌, zero, suc, Bool, true, false, List, [], ◌∷◌, ◌++◌, length, refl, sym, ◌∙◌, ap, subst, arith, inl, inr, get_or, take, append-nil, length-append}
+use Rattle.std.specs.Prelude.{IsTrue, not, ◌&&◌, ◌⊎◌, ◌↔◌, nat_le, nat_lt, sum_by}
 use Rattle.std.specs.List.{list_all, All, AllZip}
+use Rattle.std.proofs.lemmas.Bool.{and_parts}
 use Rattle.std.proofs.lemmas.Bool.Decides.{nat_tests}
+use Rattle.std.proofs.lemmas.List.Sums.{sum_by-append, sum_by-cons, sum_by_push, sum_by-take-le}
 use Rattle.std.proofs.lemmas.List.Elements.{All-nil, All-cons, All-head, All-tail}
 use Rattle.sr_cell.specs.declared.table.Column.{Column}
 use Rattle.sr_cell.specs.declared.table.Table.{Table}
@@ -18,8 +20,10 @@ use Rattle.sr_union.proofs.Low.{has_point}
 use Rattle.sr_trim.specs.Left.{left_over, is_constrained}
 use Rattle.sr_trim.proofs.Columns.{not_essential}
 use Rattle.sr_message.specs.declared.message.AskPart.{AskPart}
+use Rattle.sr_message.specs.Sizes.{most_rects, count_asked}
 use Rattle.sr_model.specs.Queries as model
 use Rattle.sr_model.specs.Queries.{points_of}
+use Rattle.sr_model.specs.Width.{width}
 use Rattle.sr_query.specs.Bound.{IsPart}
 use Rattle.sr_query.specs.declared.query.Part.{Part}
 use Rattle.sr_history.specs.declared.mark.Mark.{Mark}
@@ -27,15 +31,16 @@ use Rattle.sr_history.specs.Marks.{is_held, is_covered}
 use Rattle.sr_history.specs.Rests.{rest_of, Asks, nothing, covered, asked}
 use Rattle.sr_history.specs.Load.{parts_on}
 use Rattle.sr_history.proofs.Ends.{cuts_keep_ends}
-use Rattle.sr_language.specs.Sound.{is_sound_part}
+use Rattle.sr_language.specs.Sound.{columns_in, is_sound_part}
 use Rattle.sr_language.proofs.Constrained.{rects_constrain_needed}
 use Rattle.sr_region.specs.declared.region.Region.{Region}
 use Rattle.sr_store.specs.Classes.{Stamps, Keeps}
 use Rattle.sr_store.specs.Stores.{cover_of}
 use Rattle.sr_store.proofs.Covering.{cover_is}
 use Rattle.sr_world.specs.Asking.{AsksRest, AreMeant, entry_of, whole_asks}
-use Rattle.sr_world.specs.Cutting.{EndWith, AsksEnd, AreCutAlong}
+use Rattle.sr_world.specs.Cutting.{EndWith, AsksEnd, AreCutAlong, IsOver, grid_of_part}
 use Rattle.sr_world.proofs.EndLemmas.{end-append, cover-end}
+use Rattle.sr_world.proofs.Items.{take-item}
 
 -- what trimming leaves of a part
 pub record IsTrimmed (columns : List Column) (need : ℕ) (left : Points) (attrs : ℕ) (rest : List Rect) : Type 0 where
@@ -55,7 +60,7 @@ essential-same columns a b c same e = record {
 }
 
 -- the same of other words for what is left
-trimmed-same : (columns : List Column) (need : ℕ) (a b : Points) (attrs : ℕ) (rest : List Rect) → AreSame columns a b → IsTrimmed columns need a attrs rest → IsTrimmed columns need b attrs rest
+pub trimmed-same : (columns : List Column) (need : ℕ) (a b : Points) (attrs : ℕ) (rest : List Rect) → AreSame columns a b → IsTrimmed columns need a attrs rest → IsTrimmed columns need b attrs rest
 trimmed-same columns need a b attrs rest same t = record {
   fits = t.fits;
   points = λ p q. t.points p q ∙ same p q;
@@ -101,16 +106,6 @@ asks-rest schema regions part attrs rest t marks stamps (m ∷ []) keeps zip sou
     let is = zip.0 in
     let now = trimmed-same (table_at schema part.table).columns part.need (left_over part.rects (cover_of part regions)) (rest_of marks m) attrs rest (left-rest schema marks stamps regions part m keeps is) t in
     entry-asks schema marks m part.table part.need attrs rest is.table is.need (subst (λ u. IsTrimmed (table_at schema u).columns part.need (rest_of marks m) attrs rest) is.table now)
-
--- of a part without rects nothing is to be asked
-pub asks-none : (schema : List Table) (regions : List Region) (part : Part) → part.rects ≡ [] → AsksRest schema regions (part ∷ []) []
-asks-none schema regions part none marks stamps [] keeps zip sound = absurd zip
-asks-none schema regions part none marks stamps (m ∷ n ∷ meant) keeps zip sound = absurd zip.1
-asks-none schema regions part none marks stamps (m ∷ []) keeps zip sound =
-    let is = zip.0 in
-    let free : HasNoPoint (table_at schema part.table).columns (rest_of marks m) =
-    λ p point. sym (left-rest schema marks stamps regions part m keeps is p point) ∙ ap (λ rects. left_over rects (cover_of part regions) p) none in
-    covered m [] [] (subst (λ t. HasNoPoint (table_at schema t).columns (rest_of marks m)) is.table free) nothing
 
 -- a column that is not needed is not essential to a part
 only-needed : (attrs n c : ℕ) (r : Rect) → constrains_only attrs n r ≡ true → has_column attrs (n + c) ≡ false → constrains (span_at c r) ≡ false
@@ -209,6 +204,36 @@ whole-along schema (part ∷ parts) queries held ends =
     all-append (λ ask. EndWith schema queries ask.table ask.rects) (entry_of part.table part.need part.rects) (whole_asks parts)
     (entry-ends schema queries part.table part.need part.rects (All-head P part parts ends)) (whole-along schema parts queries held (All-tail P part parts ends))
 
+-- ---- how many rects are asked
+
+pub entry-count : (table attrs : ℕ) (rest : List Rect) → count_asked (entry_of table attrs rest) ≡ length rest
+entry-count table attrs [] = refl
+entry-count table attrs (r ∷ rest) = sum_by-cons (λ (ask : AskPart). length ask.rects) (record { table = table; attrs = attrs; rects = r ∷ rest }) [] ∙ omega arith
+
+-- a sound part has few rects
+part-narrow : (schema : List Table) (part : Part) (m : model.Part) → IsPart schema part m → is_sound_part schema m ≡ true → length part.rects ≤ 64
+part-narrow schema part m is sound =
+    let key = nat_lt m.table (length schema) && has_column m.need (table_at schema m.table).key in
+    let fits = (and_parts (key && columns_in m.need m.condition) (nat_le (width true m.condition) 64) sound).1 in
+    let narrow : width true m.condition ≤ 64 = grind (arith, nat_tests, fits) in omega (arith, is.rects.few, narrow)
+
+entry-narrow : (table attrs : ℕ) (rects : List Rect) → length rects ≤ 64 → All (λ (ask : AskPart). length ask.rects ≤ 64) (entry_of table attrs rects)
+entry-narrow table attrs [] few = All-nil (λ (ask : AskPart). length ask.rects ≤ 64)
+entry-narrow table attrs (r ∷ rects) few =
+    All-cons (λ (ask : AskPart). length ask.rects ≤ 64) (record { table = table; attrs = attrs; rects = r ∷ rects }) [] few (All-nil (λ (ask : AskPart). length ask.rects ≤ 64))
+
+-- and so has all of it
+pub whole-narrow : (schema : List Table) (parts : List Part) → AreMeant schema parts → All (λ (ask : AskPart). length ask.rects ≤ 64) (whole_asks parts)
+whole-narrow schema parts (meant, zip, sound) = by parts meant zip sound
+  where
+    by : (parts : List Part) (meant : List model.Part) → AllZip (IsPart schema) parts meant → list_all (is_sound_part schema) meant ≡ true → All (λ (ask : AskPart). length ask.rects ≤ 64) (whole_asks parts)
+    by [] meant zip sound = All-nil (λ (ask : AskPart). length ask.rects ≤ 64)
+    by (p ∷ parts) [] zip sound = absurd zip
+    by (p ∷ parts) (m ∷ meant) zip sound =
+        let s = and_parts (is_sound_part schema m) (list_all (is_sound_part schema) meant) sound in
+        all-append (λ ask. length ask.rects ≤ 64) (entry_of p.table p.need p.rects) (whole_asks parts)
+        (entry-narrow p.table p.need p.rects (part-narrow schema p m zip.0 s.0)) (by parts meant zip.1 s.1)
+
 -- ---- some parts and others
 
 asks-join : (schema : List Table) (marks : List Mark) (xs ys : List model.Part) (own bs : List AskPart) → Asks schema marks xs own → Asks schema marks ys bs → Asks schema marks (xs ++ ys) (own ++ bs)
@@ -249,6 +274,41 @@ asks-append schema regions xs ys own bs a b marks stamps meant keeps zip sound =
 pub asks-nothing : (schema : List Table) (regions : List Region) → AsksRest schema regions [] []
 asks-nothing schema regions marks stamps [] keeps zip sound = nothing
 asks-nothing schema regions marks stamps (m ∷ meant) keeps zip sound = absurd zip
+
+-- what is asked of some parts, with room for so many rects more
+pub record IsAskedOf (schema : List Table) (regions : List Region) (parts : List Part) (room : ℕ) (asks : List AskPart) : Type 0 where
+  pub rest : AsksRest schema regions parts asks
+  pub along : AreCutAlong schema regions parts asks
+  pub few : length asks ≤ length parts
+  pub left : room + count_asked asks ≡ most_rects
+  pub grids : count_asked asks ≤ sum_by (grid_of_part schema regions) parts
+
+pub asked-none : (schema : List Table) (regions : List Region) → IsAskedOf schema regions [] most_rects []
+asked-none schema regions = record { rest = asks-nothing schema regions; along = none-along schema regions []; few = omega arith; left = refl; grids = omega arith }
+
+-- and of one part more
+pub asked-more : (schema : List Table) (regions : List Region) (parts : List Part) (part : Part) (room left : ℕ) (asks more : List AskPart) → IsAskedOf schema regions parts room asks
+    → AsksRest schema regions (part ∷ []) more → AreCutAlong schema regions (part ∷ []) more → length more ≤ 1 → count_asked more ≤ grid_of_part schema regions part → left + count_asked more ≡ room
+    → IsAskedOf schema regions (parts ++ part ∷ []) left (asks ++ more)
+asked-more schema regions parts part room left asks more before rest along one grid fits =
+    let both = sum_by-append (λ (ask : AskPart). length ask.rects) asks more in
+    let grids = sum_by_push (grid_of_part schema regions) parts part in
+    record {
+      rest = asks-append schema regions parts (part ∷ []) asks more before.rest rest;
+      along = along-append schema regions parts (part ∷ []) asks more before.along along;
+      few = omega (arith, length-append asks more, length-append parts (part ∷ []), before.few, one);
+      left = omega (arith, both, before.left, fits);
+      grids = omega (arith, both, grids, before.grids, grid);
+    }
+
+-- where there is no room for the next part the grids are too large together
+pub over-at : (schema : List Table) (regions : List Region) (parts : List Part) (i : ℕ) (part : Part) (room : ℕ) (asks : List AskPart) → i < length parts → part ≡ get_or parts i part
+    → IsAskedOf schema regions (take i parts) room asks → room < grid_of_part schema regions part → IsOver schema regions parts
+over-at schema regions parts i part room asks within is before large =
+    let items = ap (sum_by (grid_of_part schema regions)) (take-item parts i part within is) in
+    let one = sum_by_push (grid_of_part schema regions) (take i parts) part in
+    let all = sum_by-take-le (grid_of_part schema regions) parts (i + 1) in
+    omega (arith, items, one, all, before.left, before.grids, large)
 
 -- ---- each part
 

@@ -1,15 +1,19 @@
 -- All is dropped, and the whole of a query is asked, as the scene says.
-use Rattle.std.proofs.Common.{◌≡◌, ℕ, ◌+◌, ◌≤◌, ◌<◌, zero, suc, true, false, List, [], ◌∷◌, ◌++◌, map, length, refl, sym, ◌∙◌, ap, subst, arith, inl, inr, None, Ok}
-use Rattle.std.specs.Prelude.{IsTrue, ◌↔◌, ◌==◌}
-use Rattle.std.specs.List.{list_all, list_any, Contains}
+use Rattle.std.proofs.Common.{◌≡◌, ℕ, ◌+◌, ◌≤◌, ◌<◌, true, false, List, [], ◌∷◌, ◌++◌, map, length, refl, sym, ◌∙◌, ap, subst, arith, inl, inr, None, Ok}
+use Rattle.std.specs.Prelude.{IsTrue, ◌↔◌, ◌==◌, sum_by}
+use Rattle.std.specs.List.{list_all, list_any}
 use Rattle.std.proofs.lemmas.Bool.Decides.{nat_tests}
 use Rattle.std.proofs.lemmas.List.Folds.{list_all-append}
 use Rattle.std.proofs.lemmas.List.Elements.{All-nil}
+use Rattle.std.proofs.lemmas.List.Sums.{sum_by-cons, sum_by-le}
 use Rattle.sr_cell.specs.declared.cause.Cause.TheVariants.{Pieces}
+use Rattle.sr_cell.specs.declared.table.Column.{Column}
 use Rattle.sr_cell.specs.declared.table.Table.{Table}
 use Rattle.sr_cell.specs.Columns.{table_at}
 use Rattle.sr_box.specs.Points.{Rect, rect_fits}
+use Rattle.sr_union.specs.Grid.{grid}
 use Rattle.sr_message.specs.declared.message.AskPart.{AskPart}
+use Rattle.sr_message.specs.Sizes.{most_rects, count_asked}
 use Rattle.sr_language.specs.Events.{QueryOf}
 use Rattle.sr_model.specs.Queries as model
 use Rattle.sr_model.specs.Changes.{version_at}
@@ -35,7 +39,7 @@ use Rattle.sr_scene.specs.Steps.{Happens, QueriesIfFree, DropsAndQueries, Querie
 use Rattle.sr_world.specs.declared.world.World.{World}
 use Rattle.sr_world.specs.Asking.{AsksRest, entry_of, whole_asks}
 use Rattle.sr_world.specs.Bound.{IsMeaning}
-use Rattle.sr_world.specs.Cutting.{EndWith, IsLarge, IsOver}
+use Rattle.sr_world.specs.Cutting.{EndWith, IsOver, grid_with, grid_of_part}
 use Rattle.sr_world.specs.Sending.{next_ask, with_out, lines_of_ask, IsSent}
 use Rattle.sr_world.specs.Worlds.{DoesEvent}
 use Rattle.sr_world.specs.Represents.{Past, ClientFacts, CutFacts, OutEnds, Facts, Represents, Flow, request_of, scene_of, client_of}
@@ -43,8 +47,8 @@ use Rattle.sr_world.proofs.Covers.{cover-fits}
 use Rattle.sr_world.proofs.EndLemmas.{end-append, cover-end, regions-more, part-end}
 use Rattle.sr_world.proofs.CountLemmas.{counted-more}
 use Rattle.sr_world.proofs.HeavyLemmas.{heavy-table}
-use Rattle.sr_world.proofs.MeantLemmas.{IsOneQuery, one-query, part-fits, part-table}
-use Rattle.sr_world.proofs.AskLemmas.{asks-whole, whole-along}
+use Rattle.sr_world.proofs.MeantLemmas.{IsOneQuery, one-query, are-meant, part-fits, part-table}
+use Rattle.sr_world.proofs.AskLemmas.{asks-whole, whole-along, whole-narrow}
 use Rattle.sr_world.proofs.Subscribed.{IsSubscribed}
 use Rattle.sr_world.proofs.StepLemmas.{does, no-store}
 use Rattle.sr_world.proofs.FactLemmas.{have-first, server-still}
@@ -54,13 +58,29 @@ use Rattle.sr_world.proofs.SendLemmas.{asked_past, MayAsk, queried}
 abbrev pub with_store : World → Store → World
 with_store w store = record w { client = record w.client { store = store } }
 
--- the one part is large
+-- the part has rects, and with those that cover it they make too large a grid
+record IsLarge (schema : List Table) (regions : List Region) (part : Part) : Type 0 where
+  some : part.rects ≡ [] → ⊥
+  large : most_rects < grid (table_at schema part.table).columns (part.rects ++ cover_of part regions)
+
+-- the one part is so
 large-one : (schema : List Table) (regions : List Region) (parts : List Part) (part : Part) → parts ≡ part ∷ [] → IsOver schema regions parts → IsLarge schema regions part
-large-one schema regions parts part own (other, within, large) = by (subst (λ ps. Contains ps other) own within)
+large-one schema regions parts part own over = by part.rects refl
   where
-    by : Contains (part ∷ []) other → IsLarge schema regions part
-    by (zero, l, same) = subst (IsLarge schema regions) (sym same) large
-    by (suc k, l, same) = absurd (omega (arith, l))
+    columns : List Column
+    columns = (table_at schema part.table).columns
+
+    own_grid : sum_by (grid_of_part schema regions) parts ≡ grid_of_part schema regions part
+    own_grid = ap (sum_by (grid_of_part schema regions)) own ∙ (sum_by-cons (grid_of_part schema regions) part [] ∙ omega arith)
+
+    large : most_rects < grid_with columns (cover_of part regions) part.rects
+    large = omega (arith, over, own_grid)
+
+    by : (rects : List Rect) → part.rects ≡ rects → IsLarge schema regions part
+    by [] e = absurd (let none : most_rects < 0 = subst (λ rs. most_rects < grid_with columns (cover_of part regions) rs) e large in omega (arith, none))
+    by (r ∷ rects) e =
+        let own = subst (λ rs. most_rects < grid_with columns (cover_of part regions) rs) e large in
+        record { some = λ none. absurd (let wrong : r ∷ rects ≡ [] = sym e ∙ none in cc); large = subst (λ rs. most_rects < grid columns (rs ++ cover_of part regions)) (sym e) own }
 
 -- so it is asked
 some-asked : (parts : List Part) (part : Part) → parts ≡ part ∷ [] → (part.rects ≡ [] → ⊥) → whole_asks parts ≡ [] → ⊥
@@ -133,6 +153,24 @@ facts-dropped w past f none =
 facts-still : (w : World) (past : Past) → Facts w past → w.client.store.regions ≡ [] → Facts (with_store w (emptied w.client.store)) past
 facts-still w past f none = subst (λ v. Facts v past) (ap (λ gs. with_store w (record w.client.store { regions = gs })) none) f
 
+-- one part at most is asked
+pub whole-few : (schema : List Table) (q : Query) (m : model.Query) → IsMeaning schema q m → length (whole_asks q.parts) ≤ 4
+whole-few schema q m is =
+    let one = one-query schema q m is in
+    subst (λ ps. length (whole_asks ps) ≤ 4) (sym one.parts) (by one.part.table one.part.need one.part.rects)
+  where
+    by : (table need : ℕ) (rects : List Rect) → length (entry_of table need rects ++ []) ≤ 4
+    by table need [] = omega arith
+    by table need (r ∷ rects) = omega arith
+
+-- in few rects
+whole-rects : (schema : List Table) (q : Query) (m : model.Query) → IsMeaning schema q m → count_asked (whole_asks q.parts) ≤ most_rects
+whole-rects schema q m is =
+    let narrow = whole-narrow schema q.parts (are-meant schema q m is) in
+    let few = whole-few schema q m is in
+    let sum = sum_by-le (λ (ask : AskPart). length ask.rects) 64 (whole_asks q.parts) narrow in
+    omega (arith, few, sum)
+
 -- what is known of the call
 record IsDropping (w : World) (q : Query) (m : model.Query) (new : World) (sent : List TraceLine) : Type 0 where
   none : w.client.out ≡ None
@@ -152,12 +190,13 @@ may-ask w past q m new sent d tables f =
       rest = subst (λ ps. AsksRest s [] ps (whole_asks ps)) (sym d.one.parts) (asks-whole s d.one.part d.one.meant d.one.is d.one.sound (have-first s tables));
       along = whole-along s q.parts;
       some = some-asked q.parts d.one.part d.one.parts d.large.some;
+      few = whole-rects s q m d.is;
     }
 
 -- what asks something does the same in each scene of the schema
 queries-same : (s t : Scene) (m : model.Query) (asks : List AskPart) (c new : scene.Client) (lines : List TraceLine) → s.schema ≡ t.schema → (asks ≡ [] → ⊥) → Queries s 1 m asks c lines new → Queries t 1 m asks c lines new
 queries-same s t m [] c new lines same some queries = absurd (some refl)
-queries-same s t m (ask ∷ asks) c new lines same some queries = (queries.0, subst (λ schema. IsTrue queries.0 ↔ HoldsNothing schema c.marks) same queries.1, queries.2, queries.3)
+queries-same s t m (ask ∷ asks) c new lines same some queries = (queries.0, queries.1, subst (λ schema. IsTrue queries.1 ↔ HoldsNothing schema c.marks) same queries.2, queries.3, queries.4)
 
 -- a query that asks something, once all is dropped
 drops-and : (s : Scene) (m : model.Query) (w : World) (past : Past) (asks : List AskPart) (drops : List Mark) (rest lines : List TraceLine) (new : scene.Client) → (asks ≡ [] → ⊥)
@@ -228,13 +267,3 @@ does-drop w q m store new drops sent lines none is over nothing drops_are is_sen
       is_sent = subst (λ st. IsSent (with_store w st) q (whole_asks q.parts) new sent) nothing is_sent;
     } in
     does (λ s. Happens s (QueryOf 1 (Ok m))) w new lines (λ past f. dropped w past q m new sent lines d f (lines_are ∙ ap (λ ms. map (mark_line 1) ms ++ sent) drops_are))
-
--- one part at most is asked
-pub whole-few : (schema : List Table) (q : Query) (m : model.Query) → IsMeaning schema q m → length (whole_asks q.parts) ≤ 4
-whole-few schema q m is =
-    let one = one-query schema q m is in
-    subst (λ ps. length (whole_asks ps) ≤ 4) (sym one.parts) (by one.part.table one.part.need one.part.rects)
-  where
-    by : (table need : ℕ) (rects : List Rect) → length (entry_of table need rects ++ []) ≤ 4
-    by table need [] = omega arith
-    by table need (r ∷ rects) = omega arith

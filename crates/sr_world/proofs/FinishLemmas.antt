@@ -1,6 +1,6 @@
 -- What the client's calls ask where a reply is taken, and what the reply does.
-use Rattle.std.proofs.Common.{◌≡◌, ℕ, ◌<◌, true, List, [], ◌∷◌, length, sym, ◌∙◌, ap, subst, arith, Some, None}
-use Rattle.std.specs.Prelude.{nat_lt}
+use Rattle.std.proofs.Common.{◌≡◌, ℕ, ◌+◌, ◌<◌, ◌≤◌, Bool, true, false, cond, ◌&&◌, List, [], ◌∷◌, length, sym, ◌∙◌, ap, subst, arith, Some, None}
+use Rattle.std.specs.Prelude.{nat_lt, ◌==◌}
 use Rattle.std.specs.List.{list_all, All}
 use Rattle.std.proofs.lemmas.Bool.Decides.{nat_tests}
 use Rattle.sr_cell.specs.declared.table.Table.{Table}
@@ -10,12 +10,13 @@ use Rattle.sr_message.specs.declared.message.Message.{Message}
 use Rattle.sr_message.specs.declared.message.Message.TheVariants.{Notice, Reply}
 use Rattle.sr_query.specs.declared.query.Part.{Part}
 use Rattle.sr_history.specs.declared.mark.Mark.{Mark}
+use Rattle.sr_model.specs.SortedRows.{has_key}
 use Rattle.sr_region.specs.declared.region.Region.{Region}
+use Rattle.sr_region.specs.Regions.{rank}
 use Rattle.sr_store.specs.declared.store.Store.{Store}
 use Rattle.sr_store.specs.declared.store.Arrival.{Arrival}
-use Rattle.sr_store.specs.Told.{Told, told_of, IsTold, AreTrueOf}
 use Rattle.sr_store.specs.Stores.{IsStore}
-use Rattle.sr_store.specs.Answered.{IsArrival, AreApart, HaveArrived}
+use Rattle.sr_store.specs.Answered.{IsArrival, AreApart, BringOwnKeys}
 use Rattle.sr_script.specs.declared.line.TraceLine.{TraceLine}
 use Rattle.sr_scene.specs.Scene.{Scene}
 use Rattle.sr_scene.specs.Runs.{Delivers}
@@ -29,8 +30,7 @@ use Rattle.sr_world.specs.Worlds.{DoesDelivery}
 use Rattle.sr_world.specs.Represents.{Past, Facts, Represents, scene_of}
 use Rattle.sr_world.proofs.Calls.{Answers, IsAfter}
 use Rattle.sr_world.proofs.Coming.{laid_regions, is-last, are-laid, rows-laid}
-use Rattle.sr_world.proofs.FactLemmas.{tables-now, are-told}
-use Rattle.sr_world.proofs.MeantLemmas.{Fit, Only, parts-fit, parts-only, part-table}
+use Rattle.sr_world.proofs.MeantLemmas.{Fit, Only, Named, parts-fit, parts-only, parts-named, part-table}
 use Rattle.sr_world.proofs.ReplyLemmas.{laid_store, is-brought, the_arrival, arrivals-are, are-fit, with_reply, lines_of_reply, replied}
 use Rattle.sr_world.proofs.StepLemmas.{does}
 use Rattle.sr_world.proofs.TakeLemmas.{notice-comes}
@@ -41,7 +41,15 @@ use Rattle.sr_world.proofs.TakeLemmas.{notice-comes}
 pub record Allows (schema : List Table) (regions : List Region) (parts : List Part) (arrivals : List Arrival) : Type 0 where
   pub each : All (IsArrival schema parts) arrivals
   pub apart : AreApart schema regions arrivals
-  pub told : (told : Told) × IsTold schema told × AreTrueOf told regions × HaveArrived told arrivals
+  pub own : BringOwnKeys arrivals
+
+-- one arrival brings no key twice
+own-keys : (r : Arrival) → BringOwnKeys (r ∷ [])
+own-keys r t a k = go ((r.table == t && r.attrs == a) && has_key (rank r.attrs r.key) k r.rows)
+  where
+    go : (b : Bool) → cond b 1 0 + 0 ≤ 1
+    go true = omega arith
+    go false = omega arith
 
 -- where a reply is taken
 pub record Needs (w : World) (out : code.AskOut) : Type 0 where
@@ -50,6 +58,7 @@ pub record Needs (w : World) (out : code.AskOut) : Type 0 where
   pub tables : list_all (λ (ask : AskPart). nat_lt ask.table (length w.server.tables.schema)) out.parts ≡ true
   pub fit : All (Fit w.server.tables.schema) out.query.parts
   pub only : All Only out.query.parts
+  pub named : All (Named w.server.tables.schema) out.query.parts
   pub store : IsStore w.server.tables.schema (laid_regions w)
   pub allows : Allows w.server.tables.schema (laid_regions w) out.query.parts (arrivals_of w.server.tables.schema out.parts (arrived w.client.laid))
 
@@ -68,7 +77,7 @@ needs-of w past out number version queue f out_is first =
     let allows : Allows s (laid_regions w) out.query.parts (the_arrival w past out b ∷ []) = record {
       each = fit.each;
       apart = fit.apart;
-      told = (told_of w.server.tables.rows, are-told s w.server.tables.rows (tables-now w past f.server), laid.are_true, fit.brought);
+      own = own-keys (the_arrival w past out b);
     } in
     record {
       given = f.client.store;
@@ -76,6 +85,7 @@ needs-of w past out number version queue f out_is first =
       tables = subst (λ parts. list_all (λ (ask : AskPart). nat_lt ask.table (length s)) parts ≡ true) (sym b.parts) one_table;
       fit = parts-fit s out.query past.meaning is_out.meant;
       only = parts-only s out.query past.meaning is_out.meant;
+      named = parts-named s out.query past.meaning is_out.meant;
       store = laid.store;
       allows = subst (Allows s (laid_regions w) out.query.parts) (sym (arrivals-are w past out b)) allows;
     }
@@ -83,7 +93,7 @@ needs-of w past out number version queue f out_is first =
 pub finish-needs : (before w : World) (out : code.AskOut) (version : ℕ) → Finishing before w out version → Needs w out
 finish-needs before w out version t =
     let n = needs-of before t.stands.1.past out t.number version w.to_client.items t.stands.1.facts t.out_was t.first in
-    subst (λ v. Needs v out) (sym t.same) (record { given = n.given; tells = n.tells; tables = n.tables; fit = n.fit; only = n.only; store = n.store; allows = n.allows })
+    subst (λ v. Needs v out) (sym t.same) (record { given = n.given; tells = n.tells; tables = n.tables; fit = n.fit; only = n.only; named = n.named; store = n.store; allows = n.allows })
 
 -- what calls read, and what it is
 pub record AreRead (w : World) (out : code.AskOut) (schema : List Table) (parts : List Part) (arrivals : List Arrival) (store : Store) : Type 0 where
@@ -115,6 +125,9 @@ module _ (w : World) (out : code.AskOut) (schema : List Table) (parts : List Par
 
   pub store-fits : Needs w out → All (Fit schema) parts
   store-fits n = subst (All (Fit schema)) (sym r.parts_are) (subst (λ s. All (Fit s) out.query.parts) (sym r.schema_is) n.fit)
+
+  pub store-names : Needs w out → All (Named schema) parts
+  store-names n = subst (All (Named schema)) (sym r.parts_are) (subst (λ s. All (Named s) out.query.parts) (sym r.schema_is) n.named)
 
   pub store-stands : Needs w out → IsStore schema store.regions
   store-stands n = subst (λ (st : Store). IsStore schema st.regions) (sym r.store_is) (subst (λ s. IsStore s (laid_regions w)) (sym r.schema_is) n.store)

@@ -6,7 +6,7 @@ use Rattle.sr_cell.specs.declared.cause.Cause.TheVariants.{Pieces}
 use Rattle.sr_cell.specs.declared.table.Table.{Table}
 use Rattle.sr_cell.specs.Columns.{table_at}
 use Rattle.sr_box.specs.Points.{Rect}
-use Rattle.sr_subs.specs.declared.subs.Holding.{Holding}
+use Rattle.sr_message.specs.declared.message.Holding.{Holding}
 use Rattle.sr_message.specs.declared.message.AskPart.{AskPart}
 use Rattle.sr_model.specs.Queries.{Query}
 use Rattle.sr_model.specs.Statements.{Tables}
@@ -27,13 +27,14 @@ use Rattle.sr_store.specs.declared.store.Store.{Store}
 use Rattle.sr_store.specs.Classes.{IsStamped, Keeps as KeepsPoints}
 use Rattle.sr_store.specs.Told.{told_of, AreTrueOf}
 use Rattle.sr_store.specs.Stores.{IsStore, drop_of}
-use Rattle.sr_store.specs.Answered.{IsArrival, HaveArrived, IsGivenUp, held_of, rects_on}
+use Rattle.sr_store.specs.Answered.{IsArrival, AreApart, giving_way, HaveArrived, IsGivenUp, held_of, rects_on}
 use Rattle.sr_store.specs.Answered as store
 use Rattle.sr_store.specs.Fitted.{lasts_of, count_rows, IsFitted, IsAnswered}
 use Rattle.sr_store.specs.Renewing.{IsCutFrom}
 use Rattle.sr_store.proofs.Absorbing.{drops_all}
 use Rattle.sr_store.proofs.Fewer.{fitted_fit_still}
 use Rattle.sr_store.proofs.Given.{FitsPart, given_fit}
+use Rattle.sr_store.proofs.GivingWay.{nothing-gives}
 use Rattle.sr_store.proofs.Lasts.{lasts_are_last}
 use Rattle.sr_store.proofs.Meeting.{fitted_meets_budgets}
 use Rattle.sr_store.proofs.Stepping.{AreStampsAfter, dropped_marks}
@@ -64,6 +65,7 @@ pub record IsAnswering (s : Scene) (number version : ℕ) (parts : List Part) (a
   pub last : last_parts queries ≡ q.parts
   pub fit : All (FitsPart s.schema) parts
   pub arrive : All (IsArrival s.schema parts) arrivals
+  pub apart : AreApart s.schema old.regions arrivals
   pub holds : AllZip (Holds s.schema) asked (map held_of arrivals)
   pub were : WereAsked arrivals asked
   pub nothing : asked ≡ [] → arrivals ≡ []
@@ -109,9 +111,15 @@ module _ (s : Scene) (number version : ℕ) (parts : List Part) (arrivals : List
   pub kept-last : AreLast schema (last_parts queries) new.last
   kept-last = subst (AreLast schema (last_parts queries)) (sym a.last) (subst (λ ps. AreLast schema ps (lasts_of schema parts)) (sym h.last) (lasts_are_last schema parts q.parts h.tables h.meant))
 
+  -- nothing gave way, since what was held and what arrived have the rows of the version
+  given-true : AreTrueOf (told_of (tables_at s version)) (giving_way arrivals old.regions)
+  given-true =
+      subst (AreTrueOf (told_of (tables_at s version)))
+      (sym (nothing-gives schema parts old.regions arrivals (told_of (tables_at s version)) h.store.each h.arrive h.apart (are-told schema (tables_at s version) h.are_tables) h.are_true h.arrived)) h.are_true
+
   -- the regions have the rows of the version
   pub kept-true : AreTrueOf (told_of (tables_at s version)) new.regions
-  kept-true = a.true_still (told_of (tables_at s version)) (are-told schema (tables_at s version) h.are_tables) h.are_true h.arrived
+  kept-true = a.true_still (told_of (tables_at s version)) (are-told schema (tables_at s version) h.are_tables) given-true h.arrived
 
   kept-renewed : IsAnswered schema old.limits number parts arrivals old.regions new.regions marks → IsKept s asked q number version queries c arrivals marks old new
   kept-renewed r =
@@ -119,7 +127,7 @@ module _ (s : Scene) (number version : ℕ) (parts : List Part) (arrivals : List
       let ren = renewal schema number parts arrivals old.regions r.mid r.front c.marks c.queries queries first r.renewed h.keeps h.stamps in
       let held : List Mark = map held_of arrivals in
       let before : List Mark = with_marks (with_marks c.marks held) ren.absorbed in
-      let true_mid = r.true_still (told_of tables) (are-told schema tables h.are_tables) h.are_true h.arrived in
+      let true_mid = r.true_still (told_of tables) (are-told schema tables h.are_tables) given-true h.arrived in
       let last = subst (λ ps. AreLast schema ps (lasts_of schema parts)) (sym h.last) (lasts_are_last schema parts q.parts h.tables h.meant) in
       let fitted : IsFitted schema s.limits (lasts_of schema parts) r.mid new.regions r.drops = subst (λ l. IsFitted schema l (lasts_of schema parts) r.mid new.regions r.drops) (sym h.limits) r.fitted in
       let met = fitted_meets_budgets schema tables s.limits before queries (lasts_of schema parts) r.mid new.regions r.drops h.tables h.are_tables r.store ren.keeps true_mid last fitted in

@@ -39,3 +39,4 @@ pub mod StatementLemmas
 pub mod RunLemmas
 pub mod ReplayLemmas
 pub mod LentLemmas
+pub mod Nearing

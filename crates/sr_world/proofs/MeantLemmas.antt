@@ -189,11 +189,17 @@ Fit schema part = list_all (rect_fits (table_at schema part.table).columns) part
 abbrev pub Only : Part → Type 0
 Only part = list_all (constrains_only part.need 0) part.rects ≡ true
 
+abbrev pub Named : List Table → Part → Type 0
+Named schema part = part.table < length schema
+
 pub parts-fit : (schema : List Table) (q : Query) (m : model.Query) → IsMeaning schema q m → All (Fit schema) q.parts
 parts-fit schema q m is = let one = one-query schema q m is in all-parts schema q m (Fit schema) one (part-fits schema one.part one.meant one.is)
 
 pub parts-only : (schema : List Table) (q : Query) (m : model.Query) → IsMeaning schema q m → All Only q.parts
 parts-only schema q m is = let one = one-query schema q m is in all-parts schema q m Only one (rects_constrain_needed schema one.part one.meant one.is one.sound)
+
+pub parts-named : (schema : List Table) (q : Query) (m : model.Query) → IsMeaning schema q m → All (Named schema) q.parts
+parts-named schema q m is = let one = one-query schema q m is in all-parts schema q m (Named schema) one (part-table schema one.part one.meant one.is one.sound)
 
 pub some-part : (schema : List Table) (q : Query) (m : model.Query) → IsMeaning schema q m → 0 < length q.parts
 some-part schema q m is = let one = one-query schema q m is in subst (λ parts. 0 < length parts) (sym one.parts) (omega arith)

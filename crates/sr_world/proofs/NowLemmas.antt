@@ -133,6 +133,7 @@ is-answering w past q m one f is =
       last = last-answered past.queries m;
       fit = all-parts s q m (FitsPart s) one (part-fits s one.part one.meant one.is);
       arrive = All-nil (IsArrival s q.parts);
+      apart = λ t a p point. let le = f.client.store.once t a p point in omega (arith, le);
       holds = tt;
       were = λ t a some. absurd (cc);
       nothing = λ none. refl;

@@ -1,5 +1,6 @@
 -- The rows of stored tables are points, by key ascending.
 use Rattle.std.proofs.Common.{◌≡◌, ℕ, ℤ, true, List, [], ◌∷◌, length, refl, ap, zero, suc}
+use Rattle.std.specs.Prelude.{◌&&◌, nat_le}
 use Rattle.std.specs.List.{list_all}
 use Rattle.sr_cell.specs.declared.cell.Cell.{Cell}
 use Rattle.sr_cell.specs.declared.cell.Cell.TheVariants.{Num, Str}
@@ -47,7 +48,7 @@ stored-points [] [] stored values t = refl
 stored-points [] (rows ∷ tables) stored values t = absurd (cc)
 stored-points (u ∷ schema) [] stored values t = absurd (cc)
 stored-points (u ∷ schema) (rows ∷ tables) stored values zero =
-    let own = and_left (are_rows u rows) (are_stored schema tables) stored in
+    let own = and_left (ascend u.key rows && list_all (fits_columns u.columns) rows) (nat_le (length rows) 65536) (and_left (are_rows u rows) (are_stored schema tables) stored) in
     rows-points u.columns rows (and_right (ascend u.key rows) (list_all (fits_columns u.columns) rows) own) (and_left (list_all are_values rows) (list_all (list_all are_values) tables) values)
 stored-points (u ∷ schema) (rows ∷ tables) stored values (suc t) =
     stored-points schema tables (and_right (are_rows u rows) (are_stored schema tables) stored) (and_right (list_all are_values rows) (list_all (list_all are_values) tables) values) t
@@ -65,7 +66,8 @@ stored-ascending [] [] stored t = refl
 stored-ascending [] (rows ∷ tables) stored t = absurd (cc)
 stored-ascending (u ∷ schema) [] stored t = absurd (cc)
 stored-ascending (u ∷ schema) (rows ∷ tables) stored zero =
-    and_left (ascend u.key rows) (list_all (fits_columns u.columns) rows) (and_left (are_rows u rows) (are_stored schema tables) stored)
+    and_left (ascend u.key rows) (list_all (fits_columns u.columns) rows)
+    (and_left (ascend u.key rows && list_all (fits_columns u.columns) rows) (nat_le (length rows) 65536) (and_left (are_rows u rows) (are_stored schema tables) stored))
 stored-ascending (u ∷ schema) (rows ∷ tables) stored (suc t) = stored-ascending schema tables (and_right (are_rows u rows) (are_stored schema tables) stored) t
 
 -- they are tables

@@ -12,7 +12,7 @@ use Rattle.sr_cell.specs.declared.table.Table.{Table}
 use Rattle.sr_cell.specs.Cells.{Row}
 use Rattle.sr_cell.specs.Columns.{table_at, is_point}
 use Rattle.sr_box.specs.Points.{in_any, rect_fits}
-use Rattle.sr_subs.specs.declared.subs.Holding.{Holding}
+use Rattle.sr_message.specs.declared.message.Holding.{Holding}
 use Rattle.sr_subs.specs.Subscription.{has_point}
 use Rattle.sr_message.specs.declared.message.AskPart.{AskPart}
 use Rattle.sr_message.specs.declared.message.Message.{Message}
@@ -185,6 +185,7 @@ is-answering w past o before queue b f out is_out laid =
       last = last-with-answered o.query_number past.queries is_out.earlier past.meaning is_out.newest number;
       fit = all-parts s o.query past.meaning (FitsPart s) b.one (part-fits s b.one.part b.one.meant b.one.is);
       arrive = fit.each;
+      apart = fit.apart;
       holds = subst (λ ps. AllZip (Holds s) ps (held_of r ∷ [])) (sym b.parts) ((refl, refl, fits, λ p point. refl), tt);
       were = λ t a some. subst (λ asks. list_any (λ (ask : AskPart). ask.table == t && ask.attrs == a) asks ≡ true) (sym b.parts) some;
       nothing = λ none. absurd (let wrong : b.ask ∷ [] ≡ [] = sym b.parts ∙ none in cc);

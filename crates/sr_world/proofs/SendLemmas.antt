@@ -1,5 +1,5 @@
 -- The rest of a query is asked, as the scene says.
-use Rattle.std.proofs.Common.{◌≡◌, ℕ, ◌+◌, Bool, true, false, List, [], ◌∷◌, ◌++◌, map, length, refl, sym, ◌∙◌, ap, subst, arith, inl, Some, None, Ok, length-append}
+use Rattle.std.proofs.Common.{◌≡◌, ℕ, ◌+◌, ◌≤◌, Bool, true, false, List, [], ◌∷◌, ◌++◌, map, length, refl, sym, ◌∙◌, ap, subst, arith, inl, Some, None, Ok, length-append}
 use Rattle.std.specs.Prelude.{IsTrue, ◌↔◌}
 use Rattle.std.specs.List.{All}
 use Rattle.std.specs.declared.collections.VecDeque.{VecDeque}
@@ -7,6 +7,7 @@ use Rattle.std.specs.declared.alloc.Global.{Global}
 use Rattle.sr_cell.specs.declared.table.Table.{Table}
 use Rattle.sr_message.specs.declared.message.AskPart.{AskPart}
 use Rattle.sr_message.specs.declared.message.Message.{Message}
+use Rattle.sr_message.specs.Sizes.{most_rects, count_asked}
 use Rattle.sr_message.specs.declared.message.Message.TheVariants.{Ask}
 use Rattle.sr_language.specs.Events.{QueryOf}
 use Rattle.sr_model.specs.Queries as model
@@ -68,10 +69,10 @@ asking c q fresh asks = record c {
 }
 
 -- where something is asked, that is what the query does
-asks-some : (s : Scene) (q : model.Query) (asks : List AskPart) (c new : scene.Client) (fresh : Bool) → (asks ≡ [] → ⊥) → IsTrue fresh ↔ HoldsNothing s.schema c.marks → new ≡ asking c q fresh asks
+asks-some : (s : Scene) (q : model.Query) (asks : List AskPart) (c new : scene.Client) (fresh : Bool) → (asks ≡ [] → ⊥) → count_asked asks ≤ most_rects → IsTrue fresh ↔ HoldsNothing s.schema c.marks → new ≡ asking c q fresh asks
     → Queries s 1 q asks c (line.Ask 1 c.next_request fresh (length asks) ∷ (map part_line asks ++ line.QueryAsked 1 c.next_request ∷ [])) new
-asks-some s q [] c new fresh some mode is = absurd (some refl)
-asks-some s q (ask ∷ asks) c new fresh some mode is = (fresh, mode, refl, is)
+asks-some s q [] c new fresh some few mode is = absurd (some refl)
+asks-some s q (ask ∷ asks) c new fresh some few mode is = (few, fresh, mode, refl, is)
 
 -- the past once the query is asked
 abbrev pub asked_past : Past → model.Query → Past
@@ -85,6 +86,7 @@ pub record MayAsk (w : World) (past : Past) (q : Query) (m : model.Query) (asks 
   pub rest : AsksRest w.server.tables.schema w.client.store.regions q.parts asks
   pub along : AreCutAlong w.server.tables.schema w.client.store.regions q.parts asks
   pub some : asks ≡ [] → ⊥
+  pub few : count_asked asks ≤ most_rects
 
 -- what asking them does
 pub record IsQueried (w : World) (past : Past) (q : Query) (m : model.Query) (asks : List AskPart) (queue : VecDeque Message Global) : Type 0 where
@@ -126,7 +128,7 @@ queried w past q m asks queue h queued =
     let sent : queue.items ≡ Ask k fresh asks ∷ [] = queued ∙ ap (λ ms. ms ++ Ask k fresh asks ∷ []) still.0 in
     let brings : BringsUp changed new (w.client.laid ++ w.to_client.items) = subst (λ laid. BringsUp changed new (laid ++ w.to_client.items)) (sym still.1) still.2 in
     let is_asked : IsAsked changed new out = record { to_server = sent; brings = brings } in
-    let is_out : IsOut changed new out = record { meant = is; earlier = past.queries; newest = refl; number = refl; asks = are; some = h.some; fresh = refl } in
+    let is_out : IsOut changed new out = record { meant = is; earlier = past.queries; newest = refl; number = refl; asks = are; some = h.some; few = h.few; fresh = refl } in
     let number : n ≡ length past.queries + 1 = ap (λ k. k + 1) (sym f.client.queries) in
     let client : ClientFacts changed new = record {
       store = f.client.store;
@@ -149,7 +151,7 @@ queried w past q m asks queue h queued =
         flow = (is_out, inl is_asked);
       };
       are = are;
-      queries = asks-some (scene_of w past) m asks (client_of w past) (client_of changed new) fresh h.some mode next_is;
+      queries = asks-some (scene_of w past) m asks (client_of w past) (client_of changed new) fresh h.some h.few mode next_is;
     }
 
 asked : (w : World) (past : Past) (q : Query) (m : model.Query) (asks : List AskPart) (queue : VecDeque Message Global) → MayAsk w past q m asks
@@ -166,11 +168,11 @@ asked w past q m asks queue h queued =
     (scene_of changed new, (client_of w past, client_of changed new, refl, queries, refl), record { past = new; facts = done.facts; same = refl })
 
 pub does-ask : (w : World) (q : Query) (m : model.Query) (asks : List AskPart) (new : World) (lines : List TraceLine) → w.client.out ≡ None
-    → IsMeaning w.server.tables.schema q m → AsksRest w.server.tables.schema w.client.store.regions q.parts asks → AreCutAlong w.server.tables.schema w.client.store.regions q.parts asks → (asks ≡ [] → ⊥)
+    → IsMeaning w.server.tables.schema q m → AsksRest w.server.tables.schema w.client.store.regions q.parts asks → AreCutAlong w.server.tables.schema w.client.store.regions q.parts asks → (asks ≡ [] → ⊥) → count_asked asks ≤ most_rects
     → IsSent w q asks new lines → DoesEvent (QueryOf 1 (Ok m)) w new lines
-does-ask w q m asks new lines none is rest along some sent =
+does-ask w q m asks new lines none is rest along some few sent =
     let ask : code.AskOut = next_ask w q asks in
     let sends : DoesEvent (QueryOf 1 (Ok m)) w (with_out w ask sent.queue) (lines_of_ask ask) =
     does (λ s. Happens s (QueryOf 1 (Ok m))) w (with_out w ask sent.queue) (lines_of_ask ask)
-    (λ past f. asked w past q m asks sent.queue (record { facts = f; none = none; is = is; rest = rest; along = along; some = some }) sent.queued) in
+    (λ past f. asked w past q m asks sent.queue (record { facts = f; none = none; is = is; rest = rest; along = along; some = some; few = few }) sent.queued) in
     subst (λ v. DoesEvent (QueryOf 1 (Ok m)) w v lines) (sym sent.changed) (subst (DoesEvent (QueryOf 1 (Ok m)) w (with_out w ask sent.queue)) (sym sent.told) sends)

@@ -12,7 +12,7 @@ use Rattle.sr_cell.specs.declared.table.Table.{Table}
 use Rattle.sr_cell.specs.Cells.{Row}
 use Rattle.sr_cell.specs.Columns.{table_at, is_point}
 use Rattle.sr_box.specs.Points.{in_any}
-use Rattle.sr_subs.specs.declared.subs.Holding.{Holding}
+use Rattle.sr_message.specs.declared.message.Holding.{Holding}
 use Rattle.sr_subs.specs.Subscription.{has_point}
 use Rattle.sr_message.specs.declared.message.Message.TheVariants.{Ask, Reply}
 use Rattle.sr_keyed.specs.Keyed.{are_values}
@@ -109,10 +109,8 @@ no-store schema = record {
   each = All-nil _;
   order = refl;
   once = λ t a p point. omega arith;
+  keys = λ t a k. omega arith;
   few = omega arith;
-  told = λ t a. [];
-  is_told = record { rows = λ t a. All-nil _; ascending = λ t a key. refl };
-  are_true = All-nil _;
 }
 
 pub nothing-kept : (schema : List Table) → Keeps schema (is_held []) (stamp []) []

@@ -5,7 +5,7 @@ use Rattle.std.specs.declared.collections.VecDeque.{VecDeque}
 use Rattle.std.specs.declared.alloc.Global.{Global}
 use Rattle.sr_message.specs.declared.message.Tell.{Tell}
 use Rattle.sr_message.specs.declared.message.Message.{Message}
-use Rattle.sr_message.specs.declared.message.Message.TheVariants.{Ask, Notice, Rows, Reply}
+use Rattle.sr_message.specs.declared.message.Message.TheVariants.{Ask, Notice, Rows, Reply, Hello, Resume, Write, Welcome, Written, Refused, Lapse}
 use Rattle.sr_language.specs.Events.{ToClient}
 use Rattle.sr_script.specs.declared.line.TraceLine.{TraceLine}
 use Rattle.sr_script.specs.declared.line.TraceLine.TheVariants as line
@@ -72,6 +72,13 @@ with_laid w laid queue = record w { client = record w.client { laid = laid }; to
 takes-before : (s : Scene) (m : Message) (past : Past) (o : code.AskOut) (c new : scene.Client) (lines : List TraceLine) → IsBefore o.number m → LaysBy 1 m c lines new
     → TakesMessage s 1 (request_of past.meaning (Some o)) m c lines new
 takes-before s (Ask k fresh parts) past o c new lines before lays = absurd before
+takes-before s (Hello client k) past o c new lines before lays = absurd before
+takes-before s (Resume client k version holdings) past o c new lines before lays = absurd before
+takes-before s (Write k sql) past o c new lines before lays = absurd before
+takes-before s (Welcome k version kept) past o c new lines before lays = absurd before
+takes-before s (Written k version) past o c new lines before lays = absurd before
+takes-before s (Refused k fault) past o c new lines before lays = absurd before
+takes-before s (Lapse version) past o c new lines before lays = absurd before
 takes-before s (Notice version told) past o c new lines before lays = lays
 takes-before s (Rows k part rows) past o c new lines before lays = (before, lays)
 takes-before s (Reply k version) past o c new lines before lays = absurd before
@@ -90,6 +97,7 @@ lays w past o m rest to_client f c out before rest_is came left =
       number = c.is_out.number;
       asks = c.is_out.asks;
       some = c.is_out.some;
+      few = c.is_out.few;
       fresh = c.is_out.fresh;
     } in
     let replied : IsReplied changed past o = record {
@@ -180,6 +188,13 @@ does-lay before w m o client lines t out other client_is lines_are =
 -- a message with the version of a reply is one
 pub reply-of : (m : Message) (version : ℕ) → reply_version m ≡ Some version → (number : ℕ) × (m ≡ Reply number version)
 reply-of (Ask number fresh parts) version is = absurd (cc)
+reply-of (Hello client k) version is = absurd (cc)
+reply-of (Resume client k own holdings) version is = absurd (cc)
+reply-of (Write k sql) version is = absurd (cc)
+reply-of (Welcome k own kept) version is = absurd (cc)
+reply-of (Written k own) version is = absurd (cc)
+reply-of (Refused k fault) version is = absurd (cc)
+reply-of (Lapse own) version is = absurd (cc)
 reply-of (Notice own told) version is = absurd (cc)
 reply-of (Rows number part rows) version is = absurd (cc)
 reply-of (Reply number own) version is = let same : own ≡ version = cc in (number, ap (Reply number) same)

@@ -5,7 +5,7 @@ use Rattle.sr_cell.specs.Columns.{table_at}
 use Rattle.sr_cell.specs.Cells.{Row}
 use Rattle.sr_message.specs.declared.message.AskPart.{AskPart}
 use Rattle.sr_message.specs.declared.message.Message.{Message}
-use Rattle.sr_message.specs.declared.message.Message.TheVariants.{Ask, Notice, Rows, Reply}
+use Rattle.sr_message.specs.declared.message.Message.TheVariants.{Rows, Reply}
 use Rattle.sr_region.specs.declared.region.Region.{Region}
 use Rattle.sr_store.specs.declared.store.Arrival.{Arrival}
 
@@ -15,10 +15,8 @@ is_empty (g ∷ regions) = false
 
 -- the rows that a message brings
 abbrev pub brought : Message → List Row
-brought (Ask number fresh parts) = []
-brought (Notice version told) = []
 brought (Rows number part rows) = rows
-brought (Reply number version) = []
+brought other = []
 
 -- the rows that the messages bring
 abbrev pub arrived : List Message → List Row
@@ -26,10 +24,8 @@ arrived ms = flat_map brought ms
 
 -- the version of a reply
 abbrev pub reply_version : Message → Option ℕ
-reply_version (Ask number fresh parts) = None
-reply_version (Notice version told) = None
-reply_version (Rows number part rows) = None
 reply_version (Reply number version) = Some version
+reply_version other = None
 
 -- what was asked, with the rows that came
 abbrev pub arrival_of : List Table → AskPart → List Row → Arrival

@@ -1,11 +1,13 @@
 -- Where the rects that a client holds and asks begin and end.
-use Rattle.std.specs.Prelude.{ℕ, ◌≡◌, ◌<◌, ◌++◌, List, []}
-use Rattle.std.specs.List.{All, Contains}
+use Rattle.std.specs.Prelude.{ℕ, ◌<◌, ◌++◌, List, [], ◌∷◌, sum_by}
+use Rattle.std.specs.List.{All}
+use Rattle.sr_cell.specs.declared.table.Column.{Column}
 use Rattle.sr_cell.specs.declared.table.Table.{Table}
 use Rattle.sr_cell.specs.Columns.{table_at}
 use Rattle.sr_box.specs.Points.{Rect}
 use Rattle.sr_union.specs.Grid.{grid}
 use Rattle.sr_message.specs.declared.message.AskPart.{AskPart}
+use Rattle.sr_message.specs.Sizes.{most_rects}
 use Rattle.sr_model.specs.Queries.{Query}
 use Rattle.sr_history.specs.Load.{parts_on}
 use Rattle.sr_history.specs.Ends.{AllEndAmong}
@@ -30,11 +32,14 @@ AsksEnd schema queries asks = All (λ ask. EndWith schema queries ask.table ask.
 abbrev pub AreCutAlong : List Table → List Region → List Part → List AskPart → Type 0
 AreCutAlong schema regions parts asks = (queries : List Query) → RegionsEnd schema queries regions → PartsEnd schema queries parts → AsksEnd schema queries asks
 
--- the part has rects, and with those that cover it they make too large a grid
-pub record IsLarge (schema : List Table) (regions : List Region) (part : Part) : Type 0 where
-  pub some : part.rects ≡ [] → ⊥
-  pub large : 16384 < grid (table_at schema part.table).columns (part.rects ++ cover_of part regions)
+abbrev pub grid_with : List Column → List Rect → List Rect → ℕ
+grid_with columns cover [] = 0
+grid_with columns cover (r ∷ rects) = grid columns ((r ∷ rects) ++ cover)
 
--- one of the parts is so
+-- the grid that the rects of a part make with those that cover it; none, where it has no rects
+abbrev pub grid_of_part : List Table → List Region → Part → ℕ
+grid_of_part schema regions part = grid_with (table_at schema part.table).columns (cover_of part regions) part.rects
+
+-- the grids of the parts are larger together than an ask may be
 abbrev pub IsOver : List Table → List Region → List Part → Type 0
-IsOver schema regions parts = (part : Part) × Contains parts part × IsLarge schema regions part
+IsOver schema regions parts = most_rects < sum_by (grid_of_part schema regions) parts

@@ -6,11 +6,11 @@ use Rattle.sr_cell.specs.declared.table.Table.{Table}
 use Rattle.sr_cell.specs.Cells.{Row}
 use Rattle.sr_cell.specs.Columns.{table_at, is_point}
 use Rattle.sr_box.specs.Points.{in_any}
-use Rattle.sr_subs.specs.declared.subs.Holding.{Holding}
+use Rattle.sr_message.specs.declared.message.Holding.{Holding}
 use Rattle.sr_subs.specs.Subscription.{has_point, touches}
 use Rattle.sr_message.specs.declared.message.Tell.{Tell}
 use Rattle.sr_message.specs.declared.message.Message.{Message}
-use Rattle.sr_message.specs.declared.message.Message.TheVariants.{Ask, Notice, Rows, Reply}
+use Rattle.sr_message.specs.declared.message.Message.TheVariants.{Notice}
 use Rattle.sr_message.specs.Tells.{tell_of}
 use Rattle.sr_model.specs.Statements.{Tables}
 use Rattle.sr_region.specs.declared.region.Region.{Region}
@@ -39,10 +39,8 @@ pushed_after history subscription upto newest =
 
 -- the regions once a message is applied
 abbrev pub after_message : Message → List Region → List Region
-after_message (Ask number fresh parts) regions = regions
 after_message (Notice version told) regions = map (told_to told) regions
-after_message (Rows number part rows) regions = regions
-after_message (Reply number version) regions = regions
+after_message other regions = regions
 
 -- one after another
 abbrev pub after_messages : List Message → List Region → List Region
@@ -51,10 +49,8 @@ after_messages (m ∷ messages) regions = after_messages messages (after_message
 
 -- what is told is of tables of the schema
 abbrev pub TellsRows : List Table → Message → Type 0
-TellsRows schema (Ask number fresh parts) = Unit {0}
 TellsRows schema (Notice version told) = All (IsTellOf schema) told
-TellsRows schema (Rows number part rows) = Unit {0}
-TellsRows schema (Reply number version) = Unit {0}
+TellsRows schema other = Unit {0}
 
 -- ---- what is under way
 

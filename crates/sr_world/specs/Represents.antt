@@ -3,11 +3,12 @@ use Rattle.std.specs.Prelude.{ℕ, true, false, ◌≡◌, ◌≤◌, ◌<◌, �
 use Rattle.std.specs.List.{list_all}
 use Rattle.sr_cell.specs.declared.table.Table.{Table}
 use Rattle.sr_message.specs.declared.message.Message.{Message}
+use Rattle.sr_message.specs.Sizes.{most_rects, count_asked}
 use Rattle.sr_message.specs.declared.message.Message.TheVariants.{Ask, Reply}
 use Rattle.sr_model.specs.Queries.{Query}
 use Rattle.sr_model.specs.Statements.{Tables}
 use Rattle.sr_model.specs.Changes.{version_at, changes_at}
-use Rattle.sr_subs.specs.declared.subs.Holding.{Holding}
+use Rattle.sr_message.specs.declared.message.Holding.{Holding}
 use Rattle.sr_query.specs.Bound.{is_table}
 use Rattle.sr_history.specs.declared.mark.Mark.{Mark}
 use Rattle.sr_history.specs.Marks.{is_held}
@@ -62,7 +63,7 @@ client_of w past = record {
 abbrev pub scene_of : World → Past → Scene
 scene_of w past = record { eager = true; limits = w.client.store.limits; schema = w.server.tables.schema; versions = past.versions; clients = client_of w past ∷ [] }
 
--- the ask that is out asks the rest of the newest query, which is not answered
+-- the ask that is out asks the rest of the newest query, which is not answered, in no more rects than an ask may have
 pub record IsOut (w : World) (past : Past) (o : code.AskOut) : Type 0 where
   pub meant : IsMeaning w.server.tables.schema o.query past.meaning
   pub earlier : List Numbered
@@ -70,6 +71,7 @@ pub record IsOut (w : World) (past : Past) (o : code.AskOut) : Type 0 where
   pub number : o.query_number ≡ w.client.queries
   pub asks : Asks w.server.tables.schema past.marks past.meaning.parts o.parts
   pub some : o.parts ≡ [] → ⊥
+  pub few : count_asked o.parts ≤ most_rects
   pub fresh : o.fresh ≡ is_empty w.client.store.regions
 
 -- notices that bring the client from its version to that of its session, with these subscribed points

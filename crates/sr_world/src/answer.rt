@@ -9,12 +9,14 @@ ghost use Rattle.sr_region.specs.Regions.{is_in};
 ghost use Rattle.sr_join.specs.Found.{cells_of, IsFound};
 ghost use Rattle.sr_world.specs.Answering.{is_kept, is_new, IsOnePart, HaveRows, BringRows};
 
-use sr_cell::cell::{Row, Rows};
+use sr_cell::cell::Rows;
 use sr_cell::list::NoMemory;
 use sr_join::joiner::Joiner;
 use sr_query::query::{Part, Query};
-use sr_region::region::{Region, has_cells};
+use sr_region::inside::{RowsIn, rows_inside};
+use sr_region::region::Region;
 use sr_store::store::Arrival;
+use sr_union::rects::Rects;
 use std::alloc::Global;
 
 /// The answer of a query: its part's rows in the regions that serve it, and in what arrives.
@@ -50,8 +52,7 @@ fn lend_regions(
 {
     for region in regions {
         if region.serves(part.table, part.need) {
-            let rows = region.rows_in(alloc, &part.rects)?;
-            joiner.lend(alloc, query, region.attrs, rows.as_slice())?;
+            joiner.lend(alloc, query, region.rows_in(&part.rects))?;
         }
     }
     Ok(())
@@ -70,25 +71,15 @@ fn lend_arrivals(
         → IsFound part.now.key query.now.output (rows_at tables part.now.table) (λ p. test p || is_new part.now arrivals.now p) joiner.new.found) }
 {
     for arrival in arrivals {
-        let rows = arrived_in(alloc, arrival, part)?;
-        joiner.lend(alloc, query, arrival.attrs, rows.as_slice())?;
+        joiner.lend(alloc, query, arrived_in(arrival, &part.rects))?;
     }
     Ok(())
 }
 
-/// The rows that arrived and lie in the part.
-fn arrived_in<'a>(
-    alloc: Global,
-    arrival: &'a Arrival,
-    part: &Part,
-) -> Result<Vec<&'a Row>, NoMemory>
-    ensures { IfOk result (λ found. map (λ r. r.now) found.items ≡ filter (is_in arrival.now.attrs part.now.rects) arrival.now.rows) }
+/// The rows that arrived and lie in the rects.
+fn arrived_in<'a>(arrival: &'a Arrival, rects: &'a Rects) -> RowsIn<'a>
+    ensures attrs { result.attrs ≡ arrival.now.attrs }
+    ensures rows { result.rows ≡ filter (is_in arrival.now.attrs rects.now) arrival.now.rows }
 {
-    let mut found = Vec::new(alloc);
-    for row in arrival.rows.as_slice() {
-        if has_cells(&part.rects, arrival.attrs, row) {
-            found.push(row)?;
-        }
-    }
-    Ok(found)
+    rows_inside(arrival.attrs, arrival.rows.as_slice(), rects)
 }

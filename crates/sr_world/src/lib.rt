@@ -7,6 +7,4 @@ pub mod client;
 pub mod replay;
 pub mod server;
 pub mod statements;
-#[cfg(test)]
-mod tests;
 pub mod world;

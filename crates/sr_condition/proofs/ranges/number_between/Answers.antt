@@ -7,4 +7,4 @@ pub returns : goal.returns
 returns c =
     let f : FitsSigned w64 c.args.low = search rules in
     let g : FitsSigned w64 c.args.high = search rules in
-    rw (to_z-of_z w64 c.args.low f, to_z-of_z w64 c.args.high g) (between-numbers c.args.column.now c.args.low c.args.high c.requires)
+    rw (to_z-of_z w64 c.args.low f, to_z-of_z w64 c.args.high g) (between-numbers c.args.column.now c.args.low c.args.high c.requires.kind c.requires.order)

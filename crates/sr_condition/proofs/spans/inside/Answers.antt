@@ -1,7 +1,15 @@
-use Rattle.sr_condition.proofs.Tested.{inside-step}
+use Rattle.std.proofs.Common.{◌+◌, length}
+use Rattle.std.proofs.lemmas.Result.{IfOk-weaker}
+use Rattle.sr_model.specs.Conditions.{passes, OneOf}
+use Rattle.sr_model.specs.Ends.{test_ends}
+use Rattle.sr_condition.specs.Ranges.{is_left, AreSpans, AreApart}
+use Rattle.sr_condition.proofs.Left.{inside-spans}
 use Rattle.sr_condition.proofs.spans.inside.Goals as goal
 
-pub loop-value-preserved : goal.loop-value-preserved
-loop-value-preserved c =
-    inside-step c.args.column.now c.args.values.now c.loop-value.value-index c.value-item.result c.loop-value.spans c.push_some.new.spans c.in_ok-part.part
-    c.loop-value-test.true c.value-item.is c.in_ok-push_some.ensures c.loop-value.invariant c.in_ok-part.ensures
+pub returns : goal.returns
+returns c =
+    IfOk-weaker c.left_by.result
+    (AreApart c.args.column.now (is_left c.in_ok-between.between) (length c.in_ok-between.between + 1) (test_ends (OneOf c.args.values.now)))
+    (AreSpans c.args.column.now (passes (OneOf c.args.values.now)) (length c.args.values.now) (test_ends (OneOf c.args.values.now)))
+    (λ spans left. inside-spans c.args.column.now c.args.values.now (length c.args.values.now + 1) c.in_ok-between.between (length c.in_ok-between.between + 1) spans c.requires.good c.in_ok-between.ensures left)
+    (c.left_by.ensures (test_ends (OneOf c.args.values.now)) c.in_ok-between.ensures.ends)

@@ -11,11 +11,11 @@ use Rattle.sr_store.proofs.Restamping.{restamped_one}
 use Rattle.sr_store.proofs.Untouched.{restamped_apart}
 use Rattle.sr_store.proofs.restamp.restamp_one.Goals as goal
 
-pub returns-then-not-branch-clause-restamped : goal.returns-then-not-branch-clause-restamped
-returns-then-not-branch-clause-restamped c =
+pub returns-then-not-may_touch-clause-restamped : goal.returns-then-not-may_touch-clause-restamped
+returns-then-not-may_touch-clause-restamped c =
     let region = c.args.region in
-    let apart : c.in_ok-may_touch.field-0 ≡ false = c.if-not-branch.true in
-    (region ∷ [], c.in_ok-push.ensures.pushed, restamped_apart c.args.schema.now c.args.number c.args.parts.now region c.requires.region (c.in_ok-may_touch.ensures (table_at c.args.schema.now region.table).columns apart))
+    let apart : c.may_touch.result ≡ false = c.if-not-may_touch.true in
+    (region ∷ [], c.in_ok-push.ensures.pushed, restamped_apart c.args.schema.now c.args.number c.args.parts.now region c.requires.region (c.may_touch.ensures (table_at c.args.schema.now region.table).columns apart))
 
 pub push_split-requires-clause-fit : goal.push_split-requires-clause-fit
 push_split-requires-clause-fit c =

@@ -4,6 +4,7 @@ use Rattle.sr_model.specs.Statements.{Delete, deleted}
 use Rattle.sr_query.specs.Written.{condition_of}
 use Rattle.sr_tables.specs.Stored.{IsKeyed}
 use Rattle.sr_tables.proofs.ByTable.{there, zip-at, zip-set, known-of}
+use Rattle.sr_tables.proofs.Few.{few-of}
 use Rattle.sr_tables.proofs.Done.{done, changed, refused}
 use Rattle.sr_tables.proofs.carry.delete_from.Goals as goal
 
@@ -14,6 +15,11 @@ index_mut-requires c =
 
 pub delete-requires-clause-keyed : goal.delete-requires-clause-keyed
 delete-requires-clause-keyed c = rw (c.table_of-definition.ensures.table, c.index_mut.ensures.value) (zip-at _ _ _ _ c.requires.keyed (known-of c.args.schema.now (Delete c.args.table (condition_of c.args.filter.now.condition)) c.requires.suits))
+
+pub delete-requires-clause-few : goal.delete-requires-clause-few
+delete-requires-clause-few c =
+    let inside : c.args.table < length c.args.all.now.items = there _ _ _ c.requires.keyed (known-of c.args.schema.now (Delete c.args.table (condition_of c.args.filter.now.condition)) c.requires.suits) in
+    rw c.index_mut.ensures.value (few-of _ _ _ inside c.requires.few)
 
 pub returns-clause-done : goal.returns-clause-done
 returns-clause-done c =

@@ -6,6 +6,7 @@ use Rattle.sr_query.specs.Written.{place_of, condition_of}
 use Rattle.sr_cell.specs.Columns.{table_at}
 use Rattle.sr_tables.specs.Stored.{IsKeyed}
 use Rattle.sr_tables.proofs.ByTable.{there, zip-at, zip-set, known-of, suits-of, places-suit}
+use Rattle.sr_tables.proofs.Few.{few-of}
 use Rattle.sr_tables.proofs.Done.{done, changed, refused}
 use Rattle.sr_tables.proofs.carry.update_in.Goals as goal
 
@@ -19,6 +20,11 @@ update-requires-clause-keyed c = rw (c.table_of-definition.ensures.table, c.inde
 
 pub update-requires-clause-places : goal.update-requires-clause-places
 update-requires-clause-places c = rw c.table_of-definition.ensures.table (places-suit (table_at c.args.schema.now c.args.table) c.args.sets.now (suits-of c.args.schema.now (Update c.args.table (map place_of c.args.sets.now) (condition_of c.args.filter.now.condition)) c.requires.suits))
+
+pub update-requires-clause-few : goal.update-requires-clause-few
+update-requires-clause-few c =
+    let inside : c.args.table < length c.args.all.now.items = there _ _ _ c.requires.keyed (known-of c.args.schema.now (Update c.args.table (map place_of c.args.sets.now) (condition_of c.args.filter.now.condition)) c.requires.suits) in
+    rw c.index_mut.ensures.value (few-of _ _ _ inside c.requires.few)
 
 pub returns-clause-done : goal.returns-clause-done
 returns-clause-done c =

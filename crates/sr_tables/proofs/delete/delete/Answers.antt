@@ -1,12 +1,18 @@
 use Rattle.std.proofs.Common.{◌≡◌, sym, ap, subst, ◌∙◌}
 use Rattle.std.specs.Prelude.{Ok}
 use Rattle.sr_query.specs.Written.{condition_of}
+use Rattle.sr_model.specs.Statements.{meets}
 use Rattle.sr_model.specs.Changes.{table_changes}
 use Rattle.sr_keyed.specs.Keyed.{Keyed}
 use Rattle.sr_tables.specs.Stored.{IsKeyed}
-use Rattle.sr_tables.specs.Steps.{removed_by}
+use Rattle.sr_tables.specs.Steps.{delete_change, removed_by}
 use Rattle.sr_tables.proofs.Outcomes.{deleted-done, deleted-changes, deleted-keyed}
+use Rattle.sr_tables.proofs.Few.{few-changes}
 use Rattle.sr_tables.proofs.delete.delete.Goals as goal
+
+pub few_changes-requires : goal.few_changes-requires
+few_changes-requires c =
+    few-changes (delete_change c.args.number c.args.table.now.key) (meets (condition_of c.args.filter.now.condition)) c.args.rows.now.rows c.in-Ok.changes c.in-Ok.ensures c.requires.few
 
 pub returns-clause-done : goal.returns-clause-done
 returns-clause-done c =

@@ -11,7 +11,16 @@ use Rattle.sr_tables.specs.Stored.{IsKeyed}
 use Rattle.sr_tables.specs.Steps.{update_change, is_known}
 use Rattle.sr_tables.proofs.Placing.{are_places}
 use Rattle.sr_tables.proofs.Outcomes.{news-known, updated-done, updated-changes, updated-keyed}
+use Rattle.sr_tables.proofs.Few.{few-changes}
 use Rattle.sr_tables.proofs.update.update.Goals as goal
+
+pub few_changes-requires : goal.few_changes-requires
+few_changes-requires c =
+    let t = c.args.table.now in
+    let places = map place_of c.args.sets.now in
+    let condition = condition_of c.args.filter.now.condition in
+    let are : c.in-Ok.changes ≡ map (update_change c.args.number t.key places condition) (filter (is_changed places condition) c.args.rows.now.rows) = rw c.as_slice-2.ensures at c.in-Ok.ensures in
+    few-changes (update_change c.args.number t.key places condition) (is_changed places condition) c.args.rows.now.rows c.in-Ok.changes are c.requires.few
 
 pub replace_all-requires : goal.replace_all-requires
 replace_all-requires c =

@@ -10,10 +10,6 @@ loop-column-init c = subst (IsTidied c.args.columns.now c.args.keep 0 c.args.rec
 pub settle-requires-clause-fit : goal.settle-requires-clause-fit
 settle-requires-clause-fit c = are_fit c.args.columns.now c.args.rects.now c.loop-column.settled c.loop-column.invariant.cuts
 
-pub returns-in-Err-clause-over : goal.returns-in-Err-clause-over
-returns-in-Err-clause-over c = λ e.
-    let many = c.in-Err.ensures.over e in let few = grid_among c.args.columns.now c.args.rects.now c.loop-column.settled c.loop-column.invariant.cuts in omega (arith, many, few)
-
 pub loop-column-preserved : goal.loop-column-preserved
 loop-column-preserved c =
-    tidied_more c.args.columns.now c.args.keep c.loop-column.column c.args.rects.now c.loop-column.settled c.in-Ok.next c.loop-column.invariant c.in-Ok.ensures.next
+    tidied_more c.args.columns.now c.args.keep c.loop-column.column c.args.rects.now c.loop-column.settled c.in_ok-settled-2.settled c.loop-column.invariant c.in_ok-settled-2.ensures

@@ -1,16 +1,31 @@
-use Rattle.std.proofs.Common.{sym, subst}
+use Rattle.std.proofs.Common.{◌≡◌, [], sym, ◌∙◌, subst, arith}
+use Rattle.std.proofs.lemmas.Grind.{common_steps}
 use Rattle.sr_region.specs.Halves.{IsInside, IsOutside}
 use Rattle.sr_region.proofs.Sides.{inside-from, outside-from}
+use Rattle.sr_region.proofs.Near.{stays-inside, stays-outside}
+use Rattle.sr_union.specs.Pieces.{near}
 use Rattle.sr_region.proofs.region.Region.split.Goals as goal
 
 pub returns-in-Ok-rooms-clause-inside : goal.returns-in-Ok-rooms-clause-inside
 returns-in-Ok-rooms-clause-inside c =
     subst (IsInside c.args.table.now c.args.self c.args.rects.now) (sym c.halves_of.ensures.inside)
-    (inside-from c.args.table.now c.args.self c.args.rects.now c.in-Ok.cut.outside c.in-Ok.cut.inside c.requires.region c.requires.first c.requires.fit c.requires.only
-    c.in-Ok.ensures.outside c.in-Ok.ensures.inside c.in-Ok.ensures.cuts_inside)
+    (inside-from c.args.table.now c.args.self c.args.rects.now c.in-Ok-cut_rects.cut.outside c.in-Ok-cut_rects.cut.inside c.requires.region c.requires.first c.requires.fit c.requires.only
+    c.in-Ok-cut_rects.ensures.outside c.in-Ok-cut_rects.ensures.inside c.in-Ok-cut_rects.ensures.cuts_inside)
 
 pub returns-in-Ok-rooms-clause-outside : goal.returns-in-Ok-rooms-clause-outside
 returns-in-Ok-rooms-clause-outside c =
     subst (IsOutside c.args.table.now c.args.self c.args.rects.now) (sym c.halves_of.ensures.outside)
-    (outside-from c.args.table.now c.args.self c.args.rects.now c.in-Ok.cut.outside c.requires.region c.requires.first c.requires.fit c.requires.only
-    c.in-Ok.ensures.outside c.in-Ok.ensures.cuts)
+    (outside-from c.args.table.now c.args.self c.args.rects.now c.in-Ok-cut_rects.cut.outside c.requires.region c.requires.first c.requires.fit c.requires.only
+    c.in-Ok-cut_rects.ensures.outside c.in-Ok-cut_rects.ensures.cuts)
+
+pub returns-then-len-limit-clause-inside : goal.returns-then-len-limit-clause-inside
+returns-then-len-limit-clause-inside c =
+    let empty : c.in-Ok.meeting ≡ [] = grind (arith, common_steps) in
+    let none : near c.args.rects.now c.args.self.rects ≡ [] = sym c.in-Ok.ensures ∙ empty in
+    stays-inside c.args.table.now c.args.self c.args.rects.now c.requires.region c.requires.first c.requires.fit c.requires.only none
+
+pub returns-then-len-limit-clause-outside : goal.returns-then-len-limit-clause-outside
+returns-then-len-limit-clause-outside c =
+    let empty : c.in-Ok.meeting ≡ [] = grind (arith, common_steps) in
+    let none : near c.args.rects.now c.args.self.rects ≡ [] = sym c.in-Ok.ensures ∙ empty in
+    stays-outside c.args.table.now c.args.self c.args.rects.now c.requires.region c.requires.first c.requires.fit c.requires.only none

@@ -2,7 +2,7 @@ use Rattle.std.proofs.Common.{sym, subst, ap, ◌∙◌}
 use Rattle.std.specs.Prelude.{map}
 use Rattle.sr_store.specs.Noticed.{told_to}
 use Rattle.sr_store.specs.Stores.{IsStore}
-use Rattle.sr_store.proofs.Telling.{store-told}
+use Rattle.sr_store.proofs.Storing.{store-told}
 use Rattle.sr_store.proofs.store.Store.apply.Goals as goal
 
 pub returns-clause-store : goal.returns-clause-store

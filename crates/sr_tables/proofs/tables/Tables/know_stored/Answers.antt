@@ -15,4 +15,4 @@ returns-clause-tables c = rw (← c.self.view_is) c.self.invariant.0
 pub returns-clause-rows : goal.returns-clause-rows
 returns-clause-rows c =
     let up : AllAscend c.as_slice-rows-items.result.now = ascend-all c.as_slice-rows-items.result.now c.loop-rows.rows-index (omega (arith, c.loop-rows-test.false)) c.loop-rows.invariant in
-    rw (← c.self.view_is) (all-stored _ _ c.self.invariant.1 (subst AllAscend c.as_slice-rows-items.ensures.value up))
+    rw (← c.self.view_is) (all-stored _ _ c.self.invariant.1 (subst AllAscend c.as_slice-rows-items.ensures.value up) c.self.invariant.2)

@@ -8,19 +8,19 @@ use Rattle.sr_union.proofs.Free.{settled_all}
 use Rattle.sr_union.proofs.rects.Rects.tidy.Goals as goal
 
 pub once_all-requires-clause-fit : goal.once_all-requires-clause-fit
-once_all-requires-clause-fit c = are_fit c.as_slice-columns.result.now c.args.self.now c.in-Ok.settled c.in-Ok.ensures.cuts
+once_all-requires-clause-fit c = are_fit c.as_slice-columns.result.now c.args.self.now c.in_ok-settled.settled c.in_ok-settled.ensures.cuts
 
-pub returns-in-Ok-clause-essential : goal.returns-in-Ok-clause-essential
-returns-in-Ok-clause-essential c =
+pub returns-clause-essential : goal.returns-clause-essential
+returns-clause-essential c =
     IfOk-weaker c.once_all.result _ _ (λ tidy cuts. subst (λ columns. AllConstrainEssential columns c.args.keep c.args.self.now tidy) c.as_slice-columns.ensures
-    (settled_all c.as_slice-columns.result.now c.args.keep c.args.self.now c.in-Ok.settled tidy c.in-Ok.ensures.settled cuts)) c.once_all.ensures.cuts
+    (settled_all c.as_slice-columns.result.now c.args.keep c.args.self.now c.in_ok-settled.settled tidy c.in_ok-settled.ensures.settled cuts)) c.once_all.ensures.cuts
 
-pub returns-in-Ok-clause-cuts : goal.returns-in-Ok-clause-cuts
-returns-in-Ok-clause-cuts c =
+pub returns-clause-cuts : goal.returns-clause-cuts
+returns-clause-cuts c =
     IfOk-weaker c.once_all.result _ _ (λ tidy cuts. subst (λ columns. AreCutFrom columns c.args.self.now tidy) c.as_slice-columns.ensures
-    (are_trans c.as_slice-columns.result.now c.args.self.now c.in-Ok.settled tidy c.in-Ok.ensures.cuts cuts)) c.once_all.ensures.cuts
+    (are_trans c.as_slice-columns.result.now c.args.self.now c.in_ok-settled.settled tidy c.in_ok-settled.ensures.cuts cuts)) c.once_all.ensures.cuts
 
-pub returns-in-Ok-clause-over : goal.returns-in-Ok-clause-over
-returns-in-Ok-clause-over c = λ e.
-    let many = c.once_all.ensures.over e in let few = grid_among c.as_slice-columns.result.now c.args.self.now c.in-Ok.settled c.in-Ok.ensures.cuts in
+pub returns-clause-over : goal.returns-clause-over
+returns-clause-over c = λ e.
+    let many = c.once_all.ensures.over e in let few = grid_among c.as_slice-columns.result.now c.args.self.now c.in_ok-settled.settled c.in_ok-settled.ensures.cuts in
     let same = ap (λ columns. grid columns c.args.self.now) c.as_slice-columns.ensures in omega (arith, many, few, same)

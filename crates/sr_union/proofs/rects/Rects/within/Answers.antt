@@ -1,21 +1,13 @@
-use Rattle.std.proofs.Common.{◌++◌, subst}
-use Rattle.sr_union.specs.Pieces.{IsMinus}
-use Rattle.sr_union.specs.Grid.{AreCutFrom}
-use Rattle.sr_union.proofs.Parts.{are_fit}
-use Rattle.sr_union.proofs.Within.{within_from, outside_from}
+use Rattle.std.proofs.Common.{◌≡◌, true, false, subst}
+use Rattle.sr_union.specs.Pieces.{IsWithin, HasOutside}
+use Rattle.sr_union.proofs.Searching.{decided}
 use Rattle.sr_union.proofs.rects.Rects.within.Goals as goal
 
-pub returns-in-Ok-clause-within : goal.returns-in-Ok-clause-within
-returns-in-Ok-clause-within c =
-    let columns = c.args.table.now.columns in
-    let points = subst (λ cs. IsMinus cs c.args.self.now c.args.other.now c.in-Ok.left) c.as_slice.ensures c.in-Ok.ensures.points in
-    let fit = are_fit columns (c.args.self.now ++ c.args.other.now) c.in-Ok.left (subst (λ cs. AreCutFrom cs (c.args.self.now ++ c.args.other.now) c.in-Ok.left) c.as_slice.ensures c.in-Ok.ensures.cuts) in
-    let both = within_from columns c.args.self.now c.args.other.now c.in-Ok.left c.requires.first points fit in
-    ((λ yes. both.0 (c.is_empty.ensures.0 yes)), λ within. c.is_empty.ensures.1 (both.1 within))
-
-pub returns-in-Ok-clause-outside : goal.returns-in-Ok-clause-outside
-returns-in-Ok-clause-outside c = λ is.
-    let columns = c.args.table.now.columns in
-    let points = subst (λ cs. IsMinus cs c.args.self.now c.args.other.now c.in-Ok.left) c.as_slice.ensures c.in-Ok.ensures.points in
-    let fit = are_fit columns (c.args.self.now ++ c.args.other.now) c.in-Ok.left (subst (λ cs. AreCutFrom cs (c.args.self.now ++ c.args.other.now) c.in-Ok.left) c.as_slice.ensures c.in-Ok.ensures.cuts) in
-    outside_from columns c.args.self.now c.args.other.now c.in-Ok.left c.requires.first points fit (λ none. absurd (cc (c.is_empty.ensures.1 none, is)))
+pub returns-clause-within : goal.returns-clause-within
+returns-clause-within c =
+    let yes = c.in_ok-all_inside.field-0 in
+    let within = subst (λ cs. yes ≡ true → IsWithin cs c.args.self.now c.as_slice.result.now) c.as_slice-columns.ensures c.in_ok-all_inside.ensures.within in
+    let outside = subst (λ cs. yes ≡ false → HasOutside cs c.args.self.now c.as_slice.result.now) c.as_slice-columns.ensures c.in_ok-all_inside.ensures.outside in
+    decided c.args.table.now.columns c.args.self.now c.args.other.now yes
+    (subst (λ qs. yes ≡ true → IsWithin c.args.table.now.columns c.args.self.now qs) c.as_slice.ensures within)
+    (subst (λ qs. yes ≡ false → HasOutside c.args.table.now.columns c.args.self.now qs) c.as_slice.ensures outside)

@@ -29,3 +29,15 @@ loop-message-preserved c =
           let more : All (TellsRows schema) (m ∷ left) = subst (All (TellsRows schema)) rest now.1 in
           (done.store schema now.0 (All-head (TellsRows schema) m left more), All-tail (TellsRows schema) m left more);
     }
+
+pub apply_one-requires : goal.apply_one-requires
+apply_one-requires c =
+    let schema = c.requires.0 in
+    let m = c.in-Some.message in
+    let left : List Message = c.next.new.self.rest.items in
+    let rest : c.loop-message.message-iterator.rest.items ≡ m ∷ left = c.in-Some.ensures.steps.0 in
+    let now = c.loop-message.invariant.store schema c.requires.1 c.requires.2 in
+    (schema, now.0, All-head (TellsRows schema) m left (subst (All (TellsRows schema)) rest now.1))
+
+pub returns-clause-store : goal.returns-clause-store
+returns-clause-store c = λ schema store tells. (c.loop-message.invariant.store schema store tells).0

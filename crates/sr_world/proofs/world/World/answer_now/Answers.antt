@@ -4,7 +4,7 @@ use Rattle.sr_scene.specs.Steps.{mark_line}
 use Rattle.std.specs.List.{All}
 use Rattle.sr_world.proofs.Calls.{Answers, IsAfter, after-of, answers-of}
 use Rattle.sr_world.proofs.NowLemmas.{does-now, lines-joined}
-use Rattle.sr_world.proofs.MeantLemmas.{Fit, Only, parts-fit, parts-only}
+use Rattle.sr_world.proofs.MeantLemmas.{Fit, Only, Named, parts-fit, parts-only, parts-named}
 use Rattle.sr_world.proofs.world.World.answer_now.Goals as goal
 
 pub answered-requires-clause-fit : goal.answered-requires-clause-fit
@@ -15,6 +15,11 @@ answered-requires-clause-fit c =
 pub answered-requires-clause-only : goal.answered-requires-clause-only
 answered-requires-clause-only c =
     subst (All Only) (sym c.as_slice-2.ensures) (parts-only c.args.self.now.server.tables.schema c.args.query.now c.requires.asks.0 c.requires.asks.1)
+
+pub answered-requires-clause-named : goal.answered-requires-clause-named
+answered-requires-clause-named c =
+    subst (All (Named c.schema.result.now)) (sym c.as_slice-2.ensures)
+    (subst (λ s. All (Named s) c.args.query.now.parts) (sym c.schema.ensures) (parts-named c.args.self.now.server.tables.schema c.args.query.now c.requires.asks.0 c.requires.asks.1))
 
 pub returns-clause-event : goal.returns-clause-event
 returns-clause-event c = λ meaning is.

@@ -1,4 +1,5 @@
-use Rattle.std.proofs.Common.{rules, [], ◌≡◌, ◌∙◌, subst, ap, arith, length, true, false, None, Ok, refl}
+use Rattle.std.proofs.Common.{rules, [], ◌≡◌, ◌≤◌, ◌∙◌, subst, ap, arith, length, true, false, None, Ok, refl}
+use Rattle.sr_message.specs.Sizes.{most_rects, count_asked}
 use Rattle.sr_language.specs.Events.{QueryOf}
 use Rattle.sr_world.specs.Asking.{AsksRest}
 use Rattle.sr_world.specs.Cutting.{AreCutAlong}
@@ -36,5 +37,6 @@ returns-else-is_empty-clause-event c = λ meaning is.
     let some : asks ≡ [] → ⊥ = λ none. absurd (let wrong : false ≡ true = c.if-is_empty.ensures.1 none in cc) in
     let rest = asks-of s c.schema.result.now w.client.store.regions q.parts c.as_slice.result.now asks c.schema.ensures c.as_slice.ensures c.in-Ok.ensures.asks in
     let along = subst (λ ps. AreCutAlong s w.client.store.regions ps asks) c.as_slice.ensures (subst (λ s. AreCutAlong s w.client.store.regions c.as_slice.result.now asks) c.schema.ensures c.in-Ok.ensures.cuts) in
+    let few : count_asked asks ≤ most_rects = c.in-Ok.ensures.rects in
     if_each (DoesEvent (QueryOf 1 (Ok meaning)) w new) c.send_ask.result
-    (λ lines e. does-ask w q meaning asks new lines idle is rest along some (of_ok (IsSent w q asks new) c.send_ask.result lines e c.send_ask.ensures.sent))
+    (λ lines e. does-ask w q meaning asks new lines idle is rest along some few (of_ok (IsSent w q asks new) c.send_ask.result lines e c.send_ask.ensures.sent))

@@ -12,7 +12,7 @@ use Rattle.sr_world.proofs.Calls.{IsAfter, answers-of}
 use Rattle.sr_world.proofs.Coming.{laid_regions}
 use Rattle.sr_world.proofs.NowLemmas.{lines-joined}
 use Rattle.sr_world.proofs.MeantLemmas.{Only}
-use Rattle.sr_world.proofs.FinishLemmas.{are-read, store-allows, store-fits, store-stands, after-read, IsFinished, finish-needs, does-finish}
+use Rattle.sr_world.proofs.FinishLemmas.{are-read, store-allows, store-fits, store-names, store-stands, after-read, IsFinished, finish-needs, does-finish}
 use Rattle.sr_world.proofs.world.World.finish.Goals as goal
 
 pub apply_laid-requires : goal.apply_laid-requires
@@ -74,15 +74,24 @@ answered-requires-clause-apart c =
     let allows = store-allows w out c.schema-schema.result.now c.as_slice-4.result.now c.in_ok-arrivals.arrivals c.apply_laid.new.self.store read needs in
     allows.apart
 
-pub answered-requires-clause-told : goal.answered-requires-clause-told
-answered-requires-clause-told c =
+pub answered-requires-clause-named : goal.answered-requires-clause-named
+answered-requires-clause-named c =
+    let w = c.args.self.now in
+    let out = c.args.out.now in
+    let needs = finish-needs c.requires.finishing.0 w out c.args.version c.requires.finishing.1 in
+    let read = are-read w out c.schema-schema.result.now c.as_slice.result.now c.as_slice-4.result.now c.replace-laid.result c.replace-laid.new.dest c.apply_laid.new.self c.in_ok-came.came c.in_ok-arrivals.arrivals
+    c.schema-schema.ensures c.as_slice.ensures c.as_slice-4.ensures c.replace-laid.ensures.value c.in_ok-came.ensures.applied c.in_ok-came.ensures.rows c.in_ok-arrivals.ensures in
+    store-names w out c.schema-schema.result.now c.as_slice-4.result.now c.in_ok-arrivals.arrivals c.apply_laid.new.self.store read needs
+
+pub answered-requires-clause-own : goal.answered-requires-clause-own
+answered-requires-clause-own c =
     let w = c.args.self.now in
     let out = c.args.out.now in
     let needs = finish-needs c.requires.finishing.0 w out c.args.version c.requires.finishing.1 in
     let read = are-read w out c.schema-schema.result.now c.as_slice.result.now c.as_slice-4.result.now c.replace-laid.result c.replace-laid.new.dest c.apply_laid.new.self c.in_ok-came.came c.in_ok-arrivals.arrivals
     c.schema-schema.ensures c.as_slice.ensures c.as_slice-4.ensures c.replace-laid.ensures.value c.in_ok-came.ensures.applied c.in_ok-came.ensures.rows c.in_ok-arrivals.ensures in
     let allows = store-allows w out c.schema-schema.result.now c.as_slice-4.result.now c.in_ok-arrivals.arrivals c.apply_laid.new.self.store read needs in
-    allows.told
+    allows.own
 
 pub returns-clause-delivery : goal.returns-clause-delivery
 returns-clause-delivery c = λ before t.

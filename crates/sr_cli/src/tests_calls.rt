@@ -1,0 +1,83 @@
+//! Calls that no script makes, each once, at values worked out by hand.
+ghost use Rattle.std.specs.Prelude.{◌≡◌, pos, true, IfOk};
+ghost use Rattle.sr_union.specs.Grid.{all_inner, have_first};
+
+use sr_box::rect::Rect;
+use sr_box::span::Span;
+use sr_cell::list::{Copied, NoMemory, Seq};
+use sr_cell::schema::Schema;
+use sr_cell::table::{Column, Kind, Table};
+use sr_cell::text::Text;
+use sr_script::line::TraceLine;
+use sr_script::text::trace_text;
+use sr_union::rects::Rects;
+use std::alloc::Global;
+use std::test::Fail;
+
+// Numbers from 0 to 99.
+fn numbers(alloc: Global) -> Result<Table, NoMemory>
+    ensures inner { IfOk result (λ table. all_inner table.columns ≡ true) }
+    ensures first { IfOk result (λ table. have_first table.columns ≡ true) }
+{
+    let mut columns = Seq::new(alloc);
+    columns.push(Column {
+        name: Text::of(alloc, "id")?,
+        kind: Kind::Num,
+        lo: 0,
+        hi: 99,
+    })?;
+    Ok(Table {
+        name: Text::of(alloc, "n")?,
+        columns,
+        key: 0,
+    })
+}
+
+fn rects_of(alloc: Global, lo: i64, hi: i64) -> Result<Rects, NoMemory> {
+    let mut rect = Rect::new(alloc);
+    rect.push(Span::Nums { lo, hi })?;
+    let mut rects = Rects::new(alloc);
+    rects.push(rect)?;
+    Ok(rects)
+}
+
+/// The numbers from 10 to 50 without those from 20 to 30 are two rects.
+#[test]
+fn a_difference_has_its_rects(rt: HostRuntime) -> Result<(), Fail> {
+    let alloc = rt.alloc();
+    let table = numbers(alloc)?;
+    let rects = rects_of(alloc, 10, 50)?;
+    let others = rects_of(alloc, 20, 30)?;
+    assert!(rt; rects.fits(&table));
+    assert!(rt; others.fits(&table));
+    assert_eq!(rt; rects.difference(alloc, &others, &table)?.len(), 2);
+    Ok(())
+}
+
+#[test]
+fn a_schema_is_copied(rt: HostRuntime) -> Result<(), Fail> {
+    let alloc = rt.alloc();
+    let mut schema = Schema::new(alloc);
+    assert_eq!(rt; schema.add(alloc, numbers(alloc)?), Ok(()));
+    assert_eq!(rt; schema.copy(alloc)?.table_of("n"), Some(0));
+    Ok(())
+}
+
+#[test]
+fn lines_are_printed(rt: HostRuntime) -> Result<(), Fail> {
+    let alloc = rt.alloc();
+    let client = 1;
+    for (line, printed) in [
+        (
+            TraceLine::QueryBusy { client, request: 1 },
+            "6 query 1 busy 1\n",
+        ),
+        (TraceLine::PushClosed { client }, "6 push 1 closed\n"),
+        (TraceLine::ServerEmpty { client }, "6 toserver 1 empty\n"),
+        (TraceLine::ClientEmpty { client }, "6 toclient 1 empty\n"),
+    ] {
+        let text = trace_text(alloc, &[], 6, &line)?;
+        assert_eq!(rt; text.as_str(), printed);
+    }
+    Ok(())
+}

@@ -1,0 +1,8 @@
+use Rattle.std.proofs.Common.{List, take, ◌+◌}
+use Rattle.std.specs.List.{AllByRecursion}
+use Rattle.sr_cell.specs.declared.cell.Cell.{Cell}
+use Rattle.sr_condition.specs.Ranges.{is_left, EndsAt, AreApart}
+use Rattle.sr_condition.proofs.spans.left_by.Given as goal
+
+abbrev pub invariant-loop-span : goal.invariant-loop-span
+invariant-loop-span l = (places : List Cell) → AllByRecursion (EndsAt l.column places) l.taken → AreApart l.column (is_left (take l.span-index l.taken)) (l.span-index + 1) places l.spans

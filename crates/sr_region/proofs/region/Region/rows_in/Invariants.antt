@@ -1,7 +1,0 @@
-use Rattle.std.proofs.Common.{◌≡◌, ◌++◌, map, drop}
-use Rattle.std.specs.Prelude.{filter}
-use Rattle.sr_region.specs.Regions.{is_in}
-use Rattle.sr_region.proofs.region.Region.rows_in.Given as goal
-
-abbrev pub invariant-loop-row : goal.invariant-loop-row
-invariant-loop-row l = map (λ r. r.now) l.found.items ++ filter (is_in l.self.attrs l.rects) (drop l.row-index l.row-items) ≡ filter (is_in l.self.attrs l.rects) l.row-items

@@ -7,7 +7,9 @@ use Rattle.sr_message.specs.declared.message.Message.TheVariants.{Hello, Resume,
 use Rattle.sr_session.specs.Sessions.{Database, Session}
 use Rattle.sr_session.specs.Walks.{AreLaid, AskOut, IsAskOf, IsResumeOf, IsWriteOf, Mirror, Passes, Request, ResumeOut, Walks, WriteOut, brought, forgot, noticed, walked}
 use Rattle.sr_session.specs.Clients.{Flows, is_idle, is_sent, is_served, mirror_of}
-use Rattle.sr_session.specs.Misfits.{IsShapely, Misfit, Number, Shape, State, Version, is_ask, is_number, is_resume, is_write, known, misfit, or_else, parts_of, rows_suit, told_suits}
+use Rattle.sr_wire.specs.declared.bad_frame.BadFrame.{BadFrame}
+use Rattle.sr_wire.specs.declared.bad_frame.BadFrame.TheVariants.{Number, Shape, State, Version}
+use Rattle.sr_session.specs.Misfits.{IsShapely, is_ask, is_number, is_resume, is_write, known, misfit, or_else, parts_of, rows_suit, told_suits}
 use Rattle.sr_session.specs.Laws.{PromisesFit}
 use Rattle.sr_session.proofs.TakeLemmas.{walks-split}
 
@@ -54,7 +56,7 @@ shape-only : (b : Bool) → IsShapely (or_else b Shape None)
 shape-only true = tt
 shape-only false = tt
 
-past : (b : Bool) (why : Misfit) (later : Option Misfit) → b ≡ false → IsShapely later → IsShapely (or_else b why later)
+past : (b : Bool) (why : BadFrame) (later : Option BadFrame) → b ≡ false → IsShapely later → IsShapely (or_else b why later)
 past true why later none h = absurd (cc)
 past false why later none h = h
 

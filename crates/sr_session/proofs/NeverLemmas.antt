@@ -9,14 +9,16 @@ use Rattle.sr_message.specs.declared.message.Message.TheVariants.{Hello, Resume,
 use Rattle.sr_session.specs.Sessions.{Database, Session}
 use Rattle.sr_session.specs.Walks.{AskOut, Request, ResumeOut, WriteOut}
 use Rattle.sr_session.specs.Clients.{Client, Connection, IsOpen}
-use Rattle.sr_session.specs.Misfits.{IsShapely, Misfit, Number, Shape, State, Version, is_ask, is_number, is_resume, is_write, known, misfit, or_else, rows_suit, told_suits}
+use Rattle.sr_wire.specs.declared.bad_frame.BadFrame.{BadFrame}
+use Rattle.sr_wire.specs.declared.bad_frame.BadFrame.TheVariants.{Number, Shape, State, Version}
+use Rattle.sr_session.specs.Misfits.{IsShapely, is_ask, is_number, is_resume, is_write, known, misfit, or_else, rows_suit, told_suits}
 use Rattle.sr_session.specs.Laws.{IsSound, NeverRefused, OutAsksKeys}
 use Rattle.sr_session.proofs.FitLemmas.{promises-fit}
 use Rattle.sr_session.proofs.ShapeLemmas.{promised-rows-suit}
 use Rattle.sr_session.proofs.TellLemmas.{promised-tells-suit}
 
 -- a reason other than the shape does not stand
-unless : (b : Bool) (why : Misfit) (later : Option Misfit) → (IsShapely (Some why) → ⊥) → IsShapely (or_else b why later) → (or_else b why later ≡ later) × IsShapely later
+unless : (b : Bool) (why : BadFrame) (later : Option BadFrame) → (IsShapely (Some why) → ⊥) → IsShapely (or_else b why later) → (or_else b why later ≡ later) × IsShapely later
 unless true why later other h = absurd (other h)
 unless false why later other h = (refl, h)
 
@@ -24,7 +26,7 @@ suited : (b : Bool) → b ≡ true → or_else (not b) Shape None ≡ None
 suited true e = refl
 suited false e = absurd (cc)
 
-none-of : (b : Bool) (why : Misfit) → (IsShapely (Some why) → ⊥) → IsShapely (or_else b why None) → or_else b why None ≡ None
+none-of : (b : Bool) (why : BadFrame) → (IsShapely (Some why) → ⊥) → IsShapely (or_else b why None) → or_else b why None ≡ None
 none-of b why other h = (unless b why None other h).0
 
 numbered : (state number version : Bool) → IsShapely (or_else state State (or_else number Number (or_else version Version None))) → or_else state State (or_else number Number (or_else version Version None)) ≡ None

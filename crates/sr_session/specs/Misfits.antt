@@ -12,16 +12,9 @@ use Rattle.sr_model.specs.SortedRows.{ascend}
 use Rattle.sr_region.specs.Regions.{rank, is_in}
 use Rattle.sr_message.specs.declared.message.Message.{Message}
 use Rattle.sr_message.specs.declared.message.Message.TheVariants.{Hello, Resume, Ask, Write, Welcome, Notice, Rows, Reply, Written, Refused, Lapse}
+use Rattle.sr_wire.specs.declared.bad_frame.BadFrame.{BadFrame}
+use Rattle.sr_wire.specs.declared.bad_frame.BadFrame.TheVariants.{Direction, State, Number, Version, Shape}
 use Rattle.sr_session.specs.Walks.{Request, AskOut, WriteOut, ResumeOut}
-
--- A kind that clients send; an answer to a kind of request that is not out; another request's number; an earlier version; or rows or
--- tells of a wrong shape.
-pub data Misfit : Type 0 where
-  Direction : Misfit
-  State : Misfit
-  Number : Misfit
-  Version : Misfit
-  Shape : Misfit
 
 -- the greatest version of the client and of what is laid by
 abbrev pub version_of : Message → ℕ → ℕ
@@ -122,12 +115,12 @@ told_suits schema told = list_all (tell_suits schema) told && tells_ascend told
 
 -- ---- the first reason
 
-abbrev pub or_else : Bool → Misfit → Option Misfit → Option Misfit
+abbrev pub or_else : Bool → BadFrame → Option BadFrame → Option BadFrame
 or_else true why later = Some why
 or_else false why later = later
 
 -- What stands against a message, where the client has this request out, these messages laid by, and this version.
-abbrev pub misfit : List Table → Option Request → List Message → ℕ → Message → Option Misfit
+abbrev pub misfit : List Table → Option Request → List Message → ℕ → Message → Option BadFrame
 misfit schema out laid version (Notice w told) = or_else (nat_le w (known version laid)) Version (or_else (not (told_suits schema told)) Shape None)
 misfit schema out laid version (Lapse w) = or_else (nat_le w (known version laid)) Version None
 misfit schema out laid version (Rows k part rows) =
@@ -142,7 +135,7 @@ misfit schema out laid version (Ask number fresh parts) = Some Direction
 misfit schema out laid version (Write number sql) = Some Direction
 
 -- at most the shape
-abbrev pub IsShapely : Option Misfit → Type 0
+abbrev pub IsShapely : Option BadFrame → Type 0
 IsShapely None = Unit {0}
 IsShapely (Some Shape) = Unit {0}
 IsShapely (Some other) = ⊥

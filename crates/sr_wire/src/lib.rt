@@ -1,0 +1,4 @@
+//! Messages as frames of bytes.
+#![tactic(auto)]
+
+pub mod bad_frame;

@@ -51,7 +51,10 @@ pub type Holdings = Seq<Holding>;
 #[derive(Drop)]
 pub enum Message {
     /// A session begins for a client that holds nothing.
-    Hello { client: u8, number: u64 },
+    Hello {
+        client: u8,
+        number: u64,
+    },
     /// A session begins again: the client holds these points, with the rows of that version.
     Resume {
         client: u8,
@@ -66,7 +69,10 @@ pub enum Message {
         parts: AskParts,
     },
     /// A statement that writes is to be carried out.
-    Write { number: u64, sql: Text },
+    Write {
+        number: u64,
+        sql: Text,
+    },
     /// The session is open from that version on; what the client holds is kept, or is to be dropped.
     Welcome {
         number: u64,
@@ -74,17 +80,35 @@ pub enum Message {
         kept: bool,
     },
     /// What a version changes of the subscribed points.
-    Notice { version: u64, told: Told },
+    Notice {
+        version: u64,
+        told: Told,
+    },
     /// Some rows of a part of an ask; parts count from 0.
-    Rows { number: u64, part: u8, rows: Rows },
+    Rows {
+        number: u64,
+        part: u8,
+        rows: Rows,
+    },
     /// All rows of the ask were sent, and they are of that version.
-    Reply { number: u64, version: u64 },
+    Reply {
+        number: u64,
+        version: u64,
+    },
     /// The write made that version.
-    Written { number: u64, version: u64 },
+    Written {
+        number: u64,
+        version: u64,
+    },
     /// The write was refused, and changed nothing.
-    Refused { number: u64, fault: Fault },
+    Refused {
+        number: u64,
+        fault: Fault,
+    },
     /// What changed up to that version cannot be told any more: all that is held is to be dropped.
-    Lapse { version: u64 },
+    Lapse {
+        version: u64,
+    },
 }
 
 pub type Messages = Seq<Message>;

@@ -149,14 +149,14 @@ fn is_row_of(row: &Row, id: i64) -> bool {
 }
 
 fn are(rows: RowsIn, ids: &[i64]) -> bool {
-    let mut count = 0;
-    for lent in rows {
-        if count == ids.len() || !is_row_of(lent.row, ids[count]) {
-            return false;
+    let mut rows = rows;
+    for id in ids {
+        match rows.next() {
+            Some(lent) if is_row_of(lent.row, *id) => {}
+            _ => return false,
         }
-        count += 1;
     }
-    count == ids.len()
+    rows.next().is_none()
 }
 
 #[test]

@@ -29,7 +29,7 @@ gained (Dropped cause u a stamp rects ∷ ms) t p = gained ms t p
 
 -- ---- held under some columns
 
-some-attrs : (F : ℕ → Bool) (ms : List Mark) (t a : ℕ) (p : Row) → is_held ms t a p ≡ true → F a ≡ true → list_any (λ mark. F (attrs_of mark)) ms ≡ true
+pub some-attrs : (F : ℕ → Bool) (ms : List Mark) (t a : ℕ) (p : Row) → is_held ms t a p ≡ true → F a ≡ true → list_any (λ mark. F (attrs_of mark)) ms ≡ true
 some-attrs F [] t a p is own = absurd (cc)
 some-attrs F (mark ∷ ms) t a p is own = go (concerns mark t a p) refl is (some-attrs F ms t a p)
   where
@@ -51,7 +51,7 @@ some-attrs F (mark ∷ ms) t a p is own = go (concerns mark t a p) refl is (some
 pub held-some : (ms : List Mark) (t a : ℕ) (p : Row) → is_held ms t a p ≡ true → held ms t p ≡ true
 held-some ms t a p is = some-attrs (λ a. is_held ms t a p) ms t a p is is
 
-any-attrs : (F : ℕ → Bool) (ms : List Mark) → list_any (λ mark. F (attrs_of mark)) ms ≡ true → (a : ℕ) × (F a ≡ true)
+pub any-attrs : (F : ℕ → Bool) (ms : List Mark) → list_any (λ mark. F (attrs_of mark)) ms ≡ true → (a : ℕ) × (F a ≡ true)
 any-attrs F [] is = absurd (cc)
 any-attrs F (mark ∷ ms) is = go (F (attrs_of mark)) refl is (any-attrs F ms)
   where

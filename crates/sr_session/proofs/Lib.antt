@@ -22,3 +22,5 @@ pub mod ReachLemmas
 pub mod AnswerLemmas
 pub mod GrowLemmas
 pub mod PointLemmas
+pub mod CountLemmas
+pub mod BudgetLemmas

@@ -141,7 +141,7 @@ rows-drop : (schema : List Table) (limits : Limits) (count : List Mark → ℕ) 
 rows-drop schema limits count queries marks [] h = tt
 rows-drop schema limits count queries marks (d ∷ drops) h = (is-drop schema marks queries _ h.1 d h.3, rows-drop schema limits count queries (d ∷ marks) drops h.4)
 
-regions-drop : (schema : List Table) (limits : Limits) (queries : List Numbered) (marks drops : List Mark) → DropsForRegions schema limits queries marks drops → AreDrops drops
+pub regions-drop : (schema : List Table) (limits : Limits) (queries : List Numbered) (marks drops : List Mark) → DropsForRegions schema limits queries marks drops → AreDrops drops
 regions-drop schema limits queries marks [] h = tt
 regions-drop schema limits queries marks (d ∷ drops) h = (is-drop schema marks queries _ h.3 d h.5, regions-drop schema limits queries (d ∷ marks) drops h.6)
 

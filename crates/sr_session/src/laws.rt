@@ -1,5 +1,5 @@
 //! Laws of the definitions: functions that do nothing, and whose contracts are the laws.
-ghost use Rattle.sr_session.specs.Headline.{ACoveredQueryIsAnswered, ACoveredQuerySendsNothing, AnAskAsksTheUncovered, AnswersAreRight, AnswersNeverFall, AsksByPoints, QueriesKeepTheirNumbers, VersionsNeverFall};
+ghost use Rattle.sr_session.specs.Headline.{ACoveredQueryIsAnswered, ACoveredQuerySendsNothing, AnAskAsksTheUncovered, AnswersAreRight, AnswersNeverFall, AsksByPoints, CachesKeepToTheirBudgets, QueriesKeepTheirNumbers, VersionsNeverFall};
 ghost use Rattle.sr_session.specs.Laws.{AnsweringKeeps, AskingAgainKeeps, ExecKeeps, ForgettingKeeps, LayingKeeps, NeverRefused, NoticingKeeps, PromisedRowsSuit, PromisedTellsSuit, PromisesFit, PushKeeps, RepliesAreAnswerable, RowsAreAsked, TakingAsksKeeps};
 ghost use Rattle.sr_session.specs.Regions.{LaidMessagesKeepTrue};
 ghost use Rattle.sr_session.specs.Scenes.{EventsKeep, FirstStands, OthersStay, RunsStand};
@@ -144,4 +144,10 @@ pub fn asks_by_points()
 pub fn a_covered_query_sends_nothing()
     ensures silent { ACoveredQuerySendsNothing }
     ensures answered { ACoveredQueryIsAnswered }
+{}
+
+/// In each scene of each run, where the tables are of the schema, no client keeps more rows at its version, or more classes, than its
+/// budgets allow.
+pub fn caches_keep_to_their_budgets()
+    ensures budgets { CachesKeepToTheirBudgets }
 {}

@@ -1,6 +1,6 @@
 -- Answers are right, and asks ask the uncovered.
-use Rattle.std.proofs.Common.{◌≡◌, ℕ, ◌+◌, ◌-◌, ◌≤◌, Bool, true, false, List, [], ◌∷◌, ◌++◌, length, refl, sym, ◌∙◌, ap, subst, arith, Option, Some, None, length-append}
-use Rattle.std.specs.Prelude.{slice_get, slice_set, Result, Ok, Err}
+use Rattle.std.proofs.Common.{◌≡◌, ℕ, ◌+◌, ◌-◌, ◌≤◌, Bool, true, false, List, [], ◌∷◌, ◌++◌, length, refl, sym, ◌∙◌, ap, subst, arith, Some, None, length-append}
+use Rattle.std.specs.Prelude.{slice_get, slice_set, Result, Ok}
 use Rattle.sr_cell.specs.declared.fault.Fault.{Fault}
 use Rattle.sr_cell.specs.Cells.{Row}
 use Rattle.sr_message.specs.declared.message.AskPart.{AskPart}
@@ -13,9 +13,9 @@ use Rattle.sr_history.specs.Marks.{with_marks}
 use Rattle.sr_history.specs.Rests.{Asks}
 use Rattle.sr_history.specs.Classes.{Numbered}
 use Rattle.sr_session.specs.Sessions.{Database, tables_of}
-use Rattle.sr_session.specs.Walks.{AskOut, Request}
-use Rattle.sr_session.specs.Clients.{Client, Connection, Pair, Stands, answered, is_down, is_open, is_resuming}
-use Rattle.sr_session.specs.Rules.{Answered, AnswersWith, AskSent, Basis, Before, CutStep, EvictStep, Outcome, QueryStep, ResumeStep, TakeStep, WriteStep, already_cut, already_up, answering_now, answering_then, answers, applies, as_it_is, asks_once_more, cuts, emptied, evict_busy, evicts, evicts_none, forgets, is_welcomed, lays, next_query, query_answered, query_asks, query_busy, query_down, query_refused, refused_write, resumes, with_answered, with_ask, with_query, write_busy, write_down, write_sends, written}
+use Rattle.sr_session.specs.Walks.{AskOut}
+use Rattle.sr_session.specs.Clients.{Client, Connection, Pair, Stands, is_down, is_open, is_resuming}
+use Rattle.sr_session.specs.Rules.{Answered, AnswersWith, AskSent, Basis, Before, CutStep, EvictStep, Outcome, QueryStep, ResumeStep, TakeStep, WriteStep, already_cut, already_up, answering_now, answering_then, answers, applies, as_it_is, asks_once_more, cuts, emptied, evict_busy, evicts, evicts_none, forgets, is_welcomed, lays, next_query, query_answered, query_asks, query_busy, query_down, query_refused, refused_write, resumes, with_ask, write_busy, write_down, write_sends, written}
 use Rattle.sr_session.specs.Tidy.{IsTidy, IsTidyWith}
 use Rattle.sr_session.specs.Scenes.{CutOf, Did, Event, EvictOf, Happens, QueryOf, Report, ResumeOf, Scene, SceneStands, ToClient, WriteOf, acted, basis_of, client_idle, client_of, client_took, cut, cut_off, evicted, executed, not_executed, pair_at, push_closed, pushed, queried, resumed, server_idle, server_took, with_pair, wrote}
 use Rattle.sr_session.specs.Headline.{AnAskAsksTheUncovered, AnswersAreRight, IsAbout, query_at}

@@ -1,22 +1,22 @@
 -- How many rows and classes marks keep.
-use Rattle.std.proofs.Common.{◌≡◌, ℕ, suc, ◌+◌, ◌≤◌, Bool, true, false, List, [], ◌∷◌, ◌++◌, length, map, refl, sym, ◌∙◌, ap, subst, arith, Option, Some, None}
-use Rattle.std.specs.Prelude.{◌&&◌, ◌||◌, ◌==◌, not, if◌then◌else◌, cond, max, sum_by, count_by}
+use Rattle.std.proofs.Common.{◌≡◌, ℕ, suc, ◌+◌, ◌≤◌, Bool, true, false, List, [], ◌∷◌, ◌++◌, length, map, refl, sym, ◌∙◌, ap, subst, arith}
+use Rattle.std.specs.Prelude.{◌&&◌, ◌||◌, ◌==◌, if◌then◌else◌, cond, sum_by, count_by}
 use Rattle.std.specs.List.{list_all, list_any}
 use Rattle.std.proofs.lemmas.Bool.Decides.{nat_tests}
 use Rattle.sr_cell.specs.declared.table.Table.{Table}
 use Rattle.sr_cell.specs.declared.cause.Cause.{Cause}
 use Rattle.sr_cell.specs.Cells.{Row}
 use Rattle.sr_cell.specs.Columns.{is_point, table_at}
-use Rattle.sr_box.specs.Points.{in_any, HasPoint}
+use Rattle.sr_box.specs.Points.{in_any}
 use Rattle.sr_model.specs.Queries.{rows_at}
 use Rattle.sr_model.specs.Statements.{Tables}
 use Rattle.sr_history.specs.declared.mark.Mark.{Mark}
 use Rattle.sr_history.specs.declared.mark.Mark.TheVariants.{Held, Dropped}
-use Rattle.sr_history.specs.Marks.{HoldsNothing, attrs_of, concerns, is_held, is_held_mark, with_marks}
+use Rattle.sr_history.specs.Marks.{HoldsNothing, attrs_of, is_held}
 use Rattle.sr_history.specs.Kept.{each_once, kept, kept_from, sets_of}
 use Rattle.sr_history.specs.Classes.{AreClasses, Class, Numbered, ascending, in_class, in_class_order, same_class, stamp, stamp_from}
 use Rattle.sr_history.specs.Drops.{IsDropOf}
-use Rattle.sr_store.proofs.Totals.{total, total_is, total_none, total_same}
+use Rattle.sr_store.proofs.Totals.{total, total_is, total_none}
 use Rattle.sr_session.proofs.MarkLemmas.{IsDrop}
 
 -- ---- fewer points keep no more rows
@@ -249,8 +249,10 @@ pub others-left : (schema : List Table) (marks : List Mark) (queries : List Numb
 others-left schema marks queries cause chosen (Held u b rects) classes drop are = absurd drop
 others-left schema marks queries cause chosen (Dropped why u b st rects) classes drop are = record {
   order = without-ascends chosen classes are.order;
-  each = λ k. (λ among. let two = among-without k chosen classes among in let h = (are.each k).0 two.0 in (h.0, h.1, stays k h.0 h.1 h.2 two.1),
-      λ some. let old = stayed k some.0 some.2 in without-among k chosen classes ((are.each k).1 (some.0, some.1, old)) (another k some.0 some.1 some.2 old (same_class chosen k) refl));
+  each = λ k. (
+    λ among. let two = among-without k chosen classes among in let h = (are.each k).0 two.0 in (h.0, h.1, stays k h.0 h.1 h.2 two.1),
+    λ some. let old = stayed k some.0 some.2 in without-among k chosen classes ((are.each k).1 (some.0, some.1, old)) (another k some.0 some.1 some.2 old (same_class chosen k) refl),
+  );
 }
   where
     dropped_at : Class → Row → Bool

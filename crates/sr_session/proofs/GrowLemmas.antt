@@ -1,25 +1,22 @@
 -- Versions never fall, and queries keep their numbers.
-use Rattle.std.proofs.Common.{◌≡◌, ℕ, zero, suc, ◌+◌, ◌-◌, ◌≤◌, Bool, true, false, List, [], ◌∷◌, ◌++◌, length, refl, sym, ◌∙◌, ap, subst, arith, Option, Some, None, length-append}
-use Rattle.std.specs.Prelude.{slice_get, slice_set, Result, Ok, Err, ◌==◌}
+use Rattle.std.proofs.Common.{◌≡◌, ℕ, zero, suc, ◌+◌, ◌-◌, ◌≤◌, Bool, true, false, List, [], ◌∷◌, ◌++◌, length, refl, sym, ◌∙◌, ap, subst, arith, Some, length-append}
+use Rattle.std.specs.Prelude.{slice_get, slice_set, Result, ◌==◌}
 use Rattle.std.proofs.lemmas.Bool.Decides.{nat_tests}
 use Rattle.sr_cell.specs.declared.fault.Fault.{Fault}
-use Rattle.sr_cell.specs.Cells.{Row}
 use Rattle.sr_message.specs.declared.message.Message.{Message}
-use Rattle.sr_model.specs.Statements.{Tables}
 use Rattle.sr_model.specs.Queries.{Query}
 use Rattle.sr_history.specs.declared.mark.Mark.{Mark}
-use Rattle.sr_history.specs.Marks.{with_marks}
 use Rattle.sr_history.specs.Classes.{Numbered}
-use Rattle.sr_session.specs.Sessions.{Database, newest, serve_push, with_version}
+use Rattle.sr_session.specs.Sessions.{serve_push, with_version}
 use Rattle.sr_session.specs.Walks.{AskOut}
-use Rattle.sr_session.specs.Clients.{Client, Connection, Pair, Stands}
-use Rattle.sr_session.specs.Rules.{Answered, Basis, Before, CutStep, EvictStep, Outcome, QueryStep, ResumeStep, TakeStep, WriteStep, already_cut, already_up, answering_now, answering_then, answers, applies, as_it_is, asks_once_more, cuts, emptied, evict_busy, evicts, evicts_none, forgets, is_welcomed, lays, query_answered, query_asks, query_busy, query_down, query_refused, refused_write, resumes, with_ask, with_query, write_busy, write_down, write_sends, written}
+use Rattle.sr_session.specs.Clients.{Client, Pair}
+use Rattle.sr_session.specs.Rules.{Answered, Basis, Before, CutStep, EvictStep, Outcome, QueryStep, ResumeStep, TakeStep, WriteStep, already_cut, already_up, answering_now, answering_then, answers, applies, as_it_is, asks_once_more, cuts, emptied, evict_busy, evicts, evicts_none, forgets, is_welcomed, lays, query_answered, query_asks, query_busy, query_down, query_refused, refused_write, resumes, with_ask, write_busy, write_down, write_sends, written}
 use Rattle.sr_session.specs.Tidy.{IsTidy, IsTidyWith}
-use Rattle.sr_session.specs.Scenes.{Did, Event, Happens, Report, Scene, SceneStands, Taken, acted, basis_of, client_idle, client_of, client_took, cut, cut_off, evicted, executed, given, not_executed, pair_at, push_closed, pushed, queried, resumed, server_idle, server_took, taken, took, with_pair, wrote}
+use Rattle.sr_session.specs.Scenes.{Did, Event, Happens, Report, Scene, SceneStands, Taken, acted, basis_of, client_idle, client_of, client_took, cut, cut_off, evicted, executed, given, not_executed, pair_at, push_closed, pushed, queried, resumed, server_idle, server_took, taken, with_pair, wrote}
 use Rattle.sr_session.specs.Headline.{AnswersNeverFall, QueriesKeepTheirNumbers, VersionsNeverFall, query_at}
 use Rattle.sr_session.proofs.MarkLemmas.{kept}
 use Rattle.sr_session.proofs.EventLemmas.{at, events-keep, get-set-other, other-stays, same-pairs}
-use Rattle.sr_session.proofs.ReachLemmas.{at-set, get-first, get-last, get-set-same, reached-stands, same-database, stands-tidy, stands-version}
+use Rattle.sr_session.proofs.ReachLemmas.{at-set, get-first, get-last, get-set-same, reached-stands, stands-tidy, stands-version}
 use Rattle.sr_session.proofs.AnswerLemmas.{answers-are-right}
 
 -- ---- a client later

@@ -1,26 +1,26 @@
 -- What is asked, point by point, and queries of which nothing is asked.
-use Rattle.std.proofs.Common.{◌≡◌, ℕ, zero, suc, Bool, true, false, List, [], ◌∷◌, ◌++◌, length, refl, sym, ◌∙◌, ap, subst, arith, Option, Some, None, inl, inr}
+use Rattle.std.proofs.Common.{◌≡◌, ℕ, zero, suc, Bool, true, false, List, [], ◌∷◌, refl, sym, ◌∙◌, ap, subst, arith, Some, None, inl, inr}
 use Rattle.std.specs.Prelude.{◌&&◌, ◌==◌, ◌⊎◌, not, slice_get, Result, Ok}
-use Rattle.std.specs.List.{All, list_any}
+use Rattle.std.specs.List.{All}
 use Rattle.std.proofs.lemmas.Bool.Decides.{nat_tests}
 use Rattle.std.proofs.lemmas.List.Elements.{All-head, All-tail}
 use Rattle.sr_cell.specs.declared.fault.Fault.{Fault}
 use Rattle.sr_cell.specs.declared.table.Table.{Table}
-use Rattle.sr_cell.specs.Attrs.{has_column, includes}
+use Rattle.sr_cell.specs.Attrs.{includes}
 use Rattle.sr_cell.specs.Cells.{Row}
 use Rattle.sr_cell.specs.Columns.{is_point, table_at}
 use Rattle.sr_box.specs.Points.{HasNoPoint, in_any}
 use Rattle.sr_message.specs.declared.message.AskPart.{AskPart}
 use Rattle.sr_model.specs.Queries.{Part, Query, points_of, rows_of}
 use Rattle.sr_history.specs.declared.mark.Mark.{Mark}
-use Rattle.sr_history.specs.Marks.{attrs_of, is_covered, is_held}
+use Rattle.sr_history.specs.Marks.{is_covered, is_held}
 use Rattle.sr_history.specs.Rests.{Asks, IsRest, asked, covered, nothing, rest_of}
-use Rattle.sr_history.specs.Classes.{Class, Numbered, in_class, stamp}
+use Rattle.sr_history.specs.Classes.{Numbered, stamp}
 use Rattle.sr_session.specs.Sessions.{tables_of}
-use Rattle.sr_session.specs.Clients.{Client, Connection, Pair}
-use Rattle.sr_session.specs.Rules.{Answered, Before, DropsFirst, Outcome, QueryStep, as_it_is, emptied, next_query, query_answered, query_asks, query_busy, query_down, query_refused, sends, sent_of}
-use Rattle.sr_session.specs.Scenes.{Did, Happens, QueryOf, Scene, acted, basis_of, pair_at, queried, with_pair}
-use Rattle.sr_session.specs.Headline.{ACoveredQueryIsAnswered, ACoveredQuerySendsNothing, AreAskedByPoints, AreAskedFor, AsksByPoints, HasClassFor, IsAskedJust, IsCovered, IsDroppedFirst, IsOfSomePart, IsSilent, IsTooHeavy, IsUncovered}
+use Rattle.sr_session.specs.Clients.{Client, Pair}
+use Rattle.sr_session.specs.Rules.{Answered, Before, DropsFirst, Outcome, QueryStep, as_it_is, emptied, next_query, query_answered, query_asks, query_busy, query_down, query_refused, sent_of}
+use Rattle.sr_session.specs.Scenes.{Scene, acted, basis_of, pair_at, queried, with_pair}
+use Rattle.sr_session.specs.Headline.{ACoveredQueryIsAnswered, ACoveredQuerySendsNothing, AreAskedFor, AsksByPoints, HasClassFor, IsAskedJust, IsCovered, IsDroppedFirst, IsOfSomePart, IsSilent, IsTooHeavy, IsUncovered}
 use Rattle.sr_session.proofs.MarkLemmas.{any-attrs, some-attrs}
 use Rattle.sr_session.proofs.QueryLemmas.{silent-line}
 use Rattle.sr_session.proofs.ReachLemmas.{at-set}

@@ -1,5 +1,5 @@
 -- The headline: what holds of every client in each scene of each run, and at each event.
-use Rattle.std.specs.Prelude.{ℕ, zero, suc, ◌-◌, ◌≤◌, ◌↔◌, ◌⊎◌, Bool, true, false, List, [], ◌∷◌, length, slice_get, ◌≡◌, Option, Some, None, Ok, IsTrue}
+use Rattle.std.specs.Prelude.{ℕ, zero, suc, ◌≤◌, ◌↔◌, ◌⊎◌, Bool, true, false, List, [], ◌∷◌, length, slice_get, ◌≡◌, Option, Some, None, Ok, IsTrue}
 use Rattle.std.specs.List.{All}
 use Rattle.sr_cell.specs.declared.table.Table.{Table}
 use Rattle.sr_cell.specs.Attrs.{has_column, includes}

@@ -22,8 +22,9 @@ use Rattle.sr_session.specs.Sessions.{Database, Session, newest, serve_push, tab
 use Rattle.sr_session.specs.Walks.{has_lapse, version_after}
 use Rattle.sr_session.specs.Clients.{Client, Pair, answered}
 use Rattle.sr_session.specs.Rules.{AnswerStep, Answering, Basis, Before, CutStep, DropsFor, DropsWelcomed, EvictStep, Outcome, QueryStep, ResumeStep, TakeStep, WriteStep, already_cut, already_up, answering_now, answering_then, answers, applies, as_it_is, asks_once_more, cuts, emptied, evict_busy, evicts, evicts_none, forgets, given_up, is_welcomed, lays, query_answered, query_asks, query_busy, query_down, query_refused, refused_write, renewed, resumes, with_ask, with_query, write_busy, write_down, write_sends, written}
+use Rattle.sr_session.specs.Laws.{HasTables}
 use Rattle.sr_session.specs.Scenes.{Event, Happens, Report, Runs, Scene, SceneStands, Taken, acted, basis_of, client_idle, client_took, cut, cut_off, done, evicted, executed, first_scene, given, new_pair, next, not_executed, pair_at, push_closed, pushed, queried, resumed, server_idle, server_took, taken, with_pair, wrote}
-use Rattle.sr_session.specs.Headline.{CachesKeepToTheirBudgets, HasTables, KeepsToBudgets}
+use Rattle.sr_session.specs.Headline.{CachesKeepToTheirBudgets, KeepsToBudgets}
 use Rattle.sr_session.proofs.MarkLemmas.{AreDrops, IsDrop, is-drop, regions-drop}
 use Rattle.sr_session.proofs.DropLemmas.{all-dropped}
 use Rattle.sr_session.proofs.ExecLemmas.{newest-more, version-stays}

@@ -24,3 +24,4 @@ pub mod GrowLemmas
 pub mod PointLemmas
 pub mod CountLemmas
 pub mod BudgetLemmas
+pub mod TableLemmas

@@ -196,7 +196,7 @@ module _ (s : Scene) (c : Client) (l : Connection) (session : Session) (h : IsOp
       silent (λ l. IsOpen s.database new l session) (record l { to_client = queue }) o refl (laying-keeps s.database c l session m queue request h out (laid, tt) first)
   takes-open m o new first (applies w told drops out later met) =
       silent (λ l. IsOpen s.database new l session) (record l { to_client = queue }) o refl
-      (noticing-keeps s.database c l session queue w told drops h out first (drops-within s.database.schema c.marks drops (budgets-drop s.database.schema s.limits ((basis_of s).count w) c.queries c.marks drops met)))
+      (noticing-keeps s.database c l session queue w told drops h out first (drops-within s.database.schema c.marks drops (budgets-drop s.database.schema _ ((basis_of s).count w) c.queries c.marks drops met)))
   takes-open m o new first (forgets w drops out later all) =
       silent (λ l. IsOpen s.database new l session) (record l { to_client = queue }) o refl
       (forgetting-keeps s.database c l session queue w drops h out first (all-dropped s.database.schema c.marks c.queries Lapsed drops all))

@@ -18,11 +18,12 @@ use Rattle.sr_history.specs.Rests.{Asks, rest_of}
 use Rattle.sr_history.specs.Classes.{Numbered, Class, AreClasses, in_class}
 use Rattle.sr_history.specs.Load.{IsHeavy}
 use Rattle.sr_region.specs.Applied.{AreTables}
-use Rattle.sr_session.specs.Sessions.{Database, newest, tables_of}
+use Rattle.sr_session.specs.Sessions.{newest, tables_of}
 use Rattle.sr_session.specs.Walks.{AskOut}
 use Rattle.sr_session.specs.Clients.{Client, Pair}
 use Rattle.sr_session.specs.Rules.{Answered, AskSent, Basis, DropsFirst, Outcome, counted, next_query, sent_of, with_query}
-use Rattle.sr_session.specs.Scenes.{Did, Event, Happens, QueryOf, Report, Runs, Scene, basis_of, client_of, first_scene, pair_at}
+use Rattle.sr_session.specs.Laws.{HasTables}
+use Rattle.sr_session.specs.Scenes.{Did, Event, Exec, Happens, QueryOf, Report, Runs, Scene, ToServer, basis_of, client_of, first_scene, pair_at}
 
 -- Some events of any clients, in any order, lead to this scene from one in which nothing has happened: it is a scene of a run.
 pub record IsReached (s : Scene) : Type 0 where
@@ -113,7 +114,8 @@ AnAskAsksTheUncovered = (s new : Scene) (event : Event) (drops : List Mark) (req
 
 -- a class of what is held has the point, and all columns that the part needs
 abbrev pub HasClassFor : List Mark → List Numbered → Part → Row → Type 0
-HasClassFor marks queries part p = (k : Class) × (k.table ≡ part.table) × IsTrue (includes k.attrs part.need) × IsTrue (in_class marks queries k p)
+HasClassFor marks queries part p =
+    (k : Class) × (k.table ≡ part.table) × IsTrue (includes k.attrs part.need) × IsTrue (in_class marks queries k p)
 
 -- the point is one of the part's that no held class with all needed columns has
 abbrev pub IsUncovered : List Mark → List Numbered → Part → Row → Type 0
@@ -129,7 +131,8 @@ pub record AreAskedFor (asks : List AskPart) (part : Part) (rects : List Rect) :
   pub rects_are : ask.rects ≡ rects
 
 -- For a part some rects are asked, or none; a point of its table is in them just where it is an uncovered one of the part.
-pub record IsAskedJust (schema : List Table) (marks : List Mark) (queries : List Numbered) (asks : List AskPart) (part : Part) : Type 0 where
+pub record IsAskedJust (schema : List Table) (marks : List Mark) (queries : List Numbered) (asks : List AskPart) (part : Part)
+    : Type 0 where
   pub rects : List Rect
   pub asked : (rects ≡ []) ⊎ AreAskedFor asks part rects
   pub just : (p : Row) → IsTrue (is_point (table_at schema part.table).columns p) → IsTrue (in_any rects p) ↔ IsUncovered marks queries part p
@@ -190,7 +193,8 @@ abbrev pub ACoveredQueryIsAnswered : Type 0
 ACoveredQueryIsAnswered = (s new : Scene) (n : ℕ) (q : Query) (o : Outcome) (old : Pair)
     → Happens s (QueryOf n (Ok q)) (Did o) new → pair_at s n ≡ Some old → IsCovered s.database.schema old.client.marks q
     → old.client.out ≡ None → (IsTooHeavy s.database.schema old.client q → ⊥)
-    → (marks : List Mark) × (o ≡ Answered (next_query old.client) old.client.version (rows_of q (tables_of s.database old.client.version)) marks)
+    → (marks : List Mark)
+    × (o ≡ Answered (next_query old.client) old.client.version (rows_of q (tables_of s.database old.client.version)) marks)
 
 -- ---- budgets
 
@@ -201,10 +205,18 @@ pub record KeepsToBudgets (b : Basis) (c : Client) : Type 0 where
   pub are : AreClasses b.schema c.marks c.queries classes
   pub few : length classes ≤ b.limits.regions
 
--- the tables of all versions are tables of the schema
-abbrev pub HasTables : Database → Type 0
-HasTables db = (v : ℕ) → v ≤ newest db → AreTables db.schema (tables_of db v)
-
 -- In each scene of each run, where the tables are of the schema, no client has more rows or classes than its budgets.
 abbrev pub CachesKeepToTheirBudgets : Type 0
 CachesKeepToTheirBudgets = (s : Scene) → IsReached s → HasTables s.database → All (λ pair. KeepsToBudgets (basis_of s) pair.client) s.pairs
+
+-- the tables that a statement makes in the event, if it makes any, are of the schema
+abbrev pub GivesTables : List Table → Event → Type 0
+GivesTables schema (Exec (Ok tables)) = AreTables schema tables
+GivesTables schema (ToServer client (Ok tables)) = AreTables schema tables
+GivesTables schema event = Unit {0}
+
+-- So are those of all versions, where the first ones are and each statement makes such.
+abbrev pub TablesStayOfTheSchema : Type 0
+TablesStayOfTheSchema = (limits : Limits) (schema : List Table) (log_limit : ℕ) (tables : Tables) (clients : ℕ) (events : List Event)
+    (reports : List Report) (last : Scene) → AreTables schema tables → All (GivesTables schema) events
+    → Runs (first_scene limits schema log_limit tables clients) events reports last → HasTables last.database

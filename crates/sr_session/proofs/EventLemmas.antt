@@ -21,7 +21,7 @@ use Rattle.sr_session.proofs.ServeLemmas.{refused-write, accepted-write, begun, 
 
 -- ---- one client of many
 
-get-all : {X : Type 0} (P : X → Type 0) (xs : List X) (i : ℕ) (x : X) → All P xs → slice_get xs i ≡ Some x → P x
+pub get-all : {X : Type 0} (P : X → Type 0) (xs : List X) (i : ℕ) (x : X) → All P xs → slice_get xs i ≡ Some x → P x
 get-all {X} P [] i x all is = absurd (cc)
 get-all {X} P (y ∷ xs) zero x all is = let same : y ≡ x = cc in subst P same (All-head P y xs all)
 get-all {X} P (y ∷ xs) (suc i) x all is = get-all P xs i x (All-tail P y xs all) is
@@ -30,24 +30,24 @@ put : (s : Scene) (n : ℕ) (new : Pair) → SceneStands s → Stands s.database
 put s zero new h stands = h
 put s (suc n) new h stands = record { some = h.some; pairs = All-set (Stands s.database) s.pairs n new stands h.pairs }
 
-at : (s : Scene) (n : ℕ) (old : Pair) → SceneStands s → pair_at s n ≡ Some old → Stands s.database old
+pub at : (s : Scene) (n : ℕ) (old : Pair) → SceneStands s → pair_at s n ≡ Some old → Stands s.database old
 at s zero old h is = absurd (cc)
 at s (suc n) old h is = get-all (Stands s.database) s.pairs n old h.pairs is
 
 -- ---- the others
 
-get-set-other : {X : Type 0} (xs : List X) (i j : ℕ) (x : X) → (j ≡ i → ⊥) → slice_get (slice_set xs i x) j ≡ slice_get xs j
+pub get-set-other : {X : Type 0} (xs : List X) (i j : ℕ) (x : X) → (j ≡ i → ⊥) → slice_get (slice_set xs i x) j ≡ slice_get xs j
 get-set-other {X} [] i j x differ = refl
 get-set-other {X} (y ∷ xs) zero zero x differ = absurd (differ refl)
 get-set-other {X} (y ∷ xs) zero (suc j) x differ = refl
 get-set-other {X} (y ∷ xs) (suc i) zero x differ = refl
 get-set-other {X} (y ∷ xs) (suc i) (suc j) x differ = get-set-other xs i j x (λ same. differ (ap suc same))
 
-same-pairs : (s new : Scene) (k : ℕ) → new.pairs ≡ s.pairs → pair_at new k ≡ pair_at s k
+pub same-pairs : (s new : Scene) (k : ℕ) → new.pairs ≡ s.pairs → pair_at new k ≡ pair_at s k
 same-pairs s new zero same = refl
 same-pairs s new (suc k) same = ap (λ pairs. slice_get pairs k) same
 
-other-stays : (s : Scene) (n : ℕ) (new : Pair) (k : ℕ) → (k ≡ n → ⊥) → pair_at (with_pair s n new) k ≡ pair_at s k
+pub other-stays : (s : Scene) (n : ℕ) (new : Pair) (k : ℕ) → (k ≡ n → ⊥) → pair_at (with_pair s n new) k ≡ pair_at s k
 other-stays s zero new k differ = refl
 other-stays s (suc n) new zero differ = refl
 other-stays s (suc n) new (suc k) differ = get-set-other s.pairs n k new (λ same. differ (ap suc same))

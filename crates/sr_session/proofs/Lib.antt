@@ -18,3 +18,10 @@ pub mod TidyLemmas
 pub mod TellLemmas
 pub mod NeverLemmas
 pub mod TruthLemmas
+pub mod ReachLemmas
+pub mod AnswerLemmas
+pub mod GrowLemmas
+pub mod PointLemmas
+pub mod CountLemmas
+pub mod BudgetLemmas
+pub mod TableLemmas

@@ -29,7 +29,7 @@ gained (Dropped cause u a stamp rects ∷ ms) t p = gained ms t p
 
 -- ---- held under some columns
 
-some-attrs : (F : ℕ → Bool) (ms : List Mark) (t a : ℕ) (p : Row) → is_held ms t a p ≡ true → F a ≡ true → list_any (λ mark. F (attrs_of mark)) ms ≡ true
+pub some-attrs : (F : ℕ → Bool) (ms : List Mark) (t a : ℕ) (p : Row) → is_held ms t a p ≡ true → F a ≡ true → list_any (λ mark. F (attrs_of mark)) ms ≡ true
 some-attrs F [] t a p is own = absurd (cc)
 some-attrs F (mark ∷ ms) t a p is own = go (concerns mark t a p) refl is (some-attrs F ms t a p)
   where
@@ -51,7 +51,7 @@ some-attrs F (mark ∷ ms) t a p is own = go (concerns mark t a p) refl is (some
 pub held-some : (ms : List Mark) (t a : ℕ) (p : Row) → is_held ms t a p ≡ true → held ms t p ≡ true
 held-some ms t a p is = some-attrs (λ a. is_held ms t a p) ms t a p is is
 
-any-attrs : (F : ℕ → Bool) (ms : List Mark) → list_any (λ mark. F (attrs_of mark)) ms ≡ true → (a : ℕ) × (F a ≡ true)
+pub any-attrs : (F : ℕ → Bool) (ms : List Mark) → list_any (λ mark. F (attrs_of mark)) ms ≡ true → (a : ℕ) × (F a ≡ true)
 any-attrs F [] is = absurd (cc)
 any-attrs F (mark ∷ ms) is = go (F (attrs_of mark)) refl is (any-attrs F ms)
   where
@@ -141,7 +141,7 @@ rows-drop : (schema : List Table) (limits : Limits) (count : List Mark → ℕ) 
 rows-drop schema limits count queries marks [] h = tt
 rows-drop schema limits count queries marks (d ∷ drops) h = (is-drop schema marks queries _ h.1 d h.3, rows-drop schema limits count queries (d ∷ marks) drops h.4)
 
-regions-drop : (schema : List Table) (limits : Limits) (queries : List Numbered) (marks drops : List Mark) → DropsForRegions schema limits queries marks drops → AreDrops drops
+pub regions-drop : (schema : List Table) (limits : Limits) (queries : List Numbered) (marks drops : List Mark) → DropsForRegions schema limits queries marks drops → AreDrops drops
 regions-drop schema limits queries marks [] h = tt
 regions-drop schema limits queries marks (d ∷ drops) h = (is-drop schema marks queries _ h.3 d h.5, regions-drop schema limits queries (d ∷ marks) drops h.6)
 

@@ -196,7 +196,7 @@ module _ (s : Scene) (c : Client) (l : Connection) (session : Session) (h : IsOp
       silent (λ l. IsOpen s.database new l session) (record l { to_client = queue }) o refl (laying-keeps s.database c l session m queue request h out (laid, tt) first)
   takes-open m o new first (applies w told drops out later met) =
       silent (λ l. IsOpen s.database new l session) (record l { to_client = queue }) o refl
-      (noticing-keeps s.database c l session queue w told drops h out first (drops-within s.database.schema c.marks drops (budgets-drop s.database.schema s.limits ((basis_of s).count w) c.queries c.marks drops met)))
+      (noticing-keeps s.database c l session queue w told drops h out first (drops-within s.database.schema c.marks drops (budgets-drop s.database.schema _ ((basis_of s).count w) c.queries c.marks drops met)))
   takes-open m o new first (forgets w drops out later all) =
       silent (λ l. IsOpen s.database new l session) (record l { to_client = queue }) o refl
       (forgetting-keeps s.database c l session queue w drops h out first (all-dropped s.database.schema c.marks c.queries Lapsed drops all))
@@ -206,7 +206,7 @@ module _ (s : Scene) (c : Client) (l : Connection) (session : Session) (h : IsOp
       (subst (λ x. IsOpen s.database x (record l { to_client = queue }) session) (sym k.is)
       (answering-keeps s.database c l session queue number query q fresh parts number w k.from (with_answered query q c.queries) marks h out first
       (answer-within number query q fresh parts number w marks out first whole k.within)))
-  takes-open m o new first (asks_once_more number query q fresh parts w drops whole out again later all asks) =
+  takes-open m o new first (asks_once_more number query q fresh parts w drops whole out again later all asks few) =
       asks-again-open number query q fresh parts number w drops whole out first again all asks
   takes-open m o new first (written number w drops out later d) =
       silent (λ l. IsOpen s.database new l session) (record l { to_client = queue }) o refl (written-open number w drops out first d)

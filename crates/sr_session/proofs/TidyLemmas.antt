@@ -38,7 +38,7 @@ module _ (b : Basis) where
       let k = kept b (answering_now c q) c marks after step in after-answer c after (with_query q true c) k.from c.version marks k.is
   query-tidy text c o new h (query_down q drops old ask others out before down asks) =
       let same = before-tidy q c drops old before in at-rest c old h out same.0 same.1
-  query-tidy text c o new h (query_asks q drops old ask others fresh out before up asks mode) =
+  query-tidy text c o new h (query_asks q drops old ask others fresh out before up asks few mode) =
       let same = before-tidy q c drops old before in (
         (
           refl,
@@ -67,7 +67,7 @@ module _ (b : Basis) where
   take-tidy m c o new h (forgets w drops out later all) = at-rest c (comes_to c w drops) h out refl refl
   take-tidy m c o new h (answers number query q fresh parts w rows marks after out whole later are step) =
       let k = kept b (answering_then c query q parts w) c marks after step in after-answer c after (with_answered query q c.queries) k.from w marks k.is
-  take-tidy m c o new h (asks_once_more number query q fresh parts w drops whole out again later all asks) =
+  take-tidy m c o new h (asks_once_more number query q fresh parts w drops whole out again later all asks few) =
       let none = all-dropped b.schema c.marks c.queries Lapsed drops all in
       let is : IsTidyWith b.schema c (Some (AskOut number query q fresh parts)) = subst (IsTidyWith b.schema c) out h in (
         (

@@ -103,10 +103,14 @@ NoticingKeeps = (db : Database) (c : Client) (l : Connection) (session : Session
 
 -- ---- nothing that is promised is refused
 
--- The tables of all versions are tables of the schema, with rows that fit them.
+-- The tables of all versions are tables of the schema.
+abbrev pub HasTables : Database → Type 0
+HasTables db = (v : ℕ) → v ≤ newest db → AreTables db.schema (tables_of db v)
+
+-- And there is a version, and the rows fit them.
 pub record IsSound (db : Database) : Type 0 where
   pub some : 0 < length db.versions
-  pub tables : (v : ℕ) → v ≤ newest db → AreTables db.schema (tables_of db v)
+  pub tables : HasTables db
   pub fits : (v : ℕ) → v ≤ newest db → (t : ℕ) → list_all (fits_columns (table_at db.schema t).columns) (rows_at (tables_of db v) t) ≡ true
 
 -- A message that is promised has the right direction, state, number and version.

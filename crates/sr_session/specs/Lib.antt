@@ -9,3 +9,4 @@ pub mod Rules
 pub mod Tidy
 pub mod Scenes
 pub mod Regions
+pub mod Headline

@@ -11,6 +11,7 @@ use Rattle.sr_message.specs.declared.message.AskPart.{AskPart}
 use Rattle.sr_message.specs.declared.message.Message.{Message}
 use Rattle.sr_message.specs.declared.message.Message.TheVariants.{Ask, Write, Welcome, Notice, Rows, Reply, Written, Refused, Lapse}
 use Rattle.sr_message.specs.declared.message.Tell.{Tell}
+use Rattle.sr_message.specs.Sizes.{most_rects, count_asked}
 use Rattle.sr_model.specs.Queries.{Query}
 use Rattle.sr_policy.specs.declared.policy.Limits.{Limits}
 use Rattle.sr_history.specs.declared.mark.Mark.{Mark}
@@ -165,9 +166,10 @@ pub data QueryStep (b : Basis) (c : Client) : Result Query Fault → Outcome →
   query_down : (q : Query) (drops : List Mark) (old : Client) (ask : AskPart) (others : List AskPart) → c.out ≡ None → Before b q c drops old
       → old.cut ≡ true → Asks b.schema old.marks q.parts (ask ∷ others)
       → QueryStep b c (Ok q) (Down old.cuts drops) old
-  -- Something has to be asked, and is; the ask is fresh just where nothing is held.
+  -- Something has to be asked, and is, in rects of which there are not too many; the ask is fresh just where nothing is held.
   query_asks : (q : Query) (drops : List Mark) (old : Client) (ask : AskPart) (others : List AskPart) (fresh : Bool) → c.out ≡ None → Before b q c drops old
-      → old.cut ≡ false → Asks b.schema old.marks q.parts (ask ∷ others) → IsTrue fresh ↔ HoldsNothing b.schema old.marks
+      → old.cut ≡ false → Asks b.schema old.marks q.parts (ask ∷ others) → count_asked (ask ∷ others) ≤ most_rects
+      → IsTrue fresh ↔ HoldsNothing b.schema old.marks
       → QueryStep b c (Ok q) (AskSent drops old.next_request fresh (ask ∷ others)) (with_ask old q fresh (ask ∷ others))
 
 -- ---- a message
@@ -219,6 +221,7 @@ pub data TakeStep (b : Basis) (c : Client) : Message → Outcome → Client → 
   asks_once_more : (number query : ℕ) (q : Query) (fresh : Bool) (parts : List AskPart) (version : ℕ) (drops : List Mark) (whole : List AskPart)
       → c.out ≡ Some (AskOut number query q fresh parts) → is_given_up fresh c.laid ≡ true → c.version ≤ version
       → DropsAll b.schema c.marks c.queries Lapsed drops → Asks b.schema (with_marks c.marks drops) q.parts whole
+      → count_asked whole ≤ most_rects
       → TakeStep b c (Reply number version) (AskSent drops c.next_request true whole) (asks_again c version drops query q whole)
   -- The write that is out made a version.
   written : (number version : ℕ) (drops : List Mark) → c.out ≡ Some (WriteOut number) → c.version ≤ version

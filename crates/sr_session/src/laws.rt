@@ -1,8 +1,58 @@
 //! Laws of the definitions: functions that do nothing, and whose contracts are the laws.
+ghost use Rattle.sr_session.specs.Headline.{ACoveredQueryIsAnswered, ACoveredQuerySendsNothing, AnAskAsksTheUncovered, AnswersAreRight, AnswersNeverFall, AsksByPoints, CachesKeepToTheirBudgets, QueriesKeepTheirNumbers, TablesStayOfTheSchema, VersionsNeverFall};
 ghost use Rattle.sr_session.specs.Laws.{AnsweringKeeps, AskingAgainKeeps, ExecKeeps, ForgettingKeeps, LayingKeeps, NeverRefused, NoticingKeeps, PromisedRowsSuit, PromisedTellsSuit, PromisesFit, PushKeeps, RepliesAreAnswerable, RowsAreAsked, TakingAsksKeeps};
 ghost use Rattle.sr_session.specs.Regions.{LaidMessagesKeepTrue};
 ghost use Rattle.sr_session.specs.Scenes.{EventsKeep, FirstStands, OthersStay, RunsStand};
 ghost use Rattle.sr_session.specs.Tidy.{RulesKeepTidy};
+
+// ---- the headline
+
+/// Wherever in a run a query is answered, the answer is the query's rows on the tables of the version that it names.
+pub fn answers_are_right()
+    ensures rows { AnswersAreRight }
+{}
+
+/// A query keeps its number and its meaning, whatever happens to any client.
+pub fn queries_keep_their_numbers()
+    ensures numbers { QueriesKeepTheirNumbers }
+{}
+
+/// After any event no client's version is below that before, nor above the newest, and so it is with the version that an answer names.
+pub fn versions_never_fall()
+    ensures clients { VersionsNeverFall }
+    ensures answers { AnswersNeverFall }
+{}
+
+/// Wherever in a run something is asked, just the points of the query that are not covered are asked, in at most 16,384 rects, and the
+/// ask is the only message on its way to the server.
+pub fn an_ask_asks_the_uncovered()
+    ensures uncovered { AnAskAsksTheUncovered }
+{}
+
+/// So each point of a part of the query is asked just where no class that is held has it with all columns that the part needs.
+pub fn asks_by_points()
+    ensures points { AsksByPoints }
+{}
+
+/// A query of which each point is covered sends nothing, unless the load is too high and all was dropped first; and where no request
+/// is out and the load is not too high, it is answered at once.
+pub fn a_covered_query_sends_nothing()
+    ensures silent { ACoveredQuerySendsNothing }
+    ensures answered { ACoveredQueryIsAnswered }
+{}
+
+/// In each scene of each run, where the tables are of the schema, no client keeps more rows at its version, or more classes, than its
+/// budgets allow.
+pub fn caches_keep_to_their_budgets()
+    ensures budgets { CachesKeepToTheirBudgets }
+{}
+
+/// The tables of all versions are of the schema, where the first ones are and each statement makes such.
+pub fn tables_stay_of_the_schema()
+    ensures tables { TablesStayOfTheSchema }
+{}
+
+// ---- what each event leaves standing
 
 /// Every event of a scene with any number of clients leaves every client standing: statements and writes, queries, evictions,
 /// pushes, deliveries, cuts and resumes.

@@ -1,4 +1,3 @@
 pub mod Bytes
 pub mod Separated
 pub mod Constrained
-pub mod FirstWord

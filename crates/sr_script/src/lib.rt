@@ -3,6 +3,7 @@
 
 pub mod cells;
 mod forms;
+pub mod laws;
 pub mod line;
 pub mod rects;
 pub mod text;

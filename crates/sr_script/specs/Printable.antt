@@ -40,11 +40,11 @@ is_signed n = int_le (negsuc 9223372036854775807) n && int_le n (pos 92233720368
 abbrev pub has_signed_ends : Column → Bool
 has_signed_ends c = is_signed c.lo && is_signed c.hi
 
--- the columns have names, and no two the same
+-- the columns have names, no two the same, and domains with such ends
 abbrev pub has_named_columns : Table → Bool
 has_named_columns table = are_names (map (λ (c : Column). c.name) table.columns) && list_all has_signed_ends table.columns
 
--- the tables have names, no two the same, and so have the columns of each
+-- the tables have names, no two the same, and so have the columns of each table
 abbrev pub IsNamed : List Table → Type 0
 IsNamed schema = IsTrue (are_names (map (λ (t : Table). t.name) schema)) × IsTrue (list_all has_named_columns schema)
 
@@ -128,4 +128,5 @@ IsNumbered schema numbered = IsNumber numbered.0 × IsPrintable schema numbered.
 -- Over one schema, lists of printable lines with the same text are the same.
 abbrev pub TextsTellLines : Type 0
 TextsTellLines = (schema : List Table) (one other : List (ℕ × TraceLine)) → IsNamed schema
-    → AllByRecursion (IsNumbered schema) one → AllByRecursion (IsNumbered schema) other → trace_text schema one ≡ trace_text schema other → one ≡ other
+    → AllByRecursion (IsNumbered schema) one → AllByRecursion (IsNumbered schema) other
+    → trace_text schema one ≡ trace_text schema other → one ≡ other

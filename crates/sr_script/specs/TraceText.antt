@@ -128,7 +128,8 @@ rects_of schema t rects = rects_text (table_at schema t).columns rects
 abbrev pub line_words : List Table → TraceLine → List (List ℕ)
 line_words schema (line.Answer n q v rows) = codes "answer" ∷ decimal n ∷ decimal q ∷ decimal v ∷ decimal rows ∷ []
 line_words schema (line.Row row) = codes "row" ∷ joined (codes ", ") (map cell_text row) ∷ []
-line_words schema (line.Held n t attrs rects) = codes "held" ∷ decimal n ∷ name_of schema t ∷ attrs_of schema t attrs ∷ rects_of schema t rects ∷ []
+line_words schema (line.Held n t attrs rects) =
+    codes "held" ∷ decimal n ∷ name_of schema t ∷ attrs_of schema t attrs ∷ rects_of schema t rects ∷ []
 line_words schema (line.Drop n why t attrs stamp rects) =
     codes "drop" ∷ decimal n ∷ cause_text why ∷ name_of schema t ∷ attrs_of schema t attrs ∷ decimal stamp ∷ rects_of schema t rects ∷ []
 line_words schema (line.Ask n k fresh parts) = codes "ask" ∷ decimal n ∷ decimal k ∷ mode_text fresh ∷ decimal parts ∷ []
@@ -162,7 +163,8 @@ line_words schema (line.ClientApplied n v) = codes "toclient" ∷ decimal n ∷ 
 line_words schema (line.ClientAnswered n) = codes "toclient" ∷ decimal n ∷ codes "answered" ∷ []
 line_words schema (line.ClientAsked n k) = codes "toclient" ∷ decimal n ∷ codes "asked" ∷ decimal k ∷ []
 line_words schema (line.ClientWritten n k v) = codes "toclient" ∷ decimal n ∷ codes "written" ∷ decimal k ∷ decimal v ∷ []
-line_words schema (line.ClientRefused n k fault) = codes "toclient" ∷ decimal n ∷ codes "refused" ∷ decimal k ∷ fault_words fault
+line_words schema (line.ClientRefused n k fault) =
+    codes "toclient" ∷ decimal n ∷ codes "refused" ∷ decimal k ∷ fault_words fault
 line_words schema (line.ClientForgot n v) = codes "toclient" ∷ decimal n ∷ codes "forgot" ∷ decimal v ∷ []
 line_words schema (line.ClientWelcome n v kept) = codes "toclient" ∷ decimal n ∷ codes "welcome" ∷ decimal v ∷ kept_text kept ∷ []
 line_words schema (line.Settled n frames) = codes "settle" ∷ decimal n ∷ decimal frames ∷ []

@@ -1,4 +1,12 @@
 pub mod Bytes
 pub mod Separated
 pub mod Constrained
-pub mod FirstWord
+pub mod Plain
+pub mod Quoted
+pub mod Listed
+pub mod Named
+pub mod Entries
+pub mod WordKinds
+pub mod Grammar
+pub mod Spelled
+pub mod OneReading

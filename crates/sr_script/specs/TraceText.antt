@@ -15,6 +15,8 @@ use Rattle.sr_box.specs.Points.{Rect}
 use Rattle.sr_language.specs.Texts.{joined, words, number_text, bytes_text, cell_text}
 use Rattle.sr_script.specs.declared.line.TraceLine.{TraceLine}
 use Rattle.sr_script.specs.declared.line.TraceLine.TheVariants as line
+use Rattle.sr_script.specs.declared.line.FailKind.{FailKind}
+use Rattle.sr_script.specs.declared.line.FailKind.TheVariants as fail
 use Rattle.sr_script.specs.declared.line.RequestKind.{RequestKind}
 use Rattle.sr_script.specs.declared.line.RequestKind.TheVariants as kind
 
@@ -92,6 +94,12 @@ cause_text cause.Asked = codes "asked"
 cause_text cause.Lapsed = codes "lapsed"
 cause_text cause.Fresh = codes "fresh"
 
+-- what a cut ended
+abbrev pub fail_text : FailKind → List ℕ
+fail_text fail.Query = codes "query"
+fail_text fail.Write = codes "write"
+fail_text fail.Resume = codes "resume"
+
 abbrev pub kind_text : RequestKind → List ℕ
 kind_text kind.Hello = codes "hello"
 kind_text kind.Resume = codes "resume"
@@ -101,6 +109,11 @@ kind_text kind.Write = codes "write"
 abbrev pub mode_text : Bool → List ℕ
 mode_text true = codes "fresh"
 mode_text false = codes "more"
+
+-- whether the server still knew what the client has
+abbrev pub kept_text : Bool → List ℕ
+kept_text true = codes "kept"
+kept_text false = codes "fresh"
 
 abbrev pub name_of : List Table → ℕ → List ℕ
 name_of schema t = (table_at schema t).name
@@ -115,17 +128,31 @@ rects_of schema t rects = rects_text (table_at schema t).columns rects
 abbrev pub line_words : List Table → TraceLine → List (List ℕ)
 line_words schema (line.Answer n q v rows) = codes "answer" ∷ decimal n ∷ decimal q ∷ decimal v ∷ decimal rows ∷ []
 line_words schema (line.Row row) = codes "row" ∷ joined (codes ", ") (map cell_text row) ∷ []
-line_words schema (line.Held n t attrs rects) = codes "held" ∷ decimal n ∷ name_of schema t ∷ attrs_of schema t attrs ∷ rects_of schema t rects ∷ []
+line_words schema (line.Held n t attrs rects) =
+    codes "held" ∷ decimal n ∷ name_of schema t ∷ attrs_of schema t attrs ∷ rects_of schema t rects ∷ []
 line_words schema (line.Drop n why t attrs stamp rects) =
     codes "drop" ∷ decimal n ∷ cause_text why ∷ name_of schema t ∷ attrs_of schema t attrs ∷ decimal stamp ∷ rects_of schema t rects ∷ []
 line_words schema (line.Ask n k fresh parts) = codes "ask" ∷ decimal n ∷ decimal k ∷ mode_text fresh ∷ decimal parts ∷ []
 line_words schema (line.Part t attrs rects) = codes "part" ∷ name_of schema t ∷ attrs_of schema t attrs ∷ rects_of schema t rects ∷ []
+line_words schema (line.Fail n what k) = codes "fail" ∷ decimal n ∷ fail_text what ∷ decimal k ∷ []
+line_words schema line.Pieces = codes "pieces" ∷ []
+line_words schema (line.Need t attrs) = codes "need" ∷ name_of schema t ∷ attrs_of schema t attrs ∷ []
+line_words schema (line.Probe t attrs stamp rects) =
+    codes "probe" ∷ name_of schema t ∷ attrs_of schema t attrs ∷ decimal stamp ∷ rects_of schema t rects ∷ []
+line_words schema (line.Rest t attrs rects) = codes "rest" ∷ name_of schema t ∷ attrs_of schema t attrs ∷ rects_of schema t rects ∷ []
+line_words schema (line.Victim place t attrs stamp rows) =
+    codes "victim" ∷ decimal place ∷ name_of schema t ∷ attrs_of schema t attrs ∷ decimal stamp ∷ decimal rows ∷ []
 line_words schema (line.ExecVersion v) = codes "exec" ∷ codes "version" ∷ decimal v ∷ []
 line_words schema (line.ExecRefused fault) = codes "exec" ∷ codes "refused" ∷ fault_words fault
 line_words schema (line.QueryAnswered n q) = codes "query" ∷ decimal n ∷ codes "answered" ∷ decimal q ∷ []
 line_words schema (line.QueryAsked n k) = codes "query" ∷ decimal n ∷ codes "asked" ∷ decimal k ∷ []
 line_words schema (line.QuerySql n fault) = codes "query" ∷ decimal n ∷ codes "sql" ∷ fault_words fault
 line_words schema (line.QueryBusy n k) = codes "query" ∷ decimal n ∷ codes "busy" ∷ decimal k ∷ []
+line_words schema (line.QueryDown n x) = codes "query" ∷ decimal n ∷ codes "down" ∷ decimal x ∷ []
+line_words schema (line.WriteSent n k) = codes "write" ∷ decimal n ∷ codes "sent" ∷ decimal k ∷ []
+line_words schema (line.WriteSql n fault) = codes "write" ∷ decimal n ∷ codes "sql" ∷ fault_words fault
+line_words schema (line.WriteBusy n k) = codes "write" ∷ decimal n ∷ codes "busy" ∷ decimal k ∷ []
+line_words schema (line.WriteDown n x) = codes "write" ∷ decimal n ∷ codes "down" ∷ decimal x ∷ []
 line_words schema (line.PushSent n frames) = codes "push" ∷ decimal n ∷ codes "sent" ∷ decimal frames ∷ []
 line_words schema (line.PushClosed n) = codes "push" ∷ decimal n ∷ codes "closed" ∷ []
 line_words schema (line.ServerEmpty n) = codes "toserver" ∷ decimal n ∷ codes "empty" ∷ []
@@ -134,6 +161,22 @@ line_words schema (line.ClientEmpty n) = codes "toclient" ∷ decimal n ∷ code
 line_words schema (line.ClientLaid n) = codes "toclient" ∷ decimal n ∷ codes "laid" ∷ []
 line_words schema (line.ClientApplied n v) = codes "toclient" ∷ decimal n ∷ codes "applied" ∷ decimal v ∷ []
 line_words schema (line.ClientAnswered n) = codes "toclient" ∷ decimal n ∷ codes "answered" ∷ []
+line_words schema (line.ClientAsked n k) = codes "toclient" ∷ decimal n ∷ codes "asked" ∷ decimal k ∷ []
+line_words schema (line.ClientWritten n k v) = codes "toclient" ∷ decimal n ∷ codes "written" ∷ decimal k ∷ decimal v ∷ []
+line_words schema (line.ClientRefused n k fault) =
+    codes "toclient" ∷ decimal n ∷ codes "refused" ∷ decimal k ∷ fault_words fault
+line_words schema (line.ClientForgot n v) = codes "toclient" ∷ decimal n ∷ codes "forgot" ∷ decimal v ∷ []
+line_words schema (line.ClientWelcome n v kept) = codes "toclient" ∷ decimal n ∷ codes "welcome" ∷ decimal v ∷ kept_text kept ∷ []
+line_words schema (line.Settled n frames) = codes "settle" ∷ decimal n ∷ decimal frames ∷ []
+line_words schema (line.EvictDropped n) = codes "evict" ∷ decimal n ∷ codes "dropped" ∷ []
+line_words schema (line.EvictBusy n k) = codes "evict" ∷ decimal n ∷ codes "busy" ∷ decimal k ∷ []
+line_words schema (line.EvictNone n count) = codes "evict" ∷ decimal n ∷ codes "none" ∷ decimal count ∷ []
+line_words schema (line.Explained n v) = codes "explain" ∷ decimal n ∷ decimal v ∷ []
+line_words schema (line.ExplainSql n fault) = codes "explain" ∷ decimal n ∷ codes "sql" ∷ fault_words fault
+line_words schema (line.CutDone n x) = codes "cut" ∷ decimal n ∷ decimal x ∷ []
+line_words schema (line.CutAlready n x) = codes "cut" ∷ decimal n ∷ codes "already" ∷ decimal x ∷ []
+line_words schema (line.ResumeSent n k) = codes "resume" ∷ decimal n ∷ codes "sent" ∷ decimal k ∷ []
+line_words schema (line.ResumeUp n) = codes "resume" ∷ decimal n ∷ codes "up" ∷ []
 
 -- words with one blank between two, and the end of the line
 abbrev pub ended : List (List ℕ) → List ℕ
@@ -143,7 +186,7 @@ ended (w ∷ u ∷ ws) = w ++ (codes " " ++ ended (u ∷ ws))
 
 -- the text of a line, with the number of its event
 unfoldable pub line_text : List Table → ℕ → TraceLine → List ℕ
-line_text schema number line = ended (decimal number ∷ line_words schema line)
+line_text schema number line = decimal number ++ (codes " " ++ ended (line_words schema line))
 
 -- the text of numbered lines
 abbrev pub trace_text : List Table → List (ℕ × TraceLine) → List ℕ

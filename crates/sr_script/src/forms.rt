@@ -1,12 +1,12 @@
 //! The forms of trace lines, without the number of their event.
 ghost use Rattle.std.specs.Prelude.{◌≡◌, ◌++◌, ◌∷◌, ℕ, List, [], OnOk, codes, decimal, string_bytes};
-ghost use Rattle.sr_script.specs.TraceText.{ended, line_words, cause_text, name_of, attrs_of, rects_of};
-ghost use Rattle.sr_script.specs.declared.line.TraceLine.TheVariants.{Answer, Row, Held, Drop, Ask, Part, ExecVersion, ExecRefused, QueryAnswered, QueryAsked, QuerySql, QueryBusy, PushSent, PushClosed, ServerEmpty, ServerTook, ClientEmpty, ClientLaid, ClientApplied, ClientAnswered};
+ghost use Rattle.sr_script.specs.TraceText.{ended, line_words, cause_text, fault_words, name_of, attrs_of, rects_of};
+ghost use Rattle.sr_script.specs.declared.line.TraceLine.TheVariants.{Answer, Row, Drop, Ask, Fail, Victim, ExecVersion, ServerTook, ClientWritten, ClientRefused, ClientWelcome};
 
 use crate::cells::push_row;
-use crate::line::RequestKind;
+use crate::line::{FailKind, RequestKind};
 use crate::rects::{columns_at, name_at, push_attrs, push_rects};
-use crate::words::{cause_word, kind_word, mode_word, why_word};
+use crate::words::{cause_word, fail_word, kept_word, kind_word, mode_word, why_word};
 use sr_cell::attrs::Attrs;
 use sr_cell::cause::Cause;
 use sr_cell::cell::Row;
@@ -15,6 +15,74 @@ use sr_cell::list::NoMemory;
 use sr_cell::table::Table;
 use sr_union::rects::Rects;
 use std::fmt::Write;
+
+/// An event of a client, and how it ended.
+pub fn push_end(text: &mut String, event: &str, client: u8, end: &str) -> Result<(), NoMemory>
+    ensures { OnOk result (string_bytes text.new ≡ string_bytes text.old ++ ended (event.now ∷ decimal client ∷ end.now ∷ [])) }
+{
+    write!(text, "{event} {client} {end}\n")?;
+    Ok(())
+}
+
+/// An event of a client, how it ended, and the number that goes with that.
+pub fn push_end_at(
+    text: &mut String,
+    event: &str,
+    client: u8,
+    end: &str,
+    number: u64,
+) -> Result<(), NoMemory>
+    ensures { OnOk result (string_bytes text.new ≡ string_bytes text.old ++ ended (event.now ∷ decimal client ∷ end.now ∷ decimal number ∷ [])) }
+{
+    write!(text, "{event} {client} {end} {number}\n")?;
+    Ok(())
+}
+
+/// An event of a client that ended with a number.
+pub fn push_number_end(
+    text: &mut String,
+    event: &str,
+    client: u8,
+    number: u64,
+) -> Result<(), NoMemory>
+    ensures { OnOk result (string_bytes text.new ≡ string_bytes text.old ++ ended (event.now ∷ decimal client ∷ decimal number ∷ [])) }
+{
+    write!(text, "{event} {client} {number}\n")?;
+    Ok(())
+}
+
+/// An event of a client whose statement was refused.
+pub fn push_sql(text: &mut String, event: &str, client: u8, fault: Fault) -> Result<(), NoMemory>
+    ensures { OnOk result (string_bytes text.new ≡ string_bytes text.old ++ ended (event.now ∷ decimal client ∷ codes "sql" ∷ fault_words fault)) }
+{
+    write!(text, "{event} {client} sql ")?;
+    push_fault(text, fault)
+}
+
+/// A statement that the server refused.
+pub fn push_exec_refused(text: &mut String, fault: Fault) -> Result<(), NoMemory>
+    ensures { OnOk result (string_bytes text.new ≡ string_bytes text.old ++ ended (codes "exec" ∷ codes "refused" ∷ fault_words fault)) }
+{
+    text.push_str("exec refused ")?;
+    push_fault(text, fault)
+}
+
+/// A statement that the server executed.
+pub fn push_exec_version(text: &mut String, version: u64) -> Result<(), NoMemory>
+    ensures { OnOk result (string_bytes text.new ≡ string_bytes text.old ++ ended (line_words [] (ExecVersion version))) }
+{
+    write!(text, "exec version {version}\n")?;
+    Ok(())
+}
+
+fn push_fault(text: &mut String, fault: Fault) -> Result<(), NoMemory>
+    ensures { OnOk result (string_bytes text.new ≡ string_bytes text.old ++ ended (fault_words fault)) }
+{
+    let why = why_word(fault.why);
+    let at = fault.at;
+    write!(text, "{why} {at}\n")?;
+    Ok(())
+}
 
 /// How an answer was: its query, its version and how many rows it has.
 pub fn push_answer(
@@ -40,35 +108,12 @@ pub fn push_row_line(text: &mut String, row: &Row) -> Result<(), NoMemory>
     Ok(())
 }
 
-/// What a client holds of one class.
-pub fn push_held(
-    text: &mut String,
-    schema: &[Table],
-    client: u8,
-    table: u8,
-    attrs: Attrs,
-    rects: &Rects,
-) -> Result<(), NoMemory>
-    ensures { OnOk result (string_bytes text.new ≡ string_bytes text.old ++ ended (line_words schema.now (Held client table attrs rects.now))) }
+/// How a line of what a client holds begins.
+pub fn push_held(text: &mut String, client: u8) -> Result<(), NoMemory>
+    ensures { OnOk result (string_bytes text.new ≡ string_bytes text.old ++ (codes "held " ++ (decimal client ++ codes " "))) }
 {
     write!(text, "held {client} ")?;
-    push_place(text, schema, table, attrs)?;
-    push_end(text, schema, table, rects)
-}
-
-/// A part of an ask.
-pub fn push_part(
-    text: &mut String,
-    schema: &[Table],
-    table: u8,
-    attrs: Attrs,
-    rects: &Rects,
-) -> Result<(), NoMemory>
-    ensures { OnOk result (string_bytes text.new ≡ string_bytes text.old ++ ended (line_words schema.now (Part table attrs rects.now))) }
-{
-    text.push_str("part ")?;
-    push_place(text, schema, table, attrs)?;
-    push_end(text, schema, table, rects)
+    Ok(())
 }
 
 /// How the line of a drop begins.
@@ -80,8 +125,25 @@ pub fn push_drop(text: &mut String, client: u8, cause: Cause) -> Result<(), NoMe
     Ok(())
 }
 
-/// How the line of a drop ends: what is dropped, and the stamp that it had.
-pub fn push_dropped(
+/// Rects of a table and a set of its columns, to the end of the line.
+pub fn push_rects_of(
+    text: &mut String,
+    schema: &[Table],
+    table: u8,
+    attrs: Attrs,
+    rects: &Rects,
+) -> Result<(), NoMemory>
+    ensures { OnOk result (string_bytes text.new ≡ string_bytes text.old ++ ended (name_of schema.now table ∷ attrs_of schema.now table attrs ∷ rects_of schema.now table rects.now ∷ [])) }
+{
+    push_place(text, schema, table, attrs)?;
+    text.push(' ')?;
+    push_rects(text, columns_at(schema, table), rects.as_slice())?;
+    text.push('\n')?;
+    Ok(())
+}
+
+/// Rects of a table and a set of its columns, with their stamp, to the end of the line.
+pub fn push_stamped(
     text: &mut String,
     schema: &[Table],
     table: u8,
@@ -92,25 +154,49 @@ pub fn push_dropped(
     ensures { OnOk result (string_bytes text.new ≡ string_bytes text.old ++ ended (name_of schema.now table ∷ attrs_of schema.now table attrs ∷ decimal stamp ∷ rects_of schema.now table rects.now ∷ [])) }
 {
     push_place(text, schema, table, attrs)?;
-    write!(text, "{stamp} ")?;
-    push_end(text, schema, table, rects)
-}
-
-fn push_place(text: &mut String, schema: &[Table], table: u8, attrs: Attrs) -> Result<(), NoMemory>
-    ensures { OnOk result (string_bytes text.new ≡ string_bytes text.old ++ (name_of schema.now table ++ (codes " " ++ (attrs_of schema.now table attrs ++ codes " ")))) }
-{
-    text.push_str(name_at(schema, table))?;
-    text.push(' ')?;
-    push_attrs(text, columns_at(schema, table), attrs)?;
-    text.push(' ')?;
+    write!(text, " {stamp} ")?;
+    push_rects(text, columns_at(schema, table), rects.as_slice())?;
+    text.push('\n')?;
     Ok(())
 }
 
-fn push_end(text: &mut String, schema: &[Table], table: u8, rects: &Rects) -> Result<(), NoMemory>
-    ensures { OnOk result (string_bytes text.new ≡ string_bytes text.old ++ (rects_of schema.now table rects.now ++ codes "\n")) }
+/// A table and a set of its columns, to the end of the line.
+pub fn push_columns(
+    text: &mut String,
+    schema: &[Table],
+    table: u8,
+    attrs: Attrs,
+) -> Result<(), NoMemory>
+    ensures { OnOk result (string_bytes text.new ≡ string_bytes text.old ++ ended (name_of schema.now table ∷ attrs_of schema.now table attrs ∷ [])) }
 {
-    push_rects(text, columns_at(schema, table), rects.as_slice())?;
+    push_place(text, schema, table, attrs)?;
     text.push('\n')?;
+    Ok(())
+}
+
+fn push_place(text: &mut String, schema: &[Table], table: u8, attrs: Attrs) -> Result<(), NoMemory>
+    ensures { OnOk result (string_bytes text.new ≡ string_bytes text.old ++ (name_of schema.now table ++ (codes " " ++ attrs_of schema.now table attrs))) }
+{
+    text.push_str(name_at(schema, table))?;
+    text.push(' ')?;
+    push_attrs(text, columns_at(schema, table), attrs)
+}
+
+/// A class that would be dropped: its place among those, its stamp and how many rows it has.
+pub fn push_victim(
+    text: &mut String,
+    schema: &[Table],
+    place: u32,
+    table: u8,
+    attrs: Attrs,
+    stamp: u64,
+    rows: u64,
+) -> Result<(), NoMemory>
+    ensures { OnOk result (string_bytes text.new ≡ string_bytes text.old ++ ended (line_words schema.now (Victim place table attrs stamp rows))) }
+{
+    write!(text, "victim {place} ")?;
+    push_place(text, schema, table, attrs)?;
+    write!(text, " {stamp} {rows}\n")?;
     Ok(())
 }
 
@@ -129,80 +215,11 @@ pub fn push_ask(
     Ok(())
 }
 
-/// A statement that was executed.
-pub fn push_exec_version(text: &mut String, version: u64) -> Result<(), NoMemory>
-    ensures { OnOk result (string_bytes text.new ≡ string_bytes text.old ++ ended (line_words [] (ExecVersion version))) }
+/// What a cut ended.
+pub fn push_fail(text: &mut String, client: u8, kind: FailKind, number: u64) -> Result<(), NoMemory>
+    ensures { OnOk result (string_bytes text.new ≡ string_bytes text.old ++ ended (line_words [] (Fail client kind number))) }
 {
-    write!(text, "exec version {version}\n")?;
-    Ok(())
-}
-
-/// A statement that was refused.
-pub fn push_exec_refused(text: &mut String, fault: Fault) -> Result<(), NoMemory>
-    ensures { OnOk result (string_bytes text.new ≡ string_bytes text.old ++ ended (line_words [] (ExecRefused fault))) }
-{
-    let why = why_word(fault.why);
-    let at = fault.at;
-    write!(text, "exec refused {why} {at}\n")?;
-    Ok(())
-}
-
-/// A query that was answered at once.
-pub fn push_query_answered(text: &mut String, client: u8, query: u64) -> Result<(), NoMemory>
-    ensures { OnOk result (string_bytes text.new ≡ string_bytes text.old ++ ended (line_words [] (QueryAnswered client query))) }
-{
-    write!(text, "query {client} answered {query}\n")?;
-    Ok(())
-}
-
-/// A query that asks the server.
-pub fn push_query_asked(text: &mut String, client: u8, request: u64) -> Result<(), NoMemory>
-    ensures { OnOk result (string_bytes text.new ≡ string_bytes text.old ++ ended (line_words [] (QueryAsked client request))) }
-{
-    write!(text, "query {client} asked {request}\n")?;
-    Ok(())
-}
-
-/// A query whose text was refused.
-pub fn push_query_sql(text: &mut String, client: u8, fault: Fault) -> Result<(), NoMemory>
-    ensures { OnOk result (string_bytes text.new ≡ string_bytes text.old ++ ended (line_words [] (QuerySql client fault))) }
-{
-    let why = why_word(fault.why);
-    let at = fault.at;
-    write!(text, "query {client} sql {why} {at}\n")?;
-    Ok(())
-}
-
-/// A query that came while a request was out.
-pub fn push_query_busy(text: &mut String, client: u8, request: u64) -> Result<(), NoMemory>
-    ensures { OnOk result (string_bytes text.new ≡ string_bytes text.old ++ ended (line_words [] (QueryBusy client request))) }
-{
-    write!(text, "query {client} busy {request}\n")?;
-    Ok(())
-}
-
-/// A push, and how many frames the server sent.
-pub fn push_push_sent(text: &mut String, client: u8, frames: u64) -> Result<(), NoMemory>
-    ensures { OnOk result (string_bytes text.new ≡ string_bytes text.old ++ ended (line_words [] (PushSent client frames))) }
-{
-    write!(text, "push {client} sent {frames}\n")?;
-    Ok(())
-}
-
-/// A push to a client whose link is closed.
-pub fn push_push_closed(text: &mut String, client: u8) -> Result<(), NoMemory>
-    ensures { OnOk result (string_bytes text.new ≡ string_bytes text.old ++ ended (line_words [] (PushClosed client))) }
-{
-    write!(text, "push {client} closed\n")?;
-    Ok(())
-}
-
-/// A queue to the server that had nothing.
-pub fn push_server_empty(text: &mut String, client: u8) -> Result<(), NoMemory>
-    ensures { OnOk result (string_bytes text.new ≡ string_bytes text.old ++ ended (line_words [] (ServerEmpty client))) }
-{
-    write!(text, "toserver {client} empty\n")?;
-    Ok(())
+    push_end_at(text, "fail", client, fail_word(kind), number)
 }
 
 /// A request that the server took, and how many frames it sent.
@@ -214,39 +231,40 @@ pub fn push_server_took(
 ) -> Result<(), NoMemory>
     ensures { OnOk result (string_bytes text.new ≡ string_bytes text.old ++ ended (line_words [] (ServerTook client kind frames))) }
 {
-    let word = kind_word(kind);
-    write!(text, "toserver {client} {word} {frames}\n")?;
+    push_end_at(text, "toserver", client, kind_word(kind), frames)
+}
+
+/// A write that the server executed, at its version.
+pub fn push_written(
+    text: &mut String,
+    client: u8,
+    request: u64,
+    version: u64,
+) -> Result<(), NoMemory>
+    ensures { OnOk result (string_bytes text.new ≡ string_bytes text.old ++ ended (line_words [] (ClientWritten client request version))) }
+{
+    write!(text, "toclient {client} written {request} {version}\n")?;
     Ok(())
 }
 
-/// A queue to the client that had nothing.
-pub fn push_client_empty(text: &mut String, client: u8) -> Result<(), NoMemory>
-    ensures { OnOk result (string_bytes text.new ≡ string_bytes text.old ++ ended (line_words [] (ClientEmpty client))) }
+/// A write that the server refused.
+pub fn push_refused(
+    text: &mut String,
+    client: u8,
+    request: u64,
+    fault: Fault,
+) -> Result<(), NoMemory>
+    ensures { OnOk result (string_bytes text.new ≡ string_bytes text.old ++ ended (line_words [] (ClientRefused client request fault))) }
 {
-    write!(text, "toclient {client} empty\n")?;
-    Ok(())
+    write!(text, "toclient {client} refused {request} ")?;
+    push_fault(text, fault)
 }
 
-/// A message that the client laid by.
-pub fn push_client_laid(text: &mut String, client: u8) -> Result<(), NoMemory>
-    ensures { OnOk result (string_bytes text.new ≡ string_bytes text.old ++ ended (line_words [] (ClientLaid client))) }
+/// A session that began, or began again.
+pub fn push_welcome(text: &mut String, client: u8, version: u64, kept: bool) -> Result<(), NoMemory>
+    ensures { OnOk result (string_bytes text.new ≡ string_bytes text.old ++ ended (line_words [] (ClientWelcome client version kept))) }
 {
-    write!(text, "toclient {client} laid\n")?;
-    Ok(())
-}
-
-/// A message that brought the client up to a version.
-pub fn push_client_applied(text: &mut String, client: u8, version: u64) -> Result<(), NoMemory>
-    ensures { OnOk result (string_bytes text.new ≡ string_bytes text.old ++ ended (line_words [] (ClientApplied client version))) }
-{
-    write!(text, "toclient {client} applied {version}\n")?;
-    Ok(())
-}
-
-/// A message that brought the client its answer.
-pub fn push_client_answered(text: &mut String, client: u8) -> Result<(), NoMemory>
-    ensures { OnOk result (string_bytes text.new ≡ string_bytes text.old ++ ended (line_words [] (ClientAnswered client))) }
-{
-    write!(text, "toclient {client} answered\n")?;
+    let word = kept_word(kept);
+    write!(text, "toclient {client} welcome {version} {word}\n")?;
     Ok(())
 }

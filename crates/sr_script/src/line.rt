@@ -6,6 +6,14 @@ use sr_cell::fault::Fault;
 use sr_cell::list::Seq;
 use sr_union::rects::Rects;
 
+/// What a cut ended.
+#[derive(Clone, Copy, Debug, PartialEq, Eq)]
+pub enum FailKind {
+    Query,
+    Write,
+    Resume,
+}
+
 /// The requests of a client.
 #[derive(Clone, Copy, Debug, PartialEq, Eq)]
 pub enum RequestKind {
@@ -52,6 +60,34 @@ pub enum TraceLine {
         attrs: Attrs,
         rects: Rects,
     },
+    Fail {
+        client: u8,
+        kind: FailKind,
+        number: u64,
+    },
+    Pieces,
+    Need {
+        table: u8,
+        attrs: Attrs,
+    },
+    Probe {
+        table: u8,
+        attrs: Attrs,
+        stamp: u64,
+        rects: Rects,
+    },
+    Rest {
+        table: u8,
+        attrs: Attrs,
+        rects: Rects,
+    },
+    Victim {
+        place: u32,
+        table: u8,
+        attrs: Attrs,
+        stamp: u64,
+        rows: u64,
+    },
     ExecVersion {
         version: u64,
     },
@@ -73,6 +109,26 @@ pub enum TraceLine {
     QueryBusy {
         client: u8,
         request: u64,
+    },
+    QueryDown {
+        client: u8,
+        cut: u64,
+    },
+    WriteSent {
+        client: u8,
+        request: u64,
+    },
+    WriteSql {
+        client: u8,
+        fault: Fault,
+    },
+    WriteBusy {
+        client: u8,
+        request: u64,
+    },
+    WriteDown {
+        client: u8,
+        cut: u64,
     },
     PushSent {
         client: u8,
@@ -100,6 +156,67 @@ pub enum TraceLine {
         version: u64,
     },
     ClientAnswered {
+        client: u8,
+    },
+    ClientAsked {
+        client: u8,
+        request: u64,
+    },
+    ClientWritten {
+        client: u8,
+        request: u64,
+        version: u64,
+    },
+    ClientRefused {
+        client: u8,
+        request: u64,
+        fault: Fault,
+    },
+    ClientForgot {
+        client: u8,
+        version: u64,
+    },
+    ClientWelcome {
+        client: u8,
+        version: u64,
+        kept: bool,
+    },
+    Settled {
+        client: u8,
+        frames: u64,
+    },
+    EvictDropped {
+        client: u8,
+    },
+    EvictBusy {
+        client: u8,
+        request: u64,
+    },
+    EvictNone {
+        client: u8,
+        count: u64,
+    },
+    Explained {
+        client: u8,
+        version: u64,
+    },
+    ExplainSql {
+        client: u8,
+        fault: Fault,
+    },
+    CutDone {
+        client: u8,
+        cut: u64,
+    },
+    CutAlready {
+        client: u8,
+        cut: u64,
+    },
+    ResumeSent {
+        client: u8,
+        request: u64,
+    },
+    ResumeUp {
         client: u8,
     },
 }

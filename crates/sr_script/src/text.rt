@@ -3,10 +3,10 @@ ghost use Rattle.std.specs.Prelude.{◌≡◌, ◌++◌, List, IfOk, OnOk, strin
 ghost use Rattle.sr_script.specs.TraceText.{ended, line_words, line_text};
 
 use crate::forms::{
-    push_answer, push_ask, push_client_answered, push_client_applied, push_client_empty,
-    push_client_laid, push_drop, push_dropped, push_exec_refused, push_exec_version, push_held,
-    push_part, push_push_closed, push_push_sent, push_query_answered, push_query_asked,
-    push_query_busy, push_query_sql, push_row_line, push_server_empty, push_server_took,
+    push_answer, push_ask, push_columns, push_drop, push_end, push_end_at, push_exec_refused,
+    push_exec_version, push_fail, push_held, push_number_end, push_rects_of, push_refused,
+    push_row_line, push_server_took, push_sql, push_stamped, push_victim, push_welcome,
+    push_written,
 };
 use crate::line::TraceLine;
 use sr_cell::list::NoMemory;
@@ -16,7 +16,7 @@ use std::alloc::Global;
 use std::fmt::Write;
 
 /// Appends a line with the number of its event. A table that the schema lacks has no name and no columns.
-#[tactic(auto, using(crate::proofs::FirstWord::ended_more), unfolding(crate::specs::TraceText::line_text))]
+#[tactic(auto, unfolding(crate::specs::TraceText::line_text))]
 pub fn push_line(
     text: &mut String,
     schema: &[Table],
@@ -59,7 +59,10 @@ fn push_words(text: &mut String, schema: &[Table], line: &TraceLine) -> Result<(
             table,
             attrs,
             rects,
-        } => push_held(text, schema, *client, *table, *attrs, rects),
+        } => {
+            push_held(text, *client)?;
+            push_rects_of(text, schema, *table, *attrs, rects)
+        }
         TraceLine::Drop {
             client,
             cause,
@@ -69,7 +72,7 @@ fn push_words(text: &mut String, schema: &[Table], line: &TraceLine) -> Result<(
             rects,
         } => {
             push_drop(text, *client, *cause)?;
-            push_dropped(text, schema, *table, *attrs, *stamp, rects)
+            push_stamped(text, schema, *table, *attrs, *stamp, rects)
         }
         TraceLine::Ask {
             client,
@@ -81,26 +84,122 @@ fn push_words(text: &mut String, schema: &[Table], line: &TraceLine) -> Result<(
             table,
             attrs,
             rects,
-        } => push_part(text, schema, *table, *attrs, rects),
+        } => {
+            text.push_str("part ")?;
+            push_rects_of(text, schema, *table, *attrs, rects)
+        }
+        TraceLine::Fail {
+            client,
+            kind,
+            number,
+        } => push_fail(text, *client, *kind, *number),
+        TraceLine::Pieces => {
+            text.push_str("pieces\n")?;
+            Ok(())
+        }
+        TraceLine::Need { table, attrs } => {
+            text.push_str("need ")?;
+            push_columns(text, schema, *table, *attrs)
+        }
+        TraceLine::Probe {
+            table,
+            attrs,
+            stamp,
+            rects,
+        } => {
+            text.push_str("probe ")?;
+            push_stamped(text, schema, *table, *attrs, *stamp, rects)
+        }
+        TraceLine::Rest {
+            table,
+            attrs,
+            rects,
+        } => {
+            text.push_str("rest ")?;
+            push_rects_of(text, schema, *table, *attrs, rects)
+        }
+        TraceLine::Victim {
+            place,
+            table,
+            attrs,
+            stamp,
+            rows,
+        } => push_victim(text, schema, *place, *table, *attrs, *stamp, *rows),
         TraceLine::ExecVersion { version } => push_exec_version(text, *version),
         TraceLine::ExecRefused { fault } => push_exec_refused(text, *fault),
-        TraceLine::QueryAnswered { client, query } => push_query_answered(text, *client, *query),
-        TraceLine::QueryAsked { client, request } => push_query_asked(text, *client, *request),
-        TraceLine::QuerySql { client, fault } => push_query_sql(text, *client, *fault),
-        TraceLine::QueryBusy { client, request } => push_query_busy(text, *client, *request),
-        TraceLine::PushSent { client, frames } => push_push_sent(text, *client, *frames),
-        TraceLine::PushClosed { client } => push_push_closed(text, *client),
-        TraceLine::ServerEmpty { client } => push_server_empty(text, *client),
+        TraceLine::QueryAnswered { client, query } => push_end_at(
+            text, "query", *client, "answered", *query,
+        ),
+        TraceLine::QueryAsked { client, request } => push_end_at(
+            text, "query", *client, "asked", *request,
+        ),
+        TraceLine::QuerySql { client, fault } => push_sql(text, "query", *client, *fault),
+        TraceLine::QueryBusy { client, request } => push_end_at(
+            text, "query", *client, "busy", *request,
+        ),
+        TraceLine::QueryDown { client, cut } => push_end_at(text, "query", *client, "down", *cut),
+        TraceLine::WriteSent { client, request } => push_end_at(
+            text, "write", *client, "sent", *request,
+        ),
+        TraceLine::WriteSql { client, fault } => push_sql(text, "write", *client, *fault),
+        TraceLine::WriteBusy { client, request } => push_end_at(
+            text, "write", *client, "busy", *request,
+        ),
+        TraceLine::WriteDown { client, cut } => push_end_at(text, "write", *client, "down", *cut),
+        TraceLine::PushSent { client, frames } => push_end_at(
+            text, "push", *client, "sent", *frames,
+        ),
+        TraceLine::PushClosed { client } => push_end(text, "push", *client, "closed"),
+        TraceLine::ServerEmpty { client } => push_end(text, "toserver", *client, "empty"),
         TraceLine::ServerTook {
             client,
             kind,
             frames,
         } => push_server_took(text, *client, *kind, *frames),
-        TraceLine::ClientEmpty { client } => push_client_empty(text, *client),
-        TraceLine::ClientLaid { client } => push_client_laid(text, *client),
-        TraceLine::ClientApplied { client, version } => push_client_applied(
-            text, *client, *version,
+        TraceLine::ClientEmpty { client } => push_end(text, "toclient", *client, "empty"),
+        TraceLine::ClientLaid { client } => push_end(text, "toclient", *client, "laid"),
+        TraceLine::ClientApplied { client, version } => push_end_at(
+            text, "toclient", *client, "applied", *version,
         ),
-        TraceLine::ClientAnswered { client } => push_client_answered(text, *client),
+        TraceLine::ClientAnswered { client } => push_end(text, "toclient", *client, "answered"),
+        TraceLine::ClientAsked { client, request } => push_end_at(
+            text, "toclient", *client, "asked", *request,
+        ),
+        TraceLine::ClientWritten {
+            client,
+            request,
+            version,
+        } => push_written(text, *client, *request, *version),
+        TraceLine::ClientRefused {
+            client,
+            request,
+            fault,
+        } => push_refused(text, *client, *request, *fault),
+        TraceLine::ClientForgot { client, version } => push_end_at(
+            text, "toclient", *client, "forgot", *version,
+        ),
+        TraceLine::ClientWelcome {
+            client,
+            version,
+            kept,
+        } => push_welcome(text, *client, *version, *kept),
+        TraceLine::Settled { client, frames } => push_number_end(text, "settle", *client, *frames),
+        TraceLine::EvictDropped { client } => push_end(text, "evict", *client, "dropped"),
+        TraceLine::EvictBusy { client, request } => push_end_at(
+            text, "evict", *client, "busy", *request,
+        ),
+        TraceLine::EvictNone { client, count } => push_end_at(
+            text, "evict", *client, "none", *count,
+        ),
+        TraceLine::Explained { client, version } => push_number_end(
+            text, "explain", *client, *version,
+        ),
+        TraceLine::ExplainSql { client, fault } => push_sql(text, "explain", *client, *fault),
+        TraceLine::CutDone { client, cut } => push_number_end(text, "cut", *client, *cut),
+        TraceLine::CutAlready { client, cut } => push_end_at(text, "cut", *client, "already", *cut),
+        TraceLine::ResumeSent { client, request } => push_end_at(
+            text, "resume", *client, "sent", *request,
+        ),
+        TraceLine::ResumeUp { client } => push_end(text, "resume", *client, "up"),
     }
 }

@@ -1,8 +1,8 @@
 //! The words of a trace.
 ghost use Rattle.std.specs.Prelude.{◌≡◌, List};
-ghost use Rattle.sr_script.specs.TraceText.{why_text, cause_text, kind_text, mode_text};
+ghost use Rattle.sr_script.specs.TraceText.{why_text, cause_text, fail_text, kind_text, mode_text, kept_text};
 
-use crate::line::RequestKind;
+use crate::line::{FailKind, RequestKind};
 use sr_cell::cause::Cause;
 use sr_cell::fault::Why;
 
@@ -60,6 +60,17 @@ pub fn cause_word(cause: Cause) -> &'static str
     }
 }
 
+/// The word of what a cut ended.
+pub fn fail_word(kind: FailKind) -> &'static str
+    ensures { result.now ≡ fail_text kind }
+{
+    match kind {
+        FailKind::Query => "query",
+        FailKind::Write => "write",
+        FailKind::Resume => "resume",
+    }
+}
+
 /// The word of a request.
 pub fn kind_word(kind: RequestKind) -> &'static str
     ensures { result.now ≡ kind_text kind }
@@ -77,4 +88,11 @@ pub fn mode_word(fresh: bool) -> &'static str
     ensures { result.now ≡ mode_text fresh }
 {
     if fresh { "fresh" } else { "more" }
+}
+
+/// The word of a welcome: the server still knew what the client has, or the client begins anew.
+pub fn kept_word(kept: bool) -> &'static str
+    ensures { result.now ≡ kept_text kept }
+{
+    if kept { "kept" } else { "fresh" }
 }

@@ -14,8 +14,8 @@ use Rattle.sr_history.specs.Classes.{Numbered, stamp}
 use Rattle.sr_history.specs.Drops.{IsDropOf, DropsEach, DropsAll, IsAbsorbed, AbsorbsFrom, Absorbs}
 use Rattle.sr_region.specs.declared.region.Region.{Region}
 use Rattle.sr_store.specs.Classes.{ascends, Keeps}
-use Rattle.sr_store.specs.Stores.{IsOfSchema, drop_of}
-use Rattle.sr_store.specs.Answered.{IsAbsorbedIn, AreFlags, flagged}
+use Rattle.sr_store.specs.Stores.{IsOfSchema, drop_of, IsAbsorbedIn}
+use Rattle.sr_store.specs.Answered.{AreFlags, flagged}
 use Rattle.sr_store.specs.Past.{class_of}
 use Rattle.sr_store.proofs.Covering.{wider_is}
 use Rattle.sr_store.proofs.Classing.{HasClass, have_classes, are_classes}

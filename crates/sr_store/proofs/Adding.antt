@@ -53,7 +53,7 @@ abbrev leads : Region → List Region → Bool
 leads f [] = true
 leads f (h ∷ hs) = is_before f h
 
-not-before : (g h : Region) → is_before g h ≡ false → is_same h g ≡ false → is_before h g ≡ true
+pub not-before : (g h : Region) → is_before g h ≡ false → is_same h g ≡ false → is_before h g ≡ true
 not-before g h b s = grind (arith, nat_tests)
 
 with_region-leads : (f : Region) (hs : List Region) (g : Region) → leads f hs ≡ true → is_before f g ≡ true → leads f (with_region hs g) ≡ true
@@ -153,16 +153,22 @@ joined_cut schema given h g e none ch cg =
     let s = class-parts h g e in
     AreCutFrom-append (table_at schema h.table).columns (given h.table) h.rects g.rects ch (subst (λ t. AreCutFrom (table_at schema t).columns (given t) g.rects) s.0 cg)
 
-pub with_region-used : (used : ℕ → ℕ → Bool) (hs : List Region) (g : Region) → list_all (λ g. used g.table g.attrs) hs ≡ true → used g.table g.attrs ≡ true → list_all (λ g. used g.table g.attrs) (with_region hs g) ≡ true
-with_region-used used [] g all one = rw one refl
-with_region-used used (h ∷ hs) g all one = go (is_before g h) (is_same h g) (with_region-used used hs g (grind arith) one)
+with_region-classes : (is : ℕ → ℕ → ℕ → Bool) (hs : List Region) (g : Region) → list_all (λ g. is g.table g.attrs g.stamp) hs ≡ true → is g.table g.attrs g.stamp ≡ true
+    → list_all (λ g. is g.table g.attrs g.stamp) (with_region hs g) ≡ true
+with_region-classes is [] g all one = rw one refl
+with_region-classes is (h ∷ hs) g all one = go (is_before g h) (is_same h g) (with_region-classes is hs g (grind arith) one)
   where
-    go : (b e : Bool) → list_all (λ g. used g.table g.attrs) (with_region hs g) ≡ true
-        → list_all (λ g. used g.table g.attrs) (if b then g ∷ h ∷ hs else (if e then joined h g ∷ hs else h ∷ with_region hs g)) ≡ true
+    go : (b e : Bool) → list_all (λ g. is g.table g.attrs g.stamp) (with_region hs g) ≡ true
+        → list_all (λ g. is g.table g.attrs g.stamp) (if b then g ∷ h ∷ hs else (if e then joined h g ∷ hs else h ∷ with_region hs g)) ≡ true
     go true e ih = grind (arith, all, one)
     go false true ih = all
     go false false ih = grind (arith, all, ih)
 
-pub with_regions-used : (used : ℕ → ℕ → Bool) (hs gs : List Region) → list_all (λ g. used g.table g.attrs) hs ≡ true → list_all (λ g. used g.table g.attrs) gs ≡ true → list_all (λ g. used g.table g.attrs) (with_regions hs gs) ≡ true
-with_regions-used used hs [] all each = all
-with_regions-used used hs (g ∷ gs) all each = with_regions-used used (with_region hs g) gs (with_region-used used hs g all (grind arith)) (grind arith)
+pub with_regions-classes : (is : ℕ → ℕ → ℕ → Bool) (hs gs : List Region) → list_all (λ g. is g.table g.attrs g.stamp) hs ≡ true → list_all (λ g. is g.table g.attrs g.stamp) gs ≡ true
+    → list_all (λ g. is g.table g.attrs g.stamp) (with_regions hs gs) ≡ true
+with_regions-classes is hs [] all each = all
+with_regions-classes is hs (g ∷ gs) all each = with_regions-classes is (with_region hs g) gs (with_region-classes is hs g all (grind arith)) (grind arith)
+
+pub with_regions-used : (used : ℕ → ℕ → Bool) (hs gs : List Region) → list_all (λ g. used g.table g.attrs) hs ≡ true → list_all (λ g. used g.table g.attrs) gs ≡ true
+    → list_all (λ g. used g.table g.attrs) (with_regions hs gs) ≡ true
+with_regions-used used hs gs all each = with_regions-classes (λ t a s. used t a) hs gs all each

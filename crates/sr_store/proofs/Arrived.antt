@@ -141,3 +141,13 @@ all_used schema number used (r ∷ rs) (g ∷ gs) h k =
     let ih = all_used schema number used rs gs (grind arith) k.1 in
     let one : used r.table r.attrs ≡ true = grind arith in
     rw (k.0.table, k.0.attrs, one) ih
+
+-- each has the number as its stamp
+pub all_new : (schema : List Table) (number : ℕ) (is : ℕ → ℕ → ℕ → Bool) (arrivals : List Arrival) (arrived : List Region) → ((t a : ℕ) → is t a number ≡ true)
+    → AllZip (IsArrived schema number) arrivals arrived → list_all (λ g. is g.table g.attrs g.stamp) arrived ≡ true
+all_new schema number is [] [] new k = refl
+all_new schema number is [] (g ∷ gs) new k = absurd k
+all_new schema number is (r ∷ rs) [] new k = absurd k
+all_new schema number is (r ∷ rs) (g ∷ gs) new k =
+    let one : is g.table g.attrs g.stamp ≡ true = ap (is g.table g.attrs) k.0.stamp ∙ new g.table g.attrs in
+    rw one (all_new schema number is rs gs new k.1)

@@ -22,15 +22,15 @@ use Rattle.sr_history.specs.Drops.{is_held_wider}
 use Rattle.sr_region.specs.declared.region.Region.{Region}
 use Rattle.sr_store.specs.declared.store.Arrival.{Arrival}
 use Rattle.sr_store.specs.Classes.{Held, Stamps, occurs, Keeps}
-use Rattle.sr_store.specs.Stores.{IsOfSchema, cover_of, drop_of}
-use Rattle.sr_store.specs.Answered.{arrives, wider, held_of}
+use Rattle.sr_store.specs.Stores.{IsOfSchema, cover_of, drop_of, wider}
+use Rattle.sr_store.specs.Answered.{arrives, held_of}
 
 -- ---- regions whose columns pass a test
 
-abbrev chosen : (ℕ → Bool) → List Region → ℕ → List Rect
+abbrev pub chosen : (ℕ → Bool) → List Region → ℕ → List Rect
 chosen test gs t = flat_map (λ g. g.rects) (filter (λ g. g.table == t && test g.attrs) gs)
 
-chosen-some : (test : ℕ → Bool) (gs : List Region) (t : ℕ) (p : Row) → in_any (chosen test gs t) p ≡ true → (b : ℕ) × (test b ≡ true) × ((occurs gs t b p ≡ 0) → ⊥)
+pub chosen-some : (test : ℕ → Bool) (gs : List Region) (t : ℕ) (p : Row) → in_any (chosen test gs t) p ≡ true → (b : ℕ) × (test b ≡ true) × ((occurs gs t b p ≡ 0) → ⊥)
 chosen-some test [] t p h = absurd (grind arith)
 chosen-some test (g ∷ gs) t p h = go (g.table == t) (test g.attrs) refl refl h (in_any-append g.rects (chosen test gs t) p) (chosen-some test gs t p)
   where
@@ -49,7 +49,7 @@ chosen-some test (g ∷ gs) t p h = go (g.table == t) (test g.attrs) refl refl h
     go true false ex ey i a ih = later (ih i)
     go false y ex ey i a ih = later (ih i)
 
-chosen-has : (test : ℕ → Bool) (gs : List Region) (t : ℕ) (p : Row) (b : ℕ) → test b ≡ true → ((occurs gs t b p ≡ 0) → ⊥) → in_any (chosen test gs t) p ≡ true
+pub chosen-has : (test : ℕ → Bool) (gs : List Region) (t : ℕ) (p : Row) (b : ℕ) → test b ≡ true → ((occurs gs t b p ≡ 0) → ⊥) → in_any (chosen test gs t) p ≡ true
 chosen-has test [] t p b m k = absurd (k refl)
 chosen-has test (g ∷ gs) t p b m k = go (g.table == t) (test g.attrs) (g.attrs == b) refl refl refl (in_any-append g.rects (chosen test gs t) p) (chosen-has test gs t p b m)
   where

@@ -13,8 +13,9 @@ use Rattle.sr_box.specs.Points.{times}
 use Rattle.sr_region.specs.declared.region.Region.{Region}
 use Rattle.sr_region.specs.Regions.{rank}
 use Rattle.sr_store.specs.Classes.{Held, Stamps, is_of, occurs, key_occurs, IsStamped, is_before, ascends, Keeps}
-use Rattle.sr_store.specs.Stores.{IsOfSchema, IsStore, count_rects}
+use Rattle.sr_store.specs.Stores.{IsOfSchema, IsStore, count_rects, IsAbsorbedIn}
 use Rattle.sr_store.specs.Answered.{AreFlags, same_flag, flagged}
+use Rattle.sr_store.proofs.Settled.{settled_less}
 
 -- ---- what each region has
 
@@ -87,7 +88,7 @@ before-trans f g h x y = grind (arith, nat_tests)
 abbrev pub before_all : Region → List Region → Bool
 before_all f gs = list_all (is_before f) gs
 
-before-less : (f g : Region) (gs : List Region) → is_before f g ≡ true → before_all g gs ≡ true → before_all f gs ≡ true
+pub before-less : (f g : Region) (gs : List Region) → is_before f g ≡ true → before_all g gs ≡ true → before_all f gs ≡ true
 before-less f g [] x y = refl
 before-less f g (h ∷ gs) x y = let ih = before-less f g gs x (grind arith) in let z = before-trans f g h x (grind arith) in grind (arith, ih, z)
 
@@ -99,7 +100,7 @@ all-ascends : (g : Region) (gs : List Region) → before_all g gs ≡ true → a
 all-ascends g [] x y = refl
 all-ascends g (f ∷ gs) x y = grind arith
 
-flagged-before : (g : Region) (b : Bool) (fs : List Bool) (gs : List Region) → before_all g gs ≡ true → before_all g (flagged b fs gs) ≡ true
+pub flagged-before : (g : Region) (b : Bool) (fs : List Bool) (gs : List Region) → before_all g gs ≡ true → before_all g (flagged b fs gs) ≡ true
 flagged-before g b [] gs h = refl
 flagged-before g b (f ∷ fs) [] h = refl
 flagged-before g b (f ∷ fs) (k ∷ gs) h = go (same_flag f b) (flagged-before g b fs gs (grind arith))
@@ -126,6 +127,7 @@ kept_store schema b fs gs h = record {
   once = λ t a p point. let x = flagged_fewer b fs gs t a p in let y = h.once t a p point in omega (arith, x, y);
   keys = λ t a k. let x = flagged_fewer_keys b fs gs t a k in let y = h.keys t a k in omega (arith, x, y);
   few = let x = flagged_few b fs gs in let y = h.few in omega (arith, x, y);
+  settled = settled_less schema (flagged b fs gs) gs (flagged b fs gs) (λ t a p point. flagged_fewer b fs gs t a p) (flagged_all (λ g. IsAbsorbedIn schema gs g → ⊥) b fs gs h.settled);
 }
 
 -- what stays holds what was held and is in no dropped region

@@ -16,8 +16,8 @@ use Rattle.sr_union.proofs.Among.{AreCutFrom-append}
 use Rattle.sr_query.specs.declared.query.Part.{Part}
 use Rattle.sr_region.specs.declared.region.Region.{Region}
 use Rattle.sr_store.specs.declared.store.Arrival.{Arrival}
-use Rattle.sr_store.specs.Stores.{IsOfSchema}
-use Rattle.sr_store.specs.Answered.{IsArrival, rects_on, wider}
+use Rattle.sr_store.specs.Stores.{IsOfSchema, wider}
+use Rattle.sr_store.specs.Answered.{IsArrival, rects_on}
 use Rattle.sr_store.specs.Renewing.{IsCutFrom, IsPartCutFrom, IsArrivalCutFrom}
 
 module _ {X : Type 0} (schema : List Table) (table : X → ℕ) (rects : X → List Rect) where

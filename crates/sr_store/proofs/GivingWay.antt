@@ -20,15 +20,16 @@ use Rattle.sr_policy.specs.declared.policy.Last.{Last}
 use Rattle.sr_region.specs.declared.region.Region.{Region}
 use Rattle.sr_region.specs.Regions.{rank, is_in, IsRowIn, IsRegion}
 use Rattle.sr_store.specs.declared.store.Arrival.{Arrival}
-use Rattle.sr_store.specs.Classes.{Held, Stamps, is_of, occurs, key_occurs, IsStamped, Keeps}
+use Rattle.sr_store.specs.Classes.{Held, Stamps, is_of, occurs, key_occurs, IsStamped, is_before, ascends, Keeps}
 use Rattle.sr_store.specs.Told.{Told, IsTold, IsTrueOf, AreTrueOf}
-use Rattle.sr_store.specs.Stores.{IsOfSchema, IsStore, drop_of}
+use Rattle.sr_store.specs.Stores.{IsOfSchema, IsStore, drop_of, IsAbsorbedIn}
 use Rattle.sr_store.specs.Answered.{arrivals_at, keys_at, BringOwnKeys, brings, gives_way, giving_way, IsArrival, AreApart, HaveArrived, rects_on, is_used, weight_from, IsRenewed, IsHeavy, IsGivenUp}
 use Rattle.sr_store.specs.Fitted.{lasts_of, IsFitted, IsAnswered}
 use Rattle.sr_store.specs.Renewing.{IsCutFrom}
 use Rattle.sr_store.specs.Laws.{SomeTellingFits, NothingGivesWay}
 use Rattle.sr_store.proofs.Chunks.{IsChunk, region-chunk, lies, lies-occurs, HaveOwnKeys, HaveOwnPoints, lacks-filter, some-telling, keys-once, of-parts, of-self}
 use Rattle.sr_store.proofs.Restamping.{All-left, All-right}
+use Rattle.sr_store.proofs.Settled.{settled_less}
 
 -- ---- what arrives, as a region
 
@@ -70,6 +71,17 @@ module _ (arrivals : List Arrival) where
   pub way-occurs : (gs : List Region) (t a : ℕ) (p : Row) → occurs (giving_way arrivals gs) t a p ≡ occurs gs t a p
   way-occurs [] t a p = refl
   way-occurs (g ∷ gs) t a p = ap (λ n. (if is_of g t a then times g.rects p else 0) + n) (way-occurs gs t a p)
+
+  pub way-order : (gs : List Region) → ascends (giving_way arrivals gs) ≡ ascends gs
+  way-order [] = refl
+  way-order (g ∷ []) = refl
+  way-order (g ∷ h ∷ gs) = ap (λ b. is_before g h && b) (way-order (h ∷ gs))
+
+  pub way-settled : (schema : List Table) (gs : List Region) → All (λ g. IsAbsorbedIn schema gs g → ⊥) gs
+      → All (λ g. IsAbsorbedIn schema (giving_way arrivals gs) g → ⊥) (giving_way arrivals gs)
+  way-settled schema gs all =
+      All-map (λ g. IsAbsorbedIn schema (giving_way arrivals gs) g → ⊥) (gives_way arrivals) gs
+      (settled_less schema (giving_way arrivals gs) gs gs (λ t a p point. let e = way-occurs gs t a p in omega (arith, e)) all)
 
   pub way-drops : (f : Region → Mark) → ((g : Region) → f (gives_way arrivals g) ≡ f g) → (gs : List Region) → map f (giving_way arrivals gs) ≡ map f gs
   way-drops f same [] = refl
@@ -357,10 +369,10 @@ keeps-answer schema limits number parts arrivals old mid new front last (Ok mark
 keeps-answer schema limits number parts arrivals old mid new front last (Err e) is renewed store still kept = kept
 
 -- the drops of all regions, made after they gave way
-pub given-up : (schema : List Table) (parts : List Part) (arrivals : List Arrival) (regions old listed new : List Region) (marks : List Mark) → old ≡ giving_way arrivals regions → IsHeavy schema old parts arrivals
-    → marks ≡ map (drop_of Pieces) listed → listed ≡ old → new ≡ [] → IsGivenUp schema parts arrivals regions new marks
-given-up schema parts arrivals regions old listed new marks is heavy drops same none = record {
+pub given-up : (schema : List Table) (parts : List Part) (arrivals : List Arrival) (regions old new : List Region) (marks : List Mark) → old ≡ giving_way arrivals regions → IsHeavy schema old parts arrivals
+    → marks ≡ map (drop_of Pieces) old → new ≡ [] → IsGivenUp schema parts arrivals regions new marks
+given-up schema parts arrivals regions old new marks is heavy drops none = record {
   heavy = way-heavy arrivals schema parts regions (subst (λ gs. IsHeavy schema gs parts arrivals) is heavy);
   left = none;
-  marks_are = drops ∙ (ap (map (drop_of Pieces)) (same ∙ is) ∙ way-drops arrivals (drop_of Pieces) (λ g. refl) regions);
+  marks_are = drops ∙ (ap (map (drop_of Pieces)) is ∙ way-drops arrivals (drop_of Pieces) (λ g. refl) regions);
 }

@@ -14,11 +14,13 @@ use Rattle.sr_query.specs.declared.query.Part.{Part}
 use Rattle.sr_query.specs.Bound.{is_table}
 use Rattle.sr_region.specs.declared.region.Region.{Region}
 use Rattle.sr_store.specs.declared.store.Arrival.{Arrival}
-use Rattle.sr_store.specs.Stores.{IsOfSchema, count_rects}
-use Rattle.sr_store.specs.Answered.{IsArrival, are_once, is_used, rects_on, weight_from, IsHeavy, wider}
+use Rattle.sr_store.specs.Stores.{IsOfSchema, count_rects, wider}
+use Rattle.sr_store.specs.Answered.{IsArrival, are_once, is_used, rects_on, weight_from, IsHeavy}
 use Rattle.sr_store.specs.Renewing.{touching, IsCutFrom, IsArrivalCutFrom, IsRenewal}
+use Rattle.sr_store.specs.Making.{wider_both}
 use Rattle.sr_store.proofs.Tables.{tables_first}
 use Rattle.sr_store.proofs.Dropping.{count_rects-cons}
+use Rattle.sr_store.proofs.Keeping.{old_used, arrivals_used}
 use Rattle.sr_store.proofs.Counting.{pieces, has_sets, pieces_few}
 use Rattle.sr_store.proofs.Given.{FitsPart, regions_cut, parts_cut, arrivals_cut, given_fit, wider_cut}
 use Rattle.sr_store.proofs.Touching.{touching_cut}
@@ -96,14 +98,18 @@ heavy_touched schema regions parts arrivals g h used cut fit large =
     (touching_cut schema (rects_on regions parts arrivals) parts g.table g.attrs (parts_cut schema regions parts arrivals fit)))
     large
 
--- a region of the answer and those with more columns
-pub heavy_wider : (schema : List Table) (regions : List Region) (parts : List Part) (arrivals : List Arrival) (all : List Region) (g : Region) → IsOfSchema schema g
-    → is_used regions arrivals g.table g.attrs ≡ true → IsCutFrom schema (rects_on regions parts arrivals) g → All (IsCutFrom schema (rects_on regions parts arrivals)) all
-    → 16384 < grid (table_at schema g.table).columns (g.rects ++ wider all g.table g.attrs) → IsHeavy schema regions parts arrivals
-heavy_wider schema regions parts arrivals all g h used cut cuts large =
-    heavy_one schema regions parts arrivals g.table g.attrs (g.rects ++ wider all g.table g.attrs) h.0 used
-    (AreCutFrom-append (table_at schema g.table).columns (rects_on regions parts arrivals g.table) g.rects (wider all g.table g.attrs) cut
-    (wider_cut schema (rects_on regions parts arrivals) all g.table g.attrs cuts))
+-- a region, and those of two lists that have more columns
+pub heavy_wider : (schema : List Table) (regions : List Region) (parts : List Part) (arrivals : List Arrival) (still news : List Region) (g : Region) → IsOfSchema schema g
+    → is_used regions arrivals g.table g.attrs ≡ true → IsCutFrom schema (rects_on regions parts arrivals) g
+    → All (IsCutFrom schema (rects_on regions parts arrivals)) still → All (IsCutFrom schema (rects_on regions parts arrivals)) news
+    → 16384 < grid (table_at schema g.table).columns (g.rects ++ wider_both still news g) → IsHeavy schema regions parts arrivals
+heavy_wider schema regions parts arrivals still news g h used cut still_cut news_cut large =
+    let cs = (table_at schema g.table).columns in
+    let given = rects_on regions parts arrivals g.table in
+    heavy_one schema regions parts arrivals g.table g.attrs (g.rects ++ wider_both still news g) h.0 used
+    (AreCutFrom-append cs given g.rects (wider_both still news g) cut
+    (AreCutFrom-append cs given (wider still g.table g.attrs) (wider news g.table g.attrs)
+    (wider_cut schema (rects_on regions parts arrivals) still g.table g.attrs still_cut) (wider_cut schema (rects_on regions parts arrivals) news g.table g.attrs news_cut)))
     large
 
 -- what arrives
@@ -212,7 +218,7 @@ pub heavy_many : (schema : List Table) (number : ℕ) (parts : List Part) (arriv
 heavy_many schema number parts arrivals old all tables each fit are h many = record {
   sets = λ t. sets_of all t;
   once = λ t. sets-once all t;
-  used = λ t. sets-used (is_used old arrivals) all t h.used;
+  used = λ t. sets-used (is_used old arrivals) all t (h.used (is_used old arrivals) (old_used old arrivals) (arrivals_used old arrivals));
   heavy =
       let few = count-from schema all h.each in
       let weight = from-weight (λ t. sets_of all t) (rects_on old parts arrivals) all schema 0 (λ t i e. at t i (omega (arith, e))) in

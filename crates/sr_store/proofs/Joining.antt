@@ -25,7 +25,7 @@ before-trans f g h x y = grind (arith, nat_tests)
 not-back : (h g : Region) → is_before h g ≡ true → is_before g h ≡ false
 not-back h g e = grind (arith, nat_tests)
 
-not-same : (h g : Region) → is_before h g ≡ true → is_same h g ≡ false
+pub not-same : (h g : Region) → is_before h g ≡ true → is_same h g ≡ false
 not-same h g e = grind (arith, nat_tests)
 
 same-level : (h g : Region) → is_same h g ≡ true → is_before g h ≡ false
@@ -51,7 +51,7 @@ ascends-parted g (h ∷ hs) a zero (suc j) d le below p = first-before g h hs j 
 ascends-parted g (h ∷ hs) a (suc i) zero d le below p = absurd (omega arith)
 ascends-parted g (h ∷ hs) a (suc i) (suc j) d le below p = ascends-parted g hs (ascends-tail h hs a) i j d (omega arith) (omega arith) p
 
-behind : (h : Region) (hs : List Region) (g : Region) → is_before h g ≡ true → with_region (h ∷ hs) g ≡ h ∷ with_region hs g
+pub behind : (h : Region) (hs : List Region) (g : Region) → is_before h g ≡ true → with_region (h ∷ hs) g ≡ h ∷ with_region hs g
 behind h hs g e = let b = not-back h g e in let s = not-same h g e in rw (b, s) refl
 
 -- where none is of its class, it stands at its place

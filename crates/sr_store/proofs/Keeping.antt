@@ -19,12 +19,12 @@ use Rattle.sr_store.specs.Stores.{IsOfSchema}
 use Rattle.sr_store.specs.Answered.{arrives, arrivals_at, HaveArrived, is_used}
 use Rattle.sr_store.specs.Renewing.{IsCutFrom, IsPartCutFrom, IsArrivalCutFrom, with_regions, renewed, AreReady, IsRenewal}
 use Rattle.sr_store.proofs.Restamping.{occurs-append}
-use Rattle.sr_store.proofs.Adding.{with_regions-occurs, with_regions_append, with_regions-ascends, with_regions-all, with_regions-used, joined_stamped, joined_cut}
+use Rattle.sr_store.proofs.Adding.{with_regions-occurs, with_regions_append, with_regions-ascends, with_regions-all, with_regions-used, with_regions-classes, joined_stamped, joined_cut}
 use Rattle.sr_store.proofs.Tables.{tables_first}
 use Rattle.sr_store.proofs.Sound.{IsSound, with_regions-sound}
-use Rattle.sr_store.proofs.Arrived.{all-occur, all_of, all_stamped, all_true, all_cut, all_used}
+use Rattle.sr_store.proofs.Arrived.{all-occur, all_of, all_stamped, all_true, all_cut, all_used, all_new}
 
-arrives-is : (arrivals : List Arrival) (t a : ℕ) (p : Row) → arrives arrivals t a p ≡ not (nat_eq (arrivals_at arrivals t a p) 0)
+pub arrives-is : (arrivals : List Arrival) (t a : ℕ) (p : Row) → arrives arrivals t a p ≡ not (nat_eq (arrivals_at arrivals t a p) 0)
 arrives-is [] t a p = refl
 arrives-is (r ∷ rs) t a p = go ((r.table == t && r.attrs == a) && in_any r.rects p) (arrives-is rs t a p)
   where
@@ -91,6 +91,12 @@ arrivals_used old arrivals =
 
 -- ---- the answer
 
+-- a point lies in one region where it was held or arrives
+pub held_sum : (n x y : ℕ) (held arrived : Bool) → n ≡ x + y → x ≡ (if held then 1 else 0) → arrived ≡ not (nat_eq y 0) → y + x ≤ 1 → n ≡ (if held || arrived then 1 else 0)
+held_sum n x y true arrived e f d le = omega (arith, e, f, le)
+held_sum n x y false true e f d le = grind (arith, nat_tests, e, f, d, le)
+held_sum n x y false false e f d le = grind (arith, nat_tests, e, f, d, le)
+
 module _ (schema : List Table) (number : ℕ) (parts : List Part) (arrivals : List Arrival) (old pieces arrived : List Region) (h : AreReady schema number parts arrivals old pieces arrived) where
   all-first : (t : ℕ) → have_first (table_at schema t).columns ≡ true
   all-first t = tables_first schema t h.tables
@@ -121,17 +127,12 @@ module _ (schema : List Table) (number : ℕ) (parts : List Part) (arrivals : Li
       → Keeps schema (λ t a p. held t a p || arrives arrivals t a p) (restamped number parts stamps) (with_regions [] (pieces ++ arrived))
   all-keeps held stamps k = record {
     points = λ t a p point.
-        sums (occurs (with_regions [] (pieces ++ arrived)) t a p) (occurs old t a p) (arrivals_at arrivals t a p) (held t a p) (arrives arrivals t a p)
+        held_sum (occurs (with_regions [] (pieces ++ arrived)) t a p) (occurs old t a p) (arrivals_at arrivals t a p) (held t a p) (arrives arrivals t a p)
         (all-occurs t a p point) (k.points t a p point) (arrives-is arrivals t a p) (h.apart t a p point);
     stamped = with_regions-all schema (IsStamped schema (restamped number parts stamps)) (joined_stamped schema (restamped number parts stamps)) [] (pieces ++ arrived) ready-once
         (All-nil (IsStamped schema (restamped number parts stamps)))
         (All-append (IsStamped schema (restamped number parts stamps)) pieces arrived (h.restamped.stamped stamps k.stamped) (all_stamped schema number parts arrivals arrived stamps h.are_arrivals h.are_arrived));
   }
-    where
-      sums : (n x y : ℕ) (held arrived : Bool) → n ≡ x + y → x ≡ (if held then 1 else 0) → arrived ≡ not (nat_eq y 0) → y + x ≤ 1 → n ≡ (if held || arrived then 1 else 0)
-      sums n x y true arrived e f d le = omega (arith, e, f, le)
-      sums n x y false true e f d le = grind (arith, nat_tests, e, f, d, le)
-      sums n x y false false e f d le = grind (arith, nat_tests, e, f, d, le)
 
   all-cut : (given : ℕ → List Rect) → All (IsCutFrom schema given) old → All (IsPartCutFrom schema given) parts → All (IsArrivalCutFrom schema given) arrivals
       → All (IsCutFrom schema given) (with_regions [] (pieces ++ arrived))
@@ -139,20 +140,30 @@ module _ (schema : List Table) (number : ℕ) (parts : List Part) (arrivals : Li
       with_regions-all schema (IsCutFrom schema given) (joined_cut schema given) [] (pieces ++ arrived) ready-once (All-nil (IsCutFrom schema given))
       (All-append (IsCutFrom schema given) pieces arrived (h.restamped.cuts given old_cut parts_cut) (all_cut schema number given arrivals arrived arrivals_cut h.are_arrived))
 
-  all-used : list_all (λ g. is_used old arrivals g.table g.attrs) (with_regions [] (pieces ++ arrived)) ≡ true
-  all-used =
-      let one = h.restamped.used (is_used old arrivals) (old_used old arrivals) in
-      let two = all_used schema number (is_used old arrivals) arrivals arrived (arrivals_used old arrivals) h.are_arrived in
-      with_regions-used (is_used old arrivals) [] (pieces ++ arrived) refl (list_all-append (λ g. is_used old arrivals g.table g.attrs) pieces arrived ∙ rw (one, two) refl)
+  all-used : (used : ℕ → ℕ → Bool) → list_all (λ g. used g.table g.attrs) old ≡ true → list_all (λ r. used r.table r.attrs) arrivals ≡ true
+      → list_all (λ g. used g.table g.attrs) (with_regions [] (pieces ++ arrived)) ≡ true
+  all-used used old_are arrivals_are =
+      let one = h.restamped.used used old_are in
+      let two = all_used schema number used arrivals arrived arrivals_are h.are_arrived in
+      with_regions-used used [] (pieces ++ arrived) refl (list_all-append (λ g. used g.table g.attrs) pieces arrived ∙ rw (one, two) refl)
+
+  all-classes : (is : ℕ → ℕ → ℕ → Bool) → ((t a : ℕ) → is t a number ≡ true) → list_all (λ g. is g.table g.attrs g.stamp) old ≡ true
+      → list_all (λ g. is g.table g.attrs g.stamp) (with_regions [] (pieces ++ arrived)) ≡ true
+  all-classes is new own =
+      let one = h.restamped.classes is new own in
+      let two = all_new schema number is arrivals arrived new h.are_arrived in
+      with_regions-classes is [] (pieces ++ arrived) refl (list_all-append (λ g. is g.table g.attrs g.stamp) pieces arrived ∙ rw (one, two) refl)
 
   pub renewed_store : IsRenewal schema number parts arrivals old (renewed pieces arrived)
   renewed_store = subst (IsRenewal schema number parts arrivals old) (with_regions_append [] pieces arrived) (record {
     each = All-weaker (IsSound schema h.told) (IsOfSchema schema) (λ g is. is.0) (with_regions [] (pieces ++ arrived)) (all-sound h.told h.is_told h.old_true h.rows);
     order = with_regions-ascends [] (pieces ++ arrived) refl;
+    points = all-occurs;
     once = λ t a p point. let x = all-occurs t a p point in let y = h.apart t a p point in omega (arith, x, y);
     keeps = all-keeps;
     are_true = λ told is_told old_true rows.
         All-weaker (IsSound schema told) (IsTrueOf told) (λ g is. is.1) (with_regions [] (pieces ++ arrived)) (all-sound told is_told old_true rows);
     cuts = all-cut;
     used = all-used;
+    classes = all-classes;
   })

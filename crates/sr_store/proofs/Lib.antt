@@ -37,3 +37,7 @@ pub mod Chunks
 pub mod Storing
 pub mod GivingWay
 pub mod Removing
+pub mod Settled
+pub mod Merging
+pub mod Together
+pub mod Partings

@@ -18,7 +18,7 @@ use Rattle.sr_union.proofs.Once.{in_any-append, grid_among, are_trans}
 use Rattle.sr_query.specs.declared.query.Part.{Part}
 use Rattle.sr_region.specs.declared.region.Region.{Region}
 use Rattle.sr_store.specs.Renewing.{touching}
-use Rattle.sr_store.specs.Answered.{wider}
+use Rattle.sr_store.specs.Stores.{wider}
 use Rattle.sr_store.specs.Making.{HaveNoCommon, HaveCommon}
 
 product : (n x y : ℕ) → n ≡ x * y → not (nat_eq n 0) ≡ (not (nat_eq x 0) && not (nat_eq y 0))

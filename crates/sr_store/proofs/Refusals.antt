@@ -12,9 +12,9 @@ use Rattle.sr_query.specs.Bound.{is_table}
 use Rattle.sr_region.specs.declared.region.Region.{Region}
 use Rattle.sr_store.specs.declared.store.Arrival.{Arrival}
 use Rattle.sr_store.specs.Stores.{IsOfSchema, count_rects}
-use Rattle.sr_store.specs.Answered.{IsArrival, is_used, rects_on, IsHeavy, flagged, wider}
+use Rattle.sr_store.specs.Answered.{IsArrival, is_used, rects_on, IsHeavy, flagged}
 use Rattle.sr_store.specs.Renewing.{touching, IsCutFrom, IsArrivalCutFrom, IsRenewal}
-use Rattle.sr_store.specs.Making.{FitsSchema, ComesFrom}
+use Rattle.sr_store.specs.Making.{FitsSchema, ComesFrom, wider_both}
 use Rattle.sr_store.proofs.Keeping.{old_used, arrivals_used}
 use Rattle.sr_store.proofs.Dropping.{flagged_all, flagged_few}
 use Rattle.sr_store.proofs.Given.{FitsPart, regions_cut, parts_cut, arrivals_cut, fits_cut}
@@ -53,12 +53,14 @@ heavy_first schema old parts arrivals g left rest first each all fit large =
     let come = All-head (ComesFrom schema old parts arrivals) g left (subst (All (ComesFrom schema old parts arrivals)) first all) in
     heavy_touched schema old parts arrivals g one come.0 come.1 fit large
 
--- a region that those with more columns may absorb
-pub heavy_absorbed : (schema : List Table) (old : List Region) (parts : List Part) (arrivals : List Arrival) (all : List Region) (g : Region) → IsOfSchema schema g
-    → ComesFrom schema old parts arrivals g → All (ComesFrom schema old parts arrivals) all
-    → 16384 < grid (table_at schema g.table).columns (g.rects ++ wider all g.table g.attrs) → IsHeavy schema old parts arrivals
-heavy_absorbed schema old parts arrivals all g one come comes large =
-    heavy_wider schema old parts arrivals all g one come.0 come.1 (All-weaker (ComesFrom schema old parts arrivals) (IsCutFrom schema (rects_on old parts arrivals)) (λ h is. is.1) all comes) large
+-- a region that those of two lists with more columns may absorb
+pub heavy_absorbed : (schema : List Table) (old : List Region) (parts : List Part) (arrivals : List Arrival) (still news : List Region) (g : Region) → IsOfSchema schema g
+    → ComesFrom schema old parts arrivals g → All (ComesFrom schema old parts arrivals) still → All (ComesFrom schema old parts arrivals) news
+    → 16384 < grid (table_at schema g.table).columns (g.rects ++ wider_both still news g) → IsHeavy schema old parts arrivals
+heavy_absorbed schema old parts arrivals still news g one come still_come news_come large =
+    let cuts = λ (gs : List Region) (all : All (ComesFrom schema old parts arrivals) gs).
+    All-weaker (ComesFrom schema old parts arrivals) (IsCutFrom schema (rects_on old parts arrivals)) (λ h is. is.1) gs all in
+    heavy_wider schema old parts arrivals still news g one come.0 come.1 (cuts still still_come) (cuts news news_come) large
 
 -- the regions of an answer
 module _ (schema : List Table) (number : ℕ) (parts : List Part) (arrivals : List Arrival) (old all : List Region) (each : All (IsOfSchema schema) old) (fit : All (FitsPart schema) parts)
@@ -66,18 +68,5 @@ module _ (schema : List Table) (number : ℕ) (parts : List Part) (arrivals : Li
   all_cut : All (IsCutFrom schema (rects_on old parts arrivals)) all
   all_cut = renewal.cuts (rects_on old parts arrivals) (regions_cut schema old parts arrivals each) (parts_cut schema old parts arrivals fit) (arrivals_cut schema old parts arrivals are)
 
-  pub renewal_come : All (ComesFrom schema old parts arrivals) all
-  renewal_come =
-      let used = AllPass-from_list_all (λ (g : Region). is_used old arrivals g.table g.attrs) all renewal.used in
-      λ k d l. (used k d l, all_cut k d l)
-
   pub left_cut : (left : List Region) (fs : List Bool) → left ≡ flagged false fs all → All (IsCutFrom schema (rects_on old parts arrivals)) left
   left_cut left fs is = subst (All (IsCutFrom schema (rects_on old parts arrivals))) (sym is) (flagged_all (IsCutFrom schema (rects_on old parts arrivals)) false fs all all_cut)
-
-  pub left_heavy : list_all is_table schema ≡ true → (left : List Region) (fs : List Bool) → left ≡ flagged false fs all → (count_rects left ≤ 16384 → ⊥) → IsHeavy schema old parts arrivals
-  left_heavy tables left fs is many =
-      heavy_many schema number parts arrivals old all tables each fit are renewal
-      (above (count_rects left) (count_rects all) (subst (λ gs. count_rects gs ≤ count_rects all) (sym is) (flagged_few false fs all)) many)
-    where
-      above : (n m : ℕ) → n ≤ m → (n ≤ 16384 → ⊥) → 16384 < m
-      above n m le few = omega (arith, le, few)

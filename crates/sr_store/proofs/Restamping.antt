@@ -38,6 +38,7 @@ record ArePieces (schema : List Table) (whole : Region) (cut : List Rect) (those
   pub are_true : (told : Told) → IsTold schema told → IsTrueOf told whole → AreTrueOf told pieces
   pub cuts : (given : ℕ → List Rect) → AreCutFrom (table_at schema whole.table).columns (given whole.table) (whole.rects ++ cut) → All (IsCutFrom schema given) pieces
   pub used : (used : ℕ → ℕ → Bool) → used whole.table whole.attrs ≡ true → list_all (λ g. used g.table g.attrs) pieces ≡ true
+  pub classes : (is : ℕ → ℕ → ℕ → Bool) → is whole.table whole.attrs n ≡ true → list_all (λ g. is g.table g.attrs g.stamp) pieces ≡ true
 
 of-same : (whole g : Region) (t a : ℕ) → g.table ≡ whole.table → g.attrs ≡ whole.attrs → is_of g t a ≡ is_of whole t a
 of-same whole g t a table attrs = ap (λ x. x == t && g.attrs == a) table ∙ ap (λ x. whole.table == t && x == a) attrs
@@ -56,6 +57,7 @@ no-pieces schema whole cut those n none = record {
   are_true = λ told is_told h. All-nil (IsTrueOf told);
   cuts = λ given h. All-nil (IsCutFrom schema given);
   used = λ used h. refl;
+  classes = λ is h. refl;
 }
   where
     here : (t a : ℕ) (p : Row) → is_point (table_at schema t).columns p ≡ true → (b : Bool) → is_of whole t a ≡ b → occurs [] t a p ≡ (if b && those p then 1 else 0)
@@ -119,6 +121,9 @@ one-piece schema whole cut those test n g h tests k = record {
       (true_half schema told whole g those test is_told h.1 k.region k.table k.attrs k.points tests k.rows is) (All-nil (IsTrueOf told));
   cuts = λ given are. All-cons (IsCutFrom schema given) g [] (one-cut schema whole cut those test n g k given are) (All-nil (IsCutFrom schema given));
   used = λ used is. let e : used g.table g.attrs ≡ true = ap (λ t. used t g.attrs) k.table ∙ ap (used whole.table) k.attrs ∙ is in rw e refl;
+  classes = λ is own.
+      let e : is g.table g.attrs g.stamp ≡ true = ap (λ t. is t g.attrs g.stamp) k.table ∙ ap (λ a. is whole.table a g.stamp) k.attrs ∙ ap (is whole.table whole.attrs) k.stamp ∙ own in
+      rw e refl;
 }
 
 half-piece : (schema : List Table) (whole : Region) (cut : List Rect) (those : Points) (test : Row → Bool) (n : ℕ) (half : Region) → IsHalf (table_at schema whole.table) whole cut those test half
@@ -215,6 +220,10 @@ two-pieces schema number parts g outside inside h o i = record {
       let one = o.used used (left-true (used g.table g.attrs) true is) in
       let two = i.used used (left-true (used g.table g.attrs) true is) in
       list_all-append (λ g. used g.table g.attrs) outside inside ∙ rw (one, two) refl;
+  classes = λ is new own.
+      let one = o.classes is (left-true (is g.table g.attrs g.stamp) true own) in
+      let two = i.classes is (new g.table g.attrs) in
+      list_all-append (λ g. is g.table g.attrs g.stamp) outside inside ∙ rw (one, two) refl;
 }
   where
     cut : List Rect
@@ -239,19 +248,6 @@ restamped_one schema number parts g inside outside h fit only i o =
     (own-pieces schema g cut (outer g cut) (λ row. not (is_in g.attrs cut row)) outside h (test-outer schema g cut fit only) o)
     (half-pieces schema g cut (inner g cut) (is_in g.attrs cut) number inside h (test-inner schema g cut fit only) i)
 
--- a region that no part touches
-pub restamped_same : (schema : List Table) (number : ℕ) (parts : List Part) (g : Region) → IsOfSchema schema g → touching parts g.table g.attrs ≡ [] → IsRestamped schema number parts (g ∷ []) (g ∷ [])
-restamped_same schema number parts g h none = record {
-  each = All-cons (IsOfSchema schema) g [] h (All-nil (IsOfSchema schema));
-  points = λ t a p point. refl;
-  stamped = λ stamps are. All-cons (IsStamped schema (restamped number parts stamps)) g []
-      (λ p point inside. restamped-out number parts stamps g.table g.attrs p (ap (λ rects. in_any rects p) none) ∙ All-head (IsStamped schema stamps) g [] are p point inside)
-      (All-nil (IsStamped schema (restamped number parts stamps)));
-  are_true = λ told is_told are. are;
-  cuts = λ given are cut_parts. are;
-  used = λ used is. is;
-}
-
 pub restamped_nothing : (schema : List Table) (number : ℕ) (parts : List Part) → IsRestamped schema number parts [] []
 restamped_nothing schema number parts = record {
   each = All-nil (IsOfSchema schema);
@@ -260,6 +256,7 @@ restamped_nothing schema number parts = record {
   are_true = λ told is_told are. are;
   cuts = λ given are cut_parts. are;
   used = λ used is. is;
+  classes = λ is new own. own;
 }
 
 -- the fronts and the ends of lists put together
@@ -289,4 +286,9 @@ restamped_append schema number parts old pieces more next h k = record {
       let x = h.used used (left-true (list_all (λ g. used g.table g.attrs) old) (list_all (λ g. used g.table g.attrs) more) two) in
       let y = k.used used (right-true (list_all (λ g. used g.table g.attrs) old) (list_all (λ g. used g.table g.attrs) more) two) in
       list_all-append (λ g. used g.table g.attrs) pieces next ∙ rw (x, y) refl;
+  classes = λ is new own.
+      let two = sym (list_all-append (λ g. is g.table g.attrs g.stamp) old more) ∙ own in
+      let x = h.classes is new (left-true (list_all (λ g. is g.table g.attrs g.stamp) old) (list_all (λ g. is g.table g.attrs g.stamp) more) two) in
+      let y = k.classes is new (right-true (list_all (λ g. is g.table g.attrs g.stamp) old) (list_all (λ g. is g.table g.attrs g.stamp) more) two) in
+      list_all-append (λ g. is g.table g.attrs g.stamp) pieces next ∙ rw (x, y) refl;
 }

@@ -17,8 +17,8 @@ use Rattle.sr_history.specs.Drops.{Absorbs}
 use Rattle.sr_region.specs.declared.region.Region.{Region}
 use Rattle.sr_store.specs.declared.store.Arrival.{Arrival}
 use Rattle.sr_store.specs.Classes.{Stamps, occurs, IsStamped, Keeps, restamped}
-use Rattle.sr_store.specs.Stores.{drop_of}
-use Rattle.sr_store.specs.Answered.{arrives, held_of, AreFlags, flagged, IsAbsorbedIn, IsRenewed}
+use Rattle.sr_store.specs.Stores.{drop_of, IsAbsorbedIn}
+use Rattle.sr_store.specs.Answered.{arrives, held_of, AreFlags, flagged, IsRenewed}
 use Rattle.sr_store.proofs.Dropping.{AreFlags_length, kept_keeps, evicted_keeps}
 use Rattle.sr_store.proofs.Covering.{held_more, held_less, keeps_same}
 use Rattle.sr_store.proofs.Absorbing.{absorbs_is}

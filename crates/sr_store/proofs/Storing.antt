@@ -1,15 +1,16 @@
 -- A store stays one when it is told which rows keys have.
-use Rattle.std.proofs.Common.{◌≡◌, ◌≤◌, List, map, arith}
+use Rattle.std.proofs.Common.{◌≡◌, ◌≤◌, List, map, subst, arith}
 use Rattle.std.specs.List.{All}
-use Rattle.std.proofs.lemmas.List.Elements.{All-weaker}
+use Rattle.std.proofs.lemmas.List.Elements.{All-weaker, All-map}
 use Rattle.sr_cell.specs.declared.table.Table.{Table}
 use Rattle.sr_message.specs.declared.message.Tell.{Tell}
 use Rattle.sr_region.specs.declared.region.Region.{Region}
 use Rattle.sr_store.specs.Told.{Told, IsTold, AreTrueOf}
-use Rattle.sr_store.specs.Stores.{IsOfSchema, IsStore}
+use Rattle.sr_store.specs.Stores.{IsOfSchema, IsStore, IsAbsorbedIn}
 use Rattle.sr_store.specs.Noticed.{told_to, IsTellOf}
 use Rattle.sr_store.proofs.Chunks.{IsChunk, region-chunk, lies-occurs, some-telling, regions-keys}
-use Rattle.sr_store.proofs.Telling.{occurs-told, rects-told, ascends-told, tells_all, told-all, each-told, true-each}
+use Rattle.sr_store.proofs.Settled.{settled_less}
+use Rattle.sr_store.proofs.Telling.{only-rows, occurs-told, rects-told, ascends-told, tells_all, told-all, each-told, true-each}
 
 module _ (schema : List Table) where
   -- the regions of a store have the rows of some telling
@@ -31,4 +32,8 @@ module _ (schema : List Table) where
             (true-each schema told telling.0 regions all telling.1 h.each telling.2)
             (λ t a p point. let e = occurs-told told regions t a p in let le = h.once t a p point in omega (arith, e, le));
         few = let e = rects-told told regions in omega (arith, e, few);
+        settled = All-map (λ g. IsAbsorbedIn schema (map (told_to told) regions) g → ⊥) (told_to told) regions
+            (All-weaker (λ g. IsAbsorbedIn schema (map (told_to told) regions) g → ⊥) (λ g. IsAbsorbedIn schema (map (told_to told) regions) (told_to told g) → ⊥)
+            (λ g stays by. stays (subst (IsAbsorbedIn schema (map (told_to told) regions)) (only-rows told g) by)) regions
+            (settled_less schema (map (told_to told) regions) regions regions (λ t a p point. let e = occurs-told told regions t a p in omega (arith, e)) h.settled));
       }

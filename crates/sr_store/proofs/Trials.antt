@@ -20,7 +20,7 @@ use Rattle.sr_store.specs.declared.store.Arrival.{Arrival}
 use Rattle.sr_store.specs.declared.store.Store.{Store}
 use Rattle.sr_store.specs.Classes.{occurs}
 use Rattle.sr_store.specs.Told.{Told, told_of, IsTold, IsTrueOf, AreTrueOf}
-use Rattle.sr_store.specs.Stores.{IsOfSchema, IsStore, cover_of}
+use Rattle.sr_store.specs.Stores.{IsOfSchema, IsStore, cover_of, IsAbsorbedIn}
 use Rattle.sr_store.specs.Answered.{AreApart, HaveArrived}
 use Rattle.sr_store.specs.Making.{HaveNoCommon}
 use Rattle.sr_store.specs.Noticed.{IsTellOf}
@@ -36,6 +36,7 @@ empty_store schema gs none = subst (IsStore schema) (sym none) (record {
   once = λ t a p point. omega arith;
   keys = λ t a k. omega arith;
   few = omega arith;
+  settled = All-nil (λ g. IsAbsorbedIn schema [] g → ⊥);
 })
 
 -- ---- what arrives where it is not covered

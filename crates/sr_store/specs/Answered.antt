@@ -5,11 +5,10 @@ use Rattle.sr_cell.specs.declared.cause.Cause.TheVariants.{Absorbed, Pieces}
 use Rattle.sr_cell.specs.declared.cell.Cell.{Cell}
 use Rattle.sr_cell.specs.declared.table.Table.{Table}
 use Rattle.sr_cell.specs.Columns.{table_at, is_point}
-use Rattle.sr_cell.specs.Attrs.{includes, has_column}
+use Rattle.sr_cell.specs.Attrs.{has_column}
 use Rattle.sr_cell.specs.Cells.{Row, cell_at}
 use Rattle.sr_model.specs.SortedRows.{ascend, has_key}
 use Rattle.sr_box.specs.Points.{Rect, in_any, rect_fits, constrains_only}
-use Rattle.sr_union.specs.Pieces.{IsWithin}
 use Rattle.sr_union.specs.Grid.{grid}
 use Rattle.sr_query.specs.declared.query.Part.{Part}
 use Rattle.sr_history.specs.declared.mark.Mark.{Mark}
@@ -19,7 +18,7 @@ use Rattle.sr_region.specs.Regions.{rank, is_in, IsRowIn}
 use Rattle.sr_store.specs.declared.store.Arrival.{Arrival}
 use Rattle.sr_store.specs.Classes.{Held, Stamps, occurs, ascends, Keeps, touches, restamped}
 use Rattle.sr_store.specs.Told.{Told}
-use Rattle.sr_store.specs.Stores.{IsOfSchema, drop_of}
+use Rattle.sr_store.specs.Stores.{IsOfSchema, drop_of, IsAbsorbedIn}
 
 -- ---- what arrives
 
@@ -75,13 +74,6 @@ abbrev pub HaveArrived : Told → List Arrival → Type 0
 HaveArrived told arrivals = All (λ r. r.rows ≡ filter (is_in r.attrs r.rects) (told r.table r.attrs)) arrivals
 
 -- ---- absorption
-
--- the rects of the table's regions with strictly more columns
-abbrev pub wider : List Region → ℕ → ℕ → List Rect
-wider regions t a = flat_map (λ g. g.rects) (filter (λ g. g.table == t && (includes g.attrs a && not (g.attrs == a))) regions)
-
-abbrev pub IsAbsorbedIn : List Table → List Region → Region → Type 0
-IsAbsorbedIn schema all g = IsWithin (table_at schema g.table).columns g.rects (wider all g.table g.attrs)
 
 -- each flag tells whether its region has the property
 abbrev pub AreFlags : (Region → Type 0) → List Bool → List Region → Type 0

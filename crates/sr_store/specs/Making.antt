@@ -1,24 +1,30 @@
 -- Steps on the way to the new regions.
-use Rattle.std.specs.Prelude.{ℕ, Bool, true, false, not, ◌&&◌, map, filter, IsTrue, List, [], ◌∷◌, ◌++◌, ◌≡◌, Option, None, Some, length, ◌<◌}
+use Rattle.std.specs.Prelude.{ℕ, Bool, true, false, not, ◌&&◌, ◌==◌, ◌+◌, ◌≤◌, map, filter, flat_map, IsTrue, List, [], ◌∷◌, ◌++◌, ◌≡◌, Option, None, Some, length, ◌<◌}
 use Rattle.std.specs.List.{list_all, All, prefix_len}
-use Rattle.sr_cell.specs.declared.cause.Cause.TheVariants.{Absorbed}
+use Rattle.sr_cell.specs.declared.cause.Cause.TheVariants.{Pieces}
 use Rattle.sr_cell.specs.declared.table.Column.{Column}
 use Rattle.sr_cell.specs.declared.table.Table.{Table}
 use Rattle.sr_cell.specs.Columns.{table_at, is_point}
+use Rattle.sr_cell.specs.Attrs.{includes}
 use Rattle.sr_cell.specs.Cells.{Row, cell_at}
 use Rattle.sr_model.specs.SortedRows.{ascend, has_key}
 use Rattle.sr_box.specs.Points.{Rect, in_any, rect_fits}
+use Rattle.sr_union.specs.Pieces.{IsWithin}
 use Rattle.sr_history.specs.declared.mark.Mark.{Mark}
 use Rattle.sr_query.specs.declared.query.Part.{Part}
 use Rattle.sr_region.specs.declared.region.Region.{Region}
 use Rattle.sr_region.specs.Regions.{rank}
 use Rattle.sr_region.specs.Halves.{IsInside, IsOutside}
-use Rattle.sr_store.specs.declared.absorb.Kind.{Kind}
+use Rattle.sr_store.specs.declared.answer.Answer.{Answer}
+use Rattle.sr_store.specs.declared.answer.News.{News}
+use Rattle.sr_store.specs.declared.answer.Outcome.{Outcome}
+use Rattle.sr_store.specs.declared.answer.Outcome.TheVariants.{Answered, GivenUp}
 use Rattle.sr_store.specs.declared.store.Arrival.{Arrival}
-use Rattle.sr_store.specs.Classes.{is_before, is_same}
-use Rattle.sr_store.specs.Stores.{drop_of}
-use Rattle.sr_store.specs.Answered.{AreFlags, IsAbsorbedIn, flagged, is_used, rects_on, wider}
-use Rattle.sr_store.specs.Renewing.{pieces_of, IsRestamped, IsCutFrom}
+use Rattle.sr_store.specs.Classes.{is_before, is_same, ascends}
+use Rattle.sr_store.specs.Told.{Told, IsTold, AreTrueOf}
+use Rattle.sr_store.specs.Stores.{IsOfSchema, IsStore, count_rects, drop_of, IsAbsorbedIn, wider}
+use Rattle.sr_store.specs.Answered.{AreApart, HaveArrived, AreFlags, flagged, is_used, rects_on, IsRenewed, IsHeavy}
+use Rattle.sr_store.specs.Renewing.{touching, pieces_of, IsRestamped, IsCutFrom, IsRenewal}
 
 -- no point lies in rects of both lists
 abbrev pub HaveNoCommon : List Column → List Rect → List Rect → Type 0
@@ -71,17 +77,83 @@ without_keys key others rows = filter (λ row. not (has_key key (cell_at row key
 abbrev pub FitsSchema : List Table → Arrival → Type 0
 FitsSchema schema r = (r.table < length schema) × (list_all (rect_fits (table_at schema r.table).columns) r.rects ≡ true)
 
--- the absorbed regions are dropped
-pub record DropsAbsorbed (schema : List Table) (all left : List Region) (marks : List Mark) : Type 0 where
-  pub flags : List Bool
-  pub absorbed : AreFlags (IsAbsorbedIn schema all) flags all
-  pub left_are : left ≡ flagged false flags all
-  pub marks_are : marks ≡ map (drop_of Absorbed) (flagged true flags all)
-
 -- the region's columns are used, and its rects are cut from those of its table
 abbrev pub ComesFrom : List Table → List Region → List Part → List Arrival → Region → Type 0
 ComesFrom schema old parts arrivals g = (is_used old arrivals g.table g.attrs ≡ true) × IsCutFrom schema (rects_on old parts arrivals) g
 
--- the kind is the region's, with the rects of the regions that have strictly more columns
-abbrev pub IsKindOf : List Region → Region → Kind → Type 0
-IsKindOf regions g kind = (kind.table ≡ g.table) × (kind.attrs ≡ g.attrs) × (kind.wider ≡ wider regions g.table g.attrs)
+-- ---- regions that an answer leaves as they are
+
+-- the stamp is another, and no part has a point of the region
+abbrev pub IsStill : ℕ → List Part → Region → Type 0
+IsStill number parts g = (g.stamp ≡ number → ⊥) × ((columns : List Column) → HaveNoCommon columns g.rects (touching parts g.table g.attrs))
+
+-- a region without flag stays as it is
+abbrev pub IsStillOr : ℕ → List Part → Bool → Region → Type 0
+IsStillOr number parts f g = f ≡ false → IsStill number parts g
+
+-- Regions of a store, with the rows of some telling, in class order, parted into those that an answer leaves as they are and those
+-- that it changes.
+pub record AreParted (schema : List Table) (number : ℕ) (parts : List Part) (arrivals : List Arrival) (old still changed : List Region) : Type 0 where
+  pub each : All (IsOfSchema schema) old
+  pub order : ascends old ≡ true
+  pub settled : All (λ g. IsAbsorbedIn schema old g → ⊥) old
+  pub apart : AreApart schema old arrivals
+  pub told : Told
+  pub is_told : IsTold schema told
+  pub old_true : AreTrueOf told old
+  pub rows : HaveArrived told arrivals
+  pub flags : List Bool
+  pub long : length flags ≡ length old
+  pub still_are : still ≡ flagged false flags old
+  pub changed_are : changed ≡ flagged true flags old
+  pub are_still : All (IsStill number parts) still
+
+abbrev pub without_rows : Region → Region
+without_rows g = record g { rows = [] }
+
+-- ---- absorption
+
+-- the rects of the table's arrivals with strictly more columns
+abbrev pub wider_arriving : List Arrival → ℕ → ℕ → List Rect
+wider_arriving arrivals t a = flat_map (λ r. r.rects) (filter (λ r. r.table == t && (includes r.attrs a && not (r.attrs == a))) arrivals)
+
+-- no arrival with more columns has a point of the region
+abbrev pub IsUnmet : List Arrival → Region → Type 0
+IsUnmet arrivals g = (columns : List Column) → HaveNoCommon columns g.rects (wider_arriving arrivals g.table g.attrs)
+
+-- a region without flag is not met
+abbrev pub IsUnmetOr : List Arrival → Bool → Region → Type 0
+IsUnmetOr arrivals f g = f ≡ false → IsUnmet arrivals g
+
+-- the rects of the regions of two lists that have strictly more columns
+abbrev pub wider_both : List Region → List Region → Region → List Rect
+wider_both still news g = wider still g.table g.attrs ++ wider news g.table g.attrs
+
+-- all points of the region are in regions of two lists that have strictly more columns
+abbrev pub IsAbsorbedBy : List Table → List Region → List Region → Region → Type 0
+IsAbsorbedBy schema still news g = IsWithin (table_at schema g.table).columns g.rects (wider_both still news g)
+
+-- a region without flag is not absorbed
+abbrev pub IsKeptOr : List Table → List Region → List Region → Bool → Region → Type 0
+IsKeptOr schema still news f g = f ≡ false → IsAbsorbedBy schema still news g → ⊥
+
+-- The regions that an answer makes, and which of these and of those that stay are absorbed; few are left.
+pub record AreNews (schema : List Table) (number : ℕ) (parts : List Part) (arrivals : List Arrival) (still changed : List Region) (news : News) : Type 0 where
+  pub renewal : IsRenewal schema number parts arrivals changed news.regions
+  pub still_absorbed : AreFlags (IsAbsorbedBy schema still news.regions) news.still_absorbed still
+  pub absorbed : AreFlags (IsAbsorbedBy schema still news.regions) news.absorbed news.regions
+  pub few : count_rects (flagged false news.still_absorbed still) + count_rects (flagged false news.absorbed news.regions) ≤ 16384
+
+-- ---- the end of an answer
+
+-- the regions of an answer, and its marks
+pub record IsAnswerOf (schema : List Table) (number : ℕ) (parts : List Part) (arrivals : List Arrival) (old : List Region) (answer : Answer) : Type 0 where
+  pub renewed : IsRenewed schema number parts arrivals old answer.regions answer.marks
+  pub store : IsStore schema answer.regions
+  pub true_still : (told : Told) → IsTold schema told → AreTrueOf told old → HaveArrived told arrivals → AreTrueOf told answer.regions
+  pub cuts : All (IsCutFrom schema (rects_on old parts arrivals)) answer.regions
+
+-- that, or the drops of all regions, where there would be too many pieces
+abbrev pub IsOutcome : List Table → ℕ → List Part → List Arrival → List Region → Outcome → Type 0
+IsOutcome schema number parts arrivals old (Answered answer) = IsAnswerOf schema number parts arrivals old answer
+IsOutcome schema number parts arrivals old (GivenUp marks) = IsHeavy schema old parts arrivals × (marks ≡ map (drop_of Pieces) old)

@@ -1,5 +1,5 @@
 -- How an answer makes the new regions: the old ones are cut along the query's parts, and put together again by class.
-use Rattle.std.specs.Prelude.{ℕ, Bool, true, ◌&&◌, ◌||◌, ◌==◌, ◌≤◌, List, [], ◌∷◌, ◌++◌, map, filter, flat_map, Option, option_to_list, ◌≡◌, IsTrue, if◌then◌else◌}
+use Rattle.std.specs.Prelude.{ℕ, Bool, true, ◌&&◌, ◌||◌, ◌==◌, ◌+◌, ◌≤◌, List, [], ◌∷◌, ◌++◌, map, filter, flat_map, Option, option_to_list, ◌≡◌, IsTrue, if◌then◌else◌}
 use Rattle.std.specs.List.{list_all, All, AllZip}
 use Rattle.sr_cell.specs.declared.table.Table.{Table}
 use Rattle.sr_cell.specs.Columns.{table_at, is_point}
@@ -16,7 +16,7 @@ use Rattle.sr_store.specs.declared.store.Arrival.{Arrival}
 use Rattle.sr_store.specs.Classes.{Held, Stamps, occurs, IsStamped, is_before, is_same, ascends, Keeps, restamped}
 use Rattle.sr_store.specs.Told.{Told, IsTold, AreTrueOf}
 use Rattle.sr_store.specs.Stores.{IsOfSchema}
-use Rattle.sr_store.specs.Answered.{arrives, IsArrival, AreApart, HaveArrived, is_used}
+use Rattle.sr_store.specs.Answered.{arrives, arrivals_at, IsArrival, AreApart, HaveArrived}
 
 -- the rects of the parts that touch a region of this table with these columns
 abbrev pub touching : List Part → ℕ → ℕ → List Rect
@@ -44,6 +44,8 @@ pub record IsRestamped (schema : List Table) (number : ℕ) (parts : List Part) 
   pub are_true : (told : Told) → IsTold schema told → AreTrueOf told old → AreTrueOf told pieces
   pub cuts : (given : ℕ → List Rect) → All (IsCutFrom schema given) old → All (IsPartCutFrom schema given) parts → All (IsCutFrom schema given) pieces
   pub used : (used : ℕ → ℕ → Bool) → list_all (λ g. used g.table g.attrs) old ≡ true → list_all (λ g. used g.table g.attrs) pieces ≡ true
+  pub classes : (is : ℕ → ℕ → ℕ → Bool) → ((t a : ℕ) → is t a number ≡ true) → list_all (λ g. is g.table g.attrs g.stamp) old ≡ true
+      → list_all (λ g. is g.table g.attrs g.stamp) pieces ≡ true
 
 -- one region more, joined with the one of its class
 abbrev pub with_region : List Region → Region → List Region
@@ -87,10 +89,14 @@ IsArrivalCutFrom schema given r = AreCutFrom (table_at schema r.table).columns (
 pub record IsRenewal (schema : List Table) (number : ℕ) (parts : List Part) (arrivals : List Arrival) (old all : List Region) : Type 0 where
   pub each : All (IsOfSchema schema) all
   pub order : ascends all ≡ true
+  pub points : (t a : ℕ) (p : Row) → IsTrue (is_point (table_at schema t).columns p) → occurs all t a p ≡ occurs old t a p + arrivals_at arrivals t a p
   pub once : (t a : ℕ) (p : Row) → IsTrue (is_point (table_at schema t).columns p) → occurs all t a p ≤ 1
   pub keeps : (held : Held) (stamps : Stamps) → Keeps schema held stamps old
       → Keeps schema (λ t a p. held t a p || arrives arrivals t a p) (restamped number parts stamps) all
   pub are_true : (told : Told) → IsTold schema told → AreTrueOf told old → HaveArrived told arrivals → AreTrueOf told all
   pub cuts : (given : ℕ → List Rect) → All (IsCutFrom schema given) old → All (IsPartCutFrom schema given) parts → All (IsArrivalCutFrom schema given) arrivals
       → All (IsCutFrom schema given) all
-  pub used : list_all (λ g. is_used old arrivals g.table g.attrs) all ≡ true
+  pub used : (used : ℕ → ℕ → Bool) → list_all (λ g. used g.table g.attrs) old ≡ true → list_all (λ r. used r.table r.attrs) arrivals ≡ true
+      → list_all (λ g. used g.table g.attrs) all ≡ true
+  pub classes : (is : ℕ → ℕ → ℕ → Bool) → ((t a : ℕ) → is t a number ≡ true) → list_all (λ g. is g.table g.attrs g.stamp) old ≡ true
+      → list_all (λ g. is g.table g.attrs g.stamp) all ≡ true

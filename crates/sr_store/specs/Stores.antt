@@ -1,5 +1,5 @@
 -- The regions of a client, and what of them a part of a query uses.
-use Rattle.std.specs.Prelude.{ℕ, Bool, true, ◌&&◌, ◌==◌, ◌≤◌, ◌<◌, List, length, filter, flat_map, sum_by, ◌≡◌, IsTrue}
+use Rattle.std.specs.Prelude.{ℕ, Bool, true, not, ◌&&◌, ◌==◌, ◌≤◌, ◌<◌, List, length, filter, flat_map, sum_by, ◌≡◌, IsTrue}
 use Rattle.std.specs.List.{All}
 use Rattle.sr_cell.specs.declared.cause.Cause.{Cause}
 use Rattle.sr_cell.specs.declared.cell.Cell.{Cell}
@@ -8,6 +8,7 @@ use Rattle.sr_cell.specs.Columns.{table_at, is_point}
 use Rattle.sr_cell.specs.Attrs.{includes}
 use Rattle.sr_cell.specs.Cells.{Row}
 use Rattle.sr_box.specs.Points.{Rect}
+use Rattle.sr_union.specs.Pieces.{IsWithin}
 use Rattle.sr_query.specs.declared.query.Part.{Part}
 use Rattle.sr_history.specs.declared.mark.Mark.{Mark}
 use Rattle.sr_history.specs.declared.mark.Mark.TheVariants.{Dropped}
@@ -22,13 +23,22 @@ IsOfSchema schema g = (g.table < length schema) × IsRegion (table_at schema g.t
 abbrev pub count_rects : List Region → ℕ
 count_rects regions = sum_by (λ g. length g.rects) regions
 
--- Regions in class order, of which no two of one table with the same columns have a point or a key in common.
+-- the rects of the table's regions with strictly more columns
+abbrev pub wider : List Region → ℕ → ℕ → List Rect
+wider regions t a = flat_map (λ g. g.rects) (filter (λ g. g.table == t && (includes g.attrs a && not (g.attrs == a))) regions)
+
+abbrev pub IsAbsorbedIn : List Table → List Region → Region → Type 0
+IsAbsorbedIn schema all g = IsWithin (table_at schema g.table).columns g.rects (wider all g.table g.attrs)
+
+-- Regions in class order, of which no two of one table with the same columns have a point or a key in common, and of which none
+-- has all its points in others with more columns.
 pub record IsStore (schema : List Table) (regions : List Region) : Type 0 where
   pub each : All (IsOfSchema schema) regions
   pub order : ascends regions ≡ true
   pub once : (t a : ℕ) (p : Row) → IsTrue (is_point (table_at schema t).columns p) → occurs regions t a p ≤ 1
   pub keys : (t a : ℕ) (k : Cell) → key_occurs regions t a k ≤ 1
   pub few : count_rects regions ≤ 16384
+  pub settled : All (λ g. IsAbsorbedIn schema regions g → ⊥) regions
 
 -- the region holds each column that the part needs
 abbrev pub serves : Part → Region → Bool

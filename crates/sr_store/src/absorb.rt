@@ -1,25 +1,27 @@
 //! Regions whose points are all held under more columns.
-ghost use Rattle.std.specs.Prelude.{◌≡◌, ◌==◌, ◌<◌, ◌&&◌, ◌↔◌, not, true, false, List, ◌++◌, length, IfOk, IsErrOf, IsTrue};
-ghost use Rattle.std.specs.List.{list_all, All};
+ghost use Rattle.std.specs.Prelude.{◌≡◌, ◌==◌, ◌<◌, ◌&&◌, ◌↔◌, not, false, List, [], ◌∷◌, ◌++◌, IfOk, OnOk, IsErrOf, IsTrue};
+ghost use Rattle.std.specs.List.{list_all, All, AllZip};
 ghost use Rattle.sr_cell.specs.declared.list.No.TheVariants.{Refused};
 ghost use Rattle.sr_cell.specs.declared.table.Column.{Column};
 ghost use Rattle.sr_cell.specs.Columns.{table_at};
 ghost use Rattle.sr_cell.specs.Attrs.{includes};
-ghost use Rattle.sr_box.specs.Points.{Rect};
-ghost use Rattle.sr_union.specs.Grid.{AreCutFrom, grid};
+ghost use Rattle.sr_union.specs.Pieces.{near};
+ghost use Rattle.sr_union.specs.Grid.{grid};
 ghost use Rattle.sr_query.specs.Bound.{is_table};
 ghost use Rattle.sr_query.specs.declared.query.Part.{Part as ThePart};
 ghost use Rattle.sr_region.specs.declared.region.Region.{Region as TheRegion};
 ghost use Rattle.sr_store.specs.declared.store.Arrival.{Arrival as TheArrival};
-ghost use Rattle.sr_store.specs.Stores.{IsOfSchema};
-ghost use Rattle.sr_store.specs.Answered.{wider, IsAbsorbedIn, AreFlags, flagged, IsHeavy};
-ghost use Rattle.sr_store.specs.Making.{IsKindOf, ComesFrom};
+ghost use Rattle.sr_store.specs.Stores.{IsOfSchema, wider};
+ghost use Rattle.sr_store.specs.Answered.{AreFlags, IsHeavy};
+ghost use Rattle.sr_store.specs.Making.{ComesFrom, IsAbsorbedBy, IsKeptOr, IsUnmet, IsUnmetOr, wider_both};
 
 use crate::lookup::table_at;
-use crate::restamp::MOST_RECTS;
+use crate::restamp::{MOST_RECTS, may_meet};
+use crate::store::Arrival;
 use sr_cell::attrs::Attrs;
-use sr_cell::list::{Copied, No, NoMemory, Seq};
+use sr_cell::list::{No, NoMemory, Seq};
 use sr_cell::schema::Schema;
+use sr_query::query::Part;
 use sr_region::region::Region;
 use sr_union::minus::Over;
 use sr_union::rects::Rects;
@@ -32,97 +34,123 @@ fn is_wider(region: &Region, table: u8, attrs: Attrs) -> bool
     region.table == table && region.attrs.includes(attrs) && region.attrs != attrs
 }
 
-/// The rects of the table's regions with strictly more columns.
-fn wider_of(alloc: Global, regions: &[Region], table: u8, attrs: Attrs) -> Result<Rects, NoMemory>
-    ensures { IfOk result (λ all. all ≡ wider regions.now table attrs) }
-{
-    let mut all = Rects::new(alloc);
-    for region in regions {
-        if is_wider(region, table, attrs) {
-            all.append(region.rects.copy(alloc)?)?;
-        }
-    }
-    Ok(all)
-}
-
-/// The table and the columns of a region, with the rects of the table's regions with strictly more columns.
-#[derive(Drop)]
-struct Kind {
-    table: u8,
-    attrs: Attrs,
-    wider: Rects,
-}
-
-/// The region's kind.
-fn kind_of(alloc: Global, regions: &[Region], region: &Region) -> Result<Kind, NoMemory>
-    ensures { IfOk result (IsKindOf regions.now region.now) }
-{
-    Ok(Kind {
-        table: region.table,
-        attrs: region.attrs,
-        wider: wider_of(alloc, regions, region.table, region.attrs)?,
-    })
-}
-
-/// The region's kind, which may be that of the region before.
-fn kind_after(
+fn push_wider(
     alloc: Global,
-    regions: &[Region],
+    found: &mut Rects,
     region: &Region,
-    last: Kind,
-) -> Result<Kind, NoMemory>
-    requires { last.wider ≡ wider regions.now last.table last.attrs }
-    ensures { IfOk result (IsKindOf regions.now region.now) }
+    narrow: &Region,
+) -> Result<(), NoMemory>
+    ensures { OnOk result (found.new ≡ found.old ++ near narrow.now.rects (wider (region.now ∷ []) narrow.now.table narrow.now.attrs)) }
 {
-    if last.table == region.table && last.attrs == region.attrs {
-        Ok(last)
-    } else {
-        kind_of(alloc, regions, region)
+    if is_wider(region, narrow.table, narrow.attrs) {
+        found.append(region.rects.near(alloc, &narrow.rects)?)?;
     }
+    Ok(())
 }
 
-/// Whether the region's points are all in regions of the list with strictly more columns.
+/// The rects of the regions of its table with strictly more columns, as far as they meet the region.
+#[tactic(auto, using(crate::proofs::Nearing::near_wider))]
+fn wider_near(alloc: Global, regions: &[Region], narrow: &Region) -> Result<Rects, NoMemory>
+    ensures { IfOk result (λ found. found ≡ near narrow.now.rects (wider regions.now narrow.now.table narrow.now.attrs)) }
+{
+    let mut found = Rects::new(alloc);
+    for region in regions {
+        push_wider(alloc, &mut found, region, narrow)?;
+    }
+    Ok(found)
+}
+
+/// The same of two lists of regions.
+#[tactic(auto, using(crate::proofs::Nearing::near_both))]
+fn wider_near_both(
+    alloc: Global,
+    still: &[Region],
+    news: &[Region],
+    narrow: &Region,
+) -> Result<Rects, NoMemory>
+    ensures { IfOk result (λ found. found ≡ near narrow.now.rects (wider_both still.now news.now narrow.now)) }
+{
+    let mut found = wider_near(alloc, still, narrow)?;
+    found.append(wider_near(alloc, news, narrow)?)?;
+    Ok(found)
+}
+
+/// Whether the region's points are all in regions of the two lists with strictly more columns.
 fn is_absorbed(
     alloc: Global,
     schema: &Schema,
-    regions: &[Region],
-    kind: &Kind,
+    still: &[Region],
+    news: &[Region],
     region: &Region,
 ) -> Result<bool, No<Over>>
     requires tables { IsTrue (list_all is_table schema.now) }
-    requires each { All (IsOfSchema schema.now) regions.now }
-    requires kind { IsKindOf regions.now region.now kind.now }
+    requires still { All (IsOfSchema schema.now) still.now }
+    requires news { All (IsOfSchema schema.now) news.now }
     requires region { IsOfSchema schema.now region.now }
-    ensures absorbed { IfOk result (λ yes. IsTrue yes ↔ IsAbsorbedIn schema.now regions.now region.now) }
-    ensures over { IsErrOf result (Refused (record {})) → 16384 < grid (table_at schema.now region.now.table).columns (region.now.rects ++ wider regions.now region.now.table region.now.attrs) }
+    ensures absorbed { IfOk result (λ yes. IsTrue yes ↔ IsAbsorbedBy schema.now still.now news.now region.now) }
+    ensures over { IsErrOf result (Refused (record {})) → 16384 < grid (table_at schema.now region.now.table).columns (region.now.rects ++ wider_both still.now news.now region.now) }
 {
     let table = table_at(schema, region.table);
-    match region.rects.within(alloc, &kind.wider, table, MOST_RECTS) {
+    let found = wider_near_both(alloc, still, news, region)?;
+    match region.rects.within(alloc, &found, table, MOST_RECTS) {
         Ok(yes) => Ok(yes),
         Err(no) => Err(no),
     }
 }
 
-/// Tells of each region whether its points are all in others of the list with strictly more columns.
+/// Whether some arrival with strictly more columns may have points of the region.
+fn may_be_met(region: &Region, arrivals: &[Arrival]) -> bool
+    ensures { result ≡ false → IsUnmet arrivals.now region.now }
+{
+    for arrival in arrivals {
+        if brings_more(arrival, region.table, region.attrs) {
+            if may_meet(&region.rects, &arrival.rects) {
+                return true;
+            }
+        }
+    }
+    false
+}
+
+/// Whether the arrival is of the table, with strictly more columns.
+fn brings_more(arrival: &Arrival, table: u8, attrs: Attrs) -> bool
+    ensures { result ≡ (arrival.now.table == table && (includes arrival.now.attrs attrs && not (arrival.now.attrs == attrs))) }
+{
+    arrival.table == table && arrival.attrs.includes(attrs) && arrival.attrs != attrs
+}
+
+/// A flag for each region of which an arrival with more columns may have points.
+pub(crate) fn met_by(
+    alloc: Global,
+    regions: &[Region],
+    arrivals: &[Arrival],
+) -> Result<Seq<bool>, NoMemory>
+    ensures { IfOk result (λ flags. AllZip (IsUnmetOr arrivals.now) flags regions.now) }
+{
+    let mut flags = Seq::new(alloc);
+    for region in regions {
+        flags.push(may_be_met(region, arrivals))?;
+    }
+    Ok(flags)
+}
+
+/// Tells of each of the new regions whether its points are all in regions of the two lists with strictly more columns.
 pub(crate) fn absorbed(
     alloc: Global,
     schema: &Schema,
-    regions: &[Region],
+    still: &[Region],
+    news: &[Region],
 ) -> Result<Seq<bool>, No<Over>>
     requires tables { IsTrue (list_all is_table schema.now) }
-    requires each { All (IsOfSchema schema.now) regions.now }
-    ensures flags { IfOk result (λ flags. AreFlags (IsAbsorbedIn schema.now regions.now) flags regions.now) }
-    ensures over { (old : List TheRegion) (parts : List ThePart) (arrivals : List TheArrival) → All (ComesFrom schema.now old parts arrivals) regions.now
-        → IsErrOf result (Refused (record {})) → IsHeavy schema.now old parts arrivals }
+    requires still { All (IsOfSchema schema.now) still.now }
+    requires news { All (IsOfSchema schema.now) news.now }
+    ensures flags { IfOk result (λ flags. AreFlags (IsAbsorbedBy schema.now still.now news.now) flags news.now) }
+    ensures over { (old : List TheRegion) (parts : List ThePart) (arrivals : List TheArrival) → All (ComesFrom schema.now old parts arrivals) still.now
+        → All (ComesFrom schema.now old parts arrivals) news.now → IsErrOf result (Refused (record {})) → IsHeavy schema.now old parts arrivals }
 {
     let mut flags = Seq::new(alloc);
-    if regions.is_empty() {
-        return Ok(flags);
-    }
-    let mut kind = kind_of(alloc, regions, &regions[0])?;
-    for region in regions {
-        kind = kind_after(alloc, regions, region, kind)?;
-        match is_absorbed(alloc, schema, regions, &kind, region) {
+    for region in news {
+        match is_absorbed(alloc, schema, still, news, region) {
             Ok(yes) => flags.push(yes)?,
             Err(no) => return Err(no),
         }
@@ -130,29 +158,52 @@ pub(crate) fn absorbed(
     Ok(flags)
 }
 
-/// The regions without flag, and those with one.
-#[derive(Drop)]
-pub(crate) struct Sifted {
-    pub(crate) kept: Seq<Region>,
-    pub(crate) dropped: Seq<Region>,
+/// Whether a region that can be absorbed only where it is met is so.
+fn is_absorbed_if_met(
+    alloc: Global,
+    schema: &Schema,
+    still: &[Region],
+    news: &[Region],
+    region: &Region,
+    met: bool,
+) -> Result<bool, No<Over>>
+    requires tables { IsTrue (list_all is_table schema.now) }
+    requires still { All (IsOfSchema schema.now) still.now }
+    requires news { All (IsOfSchema schema.now) news.now }
+    requires region { IsOfSchema schema.now region.now }
+    requires other { IsKeptOr schema.now still.now news.now met region.now }
+    ensures absorbed { IfOk result (λ yes. IsTrue yes ↔ IsAbsorbedBy schema.now still.now news.now region.now) }
+    ensures over { IsErrOf result (Refused (record {})) → 16384 < grid (table_at schema.now region.now.table).columns (region.now.rects ++ wider_both still.now news.now region.now) }
+{
+    if met {
+        is_absorbed(alloc, schema, still, news, region)
+    } else {
+        Ok(false)
+    }
 }
 
-/// The regions without flag, and those with one.
-pub(crate) fn sift(alloc: Global, regions: Seq<Region>, flags: &[bool]) -> Result<Sifted, NoMemory>
-    requires { length flags.now ≡ length regions }
-    ensures kept { IfOk result (λ both. both.kept ≡ flagged false flags.now regions) }
-    ensures dropped { IfOk result (λ both. both.dropped ≡ flagged true flags.now regions) }
+/// The same of the regions that stay, of which only the flagged ones are tested: the others are known not to be absorbed.
+pub(crate) fn still_absorbed(
+    alloc: Global,
+    schema: &Schema,
+    still: &[Region],
+    news: &[Region],
+    met: &[bool],
+) -> Result<Seq<bool>, No<Over>>
+    requires tables { IsTrue (list_all is_table schema.now) }
+    requires still { All (IsOfSchema schema.now) still.now }
+    requires news { All (IsOfSchema schema.now) news.now }
+    requires others { AllZip (IsKeptOr schema.now still.now news.now) met.now still.now }
+    ensures flags { IfOk result (λ flags. AreFlags (IsAbsorbedBy schema.now still.now news.now) flags still.now) }
+    ensures over { (old : List TheRegion) (parts : List ThePart) (arrivals : List TheArrival) → All (ComesFrom schema.now old parts arrivals) still.now
+        → All (ComesFrom schema.now old parts arrivals) news.now → IsErrOf result (Refused (record {})) → IsHeavy schema.now old parts arrivals }
 {
-    let mut kept = Seq::new(alloc);
-    let mut dropped = Seq::new(alloc);
-    let mut i = 0;
-    for region in regions.into_vec() {
-        if flags[i] {
-            dropped.push(region)?;
-        } else {
-            kept.push(region)?;
+    let mut flags = Seq::new(alloc);
+    for i in 0..still.len() {
+        match is_absorbed_if_met(alloc, schema, still, news, &still[i], met[i]) {
+            Ok(yes) => flags.push(yes)?,
+            Err(no) => return Err(no),
         }
-        i += 1;
     }
-    Ok(Sifted { kept, dropped })
+    Ok(flags)
 }

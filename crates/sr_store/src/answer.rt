@@ -1,27 +1,29 @@
 //! What an answer makes of the regions.
-ghost use Rattle.std.specs.Prelude.{◌≡◌, ◌≤◌, ◌↔◌, true, List, IfOk, IsErrOf, IsTrue};
+ghost use Rattle.std.specs.Prelude.{◌≡◌, ◌≤◌, ◌<◌, ◌+◌, ◌↔◌, true, false, List, ◌++◌, length, map, if◌then◌else◌, IfOk, IfSome, IfNone, IsErrOf, IsTrue};
 ghost use Rattle.std.specs.List.{list_all, All};
+ghost use Rattle.sr_cell.specs.declared.cause.Cause.TheVariants.{Absorbed, Pieces};
 ghost use Rattle.sr_cell.specs.declared.list.No.TheVariants.{Refused};
 ghost use Rattle.sr_cell.specs.Columns.{table_at};
 ghost use Rattle.sr_box.specs.Points.{rect_fits, constrains_only};
 ghost use Rattle.sr_query.specs.Bound.{is_table};
 ghost use Rattle.sr_query.specs.declared.query.Part.{Part as ThePart};
 ghost use Rattle.sr_region.specs.declared.region.Region.{Region as TheRegion};
-ghost use Rattle.sr_store.specs.declared.store.Arrival.{Arrival as TheArrival};
 ghost use Rattle.sr_store.specs.Told.{Told, IsTold, AreTrueOf};
-ghost use Rattle.sr_store.specs.Stores.{IsOfSchema, IsStore, count_rects};
-ghost use Rattle.sr_store.specs.Answered.{rects_on, IsArrival, AreApart, HaveArrived, IsRenewed, IsHeavy};
-ghost use Rattle.sr_store.specs.Renewing.{IsCutFrom, IsRenewal};
-ghost use Rattle.sr_store.specs.Making.{ComesFrom, DropsAbsorbed};
+ghost use Rattle.sr_store.specs.Classes.{ascends};
+ghost use Rattle.sr_store.specs.Stores.{IsOfSchema, count_rects, drop_of, IsAbsorbedIn};
+ghost use Rattle.sr_store.specs.Answered.{IsArrival, AreApart, HaveArrived, IsHeavy, flagged};
+ghost use Rattle.sr_store.specs.Renewing.{IsRenewal, with_regions};
+ghost use Rattle.sr_store.specs.Making.{ComesFrom, AreParted, AreNews, IsOutcome, CanJoin};
 
-use crate::absorb::{absorbed, sift};
+use crate::absorb::{absorbed, met_by, still_absorbed};
 use crate::add::add_all;
 use crate::arrive::arrived_regions;
 use crate::marks::{drop_marks, held_marks};
+use crate::parting::{Parted, copies_without_rows, parted_by, sift};
 use crate::restamp::{MOST_RECTS, restamp};
 use crate::store::Arrivals;
 use sr_cell::cause::Cause;
-use sr_cell::list::{No, Seq};
+use sr_cell::list::{No, NoMemory, Seq};
 use sr_cell::schema::Schema;
 use sr_history::mark::Marks;
 use sr_query::query::Part;
@@ -34,6 +36,21 @@ use std::alloc::Global;
 pub(crate) struct Answer {
     pub(crate) regions: Seq<Region>,
     pub(crate) marks: Marks,
+}
+
+/// What an answer makes; or the drops of all regions, where there would be too many pieces.
+#[derive(Drop)]
+pub(crate) enum Outcome {
+    Answered(Answer),
+    GivenUp(Marks),
+}
+
+/// The regions that an answer makes, with a flag for each that is absorbed, and one for each of those that stay.
+#[derive(Drop)]
+pub(crate) struct News {
+    pub(crate) regions: Seq<Region>,
+    pub(crate) absorbed: Seq<bool>,
+    pub(crate) still_absorbed: Seq<bool>,
 }
 
 /// The regions of an answer, before any is dropped.
@@ -53,7 +70,8 @@ fn renewed(
     requires apart { AreApart schema.now old arrivals }
     requires told { (told : Told) × IsTold schema.now told × AreTrueOf told old × HaveArrived told arrivals }
     ensures renewal { IfOk result (IsRenewal schema.now number parts.now arrivals old) }
-    ensures over { IsErrOf result (Refused (record {})) → IsHeavy schema.now old parts.now arrivals }
+    ensures over { (whole : List TheRegion) → All (ComesFrom schema.now whole parts.now arrivals) old
+        → IsErrOf result (Refused (record {})) → IsHeavy schema.now whole parts.now arrivals }
 {
     let mut pieces = match restamp(alloc, schema, old, parts, number) {
         Ok(pieces) => pieces,
@@ -68,43 +86,128 @@ fn renewed(
     Ok(all)
 }
 
-/// The regions without those whose points are all held under more columns, and marks of these.
-fn without_absorbed(
+/// How many rects the region has; 0 where it has a flag.
+fn plain_count(region: &Region, flag: bool) -> usize
+    ensures { result ≡ (if flag then 0 else length region.now.rects) }
+{
+    if flag { 0 } else { region.rects.len() }
+}
+
+/// How many rects there may still be when those of the regions without flag are counted; none where there are more of them.
+fn room_after(regions: &[Region], flags: &[bool], room: usize) -> Option<usize>
+    requires { length flags.now ≡ length regions.now }
+    ensures left { IfSome result (λ left. count_rects (flagged false flags.now regions.now) + left ≡ room) }
+    ensures none { IfNone result (room < count_rects (flagged false flags.now regions.now)) }
+{
+    let mut left = room;
+    for i in 0..regions.len() {
+        let count = plain_count(&regions[i], flags[i]);
+        if count > left {
+            return None;
+        }
+        left -= count;
+    }
+    Some(left)
+}
+
+/// Whether the regions without flag have at most `MOST_RECTS` rects.
+fn have_few(still: &[Region], news: &News) -> bool
+    requires still { length news.now.still_absorbed ≡ length still.now }
+    requires news { length news.now.absorbed ≡ length news.now.regions }
+    ensures { IsTrue result ↔ (count_rects (flagged false news.now.still_absorbed still.now) + count_rects (flagged false news.now.absorbed news.now.regions) ≤ 16384) }
+{
+    match room_after(still, news.still_absorbed.as_slice(), MOST_RECTS as usize) {
+        Some(room) => {
+            room_after(news.regions.as_slice(), news.absorbed.as_slice(), room).is_some()
+        }
+        None => false,
+    }
+}
+
+/// The regions that an answer makes, beside those that stay.
+fn news_of(
     alloc: Global,
     schema: &Schema,
-    regions: Seq<Region>,
-) -> Result<Answer, No<Over>>
+    number: u64,
+    parts: &[Part],
+    arrivals: Arrivals,
+    still: &[Region],
+    changed: Seq<Region>,
+) -> Result<News, No<Over>>
     requires tables { IsTrue (list_all is_table schema.now) }
-    requires each { All (IsOfSchema schema.now) regions }
-    ensures drops { IfOk result (λ left. DropsAbsorbed schema.now regions left.regions left.marks) }
-    ensures over { (old : List TheRegion) (parts : List ThePart) (arrivals : List TheArrival) → All (ComesFrom schema.now old parts arrivals) regions
-        → IsErrOf result (Refused (record {})) → IsHeavy schema.now old parts arrivals }
+    requires fit { All (λ (part : ThePart). list_all (rect_fits (table_at schema.now part.table).columns) part.rects ≡ true) parts.now }
+    requires only { All (λ (part : ThePart). list_all (constrains_only part.need 0) part.rects ≡ true) parts.now }
+    requires arrivals { All (IsArrival schema.now parts.now) arrivals }
+    requires parted { (old : List TheRegion) × AreParted schema.now number parts.now arrivals old still.now changed }
+    ensures news { IfOk result (AreNews schema.now number parts.now arrivals still.now changed) }
+    ensures over { (old : List TheRegion) → AreParted schema.now number parts.now arrivals old still.now changed
+        → IsErrOf result (Refused (record {})) → IsHeavy schema.now old parts.now arrivals }
 {
-    let flags = match absorbed(alloc, schema, regions.as_slice()) {
+    let met = met_by(alloc, still, arrivals.as_slice())?;
+    let regions = match renewed(alloc, schema, number, parts, arrivals, changed) {
+        Ok(regions) => regions,
+        Err(no) => return Err(no),
+    };
+    let absorbed = match absorbed(alloc, schema, still, regions.as_slice()) {
         Ok(flags) => flags,
         Err(no) => return Err(no),
     };
-    let sifted = sift(alloc, regions, flags.as_slice())?;
-    let marks = drop_marks(alloc, Cause::Absorbed, sifted.dropped)?;
+    let still_absorbed = match still_absorbed(
+        alloc,
+        schema,
+        still,
+        regions.as_slice(),
+        met.as_slice(),
+    ) {
+        Ok(flags) => flags,
+        Err(no) => return Err(no),
+    };
+    let news = News {
+        regions,
+        absorbed,
+        still_absorbed,
+    };
+    if !have_few(still, &news) {
+        return Err(No::Refused(Over));
+    }
+    Ok(news)
+}
+
+/// The regions that stay and the new ones together, without the flagged ones, of which the drops stand behind the marks.
+fn put_together(
+    alloc: Global,
+    still: Seq<Region>,
+    news: News,
+    marks: Marks,
+) -> Result<Answer, NoMemory>
+    requires order { ascends still ≡ true }
+    requires join { CanJoin still news.regions }
+    requires still { length news.still_absorbed ≡ length still }
+    requires news { length news.absorbed ≡ length news.regions }
+    ensures regions { IfOk result (λ answer. answer.regions ≡ with_regions (flagged false news.still_absorbed still) (flagged false news.absorbed news.regions)) }
+    ensures marks { IfOk result (λ answer. answer.marks ≡ marks ++ map (drop_of Absorbed) (with_regions (flagged true news.still_absorbed still) (flagged true news.absorbed news.regions))) }
+{
+    let mut old = sift(alloc, still, news.still_absorbed.as_slice())?;
+    let new = sift(alloc, news.regions, news.absorbed.as_slice())?;
+    add_all(&mut old.plain, new.plain)?;
+    add_all(&mut old.flagged, new.flagged)?;
+    let mut marks = marks;
+    marks.append(drop_marks(alloc, Cause::Absorbed, old.flagged)?)?;
     Ok(Answer {
-        regions: sifted.kept,
+        regions: old.plain,
         marks,
     })
 }
 
-/// Whether the regions have at most `MOST_RECTS` rects.
-fn have_few(regions: &[Region]) -> bool
-    ensures { IsTrue result ↔ (count_rects regions.now ≤ 16384) }
+/// The drops of the regions of both lists, in class order.
+fn given_up(alloc: Global, still: Seq<Region>, changed: Seq<Region>) -> Result<Marks, NoMemory>
+    requires order { ascends still ≡ true }
+    requires join { CanJoin still changed }
+    ensures { IfOk result (λ marks. marks ≡ map (drop_of Pieces) (with_regions still changed)) }
 {
-    let mut room = MOST_RECTS as usize;
-    for region in regions {
-        let count = region.rects.len();
-        if count > room {
-            return false;
-        }
-        room -= count;
-    }
-    true
+    let mut all = still;
+    add_all(&mut all, changed)?;
+    drop_marks(alloc, Cause::Pieces, all)
 }
 
 /// The regions after an answer, and its marks.
@@ -115,35 +218,34 @@ pub(crate) fn answer_of(
     parts: &[Part],
     arrivals: Arrivals,
     old: Seq<Region>,
-) -> Result<Answer, No<Over>>
+) -> Result<Outcome, NoMemory>
     requires tables { IsTrue (list_all is_table schema.now) }
     requires each { All (IsOfSchema schema.now) old }
+    requires order { ascends old ≡ true }
+    requires settled { All (λ (g : TheRegion). IsAbsorbedIn schema.now old g → ⊥) old }
     requires fit { All (λ (part : ThePart). list_all (rect_fits (table_at schema.now part.table).columns) part.rects ≡ true) parts.now }
     requires only { All (λ (part : ThePart). list_all (constrains_only part.need 0) part.rects ≡ true) parts.now }
     requires arrivals { All (IsArrival schema.now parts.now) arrivals }
     requires apart { AreApart schema.now old arrivals }
     requires told { (told : Told) × IsTold schema.now told × AreTrueOf told old × HaveArrived told arrivals }
-    ensures renewed { IfOk result (λ answer. IsRenewed schema.now number parts.now arrivals old answer.regions answer.marks) }
-    ensures store { IfOk result (λ answer. IsStore schema.now answer.regions) }
-    ensures true_still { IfOk result (λ answer. (told : Told) → IsTold schema.now told → AreTrueOf told old → HaveArrived told arrivals → AreTrueOf told answer.regions) }
-    ensures cuts { IfOk result (λ answer. All (IsCutFrom schema.now (rects_on old parts.now arrivals)) answer.regions) }
-    ensures over { IsErrOf result (Refused (record {})) → IsHeavy schema.now old parts.now arrivals }
+    ensures { IfOk result (IsOutcome schema.now number parts.now arrivals old) }
 {
-    let mut marks = held_marks(alloc, arrivals.as_slice())?;
-    let all = match renewed(alloc, schema, number, parts, arrivals, old) {
-        Ok(all) => all,
-        Err(no) => return Err(no),
-    };
-    let left = match without_absorbed(alloc, schema, all) {
-        Ok(left) => left,
-        Err(no) => return Err(no),
-    };
-    if !have_few(left.regions.as_slice()) {
-        return Err(No::Refused(Over));
+    let marks = held_marks(alloc, arrivals.as_slice())?;
+    let both = parted_by(alloc, old, parts, number)?;
+    // Cutting gives the changed regions up, so that what their drops need is copied before it.
+    let copies = copies_without_rows(alloc, both.flagged.as_slice())?;
+    let Parted { plain, flagged } = both;
+    match news_of(
+        alloc,
+        schema,
+        number,
+        parts,
+        arrivals,
+        plain.as_slice(),
+        flagged,
+    ) {
+        Ok(news) => Ok(Outcome::Answered(put_together(alloc, plain, news, marks)?)),
+        Err(No::Refused(_)) => Ok(Outcome::GivenUp(given_up(alloc, plain, copies)?)),
+        Err(No::NoMemory) => Err(NoMemory),
     }
-    marks.append(left.marks)?;
-    Ok(Answer {
-        regions: left.regions,
-        marks,
-    })
 }

@@ -11,6 +11,7 @@ mod give_way;
 pub mod laws;
 mod lookup;
 mod marks;
+mod parting;
 mod restamp;
 pub mod store;
 #[cfg(test)]

@@ -51,33 +51,6 @@ pub(crate) fn drop_mark(cause: Cause, region: Region) -> Mark
     }
 }
 
-fn drop_copy(alloc: Global, cause: Cause, region: &Region) -> Result<Mark, NoMemory>
-    ensures { IfOk result (λ mark. mark ≡ drop_of cause region.now) }
-{
-    Ok(Mark::Dropped {
-        cause,
-        table: region.table,
-        attrs: region.attrs,
-        stamp: region.stamp,
-        rects: region.rects.copy(alloc)?,
-    })
-}
-
-/// Drops of the classes of regions that may still be kept.
-pub(crate) fn drop_copies(
-    alloc: Global,
-    cause: Cause,
-    regions: &[Region],
-) -> Result<Marks, NoMemory>
-    ensures { IfOk result (λ marks. marks ≡ map (drop_of cause) regions.now) }
-{
-    let mut marks = Seq::new(alloc);
-    for region in regions {
-        marks.push(drop_copy(alloc, cause, region)?)?;
-    }
-    Ok(marks)
-}
-
 /// The classes of the regions are dropped.
 pub(crate) fn drop_marks(
     alloc: Global,

@@ -10,11 +10,12 @@ ghost use Rattle.sr_union.specs.Grid.{grid, all_inner, have_first};
 ghost use Rattle.sr_query.specs.Bound.{is_table};
 ghost use Rattle.sr_query.specs.declared.query.Part.{Part as ThePart};
 ghost use Rattle.sr_region.specs.Regions.{IsRegion};
+ghost use Rattle.sr_region.specs.declared.region.Region.{Region as TheRegion};
 ghost use Rattle.sr_store.specs.declared.store.Arrival.{Arrival as TheArrival};
 ghost use Rattle.sr_store.specs.Stores.{IsOfSchema};
 ghost use Rattle.sr_store.specs.Answered.{IsHeavy};
 ghost use Rattle.sr_store.specs.Renewing.{touching, with_stamp, IsRestamped};
-ghost use Rattle.sr_store.specs.Making.{HaveNoCommon, AddsHalves, AddsRestamped};
+ghost use Rattle.sr_store.specs.Making.{HaveNoCommon, AddsHalves, AddsRestamped, ComesFrom};
 
 use crate::lookup::table_at;
 use sr_cell::attrs::Attrs;
@@ -59,7 +60,7 @@ pub(crate) fn may_meet(rects: &Rects, others: &Rects) -> bool
 }
 
 /// Whether some part may touch the region.
-fn may_touch(region: &Region, parts: &[Part]) -> bool
+pub(crate) fn may_touch(region: &Region, parts: &[Part]) -> bool
     ensures { (columns : List Column) → result ≡ false → HaveNoCommon columns region.now.rects (touching parts.now region.now.table region.now.attrs) }
 {
     for part in parts {
@@ -139,9 +140,6 @@ fn restamp_one(
     ensures restamped { OnOk result (AddsRestamped schema.now number parts.now region pieces.old pieces.new) }
     ensures over { IsErrOf result (Refused (record {})) → 16384 < grid (table_at schema.now region.table).columns (region.rects ++ touching parts.now region.table region.attrs) }
 {
-    if !may_touch(&region, parts) {
-        return Ok(pieces.push(region)?);
-    }
     let rects = touching_rects(alloc, parts, region.table, region.attrs)?;
     let table = table_at(schema, region.table);
     push_split(alloc, table, region, &rects, number, pieces)
@@ -160,7 +158,8 @@ pub(crate) fn restamp(
     requires fit { All (λ (part : ThePart). list_all (rect_fits (table_at schema.now part.table).columns) part.rects ≡ true) parts.now }
     requires only { All (λ (part : ThePart). list_all (constrains_only part.need 0) part.rects ≡ true) parts.now }
     ensures restamped { IfOk result (λ pieces. IsRestamped schema.now number parts.now regions pieces) }
-    ensures over { (arrivals : List TheArrival) → IsErrOf result (Refused (record {})) → IsHeavy schema.now regions parts.now arrivals }
+    ensures over { (old : List TheRegion) (arrivals : List TheArrival) → All (ComesFrom schema.now old parts.now arrivals) regions
+        → IsErrOf result (Refused (record {})) → IsHeavy schema.now old parts.now arrivals }
 {
     let mut pieces = Seq::new(alloc);
     for region in regions.into_vec() {

@@ -15,15 +15,15 @@ ghost use Rattle.sr_store.specs.Fitted.{count_rows, without, lasts_of, IsFitted,
 ghost use Rattle.sr_store.specs.Noticed.{told_to, IsTellOf};
 ghost use Rattle.sr_store.specs.Renewing.{IsCutFrom};
 
-use crate::answer::{Answer, answer_of};
+use crate::answer::{Answer, Outcome, answer_of};
 use crate::apply::told_all;
 use crate::fit::{count_rows, fitted, lasts_of};
 use crate::give_way::given_way;
-use crate::marks::{drop_copies, drop_marks};
+use crate::marks::drop_marks;
 use sr_cell::attrs::Attrs;
 use sr_cell::cause::Cause;
 use sr_cell::cell::Rows;
-use sr_cell::list::{Copied, No, NoMemory, Seq};
+use sr_cell::list::{Copied, NoMemory, Seq};
 use sr_cell::schema::Schema;
 use sr_history::mark::Marks;
 use sr_message::message::Tell;
@@ -157,13 +157,10 @@ impl Store {
     {
         let held = mem::replace(&mut self.regions, Seq::new(alloc));
         let old = given_way(held, arrivals.as_slice());
-        // Cutting gives the regions up, so that their drops are made before it.
-        let drops = drop_copies(alloc, Cause::Pieces, old.as_slice())?;
         self.last = lasts_of(alloc, schema, parts)?;
-        match answer_of(alloc, schema, number, parts, arrivals, old) {
-            Ok(answer) => self.keep(alloc, schema, answer),
-            Err(No::Refused(_)) => Ok(drops),
-            Err(No::NoMemory) => Err(NoMemory),
+        match answer_of(alloc, schema, number, parts, arrivals, old)? {
+            Outcome::Answered(answer) => self.keep(alloc, schema, answer),
+            Outcome::GivenUp(drops) => Ok(drops),
         }
     }
 

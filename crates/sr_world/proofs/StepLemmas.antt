@@ -111,6 +111,7 @@ no-store schema = record {
   once = λ t a p point. omega arith;
   keys = λ t a k. omega arith;
   few = omega arith;
+  settled = All-nil _;
 }
 
 pub nothing-kept : (schema : List Table) → Keeps schema (is_held []) (stamp []) []

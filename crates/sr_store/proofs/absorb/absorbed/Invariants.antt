@@ -1,10 +1,8 @@
-use Rattle.std.proofs.Common.{◌≡◌, drop}
-use Rattle.sr_store.specs.Answered.{AreFlags, IsAbsorbedIn, wider}
+use Rattle.std.proofs.Common.{drop}
+use Rattle.sr_store.specs.Answered.{AreFlags}
+use Rattle.sr_store.specs.Making.{IsAbsorbedBy}
 use Rattle.sr_store.proofs.Making.{Completes}
 use Rattle.sr_store.proofs.absorb.absorbed.Given as goal
 
 abbrev pub invariant-loop-region : goal.invariant-loop-region
-invariant-loop-region l = record {
-  made : Completes (λ gs fs. AreFlags (IsAbsorbedIn l.schema l.regions) fs gs) l.regions l.flags (drop l.region-index l.regions);
-  known : l.kind.wider ≡ wider l.regions l.kind.table l.kind.attrs;
-}
+invariant-loop-region l = Completes (λ gs fs. AreFlags (IsAbsorbedBy l.schema l.still l.news) fs gs) l.news l.flags (drop l.region-index l.news)

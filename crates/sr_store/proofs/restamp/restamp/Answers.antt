@@ -8,7 +8,7 @@ use Rattle.sr_store.specs.Stores.{IsOfSchema}
 use Rattle.sr_store.specs.Renewing.{IsRestamped}
 use Rattle.sr_store.specs.Making.{ComesFrom}
 use Rattle.sr_store.proofs.Making.{completes_more, completes_all}
-use Rattle.sr_store.proofs.Refusals.{heavy_first, old_come}
+use Rattle.sr_store.proofs.Refusals.{heavy_first}
 use Rattle.sr_store.proofs.Restamping.{restamped_append, restamped_nothing}
 use Rattle.sr_store.proofs.restamp.restamp.Goals as goal
 
@@ -21,7 +21,7 @@ loop-region-init c =
     record {
       made = λ more h. subst (λ made. IsRestamped schema c.args.number parts c.args.regions (made ++ more)) (sym c.new-pieces.ensures) (subst (λ gs. IsRestamped schema c.args.number parts gs more) same h);
       each = subst (All (IsOfSchema schema)) (sym same) c.requires.each;
-      come = λ arrivals. subst (All (ComesFrom schema c.args.regions parts arrivals)) (sym same) (old_come schema c.args.regions parts arrivals c.requires.each);
+      come = λ old arrivals come. subst (All (ComesFrom schema old parts arrivals)) (sym same) come;
     }
 
 pub loop-region-preserved : goal.loop-region-preserved
@@ -37,13 +37,14 @@ loop-region-preserved c =
           (into_iter_items c.loop-region.region-iterator) left turn new.1
           (λ more h. restamped_append schema c.args.number parts (region ∷ []) new.0 left more new.2 h) c.loop-region.invariant.made;
       each = All-rest (IsOfSchema schema) region left (into_iter_items c.loop-region.region-iterator) turn c.loop-region.invariant.each;
-      come = λ arrivals. All-rest (ComesFrom schema c.args.regions parts arrivals) region left (into_iter_items c.loop-region.region-iterator) turn (c.loop-region.invariant.come arrivals);
+      come = λ old arrivals come.
+          All-rest (ComesFrom schema old parts arrivals) region left (into_iter_items c.loop-region.region-iterator) turn (c.loop-region.invariant.come old arrivals come);
     }
 
 pub returns-in-Err-clause-over : goal.returns-in-Err-clause-over
-returns-in-Err-clause-over c = λ arrivals e.
-    heavy_first c.args.schema.now c.args.regions c.args.parts.now arrivals c.in-Some.region (into_iter_items c.next.new.self) (into_iter_items c.loop-region.region-iterator)
-    c.in-Some.ensures.steps.0 c.loop-region.invariant.each (c.loop-region.invariant.come arrivals) c.requires.fit (c.in-Err.ensures.over (err_same c.in-Err.no _ e))
+returns-in-Err-clause-over c = λ old arrivals come e.
+    heavy_first c.args.schema.now old c.args.parts.now arrivals c.in-Some.region (into_iter_items c.next.new.self) (into_iter_items c.loop-region.region-iterator)
+    c.in-Some.ensures.steps.0 c.loop-region.invariant.each (c.loop-region.invariant.come old arrivals come) c.requires.fit (c.in-Err.ensures.over (err_same c.in-Err.no _ e))
 
 pub returns-clause-restamped : goal.returns-clause-restamped
 returns-clause-restamped c =

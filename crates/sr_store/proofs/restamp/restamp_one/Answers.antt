@@ -1,4 +1,4 @@
-use Rattle.std.proofs.Common.{◌≡◌, ◌<◌, ◌∷◌, ◌++◌, [], true, false, sym, subst}
+use Rattle.std.proofs.Common.{◌≡◌, ◌<◌, ◌++◌, true, sym, subst}
 use Rattle.std.specs.List.{list_all}
 use Rattle.std.proofs.lemmas.Result.{on_ok_weaker}
 use Rattle.sr_cell.specs.Columns.{table_at}
@@ -8,14 +8,7 @@ use Rattle.sr_store.specs.Renewing.{pieces_of}
 use Rattle.sr_store.specs.Making.{AddsHalves}
 use Rattle.sr_store.proofs.Touching.{touching_fits, touching_only}
 use Rattle.sr_store.proofs.Restamping.{restamped_one}
-use Rattle.sr_store.proofs.Untouched.{restamped_apart}
 use Rattle.sr_store.proofs.restamp.restamp_one.Goals as goal
-
-pub returns-then-not-may_touch-clause-restamped : goal.returns-then-not-may_touch-clause-restamped
-returns-then-not-may_touch-clause-restamped c =
-    let region = c.args.region in
-    let apart : c.may_touch.result ≡ false = c.if-not-may_touch.true in
-    (region ∷ [], c.in_ok-push.ensures.pushed, restamped_apart c.args.schema.now c.args.number c.args.parts.now region c.requires.region (c.may_touch.ensures (table_at c.args.schema.now region.table).columns apart))
 
 pub push_split-requires-clause-fit : goal.push_split-requires-clause-fit
 push_split-requires-clause-fit c =

@@ -1,0 +1,8 @@
+use Rattle.std.proofs.Common.{drop}
+use Rattle.std.specs.List.{AllZip}
+use Rattle.sr_store.specs.Making.{IsUnmetOr}
+use Rattle.sr_store.proofs.Making.{Completes}
+use Rattle.sr_store.proofs.absorb.met_by.Given as goal
+
+abbrev pub invariant-loop-region : goal.invariant-loop-region
+invariant-loop-region l = Completes (λ gs fs. AllZip (IsUnmetOr l.arrivals) fs gs) l.regions l.flags (drop l.region-index l.regions)

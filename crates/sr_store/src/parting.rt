@@ -1,0 +1,104 @@
+//! Regions parted in two: by a flag, or by whether an answer changes them.
+ghost use Rattle.std.specs.Prelude.{◌≡◌, Bool, true, false, List, length, map, IfOk};
+ghost use Rattle.std.specs.List.{All, AllZip};
+ghost use Rattle.sr_store.specs.Answered.{flagged};
+ghost use Rattle.sr_store.specs.Making.{IsStill, IsStillOr, without_rows};
+
+use crate::restamp::may_touch;
+use sr_cell::list::{Copied, NoMemory, Seq};
+use sr_query::query::Part;
+use sr_region::region::Region;
+use std::alloc::Global;
+
+/// The regions without flag, and those with one.
+#[derive(Drop)]
+pub(crate) struct Parted {
+    pub(crate) plain: Seq<Region>,
+    pub(crate) flagged: Seq<Region>,
+}
+
+/// The regions without flag, and those with one.
+pub(crate) fn sift(alloc: Global, regions: Seq<Region>, flags: &[bool]) -> Result<Parted, NoMemory>
+    requires { length flags.now ≡ length regions }
+    ensures plain { IfOk result (λ both. both.plain ≡ flagged false flags.now regions) }
+    ensures flagged { IfOk result (λ both. both.flagged ≡ flagged true flags.now regions) }
+{
+    let mut plain = Seq::new(alloc);
+    let mut flagged = Seq::new(alloc);
+    let mut i = 0;
+    for region in regions.into_vec() {
+        if flags[i] {
+            flagged.push(region)?;
+        } else {
+            plain.push(region)?;
+        }
+        i += 1;
+    }
+    Ok(Parted { plain, flagged })
+}
+
+/// Whether an answer of that number may change the region.
+fn may_change(region: &Region, parts: &[Part], number: u64) -> bool
+    ensures { result ≡ false → IsStill number parts.now region.now }
+{
+    region.stamp == number || may_touch(region, parts)
+}
+
+/// A flag for each region that an answer of that number may change.
+fn changing(
+    alloc: Global,
+    regions: &[Region],
+    parts: &[Part],
+    number: u64,
+) -> Result<Seq<bool>, NoMemory>
+    ensures { IfOk result (λ flags. AllZip (IsStillOr number parts.now) flags regions.now) }
+{
+    let mut flags = Seq::new(alloc);
+    for region in regions {
+        flags.push(may_change(region, parts, number))?;
+    }
+    Ok(flags)
+}
+
+/// The regions that an answer of that number leaves as they are, and those that it may change.
+pub(crate) fn parted_by(
+    alloc: Global,
+    regions: Seq<Region>,
+    parts: &[Part],
+    number: u64,
+) -> Result<Parted, NoMemory>
+    ensures { IfOk result (λ both. (flags : List Bool) × (length flags ≡ length regions) × (both.plain ≡ flagged false flags regions)
+        × (both.flagged ≡ flagged true flags regions) × All (IsStill number parts.now) both.plain) }
+{
+    let flags = changing(alloc, regions.as_slice(), parts, number)?;
+    let both = sift(alloc, regions, flags.as_slice())?;
+    Ok(both)
+}
+
+fn copy_without_rows(alloc: Global, region: &Region) -> Result<Region, NoMemory>
+    ensures { IfOk result (λ copy. copy ≡ without_rows region.now) }
+{
+    let rects = region.rects.copy(alloc)?;
+    Ok(Region::new(
+        alloc,
+        region.table,
+        region.key,
+        region.attrs,
+        region.stamp,
+        rects,
+    ))
+}
+
+/// Copies of the regions, without their rows.
+pub(crate) fn copies_without_rows(
+    alloc: Global,
+    regions: &[Region],
+) -> Result<Seq<Region>, NoMemory>
+    ensures { IfOk result (λ copies. copies ≡ map without_rows regions.now) }
+{
+    let mut copies = Seq::new(alloc);
+    for region in regions {
+        copies.push(copy_without_rows(alloc, region)?)?;
+    }
+    Ok(copies)
+}

@@ -1,11 +1,12 @@
 //! Regions whose points are all held under more columns.
-ghost use Rattle.std.specs.Prelude.{◌≡◌, ◌==◌, ◌<◌, ◌&&◌, ◌↔◌, not, false, List, [], ◌∷◌, ◌++◌, IfOk, OnOk, IsErrOf, IsTrue};
+ghost use Rattle.std.specs.Prelude.{◌≡◌, ◌==◌, ◌<◌, ◌&&◌, ◌↔◌, not, true, false, List, [], ◌∷◌, ◌++◌, length, IfOk, OnOk, IsErrOf, IsTrue};
 ghost use Rattle.std.specs.List.{list_all, All, AllZip};
 ghost use Rattle.sr_cell.specs.declared.list.No.TheVariants.{Refused};
 ghost use Rattle.sr_cell.specs.declared.table.Column.{Column};
 ghost use Rattle.sr_cell.specs.Columns.{table_at};
 ghost use Rattle.sr_cell.specs.Attrs.{includes};
-ghost use Rattle.sr_union.specs.Pieces.{near};
+ghost use Rattle.sr_box.specs.Points.{rect_fits};
+ghost use Rattle.sr_union.specs.Pieces.{near, IsWithin, HasOutside};
 ghost use Rattle.sr_union.specs.Grid.{grid};
 ghost use Rattle.sr_query.specs.Bound.{is_table};
 ghost use Rattle.sr_query.specs.declared.query.Part.{Part as ThePart};
@@ -18,8 +19,9 @@ ghost use Rattle.sr_store.specs.Making.{ComesFrom, IsAbsorbedBy, IsKeptOr, IsUnm
 use crate::lookup::table_at;
 use crate::restamp::{MOST_RECTS, may_meet};
 use crate::store::Arrival;
+use sr_box::rect::Rect;
 use sr_cell::attrs::Attrs;
-use sr_cell::list::{No, NoMemory, Seq};
+use sr_cell::list::{Copied, No, NoMemory, Seq};
 use sr_cell::schema::Schema;
 use sr_query::query::Part;
 use sr_region::region::Region;
@@ -39,23 +41,29 @@ fn push_wider(
     found: &mut Rects,
     region: &Region,
     narrow: &Region,
+    rects: &Rects,
 ) -> Result<(), NoMemory>
-    ensures { OnOk result (found.new ≡ found.old ++ near narrow.now.rects (wider (region.now ∷ []) narrow.now.table narrow.now.attrs)) }
+    ensures { OnOk result (found.new ≡ found.old ++ near rects.now (wider (region.now ∷ []) narrow.now.table narrow.now.attrs)) }
 {
     if is_wider(region, narrow.table, narrow.attrs) {
-        found.append(region.rects.near(alloc, &narrow.rects)?)?;
+        found.append(region.rects.near(alloc, rects)?)?;
     }
     Ok(())
 }
 
-/// The rects of the regions of its table with strictly more columns, as far as they meet the region.
+/// The rects of the regions of its table with strictly more columns, as far as they meet those.
 #[tactic(auto, using(crate::proofs::Nearing::near_wider))]
-fn wider_near(alloc: Global, regions: &[Region], narrow: &Region) -> Result<Rects, NoMemory>
-    ensures { IfOk result (λ found. found ≡ near narrow.now.rects (wider regions.now narrow.now.table narrow.now.attrs)) }
+fn wider_near(
+    alloc: Global,
+    regions: &[Region],
+    narrow: &Region,
+    rects: &Rects,
+) -> Result<Rects, NoMemory>
+    ensures { IfOk result (λ found. found ≡ near rects.now (wider regions.now narrow.now.table narrow.now.attrs)) }
 {
     let mut found = Rects::new(alloc);
     for region in regions {
-        push_wider(alloc, &mut found, region, narrow)?;
+        push_wider(alloc, &mut found, region, narrow, rects)?;
     }
     Ok(found)
 }
@@ -67,12 +75,79 @@ fn wider_near_both(
     still: &[Region],
     news: &[Region],
     narrow: &Region,
+    rects: &Rects,
 ) -> Result<Rects, NoMemory>
-    ensures { IfOk result (λ found. found ≡ near narrow.now.rects (wider_both still.now news.now narrow.now)) }
+    ensures { IfOk result (λ found. found ≡ near rects.now (wider_both still.now news.now narrow.now)) }
 {
-    let mut found = wider_near(alloc, still, narrow)?;
-    found.append(wider_near(alloc, news, narrow)?)?;
+    let mut found = wider_near(alloc, still, narrow, rects)?;
+    found.append(wider_near(alloc, news, narrow, rects)?)?;
     Ok(found)
+}
+
+fn single(alloc: Global, rect: &Rect) -> Result<Rects, NoMemory>
+    ensures { IfOk result (λ one. one ≡ rect.now ∷ []) }
+{
+    let mut one = Rects::new(alloc);
+    one.push(rect.copy(alloc)?)?;
+    Ok(one)
+}
+
+/// Whether the rect's points are all in regions of the two lists with strictly more columns than that region.
+fn is_covered(
+    alloc: Global,
+    schema: &Schema,
+    still: &[Region],
+    news: &[Region],
+    region: &Region,
+    rect: &Rect,
+) -> Result<bool, No<Over>>
+    requires tables { IsTrue (list_all is_table schema.now) }
+    requires still { All (IsOfSchema schema.now) still.now }
+    requires news { All (IsOfSchema schema.now) news.now }
+    requires table { region.now.table < length schema.now }
+    requires fits { rect_fits (table_at schema.now region.now.table).columns rect.now ≡ true }
+    ensures within { IfOk result (λ yes. yes ≡ true → IsWithin (table_at schema.now region.now.table).columns (rect.now ∷ []) (wider_both still.now news.now region.now)) }
+    ensures outside { IfOk result (λ yes. yes ≡ false → HasOutside (table_at schema.now region.now.table).columns (rect.now ∷ []) (wider_both still.now news.now region.now)) }
+    ensures over { IsErrOf result (Refused (record {})) → 16384 < grid (table_at schema.now region.now.table).columns (rect.now ∷ wider_both still.now news.now region.now) }
+{
+    let table = table_at(schema, region.table);
+    let one = single(alloc, rect)?;
+    let found = wider_near_both(alloc, still, news, region, &one)?;
+    match one.within(alloc, &found, table, MOST_RECTS) {
+        Ok(yes) => Ok(yes),
+        Err(no) => Err(no),
+    }
+}
+
+/// The same of each of some rects; the first that is not covered decides.
+fn are_covered(
+    alloc: Global,
+    schema: &Schema,
+    still: &[Region],
+    news: &[Region],
+    region: &Region,
+    rects: &[Rect],
+) -> Result<bool, No<Over>>
+    requires tables { IsTrue (list_all is_table schema.now) }
+    requires still { All (IsOfSchema schema.now) still.now }
+    requires news { All (IsOfSchema schema.now) news.now }
+    requires table { region.now.table < length schema.now }
+    requires fit { list_all (rect_fits (table_at schema.now region.now.table).columns) rects.now ≡ true }
+    ensures within { IfOk result (λ yes. yes ≡ true → IsWithin (table_at schema.now region.now.table).columns rects.now (wider_both still.now news.now region.now)) }
+    ensures outside { IfOk result (λ yes. yes ≡ false → HasOutside (table_at schema.now region.now.table).columns rects.now (wider_both still.now news.now region.now)) }
+    ensures over { IsErrOf result (Refused (record {})) → 16384 < grid (table_at schema.now region.now.table).columns (rects.now ++ wider_both still.now news.now region.now) }
+{
+    for rect in rects {
+        match is_covered(alloc, schema, still, news, region, rect) {
+            Ok(yes) => {
+                if !yes {
+                    return Ok(false);
+                }
+            }
+            Err(no) => return Err(no),
+        }
+    }
+    Ok(true)
 }
 
 /// Whether the region's points are all in regions of the two lists with strictly more columns.
@@ -90,9 +165,7 @@ fn is_absorbed(
     ensures absorbed { IfOk result (λ yes. IsTrue yes ↔ IsAbsorbedBy schema.now still.now news.now region.now) }
     ensures over { IsErrOf result (Refused (record {})) → 16384 < grid (table_at schema.now region.now.table).columns (region.now.rects ++ wider_both still.now news.now region.now) }
 {
-    let table = table_at(schema, region.table);
-    let found = wider_near_both(alloc, still, news, region)?;
-    match region.rects.within(alloc, &found, table, MOST_RECTS) {
+    match are_covered(alloc, schema, still, news, region, region.rects.as_slice()) {
         Ok(yes) => Ok(yes),
         Err(no) => Err(no),
     }

@@ -9,7 +9,7 @@ use Rattle.sr_cell.specs.Attrs.{has_column}
 use Rattle.sr_cell.specs.Cells.{Row}
 use Rattle.sr_cell.specs.Columns.{is_point}
 use Rattle.sr_box.specs.Points.{Rect, in_any, times, rect_fits, constrained, IsEssential, HasPoint, HasNoPoint}
-use Rattle.sr_union.specs.Pieces.{IsMinus, IsOnce, AllConstrainEssential}
+use Rattle.sr_union.specs.Pieces.{IsMinus, IsOnce, IsWithin, AllConstrainEssential}
 use Rattle.sr_union.specs.Grid.{AreCutFrom, grid, have_first}
 use Rattle.sr_union.proofs.Times.{in_any-times}
 use Rattle.sr_union.proofs.Low.{has_point}
@@ -114,3 +114,11 @@ pub all_narrow : (cs : List Column) (rects : List Rect) → length cs ≤ 12 →
 all_narrow cs [] few fit = refl
 all_narrow cs (r ∷ rects) few fit =
     let one = fits_length cs r (grind arith) in let ih = all_narrow cs rects few (grind arith) in grind (arith, nat_tests, one, ih, few)
+
+-- nothing is left of rects whose points are all had
+pub none_left : (cs : List Column) (need : ℕ) (rects cover : List Rect) → IsWithin cs rects cover → AreLeft cs need (left_over rects cover) []
+none_left cs need rects cover within = record { once = λ p point. go (in_any rects p) (in_any cover p) p (within p point); bound = tt }
+  where
+    go : (b c : Bool) (p : Row) → (b ≡ true → c ≡ true) → times [] p ≡ (if b && not c then 1 else 0)
+    go true c p h = let had = h refl in rw had refl
+    go false c p h = refl

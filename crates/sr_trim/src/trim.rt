@@ -6,12 +6,13 @@ ghost use Rattle.sr_cell.specs.Attrs.{has_column};
 ghost use Rattle.sr_cell.specs.Cells.{Row};
 ghost use Rattle.sr_cell.specs.Columns.{is_point};
 ghost use Rattle.sr_box.specs.Points.{times, in_any, rect_fits, constrains_only, AreSame, HasPoint, HasNoPoint, IsEssential};
+ghost use Rattle.sr_union.specs.Pieces.{IsWithin};
 ghost use Rattle.sr_union.specs.Grid.{AreCutFrom, grid};
 ghost use Rattle.sr_query.specs.Bound.{is_table};
 ghost use Rattle.sr_trim.specs.Left.{left_over, is_constrained, AreLeft};
 
 use sr_cell::attrs::Attrs;
-use sr_cell::list::No;
+use sr_cell::list::{No, NoMemory};
 use sr_cell::table::Table;
 use sr_query::query::Part;
 use sr_union::minus::Over;
@@ -78,6 +79,49 @@ fn rest_of(
     }
 }
 
+/// Whether the cover has each point of the rects; false too where that is not known within the limit.
+fn has_all(
+    alloc: Global,
+    cover: &Rects,
+    rects: &Rects,
+    table: &Table,
+    limit: u32,
+) -> Result<bool, NoMemory>
+    requires table { IsTrue (is_table table.now) }
+    requires rects_fit { list_all (rect_fits table.now.columns) rects.now ≡ true }
+    requires cover_fits { list_all (rect_fits table.now.columns) cover.now ≡ true }
+    ensures { IfOk result (λ yes. yes ≡ true → IsWithin table.now.columns rects.now cover.now) }
+{
+    match rects.within(alloc, cover, table, limit) {
+        Ok(yes) => Ok(yes),
+        Err(No::Refused(_)) => Ok(false),
+        Err(No::NoMemory) => Err(NoMemory),
+    }
+}
+
+/// What is left of a part, which is cut only where the cover lacks some of it.
+fn rest_if_any(
+    alloc: Global,
+    part: &Part,
+    table: &Table,
+    cover: &Rects,
+    limit: u32,
+) -> Result<Rects, No<Over>>
+    requires table { IsTrue (is_table table.now) }
+    requires part_fits { list_all (rect_fits table.now.columns) part.now.rects ≡ true }
+    requires cover_fits { list_all (rect_fits table.now.columns) cover.now ≡ true }
+    ensures left { IfOk result (λ rest. AreLeft table.now.columns part.now.need (left_over part.now.rects cover.now) rest) }
+    ensures cuts { IfOk result (λ rest. AreCutFrom table.now.columns (part.now.rects ++ cover.now) rest) }
+    ensures few { IfOk result (λ rest. length rest ≤ limit) }
+    ensures some { IsErrOf result (Refused (record {})) → part.now.rects ≢ [] }
+    ensures over { IsErrOf result (Refused (record {})) → limit < grid table.now.columns (part.now.rects ++ cover.now) }
+{
+    if has_all(alloc, cover, &part.rects, table, limit)? {
+        return Ok(Rects::new(alloc));
+    }
+    rest_of(alloc, part, table, cover, limit)
+}
+
 fn both(a: Attrs, b: Attrs) -> Attrs
     ensures { (c : ℕ) → has_column result c ≡ (has_column a c || has_column b c) }
 {
@@ -119,7 +163,7 @@ pub fn trim(
     ensures over_some { IsErrOf result (Refused (record {})) → part.now.rects ≢ [] }
     ensures over { IsErrOf result (Refused (record {})) → limit < grid table.now.columns (part.now.rects ++ cover.now) }
 {
-    let rest = match rest_of(alloc, part, table, cover, limit) {
+    let rest = match rest_if_any(alloc, part, table, cover, limit) {
         Ok(rest) => rest,
         Err(no) => return Err(no),
     };

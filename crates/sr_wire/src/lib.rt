@@ -2,3 +2,6 @@
 #![tactic(auto)]
 
 pub mod bad_frame;
+pub mod kind;
+pub mod laws;
+pub mod wire_fault;

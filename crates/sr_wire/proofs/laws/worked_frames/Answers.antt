@@ -1,0 +1,16 @@
+use Rattle.std.proofs.Common.{refl}
+use Rattle.sr_bytes.specs.Spelling.{number_bytes, count_bytes, short_count_bytes}
+use Rattle.sr_wire.specs.Spelling.{long_bytes}
+use Rattle.sr_wire.proofs.laws.worked_frames.Goals as goal
+
+pub returns : goal.returns
+unfolding number_bytes count_bytes short_count_bytes long_bytes
+returns c = record {
+  hello_is = refl;
+  hello_back = refl;
+  reply_is = refl;
+  reply_back = refl;
+  ask_is = refl;
+  ask_back = refl;
+  left_over = refl;
+}

@@ -1,6 +1,6 @@
 //! Fields, read from the front of bytes.
 ghost use Rattle.std.specs.Prelude.{◌≡◌, ℕ, List, int_le, not};
-ghost use Rattle.std.specs.Int.{w16, w32};
+ghost use Rattle.std.specs.Int.{w16, w32, w64};
 ghost use Rattle.std.specs.Str.{is_utf8};
 ghost use Rattle.sr_bytes.specs.Reading.{passing, a_byte, a_number, a_signed, a_text, bytes_that, any_bytes};
 ghost use Rattle.sr_bytes.specs.Spelling.{is_from_to};
@@ -82,7 +82,8 @@ impl<'a> Cursor<'a> {
         Ok(front)
     }
 
-    fn u32(&mut self) -> Result<u32, BadField>
+    /// A number of four bytes.
+    pub fn u32(&mut self) -> Result<u32, BadField>
         ensures { Reads (λ number. number) result self.new (a_number w32 self.old) }
     {
         let bytes = self.front(4)?;
@@ -120,6 +121,16 @@ impl<'a> Cursor<'a> {
             return Err(BadField);
         }
         Ok(number)
+    }
+
+    /// A number of eight bytes.
+    pub fn u64(&mut self) -> Result<u64, BadField>
+        ensures { Reads (λ number. number) result self.new (a_number w64 self.old) }
+    {
+        let bytes = self.front(8)?;
+        Ok(u64::from_be_bytes([
+            bytes[0], bytes[1], bytes[2], bytes[3], bytes[4], bytes[5], bytes[6], bytes[7],
+        ]))
     }
 
     /// A whole number of eight bytes, a negative one as two's complement.
@@ -167,7 +178,7 @@ impl<'a> Cursor<'a> {
     }
 
     /// The next bytes, so many, as a text.
-    fn utf8(&mut self, count: usize) -> Result<&'a str, BadField>
+    pub fn utf8(&mut self, count: usize) -> Result<&'a str, BadField>
         ensures { Reads (λ text. text.now) result self.new (bytes_that is_utf8 count self.old) }
     {
         let before = self.left;

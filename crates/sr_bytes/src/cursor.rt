@@ -1,5 +1,5 @@
 //! Fields, read from the front of bytes.
-ghost use Rattle.std.specs.Prelude.{◌≡◌, ℕ, List, int_le, not};
+ghost use Rattle.std.specs.Prelude.{◌≡◌, ℕ, List, true, false, int_le, not, IsErr};
 ghost use Rattle.std.specs.Int.{w16, w32, w64};
 ghost use Rattle.std.specs.Str.{is_utf8};
 ghost use Rattle.sr_bytes.specs.Reading.{passing, a_byte, a_number, a_signed, a_text, bytes_that, any_bytes};
@@ -57,17 +57,25 @@ impl<'a> Cursor<'a> {
         }
     }
 
+    /// A value that was read, if it is good; else the cursor goes back to where it was before.
+    fn keep_if<T: Drop>(&mut self, good: bool, value: T, before: &'a [u8]) -> Result<T, BadField>
+        ensures kept { good ≡ true → (result ≡ Ok value) × (self.new ≡ self.old) }
+        ensures back { good ≡ false → IsErr result × (self.new ≡ before.now) }
+    {
+        if good {
+            return Ok(value);
+        }
+        self.left = before;
+        Err(BadField)
+    }
+
     /// A byte from `low` to `high`.
     pub fn byte_in(&mut self, low: u8, high: u8) -> Result<u8, BadField>
         ensures { Reads (λ byte. byte) result self.new (passing (is_from_to low high) a_byte self.old) }
     {
         let before = self.left;
         let byte = self.byte()?;
-        if byte < low || high < byte {
-            self.left = before;
-            return Err(BadField);
-        }
-        Ok(byte)
+        self.keep_if(low <= byte && byte <= high, byte, before)
     }
 
     /// The next bytes, so many.
@@ -96,11 +104,7 @@ impl<'a> Cursor<'a> {
     {
         let before = self.left;
         let number = self.u32()?;
-        if number < low || high < number {
-            self.left = before;
-            return Err(BadField);
-        }
-        Ok(number)
+        self.keep_if(low <= number && number <= high, number, before)
     }
 
     fn u16(&mut self) -> Result<u16, BadField>
@@ -116,11 +120,7 @@ impl<'a> Cursor<'a> {
     {
         let before = self.left;
         let number = self.u16()?;
-        if number < low || high < number {
-            self.left = before;
-            return Err(BadField);
-        }
-        Ok(number)
+        self.keep_if(low <= number && number <= high, number, before)
     }
 
     /// A number of eight bytes.
@@ -149,11 +149,7 @@ impl<'a> Cursor<'a> {
     {
         let before = self.left;
         let number = self.i64()?;
-        if number < lo {
-            self.left = before;
-            return Err(BadField);
-        }
-        Ok(number)
+        self.keep_if(lo <= number, number, before)
     }
 
     /// A byte of length from `low` to `high`, and that many bytes.
@@ -170,11 +166,7 @@ impl<'a> Cursor<'a> {
     {
         let before = self.left;
         let bytes = self.bytes_in(0, high)?;
-        if is_text_at_most(bytes, lo) {
-            self.left = before;
-            return Err(BadField);
-        }
-        Ok(bytes)
+        self.keep_if(!is_text_at_most(bytes, lo), bytes, before)
     }
 
     /// The next bytes, so many, as a text.

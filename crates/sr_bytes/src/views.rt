@@ -6,9 +6,9 @@ ghost use Rattle.sr_bytes.specs.Views.{Reads, cell_of, span_of};
 
 use crate::cursor::{BadField, Cursor};
 use crate::item::{Item, next_item, skip_items};
+use sr_box::rect::Rect;
 use sr_box::span::Span;
 use sr_cell::cell::{Cell, Row};
-use sr_box::rect::Rect;
 use std::marker::Model;
 
 /// The most columns of a table.
@@ -122,6 +122,16 @@ impl<'a> RowView<'a> {
 }
 
 impl<'a> RowsView<'a> {
+    /// The same rows, to be gone through by themselves.
+    pub fn again(&self) -> RowsView<'a>
+        ensures { result ≡ self.now }
+    {
+        RowsView {
+            rows: self.rows,
+            bytes: Cursor::over(self.bytes.left()),
+        }
+    }
+
     /// The next row, or None where none is left.
     pub fn next(&mut self) -> Option<RowView<'a>>
         ensures first { self.old ≡ option_to_list result ++ self.new }
@@ -169,7 +179,10 @@ impl<'a> Cursor<'a> {
         let cells = self.byte_in(1, COLUMNS)?;
         let bytes = Cursor::over(self.left());
         skip_items::<CellView<'a>>(self, cells as u32)?;
-        Ok(RowView { cells: cells as u32, bytes })
+        Ok(RowView {
+            cells: cells as u32,
+            bytes,
+        })
     }
 
     /// A list of rows, which are read again when they are asked for.
@@ -179,7 +192,10 @@ impl<'a> Cursor<'a> {
         let rows = self.u16_in(1, ROWS)?;
         let bytes = Cursor::over(self.left());
         skip_items::<RowView<'a>>(self, rows as u32)?;
-        Ok(RowsView { rows: rows as u32, bytes })
+        Ok(RowsView {
+            rows: rows as u32,
+            bytes,
+        })
     }
 
     /// A span.
@@ -220,7 +236,10 @@ impl<'a> Cursor<'a> {
         let spans = self.byte_in(1, COLUMNS)?;
         let bytes = Cursor::over(self.left());
         skip_items::<SpanView<'a>>(self, spans as u32)?;
-        Ok(RectView { spans: spans as u32, bytes })
+        Ok(RectView {
+            spans: spans as u32,
+            bytes,
+        })
     }
 
     /// A list of rects, which are read again when they are asked for.
@@ -232,7 +251,6 @@ impl<'a> Cursor<'a> {
         skip_items::<RectView<'a>>(self, rects)?;
         Ok(RectsView { rects, bytes })
     }
-
 }
 
 impl<'a> Item<'a> for CellView<'a> {

@@ -1,4 +1,6 @@
 pub mod Kinds
 pub mod Spelling
 pub mod Reading
+pub mod Limits
+pub mod Views
 pub mod Examples

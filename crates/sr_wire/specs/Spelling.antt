@@ -1,6 +1,5 @@
 -- Messages as frames of bytes. All numbers have the highest byte first.
 use Rattle.std.specs.Prelude.{ℕ, ◌^◌, Bool, true, false, ◌&&◌, nat_le, nat_lt, List, [], ◌∷◌, ◌++◌, length, Option, Some, None, IsTrue}
-use Rattle.std.specs.Int.{w64, to_be_bytes}
 use Rattle.std.specs.List.{flat_map, list_all}
 use Rattle.std.specs.Str.{is_utf8}
 use Rattle.sr_cell.specs.declared.fault.Fault.{Fault}
@@ -10,14 +9,10 @@ use Rattle.sr_message.specs.declared.message.Message.TheVariants.{Hello, Resume,
 use Rattle.sr_message.specs.declared.message.Holding.{Holding}
 use Rattle.sr_message.specs.declared.message.AskPart.{AskPart}
 use Rattle.sr_message.specs.declared.message.Tell.{Tell}
-use Rattle.sr_bytes.specs.Spelling.{count_bytes, short_count_bytes, cell_bytes, row_bytes, rows_bytes, rects_bytes, is_from_to, has_cell_bytes, has_row_bytes, have_rows_bytes, have_rects_bytes}
+use Rattle.sr_bytes.specs.Spelling.{long_bytes, count_bytes, short_count_bytes, cell_bytes, row_bytes, rows_bytes, rects_bytes, is_from_to, has_cell_bytes, has_row_bytes, have_rows_bytes, have_rects_bytes}
 use Rattle.sr_wire.specs.declared.kind.FrameKind.{FrameKind}
 use Rattle.sr_wire.specs.declared.kind.FrameKind.TheVariants as kinds
 use Rattle.sr_wire.specs.Kinds.{kind_byte, why_byte}
-
--- a number of eight bytes
-unfoldable pub long_bytes : ℕ → List ℕ
-long_bytes n = to_be_bytes w64 n
 
 abbrev pub flag_bytes : Bool → List ℕ
 flag_bytes false = 0 ∷ []

@@ -4,4 +4,6 @@
 pub mod bad_frame;
 pub mod kind;
 pub mod laws;
+pub mod views;
+pub mod why;
 pub mod wire_fault;

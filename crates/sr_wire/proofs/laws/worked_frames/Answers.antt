@@ -1,6 +1,5 @@
 use Rattle.std.proofs.Common.{refl}
-use Rattle.sr_bytes.specs.Spelling.{number_bytes, count_bytes, short_count_bytes}
-use Rattle.sr_wire.specs.Spelling.{long_bytes}
+use Rattle.sr_bytes.specs.Spelling.{number_bytes, long_bytes, count_bytes, short_count_bytes}
 use Rattle.sr_wire.proofs.laws.worked_frames.Goals as goal
 
 pub returns : goal.returns

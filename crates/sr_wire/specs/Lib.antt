@@ -3,4 +3,5 @@ pub mod Spelling
 pub mod Reading
 pub mod Limits
 pub mod Views
+pub mod Bodies
 pub mod Examples

@@ -2,6 +2,7 @@
 #![tactic(auto)]
 
 pub mod bad_frame;
+pub mod body;
 pub mod kind;
 pub mod laws;
 pub mod views;

@@ -28,7 +28,7 @@ use Rattle.sr_wire.proofs.Fields.{Format, first_of_all, one_spelled, one_again, 
 
 -- ---- numbers
 
-long_exact : IsExact a_long long_bytes is_long
+pub long_exact : IsExact a_long long_bytes is_long
 long_exact = record {
   again = λ n rest h. long_again n rest (ltb-true n (2 ^ 64) h);
   spelled = λ bytes n rest fits e. let p = long_spelled bytes n rest fits e in (p.0, lt-ltb n (2 ^ 64) p.1);
@@ -40,7 +40,7 @@ long = record { reader = a_long; bytes_of = long_bytes; has = is_long; exact = l
 abbrev pub byte_bytes : ℕ → List ℕ
 byte_bytes n = n ∷ []
 
-byte_in_exact : (low high : ℕ) → IsExact (a_byte_in low high) byte_bytes (is_from_to low high)
+pub byte_in_exact : (low high : ℕ) → IsExact (a_byte_in low high) byte_bytes (is_from_to low high)
 byte_in_exact low high = record {
   again = λ n rest h. byte_in_again (is_from_to low high) n rest h;
   spelled = λ bytes n rest fits e. byte_in_spelled (is_from_to low high) bytes n rest e;
@@ -49,7 +49,7 @@ byte_in_exact low high = record {
 abbrev pub byte_in : ℕ → ℕ → Format ℕ
 byte_in low high = record { reader = a_byte_in low high; bytes_of = byte_bytes; has = is_from_to low high; exact = byte_in_exact low high }
 
-table_exact : IsExact a_byte byte_bytes is_table
+pub table_exact : IsExact a_byte byte_bytes is_table
 table_exact = record {
   again = λ n rest h. refl;
   spelled = λ bytes n rest fits e.
@@ -63,7 +63,7 @@ table = record { reader = a_byte; bytes_of = byte_bytes; has = is_table; exact =
 abbrev fits_count : ℕ → Bool
 fits_count n = nat_lt n (2 ^ 32)
 
-count_exact : IsExact (a_number w32) count_bytes fits_count
+pub count_exact : IsExact (a_number w32) count_bytes fits_count
 count_exact = record {
   again = λ n rest h. count_again n rest (ltb-true n (2 ^ 32) h);
   spelled = λ bytes n rest fits e. let p = count_spelled bytes n rest fits e in (p.0, lt-ltb n (2 ^ 32) p.1);
@@ -72,7 +72,7 @@ count_exact = record {
 abbrev count : Format ℕ
 count = record { reader = a_number w32; bytes_of = count_bytes; has = fits_count; exact = count_exact }
 
-attrs_exact : IsExact some_attrs short_count_bytes (is_from_to 0 4095)
+pub attrs_exact : IsExact some_attrs short_count_bytes (is_from_to 0 4095)
 attrs_exact = record {
   again = λ n rest h.
       let few : n ≤ 4095 = leb-true n 4095 (right_of (nat_le 0 n) (nat_le n 4095) h) in
@@ -95,11 +95,11 @@ flag_at zero b h e = ap flag_bytes e
 flag_at (suc zero) b h e = ap flag_bytes e
 flag_at (suc (suc n)) b h e = absurd (omega (arith, leb-true _ _ (right_of (nat_le 0 (suc (suc n))) (nat_le (suc (suc n)) 1) h)))
 
-flag_again : (b : Bool) (rest : List ℕ) → IsTrue (any_flag b) → a_flag (flag_bytes b ++ rest) ≡ Got b rest
+pub flag_again : (b : Bool) (rest : List ℕ) → IsTrue (any_flag b) → a_flag (flag_bytes b ++ rest) ≡ Got b rest
 flag_again false rest h = refl
 flag_again true rest h = refl
 
-flag_spelled : (bytes : List ℕ) (b : Bool) (rest : List ℕ) → IsTrue (are_bytes bytes) → a_flag bytes ≡ Got b rest → (bytes ≡ flag_bytes b ++ rest) × IsTrue (any_flag b)
+pub flag_spelled : (bytes : List ℕ) (b : Bool) (rest : List ℕ) → IsTrue (are_bytes bytes) → a_flag bytes ≡ Got b rest → (bytes ≡ flag_bytes b ++ rest) × IsTrue (any_flag b)
 flag_spelled bytes b rest fits e =
     let t = one_spelled (byte_in 0 1) (λ n. n == 1) bytes b rest fits e in
     (t.parts ∙ ap (λ (front : List ℕ). front ++ rest) (flag_at t.first b t.has_first t.is), refl)
@@ -129,7 +129,7 @@ why_at n w h e =
     let back : 1 + (n - 1) ≡ n = omega arith in
     ap why_byte (sym e) ∙ numbered_at 1 reasons (n - 1) LongText refl few ∙ back
 
-why_again : (w : Why) (rest : List ℕ) → a_reason (why_byte w ∷ rest) ≡ Got w rest
+pub why_again : (w : Why) (rest : List ℕ) → a_reason (why_byte w ∷ rest) ≡ Got w rest
 why_again LongText rest = refl
 why_again BadToken rest = refl
 why_again Grammar rest = refl
@@ -168,7 +168,7 @@ any_why w = true
 abbrev why_bytes : Why → List ℕ
 why_bytes w = why_byte w ∷ []
 
-why_spelled : (bytes : List ℕ) (w : Why) (rest : List ℕ) → IsTrue (are_bytes bytes) → a_reason bytes ≡ Got w rest → (bytes ≡ why_bytes w ++ rest) × IsTrue (any_why w)
+pub why_spelled : (bytes : List ℕ) (w : Why) (rest : List ℕ) → IsTrue (are_bytes bytes) → a_reason bytes ≡ Got w rest → (bytes ≡ why_bytes w ++ rest) × IsTrue (any_why w)
 why_spelled bytes w rest fits e =
     let t = one_spelled (byte_in 1 31) (λ n. slice_index_or reasons (n - 1) LongText) bytes w rest fits e in
     (t.parts ∙ ap (λ (n : ℕ). n ∷ rest) (sym (why_at t.first w t.has_first t.is)), refl)
@@ -182,7 +182,7 @@ has_fault_bytes fault = nat_lt fault.at (2 ^ 32)
 abbrev make_fault : Why → ℕ → Fault
 make_fault why at = record { why = why; at = at }
 
-fault_spelled : (bytes : List ℕ) (f : Fault) (rest : List ℕ) → IsTrue (are_bytes bytes) → a_fault bytes ≡ Got f rest → (bytes ≡ fault_bytes f ++ rest) × IsTrue (has_fault_bytes f)
+pub fault_spelled : (bytes : List ℕ) (f : Fault) (rest : List ℕ) → IsTrue (are_bytes bytes) → a_fault bytes ≡ Got f rest → (bytes ≡ fault_bytes f ++ rest) × IsTrue (has_fault_bytes f)
 fault_spelled bytes f rest fits e =
     let t = two_spelled why count make_fault bytes f rest fits e in
     subst (λ v. (bytes ≡ fault_bytes v ++ rest) × IsTrue (has_fault_bytes v)) t.is (t.parts, t.has_second)
@@ -201,7 +201,7 @@ client_bytes client = wire ∷ client ∷ []
 abbrev the_client : ℕ → ℕ → ℕ
 the_client version client = client
 
-client_spelled : (bytes : List ℕ) (c : ℕ) (rest : List ℕ) → IsTrue (are_bytes bytes) → a_client bytes ≡ Got c rest → (bytes ≡ client_bytes c ++ rest) × IsTrue (is_client c)
+pub client_spelled : (bytes : List ℕ) (c : ℕ) (rest : List ℕ) → IsTrue (are_bytes bytes) → a_client bytes ≡ Got c rest → (bytes ≡ client_bytes c ++ rest) × IsTrue (is_client c)
 client_spelled bytes c rest fits e =
     let t = two_spelled (byte_in wire wire) (byte_in 1 64) the_client bytes c rest fits e in
     let low : wire ≤ t.first = leb-true wire t.first (left_of (nat_le wire t.first) (nat_le t.first wire) t.has_first) in
@@ -223,7 +223,7 @@ statement_bytes sql = count_bytes (length sql) ++ sql
 abbrev pub has_statement_bytes : List ℕ → Bool
 has_statement_bytes sql = is_from_to 0 65536 (length sql) && is_utf8 sql
 
-statement_again : (sql rest : List ℕ) → IsTrue (has_statement_bytes sql) → a_statement (statement_bytes sql ++ rest) ≡ Got sql rest
+pub statement_again : (sql rest : List ℕ) → IsTrue (has_statement_bytes sql) → a_statement (statement_bytes sql ++ rest) ≡ Got sql rest
 statement_again sql rest h =
     let few = left_of (is_from_to 0 65536 (length sql)) (is_utf8 sql) h in
     let text = right_of (is_from_to 0 65536 (length sql)) (is_utf8 sql) h in
@@ -232,7 +232,7 @@ statement_again sql rest h =
     ap a_statement (append_assoc (count_bytes (length sql)) sql rest)
     ∙ rw (count_again (length sql) (sql ++ rest) (omega (arith, high)), few, long, take_at sql rest (length sql) refl, drop_at sql rest (length sql) refl, text) refl
 
-statement_spelled : (bytes sql rest : List ℕ) → IsTrue (are_bytes bytes) → a_statement bytes ≡ Got sql rest → (bytes ≡ statement_bytes sql ++ rest) × IsTrue (has_statement_bytes sql)
+pub statement_spelled : (bytes sql rest : List ℕ) → IsTrue (are_bytes bytes) → a_statement bytes ≡ Got sql rest → (bytes ≡ statement_bytes sql ++ rest) × IsTrue (has_statement_bytes sql)
 statement_spelled bytes sql rest fits e =
     let s = step_of (passing (is_from_to 0 65536) (a_number w32) bytes) (bytes_that is_utf8) sql rest e in
     let p = passed (is_from_to 0 65536) bytes (a_number w32 bytes) s.value s.left s.first in
@@ -273,7 +273,7 @@ holding_spelled bytes h rest fits e =
     subst (λ v. (bytes ≡ holding_bytes v ++ rest) × IsTrue (has_holding_bytes v)) t.is
     (t.parts, both (is_from_to 0 15 t.first) (have_rects_bytes t.second) t.has_first t.has_second)
 
-holding_exact : IsExact a_holding holding_bytes has_holding_bytes
+pub holding_exact : IsExact a_holding holding_bytes has_holding_bytes
 holding_exact = record { again = holding_again; spelled = holding_spelled }
 
 abbrev pub holdings_bytes : List Holding → List ℕ
@@ -310,7 +310,7 @@ part_spelled bytes p rest fits e =
           (both (is_from_to 0 4095 t.second) (have_rects_bytes t.third) t.has_second t.has_third),
     )
 
-part_exact : IsExact a_part part_bytes has_part_bytes
+pub part_exact : IsExact a_part part_bytes has_part_bytes
 part_exact = record { again = part_again; spelled = part_spelled }
 
 abbrev pub parts_bytes : List AskPart → List ℕ
@@ -322,7 +322,7 @@ have_parts_bytes = have_counted 1 4 has_part_bytes
 abbrev pub parts : Format (List AskPart)
 parts = record { reader = some_parts; bytes_of = parts_bytes; has = have_parts_bytes; exact = counted_exact 1 4 a_part part_bytes has_part_bytes part_exact }
 
-after_again : (a : Option Row) (rest : List ℕ) → IsTrue (has_after_bytes a) → an_after (after_bytes a ++ rest) ≡ Got a rest
+pub after_again : (a : Option Row) (rest : List ℕ) → IsTrue (has_after_bytes a) → an_after (after_bytes a ++ rest) ≡ Got a rest
 after_again None rest h = refl
 after_again (Some r) rest h = rw (row_exact.again r rest h) refl
 
@@ -335,7 +335,7 @@ after_behind true left a rest fits e =
     let t = one_spelled row Some left a rest fits e in
     subst (λ v. (1 ∷ left ≡ after_bytes v ++ rest) × IsTrue (has_after_bytes v)) t.is (ap (λ (u : List ℕ). 1 ∷ u) t.parts, t.has_first)
 
-after_spelled : (bytes : List ℕ) (a : Option Row) (rest : List ℕ) → IsTrue (are_bytes bytes) → an_after bytes ≡ Got a rest → (bytes ≡ after_bytes a ++ rest) × IsTrue (has_after_bytes a)
+pub after_spelled : (bytes : List ℕ) (a : Option Row) (rest : List ℕ) → IsTrue (are_bytes bytes) → an_after bytes ≡ Got a rest → (bytes ≡ after_bytes a ++ rest) × IsTrue (has_after_bytes a)
 after_spelled bytes a rest fits e =
     let s = first_of_all flag after_flag bytes a rest fits e in
     let t = after_behind s.value s.left a rest s.fits s.next in
@@ -364,7 +364,7 @@ tell_spelled bytes v rest fits e =
           (both (has_cell_bytes t.second) (has_after_bytes t.third) t.has_second t.has_third),
     )
 
-tell_exact : IsExact a_tell tell_bytes has_tell_bytes
+pub tell_exact : IsExact a_tell tell_bytes has_tell_bytes
 tell_exact = record { again = tell_again; spelled = tell_spelled }
 
 abbrev pub told_bytes : List Tell → List ℕ

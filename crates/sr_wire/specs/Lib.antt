@@ -5,3 +5,4 @@ pub mod Limits
 pub mod Views
 pub mod Bodies
 pub mod Examples
+pub mod Laws

@@ -165,5 +165,5 @@ pub four_again : {A B C D Y : Type 0} (p : Format A) (q : Format B) (s : Format 
 four_again p q s t make a b c d rest ha hb hc hd =
     ap (four p.reader q.reader s.reader t.reader make) (append_assoc (p.bytes_of a) (q.bytes_of b ++ (s.bytes_of c ++ t.bytes_of d)) rest)
     ∙ ap (λ r. read_on r (λ x. q.reader >>= λ y. s.reader >>= λ z. t.reader >>= λ w. give (make x y z w)))
-        (p.exact.again a ((q.bytes_of b ++ (s.bytes_of c ++ t.bytes_of d)) ++ rest) ha)
+    (p.exact.again a ((q.bytes_of b ++ (s.bytes_of c ++ t.bytes_of d)) ++ rest) ha)
     ∙ three_again q s t (make a) b c d rest hb hc hd

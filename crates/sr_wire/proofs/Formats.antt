@@ -265,7 +265,7 @@ make_holding table rects = record { table = table; rects = rects }
 holding_again : (h : Holding) (rest : List ℕ) → IsTrue (has_holding_bytes h) → a_holding (holding_bytes h ++ rest) ≡ Got h rest
 holding_again h rest has =
     two_again (byte_in 0 15) rects make_holding h.table h.rects rest
-        (left_of (is_from_to 0 15 h.table) (have_rects_bytes h.rects) has) (right_of (is_from_to 0 15 h.table) (have_rects_bytes h.rects) has)
+    (left_of (is_from_to 0 15 h.table) (have_rects_bytes h.rects) has) (right_of (is_from_to 0 15 h.table) (have_rects_bytes h.rects) has)
 
 holding_spelled : (bytes : List ℕ) (h : Holding) (rest : List ℕ) → IsTrue (are_bytes bytes) → a_holding bytes ≡ Got h rest → (bytes ≡ holding_bytes h ++ rest) × IsTrue (has_holding_bytes h)
 holding_spelled bytes h rest fits e =
@@ -297,9 +297,9 @@ part_again : (p : AskPart) (rest : List ℕ) → IsTrue (has_part_bytes p) → a
 part_again p rest has =
     let more = right_of (is_table p.table) (is_from_to 0 4095 p.attrs && have_rects_bytes p.rects) has in
     three_again table attrs rects make_part p.table p.attrs p.rects rest
-        (left_of (is_table p.table) (is_from_to 0 4095 p.attrs && have_rects_bytes p.rects) has)
-        (left_of (is_from_to 0 4095 p.attrs) (have_rects_bytes p.rects) more)
-        (right_of (is_from_to 0 4095 p.attrs) (have_rects_bytes p.rects) more)
+    (left_of (is_table p.table) (is_from_to 0 4095 p.attrs && have_rects_bytes p.rects) has)
+    (left_of (is_from_to 0 4095 p.attrs) (have_rects_bytes p.rects) more)
+    (right_of (is_from_to 0 4095 p.attrs) (have_rects_bytes p.rects) more)
 
 part_spelled : (bytes : List ℕ) (p : AskPart) (rest : List ℕ) → IsTrue (are_bytes bytes) → a_part bytes ≡ Got p rest → (bytes ≡ part_bytes p ++ rest) × IsTrue (has_part_bytes p)
 part_spelled bytes p rest fits e =
@@ -351,9 +351,9 @@ tell_again : (t : Tell) (rest : List ℕ) → IsTrue (has_tell_bytes t) → a_te
 tell_again t rest has =
     let more = right_of (is_table t.table) (has_cell_bytes t.key && has_after_bytes t.after) has in
     three_again table cell after make_tell t.table t.key t.after rest
-        (left_of (is_table t.table) (has_cell_bytes t.key && has_after_bytes t.after) has)
-        (left_of (has_cell_bytes t.key) (has_after_bytes t.after) more)
-        (right_of (has_cell_bytes t.key) (has_after_bytes t.after) more)
+    (left_of (is_table t.table) (has_cell_bytes t.key && has_after_bytes t.after) has)
+    (left_of (has_cell_bytes t.key) (has_after_bytes t.after) more)
+    (right_of (has_cell_bytes t.key) (has_after_bytes t.after) more)
 
 tell_spelled : (bytes : List ℕ) (t : Tell) (rest : List ℕ) → IsTrue (are_bytes bytes) → a_tell bytes ≡ Got t rest → (bytes ≡ tell_bytes t ++ rest) × IsTrue (has_tell_bytes t)
 tell_spelled bytes v rest fits e =

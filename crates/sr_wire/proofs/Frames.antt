@@ -42,7 +42,7 @@ kind_or_later : (n : ℕ) (here k : FrameKind) (b : Bool) (later : Option FrameK
 kind_or_later n here k true later is more e = let same : here ≡ k = cc in ap kind_byte (sym same) ∙ sym (eqb-true n (kind_byte here) is)
 kind_or_later n here k false later is more e = more e
 
-kind_is : (n : ℕ) (k : FrameKind) → kind_at n ≡ Some k → kind_byte k ≡ n
+pub kind_is : (n : ℕ) (k : FrameKind) → kind_at n ≡ Some k → kind_byte k ≡ n
 kind_is n k =
     kind_or_later n kinds.Hello k (n == 0x01) _ refl
     (kind_or_later n kinds.Resume k (n == 0x02) _ refl
@@ -142,7 +142,7 @@ length_is bytes n e =
     let more : 4 < length bytes = omega (arith, enough, not_four) in
     record { number = same; some = subst (λ v. 0 < v) same some; most = subst (λ v. v ≤ most_bytes) same few; more = more }
 
-kind_of_option : (b : ℕ) (o : Option FrameKind) (k : FrameKind) → kind_or b o ≡ Ok k → o ≡ Some k
+pub kind_of_option : (b : ℕ) (o : Option FrameKind) (k : FrameKind) → kind_or b o ≡ Ok k → o ≡ Some k
 kind_of_option b None k e = absurd cc
 kind_of_option b (Some here) k e = let same : here ≡ k = cc in ap Some same
 

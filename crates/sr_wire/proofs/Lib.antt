@@ -2,3 +2,4 @@ pub mod Fields
 pub mod Formats
 pub mod Messages
 pub mod Frames
+pub mod Decoding

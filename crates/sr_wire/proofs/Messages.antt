@@ -20,10 +20,10 @@ fields_again (Resume c n v hs) rest h =
     let one = right_of (is_client c) (is_long n && (is_long v && have_holdings_bytes hs)) h in
     let two = right_of (is_long n) (is_long v && have_holdings_bytes hs) one in
     four_again client long long holdings Resume c n v hs rest
-        (left_of (is_client c) (is_long n && (is_long v && have_holdings_bytes hs)) h)
-        (left_of (is_long n) (is_long v && have_holdings_bytes hs) one)
-        (left_of (is_long v) (have_holdings_bytes hs) two)
-        (right_of (is_long v) (have_holdings_bytes hs) two)
+    (left_of (is_client c) (is_long n && (is_long v && have_holdings_bytes hs)) h)
+    (left_of (is_long n) (is_long v && have_holdings_bytes hs) one)
+    (left_of (is_long v) (have_holdings_bytes hs) two)
+    (right_of (is_long v) (have_holdings_bytes hs) two)
 fields_again (Ask n f ps) rest h =
     three_again long flag parts Ask n f ps rest (left_of (is_long n) (have_parts_bytes ps) h) refl (right_of (is_long n) (have_parts_bytes ps) h)
 fields_again (Write n sql) rest h =
@@ -35,9 +35,9 @@ fields_again (Notice v ts) rest h =
 fields_again (Rows n p rs) rest h =
     let more = right_of (is_long n) (is_from_to 0 3 p && have_rows_bytes rs) h in
     three_again long (byte_in 0 3) rows Rows n p rs rest
-        (left_of (is_long n) (is_from_to 0 3 p && have_rows_bytes rs) h)
-        (left_of (is_from_to 0 3 p) (have_rows_bytes rs) more)
-        (right_of (is_from_to 0 3 p) (have_rows_bytes rs) more)
+    (left_of (is_long n) (is_from_to 0 3 p && have_rows_bytes rs) h)
+    (left_of (is_from_to 0 3 p) (have_rows_bytes rs) more)
+    (right_of (is_from_to 0 3 p) (have_rows_bytes rs) more)
 fields_again (Reply n v) rest h = two_again long long Reply n v rest (left_of (is_long n) (is_long v) h) (right_of (is_long n) (is_long v) h)
 fields_again (Written n v) rest h = two_again long long Written n v rest (left_of (is_long n) (is_long v) h) (right_of (is_long n) (is_long v) h)
 fields_again (Refused n f) rest h =

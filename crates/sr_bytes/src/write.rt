@@ -66,7 +66,8 @@ fn know_bytes(text: &[u8])
     ensures { are_bytes text.now ≡ true }
 {}
 
-fn know_utf8(text: &str)
+/// A fact for the proofs of callers: a text is UTF-8.
+pub fn know_utf8(text: &str)
     ensures { is_utf8 text.now ≡ true }
 {}
 

@@ -58,7 +58,7 @@ kind_is n k =
 
 -- ---- lengths
 
-count_length : (n : ℕ) → length (count_bytes n) ≡ 4
+pub count_length : (n : ℕ) → length (count_bytes n) ≡ 4
 unfolding count_bytes
 count_length n = refl
 

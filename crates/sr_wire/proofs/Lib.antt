@@ -3,3 +3,4 @@ pub mod Formats
 pub mod Messages
 pub mod Frames
 pub mod Decoding
+pub mod Encoding

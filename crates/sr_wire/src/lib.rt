@@ -3,6 +3,7 @@
 
 pub mod bad_frame;
 pub mod body;
+pub mod encode;
 pub mod frame;
 pub mod kind;
 pub mod laws;

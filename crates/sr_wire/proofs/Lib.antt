@@ -4,3 +4,4 @@ pub mod Messages
 pub mod Frames
 pub mod Decoding
 pub mod Encoding
+pub mod Staying

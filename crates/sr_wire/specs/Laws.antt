@@ -3,7 +3,8 @@ use Rattle.std.specs.Prelude.{◌≡◌, ℕ, List, [], ◌++◌, length, take, 
 use Rattle.sr_cell.specs.Columns.{are_bytes}
 use Rattle.sr_message.specs.declared.message.Message.{Message}
 use Rattle.sr_wire.specs.Spelling.{spelling, has_spelling}
-use Rattle.sr_wire.specs.Reading.{decoded, Whole}
+use Rattle.sr_wire.specs.Reading.{decoded, Whole, Faulty}
+use Rattle.sr_wire.specs.declared.wire_fault.WireFault.TheVariants.{Short}
 
 -- no bytes spell two messages
 abbrev pub OneMessage : Type 0
@@ -21,3 +22,7 @@ IsDecodedAgain = (m : Message) (rest : List ℕ) → IsTrue (has_spelling m) →
 -- no spelling is the beginning of another
 abbrev pub NoneBegins : Type 0
 NoneBegins = (m k : Message) (rest : List ℕ) → IsTrue (has_spelling m) → IsTrue (has_spelling k) → spelling m ≡ spelling k ++ rest → (m ≡ k) × (rest ≡ [])
+
+-- what does not wait for more bytes stays, whatever comes behind
+abbrev pub AnswersStay : Type 0
+AnswersStay = (bytes more : List ℕ) → (decoded bytes ≡ Faulty Short → ⊥) → decoded (bytes ++ more) ≡ decoded bytes

@@ -1,6 +1,6 @@
 //! What is true of frames.
 ghost use Rattle.sr_wire.specs.Examples.{AreWorkedFrames};
-ghost use Rattle.sr_wire.specs.Laws.{OneMessage, OneSpelling, IsDecodedAgain, NoneBegins};
+ghost use Rattle.sr_wire.specs.Laws.{OneMessage, OneSpelling, IsDecodedAgain, NoneBegins, AnswersStay};
 
 /// The three worked frames are spelled and read as they stand, and a byte too many is at fault.
 pub fn worked_frames()
@@ -25,4 +25,9 @@ pub fn decoded_again()
 /// No spelling is the beginning of another.
 pub fn none_begins()
     ensures { NoneBegins }
+{}
+
+/// A frame or a fault at the front of bytes stays there, whatever comes behind them.
+pub fn answers_stay()
+    ensures { AnswersStay }
 {}

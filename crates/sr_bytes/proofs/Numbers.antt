@@ -11,7 +11,7 @@ use Rattle.std.proofs.lemmas.Str.{IsUtf8-from_is_utf8, is_utf8-from_IsUtf8}
 use Rattle.std.proofs.Math.Facts.{Fits-of_z, sfits_to_z}
 use Rattle.sr_cell.specs.Columns.{are_bytes}
 use Rattle.sr_bytes.specs.Reading.{Got, Bad, give, passing, a_byte, a_number, bytes_that, any_bytes, a_signed, a_text}
-use Rattle.sr_bytes.specs.Spelling.{number_bytes, count_bytes, short_count_bytes, text_bytes, is_from_to, is_number}
+use Rattle.sr_bytes.specs.Spelling.{number_bytes, long_bytes, count_bytes, short_count_bytes, text_bytes, is_from_to, is_number}
 use Rattle.sr_bytes.proofs.Steps.{step_of, got_value, got_rest, passed, front_bytes, left_of, right_of, both}
 
 -- ---- one byte
@@ -89,17 +89,25 @@ pub short_count_again : (n : ℕ) (rest : List ℕ) → n < 2 ^ 16 → a_number 
 unfolding short_count_bytes
 short_count_again n rest lt = number_again w16 (2 ^ 16) wide16 n rest lt
 
-pub short_count_spelled : (bytes : List ℕ) (n : ℕ) (rest : List ℕ) → IsTrue (are_bytes bytes) → a_number w16 bytes ≡ Got n rest → bytes ≡ short_count_bytes n ++ rest
+pub short_count_spelled : (bytes : List ℕ) (n : ℕ) (rest : List ℕ) → IsTrue (are_bytes bytes) → a_number w16 bytes ≡ Got n rest → (bytes ≡ short_count_bytes n ++ rest) × (n < 2 ^ 16)
 unfolding short_count_bytes
-short_count_spelled bytes n rest fits e = (number_spelled w16 (2 ^ 16) wide16 bytes n rest fits e).0
+short_count_spelled bytes n rest fits e = number_spelled w16 (2 ^ 16) wide16 bytes n rest fits e
 
 pub count_again : (n : ℕ) (rest : List ℕ) → n < 2 ^ 32 → a_number w32 (count_bytes n ++ rest) ≡ Got n rest
 unfolding count_bytes
 count_again n rest lt = number_again w32 (2 ^ 32) wide32 n rest lt
 
-pub count_spelled : (bytes : List ℕ) (n : ℕ) (rest : List ℕ) → IsTrue (are_bytes bytes) → a_number w32 bytes ≡ Got n rest → bytes ≡ count_bytes n ++ rest
+pub count_spelled : (bytes : List ℕ) (n : ℕ) (rest : List ℕ) → IsTrue (are_bytes bytes) → a_number w32 bytes ≡ Got n rest → (bytes ≡ count_bytes n ++ rest) × (n < 2 ^ 32)
 unfolding count_bytes
-count_spelled bytes n rest fits e = (number_spelled w32 (2 ^ 32) wide32 bytes n rest fits e).0
+count_spelled bytes n rest fits e = number_spelled w32 (2 ^ 32) wide32 bytes n rest fits e
+
+pub long_again : (n : ℕ) (rest : List ℕ) → n < 2 ^ 64 → a_number w64 (long_bytes n ++ rest) ≡ Got n rest
+unfolding long_bytes
+long_again n rest lt = number_again w64 (2 ^ 64) wide64 n rest lt
+
+pub long_spelled : (bytes : List ℕ) (n : ℕ) (rest : List ℕ) → IsTrue (are_bytes bytes) → a_number w64 bytes ≡ Got n rest → (bytes ≡ long_bytes n ++ rest) × (n < 2 ^ 64)
+unfolding long_bytes
+long_spelled bytes n rest fits e = number_spelled w64 (2 ^ 64) wide64 bytes n rest fits e
 
 -- ---- signed numbers
 
@@ -148,7 +156,7 @@ pub record IsFront (test : List ℕ → Bool) (n : ℕ) (bytes text rest : List 
   pub count : length text ≡ n
   pub passes : IsTrue (test text)
 
-front_spelled : (test : List ℕ → Bool) (n : ℕ) (bytes text rest : List ℕ) → bytes_that test n bytes ≡ Got text rest → IsFront test n bytes text rest
+pub front_spelled : (test : List ℕ → Bool) (n : ℕ) (bytes text rest : List ℕ) → bytes_that test n bytes ≡ Got text rest → IsFront test n bytes text rest
 front_spelled test n bytes text rest e =
     let g = fronts (ltb (length bytes) n) (test (take n bytes)) bytes (take n bytes) text (drop n bytes) rest e in
     let long : n ≤ length bytes = ltb-false _ _ g.0 in

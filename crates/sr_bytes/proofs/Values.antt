@@ -19,13 +19,13 @@ use Rattle.sr_bytes.proofs.Numbers.{byte_in_spelled, short_count_again, short_co
 
 -- ---- lists behind a byte of their length
 
-abbrev counted : {A : Type 0} → ℕ → ℕ → Reader A → Reader (List A)
+abbrev pub counted : {A : Type 0} → ℕ → ℕ → Reader A → Reader (List A)
 counted low high r = passing (is_from_to low high) a_byte >>= λ n. many r n
 
-abbrev counted_bytes : {A : Type 0} → (A → List ℕ) → List A → List ℕ
+abbrev pub counted_bytes : {A : Type 0} → (A → List ℕ) → List A → List ℕ
 counted_bytes bytes_of xs = length xs ∷ flat_map bytes_of xs
 
-abbrev have_counted : {A : Type 0} → ℕ → ℕ → (A → Bool) → List A → Bool
+abbrev pub have_counted : {A : Type 0} → ℕ → ℕ → (A → Bool) → List A → Bool
 have_counted low high has xs = is_from_to low high (length xs) && list_all has xs
 
 counted_again : {A : Type 0} (low high : ℕ) (r : Reader A) (bytes_of : A → List ℕ) (has : A → Bool) → IsExact r bytes_of has
@@ -46,7 +46,7 @@ counted_spelled low high r bytes_of has exact bytes xs rest fits e =
       both (is_from_to low high (length xs)) (list_all has xs) (rw m.count b.1) m.all,
     )
 
-counted_exact : {A : Type 0} (low high : ℕ) (r : Reader A) (bytes_of : A → List ℕ) (has : A → Bool) → IsExact r bytes_of has
+pub counted_exact : {A : Type 0} (low high : ℕ) (r : Reader A) (bytes_of : A → List ℕ) (has : A → Bool) → IsExact r bytes_of has
     → IsExact (counted low high r) (counted_bytes bytes_of) (have_counted low high has)
 counted_exact low high r bytes_of has exact =
     record { again = counted_again low high r bytes_of has exact; spelled = counted_spelled low high r bytes_of has exact }
@@ -84,7 +84,7 @@ cell_spelled bytes c rest fits e =
 pub cell_exact : IsExact a_cell cell_bytes has_cell_bytes
 cell_exact = record { again = cell_again; spelled = cell_spelled }
 
-row_exact : IsExact a_row row_bytes has_row_bytes
+pub row_exact : IsExact a_row row_bytes has_row_bytes
 row_exact = counted_exact 1 12 a_cell cell_bytes has_cell_bytes cell_exact
 
 -- ---- spans and rects
@@ -184,51 +184,55 @@ rect_exact = counted_exact 1 12 a_span span_bytes has_span_bytes span_exact
 -- ---- lists behind a number of their length
 
 -- a count of two or four bytes
-record IsCount (limit : ℕ) (r : Reader ℕ) (bytes_of : ℕ → List ℕ) : Type 0 where
-  again : (n : ℕ) (rest : List ℕ) → n < limit → r (bytes_of n ++ rest) ≡ Got n rest
-  spelled : (bytes : List ℕ) (n : ℕ) (rest : List ℕ) → IsTrue (are_bytes bytes) → r bytes ≡ Got n rest → bytes ≡ bytes_of n ++ rest
+pub record IsCount (limit : ℕ) (r : Reader ℕ) (bytes_of : ℕ → List ℕ) : Type 0 where
+  pub again : (n : ℕ) (rest : List ℕ) → n < limit → r (bytes_of n ++ rest) ≡ Got n rest
+  pub spelled : (bytes : List ℕ) (n : ℕ) (rest : List ℕ) → IsTrue (are_bytes bytes) → r bytes ≡ Got n rest → (bytes ≡ bytes_of n ++ rest) × (n < limit)
 
-abbrev listed : {A : Type 0} → ℕ → Reader ℕ → Reader A → Reader (List A)
-listed high count r = passing (is_from_to 1 high) count >>= λ n. many r n
+pub short_counts : IsCount (2 ^ 16) (a_number w16) short_count_bytes
+short_counts = record { again = short_count_again; spelled = short_count_spelled }
 
-abbrev listed_bytes : {A : Type 0} → (ℕ → List ℕ) → (A → List ℕ) → List A → List ℕ
+pub counts : IsCount (2 ^ 32) (a_number w32) count_bytes
+counts = record { again = count_again; spelled = count_spelled }
+
+abbrev pub listed : {A : Type 0} → ℕ → ℕ → Reader ℕ → Reader A → Reader (List A)
+listed low high count r = passing (is_from_to low high) count >>= λ n. many r n
+
+abbrev pub listed_bytes : {A : Type 0} → (ℕ → List ℕ) → (A → List ℕ) → List A → List ℕ
 listed_bytes count_of bytes_of xs = count_of (length xs) ++ flat_map bytes_of xs
 
-listed_again : {A : Type 0} (limit high : ℕ) (count : Reader ℕ) (count_of : ℕ → List ℕ) → IsCount limit count count_of → high < limit
+listed_again : {A : Type 0} (limit low high : ℕ) (count : Reader ℕ) (count_of : ℕ → List ℕ) → IsCount limit count count_of → high < limit
     → (r : Reader A) (bytes_of : A → List ℕ) (has : A → Bool) → IsExact r bytes_of has
-    → (xs : List A) (rest : List ℕ) → IsTrue (have_counted 1 high has xs) → listed high count r (listed_bytes count_of bytes_of xs ++ rest) ≡ Got xs rest
-listed_again limit high count count_of counts below r bytes_of has exact xs rest h =
-    let number = left_of (is_from_to 1 high (length xs)) (list_all has xs) h in
-    let all = right_of (is_from_to 1 high (length xs)) (list_all has xs) h in
-    let few : length xs ≤ high = leb-true _ _ (right_of (nat_le 1 (length xs)) (nat_le (length xs) high) number) in
-    ap (listed high count r) (append_assoc (count_of (length xs)) (flat_map bytes_of xs) rest)
+    → (xs : List A) (rest : List ℕ) → IsTrue (have_counted low high has xs) → listed low high count r (listed_bytes count_of bytes_of xs ++ rest) ≡ Got xs rest
+listed_again limit low high count count_of counts below r bytes_of has exact xs rest h =
+    let number = left_of (is_from_to low high (length xs)) (list_all has xs) h in
+    let all = right_of (is_from_to low high (length xs)) (list_all has xs) h in
+    let few : length xs ≤ high = leb-true _ _ (right_of (nat_le low (length xs)) (nat_le (length xs) high) number) in
+    ap (listed low high count r) (append_assoc (count_of (length xs)) (flat_map bytes_of xs) rest)
     ∙ rw (counts.again (length xs) (flat_map bytes_of xs ++ rest) (omega (arith, few, below)), number) (many_again r bytes_of has exact xs rest all)
 
-listed_spelled : {A : Type 0} (limit high : ℕ) (count : Reader ℕ) (count_of : ℕ → List ℕ) → IsCount limit count count_of
+listed_spelled : {A : Type 0} (limit low high : ℕ) (count : Reader ℕ) (count_of : ℕ → List ℕ) → IsCount limit count count_of
     → (r : Reader A) (bytes_of : A → List ℕ) (has : A → Bool) → IsExact r bytes_of has
-    → (bytes : List ℕ) (xs : List A) (rest : List ℕ) → IsTrue (are_bytes bytes) → listed high count r bytes ≡ Got xs rest
-    → (bytes ≡ listed_bytes count_of bytes_of xs ++ rest) × IsTrue (have_counted 1 high has xs)
-listed_spelled limit high count count_of counts r bytes_of has exact bytes xs rest fits e =
-    let s = step_of (passing (is_from_to 1 high) count bytes) (λ n. many r n) xs rest e in
-    let p = passed (is_from_to 1 high) bytes (count bytes) s.value s.left s.first in
+    → (bytes : List ℕ) (xs : List A) (rest : List ℕ) → IsTrue (are_bytes bytes) → listed low high count r bytes ≡ Got xs rest
+    → (bytes ≡ listed_bytes count_of bytes_of xs ++ rest) × IsTrue (have_counted low high has xs)
+listed_spelled limit low high count count_of counts r bytes_of has exact bytes xs rest fits e =
+    let s = step_of (passing (is_from_to low high) count bytes) (λ n. many r n) xs rest e in
+    let p = passed (is_from_to low high) bytes (count bytes) s.value s.left s.first in
     let n = counts.spelled bytes s.value s.left fits p.0 in
-    let m = many_spelled r bytes_of has exact s.value s.left xs rest (rest_bytes bytes (count_of s.value) s.left n fits) s.second in (
-      behind bytes (count_of (length xs)) (flat_map bytes_of xs) s.left rest (n ∙ ap (λ (k : ℕ). count_of k ++ s.left) (sym m.count)) m.parts,
-      both (is_from_to 1 high (length xs)) (list_all has xs) (rw m.count p.1) m.all,
+    let m = many_spelled r bytes_of has exact s.value s.left xs rest (rest_bytes bytes (count_of s.value) s.left n.0 fits) s.second in (
+      behind bytes (count_of (length xs)) (flat_map bytes_of xs) s.left rest (n.0 ∙ ap (λ (k : ℕ). count_of k ++ s.left) (sym m.count)) m.parts,
+      both (is_from_to low high (length xs)) (list_all has xs) (rw m.count p.1) m.all,
     )
 
+pub listed_exact : {A : Type 0} (limit low high : ℕ) (count : Reader ℕ) (count_of : ℕ → List ℕ) → IsCount limit count count_of → high < limit
+    → (r : Reader A) (bytes_of : A → List ℕ) (has : A → Bool) → IsExact r bytes_of has
+    → IsExact (listed low high count r) (listed_bytes count_of bytes_of) (have_counted low high has)
+listed_exact limit low high count count_of counts below r bytes_of has exact = record {
+  again = listed_again limit low high count count_of counts below r bytes_of has exact;
+  spelled = listed_spelled limit low high count count_of counts r bytes_of has exact;
+}
+
 pub rows_exact : IsExact some_rows rows_bytes have_rows_bytes
-rows_exact =
-    let counts : IsCount (2 ^ 16) (a_number w16) short_count_bytes = record { again = short_count_again; spelled = short_count_spelled } in
-    record {
-      again = listed_again (2 ^ 16) 256 (a_number w16) short_count_bytes counts (omega arith) a_row row_bytes has_row_bytes row_exact;
-      spelled = listed_spelled (2 ^ 16) 256 (a_number w16) short_count_bytes counts a_row row_bytes has_row_bytes row_exact;
-    }
+rows_exact = listed_exact (2 ^ 16) 1 256 (a_number w16) short_count_bytes short_counts (omega arith) a_row row_bytes has_row_bytes row_exact
 
 pub rects_exact : IsExact some_rects rects_bytes have_rects_bytes
-rects_exact =
-    let counts : IsCount (2 ^ 32) (a_number w32) count_bytes = record { again = count_again; spelled = count_spelled } in
-    record {
-      again = listed_again (2 ^ 32) 16384 (a_number w32) count_bytes counts (omega arith) a_rect rect_bytes has_rect_bytes rect_exact;
-      spelled = listed_spelled (2 ^ 32) 16384 (a_number w32) count_bytes counts a_rect rect_bytes has_rect_bytes rect_exact;
-    }
+rects_exact = listed_exact (2 ^ 32) 1 16384 (a_number w32) count_bytes counts (omega arith) a_rect rect_bytes has_rect_bytes rect_exact

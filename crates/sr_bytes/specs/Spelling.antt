@@ -15,6 +15,10 @@ use Rattle.sr_box.specs.Points.{Rect}
 unfoldable pub number_bytes : ℤ → List ℕ
 number_bytes n = to_be_bytes w64 (cast_unsigned w64 n)
 
+-- a number of 64 bits without a sign
+unfoldable pub long_bytes : ℕ → List ℕ
+long_bytes n = to_be_bytes w64 n
+
 -- how many there are, in four bytes
 unfoldable pub count_bytes : ℕ → List ℕ
 count_bytes n = to_be_bytes w32 n

@@ -1,6 +1,6 @@
 //! Fields, read from the front of bytes.
-ghost use Rattle.std.specs.Prelude.{◌≡◌, ℕ, List, int_le, not};
-ghost use Rattle.std.specs.Int.{w16, w32};
+ghost use Rattle.std.specs.Prelude.{◌≡◌, ℕ, List, true, false, int_le, not, IsErr};
+ghost use Rattle.std.specs.Int.{w16, w32, w64};
 ghost use Rattle.std.specs.Str.{is_utf8};
 ghost use Rattle.sr_bytes.specs.Reading.{passing, a_byte, a_number, a_signed, a_text, bytes_that, any_bytes};
 ghost use Rattle.sr_bytes.specs.Spelling.{is_from_to};
@@ -57,17 +57,25 @@ impl<'a> Cursor<'a> {
         }
     }
 
+    /// A value that was read, if it is good; else the cursor goes back to where it was before.
+    fn keep_if<T: Drop>(&mut self, good: bool, value: T, before: &'a [u8]) -> Result<T, BadField>
+        ensures kept { good ≡ true → (result ≡ Ok value) × (self.new ≡ self.old) }
+        ensures back { good ≡ false → IsErr result × (self.new ≡ before.now) }
+    {
+        if good {
+            return Ok(value);
+        }
+        self.left = before;
+        Err(BadField)
+    }
+
     /// A byte from `low` to `high`.
     pub fn byte_in(&mut self, low: u8, high: u8) -> Result<u8, BadField>
         ensures { Reads (λ byte. byte) result self.new (passing (is_from_to low high) a_byte self.old) }
     {
         let before = self.left;
         let byte = self.byte()?;
-        if byte < low || high < byte {
-            self.left = before;
-            return Err(BadField);
-        }
-        Ok(byte)
+        self.keep_if(low <= byte && byte <= high, byte, before)
     }
 
     /// The next bytes, so many.
@@ -82,7 +90,8 @@ impl<'a> Cursor<'a> {
         Ok(front)
     }
 
-    fn u32(&mut self) -> Result<u32, BadField>
+    /// A number of four bytes.
+    pub fn u32(&mut self) -> Result<u32, BadField>
         ensures { Reads (λ number. number) result self.new (a_number w32 self.old) }
     {
         let bytes = self.front(4)?;
@@ -95,11 +104,7 @@ impl<'a> Cursor<'a> {
     {
         let before = self.left;
         let number = self.u32()?;
-        if number < low || high < number {
-            self.left = before;
-            return Err(BadField);
-        }
-        Ok(number)
+        self.keep_if(low <= number && number <= high, number, before)
     }
 
     fn u16(&mut self) -> Result<u16, BadField>
@@ -115,11 +120,17 @@ impl<'a> Cursor<'a> {
     {
         let before = self.left;
         let number = self.u16()?;
-        if number < low || high < number {
-            self.left = before;
-            return Err(BadField);
-        }
-        Ok(number)
+        self.keep_if(low <= number && number <= high, number, before)
+    }
+
+    /// A number of eight bytes.
+    pub fn u64(&mut self) -> Result<u64, BadField>
+        ensures { Reads (λ number. number) result self.new (a_number w64 self.old) }
+    {
+        let bytes = self.front(8)?;
+        Ok(u64::from_be_bytes([
+            bytes[0], bytes[1], bytes[2], bytes[3], bytes[4], bytes[5], bytes[6], bytes[7],
+        ]))
     }
 
     /// A whole number of eight bytes, a negative one as two's complement.
@@ -138,11 +149,7 @@ impl<'a> Cursor<'a> {
     {
         let before = self.left;
         let number = self.i64()?;
-        if number < lo {
-            self.left = before;
-            return Err(BadField);
-        }
-        Ok(number)
+        self.keep_if(lo <= number, number, before)
     }
 
     /// A byte of length from `low` to `high`, and that many bytes.
@@ -159,15 +166,11 @@ impl<'a> Cursor<'a> {
     {
         let before = self.left;
         let bytes = self.bytes_in(0, high)?;
-        if is_text_at_most(bytes, lo) {
-            self.left = before;
-            return Err(BadField);
-        }
-        Ok(bytes)
+        self.keep_if(!is_text_at_most(bytes, lo), bytes, before)
     }
 
     /// The next bytes, so many, as a text.
-    fn utf8(&mut self, count: usize) -> Result<&'a str, BadField>
+    pub fn utf8(&mut self, count: usize) -> Result<&'a str, BadField>
         ensures { Reads (λ text. text.now) result self.new (bytes_that is_utf8 count self.old) }
     {
         let before = self.left;

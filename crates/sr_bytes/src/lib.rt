@@ -2,6 +2,7 @@
 #![tactic(auto)]
 
 pub mod cursor;
+pub mod item;
 pub mod laws;
 pub mod own;
 #[cfg(test)]

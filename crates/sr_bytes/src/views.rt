@@ -5,6 +5,10 @@ ghost use Rattle.sr_bytes.specs.Reading.{a_cell, a_row, some_rows, a_span, a_spa
 ghost use Rattle.sr_bytes.specs.Views.{Reads, cell_of, span_of};
 
 use crate::cursor::{BadField, Cursor};
+use crate::item::{Item, next_item, skip_items};
+use sr_box::rect::Rect;
+use sr_box::span::Span;
+use sr_cell::cell::{Cell, Row};
 use std::marker::Model;
 
 /// The most columns of a table.
@@ -40,7 +44,7 @@ pub enum SpanView<'a> {
 /// The cells that are left of a row.
 #[derive(Drop)]
 pub struct RowView<'a> {
-    cells: u8,
+    cells: u32,
     bytes: Cursor<'a>,
 }
 
@@ -57,7 +61,7 @@ impl<'a> Model for RowView<'a> {
 /// The rows that are left of a list.
 #[derive(Drop)]
 pub struct RowsView<'a> {
-    rows: u16,
+    rows: u32,
     bytes: Cursor<'a>,
 }
 
@@ -75,7 +79,7 @@ impl<'a> Model for RowsView<'a> {
 /// The spans that are left of a rect.
 #[derive(Drop)]
 pub struct RectView<'a> {
-    spans: u8,
+    spans: u32,
     bytes: Cursor<'a>,
 }
 
@@ -113,41 +117,27 @@ impl<'a> RowView<'a> {
         ensures first { self.old ≡ option_to_list (option_map cell_of result) ++ self.new }
         ensures end { IfNone result (self.old ≡ []) }
     {
-        if self.cells == 0 {
-            return None;
-        }
-        match self.bytes.cell() {
-            Ok(cell) => {
-                self.cells -= 1;
-                Some(cell)
-            }
-            Err(BadField) => {
-                self.cells = 0;
-                None
-            }
-        }
+        next_item(&mut self.cells, &mut self.bytes)
     }
 }
 
 impl<'a> RowsView<'a> {
+    /// The same rows, to be gone through by themselves.
+    pub fn again(&self) -> RowsView<'a>
+        ensures { result ≡ self.now }
+    {
+        RowsView {
+            rows: self.rows,
+            bytes: Cursor::over(self.bytes.left()),
+        }
+    }
+
     /// The next row, or None where none is left.
     pub fn next(&mut self) -> Option<RowView<'a>>
         ensures first { self.old ≡ option_to_list result ++ self.new }
         ensures end { IfNone result (self.old ≡ []) }
     {
-        if self.rows == 0 {
-            return None;
-        }
-        match self.bytes.row() {
-            Ok(row) => {
-                self.rows -= 1;
-                Some(row)
-            }
-            Err(BadField) => {
-                self.rows = 0;
-                None
-            }
-        }
+        next_item(&mut self.rows, &mut self.bytes)
     }
 }
 
@@ -157,19 +147,7 @@ impl<'a> RectView<'a> {
         ensures first { self.old ≡ option_to_list (option_map span_of result) ++ self.new }
         ensures end { IfNone result (self.old ≡ []) }
     {
-        if self.spans == 0 {
-            return None;
-        }
-        match self.bytes.span() {
-            Ok(span) => {
-                self.spans -= 1;
-                Some(span)
-            }
-            Err(BadField) => {
-                self.spans = 0;
-                None
-            }
-        }
+        next_item(&mut self.spans, &mut self.bytes)
     }
 }
 
@@ -179,19 +157,7 @@ impl<'a> RectsView<'a> {
         ensures first { self.old ≡ option_to_list result ++ self.new }
         ensures end { IfNone result (self.old ≡ []) }
     {
-        if self.rects == 0 {
-            return None;
-        }
-        match self.bytes.rect() {
-            Ok(rect) => {
-                self.rects -= 1;
-                Some(rect)
-            }
-            Err(BadField) => {
-                self.rects = 0;
-                None
-            }
-        }
+        next_item(&mut self.rects, &mut self.bytes)
     }
 }
 
@@ -212,17 +178,11 @@ impl<'a> Cursor<'a> {
     {
         let cells = self.byte_in(1, COLUMNS)?;
         let bytes = Cursor::over(self.left());
-        self.skip_cells(cells)?;
-        Ok(RowView { cells, bytes })
-    }
-
-    fn skip_cells(&mut self, count: u8) -> Result<(), BadField>
-        ensures { Reads (λ _. items a_cell count self.old) result self.new (many a_cell count self.old) }
-    {
-        for _ in 0..count {
-            self.cell()?;
-        }
-        Ok(())
+        skip_items::<CellView<'a>>(self, cells as u32)?;
+        Ok(RowView {
+            cells: cells as u32,
+            bytes,
+        })
     }
 
     /// A list of rows, which are read again when they are asked for.
@@ -231,17 +191,11 @@ impl<'a> Cursor<'a> {
     {
         let rows = self.u16_in(1, ROWS)?;
         let bytes = Cursor::over(self.left());
-        self.skip_rows(rows)?;
-        Ok(RowsView { rows, bytes })
-    }
-
-    fn skip_rows(&mut self, count: u16) -> Result<(), BadField>
-        ensures { Reads (λ _. items a_row count self.old) result self.new (many a_row count self.old) }
-    {
-        for _ in 0..count {
-            self.row()?;
-        }
-        Ok(())
+        skip_items::<RowView<'a>>(self, rows as u32)?;
+        Ok(RowsView {
+            rows: rows as u32,
+            bytes,
+        })
     }
 
     /// A span.
@@ -281,17 +235,11 @@ impl<'a> Cursor<'a> {
     {
         let spans = self.byte_in(1, COLUMNS)?;
         let bytes = Cursor::over(self.left());
-        self.skip_spans(spans)?;
-        Ok(RectView { spans, bytes })
-    }
-
-    fn skip_spans(&mut self, count: u8) -> Result<(), BadField>
-        ensures { Reads (λ _. items a_span count self.old) result self.new (many a_span count self.old) }
-    {
-        for _ in 0..count {
-            self.span()?;
-        }
-        Ok(())
+        skip_items::<SpanView<'a>>(self, spans as u32)?;
+        Ok(RectView {
+            spans: spans as u32,
+            bytes,
+        })
     }
 
     /// A list of rects, which are read again when they are asked for.
@@ -300,16 +248,55 @@ impl<'a> Cursor<'a> {
     {
         let rects = self.u32_in(1, RECTS)?;
         let bytes = Cursor::over(self.left());
-        self.skip_rects(rects)?;
+        skip_items::<RectView<'a>>(self, rects)?;
         Ok(RectsView { rects, bytes })
     }
+}
 
-    fn skip_rects(&mut self, count: u32) -> Result<(), BadField>
-        ensures { Reads (λ _. items a_rect count self.old) result self.new (many a_rect count self.old) }
-    {
-        for _ in 0..count {
-            self.rect()?;
-        }
-        Ok(())
+impl<'a> Item<'a> for CellView<'a> {
+    type Seen = Cell;
+
+    ghost reader = { a_cell };
+
+    ghost seen = { cell_of };
+
+    fn read(bytes: &mut Cursor<'a>) -> Result<CellView<'a>, BadField> {
+        bytes.cell()
+    }
+}
+
+impl<'a> Item<'a> for RowView<'a> {
+    type Seen = Row;
+
+    ghost reader = { a_row };
+
+    ghost seen = { λ row. row };
+
+    fn read(bytes: &mut Cursor<'a>) -> Result<RowView<'a>, BadField> {
+        bytes.row()
+    }
+}
+
+impl<'a> Item<'a> for SpanView<'a> {
+    type Seen = Span;
+
+    ghost reader = { a_span };
+
+    ghost seen = { span_of };
+
+    fn read(bytes: &mut Cursor<'a>) -> Result<SpanView<'a>, BadField> {
+        bytes.span()
+    }
+}
+
+impl<'a> Item<'a> for RectView<'a> {
+    type Seen = Rect;
+
+    ghost reader = { a_rect };
+
+    ghost seen = { λ rect. rect };
+
+    fn read(bytes: &mut Cursor<'a>) -> Result<RectView<'a>, BadField> {
+        bytes.rect()
     }
 }

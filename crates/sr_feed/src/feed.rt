@@ -1,0 +1,91 @@
+//! The frames of a stream that comes in pieces.
+ghost use Rattle.std.specs.Prelude.{◌≡◌, ℕ, ◌≤◌, List, [], ◌++◌, drop, length, OnOk, OnErr};
+ghost use Rattle.sr_feed.specs.Stream.{Gives, IfGiven};
+ghost use Rattle.sr_wire.specs.Spelling.{spelling};
+ghost use Rattle.sr_wire.specs.Reading.{decoded};
+
+use sr_cell::list::NoMemory;
+use sr_wire::frame::{Frame, decode};
+use sr_wire::wire_fault::WireFault;
+use std::alloc::Global;
+use std::marker::Model;
+
+/// The bytes of a stream that came and are not read yet. Contracts see these bytes.
+#[derive(Drop)]
+pub struct Feed {
+    bytes: Vec<u8>,
+    read: usize,
+}
+
+impl Model for Feed {
+    ghost use Rattle.std.specs.Prelude.{List, ℕ, ◌≤◌, length, drop};
+
+    ghost Value = { List ℕ };
+
+    ghost view = { λ f. drop f.read f.bytes.items };
+
+    ghost invariant = { λ f. f.read ≤ length f.bytes.items };
+}
+
+impl Feed {
+    /// Nothing came so far; takes no memory.
+    pub fn new(alloc: Global) -> Feed
+        ensures { result ≡ [] }
+    {
+        Feed {
+            bytes: Vec::new(alloc),
+            read: 0,
+        }
+    }
+
+    /// How many bytes came and are not read yet.
+    pub fn left(&self) -> usize
+        ensures { result ≡ length self.now }
+    {
+        self.bytes.len() - self.read
+    }
+
+    // Lets go of what was read, once that is at least as much as what is left: so a byte is moved a few times at most for each byte
+    // that is read, and what is kept is at most twice what is left.
+    fn let_go(&mut self)
+        ensures { self.new ≡ self.old }
+    {
+        let rest = self.bytes.len() - self.read;
+        if self.read >= rest {
+            self.bytes.rotate_left(self.read);
+            self.bytes.truncate(rest);
+            self.read = 0;
+        }
+    }
+
+    /// Takes the next piece of the stream. In want of memory nothing changes.
+    pub fn feed(&mut self, piece: &[u8]) -> Result<(), NoMemory>
+        ensures fed { OnOk result (self.new ≡ self.old ++ piece.now) }
+        ensures unchanged { OnErr result (self.new ≡ self.old) }
+    {
+        self.let_go();
+        self.bytes.extend_from_slice(piece)?;
+        Ok(())
+    }
+
+    /// The frame in front, or None where its bytes are not all there; takes no memory. A fault in its place stands there still at the
+    /// next call, whatever is fed in between.
+    pub fn front(&self) -> Result<Option<Frame<'_>>, WireFault>
+        ensures given { Gives result (decoded self.now) }
+        ensures first { IfGiven result (λ frame. self.now ≡ spelling frame ++ drop (length (spelling frame)) self.now) }
+    {
+        match decode(&self.bytes[self.read..]) {
+            Ok(frame) => Ok(Some(frame)),
+            Err(WireFault::Short) => Ok(None),
+            Err(fault) => Err(fault),
+        }
+    }
+
+    /// Passes over so many bytes, as over the frame in front once it was read.
+    pub fn pass(&mut self, size: usize)
+        requires { size ≤ length self.old }
+        ensures { self.new ≡ drop size self.old }
+    {
+        self.read += size;
+    }
+}

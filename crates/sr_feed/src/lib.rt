@@ -1,0 +1,5 @@
+//! Streams of bytes as frames.
+#![tactic(auto)]
+
+pub mod feed;
+pub mod laws;

@@ -1,0 +1,15 @@
+use Rattle.std.proofs.Common.{refl}
+use Rattle.sr_bytes.specs.Spelling.{number_bytes, long_bytes, count_bytes, short_count_bytes}
+use Rattle.sr_wire.proofs.laws.worked_frames.Goals as goal
+
+pub returns : goal.returns
+unfolding number_bytes count_bytes short_count_bytes long_bytes
+returns c = record {
+  hello_is = refl;
+  hello_back = refl;
+  reply_is = refl;
+  reply_back = refl;
+  ask_is = refl;
+  ask_back = refl;
+  left_over = refl;
+}

@@ -1,0 +1,46 @@
+-- Three frames, worked out by hand, and one with a byte left over.
+use Rattle.std.specs.Prelude.{pos, ℕ, List, [], ◌∷◌, ◌++◌, ◌≡◌, Bool, true}
+use Rattle.sr_box.specs.declared.span.Span.TheVariants.{Full, Nums}
+use Rattle.sr_message.specs.declared.message.Message.{Message}
+use Rattle.sr_message.specs.declared.message.Message.TheVariants.{Hello, Ask, Reply}
+use Rattle.sr_message.specs.declared.message.AskPart.{AskPart}
+use Rattle.sr_wire.specs.declared.wire_fault.WireFault.TheVariants.{Field}
+use Rattle.sr_wire.specs.Spelling.{spelling}
+use Rattle.sr_wire.specs.Reading.{decoded, Whole, Faulty}
+
+-- a client without anything begins
+abbrev pub hello : Message
+hello = Hello 1 0
+
+abbrev pub hello_frame : List ℕ
+hello_frame = 0 ∷ 0 ∷ 0 ∷ 0x0b ∷ 1 ∷ 1 ∷ 1 ∷ 0 ∷ 0 ∷ 0 ∷ 0 ∷ 0 ∷ 0 ∷ 0 ∷ 0 ∷ []
+
+abbrev pub reply : Message
+reply = Reply 1 2
+
+abbrev pub reply_frame : List ℕ
+reply_frame =
+    0 ∷ 0 ∷ 0 ∷ 0x11 ∷ 0x14 ∷ 0 ∷ 0 ∷ 0 ∷ 0 ∷ 0 ∷ 0 ∷ 0 ∷ 1 ∷ 0 ∷ 0 ∷ 0 ∷ 0 ∷ 0 ∷ 0 ∷ 0 ∷ 2 ∷ []
+
+-- the first two columns of the rows from 30 to 40
+abbrev pub ask : Message
+ask = Ask 1 true ((record { table = 0; attrs = 3; rects = (Full ∷ Nums (pos 30) (pos 40) ∷ Full ∷ Full ∷ []) ∷ [] }) ∷ [])
+
+abbrev pub ask_frame : List ℕ
+ask_frame =
+    0 ∷ 0 ∷ 0 ∷ 0x27 ∷ 3 ∷ 0 ∷ 0 ∷ 0 ∷ 0 ∷ 0 ∷ 0 ∷ 0 ∷ 1 ∷ 1 ∷ 1 ∷ 0 ∷ 0 ∷ 3 ∷ 0 ∷ 0 ∷ 0 ∷ 1 ∷ 4 ∷ 0 ∷ 1 ∷ 0 ∷ 0 ∷ 0 ∷ 0 ∷ 0 ∷ 0 ∷ 0 ∷ 0x1e
+    ∷ 0 ∷ 0 ∷ 0 ∷ 0 ∷ 0 ∷ 0 ∷ 0 ∷ 0x28 ∷ 0 ∷ 0 ∷ []
+
+-- the reply with a byte left over
+abbrev pub long_reply_frame : List ℕ
+long_reply_frame =
+    0 ∷ 0 ∷ 0 ∷ 0x12 ∷ 0x14 ∷ 0 ∷ 0 ∷ 0 ∷ 0 ∷ 0 ∷ 0 ∷ 0 ∷ 1 ∷ 0 ∷ 0 ∷ 0 ∷ 0 ∷ 0 ∷ 0 ∷ 0 ∷ 2 ∷ 7 ∷ []
+
+pub record AreWorkedFrames : Type 0 where
+  pub hello_is : spelling hello ≡ hello_frame
+  pub hello_back : decoded hello_frame ≡ Whole hello 15
+  pub reply_is : spelling reply ≡ reply_frame
+  pub reply_back : decoded reply_frame ≡ Whole reply 21
+  pub ask_is : spelling ask ≡ ask_frame
+  pub ask_back : decoded (ask_frame ++ 0 ∷ []) ≡ Whole ask 43
+  pub left_over : decoded long_reply_frame ≡ Faulty (Field 21)

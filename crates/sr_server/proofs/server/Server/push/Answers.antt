@@ -1,0 +1,14 @@
+use Rattle.std.proofs.Common.{sym, ◌∙◌, ap, subst, ◌≡◌, Some}
+use Rattle.sr_session.specs.Sessions.{Session, serve_push}
+use Rattle.sr_server.specs.declared.server.Server.{Server}
+use Rattle.sr_server.specs.Servers.{Logs, session_at}
+use Rattle.sr_server.proofs.Slots.{put-back, open-is, same-there}
+use Rattle.sr_server.proofs.server.Server.push.Goals as goal
+
+pub returns-in_ok-sent-in-Some-clause-session : goal.returns-in_ok-sent-in-Some-clause-session
+returns-in_ok-sent-in-Some-clause-session c db session is at =
+    let there : session_at c.args.self.now.sessions c.args.client ≡ Some c.in-Some.session = sym c.close.ensures.session ∙ c.in-Some.is in
+    let same : c.in-Some.session ≡ session = same-there c.in-Some.session session (sym there ∙ at) in
+    let own = open-is db c.args.self.now.sessions c.args.client c.in-Some.session c.requires.client is.count is.sessions there in
+    put-back c.args.self.now c.close.new.self c.set.new.self c.args.client _ (serve_push db session).session c.close.ensures.closed c.set.ensures
+    (ap Some (c.in_ok-sent-in-Some.ensures.session db (subst (λ (s : Server). Logs db s.log) (sym c.close.ensures.closed) is.knows.log) own.upto) ∙ ap (λ (s : Session). (serve_push db s).session) same)

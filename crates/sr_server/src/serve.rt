@@ -1,0 +1,249 @@
+//! What requests make of a session.
+ghost use Rattle.std.specs.Prelude.{◌≡◌, ◌≤◌, true, false, [], ◌∷◌, ◌++◌, map, length, Some, None, IfOk, OnOk, IfSome, if◌then◌else◌};
+ghost use Rattle.std.specs.List.{AllByRecursion};
+ghost use Rattle.sr_message.specs.declared.message.Message.TheVariants.{Welcome as WelcomeOf};
+ghost use Rattle.sr_log.specs.Held.{newest as newest_of};
+ghost use Rattle.sr_subs.specs.Subscription.{FitsSome};
+ghost use Rattle.sr_session.specs.Sessions.{Database, newest, due, holding_of, serve, serve_ask, serve_resume, serve_write, opened};
+ghost use Rattle.sr_server.specs.Noticed.{noticed};
+ghost use Rattle.sr_server.specs.Refusals.{has_few_parts};
+ghost use Rattle.sr_server.specs.Servers.{Logs, Knows, IsSessionIf};
+
+use crate::due::{due, notices_of};
+use crate::reply::reply;
+use crate::session::Session;
+use sr_cell::list::{NoMemory, Seq};
+use sr_log::entry::Entry;
+use sr_log::log::Log;
+use sr_message::message::{AskPart, AskParts, Holding, Holdings, Message, Messages};
+use sr_subs::subs::Subs;
+use sr_tables::tables::Tables;
+use std::alloc::Global;
+use std::marker::Model;
+
+/// A session as a request leaves it, and what is sent.
+#[derive(Drop)]
+pub(crate) struct Served {
+    pub(crate) session: Option<Session>,
+    pub(crate) sent: Messages,
+}
+
+impl Model for Served {
+    ghost use Rattle.sr_session.specs.Sessions.{Served as TheServed};
+
+    ghost Value = { TheServed };
+
+    ghost view = { λ s. record { session = s.session; sent = s.sent } };
+}
+
+/// Takes a request that is no write.
+pub(crate) fn serve(
+    alloc: Global,
+    tables: &Tables,
+    log: &Log,
+    session: Option<Session>,
+    message: &Message,
+) -> Result<Served, NoMemory>
+    requires few { has_few_parts message.now ≡ true }
+    requires points { IfSome session (λ s. AllByRecursion FitsSome s.subscription) }
+    ensures { (db : Database) → Knows tables.now log.now db → IsSessionIf db session → IfOk result (λ served. served ≡ serve db session message.now) }
+{
+    match session {
+        Some(session) => serve_open(alloc, tables, log, session, message),
+        None => serve_closed(alloc, log, message),
+    }
+}
+
+/// Takes an ask of an open session.
+fn serve_open(
+    alloc: Global,
+    tables: &Tables,
+    log: &Log,
+    session: Session,
+    message: &Message,
+) -> Result<Served, NoMemory>
+    requires few { has_few_parts message.now ≡ true }
+    requires points { AllByRecursion FitsSome session.subscription }
+    ensures { (db : Database) → Knows tables.now log.now db → session.upto ≤ newest db → IfOk result (λ served. served ≡ serve db (Some session) message.now) }
+{
+    match message {
+        Message::Ask {
+            number,
+            fresh,
+            parts,
+        } => serve_ask(alloc, tables, log, session, *number, *fresh, parts),
+        _ => Ok(Served {
+            session: Some(session),
+            sent: Seq::new(alloc),
+        }),
+    }
+}
+
+/// Takes the first message of a session.
+fn serve_closed(alloc: Global, log: &Log, message: &Message) -> Result<Served, NoMemory>
+    ensures { (db : Database) → Logs db log.now → IfOk result (λ served. served ≡ serve db None message.now) }
+{
+    match message {
+        Message::Hello { number, .. } => welcome_anew(alloc, log, *number),
+        Message::Resume {
+            number,
+            version,
+            holdings,
+            ..
+        } => serve_resume(alloc, log, *number, *version, holdings),
+        _ => Ok(Served {
+            session: None,
+            sent: Seq::new(alloc),
+        }),
+    }
+}
+
+/// An ask: what is due, if it is not fresh; then the rows and the reply. What is asked is subscribed; a fresh ask begins the
+/// subscription anew.
+fn serve_ask(
+    alloc: Global,
+    tables: &Tables,
+    log: &Log,
+    session: Session,
+    number: u64,
+    fresh: bool,
+    parts: &AskParts,
+) -> Result<Served, NoMemory>
+    requires few { length parts.now ≤ 4 }
+    requires points { AllByRecursion FitsSome session.subscription }
+    ensures { (db : Database) → Knows tables.now log.now db → session.upto ≤ newest db → IfOk result (λ served. served ≡ serve_ask db session number fresh parts.now) }
+{
+    let mut session = session;
+    let mut sent = before_reply(alloc, log, fresh, &mut session)?;
+    sent.append(reply(alloc, tables, log.version(), number, parts)?)?;
+    subscribe(alloc, &mut session.subs, parts.as_slice())?;
+    Ok(Served {
+        session: Some(session),
+        sent,
+    })
+}
+
+/// What is sent before the rows of an ask. A fresh one forgets what was subscribed.
+fn before_reply(
+    alloc: Global,
+    log: &Log,
+    fresh: bool,
+    session: &mut Session,
+) -> Result<Messages, NoMemory>
+    requires points { AllByRecursion FitsSome session.old.subscription }
+    ensures sent { (db : Database) → Logs db log.now → session.old.upto ≤ newest db → IfOk result (λ sent. sent ≡ (if fresh then [] else (due db session.old).sent)) }
+    ensures session { (db : Database) → Logs db log.now → session.old.upto ≤ newest db → OnOk result (session.new ≡ record { subscription = (if fresh then [] else (due db session.old).subscription); upto = newest db }) }
+{
+    if fresh {
+        session.subs.clear();
+        session.upto = log.version();
+        return Ok(Seq::new(alloc));
+    }
+    due(alloc, log, session)
+}
+
+/// Subscribes the rects of each part.
+fn subscribe(alloc: Global, subs: &mut Subs, parts: &[AskPart]) -> Result<(), NoMemory>
+    ensures { OnOk result (subs.new ≡ subs.old ++ map holding_of parts.now) }
+{
+    for part in parts {
+        subs.add(alloc, part.table, &part.rects)?;
+    }
+    Ok(())
+}
+
+/// A session begins that has subscribed nothing.
+fn welcome_anew(alloc: Global, log: &Log, number: u64) -> Result<Served, NoMemory>
+    ensures { (db : Database) → Logs db log.now → IfOk result (λ served. served ≡ record { session = opened db []; sent = WelcomeOf number (newest db) false ∷ [] }) }
+{
+    let version = log.version();
+    let mut sent = Seq::new(alloc);
+    sent.push(Message::Welcome {
+        number,
+        version,
+        kept: false,
+    })?;
+    Ok(Served {
+        session: Some(Session {
+            subs: Subs::new(alloc),
+            upto: version,
+        }),
+        sent,
+    })
+}
+
+/// A client resumes: with what it holds, where the log reaches back to its version, else with nothing.
+fn serve_resume(
+    alloc: Global,
+    log: &Log,
+    number: u64,
+    version: u64,
+    holdings: &Holdings,
+) -> Result<Served, NoMemory>
+    ensures { (db : Database) → Logs db log.now → IfOk result (λ served. served ≡ serve_resume db number version holdings.now) }
+{
+    if version > log.version() {
+        return welcome_anew(alloc, log, number);
+    }
+    match log.since(version) {
+        Some(entries) => welcome_back(alloc, log, number, entries, holdings),
+        None => welcome_anew(alloc, log, number),
+    }
+}
+
+/// A session goes on with these points, and is told of what changed.
+fn welcome_back(
+    alloc: Global,
+    log: &Log,
+    number: u64,
+    entries: &[Entry],
+    holdings: &Holdings,
+) -> Result<Served, NoMemory>
+    ensures { IfOk result (λ served. served ≡ record { session = Some (record { subscription = holdings.now; upto = newest_of log.now }); sent = noticed holdings.now entries.now ++ WelcomeOf number (newest_of log.now) true ∷ [] }) }
+{
+    let version = log.version();
+    let subs = subs_of(alloc, holdings.as_slice())?;
+    let mut sent = notices_of(alloc, entries, &subs)?;
+    sent.push(Message::Welcome {
+        number,
+        version,
+        kept: true,
+    })?;
+    Ok(Served {
+        session: Some(Session {
+            subs,
+            upto: version,
+        }),
+        sent,
+    })
+}
+
+/// The points that a client holds, as a subscription.
+fn subs_of(alloc: Global, holdings: &[Holding]) -> Result<Subs, NoMemory>
+    ensures { IfOk result (λ subs. subs ≡ holdings.now) }
+{
+    let mut subs = Subs::new(alloc);
+    for holding in holdings {
+        subs.add(alloc, holding.table, &holding.rects)?;
+    }
+    Ok(subs)
+}
+
+/// A write was carried out, which made the newest version: what is due, and that it was written.
+pub(crate) fn serve_written(
+    alloc: Global,
+    log: &Log,
+    session: &mut Session,
+    number: u64,
+) -> Result<Messages, NoMemory>
+    requires points { AllByRecursion FitsSome session.old.subscription }
+    ensures sent { (db : Database) → Logs db log.now → session.old.upto ≤ newest db → IfOk result (λ sent. sent ≡ (serve_write db session.old number None).sent) }
+    ensures session { (db : Database) → Logs db log.now → session.old.upto ≤ newest db → OnOk result (session.new ≡ record { subscription = (due db session.old).subscription; upto = newest db }) }
+{
+    let mut sent = due(alloc, log, session)?;
+    sent.push(Message::Written {
+        number,
+        version: log.version(),
+    })?;
+    Ok(sent)
+}

@@ -1,0 +1,359 @@
+//! The server.
+ghost use Rattle.std.specs.Prelude.{◌≡◌, ◌<◌, ◌≤◌, ◌+◌, true, [], ◌∷◌, ◌^◌, ◌↔◌, length, replicate, Ok, Err, Some, None, IsTrue, IsNone, IfOk, OnOk, OnErr, IsErrOf};
+ghost use Rattle.std.specs.List.{list_all, AllByRecursion};
+ghost use Rattle.sr_cell.specs.declared.fault.Fault.{Fault as TheFault};
+ghost use Rattle.sr_cell.specs.declared.list.No.TheVariants.{Refused, NoMemory as Wanting};
+ghost use Rattle.sr_grammar.specs.Seen.{statement_seen};
+ghost use Rattle.sr_keyed.specs.Keyed.{are_values};
+ghost use Rattle.sr_log.specs.Held.{newest as newest_of, IsPushed};
+ghost use Rattle.sr_message.specs.declared.message.Message.TheVariants.{Write as WriteOf, Refused as RefusedOf};
+ghost use Rattle.sr_model.specs.Statements.{executed};
+ghost use Rattle.sr_query.specs.Written.{write_of};
+ghost use Rattle.sr_query.specs.Writes.{suits};
+ghost use Rattle.sr_session.specs.Sessions.{Database, Session as TheSession, newest, with_version, serve, serve_push, serve_write};
+ghost use Rattle.sr_subs.specs.Subscription.{FitsSome};
+ghost use Rattle.sr_tables.specs.Stored.{are_stored, done_by, is_short, statement_is_short};
+ghost use Rattle.sr_wire.specs.declared.bad_frame.BadFrame.{BadFrame as TheBadFrame};
+ghost use Rattle.sr_server.specs.Refusals.{server_misfit, has_few_parts, is_open};
+ghost use Rattle.sr_server.specs.Servers.{IsCarriedOut, IsClientNumber, IsServer, Logs, StandsForSome, Executes, Takes, GivesUp, first_database, session_at, with_session};
+
+use crate::due::pushed;
+use crate::misfit::server_misfit;
+use crate::serve::{serve, serve_written};
+use crate::session::Session;
+use sr_cell::change::Changes;
+use sr_cell::fault::Fault;
+use sr_cell::list::{No, NoMemory, Seq};
+use sr_grammar::statement::Statement;
+use sr_log::log::Log;
+use sr_message::message::{Message, Messages};
+use sr_query::write::Write;
+use sr_sql::read::read;
+use sr_tables::tables::Tables;
+use sr_wire::bad_frame::BadFrame;
+use std::alloc::Global;
+
+/// How many clients a server has sessions for.
+const MOST_CLIENTS: usize = 64;
+
+/// The tables of the newest version, the changes of the newest versions, and a session for each client that has one. Clients are
+/// numbered from 1 to 64.
+#[derive(Drop)]
+pub struct Server {
+    pub tables: Tables,
+    pub log: Log,
+    pub sessions: Seq<Option<Session>>,
+}
+
+impl Server {
+    /// A server at version 0, whose log keeps at most so many changes. No client has a session.
+    pub fn new(alloc: Global, tables: Tables, log: u32) -> Result<Server, NoMemory>
+        ensures stands { IfOk result (λ server. IsServer server (first_database tables.schema log tables.rows)) }
+        ensures tables { IfOk result (λ server. server.tables ≡ tables) }
+        ensures sessions { IfOk result (λ server. server.sessions ≡ replicate 64 None) }
+        ensures version { IfOk result (λ server. newest_of server.log ≡ 0) }
+    {
+        tables.know_stored();
+        tables.know_values();
+        let mut sessions = Seq::new(alloc);
+        'clients: for _ in 0..MOST_CLIENTS {
+            sessions.push(None)?;
+        }
+        Ok(Server {
+            tables,
+            log: Log::new(alloc, log),
+            sessions,
+        })
+    }
+
+    /// The number of the newest version; takes no memory.
+    pub fn version(&self) -> u64
+        ensures number { result ≡ newest_of self.now.log }
+        ensures newest { (db : Database) → IsServer self.now db → result ≡ newest db }
+    {
+        self.log.version()
+    }
+
+    /// Carries out a statement, which makes a version, or refuses it. Answers the version. After a refusal, or want of memory,
+    /// nothing has changed, but that the log may have more room.
+    pub fn exec(&mut self, alloc: Global, write: Write) -> Result<u64, No<Fault>>
+        requires suits { IsTrue (suits self.old.tables.schema (write_of write)) }
+        requires short { IsTrue (is_short (write_of write)) }
+        requires number { newest_of self.old.log + 1 < 2 ^ 63 }
+        ensures done { OnOk result (executed self.old.tables.schema (write_of write) self.old.tables.rows ≡ Ok self.new.tables.rows) }
+        ensures version { IfOk result (λ version. version ≡ newest_of self.old.log + 1) }
+        ensures stands { (db : Database) → IsServer self.old db → OnOk result (IsServer self.new (with_version db self.new.tables.rows)) }
+        ensures sessions { self.new.sessions ≡ self.old.sessions }
+        ensures refused { (fault : TheFault) → IsErrOf result (Refused fault) → executed self.old.tables.schema (write_of write) self.old.tables.rows ≡ Err fault }
+        ensures unchanged { OnErr result (self.new ≡ record self.old { log = record self.old.log { room = self.new.log.room } }) }
+    {
+        // the log has room before the tables change, so that nothing can fail behind them
+        match self.log.reserve() {
+            Ok(()) => {}
+            Err(_) => return Err(No::NoMemory),
+        }
+        match self.tables.write(alloc, write) {
+            Ok(changes) => Ok(self.add_version(changes)),
+            Err(no) => Err(no),
+        }
+    }
+
+    /// Takes a message of that client: it is refused and changes nothing, or carried out and answered, in order, with the messages
+    /// to send. A write that is carried out makes a version. After want of memory the client's session is closed; a write that was
+    /// carried out stays.
+    pub fn take(
+        &mut self,
+        alloc: Global,
+        client: u8,
+        message: &Message,
+    ) -> Result<Messages, No<BadFrame>>
+        requires client { IsClientNumber client }
+        requires stands { StandsForSome self.old }
+        requires parts { has_few_parts message.now ≡ true }
+        requires number { newest_of self.old.log + 1 < 2 ^ 63 }
+        ensures bad { (why : TheBadFrame) → IsErrOf result (Refused why) ↔ (server_misfit self.old.tables.schema (session_at self.old.sessions client) client message.now ≡ Some why) }
+        ensures unchanged { (why : TheBadFrame) → IsErrOf result (Refused why) → self.new ≡ self.old }
+        ensures taken { (db : Database) → IsServer self.old db → IfOk result (λ sent. Takes db self.old client message.now sent self.new) }
+        ensures wanting { (db : Database) → IsServer self.old db → IsErrOf result Wanting → GivesUp db self.old client message.now self.new }
+        ensures stands { StandsForSome self.new }
+        ensures grows { newest_of self.new.log ≤ newest_of self.old.log + 1 }
+    {
+        match self.misfit(client, message) {
+            Some(why) => Err(No::Refused(why)),
+            None => match self.serve(alloc, client, message) {
+                Ok(sent) => Ok(sent),
+                Err(_) => Err(No::NoMemory),
+            },
+        }
+    }
+
+    /// What is sent to that client without a request: notices of what it subscribed, or a Lapse, up to the newest version. None
+    /// where it has no session, and then nothing changes. After want of memory its session is closed.
+    pub fn push(&mut self, alloc: Global, client: u8) -> Result<Option<Messages>, NoMemory>
+        requires client { IsClientNumber client }
+        requires stands { StandsForSome self.old }
+        ensures none { IfOk result (λ sent. IsNone sent ↔ (session_at self.old.sessions client ≡ None)) }
+        ensures same { session_at self.old.sessions client ≡ None → self.new ≡ self.old }
+        ensures sent { (db : Database) (session : TheSession) → IsServer self.old db → session_at self.old.sessions client ≡ Some session → IfOk result (λ sent. sent ≡ Some (serve_push db session).sent) }
+        ensures session { (db : Database) (session : TheSession) → IsServer self.old db → session_at self.old.sessions client ≡ Some session → OnOk result (self.new ≡ record self.old { sessions = with_session self.old.sessions client (serve_push db session).session }) }
+        ensures closed { OnErr result (self.new ≡ record self.old { sessions = with_session self.old.sessions client None }) }
+        ensures stands { (db : Database) → IsServer self.old db → IsServer self.new db }
+        ensures others { self.new ≡ record self.old { sessions = self.new.sessions } }
+    {
+        match self.close(client) {
+            Some(session) => {
+                let mut session = session;
+                let sent = pushed(alloc, &self.log, &mut session)?;
+                self.set(client, Some(session));
+                Ok(Some(sent))
+            }
+            None => Ok(None),
+        }
+    }
+
+    /// Closes the client's session, if it has one; takes no memory.
+    pub fn cut(&mut self, client: u8)
+        requires client { IsClientNumber client }
+        requires count { length self.old.sessions ≡ 64 }
+        ensures closed { self.new ≡ record self.old { sessions = with_session self.old.sessions client None } }
+        ensures stands { (db : Database) → IsServer self.old db → IsServer self.new db }
+    {
+        let _ = self.close(client);
+    }
+
+    /// What stands against a message of that client.
+    fn misfit(&self, client: u8, message: &Message) -> Option<BadFrame>
+        requires client { IsClientNumber client }
+        requires count { length self.now.sessions ≡ 64 }
+        ensures { result ≡ server_misfit self.now.tables.schema (session_at self.now.sessions client) client message.now }
+    {
+        let session = &self.sessions.as_slice()[client as usize - 1];
+        server_misfit(self.tables.schema(), session, client, message)
+    }
+
+    /// Takes a message against which nothing stands.
+    fn serve(&mut self, alloc: Global, client: u8, message: &Message) -> Result<Messages, NoMemory>
+        requires client { IsClientNumber client }
+        requires stands { StandsForSome self.old }
+        requires parts { has_few_parts message.now ≡ true }
+        requires number { newest_of self.old.log + 1 < 2 ^ 63 }
+        requires suits { server_misfit self.old.tables.schema (session_at self.old.sessions client) client message.now ≡ None }
+        ensures taken { (db : Database) → IsServer self.old db → IfOk result (λ sent. Takes db self.old client message.now sent self.new) }
+        ensures wanting { (db : Database) → IsServer self.old db → OnErr result (GivesUp db self.old client message.now self.new) }
+    {
+        match message {
+            Message::Write { number, sql } => self.take_write(alloc, client, *number, sql.as_str()),
+            _ => self.take_request(alloc, client, message),
+        }
+    }
+
+    /// Takes a request that is no write.
+    fn take_request(
+        &mut self,
+        alloc: Global,
+        client: u8,
+        message: &Message,
+    ) -> Result<Messages, NoMemory>
+        requires client { IsClientNumber client }
+        requires stands { StandsForSome self.old }
+        requires parts { has_few_parts message.now ≡ true }
+        ensures sent { (db : Database) → IsServer self.old db → IfOk result (λ sent. sent ≡ (serve db (session_at self.old.sessions client) message.now).sent) }
+        ensures session { (db : Database) → IsServer self.old db → OnOk result (self.new ≡ record self.old { sessions = with_session self.old.sessions client (serve db (session_at self.old.sessions client) message.now).session }) }
+        ensures closed { OnErr result (self.new ≡ record self.old { sessions = with_session self.old.sessions client None }) }
+    {
+        let session = self.close(client);
+        let served = serve(alloc, &self.tables, &self.log, session, message)?;
+        self.set(client, served.session);
+        Ok(served.sent)
+    }
+
+    /// Takes a write of an open session.
+    fn take_write(
+        &mut self,
+        alloc: Global,
+        client: u8,
+        number: u64,
+        sql: &str,
+    ) -> Result<Messages, NoMemory>
+        requires client { IsClientNumber client }
+        requires stands { StandsForSome self.old }
+        requires opened { is_open (session_at self.old.sessions client) ≡ true }
+        requires number { newest_of self.old.log + 1 < 2 ^ 63 }
+        ensures taken { (db : Database) → IsServer self.old db → IfOk result (λ sent. Takes db self.old client (WriteOf number sql.now) sent self.new) }
+        ensures wanting { (db : Database) → IsServer self.old db → OnErr result (GivesUp db self.old client (WriteOf number sql.now) self.new) }
+    {
+        let Some(session) = self.close(client) else {
+            unreachable!()
+        };
+        match self.write(alloc, sql) {
+            Ok(()) => self.written(alloc, client, session, number),
+            Err(No::Refused(fault)) => self.refused(alloc, client, session, number, fault),
+            Err(No::NoMemory) => Err(NoMemory),
+        }
+    }
+
+    /// Carries out what a text says, which makes a version, or refuses it.
+    fn write(&mut self, alloc: Global, sql: &str) -> Result<(), No<Fault>>
+        requires number { newest_of self.old.log + 1 < 2 ^ 63 }
+        ensures done { OnOk result (Executes self.old.tables.schema sql.now self.old.tables.rows (Ok self.new.tables.rows)) }
+        ensures carried { OnOk result (IsCarriedOut self.old self.new) }
+        ensures refused { (fault : TheFault) → IsErrOf result (Refused fault) → Executes self.old.tables.schema sql.now self.old.tables.rows (Err fault) }
+        ensures unchanged { OnErr result (self.new ≡ record self.old { log = record self.old.log { room = self.new.log.room } }) }
+    {
+        match read(alloc, sql) {
+            Ok(statement) => self.run_said(alloc, statement),
+            Err(no) => Err(no),
+        }
+    }
+
+    /// As `run`, of a statement that nothing needs any more.
+    fn run_said(&mut self, alloc: Global, statement: Statement) -> Result<(), No<Fault>>
+        requires short { IsTrue (statement_is_short (statement_seen statement)) }
+        requires number { newest_of self.old.log + 1 < 2 ^ 63 }
+        ensures done { OnOk result (done_by self.old.tables.schema (statement_seen statement) self.old.tables.rows ≡ Ok self.new.tables.rows) }
+        ensures carried { OnOk result (IsCarriedOut self.old self.new) }
+        ensures refused { (fault : TheFault) → IsErrOf result (Refused fault) → done_by self.old.tables.schema (statement_seen statement) self.old.tables.rows ≡ Err fault }
+        ensures unchanged { OnErr result (self.new ≡ record self.old { log = record self.old.log { room = self.new.log.room } }) }
+    {
+        self.run(alloc, &statement)
+    }
+
+    /// Carries out a statement that is not bound yet, or refuses it.
+    fn run(&mut self, alloc: Global, statement: &Statement) -> Result<(), No<Fault>>
+        requires short { IsTrue (statement_is_short (statement_seen statement.now)) }
+        requires number { newest_of self.old.log + 1 < 2 ^ 63 }
+        ensures done { OnOk result (done_by self.old.tables.schema (statement_seen statement.now) self.old.tables.rows ≡ Ok self.new.tables.rows) }
+        ensures carried { OnOk result (IsCarriedOut self.old self.new) }
+        ensures refused { (fault : TheFault) → IsErrOf result (Refused fault) → done_by self.old.tables.schema (statement_seen statement.now) self.old.tables.rows ≡ Err fault }
+        ensures unchanged { OnErr result (self.new ≡ record self.old { log = record self.old.log { room = self.new.log.room } }) }
+    {
+        match self.log.reserve() {
+            Ok(()) => {}
+            Err(_) => return Err(No::NoMemory),
+        }
+        match self.tables.exec(alloc, statement) {
+            Ok(changes) => {
+                self.add_version(changes);
+                Ok(())
+            }
+            Err(no) => Err(no),
+        }
+    }
+
+    /// The log has the changes of a version more, whose tables are there; takes no memory.
+    fn add_version(&mut self, changes: Changes) -> u64
+        requires room { 1 ≤ self.old.log.room }
+        requires number { newest_of self.old.log + 1 < 2 ^ 63 }
+        ensures version { result ≡ newest_of self.old.log + 1 }
+        ensures pushed { IsPushed self.old.log changes self.new.log }
+        ensures others { self.new ≡ record self.old { log = self.new.log } }
+        ensures stored { are_stored self.new.tables.schema self.new.tables.rows ≡ true }
+        ensures values { list_all (list_all are_values) self.new.tables.rows ≡ true }
+    {
+        self.tables.know_stored();
+        self.tables.know_values();
+        self.log.push(changes);
+        self.log.version()
+    }
+
+    /// Answers a write that was carried out, of a client whose session was taken out.
+    fn written(
+        &mut self,
+        alloc: Global,
+        client: u8,
+        session: Session,
+        number: u64,
+    ) -> Result<Messages, NoMemory>
+        requires client { IsClientNumber client }
+        requires count { length self.old.sessions ≡ 64 }
+        requires points { AllByRecursion FitsSome session.subscription }
+        ensures sent { (db : Database) → Logs db self.old.log → session.upto ≤ newest db → IfOk result (λ sent. sent ≡ (serve_write db session number None).sent) }
+        ensures session { (db : Database) → Logs db self.old.log → session.upto ≤ newest db → OnOk result (self.new ≡ record self.old { sessions = with_session self.old.sessions client (serve_write db session number None).session }) }
+        ensures closed { OnErr result (self.new ≡ self.old) }
+    {
+        let mut session = session;
+        let sent = serve_written(alloc, &self.log, &mut session, number)?;
+        self.set(client, Some(session));
+        Ok(sent)
+    }
+
+    /// Answers a write that was refused, of a client whose session was taken out.
+    fn refused(
+        &mut self,
+        alloc: Global,
+        client: u8,
+        session: Session,
+        number: u64,
+        fault: Fault,
+    ) -> Result<Messages, NoMemory>
+        requires client { IsClientNumber client }
+        requires count { length self.old.sessions ≡ 64 }
+        ensures sent { IfOk result (λ sent. sent ≡ RefusedOf number fault ∷ []) }
+        ensures session { OnOk result (self.new ≡ record self.old { sessions = with_session self.old.sessions client (Some session) }) }
+        ensures closed { OnErr result (self.new ≡ self.old) }
+    {
+        let mut sent = Seq::new(alloc);
+        sent.push(Message::Refused { number, fault })?;
+        self.set(client, Some(session));
+        Ok(sent)
+    }
+
+    /// Takes the client's session out.
+    fn close(&mut self, client: u8) -> Option<Session>
+        requires client { IsClientNumber client }
+        requires count { length self.old.sessions ≡ 64 }
+        ensures session { result ≡ session_at self.old.sessions client }
+        ensures closed { self.new ≡ record self.old { sessions = with_session self.old.sessions client None } }
+    {
+        self.sessions.replace(client as usize - 1, None)
+    }
+
+    /// Puts a session of the client in the place of the one that it had.
+    fn set(&mut self, client: u8, session: Option<Session>)
+        requires client { IsClientNumber client }
+        requires count { length self.old.sessions ≡ 64 }
+        ensures { self.new ≡ record self.old { sessions = with_session self.old.sessions client session } }
+    {
+        let _ = self.sessions.replace(client as usize - 1, session);
+    }
+}

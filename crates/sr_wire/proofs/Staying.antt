@@ -44,19 +44,19 @@ checked_stays bytes more k le h =
     elim (cases_Bool (eqb k 0)) [
       | inl none ↦ rw none refl
       | inr some ↦ elim (cases_Bool (ltb most_bytes k)) [
-          | inl long ↦ rw (some, long) refl
-          | inr few ↦ elim (cases_Bool (eqb (length bytes) 4)) [
-              | inl four ↦ absurd (h (rw (some, few, four) refl))
-              | inr more_than ↦
-                  (let not_four : length bytes ≡ 4 → ⊥ = eqb-false (length bytes) 4 more_than in
-                  let lt : 4 < length bytes = omega (arith, not_four) in
-                  let still : eqb (length (bytes ++ more)) 4 ≡ false = ne_eqb (length (bytes ++ more)) 4 (λ e. omega (arith, e, lt, length-append bytes more)) in
-                  let here : length_if k (length bytes) ≡ Ok k = rw (some, few, more_than) refl in
-                  let there : length_if k (length (bytes ++ more)) ≡ Ok k = rw (some, few, still) refl in
-                  let goes : with_length bytes k ≡ Faulty Short → ⊥ = λ e. h (ap (λ r. go_on r (with_length bytes)) here ∙ e) in
-                  ap (λ r. go_on r (with_length (bytes ++ more))) there ∙ length_stays bytes more k lt goes ∙ sym (ap (λ r. go_on r (with_length bytes)) here))
-            ]
+        | inl long ↦ rw (some, long) refl
+        | inr few ↦ elim (cases_Bool (eqb (length bytes) 4)) [
+          | inl four ↦ absurd (h (rw (some, few, four) refl))
+          | inr more_than ↦
+              (let not_four : length bytes ≡ 4 → ⊥ = eqb-false (length bytes) 4 more_than in
+              let lt : 4 < length bytes = omega (arith, not_four) in
+              let still : eqb (length (bytes ++ more)) 4 ≡ false = ne_eqb (length (bytes ++ more)) 4 (λ e. omega (arith, e, lt, length-append bytes more)) in
+              let here : length_if k (length bytes) ≡ Ok k = rw (some, few, more_than) refl in
+              let there : length_if k (length (bytes ++ more)) ≡ Ok k = rw (some, few, still) refl in
+              let goes : with_length bytes k ≡ Faulty Short → ⊥ = λ e. h (ap (λ r. go_on r (with_length bytes)) here ∙ e) in
+              ap (λ r. go_on r (with_length (bytes ++ more))) there ∙ length_stays bytes more k lt goes ∙ sym (ap (λ r. go_on r (with_length bytes)) here))
         ]
+      ]
     ]
 
 pub answer_stays : (bytes more : List ℕ) → (decoded bytes ≡ Faulty Short → ⊥) → decoded (bytes ++ more) ≡ decoded bytes

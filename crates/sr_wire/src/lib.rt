@@ -7,6 +7,7 @@ pub mod encode;
 pub mod frame;
 pub mod kind;
 pub mod laws;
+pub mod own;
 pub mod views;
 pub mod why;
 pub mod wire_fault;

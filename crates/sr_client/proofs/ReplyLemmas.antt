@@ -157,8 +157,10 @@ module _ (c : Client) (o : code.AskOut) (number version : ℕ) (store : Store) (
           let given = subst (λ rs. Answers o.query (after_messages c.laid c.store.regions) rs rows) (are-one c o h f values) gives s (tables_of db version) q1.part
           (is-one-part s (tables_of db version) o.query h.meaning q1 are.points are.ascending)
           (record { each = now.store.each; are_true = now.are_true })
-          (record { suit = arrival-suits s h.marks q1.part q1.meant ask (arrived_at 0 c.laid) (asked c o h f);
-            arrived = arrival-rows s h.marks (tables_of db version) q1.part q1.meant ask (arrived_at 0 c.laid) (asked c o h f) are came }) in
+          (record {
+            suit = arrival-suits s h.marks q1.part q1.meant ask (arrived_at 0 c.laid) (asked c o h f);
+            arrived = arrival-rows s h.marks (tables_of db version) q1.part q1.meant ask (arrived_at 0 c.laid) (asked c o h f) are came;
+          }) in
           let chosen = filter-points (table_at s q1.part.table).columns (λ p. is_kept q1.part (after_messages c.laid c.store.regions) p || is_new q1.part (arrival_of s ask (arrived_at 0 c.laid) ∷ []) p) (points_of q1.meant)
           (rows_at (tables_of db version) q1.part.table) (are.points q1.part.table)
           (all-there s h.marks (stamp h.queries) q1.part q1.meant ask (arrived_at 0 c.laid) (after_messages c.laid c.store.regions) (asked c o h f) (laid-keeps c o h f values whole)) in

@@ -181,8 +181,7 @@ part-of attrs c (column ∷ columns) [] first fit values =
     let lacks : not (has_column attrs c) ≡ true = and-left (not (has_column attrs c)) (cells_fit attrs (c + 1) columns []) fit in
     let more = part-of attrs (c + 1) columns [] (and-right (in_column column (first_value column.kind column.lo)) (have_first columns) first) (and-right (not (has_column attrs c)) (cells_fit attrs (c + 1) columns []) fit) refl in
     let own = first-in column columns first in
-    let none : has_column attrs c ≡ false = grind (arith, lacks) in
-    (
+    let none : has_column attrs c ≡ false = grind (arith, lacks) in (
       first_value column.kind column.lo ∷ more.0,
       both-true (in_column column (first_value column.kind column.lo)) (is_point columns more.0) own more.1,
       skip-one attrs c (first_value column.kind column.lo) more.0 [] none more.2,
@@ -201,8 +200,7 @@ part-of attrs c (column ∷ columns) (v ∷ row) first fit values =
         (v ∷ more.0, both-true (in_column column v) (is_point columns more.0) own more.1, keep-one attrs c v more.0 row has more.2)
     go false lacks fit with_own without =
         let more = without fit in
-        let own = first-in column columns first in
-        (
+        let own = first-in column columns first in (
           first_value column.kind column.lo ∷ more.0,
           both-true (in_column column (first_value column.kind column.lo)) (is_point columns more.0) own more.1,
           skip-one attrs c (first_value column.kind column.lo) more.0 (v ∷ row) lacks more.2,
@@ -215,9 +213,10 @@ rows-in schema ask (row ∷ rows) first fit values =
     let cs = (table_at schema ask.table).columns in
     let one : (cells_fit ask.attrs 0 (table_at schema ask.table).columns row && is_in ask.attrs ask.rects row) ≡ true =
     and-left (cells_fit ask.attrs 0 (table_at schema ask.table).columns row && is_in ask.attrs ask.rects row) (fit_ask schema ask rows) fit in
-    All-cons (IsRowIn (table_at schema ask.table).columns ask.attrs ask.rects) row rows
-    (part-of ask.attrs 0 cs row first (and-left (cells_fit ask.attrs 0 cs row) (is_in ask.attrs ask.rects row) one) (and-left (are_values row) (list_all are_values rows) values),
-      and-right (cells_fit ask.attrs 0 cs row) (is_in ask.attrs ask.rects row) one)
+    All-cons (IsRowIn (table_at schema ask.table).columns ask.attrs ask.rects) row rows (
+      part-of ask.attrs 0 cs row first (and-left (cells_fit ask.attrs 0 cs row) (is_in ask.attrs ask.rects row) one) (and-left (are_values row) (list_all are_values rows) values),
+      and-right (cells_fit ask.attrs 0 cs row) (is_in ask.attrs ask.rects row) one,
+    )
     (rows-in schema ask rows first (and-right (cells_fit ask.attrs 0 cs row && is_in ask.attrs ask.rects row) (fit_ask schema ask rows) fit) (and-right (are_values row) (list_all are_values rows) values))
 
 -- ---- all rows that are laid by

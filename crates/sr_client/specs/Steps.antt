@@ -99,6 +99,7 @@ pub record Cuts (old new : Client) (step : CutStep) : Type 0 where
   pub by_rules : (db : Database) (past : session.Client) → StandsOver db past old → Goes db (SaysCut old step) (rules.CutStep past) new
   pub stands : Stands new
 
+-- the message was refused
 abbrev pub is_bad : Took → Bool
 is_bad (TookBad why) = true
 is_bad TookLaid = false

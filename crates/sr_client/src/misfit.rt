@@ -268,13 +268,7 @@ fn rows_misfit(
 }
 
 /// Whether rows are of that part of what was asked, and go on behind those that were laid by.
-fn rows_suit(
-    schema: &[Table],
-    parts: &[AskPart],
-    laid: &[Message],
-    part: u8,
-    rows: &[Row],
-) -> bool
+fn rows_suit(schema: &[Table], parts: &[AskPart], laid: &[Message], part: u8, rows: &[Row]) -> bool
     ensures { result ≡ rows_suit schema.now parts.now laid.now part rows.now }
 {
     match parts.get(part as usize) {
@@ -315,7 +309,8 @@ fn fit_ask(schema: &[Table], ask: &AskPart, rows: &[Row]) -> bool
     ensures { result ≡ fit_ask schema.now ask.now rows.now }
 {
     let columns = columns_of(schema, ask.table);
-    rows.iter().all(|row| cells_fit(ask.attrs, columns, row) && has_cells(&ask.rects, ask.attrs, row))
+    rows.iter().all(|row| cells_fit(ask.attrs, columns, row)
+        && has_cells(&ask.rects, ask.attrs, row))
 }
 
 /// Whether some rect has the rows with these cells.

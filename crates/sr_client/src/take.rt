@@ -310,7 +310,9 @@ impl Client {
                 Ok(())
             }
             Message::Rows {
-                part, rows: more, ..
+                part,
+                rows: more,
+                ..
             } if part == 0 => rows.append(more),
             _ => Ok(()),
         }

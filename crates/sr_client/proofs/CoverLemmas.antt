@@ -1,0 +1,46 @@
+-- What regions cover of a part.
+use Rattle.std.proofs.Common.{◌≡◌, ℕ, Bool, true, false, List, [], ◌∷◌, refl, ◌∙◌, ap, subst, arith}
+use Rattle.std.specs.Prelude.{not, ◌&&◌, ◌||◌, filter}
+use Rattle.std.specs.List.{list_all}
+use Rattle.sr_cell.specs.declared.table.Table.{Table}
+use Rattle.sr_cell.specs.declared.table.Column.{Column}
+use Rattle.sr_cell.specs.Cells.{Row}
+use Rattle.sr_cell.specs.Columns.{table_at, is_point}
+use Rattle.sr_box.specs.Points.{in_any, HasNoPoint}
+use Rattle.sr_model.specs.Queries as model
+use Rattle.sr_model.specs.Queries.{points_of}
+use Rattle.sr_query.specs.Bound.{IsPart}
+use Rattle.sr_query.specs.declared.query.Part.{Part}
+use Rattle.sr_history.specs.declared.mark.Mark.{Mark}
+use Rattle.sr_history.specs.Marks.{is_held, is_covered}
+use Rattle.sr_history.specs.Rests.{rest_of}
+use Rattle.sr_region.specs.declared.region.Region.{Region}
+use Rattle.sr_store.specs.Classes.{Stamps, Keeps}
+use Rattle.sr_store.specs.Stores.{cover_of}
+use Rattle.sr_store.proofs.Covering.{cover_is}
+use Rattle.sr_client.specs.Answering.{is_kept, is_new}
+use Rattle.sr_client.proofs.MeantLemmas.{part-points}
+
+-- of points, two tests that agree on them keep the same ones
+pub filter-points : (cs : List Column) (f g : Row → Bool) (rows : List Row) → list_all (is_point cs) rows ≡ true → ((p : Row) → is_point cs p ≡ true → f p ≡ g p) → filter f rows ≡ filter g rows
+filter-points cs f g [] points same = refl
+filter-points cs f g (p ∷ rows) points same = rw (same p (grind (arith, points)), filter-points cs f g rows (grind (arith, points)) same) refl
+
+-- what is covered, as the regions say it
+pub covered-of : (schema : List Table) (marks : List Mark) (stamps : Stamps) (regions : List Region) (part : Part) (m : model.Part) (p : Row) → Keeps schema (is_held marks) stamps regions → IsPart schema part m
+    → is_point (table_at schema part.table).columns p ≡ true → in_any (cover_of part regions) p ≡ is_covered marks m.table m.need p
+covered-of schema marks stamps regions part m p keeps is point =
+    cover_is schema marks stamps regions part p keeps point ∙ (ap (λ t. is_covered marks t part.need p) is.table ∙ ap (λ n. is_covered marks m.table n p) is.need)
+
+-- where nothing is left of a part, its points are kept
+pub kept-all : (schema : List Table) (marks : List Mark) (stamps : Stamps) (regions : List Region) (part : Part) (m : model.Part) → Keeps schema (is_held marks) stamps regions → IsPart schema part m
+    → HasNoPoint (table_at schema m.table).columns (rest_of marks m) → (p : Row) → is_point (table_at schema part.table).columns p ≡ true
+    → (is_kept part regions p || is_new part [] p) ≡ points_of m p
+kept-all schema marks stamps regions part m keeps is none p point =
+    let inside = part-points schema part m is p point in
+    let covered = covered-of schema marks stamps regions part m p keeps is point in
+    let free : (points_of m p && not (is_covered marks m.table m.need p)) ≡ false = none p (subst (λ t. is_point (table_at schema t).columns p ≡ true) is.table point) in
+    rw (inside, covered) (by (points_of m p) (is_covered marks m.table m.need p) free)
+  where
+    by : (i c : Bool) → (i && not c) ≡ false → ((i && c) || (i && false)) ≡ i
+    by i c h = grind (arith, h)

@@ -1,0 +1,123 @@
+-- What an eviction does.
+use Rattle.std.proofs.Common.{◌≡◌, ℕ, zero, suc, ◌+◌, ◌≤◌, true, List, [], ◌∷◌, length, map, refl, sym, ◌∙◌, ap, subst, arith, Option, Some, None}
+use Rattle.std.specs.Prelude.{slice_get}
+use Rattle.std.proofs.lemmas.List.{length-map}
+use Rattle.sr_cell.specs.declared.cause.Cause.TheVariants.{Asked}
+use Rattle.sr_message.specs.declared.message.AskPart.{AskPart}
+use Rattle.sr_model.specs.Queries.{Query}
+use Rattle.sr_history.specs.declared.mark.Mark.{Mark}
+use Rattle.sr_history.specs.Marks.{with_marks}
+use Rattle.sr_history.specs.Classes.{Class, stamp}
+use Rattle.sr_region.specs.declared.region.Region.{Region}
+use Rattle.sr_store.specs.Fitted.{without}
+use Rattle.sr_store.specs.Past.{class_of}
+use Rattle.sr_store.specs.Stores.{drop_of, IsOfSchema}
+use Rattle.sr_store.specs.Told.{told_of, IsTrueOf}
+use Rattle.sr_store.proofs.Absorbing.{drop_at}
+use Rattle.sr_store.proofs.Classing.{HasClass, are_classes, have_classes}
+use Rattle.sr_store.proofs.Dropping.{evicted_all, evicted_store}
+use Rattle.sr_store.proofs.Stepping.{evicted_marks}
+use Rattle.sr_session.specs.Sessions.{Database, tables_of}
+use Rattle.sr_session.specs.Clients as session
+use Rattle.sr_session.specs.Walks.{Request}
+use Rattle.sr_session.specs.Rules.{Evicted, NoSuchClass, number_of, evict_busy, evicts, evicts_none, counted}
+use Rattle.sr_session.specs.Rules as rules
+use Rattle.sr_session.specs.Tidy.{IsTidy, IsTidyWith}
+use Rattle.sr_client.specs.Cutting.{EndWith}
+use Rattle.sr_client.specs.declared.client.Client.{Client}
+use Rattle.sr_client.specs.declared.client.Request as code
+use Rattle.sr_client.specs.declared.steps.EvictStep.TheVariants.{Dropped, Busy, NoSuch}
+use Rattle.sr_client.specs.Stands.{Hidden, Facts, Stands, StandsOver, past_of, out_of, request_of, basis_of, IsMeant, AreFit}
+use Rattle.sr_client.specs.Steps.{Goes, SaysEvict, Evicts}
+use Rattle.sr_client.proofs.FitLemmas.{fewer-rows, fewer-regions}
+use Rattle.sr_client.proofs.OverLemmas.{on, IsHere, with_regions, over, stands-over}
+use Rattle.sr_client.proofs.TableLemmas.{have-first}
+
+-- ---- what is left as it was
+
+pub busy_evicts : (c : Client) (place number : ℕ) (request : code.Request) → Stands c → c.out ≡ Some request → ((meaning : Query) → number ≡ number_of (request_of meaning request))
+    → Evicts c place c (Busy number)
+busy_evicts c place number request stands out number_is = record {
+  by_rules = λ db past s.
+      let h = s.client.hidden in
+      let r : Request = request_of h.meaning request in
+      let past_out : past.out ≡ Some (request_of h.meaning request) = ap (λ (p : session.Client). p.out) s.client.same ∙ ap (out_of h.meaning) out in
+      record {
+        outcome = rules.Busy number;
+        next = past;
+        is = refl;
+        allowed = subst (λ k. rules.EvictStep (basis_of db c.store.limits) place past (rules.Busy k) past) (sym (number_is h.meaning)) (evict_busy r past_out);
+        stands = s;
+      };
+  stands = stands;
+}
+
+pub none_evicts : (c : Client) (place count : ℕ) → Stands c → c.out ≡ None → count ≡ length c.store.regions → length c.store.regions ≤ place → Evicts c place c (NoSuch count)
+none_evicts c place count stands out is few = record {
+  by_rules = over c (λ db past. Goes db (SaysEvict (NoSuch count)) (rules.EvictStep (basis_of db c.store.limits) place past) c) (λ h f db here.
+      let gs = c.store.regions in
+      let classes : List Class = map class_of gs in
+      let len : length (map class_of c.store.regions) ≡ length c.store.regions = length-map c.store.regions class_of in
+      let are = are_classes c.schema h.marks h.queries gs (have-first c.schema f.tables) f.store.each f.store.order f.keeps in
+      record {
+        outcome = rules.NoSuchClass count;
+        next = past_of c h;
+        is = refl;
+        allowed = subst (λ k. rules.EvictStep (basis_of (on c db) c.store.limits) place (past_of c h) (rules.NoSuchClass k) (past_of c h)) (len ∙ sym is)
+            (evicts_none classes (ap (out_of h.meaning) out) are (omega (arith, len, few)));
+        stands = stands-over c h db f here;
+      });
+  stands = stands;
+}
+
+-- ---- a region is dropped
+
+abbrev dropped : Hidden → Region → Hidden
+dropped h g = record h { marks = with_marks h.marks (drop_of Asked g ∷ []) }
+
+facts-without : (c : Client) (h : Hidden) (place : ℕ) (g : Region) → Facts c h → c.out ≡ None → slice_get c.store.regions place ≡ Some g
+    → Facts (with_regions c (without place c.store.regions)) (dropped h g)
+facts-without c h place g f out there = record {
+  tables = f.tables;
+  tidy = subst (λ o. IsTidyWith c.schema (past_of (with_regions c (without place c.store.regions)) (dropped h g)) (out_of h.meaning o)) (sym out)
+      (subst (λ o. IsTidyWith c.schema (past_of c h) (out_of h.meaning o)) out f.tidy);
+  meant = subst (IsMeant c.schema (counted h.counted_from h.queries) h.meaning) (sym out) tt;
+  fit = f.fit;
+  store = evicted_store c.schema place c.store.regions f.store;
+  keeps = evicted_marks c.schema Asked h.marks (stamp h.queries) place c.store.regions g there f.keeps;
+  queries = f.queries;
+  last = f.last;
+  rows = let less = fewer-rows place c.store.regions in let at = f.rows in omega (arith, less, at);
+  few = let less = fewer-regions place c.store.regions in let at = f.few in omega (arith, less, at);
+  from = f.from;
+  ends = evicted_all (λ (r : Region). EndWith c.schema (counted h.counted_from h.queries) r.table r.rects) place c.store.regions f.ends;
+}
+
+at-place : (gs : List Region) (n : ℕ) (g : Region) → slice_get gs n ≡ Some g → slice_get (map class_of gs) n ≡ Some (class_of g)
+at-place [] n g there = absurd (cc)
+at-place (h ∷ gs) zero g there = let same : h ≡ g = cc in ap (λ x. Some (class_of x)) same
+at-place (h ∷ gs) (suc n) g there = at-place gs n g there
+
+pub one_evicts : (c : Client) (place : ℕ) (g : Region) → Stands c → c.out ≡ None → slice_get c.store.regions place ≡ Some g
+    → Evicts c place (with_regions c (without place c.store.regions)) (Dropped g)
+one_evicts c place g stands out there = record {
+  by_rules = over c (λ db past. Goes db (SaysEvict (Dropped g)) (rules.EvictStep (basis_of db c.store.limits) place past) (with_regions c (without place c.store.regions))) (λ h f db here.
+      let gs = c.store.regions in
+      let new = with_regions c (without place c.store.regions) in
+      let classes : List Class = map class_of gs in
+      let are = are_classes c.schema h.marks h.queries gs (have-first c.schema f.tables) f.store.each f.store.order f.keeps in
+      let own = have_classes c.schema h.marks h.queries gs f.store.order f.keeps in
+      record {
+        outcome = Evicted (drop_of Asked g);
+        next = past_of new (dropped h g);
+        is = refl;
+        allowed = evicts classes (class_of g) (drop_of Asked g) (ap (out_of h.meaning) out) are (at-place gs place g there)
+            (drop_at c.schema h.marks h.queries Asked gs place g there f.store.each own);
+        stands = stands-over new (dropped h g) db (facts-without c h place g f out there) (record {
+          sound = here.sound;
+          within = here.within;
+          are_true = evicted_all (IsTrueOf (told_of (tables_of db c.version))) place gs here.are_true;
+        });
+      });
+  stands = (dropped stands.0 g, facts-without c stands.0 place g stands.1 out there);
+}

@@ -1,0 +1,204 @@
+-- Messages that are laid by, and messages that are refused.
+use Rattle.std.proofs.Common.{◌≡◌, ℕ, ◌+◌, Bool, true, false, List, [], ◌∷◌, ◌++◌, refl, sym, ◌∙◌, ap, subst, arith, Option, Some, None}
+use Rattle.std.specs.Prelude.{not, ◌==◌, ◌↔◌}
+use Rattle.std.specs.Option.{is_some}
+use Rattle.std.proofs.lemmas.Bool.Decides.{nat_tests}
+use Rattle.sr_cell.specs.declared.table.Table.{Table}
+use Rattle.sr_cell.specs.Cells.{Row}
+use Rattle.sr_message.specs.declared.message.AskPart.{AskPart}
+use Rattle.sr_message.specs.declared.message.Message.{Message}
+use Rattle.sr_message.specs.declared.message.Message.TheVariants.{Hello, Resume, Ask, Write, Welcome, Notice, Rows, Reply, Written, Refused, Lapse}
+use Rattle.sr_model.specs.Queries.{Query}
+use Rattle.sr_wire.specs.declared.bad_frame.BadFrame.{BadFrame}
+use Rattle.sr_wire.specs.declared.bad_frame.BadFrame.TheVariants.{State, Number, Shape}
+use Rattle.sr_session.specs.Arrivals.{arrived_at}
+use Rattle.sr_session.specs.Sessions.{Database}
+use Rattle.sr_session.specs.Clients as session
+use Rattle.sr_session.specs.Clients.{lays_by}
+use Rattle.sr_session.specs.Laws.{OutAsksKeys}
+use Rattle.sr_session.specs.Misfits.{misfit, or_else, is_ask, is_number, parts_of, rows_suit}
+use Rattle.sr_session.specs.Rules.{Laid, IsForRequest, counted, lays}
+use Rattle.sr_session.specs.Rules as rules
+use Rattle.sr_session.specs.Tidy.{IsTidy, by_message}
+use Rattle.sr_session.specs.Walks.{Request, AskOut, WriteOut, ResumeOut, IsAskOf, IsLaid}
+use Rattle.sr_session.proofs.NeverLemmas.{never-refused}
+use Rattle.sr_session.proofs.TidyLemmas.{rules-keep-tidy}
+use Rattle.sr_client.specs.declared.client.AskOut.{AskOut as AskOutCode}
+use Rattle.sr_client.specs.declared.client.Client.{Client}
+use Rattle.sr_client.specs.declared.client.Request as code
+use Rattle.sr_client.specs.declared.client.Request.TheVariants as request
+use Rattle.sr_client.specs.declared.steps.Took.{Took}
+use Rattle.sr_client.specs.declared.steps.Took.TheVariants as took
+use Rattle.sr_client.specs.Laying.{asking, brought}
+use Rattle.sr_client.specs.Stands.{Hidden, Facts, Stands, Truly, IsFit, past_of, out_of, request_of, basis_of, IsMeant, given_up}
+use Rattle.sr_client.specs.Steps.{Goes, SaysTook, Takes, is_bad}
+use Rattle.sr_client.proofs.AskedLemmas.{keys-asked}
+use Rattle.sr_client.proofs.GiveUpLemmas.{given-stands}
+use Rattle.sr_client.proofs.OverLemmas.{on, IsHere, over, stands-over}
+use Rattle.sr_client.proofs.SuitLemmas.{or-none, or-later, not-false, fit-more}
+
+-- ---- laid by
+
+abbrev pub laid : Client → Message → Client
+laid c m = record c { laid = c.laid ++ m ∷ [] }
+
+is-same : (n k : ℕ) → (n == k) ≡ true → n ≡ k
+is-same n k e = grind (arith, nat_tests, e)
+
+-- rows are for the ask that is out
+rows-for : (schema : List Table) (r : Request) (pre : List Message) (version k part : ℕ) (rows : List Row) → misfit schema (Some r) pre version (Rows k part rows) ≡ None → IsAskOf (Some r) k
+rows-for schema (AskOut number query meaning fresh parts) pre version k part rows fit =
+    is-same k number (not-false (k == number) (or-none (not (k == number)) Number (or_else (not (rows_suit schema parts pre part rows)) Shape None) fit))
+rows-for schema (WriteOut number) pre version k part rows fit = absurd (cc)
+rows-for schema (ResumeOut number) pre version k part rows fit = absurd (cc)
+
+is-for : (schema : List Table) (r : Request) (pre : List Message) (version : ℕ) (m : Message) → misfit schema (Some r) pre version m ≡ None → IsForRequest r m
+is-for schema r pre version (Rows k part rows) fit = rows-for schema r pre version k part rows fit
+is-for schema r pre version (Notice w told) fit = tt
+is-for schema r pre version (Lapse w) fit = tt
+is-for schema r pre version (Reply k w) fit = tt
+is-for schema r pre version (Written k w) fit = tt
+is-for schema r pre version (Refused k fault) fit = tt
+is-for schema r pre version (Welcome k w kept) fit = tt
+is-for schema r pre version (Hello client n) fit = tt
+is-for schema r pre version (Resume client n v holdings) fit = tt
+is-for schema r pre version (Ask n mode parts) fit = tt
+is-for schema r pre version (Write n sql) fit = tt
+
+module _ (c : Client) (m : Message) (r : code.Request) (out : c.out ≡ Some r) (fit : IsFit c m) (is : IsLaid m) where
+  module _ (h : Hidden) (f : Facts c h) where
+    own : IsForRequest (request_of h.meaning r) m
+    own = is-for c.schema (request_of h.meaning r) c.laid c.version m (subst (λ o. misfit c.schema (out_of h.meaning o) c.laid c.version m ≡ None) out (fit h.meaning))
+
+    step : (b : rules.Basis) → rules.TakeStep b (past_of c h) m Laid (past_of (laid c m) h)
+    step b = lays (request_of h.meaning r) m (ap (out_of h.meaning) out) is own
+
+    laid-facts : (db : Database) → Facts (laid c m) h
+    laid-facts db = record {
+      tables = f.tables;
+      tidy = rules-keep-tidy (basis_of (on c db) c.store.limits) (past_of c h) (past_of (laid c m) h) Laid f.tidy (by_message m Laid (past_of (laid c m) h) (step (basis_of (on c db) c.store.limits)));
+      meant = f.meant;
+      fit = fit-more c.schema (out_of h.meaning c.out) c.version [] c.laid m f.fit (fit h.meaning);
+      store = f.store;
+      keeps = f.keeps;
+      queries = f.queries;
+      last = f.last;
+      rows = f.rows;
+      few = f.few;
+      from = f.from;
+      ends = f.ends;
+    }
+
+    laid-goes : (db : Database) → IsHere db c → Truly (on c db) (past_of c h) m
+        → Goes (on c db) (SaysTook took.Laid) (rules.TakeStep (basis_of (on c db) c.store.limits) (past_of c h) m) (laid c m)
+    laid-goes db here t = record {
+      outcome = Laid;
+      next = past_of (laid c m) h;
+      is = refl;
+      allowed = step (basis_of (on c db) c.store.limits);
+      stands = stands-over (laid c m) h db (laid-facts db) (record { sound = here.sound; within = here.within; are_true = here.are_true });
+    }
+
+  -- some database, of which nothing is asked
+  abbrev nothing : Database
+  nothing = record { schema = []; log_limit = 0; versions = [] }
+
+  pub takes-laid : Stands c → Takes c m (laid c m) took.Laid
+  takes-laid stands = record {
+    by_rules = over c (λ db past. Truly db past m → Goes db (SaysTook took.Laid) (rules.TakeStep (basis_of db c.store.limits) past m) (laid c m)) laid-goes;
+    stands = (stands.0, laid-facts stands.0 stands.1 nothing);
+  }
+
+-- what is out is an ask
+pub ask-only : (c : Client) (h : Hidden) (r : code.Request) → Facts c h → c.out ≡ Some r → (o : AskOutCode) × (r ≡ request.Ask o)
+ask-only c h (request.Ask o) f out = (o, refl)
+ask-only c h (request.Write n) f out = absurd (subst (IsMeant c.schema (counted h.counted_from h.queries) h.meaning) out f.meant)
+ask-only c h (request.Resume n) f out = absurd (subst (IsMeant c.schema (counted h.counted_from h.queries) h.meaning) out f.meant)
+
+only-laid : (schema : List Table) (number query : ℕ) (meaning : Query) (fresh : Bool) (parts : List AskPart) (pre : List Message) (version : ℕ) (m : Message)
+    → misfit schema (Some (AskOut number query meaning fresh parts)) pre version m ≡ None → ((k w : ℕ) → m ≡ Reply k w → ⊥) → IsLaid m
+only-laid schema number query meaning fresh parts pre version (Notice w told) fit reply = tt
+only-laid schema number query meaning fresh parts pre version (Lapse w) fit reply = tt
+only-laid schema number query meaning fresh parts pre version (Rows k part rows) fit reply = tt
+only-laid schema number query meaning fresh parts pre version (Reply k w) fit reply = absurd (reply k w refl)
+only-laid schema number query meaning fresh parts pre version (Written k w) fit reply = absurd (cc)
+only-laid schema number query meaning fresh parts pre version (Refused k fault) fit reply = absurd (cc)
+only-laid schema number query meaning fresh parts pre version (Welcome k w kept) fit reply = absurd (cc)
+only-laid schema number query meaning fresh parts pre version (Hello client n) fit reply = absurd (cc)
+only-laid schema number query meaning fresh parts pre version (Resume client n v holdings) fit reply = absurd (cc)
+only-laid schema number query meaning fresh parts pre version (Ask n mode asks) fit reply = absurd (cc)
+only-laid schema number query meaning fresh parts pre version (Write n sql) fit reply = absurd (cc)
+
+-- what is not refused, and is no reply, may be laid by
+pub may-lay : (c : Client) (m : Message) (r : code.Request) → Stands c → c.out ≡ Some r → IsFit c m → ((k w : ℕ) → m ≡ Reply k w → ⊥) → IsLaid m
+may-lay c m r stands out fit reply =
+    let h = stands.0 in
+    let ask = ask-only c h r stands.1 out in
+    only-laid c.schema ask.0.number ask.0.query_number h.meaning ask.0.fresh ask.0.parts c.laid c.version m
+    (subst (λ o. misfit c.schema (out_of h.meaning o) c.laid c.version m ≡ None) (out ∙ ap (λ r. Some r) ask.1) (fit h.meaning)) reply
+
+-- ---- refused
+
+out-keys : (c : Client) (h : Hidden) → Facts c h → OutAsksKeys c.schema (out_of h.meaning c.out)
+out-keys c h f = by c.out refl
+  where
+    by : (out : Option code.Request) → c.out ≡ out → OutAsksKeys c.schema (out_of h.meaning out)
+    by None e = tt
+    by (Some (request.Ask o)) e = keys-asked c o h (subst (λ out. Facts (record c { out = out }) h) e f)
+    by (Some (request.Write n)) e = absurd (subst (IsMeant c.schema (counted h.counted_from h.queries) h.meaning) e f.meant)
+    by (Some (request.Resume n)) e = absurd (subst (IsMeant c.schema (counted h.counted_from h.queries) h.meaning) e f.meant)
+
+-- what is promised is not refused
+pub takes-bad : (c : Client) (m : Message) (why : BadFrame) (cuts : ℕ) → ((meaning : Query) → misfit c.schema (out_of meaning c.out) c.laid c.version m ≡ Some why) → Stands c
+    → Takes c m (given_up c cuts) (took.Bad why)
+takes-bad c m why cuts bad stands = record {
+  by_rules = over c (λ db past. Truly db past m → Goes db (SaysTook (took.Bad why)) (rules.TakeStep (basis_of db c.store.limits) past m) (given_up c cuts)) (λ h f db here t.
+      let never : misfit c.schema (out_of h.meaning c.out) c.laid c.version m ≡ None =
+      never-refused (on c db) (past_of c h) t.connection t.session m t.rest here.sound f.tables (out-keys c h f) t.is_open t.first in
+      absurd (let wrong : Some why ≡ None = sym (bad h.meaning) ∙ never in cc));
+  stands = given-stands c c cuts stands refl;
+}
+
+-- some request is out
+pub some-of : (out : Option code.Request) → is_some out ≡ true → (r : code.Request) × (out ≡ Some r)
+some-of None some = absurd (cc)
+some-of (Some r) some = (r, refl)
+
+pub none-of : (out : Option code.Request) → is_some out ≡ false → out ≡ None
+none-of None none = refl
+none-of (Some r) none = absurd (cc)
+
+-- ---- what was told of a message
+
+pub bad-iff : (why w : BadFrame) (reason : Option BadFrame) → reason ≡ Some why → (took.Bad why ≡ took.Bad w) ↔ (reason ≡ Some w)
+bad-iff why w reason is = (
+  λ e. let same : why ≡ w = cc in is ∙ ap (λ x. Some x) same,
+  λ e. let some : Some why ≡ Some w = sym is ∙ e in let same : why ≡ w = cc in ap took.Bad same,
+)
+
+pub good-iff : (t : Took) (w : BadFrame) (reason : Option BadFrame) → reason ≡ None → is_bad t ≡ false → (t ≡ took.Bad w) ↔ (reason ≡ Some w)
+good-iff t w reason none good = (
+  λ e. absurd (let wrong : true ≡ false = ap is_bad (sym e) ∙ good in cc),
+  λ e. absurd (let wrong : Some w ≡ None = sym e ∙ none in cc),
+)
+
+-- what the call tells, of the client's fields as it read them
+pub misfit-of : (c : Client) (m : Message) (schema : List Table) (pre : List Message) (why : Option BadFrame) → schema ≡ c.schema → pre ≡ c.laid
+    → ((meaning : Query) → why ≡ misfit schema (out_of meaning c.out) pre c.version m) → (meaning : Query) → misfit c.schema (out_of meaning c.out) c.laid c.version m ≡ why
+misfit-of c m schema pre why schema_is laid_is gives meaning =
+    sym (gives meaning ∙ (ap (λ s. misfit s (out_of meaning c.out) pre c.version m) schema_is ∙ ap (λ ms. misfit c.schema (out_of meaning c.out) ms c.version m) laid_is))
+
+-- ---- rows of the first part
+
+pub arrived-cons : (m : Message) (ms : List Message) → arrived_at 0 (m ∷ ms) ≡ brought m ++ arrived_at 0 ms
+arrived-cons (Rows k part rows) ms = refl
+arrived-cons (Notice w told) ms = refl
+arrived-cons (Lapse w) ms = refl
+arrived-cons (Reply k w) ms = refl
+arrived-cons (Written k w) ms = refl
+arrived-cons (Refused k fault) ms = refl
+arrived-cons (Welcome k w kept) ms = refl
+arrived-cons (Hello client n) ms = refl
+arrived-cons (Resume client n v holdings) ms = refl
+arrived-cons (Ask n mode parts) ms = refl
+arrived-cons (Write n sql) ms = refl

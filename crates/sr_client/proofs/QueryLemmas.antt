@@ -1,0 +1,199 @@
+-- What a query does that is answered at once, or that comes while a request is out.
+use Rattle.std.proofs.Common.{◌≡◌, ℕ, ◌+◌, ◌≤◌, true, false, List, [], ◌∷◌, ◌++◌, map, length, refl, sym, ◌∙◌, ap, subst, arith, Option, Some, None, Ok, length-append}
+use Rattle.std.specs.Prelude.{not, ◌&&◌, ◌||◌, filter}
+use Rattle.std.specs.List.{list_all}
+use Rattle.std.proofs.lemmas.List.Elements.{All-nil}
+use Rattle.sr_cell.specs.declared.table.Table.{Table}
+use Rattle.sr_cell.specs.Cells.{Row}
+use Rattle.sr_cell.specs.Columns.{table_at}
+use Rattle.sr_box.specs.Points.{HasNoPoint}
+use Rattle.sr_message.specs.declared.message.AskPart.{AskPart}
+use Rattle.sr_model.specs.Queries as model
+use Rattle.sr_model.specs.Queries.{rows_at, rows_of, points_of}
+use Rattle.sr_model.specs.Statements.{Tables}
+use Rattle.sr_query.specs.declared.query.Part.{Part}
+use Rattle.sr_query.specs.declared.query.Query.{Query}
+use Rattle.sr_history.specs.declared.mark.Mark.{Mark}
+use Rattle.sr_history.specs.Marks.{is_held, with_marks}
+use Rattle.sr_history.specs.Classes.{Numbered, stamp}
+use Rattle.sr_history.specs.Rests.{rest_of, Asks}
+use Rattle.sr_region.specs.Applied.{AreTables}
+use Rattle.sr_store.specs.declared.store.Store.{Store}
+use Rattle.sr_store.specs.declared.store.Arrival.{Arrival}
+use Rattle.sr_store.specs.Told.{told_of}
+use Rattle.sr_store.specs.Answered.{IsArrival}
+use Rattle.sr_store.proofs.Given.{FitsPart}
+use Rattle.sr_store.proofs.Stamping.{stamp_more}
+use Rattle.sr_join.specs.Found.{cells_of}
+use Rattle.sr_session.specs.Sessions.{Database, newest, tables_of}
+use Rattle.sr_session.specs.Clients as session
+use Rattle.sr_session.specs.Clients.{answered}
+use Rattle.sr_session.specs.Walks.{Request}
+use Rattle.sr_session.specs.Rules.{number_of, next_query, answering_now, counted, query_busy, query_answered, AnswerStep}
+use Rattle.sr_session.specs.Rules as rules
+use Rattle.sr_session.specs.Tidy.{IsTidy, IsTidyWith}
+use Rattle.sr_client.specs.Answering.{is_kept, is_new, Suits}
+use Rattle.sr_client.specs.Asking.{AsksRest}
+use Rattle.sr_client.specs.Bound.{IsMeaning}
+use Rattle.sr_client.specs.Cutting.{EndWith, RegionsEnd, PartsEnd}
+use Rattle.sr_client.specs.declared.client.Client.{Client}
+use Rattle.sr_client.specs.declared.client.Request as code
+use Rattle.sr_client.specs.declared.steps.QueryStep.TheVariants.{Answered, Busy}
+use Rattle.sr_client.specs.Stands.{Hidden, Facts, Stands, StandsOver, past_of, out_of, request_of, basis_of, IsMeant, AreFit}
+use Rattle.sr_client.specs.Steps.{Goes, SaysQuery, Queries}
+use Rattle.sr_client.proofs.Calls.{Answers, IsAfter, none-arrived}
+use Rattle.sr_client.proofs.CountLemmas.{counted-more}
+use Rattle.sr_client.proofs.CoverLemmas.{filter-points, kept-all}
+use Rattle.sr_client.proofs.EndLemmas.{regions-more, part-end}
+use Rattle.sr_client.proofs.KeptLemmas.{IsAnswering, AreTrue, from_of, kept, kept-true, kept-last, answer-step}
+use Rattle.sr_client.proofs.LastLemmas.{last-answered}
+use Rattle.sr_client.proofs.MeantLemmas.{IsOneQuery, one-query, are-sound, is-one-part, part-fits, all-parts, no-rest}
+use Rattle.sr_client.proofs.OverLemmas.{on, IsHere, over, stands-over}
+
+-- ---- while a request is out
+
+pub query-busy : (c : Client) (m : model.Query) (number : ℕ) (request : code.Request) → Stands c → c.out ≡ Some request → ((meaning : model.Query) → number ≡ number_of (request_of meaning request))
+    → Queries c m c (Busy number)
+query-busy c m number request stands out number_is = record {
+  by_rules = λ db past s.
+      let h = s.client.hidden in
+      let r : Request = request_of h.meaning request in
+      let past_out : past.out ≡ Some (request_of h.meaning request) = ap (λ (p : session.Client). p.out) s.client.same ∙ ap (out_of h.meaning) out in
+      record {
+        outcome = rules.Busy number;
+        next = past;
+        is = refl;
+        allowed = subst (λ k. rules.QueryStep (basis_of db c.store.limits) past (Ok m) (rules.Busy k) past) (sym (number_is h.meaning)) (query_busy m r past_out);
+        stands = s;
+      };
+  stands = stands;
+}
+
+-- ---- at once
+
+-- nothing is laid by while nothing is out
+pub none-laid : (c : Client) (h : Hidden) → Facts c h → c.out ≡ None → c.laid ≡ []
+none-laid c h f out = subst (λ o. IsTidyWith c.schema (past_of c h) (out_of h.meaning o)) out f.tidy
+
+-- the client once a query is answered at once
+abbrev pub with_now : Client → Store → Client
+with_now c store = record c { queries = c.queries + 1; store = store }
+
+abbrev with_query : Hidden → model.Query → List Numbered
+with_query h m = h.queries ++ record { query = m; answered = true } ∷ []
+
+-- the answer is that of the client's version
+rows-now : (c : Client) (h : Hidden) (db : Database) (q : Query) (m : model.Query) (one : IsOneQuery c.schema q m) (rows : List Row) → Facts c h → IsHere db c
+    → HasNoPoint (table_at c.schema one.meant.table).columns (rest_of h.marks one.meant) → Answers q c.store.regions [] rows → rows ≡ rows_of m (tables_of db c.version)
+rows-now c h db q m one rows f here none gives =
+    let s = c.schema in
+    let part = one.part in
+    let tables : Tables = tables_of db c.version in
+    let are = here.sound.tables c.version here.within in
+    let given = gives s tables part (is-one-part s tables q m one are.points are.ascending)
+    (record { each = f.store.each; are_true = here.are_true }) (record { suit = All-nil (Suits s part); arrived = none-arrived (told_of tables) }) in
+    let chosen = filter-points (table_at s part.table).columns (λ p. is_kept part c.store.regions p || is_new part [] p) (points_of one.meant) (rows_at tables part.table) (are.points part.table)
+    (kept-all s h.marks (stamp h.queries) c.store.regions part one.meant f.keeps one.is none) in
+    given ∙ (ap (map (cells_of q.output)) chosen ∙ (ap (λ t. map (cells_of q.output) (filter (points_of one.meant) (rows_at tables t))) one.is.table ∙ sym (one.answer tables)))
+
+-- what is known where a query is answered at once
+is-answering : (c : Client) (h : Hidden) (q : Query) (m : model.Query) → IsOneQuery c.schema q m → Facts c h → IsMeaning c.schema q m
+    → IsAnswering c.schema (length h.queries + 1) q.parts [] c.store [] m (with_query h m) (past_of c h)
+is-answering c h q m one f is =
+    let s = c.schema in
+    let all : List model.Query = counted h.counted_from h.queries in
+    let more : counted h.counted_from (with_query h m) ≡ all ++ m ∷ [] = counted-more h.counted_from h.queries (record { query = m; answered = true }) f.from in
+    record {
+      tables = f.tables;
+      store = f.store;
+      keeps = f.keeps;
+      stamps = stamp_more s (length h.queries + 1) q.parts h.queries m is.query.parts refl;
+      meant = is.query.parts;
+      last = last-answered h.queries m;
+      fit = all-parts s q m (FitsPart s) one (part-fits s one.part one.meant one.is);
+      arrive = All-nil (IsArrival s q.parts);
+      apart = λ t a p point. let le = f.store.once t a p point in omega (arith, le);
+      holds = tt;
+      were = λ t a some. absurd (cc);
+      nothing = λ none. refl;
+      from = let few = f.from in omega (arith, few);
+      regions_end = subst (λ qs. RegionsEnd s qs c.store.regions) (sym more) (regions-more s all (m ∷ []) c.store.regions f.ends);
+      parts_end = subst (λ qs. PartsEnd s qs q.parts) (sym more) (all-parts s q m (λ (part : Part). EndWith s (all ++ m ∷ []) part.table part.rects) one (part-end s all m one.part one.meant one.meant_parts one.is));
+      arrivals_end = All-nil (λ (r : Arrival). EndWith s (counted h.counted_from (with_query h m)) r.table r.rects);
+    }
+
+module _ (c : Client) (q : Query) (m : model.Query) (store : Store) (marks : List Mark) (rows : List Row) (out : c.out ≡ None) (is : IsMeaning c.schema q m)
+    (nothing : AsksRest c.schema c.store.regions q.parts []) (gives : Answers q c.store.regions [] rows) (made : IsAfter c.schema (c.queries + 1) q.parts [] c.store store marks) where
+  module _ (h : Hidden) (f : Facts c h) where
+    one : IsOneQuery c.schema q m
+    one = one-query c.schema q m is
+
+    after : IsAfter c.schema (length h.queries + 1) q.parts [] c.store store marks
+    after = subst (λ n. IsAfter c.schema (n + 1) q.parts [] c.store store marks) (sym f.queries) made
+
+    answering : IsAnswering c.schema (length h.queries + 1) q.parts [] c.store [] m (with_query h m) (past_of c h)
+    answering = is-answering c h q m one f is
+
+    abbrev from : ℕ
+    from = from_of (length h.queries + 1) h.counted_from after.answered
+
+    abbrev later : Hidden
+    later = record { marks = with_marks h.marks marks; queries = with_query h m; counted_from = from; meaning = h.meaning }
+
+    laid : c.laid ≡ []
+    laid = none-laid c h f out
+
+    now-facts : Facts (with_now c store) later
+    now-facts =
+        let k = kept c.schema (length h.queries + 1) q.parts [] c.store [] m (with_query h m) (past_of c h) answering store marks after in
+        let more : length (with_query h m) ≡ length h.queries + 1 = length-append h.queries (record { query = m; answered = true } ∷ []) in
+        record {
+          tables = f.tables;
+          tidy = subst (λ o. IsTidyWith c.schema (past_of (with_now c store) later) (out_of h.meaning o)) (sym out) laid;
+          meant = subst (IsMeant c.schema (counted from (with_query h m)) h.meaning) (sym out) tt;
+          fit = subst (AreFit c.schema (out_of h.meaning c.out) c.version []) (sym laid) tt;
+          store = made.store;
+          keeps = k.points;
+          queries = more ∙ ap (λ n. n + 1) f.queries;
+          last = kept-last c.schema (length h.queries + 1) q.parts [] c.store [] m (with_query h m) (past_of c h) answering store marks after;
+          rows = k.rows;
+          few = k.regions;
+          from = let few = k.few in omega (arith, few, more);
+          ends = k.ends;
+        }
+
+    now-goes : (db : Database) → IsHere db c
+        → Goes (on c db) (SaysQuery (past_of c h) (Answered (c.queries + 1) c.version rows marks)) (rules.QueryStep (basis_of (on c db) c.store.limits) (past_of c h) (Ok m)) (with_now c store)
+    now-goes db here =
+        let past : session.Client = past_of c h in
+        let asks : Asks c.schema h.marks m.parts [] = nothing h.marks (stamp h.queries) m.parts f.keeps is.query.parts (are-sound c.schema q m is) in
+        let free = no-rest c.schema h.marks m.parts [] one.meant asks one.meant_parts refl in
+        let are = here.sound.tables c.version here.within in
+        let t : AreTrue c.schema (tables_of db c.version) [] c.store.regions = record { are_tables = are; are_true = here.are_true; arrived = none-arrived (told_of (tables_of db c.version)) } in
+        let next : session.Client = answered past (with_query h m) from c.version marks in
+        let step : AnswerStep (basis_of (on c db) c.store.limits) (answering_now past m) past marks (answered past (with_query h m) from c.version marks) =
+        answer-step c.schema (length h.queries + 1) q.parts [] c.store [] m (with_query h m) (past_of c h) answering store marks after db c.version t in
+        record {
+          outcome = rules.Answered (c.queries + 1) c.version rows marks;
+          next = answered past (with_query h m) from c.version marks;
+          is = refl;
+          allowed = subst (λ n. rules.QueryStep (basis_of (on c db) c.store.limits) (past_of c h) (Ok m) (rules.Answered (n + 1) c.version rows marks) (answered past (with_query h m) from c.version marks)) f.queries
+              (query_answered m rows marks (answered past (with_query h m) from c.version marks) (ap (out_of h.meaning) out) asks (rows-now c h db q m one rows f here free gives) step);
+          stands = record {
+            sound = here.sound;
+            schema = refl;
+            within = here.within;
+            client = record {
+              hidden = later;
+              facts = now-facts;
+              same = sym (ap (λ o. record (past_of (with_now c store) later) { out = out_of h.meaning o }) out ∙ ap (λ ms. record (past_of (with_now c store) later) { out = None; laid = ms }) laid);
+              are_true = kept-true c.schema (length h.queries + 1) q.parts [] c.store [] m (with_query h m) (past_of c h) answering store marks after (tables_of db c.version) t;
+            };
+          };
+        }
+
+  pub answered-now : Stands c → Queries c m (with_now c store) (Answered (c.queries + 1) c.version rows marks)
+  answered-now stands = record {
+    by_rules = over c (λ db past. Goes db (SaysQuery past (Answered (c.queries + 1) c.version rows marks)) (rules.QueryStep (basis_of db c.store.limits) past (Ok m)) (with_now c store)) now-goes;
+    stands = (later stands.0 stands.1, now-facts stands.0 stands.1);
+  }

@@ -1,0 +1,205 @@
+-- What messages do that come while nothing is out.
+use Rattle.std.proofs.Common.{◌≡◌, ℕ, ◌+◌, ◌≤◌, ◌<◌, Bool, true, false, List, [], ◌∷◌, ◌++◌, map, length, refl, sym, ◌∙◌, ap, subst, arith, Option, Some, None}
+use Rattle.std.specs.List.{All, Contains}
+use Rattle.std.proofs.lemmas.List.Elements.{All-nil, All-map, All-weaker, All-contains}
+use Rattle.sr_cell.specs.declared.cause.Cause.TheVariants.{Lapsed}
+use Rattle.sr_cell.specs.declared.table.Table.{Table}
+use Rattle.sr_message.specs.declared.message.Message.{Message}
+use Rattle.sr_message.specs.declared.message.Message.TheVariants.{Hello, Resume, Ask, Write, Welcome, Notice, Rows, Reply, Written, Refused, Lapse}
+use Rattle.sr_message.specs.declared.message.Tell.{Tell}
+use Rattle.sr_model.specs.Queries.{Query}
+use Rattle.sr_history.specs.declared.mark.Mark.{Mark}
+use Rattle.sr_history.specs.Marks.{is_held, with_marks}
+use Rattle.sr_history.specs.Classes.{stamp}
+use Rattle.sr_region.specs.declared.region.Region.{Region}
+use Rattle.sr_store.specs.Classes.{Keeps}
+use Rattle.sr_store.specs.Told.{told_of, IsTrueOf}
+use Rattle.sr_store.specs.Stores.{drop_of}
+use Rattle.sr_store.specs.Noticed.{told_to, IsTellOf}
+use Rattle.sr_store.specs.Fitted.{IsFitted}
+use Rattle.sr_store.proofs.Absorbing.{drops_all}
+use Rattle.sr_store.proofs.Fewer.{fitted_fit_still, none_store}
+use Rattle.sr_store.proofs.Meeting.{fitted_meets_budgets}
+use Rattle.sr_store.proofs.Noticing.{notices-classes}
+use Rattle.sr_store.proofs.Stepping.{dropped_marks}
+use Rattle.sr_store.proofs.Storing.{store-told}
+use Rattle.sr_store.proofs.Telling.{only-rows}
+use Rattle.sr_session.specs.Sessions.{Database, Session, newest, tables_of}
+use Rattle.sr_session.specs.Places.{held}
+use Rattle.sr_session.specs.Walks.{Request, Walks, noticed, forgot}
+use Rattle.sr_session.specs.Clients as session
+use Rattle.sr_session.specs.Clients.{Flows, IsOpen, is_idle, mirror_of}
+use Rattle.sr_session.specs.Rules.{Applied, Forgot, applies, forgets, counted}
+use Rattle.sr_session.specs.Rules as rules
+use Rattle.sr_session.specs.Tidy.{IsTidy, IsTidyWith}
+use Rattle.sr_session.proofs.TruthLemmas.{noted}
+use Rattle.sr_session.proofs.WalkLemmas.{walks-later}
+use Rattle.sr_client.specs.Cutting.{EndWith, RegionsEnd}
+use Rattle.sr_client.specs.declared.client.Client.{Client}
+use Rattle.sr_client.specs.declared.steps.Took.TheVariants as took
+use Rattle.sr_client.specs.Stands.{Hidden, Facts, Stands, StandsOver, Truly, IsFit, past_of, out_of, basis_of, IsMeant, AreFit}
+use Rattle.sr_client.specs.Steps.{Goes, SaysTook, Takes}
+use Rattle.sr_client.proofs.FitLemmas.{fitted-keeps}
+use Rattle.sr_client.proofs.MirrorLemmas.{at-mirror}
+use Rattle.sr_client.proofs.OverLemmas.{on, IsHere, with_regions, over, stands-over}
+use Rattle.sr_client.proofs.QueryLemmas.{none-laid}
+use Rattle.sr_client.proofs.SuitLemmas.{notice-later, lapse-later}
+use Rattle.sr_client.proofs.TableLemmas.{have-first}
+
+-- the client at a version, with these regions
+abbrev pub at_version : Client → ℕ → List Region → Client
+at_version c version gs = record c { version = version; store = record c.store { regions = gs } }
+
+abbrev pub with_drops : Hidden → List Mark → Hidden
+with_drops h drops = record h { marks = with_marks h.marks drops }
+
+-- ---- what is promised while nothing is out
+
+-- the walk through what comes
+idle-walk : (db : Database) (past : session.Client) (m : Message) (t : Truly db past m) → past.out ≡ None → Walks db None (mirror_of past) (m ∷ t.rest) t.session
+idle-walk db past m t out = by (subst (Flows db past t.connection t.session) out t.is_open.flows)
+  where
+    by : Flows db past t.connection t.session None → Walks db None (mirror_of past) (m ∷ t.rest) t.session
+    by (is_idle empty laid walks) = subst (λ ms. Walks db None (mirror_of past) ms t.session) t.first walks
+
+-- ---- a notice
+
+pub told-end : (schema : List Table) (queries : List Query) (told : List Tell) (gs : List Region) → RegionsEnd schema queries gs → RegionsEnd schema queries (map (told_to told) gs)
+told-end schema queries told gs ends =
+    All-map (λ (g : Region). EndWith schema queries g.table g.rects) (told_to told) gs
+    (All-weaker (λ (g : Region). EndWith schema queries g.table g.rects) (λ g. EndWith schema queries (told_to told g).table (told_to told g).rects)
+    (λ g e. subst (λ (r : Region). EndWith schema queries r.table r.rects) (sym (only-rows told g)) e) gs ends)
+
+module _ (c : Client) (version : ℕ) (told : List Tell) (new : List Region) (drops : List Mark) (out : c.out ≡ None) (fit : IsFit c (Notice version told)) (tells : All (IsTellOf c.schema) told)
+    (fitted : IsFitted c.schema c.store.limits c.store.last (map (told_to told) c.store.regions) new drops) where
+  module _ (h : Hidden) (f : Facts c h) where
+    noticed-keeps : Keeps c.schema (is_held h.marks) (stamp h.queries) (map (told_to told) c.store.regions)
+    noticed-keeps = notices-classes c.schema (is_held h.marks) (stamp h.queries) told c.store.regions f.keeps
+
+    notice-facts : Facts (at_version c version new) (with_drops h drops)
+    notice-facts =
+        let still = fitted_fit_still c.schema c.store.limits c.store.last (map (told_to told) c.store.regions) new drops fitted in
+        let laid = none-laid c h f out in
+        record {
+          tables = f.tables;
+          tidy = subst (λ o. IsTidyWith c.schema (past_of (at_version c version new) (with_drops h drops)) (out_of h.meaning o)) (sym out) laid;
+          meant = f.meant;
+          fit = subst (AreFit c.schema (out_of h.meaning c.out) version []) (sym laid) tt;
+          store = still.store (store-told c.schema told c.store.regions f.store tells);
+          keeps = fitted-keeps c.schema c.store.limits c.store.last h.marks (stamp h.queries) (map (told_to told) c.store.regions) new drops fitted noticed-keeps;
+          queries = f.queries;
+          last = f.last;
+          rows = still.rows;
+          few = still.regions;
+          from = f.from;
+          ends =
+              let ends = told-end c.schema (counted h.counted_from h.queries) told c.store.regions f.ends in
+              All-weaker (Contains (map (told_to told) c.store.regions)) (λ (g : Region). EndWith c.schema (counted h.counted_from h.queries) g.table g.rects)
+              (λ g some. All-contains (λ (g : Region). EndWith c.schema (counted h.counted_from h.queries) g.table g.rects) (map (told_to told) c.store.regions) g ends some) new still.some;
+        }
+
+    notice-goes : (db : Database) → IsHere db c → Truly (on c db) (past_of c h) (Notice version told)
+        → Goes (on c db) (SaysTook (took.Applied version drops)) (rules.TakeStep (basis_of (on c db) c.store.limits) (past_of c h) (Notice version told)) (at_version c version new)
+    notice-goes db here t =
+        let walks = idle-walk (on c db) (past_of c h) (Notice version told) t (ap (out_of h.meaning) out) in
+        let later = walks-later (on c db) None (noticed (mirror_of (past_of c h)) version) t.rest t.session walks.1 in
+        let upto = t.is_open.upto in
+        let below : version ≤ newest db = omega (arith, later, upto) in
+        let up = walks.0.0 in
+        let at = at-mirror c h db f here in
+        let now = noted (on c db) (held h.marks) c.version version told c.store.regions walks.0.0 (λ u under. here.sound.tables u (omega (arith, under, below))) walks.0.1 walks.0.2
+        (record { store = at.store; lie = at.lie; are_true = at.are_true }) in
+        let met = fitted_meets_budgets c.schema (tables_of db version) c.store.limits h.marks h.queries c.store.last (map (told_to told) c.store.regions) new drops f.tables (here.sound.tables version below) now.store
+        noticed-keeps now.are_true f.last fitted in
+        let still = fitted_fit_still c.schema c.store.limits c.store.last (map (told_to told) c.store.regions) new drops fitted in
+        record {
+          outcome = Applied version drops;
+          next = past_of (at_version c version new) (with_drops h drops);
+          is = refl;
+          allowed = applies version told drops (ap (out_of h.meaning) out) (omega (arith, up)) met.0;
+          stands = stands-over (at_version c version new) (with_drops h drops) db notice-facts (record {
+            sound = here.sound;
+            within = below;
+            are_true = All-weaker (Contains (map (told_to told) c.store.regions)) (IsTrueOf (told_of (tables_of db version)))
+                (λ g some. All-contains (IsTrueOf (told_of (tables_of db version))) (map (told_to told) c.store.regions) g now.are_true some) new still.some;
+          });
+        }
+
+  pub takes-notice : Stands c → Takes c (Notice version told) (at_version c version new) (took.Applied version drops)
+  takes-notice stands = record {
+    by_rules = over c (λ db past. Truly db past (Notice version told)
+        → Goes db (SaysTook (took.Applied version drops)) (rules.TakeStep (basis_of db c.store.limits) past (Notice version told)) (at_version c version new)) notice-goes;
+    stands = (with_drops stands.0 drops, notice-facts stands.0 stands.1);
+  }
+
+-- ---- a Lapse
+
+module _ (c : Client) (version : ℕ) (out : c.out ≡ None) (fit : IsFit c (Lapse version)) where
+  abbrev drops : List Mark
+  drops = map (drop_of Lapsed) c.store.regions
+
+  module _ (h : Hidden) (f : Facts c h) where
+    lapse-facts : Facts (at_version c version []) (with_drops h (map (drop_of Lapsed) c.store.regions))
+    lapse-facts =
+        let laid = none-laid c h f out in
+        record {
+          tables = f.tables;
+          tidy = subst (λ o. IsTidyWith c.schema (past_of (at_version c version []) (with_drops h (map (drop_of Lapsed) c.store.regions))) (out_of h.meaning o)) (sym out) laid;
+          meant = f.meant;
+          fit = subst (AreFit c.schema (out_of h.meaning c.out) version []) (sym laid) tt;
+          store = none_store c.schema c.store.regions f.store;
+          keeps = dropped_marks c.schema Lapsed h.marks (stamp h.queries) c.store.regions f.keeps;
+          queries = f.queries;
+          last = f.last;
+          rows = omega arith;
+          few = omega arith;
+          from = f.from;
+          ends = All-nil (λ (g : Region). EndWith c.schema (counted h.counted_from h.queries) g.table g.rects);
+        }
+
+    lapse-goes : (db : Database) → IsHere db c → Truly (on c db) (past_of c h) (Lapse version)
+        → Goes (on c db) (SaysTook (took.Forgot version (map (drop_of Lapsed) c.store.regions))) (rules.TakeStep (basis_of (on c db) c.store.limits) (past_of c h) (Lapse version)) (at_version c version [])
+    lapse-goes db here t =
+        let walks = idle-walk (on c db) (past_of c h) (Lapse version) t (ap (out_of h.meaning) out) in
+        let later = walks-later (on c db) None (forgot (mirror_of (past_of c h)) version) t.rest t.session walks.1 in
+        let upto = t.is_open.upto in
+        let below : version ≤ newest db = omega (arith, later, upto) in
+        let up = walks.0 in
+        record {
+          outcome = Forgot version (map (drop_of Lapsed) c.store.regions);
+          next = past_of (at_version c version []) (with_drops h (map (drop_of Lapsed) c.store.regions));
+          is = refl;
+          allowed = forgets version (map (drop_of Lapsed) c.store.regions) (ap (out_of h.meaning) out) (omega (arith, up))
+              (drops_all c.schema h.marks h.queries Lapsed c.store.regions (have-first c.schema f.tables) f.store.each f.store.order f.keeps);
+          stands = stands-over (at_version c version []) (with_drops h (map (drop_of Lapsed) c.store.regions)) db lapse-facts (record {
+            sound = here.sound;
+            within = below;
+            are_true = All-nil (IsTrueOf (told_of (tables_of db version)));
+          });
+        }
+
+  pub takes-lapse : Stands c → Takes c (Lapse version) (at_version c version []) (took.Forgot version (map (drop_of Lapsed) c.store.regions))
+  takes-lapse stands = record {
+    by_rules = over c (λ db past. Truly db past (Lapse version)
+        → Goes db (SaysTook (took.Forgot version (map (drop_of Lapsed) c.store.regions))) (rules.TakeStep (basis_of db c.store.limits) past (Lapse version)) (at_version c version [])) lapse-goes;
+    stands = (with_drops stands.0 (map (drop_of Lapsed) c.store.regions), lapse-facts stands.0 stands.1);
+  }
+
+-- ---- no other message
+
+is-none : {X : Type 0} → (x : X) → Some x ≡ None → ⊥
+is-none x e = cc
+
+-- each other message would have been refused
+pub rest-only : (c : Client) (m : Message) → c.out ≡ None → IsFit c m → ((version : ℕ) (told : List Tell) → m ≡ Notice version told → ⊥) → ((version : ℕ) → m ≡ Lapse version → ⊥) → (meaning : Query) → ⊥
+rest-only c (Notice w told) out fit notice lapse meaning = notice w told refl
+rest-only c (Lapse w) out fit notice lapse meaning = lapse w refl
+rest-only c (Rows k part rows) out fit notice lapse meaning = absurd (let e = fit meaning in grind (arith, e, out))
+rest-only c (Reply k w) out fit notice lapse meaning = absurd (let e = fit meaning in grind (arith, e, out))
+rest-only c (Written k w) out fit notice lapse meaning = absurd (let e = fit meaning in grind (arith, e, out))
+rest-only c (Refused k fault) out fit notice lapse meaning = absurd (let e = fit meaning in grind (arith, e, out))
+rest-only c (Welcome k w kept) out fit notice lapse meaning = absurd (let e = fit meaning in grind (arith, e, out))
+rest-only c (Hello client n) out fit notice lapse meaning = absurd (let e = fit meaning in cc)
+rest-only c (Resume client n v holdings) out fit notice lapse meaning = absurd (let e = fit meaning in cc)
+rest-only c (Ask n mode parts) out fit notice lapse meaning = absurd (let e = fit meaning in cc)
+rest-only c (Write n sql) out fit notice lapse meaning = absurd (let e = fit meaning in cc)

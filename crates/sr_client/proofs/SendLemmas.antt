@@ -1,0 +1,370 @@
+-- What a query does that asks something.
+use Rattle.std.proofs.Common.{◌≡◌, ℕ, ◌+◌, ◌≤◌, ◌<◌, Bool, true, false, List, [], ◌∷◌, ◌++◌, map, length, refl, sym, ◌∙◌, ap, subst, arith, Some, None, Ok, length-append}
+use Rattle.std.specs.Prelude.{IsTrue, ◌↔◌, ◌==◌, sum_by}
+use Rattle.std.specs.List.{list_all, list_any, All}
+use Rattle.std.proofs.lemmas.Bool.Decides.{nat_tests}
+use Rattle.std.proofs.lemmas.List.Folds.{list_all-append}
+use Rattle.std.proofs.lemmas.List.Elements.{All-nil}
+use Rattle.std.proofs.lemmas.List.Sums.{sum_by-cons, sum_by-le}
+use Rattle.sr_cell.specs.declared.cause.Cause.TheVariants.{Pieces}
+use Rattle.sr_cell.specs.declared.table.Column.{Column}
+use Rattle.sr_cell.specs.declared.table.Table.{Table}
+use Rattle.sr_cell.specs.Columns.{table_at}
+use Rattle.sr_box.specs.Points.{Rect, rect_fits}
+use Rattle.sr_union.specs.Grid.{grid}
+use Rattle.sr_message.specs.declared.message.AskPart.{AskPart}
+use Rattle.sr_message.specs.Sizes.{most_rects, count_asked}
+use Rattle.sr_model.specs.Queries as model
+use Rattle.sr_query.specs.declared.query.Part.{Part}
+use Rattle.sr_query.specs.declared.query.Query.{Query}
+use Rattle.sr_history.specs.declared.mark.Mark.{Mark}
+use Rattle.sr_history.specs.Marks.{is_held, HoldsNothing, with_marks}
+use Rattle.sr_history.specs.Classes.{Numbered, stamp}
+use Rattle.sr_history.specs.Drops.{DropsAll}
+use Rattle.sr_history.specs.Load.{IsHeavy}
+use Rattle.sr_history.specs.Rests.{Asks}
+use Rattle.sr_history.specs.Victims.{AreLast}
+use Rattle.sr_region.specs.declared.region.Region.{Region}
+use Rattle.sr_store.specs.Classes.{Stamps, Keeps}
+use Rattle.sr_store.specs.Told.{told_of, IsTrueOf}
+use Rattle.sr_store.specs.Stores.{cover_of, drop_of, IsOfSchema}
+use Rattle.sr_store.proofs.Absorbing.{drops_all}
+use Rattle.sr_store.proofs.Covering.{all_none, keeps_same}
+use Rattle.sr_store.proofs.Fewer.{none_store}
+use Rattle.sr_store.proofs.Stamping.{stamp_none}
+use Rattle.sr_store.proofs.Stepping.{dropped_marks}
+use Rattle.sr_session.specs.Sessions.{Database, tables_of}
+use Rattle.sr_session.specs.Clients as session
+use Rattle.sr_session.specs.Walks.{AskOut, AreLaid}
+use Rattle.sr_session.specs.Rules.{Before, DropsFirst, as_it_is, emptied, counted, next_query, with_ask, query_asks, query_down}
+use Rattle.sr_session.specs.Rules as rules
+use Rattle.sr_session.specs.Tidy.{IsTidy, IsTidyWith}
+use Rattle.sr_client.specs.Asking.{AsksRest, entry_of, whole_asks}
+use Rattle.sr_client.specs.Arriving.{is_empty}
+use Rattle.sr_client.specs.Bound.{IsMeaning}
+use Rattle.sr_client.specs.Cutting.{EndWith, RegionsEnd, PartsEnd, AsksEnd, AreCutAlong, IsOver, grid_with, grid_of_part}
+use Rattle.sr_client.specs.Sending.{next_ask, with_out, asked_step, IsSent, is_down, is_sent}
+use Rattle.sr_client.specs.declared.client.Client.{Client}
+use Rattle.sr_client.specs.declared.steps.QueryStep.{QueryStep}
+use Rattle.sr_client.specs.declared.steps.QueryStep.TheVariants.{Asked, Down}
+use Rattle.sr_client.specs.Stands.{Hidden, Facts, Stands, StandsOver, past_of, out_of, basis_of, IsMeant, AreFit}
+use Rattle.sr_client.specs.Steps.{Goes, SaysQuery, Queries}
+use Rattle.sr_client.proofs.AskLemmas.{asks-whole, whole-along, whole-narrow}
+use Rattle.sr_client.proofs.Covers.{cover-fits}
+use Rattle.sr_client.proofs.CountLemmas.{counted-more}
+use Rattle.sr_client.proofs.EndLemmas.{end-append, cover-end, regions-more, part-end}
+use Rattle.sr_client.proofs.HeavyLemmas.{heavy-table}
+use Rattle.sr_client.proofs.LastLemmas.{last-asked}
+use Rattle.sr_client.proofs.MeantLemmas.{IsOneQuery, one-query, are-meant, are-sound, part-fits, part-table, all-parts}
+use Rattle.sr_client.proofs.OverLemmas.{on, IsHere, with_regions, over, stands-over}
+use Rattle.sr_client.proofs.QueryLemmas.{none-laid}
+use Rattle.sr_client.proofs.Renewal.{HaveFirst}
+use Rattle.sr_client.proofs.TableLemmas.{have-first}
+
+is-empty : (gs : List Region) → is_empty gs ≡ true → gs ≡ []
+is-empty [] h = refl
+is-empty (g ∷ gs) h = absurd (cc)
+
+empty-is : (gs : List Region) → gs ≡ [] → is_empty gs ≡ true
+empty-is gs none = rw none refl
+
+-- the mode of an ask says whether anything is held
+mode-is : (schema : List Table) (marks : List Mark) (stamps : Stamps) (gs : List Region) → HaveFirst schema → All (IsOfSchema schema) gs → Keeps schema (is_held marks) stamps gs
+    → IsTrue (is_empty gs) ↔ HoldsNothing schema marks
+mode-is schema marks stamps gs first each keeps =
+    let all = all_none schema marks stamps gs first each keeps in
+    (λ h. all.0 (is-empty gs h), λ none. empty-is gs (all.1 none))
+
+-- ---- a client that is about to ask
+
+-- The client by whose marks a query asks: as it was, or once all is dropped.
+pub record IsReady (c : Client) (m : model.Query) (h : Hidden) (drops : List Mark) (gs : List Region) : Type 0 where
+  pub hidden : Hidden
+  pub facts : Facts (with_regions c gs) hidden
+  pub over : (db : Database) → IsHere db c → Before (basis_of (on c db) c.store.limits) m (past_of c h) drops (past_of (with_regions c gs) hidden) × IsHere db (with_regions c gs)
+
+pub ready-still : (c : Client) (m : model.Query) (h : Hidden) → Facts c h → IsReady c m h [] c.store.regions
+ready-still c m h f = record { hidden = h; facts = f; over = λ db here. (as_it_is, here) }
+
+-- what asks: these parts of a query
+pub record MayAsk (c : Client) (q : Query) (m : model.Query) (asks : List AskPart) : Type 0 where
+  pub out : c.out ≡ None
+  pub is : IsMeaning c.schema q m
+  pub rest : AsksRest c.schema c.store.regions q.parts asks
+  pub along : AreCutAlong c.schema c.store.regions q.parts asks
+  pub some : asks ≡ [] → ⊥
+  pub few : count_asked asks ≤ most_rects
+
+abbrev asked_hidden : Hidden → model.Query → Hidden
+asked_hidden h m = record h { queries = h.queries ++ record { query = m; answered = false } ∷ []; meaning = m }
+
+-- the step of a query that asks something
+asks-some : (b : rules.Basis) (past old : session.Client) (m : model.Query) (drops : List Mark) (asks : List AskPart) (fresh : Bool) → past.out ≡ None → Before b m past drops old → old.cut ≡ false → (asks ≡ [] → ⊥)
+    → Asks b.schema old.marks m.parts asks → IsTrue fresh ↔ HoldsNothing b.schema old.marks
+    → rules.QueryStep b past (Ok m) (rules.AskSent drops old.next_request fresh asks) (with_ask old m fresh asks)
+asks-some b past old m drops [] fresh out before up some asks mode = absurd (some refl)
+asks-some b past old m drops (ask ∷ others) fresh out before up some asks mode = query_asks m drops old ask others fresh out before up asks mode
+
+down-some : (b : rules.Basis) (past old : session.Client) (m : model.Query) (drops : List Mark) (asks : List AskPart) → past.out ≡ None → Before b m past drops old → old.cut ≡ true → (asks ≡ [] → ⊥)
+    → Asks b.schema old.marks m.parts asks → rules.QueryStep b past (Ok m) (rules.Down old.cuts drops) old
+down-some b past old m drops [] out before down some asks = absurd (some refl)
+down-some b past old m drops (ask ∷ others) out before down some asks = query_down m drops old ask others out before down asks
+
+module _ (c : Client) (q : Query) (m : model.Query) (asks : List AskPart) (may : MayAsk c q m asks) (h : Hidden) (f : Facts c h) where
+  abbrev fresh : Bool
+  fresh = is_empty c.store.regions
+
+  abbrev sent : Client
+  sent = with_out c (next_ask c q asks)
+
+  pub are-asked : Asks c.schema h.marks m.parts asks
+  are-asked = may.rest h.marks (stamp h.queries) m.parts f.keeps may.is.query.parts (are-sound c.schema q m may.is)
+
+  pub mode : IsTrue (is_empty c.store.regions) ↔ HoldsNothing c.schema h.marks
+  mode = mode-is c.schema h.marks (stamp h.queries) c.store.regions (have-first c.schema f.tables) f.store.each f.keeps
+
+  laid : c.laid ≡ []
+  laid = none-laid c h f may.out
+
+  counts : length (asked_hidden h m).queries ≡ length h.queries + 1
+  counts = length-append h.queries (record { query = m; answered = false } ∷ [])
+
+  more : counted h.counted_from (asked_hidden h m).queries ≡ counted h.counted_from h.queries ++ m ∷ []
+  more = counted-more h.counted_from h.queries (record { query = m; answered = false }) f.from
+
+  ends : RegionsEnd c.schema (counted h.counted_from h.queries ++ m ∷ []) c.store.regions
+  ends = regions-more c.schema (counted h.counted_from h.queries) (m ∷ []) c.store.regions f.ends
+
+  parts-end : PartsEnd c.schema (counted h.counted_from h.queries ++ m ∷ []) q.parts
+  parts-end =
+      let one = one-query c.schema q m may.is in
+      all-parts c.schema q m (λ (part : Part). EndWith c.schema (counted h.counted_from h.queries ++ m ∷ []) part.table part.rects) one
+      (part-end c.schema (counted h.counted_from h.queries) m one.part one.meant one.meant_parts one.is)
+
+  pub sent-facts : Facts (with_out c (next_ask c q asks)) (asked_hidden h m)
+  sent-facts = record {
+    tables = f.tables;
+    tidy = (
+      (
+        refl,
+        record {
+          asks = are-asked;
+          some = may.some;
+          fresh_where = mode;
+          earlier = h.queries;
+          newest = refl;
+          query_is = ap (λ n. n + 1) (sym f.queries) ∙ sym counts;
+        },
+      ),
+      subst AreLaid (sym laid) tt,
+    );
+    meant = (may.is, subst (λ qs. PartsEnd c.schema qs q.parts) (sym more) parts-end, subst (λ qs. AsksEnd c.schema qs asks) (sym more) (may.along (counted h.counted_from h.queries ++ m ∷ []) ends parts-end), may.few);
+    fit = subst (AreFit c.schema (Some (AskOut c.next_request (c.queries + 1) m fresh asks)) c.version []) (sym laid) tt;
+    store = f.store;
+    keeps = keeps_same c.schema (is_held h.marks) (is_held h.marks) (stamp h.queries) (stamp (asked_hidden h m).queries) c.store.regions (λ t a p point. refl) (λ t a p point. sym (stamp_none h.queries m t a p)) f.keeps;
+    queries = counts ∙ ap (λ n. n + 1) f.queries;
+    last = subst (λ ps. AreLast c.schema ps c.store.last) (sym (last-asked h.queries m)) f.last;
+    rows = f.rows;
+    few = f.few;
+    from = let few = f.from in omega (arith, few, counts);
+    ends = subst (λ qs. RegionsEnd c.schema qs c.store.regions) (sym more) ends;
+  }
+
+-- what comes of it, by the marks of the client that is ready
+module _ (c : Client) (q : Query) (m : model.Query) (asks : List AskPart) (drops : List Mark) (gs : List Region) (may : MayAsk (with_regions c gs) q m asks) where
+  abbrev ready : Client
+  ready = with_regions c gs
+
+  abbrev gone : Client
+  gone = with_out (with_regions c gs) (next_ask (with_regions c gs) q asks)
+
+  down-goes : (h : Hidden) → IsReady c m h drops gs → c.cut ≡ true → (db : Database) → IsHere db c
+      → Goes (on c db) (SaysQuery (past_of c h) (Down c.cuts drops)) (rules.QueryStep (basis_of (on c db) c.store.limits) (past_of c h) (Ok m)) (with_regions c gs)
+  down-goes h r down db here =
+      let o = r.over db here in
+      record {
+        outcome = rules.Down c.cuts drops;
+        next = past_of (with_regions c gs) r.hidden;
+        is = refl;
+        allowed = down-some (basis_of (on c db) c.store.limits) (past_of c h) (past_of (with_regions c gs) r.hidden) m drops asks (ap (out_of h.meaning) may.out) o.0 down may.some
+            (are-asked (with_regions c gs) q m asks may r.hidden r.facts);
+        stands = stands-over (with_regions c gs) r.hidden db r.facts o.1;
+      }
+
+  sent-goes : (h : Hidden) → Facts c h → IsReady c m h drops gs → c.cut ≡ false → (db : Database) → IsHere db c
+      → Goes (on c db) (SaysQuery (past_of c h) (asked_step (next_ask (with_regions c gs) q asks) drops)) (rules.QueryStep (basis_of (on c db) c.store.limits) (past_of c h) (Ok m))
+      (with_out (with_regions c gs) (next_ask (with_regions c gs) q asks))
+  sent-goes h f r up db here =
+      let o = r.over db here in
+      let old : session.Client = past_of (with_regions c gs) r.hidden in
+      let fresh : Bool = is_empty gs in
+      let facts = sent-facts (with_regions c gs) q m asks may r.hidden r.facts in
+      let asked : session.Client → ℕ → session.Client = λ old n. record old { queries = (asked_hidden r.hidden m).queries; next_request = c.next_request + 1; out = Some (AskOut c.next_request n m fresh asks) } in
+      record {
+        outcome = rules.AskSent drops c.next_request fresh asks;
+        next = with_ask old m fresh asks;
+        is = (ap (λ n. n + 1) (sym f.queries), fresh, asks, refl, refl);
+        allowed = asks-some (basis_of (on c db) c.store.limits) (past_of c h) old m drops asks fresh (ap (out_of h.meaning) may.out) o.0 up may.some
+            (are-asked (with_regions c gs) q m asks may r.hidden r.facts) (mode (with_regions c gs) q m asks may r.hidden r.facts);
+        stands = record {
+          sound = here.sound;
+          schema = refl;
+          within = here.within;
+          client = record {
+            hidden = asked_hidden r.hidden m;
+            facts = facts;
+            same = ap (λ n. asked old (n + 1)) r.facts.queries;
+            are_true = o.1.are_true;
+          };
+        };
+      }
+
+  -- for every past that the client stood for
+  pub query-sent : (new : Client) (step : QueryStep) → ((h : Hidden) → Facts c h → IsReady c m h drops gs) → IsSent (with_regions c gs) q asks drops new step → Stands c → Queries c m new step
+  query-sent new step each (is_down down) stands = record {
+    by_rules = over c (λ db past. Goes db (SaysQuery past (Down c.cuts drops)) (rules.QueryStep (basis_of db c.store.limits) past (Ok m)) (with_regions c gs)) (λ h f. down-goes h (each h f) down);
+    stands = let r = each stands.0 stands.1 in (r.hidden, r.facts);
+  }
+  query-sent new step each (is_sent up) stands = record {
+    by_rules = over c (λ db past. Goes db (SaysQuery past (asked_step (next_ask (with_regions c gs) q asks) drops)) (rules.QueryStep (basis_of db c.store.limits) past (Ok m)) gone) (λ h f. sent-goes h f (each h f) up);
+    stands = let r = each stands.0 stands.1 in (asked_hidden r.hidden m, sent-facts (with_regions c gs) q m asks may r.hidden r.facts);
+  }
+
+-- the rest of a query is asked
+pub query-asks : (c : Client) (q : Query) (m : model.Query) (asks : List AskPart) (new : Client) (step : QueryStep) → MayAsk c q m asks → IsSent c q asks [] new step → Stands c → Queries c m new step
+query-asks c q m asks new step may sent stands = query-sent c q m asks [] c.store.regions may new step (ready-still c m) sent stands
+
+-- ---- all is dropped first
+
+-- the part has rects, and with those that cover it they make too large a grid
+record IsLarge (schema : List Table) (regions : List Region) (part : Part) : Type 0 where
+  some : part.rects ≡ [] → ⊥
+  large : most_rects < grid (table_at schema part.table).columns (part.rects ++ cover_of part regions)
+
+-- the one part is so
+large-one : (schema : List Table) (regions : List Region) (parts : List Part) (part : Part) → parts ≡ part ∷ [] → IsOver schema regions parts → IsLarge schema regions part
+large-one schema regions parts part own over = by part.rects refl
+  where
+    columns : List Column
+    columns = (table_at schema part.table).columns
+
+    own_grid : sum_by (grid_of_part schema regions) parts ≡ grid_of_part schema regions part
+    own_grid = ap (sum_by (grid_of_part schema regions)) own ∙ (sum_by-cons (grid_of_part schema regions) part [] ∙ omega arith)
+
+    large : most_rects < grid_with columns (cover_of part regions) part.rects
+    large = omega (arith, over, own_grid)
+
+    by : (rects : List Rect) → part.rects ≡ rects → IsLarge schema regions part
+    by [] e = absurd (let none : most_rects < 0 = subst (λ rs. most_rects < grid_with columns (cover_of part regions) rs) e large in omega (arith, none))
+    by (r ∷ rects) e =
+        let own = subst (λ rs. most_rects < grid_with columns (cover_of part regions) rs) e large in
+        record { some = λ none. absurd (let wrong : r ∷ rects ≡ [] = sym e ∙ none in cc); large = subst (λ rs. most_rects < grid columns (rs ++ cover_of part regions)) (sym e) own }
+
+-- so it is asked
+pub some-asked : (parts : List Part) (part : Part) → parts ≡ part ∷ [] → (part.rects ≡ [] → ⊥) → whole_asks parts ≡ [] → ⊥
+some-asked parts part own some none = by part.rects refl
+  where
+    by : (rects : List Rect) → part.rects ≡ rects → ⊥
+    by [] e = some e
+    by (r ∷ rects) e =
+        let here : entry_of part.table part.need part.rects ++ [] ≡ [] = sym (ap whole_asks own) ∙ none in
+        let there : entry_of part.table part.need (r ∷ rects) ++ [] ≡ [] = subst (λ rs. entry_of part.table part.need rs ++ [] ≡ []) e here in
+        absurd (cc)
+
+-- the load is too high
+load-heavy : (c : Client) (h : Hidden) (q : Query) (m : model.Query) (one : IsOneQuery c.schema q m) → Facts c h → IsLarge c.schema c.store.regions one.part
+    → IsHeavy c.schema h.marks [] m (counted h.counted_from (h.queries ++ record { query = m; answered = false } ∷ []))
+load-heavy c h q m one f large =
+    let s = c.schema in
+    let regions = c.store.regions in
+    let all : List model.Query = counted h.counted_from h.queries in
+    let more : counted h.counted_from (h.queries ++ record { query = m; answered = false } ∷ []) ≡ all ++ m ∷ [] = counted-more h.counted_from h.queries (record { query = m; answered = false }) f.from in
+    let fit : list_all (rect_fits (table_at s one.part.table).columns) (one.part.rects ++ cover_of one.part regions) ≡ true =
+    list_all-append (rect_fits (table_at s one.part.table).columns) one.part.rects (cover_of one.part regions) ∙ rw (part-fits s one.part one.meant one.is, cover-fits s one.part regions f.store.each) refl in
+    let same : (one.meant.table == one.part.table) ≡ true = let e = one.is.table in grind (arith, nat_tests, e) in
+    let named : list_any (λ (part : model.Part). part.table == one.part.table) m.parts ≡ true =
+    subst (λ ps. list_any (λ (part : model.Part). part.table == one.part.table) ps ≡ true) (sym one.meant_parts) (rw same refl) in
+    let ends : EndWith s (all ++ m ∷ []) one.part.table (one.part.rects ++ cover_of one.part regions) =
+    end-append s (all ++ m ∷ []) one.part.table one.part.rects (cover_of one.part regions) (part-end s all m one.part one.meant one.meant_parts one.is)
+    (cover-end s (all ++ m ∷ []) one.part regions (regions-more s all (m ∷ []) regions f.ends)) in
+    subst (IsHeavy s h.marks [] m) (sym more)
+    (heavy-table s h.marks m (all ++ m ∷ []) one.part.table (one.part.rects ++ cover_of one.part regions) (part-table s one.part one.meant one.is one.sound) named fit ends large.large)
+
+-- what is hidden once all is dropped before the next query
+abbrev dropped_hidden : Hidden → List Mark → Hidden
+dropped_hidden h drops = record h { marks = with_marks h.marks drops; counted_from = length h.queries + 1 }
+
+facts-dropped : (c : Client) (h : Hidden) → Facts c h → c.out ≡ None → Facts (with_regions c []) (dropped_hidden h (map (drop_of Pieces) c.store.regions))
+facts-dropped c h f out =
+    let new : Hidden = dropped_hidden h (map (drop_of Pieces) c.store.regions) in
+    record {
+      tables = f.tables;
+      tidy = subst (λ o. IsTidyWith c.schema (past_of (with_regions c []) (dropped_hidden h (map (drop_of Pieces) c.store.regions))) (out_of h.meaning o)) (sym out) (none-laid c h f out);
+      meant = subst (IsMeant c.schema (counted (length h.queries + 1) h.queries) h.meaning) (sym out) tt;
+      fit = f.fit;
+      store = none_store c.schema c.store.regions f.store;
+      keeps = dropped_marks c.schema Pieces h.marks (stamp h.queries) c.store.regions f.keeps;
+      queries = f.queries;
+      last = f.last;
+      rows = omega arith;
+      few = omega arith;
+      from = omega arith;
+      ends = All-nil (λ (g : Region). EndWith c.schema (counted (length h.queries + 1) h.queries) g.table g.rects);
+    }
+
+-- all is dropped; where nothing was held the client stays as it is
+ready-dropped : (c : Client) (q : Query) (m : model.Query) (one : IsOneQuery c.schema q m) → c.out ≡ None → IsLarge c.schema c.store.regions one.part → (h : Hidden) → Facts c h
+    → IsReady c m h (map (drop_of Pieces) c.store.regions) []
+ready-dropped c q m one out large h f = by c.store.regions refl
+  where
+    by : (gs : List Region) → c.store.regions ≡ gs → IsReady c m h (map (drop_of Pieces) c.store.regions) []
+    by [] none =
+        let still : IsReady c m h [] c.store.regions = ready-still c m h f in
+        subst (λ rs. IsReady c m h (map (drop_of Pieces) rs) []) (sym none) (subst (IsReady c m h []) none still)
+    by (g ∷ gs) some = record {
+      hidden = dropped_hidden h (map (drop_of Pieces) c.store.regions);
+      facts = facts-dropped c h f out;
+      over = λ db here. (
+        emptied (map (drop_of Pieces) c.store.regions) (record {
+          heavy = load-heavy c h q m one f large;
+          all = drops_all c.schema h.marks h.queries Pieces c.store.regions (have-first c.schema f.tables) f.store.each f.store.order f.keeps;
+          some = subst (λ rs. 0 < length (map (drop_of Pieces) rs)) (sym some) (omega arith);
+        }),
+        record { sound = here.sound; within = here.within; are_true = All-nil (IsTrueOf (told_of (tables_of db c.version))) },
+      );
+    }
+
+-- one part at most is asked
+pub whole-few : (schema : List Table) (q : Query) (m : model.Query) → IsMeaning schema q m → length (whole_asks q.parts) ≤ 4
+whole-few schema q m is =
+    let one = one-query schema q m is in
+    subst (λ ps. length (whole_asks ps) ≤ 4) (sym one.parts) (by one.part.table one.part.need one.part.rects)
+  where
+    by : (table need : ℕ) (rects : List Rect) → length (entry_of table need rects ++ []) ≤ 4
+    by table need [] = omega arith
+    by table need (r ∷ rects) = omega arith
+
+-- in few rects
+pub whole-rects : (schema : List Table) (q : Query) (m : model.Query) → IsMeaning schema q m → count_asked (whole_asks q.parts) ≤ most_rects
+whole-rects schema q m is =
+    let narrow = whole-narrow schema q.parts (are-meant schema q m is) in
+    let few = whole-few schema q m is in
+    let sum = sum_by-le (λ (ask : AskPart). length ask.rects) 64 (whole_asks q.parts) narrow in
+    omega (arith, few, sum)
+
+pub query-drops : (c : Client) (q : Query) (m : model.Query) (drops : List Mark) (new : Client) (step : QueryStep) → c.out ≡ None → IsMeaning c.schema q m → IsOver c.schema c.store.regions q.parts
+    → drops ≡ map (drop_of Pieces) c.store.regions → IsSent (with_regions c []) q (whole_asks q.parts) drops new step → Stands c → Queries c m new step
+query-drops c q m drops new step out is over drops_are sent stands =
+    let s = c.schema in
+    let one = one-query s q m is in
+    let large = large-one s c.store.regions q.parts one.part one.parts over in
+    let may : MayAsk (with_regions c []) q m (whole_asks q.parts) = record {
+      out = out;
+      is = is;
+      rest = subst (λ ps. AsksRest s [] ps (whole_asks ps)) (sym one.parts) (asks-whole s one.part one.meant one.is one.sound (have-first s stands.1.tables));
+      along = whole-along s q.parts;
+      some = some-asked q.parts one.part one.parts large.some;
+      few = whole-rects s q m is;
+    } in
+    query-sent c q m (whole_asks q.parts) (map (drop_of Pieces) c.store.regions) [] may new step (ready-dropped c q m one out large)
+    (subst (λ ms. IsSent (with_regions c []) q (whole_asks q.parts) ms new step) drops_are sent) stands

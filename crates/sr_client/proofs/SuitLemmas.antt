@@ -1,0 +1,366 @@
+-- What is known of messages that were not refused.
+use Rattle.std.proofs.Common.{◌≡◌, ℕ, zero, suc, ◌+◌, ◌-◌, ◌<◌, ◌≤◌, Bool, true, false, List, [], ◌∷◌, ◌++◌, length, map, refl, sym, ◌∙◌, ap, subst, arith, Option, Some, None, append_assoc, append-nil, slice_index_or}
+use Rattle.std.specs.Prelude.{ℤ, not, ◌&&◌, ◌||◌, ◌==◌, nat_lt, nat_le, max, slice_get, if◌then◌else◌}
+use Rattle.std.specs.List.{list_all, list_any, All}
+use Rattle.std.proofs.lemmas.Bool.Decides.{nat_tests}
+use Rattle.std.proofs.lemmas.List.Elements.{All-nil, All-cons, All-head, All-tail}
+use Rattle.sr_cell.specs.declared.cell.Cell.{Cell}
+use Rattle.sr_cell.specs.declared.cell.Cell.TheVariants.{Num, Str}
+use Rattle.sr_cell.specs.declared.table.Kind.{Kind}
+use Rattle.sr_cell.specs.declared.table.Kind.TheVariants.{Num as Numbers, Str as Texts}
+use Rattle.sr_cell.specs.declared.table.Column.{Column}
+use Rattle.sr_cell.specs.declared.table.Table.{Table}
+use Rattle.sr_cell.specs.Attrs.{has_column, project, project_from}
+use Rattle.sr_cell.specs.Cells.{Row, cell_at, cell_eq}
+use Rattle.sr_cell.specs.Columns.{table_at, is_point, in_column, in_kind, takes_cell, takes_kind, fits_columns}
+use Rattle.sr_box.specs.Points.{Rect}
+use Rattle.sr_box.proofs.Order.{cell_eq-sound}
+use Rattle.sr_box.specs.Corners.{first_value}
+use Rattle.sr_union.specs.Grid.{have_first}
+use Rattle.sr_message.specs.declared.message.AskPart.{AskPart}
+use Rattle.sr_message.specs.declared.message.Message.{Message}
+use Rattle.sr_message.specs.declared.message.Message.TheVariants.{Hello, Resume, Ask, Write, Welcome, Notice, Rows, Reply, Written, Refused, Lapse}
+use Rattle.sr_message.specs.declared.message.Tell.{Tell}
+use Rattle.sr_model.specs.Queries.{Query}
+use Rattle.sr_model.specs.SortedRows.{ascend, key_lt}
+use Rattle.sr_region.specs.Applied.{IsNew}
+use Rattle.sr_region.specs.Regions.{rank, is_in, IsRowIn}
+use Rattle.sr_store.specs.Noticed.{IsTellOf}
+use Rattle.sr_wire.specs.declared.bad_frame.BadFrame.{BadFrame}
+use Rattle.sr_wire.specs.declared.bad_frame.BadFrame.TheVariants.{State, Number, Version, Shape}
+use Rattle.sr_session.specs.Walks.{Request, AskOut, IsAskOf, IsLaid}
+use Rattle.sr_session.specs.Misfits.{misfit, or_else, known, version_of, is_ask, is_number, parts_of, cells_fit, last_row, last_came, goes_on, ask_at, fit_ask, suits, rows_suit, tell_suits, told_suits, tells_ascend}
+use Rattle.sr_session.specs.Arrivals.{arrived_at}
+use Rattle.sr_client.specs.Laying.{TellsRows}
+use Rattle.sr_client.specs.Stands.{AreFit}
+use Rattle.sr_client.specs.Values.{is_value, are_values, tells_values, has_values}
+
+-- ---- Booleans
+
+and-left : (a b : Bool) → (a && b) ≡ true → a ≡ true
+and-left true b h = refl
+and-left false b h = h
+
+and-right : (a b : Bool) → (a && b) ≡ true → b ≡ true
+and-right true b h = h
+and-right false b h = absurd (cc)
+
+pub or-none : (b : Bool) (why : BadFrame) (later : Option BadFrame) → or_else b why later ≡ None → b ≡ false
+or-none true why later e = absurd (cc)
+or-none false why later e = refl
+
+pub or-later : (b : Bool) (why : BadFrame) (later : Option BadFrame) → or_else b why later ≡ None → later ≡ None
+or-later true why later e = absurd (cc)
+or-later false why later e = e
+
+pub not-false : (b : Bool) → not b ≡ false → b ≡ true
+not-false true e = refl
+not-false false e = absurd (cc)
+
+-- ---- cells
+
+takes-in : (k : Kind) (low high : ℤ) (v : Cell) → takes_kind k low high v ≡ true → is_value v ≡ true → in_kind k low high v ≡ true
+takes-in Numbers low high (Num n) takes value = takes
+takes-in Numbers low high (Str s) takes value = absurd (cc)
+takes-in Texts low high (Num n) takes value = absurd (cc)
+takes-in Texts low high (Str s) takes value = value
+
+fits-point : (columns : List Column) (row : Row) → fits_columns columns row ≡ true → are_values row ≡ true → is_point columns row ≡ true
+fits-point [] [] fits values = refl
+fits-point [] (v ∷ row) fits values = absurd (cc)
+fits-point (c ∷ columns) [] fits values = absurd (cc)
+fits-point (c ∷ columns) (v ∷ row) fits values =
+    let one = takes-in c.kind c.lo c.hi v (and-left (takes_cell c v) (fits_columns columns row) fits) (and-left (is_value v) (are_values row) values) in
+    let more = fits-point columns row (and-right (takes_cell c v) (fits_columns columns row) fits) (and-right (is_value v) (are_values row) values) in
+    rw (one, more) refl
+
+-- ---- what is told
+
+after-new : (table : Table) (key : Cell) (after : Option Row)
+    → (elim after as (λ after. Bool) [ None ↦ true | Some row ↦ fits_columns table.columns row && cell_eq (cell_at row table.key) key ]) ≡ true
+    → (elim after as (λ after. Bool) [ None ↦ true | Some row ↦ are_values row ]) ≡ true → IsNew table key after
+after-new table key None suits values = tt
+after-new table key (Some row) suits values = (
+  fits-point table.columns row (and-left (fits_columns table.columns row) (cell_eq (cell_at row table.key) key) suits) values,
+  cell_eq-sound (cell_at row table.key) key (and-right (fits_columns table.columns row) (cell_eq (cell_at row table.key) key) suits),
+)
+
+is-tell : (schema : List Table) (tell : Tell) → tell_suits schema tell ≡ true → tells_values tell ≡ true → IsTellOf schema tell
+is-tell schema tell suits values =
+    let table : Table = table_at schema tell.table in
+    let within : nat_lt tell.table (length schema) ≡ true = and-left (nat_lt tell.table (length schema)) _ suits in
+    let rest = and-right (nat_lt tell.table (length schema)) _ suits in
+    (grind (arith, nat_tests, within), after-new (table_at schema tell.table) tell.key tell.after (and-right _ _ rest) values)
+
+all-tell : (schema : List Table) (told : List Tell) → list_all (tell_suits schema) told ≡ true → list_all tells_values told ≡ true → All (IsTellOf schema) told
+all-tell schema [] suits values = All-nil (IsTellOf schema)
+all-tell schema (tell ∷ told) suits values =
+    All-cons (IsTellOf schema) tell told
+    (is-tell schema tell (and-left (tell_suits schema tell) (list_all (tell_suits schema) told) suits) (and-left (tells_values tell) (list_all tells_values told) values))
+    (all-tell schema told (and-right (tell_suits schema tell) (list_all (tell_suits schema) told) suits) (and-right (tells_values tell) (list_all tells_values told) values))
+
+pub are-tells : (schema : List Table) (told : List Tell) → told_suits schema told ≡ true → list_all tells_values told ≡ true → All (IsTellOf schema) told
+are-tells schema told suits values = all-tell schema told (and-left (list_all (tell_suits schema) told) (tells_ascend told) suits) values
+
+-- of a notice against which nothing stands
+pub fit-tells : (schema : List Table) (out : Option Request) (laid : List Message) (version w : ℕ) (told : List Tell) → misfit schema out laid version (Notice w told) ≡ None → list_all tells_values told ≡ true
+    → All (IsTellOf schema) told
+fit-tells schema out laid version w told fit values =
+    are-tells schema told
+    (not-false (told_suits schema told) (or-none (not (told_suits schema told)) Shape None (or-later (nat_le w (known version laid)) Version (or_else (not (told_suits schema told)) Shape None) fit))) values
+
+-- ---- versions
+
+max-least : (a b : ℕ) → a ≤ max a b
+max-least a b = grind (arith, nat_tests)
+
+version-least : (m : Message) (v : ℕ) → v ≤ version_of m v
+version-least (Notice w told) v = max-least v w
+version-least (Lapse w) v = max-least v w
+version-least (Rows k part rows) v = omega arith
+version-least (Reply k w) v = omega arith
+version-least (Written k w) v = omega arith
+version-least (Refused k fault) v = omega arith
+version-least (Welcome k w kept) v = omega arith
+version-least (Hello client number) v = omega arith
+version-least (Resume client number version holdings) v = omega arith
+version-least (Ask number fresh parts) v = omega arith
+version-least (Write number sql) v = omega arith
+
+pub known-least : (v : ℕ) (ms : List Message) → v ≤ known v ms
+known-least v [] = omega arith
+known-least v (m ∷ ms) = let one = version-least m v in let more = known-least (version_of m v) ms in omega (arith, one, more)
+
+above : (n k : ℕ) → nat_le n k ≡ false → k < n
+above n k e = grind (arith, nat_tests)
+
+pub notice-later : (schema : List Table) (out : Option Request) (laid : List Message) (version w : ℕ) (told : List Tell) → misfit schema out laid version (Notice w told) ≡ None → version < w
+notice-later schema out laid version w told fit =
+    let least = known-least version laid in
+    let up = above w (known version laid) (or-none (nat_le w (known version laid)) Version (or_else (not (told_suits schema told)) Shape None) fit) in
+    omega (arith, least, up)
+
+pub lapse-later : (schema : List Table) (out : Option Request) (laid : List Message) (version w : ℕ) → misfit schema out laid version (Lapse w) ≡ None → version < w
+lapse-later schema out laid version w fit =
+    let least = known-least version laid in
+    let up = above w (known version laid) (or-none (nat_le w (known version laid)) Version None fit) in
+    omega (arith, least, up)
+
+not-below : (n k : ℕ) → nat_lt n k ≡ false → k ≤ n
+not-below n k e = grind (arith, nat_tests)
+
+pub reply-later : (schema : List Table) (out : Option Request) (laid : List Message) (version k w : ℕ) → misfit schema out laid version (Reply k w) ≡ None → version ≤ w
+reply-later schema out laid version k w fit =
+    let least = known-least version laid in
+    let past_state = or-later (not (is_ask out)) State (or_else (not (is_number out k)) Number (or_else (nat_lt w (known version laid)) Version None)) fit in
+    let past_number = or-later (not (is_number out k)) Number (or_else (nat_lt w (known version laid)) Version None) past_state in
+    let up = not-below w (known version laid) (or-none (nat_lt w (known version laid)) Version None past_number) in
+    omega (arith, least, up)
+
+-- ---- rows of some columns
+
+first-in : (c : Column) (columns : List Column) → have_first (c ∷ columns) ≡ true → in_column c (first_value c.kind c.lo) ≡ true
+first-in c columns first = and-left (in_column c (first_value c.kind c.lo)) (have_first columns) first
+
+both-true : (a b : Bool) → a ≡ true → b ≡ true → (a && b) ≡ true
+both-true a b h k = grind arith
+
+-- one cell more of the point
+skip-one : (attrs c : ℕ) (v : Cell) (p row : Row) → has_column attrs c ≡ false → project_from (c + 1) attrs p ≡ row → project_from c attrs (v ∷ p) ≡ row
+skip-one attrs c v p row lacks rest = rw lacks rest
+
+keep-one : (attrs c : ℕ) (v : Cell) (p row : Row) → has_column attrs c ≡ true → project_from (c + 1) attrs p ≡ row → project_from c attrs (v ∷ p) ≡ v ∷ row
+keep-one attrs c v p row has rest = rw has (ap (λ r. v ∷ r) rest)
+
+-- a row of the asked columns is that part of some point
+part-of : (attrs c : ℕ) (columns : List Column) (row : Row) → have_first columns ≡ true → cells_fit attrs c columns row ≡ true → are_values row ≡ true
+    → (p : Row) × (is_point columns p ≡ true) × (project_from c attrs p ≡ row)
+part-of attrs c [] [] first fit values = ([], refl, refl)
+part-of attrs c [] (v ∷ row) first fit values = absurd (cc)
+part-of attrs c (column ∷ columns) [] first fit values =
+    let lacks : not (has_column attrs c) ≡ true = and-left (not (has_column attrs c)) (cells_fit attrs (c + 1) columns []) fit in
+    let more = part-of attrs (c + 1) columns [] (and-right (in_column column (first_value column.kind column.lo)) (have_first columns) first) (and-right (not (has_column attrs c)) (cells_fit attrs (c + 1) columns []) fit) refl in
+    let own = first-in column columns first in
+    let none : has_column attrs c ≡ false = grind (arith, lacks) in (
+      first_value column.kind column.lo ∷ more.0,
+      both-true (in_column column (first_value column.kind column.lo)) (is_point columns more.0) own more.1,
+      skip-one attrs c (first_value column.kind column.lo) more.0 [] none more.2,
+    )
+part-of attrs c (column ∷ columns) (v ∷ row) first fit values =
+    let rest = and-right (in_column column (first_value column.kind column.lo)) (have_first columns) first in
+    go (has_column attrs c) refl fit (λ own. part-of attrs (c + 1) columns row rest own (and-right (is_value v) (are_values row) values)) (λ own. part-of attrs (c + 1) columns (v ∷ row) rest own values)
+  where
+    go : (b : Bool) → has_column attrs c ≡ b → (if b then takes_cell column v && cells_fit attrs (c + 1) columns row else cells_fit attrs (c + 1) columns (v ∷ row)) ≡ true
+        → (cells_fit attrs (c + 1) columns row ≡ true → (p : Row) × (is_point columns p ≡ true) × (project_from (c + 1) attrs p ≡ row))
+        → (cells_fit attrs (c + 1) columns (v ∷ row) ≡ true → (p : Row) × (is_point columns p ≡ true) × (project_from (c + 1) attrs p ≡ v ∷ row))
+        → (p : Row) × (is_point (column ∷ columns) p ≡ true) × (project_from c attrs p ≡ v ∷ row)
+    go true has fit with_own without =
+        let more = with_own (and-right (takes_cell column v) (cells_fit attrs (c + 1) columns row) fit) in
+        let own = takes-in column.kind column.lo column.hi v (and-left (takes_cell column v) (cells_fit attrs (c + 1) columns row) fit) (and-left (is_value v) (are_values row) values) in
+        (v ∷ more.0, both-true (in_column column v) (is_point columns more.0) own more.1, keep-one attrs c v more.0 row has more.2)
+    go false lacks fit with_own without =
+        let more = without fit in
+        let own = first-in column columns first in (
+          first_value column.kind column.lo ∷ more.0,
+          both-true (in_column column (first_value column.kind column.lo)) (is_point columns more.0) own more.1,
+          skip-one attrs c (first_value column.kind column.lo) more.0 (v ∷ row) lacks more.2,
+        )
+
+rows-in : (schema : List Table) (ask : AskPart) (rows : List Row) → have_first (table_at schema ask.table).columns ≡ true → fit_ask schema ask rows ≡ true → list_all are_values rows ≡ true
+    → All (IsRowIn (table_at schema ask.table).columns ask.attrs ask.rects) rows
+rows-in schema ask [] first fit values = All-nil (IsRowIn (table_at schema ask.table).columns ask.attrs ask.rects)
+rows-in schema ask (row ∷ rows) first fit values =
+    let cs = (table_at schema ask.table).columns in
+    let one : (cells_fit ask.attrs 0 (table_at schema ask.table).columns row && is_in ask.attrs ask.rects row) ≡ true =
+    and-left (cells_fit ask.attrs 0 (table_at schema ask.table).columns row && is_in ask.attrs ask.rects row) (fit_ask schema ask rows) fit in
+    All-cons (IsRowIn (table_at schema ask.table).columns ask.attrs ask.rects) row rows (
+      part-of ask.attrs 0 cs row first (and-left (cells_fit ask.attrs 0 cs row) (is_in ask.attrs ask.rects row) one) (and-left (are_values row) (list_all are_values rows) values),
+      and-right (cells_fit ask.attrs 0 cs row) (is_in ask.attrs ask.rects row) one,
+    )
+    (rows-in schema ask rows first (and-right (cells_fit ask.attrs 0 cs row && is_in ask.attrs ask.rects row) (fit_ask schema ask rows) fit) (and-right (are_values row) (list_all are_values rows) values))
+
+-- ---- all rows that are laid by
+
+all-append : (P : Row → Type 0) (xs ys : List Row) → All P xs → All P ys → All P (xs ++ ys)
+all-append P [] ys a b = b
+all-append P (x ∷ xs) ys a b = All-cons P x (xs ++ ys) (All-head P x xs a) (all-append P xs ys (All-tail P x xs a) b)
+
+-- the last of some rows
+abbrev last_of : Row → List Row → Row
+last_of r [] = r
+last_of r (s ∷ rows) = last_of s rows
+
+last-is : (r : Row) (rows : List Row) → slice_index_or (r ∷ rows) (length (r ∷ rows) - 1) [] ≡ last_of r rows
+last-is r [] = refl
+last-is r (s ∷ rows) =
+    let less : length (r ∷ s ∷ rows) - 1 ≡ suc (length (s ∷ rows) - 1) = omega arith in
+    ap (λ n. slice_index_or (r ∷ s ∷ rows) n []) less ∙ last-is s rows
+
+last-behind : (r : Row) (rows : List Row) (s : Row) (more : List Row) → last_of r (rows ++ s ∷ more) ≡ last_of s more
+last-behind r [] s more = refl
+last-behind r (x ∷ rows) s more = last-behind x rows s more
+
+ascend-join : (key : ℕ) (r : Row) (rows more : List Row) → ascend key (r ∷ rows) ≡ true → ascend key (last_of r rows ∷ more) ≡ true → ascend key ((r ∷ rows) ++ more) ≡ true
+ascend-join key r [] more a b = b
+ascend-join key r (s ∷ rows) more a b =
+    let one : key_lt key r s ≡ true = and-left (key_lt key r s) (ascend key (s ∷ rows)) a in
+    let rest = ascend-join key s rows more (and-right (key_lt key r s) (ascend key (s ∷ rows)) a) b in
+    rw (one, rest) refl
+
+pub came-append : (last : Option (ℕ × Row)) (xs ys : List Message) → last_came last (xs ++ ys) ≡ last_came (last_came last xs) ys
+came-append last [] ys = refl
+came-append last (Rows k part rows ∷ xs) ys = came-append (last_row last part rows) xs ys
+came-append last (Notice w told ∷ xs) ys = came-append last xs ys
+came-append last (Lapse w ∷ xs) ys = came-append last xs ys
+came-append last (Reply k w ∷ xs) ys = came-append last xs ys
+came-append last (Written k w ∷ xs) ys = came-append last xs ys
+came-append last (Refused k fault ∷ xs) ys = came-append last xs ys
+came-append last (Welcome k w kept ∷ xs) ys = came-append last xs ys
+came-append last (Hello client number ∷ xs) ys = came-append last xs ys
+came-append last (Resume client number version holdings ∷ xs) ys = came-append last xs ys
+came-append last (Ask number fresh parts ∷ xs) ys = came-append last xs ys
+came-append last (Write number sql ∷ xs) ys = came-append last xs ys
+
+-- the last of the rows that came, which are of part 0
+abbrev last_at : List Row → Option (ℕ × Row)
+last_at rows = last_row None 0 rows
+
+last-more : (rows more : List Row) → last_row (last_at rows) 0 more ≡ last_at (rows ++ more)
+last-more rows [] = ap last_at (sym (append-nil rows))
+last-more [] (s ∷ more) = refl
+last-more (r ∷ rows) (s ∷ more) = ap (λ (x : Row). Some (0, x)) (last-is s more ∙ (sym (last-behind r rows s more) ∙ sym (last-is r (rows ++ s ∷ more))))
+
+goes-join : (key : ℕ) (rows more : List Row) → ascend key rows ≡ true → goes_on key 0 (last_at rows) more ≡ true → ascend key (rows ++ more) ≡ true
+goes-join key [] more a b = b
+goes-join key (r ∷ rows) more a b = ascend-join key r rows more a (subst (λ (x : Row). ascend key (x ∷ more) ≡ true) (last-is r rows) b)
+
+-- what is known of the rows that came
+pub record AreRows (schema : List Table) (ask : AskPart) (rows : List Row) : Type 0 where
+  pub each : All (IsRowIn (table_at schema ask.table).columns ask.attrs ask.rects) rows
+  pub ascending : ascend (rank ask.attrs (table_at schema ask.table).key) rows ≡ true
+
+module _ (schema : List Table) (ask : AskPart) (number query version : ℕ) (meaning : Query) (fresh : Bool) (first : have_first (table_at schema ask.table).columns ≡ true) where
+  abbrev out : Option Request
+  out = Some (AskOut number query meaning fresh (ask ∷ []))
+
+  abbrev key : ℕ
+  key = rank ask.attrs (table_at schema ask.table).key
+
+  only-first : (part : ℕ) → nat_lt part 1 ≡ true → part ≡ 0
+  only-first part below = grind (arith, nat_tests, below)
+
+  -- rows behind others
+  rows-more : (pre : List Message) (acc : List Row) (k part : ℕ) (rows : List Row) → misfit schema out pre version (Rows k part rows) ≡ None → last_came None pre ≡ last_at acc → list_all are_values rows ≡ true
+      → AreRows schema ask acc → (part ≡ 0) × AreRows schema ask (acc ++ rows)
+  rows-more pre acc k part rows fit last values a = (zero_is, record { each = all-append (IsRowIn (table_at schema ask.table).columns ask.attrs ask.rects) acc rows a.each own; ascending = goes-join key acc rows a.ascending goes })
+    where
+      suit : rows_suit schema (ask ∷ []) pre part rows ≡ true
+      suit = not-false (rows_suit schema (ask ∷ []) pre part rows) (or-none (not (rows_suit schema (ask ∷ []) pre part rows)) Shape None
+          (or-later (not (k == number)) Number (or_else (not (rows_suit schema (ask ∷ []) pre part rows)) Shape None) fit))
+
+      zero_is : part ≡ 0
+      zero_is = only-first part (and-left (nat_lt part 1) _ suit)
+
+      at-zero : suits schema (ask ∷ []) (last_at acc) 0 rows ≡ true
+      at-zero = subst (λ l. suits schema (ask ∷ []) l 0 rows ≡ true) last (subst (λ n. suits schema (ask ∷ []) (last_came None pre) n rows ≡ true) zero_is suit)
+
+      own : All (IsRowIn (table_at schema ask.table).columns ask.attrs ask.rects) rows
+      own = rows-in schema ask rows first (and-left (fit_ask schema ask rows) (goes_on key 0 (last_at acc) rows) at-zero) values
+
+      goes : goes_on key 0 (last_at acc) rows ≡ true
+      goes = and-right (fit_ask schema ask rows) (goes_on key 0 (last_at acc) rows) at-zero
+
+  -- what else comes leaves them
+  came-still : (pre : List Message) (acc : List Row) (m : Message) → last_came None pre ≡ last_at acc → last_came (last_at acc) (m ∷ []) ≡ last_at acc → last_came None (pre ++ m ∷ []) ≡ last_at acc
+  came-still pre acc m last same = came-append None pre (m ∷ []) ∙ (ap (λ l. last_came l (m ∷ [])) last ∙ same)
+
+  rows-on : (pre ms : List Message) (acc : List Row) → AreFit schema out version pre ms → last_came None pre ≡ last_at acc → list_all has_values ms ≡ true → AreRows schema ask acc
+      → AreRows schema ask (acc ++ arrived_at 0 ms)
+  rows-on pre [] acc fit last values a = subst (AreRows schema ask) (sym (append-nil acc)) a
+  rows-on pre (Rows k part rows ∷ ms) acc fit last values a =
+      let own = rows-more pre acc k part rows fit.0 last (and-left (list_all are_values rows) (list_all has_values ms) values) a in
+      let came : last_came None (pre ++ Rows k part rows ∷ []) ≡ last_at (acc ++ rows) =
+      came-append None pre (Rows k part rows ∷ []) ∙ (ap (λ l. last_row l part rows) last ∙ (ap (λ n. last_row (last_at acc) n rows) own.0 ∙ last-more acc rows)) in
+      let all = rows-on (pre ++ Rows k part rows ∷ []) ms (acc ++ rows) fit.1 came (and-right (list_all are_values rows) (list_all has_values ms) values) own.1 in
+      let brought : (if part == 0 then rows else []) ≡ rows = ap (λ n. if n == 0 then rows else []) own.0 in
+      subst (AreRows schema ask) (append_assoc acc rows (arrived_at 0 ms) ∙ ap (λ r. acc ++ (r ++ arrived_at 0 ms)) (sym brought)) all
+  rows-on pre (Notice w told ∷ ms) acc fit last values a =
+      rows-on (pre ++ Notice w told ∷ []) ms acc fit.1 (came-still pre acc (Notice w told) last refl) (and-right (list_all tells_values told) (list_all has_values ms) values) a
+  rows-on pre (Lapse w ∷ ms) acc fit last values a = rows-on (pre ++ Lapse w ∷ []) ms acc fit.1 (came-still pre acc (Lapse w) last refl) values a
+  rows-on pre (Reply k w ∷ ms) acc fit last values a = rows-on (pre ++ Reply k w ∷ []) ms acc fit.1 (came-still pre acc (Reply k w) last refl) values a
+  rows-on pre (Written k w ∷ ms) acc fit last values a = rows-on (pre ++ Written k w ∷ []) ms acc fit.1 (came-still pre acc (Written k w) last refl) values a
+  rows-on pre (Refused k fault ∷ ms) acc fit last values a = rows-on (pre ++ Refused k fault ∷ []) ms acc fit.1 (came-still pre acc (Refused k fault) last refl) values a
+  rows-on pre (Welcome k w kept ∷ ms) acc fit last values a = rows-on (pre ++ Welcome k w kept ∷ []) ms acc fit.1 (came-still pre acc (Welcome k w kept) last refl) values a
+  rows-on pre (Hello client n ∷ ms) acc fit last values a = absurd (let wrong = fit.0 in cc)
+  rows-on pre (Resume client n v holdings ∷ ms) acc fit last values a = absurd (let wrong = fit.0 in cc)
+  rows-on pre (Ask n mode parts ∷ ms) acc fit last values a = absurd (let wrong = fit.0 in cc)
+  rows-on pre (Write n sql ∷ ms) acc fit last values a = absurd (let wrong = fit.0 in cc)
+
+  -- all rows that were laid by
+  pub laid-rows : (laid : List Message) → AreFit schema out version [] laid → list_all has_values laid ≡ true → AreRows schema ask (arrived_at 0 laid)
+  laid-rows laid fit values = rows-on [] laid [] fit refl values (record { each = All-nil (IsRowIn (table_at schema ask.table).columns ask.attrs ask.rects); ascending = refl })
+
+-- ---- notices that are laid by
+
+pub laid-tells : (schema : List Table) (out : Option Request) (version : ℕ) (pre ms : List Message) → AreFit schema out version pre ms → list_all has_values ms ≡ true → All (TellsRows schema) ms
+laid-tells schema out version pre [] fit values = All-nil (TellsRows schema)
+laid-tells schema out version pre (Notice w told ∷ ms) fit values =
+    All-cons (TellsRows schema) (Notice w told) ms (fit-tells schema out pre version w told fit.0 (and-left (list_all tells_values told) (list_all has_values ms) values))
+    (laid-tells schema out version (pre ++ Notice w told ∷ []) ms fit.1 (and-right (list_all tells_values told) (list_all has_values ms) values))
+laid-tells schema out version pre (Rows k part rows ∷ ms) fit values =
+    All-cons (TellsRows schema) (Rows k part rows) ms tt (laid-tells schema out version (pre ++ Rows k part rows ∷ []) ms fit.1 (and-right (list_all are_values rows) (list_all has_values ms) values))
+laid-tells schema out version pre (Lapse w ∷ ms) fit values = All-cons (TellsRows schema) (Lapse w) ms tt (laid-tells schema out version (pre ++ Lapse w ∷ []) ms fit.1 values)
+laid-tells schema out version pre (Reply k w ∷ ms) fit values = All-cons (TellsRows schema) (Reply k w) ms tt (laid-tells schema out version (pre ++ Reply k w ∷ []) ms fit.1 values)
+laid-tells schema out version pre (Written k w ∷ ms) fit values = All-cons (TellsRows schema) (Written k w) ms tt (laid-tells schema out version (pre ++ Written k w ∷ []) ms fit.1 values)
+laid-tells schema out version pre (Refused k fault ∷ ms) fit values = All-cons (TellsRows schema) (Refused k fault) ms tt (laid-tells schema out version (pre ++ Refused k fault ∷ []) ms fit.1 values)
+laid-tells schema out version pre (Welcome k w kept ∷ ms) fit values = All-cons (TellsRows schema) (Welcome k w kept) ms tt (laid-tells schema out version (pre ++ Welcome k w kept ∷ []) ms fit.1 values)
+laid-tells schema out version pre (Hello client n ∷ ms) fit values = absurd (let wrong = fit.0 in cc)
+laid-tells schema out version pre (Resume client n v holdings ∷ ms) fit values = absurd (let wrong = fit.0 in cc)
+laid-tells schema out version pre (Ask n mode parts ∷ ms) fit values = absurd (let wrong = fit.0 in cc)
+laid-tells schema out version pre (Write n sql ∷ ms) fit values = absurd (let wrong = fit.0 in cc)
+
+-- one more is laid by
+pub fit-more : (schema : List Table) (out : Option Request) (version : ℕ) (pre ms : List Message) (m : Message) → AreFit schema out version pre ms → misfit schema out (pre ++ ms) version m ≡ None → AreFit schema out version pre (ms ++ m ∷ [])
+fit-more schema out version pre [] m fit one = (subst (λ laid. misfit schema out laid version m ≡ None) (append-nil pre) one, tt)
+fit-more schema out version pre (x ∷ ms) m fit one =
+    (fit.0, fit-more schema out version (pre ++ x ∷ []) ms m fit.1 (subst (λ laid. misfit schema out laid version m ≡ None) (sym (append_assoc pre (x ∷ []) ms)) one))

@@ -1,0 +1,91 @@
+use Rattle.std.proofs.Common.{◌≡◌, ◌<◌, ◌≤◌, ◌∷◌, [], ◌++◌, sym, subst, ap, true, get_or, arith}
+use Rattle.std.specs.List.{list_all}
+use Rattle.sr_box.specs.Points.{rect_fits, times}
+use Rattle.sr_cell.specs.declared.table.Table.{Table}
+use Rattle.sr_cell.specs.Cells.{Row}
+use Rattle.sr_cell.specs.Columns.{table_at, is_point}
+use Rattle.sr_message.specs.Sizes.{count_asked}
+use Rattle.sr_union.specs.Grid.{AreCutFrom, grid}
+use Rattle.sr_union.proofs.Once.{err_same}
+use Rattle.sr_union.specs.Pieces.{near}
+use Rattle.sr_union.proofs.Meets.{near-fits}
+use Rattle.sr_trim.specs.Left.{left_over}
+use Rattle.sr_store.specs.Stores.{cover_of}
+use Rattle.sr_client.specs.Asking.{AsksRest}
+use Rattle.sr_client.specs.Cutting.{AreCutAlong, grid_of_part}
+use Rattle.sr_client.proofs.Items.{table-read}
+use Rattle.sr_client.proofs.Covers.{cover-fits}
+use Rattle.sr_client.proofs.AskLemmas.{IsTrimmed, trimmed-same, asks-rest, rest-along, entry-count, sound-one}
+use Rattle.sr_client.proofs.Nearing.{near-left, near-cuts, rest-within, over-within}
+use Rattle.sr_client.proofs.TableLemmas.{have-first}
+use Rattle.sr_client.proofs.asks.rest_of.Goals as goal
+
+pub trim-requires-clause-cover_fits : goal.trim-requires-clause-cover_fits
+trim-requires-clause-cover_fits c =
+    let sound = sound-one c.args.schema.now c.args.part.now c.requires.meant in
+    let table = table-read c.args.schema.now c.args.part.now.table c.index-as_slice-part.result sound.within (subst (λ xs. c.index-as_slice-part.result ≡ get_or xs c.args.part.now.table c.index-as_slice-part.result) c.as_slice.ensures c.index-as_slice-part.is) in
+    let fits = cover-fits c.args.schema.now c.args.part.now c.args.store.now.regions c.requires.store.each in
+    let close = near-fits (table_at c.args.schema.now c.args.part.now.table).columns c.args.part.now.rects (cover_of c.args.part.now c.args.store.now.regions) fits in
+    subst (λ rects. list_all (rect_fits c.index-as_slice-part.result.columns) rects ≡ true) (sym c.in_ok-cover.ensures)
+    (subst (λ (t : Table). list_all (rect_fits t.columns) (near c.args.part.now.rects (cover_of c.args.part.now c.args.store.now.regions)) ≡ true) (sym table) close)
+
+pub returns-in-Ok-clause-asks : goal.returns-in-Ok-clause-asks
+returns-in-Ok-clause-asks c =
+    let sound = sound-one c.args.schema.now c.args.part.now c.requires.meant in
+    let table = table-read c.args.schema.now c.args.part.now.table c.index-as_slice-part.result sound.within (subst (λ xs. c.index-as_slice-part.result ≡ get_or xs c.args.part.now.table c.index-as_slice-part.result) c.as_slice.ensures c.index-as_slice-part.is) in
+    let trimmed : IsTrimmed c.index-as_slice-part.result.columns c.args.part.now.need (left_over c.args.part.now.rects c.in_ok-cover.cover) c.in-Ok.trimmed.attrs c.in-Ok.trimmed.rest =
+    record { fits = c.in-Ok.ensures.fits; points = c.in-Ok.ensures.points; bound = c.in-Ok.ensures.bound; shipped = c.in-Ok.ensures.columns; empty = c.in-Ok.ensures.empty; some = c.in-Ok.ensures.some } in
+    let of_table = subst (λ (t : Table). IsTrimmed t.columns c.args.part.now.need (left_over c.args.part.now.rects c.in_ok-cover.cover) c.in-Ok.trimmed.attrs c.in-Ok.trimmed.rest) table trimmed in
+    let of_cover = subst (λ rects. IsTrimmed (table_at c.args.schema.now c.args.part.now.table).columns c.args.part.now.need (left_over c.args.part.now.rects rects) c.in-Ok.trimmed.attrs c.in-Ok.trimmed.rest)
+    c.in_ok-cover.ensures of_table in
+    let all = cover_of c.args.part.now c.args.store.now.regions in
+    let of_all = trimmed-same (table_at c.args.schema.now c.args.part.now.table).columns c.args.part.now.need (left_over c.args.part.now.rects (near c.args.part.now.rects all))
+    (left_over c.args.part.now.rects all) c.in-Ok.trimmed.attrs c.in-Ok.trimmed.rest (λ p point. near-left c.args.part.now.rects all p) of_cover in
+    subst (AsksRest c.args.schema.now c.args.store.now.regions (c.args.part.now ∷ [])) (sym c.in_ok-entry_of-in-Ok.ensures)
+    (asks-rest c.args.schema.now c.args.store.now.regions c.args.part.now c.in-Ok.trimmed.attrs c.in-Ok.trimmed.rest of_all)
+
+pub returns-in-Ok-clause-cuts : goal.returns-in-Ok-clause-cuts
+returns-in-Ok-clause-cuts c =
+    let s = c.args.schema.now in
+    let gs = c.args.store.now.regions in
+    let part = c.args.part.now in
+    let sound = sound-one s part c.requires.meant in
+    let table = table-read s part.table c.index-as_slice-part.result sound.within (subst (λ xs. c.index-as_slice-part.result ≡ get_or xs part.table c.index-as_slice-part.result) c.as_slice.ensures c.index-as_slice-part.is) in
+    let cut = subst (λ (t : Table). AreCutFrom t.columns (part.rects ++ c.in_ok-cover.cover) c.in-Ok.trimmed.rest) table c.in-Ok.ensures.cuts in
+    let of_cover = subst (λ rects. AreCutFrom (table_at s part.table).columns (part.rects ++ rects) c.in-Ok.trimmed.rest) c.in_ok-cover.ensures cut in
+    let fits = cover-fits s part gs c.requires.store.each in
+    let of_all = near-cuts (table_at s part.table).columns part.rects (cover_of part gs) c.in-Ok.trimmed.rest sound.fits fits of_cover in
+    subst (AreCutAlong s gs (part ∷ [])) (sym c.in_ok-entry_of-in-Ok.ensures) (rest-along s gs part c.in-Ok.trimmed.attrs c.in-Ok.trimmed.rest of_all)
+
+pub returns-in-Ok-clause-rects : goal.returns-in-Ok-clause-rects
+returns-in-Ok-clause-rects c =
+    let count = entry-count c.args.part.now.table c.in-Ok.trimmed.attrs c.in-Ok.trimmed.rest in
+    subst (λ asks. count_asked asks ≤ c.args.room) (sym c.in_ok-entry_of-in-Ok.ensures) (omega (arith, count, c.in-Ok.ensures.few))
+
+pub returns-in-Ok-clause-grid : goal.returns-in-Ok-clause-grid
+returns-in-Ok-clause-grid c =
+    let s = c.args.schema.now in
+    let gs = c.args.store.now.regions in
+    let part = c.args.part.now in
+    let rest = c.in-Ok.trimmed.rest in
+    let sound = sound-one s part c.requires.meant in
+    let table = table-read s part.table c.index-as_slice-part.result sound.within (subst (λ xs. c.index-as_slice-part.result ≡ get_or xs part.table c.index-as_slice-part.result) c.as_slice.ensures c.index-as_slice-part.is) in
+    let cut = subst (λ (t : Table). AreCutFrom t.columns (part.rects ++ c.in_ok-cover.cover) rest) table c.in-Ok.ensures.cuts in
+    let of_cover = subst (λ rects. AreCutFrom (table_at s part.table).columns (part.rects ++ rects) rest) c.in_ok-cover.ensures cut in
+    let once = subst (λ (t : Table). (p : Row) → is_point t.columns p ≡ true → times rest p ≤ 1) table c.in-Ok.ensures.once in
+    let none : part.rects ≡ [] → rest ≡ [] = λ none. c.in-Ok.ensures.empty.1 (λ p point. ap (λ rects. left_over rects c.in_ok-cover.cover p) none) in
+    let few = rest-within (table_at s part.table).columns part.rects (cover_of part gs) rest (have-first s c.requires.tables part.table) sound.fits (cover-fits s part gs c.requires.store.each) of_cover once none in
+    let count = entry-count part.table c.in-Ok.trimmed.attrs rest in
+    subst (λ asks. count_asked asks ≤ grid_of_part s gs part) (sym c.in_ok-entry_of-in-Ok.ensures) (omega (arith, count, few))
+
+pub returns-clause-over : goal.returns-clause-over
+returns-clause-over c = λ e.
+    let s = c.args.schema.now in
+    let gs = c.args.store.now.regions in
+    let part = c.args.part.now in
+    let sound = sound-one s part c.requires.meant in
+    let table = table-read s part.table c.index-as_slice-part.result sound.within (subst (λ xs. c.index-as_slice-part.result ≡ get_or xs part.table c.index-as_slice-part.result) c.as_slice.ensures c.index-as_slice-part.is) in
+    let refused = err_same c.in-Err.no _ e in
+    let of_table = subst (λ (t : Table). c.args.room < grid t.columns (part.rects ++ c.in_ok-cover.cover)) table (c.in-Err.ensures.over refused) in
+    let of_cover = subst (λ rects. c.args.room < grid (table_at s part.table).columns (part.rects ++ rects)) c.in_ok-cover.ensures of_table in
+    over-within (table_at s part.table).columns part.rects (cover_of part gs) c.args.room sound.fits (cover-fits s part gs c.requires.store.each) (c.in-Err.ensures.over_some refused) of_cover

@@ -1,0 +1,6 @@
+use Rattle.std.proofs.Common.{◌≡◌, drop}
+use Rattle.sr_client.specs.Values.{are_values}
+use Rattle.sr_client.proofs.values.know_row.Given as goal
+
+abbrev pub invariant-loop-cell : goal.invariant-loop-cell
+invariant-loop-cell l = are_values (drop l.cell-index l.cell-items) ≡ are_values l.cell-items

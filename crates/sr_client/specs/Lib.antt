@@ -1,0 +1,11 @@
+pub mod Answering
+pub mod Asking
+pub mod Bound
+pub mod Cutting
+pub mod Arriving
+pub mod Sending
+pub mod Shapes
+pub mod Stands
+pub mod Steps
+pub mod Values
+pub mod Laying

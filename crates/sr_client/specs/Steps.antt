@@ -1,0 +1,112 @@
+-- What the calls of a client answer, and that it is what the rules allow.
+use Rattle.std.specs.Prelude.{ℕ, Bool, true, false, ◌≡◌, List, [], ◌∷◌, ◌++◌, Option, Some, None, Ok}
+use Rattle.sr_cell.specs.declared.cause.Cause.TheVariants.{Asked as AskedCause}
+use Rattle.sr_message.specs.declared.message.AskPart.{AskPart}
+use Rattle.sr_message.specs.declared.message.Message.{Message}
+use Rattle.sr_message.specs.declared.message.Message.TheVariants.{Ask}
+use Rattle.sr_model.specs.Queries.{Query}
+use Rattle.sr_store.specs.Stores.{drop_of}
+use Rattle.sr_session.specs.Sessions.{Database}
+use Rattle.sr_session.specs.Clients as session
+use Rattle.sr_session.specs.Rules.{Outcome, Busy, Down, Answered, AskSent, Evicted, NoSuchClass, CutDone, AlreadyCut, Laid, Applied, Forgot, WriteDone, WriteRefused, Welcomed, next_query}
+use Rattle.sr_session.specs.Rules as rules
+use Rattle.sr_client.specs.declared.client.Client.{Client}
+use Rattle.sr_client.specs.declared.client.Request as code
+use Rattle.sr_client.specs.declared.client.Request.TheVariants as request
+use Rattle.sr_client.specs.declared.steps.CutStep.{CutStep}
+use Rattle.sr_client.specs.declared.steps.CutStep.TheVariants.{Cut, Already}
+use Rattle.sr_client.specs.declared.steps.Ended.{Ended}
+use Rattle.sr_client.specs.declared.steps.Ended.TheVariants as ended
+use Rattle.sr_client.specs.declared.steps.QueryStep.{QueryStep}
+use Rattle.sr_client.specs.declared.steps.QueryStep.TheVariants.{Answered as QueryAnswered, Asked as QueryAsked, Busy as QueryBusy, Down as QueryDown}
+use Rattle.sr_client.specs.declared.steps.Took.{Took}
+use Rattle.sr_client.specs.declared.steps.Took.TheVariants.{Laid as TookLaid, Applied as TookApplied, Forgot as TookForgot, Answered as TookAnswered, Asked as TookAsked, Written as TookWritten, Refused as TookRefused, Welcomed as TookWelcomed, Bad as TookBad}
+use Rattle.sr_client.specs.declared.steps.EvictStep.{EvictStep}
+use Rattle.sr_client.specs.declared.steps.EvictStep.TheVariants.{Dropped as EvictDropped, Busy as EvictBusy, NoSuch as EvictNoSuch}
+use Rattle.sr_client.specs.Stands.{StandsOver, Stands, Truly, basis_of}
+
+-- ---- what an answer says
+
+-- which outcome the step of a query is
+abbrev pub SaysQuery : session.Client → QueryStep → Outcome → Type 0
+SaysQuery past (QueryAnswered query version rows marks) o = o ≡ Answered query version rows marks
+SaysQuery past (QueryAsked query request message marks) o =
+    (query ≡ next_query past) × (fresh : Bool) × (parts : List AskPart) × (message ≡ Ask request fresh parts) × (o ≡ AskSent marks request fresh parts)
+SaysQuery past (QueryBusy request) o = o ≡ Busy request
+SaysQuery past (QueryDown cut marks) o = o ≡ Down cut marks
+
+-- which outcome it is that a message was taken so
+abbrev pub SaysTook : Took → Outcome → Type 0
+SaysTook TookLaid o = o ≡ Laid
+SaysTook (TookApplied version marks) o = o ≡ Applied version marks
+SaysTook (TookForgot version marks) o = o ≡ Forgot version marks
+SaysTook (TookAnswered query version rows marks) o = o ≡ Answered query version rows marks
+SaysTook (TookAsked request message marks) o = (fresh : Bool) × (parts : List AskPart) × (message ≡ Ask request fresh parts) × (o ≡ AskSent marks request fresh parts)
+SaysTook (TookWritten request version marks) o = o ≡ WriteDone request version marks
+SaysTook (TookRefused request fault marks) o = o ≡ WriteRefused request fault marks
+SaysTook (TookWelcomed version kept marks) o = o ≡ Welcomed version kept marks
+SaysTook (TookBad why) o = ⊥
+
+-- which outcome the step of an eviction is
+abbrev pub SaysEvict : EvictStep → Outcome → Type 0
+SaysEvict (EvictDropped region) o = o ≡ Evicted (drop_of AskedCause region)
+SaysEvict (EvictBusy request) o = o ≡ Busy request
+SaysEvict (EvictNoSuch count) o = o ≡ NoSuchClass count
+
+-- what ends with the request that is out
+abbrev pub ended_of : Option code.Request → Ended
+ended_of None = ended.Nothing
+ended_of (Some (request.Ask o)) = ended.Query o.query_number
+ended_of (Some (request.Write number)) = ended.Write number
+ended_of (Some (request.Resume number)) = ended.Resume number
+
+-- which outcome the step of a cut is
+abbrev pub SaysCut : Client → CutStep → Outcome → Type 0
+SaysCut old (Cut number ended) o = (ended ≡ ended_of old.out) × (o ≡ CutDone number)
+SaysCut old (Already number) o = o ≡ AlreadyCut number
+
+-- ---- steps of the rules
+
+-- The outcome and the next past are what the rules allow, and the client stands for that past.
+pub record Goes (db : Database) (says : Outcome → Type 0) (rule : Outcome → session.Client → Type 0) (new : Client) : Type 0 where
+  pub outcome : Outcome
+  pub next : session.Client
+  pub is : says outcome
+  pub allowed : rule outcome next
+  pub stands : StandsOver db next new
+
+-- For every database and past that the client stands over, what a query does is a step of the rules.
+pub record Queries (old : Client) (meaning : Query) (new : Client) (step : QueryStep) : Type 0 where
+  pub by_rules : (db : Database) (past : session.Client) → StandsOver db past old
+      → Goes db (SaysQuery past step) (rules.QueryStep (basis_of db old.store.limits) past (Ok meaning)) new
+  pub stands : Stands new
+
+-- For every database and past that the client stands over, and of which the message is truly promised, what it does is a step of the
+-- rules.
+pub record Takes (old : Client) (m : Message) (new : Client) (took : Took) : Type 0 where
+  pub by_rules : (db : Database) (past : session.Client) → StandsOver db past old → Truly db past m
+      → Goes db (SaysTook took) (rules.TakeStep (basis_of db old.store.limits) past m) new
+  pub stands : Stands new
+
+-- For every database and past that the client stands over, what an eviction does is a step of the rules.
+pub record Evicts (old : Client) (place : ℕ) (new : Client) (step : EvictStep) : Type 0 where
+  pub by_rules : (db : Database) (past : session.Client) → StandsOver db past old
+      → Goes db (SaysEvict step) (rules.EvictStep (basis_of db old.store.limits) place past) new
+  pub stands : Stands new
+
+-- For every database and past that the client stands over, what a cut does is a step of the rules.
+pub record Cuts (old new : Client) (step : CutStep) : Type 0 where
+  pub by_rules : (db : Database) (past : session.Client) → StandsOver db past old → Goes db (SaysCut old step) (rules.CutStep past) new
+  pub stands : Stands new
+
+-- the message was refused
+abbrev pub is_bad : Took → Bool
+is_bad (TookBad why) = true
+is_bad TookLaid = false
+is_bad (TookApplied version marks) = false
+is_bad (TookForgot version marks) = false
+is_bad (TookAnswered query version rows marks) = false
+is_bad (TookAsked request message marks) = false
+is_bad (TookWritten request version marks) = false
+is_bad (TookRefused request fault marks) = false
+is_bad (TookWelcomed version kept marks) = false

@@ -1,0 +1,7 @@
+//! Laws: functions that do nothing, and whose contracts are the laws.
+ghost use Rattle.sr_client.specs.Stands.{PromisesAreTrue};
+
+/// What comes first to a client that stands, as all clients do after any events, is truly promised to it.
+pub fn promises_are_true()
+    ensures { PromisesAreTrue }
+{}

@@ -1,0 +1,13 @@
+//! A client by itself: its regions, what it asks, and what it makes of the messages that come.
+#![tactic(auto)]
+
+pub mod answer;
+pub mod asks;
+pub mod client;
+pub mod cut;
+pub mod laws;
+pub mod misfit;
+pub mod query;
+pub mod steps;
+pub mod take;
+mod values;

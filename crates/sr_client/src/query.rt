@@ -1,0 +1,181 @@
+//! What a client does with a query.
+ghost use Rattle.std.specs.Prelude.{◌≡◌, ℕ, ◌+◌, ◌<◌, ◌≤◌, ◌^◌, [], length, None, IfOk, OnErr, IsTrue};
+ghost use Rattle.sr_message.specs.declared.message.Message.TheVariants.{Ask as AskMessage};
+ghost use Rattle.sr_message.specs.Sizes.{most_rects, count_asked};
+ghost use Rattle.sr_model.specs.Queries.{Query as TheQuery};
+ghost use Rattle.sr_client.specs.Asking.{AsksRest};
+ghost use Rattle.sr_client.specs.Bound.{IsMeaning};
+ghost use Rattle.sr_client.specs.Cutting.{AreCutAlong, IsOver};
+ghost use Rattle.sr_client.specs.Sending.{next_ask, IsSent};
+ghost use Rattle.sr_client.specs.Stands.{Stands, Stays, HoldsNothing, drawn};
+ghost use Rattle.sr_client.specs.Steps.{Queries};
+
+use crate::answer::answer;
+use crate::asks::{asks_of, whole_asks};
+use crate::client::{AskOut, Client, Request};
+use crate::steps::QueryStep;
+use sr_cell::cause::Cause;
+use sr_cell::list::{Copied, No, NoMemory, Seq};
+use sr_history::mark::Marks;
+use sr_message::message::{AskParts, Message};
+use sr_query::query::Query;
+use std::alloc::Global;
+
+impl Client {
+    /// Judges a query of one table. It is answered at once where its points are held under the columns that it needs; else what is
+    /// left of it is asked, unless the link is cut. Nothing is done while a request is out. After want of memory the client holds
+    /// nothing, and is cut.
+    pub fn query(&mut self, alloc: Global, query: Query) -> Result<QueryStep, NoMemory>
+        requires stands { Stands self.old }
+        requires meant { (meaning : TheQuery) × IsMeaning self.old.schema query meaning }
+        requires room { drawn self.old + 2 < 2 ^ 63 }
+        ensures queries { (meaning : TheQuery) → IsMeaning self.old.schema query meaning → IfOk result (Queries self.old meaning self.new) }
+        ensures stands { Stands self.new }
+        ensures version { self.new.version ≡ self.old.version }
+        ensures nothing_left { OnErr result (HoldsNothing self.new) }
+        ensures stays { Stays self.old self.new }
+        ensures drawn { drawn self.new ≤ drawn self.old + 2 }
+    {
+        match self.judge(alloc, query) {
+            Ok(step) => Ok(step),
+            Err(no) => {
+                self.give_up(alloc);
+                Err(no)
+            }
+        }
+    }
+
+    fn judge(&mut self, alloc: Global, query: Query) -> Result<QueryStep, NoMemory>
+        requires stands { Stands self.old }
+        requires meant { (meaning : TheQuery) × IsMeaning self.old.schema query meaning }
+        requires room { drawn self.old + 2 < 2 ^ 63 }
+        ensures queries { (meaning : TheQuery) → IsMeaning self.old.schema query meaning → IfOk result (Queries self.old meaning self.new) }
+        ensures version { self.new.version ≡ self.old.version }
+        ensures stays { Stays self.old self.new }
+        ensures drawn { drawn self.new ≤ drawn self.old + 2 }
+    {
+        if let Some(request) = &self.out {
+            return Ok(QueryStep::Busy {
+                request: request.number(),
+            });
+        }
+        match asks_of(alloc, &self.schema, &self.store, query.parts.as_slice()) {
+            Ok(asks) => {
+                if asks.is_empty() {
+                    self.answer_now(alloc, &query)
+                } else {
+                    self.send_ask(alloc, query, asks, Seq::new(alloc))
+                }
+            }
+            Err(No::Refused(_)) => self.drop_and_ask(alloc, query),
+            Err(No::NoMemory) => Err(NoMemory),
+        }
+    }
+
+    /// Answers a query of which nothing is left to ask.
+    fn answer_now(&mut self, alloc: Global, query: &Query) -> Result<QueryStep, NoMemory>
+        requires stands { Stands self.old }
+        requires idle { self.old.out ≡ None }
+        requires meant { (meaning : TheQuery) × IsMeaning self.old.schema query.now meaning }
+        requires nothing { AsksRest self.old.schema self.old.store.regions query.now.parts [] }
+        requires room { drawn self.old + 2 < 2 ^ 63 }
+        ensures queries { (meaning : TheQuery) → IsMeaning self.old.schema query.now meaning → IfOk result (Queries self.old meaning self.new) }
+        ensures version { self.new.version ≡ self.old.version }
+        ensures stays { Stays self.old self.new }
+        ensures drawn { drawn self.new ≤ drawn self.old + 2 }
+    {
+        let number = self.queries + 1;
+        let rows = answer(alloc, query, self.store.regions.as_slice(), &[])?;
+        let marks = self.store.answered(
+            alloc,
+            &self.schema,
+            number,
+            query.parts.as_slice(),
+            Seq::new(alloc),
+        )?;
+        self.queries = number;
+        Ok(QueryStep::Answered {
+            query: number,
+            version: self.version,
+            rows,
+            marks,
+        })
+    }
+
+    /// Drops all that is held, since there would be too many pieces, and asks for the whole of a query.
+    fn drop_and_ask(&mut self, alloc: Global, query: Query) -> Result<QueryStep, NoMemory>
+        requires stands { Stands self.old }
+        requires idle { self.old.out ≡ None }
+        requires meant { (meaning : TheQuery) × IsMeaning self.old.schema query meaning }
+        requires over { IsOver self.old.schema self.old.store.regions query.parts }
+        requires room { drawn self.old + 2 < 2 ^ 63 }
+        ensures queries { (meaning : TheQuery) → IsMeaning self.old.schema query meaning → IfOk result (Queries self.old meaning self.new) }
+        ensures version { self.new.version ≡ self.old.version }
+        ensures stays { Stays self.old self.new }
+        ensures drawn { drawn self.new ≤ drawn self.old + 2 }
+    {
+        let asks = whole_asks(alloc, query.parts.as_slice())?;
+        let drops = self.store.drop_all(alloc, Cause::Pieces)?;
+        self.send_ask(alloc, query, asks, drops)
+    }
+
+    /// Sends the ask of these parts of a query, with the next numbers, unless the link is cut. It is fresh where nothing is held.
+    fn send_ask(
+        &mut self,
+        alloc: Global,
+        query: Query,
+        asks: AskParts,
+        drops: Marks,
+    ) -> Result<QueryStep, NoMemory>
+        requires room { drawn self.old + 2 < 2 ^ 63 }
+        ensures sent { IfOk result (IsSent self.old query asks drops self.new) }
+        ensures version { self.new.version ≡ self.old.version }
+        ensures stays { Stays self.old self.new }
+        ensures drawn { drawn self.new ≤ drawn self.old + 2 }
+    {
+        if self.cut {
+            return Ok(QueryStep::Down {
+                cut: self.cuts,
+                marks: drops,
+            });
+        }
+        let out = ask_out(self, query, asks);
+        let message = message_of(alloc, &out)?;
+        let query_number = out.query_number;
+        let request = out.number;
+        self.queries = query_number;
+        self.next_request = request + 1;
+        self.out = Some(Request::Ask(out));
+        Ok(QueryStep::Asked {
+            query: query_number,
+            request,
+            message,
+            marks: drops,
+        })
+    }
+}
+
+/// The ask of these parts of a query, with the next numbers.
+fn ask_out(client: &Client, query: Query, asks: AskParts) -> AskOut
+    requires room { drawn client.now + 2 < 2 ^ 63 }
+    ensures { result ≡ next_ask client.now query asks }
+{
+    AskOut {
+        number: client.next_request,
+        query_number: client.queries + 1,
+        query,
+        fresh: client.store.regions.is_empty(),
+        parts: asks,
+    }
+}
+
+/// The message of an ask.
+pub(crate) fn message_of(alloc: Global, out: &AskOut) -> Result<Message, NoMemory>
+    ensures { IfOk result (λ message. message ≡ AskMessage out.now.number out.now.fresh out.now.parts) }
+{
+    Ok(Message::Ask {
+        number: out.number,
+        fresh: out.fresh,
+        parts: out.parts.copy(alloc)?,
+    })
+}

@@ -1,0 +1,409 @@
+//! What a client does with a message of the server.
+ghost use Rattle.std.specs.Prelude.{◌≡◌, ℕ, ◌+◌, ◌<◌, ◌≤◌, ◌^◌, ◌↔◌, ◌++◌, nat_lt, true, false, List, Some, None, length, IfOk, OnOk, OnErr, IsTrue};
+ghost use Rattle.std.specs.List.{list_all, All};
+ghost use Rattle.std.specs.Option.{is_some};
+ghost use Rattle.sr_cell.specs.declared.table.Table.{Table as TheTable};
+ghost use Rattle.sr_message.specs.declared.message.AskPart.{AskPart as TheAskPart};
+ghost use Rattle.sr_message.specs.declared.message.Message.TheVariants.{Notice, Lapse, Reply};
+ghost use Rattle.sr_model.specs.Queries.{Query as TheQuery};
+ghost use Rattle.sr_wire.specs.declared.bad_frame.BadFrame.{BadFrame as TheBadFrame};
+ghost use Rattle.sr_store.specs.Stores.{IsStore};
+ghost use Rattle.sr_session.specs.Arrivals.{arrived_at};
+ghost use Rattle.sr_session.specs.Misfits.{misfit};
+ghost use Rattle.sr_session.specs.Regions.{after_message, after_messages};
+ghost use Rattle.sr_session.specs.Rules.{is_given_up};
+ghost use Rattle.sr_session.specs.Walks.{has_lapse, is_lapse};
+ghost use Rattle.sr_client.specs.declared.steps.Took.TheVariants.{Bad};
+ghost use Rattle.sr_client.specs.Arriving.{arrivals_of};
+ghost use Rattle.sr_client.specs.Laying.{TellsRows, asking, brought, with_brought};
+ghost use Rattle.sr_client.specs.Stands.{Stands, Stays, HoldsNothing, IsFit, drawn, out_of};
+ghost use Rattle.sr_client.specs.Steps.{Takes, is_bad};
+
+use crate::answer::answer;
+use crate::asks::whole_asks;
+use crate::client::{AskOut, Client, Request};
+use crate::misfit::misfit;
+use crate::query::message_of;
+use crate::steps::Took;
+use crate::values::{know_messages, know_told};
+use sr_cell::cause::Cause;
+use sr_cell::cell::Rows;
+use sr_cell::list::{Copied, NoMemory, Seq};
+use sr_cell::schema::Schema;
+use sr_message::message::{AskPart, Message, Messages, Told};
+use sr_store::store::{Arrival, Arrivals};
+use std::alloc::Global;
+use std::mem;
+
+impl Client {
+    /// Takes a message of the server. It is refused just where it does not fit what was asked, what was laid by, the client's
+    /// version or the schema. After that, and after want of memory, the client holds nothing, and is cut.
+    pub fn take(&mut self, alloc: Global, message: Message) -> Result<Took, NoMemory>
+        requires stands { Stands self.old }
+        requires room { drawn self.old + 2 < 2 ^ 63 }
+        ensures bad { (why : TheBadFrame) (meaning : TheQuery) → IfOk result (λ took. took ≡ Bad why ↔ misfit self.old.schema (out_of meaning self.old.out) self.old.laid self.old.version message ≡ Some why) }
+        ensures takes { IfOk result (Takes self.old message self.new) }
+        ensures stands { Stands self.new }
+        ensures version { self.old.version ≤ self.new.version }
+        ensures nothing_left { OnErr result (HoldsNothing self.new) }
+        ensures bad_left { IfOk result (λ took. is_bad took ≡ true → HoldsNothing self.new) }
+        ensures stays { Stays self.old self.new }
+        ensures drawn { drawn self.new ≤ drawn self.old + 2 }
+    {
+        let why = misfit(
+            self.schema.as_slice(),
+            &self.out,
+            self.laid.as_slice(),
+            self.version,
+            &message,
+        );
+        match why {
+            Some(why) => {
+                self.give_up(alloc);
+                Ok(Took::Bad(why))
+            }
+            None => self.take_fit(alloc, message),
+        }
+    }
+
+    /// Takes a message against which nothing stands.
+    fn take_fit(&mut self, alloc: Global, message: Message) -> Result<Took, NoMemory>
+        requires stands { Stands self.old }
+        requires room { drawn self.old + 2 < 2 ^ 63 }
+        requires fit { IsFit self.old message }
+        ensures good { IfOk result (λ took. is_bad took ≡ false) }
+        ensures takes { IfOk result (Takes self.old message self.new) }
+        ensures stands { Stands self.new }
+        ensures version { self.old.version ≤ self.new.version }
+        ensures nothing_left { OnErr result (HoldsNothing self.new) }
+        ensures stays { Stays self.old self.new }
+        ensures drawn { drawn self.new ≤ drawn self.old + 2 }
+    {
+        match self.take_one(alloc, message) {
+            Ok(took) => Ok(took),
+            Err(no) => {
+                self.give_up(alloc);
+                Err(no)
+            }
+        }
+    }
+
+    fn take_one(&mut self, alloc: Global, message: Message) -> Result<Took, NoMemory>
+        requires stands { Stands self.old }
+        requires room { drawn self.old + 2 < 2 ^ 63 }
+        requires fit { IsFit self.old message }
+        ensures good { IfOk result (λ took. is_bad took ≡ false) }
+        ensures takes { IfOk result (Takes self.old message self.new) }
+        ensures version { self.old.version ≤ self.new.version }
+        ensures stays { Stays self.old self.new }
+        ensures drawn { drawn self.new ≤ drawn self.old + 2 }
+    {
+        if self.out.is_some() {
+            self.take_while_out(alloc, message)
+        } else {
+            self.take_at_rest(alloc, message)
+        }
+    }
+
+    // ---- while nothing is out
+
+    /// Takes a notice or a Lapse while nothing is out.
+    fn take_at_rest(&mut self, alloc: Global, message: Message) -> Result<Took, NoMemory>
+        requires stands { Stands self.old }
+        requires idle { self.old.out ≡ None }
+        requires fit { IsFit self.old message }
+        ensures good { IfOk result (λ took. is_bad took ≡ false) }
+        ensures takes { IfOk result (Takes self.old message self.new) }
+        ensures version { self.old.version ≤ self.new.version }
+        ensures stays { Stays self.old self.new }
+        ensures drawn { drawn self.new ≡ drawn self.old }
+    {
+        match message {
+            Message::Notice { version, told } => self.apply(alloc, version, told),
+            Message::Lapse { version } => self.forget(alloc, version),
+            _ => Ok(Took::Laid),
+        }
+    }
+
+    /// Applies a notice, and drops what the limits demand then.
+    fn apply(&mut self, alloc: Global, version: u64, told: Told) -> Result<Took, NoMemory>
+        requires stands { Stands self.old }
+        requires idle { self.old.out ≡ None }
+        requires fit { IsFit self.old (Notice version told) }
+        ensures good { IfOk result (λ took. is_bad took ≡ false) }
+        ensures takes { IfOk result (Takes self.old (Notice version told) self.new) }
+        ensures version { self.old.version ≤ self.new.version }
+        ensures stays { Stays self.old self.new }
+        ensures drawn { drawn self.new ≡ drawn self.old }
+    {
+        know_told(told.as_slice());
+        self.store.apply(alloc, told.as_slice())?;
+        let marks = self.store.fit(alloc, &self.schema)?;
+        self.version = version;
+        Ok(Took::Applied { version, marks })
+    }
+
+    /// Drops all, since what changed up to that version cannot be told.
+    fn forget(&mut self, alloc: Global, version: u64) -> Result<Took, NoMemory>
+        requires stands { Stands self.old }
+        requires idle { self.old.out ≡ None }
+        requires fit { IsFit self.old (Lapse version) }
+        ensures good { IfOk result (λ took. is_bad took ≡ false) }
+        ensures takes { IfOk result (Takes self.old (Lapse version) self.new) }
+        ensures version { self.old.version ≤ self.new.version }
+        ensures stays { Stays self.old self.new }
+        ensures drawn { drawn self.new ≡ drawn self.old }
+    {
+        let marks = self.store.drop_all(alloc, Cause::Lapsed)?;
+        self.version = version;
+        Ok(Took::Forgot { version, marks })
+    }
+
+    // ---- while a request is out
+
+    /// While a request is out, what comes before its last message is laid by.
+    fn take_while_out(&mut self, alloc: Global, message: Message) -> Result<Took, NoMemory>
+        requires stands { Stands self.old }
+        requires out { IsTrue (is_some self.old.out) }
+        requires room { drawn self.old + 2 < 2 ^ 63 }
+        requires fit { IsFit self.old message }
+        ensures good { IfOk result (λ took. is_bad took ≡ false) }
+        ensures takes { IfOk result (Takes self.old message self.new) }
+        ensures version { self.old.version ≤ self.new.version }
+        ensures stays { Stays self.old self.new }
+        ensures drawn { drawn self.new ≤ drawn self.old + 2 }
+    {
+        match message {
+            Message::Reply { number, version } => self.reply(alloc, number, version),
+            _ => self.lay_by(message),
+        }
+    }
+
+    fn lay_by(&mut self, message: Message) -> Result<Took, NoMemory>
+        requires stands { Stands self.old }
+        requires out { IsTrue (is_some self.old.out) }
+        requires fit { IsFit self.old message }
+        requires no_reply { (number version : ℕ) → message ≡ Reply number version → ⊥ }
+        ensures good { IfOk result (λ took. is_bad took ≡ false) }
+        ensures takes { IfOk result (Takes self.old message self.new) }
+        ensures version { self.new.version ≡ self.old.version }
+        ensures stays { Stays self.old self.new }
+        ensures drawn { drawn self.new ≡ drawn self.old }
+    {
+        self.laid.push(message)?;
+        Ok(Took::Laid)
+    }
+
+    /// Takes the reply of the ask that is out. Where a Lapse was laid by, the rows are given up, unless nothing was held when they
+    /// were asked.
+    fn reply(&mut self, alloc: Global, number: u64, version: u64) -> Result<Took, NoMemory>
+        requires stands { Stands self.old }
+        requires out { IsTrue (is_some self.old.out) }
+        requires room { drawn self.old + 2 < 2 ^ 63 }
+        requires fit { IsFit self.old (Reply number version) }
+        ensures good { IfOk result (λ took. is_bad took ≡ false) }
+        ensures takes { IfOk result (Takes self.old (Reply number version) self.new) }
+        ensures version { self.old.version ≤ self.new.version }
+        ensures stays { Stays self.old self.new }
+        ensures drawn { drawn self.new ≤ drawn self.old + 2 }
+    {
+        match self.out.take() {
+            Some(Request::Ask(out)) => {
+                if is_given_up(out.fresh, self.laid.as_slice()) {
+                    self.ask_again(alloc, out, number, version)
+                } else {
+                    self.finish(alloc, &out, number, version)
+                }
+            }
+            _ => Ok(Took::Laid),
+        }
+    }
+
+    /// Answers the query of the ask that was out, once what was laid by is applied.
+    fn finish(
+        &mut self,
+        alloc: Global,
+        out: &AskOut,
+        number: u64,
+        version: u64,
+    ) -> Result<Took, NoMemory>
+        requires stands { Stands (asking self.old out.now) }
+        requires fit { IsFit (asking self.old out.now) (Reply number version) }
+        requires taken { self.old.out ≡ None }
+        requires whole { is_given_up out.now.fresh self.old.laid ≡ false }
+        ensures good { IfOk result (λ took. is_bad took ≡ false) }
+        ensures takes { IfOk result (Takes (asking self.old out.now) (Reply number version) self.new) }
+        ensures version { self.old.version ≤ self.new.version }
+        ensures stays { Stays self.old self.new }
+        ensures drawn { drawn self.new ≡ drawn self.old }
+    {
+        know_messages(self.laid.as_slice());
+        let arrivals = self.bring(alloc, out)?;
+        let rows = answer(
+            alloc,
+            &out.query,
+            self.store.regions.as_slice(),
+            arrivals.as_slice(),
+        )?;
+        let marks = self.store.answered(
+            alloc,
+            &self.schema,
+            out.query_number,
+            out.query.parts.as_slice(),
+            arrivals,
+        )?;
+        self.version = version;
+        Ok(Took::Answered {
+            query: out.query_number,
+            version,
+            rows,
+            marks,
+        })
+    }
+
+    /// Applies what was laid by, in order. Answers what was asked, with the rows that came.
+    fn bring(&mut self, alloc: Global, out: &AskOut) -> Result<Arrivals, NoMemory>
+        requires stands { Stands (asking self.old out.now) }
+        requires tells { All (TellsRows self.old.schema) self.old.laid }
+        ensures brought { OnOk result (self.new ≡ with_brought self.old) }
+        ensures arrivals { IfOk result (λ arrivals. arrivals ≡ arrivals_of self.old.schema out.now.parts (arrived_at 0 self.old.laid)) }
+        ensures version { self.new.version ≡ self.old.version }
+        ensures stays { Stays self.old self.new }
+        ensures drawn { drawn self.new ≡ drawn self.old }
+    {
+        let laid = mem::replace(&mut self.laid, Seq::new(alloc));
+        let rows = self.apply_laid(alloc, laid)?;
+        arrivals_of(alloc, &self.schema, out.parts.as_slice(), rows)
+    }
+
+    fn apply_laid(&mut self, alloc: Global, laid: Messages) -> Result<Rows, NoMemory>
+        requires { (schema : List TheTable) × IsStore schema self.old.store.regions × All (TellsRows schema) laid }
+        ensures rows { IfOk result (λ rows. rows ≡ arrived_at 0 laid) }
+        ensures applied { OnOk result (self.new.store.regions ≡ after_messages laid self.old.store.regions) }
+        ensures rest { self.new ≡ record self.old { store = record self.old.store { regions = self.new.store.regions } } }
+    {
+        let mut rows = Seq::new(alloc);
+        for message in laid.into_vec() {
+            self.apply_one(alloc, &mut rows, message)?;
+        }
+        Ok(rows)
+    }
+
+    /// Applies a message that was laid by: a notice is told to the regions, a Lapse drops them, and rows of the first part are put
+    /// behind the others.
+    fn apply_one(
+        &mut self,
+        alloc: Global,
+        rows: &mut Rows,
+        message: Message,
+    ) -> Result<(), NoMemory>
+        requires { (schema : List TheTable) × IsStore schema self.old.store.regions × TellsRows schema message }
+        ensures rows { OnOk result (rows.new ≡ rows.old ++ brought message) }
+        ensures applied { OnOk result (self.new.store.regions ≡ after_message message self.old.store.regions) }
+        ensures store { (schema : List TheTable) → OnOk result (IsStore schema self.old.store.regions → TellsRows schema message → IsStore schema self.new.store.regions) }
+        ensures rest { self.new ≡ record self.old { store = record self.old.store { regions = self.new.store.regions } } }
+    {
+        match message {
+            Message::Notice { told, .. } => self.store.apply(alloc, told.as_slice()),
+            Message::Lapse { .. } => {
+                self.store.forget(alloc);
+                Ok(())
+            }
+            Message::Rows {
+                part,
+                rows: more,
+                ..
+            } if part == 0 => rows.append(more),
+            _ => Ok(()),
+        }
+    }
+
+    /// Drops all, and asks for the whole of the query once more, under the next number.
+    fn ask_again(
+        &mut self,
+        alloc: Global,
+        out: AskOut,
+        number: u64,
+        version: u64,
+    ) -> Result<Took, NoMemory>
+        requires stands { Stands (asking self.old out) }
+        requires fit { IsFit (asking self.old out) (Reply number version) }
+        requires again { is_given_up out.fresh self.old.laid ≡ true }
+        requires room { drawn self.old + 2 < 2 ^ 63 }
+        ensures good { IfOk result (λ took. is_bad took ≡ false) }
+        ensures takes { IfOk result (Takes (asking self.old out) (Reply number version) self.new) }
+        ensures version { self.old.version ≤ self.new.version }
+        ensures stays { Stays self.old self.new }
+        ensures drawn { drawn self.new ≤ drawn self.old + 2 }
+    {
+        let parts = whole_asks(alloc, out.query.parts.as_slice())?;
+        let marks = self.store.drop_all(alloc, Cause::Lapsed)?;
+        let request = self.next_request;
+        let second = AskOut {
+            number: request,
+            query_number: out.query_number,
+            query: out.query,
+            fresh: true,
+            parts,
+        };
+        let message = message_of(alloc, &second)?;
+        self.version = version;
+        self.next_request = request + 1;
+        self.laid = Seq::new(alloc);
+        self.out = Some(Request::Ask(second));
+        Ok(Took::Asked {
+            request,
+            message,
+            marks,
+        })
+    }
+}
+
+/// Whether the rows that came are given up: a Lapse was laid by, under an ask that is not fresh.
+fn is_given_up(fresh: bool, laid: &[Message]) -> bool
+    ensures { result ≡ is_given_up fresh laid.now }
+{
+    !fresh && has_lapse(laid)
+}
+
+/// Whether a Lapse is among the messages.
+fn has_lapse(messages: &[Message]) -> bool
+    ensures { result ≡ has_lapse messages.now }
+{
+    for message in messages {
+        if is_lapse(message) {
+            return true;
+        }
+    }
+    false
+}
+
+fn is_lapse(message: &Message) -> bool
+    ensures { result ≡ is_lapse message.now }
+{
+    matches!(message, Message::Lapse { .. })
+}
+
+/// What was asked, with the rows that came: one part at most is asked.
+fn arrivals_of(
+    alloc: Global,
+    schema: &Schema,
+    parts: &[AskPart],
+    rows: Rows,
+) -> Result<Arrivals, NoMemory>
+    requires tables { IsTrue (list_all (λ (ask : TheAskPart). nat_lt ask.table (length schema.now)) parts.now) }
+    ensures { IfOk result (λ arrivals. arrivals ≡ arrivals_of schema.now parts.now rows) }
+{
+    let mut arrivals = Seq::new(alloc);
+    if parts.len() > 0 {
+        let part = &parts[0];
+        arrivals.push(Arrival {
+            table: part.table,
+            key: schema.as_slice()[part.table as usize].key,
+            attrs: part.attrs,
+            rects: part.rects.copy(alloc)?,
+            rows,
+        })?;
+    }
+    Ok(arrivals)
+}

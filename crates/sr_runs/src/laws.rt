@@ -1,5 +1,5 @@
 //! Laws of the definitions: functions that do nothing, and whose contracts are the laws.
-ghost use Rattle.sr_runs.specs.Headline.{ScriptsReach, ScriptsStand, StepsAreEvents};
+ghost use Rattle.sr_runs.specs.Headline.{AnswerLinesAreRight, AskLinesAreRight, LinesAreTold, ScriptsReach, ScriptsStand, StepsAreEvents};
 
 /// Each step of a script is events of the scene, one after another: deliveries too, of a settle or where delivery is eager.
 pub fn steps_are_events()
@@ -11,4 +11,22 @@ pub fn steps_are_events()
 pub fn scripts_reach()
     ensures reach { ScriptsReach }
     ensures stand { ScriptsStand }
+{}
+
+/// Each line of a trace is one of the lines of an event at its moment, which stand together; but for the line that ends a settle, and
+/// that of a write whose text is too long.
+pub fn lines_are_told()
+    ensures told { LinesAreTold }
+{}
+
+/// Wherever the trace of a script has the line of an answer, just the rows of the client's query of that number stand behind it, on the
+/// tables of the version that it names.
+pub fn answer_lines_are_right()
+    ensures rows { AnswerLinesAreRight }
+{}
+
+/// Wherever the trace of a script has the line of an ask, its parts stand behind it, and they ask just what was uncovered at that moment
+/// of the query that it is for.
+pub fn ask_lines_are_right()
+    ensures parts { AskLinesAreRight }
 {}

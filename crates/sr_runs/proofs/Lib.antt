@@ -4,3 +4,8 @@ pub mod BlockLemmas
 pub mod MomentLemmas
 pub mod PairLemmas
 pub mod LineLemmas
+pub mod FreeLemmas
+pub mod CoveredLemmas
+pub mod ExampleTexts
+pub mod ExampleRests
+pub mod ExampleClasses

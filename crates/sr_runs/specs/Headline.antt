@@ -119,3 +119,22 @@ pub record IsRightAskLine (last : Scene) (script : IsScripted last) (number n re
 abbrev pub AskLinesAreRight : Type 0
 AskLinesAreRight = (last : Scene) (script : IsScripted last) (front : List (ℕ × TraceLine)) (number n request : ℕ) (fresh : Bool) (count : ℕ) (behind : List (ℕ × TraceLine))
     → script.lines ≡ front ++ (number, line.Ask n request fresh count) ∷ behind → IsRightAskLine last script number n request fresh count behind
+
+-- ---- covered queries
+
+-- The lines begin with the answer of the query at the client's version, its marks and its last line, and none of them is that of an ask
+-- of the client.
+pub record IsAnsweredAtOnce (s : Scene) (old : Pair) (n : ℕ) (q : Query) (lines : List TraceLine) : Type 0 where
+  pub marks : List Mark
+  pub rest : List TraceLine
+  pub lines_are : lines ≡ answer_lines n (next_query old.client) old.client.version (rows_of q (tables_of s.database old.client.version))
+      ++ (mark_lines n marks ++ line.QueryAnswered n (next_query old.client) ∷ rest)
+  pub asks_nothing : (front : List TraceLine) (request : ℕ) (fresh : Bool) (count : ℕ) (behind : List TraceLine)
+      → lines ≡ front ++ line.Ask n request fresh count ∷ behind → ⊥
+
+-- A query of which each point is covered, of a client with no request out and a load that is not too high, is answered in its own step,
+-- and no line of the step is that of an ask of the client.
+abbrev pub ACoveredQueryAsksNothing : Type 0
+ACoveredQueryAsksNothing = (eager : Bool) (s new : Scene) (n : ℕ) (q : Query) (lines : List TraceLine) (old : Pair)
+    → Steps eager s (DoQuery n (Ok q)) lines new → pair_at s n ≡ Some old → IsCovered s.database.schema old.client.marks q → old.client.out ≡ None
+    → (IsTooHeavy s.database.schema old.client q → ⊥) → IsAnsweredAtOnce s old n q lines

@@ -2,3 +2,4 @@ pub mod Lines
 pub mod Scripts
 pub mod Runs
 pub mod Headline
+pub mod Example

@@ -1,5 +1,5 @@
 //! Laws of the definitions: functions that do nothing, and whose contracts are the laws.
-ghost use Rattle.sr_runs.specs.Headline.{AnswerLinesAreRight, AskLinesAreRight, LinesAreTold, ScriptsReach, ScriptsStand, StepsAreEvents};
+ghost use Rattle.sr_runs.specs.Headline.{ACoveredQueryAsksNothing, AnswerLinesAreRight, AskLinesAreRight, LinesAreTold, ScriptsReach, ScriptsStand, StepsAreEvents};
 
 /// Each step of a script is events of the scene, one after another: deliveries too, of a settle or where delivery is eager.
 pub fn steps_are_events()
@@ -29,4 +29,10 @@ pub fn answer_lines_are_right()
 /// of the query that it is for.
 pub fn ask_lines_are_right()
     ensures parts { AskLinesAreRight }
+{}
+
+/// A query of which each point is covered, of a client with no request out and a load that is not too high, is answered in its own step,
+/// and no line of the step, deliveries included, is that of an ask of the client.
+pub fn a_covered_query_asks_nothing()
+    ensures answered { ACoveredQueryAsksNothing }
 {}

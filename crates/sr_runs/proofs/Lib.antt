@@ -9,3 +9,4 @@ pub mod CoveredLemmas
 pub mod ExampleTexts
 pub mod ExampleRests
 pub mod ExampleClasses
+pub mod ExampleRun

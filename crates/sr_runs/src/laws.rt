@@ -1,4 +1,9 @@
 //! Laws of the definitions: functions that do nothing, and whose contracts are the laws.
+ghost use Rattle.std.specs.Prelude.{◌≡◌, false};
+ghost use Rattle.sr_script.specs.TraceText.{trace_text};
+ghost use Rattle.sr_session.specs.Scenes.{Scene};
+ghost use Rattle.sr_runs.specs.Example.{events, lines, schema, start, trace};
+ghost use Rattle.sr_runs.specs.Runs.{Runs};
 ghost use Rattle.sr_runs.specs.Headline.{ACoveredQueryAsksNothing, AnswerLinesAreRight, AskLinesAreRight, LinesAreTold, ScriptsReach, ScriptsStand, StepsAreEvents};
 
 /// Each step of a script is events of the scene, one after another: deliveries too, of a settle or where delivery is eager.
@@ -35,4 +40,10 @@ pub fn ask_lines_are_right()
 /// and no line of the step, deliveries included, is that of an ask of the client.
 pub fn a_covered_query_asks_nothing()
     ensures answered { ACoveredQueryAsksNothing }
+{}
+
+/// The worked example: without eager delivery its events may give its lines, and the lines' text is the trace, byte for byte.
+pub fn worked_example()
+    ensures lawful { (last : Scene) × Runs false start events lines last }
+    ensures text { trace_text schema lines ≡ trace }
 {}

@@ -231,7 +231,7 @@ taken-database db (Some session) (Refused number fault) result = inl refl
 taken-database db (Some session) (Lapse version) result = inl refl
 
 -- the database after an event is that before, or has a version more
-data Grows (old : Database) : Database → Type 0 where
+pub data Grows (old : Database) : Database → Type 0 where
   same : Grows old old
   more : (tables : Tables) → Grows old (with_version old tables)
 
@@ -245,7 +245,7 @@ grows-taken db session m result = by (taken-database db session m result)
 put-grows : (s : Scene) (n : ℕ) (new : Pair) → Grows s.database (with_pair s n new).database
 put-grows s n new = subst (Grows s.database) (sym (same-database s n new)) same
 
-grows : (s new : Scene) (event : Event) (report : Report) → Happens s event report new → Grows s.database new.database
+pub grows : (s new : Scene) (event : Event) (report : Report) → Happens s event report new → Grows s.database new.database
 grows s new event report (executed tables) = more tables
 grows s new event report (not_executed fault) = same
 grows s new event report (queried n text old o c is step) = put-grows s n (acted c old.connection o)

@@ -56,8 +56,8 @@ pub data Outcome : Type 0 where
   WriteDone : (request : ℕ) → (version : ℕ) → (drops : List Mark) → Outcome
   WriteRefused : (request : ℕ) → (fault : Fault) → (drops : List Mark) → Outcome
   Welcomed : (version : ℕ) → (kept : Bool) → (drops : List Mark) → Outcome
-  -- of a cut or a resume
-  CutDone : (cut : ℕ) → Outcome
+  -- of a cut, with the request that it ended, or of a resume
+  CutDone : (cut : ℕ) → (ended : Option Request) → Outcome
   AlreadyCut : (cut : ℕ) → Outcome
   ResumeSent : (message : Message) → Outcome
   AlreadyUp : Outcome
@@ -261,7 +261,7 @@ pub data WriteStep (sql : List ℕ) (c : Client) : Outcome → Client → Type 0
 -- What a cut does: the request that is out ends, and what was laid by is given up. What is held stays, and the version.
 pub data CutStep (c : Client) : Outcome → Client → Type 0 where
   already_cut : c.cut ≡ true → CutStep c (AlreadyCut c.cuts) c
-  cuts : c.cut ≡ false → CutStep c (CutDone (c.cuts + 1)) (record c { out = None; laid = []; cut = true; cuts = c.cuts + 1 })
+  cuts : c.cut ≡ false → CutStep c (CutDone (c.cuts + 1) c.out) (record c { out = None; laid = []; cut = true; cuts = c.cuts + 1 })
 
 -- What a resume does: the first message of a new session goes out.
 pub data ResumeStep (schema : List Table) (c : Client) : Outcome → Client → Type 0 where

@@ -1,0 +1,12 @@
+pub mod Splits
+pub mod StepLemmas
+pub mod BlockLemmas
+pub mod MomentLemmas
+pub mod PairLemmas
+pub mod LineLemmas
+pub mod FreeLemmas
+pub mod CoveredLemmas
+pub mod ExampleTexts
+pub mod ExampleRests
+pub mod ExampleClasses
+pub mod ExampleRun

@@ -1,0 +1,5 @@
+pub mod Lines
+pub mod Scripts
+pub mod Runs
+pub mod Headline
+pub mod Example

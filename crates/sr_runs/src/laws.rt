@@ -1,0 +1,49 @@
+//! Laws of the definitions: functions that do nothing, and whose contracts are the laws.
+ghost use Rattle.std.specs.Prelude.{◌≡◌, false};
+ghost use Rattle.sr_script.specs.TraceText.{trace_text};
+ghost use Rattle.sr_session.specs.Scenes.{Scene};
+ghost use Rattle.sr_runs.specs.Example.{events, lines, schema, start, trace};
+ghost use Rattle.sr_runs.specs.Runs.{Runs};
+ghost use Rattle.sr_runs.specs.Headline.{ACoveredQueryAsksNothing, AnswerLinesAreRight, AskLinesAreRight, LinesAreTold, ScriptsReach, ScriptsStand, StepsAreEvents};
+
+/// Each step of a script is events of the scene, one after another: deliveries too, of a settle or where delivery is eager.
+pub fn steps_are_events()
+    ensures { StepsAreEvents }
+{}
+
+/// So each scene of a script is one of a run of events, and all that holds of those holds of it: each client stands, answers are right,
+/// asks ask the uncovered, a covered query sends nothing, versions never fall, and caches keep to their budgets.
+pub fn scripts_reach()
+    ensures reach { ScriptsReach }
+    ensures stand { ScriptsStand }
+{}
+
+/// Each line of a trace is one of the lines of an event at its moment, which stand together; but for the line that ends a settle, and
+/// that of a write whose text is too long.
+pub fn lines_are_told()
+    ensures told { LinesAreTold }
+{}
+
+/// Wherever the trace of a script has the line of an answer, just the rows of the client's query of that number stand behind it, on the
+/// tables of the version that it names.
+pub fn answer_lines_are_right()
+    ensures rows { AnswerLinesAreRight }
+{}
+
+/// Wherever the trace of a script has the line of an ask, its parts stand behind it, and they ask just what was uncovered at that moment
+/// of the query that it is for.
+pub fn ask_lines_are_right()
+    ensures parts { AskLinesAreRight }
+{}
+
+/// A query of which each point is covered, of a client with no request out and a load that is not too high, is answered in its own step,
+/// and no line of the step, deliveries included, is that of an ask of the client.
+pub fn a_covered_query_asks_nothing()
+    ensures answered { ACoveredQueryAsksNothing }
+{}
+
+/// The worked example: without eager delivery its events may give its lines, and the lines' text is the trace, byte for byte.
+pub fn worked_example()
+    ensures lawful { (last : Scene) × Runs false start events lines last }
+    ensures text { trace_text schema lines ≡ trace }
+{}

@@ -33,8 +33,8 @@ once (m ∷ ms) [] a b f g hm hk ea eb e =
     absurd (not_faulty m (flat_map spelling ms ++ a) b g (left_of (has_spelling m) (list_all has_spelling ms) hm) (sym (front m ms a) ∙ e) eb)
 once (m ∷ ms) (k ∷ ks) a b f g hm hk ea eb e =
     let first = one_spelling m k (flat_map spelling ms ++ a) (flat_map spelling ks ++ b)
-        (left_of (has_spelling m) (list_all has_spelling ms) hm) (left_of (has_spelling k) (list_all has_spelling ks) hk)
-        (sym (front m ms a) ∙ e ∙ front k ks b) in
+    (left_of (has_spelling m) (list_all has_spelling ms) hm) (left_of (has_spelling k) (list_all has_spelling ks) hk)
+    (sym (front m ms a) ∙ e ∙ front k ks b) in
     let others = once ms ks a b f g (right_of (has_spelling m) (list_all has_spelling ms) hm) (right_of (has_spelling k) (list_all has_spelling ks) hk) ea eb first.1 in
     let head = first.0 in
     let tail = others.0 in

@@ -120,33 +120,33 @@ unfolding changes
 second_settle = (
   _,
   delivers _ _ _ (line.ServerTook 1 kind.Ask 2 ∷ []) _ 6 _ _ refl refl
-  (acts _ _ _ _ (is_to_server 1 _ _ refl (gives_nothing _ refl)) (server_took 1 _ _ _ _ refl refl))
-  (delivers _ _ _ (line.ClientLaid 1 ∷ []) _ 5 _ _ refl refl (acts _ _ _ _ (is_to_client 1) (client_took 1 _ _ _ _ _ refl refl (lays _ _ refl tt tt)))
-  (delivers _ _ _ (line.ClientLaid 1 ∷ []) _ 4 _ _ refl refl (acts _ _ _ _ (is_to_client 1) (client_took 1 _ _ _ _ _ refl refl (lays _ _ refl tt refl)))
-  (delivers _ _ _ (line.Drop 1 Lapsed 0 3 1 (ages 30 40) ∷ line.Ask 1 3 true 1 ∷ line.Part 0 3 (ages 35 50) ∷ line.ClientAsked 1 3 ∷ []) _ 3 _ _ refl refl
-  (acts _ _ _ _ (is_to_client 1) (client_took 1 _ _ _ _ _ refl refl
-  (asks_once_more 2 2 (query 35 50) false (ask 41 50 ∷ []) 5 (lapsed ∷ []) (ask 35 50 ∷ []) refl refl (lit≤ tt) drops_all whole-asks (lit≤ tt))))
-  (delivers _ _ _ (line.ServerTook 1 kind.Ask 2 ∷ []) _ 2 _ _ refl refl
-  (acts _ _ _ _ (is_to_server 1 _ _ refl (gives_nothing _ refl)) (server_took 1 _ _ _ _ refl refl))
-  (delivers _ _ _ (line.ClientLaid 1 ∷ []) _ 1 _ _ refl refl (acts _ _ _ _ (is_to_client 1) (client_took 1 _ _ _ _ _ refl refl (lays _ _ refl tt refl)))
-  (delivers _ _ _ (line.Answer 1 2 5 2 ∷ line.Row (row 1 35) ∷ line.Row (row 2 48) ∷ line.Held 1 0 3 (ages 35 50) ∷ line.ClientAnswered 1 ∷ []) _ 0 _ _ refl refl
-  (acts _ _ _ _ (is_to_client 1) (client_took 1 _ _ _ _ _ refl refl
-  (answers 3 2 (query 35 50) true (ask 35 50 ∷ []) 5 (row 1 35 ∷ row 2 48 ∷ []) (Held 0 3 (ages 35 50) ∷ []) _ refl refl (lit≤ tt) refl
-  (renewed (Held 0 3 (ages 35 50) ∷ []) (record { held = Held 0 3 (ages 35 50) ∷ []; absorbed = []; drops = []; holds = (holds_2, tt); absorbs = absorbs_2; budgets = budgets_2 _ (lit≤ tt); all = refl })))))
-  (is_quiet _ _ refl refl))))))),
+      (acts _ _ _ _ (is_to_server 1 _ _ refl (gives_nothing _ refl)) (server_took 1 _ _ _ _ refl refl))
+      (delivers _ _ _ (line.ClientLaid 1 ∷ []) _ 5 _ _ refl refl (acts _ _ _ _ (is_to_client 1) (client_took 1 _ _ _ _ _ refl refl (lays _ _ refl tt tt)))
+      (delivers _ _ _ (line.ClientLaid 1 ∷ []) _ 4 _ _ refl refl (acts _ _ _ _ (is_to_client 1) (client_took 1 _ _ _ _ _ refl refl (lays _ _ refl tt refl)))
+      (delivers _ _ _ (line.Drop 1 Lapsed 0 3 1 (ages 30 40) ∷ line.Ask 1 3 true 1 ∷ line.Part 0 3 (ages 35 50) ∷ line.ClientAsked 1 3 ∷ []) _ 3 _ _ refl refl
+      (acts _ _ _ _ (is_to_client 1) (client_took 1 _ _ _ _ _ refl refl
+      (asks_once_more 2 2 (query 35 50) false (ask 41 50 ∷ []) 5 (lapsed ∷ []) (ask 35 50 ∷ []) refl refl (lit≤ tt) drops_all whole-asks (lit≤ tt))))
+      (delivers _ _ _ (line.ServerTook 1 kind.Ask 2 ∷ []) _ 2 _ _ refl refl
+      (acts _ _ _ _ (is_to_server 1 _ _ refl (gives_nothing _ refl)) (server_took 1 _ _ _ _ refl refl))
+      (delivers _ _ _ (line.ClientLaid 1 ∷ []) _ 1 _ _ refl refl (acts _ _ _ _ (is_to_client 1) (client_took 1 _ _ _ _ _ refl refl (lays _ _ refl tt refl)))
+      (delivers _ _ _ (line.Answer 1 2 5 2 ∷ line.Row (row 1 35) ∷ line.Row (row 2 48) ∷ line.Held 1 0 3 (ages 35 50) ∷ line.ClientAnswered 1 ∷ []) _ 0 _ _ refl refl
+      (acts _ _ _ _ (is_to_client 1) (client_took 1 _ _ _ _ _ refl refl
+      (answers 3 2 (query 35 50) true (ask 35 50 ∷ []) 5 (row 1 35 ∷ row 2 48 ∷ []) (Held 0 3 (ages 35 50) ∷ []) _ refl refl (lit≤ tt) refl
+      (renewed (Held 0 3 (ages 35 50) ∷ []) (record { held = Held 0 3 (ages 35 50) ∷ []; absorbed = []; drops = []; holds = (holds_2, tt); absorbs = absorbs_2; budgets = budgets_2 _ (lit≤ tt); all = refl })))))
+      (is_quiet _ _ refl refl))))))),
 )
 
 pub runs : (last : Scene) × Runs false start events lines last
 runs = (
   second_settle.0,
   goes_on _ 3 _ (lines_at 3) (scene 2 new_one new_pair.connection) _ _ _ (alone _ _ _ _ (does _ _ _ (acts _ _ _ _ (is_exec _) (executed _))))
-  (goes_on _ 4 _ (lines_at 4) (scene 3 new_one new_pair.connection) _ _ _ (alone _ _ _ _ (does _ _ _ (acts _ _ _ _ (is_exec _) (executed _))))
-  (goes_on _ 5 _ (lines_at 5) (scene 3 asking first_sent) _ _ _ first_query
-  (goes_on _ 6 _ (lines_at 6) (scene 3 filled served) _ _ _ (alone _ _ _ _ (does_settle 1 3 (take 7 (lines_at 6)) _ first_settle))
-  (goes_on _ 7 _ (lines_at 7) (scene 3 asking_more second_sent) _ _ _ second_query
-  (goes_on _ 8 _ (lines_at 8) (scene 4 asking_more second_sent) _ _ _ (alone _ _ _ _ (does _ _ _ (acts _ _ _ _ (is_exec _) (executed _))))
-  (goes_on _ 9 _ (lines_at 9) (scene 5 asking_more second_sent) _ _ _ (alone _ _ _ _ (does _ _ _ (acts _ _ _ _ (is_exec _) (executed _))))
-  (goes_on _ 10 _ (lines_at 10) (scene 6 asking_more second_sent) _ _ _ (alone _ _ _ _ (does _ _ _ (acts _ _ _ _ (is_exec _) (executed _))))
-  (goes_on _ 11 _ (lines_at 11) (scene 6 asking_more told_lapse) _ _ _ push
-  (goes_on _ 12 _ (lines_at 12) _ _ _ _ (alone _ _ _ _ (does_settle 1 7 (take 14 (lines_at 12)) _ second_settle.1)) (ends _)))))))))),
+      (goes_on _ 4 _ (lines_at 4) (scene 3 new_one new_pair.connection) _ _ _ (alone _ _ _ _ (does _ _ _ (acts _ _ _ _ (is_exec _) (executed _))))
+      (goes_on _ 5 _ (lines_at 5) (scene 3 asking first_sent) _ _ _ first_query
+      (goes_on _ 6 _ (lines_at 6) (scene 3 filled served) _ _ _ (alone _ _ _ _ (does_settle 1 3 (take 7 (lines_at 6)) _ first_settle))
+      (goes_on _ 7 _ (lines_at 7) (scene 3 asking_more second_sent) _ _ _ second_query
+      (goes_on _ 8 _ (lines_at 8) (scene 4 asking_more second_sent) _ _ _ (alone _ _ _ _ (does _ _ _ (acts _ _ _ _ (is_exec _) (executed _))))
+      (goes_on _ 9 _ (lines_at 9) (scene 5 asking_more second_sent) _ _ _ (alone _ _ _ _ (does _ _ _ (acts _ _ _ _ (is_exec _) (executed _))))
+      (goes_on _ 10 _ (lines_at 10) (scene 6 asking_more second_sent) _ _ _ (alone _ _ _ _ (does _ _ _ (acts _ _ _ _ (is_exec _) (executed _))))
+      (goes_on _ 11 _ (lines_at 11) (scene 6 asking_more told_lapse) _ _ _ push
+      (goes_on _ 12 _ (lines_at 12) _ _ _ _ (alone _ _ _ _ (does_settle 1 7 (take 14 (lines_at 12)) _ second_settle.1)) (ends _)))))))))),
 )

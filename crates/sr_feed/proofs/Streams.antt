@@ -13,6 +13,7 @@ use Rattle.sr_wire.specs.Reading.{Decoded, Whole, Faulty, decoded}
 use Rattle.sr_wire.proofs.Frames.{decoded_again, one_spelling}
 use Rattle.sr_wire.proofs.Staying.{answer_stays}
 use Rattle.sr_feed.specs.Stream.{Splits}
+use Rattle.sr_feed.specs.Laws.{AreInOrder}
 
 -- the first frame, and the others behind it
 front : (m : Message) (ms : List Message) (rest : List ℕ) → flat_map spelling (m ∷ ms) ++ rest ≡ spelling m ++ (flat_map spelling ms ++ rest)
@@ -53,8 +54,18 @@ faults_stay stream more ms rest fault other s = record {
   ends = answer_stays rest more (λ e. other (let faults : Faulty fault ≡ Faulty Short = sym s.ends ∙ e in cc)) ∙ s.ends;
 }
 
--- a frame that stands in front
-pub in_front : (bytes : List ℕ) (m : Message) (rest : List ℕ) → bytes ≡ spelling m ++ rest → bytes ≡ spelling m ++ drop (length (spelling m)) bytes
-in_front bytes m rest e =
-    let same : drop (length (spelling m)) bytes ≡ rest = ap (drop (length (spelling m))) e ∙ drop_at (spelling m) rest (length (spelling m)) refl in
-    e ∙ ap (λ (t : List ℕ). spelling m ++ t) (sym same)
+pub in_order : (stream : List ℕ) (m : Message) (ms : List Message) (rest : List ℕ) (fault : WireFault) → Splits stream (m ∷ ms) rest fault → AreInOrder stream m ms rest fault
+in_order stream m ms rest fault s =
+    let more = flat_map spelling ms ++ rest in
+    let parts : stream ≡ spelling m ++ more = s.whole ∙ front m ms rest in
+    record {
+      first = ap decoded parts ∙ decoded_again m more (left_of (has_spelling m) (list_all has_spelling ms) s.each);
+      others = record {
+        whole = ap (drop (length (spelling m))) parts ∙ drop_at (spelling m) more (length (spelling m)) refl;
+        each = right_of (has_spelling m) (list_all has_spelling ms) s.each;
+        ends = s.ends;
+      };
+    }
+
+pub none_in_front : (stream rest : List ℕ) (fault : WireFault) → Splits stream [] rest fault → decoded stream ≡ Faulty fault
+none_in_front stream rest fault s = ap decoded s.whole ∙ s.ends

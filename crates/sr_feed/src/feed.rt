@@ -73,6 +73,7 @@ impl Feed {
     pub fn front(&self) -> Result<Option<Frame<'_>>, WireFault>
         ensures given { Gives result (decoded self.now) }
         ensures first { IfGiven result (λ frame. self.now ≡ spelling frame ++ drop (length (spelling frame)) self.now) }
+        ensures room { IfGiven result (λ frame. length (spelling frame) ≤ length self.now) }
     {
         match decode(&self.bytes[self.read..]) {
             Ok(frame) => Ok(Some(frame)),

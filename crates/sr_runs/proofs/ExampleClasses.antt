@@ -93,19 +93,19 @@ answered_2 = record { query = query 35 50; answered = true }
 abbrev pub held_2 : List Mark
 held_2 = Held 0 3 (ages 35 50) ∷ held_none
 
-only-1 : (t a : ℕ) (p : Row) → is_held held_1 t a p ≡ true → (t ≡ 0) × (a ≡ 3)
+pub only-1 : (t a : ℕ) (p : Row) → is_held held_1 t a p ≡ true → (t ≡ 0) × (a ≡ 3)
 only-1 t a p h = (grind (arith, nat_tests), grind (arith, nat_tests))
 
 only-2 : (t a : ℕ) (p : Row) → is_held held_2 t a p ≡ true → (t ≡ 0) × (a ≡ 3)
 only-2 t a p h = (grind (arith, nat_tests), grind (arith, nat_tests))
 
-stamp-1 : (p : Row) → IsTrue (is_point employees.columns p) → is_held held_1 0 3 p ≡ true → stamp (asked_1 ∷ []) 0 3 p ≡ 1
+pub stamp-1 : (p : Row) → IsTrue (is_point employees.columns p) → is_held held_1 0 3 p ≡ true → stamp (asked_1 ∷ []) 0 3 p ≡ 1
 stamp-1 p point = of-employees (λ p. is_held held_1 0 3 p ≡ true → stamp (asked_1 ∷ []) 0 3 p ≡ 1) (λ m n s d low high h. grind (arith, h)) p point
 
 stamp-still : (p : Row) → IsTrue (is_point employees.columns p) → is_held held_1 0 3 p ≡ true → stamp (asked_1 ∷ asked_2 ∷ []) 0 3 p ≡ 1
 stamp-still p point = of-employees (λ p. is_held held_1 0 3 p ≡ true → stamp (asked_1 ∷ asked_2 ∷ []) 0 3 p ≡ 1) (λ m n s d low high h. grind (arith, h)) p point
 
-later-stamp : (b c : Bool) → c ≡ true → max (if b then 1 else 0) (max (if c then 2 else 0) 0) ≡ 2
+pub later-stamp : (b c : Bool) → c ≡ true → max (if b then 1 else 0) (max (if c then 2 else 0) 0) ≡ 2
 later-stamp true true e = refl
 later-stamp false true e = refl
 later-stamp b false e = absurd (cc)

@@ -1,6 +1,6 @@
 -- What is held, asked and dropped where a class is dropped by the user.
-use Rattle.std.proofs.Common.{◌≡◌, ℕ, Bool, true, false, ◌≤◌, List, [], ◌∷◌, refl, sym, arith, inl, inr}
-use Rattle.std.specs.Prelude.{IsTrue, codes, max, if◌then◌else◌}
+use Rattle.std.proofs.Common.{◌≡◌, ℕ, Bool, true, false, ◌≤◌, List, [], ◌∷◌, refl, arith, inl, inr}
+use Rattle.std.specs.Prelude.{IsTrue, codes, if◌then◌else◌}
 use Rattle.std.proofs.lemmas.Bool.Decides.{nat_tests}
 use Rattle.std.proofs.lemmas.Int.{ints}
 use Rattle.sr_cell.specs.declared.cause.Cause.TheVariants.{Asked}
@@ -10,7 +10,7 @@ use Rattle.sr_box.specs.Points.{AreSame, in_any}
 use Rattle.sr_history.specs.declared.mark.Mark.{Mark}
 use Rattle.sr_history.specs.declared.mark.Mark.TheVariants.{Dropped, Held}
 use Rattle.sr_history.specs.Marks.{HoldsNothing, concerns, is_held}
-use Rattle.sr_history.specs.Classes.{AreClasses, Numbered, in_class, stamp}
+use Rattle.sr_history.specs.Classes.{AreClasses, in_class, stamp}
 use Rattle.sr_history.specs.Drops.{Absorbs, IsDropOf}
 use Rattle.sr_history.specs.Budgets.{MeetsBudgets}
 use Rattle.sr_history.specs.Rests.{Asks, rest_of}

@@ -1,6 +1,6 @@
 -- The example of an evicted class as a whole run.
-use Rattle.std.proofs.Common.{◌≡◌, ℕ, true, List, [], ◌∷◌, ◌++◌, refl, lit≤}
-use Rattle.std.specs.Prelude.{Ok, Some, None, false, map, filter, take, drop, ◌==◌}
+use Rattle.std.proofs.Common.{ℕ, true, List, [], ◌∷◌, refl, lit≤}
+use Rattle.std.specs.Prelude.{Ok, None, false, map, filter, take, drop, ◌==◌}
 use Rattle.sr_message.specs.declared.message.Message.TheVariants.{Ask}
 use Rattle.sr_model.specs.Changes.{changes}
 use Rattle.sr_history.specs.declared.mark.Mark.TheVariants.{Held}
@@ -14,7 +14,7 @@ use Rattle.sr_runs.specs.Example.{ages, default_limits, query, row, schema}
 use Rattle.sr_runs.specs.EvictedClass.{evicting_events, evicting_lines, evicting_start}
 use Rattle.sr_runs.specs.Scripts.{DoEvict, DoQuery, gives_nothing, is_evict, is_exec, is_query, is_to_client, is_to_server}
 use Rattle.sr_runs.specs.Runs.{AllSettle, Runs, Settles, Steps, acts, delivers, does, eagerly, ends, goes_on, is_quiet, no_client, one_more}
-use Rattle.sr_runs.proofs.ExampleRests.{ask, first-asks, held_1}
+use Rattle.sr_runs.proofs.ExampleRests.{ask, first-asks}
 use Rattle.sr_runs.proofs.ExampleClasses.{absorbs_1, asked_1, budgets_1, class}
 use Rattle.sr_runs.proofs.ExampleRun.{asking, filled, first_sent, holds_1, new_one, nothing_held, served, versions}
 use Rattle.sr_runs.proofs.EvictedClasses.{absorbs-again, again-asks, budgets-again, classes, drops, held_nothing, holds_nothing}
@@ -77,13 +77,13 @@ unfolding changes
 second_settle = (
   _,
   delivers _ _ _ (line.ServerTook 1 kind.Ask 2 ∷ []) _ 2 _ _ refl refl
-  (acts _ _ _ _ (is_to_server 1 _ _ refl (gives_nothing _ refl)) (server_took 1 _ _ _ _ refl refl))
-  (delivers _ _ _ (line.ClientLaid 1 ∷ []) _ 1 _ _ refl refl (acts _ _ _ _ (is_to_client 1) (client_took 1 _ _ _ _ _ refl refl (lays _ _ refl tt refl)))
-  (delivers _ _ _ (line.Answer 1 2 2 2 ∷ line.Row (row 1 35) ∷ line.Row (row 3 33) ∷ line.Held 1 0 3 (ages 30 40) ∷ line.ClientAnswered 1 ∷ []) _ 0 _ _ refl refl
-  (acts _ _ _ _ (is_to_client 1) (client_took 1 _ _ _ _ _ refl refl
-  (answers 2 2 (query 30 40) true (ask 30 40 ∷ []) 2 (row 1 35 ∷ row 3 33 ∷ []) (Held 0 3 (ages 30 40) ∷ []) _ refl refl (lit≤ tt) refl
-  (renewed (Held 0 3 (ages 30 40) ∷ []) (record { held = Held 0 3 (ages 30 40) ∷ []; absorbed = []; drops = []; holds = (holds_1, tt); absorbs = absorbs-again; budgets = budgets-again _ (lit≤ tt); all = refl })))))
-  (is_quiet _ _ refl refl))),
+      (acts _ _ _ _ (is_to_server 1 _ _ refl (gives_nothing _ refl)) (server_took 1 _ _ _ _ refl refl))
+      (delivers _ _ _ (line.ClientLaid 1 ∷ []) _ 1 _ _ refl refl (acts _ _ _ _ (is_to_client 1) (client_took 1 _ _ _ _ _ refl refl (lays _ _ refl tt refl)))
+      (delivers _ _ _ (line.Answer 1 2 2 2 ∷ line.Row (row 1 35) ∷ line.Row (row 3 33) ∷ line.Held 1 0 3 (ages 30 40) ∷ line.ClientAnswered 1 ∷ []) _ 0 _ _ refl refl
+      (acts _ _ _ _ (is_to_client 1) (client_took 1 _ _ _ _ _ refl refl
+      (answers 2 2 (query 30 40) true (ask 30 40 ∷ []) 2 (row 1 35 ∷ row 3 33 ∷ []) (Held 0 3 (ages 30 40) ∷ []) _ refl refl (lit≤ tt) refl
+      (renewed (Held 0 3 (ages 30 40) ∷ []) (record { held = Held 0 3 (ages 30 40) ∷ []; absorbed = []; drops = []; holds = (holds_1, tt); absorbs = absorbs-again; budgets = budgets-again _ (lit≤ tt); all = refl })))))
+      (is_quiet _ _ refl refl))),
 )
 
 second_query : Steps true (scene 3 dropped served) (DoQuery 1 (Ok (query 30 40))) (lines_at 8) second_settle.0
@@ -96,9 +96,9 @@ pub evicting_runs : (last : Scene) × Runs true evicting_start evicting_events e
 evicting_runs = (
   second_settle.0,
   goes_on _ 3 _ (lines_at 3) (scene 2 new_one new_pair.connection) _ _ _ (eagerly _ _ (lines_at 3) (scene 2 new_one new_pair.connection) [] _ (does _ _ _ (acts _ _ _ _ (is_exec _) (executed _))) (quiet 2 new_one))
-  (goes_on _ 4 _ (lines_at 4) (scene 3 new_one new_pair.connection) _ _ _ (eagerly _ _ (lines_at 4) (scene 3 new_one new_pair.connection) [] _ (does _ _ _ (acts _ _ _ _ (is_exec _) (executed _))) (quiet 3 new_one))
-  (goes_on _ 5 _ (lines_at 5) (scene 3 filled served) _ _ _ first_query
-  (goes_on _ 6 _ (lines_at 6) (scene 3 filled served) _ _ _ no_class
-  (goes_on _ 7 _ (lines_at 7) (scene 3 dropped served) _ _ _ one_class
-  (goes_on _ 8 _ (lines_at 8) _ _ _ _ second_query (ends _)))))),
+      (goes_on _ 4 _ (lines_at 4) (scene 3 new_one new_pair.connection) _ _ _ (eagerly _ _ (lines_at 4) (scene 3 new_one new_pair.connection) [] _ (does _ _ _ (acts _ _ _ _ (is_exec _) (executed _))) (quiet 3 new_one))
+      (goes_on _ 5 _ (lines_at 5) (scene 3 filled served) _ _ _ first_query
+      (goes_on _ 6 _ (lines_at 6) (scene 3 filled served) _ _ _ no_class
+      (goes_on _ 7 _ (lines_at 7) (scene 3 dropped served) _ _ _ one_class
+      (goes_on _ 8 _ (lines_at 8) _ _ _ _ second_query (ends _)))))),
 )

@@ -1,10 +1,9 @@
 -- The worked example as a whole run.
-use Rattle.std.proofs.Common.{◌≡◌, ℕ, Bool, true, false, List, [], ◌∷◌, ◌++◌, refl, sym, ◌∙◌, lit≤}
-use Rattle.std.specs.Prelude.{IsTrue, Ok, Some, None, Option, codes, map, filter, take, ◌==◌}
+use Rattle.std.proofs.Common.{◌≡◌, ℕ, Bool, true, false, List, [], ◌∷◌, refl, lit≤}
+use Rattle.std.specs.Prelude.{IsTrue, Ok, Some, None, codes, map, filter, take, ◌==◌}
 use Rattle.sr_cell.specs.Cells.{Row}
-use Rattle.sr_box.specs.Points.{AreSame, in_any}
-use Rattle.sr_message.specs.declared.message.Message.{Message}
-use Rattle.sr_message.specs.declared.message.Message.TheVariants.{Ask, Lapse, Rows}
+use Rattle.sr_box.specs.Points.{AreSame}
+use Rattle.sr_message.specs.declared.message.Message.TheVariants.{Ask, Lapse}
 use Rattle.sr_model.specs.Changes.{changes}
 use Rattle.sr_model.specs.Statements.{Tables}
 use Rattle.sr_cell.specs.declared.cause.Cause.TheVariants.{Lapsed}
@@ -14,15 +13,14 @@ use Rattle.sr_script.specs.declared.line.RequestKind.TheVariants as kind
 use Rattle.sr_script.specs.declared.line.TraceLine.{TraceLine}
 use Rattle.sr_script.specs.declared.line.TraceLine.TheVariants as line
 use Rattle.sr_session.specs.Sessions.{Session}
-use Rattle.sr_session.specs.Walks.{AskOut}
 use Rattle.sr_session.specs.Clients.{Client, Connection}
 use Rattle.sr_session.specs.Rules.{Holds, answers, as_it_is, asks_once_more, lays, query_asks, renewed, with_ask}
 use Rattle.sr_session.specs.Scenes.{Scene, client_took, executed, new_pair, pushed, queried, server_took}
-use Rattle.sr_runs.specs.Example.{aged, ages, default_limits, employee, employees, events, lines, query, row, schema, start}
-use Rattle.sr_runs.specs.Scripts.{DoPush, DoQuery, ScriptEvent, gives_nothing, is_exec, is_push, is_query, is_to_client, is_to_server}
+use Rattle.sr_runs.specs.Example.{ages, default_limits, employee, employees, events, lines, query, row, schema, start}
+use Rattle.sr_runs.specs.Scripts.{DoPush, DoQuery, gives_nothing, is_exec, is_push, is_query, is_to_client, is_to_server}
 use Rattle.sr_runs.specs.Runs.{Runs, Settles, Steps, acts, alone, delivers, does, does_settle, ends, goes_on, is_quiet}
-use Rattle.sr_runs.proofs.ExampleRests.{ask, first-asks, held_1, held_none, lapsed, second-asks, whole-asks}
-use Rattle.sr_runs.proofs.ExampleClasses.{absorbs_1, absorbs_2, asked_1, asked_2, budgets_1, budgets_2, drops_all}
+use Rattle.sr_runs.proofs.ExampleRests.{ask, first-asks, held_1, lapsed, second-asks, whole-asks}
+use Rattle.sr_runs.proofs.ExampleClasses.{absorbs_1, absorbs_2, asked_1, budgets_1, budgets_2, drops_all}
 
 pub nothing_held : HoldsNothing schema []
 nothing_held table attrs q h = refl
@@ -120,33 +118,33 @@ unfolding changes
 second_settle = (
   _,
   delivers _ _ _ (line.ServerTook 1 kind.Ask 2 ∷ []) _ 6 _ _ refl refl
-  (acts _ _ _ _ (is_to_server 1 _ _ refl (gives_nothing _ refl)) (server_took 1 _ _ _ _ refl refl))
-  (delivers _ _ _ (line.ClientLaid 1 ∷ []) _ 5 _ _ refl refl (acts _ _ _ _ (is_to_client 1) (client_took 1 _ _ _ _ _ refl refl (lays _ _ refl tt tt)))
-  (delivers _ _ _ (line.ClientLaid 1 ∷ []) _ 4 _ _ refl refl (acts _ _ _ _ (is_to_client 1) (client_took 1 _ _ _ _ _ refl refl (lays _ _ refl tt refl)))
-  (delivers _ _ _ (line.Drop 1 Lapsed 0 3 1 (ages 30 40) ∷ line.Ask 1 3 true 1 ∷ line.Part 0 3 (ages 35 50) ∷ line.ClientAsked 1 3 ∷ []) _ 3 _ _ refl refl
-  (acts _ _ _ _ (is_to_client 1) (client_took 1 _ _ _ _ _ refl refl
-  (asks_once_more 2 2 (query 35 50) false (ask 41 50 ∷ []) 5 (lapsed ∷ []) (ask 35 50 ∷ []) refl refl (lit≤ tt) drops_all whole-asks (lit≤ tt))))
-  (delivers _ _ _ (line.ServerTook 1 kind.Ask 2 ∷ []) _ 2 _ _ refl refl
-  (acts _ _ _ _ (is_to_server 1 _ _ refl (gives_nothing _ refl)) (server_took 1 _ _ _ _ refl refl))
-  (delivers _ _ _ (line.ClientLaid 1 ∷ []) _ 1 _ _ refl refl (acts _ _ _ _ (is_to_client 1) (client_took 1 _ _ _ _ _ refl refl (lays _ _ refl tt refl)))
-  (delivers _ _ _ (line.Answer 1 2 5 2 ∷ line.Row (row 1 35) ∷ line.Row (row 2 48) ∷ line.Held 1 0 3 (ages 35 50) ∷ line.ClientAnswered 1 ∷ []) _ 0 _ _ refl refl
-  (acts _ _ _ _ (is_to_client 1) (client_took 1 _ _ _ _ _ refl refl
-  (answers 3 2 (query 35 50) true (ask 35 50 ∷ []) 5 (row 1 35 ∷ row 2 48 ∷ []) (Held 0 3 (ages 35 50) ∷ []) _ refl refl (lit≤ tt) refl
-  (renewed (Held 0 3 (ages 35 50) ∷ []) (record { held = Held 0 3 (ages 35 50) ∷ []; absorbed = []; drops = []; holds = (holds_2, tt); absorbs = absorbs_2; budgets = budgets_2 _ (lit≤ tt); all = refl })))))
-  (is_quiet _ _ refl refl))))))),
+      (acts _ _ _ _ (is_to_server 1 _ _ refl (gives_nothing _ refl)) (server_took 1 _ _ _ _ refl refl))
+      (delivers _ _ _ (line.ClientLaid 1 ∷ []) _ 5 _ _ refl refl (acts _ _ _ _ (is_to_client 1) (client_took 1 _ _ _ _ _ refl refl (lays _ _ refl tt tt)))
+      (delivers _ _ _ (line.ClientLaid 1 ∷ []) _ 4 _ _ refl refl (acts _ _ _ _ (is_to_client 1) (client_took 1 _ _ _ _ _ refl refl (lays _ _ refl tt refl)))
+      (delivers _ _ _ (line.Drop 1 Lapsed 0 3 1 (ages 30 40) ∷ line.Ask 1 3 true 1 ∷ line.Part 0 3 (ages 35 50) ∷ line.ClientAsked 1 3 ∷ []) _ 3 _ _ refl refl
+      (acts _ _ _ _ (is_to_client 1) (client_took 1 _ _ _ _ _ refl refl
+      (asks_once_more 2 2 (query 35 50) false (ask 41 50 ∷ []) 5 (lapsed ∷ []) (ask 35 50 ∷ []) refl refl (lit≤ tt) drops_all whole-asks (lit≤ tt))))
+      (delivers _ _ _ (line.ServerTook 1 kind.Ask 2 ∷ []) _ 2 _ _ refl refl
+      (acts _ _ _ _ (is_to_server 1 _ _ refl (gives_nothing _ refl)) (server_took 1 _ _ _ _ refl refl))
+      (delivers _ _ _ (line.ClientLaid 1 ∷ []) _ 1 _ _ refl refl (acts _ _ _ _ (is_to_client 1) (client_took 1 _ _ _ _ _ refl refl (lays _ _ refl tt refl)))
+      (delivers _ _ _ (line.Answer 1 2 5 2 ∷ line.Row (row 1 35) ∷ line.Row (row 2 48) ∷ line.Held 1 0 3 (ages 35 50) ∷ line.ClientAnswered 1 ∷ []) _ 0 _ _ refl refl
+      (acts _ _ _ _ (is_to_client 1) (client_took 1 _ _ _ _ _ refl refl
+      (answers 3 2 (query 35 50) true (ask 35 50 ∷ []) 5 (row 1 35 ∷ row 2 48 ∷ []) (Held 0 3 (ages 35 50) ∷ []) _ refl refl (lit≤ tt) refl
+      (renewed (Held 0 3 (ages 35 50) ∷ []) (record { held = Held 0 3 (ages 35 50) ∷ []; absorbed = []; drops = []; holds = (holds_2, tt); absorbs = absorbs_2; budgets = budgets_2 _ (lit≤ tt); all = refl })))))
+      (is_quiet _ _ refl refl))))))),
 )
 
 pub runs : (last : Scene) × Runs false start events lines last
 runs = (
   second_settle.0,
   goes_on _ 3 _ (lines_at 3) (scene 2 new_one new_pair.connection) _ _ _ (alone _ _ _ _ (does _ _ _ (acts _ _ _ _ (is_exec _) (executed _))))
-  (goes_on _ 4 _ (lines_at 4) (scene 3 new_one new_pair.connection) _ _ _ (alone _ _ _ _ (does _ _ _ (acts _ _ _ _ (is_exec _) (executed _))))
-  (goes_on _ 5 _ (lines_at 5) (scene 3 asking first_sent) _ _ _ first_query
-  (goes_on _ 6 _ (lines_at 6) (scene 3 filled served) _ _ _ (alone _ _ _ _ (does_settle 1 3 (take 7 (lines_at 6)) _ first_settle))
-  (goes_on _ 7 _ (lines_at 7) (scene 3 asking_more second_sent) _ _ _ second_query
-  (goes_on _ 8 _ (lines_at 8) (scene 4 asking_more second_sent) _ _ _ (alone _ _ _ _ (does _ _ _ (acts _ _ _ _ (is_exec _) (executed _))))
-  (goes_on _ 9 _ (lines_at 9) (scene 5 asking_more second_sent) _ _ _ (alone _ _ _ _ (does _ _ _ (acts _ _ _ _ (is_exec _) (executed _))))
-  (goes_on _ 10 _ (lines_at 10) (scene 6 asking_more second_sent) _ _ _ (alone _ _ _ _ (does _ _ _ (acts _ _ _ _ (is_exec _) (executed _))))
-  (goes_on _ 11 _ (lines_at 11) (scene 6 asking_more told_lapse) _ _ _ push
-  (goes_on _ 12 _ (lines_at 12) _ _ _ _ (alone _ _ _ _ (does_settle 1 7 (take 14 (lines_at 12)) _ second_settle.1)) (ends _)))))))))),
+      (goes_on _ 4 _ (lines_at 4) (scene 3 new_one new_pair.connection) _ _ _ (alone _ _ _ _ (does _ _ _ (acts _ _ _ _ (is_exec _) (executed _))))
+      (goes_on _ 5 _ (lines_at 5) (scene 3 asking first_sent) _ _ _ first_query
+      (goes_on _ 6 _ (lines_at 6) (scene 3 filled served) _ _ _ (alone _ _ _ _ (does_settle 1 3 (take 7 (lines_at 6)) _ first_settle))
+      (goes_on _ 7 _ (lines_at 7) (scene 3 asking_more second_sent) _ _ _ second_query
+      (goes_on _ 8 _ (lines_at 8) (scene 4 asking_more second_sent) _ _ _ (alone _ _ _ _ (does _ _ _ (acts _ _ _ _ (is_exec _) (executed _))))
+      (goes_on _ 9 _ (lines_at 9) (scene 5 asking_more second_sent) _ _ _ (alone _ _ _ _ (does _ _ _ (acts _ _ _ _ (is_exec _) (executed _))))
+      (goes_on _ 10 _ (lines_at 10) (scene 6 asking_more second_sent) _ _ _ (alone _ _ _ _ (does _ _ _ (acts _ _ _ _ (is_exec _) (executed _))))
+      (goes_on _ 11 _ (lines_at 11) (scene 6 asking_more told_lapse) _ _ _ push
+      (goes_on _ 12 _ (lines_at 12) _ _ _ _ (alone _ _ _ _ (does_settle 1 7 (take 14 (lines_at 12)) _ second_settle.1)) (ends _)))))))))),
 )

@@ -1,6 +1,6 @@
 -- Which blocks the lines of an event are made of.
 use Rattle.std.proofs.Common.{◌≡◌, ℕ, ◌+◌, Bool, true, false, List, [], ◌∷◌, ◌++◌, length, refl, sym, ◌∙◌, ap, Option, Some, None, inl, inr}
-use Rattle.std.specs.Prelude.{map, Result, ◌⊎◌, ◌||◌}
+use Rattle.std.specs.Prelude.{map, Result, ◌⊎◌}
 use Rattle.std.specs.List.{list_any}
 use Rattle.std.proofs.lemmas.List.{append_assoc}
 use Rattle.sr_cell.specs.declared.fault.Fault.{Fault}
@@ -14,11 +14,11 @@ use Rattle.sr_history.specs.declared.mark.Mark.TheVariants.{Held, Dropped}
 use Rattle.sr_script.specs.declared.line.TraceLine.{TraceLine}
 use Rattle.sr_script.specs.declared.line.TraceLine.TheVariants as line
 use Rattle.sr_session.specs.Sessions.{newest, serve_push}
-use Rattle.sr_session.specs.Walks.{AskOut, Request, ResumeOut, WriteOut, version_after}
+use Rattle.sr_session.specs.Walks.{AskOut, Request, ResumeOut, WriteOut}
 use Rattle.sr_session.specs.Clients.{Client}
 use Rattle.sr_session.specs.Rules.{Answered, AskSent, Basis, CutStep, EvictStep, Outcome, QueryStep, ResumeSent, ResumeStep, TakeStep, WriteStep, already_cut, already_up, answers, applies, asks_once_more, cuts, evict_busy, evicts, evicts_none, forgets, is_welcomed, lays, next_query, number_of, query_answered, query_asks, query_busy, query_down, query_refused, refused_write, resumes, write_busy, write_down, write_sends, written}
 use Rattle.sr_session.specs.Scenes.{CutOf, Did, Event, EvictOf, Happens, QueryOf, Report, ResumeOf, Scene, ToClient, WriteOf, basis_of, client_idle, client_of, client_took, cut, evicted, executed, not_executed, push_closed, pushed, queried, resumed, server_idle, server_took, taken, wrote}
-use Rattle.sr_runs.specs.Lines.{answer_lines, ask_lines, details, fail_lines, lines_of, mark_line, mark_lines, part_line, resume_line, served_line}
+use Rattle.sr_runs.specs.Lines.{answer_lines, ask_lines, fail_lines, lines_of, mark_line, mark_lines, part_line, resume_line, served_line}
 use Rattle.sr_runs.proofs.Splits.{Side, found, in_left, in_right, lacks-both, lacks-map, one-head, split}
 
 -- the line that a block of an answer or an ask begins with

@@ -1,24 +1,23 @@
 -- The step of a covered query.
-use Rattle.std.proofs.Common.{◌≡◌, ℕ, ◌+◌, Bool, true, false, List, [], ◌∷◌, ◌++◌, length, refl, sym, ◌∙◌, ap, subst, Option, Some, None}
+use Rattle.std.proofs.Common.{◌≡◌, ℕ, Bool, List, [], ◌∷◌, ◌++◌, refl, sym, ◌∙◌, ap, subst, Some, None}
 use Rattle.std.specs.Prelude.{Result, Ok}
 use Rattle.std.proofs.lemmas.List.{append-nil, append_assoc}
 use Rattle.sr_cell.specs.declared.fault.Fault.{Fault}
 use Rattle.sr_cell.specs.Cells.{Row}
 use Rattle.sr_model.specs.Queries.{Query, rows_of}
 use Rattle.sr_history.specs.declared.mark.Mark.{Mark}
-use Rattle.sr_message.specs.declared.message.AskPart.{AskPart}
 use Rattle.sr_script.specs.declared.line.TraceLine.{TraceLine}
 use Rattle.sr_script.specs.declared.line.TraceLine.TheVariants as line
 use Rattle.sr_session.specs.Sessions.{tables_of}
 use Rattle.sr_session.specs.Clients.{Client, Pair}
 use Rattle.sr_session.specs.Rules.{Answered, AskSent, Basis, Outcome, QueryStep, answering_now, next_query, query_answered, query_asks, query_busy, query_down, query_refused}
-use Rattle.sr_session.specs.Scenes.{CutOf, Did, Event, EvictOf, Exec, Happens, PushTo, QueryOf, Report, ResumeOf, Scene, ToClient, ToServer, WriteOf, acted, basis_of, client_idle, client_took, cut, evicted, executed, not_executed, pair_at, push_closed, pushed, queried, resumed, server_idle, server_took, wrote}
+use Rattle.sr_session.specs.Scenes.{Did, Event, Happens, QueryOf, Report, Scene, acted, basis_of, client_idle, client_took, cut, evicted, executed, not_executed, pair_at, push_closed, pushed, queried, resumed, server_idle, server_took, wrote}
 use Rattle.sr_session.specs.Headline.{IsCovered, IsTooHeavy}
 use Rattle.sr_session.proofs.MarkLemmas.{kept}
 use Rattle.sr_session.proofs.PointLemmas.{a-covered-query-is-answered}
 use Rattle.sr_session.proofs.ReachLemmas.{at-set}
 use Rattle.sr_runs.specs.Lines.{answer_lines, lines_of, mark_lines}
-use Rattle.sr_runs.specs.Scripts.{DoQuery, DoSettle, DoWrite, Is, ScriptEvent, is_cut, is_evict, is_exec, is_push, is_query, is_resume, is_to_client, is_to_server, is_write_of}
+use Rattle.sr_runs.specs.Scripts.{DoQuery, Is, ScriptEvent, is_cut, is_evict, is_exec, is_push, is_query, is_resume, is_to_client, is_to_server, is_write_of}
 use Rattle.sr_runs.specs.Runs.{Acts, Does, Steps, acts, alone, does, does_settle, eagerly, too_long}
 use Rattle.sr_runs.specs.Headline.{ACoveredQueryAsksNothing, IsAnsweredAtOnce}
 use Rattle.sr_runs.proofs.BlockLemmas.{blocks}

@@ -1,22 +1,18 @@
 -- The classes of the worked example: one at a time, which is not absorbed and is within the budgets.
-use Rattle.std.proofs.Common.{◌≡◌, ℕ, ℤ, Bool, true, false, ◌&&◌, ◌||◌, ◌≤◌, List, [], ◌∷◌, ◌++◌, length, refl, sym, subst, ◌∙◌, arith, inl, inr, lit≤}
-use Rattle.std.specs.Prelude.{IsTrue, ◌==◌, ◌⊎◌, max, if◌then◌else◌, codes}
-use Rattle.std.specs.List.{list_any}
+use Rattle.std.proofs.Common.{◌≡◌, ℕ, Bool, true, false, ◌&&◌, ◌≤◌, List, [], ◌∷◌, refl, sym, subst, ◌∙◌, arith, inl, lit≤}
+use Rattle.std.specs.Prelude.{IsTrue, ◌==◌, max, if◌then◌else◌, codes}
 use Rattle.std.proofs.lemmas.Bool.Decides.{nat_tests}
 use Rattle.std.proofs.lemmas.Int.{ints}
 use Rattle.sr_cell.specs.declared.cause.Cause.TheVariants.{Lapsed}
-use Rattle.sr_cell.specs.declared.cell.Cell.TheVariants.{Num, Str}
 use Rattle.sr_cell.specs.Cells.{Row}
 use Rattle.sr_cell.specs.Columns.{table_at, is_point}
 use Rattle.sr_box.specs.Points.{AreSame, HasPoint, in_any}
-use Rattle.sr_policy.specs.declared.policy.Limits.{Limits}
 use Rattle.sr_history.specs.declared.mark.Mark.{Mark}
 use Rattle.sr_history.specs.declared.mark.Mark.TheVariants.{Held}
 use Rattle.sr_history.specs.Marks.{is_held}
 use Rattle.sr_history.specs.Classes.{Numbered, Class, AreClasses, in_class, same_class, stamp}
-use Rattle.sr_history.specs.Drops.{IsAbsorbed, AbsorbsFrom, Absorbs, DropsAll, is_held_wider}
+use Rattle.sr_history.specs.Drops.{IsAbsorbed, Absorbs, DropsAll, is_held_wider}
 use Rattle.sr_history.specs.Budgets.{MeetsBudgets}
-use Rattle.sr_model.specs.Queries.{Query}
 use Rattle.sr_runs.specs.Example.{ages, default_limits, employee, employees, query, schema}
 use Rattle.sr_runs.proofs.ExampleRests.{held_1, held_none, lapsed, of-employees, same-points}
 
@@ -93,19 +89,19 @@ answered_2 = record { query = query 35 50; answered = true }
 abbrev pub held_2 : List Mark
 held_2 = Held 0 3 (ages 35 50) ∷ held_none
 
-only-1 : (t a : ℕ) (p : Row) → is_held held_1 t a p ≡ true → (t ≡ 0) × (a ≡ 3)
+pub only-1 : (t a : ℕ) (p : Row) → is_held held_1 t a p ≡ true → (t ≡ 0) × (a ≡ 3)
 only-1 t a p h = (grind (arith, nat_tests), grind (arith, nat_tests))
 
 only-2 : (t a : ℕ) (p : Row) → is_held held_2 t a p ≡ true → (t ≡ 0) × (a ≡ 3)
 only-2 t a p h = (grind (arith, nat_tests), grind (arith, nat_tests))
 
-stamp-1 : (p : Row) → IsTrue (is_point employees.columns p) → is_held held_1 0 3 p ≡ true → stamp (asked_1 ∷ []) 0 3 p ≡ 1
+pub stamp-1 : (p : Row) → IsTrue (is_point employees.columns p) → is_held held_1 0 3 p ≡ true → stamp (asked_1 ∷ []) 0 3 p ≡ 1
 stamp-1 p point = of-employees (λ p. is_held held_1 0 3 p ≡ true → stamp (asked_1 ∷ []) 0 3 p ≡ 1) (λ m n s d low high h. grind (arith, h)) p point
 
 stamp-still : (p : Row) → IsTrue (is_point employees.columns p) → is_held held_1 0 3 p ≡ true → stamp (asked_1 ∷ asked_2 ∷ []) 0 3 p ≡ 1
 stamp-still p point = of-employees (λ p. is_held held_1 0 3 p ≡ true → stamp (asked_1 ∷ asked_2 ∷ []) 0 3 p ≡ 1) (λ m n s d low high h. grind (arith, h)) p point
 
-later-stamp : (b c : Bool) → c ≡ true → max (if b then 1 else 0) (max (if c then 2 else 0) 0) ≡ 2
+pub later-stamp : (b c : Bool) → c ≡ true → max (if b then 1 else 0) (max (if c then 2 else 0) 0) ≡ 2
 later-stamp true true e = refl
 later-stamp false true e = refl
 later-stamp b false e = absurd (cc)

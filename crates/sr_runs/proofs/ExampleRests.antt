@@ -1,7 +1,6 @@
 -- What the queries of the worked example ask.
 use Rattle.std.proofs.Common.{◌≡◌, ℕ, ℤ, pos, Bool, true, false, List, [], ◌∷◌, refl, sym, ◌∙◌, subst, arith, inl, inr}
 use Rattle.std.specs.Prelude.{int_le, IsTrue, slice_set, zero, suc, codes}
-use Rattle.std.proofs.lemmas.Int.{ints}
 use Rattle.sr_cell.specs.declared.cause.Cause.TheVariants.{Lapsed}
 use Rattle.sr_cell.specs.declared.cell.Cell.{Cell}
 use Rattle.sr_cell.specs.declared.cell.Cell.TheVariants.{Num, Str}
@@ -76,7 +75,7 @@ contrary : (b : Bool) → b ≡ false → b ≡ true → ⊥
 contrary b no_b is_b = let wrong : false ≡ true = sym no_b ∙ is_b in absurd (cc)
 
 -- so only the two first ones can be essential
-only-two : (a : Row → Bool) (c : ℕ) → DependsOnTwo a → IsEssential employees.columns a c → IsTrue (has_column 3 c)
+pub only-two : (a : Row → Bool) (c : ℕ) → DependsOnTwo a → IsEssential employees.columns a c → IsTrue (has_column 3 c)
 only-two a zero two e = refl
 only-two a (suc zero) two e = refl
 only-two a (suc (suc c)) two e = absurd (by (an-employee e.inside e.is_inside.0) c e.is_inside.1 e.is_outside.1)
@@ -96,7 +95,7 @@ only-two a (suc (suc c)) two e = absurd (by (an-employee e.inside e.is_inside.0)
         contrary _ outside inside
 
 -- where the asked points are these, and one of them is there, this is asked
-asks-ages : (marks : List Mark) (low high from to : ℕ) → IsRest schema marks (part low high) (ask from to) → Asks schema marks (part low high ∷ []) (ask from to ∷ [])
+pub asks-ages : (marks : List Mark) (low high from to : ℕ) → IsRest schema marks (part low high) (ask from to) → Asks schema marks (part low high ∷ []) (ask from to ∷ [])
 asks-ages marks low high from to rest = asked (part low high) [] (ask from to) [] rest nothing
 
 pub first-asks : Asks schema [] (part 30 40 ∷ []) (ask 30 40 ∷ [])

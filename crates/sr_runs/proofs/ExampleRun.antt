@@ -1,10 +1,9 @@
 -- The worked example as a whole run.
-use Rattle.std.proofs.Common.{◌≡◌, ℕ, Bool, true, false, List, [], ◌∷◌, ◌++◌, refl, sym, ◌∙◌, lit≤}
-use Rattle.std.specs.Prelude.{IsTrue, Ok, Some, None, Option, codes, map, filter, take, ◌==◌}
+use Rattle.std.proofs.Common.{◌≡◌, ℕ, Bool, true, false, List, [], ◌∷◌, refl, lit≤}
+use Rattle.std.specs.Prelude.{IsTrue, Ok, Some, None, codes, map, filter, take, ◌==◌}
 use Rattle.sr_cell.specs.Cells.{Row}
-use Rattle.sr_box.specs.Points.{AreSame, in_any}
-use Rattle.sr_message.specs.declared.message.Message.{Message}
-use Rattle.sr_message.specs.declared.message.Message.TheVariants.{Ask, Lapse, Rows}
+use Rattle.sr_box.specs.Points.{AreSame}
+use Rattle.sr_message.specs.declared.message.Message.TheVariants.{Ask, Lapse}
 use Rattle.sr_model.specs.Changes.{changes}
 use Rattle.sr_model.specs.Statements.{Tables}
 use Rattle.sr_cell.specs.declared.cause.Cause.TheVariants.{Lapsed}
@@ -14,17 +13,16 @@ use Rattle.sr_script.specs.declared.line.RequestKind.TheVariants as kind
 use Rattle.sr_script.specs.declared.line.TraceLine.{TraceLine}
 use Rattle.sr_script.specs.declared.line.TraceLine.TheVariants as line
 use Rattle.sr_session.specs.Sessions.{Session}
-use Rattle.sr_session.specs.Walks.{AskOut}
 use Rattle.sr_session.specs.Clients.{Client, Connection}
 use Rattle.sr_session.specs.Rules.{Holds, answers, as_it_is, asks_once_more, lays, query_asks, renewed, with_ask}
 use Rattle.sr_session.specs.Scenes.{Scene, client_took, executed, new_pair, pushed, queried, server_took}
-use Rattle.sr_runs.specs.Example.{aged, ages, default_limits, employee, employees, events, lines, query, row, schema, start}
-use Rattle.sr_runs.specs.Scripts.{DoPush, DoQuery, ScriptEvent, gives_nothing, is_exec, is_push, is_query, is_to_client, is_to_server}
+use Rattle.sr_runs.specs.Example.{ages, default_limits, employee, employees, events, lines, query, row, schema, start}
+use Rattle.sr_runs.specs.Scripts.{DoPush, DoQuery, gives_nothing, is_exec, is_push, is_query, is_to_client, is_to_server}
 use Rattle.sr_runs.specs.Runs.{Runs, Settles, Steps, acts, alone, delivers, does, does_settle, ends, goes_on, is_quiet}
-use Rattle.sr_runs.proofs.ExampleRests.{ask, first-asks, held_1, held_none, lapsed, second-asks, whole-asks}
-use Rattle.sr_runs.proofs.ExampleClasses.{absorbs_1, absorbs_2, asked_1, asked_2, budgets_1, budgets_2, drops_all}
+use Rattle.sr_runs.proofs.ExampleRests.{ask, first-asks, held_1, lapsed, second-asks, whole-asks}
+use Rattle.sr_runs.proofs.ExampleClasses.{absorbs_1, absorbs_2, asked_1, budgets_1, budgets_2, drops_all}
 
-nothing_held : HoldsNothing schema []
+pub nothing_held : HoldsNothing schema []
 nothing_held table attrs q h = refl
 
 something_held : HoldsNothing schema held_1 → IsTrue false
@@ -33,7 +31,7 @@ something_held none = let k : true ≡ false = none 0 3 (employee 1 35 (codes "a
 same-self : (a : Row → Bool) → AreSame employees.columns a a
 same-self a q h = refl
 
-holds_1 : Holds schema (ask 30 40) (Held 0 3 (ages 30 40))
+pub holds_1 : Holds schema (ask 30 40) (Held 0 3 (ages 30 40))
 holds_1 = (refl, refl, refl, same-self _)
 
 holds_2 : Holds schema (ask 35 50) (Held 0 3 (ages 35 50))
@@ -41,7 +39,7 @@ holds_2 = (refl, refl, refl, same-self _)
 
 -- ---- the scenes
 
-abbrev versions : List Tables
+abbrev pub versions : List Tables
 versions =
     ([] ∷ [] ∷ []) ∷ ((employee 1 35 (codes "ann") 3 ∷ employee 2 45 (codes "bob") 3 ∷ []) ∷ [] ∷ [])
     ∷ ((employee 1 35 (codes "ann") 3 ∷ employee 2 45 (codes "bob") 3 ∷ employee 3 33 (codes "cy") 4 ∷ []) ∷ [] ∷ [])
@@ -50,29 +48,29 @@ versions =
     ∷ ((employee 1 35 (codes "ann") 3 ∷ employee 2 48 (codes "bob") 3 ∷ employee 3 33 (codes "cy") 4 ∷ []) ∷ [] ∷ []) ∷ []
 
 -- the first so many versions, and the one client
-abbrev scene : ℕ → Client → Connection → Scene
+abbrev pub scene : ℕ → Client → Connection → Scene
 scene count c l = record {
   database = record { schema = schema; log_limit = 2; versions = take count versions };
   limits = default_limits;
   pairs = record { client = c; connection = l } ∷ [];
 }
 
-abbrev new_one : Client
+abbrev pub new_one : Client
 new_one = new_pair.client
 
-abbrev asking : Client
+abbrev pub asking : Client
 asking = with_ask new_one (query 30 40) true (ask 30 40 ∷ [])
 
-abbrev first_sent : Connection
+abbrev pub first_sent : Connection
 first_sent = record { to_server = Ask 1 true (ask 30 40 ∷ []) ∷ []; to_client = []; session = Some (record { subscription = []; upto = 0 }) }
 
-abbrev filled : Client
+abbrev pub filled : Client
 filled = record { marks = held_1; queries = asked_1 ∷ []; counted_from = 0; version = 2; next_request = 2; out = None; laid = []; cut = false; cuts = 0 }
 
-abbrev session_2 : Session
+abbrev pub session_2 : Session
 session_2 = record { subscription = record { table = 0; rects = ages 30 40 } ∷ []; upto = 2 }
 
-abbrev served : Connection
+abbrev pub served : Connection
 served = record { to_server = []; to_client = []; session = Some session_2 }
 
 abbrev asking_more : Client

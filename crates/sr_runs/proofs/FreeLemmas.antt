@@ -1,5 +1,5 @@
 -- A client with no request out asks nothing at any delivery.
-use Rattle.std.proofs.Common.{◌≡◌, ℕ, zero, suc, ◌+◌, Bool, true, false, List, [], ◌∷◌, ◌++◌, length, refl, sym, ◌∙◌, ap, subst, arith, Option, Some, None, inl, inr}
+use Rattle.std.proofs.Common.{◌≡◌, ℕ, ◌+◌, Bool, true, false, List, [], ◌∷◌, ◌++◌, length, refl, sym, ◌∙◌, ap, subst, arith, Some, None, inl, inr}
 use Rattle.std.specs.Prelude.{◌==◌, ◌⊎◌}
 use Rattle.std.proofs.lemmas.Bool.Decides.{nat_tests}
 use Rattle.sr_message.specs.declared.message.AskPart.{AskPart}
@@ -10,11 +10,11 @@ use Rattle.sr_script.specs.declared.line.TraceLine.TheVariants as line
 use Rattle.sr_session.specs.Walks.{AskOut, ResumeOut, WriteOut}
 use Rattle.sr_session.specs.Clients.{Client, Pair}
 use Rattle.sr_session.specs.Rules.{AskSent, Basis, Outcome, TakeStep, answers, applies, asks_once_more, forgets, is_welcomed, lays, refused_write, written}
-use Rattle.sr_session.specs.Scenes.{CutOf, Did, Event, EvictOf, Exec, Happens, PushTo, QueryOf, Report, ResumeOf, Scene, Taken, ToClient, ToServer, WriteOf, acted, basis_of, client_idle, client_of, client_took, cut, evicted, executed, given, not_executed, pair_at, push_closed, pushed, queried, resumed, server_idle, server_took, taken, with_pair, wrote}
+use Rattle.sr_session.specs.Scenes.{Did, Event, Happens, Report, Scene, Taken, ToClient, ToServer, acted, basis_of, client_idle, client_of, client_took, cut, evicted, executed, given, not_executed, pair_at, push_closed, pushed, queried, resumed, server_idle, server_took, taken, with_pair, wrote}
 use Rattle.sr_session.proofs.EventLemmas.{other-stays, same-pairs}
 use Rattle.sr_session.proofs.ReachLemmas.{at-set}
 use Rattle.sr_runs.specs.Lines.{lines_of}
-use Rattle.sr_runs.specs.Scripts.{DoCut, DoEvict, DoExec, DoPush, DoQuery, DoResume, DoSettle, DoToClient, DoToServer, DoWrite, Is, ScriptEvent, is_cut, is_evict, is_exec, is_push, is_query, is_resume, is_to_client, is_to_server, is_write_of}
+use Rattle.sr_runs.specs.Scripts.{DoToClient, DoToServer, Is, ScriptEvent, is_cut, is_evict, is_exec, is_push, is_query, is_resume, is_to_client, is_to_server, is_write_of}
 use Rattle.sr_runs.specs.Runs.{Acts, AllSettle, Settles, acts, delivers, is_quiet, next_of, no_client, one_more, too_long}
 use Rattle.sr_runs.proofs.Splits.{Side, in_left, in_right, none-there, split}
 use Rattle.sr_runs.proofs.BlockLemmas.{Blocks, HeadsAnswer, HeadsAsk, blocks, heads}

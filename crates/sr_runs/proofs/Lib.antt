@@ -10,3 +10,5 @@ pub mod ExampleTexts
 pub mod ExampleRests
 pub mod ExampleClasses
 pub mod ExampleRun
+pub mod EvictedClasses
+pub mod EvictedRun

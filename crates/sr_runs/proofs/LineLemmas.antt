@@ -1,13 +1,8 @@
 -- Lines of answers and asks are right, in the trace of each script.
-use Rattle.std.proofs.Common.{◌≡◌, ℕ, zero, suc, ◌+◌, ◌<◌, ◌≤◌, Bool, true, false, List, [], ◌∷◌, ◌++◌, length, refl, sym, ◌∙◌, ap, subst, arith, Option, Some, inl, inr}
-use Rattle.std.specs.Prelude.{map, ◌⊎◌, IsTrue, slice_get, slice_set}
+use Rattle.std.proofs.Common.{◌≡◌, ℕ, ◌<◌, ◌≤◌, Bool, true, false, List, ◌++◌, length, refl, sym, ◌∙◌, ap, subst, arith, Some, inl, inr}
+use Rattle.std.specs.Prelude.{map, ◌⊎◌, IsTrue}
 use Rattle.std.proofs.lemmas.List.{append_assoc, map-append}
-use Rattle.sr_cell.specs.Cells.{Row}
-use Rattle.sr_message.specs.declared.message.AskPart.{AskPart}
 use Rattle.sr_model.specs.Queries.{Query, rows_of}
-use Rattle.sr_model.specs.Statements.{Tables}
-use Rattle.sr_history.specs.declared.mark.Mark.{Mark}
-use Rattle.sr_history.specs.Classes.{Numbered}
 use Rattle.sr_script.specs.declared.line.TraceLine.{TraceLine}
 use Rattle.sr_script.specs.declared.line.TraceLine.TheVariants as line
 use Rattle.sr_session.specs.Sessions.{Database, newest, tables_of}
@@ -22,9 +17,9 @@ use Rattle.sr_session.proofs.ExecLemmas.{newest-more, version-stays}
 use Rattle.sr_session.proofs.GrowLemmas.{answers-never-fall, is-later}
 use Rattle.sr_session.proofs.AnswerLemmas.{an-ask-asks-the-uncovered, answers-are-right}
 use Rattle.sr_session.proofs.BudgetLemmas.{Grows, grows, more, same}
-use Rattle.sr_runs.specs.Lines.{lines_of, part_line}
+use Rattle.sr_runs.specs.Lines.{part_line}
 use Rattle.sr_runs.specs.Runs.{numbered}
-use Rattle.sr_runs.specs.Headline.{AnswerLinesAreRight, AskLinesAreRight, IsMoment, IsRightAnswerLine, IsRightAskLine, IsScripted, IsTold, Leads}
+use Rattle.sr_runs.specs.Headline.{AnswerLinesAreRight, AskLinesAreRight, IsMoment, IsRightAnswerLine, IsRightAskLine, IsScripted, IsTold}
 use Rattle.sr_runs.proofs.BlockLemmas.{HeadsAnswer, HeadsAsk, blocks, heads}
 use Rattle.sr_runs.proofs.MomentLemmas.{lines-are-told}
 use Rattle.sr_runs.proofs.PairLemmas.{still-there}

@@ -1,13 +1,13 @@
 -- Each line of a trace is one of an event at its moment.
-use Rattle.std.proofs.Common.{◌≡◌, ℕ, zero, suc, ◌+◌, Bool, true, false, List, [], ◌∷◌, ◌++◌, length, refl, sym, ◌∙◌, ap, subst, inl, inr}
-use Rattle.std.specs.Prelude.{map, ◌⊎◌, IsTrue}
+use Rattle.std.proofs.Common.{◌≡◌, ℕ, ◌+◌, Bool, List, [], ◌∷◌, ◌++◌, refl, sym, ◌∙◌, ap, subst, inl, inr}
+use Rattle.std.specs.Prelude.{◌⊎◌, IsTrue}
 use Rattle.std.proofs.lemmas.List.{append-nil, append_assoc, map-append}
 use Rattle.sr_script.specs.declared.line.TraceLine.{TraceLine}
 use Rattle.sr_script.specs.declared.line.TraceLine.TheVariants as line
 use Rattle.sr_session.specs.Scenes.{Event, Report, Scene}
 use Rattle.sr_runs.specs.Lines.{lines_of}
 use Rattle.sr_runs.specs.Scripts.{ScriptEvent}
-use Rattle.sr_runs.specs.Runs.{Acts, AllSettle, Does, Runs, Settles, Steps, acts, alone, delivers, does, does_settle, eagerly, ends, goes_on, is_quiet, long_text, no_client, numbered, one_more, too_long}
+use Rattle.sr_runs.specs.Runs.{Acts, AllSettle, Does, Settles, Steps, acts, alone, delivers, does, does_settle, eagerly, ends, goes_on, is_quiet, long_text, no_client, numbered, one_more, too_long}
 use Rattle.sr_runs.specs.Headline.{IsMoment, IsTold, Leads, LinesAreTold, is_of_no_event}
 use Rattle.sr_runs.proofs.Splits.{Side, in_left, in_right, none-there, only-one, split}
 use Rattle.sr_runs.proofs.StepLemmas.{acts-lead, all-settle-lead, both, does-lead, nothing, runs-lead, settles-lead, steps-are-events}

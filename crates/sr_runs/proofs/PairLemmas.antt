@@ -1,5 +1,5 @@
 -- A client stays a client, whatever happens.
-use Rattle.std.proofs.Common.{◌≡◌, ℕ, zero, suc, List, [], ◌∷◌, refl, ◌∙◌, Option, Some}
+use Rattle.std.proofs.Common.{◌≡◌, ℕ, zero, suc, List, [], ◌∷◌, refl, ◌∙◌, Some}
 use Rattle.std.specs.Prelude.{slice_get, slice_set}
 use Rattle.sr_session.specs.Sessions.{serve_push, with_version}
 use Rattle.sr_session.specs.Clients.{Pair}

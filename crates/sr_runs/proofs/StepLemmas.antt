@@ -1,13 +1,12 @@
 -- Steps of scripts are runs of events.
-use Rattle.std.proofs.Common.{◌≡◌, ℕ, zero, suc, ◌+◌, Bool, true, false, List, [], ◌∷◌, ◌++◌, refl}
+use Rattle.std.proofs.Common.{ℕ, ◌+◌, Bool, List, [], ◌∷◌, ◌++◌}
 use Rattle.sr_script.specs.declared.line.TraceLine.{TraceLine}
-use Rattle.sr_session.specs.Headline.{IsReached}
-use Rattle.sr_session.specs.Scenes.{Event, Report, Scene, SceneStands, first_scene, done, next}
+use Rattle.sr_session.specs.Scenes.{Event, Report, Scene, first_scene, done, next}
 use Rattle.sr_session.specs.Scenes.{Runs as EventsRun}
 use Rattle.sr_session.proofs.ReachLemmas.{reached-stands}
 use Rattle.sr_runs.specs.Scripts.{ScriptEvent}
-use Rattle.sr_runs.specs.Runs.{Acts, AllSettle, Does, Runs, Settles, Steps, acts, alone, delivers, does, does_settle, eagerly, ends, goes_on, is_quiet, no_client, one_more, too_long}
-use Rattle.sr_runs.specs.Headline.{IsScripted, ScriptsReach, ScriptsStand, StepsAreEvents}
+use Rattle.sr_runs.specs.Runs.{Acts, AllSettle, Does, Runs, Settles, acts, alone, delivers, does, does_settle, eagerly, ends, goes_on, is_quiet, no_client, one_more, too_long}
+use Rattle.sr_runs.specs.Headline.{ScriptsReach, ScriptsStand, StepsAreEvents}
 
 -- some events lead from one scene to another
 abbrev pub Leads : Scene → Scene → Type 0

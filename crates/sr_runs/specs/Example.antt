@@ -1,6 +1,6 @@
 -- A worked example: the log drops a version of which a client would have to be told while its ask is on its way, so the whole is asked
 -- once more.
-use Rattle.std.specs.Prelude.{ℕ, pos, true, false, List, [], ◌∷◌, Some, None, Ok, codes}
+use Rattle.std.specs.Prelude.{ℕ, pos, true, false, List, [], ◌∷◌, Some, Ok, codes}
 use Rattle.sr_cell.specs.declared.cause.Cause.TheVariants.{Lapsed}
 use Rattle.sr_cell.specs.declared.cell.Cell.TheVariants.{Num, Str}
 use Rattle.sr_cell.specs.declared.table.Kind.TheVariants.{Num as Numbers, Str as Texts}

@@ -1,5 +1,5 @@
 -- What holds of each scene and each trace of a script.
-use Rattle.std.specs.Prelude.{ℕ, Bool, true, false, ◌+◌, ◌≤◌, ◌⊎◌, List, [], ◌∷◌, ◌++◌, length, map, ◌≡◌, Some, None, Ok, IsTrue}
+use Rattle.std.specs.Prelude.{ℕ, Bool, true, false, ◌≤◌, ◌⊎◌, List, ◌∷◌, ◌++◌, length, map, ◌≡◌, Some, None, Ok, IsTrue}
 use Rattle.sr_cell.specs.declared.table.Table.{Table}
 use Rattle.sr_message.specs.declared.message.AskPart.{AskPart}
 use Rattle.sr_model.specs.Queries.{Query, rows_of}
@@ -14,7 +14,7 @@ use Rattle.sr_session.specs.Rules.{AskSent, next_query}
 use Rattle.sr_session.specs.Headline.{AsksTheUncovered, IsCovered, IsReached, IsTooHeavy, query_at}
 use Rattle.sr_session.specs.Scenes.{Did, Event, Happens, Report, Scene, SceneStands, client_of, first_scene, pair_at}
 use Rattle.sr_session.specs.Scenes.{Runs as EventsRun}
-use Rattle.sr_runs.specs.Lines.{answer_lines, ask_lines, lines_of, mark_lines, part_line}
+use Rattle.sr_runs.specs.Lines.{answer_lines, lines_of, mark_lines, part_line}
 use Rattle.sr_runs.specs.Scripts.{DoQuery, ScriptEvent}
 use Rattle.sr_runs.specs.Runs.{Runs, Steps, numbered}
 

@@ -3,3 +3,4 @@ pub mod Scripts
 pub mod Runs
 pub mod Headline
 pub mod Example
+pub mod EvictedClass

@@ -7,7 +7,6 @@ use Rattle.sr_message.specs.declared.message.Message.TheVariants.{Hello, Resume,
 use Rattle.sr_history.specs.declared.mark.Mark.{Mark}
 use Rattle.sr_history.specs.declared.mark.Mark.TheVariants.{Held, Dropped}
 use Rattle.sr_script.specs.declared.line.FailKind.TheVariants as fail
-use Rattle.sr_script.specs.declared.line.RequestKind.{RequestKind}
 use Rattle.sr_script.specs.declared.line.RequestKind.TheVariants as kind
 use Rattle.sr_script.specs.declared.line.TraceLine.{TraceLine}
 use Rattle.sr_script.specs.declared.line.TraceLine.TheVariants as line

@@ -1,8 +1,9 @@
 //! Laws of the definitions: functions that do nothing, and whose contracts are the laws.
-ghost use Rattle.std.specs.Prelude.{◌≡◌, false};
+ghost use Rattle.std.specs.Prelude.{◌≡◌, true, false};
 ghost use Rattle.sr_script.specs.TraceText.{trace_text};
 ghost use Rattle.sr_session.specs.Scenes.{Scene};
 ghost use Rattle.sr_runs.specs.Example.{events, lines, schema, start, trace};
+ghost use Rattle.sr_runs.specs.EvictedClass.{evicting_events, evicting_lines, evicting_start, evicting_trace};
 ghost use Rattle.sr_runs.specs.Runs.{Runs};
 ghost use Rattle.sr_runs.specs.Headline.{ACoveredQueryAsksNothing, AnswerLinesAreRight, AskLinesAreRight, LinesAreTold, ScriptsReach, ScriptsStand, StepsAreEvents};
 
@@ -42,8 +43,14 @@ pub fn a_covered_query_asks_nothing()
     ensures answered { ACoveredQueryAsksNothing }
 {}
 
-/// The worked example: without eager delivery its events may give its lines, and the lines' text is the trace, byte for byte.
+/// The worked example without eager delivery: its events may give its lines, and the lines' text is the trace, byte for byte.
 pub fn worked_example()
     ensures lawful { (last : Scene) × Runs false start events lines last }
     ensures text { trace_text schema lines ≡ trace }
+{}
+
+/// And one with eager delivery, in which a class is dropped by the user, and then asked again.
+pub fn evicted_class_is_asked_again()
+    ensures lawful { (last : Scene) × Runs true evicting_start evicting_events evicting_lines last }
+    ensures text { trace_text schema evicting_lines ≡ evicting_trace }
 {}

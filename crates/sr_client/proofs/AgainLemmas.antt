@@ -123,7 +123,8 @@ module _ (c : Client) (o : code.AskOut) (number version : ℕ) (again : is_given
           allowed = subst (λ k. rules.TakeStep (basis_of (on c db) c.store.limits) (past_of (asking c o) h) (Reply k version) (AskSent drops c.next_request true whole)
               (asks_again (past_of (asking c o) h) version drops o.query_number h.meaning whole)) (sym answerable.number_is)
               (asks_once_more o.number o.query_number h.meaning o.fresh o.parts version drops whole refl again answerable.later
-              (drops_all c.schema h.marks h.queries Lapsed c.store.regions (have-first c.schema f.tables) f.store.each f.store.order f.keeps) asks);
+              (drops_all c.schema h.marks h.queries Lapsed c.store.regions (have-first c.schema f.tables) f.store.each f.store.order f.keeps) asks
+              (whole-rects c.schema o.query h.meaning f.meant.0));
           stands = stands-over (once_more c o version) later db again-facts (record {
             sound = here.sound;
             within = answerable.within;

@@ -13,7 +13,7 @@ use Rattle.sr_client.proofs.OverLemmas.{on, IsHere, over, stands-over}
 
 pub cut-already : (c : Client) → Stands c → c.cut ≡ true → Cuts c c (Already c.cuts)
 cut-already c stands down = record {
-  by_rules = over c (λ db past. Goes db (SaysCut c (Already c.cuts)) (rules.CutStep past) c) (λ h f db here. record {
+  by_rules = over c (λ db past. Goes db (SaysCut past c (Already c.cuts)) (rules.CutStep past) c) (λ h f db here. record {
     outcome = AlreadyCut c.cuts;
     next = past_of c h;
     is = refl;
@@ -45,8 +45,8 @@ cut-facts c h f = record {
 
 pub cut-now : (c : Client) (ended : Ended) → Stands c → c.cut ≡ false → ended ≡ ended_of c.out → Cuts c (cut_off c) (Cut (c.cuts + 1) ended)
 cut-now c ended stands up is = record {
-  by_rules = over c (λ db past. Goes db (SaysCut c (Cut (c.cuts + 1) ended)) (rules.CutStep past) (cut_off c)) (λ h f db here. record {
-    outcome = CutDone (c.cuts + 1);
+  by_rules = over c (λ db past. Goes db (SaysCut past c (Cut (c.cuts + 1) ended)) (rules.CutStep past) (cut_off c)) (λ h f db here. record {
+    outcome = CutDone (c.cuts + 1) (past_of c h).out;
     next = past_of (cut_off c) h;
     is = (is, refl);
     allowed = cuts up;

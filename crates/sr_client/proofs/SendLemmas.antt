@@ -100,10 +100,10 @@ asked_hidden h m = record h { queries = h.queries ++ record { query = m; answere
 
 -- the step of a query that asks something
 asks-some : (b : rules.Basis) (past old : session.Client) (m : model.Query) (drops : List Mark) (asks : List AskPart) (fresh : Bool) → past.out ≡ None → Before b m past drops old → old.cut ≡ false → (asks ≡ [] → ⊥)
-    → Asks b.schema old.marks m.parts asks → IsTrue fresh ↔ HoldsNothing b.schema old.marks
+    → Asks b.schema old.marks m.parts asks → count_asked asks ≤ most_rects → IsTrue fresh ↔ HoldsNothing b.schema old.marks
     → rules.QueryStep b past (Ok m) (rules.AskSent drops old.next_request fresh asks) (with_ask old m fresh asks)
-asks-some b past old m drops [] fresh out before up some asks mode = absurd (some refl)
-asks-some b past old m drops (ask ∷ others) fresh out before up some asks mode = query_asks m drops old ask others fresh out before up asks mode
+asks-some b past old m drops [] fresh out before up some asks few mode = absurd (some refl)
+asks-some b past old m drops (ask ∷ others) fresh out before up some asks few mode = query_asks m drops old ask others fresh out before up asks few mode
 
 down-some : (b : rules.Basis) (past old : session.Client) (m : model.Query) (drops : List Mark) (asks : List AskPart) → past.out ≡ None → Before b m past drops old → old.cut ≡ true → (asks ≡ [] → ⊥)
     → Asks b.schema old.marks m.parts asks → rules.QueryStep b past (Ok m) (rules.Down old.cuts drops) old
@@ -205,7 +205,7 @@ module _ (c : Client) (q : Query) (m : model.Query) (asks : List AskPart) (drops
         next = with_ask old m fresh asks;
         is = (ap (λ n. n + 1) (sym f.queries), fresh, asks, refl, refl);
         allowed = asks-some (basis_of (on c db) c.store.limits) (past_of c h) old m drops asks fresh (ap (out_of h.meaning) may.out) o.0 up may.some
-            (are-asked (with_regions c gs) q m asks may r.hidden r.facts) (mode (with_regions c gs) q m asks may r.hidden r.facts);
+            (are-asked (with_regions c gs) q m asks may r.hidden r.facts) may.few (mode (with_regions c gs) q m asks may r.hidden r.facts);
         stands = record {
           sound = here.sound;
           schema = refl;

@@ -60,10 +60,10 @@ ended_of (Some (request.Ask o)) = ended.Query o.query_number
 ended_of (Some (request.Write number)) = ended.Write number
 ended_of (Some (request.Resume number)) = ended.Resume number
 
--- which outcome the step of a cut is
-abbrev pub SaysCut : Client → CutStep → Outcome → Type 0
-SaysCut old (Cut number ended) o = (ended ≡ ended_of old.out) × (o ≡ CutDone number)
-SaysCut old (Already number) o = o ≡ AlreadyCut number
+-- which outcome the step of a cut of that past is
+abbrev pub SaysCut : session.Client → Client → CutStep → Outcome → Type 0
+SaysCut past old (Cut number ended) o = (ended ≡ ended_of old.out) × (o ≡ CutDone number past.out)
+SaysCut past old (Already number) o = o ≡ AlreadyCut number
 
 -- ---- steps of the rules
 
@@ -96,7 +96,7 @@ pub record Evicts (old : Client) (place : ℕ) (new : Client) (step : EvictStep)
 
 -- For every database and past that the client stands over, what a cut does is a step of the rules.
 pub record Cuts (old new : Client) (step : CutStep) : Type 0 where
-  pub by_rules : (db : Database) (past : session.Client) → StandsOver db past old → Goes db (SaysCut old step) (rules.CutStep past) new
+  pub by_rules : (db : Database) (past : session.Client) → StandsOver db past old → Goes db (SaysCut past old step) (rules.CutStep past) new
   pub stands : Stands new
 
 -- the message was refused

@@ -7,3 +7,5 @@ mod reply;
 mod serve;
 pub mod server;
 pub mod session;
+#[cfg(test)]
+mod tests;

@@ -77,8 +77,9 @@ is_of_no_event other = false
 
 -- Each line of a trace is one of an event at its moment, but for those of no event.
 abbrev pub LinesAreTold : Type 0
-LinesAreTold = (eager : Bool) (s new : Scene) (events : List (ℕ × ScriptEvent)) (lines : List (ℕ × TraceLine)) → Runs eager s events lines new
-    → (front : List (ℕ × TraceLine)) (number : ℕ) (l : TraceLine) (behind : List (ℕ × TraceLine)) → lines ≡ front ++ (number, l) ∷ behind
+LinesAreTold = (eager : Bool) (s new : Scene) (events : List (ℕ × ScriptEvent)) (lines : List (ℕ × TraceLine))
+    → Runs eager s events lines new → (front : List (ℕ × TraceLine)) (number : ℕ) (l : TraceLine) (behind : List (ℕ × TraceLine))
+    → lines ≡ front ++ (number, l) ∷ behind
     → IsTold s new number l behind ⊎ IsTrue (is_of_no_event l)
 
 -- ---- answers
@@ -97,18 +98,20 @@ pub record IsRightAnswerLine (last : Scene) (number n query version rows : ℕ) 
 
 -- Wherever a trace has the line of an answer, the rows behind it are right.
 abbrev pub AnswerLinesAreRight : Type 0
-AnswerLinesAreRight = (last : Scene) (script : IsScripted last) (front : List (ℕ × TraceLine)) (number n query version rows : ℕ) (behind : List (ℕ × TraceLine))
-    → script.lines ≡ front ++ (number, line.Answer n query version rows) ∷ behind → IsRightAnswerLine last number n query version rows behind
+AnswerLinesAreRight = (last : Scene) (script : IsScripted last) (front : List (ℕ × TraceLine)) (number n query version rows : ℕ)
+    (behind : List (ℕ × TraceLine)) → script.lines ≡ front ++ (number, line.Answer n query version rows) ∷ behind
+    → IsRightAnswerLine last number n query version rows behind
 
 -- ---- asks
 
 -- Behind the line of an ask stand its parts, and they ask just what was uncovered at that moment of the query that it is for.
-pub record IsRightAskLine (last : Scene) (script : IsScripted last) (number n request : ℕ) (fresh : Bool) (count : ℕ) (behind : List (ℕ × TraceLine))
-    : Type 0 where
+pub record IsRightAskLine (last : Scene) (script : IsScripted last) (number n request : ℕ) (fresh : Bool) (count : ℕ)
+    (behind : List (ℕ × TraceLine)) : Type 0 where
   pub event : Event
   pub drops : List Mark
   pub parts : List AskPart
-  pub moment : IsMoment (first_scene script.limits script.schema script.log_limit script.tables script.clients) last event (Did (AskSent drops request fresh parts))
+  pub moment : IsMoment (first_scene script.limits script.schema script.log_limit script.tables script.clients) last event
+      (Did (AskSent drops request fresh parts))
   pub of_client : client_of event ≡ n
   pub uncovered : AsksTheUncovered moment.before moment.after event drops request fresh parts
   pub count_is : count ≡ length parts
@@ -117,8 +120,9 @@ pub record IsRightAskLine (last : Scene) (script : IsScripted last) (number n re
 
 -- Wherever a trace has the line of an ask, the parts behind it ask the uncovered.
 abbrev pub AskLinesAreRight : Type 0
-AskLinesAreRight = (last : Scene) (script : IsScripted last) (front : List (ℕ × TraceLine)) (number n request : ℕ) (fresh : Bool) (count : ℕ) (behind : List (ℕ × TraceLine))
-    → script.lines ≡ front ++ (number, line.Ask n request fresh count) ∷ behind → IsRightAskLine last script number n request fresh count behind
+AskLinesAreRight = (last : Scene) (script : IsScripted last) (front : List (ℕ × TraceLine)) (number n request : ℕ) (fresh : Bool)
+    (count : ℕ) (behind : List (ℕ × TraceLine)) → script.lines ≡ front ++ (number, line.Ask n request fresh count) ∷ behind
+    → IsRightAskLine last script number n request fresh count behind
 
 -- ---- covered queries
 
@@ -136,5 +140,6 @@ pub record IsAnsweredAtOnce (s : Scene) (old : Pair) (n : ℕ) (q : Query) (line
 -- and no line of the step is that of an ask of the client.
 abbrev pub ACoveredQueryAsksNothing : Type 0
 ACoveredQueryAsksNothing = (eager : Bool) (s new : Scene) (n : ℕ) (q : Query) (lines : List TraceLine) (old : Pair)
-    → Steps eager s (DoQuery n (Ok q)) lines new → pair_at s n ≡ Some old → IsCovered s.database.schema old.client.marks q → old.client.out ≡ None
+    → Steps eager s (DoQuery n (Ok q)) lines new → pair_at s n ≡ Some old → IsCovered s.database.schema old.client.marks q
+    → old.client.out ≡ None
     → (IsTooHeavy s.database.schema old.client q → ⊥) → IsAnsweredAtOnce s old n q lines

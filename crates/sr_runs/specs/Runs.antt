@@ -35,8 +35,9 @@ pub data Acts (s : Scene) : ScriptEvent → List TraceLine → Scene → Type 0 
 -- So many deliveries of client n, one after another, until none is left.
 pub data Settles (n : ℕ) : Scene → ℕ → List TraceLine → Scene → Type 0 where
   is_quiet : (s : Scene) (pair : Pair) → pair_at s n ≡ Some pair → next_delivery n pair.connection ≡ None → Settles n s zero [] s
-  delivers : (s : Scene) (pair : Pair) (what : ScriptEvent) (front : List TraceLine) (mid : Scene) (frames : ℕ) (rest : List TraceLine) (last : Scene)
-      → pair_at s n ≡ Some pair → next_delivery n pair.connection ≡ Some what → Acts s what front mid → Settles n mid frames rest last
+  delivers : (s : Scene) (pair : Pair) (what : ScriptEvent) (front : List TraceLine) (mid : Scene) (frames : ℕ)
+      (rest : List TraceLine) (last : Scene) → pair_at s n ≡ Some pair → next_delivery n pair.connection ≡ Some what → Acts s what front mid
+      → Settles n mid frames rest last
       → Settles n s (suc frames) (front ++ rest) last
 
 -- So many clients, from number n on, settle one after another.

@@ -113,15 +113,22 @@ impl Rect {
         meet_spans(alloc, self.as_slice(), other.as_slice())
     }
 
+    /// Puts that span into that column; takes no memory.
+    pub fn set(&mut self, column: usize, span: Span)
+        ensures { self.new ≡ slice_set self.old column span }
+    {
+        if column < self.spans.len() {
+            self.spans.replace(column, span);
+        }
+    }
+
     /// A copy with that span in that column.
     pub fn with(&self, alloc: Global, column: usize, span: Span) -> Result<Rect, NoMemory>
         ensures { IfOk result (λ rect. rect ≡ slice_set self.now column span) }
     {
-        let mut spans = self.spans.copy(alloc)?;
-        if column < spans.len() {
-            spans.replace(column, span);
-        }
-        Ok(Rect { spans })
+        let mut rect = self.copy(alloc)?;
+        rect.set(column, span);
+        Ok(rect)
     }
 
     /// A copy that does not constrain that column.
@@ -240,10 +247,31 @@ fn constrained_of(spans: &[Span]) -> u16
     bits
 }
 
+/// A copy of the span at the end. Numbers are copied here, since a call for each of them takes longer than that.
+fn push_copy(alloc: Global, spans: &mut Seq<Span>, span: &Span) -> Result<(), NoMemory>
+    ensures { OnOk result (spans.new ≡ spans.old ++ span.now ∷ []) }
+{
+    match span {
+        Span::Full => spans.push(Span::Full),
+        Span::Nums { lo, hi } => spans.push(Span::Nums { lo: *lo, hi: *hi }),
+        _ => spans.push(span.copy(alloc)?),
+    }
+}
+
+fn copy_spans(alloc: Global, spans: &[Span]) -> Result<Seq<Span>, NoMemory>
+    ensures { IfOk result (λ same. same ≡ spans.now) }
+{
+    let mut same = Seq::with_room(alloc, spans.len())?;
+    for span in spans {
+        push_copy(alloc, &mut same, span)?;
+    }
+    Ok(same)
+}
+
 impl Copied for Rect {
     fn copy(&self, alloc: Global) -> Result<Rect, NoMemory> {
         Ok(Rect {
-            spans: self.spans.copy(alloc)?,
+            spans: copy_spans(alloc, self.as_slice())?,
         })
     }
 }

@@ -212,6 +212,11 @@ half-from t whole cut (r ∷ rects) those test h first only are cuts tests =
       cuts = cuts;
     }
 
+-- a half does not depend on the rects of the whole
+pub half-emptied : (whole : Region) (own rects : List Rect) (rows : List Row) → half_of (record whole { rects = own }) rects rows ≡ half_of whole rects rows
+half-emptied whole own [] rows = refl
+half-emptied whole own (r ∷ rects) rows = refl
+
 pub inside-from : (t : Table) (whole : Region) (cut outside inside : List Rect) → IsRegion t whole → have_first t.columns ≡ true
     → list_all (rect_fits t.columns) cut ≡ true → list_all (constrains_only whole.attrs 0) cut ≡ true
     → IsMinus t.columns whole.rects cut outside → IsMinus t.columns whole.rects outside inside → AreCutFrom t.columns (whole.rects ++ cut) inside

@@ -15,7 +15,7 @@ use crate::inside::has_cells;
 use crate::region::Region;
 use sr_cell::attrs::Attrs;
 use sr_cell::cell::{Row, Rows};
-use sr_cell::list::{No, NoMemory, Seq};
+use sr_cell::list::{Copied, No, NoMemory, Seq};
 use sr_cell::table::Table;
 use sr_union::minus::Over;
 use sr_union::rects::Rects;
@@ -52,31 +52,31 @@ struct CutRows {
 /// The rects of the points inside and outside of others, of which just the meeting ones meet some.
 fn cut_rects(
     alloc: Global,
-    own: &Rects,
-    meeting: &Rects,
+    own: Rects,
+    meeting: Rects,
     cut: &Rects,
     table: &Table,
     limit: u32,
 ) -> Result<CutRects, No<Over>>
-    requires meeting { meeting.now ≡ near cut.now own.now }
-    requires own_fit { list_all (rect_fits table.now.columns) own.now ≡ true }
+    requires meeting { meeting ≡ near cut.now own }
+    requires own_fit { list_all (rect_fits table.now.columns) own ≡ true }
     requires cut_fit { list_all (rect_fits table.now.columns) cut.now ≡ true }
-    requires once { (p : Cells) → IsTrue (is_point table.now.columns p) → times own.now p ≤ 1 }
+    requires once { (p : Cells) → IsTrue (is_point table.now.columns p) → times own p ≤ 1 }
     requires inner { all_inner table.now.columns ≡ true }
     requires first { have_first table.now.columns ≡ true }
-    ensures outside { IfOk result (λ both. IsMinus table.now.columns own.now cut.now both.outside) }
-    ensures inside { IfOk result (λ both. IsMinus table.now.columns own.now both.outside both.inside) }
-    ensures cuts { IfOk result (λ both. AreCutFrom table.now.columns (own.now ++ cut.now) both.outside) }
-    ensures cuts_inside { IfOk result (λ both. AreCutFrom table.now.columns (own.now ++ cut.now) both.inside) }
+    ensures outside { IfOk result (λ both. IsMinus table.now.columns own cut.now both.outside) }
+    ensures inside { IfOk result (λ both. IsMinus table.now.columns own both.outside both.inside) }
+    ensures cuts { IfOk result (λ both. AreCutFrom table.now.columns (own ++ cut.now) both.outside) }
+    ensures cuts_inside { IfOk result (λ both. AreCutFrom table.now.columns (own ++ cut.now) both.inside) }
     ensures few { IfOk result (λ both. length both.outside ≤ limit) }
     ensures few_inside { IfOk result (λ both. length both.inside ≤ limit) }
-    ensures over { IsErrOf result (Refused (record {})) → limit < grid table.now.columns (own.now ++ cut.now) }
+    ensures over { IsErrOf result (Refused (record {})) → limit < grid table.now.columns (own ++ cut.now) }
 {
-    let outside = match own.minus(alloc, cut, table, limit) {
+    let outside = match own.without(alloc, cut, table, limit) {
         Ok(outside) => outside,
         Err(no) => return Err(no),
     };
-    match meeting.minus(alloc, &outside, table, limit) {
+    match meeting.without(alloc, &outside, table, limit) {
         Ok(inside) => Ok(CutRects { inside, outside }),
         Err(no) => Err(no),
     }
@@ -186,7 +186,11 @@ impl Region {
                 outside: Some(self),
             });
         }
-        let cut = match cut_rects(alloc, &self.rects, &meeting, rects, table, limit) {
+        let own = match self.rects.copy(alloc) {
+            Ok(own) => own,
+            Err(_) => return Err(NotSplit::NoMemory(self)),
+        };
+        let cut = match cut_rects(alloc, own, meeting, rects, table, limit) {
             Ok(cut) => cut,
             Err(No::Refused(_)) => return Err(NotSplit::Over(self)),
             Err(No::NoMemory) => return Err(NotSplit::NoMemory(self)),
@@ -194,6 +198,41 @@ impl Region {
         match rooms(alloc, self.rows.len()) {
             Ok(rooms) => Ok(halves_of(alloc, self, rects, cut, rooms)),
             Err(_) => Err(NotSplit::NoMemory(self)),
+        }
+    }
+
+    /// The same of a region that is given up where it is refused: rects that the others do not meet are moved.
+    pub fn cut_by(
+        self,
+        alloc: Global,
+        rects: &Rects,
+        table: &Table,
+        limit: u32,
+    ) -> Result<Halves, No<Over>>
+        requires region { IsRegion table.now self }
+        requires fit { list_all (rect_fits table.now.columns) rects.now ≡ true }
+        requires only { list_all (constrains_only self.attrs 0) rects.now ≡ true }
+        requires inner { all_inner table.now.columns ≡ true }
+        requires first { have_first table.now.columns ≡ true }
+        ensures inside { IfOk result (λ halves. IsInside table.now self rects.now halves.inside) }
+        ensures outside { IfOk result (λ halves. IsOutside table.now self rects.now halves.outside) }
+        ensures few_inside { IfOk result (λ halves. HasFew limit halves.inside) }
+        ensures few_outside { IfOk result (λ halves. HasFew limit halves.outside) }
+        ensures over { IsErrOf result (Refused (record {})) → limit < grid table.now.columns (self.rects ++ rects.now) }
+    {
+        let meeting = self.rects.near(alloc, rects)?;
+        if meeting.is_empty() && self.rects.len() <= limit as usize {
+            return Ok(Halves {
+                inside: None,
+                outside: Some(self),
+            });
+        }
+        let rooms = rooms(alloc, self.rows.len())?;
+        let mut whole = self;
+        let own = mem::replace(&mut whole.rects, Rects::new(alloc));
+        match cut_rects(alloc, own, meeting, rects, table, limit) {
+            Ok(cut) => Ok(halves_of(alloc, whole, rects, cut, rooms)),
+            Err(no) => Err(no),
         }
     }
 }

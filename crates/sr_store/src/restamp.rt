@@ -23,7 +23,7 @@ use sr_cell::list::{Copied, No, NoMemory, Seq};
 use sr_cell::schema::Schema;
 use sr_cell::table::Table;
 use sr_query::query::Part;
-use sr_region::halves::{Halves, NotSplit};
+use sr_region::halves::Halves;
 use sr_region::region::Region;
 use sr_union::minus::Over;
 use sr_union::rects::Rects;
@@ -113,10 +113,9 @@ fn push_split(
     ensures halves { OnOk result (AddsHalves table.now number region rects.now pieces.old pieces.new) }
     ensures over { IsErrOf result (Refused (record {})) → 16384 < grid table.now.columns (region.rects ++ rects.now) }
 {
-    let halves = match region.split(alloc, rects, table, MOST_RECTS) {
+    let halves = match region.cut_by(alloc, rects, table, MOST_RECTS) {
         Ok(halves) => halves,
-        Err(NotSplit::Over(_)) => return Err(No::Refused(Over)),
-        Err(NotSplit::NoMemory(_)) => return Err(No::NoMemory),
+        Err(no) => return Err(no),
     };
     let Halves { inside, outside } = halves;
     push_half(pieces, outside)?;

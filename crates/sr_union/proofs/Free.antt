@@ -26,7 +26,7 @@ use Rattle.sr_union.proofs.Parts.{are_part, are_fit}
 use Rattle.std.proofs.lemmas.List.{append-nil}
 use Rattle.sr_box.proofs.Order.{cell_eq-refl}
 use Rattle.sr_box.specs.Corners.{num_cut, cuts_of}
-use Rattle.sr_union.specs.Pieces.{HasOutside, IsOnce, ConstrainsEssential, AllConstrainEssential}
+use Rattle.sr_union.specs.Pieces.{HasOutside, IsOnce, IsWithin, ConstrainsEssential, AllConstrainEssential}
 use Rattle.std.proofs.lemmas.Bool.{cases_lt}
 
 -- a point of a freed rect, and a point of the rect that differs in that column alone
@@ -286,6 +286,22 @@ outside_more cs rects others items i r e l is (p, point, inside, outside) =
 -- freed rects beside the rects
 pub free_fit : (cs : List Column) (rects next : List Rect) (c : ℕ) → list_all (rect_fits cs) rects ≡ true → next ≡ free_all c rects → list_all (rect_fits cs) next ≡ true
 free_fit cs rects next c f e = are_fit cs rects next (subst (AreCutFrom cs rects) (sym e) (free_all-are cs rects rects c (are_self cs rects f)))
+
+-- rects that do not constrain the column stay as they are without it
+free-same : (r : Rect) (c : ℕ) → constrains (span_at c r) ≡ false → slice_set r c Full ≡ r
+free-same [] c h = refl
+free-same (Full ∷ r) zero h = refl
+free-same (Nums lo hi ∷ r) zero h = absurd (cc)
+free-same (Strs lo hi ∷ r) zero h = absurd (cc)
+free-same (s ∷ r) (suc c) h = ap (λ q. s ∷ q) (free-same r c h)
+
+free_all-same : (c : ℕ) (rects : List Rect) → is_free c rects ≡ true → free_all c rects ≡ rects
+free_all-same c [] h = refl
+free_all-same c (r ∷ rects) h = let one = free-same r c (grind (arith, h)) in let ih = free_all-same c rects (grind (arith, h)) in grind (arith, one, ih)
+
+pub free_next : (cs : List Column) (keep c : ℕ) (rects : List Rect) → is_free c rects ≡ true → IsNext cs keep c rects rects
+free_next cs keep c rects h = let same = free_all-same c rects h in
+    freed (subst (λ rs. IsWithin cs rs rects) (sym same) (λ p is inside. inside)) (sym same)
 
 pub free_grid : (cs : List Column) (rects next : List Rect) (c : ℕ) → list_all (rect_fits cs) rects ≡ true → next ≡ free_all c rects → grid cs (next ++ rects) ≤ grid cs rects
 free_grid cs rects next c f e = grid_among cs rects (next ++ rects)

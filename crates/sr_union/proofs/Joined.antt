@@ -23,7 +23,7 @@ use Rattle.sr_union.specs.Joined.{AreBeside, numbers, texts, IsBoth, IsJoined}
 use Rattle.sr_union.proofs.Times.{times-append}
 use Rattle.sr_union.proofs.Cuts.{nums-cut, strs-cut}
 use Rattle.sr_union.proofs.Among.{AreCutFrom-append}
-use Rattle.sr_union.proofs.Parts.{are_fit, are_take, take_all}
+use Rattle.sr_union.proofs.Parts.{are_fit, take_all}
 use Rattle.sr_union.proofs.Inner.{fits_length}
 use Rattle.sr_union.proofs.Once.{are_self, are_trans, once_more, with_one}
 
@@ -237,12 +237,14 @@ joined_at cs rects next r rect both i e n h =
       few = let l = length-append (take i rects ++ drop (suc i) rects) (both ∷ []) in let m = length-append rects (rect ∷ []) in let z = without-length rects i r e in omega (arith, l, m, z);
     })
 
--- one more of the others
-pub joined_more : (cs : List Column) (rects items joined next : List Rect) (r : Rect) (i : ℕ) → i < length items → r ≡ slice_index_or items i r → IsJoined cs (rects ++ take i items) joined → IsJoined cs (joined ++ r ∷ []) next
-    → IsJoined cs (rects ++ take (i + 1) items) next
-joined_more cs rects items joined next r i l e h k =
-    let is : rects ++ take (i + 1) items ≡ (rects ++ take i items) ++ r ∷ [] = ap (λ xs. rects ++ xs) (take_more items i r l ∙ ap (λ x. take i items ++ x ∷ []) (sym e)) ∙ sym (append_assoc rects (take i items) (r ∷ [])) in
-    subst (λ xs. IsJoined cs xs next) (sym is) (joined_trans cs ((rects ++ take i items) ++ r ∷ []) (joined ++ r ∷ []) next (joined_front cs (rects ++ take i items) joined (r ∷ []) h) k)
+pub joined_self : (cs : List Column) (rects : List Rect) → IsJoined cs rects rects
+joined_self cs rects = record { same = λ p e. refl; cuts = λ given x. x; few = omega arith }
+
+-- the next of the rects that come behind is joined with those before it
+pub joined_next : (cs : List Column) (given joined next items rest : List Rect) (r : Rect) → items ≡ r ∷ rest → IsJoined cs given (joined ++ items) → IsJoined cs (joined ++ r ∷ []) next → IsJoined cs given (next ++ rest)
+joined_next cs given joined next items rest r e h k =
+    let now = subst (λ xs. IsJoined cs given xs) (ap (λ xs. joined ++ xs) e ∙ sym (append_assoc joined (r ∷ []) rest)) h in
+    joined_trans cs given ((joined ++ r ∷ []) ++ rest) (next ++ rest) now (joined_front cs (joined ++ r ∷ []) next rest k)
 
 pub fits_at : (cs : List Column) (r : Rect) (k : ℕ) (c : Column) (s : Span) → rect_fits cs r ≡ true → k < length r → c ≡ slice_index_or cs k c → s ≡ slice_index_or r k s → span_fits c s ≡ true
 fits_at cs [] k c s f l i j = absurd (omega (arith, l))
@@ -280,10 +282,15 @@ all_fit cs rects r f g = let x = list_all-append (rect_fits cs) rects (r ∷ [])
 pub each_fit : (cs : List Column) (given rects : List Rect) (r : Rect) → IsJoined cs given (rects ++ r ∷ []) → list_all (rect_fits cs) given ≡ true → (list_all (rect_fits cs) rects ≡ true) × (rect_fits cs r ≡ true)
 each_fit cs given rects r h f = let x = list_all-append (rect_fits cs) rects (r ∷ []) in let all = joined_fit cs given (rects ++ r ∷ []) h f in (grind (arith, all, x), grind (arith, all, x))
 
-pub some_fit : (cs : List Column) (rects items more : List Rect) (i : ℕ) → items ≡ more → list_all (rect_fits cs) rects ≡ true → list_all (rect_fits cs) more ≡ true → list_all (rect_fits cs) (rects ++ take i items) ≡ true
-some_fit cs rects items more i e f g =
-    let x = list_all-append (rect_fits cs) rects (take i more) in let y = are_fit cs more (take i more) (are_take cs more more i (are_self cs more g)) in
-    subst (λ l. list_all (rect_fits cs) (rects ++ take i l) ≡ true) (sym e) (grind (arith, f, x, y))
+pub both_fit : (cs : List Column) (rects more : List Rect) → list_all (rect_fits cs) rects ≡ true → list_all (rect_fits cs) more ≡ true → list_all (rect_fits cs) (rects ++ more) ≡ true
+both_fit cs rects more f g = let x = list_all-append (rect_fits cs) rects more in grind (arith, f, g, x)
+
+pub next_fit : (cs : List Column) (given joined items rest : List Rect) (r : Rect) → items ≡ r ∷ rest → IsJoined cs given (joined ++ items) → list_all (rect_fits cs) given ≡ true
+    → (list_all (rect_fits cs) joined ≡ true) × (rect_fits cs r ≡ true)
+next_fit cs given joined items rest r e h f =
+    let x = list_all-append (rect_fits cs) joined items in let all = joined_fit cs given (joined ++ items) h f in
+    let y : list_all (rect_fits cs) items ≡ list_all (rect_fits cs) (r ∷ rest) = ap (list_all (rect_fits cs)) e in
+    (grind (arith, all, x), grind (arith, all, x, y))
 
 -- one step of the loop over the rects: r is the next
 pub step_once : (cs : List Column) (rects once left next : List Rect) (i : ℕ) (r : Rect) → list_all (rect_fits cs) rects ≡ true → i < length rects → r ≡ slice_index_or rects i r

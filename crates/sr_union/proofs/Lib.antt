@@ -15,3 +15,4 @@ pub mod Middles
 pub mod Joined
 pub mod Staying
 pub mod Searching
+pub mod Slices

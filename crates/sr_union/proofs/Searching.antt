@@ -1,5 +1,5 @@
 -- What a search for a point outside finds.
-use Rattle.std.proofs.Common.{◌≡◌, ℕ, ◌<◌, ◌≤◌, ◌+◌, zero, suc, true, false, List, [], ◌∷◌, ◌++◌, length, drop, take, refl, arith, ◌∙◌, sym, ap, subst, slice_index_or, append_assoc}
+use Rattle.std.proofs.Common.{◌≡◌, ℕ, ◌<◌, ◌+◌, zero, suc, true, false, List, [], ◌∷◌, ◌++◌, length, drop, take, refl, arith, ◌∙◌, sym, ap, subst, slice_index_or, append_assoc}
 use Rattle.std.specs.Prelude.{Bool, ◌&&◌, ◌||◌, IsTrue, if◌then◌else◌}
 use Rattle.std.specs.List.{list_all, sum_by}
 use Rattle.std.proofs.lemmas.List.{append-nil, take_more}
@@ -8,8 +8,8 @@ use Rattle.std.proofs.lemmas.List.Sums.{sum_by-append, sum_by-cons}
 use Rattle.sr_cell.specs.declared.table.Column.{Column}
 use Rattle.sr_cell.specs.Cells.{Row}
 use Rattle.sr_box.specs.Points.{Rect, rect_fits, in_rect, in_any}
-use Rattle.sr_union.specs.Pieces.{meets, rect_minus, minus_one, minus_each, minus_all, IsMinus, IsWithin, HasOutside}
-use Rattle.sr_union.specs.Grid.{AreCutFrom, have_first}
+use Rattle.sr_union.specs.Pieces.{meets, rect_minus, minus_one, minus_each, minus_all, IsWithin, HasOutside}
+use Rattle.sr_union.specs.Grid.{have_first}
 use Rattle.sr_union.specs.Search.{from_met, is_nothing, is_covered, is_done, todos, steps, steps_of}
 use Rattle.sr_union.proofs.Times.{minus_all-times}
 use Rattle.sr_union.proofs.Among.{rect_minus-are}

@@ -1,9 +1,9 @@
 -- Rects that do not meet another.
-use Rattle.std.proofs.Common.{◌≡◌, ℕ, ◌≤◌, zero, suc, true, false, List, [], ◌∷◌, ◌++◌, length, drop, refl, arith, ap}
-use Rattle.std.specs.Prelude.{min, if◌then◌else◌}
+use Rattle.std.proofs.Common.{◌≡◌, ℕ, ◌≤◌, zero, suc, true, false, List, [], ◌∷◌, length, drop, refl, arith}
+use Rattle.std.specs.Prelude.{min}
 use Rattle.sr_cell.specs.declared.table.Column.{Column}
 use Rattle.sr_box.specs.declared.span.Span.{Span}
-use Rattle.sr_union.specs.Pieces.{meets, rect_minus, minus_one, minus_each}
+use Rattle.sr_union.specs.Pieces.{meets, minus_one}
 
 meets_none : (r : List Span) → meets r [] ≡ true
 meets_none [] = refl

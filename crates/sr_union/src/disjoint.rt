@@ -33,7 +33,7 @@ pub(crate) fn rest_of(
 {
     let mut one = Rects::new(alloc);
     one.push(rect.copy(alloc)?)?;
-    cut_all(alloc, columns, &one, others, limit)
+    cut_all(alloc, columns, one, others, limit)
 }
 
 /// The points of the rects, each once.
@@ -58,7 +58,7 @@ pub(crate) fn once_all(
             Ok(rest) => rest,
             Err(no) => return Err(no),
         };
-        once = with_all(alloc, columns, once, &rest)?;
+        once = with_all(alloc, columns, once, rest)?;
         if once.len() > limit {
             return Err(No::Refused(Over));
         }

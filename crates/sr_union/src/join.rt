@@ -1,6 +1,7 @@
 //! Rects that lie side by side make one.
-ghost use Rattle.std.specs.Prelude.{◌≡◌, ℤ, pos, ◌+ℤ◌, ◌<◌, ◌≤◌, ◌+◌, true, List, [], ◌∷◌, ◌++◌, length, take, drop, slice_get, Some, IsTrue, IfOk, IfSome, if◌then◌else◌};
+ghost use Rattle.std.specs.Prelude.{◌≡◌, ℤ, pos, ◌+ℤ◌, ◌<◌, ◌≤◌, ◌+◌, true, List, [], ◌∷◌, ◌++◌, length, take, drop, slice_get, Some, ◌⊎◌, IsTrue, IfOk, IfSome, if◌then◌else◌};
 ghost use Rattle.std.specs.List.{list_all};
+ghost use Rattle.sr_box.specs.declared.span.Span.{Span as TheSpan};
 ghost use Rattle.sr_box.specs.declared.span.Span.TheVariants.{Full, Nums, Strs};
 ghost use Rattle.sr_box.specs.Spans.{span_fits};
 ghost use Rattle.sr_box.specs.Points.{Rect as Spans, rect_fits};
@@ -51,6 +52,26 @@ fn strs_beside(
     }
 }
 
+fn is_end(end: &Option<Bytes>, text: &Bytes) -> bool
+    ensures { IsTrue result → end.now ≡ Some text.now }
+{
+    match end {
+        None => false,
+        Some(hi) => hi.same(text),
+    }
+}
+
+/// Whether the second span begins just above the end of the first; takes no memory.
+fn is_beside(one: &Span, next: &Span) -> bool
+    ensures { IsTrue result → (both : TheSpan) × AreBeside one.now next.now both }
+{
+    match (one, next) {
+        (Span::Nums { lo: _, hi: b }, Span::Nums { lo: c, hi: _ }) => is_next(*b, *c),
+        (Span::Strs { lo: _, hi: b }, Span::Strs { lo: c, hi: _ }) => is_end(b, c),
+        _ => false,
+    }
+}
+
 /// The span of both, where the second begins just above the end of the first.
 fn beside(alloc: Global, one: &Span, next: &Span) -> Result<Option<Span>, NoMemory>
     ensures { IfOk result (λ both. IfSome both (AreBeside one.now next.now)) }
@@ -93,6 +114,13 @@ fn join_spans(
     }
 }
 
+/// Whether the spans lie side by side; takes no memory, as most do not.
+fn may_join(one: &Span, other: &Span) -> bool
+    ensures { IsTrue result → ((both : TheSpan) × AreBeside one.now other.now both) ⊎ ((both : TheSpan) × AreBeside other.now one.now both) }
+{
+    is_beside(one, other) || is_beside(other, one)
+}
+
 // How many spans at the head are the same.
 fn same_head(one: &[Span], other: &[Span]) -> usize
     requires { length one.now ≡ length other.now }
@@ -129,7 +157,10 @@ fn join_two(
     let ours = one.as_slice();
     let theirs = other.as_slice();
     let k = same_head(ours, theirs);
-    if k == ours.len() || !are_same(&ours[k + 1..], &theirs[k + 1..]) {
+    if k == ours.len() || !may_join(&ours[k], &theirs[k]) {
+        return Ok(None);
+    }
+    if !are_same(&ours[k + 1..], &theirs[k + 1..]) {
         return Ok(None);
     }
     match join_spans(alloc, &columns[k], &ours[k], &theirs[k])? {
@@ -188,15 +219,15 @@ pub(crate) fn with_all(
     alloc: Global,
     columns: &[Column],
     rects: Rects,
-    more: &Rects,
+    more: Rects,
 ) -> Result<Rects, NoMemory>
     requires rects_fit { list_all (rect_fits columns.now) rects ≡ true }
-    requires more_fit { list_all (rect_fits columns.now) more.now ≡ true }
-    ensures { IfOk result (λ joined. IsJoined columns.now (rects ++ more.now) joined) }
+    requires more_fit { list_all (rect_fits columns.now) more ≡ true }
+    ensures { IfOk result (λ joined. IsJoined columns.now (rects ++ more) joined) }
 {
     let mut joined = rects;
-    for rect in more.as_slice() {
-        joined = with_one(alloc, columns, joined, rect.copy(alloc)?)?;
+    for rect in more.into_vec() {
+        joined = with_one(alloc, columns, joined, rect)?;
     }
     Ok(joined)
 }
@@ -209,5 +240,6 @@ pub(crate) fn join_all(alloc: Global, columns: &[Column], rects: Rects) -> Resul
     if rects.len() > MOST {
         return Ok(rects);
     }
-    with_all(alloc, columns, Rects::new(alloc), &rects)
+    let joined = Rects::with_room(alloc, rects.len())?;
+    with_all(alloc, columns, joined, rects)
 }

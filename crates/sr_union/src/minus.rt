@@ -1,13 +1,14 @@
 //! Differences of lists of rects.
-ghost use Rattle.std.specs.Prelude.{◌≡◌, ◌↔◌, ℕ, ◌<◌, ◌≤◌, ◌*◌, ◌-◌, ◌^◌, true, false, List, [], ◌∷◌, ◌++◌, length, IfOk, OnOk, IsErrOf, IsTrue};
+ghost use Rattle.std.specs.Prelude.{◌≡◌, ◌↔◌, ℕ, ◌<◌, ◌≤◌, ◌*◌, ◌-◌, ◌^◌, true, false, List, [], ◌∷◌, ◌++◌, length, map, option_to_list, slice_set, IfOk, OnOk, IsErrOf, IsTrue};
 ghost use Rattle.std.specs.List.{list_all};
 ghost use Rattle.sr_cell.specs.declared.list.No.TheVariants.{Refused};
 ghost use Rattle.sr_cell.specs.Cells.{Row};
 ghost use Rattle.sr_cell.specs.Columns.{is_point};
 ghost use Rattle.sr_box.specs.Points.{times, rect_fits};
 ghost use Rattle.sr_cell.specs.declared.table.Column.{Column as TheColumn};
-ghost use Rattle.sr_box.specs.Cut.{IsInner};
-ghost use Rattle.sr_union.specs.Pieces.{with_front, fronts, with_fronts, cut_here, rect_minus, meets, minus_one, minus_each, IsMinus, IsWithin, HasOutside};
+ghost use Rattle.sr_box.specs.Cut.{meet, under, over, IsInner};
+ghost use Rattle.sr_union.specs.Free.{span_at};
+ghost use Rattle.sr_union.specs.Pieces.{rect_minus, meets, minus_one, minus_each, IsMinus, IsWithin, HasOutside};
 ghost use Rattle.sr_union.specs.Grid.{AreCutFrom, grid, have_first, all_inner};
 
 use crate::join::join_all;
@@ -23,102 +24,66 @@ use std::alloc::Global;
 #[derive(Clone, Copy, Debug, PartialEq, Eq)]
 pub struct Over;
 
-fn copy_behind(alloc: Global, first: &Span, rest: &[Span]) -> Result<Rect, NoMemory>
-    ensures { IfOk result (λ rect. rect ≡ first.now ∷ rest.now) }
-{
-    let mut rect = Rect::new(alloc);
-    rect.push(first.copy(alloc)?)?;
-    for span in rest {
-        rect.push(span.copy(alloc)?)?;
-    }
-    Ok(rect)
-}
-
-fn push_front(
+/// A copy of the rect with that span in that column at the end, where there is such a span.
+fn push_with(
     alloc: Global,
     out: &mut Rects,
-    first: Option<Span>,
-    rest: &[Span],
+    rect: &Rect,
+    column: usize,
+    span: Option<Span>,
 ) -> Result<(), NoMemory>
-    ensures { OnOk result (out.new ≡ out.old ++ with_front first rest.now) }
+    ensures { OnOk result (out.new ≡ out.old ++ map (slice_set rect.now column) (option_to_list span)) }
 {
-    match first {
+    match span {
         None => Ok(()),
-        Some(span) => {
-            out.push(copy_behind(alloc, &span, rest)?)?;
-            Ok(())
-        }
+        Some(span) => out.push(rect.with(alloc, column, span)?),
     }
 }
 
-fn push_all(alloc: Global, out: &mut Rects, span: &Span, tails: &Rects) -> Result<(), NoMemory>
-    ensures { OnOk result (out.new ≡ out.old ++ fronts span.now tails.now) }
-{
-    for tail in tails.as_slice() {
-        out.push(copy_behind(alloc, span, tail.as_slice())?)?;
-    }
-    Ok(())
-}
-
-fn push_fronts(
-    alloc: Global,
-    out: &mut Rects,
-    first: Option<Span>,
-    tails: &Rects,
-) -> Result<(), NoMemory>
-    ensures { OnOk result (out.new ≡ out.old ++ with_fronts first tails.now) }
-{
-    match first {
-        None => Ok(()),
-        Some(span) => push_all(alloc, out, &span, tails),
-    }
-}
-
+/// The pieces of a rect that lie beside the cut in that column at the end; answers what both have there.
 fn cut_column(
     alloc: Global,
     column: &Column,
-    s: &Span,
-    t: &Span,
-    rest: &[Span],
-    tails: &Rects,
-) -> Result<Rects, NoMemory>
-    requires { IsInner t.now }
-    ensures { IfOk result (λ pieces. pieces ≡ cut_here column.now s.now t.now rest.now tails.now) }
+    out: &mut Rects,
+    rect: &Rect,
+    place: usize,
+    cut: &Span,
+) -> Result<Option<Span>, NoMemory>
+    requires inner { IsInner cut.now }
+    requires is_column { place < length rect.now }
+    ensures pieces { OnOk result (out.new ≡ out.old ++ (map (slice_set rect.now place) (option_to_list (under column.now.lo (span_at place rect.now) cut.now))
+        ++ map (slice_set rect.now place) (option_to_list (over column.now.hi (span_at place rect.now) cut.now)))) }
+    ensures both { IfOk result (λ both. both ≡ meet (span_at place rect.now) cut.now) }
 {
-    let mut out = Rects::new(alloc);
-    push_front(alloc, &mut out, s.under(alloc, t, column.lo)?, rest)?;
-    push_front(alloc, &mut out, s.over(alloc, t, column.hi)?, rest)?;
-    push_fronts(alloc, &mut out, s.meet(alloc, t)?, tails)?;
-    Ok(out)
+    let span = &rect.as_slice()[place];
+    push_with(alloc, out, rect, place, span.under(alloc, cut, column.lo)?)?;
+    push_with(alloc, out, rect, place, span.over(alloc, cut, column.hi)?)?;
+    Ok(span.meet(alloc, cut)?)
 }
 
-/// What is left of a rect without another, from the last column to the first.
+/// What is left of a rect without another at the end: the pieces beside it in the first column, then those beside it in the next
+/// with what both have in the first, and so on.
 pub(crate) fn cut_rect(
     alloc: Global,
     columns: &[Column],
-    rect: &[Span],
+    out: &mut Rects,
+    rect: Rect,
     cut: &[Span],
-) -> Result<Rects, NoMemory>
-    requires width { length rect.now ≡ length columns.now }
+) -> Result<(), NoMemory>
+    requires width { length rect ≡ length columns.now }
     requires fits { rect_fits columns.now cut.now ≡ true }
     requires inner { all_inner columns.now ≡ true }
     requires same { length cut.now ≡ length columns.now }
-    ensures { IfOk result (λ pieces. pieces ≡ rect_minus columns.now rect.now cut.now) }
+    ensures { OnOk result (out.new ≡ out.old ++ rect_minus columns.now rect cut.now) }
 {
-    let mut tails = Rects::new(alloc);
-    let mut i = columns.len();
-    while i > 0 {
-        i -= 1;
-        tails = cut_column(
-            alloc,
-            &columns[i],
-            &rect[i],
-            &cut[i],
-            &rect[i + 1..],
-            &tails,
-        )?;
+    let mut rest = rect;
+    for i in 0..columns.len() {
+        match cut_column(alloc, &columns[i], out, &rest, i, &cut[i])? {
+            None => return Ok(()),
+            Some(both) => rest.set(i, both),
+        }
     }
-    Ok(tails)
+    Ok(())
 }
 
 pub(crate) fn rects_meet(rect: &[Span], cut: &[Span]) -> bool
@@ -159,7 +124,7 @@ fn push_left(
     ensures { OnOk result (out.new ≡ out.old ++ minus_one columns.now rect cut.now) }
 {
     if rects_meet(rect.as_slice(), cut.as_slice()) {
-        out.append(cut_rect(alloc, columns, rect.as_slice(), cut.as_slice())?)
+        cut_rect(alloc, columns, out, rect, cut.as_slice())
     } else {
         out.push(rect)
     }
@@ -185,7 +150,10 @@ fn cut_each(
     if all_stay(rects.as_slice(), cut) {
         return Ok(rects);
     }
-    let mut out = Rects::new(alloc);
+    let mut out = match Rects::with_room(alloc, rects.len()) {
+        Ok(out) => out,
+        Err(_) => return Err(No::NoMemory),
+    };
     for rect in rects.into_vec() {
         match push_left(alloc, columns, &mut out, rect, cut) {
             Ok(()) => {}
@@ -202,25 +170,22 @@ fn cut_each(
 pub(crate) fn cut_all(
     alloc: Global,
     columns: &[Column],
-    rects: &Rects,
+    rects: Rects,
     others: &Rects,
     limit: usize,
 ) -> Result<Rects, No<Over>>
-    requires rects_fit { list_all (rect_fits columns.now) rects.now ≡ true }
+    requires rects_fit { list_all (rect_fits columns.now) rects ≡ true }
     requires others_fit { list_all (rect_fits columns.now) others.now ≡ true }
     requires inner { all_inner columns.now ≡ true }
     requires first { have_first columns.now ≡ true }
-    ensures points { IfOk result (λ left. IsMinus columns.now rects.now others.now left) }
-    ensures cuts { IfOk result (λ left. AreCutFrom columns.now (rects.now ++ others.now) left) }
+    ensures points { IfOk result (λ left. IsMinus columns.now rects others.now left) }
+    ensures cuts { IfOk result (λ left. AreCutFrom columns.now (rects ++ others.now) left) }
     ensures few { IfOk result (λ left. length left ≤ limit) }
-    ensures over { (m : ℕ) → IsErrOf result (Refused (record {})) → ((p : Row) → IsTrue (is_point columns.now p) → times rects.now p ≤ m)
-        → limit < m * grid columns.now (rects.now ++ others.now) }
+    ensures over { (m : ℕ) → IsErrOf result (Refused (record {})) → ((p : Row) → IsTrue (is_point columns.now p) → times rects p ≤ m)
+        → limit < m * grid columns.now (rects ++ others.now) }
     ensures room { IsErrOf result (Refused (record {})) → limit < 2 ^ 64 - 1 }
 {
-    let mut left = match rects.copy(alloc) {
-        Ok(left) => left,
-        Err(_) => return Err(No::NoMemory),
-    };
+    let mut left = rects;
     if left.len() > limit {
         return Err(No::Refused(Over));
     }
@@ -252,6 +217,31 @@ impl Rects {
         ensures over { (m : ℕ) → IsErrOf result (Refused (record {})) → ((p : Row) → IsTrue (is_point table.now.columns p) → times self.now p ≤ m)
             → limit < m * grid table.now.columns (self.now ++ other.now) }
     {
+        let own = self.copy(alloc)?;
+        match own.without(alloc, other, table, limit) {
+            Ok(left) => Ok(left),
+            Err(no) => Err(no),
+        }
+    }
+
+    /// The same of rects that are given up: those that the others do not meet are moved.
+    pub fn without(
+        self,
+        alloc: Global,
+        other: &Rects,
+        table: &Table,
+        limit: u32,
+    ) -> Result<Rects, No<Over>>
+        requires self_fits { list_all (rect_fits table.now.columns) self ≡ true }
+        requires other_fits { list_all (rect_fits table.now.columns) other.now ≡ true }
+        requires inner { all_inner table.now.columns ≡ true }
+        requires first { have_first table.now.columns ≡ true }
+        ensures points { IfOk result (λ left. IsMinus table.now.columns self other.now left) }
+        ensures cuts { IfOk result (λ left. AreCutFrom table.now.columns (self ++ other.now) left) }
+        ensures few { IfOk result (λ left. length left ≤ limit) }
+        ensures over { (m : ℕ) → IsErrOf result (Refused (record {})) → ((p : Row) → IsTrue (is_point table.now.columns p) → times self p ≤ m)
+            → limit < m * grid table.now.columns (self ++ other.now) }
+    {
         let columns = table.columns.as_slice();
         match cut_all(alloc, columns, self, other, limit as usize) {
             Ok(left) => Ok(join_all(alloc, columns, left)?),
@@ -269,7 +259,8 @@ impl Rects {
         ensures cuts { IfOk result (λ left. AreCutFrom table.now.columns (self.now ++ other.now) left) }
     {
         let columns = table.columns.as_slice();
-        match cut_all(alloc, columns, self, other, usize::MAX) {
+        let own = self.copy(alloc)?;
+        match cut_all(alloc, columns, own, other, usize::MAX) {
             Ok(left) => join_all(alloc, columns, left),
             Err(No::NoMemory) => Err(NoMemory),
             Err(No::Refused(_)) => unreachable!(),

@@ -39,6 +39,15 @@ impl Rects {
         }
     }
 
+    /// No rects, with room for so many.
+    pub(crate) fn with_room(alloc: Global, len: usize) -> Result<Rects, NoMemory>
+        ensures { IfOk result (λ rects. rects ≡ []) }
+    {
+        Ok(Rects {
+            rects: Seq::with_room(alloc, len)?,
+        })
+    }
+
     /// One rect more, at the end.
     pub fn push(&mut self, rect: Rect) -> Result<(), NoMemory>
         ensures pushed { OnOk result (self.new ≡ self.old ++ rect ∷ []) }

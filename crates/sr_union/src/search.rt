@@ -62,7 +62,8 @@ fn covers(alloc: Global, columns: &[Column], rect: &Rect, others: &[Rect]) -> Re
         match first_met(&rect, others, from) {
             None => return Ok(false),
             Some(at) => {
-                let pieces = cut_rect(alloc, columns, rect.as_slice(), others[at].as_slice())?;
+                let mut pieces = Rects::new(alloc);
+                cut_rect(alloc, columns, &mut pieces, rect, others[at].as_slice())?;
                 push_todos(&mut todo, pieces, at + 1)?;
             }
         }

@@ -1,20 +1,37 @@
 //! Lists of rects without needless constraints.
-ghost use Rattle.std.specs.Prelude.{◌≡◌, ◌≢◌, ℕ, ◌<◌, ◌≤◌, true, false, List, [], ◌++◌, length, IfOk, IsErrOf};
+ghost use Rattle.std.specs.Prelude.{◌≡◌, ◌≢◌, ℕ, ◌<◌, ◌≤◌, not, true, false, List, [], ◌++◌, length, IfOk, IsErrOf};
 ghost use Rattle.std.specs.List.{list_all};
 ghost use Rattle.sr_cell.specs.declared.list.No.TheVariants.{Refused};
-ghost use Rattle.sr_box.specs.Points.{rect_fits, in_any, AreSame};
+ghost use Rattle.sr_box.specs.Points.{rect_fits, in_any, constrains, AreSame};
 ghost use Rattle.sr_union.specs.Pieces.{IsOnce, IsWithin, HasOutside, AllConstrainEssential};
 ghost use Rattle.sr_union.specs.Grid.{AreCutFrom, grid, have_first, all_inner};
-ghost use Rattle.sr_union.specs.Free.{free_all, IsSettled, IsNext};
+ghost use Rattle.sr_union.specs.Free.{free_all, is_free, span_at, IsSettled, IsNext};
 
 use crate::disjoint::once_all;
 use crate::minus::Over;
 use crate::rects::Rects;
 use crate::search::all_inside;
+use sr_box::rect::Rect;
 use sr_cell::attrs::Attrs;
 use sr_cell::list::{Copied, No, NoMemory};
 use sr_cell::table::{Column, Table};
 use std::alloc::Global;
+
+fn is_free_in(rect: &Rect, column: usize) -> bool
+    ensures { result ≡ not (constrains (span_at column rect.now)) }
+{
+    match rect.get(column) {
+        Some(span) => !span.constrains(),
+        None => true,
+    }
+}
+
+/// Whether no rect constrains the column.
+fn is_free(rects: &[Rect], column: usize) -> bool
+    ensures { result ≡ is_free column rects.now }
+{
+    rects.iter().all(|rect| is_free_in(rect, column))
+}
 
 fn free_all(alloc: Global, rects: &Rects, column: usize) -> Result<Rects, NoMemory>
     ensures { IfOk result (λ freed. freed ≡ free_all column rects.now) }
@@ -41,6 +58,9 @@ fn settle(
     ensures { IfOk result (λ next. IsNext columns.now keep column rects next) }
 {
     if keep.has_index(column) {
+        return Ok(rects);
+    }
+    if is_free(rects.as_slice(), column) {
         return Ok(rects);
     }
     let freed = free_all(alloc, &rects, column)?;

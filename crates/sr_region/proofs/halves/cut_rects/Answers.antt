@@ -15,34 +15,34 @@ pub returns-in-Err-clause-over : goal.returns-in-Err-clause-over
 returns-in-Err-clause-over c = λ e.
     let many = c.in-Err.ensures.over 1 (err_same c.in-Err.no _ e) c.requires.once in omega (arith, many)
 
-pub minus-requires-2-clause-other_fits : goal.minus-requires-2-clause-other_fits
-minus-requires-2-clause-other_fits c = are_fit c.args.table.now.columns (c.args.own.now ++ c.args.cut.now) c.in-Ok.outside c.in-Ok.ensures.cuts
+pub without-requires-2-clause-other_fits : goal.without-requires-2-clause-other_fits
+without-requires-2-clause-other_fits c = are_fit c.args.table.now.columns (c.args.own ++ c.args.cut.now) c.in-Ok.outside c.in-Ok.ensures.cuts
 
-pub returns-in-Ok-minus-clause-inside : goal.returns-in-Ok-minus-clause-inside
-returns-in-Ok-minus-clause-inside c =
+pub returns-in-Ok-without-clause-inside : goal.returns-in-Ok-without-clause-inside
+returns-in-Ok-without-clause-inside c =
     let columns = c.args.table.now.columns in
-    near-minus columns c.args.own.now c.args.cut.now c.in-Ok.outside c.in-Ok-minus.inside c.in-Ok.ensures.points
-    (subst (λ rects. IsMinus columns rects c.in-Ok.outside c.in-Ok-minus.inside) c.requires.meeting c.in-Ok-minus.ensures.points)
+    near-minus columns c.args.own c.args.cut.now c.in-Ok.outside c.in-Ok-without.inside c.in-Ok.ensures.points
+    (subst (λ rects. IsMinus columns rects c.in-Ok.outside c.in-Ok-without.inside) c.requires.meeting c.in-Ok-without.ensures.points)
 
-pub returns-in-Ok-minus-clause-cuts_inside : goal.returns-in-Ok-minus-clause-cuts_inside
-returns-in-Ok-minus-clause-cuts_inside c =
+pub returns-in-Ok-without-clause-cuts_inside : goal.returns-in-Ok-without-clause-cuts_inside
+returns-in-Ok-without-clause-cuts_inside c =
     let columns = c.args.table.now.columns in
-    near-cuts columns c.args.own.now c.args.cut.now c.in-Ok.outside c.in-Ok-minus.inside c.requires.own_fit c.in-Ok.ensures.cuts
-    (subst (λ rects. AreCutFrom columns (rects ++ c.in-Ok.outside) c.in-Ok-minus.inside) c.requires.meeting c.in-Ok-minus.ensures.cuts)
+    near-cuts columns c.args.own c.args.cut.now c.in-Ok.outside c.in-Ok-without.inside c.requires.own_fit c.in-Ok.ensures.cuts
+    (subst (λ rects. AreCutFrom columns (rects ++ c.in-Ok.outside) c.in-Ok-without.inside) c.requires.meeting c.in-Ok-without.ensures.cuts)
 
-pub returns-in-Err-minus-clause-over : goal.returns-in-Err-minus-clause-over
-returns-in-Err-minus-clause-over c = λ e.
+pub returns-in-Err-without-clause-over : goal.returns-in-Err-without-clause-over
+returns-in-Err-without-clause-over c = λ e.
     let columns = c.args.table.now.columns in
-    let own = c.args.own.now in
+    let own = c.args.own in
     let cut = c.args.cut.now in
-    let once : (p : Row) → is_point columns p ≡ true → times c.args.meeting.now p ≤ 1 = λ p point.
+    let once : (p : Row) → is_point columns p ≡ true → times c.args.meeting p ≤ 1 = λ p point.
     subst (λ rects. times rects p ≤ 1) (sym c.requires.meeting) (let one = c.requires.once p point in omega (arith, one, near-few cut own p)) in
-    let many = c.in-Err-minus.ensures.over 1 (err_same c.in-Err-minus.no _ e) once in
+    let many = c.in-Err-without.ensures.over 1 (err_same c.in-Err-without.no _ e) once in
     let few = near-grid columns own cut c.in-Ok.outside c.requires.own_fit c.in-Ok.ensures.cuts in
-    let same : grid columns (c.args.meeting.now ++ c.in-Ok.outside) ≡ grid columns (near cut own ++ c.in-Ok.outside) = ap (λ rects. grid columns (rects ++ c.in-Ok.outside)) c.requires.meeting in
+    let same : grid columns (c.args.meeting ++ c.in-Ok.outside) ≡ grid columns (near cut own ++ c.in-Ok.outside) = ap (λ rects. grid columns (rects ++ c.in-Ok.outside)) c.requires.meeting in
     omega (arith, many, few, same)
 
-pub minus-requires-2-clause-self_fits : goal.minus-requires-2-clause-self_fits
-minus-requires-2-clause-self_fits c =
+pub without-requires-2-clause-self_fits : goal.without-requires-2-clause-self_fits
+without-requires-2-clause-self_fits c =
     let columns = c.args.table.now.columns in
-    subst (λ rects. list_all (rect_fits columns) rects ≡ true) (sym c.requires.meeting) (near-fits columns c.args.cut.now c.args.own.now c.requires.own_fit)
+    subst (λ rects. list_all (rect_fits columns) rects ≡ true) (sym c.requires.meeting) (near-fits columns c.args.cut.now c.args.own c.requires.own_fit)

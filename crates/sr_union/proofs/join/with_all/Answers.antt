@@ -1,14 +1,29 @@
-use Rattle.std.proofs.Common.{[], ◌∷◌, ◌++◌, take, subst}
+use Rattle.std.proofs.Common.{◌≡◌, ◌∷◌, ◌++◌, arith, subst, sym}
+use Rattle.std.specs.Vec.Iter.{into_iter_items}
+use Rattle.std.proofs.lemmas.Grind.{common_steps}
 use Rattle.sr_union.specs.Joined.{IsJoined}
-use Rattle.sr_union.proofs.Joined.{joined_more, joined_fit, some_fit}
+use Rattle.sr_union.proofs.Joined.{both_fit, joined_next, joined_self, next_fit}
 use Rattle.sr_union.proofs.join.with_all.Goals as goal
+
+pub loop-rect-init : goal.loop-rect-init
+loop-rect-init c =
+    let items : into_iter_items c.into_iter-rect-iterator.result ≡ c.args.more = grind (arith, common_steps) in
+    subst (λ more. IsJoined c.args.columns.now (c.args.rects ++ c.args.more) (c.args.rects ++ more)) (sym items) (joined_self c.args.columns.now (c.args.rects ++ c.args.more))
+
+pub with_one-requires-clause-fits : goal.with_one-requires-clause-fits
+with_one-requires-clause-fits c =
+    let turn : into_iter_items c.loop-rect.rect-iterator ≡ c.in-Some.rect ∷ into_iter_items c.next.new.self = c.in-Some.ensures.steps.0 in
+    (next_fit c.args.columns.now (c.args.rects ++ c.args.more) c.loop-rect.joined (into_iter_items c.loop-rect.rect-iterator) (into_iter_items c.next.new.self) c.in-Some.rect turn c.loop-rect.invariant
+    (both_fit c.args.columns.now c.args.rects c.args.more c.requires.rects_fit c.requires.more_fit)).1
 
 pub with_one-requires-clause-rects_fit : goal.with_one-requires-clause-rects_fit
 with_one-requires-clause-rects_fit c =
-    joined_fit c.args.columns.now (c.args.rects ++ take c.loop-rect.rect-index c.as_slice-rect-items.result.now) c.loop-rect.joined c.loop-rect.invariant
-    (some_fit c.args.columns.now c.args.rects c.as_slice-rect-items.result.now c.args.more.now c.loop-rect.rect-index c.as_slice-rect-items.ensures c.requires.rects_fit c.requires.more_fit)
+    let turn : into_iter_items c.loop-rect.rect-iterator ≡ c.in-Some.rect ∷ into_iter_items c.next.new.self = c.in-Some.ensures.steps.0 in
+    (next_fit c.args.columns.now (c.args.rects ++ c.args.more) c.loop-rect.joined (into_iter_items c.loop-rect.rect-iterator) (into_iter_items c.next.new.self) c.in-Some.rect turn c.loop-rect.invariant
+    (both_fit c.args.columns.now c.args.rects c.args.more c.requires.rects_fit c.requires.more_fit)).0
 
 pub loop-rect-preserved : goal.loop-rect-preserved
 loop-rect-preserved c =
-    joined_more c.args.columns.now c.args.rects c.as_slice-rect-items.result.now c.loop-rect.joined c.in_ok-joined.joined c.rect-item.result c.loop-rect.rect-index c.loop-rect-test.true c.rect-item.is
-    c.loop-rect.invariant (subst (λ r. IsJoined c.args.columns.now (c.loop-rect.joined ++ r ∷ []) c.in_ok-joined.joined) c.in_ok-copy.ensures c.in_ok-joined.ensures)
+    let turn : into_iter_items c.loop-rect.rect-iterator ≡ c.in-Some.rect ∷ into_iter_items c.next.new.self = c.in-Some.ensures.steps.0 in
+    joined_next c.args.columns.now (c.args.rects ++ c.args.more) c.loop-rect.joined c.in_ok-joined.joined (into_iter_items c.loop-rect.rect-iterator) (into_iter_items c.next.new.self) c.in-Some.rect turn
+    c.loop-rect.invariant c.in_ok-joined.ensures

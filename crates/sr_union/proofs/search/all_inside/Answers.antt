@@ -1,5 +1,4 @@
-use Rattle.std.proofs.Common.{◌≡◌, true, false, sym, ◌∙◌, arith}
-use Rattle.sr_box.specs.Points.{rect_fits}
+use Rattle.std.proofs.Common.{◌≡◌, true, false, arith}
 use Rattle.sr_union.specs.Search.{is_covered}
 use Rattle.sr_union.proofs.Free.{outside_more}
 use Rattle.sr_union.proofs.Searching.{covered-outside, covered-within, fits_items, within_more}

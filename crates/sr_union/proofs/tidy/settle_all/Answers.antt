@@ -1,6 +1,5 @@
-use Rattle.std.proofs.Common.{arith, sym, subst}
+use Rattle.std.proofs.Common.{sym, subst}
 use Rattle.sr_union.proofs.Parts.{are_fit}
-use Rattle.sr_union.proofs.Once.{grid_among}
 use Rattle.sr_union.proofs.Free.{IsTidied, tidied_none, tidied_more}
 use Rattle.sr_union.proofs.tidy.settle_all.Goals as goal
 

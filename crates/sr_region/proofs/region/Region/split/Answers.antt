@@ -1,22 +1,26 @@
-use Rattle.std.proofs.Common.{◌≡◌, [], sym, ◌∙◌, subst, arith}
+use Rattle.std.proofs.Common.{◌≡◌, [], ◌++◌, sym, ◌∙◌, subst, arith}
 use Rattle.std.proofs.lemmas.Grind.{common_steps}
 use Rattle.sr_region.specs.Halves.{IsInside, IsOutside}
 use Rattle.sr_region.proofs.Sides.{inside-from, outside-from}
 use Rattle.sr_region.proofs.Near.{stays-inside, stays-outside}
-use Rattle.sr_union.specs.Pieces.{near}
+use Rattle.sr_union.specs.Pieces.{near, IsMinus}
+use Rattle.sr_union.specs.Grid.{AreCutFrom}
 use Rattle.sr_region.proofs.region.Region.split.Goals as goal
 
 pub returns-in-Ok-rooms-clause-inside : goal.returns-in-Ok-rooms-clause-inside
 returns-in-Ok-rooms-clause-inside c =
     subst (IsInside c.args.table.now c.args.self c.args.rects.now) (sym c.halves_of.ensures.inside)
     (inside-from c.args.table.now c.args.self c.args.rects.now c.in-Ok-cut_rects.cut.outside c.in-Ok-cut_rects.cut.inside c.requires.region c.requires.first c.requires.fit c.requires.only
-    c.in-Ok-cut_rects.ensures.outside c.in-Ok-cut_rects.ensures.inside c.in-Ok-cut_rects.ensures.cuts_inside)
+    (subst (λ own. IsMinus c.args.table.now.columns own c.args.rects.now c.in-Ok-cut_rects.cut.outside) c.in-Ok-copy.ensures c.in-Ok-cut_rects.ensures.outside)
+    (subst (λ own. IsMinus c.args.table.now.columns own c.in-Ok-cut_rects.cut.outside c.in-Ok-cut_rects.cut.inside) c.in-Ok-copy.ensures c.in-Ok-cut_rects.ensures.inside)
+    (subst (λ own. AreCutFrom c.args.table.now.columns (own ++ c.args.rects.now) c.in-Ok-cut_rects.cut.inside) c.in-Ok-copy.ensures c.in-Ok-cut_rects.ensures.cuts_inside))
 
 pub returns-in-Ok-rooms-clause-outside : goal.returns-in-Ok-rooms-clause-outside
 returns-in-Ok-rooms-clause-outside c =
     subst (IsOutside c.args.table.now c.args.self c.args.rects.now) (sym c.halves_of.ensures.outside)
     (outside-from c.args.table.now c.args.self c.args.rects.now c.in-Ok-cut_rects.cut.outside c.requires.region c.requires.first c.requires.fit c.requires.only
-    c.in-Ok-cut_rects.ensures.outside c.in-Ok-cut_rects.ensures.cuts)
+    (subst (λ own. IsMinus c.args.table.now.columns own c.args.rects.now c.in-Ok-cut_rects.cut.outside) c.in-Ok-copy.ensures c.in-Ok-cut_rects.ensures.outside)
+    (subst (λ own. AreCutFrom c.args.table.now.columns (own ++ c.args.rects.now) c.in-Ok-cut_rects.cut.outside) c.in-Ok-copy.ensures c.in-Ok-cut_rects.ensures.cuts))
 
 pub returns-then-len-limit-clause-inside : goal.returns-then-len-limit-clause-inside
 returns-then-len-limit-clause-inside c =

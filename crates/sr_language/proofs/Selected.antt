@@ -97,7 +97,7 @@ by_table schema tables place column (Some p) o within e = go (column_named 0 (ta
         let same : record { part = p; column = c } ≡ o = cc in
         subst (λ x. is_of (length tables) x ≡ true) same (less p (length tables) (within p refl))
 
-resolved_near : (schema : List Table) (tables : List ℕ) (n : Name) (o : Output) → resolved schema tables n ≡ Ok o → is_of (length tables) o ≡ true
+pub resolved_near : (schema : List Table) (tables : List ℕ) (n : Name) (o : Output) → resolved schema tables n ≡ Ok o → is_of (length tables) o ≡ true
 resolved_near schema tables n o e = go n.table refl
   where
     go : (t : Option (List ℕ)) → n.table ≡ t → is_of (length tables) o ≡ true

@@ -32,7 +32,7 @@ below attrs d k =
     even n half more is = let same : (n + more) % 2 ≡ n % 2 = omega (arith, is) in ap (λ x. x == 1) same
 
 -- above, a place that was even does not carry
-above : (attrs c k : ℕ) → has_column attrs c ≡ false → has_column (attrs + 2 ^ c) (c + suc k) ≡ has_column attrs (c + suc k)
+pub above : (attrs c k : ℕ) → has_column attrs c ≡ false → has_column (attrs + 2 ^ c) (c + suc k) ≡ has_column attrs (c + suc k)
 above attrs c k free =
     ap (λ n. n % 2 == 1)
     (far (attrs + 2 ^ c) ∙ (ap (λ n. n / 2 / 2 ^ k) (one_more attrs c) ∙ (ap (λ n. n / 2 ^ k) (half (attrs / 2 ^ c) free) ∙ sym (far attrs))))

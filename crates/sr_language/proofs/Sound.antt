@@ -20,7 +20,7 @@ use Rattle.sr_language.proofs.Sets.{needed_keeps, one_column, is_covered, covers
 use Rattle.sr_language.proofs.Compared.{split_ok, conjuncts_in}
 use Rattle.sr_language.proofs.Selected.{tables_known, is_of, outputs_of_parts}
 
-same_value : {A : Type 0} (a b : A) → (let here : Result A Fault = Ok a in here) ≡ Ok b → a ≡ b
+pub same_value : {A : Type 0} (a b : A) → (let here : Result A Fault = Ok a in here) ≡ Ok b → a ≡ b
 same_value a b e = cc
 
 -- what is not too wide is as it was
@@ -31,7 +31,7 @@ narrow_same p q e = go (nat_lt 64 (width true p.condition)) e
     go true e = absurd cc
     go false e = same_value p q e
 
-all_narrow : (ps qs : List Part) → each narrow ps ≡ Ok qs → ps ≡ qs
+pub all_narrow : (ps qs : List Part) → each narrow ps ≡ Ok qs → ps ≡ qs
 all_narrow [] qs e = same_value [] qs e
 all_narrow (p ∷ ps) qs e =
     let first = split_ok (narrow p) (λ b. each narrow ps >>= λ bs. Ok (b ∷ bs)) qs e in

@@ -4,4 +4,6 @@ pub mod Lines
 pub mod Built
 pub mod Sound
 pub mod Script
+pub mod Parts
 pub mod Creates
+pub mod Own

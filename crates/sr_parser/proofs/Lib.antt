@@ -16,3 +16,4 @@ pub mod OneSaying
 pub mod BlindConditions
 pub mod BlindStatements
 pub mod Columns
+pub mod RowCounts

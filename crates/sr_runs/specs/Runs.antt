@@ -1,14 +1,14 @@
 -- Steps of a script with their deliveries, whole runs, and their lines.
 use Rattle.std.specs.Prelude.{ℕ, zero, suc, Bool, true, false, ◌+◌, ◌<◌, List, [], ◌∷◌, ◌++◌, length, map, ◌≡◌, Option, Some, None}
-use Rattle.sr_cell.specs.declared.fault.Fault.{Fault}
-use Rattle.sr_cell.specs.declared.fault.Why.TheVariants.{LongText}
 use Rattle.sr_message.specs.declared.message.Message.{Message}
 use Rattle.sr_script.specs.declared.line.TraceLine.{TraceLine}
 use Rattle.sr_script.specs.declared.line.TraceLine.TheVariants as line
 use Rattle.sr_session.specs.Clients.{Connection, Pair}
 use Rattle.sr_session.specs.Scenes.{Event, Happens, Report, Scene, pair_at}
+use Rattle.sr_session.specs.Texts.{most_text, long_text}
 use Rattle.sr_runs.specs.Lines.{lines_of}
-use Rattle.sr_runs.specs.Scripts.{DoSettle, DoToClient, DoToServer, DoWrite, Is, ScriptEvent, most_text}
+use Rattle.sr_language.specs.Events.{DoSettle, DoToClient, DoToServer, DoWrite, ScriptEvent}
+use Rattle.sr_runs.specs.Scripts.{Is}
 
 -- ---- deliveries
 
@@ -20,9 +20,6 @@ next_of n (m ∷ to_server) to_client = Some (DoToServer n)
 
 abbrev pub next_delivery : ℕ → Connection → Option ScriptEvent
 next_delivery n l = next_of n l.to_server l.to_client
-
-abbrev pub long_text : Fault
-long_text = record { why = LongText; at = most_text }
 
 -- An event that is one of the scene happens there, and gives the lines of what comes of it. The text of a write that is too long is
 -- refused by the client, and nothing happens.

@@ -6,28 +6,12 @@ use Rattle.sr_message.specs.declared.message.Message.TheVariants.{Write}
 use Rattle.sr_model.specs.Queries.{Query}
 use Rattle.sr_model.specs.Statements.{Tables, executed}
 use Rattle.sr_model.specs.Statements.{Write as Statement}
+use Rattle.sr_language.specs.Events.{ScriptEvent, DoExec, DoQuery, DoWrite, DoPush, DoToServer, DoToClient, DoEvict, DoCut, DoResume}
 use Rattle.sr_language.specs.Script.{Writes}
 use Rattle.sr_session.specs.Sessions.{Database, newest, tables_of}
 use Rattle.sr_session.specs.Clients.{Pair}
 use Rattle.sr_session.specs.Scenes.{CutOf, Event, EvictOf, Exec, PushTo, QueryOf, ResumeOf, Scene, ToClient, ToServer, WriteOf, pair_at}
-
--- The text of a statement or a query stands for what it says to the schema, or why it is refused. A write stands as its text, which the
--- server reads.
-pub data ScriptEvent : Type 0 where
-  DoExec : (statement : Result Statement Fault) → ScriptEvent
-  DoQuery : (client : ℕ) → (query : Result Query Fault) → ScriptEvent
-  DoWrite : (client : ℕ) → (sql : List ℕ) → ScriptEvent
-  DoPush : (client : ℕ) → ScriptEvent
-  DoToServer : (client : ℕ) → ScriptEvent
-  DoToClient : (client : ℕ) → ScriptEvent
-  DoSettle : (client : ℕ) → ScriptEvent
-  DoEvict : (client : ℕ) → (place : ℕ) → ScriptEvent
-  DoCut : (client : ℕ) → ScriptEvent
-  DoResume : (client : ℕ) → ScriptEvent
-
--- a text of more bytes is no write that a client sends
-abbrev pub most_text : ℕ
-most_text = 65536
+use Rattle.sr_session.specs.Texts.{most_text}
 
 -- what a statement makes of the newest tables, or why it is refused
 abbrev pub result_of : Database → Result Statement Fault → Result Tables Fault

@@ -14,7 +14,7 @@ use Rattle.sr_history.specs.Rests.{Asks}
 use Rattle.sr_history.specs.Drops.{DropsAll}
 use Rattle.sr_session.specs.Sessions.{Database, Session}
 use Rattle.sr_session.specs.Places.{Within, asked, both, held, nowhere}
-use Rattle.sr_session.specs.Walks.{AreLaid, AskOut, Mirror, Request, ResumeOut, Walks, WriteOut, brought, forgot, has_lapse, noticed, places_after, version_after, walked, welcomed}
+use Rattle.sr_session.specs.Walks.{AreLaid, AskOut, Mirror, Passes, Request, ResumeOut, Walks, WriteOut, brought, forgot, has_lapse, noticed, places_after, version_after, walked, welcomed}
 use Rattle.sr_session.specs.Clients.{Client, Connection, Flows, IsOpen, asks_again, is_idle, is_sent, is_served, mirror_of, settled}
 use Rattle.sr_session.specs.Rules.{AskSent, DropsFor, DropsWelcomed, Outcome, TakeStep, answering_then, answers, applies, asks_once_more, forgets, is_given_up, is_welcomed, lays, refused_write, sends, with_answered, written}
 use Rattle.sr_session.specs.Scenes.{Scene, basis_of}
@@ -72,7 +72,7 @@ laid-are db c l session request h out = by (subst (Flows db c l session) out h.f
     by (is_served r o all f) = all
 
 -- the last version of what was gone through
-walked-version : (m : Mirror) (ms : List Message) → AreLaid ms → (walked m ms).version ≡ version_after m.version ms
+pub walked-version : (m : Mirror) (ms : List Message) → AreLaid ms → (walked m ms).version ≡ version_after m.version ms
 walked-version m [] all = refl
 walked-version m (Notice w told ∷ ms) all = walked-version (noticed m w) ms all.1
 walked-version m (Lapse w ∷ ms) all = walked-version (forgot m w) ms all.1
@@ -90,9 +90,10 @@ walked-version m (Write number sql ∷ ms) all = absurd all.0
 pub record IsEnding (db : Database) (c : Client) (l : Connection) (session : Session) (request : Request) (m : Message) (queue : List Message) : Type 0 where
   pub all : AreLaid c.laid
   pub to_server : l.to_server ≡ []
+  pub passes : Passes db (Some request) (mirror_of c) c.laid
   pub walks : Walks db (Some request) (walked (mirror_of c) c.laid) (m ∷ queue) session
 
-ending : (db : Database) (c : Client) (l : Connection) (session : Session) (request : Request) (m : Message) (queue : List Message) → IsOpen db c l session → c.out ≡ Some request → l.to_client ≡ m ∷ queue
+pub ending : (db : Database) (c : Client) (l : Connection) (session : Session) (request : Request) (m : Message) (queue : List Message) → IsOpen db c l session → c.out ≡ Some request → l.to_client ≡ m ∷ queue
     → ((x : Mirror) → Walks db None x (m ∷ queue) session → ⊥) → IsEnding db c l session request m queue
 ending db c l session request m queue h out first never = by (subst (Flows db c l session) out h.flows)
   where
@@ -102,7 +103,7 @@ ending db c l session request m queue h out first never = by (subst (Flows db c 
         absurd (never (walked (mirror_of c) c.laid) goes.on)
     by (is_served r o all f) =
         let goes = walks-split db (Some request) (mirror_of c) c.laid (m ∷ queue) session all (subst (λ ms. Walks db (Some request) (mirror_of c) (c.laid ++ ms) session) first f.walks) in
-        record { all = all; to_server = f.to_server; walks = goes.on }
+        record { all = all; to_server = f.to_server; passes = goes.passes; walks = goes.on }
 
 module _ (s : Scene) (c : Client) (l : Connection) (session : Session) (h : IsOpen s.database c l session) (queue : List Message) where
   abbrev rest : Connection

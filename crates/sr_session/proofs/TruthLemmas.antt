@@ -105,7 +105,7 @@ module _ (db : Database) (places : Places) where
   }
 
   -- over n versions of which nothing is told
-  quiet-on : (n v w : ℕ) (gs : List Region) → v + n ≡ w → ((u : ℕ) → u ≤ w → AreTables db.schema (tables_of db u)) → ((u : ℕ) → v < u → u ≤ w → Tells db places u [])
+  pub quiet-on : (n v w : ℕ) (gs : List Region) → v + n ≡ w → ((u : ℕ) → u ≤ w → AreTables db.schema (tables_of db u)) → ((u : ℕ) → v < u → u ≤ w → Tells db places u [])
       → AreAt db (record { places = places; version = v; lapsed = false; came = [] }) gs → AreAt db (record { places = places; version = w; lapsed = false; came = [] }) gs
   quiet-on zero v w gs sum are quiet at =
       let same : v ≡ w = omega (arith, sum) in

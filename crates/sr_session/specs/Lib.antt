@@ -4,6 +4,8 @@ pub mod Walks
 pub mod Clients
 pub mod Arrivals
 pub mod Misfits
+pub mod Refusals
+pub mod Texts
 pub mod Laws
 pub mod Rules
 pub mod Tidy

@@ -1,10 +1,8 @@
 -- A text that begins with CREATE says no other statement.
-use Rattle.std.proofs.Common.{◌≡◌, ℕ, Bool, true, false, List, [], ◌∷◌, ◌++◌, inl, inr, refl, ap, subst, ◌∙◌}
-use Rattle.std.specs.Prelude.{codes, Result, Ok, Err, filter, length, ◌==◌, if◌then◌else◌}
+use Rattle.std.proofs.Common.{◌≡◌, ℕ, true, List, [], ◌∷◌, ◌++◌, inl, inr, refl, ap, subst, ◌∙◌}
+use Rattle.std.specs.Prelude.{codes, Ok, filter, length, ◌==◌}
 use Rattle.std.specs.List.{list_any}
 use Rattle.sr_cell.specs.declared.table.Table.{Table}
-use Rattle.sr_cell.specs.declared.fault.Fault.{Fault}
-use Rattle.sr_cell.specs.declared.fault.Why.TheVariants.{BadDomain, NoKey}
 use Rattle.sr_grammar.specs.declared.statement.Definition.{Definition}
 use Rattle.sr_grammar.specs.Tokens.{Key, Tok, is, tokens_of}
 use Rattle.sr_grammar.specs.Trees.{Statement, Create, Tree, Defines, statement_of, table_of, is_key, has_bad_domain}
@@ -13,6 +11,7 @@ use Rattle.sr_grammar.specs.Columns.{IsCreate}
 use Rattle.sr_grammar.specs.Statements.{IsSelect, IsInsert, IsUpdate, IsDelete, IsStatement}
 use Rattle.sr_grammar.specs.Says.{most_levels, Says}
 use Rattle.sr_parser.specs.Reading.{next_is}
+use Rattle.sr_parser.proofs.RowCounts.{judged_create}
 use Rattle.sr_parser.proofs.Words.{Begins, Apart, begins_then, begins_token, is-apart}
 use Rattle.sr_language.specs.Script.{begins_create}
 
@@ -47,15 +46,6 @@ spells_create : (n : ℕ) (tree : Tree) (ts : List Tok) → IsStatement n tree t
 spells_create n tree ts p begins =
     let q = of_tree n p.0 p.1 p.2 p.4 (subst (λ z. begins_create z ≡ true) p.3 begins) in
     (_, _, p.5.5.0 ∙ q.5.5.5.5.0)
-
-abbrev pub judged : Bool → Bool → Table → Result Statement Fault
-judged x y t = if x then Err (record { why = BadDomain; at = 0 }) else (if y then Ok (Create t) else Err (record { why = NoKey; at = 0 }))
-
--- what is judged well is a CREATE
-pub judged_create : (x y : Bool) (t : Table) (s : Statement) → Ok s ≡ judged x y t → s ≡ Create t
-judged_create true y t s same = absurd cc
-judged_create false true t s same = cc
-judged_create false false t s same = absurd cc
 
 defined : (name : List ℕ) (columns : List Definition) (s : Statement) → Ok s ≡ statement_of (Defines name columns) → (t : Table) × (s ≡ Create t)
 defined name columns s same = (table_of name columns, judged_create (list_any has_bad_domain columns) (length (filter is_key columns) == 1) (table_of name columns) s same)

@@ -1,9 +1,9 @@
 -- The tables of the CREATE lines in front of all others.
-use Rattle.std.proofs.Common.{◌≡◌, ℕ, ◌+◌, ◌<◌, ◌≤◌, Bool, true, false, List, [], ◌∷◌, ◌++◌, length, drop, refl, sym, subst, inl, inr, arith}
-use Rattle.std.specs.Prelude.{Option, Some, None, Result, Ok, Err, OnOk, ◌==◌, ◌&&◌, ◌||◌, not, nat_eq, codes, if◌then◌else◌}
+use Rattle.std.proofs.Common.{◌≡◌, ℕ, ◌+◌, Bool, true, false, List, [], ◌∷◌, ◌++◌, length, refl, sym, subst, inl, inr, ◌<◌, arith}
+use Rattle.std.specs.Prelude.{Option, Some, None, Result, Ok, Err, OnOk, ◌==◌, ◌||◌, not, nat_eq, codes, if◌then◌else◌}
 use Rattle.std.specs.Str.{is_utf8}
+use Rattle.std.specs.Str.Lossy.{utf8_valid_len}
 use Rattle.std.specs.List.{list_all, starts_with}
-use denote.Ref.{Bor}
 use Rattle.sr_cell.specs.declared.table.Table.{Table}
 use Rattle.sr_cell.specs.declared.fault.Fault.{Fault}
 use Rattle.sr_cell.specs.Faults.{table_fault}
@@ -13,63 +13,50 @@ use Rattle.sr_grammar.specs.declared.statement.Statement.TheVariants as statemen
 use Rattle.sr_grammar.specs.Trees.{Create}
 use Rattle.sr_grammar.specs.Seen.{statement_seen}
 use Rattle.sr_grammar.specs.Says.{Says}
-use Rattle.sr_language.specs.Lines.{lines_of}
-use Rattle.sr_language.specs.Script.{Line, Silent, CreateLine, ExecLine, QueryLine, PushLine, Other, is_blank, begins_create, behind, is_push, event_line, line_of, RefusesTable, AddsTable, RefusedFrom, FirstRefused}
+use Rattle.sr_language.specs.Script.{Words, Line, Silent, CreateLine, EventLine, Reading, is_blank, begins_create, event_of, placed, line_of, RefusesTable, AddsTable, RefusedFrom, FirstRefused}
 use Rattle.sr_language.specs.Creates.{CreatesFrom, Creates}
 use Rattle.sr_query.specs.Bound.{is_table}
 use Rattle.sr_reader.specs.declared.head.RefusedLine.{RefusedLine}
-use Rattle.sr_reader.specs.declared.line.Line.{Line as Read}
-use Rattle.sr_reader.specs.declared.line.Line.TheVariants as read
-use Rattle.sr_reader.specs.LineSeen.{line_seen, query_line}
 use Rattle.sr_reader.proofs.OneDoing.{one_create, no_fault}
 use Rattle.sr_reader.proofs.Creates.{says_create}
 use Rattle.sr_reader.proofs.Tables.{faultless_fits, tables_grow}
 
--- ---- a CREATE line begins with CREATE
+-- ---- what a line is, by its tests
 
-same_text : (line sql : List ℕ) → CreateLine line ≡ CreateLine sql → line ≡ sql
+same_text : (line sql : List ℕ) → (let here : Result Line ℕ = Ok (CreateLine line) in here) ≡ Ok (CreateLine sql) → line ≡ sql
 same_text line sql e = cc
 
-either : (b : Bool) (x y : Line) (sql : List ℕ) → (x ≡ CreateLine sql → ⊥) → (y ≡ CreateLine sql → ⊥) → (if b then x else y) ≡ CreateLine sql → ⊥
-either true x y sql first second e = first e
-either false x y sql first second e = second e
+placed_create : (line sql : List ℕ) (reading : Reading) → placed line reading ≡ Ok (CreateLine sql) → ⊥
+placed_create line sql (Ok words) e = cc
+placed_create line sql (Err rest) e = cc
 
-no_behind : (words : List ℕ) (made : List ℕ → Line) (otherwise : Line) (line sql : List ℕ) → ((x : List ℕ) → made x ≡ CreateLine sql → ⊥) → (otherwise ≡ CreateLine sql → ⊥) → behind words made otherwise line ≡ CreateLine sql → ⊥
-no_behind words made otherwise line sql first second e =
-    either (starts_with nat_eq line words && not (length line == length words)) (made (drop (length words) line)) otherwise sql (first (drop (length words) line)) second e
+placed_event : (line : List ℕ) (words : Words) (reading : Reading) → placed line reading ≡ Ok (EventLine words) → reading ≡ Ok words
+placed_event line words (Ok said) e = cc
+placed_event line words (Err rest) e = absurd cc
 
-no_exec : (sql x : List ℕ) → ExecLine x ≡ CreateLine sql → ⊥
-no_exec sql x e = cc
+create_by : (text quiet begins : Bool) (line sql : List ℕ) (reading : Reading)
+    → (if not text then Err (utf8_valid_len line) else (if quiet then Ok Silent else (if begins then Ok (CreateLine line) else placed line reading))) ≡ Ok (CreateLine sql) → (begins ≡ true) × (line ≡ sql)
+create_by false quiet begins line sql reading e = absurd cc
+create_by true true begins line sql reading e = absurd cc
+create_by true false true line sql reading e = (refl, same_text line sql e)
+create_by true false false line sql reading e = absurd (placed_create line sql reading e)
 
-no_query : (sql x : List ℕ) → QueryLine x ≡ CreateLine sql → ⊥
-no_query sql x e = cc
+event_by : (text quiet begins : Bool) (line : List ℕ) (words : Words) (reading : Reading)
+    → (if not text then Err (utf8_valid_len line) else (if quiet then Ok Silent else (if begins then Ok (CreateLine line) else placed line reading))) ≡ Ok (EventLine words) → reading ≡ Ok words
+event_by false quiet begins line words reading e = absurd cc
+event_by true true begins line words reading e = absurd cc
+event_by true false true line words reading e = absurd cc
+event_by true false false line words reading e = placed_event line words reading e
 
-no_push : (sql : List ℕ) → PushLine ≡ CreateLine sql → ⊥
-no_push sql e = cc
-
-no_other : (sql : List ℕ) → Other ≡ CreateLine sql → ⊥
-no_other sql e = cc
-
-no_event : (line sql : List ℕ) → event_line line ≡ CreateLine sql → ⊥
-no_event line sql e =
-    either (is_push line) PushLine (behind (codes "exec ") ExecLine (query_line line) line) sql (no_push sql)
-    (no_behind (codes "exec ") ExecLine (query_line line) line sql (no_exec sql)
-    (no_behind (codes "query 1 ") QueryLine (behind (codes "query 01 ") QueryLine (behind (codes "query 001 ") QueryLine Other line) line) line sql (no_query sql)
-    (no_behind (codes "query 01 ") QueryLine (behind (codes "query 001 ") QueryLine Other line) line sql (no_query sql)
-    (no_behind (codes "query 001 ") QueryLine Other line sql (no_query sql) (no_other sql))))) e
-
--- of a line that is a CREATE, by its tests
-create_by : (text quiet begins : Bool) (line sql : List ℕ) (event : Line) → (event ≡ CreateLine sql → ⊥)
-    → (if not text then Other else (if quiet then Silent else (if begins then CreateLine line else event))) ≡ CreateLine sql → (begins ≡ true) × (line ≡ sql)
-create_by false quiet begins line sql event never e = absurd cc
-create_by true true begins line sql event never e = absurd cc
-create_by true false true line sql event never e = (refl, same_text line sql e)
-create_by true false false line sql event never e = absurd (never e)
-
-pub begins_of : (line sql : List ℕ) → line_of line ≡ CreateLine sql → begins_create (tokens_of sql) ≡ true
-begins_of line sql e =
-    let by = create_by (is_utf8 line) (is_blank line || starts_with nat_eq line (codes "#")) (begins_create (tokens_of line)) line sql (event_line line) (no_event line sql) e in
+-- a CREATE line begins with CREATE
+pub begins_of : (clients : ℕ) (line sql : List ℕ) → line_of clients line ≡ Ok (CreateLine sql) → begins_create (tokens_of sql) ≡ true
+begins_of clients line sql e =
+    let by = create_by (is_utf8 line) (is_blank line || starts_with nat_eq line (codes "#")) (begins_create (tokens_of line)) line sql (event_of clients line) e in
     subst (λ z. begins_create (tokens_of z) ≡ true) by.1 by.0
+
+-- an event line says its event
+pub event_of_line : (clients : ℕ) (line : List ℕ) (words : Words) → line_of clients line ≡ Ok (EventLine words) → event_of clients line ≡ Ok words
+event_of_line clients line words e = event_by (is_utf8 line) (is_blank line || starts_with nat_eq line (codes "#")) (begins_create (tokens_of line)) line words (event_of clients line) e
 
 -- ---- a text that begins with CREATE says no other statement
 
@@ -112,145 +99,93 @@ added_only tables sql t fault adds (inr bad) =
 
 -- where a line adds a table, one of the lines behind it is the first that is refused
 added_later : (number : ℕ) (tables : List Table) (Later : List Table → Type 0) (sql : List ℕ) (t : Table) (n : ℕ) (fault : Fault)
-    → AddsTable tables sql t → RefusedFrom number tables Later (CreateLine sql) n fault → Later (tables ++ t ∷ [])
+    → AddsTable tables sql t → RefusedFrom number tables Later (Ok (CreateLine sql)) n fault → Later (tables ++ t ∷ [])
 added_later number tables Later sql t n fault adds (inl here) = absurd (added_only tables sql t fault adds here.1)
 added_later number tables Later sql t n fault adds (inr later) =
     subst (λ z. Later (tables ++ z ∷ [])) (one_create sql later.0 t later.1.0 adds.0) later.2
-
--- a line that ends the CREATE lines
-abbrev pub ends : Line → Bool
-ends Silent = false
-ends (CreateLine sql) = false
-ends (ExecLine sql) = true
-ends (QueryLine sql) = true
-ends PushLine = true
-ends Other = true
-
-pub other_ends : (line : Read) → (line ≡ read.Silent → ⊥) → ((sql : Bor (List ℕ)) → line ≡ read.Create sql → ⊥) → ends (line_seen line) ≡ true
-other_ends read.Silent silent create = absurd (silent refl)
-other_ends (read.Create sql) silent create = absurd (create sql refl)
-other_ends (read.Exec sql) silent create = refl
-other_ends (read.Query sql) silent create = refl
-other_ends read.Push silent create = refl
-other_ends read.Other silent create = refl
-
-false_true : false ≡ true → ⊥
-false_true e = cc
-
-none_from : (number : ℕ) (tables : List Table) (Later : List Table → Type 0) (line : Line) (n : ℕ) (fault : Fault) → ends line ≡ true → RefusedFrom number tables Later line n fault → ⊥
-none_from number tables Later Silent n fault end refused = false_true end
-none_from number tables Later (CreateLine sql) n fault end refused = false_true end
-none_from number tables Later (ExecLine sql) n fault end refused = refused
-none_from number tables Later (QueryLine sql) n fault end refused = refused
-none_from number tables Later PushLine n fault end refused = refused
-none_from number tables Later Other n fault end refused = refused
 
 -- ---- the walk
 
 -- what the walk keeps: the tables, and the first line that is refused, are the same for the rest behind these tables as for
 -- the whole
-pub record Fronted (bytes : List ℕ) (number : ℕ) (rest : List ℕ) (tables : List Table) : Type 0 where
-  pub counted : number + length rest ≤ length bytes + 1
-  pub inside : length rest ≤ length bytes
-  pub sound : list_all is_table tables ≡ true
-  pub creates : (all : List Table) → Creates tables (lines_of rest) all → Creates [] (lines_of bytes) all
-  pub found : (n : ℕ) (fault : Fault) → FirstRefused number tables (lines_of rest) n fault → FirstRefused 1 [] (lines_of bytes) n fault
-  pub only : (n : ℕ) (fault : Fault) → FirstRefused 1 [] (lines_of bytes) n fault → FirstRefused number tables (lines_of rest) n fault
+pub record Fronted (clients : ℕ) (lines : List (List ℕ)) (number : ℕ) (rest : List (List ℕ)) (tables : List Table) : Type 0 where
+  pub creates : (all : List Table) → Creates clients tables rest all → Creates clients [] lines all
+  pub found : (n : ℕ) (fault : Fault) → FirstRefused clients number tables rest n fault → FirstRefused clients 1 [] lines n fault
+  pub only : (n : ℕ) (fault : Fault) → FirstRefused clients 1 [] lines n fault → FirstRefused clients number tables rest n fault
 
-abbrev pub Behind : ℕ → List ℕ → ℕ → Fault → List Table → Type 0
-Behind number after n fault known = FirstRefused (number + 1) known (lines_of after) n fault
-
-into : (rest after line : List ℕ) (number : ℕ) (tables : List Table) (l : Line) (n : ℕ) (fault : Fault) → lines_of rest ≡ line ∷ lines_of after → line_of line ≡ l
-    → RefusedFrom number tables (λ known. Behind number after n fault known) l n fault → FirstRefused number tables (lines_of rest) n fault
-into rest after line number tables l n fault lines is refused =
-    let here : FirstRefused number tables (line ∷ lines_of after) n fault = subst (λ z. RefusedFrom number tables (λ known. Behind number after n fault known) z n fault) (sym is) refused in
-    subst (λ z. FirstRefused number tables z n fault) (sym lines) here
-
-out : (rest after line : List ℕ) (number : ℕ) (tables : List Table) (l : Line) (n : ℕ) (fault : Fault) → lines_of rest ≡ line ∷ lines_of after → line_of line ≡ l
-    → FirstRefused number tables (lines_of rest) n fault → RefusedFrom number tables (λ known. Behind number after n fault known) l n fault
-out rest after line number tables l n fault lines is first =
-    let here : FirstRefused number tables (line ∷ lines_of after) n fault = subst (λ z. FirstRefused number tables z n fault) lines first in
-    subst (λ z. RefusedFrom number tables (λ known. Behind number after n fault known) z n fault) is here
-
--- what the lines from here create, by what the first of them is
-makes : (rest after line : List ℕ) (tables all : List Table) (l : Line) → lines_of rest ≡ line ∷ lines_of after → line_of line ≡ l
-    → CreatesFrom tables (λ known. Creates known (lines_of after) all) all l → Creates tables (lines_of rest) all
-makes rest after line tables all l lines is creates =
-    let here : Creates tables (line ∷ lines_of after) all = subst (λ z. CreatesFrom tables (λ known. Creates known (lines_of after) all) all z) (sym is) creates in
-    subst (λ z. Creates tables z all) (sym lines) here
-
-pub fronted_start : (bytes : List ℕ) → Fronted bytes 1 bytes []
-fronted_start bytes = record {
-  counted = omega arith;
-  inside = omega arith;
-  sound = refl;
+pub fronted_start : (clients : ℕ) (lines : List (List ℕ)) → Fronted clients lines 1 lines []
+fronted_start clients lines = record {
   creates = λ all creates. creates;
   found = λ n fault first. first;
   only = λ n fault first. first;
 }
 
-pub fronted_silent : (bytes rest after line : List ℕ) (number : ℕ) (tables : List Table) → Fronted bytes number rest tables → lines_of rest ≡ line ∷ lines_of after → length after < length rest
-    → line_of line ≡ Silent → Fronted bytes (number + 1) after tables
-fronted_silent bytes rest after line number tables front lines shorter is = record {
-  counted = let h = front.counted in omega arith;
-  inside = let h = front.inside in omega arith;
-  sound = front.sound;
-  creates = λ all creates. front.creates all (makes rest after line tables all Silent lines is creates);
-  found = λ n fault first. front.found n fault (into rest after line number tables Silent n fault lines is first);
-  only = λ n fault first. out rest after line number tables Silent n fault lines is (front.only n fault first);
-}
+module _ (clients number : ℕ) (lines rest after : List (List ℕ)) (text : List ℕ) (tables : List Table) (front : Fronted clients lines number rest tables) (cut : rest ≡ text ∷ after) where
+  abbrev Behind : ℕ → Fault → List Table → Type 0
+  Behind n fault known = FirstRefused clients (number + 1) known after n fault
 
-pub fronted_added : (bytes rest after line sql : List ℕ) (number : ℕ) (tables : List Table) (t : Table) → Fronted bytes number rest tables → lines_of rest ≡ line ∷ lines_of after → length after < length rest
-    → line_of line ≡ CreateLine sql → AddsTable tables sql t → Fronted bytes (number + 1) after (tables ++ t ∷ [])
-fronted_added bytes rest after line sql number tables t front lines shorter is adds = record {
-  counted = let h = front.counted in omega arith;
-  inside = let h = front.inside in omega arith;
-  sound = tables_grow tables t front.sound (faultless_fits tables t adds.1);
-  creates = λ all creates. front.creates all (makes rest after line tables all (CreateLine sql) lines is (t, adds, creates));
-  found = λ n fault first. front.found n fault (into rest after line number tables (CreateLine sql) n fault lines is (inr (t, adds, first)));
-  only = λ n fault first. added_later number tables (λ known. Behind number after n fault known) sql t n fault adds (out rest after line number tables (CreateLine sql) n fault lines is (front.only n fault first));
-}
+  into : (l : Result Line ℕ) (n : ℕ) (fault : Fault) → line_of clients text ≡ l → RefusedFrom number tables (Behind n fault) l n fault → FirstRefused clients 1 [] lines n fault
+  into l n fault is refused =
+      let here : FirstRefused clients number tables (text ∷ after) n fault = subst (λ z. RefusedFrom number tables (Behind n fault) z n fault) (sym is) refused in
+      front.found n fault (subst (λ z. FirstRefused clients number tables z n fault) (sym cut) here)
 
--- the whole names this line, where it is refused
-pub refused_here : (bytes rest after line sql : List ℕ) (number : ℕ) (tables : List Table) (fault : Fault) → Fronted bytes number rest tables → lines_of rest ≡ line ∷ lines_of after
-    → line_of line ≡ CreateLine sql → RefusesTable tables sql fault → FirstRefused 1 [] (lines_of bytes) number fault
-refused_here bytes rest after line sql number tables fault front lines is refuses =
-    front.found number fault (into rest after line number tables (CreateLine sql) number fault lines is (inl (refl, refuses)))
+  out : (l : Result Line ℕ) (n : ℕ) (fault : Fault) → line_of clients text ≡ l → FirstRefused clients 1 [] lines n fault → RefusedFrom number tables (Behind n fault) l n fault
+  out l n fault is first =
+      let here : FirstRefused clients number tables (text ∷ after) n fault = subst (λ z. FirstRefused clients number tables z n fault) cut (front.only n fault first) in
+      subst (λ z. RefusedFrom number tables (Behind n fault) z n fault) is here
 
-pub named_line : (bytes : List ℕ) (here refused : RefusedLine) → here ≡ refused → FirstRefused 1 [] (lines_of bytes) here.number here.fault → FirstRefused 1 [] (lines_of bytes) refused.number refused.fault
-named_line bytes here refused same first = subst (λ (r : RefusedLine). FirstRefused 1 [] (lines_of bytes) r.number r.fault) same first
+  makes : (l : Result Line ℕ) (all : List Table) → line_of clients text ≡ l → CreatesFrom tables (λ known. Creates clients known after all) all l → Creates clients [] lines all
+  makes l all is creates =
+      let here : Creates clients tables (text ∷ after) all = subst (λ z. CreatesFrom tables (λ known. Creates clients known after all) all z) (sym is) creates in
+      front.creates all (subst (λ z. Creates clients tables z all) (sym cut) here)
 
--- ---- the end of the walk: where no line is left, or where one is none of the CREATE lines
+  pub fronted_silent : line_of clients text ≡ Ok Silent → Fronted clients lines (number + 1) after tables
+  fronted_silent is = record {
+    creates = λ all creates. makes (Ok Silent) all is creates;
+    found = λ n fault first. into (Ok Silent) n fault is first;
+    only = λ n fault first. out (Ok Silent) n fault is first;
+  }
 
-pub left_creates : (bytes rest : List ℕ) (number : ℕ) (tables : List Table) → Fronted bytes number rest tables → rest ≡ [] → Creates [] (lines_of bytes) tables
-left_creates bytes rest number tables front done = front.creates tables (subst (λ z. Creates tables (lines_of z) tables) (sym done) refl)
+  pub fronted_added : (sql : List ℕ) (t : Table) → line_of clients text ≡ Ok (CreateLine sql) → AddsTable tables sql t → Fronted clients lines (number + 1) after (tables ++ t ∷ [])
+  fronted_added sql t is adds = record {
+    creates = λ all creates. makes (Ok (CreateLine sql)) all is (t, adds, creates);
+    found = λ n fault first. into (Ok (CreateLine sql)) n fault is (inr (t, adds, first));
+    only = λ n fault first. added_later number tables (Behind n fault) sql t n fault adds (out (Ok (CreateLine sql)) n fault is first);
+  }
 
-ends_from : (tables : List Table) (Later : List Table → Type 0) (line : Line) → ends line ≡ true → CreatesFrom tables Later tables line
-ends_from tables Later Silent end = absurd (false_true end)
-ends_from tables Later (CreateLine sql) end = absurd (false_true end)
-ends_from tables Later (ExecLine sql) end = refl
-ends_from tables Later (QueryLine sql) end = refl
-ends_from tables Later PushLine end = refl
-ends_from tables Later Other end = refl
+  -- the whole names this line, where it is refused
+  pub refused_here : (sql : List ℕ) (fault : Fault) → line_of clients text ≡ Ok (CreateLine sql) → RefusesTable tables sql fault → FirstRefused clients 1 [] lines number fault
+  refused_here sql fault is refuses = into (Ok (CreateLine sql)) number fault is (inl (refl, refuses))
 
-pub behind_creates : (bytes rest after line : List ℕ) (number : ℕ) (tables : List Table) → Fronted bytes number rest tables → lines_of rest ≡ line ∷ lines_of after → ends (line_of line) ≡ true → Creates [] (lines_of bytes) tables
-behind_creates bytes rest after line number tables front lines end =
-    front.creates tables (makes rest after line tables tables (line_of line) lines refl (ends_from tables (λ known. Creates known (lines_of after) tables) (line_of line) end))
+  -- an event ends the CREATE lines
+  pub event_creates : (words : Words) → line_of clients text ≡ Ok (EventLine words) → Creates clients [] lines tables
+  event_creates words is = makes (Ok (EventLine words)) tables is refl
 
--- no line is refused, where none is left
-pub none_left : (bytes rest : List ℕ) (number : ℕ) (tables : List Table) (n : ℕ) (fault : Fault) → Fronted bytes number rest tables → rest ≡ [] → FirstRefused 1 [] (lines_of bytes) n fault → ⊥
-none_left bytes rest number tables n fault front done first = subst (λ z. FirstRefused number tables (lines_of z) n fault) done (front.only n fault first)
+  pub event_accepts : (words : Words) → line_of clients text ≡ Ok (EventLine words) → (n : ℕ) (fault : Fault) → FirstRefused clients 1 [] lines n fault → ⊥
+  event_accepts words is n fault first = out (Ok (EventLine words)) n fault is first
 
--- no line is refused, where this one ends the CREATE lines
-pub none_behind : (bytes rest after line : List ℕ) (number : ℕ) (tables : List Table) (n : ℕ) (fault : Fault) → Fronted bytes number rest tables → lines_of rest ≡ line ∷ lines_of after
-    → ends (line_of line) ≡ true → FirstRefused 1 [] (lines_of bytes) n fault → ⊥
-none_behind bytes rest after line number tables n fault front lines end first =
-    none_from number tables (λ known. Behind number after n fault known) (line_of line) n fault end (out rest after line number tables (line_of line) n fault lines refl (front.only n fault first))
+pub named_line : (clients : ℕ) (lines : List (List ℕ)) (here refused : RefusedLine) → here ≡ refused → FirstRefused clients 1 [] lines here.number here.fault → FirstRefused clients 1 [] lines refused.number refused.fault
+named_line clients lines here refused same first = subst (λ (r : RefusedLine). FirstRefused clients 1 [] lines r.number r.fault) same first
+
+-- ---- the end of the walk
+
+pub left_creates : (clients number : ℕ) (lines rest : List (List ℕ)) (tables : List Table) → Fronted clients lines number rest tables → rest ≡ [] → Creates clients [] lines tables
+left_creates clients number lines rest tables front done = front.creates tables (subst (λ z. Creates clients tables z tables) (sym done) refl)
+
+pub none_left : (clients number : ℕ) (lines rest : List (List ℕ)) (tables : List Table) → Fronted clients lines number rest tables → rest ≡ [] → (n : ℕ) (fault : Fault) → FirstRefused clients 1 [] lines n fault → ⊥
+none_left clients number lines rest tables front done n fault first = subst (λ z. FirstRefused clients number tables z n fault) done (front.only n fault first)
+
+-- ---- tables
+
+pub table_grows : (tables : List Table) (sql : List ℕ) (t : Table) → list_all is_table tables ≡ true → AddsTable tables sql t → list_all is_table (tables ++ t ∷ []) ≡ true
+table_grows tables sql t sound adds = tables_grow tables t sound (faultless_fits tables t adds.1)
+
+-- ---- nothing left
 
 pub empty_is : (s : List ℕ) → (length s == 0) ≡ true → s ≡ []
 empty_is [] is = refl
 empty_is (b ∷ s) is = grind arith
 
 pub not_empty : (s : List ℕ) → (length s == 0) ≡ false → 0 < length s
-not_empty [] is = absurd (false_true (sym is))
+not_empty [] is = absurd (let e : true ≡ false = is in cc)
 not_empty (b ∷ s) is = omega arith

@@ -21,11 +21,14 @@ use Rattle.sr_query.specs.declared.write.Write.TheVariants as written
 use Rattle.sr_bind.proofs.OnTables.{bound_suits, bound_rows}
 use Rattle.sr_language.specs.Built.{may_ask}
 use Rattle.sr_language.specs.Script.{Writes, AsksOf}
+use Rattle.std.specs.List.{list_all}
+use Rattle.sr_query.specs.Bound.{is_table}
+use Rattle.sr_language.proofs.Own.{bound_need_own}
 use Rattle.sr_language.proofs.Sound.{bound_are_sound}
 use Rattle.sr_reader.specs.Read.{statement_of, few_rows, statement_fits, Means}
 use Rattle.sr_reader.specs.Meaning.{said_seen, IsCreated, IsBound, IsAsking}
 use Rattle.sr_reader.proofs.OneDoing.{one_statement, no_fault, asks_bound}
-use Rattle.sr_reader.proofs.RowCounts.{fewer_rows}
+use Rattle.sr_parser.proofs.RowCounts.{fewer_rows}
 
 true_and_false : (b : Bool) → b ≡ true → b ≡ false → ⊥
 true_and_false true t f = cc
@@ -97,9 +100,9 @@ writes_fault tables sql says fault said is = inl (says_fault sql says fault said
 -- ---- queries
 
 -- a query that is bound and built is one that stands for its meaning
-pub bound_means : (tables : List Table) (s : Statement) (q : Query) (meaning : model.Query) (may : Bool) → bound_query tables s ≡ Ok meaning → IsQuery tables q meaning → may ≡ may_ask meaning → may ≡ true
-    → Means tables (Ok q) (Ok meaning)
-bound_means tables s q meaning may told is same yes_may = (is, sym same ∙ yes_may, bound_are_sound tables s meaning told)
+pub bound_means : (tables : List Table) (s : Statement) (q : Query) (meaning : model.Query) (may : Bool) → list_all is_table tables ≡ true → bound_query tables s ≡ Ok meaning → IsQuery tables q meaning
+    → may ≡ may_ask meaning → may ≡ true → Means tables (Ok q) (Ok meaning)
+bound_means tables s q meaning may are told is same yes_may = (is, sym same ∙ yes_may, bound_are_sound tables s meaning told, bound_need_own tables s meaning are told)
 
 asked : (tables : List Table) (sql : List ℕ) (s : Statement) (query : Result Query Fault) (meaning : Result model.Query Fault) → Says sql (Ok s) → bound_query tables s ≡ meaning → Means tables query meaning → AsksOf tables sql meaning
 asked tables sql s query (Err fault) says told means = inr (s, says, told)

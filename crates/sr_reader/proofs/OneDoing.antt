@@ -9,10 +9,10 @@ use Rattle.sr_grammar.specs.Says.{Says}
 use Rattle.sr_parser.proofs.OneSaying.{each_says_one}
 use Rattle.sr_model.specs.Queries.{Query}
 use Rattle.sr_model.specs.Statements.{Write}
-use Rattle.sr_language.specs.Events.{Event, Exec, QueryOf}
+use Rattle.sr_language.specs.Events.{ScriptEvent, DoExec, DoQuery}
 use Rattle.sr_query.specs.Binding.{bound_query}
 use Rattle.sr_query.specs.Writes.{bound_write}
-use Rattle.sr_language.specs.Script.{Line, Silent, CreateLine, ExecLine, QueryLine, PushLine, Other, line_of, RefusedFrom, FirstRefused, Phase, start_phase, Writes, AsksOf, LineDoes, Reads, FirstUnbuilt}
+use Rattle.sr_language.specs.Script.{Words, ExecSql, QuerySql, WriteSql, ExplainSql, PushTo, ToServer, ToClient, Settle, Evict, Cut, Resume, Line, Silent, CreateLine, EventLine, line_of, RefusedFrom, FirstRefused, Phase, start_phase, Writes, AsksOf, Means, LineDoes, Reads, FirstUnbuilt}
 
 -- ---- a text means one thing
 
@@ -60,57 +60,66 @@ one_query tables sql (Ok q) s x y = sym x.2 ∙ asks_bound tables sql x.0 s x.1 
 one_query tables sql (Err f) s (inl says) y = asks_fault tables sql f s says y
 one_query tables sql (Err f) s (inr asked) y = sym asked.2 ∙ asks_bound tables sql asked.0 s asked.1 y
 
+-- ---- an event says one thing
+
+one_meaning : (tables : List Table) (words : Words) (event other : ScriptEvent) → Means tables words event → Means tables words other → event ≡ other
+one_meaning tables (ExecSql sql) event other a b = a.2 ∙ ap (λ s. DoExec s) (one_write tables sql a.0 b.0 a.1 b.1) ∙ sym b.2
+one_meaning tables (QuerySql n sql) event other a b = a.2 ∙ ap (λ q. DoQuery n q) (one_query tables sql a.0 b.0 a.1 b.1) ∙ sym b.2
+one_meaning tables (WriteSql n sql) event other a b = a ∙ sym b
+one_meaning tables (ExplainSql n sql) event other a b = absurd a
+one_meaning tables (PushTo n) event other a b = a ∙ sym b
+one_meaning tables (ToServer n) event other a b = a ∙ sym b
+one_meaning tables (ToClient n) event other a b = a ∙ sym b
+one_meaning tables (Settle n) event other a b = a ∙ sym b
+one_meaning tables (Evict n place) event other a b = a ∙ sym b
+one_meaning tables (Cut n) event other a b = a ∙ sym b
+one_meaning tables (Resume n) event other a b = a ∙ sym b
+
 -- ---- a line does one thing
 
-pub one_doing : (phase : Phase) (n : ℕ) (line : Line) (events others : List (ℕ × Event)) (next after : Phase)
+pub one_doing : (phase : Phase) (n : ℕ) (line : Result Line ℕ) (events others : List (ℕ × ScriptEvent)) (next after : Phase)
     → LineDoes phase n line events next → LineDoes phase n line others after → (events ≡ others) × (next ≡ after)
-one_doing phase n Silent events others next after a b = (a.0 ∙ sym b.0, a.1 ∙ sym b.1)
-one_doing phase n (CreateLine sql) events others next after a b =
+one_doing phase n (Ok Silent) events others next after a b = (a.0 ∙ sym b.0, a.1 ∙ sym b.1)
+one_doing phase n (Ok (CreateLine sql)) events others next after a b =
     let same = one_create sql a.0 b.0 a.1.0 b.1.0 in
     (a.3 ∙ sym b.3, a.4 ∙ ap (λ (t : Table). record { tables = phase.tables ++ t ∷ []; stage = phase.stage }) same ∙ sym b.4)
-one_doing phase n (ExecLine sql) events others next after a b =
-    let same = one_write phase.tables sql a.0 b.0 a.1 b.1 in
-    (a.2 ∙ ap (λ s. (n, Exec s) ∷ []) same ∙ sym b.2, a.3 ∙ sym b.3)
-one_doing phase n (QueryLine sql) events others next after a b =
-    let same = one_query phase.tables sql a.0 b.0 a.1 b.1 in
-    (a.2 ∙ ap (λ q. (n, QueryOf 1 q) ∷ []) same ∙ sym b.2, a.3 ∙ sym b.3)
-one_doing phase n PushLine events others next after a b = (a.0 ∙ sym b.0, a.1 ∙ sym b.1)
-one_doing phase n Other events others next after a b = absurd a
+one_doing phase n (Ok (EventLine words)) events others next after a b =
+    let same = one_meaning phase.tables words a.0 b.0 a.1 b.1 in
+    (a.2 ∙ ap (λ e. (n, e) ∷ []) same ∙ sym b.2, a.3 ∙ sym b.3)
+one_doing phase n (Err place) events others next after a b = absurd a
 
 -- lines that are read have no line that does nothing
-pub excludes : (i : ℕ) (phase : Phase) (lines : List (List ℕ)) (events : List (ℕ × Event)) (end : Phase) (n : ℕ) → Reads i phase lines events end → FirstUnbuilt i phase lines n → ⊥
-excludes i phase [] events end n reads first = first
-excludes i phase (line ∷ lines) events end n reads (inl here) = here.1 reads.0 reads.2 reads.3
-excludes i phase (line ∷ lines) events end n reads (inr later) =
-    let same = one_doing phase i (line_of line) reads.0 later.0 reads.2 later.1 reads.3 later.2 in
-    excludes (i + 1) later.1 lines reads.1 end n (subst (λ next. Reads (i + 1) next lines reads.1 end) same.1 reads.4) later.3
+pub excludes : (clients i : ℕ) (phase : Phase) (lines : List (List ℕ)) (events : List (ℕ × ScriptEvent)) (end : Phase) (n : ℕ) → Reads clients i phase lines events end → FirstUnbuilt clients i phase lines n → ⊥
+excludes clients i phase [] events end n reads first = first
+excludes clients i phase (line ∷ lines) events end n reads (inl here) = here.1 reads.0 reads.2 reads.3
+excludes clients i phase (line ∷ lines) events end n reads (inr later) =
+    let same = one_doing phase i (line_of clients line) reads.0 later.0 reads.2 later.1 reads.3 later.2 in
+    excludes clients (i + 1) later.1 lines reads.1 end n (subst (λ next. Reads clients (i + 1) next lines reads.1 end) same.1 reads.4) later.3
 
 -- ---- a script that is read has no CREATE line that is refused
 
-accepts_from : (i : ℕ) (phase : Phase) (lines : List (List ℕ)) (events : List (ℕ × Event)) (end : Phase) (n : ℕ) (fault : Fault)
-    → Reads i phase lines events end → FirstRefused i phase.tables lines n fault → ⊥
-accepts_from i phase [] events end n fault reads first = first
-accepts_from i phase (line ∷ lines) events end n fault reads first =
-    by (line_of line) reads.3 first
-    (λ known same refused. accepts_from (i + 1) reads.2 lines reads.1 end n fault reads.4 (subst (λ z. FirstRefused (i + 1) z lines n fault) (sym same) refused))
+accepts_from : (clients i : ℕ) (phase : Phase) (lines : List (List ℕ)) (events : List (ℕ × ScriptEvent)) (end : Phase) (n : ℕ) (fault : Fault)
+    → Reads clients i phase lines events end → FirstRefused clients i phase.tables lines n fault → ⊥
+accepts_from clients i phase [] events end n fault reads first = first
+accepts_from clients i phase (line ∷ lines) events end n fault reads first =
+    by (line_of clients line) reads.3 first
+    (λ known same refused. accepts_from clients (i + 1) reads.2 lines reads.1 end n fault reads.4 (subst (λ z. FirstRefused clients (i + 1) z lines n fault) (sym same) refused))
   where
-    by : (l : Line) → LineDoes phase i l reads.0 reads.2 → RefusedFrom i phase.tables (λ known. FirstRefused (i + 1) known lines n fault) l n fault
-        → ((known : List Table) → reads.2.tables ≡ known → FirstRefused (i + 1) known lines n fault → ⊥) → ⊥
-    by Silent does refused others = others phase.tables (ap (λ (p : Phase). p.tables) does.1) refused
-    by (CreateLine sql) does (inl here) others = elim here.1 [
+    by : (l : Result Line ℕ) → LineDoes phase i l reads.0 reads.2 → RefusedFrom i phase.tables (λ known. FirstRefused clients (i + 1) known lines n fault) l n fault
+        → ((known : List Table) → reads.2.tables ≡ known → FirstRefused clients (i + 1) known lines n fault → ⊥) → ⊥
+    by (Ok Silent) does refused others = others phase.tables (ap (λ (p : Phase). p.tables) does.1) refused
+    by (Ok (CreateLine sql)) does (inl here) others = elim here.1 [
       | inl says ↦ no_fault sql (Create does.0) fault does.1.0 says
       | inr bad ↦ (let same = one_create sql does.0 bad.0 does.1.0 bad.1 in
           let none : table_fault phase.tables bad.0 ≡ None = subst (λ t. table_fault phase.tables t ≡ None) same does.1.1 in
           let some = bad.2 in
           cc)
     ]
-    by (CreateLine sql) does (inr later) others =
+    by (Ok (CreateLine sql)) does (inr later) others =
         let same = one_create sql does.0 later.0 does.1.0 later.1.0 in
         others (phase.tables ++ later.0 ∷ []) (ap (λ (p : Phase). p.tables) does.4 ∙ ap (λ t. phase.tables ++ t ∷ []) same) later.2
-    by (ExecLine sql) does refused others = refused
-    by (QueryLine sql) does refused others = refused
-    by PushLine does refused others = refused
-    by Other does refused others = refused
+    by (Ok (EventLine words)) does refused others = refused
+    by (Err place) does refused others = refused
 
-pub accepts : (i : ℕ) (lines : List (List ℕ)) (events : List (ℕ × Event)) (end : Phase) (n : ℕ) (fault : Fault) → Reads i start_phase lines events end → FirstRefused i [] lines n fault → ⊥
-accepts i lines events end n fault reads first = accepts_from i start_phase lines events end n fault reads first
+pub accepts : (clients i : ℕ) (lines : List (List ℕ)) (events : List (ℕ × ScriptEvent)) (end : Phase) (n : ℕ) (fault : Fault) → Reads clients i start_phase lines events end → FirstRefused clients i [] lines n fault → ⊥
+accepts clients i lines events end n fault reads first = accepts_from clients i start_phase lines events end n fault reads first

@@ -1,24 +1,25 @@
--- Reading a script line by line.
-use Rattle.std.proofs.Common.{◌≡◌, ℕ, ◌+◌, ◌<◌, ◌≤◌, Bool, true, false, List, [], ◌∷◌, ◌++◌, length, refl, sym, ap, subst, inl, inr, arith, append_assoc, append-nil}
-use Rattle.std.specs.Prelude.{Result, IsTrue, ◌&&◌}
+-- Reading the events of a script, one line after another.
+use Rattle.std.proofs.Common.{◌≡◌, ℕ, ◌+◌, ◌≤◌, Bool, true, false, List, [], ◌∷◌, ◌++◌, length, refl, sym, ap, subst, inl, inr, ◌∙◌, arith, append_assoc, append-nil}
+use Rattle.std.specs.Prelude.{Option, Some, None, Result, Ok, IsTrue, ◌&&◌}
 use Rattle.std.specs.List.{list_all, AllZip}
 use Rattle.std.proofs.lemmas.List.{length-append}
-use Rattle.std.proofs.lemmas.Slice.Zip.{AllZip-long}
 use Rattle.sr_cell.specs.declared.table.Table.{Table}
-use Rattle.sr_cell.specs.declared.fault.Fault.{Fault}
-use Rattle.sr_model.specs.Queries as model
-use Rattle.sr_language.specs.Events.{Event, Exec, QueryOf, Push}
-use Rattle.sr_query.specs.declared.query.Query.{Query}
-use Rattle.sr_query.specs.declared.write.Write.{Write}
+use Rattle.sr_language.specs.Events.{ScriptEvent}
 use Rattle.sr_language.specs.Lines.{lines_of}
-use Rattle.sr_language.specs.Script.{Line, Silent, CreateLine, ExecLine, QueryLine, PushLine, Other, line_of, Stage, Creating, Running, Phase, start_phase, AddsTable, Writes, AsksOf, LineDoes, Reads, FirstUnbuilt}
-use Rattle.sr_reader.specs.declared.script.Event as code
-use Rattle.sr_reader.specs.declared.script.Event.TheVariants as read
+use Rattle.sr_language.specs.Script.{Words, Line, Silent, CreateLine, EventLine as EventOf, line_of, Stage, Creating, Running, LinePlace, outside_from, first_outside, Phase, start_phase, Means, LineDoes, Reads, FirstUnbuilt}
+use Rattle.sr_language.specs.Creates.{CreatesFrom, Creates}
+use Rattle.sr_language.proofs.Parts.{events_name_clients}
+use Rattle.sr_query.specs.Bound.{is_table}
+use Rattle.sr_reader.specs.declared.script.Event.{Event}
 use Rattle.sr_reader.specs.declared.script.EventLine.{EventLine}
-use Rattle.sr_reader.specs.declared.script.Script.{Script}
-use Rattle.sr_reader.specs.Read.{statement_of, Means, IsEvent, IsEventLine, AreEvents, Fits, IsRead, statement_fits, event_fits}
-use Rattle.sr_reader.specs.Walk.{stage_by, phase_in, Adds, AddsNothing}
-use Rattle.sr_reader.proofs.Tables.{faultless_fits, tables_grow}
+use Rattle.sr_reader.specs.declared.words.Words as written
+use Rattle.sr_reader.specs.declared.line.Line as code
+use Rattle.sr_reader.specs.declared.line.Line.TheVariants as read
+use Rattle.sr_reader.specs.Lined.{IsLine, AreOf}
+use Rattle.sr_reader.specs.Meaning.{IsSaid}
+use Rattle.sr_reader.specs.Read.{IsEventLine, Fits, IsRead, event_fits}
+use Rattle.sr_reader.proofs.Fronts.{event_of_line}
+use Rattle.sr_reader.proofs.Stages.{zip_push, few_lines}
 
 all_push : {A : Type 0} (p : A → Bool) (xs : List A) (x : A) → list_all p xs ≡ true → p x ≡ true → list_all p (xs ++ x ∷ []) ≡ true
 all_push p [] x all is = rw is refl
@@ -28,148 +29,168 @@ all_push p (y ∷ xs) x all is = by (p y) refl (all_push p xs x) all
     by true here more rest = rw (here, more rest is) refl
     by false here more rest = absurd cc
 
-zip_push : {A B : Type 0} (R : A → B → Type 0) (xs : List A) (ys : List B) (x : A) (y : B) → AllZip R xs ys → R x y → AllZip R (xs ++ x ∷ []) (ys ++ y ∷ [])
-zip_push R [] [] x y all here = (here, tt)
-zip_push R [] (b ∷ ys) x y all here = absurd all
-zip_push R (a ∷ xs) [] x y all here = absurd all
-zip_push R (a ∷ xs) (b ∷ ys) x y all here = (all.0, zip_push R xs ys x y all.1 here)
+-- among the CREATE lines the schema is what they still make of these tables; among the events it is these
+abbrev Waits : ℕ → List Table → List Table → Stage → List (List ℕ) → Type 0
+Waits clients schema tables Creating rest = Creates clients tables rest schema
+Waits clients schema tables Running rest = schema ≡ tables
 
--- beside no items stand none, whatever they are to be
-zip_none : {A B : Type 0} (R S : A → B → Type 0) (xs : List A) (ys : List B) → xs ≡ [] → AllZip R xs ys → (ys ≡ []) × AllZip S xs ys
-zip_none R S [] [] none all = (refl, tt)
-zip_none R S [] (b ∷ ys) none all = absurd all
-zip_none R S (a ∷ xs) ys none all = absurd cc
-
--- ---- what a line adds
-
--- an event of this number stands behind those that were read
-abbrev pub with_event : Script → ℕ → code.Event → Script
-with_event old number event = record old { lines = old.lines ++ record { number = number; event = event } ∷ [] }
-
-pub create_adds : (number : ℕ) (sql : List ℕ) (old : Script) (t : Table) → (phase_in old).stage ≡ Creating → AddsTable old.schema sql t → old.lines ≡ []
-    → Adds number old (CreateLine sql) (record old { schema = old.schema ++ t ∷ [] })
-create_adds number sql old t creating adds none = ([], (t, adds, creating, refl, refl), λ events are. same events are)
-  where
-    same : (events : List (ℕ × Event)) → AreEvents old events → AreEvents (record old { schema = old.schema ++ t ∷ [] }) (events ++ [])
-    same events are =
-        rw (append-nil events) (zip_none (IsEventLine old.schema) (IsEventLine (old.schema ++ t ∷ [])) old.lines events none are).1
-
-runs : (lines : List EventLine) (line : EventLine) → stage_by (lines ++ line ∷ []) ≡ Running
-runs [] line = refl
-runs (first ∷ lines) line = refl
-
-event_runs : (old : Script) (number : ℕ) (event : code.Event) → phase_in (with_event old number event) ≡ record (phase_in old) { stage = Running }
-event_runs old number event = ap (λ (z : Stage). record { tables = old.schema; stage = z }) (runs old.lines (record { number = number; event = event }))
-
-event_behind : (old : Script) (number : ℕ) (event : code.Event) (meaning : Event) → IsEvent old.schema event meaning
-    → (events : List (ℕ × Event)) → AreEvents old events → AreEvents (with_event old number event) (events ++ (number, meaning) ∷ [])
-event_behind old number event meaning means events are =
-    zip_push (IsEventLine old.schema) old.lines events (record { number = number; event = event }) (number, meaning) are (meaning, means, refl)
-
-pub exec_adds : (number : ℕ) (sql : List ℕ) (old : Script) (statement : Result Write Fault) → Writes old.schema sql (statement_of statement)
-    → Adds number old (ExecLine sql) (with_event old number (read.Exec statement))
-exec_adds number sql old statement writes =
-    let event : Event = Exec (statement_of statement) in
-    ((number, event) ∷ [], (statement_of statement, writes, refl, event_runs old number (read.Exec statement)), event_behind old number (read.Exec statement) event refl)
-
-pub query_adds : (number : ℕ) (sql : List ℕ) (old : Script) (query : Result Query Fault) (meaning : Result model.Query Fault) → AsksOf old.schema sql meaning → Means old.schema query meaning
-    → Adds number old (QueryLine sql) (with_event old number (read.Query query))
-query_adds number sql old query meaning asks means =
-    let event : Event = QueryOf 1 meaning in
-    ((number, event) ∷ [], (meaning, asks, refl, event_runs old number (read.Query query)), event_behind old number (read.Query query) event (meaning, means, refl))
-
-pub push_adds : (number : ℕ) (old : Script) → Adds number old PushLine (with_event old number read.Push)
-push_adds number old =
-    let event : Event = Push 1 in
-    ((number, event) ∷ [], (refl, event_runs old number read.Push), event_behind old number read.Push event refl)
-
--- ---- the walk
-
-events_count : (s : Script) (events : List (ℕ × Event)) → AreEvents s events → length events ≡ length s.lines
-events_count s events are = omega (arith, AllZip-long (IsEventLine s.schema) s.lines events are)
-
-one_event : (phase : Phase) (n : ℕ) (line : Line) (events : List (ℕ × Event)) (next : Phase) → LineDoes phase n line events next → length events ≤ 1
-one_event phase n Silent events next does = omega (arith, ap length does.0)
-one_event phase n (CreateLine sql) events next does = omega (arith, ap length does.3)
-one_event phase n (ExecLine sql) events next does = omega (arith, ap length does.2)
-one_event phase n (QueryLine sql) events next does = omega (arith, ap length does.2)
-one_event phase n PushLine events next does = omega (arith, ap length does.0)
-one_event phase n Other events next does = absurd does
+abbrev phase_of : List Table → Stage → Phase
+phase_of tables stage = record { tables = tables; stage = stage }
 
 -- what the walk keeps: what the rest says from here, the whole says with this in front
-pub record Walked (bytes : List ℕ) (number : ℕ) (rest : List ℕ) (s : Script) : Type 0 where
-  pub fits : Fits s
-  pub counted : number + length rest ≤ length bytes + 1
-  pub few : length s.lines + length rest ≤ length bytes
-  pub before : List (ℕ × Event)
-  pub are : AreEvents s before
-  pub reads : (events : List (ℕ × Event)) (end : Phase) → Reads number (phase_in s) (lines_of rest) events end → Reads 1 start_phase (lines_of bytes) (before ++ events) end
-  pub unbuilt : (n : ℕ) → FirstUnbuilt number (phase_in s) (lines_of rest) n → FirstUnbuilt 1 start_phase (lines_of bytes) n
+pub record Walked (clients : ℕ) (bytes : List ℕ) (schema : List Table) (number : ℕ) (rest : List (List ℕ)) (events : List EventLine) : Type 0 where
+  pub tables : List Table
+  pub stage : Stage
+  pub waits : Waits clients schema tables stage rest
+  pub inside : first_outside clients number stage rest ≡ None
+  pub before : List (ℕ × ScriptEvent)
+  pub are : AllZip (IsEventLine schema) events before
+  pub few : length events + length rest ≤ length (lines_of bytes)
+  pub fits : list_all (λ line. event_fits clients schema line.event) events ≡ true
+  pub reads : (others : List (ℕ × ScriptEvent)) (end : Phase) → Reads clients number (phase_of tables stage) rest others end → Reads clients 1 start_phase (lines_of bytes) (before ++ others) end
+  pub unbuilt : (n : ℕ) → FirstUnbuilt clients number (phase_of tables stage) rest n → FirstUnbuilt clients 1 start_phase (lines_of bytes) n
 
-pub walked_start : (bytes : List ℕ) → Walked bytes 1 bytes (record { schema = []; lines = [] })
-walked_start bytes = record {
-  fits = record { tables = refl; events = refl };
-  counted = omega arith;
-  few = omega arith;
+pub walked_start : (clients : ℕ) (bytes : List ℕ) (schema : List Table) (lines : List code.Line) → AreOf clients bytes schema lines → Walked clients bytes schema 1 (lines_of bytes) []
+walked_start clients bytes schema lines script = record {
+  tables = [];
+  stage = Creating;
+  waits = script.created;
+  inside = script.inside;
   before = [];
   are = tt;
-  reads = λ events end reads. reads;
+  few = omega arith;
+  fits = refl;
+  reads = λ others end reads. reads;
   unbuilt = λ n first. first;
 }
 
-pub walked_line : (bytes rest after line : List ℕ) (number : ℕ) (old new : Script) → Walked bytes number rest old → lines_of rest ≡ line ∷ lines_of after → length after < length rest
-    → Adds number old (line_of line) new → Fits new → Walked bytes (number + 1) after new
-walked_line bytes rest after line number old new walked lines shorter adds fits = record {
-  fits = fits;
-  counted = let h = walked.counted in omega arith;
-  few = omega (
-    arith,
-    walked.few,
-    events_count old walked.before walked.are,
-    events_count new (walked.before ++ adds.0) (adds.2 walked.before walked.are),
-    one_event (phase_in old) number (line_of line) adds.0 (phase_in new) adds.1,
-    length-append walked.before adds.0,
-  );
-  before = walked.before ++ adds.0;
-  are = adds.2 walked.before walked.are;
-  reads = λ events end reads.
-      let here : Reads number (phase_in old) (lines_of rest) (adds.0 ++ events) end = rw lines (adds.0, events, phase_in new, adds.1, reads, refl) in
-      subst (λ z. Reads 1 start_phase (lines_of bytes) z end) (sym (append_assoc walked.before adds.0 events)) (walked.reads (adds.0 ++ events) end here);
-  unbuilt = λ n first. walked.unbuilt n (rw lines (inr (adds.0, phase_in new, adds.1, first)));
-}
+-- ---- what a line of each kind leaves
 
-pub walked_read : (bytes : List ℕ) (number : ℕ) (s : Script) → Walked bytes number [] s → IsRead bytes s
-walked_read bytes number s walked = record {
+some_none : (place : LinePlace) → (let here : Option LinePlace = Some place in here) ≡ None → ⊥
+some_none place e = cc
+
+silent_waits : (clients : ℕ) (schema tables : List Table) (stage : Stage) (text : List ℕ) (after : List (List ℕ)) → line_of clients text ≡ Ok Silent → Waits clients schema tables stage (text ∷ after) → Waits clients schema tables stage after
+silent_waits clients schema tables Creating text after is waits = subst (CreatesFrom tables (λ known. Creates clients known after schema) schema) is waits
+silent_waits clients schema tables Running text after is waits = waits
+
+silent_inside : (i : ℕ) (later : Stage → Option LinePlace) (stage : Stage) → outside_from i later stage (Ok Silent) ≡ later stage
+silent_inside i later Creating = refl
+silent_inside i later Running = refl
+
+event_inside : (i : ℕ) (later : Stage → Option LinePlace) (stage : Stage) (words : Words) → outside_from i later stage (Ok (EventOf words)) ≡ later Running
+event_inside i later Creating words = refl
+event_inside i later Running words = refl
+
+event_waits : (clients : ℕ) (schema tables : List Table) (stage : Stage) (text : List ℕ) (after : List (List ℕ)) (words : Words) → line_of clients text ≡ Ok (EventOf words) → Waits clients schema tables stage (text ∷ after) → schema ≡ tables
+event_waits clients schema tables Creating text after words is waits = subst (CreatesFrom tables (λ known. Creates clients known after schema) schema) is waits
+event_waits clients schema tables Running text after words is waits = waits
+
+module _ (clients : ℕ) (bytes : List ℕ) (schema : List Table) (number : ℕ) (rest after : List (List ℕ)) (text : List ℕ) (events : List EventLine) (walked : Walked clients bytes schema number rest events) (cut : rest ≡ text ∷ after) where
+  waits_here : Waits clients schema walked.tables walked.stage (text ∷ after)
+  waits_here = subst (Waits clients schema walked.tables walked.stage) cut walked.waits
+
+  later : Stage → Option LinePlace
+  later next = first_outside clients (number + 1) next after
+
+  inside_here : (line : Result Line ℕ) → line_of clients text ≡ line → outside_from number (λ next. first_outside clients (number + 1) next after) walked.stage line ≡ None
+  inside_here line is =
+      let here : first_outside clients number walked.stage (text ∷ after) ≡ None = subst (λ z. first_outside clients number walked.stage z ≡ None) cut walked.inside in
+      subst (λ z. outside_from number (λ next. first_outside clients (number + 1) next after) walked.stage z ≡ None) is here
+
+  -- the line does this, and the script goes on from there
+  step : (some : List (ℕ × ScriptEvent)) (tables : List Table) (stage : Stage) (new : List EventLine) → LineDoes (phase_of walked.tables walked.stage) number (line_of clients text) some (phase_of tables stage)
+      → Waits clients schema tables stage after → first_outside clients (number + 1) stage after ≡ None → AllZip (IsEventLine schema) new (walked.before ++ some) → length new ≤ length events + 1
+      → list_all (λ line. event_fits clients schema line.event) new ≡ true → Walked clients bytes schema (number + 1) after new
+  step some tables stage new does waits inside are long fits = record {
+    tables = tables;
+    stage = stage;
+    waits = waits;
+    inside = inside;
+    before = walked.before ++ some;
+    are = are;
+    few = let few = walked.few in let one = ap length cut in omega (arith, few, one, long);
+    fits = fits;
+    reads = λ others end reads.
+        let here : Reads clients number (phase_of walked.tables walked.stage) rest (some ++ others) end =
+        subst (λ z. Reads clients number (phase_of walked.tables walked.stage) z (some ++ others) end) (sym cut) (some, others, phase_of tables stage, does, reads, refl) in
+        subst (λ z. Reads clients 1 start_phase (lines_of bytes) z end) (sym (append_assoc walked.before some others)) (walked.reads (some ++ others) end here);
+    unbuilt = λ n first.
+        walked.unbuilt n (subst (λ z. FirstUnbuilt clients number (phase_of walked.tables walked.stage) z n) (sym cut) (inr (some, phase_of tables stage, does, first)));
+  }
+
+  same : AllZip (IsEventLine schema) events (walked.before ++ [])
+  same = subst (AllZip (IsEventLine schema) events) (sym (append-nil walked.before)) walked.are
+
+  pub walked_silent : line_of clients text ≡ Ok Silent → Walked clients bytes schema (number + 1) after events
+  walked_silent is =
+      let phase = phase_of walked.tables walked.stage in
+      let does : LineDoes phase number (line_of clients text) [] phase = subst (λ z. LineDoes phase number z [] phase) (sym is) (refl, refl) in
+      step [] walked.tables walked.stage events does (silent_waits clients schema walked.tables walked.stage text after is waits_here)
+      (sym (silent_inside number (λ next. first_outside clients (number + 1) next after) walked.stage) ∙ inside_here (Ok Silent) is) same (omega arith) walked.fits
+
+  create_step : (sql : List ℕ) (stage : Stage) → stage ≡ walked.stage → line_of clients text ≡ Ok (CreateLine sql) → Waits clients schema walked.tables stage (text ∷ after)
+      → outside_from number (λ next. first_outside clients (number + 1) next after) stage (Ok (CreateLine sql)) ≡ None → Walked clients bytes schema (number + 1) after events
+  create_step sql Running at is waits inside = absurd (some_none _ inside)
+  create_step sql Creating at is waits inside =
+      let made = subst (CreatesFrom walked.tables (λ known. Creates clients known after schema) schema) is waits in
+      let next = phase_of (walked.tables ++ made.0 ∷ []) Creating in
+      let here : LineDoes (phase_of walked.tables Creating) number (Ok (CreateLine sql)) [] next = (made.0, made.1, refl, refl, refl) in
+      let there = subst (λ z. LineDoes (phase_of walked.tables z) number (Ok (CreateLine sql)) [] next) at here in
+      let does : LineDoes (phase_of walked.tables walked.stage) number (line_of clients text) [] next = subst (λ z. LineDoes (phase_of walked.tables walked.stage) number z [] next) (sym is) there in
+      step [] (walked.tables ++ made.0 ∷ []) Creating events does made.2 inside same (omega arith) walked.fits
+
+  pub walked_create : (sql : List ℕ) → line_of clients text ≡ Ok (CreateLine sql) → Walked clients bytes schema (number + 1) after events
+  walked_create sql is = create_step sql walked.stage refl is waits_here (inside_here (Ok (CreateLine sql)) is)
+
+  -- a line that is no event
+  pub walked_quiet : (line : code.Line) → IsLine clients text line → ((words : written.Words) → line ≡ read.Event words → ⊥) → Walked clients bytes schema (number + 1) after events
+  walked_quiet read.Silent is other = walked_silent is
+  walked_quiet (read.Create sql) is other = walked_create sql.now is
+  walked_quiet (read.Event words) is other = absurd (other words refl)
+
+  pub walked_event : (words : Words) (event : Event) → line_of clients text ≡ Ok (EventOf words) → IsSaid schema words (Some event)
+      → Walked clients bytes schema (number + 1) after (events ++ record { number = number; event = event } ∷ [])
+  walked_event words event is said =
+      let tables : schema ≡ walked.tables = event_waits clients schema walked.tables walked.stage text after words is waits_here in
+      let next = phase_of walked.tables Running in
+      let some = (number, said.0) ∷ [] in
+      let means : Means walked.tables words said.0 = subst (λ z. Means z words said.0) tables said.1 in
+      let phase = phase_of walked.tables walked.stage in
+      let does : LineDoes phase number (line_of clients text) some next = subst (λ z. LineDoes phase number z some next) (sym is) (said.0, means, refl, refl) in
+      let names = events_name_clients clients text words (event_of_line clients text words is) in
+      let line : EventLine = record { number = number; event = event } in
+      step some walked.tables Running (events ++ line ∷ []) does tables
+      (sym (event_inside number (λ next. first_outside clients (number + 1) next after) walked.stage words) ∙ inside_here (Ok (EventOf words)) is)
+      (zip_push (IsEventLine schema) events walked.before line (number, said.0) walked.are (said.0, said.2, refl)) (let e = length-append events (line ∷ []) in omega (arith, e))
+      (all_push (λ l. event_fits clients schema l.event) events line walked.fits (said.3 clients names))
+
+  pub walked_unbuilt : (words : Words) → line_of clients text ≡ Ok (EventOf words) → IsSaid schema words None → FirstUnbuilt clients 1 start_phase (lines_of bytes) number
+  walked_unbuilt words is none =
+      let tables : schema ≡ walked.tables = event_waits clients schema walked.tables walked.stage text after words is waits_here in
+      let phase = phase_of walked.tables walked.stage in
+      let nothing : (some : List (ℕ × ScriptEvent)) (next : Phase) → LineDoes phase number (line_of clients text) some next → ⊥ =
+      λ some next does. (let here = subst (λ z. LineDoes phase number z some next) is does in none here.0 (subst (λ z. Means z words here.0) (sym tables) here.1)) in
+      walked.unbuilt number (subst (λ z. FirstUnbuilt clients number phase z number) (sym cut) (inl (refl, nothing)))
+
+-- ---- the end of the walk
+
+end_tables : (clients : ℕ) (schema tables : List Table) (stage : Stage) → Waits clients schema tables stage [] → tables ≡ schema
+end_tables clients schema tables Creating waits = sym waits
+end_tables clients schema tables Running waits = sym waits
+
+pub walked_read : (clients : ℕ) (bytes : List ℕ) (schema : List Table) (number : ℕ) (rest : List (List ℕ)) (events : List EventLine) → Walked clients bytes schema number rest events → rest ≡ []
+    → IsRead clients bytes (record { schema = schema; lines = events })
+walked_read clients bytes schema number rest events walked done = record {
   events = walked.before;
-  end = phase_in s;
+  end = phase_of walked.tables walked.stage;
   are = walked.are;
-  reads = subst (λ z. Reads 1 start_phase (lines_of bytes) z (phase_in s)) (append-nil walked.before) (walked.reads [] (phase_in s) (refl, refl));
-  tables = refl;
-  few = let h = walked.few in omega arith;
+  reads = let nothing : Reads clients number (phase_of walked.tables walked.stage) rest [] (phase_of walked.tables walked.stage) =
+      subst (λ z. Reads clients number (phase_of walked.tables walked.stage) z [] (phase_of walked.tables walked.stage)) (sym done) (refl, refl) in
+      subst (λ z. Reads clients 1 start_phase (lines_of bytes) z (phase_of walked.tables walked.stage)) (append-nil walked.before) (walked.reads [] (phase_of walked.tables walked.stage) nothing);
+  tables = end_tables clients schema walked.tables walked.stage (subst (Waits clients schema walked.tables walked.stage) done walked.waits);
+  few = let few = walked.few in let most = few_lines bytes in omega (arith, few, most);
 }
 
-pub walked_unbuilt : (bytes rest after line : List ℕ) (number : ℕ) (s : Script) → Walked bytes number rest s → lines_of rest ≡ line ∷ lines_of after → AddsNothing number s (line_of line) → FirstUnbuilt 1 start_phase (lines_of bytes) number
-walked_unbuilt bytes rest after line number s walked lines nothing = walked.unbuilt number (rw lines (inl (refl, nothing)))
-
--- ---- what is read fits
-
-pub create_fits : (old : Script) (t : Table) (sql : List ℕ) → AddsTable old.schema sql t → Fits old → old.lines ≡ [] → Fits (record old { schema = old.schema ++ t ∷ [] })
-create_fits old t sql adds fits none = record {
-  tables = tables_grow old.schema t fits.tables (faultless_fits old.schema t adds.1);
-  events = rw none refl;
-}
-
-event_keeps : (old : Script) (number : ℕ) (event : code.Event) → Fits old → IsTrue (event_fits old.schema event) → Fits (with_event old number event)
-event_keeps old number event fits here = record {
-  tables = fits.tables;
-  events = all_push (λ line. event_fits old.schema line.event) old.lines (record { number = number; event = event }) fits.events here;
-}
-
-pub exec_fits : (number : ℕ) (old : Script) (statement : Result Write Fault) → Fits old → IsTrue (statement_fits old.schema statement) → Fits (with_event old number (read.Exec statement))
-exec_fits number old statement fits suits = event_keeps old number (read.Exec statement) fits suits
-
-pub query_fits : (number : ℕ) (old : Script) (query : Result Query Fault) → Fits old → Fits (with_event old number (read.Query query))
-query_fits number old query fits = event_keeps old number (read.Query query) fits refl
-
-pub push_fits : (number : ℕ) (old : Script) → Fits old → Fits (with_event old number read.Push)
-push_fits number old fits = event_keeps old number read.Push fits refl
+pub walked_fits : (clients : ℕ) (bytes : List ℕ) (schema : List Table) (number : ℕ) (rest : List (List ℕ)) (events : List EventLine) → Walked clients bytes schema number rest events → IsTrue (list_all is_table schema)
+    → Fits clients (record { schema = schema; lines = events })
+walked_fits clients bytes schema number rest events walked sound = record { tables = sound; events = walked.fits }

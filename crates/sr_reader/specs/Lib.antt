@@ -1,6 +1,5 @@
 pub mod Read
 pub mod Cutting
 pub mod LineSeen
+pub mod Lined
 pub mod Meaning
-pub mod Walk
-pub mod Walked

@@ -1,5 +1,5 @@
 -- What the code found that a text means.
-use Rattle.std.specs.Prelude.{◌≡◌, ℕ, false, List, Option, Some, None, Result, Ok, Err}
+use Rattle.std.specs.Prelude.{◌≡◌, ℕ, false, List, Option, Some, None, Result, Ok, Err, IsTrue}
 use Rattle.sr_cell.specs.declared.table.Table.{Table}
 use Rattle.sr_cell.specs.declared.fault.Fault.{Fault}
 use Rattle.sr_grammar.specs.declared.statement.Statement as code
@@ -10,8 +10,12 @@ use Rattle.sr_model.specs.Queries as model
 use Rattle.sr_query.specs.Binding.{bound_query}
 use Rattle.sr_query.specs.declared.query.Query.{Query}
 use Rattle.sr_language.specs.Built.{may_ask}
-use Rattle.sr_language.specs.Script.{AsksOf}
-use Rattle.sr_reader.specs.Read.{Means}
+use Rattle.sr_language.specs.Events.{ScriptEvent}
+use Rattle.sr_language.specs.Parts.{names_client}
+use Rattle.sr_language.specs.Script.{Words, AsksOf}
+use Rattle.sr_language.specs.Script as script
+use Rattle.sr_reader.specs.declared.script.Event.{Event}
+use Rattle.sr_reader.specs.Read.{Means, IsEvent, event_fits}
 
 abbrev pub said_seen : Result code.Statement Fault → Result Statement Fault
 said_seen (Ok s) = Ok (statement_seen s)
@@ -31,3 +35,10 @@ IsBound tables s (Some query) = (meaning : Result model.Query Fault) × (bound_q
 abbrev pub IsAsking : List Table → List ℕ → Option (Result Query Fault) → Type 0
 IsAsking tables sql None = (meaning : Result model.Query Fault) → AsksOf tables sql meaning → ⊥
 IsAsking tables sql (Some query) = (meaning : Result model.Query Fault) × AsksOf tables sql meaning × Means tables query meaning
+
+-- what the words of an event say to the tables, or none if that is not built
+abbrev pub IsSaid : List Table → Words → Option Event → Type 0
+IsSaid tables words None = (event : ScriptEvent) → script.Means tables words event → ⊥
+IsSaid tables words (Some event) =
+    (meaning : ScriptEvent) × script.Means tables words meaning × IsEvent tables event meaning
+    × ((clients : ℕ) → IsTrue (names_client clients words) → IsTrue (event_fits clients tables event))

@@ -5,7 +5,7 @@ use Rattle.sr_cell.specs.declared.fault.Fault.{Fault}
 use Rattle.sr_cell.specs.declared.table.Table.{Table}
 use Rattle.sr_model.specs.Queries as model
 use Rattle.sr_model.specs.Statements as statements
-use Rattle.sr_language.specs.Events.{Event, Exec, QueryOf, Push}
+use Rattle.sr_language.specs.Events.{ScriptEvent, DoExec, DoQuery, DoWrite, DoPush, DoToServer, DoToClient, DoSettle, DoEvict, DoCut, DoResume}
 use Rattle.sr_query.specs.Bound.{is_table, IsQuery}
 use Rattle.sr_query.specs.declared.query.Query.{Query}
 use Rattle.sr_query.specs.declared.write.Write.{Write}
@@ -14,7 +14,9 @@ use Rattle.sr_query.specs.Writes.{suits}
 use Rattle.sr_query.specs.Written.{write_of}
 use Rattle.sr_language.specs.Lines.{lines_of}
 use Rattle.sr_language.specs.Built.{may_ask}
+use Rattle.sr_language.specs.Own.{needs_own}
 use Rattle.sr_language.specs.Sound.{is_sound}
+pub use Rattle.sr_language.specs.Parts.{is_client}
 use Rattle.sr_language.specs.Script.{Phase, start_phase, Reads}
 use Rattle.sr_reader.specs.declared.script.Event as code
 use Rattle.sr_reader.specs.declared.script.Event.TheVariants as read
@@ -28,23 +30,30 @@ statement_of (Err fault) = Err fault
 
 -- a bound query, or the fault of its text, stands for this one
 abbrev pub Means : List Table → Result Query Fault → Result model.Query Fault → Type 0
-Means tables (Ok q) (Ok meaning) = IsQuery tables q meaning × IsTrue (may_ask meaning) × IsTrue (is_sound tables meaning)
+Means tables (Ok q) (Ok meaning) = IsQuery tables q meaning × IsTrue (may_ask meaning) × IsTrue (is_sound tables meaning) × IsTrue (needs_own tables meaning)
 Means tables (Ok q) (Err fault) = ⊥
 Means tables (Err fault) (Ok meaning) = ⊥
 Means tables (Err fault) (Err same) = fault ≡ same
 
 -- an event that was read stands for this one
-abbrev pub IsEvent : List Table → code.Event → Event → Type 0
-IsEvent tables (read.Exec statement) event = event ≡ Exec (statement_of statement)
-IsEvent tables (read.Query query) event = (meaning : Result model.Query Fault) × Means tables query meaning × (event ≡ QueryOf 1 meaning)
-IsEvent tables read.Push event = event ≡ Push 1
+abbrev pub IsEvent : List Table → code.Event → ScriptEvent → Type 0
+IsEvent tables (read.Exec statement) event = event ≡ DoExec (statement_of statement)
+IsEvent tables (read.Query n query) event = (meaning : Result model.Query Fault) × Means tables query meaning × (event ≡ DoQuery n meaning)
+IsEvent tables (read.Write n sql) event = event ≡ DoWrite n sql
+IsEvent tables (read.Push n) event = event ≡ DoPush n
+IsEvent tables (read.ToServer n) event = event ≡ DoToServer n
+IsEvent tables (read.ToClient n) event = event ≡ DoToClient n
+IsEvent tables (read.Settle n) event = event ≡ DoSettle n
+IsEvent tables (read.Evict n place) event = event ≡ DoEvict n place
+IsEvent tables (read.Cut n) event = event ≡ DoCut n
+IsEvent tables (read.Resume n) event = event ≡ DoResume n
 
 -- with the number of its line
-abbrev pub IsEventLine : List Table → EventLine → ℕ × Event → Type 0
-IsEventLine tables line numbered = (event : Event) × IsEvent tables line.event event × (numbered ≡ (line.number, event))
+abbrev pub IsEventLine : List Table → EventLine → ℕ × ScriptEvent → Type 0
+IsEventLine tables line numbered = (event : ScriptEvent) × IsEvent tables line.event event × (numbered ≡ (line.number, event))
 
 -- the events of a script, in the order of its lines
-abbrev pub AreEvents : Script → List (ℕ × Event) → Type 0
+abbrev pub AreEvents : Script → List (ℕ × ScriptEvent) → Type 0
 AreEvents s events = AllZip (IsEventLine s.schema) s.lines events
 
 abbrev pub few_rows : Write → Bool
@@ -57,21 +66,29 @@ abbrev pub statement_fits : List Table → Result Write Fault → Bool
 statement_fits tables (Ok w) = suits tables (write_of w) && few_rows w
 statement_fits tables (Err fault) = true
 
-abbrev pub event_fits : List Table → code.Event → Bool
-event_fits tables (read.Exec statement) = statement_fits tables statement
-event_fits tables (read.Query query) = true
-event_fits tables read.Push = true
+-- the event can be carried out over these tables, with so many clients
+abbrev pub event_fits : ℕ → List Table → code.Event → Bool
+event_fits clients tables (read.Exec statement) = statement_fits tables statement
+event_fits clients tables (read.Query n query) = is_client clients n
+event_fits clients tables (read.Write n sql) = is_client clients n
+event_fits clients tables (read.Push n) = is_client clients n
+event_fits clients tables (read.ToServer n) = is_client clients n
+event_fits clients tables (read.ToClient n) = is_client clients n
+event_fits clients tables (read.Settle n) = is_client clients n
+event_fits clients tables (read.Evict n place) = is_client clients n
+event_fits clients tables (read.Cut n) = is_client clients n
+event_fits clients tables (read.Resume n) = is_client clients n
 
 -- what holds of the lines, so that they can be carried out
-pub record Fits (s : Script) : Type 0 where
+pub record Fits (clients : ℕ) (s : Script) : Type 0 where
   pub tables : IsTrue (list_all is_table s.schema)
-  pub events : IsTrue (list_all (λ line. event_fits s.schema line.event) s.lines)
+  pub events : IsTrue (list_all (λ line. event_fits clients s.schema line.event) s.lines)
 
--- the bytes say the script: its lines have just these events, over these tables
-pub record IsRead (bytes : List ℕ) (s : Script) : Type 0 where
-  pub events : List (ℕ × Event)
+-- the bytes say the script of so many clients: its lines have just these events, over these tables
+pub record IsRead (clients : ℕ) (bytes : List ℕ) (s : Script) : Type 0 where
+  pub events : List (ℕ × ScriptEvent)
   pub end : Phase
   pub are : AreEvents s events
-  pub reads : Reads 1 start_phase (lines_of bytes) events end
+  pub reads : Reads clients 1 start_phase (lines_of bytes) events end
   pub tables : end.tables ≡ s.schema
   pub few : length s.lines ≤ length bytes

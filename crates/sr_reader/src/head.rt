@@ -1,5 +1,5 @@
 //! The tables of the CREATE lines in front of all others.
-ghost use Rattle.std.specs.Prelude.{◌≡◌, ℕ, ◌<◌, ◌^◌, [], ◌∷◌, ◌++◌, IsTrue, IfOk, OnOk, IsErrOf, length};
+ghost use Rattle.std.specs.Prelude.{◌≡◌, ℕ, List, [], ◌∷◌, ◌++◌, IsTrue, IfOk, OnOk, IsErrOf};
 ghost use Rattle.std.specs.List.{list_all};
 ghost use Rattle.sr_cell.specs.declared.list.No.TheVariants.{Refused};
 ghost use Rattle.sr_cell.specs.declared.fault.Fault.{Fault as TheFault};
@@ -10,9 +10,10 @@ ghost use Rattle.sr_language.specs.Script.{begins_create, RefusesTable, AddsTabl
 ghost use Rattle.sr_language.specs.Creates.{Creates};
 ghost use Rattle.sr_query.specs.Bound.{is_table};
 ghost use Rattle.sr_reader.specs.declared.head.RefusedLine.{RefusedLine as TheRefusedLine};
+ghost use Rattle.sr_reader.specs.Lined.{AreLines};
 
-use crate::cut::cut_line;
-use crate::line::{Line, line_of};
+use crate::line::Line;
+use crate::lines::Lines;
 use sr_cell::fault::Fault;
 use sr_cell::list::No;
 use sr_cell::schema::Schema;
@@ -39,30 +40,28 @@ fn add_table(alloc: Global, schema: &mut Schema, sql: &str) -> Result<(), No<Fau
     }
 }
 
-/// The tables of the CREATE lines in front of all others; or the first of these lines that is refused.
-pub fn created(alloc: Global, bytes: &[u8]) -> Result<Schema, No<RefusedLine>>
-    requires { length bytes.now < 2 ^ 32 }
-    ensures created { IfOk result (Creates [] (lines_of bytes.now)) }
+/// The tables of the CREATE lines of the script that the lines are of; or the first of these lines that is refused.
+pub fn created(alloc: Global, lines: &Lines<'_>) -> Result<Schema, No<RefusedLine>>
+    requires { (clients : ℕ) × (bytes : List ℕ) × AreLines clients bytes lines.now }
+    ensures created { (clients : ℕ) (bytes : List ℕ) → AreLines clients bytes lines.now → IfOk result (Creates clients [] (lines_of bytes)) }
     ensures sound { IfOk result (λ schema. IsTrue (list_all is_table schema)) }
-    ensures accepts { OnOk result ((line : ℕ) (fault : TheFault) → FirstRefused 1 [] (lines_of bytes.now) line fault → ⊥) }
-    ensures refused { (refused : TheRefusedLine) → IsErrOf result (Refused refused) → FirstRefused 1 [] (lines_of bytes.now) refused.number refused.fault }
+    ensures accepts { (clients : ℕ) (bytes : List ℕ) → AreLines clients bytes lines.now → OnOk result ((line : ℕ) (fault : TheFault) → FirstRefused clients 1 [] (lines_of bytes) line fault → ⊥) }
+    ensures refused { (clients : ℕ) (bytes : List ℕ) → AreLines clients bytes lines.now → (refused : TheRefusedLine) → IsErrOf result (Refused refused) → FirstRefused clients 1 [] (lines_of bytes) refused.number refused.fault }
 {
     let mut schema = Schema::new(alloc);
-    let mut rest = bytes;
-    let mut number: u64 = 1;
-    'lines: while !rest.is_empty() {
-        let cut = cut_line(rest);
-        match line_of(cut.line) {
+    for (i, line) in lines.as_slice().iter().enumerate() {
+        match line {
             Line::Silent => {}
             Line::Create(sql) => match add_table(alloc, &mut schema, sql) {
                 Ok(()) => {}
-                Err(No::Refused(fault)) => return Err(No::Refused(RefusedLine { number, fault })),
+                Err(No::Refused(fault)) => {
+                    let number = i as u64 + 1;
+                    return Err(No::Refused(RefusedLine { number, fault }));
+                }
                 Err(No::NoMemory) => return Err(No::NoMemory),
             },
-            _ => return Ok(schema),
+            Line::Event(_) => return Ok(schema),
         }
-        rest = cut.rest;
-        number += 1;
     }
     Ok(schema)
 }

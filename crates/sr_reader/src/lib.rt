@@ -1,10 +1,15 @@
-//! Reading of scripts: CREATE lines of any tables, then statements, queries of one table each and pushes, in any order.
+//! Reading of scripts: CREATE lines of any tables, then the events of any clients.
 #![tactic(auto)]
 
 mod built;
 mod cut;
+pub mod events;
 pub mod head;
-mod line;
+pub mod line;
 pub mod lines;
 mod meaning;
+mod parts;
 pub mod script;
+#[cfg(test)]
+mod tests;
+pub mod words;

@@ -1,23 +1,21 @@
-//! What a line is, by how it begins.
+//! What a line is.
 ghost use Rattle.std.specs.Prelude.{◌≡◌, ◌<◌, ◌^◌, length, nat_eq, codes};
 ghost use Rattle.std.specs.List.{starts_with};
 ghost use Rattle.sr_grammar.specs.Tokens.{Key, is, seen, tokens_of};
-ghost use Rattle.sr_language.specs.Script.{is_blank, begins_create, is_push, event_line, line_of};
-ghost use Rattle.sr_reader.specs.LineSeen.{line_seen, IsBehind, query_seen, query_line};
+ghost use Rattle.sr_language.specs.Script.{is_blank, begins_create, event_line, line_of};
+ghost use Rattle.sr_reader.specs.LineSeen.{read_seen};
 
+use crate::words::{Words, event_of};
 use sr_token::token::{Token, TokenKind};
 use sr_token::tokens::Tokens;
 use std::str;
 
-/// A line, by how it begins. An event lends the text behind its words.
+/// A line of a script. Silent is a blank line or a comment; a CREATE lends its text.
 #[derive(Clone, Copy)]
-pub(crate) enum Line<'a> {
+pub enum Line<'a> {
     Silent,
     Create(&'a str),
-    Exec(&'a str),
-    Query(&'a str),
-    Push,
-    Other,
+    Event(Words<'a>),
 }
 
 fn is_blank(line: &str) -> bool
@@ -50,67 +48,31 @@ fn begins_create(line: &str) -> bool
     }
 }
 
-/// What stands behind the words, if that is not empty.
-fn behind<'a>(line: &'a str, words: &str) -> Option<&'a str>
-    ensures { IsBehind words.now line.now result }
+/// The event of a line; or the place of its fault.
+fn read_event(line: &str, clients: u8) -> Result<Line<'_>, u32>
+    requires { length line.now < 2 ^ 32 }
+    ensures { read_seen result ≡ event_line clients line.now }
 {
-    let Some(sql) = line.strip_prefix(words) else {
-        return None;
+    match event_of(clients, line) {
+        Ok(words) => Ok(Line::Event(words)),
+        Err(rest) => Err((line.len() - rest.len()) as u32),
+    }
+}
+
+/// A line of a script with so many clients; or the place of its fault, in bytes. Takes no memory.
+pub fn read_line(line: &[u8], clients: u8) -> Result<Line<'_>, u32>
+    requires { length line.now < 2 ^ 32 }
+    ensures { read_seen result ≡ line_of clients line.now }
+{
+    let text = match str::from_utf8(line) {
+        Ok(text) => text,
+        Err(fault) => return Err(fault.valid_up_to() as u32),
     };
-    if sql.is_empty() {
-        return None;
+    if is_blank(text) || is_comment(text) {
+        return Ok(Line::Silent);
     }
-    Some(sql)
-}
-
-/// The query of client 1, whose number has one to three digits.
-fn query_of(line: &str) -> Option<&str>
-    ensures { query_seen result ≡ query_line line.now }
-{
-    match behind(line, "query 1 ") {
-        Some(sql) => Some(sql),
-        None => match behind(line, "query 01 ") {
-            Some(sql) => Some(sql),
-            None => behind(line, "query 001 "),
-        },
+    if begins_create(text) {
+        return Ok(Line::Create(text));
     }
-}
-
-/// Whether the line is a push of client 1, whose number has one to three digits.
-fn is_push(line: &str) -> bool
-    ensures { result ≡ is_push line.now }
-{
-    line == "push 1" || line == "push 01" || line == "push 001"
-}
-
-fn event_of(line: &str) -> Line<'_>
-    ensures { line_seen result ≡ event_line line.now }
-{
-    if is_push(line) {
-        return Line::Push;
-    }
-    if let Some(sql) = behind(line, "exec ") {
-        return Line::Exec(sql);
-    }
-    match query_of(line) {
-        Some(sql) => Line::Query(sql),
-        None => Line::Other,
-    }
-}
-
-/// What a line is.
-pub(crate) fn line_of(bytes: &[u8]) -> Line<'_>
-    requires { length bytes.now < 2 ^ 32 }
-    ensures { line_seen result ≡ line_of bytes.now }
-{
-    let Ok(line) = str::from_utf8(bytes) else {
-        return Line::Other;
-    };
-    if is_blank(line) || is_comment(line) {
-        return Line::Silent;
-    }
-    if begins_create(line) {
-        return Line::Create(line);
-    }
-    event_of(line)
+    read_event(text, clients)
 }

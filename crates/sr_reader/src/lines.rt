@@ -1,153 +1,87 @@
-//! Reading of scripts, line by line.
-ghost use Rattle.std.specs.Prelude.{◌≡◌, ◌<◌, ◌^◌, ◌↔◌, List, [], ◌∷◌, ◌++◌, IsTrue, IfOk, OnOk, IsErrOf, length};
+//! The lines of a script.
+ghost use Rattle.std.specs.Prelude.{◌≡◌, ◌<◌, ◌^◌, ◌||◌, length, None, Some, IfOk, IfErr, OnOk, IsErrOf};
 ghost use Rattle.sr_cell.specs.declared.list.No.TheVariants.{Refused};
-ghost use Rattle.sr_cell.specs.declared.table.Table.{Table};
 ghost use Rattle.sr_language.specs.Lines.{lines_of};
-ghost use Rattle.sr_language.specs.Script.{CreateLine, ExecLine, QueryLine, PushLine, Creating, start_phase, FirstUnbuilt};
-ghost use Rattle.sr_language.specs.Creates.{Creates};
-ghost use Rattle.sr_reader.specs.declared.script.UnbuiltLine.{UnbuiltLine as TheUnbuiltLine};
+ghost use Rattle.sr_language.specs.Script.{Creating, first_outside};
+ghost use Rattle.sr_reader.specs.declared.script.LinePlace.{LinePlace as TheLinePlace};
 ghost use Rattle.sr_reader.specs.LineSeen.{line_seen};
-ghost use Rattle.sr_reader.specs.Read.{Fits, IsRead};
-ghost use Rattle.sr_reader.specs.Walk.{phase_in, IsAdded};
-ghost use Rattle.sr_reader.specs.Walked.{IsWalk};
+ghost use Rattle.sr_reader.specs.Lined.{IsLine, AreLines, place_seen, is_event, is_create, GoesOn, StopsAt};
 
 use crate::cut::cut_line;
-use crate::line::{Line, line_of};
-use crate::meaning;
-use crate::script::{Event, EventLine, Script, UnbuiltLine};
-use sr_cell::list::{No, NoMemory, Seq};
-use sr_cell::schema::Schema;
+use crate::line::{Line, read_line};
+use crate::script::LinePlace;
+use sr_cell::list::{No, Seq};
 use std::alloc::Global;
 
-/// Whether no event was read.
-fn is_creating(script: &Script) -> bool
-    ensures { IsTrue result ↔ ((phase_in script.now).stage ≡ Creating) }
-{
-    script.lines.is_empty()
-}
+/// The lines of a script, in order: the first is line 1.
+pub type Lines<'a> = Seq<Line<'a>>;
 
-/// Adds the table of a CREATE line to those of the lines before; false if the line does nothing that is built.
-#[tactic(none)]
-fn add_create(alloc: Global, number: u64, sql: &str, script: &mut Script) -> Result<bool, NoMemory>
-    requires { Fits script.old }
-    ensures { IsAdded number script.old (CreateLine sql.now) result script.new }
-{
-    if !is_creating(script) {
-        return Ok(false);
-    }
-    match meaning::table_of(alloc, sql)? {
-        Some(table) => match script.schema.add(alloc, table) {
-            Ok(()) => Ok(true),
-            Err(No::Refused(_)) => Ok(false),
-            Err(No::NoMemory) => Err(NoMemory),
-        },
-        None => Ok(false),
-    }
-}
-
-/// Puts an event of this number behind those of the lines before.
-fn push_event(number: u64, event: Event, script: &mut Script) -> Result<(), NoMemory>
-    ensures { OnOk result (script.new ≡ record script.old { lines = script.old.lines ++ record { number = number; event = event } ∷ [] }) }
-{
-    script.lines.push(EventLine { number, event })
-}
-
-/// Adds an exec line.
-#[tactic(none)]
-fn add_exec(alloc: Global, number: u64, sql: &str, script: &mut Script) -> Result<bool, NoMemory>
-    requires { Fits script.old }
-    ensures { IsAdded number script.old (ExecLine sql.now) result script.new }
-{
-    let statement = meaning::write_of(alloc, &script.schema, sql)?;
-    push_event(number, Event::Exec(statement), script)?;
-    Ok(true)
-}
-
-/// Adds a query line; false if the line does nothing that is built.
-#[tactic(none)]
-fn add_query(alloc: Global, number: u64, sql: &str, script: &mut Script) -> Result<bool, NoMemory>
-    requires { Fits script.old }
-    ensures { IsAdded number script.old (QueryLine sql.now) result script.new }
-{
-    match meaning::query_of(alloc, &script.schema, sql)? {
-        Some(query) => {
-            push_event(number, Event::Query(query), script)?;
-            Ok(true)
-        }
-        None => Ok(false),
-    }
-}
-
-/// Adds a push line.
-#[tactic(none)]
-fn add_push(number: u64, script: &mut Script) -> Result<bool, NoMemory>
-    requires { Fits script.old }
-    ensures { IsAdded number script.old PushLine result script.new }
-{
-    push_event(number, Event::Push, script)?;
-    Ok(true)
-}
-
-/// Adds a line of this number; false if the line does nothing that is built.
-fn add_line(
-    alloc: Global,
-    number: u64,
-    line: Line<'_>,
-    script: &mut Script,
-) -> Result<bool, NoMemory>
-    requires { Fits script.old }
-    ensures { IsAdded number script.old (line_seen line.entry) result script.new }
+fn is_event(line: Line<'_>) -> bool
+    ensures { result ≡ is_event (line_seen line.entry) }
 {
     match line {
-        Line::Silent => Ok(true),
-        Line::Create(sql) => add_create(alloc, number, sql, script),
-        Line::Exec(sql) => add_exec(alloc, number, sql, script),
-        Line::Query(sql) => add_query(alloc, number, sql, script),
-        Line::Push => add_push(number, script),
-        Line::Other => Ok(false),
+        Line::Event(_) => true,
+        _ => false,
     }
 }
 
-/// What reading the lines of a script came to: the script, or the number of the first line that does nothing that is built.
-#[derive(Drop)]
-enum Walk {
-    Read(Script),
-    Unbuilt(u64),
+fn is_create(line: Line<'_>) -> bool
+    ensures { result ≡ is_create (line_seen line.entry) }
+{
+    match line {
+        Line::Create(_) => true,
+        _ => false,
+    }
 }
 
-/// Reads all lines of a script.
-fn read_lines(alloc: Global, bytes: &[u8]) -> Result<Walk, NoMemory>
-    requires { length bytes.now < 2 ^ 32 }
-    ensures { IfOk result (IsWalk bytes.now) }
+/// Whether events have begun, behind the line.
+fn has_begun(running: bool, line: Line<'_>) -> bool
+    ensures { result ≡ (running || is_event (line_seen line.entry)) }
 {
-    let mut script = Script {
-        schema: Schema::new(alloc),
-        lines: Seq::new(alloc),
+    running || is_event(line)
+}
+
+/// A line of a script whose events have begun or not; or the place of its fault.
+fn read_here(clients: u8, running: bool, bytes: &[u8]) -> Result<Line<'_>, u32>
+    requires { length bytes.now < 2 ^ 32 }
+    ensures line { IfOk result (IsLine clients bytes.now) }
+    ensures inside { IfOk result (GoesOn clients bytes.now running) }
+    ensures outside { IfErr result (StopsAt clients bytes.now running) }
+{
+    let line = match read_line(bytes, clients) {
+        Ok(line) => line,
+        Err(place) => return Err(place),
     };
+    if running && is_create(line) {
+        return Err(0);
+    }
+    Ok(line)
+}
+
+/// Reads all lines of a script with so many clients; or names the first that is outside the grammar, with the place of its fault.
+pub fn read_lines(alloc: Global, clients: u8, bytes: &[u8]) -> Result<Lines<'_>, No<LinePlace>>
+    requires { length bytes.now < 2 ^ 32 }
+    ensures lines { IfOk result (AreLines clients bytes.now) }
+    ensures inside { OnOk result (first_outside clients 1 Creating (lines_of bytes.now) ≡ None) }
+    ensures outside { (fault : TheLinePlace) → IsErrOf result (Refused fault) → first_outside clients 1 Creating (lines_of bytes.now) ≡ Some (place_seen fault) }
+{
+    let mut lines = Seq::new(alloc);
     let mut rest = bytes;
     let mut number: u64 = 1;
+    let mut running = false;
     'lines: while !rest.is_empty() {
         let cut = cut_line(rest);
-        if !add_line(alloc, number, line_of(cut.line), &mut script)? {
-            return Ok(Walk::Unbuilt(number));
-        }
+        let line = match read_here(clients, running, cut.line) {
+            Ok(line) => line,
+            Err(place) => return Err(No::Refused(LinePlace {
+                line: number,
+                place,
+            })),
+        };
+        running = has_begun(running, line);
+        lines.push(line)?;
         rest = cut.rest;
         number += 1;
     }
-    Ok(Walk::Read(script))
-}
-
-/// Reads a script; or names its first line that does nothing that is built.
-pub fn read_script(alloc: Global, bytes: &[u8]) -> Result<Script, No<UnbuiltLine>>
-    requires { length bytes.now < 2 ^ 32 }
-    ensures read { IfOk result (IsRead bytes.now) }
-    ensures fits { IfOk result Fits }
-    ensures created { IfOk result (λ script. (schema : List Table) → Creates [] (lines_of bytes.now) schema → schema ≡ script.schema) }
-    ensures unbuilt { (unbuilt : TheUnbuiltLine) → IsErrOf result (Refused unbuilt) → FirstUnbuilt 1 start_phase (lines_of bytes.now) unbuilt.number }
-{
-    match read_lines(alloc, bytes) {
-        Ok(Walk::Read(script)) => Ok(script),
-        Ok(Walk::Unbuilt(number)) => Err(No::Refused(UnbuiltLine { number })),
-        Err(_) => Err(No::NoMemory),
-    }
+    Ok(lines)
 }

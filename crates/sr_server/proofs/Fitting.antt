@@ -17,7 +17,7 @@ use Rattle.sr_wire.specs.declared.bad_frame.BadFrame.TheVariants.{Direction, Sta
 use Rattle.sr_subs.specs.Subscription.{FitsSome}
 use Rattle.sr_session.specs.Misfits.{or_else}
 use Rattle.sr_session.specs.Sessions.{Database, Session, due, due_if, floor_of, holding_of, is_lost, newest, opened, serve, serve_ask, serve_push, serve_resume, serve_write}
-use Rattle.sr_server.specs.Refusals.{are_columns, holding_suits, is_open, is_request, part_suits, server_misfit, suits_schema, suits_state, suits_table}
+use Rattle.sr_session.specs.Refusals.{are_columns, holding_suits, is_open, is_request, part_suits, server_misfit, suits_schema, suits_state, suits_table}
 use Rattle.sr_server.specs.Servers.{IsSession, IsSessionIf}
 
 -- ---- points

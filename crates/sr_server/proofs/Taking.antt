@@ -11,12 +11,12 @@ use Rattle.sr_grammar.specs.Trees.{Statement, Create, Selects, Inserts, Updates,
 use Rattle.sr_message.specs.declared.message.Message.{Message}
 use Rattle.sr_message.specs.declared.message.Message.TheVariants.{Hello, Resume, Ask, Write, Welcome, Notice, Rows, Reply, Written, Refused, Lapse}
 use Rattle.sr_model.specs.Statements.{Tables}
-use Rattle.sr_reader.proofs.RowCounts.{fewer_rows}
+use Rattle.sr_parser.proofs.RowCounts.{fewer_rows}
 use Rattle.sr_session.specs.Scenes.{Taken, taken}
 use Rattle.sr_session.specs.Sessions.{Database, Session, newest, serve, serve_write, tables_of, with_version}
 use Rattle.sr_tables.specs.Stored.{Stored, done_by, statement_is_short}
 use Rattle.sr_server.specs.declared.server.Server.{Server}
-use Rattle.sr_server.specs.Refusals.{suits_schema}
+use Rattle.sr_session.specs.Refusals.{suits_schema}
 use Rattle.sr_server.specs.Servers.{Executes, Gives, GivesUp, IsCarriedOut, IsClientNumber, IsServer, IsSession, IsSessionIf, IsWritten, StandsForSome, Takes, session_at, with_session}
 use Rattle.sr_server.proofs.Fitting.{serve-fits, write-fits}
 use Rattle.sr_log.specs.Held.{newest as newest_of}

@@ -1,3 +1,2 @@
-pub mod Refusals
 pub mod Servers
 pub mod Noticed

@@ -3,7 +3,7 @@ ghost use Rattle.std.specs.Prelude.{◌≡◌, ◌&&◌, nat_lt, not, ◌==◌, 
 ghost use Rattle.std.specs.List.{list_all};
 ghost use Rattle.sr_cell.specs.Columns.{table_at};
 ghost use Rattle.sr_box.specs.Points.{constrains_only};
-ghost use Rattle.sr_server.specs.Refusals.{is_request, begins, suits_state, suits_schema, holding_suits, are_columns, suits_table, part_suits, server_misfit};
+ghost use Rattle.sr_session.specs.Refusals.{is_request, begins, suits_state, suits_schema, holding_suits, are_columns, suits_table, part_suits, server_misfit};
 
 use crate::session::Session;
 use sr_box::rect::Rect;

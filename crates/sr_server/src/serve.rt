@@ -6,7 +6,7 @@ ghost use Rattle.sr_log.specs.Held.{newest as newest_of};
 ghost use Rattle.sr_subs.specs.Subscription.{FitsSome};
 ghost use Rattle.sr_session.specs.Sessions.{Database, newest, due, holding_of, serve, serve_ask, serve_resume, serve_write, opened};
 ghost use Rattle.sr_server.specs.Noticed.{noticed};
-ghost use Rattle.sr_server.specs.Refusals.{has_few_parts};
+ghost use Rattle.sr_session.specs.Refusals.{has_few_parts};
 ghost use Rattle.sr_server.specs.Servers.{Logs, Knows, IsSessionIf};
 
 use crate::due::{due, notices_of};

@@ -14,7 +14,7 @@ ghost use Rattle.sr_session.specs.Sessions.{Database, Session as TheSession, new
 ghost use Rattle.sr_subs.specs.Subscription.{FitsSome};
 ghost use Rattle.sr_tables.specs.Stored.{are_stored, done_by, is_short, statement_is_short};
 ghost use Rattle.sr_wire.specs.declared.bad_frame.BadFrame.{BadFrame as TheBadFrame};
-ghost use Rattle.sr_server.specs.Refusals.{server_misfit, has_few_parts, is_open};
+ghost use Rattle.sr_session.specs.Refusals.{server_misfit, has_few_parts, is_open};
 ghost use Rattle.sr_server.specs.Servers.{IsCarriedOut, IsClientNumber, IsServer, Logs, StandsForSome, Executes, Takes, GivesUp, first_database, session_at, with_session};
 
 use crate::due::pushed;

@@ -1,7 +1,10 @@
 //! Servers of a few sessions, over one table of numbers `k`, the key, and `a`.
-ghost use Rattle.std.specs.Prelude.{◌≡◌, ◌<◌, ◌≤◌, ◌+◌, true, IfOk, OnOk};
+ghost use Rattle.std.specs.Prelude.{◌≡◌, ◌<◌, ◌≤◌, ◌+◌, true, false, IsTrue, IfOk, OnOk};
+ghost use Rattle.std.specs.List.{list_all};
+ghost use Rattle.sr_cell.specs.Names.{is_bad_domain};
+ghost use Rattle.sr_query.specs.Bound.{is_table};
 ghost use Rattle.sr_log.specs.Held.{newest as newest_of};
-ghost use Rattle.sr_server.specs.Refusals.{has_few_parts};
+ghost use Rattle.sr_session.specs.Refusals.{has_few_parts};
 ghost use Rattle.sr_server.specs.Servers.{IsClientNumber, StandsForSome};
 
 use crate::server::Server;
@@ -9,9 +12,10 @@ use sr_box::rect::Rect;
 use sr_box::span::Span;
 use sr_cell::attrs::Attrs;
 use sr_cell::list::{No, NoMemory, Seq};
+use sr_cell::schema::Schema;
+use sr_cell::table::{Column, Kind, Table};
 use sr_cell::text::Text;
 use sr_message::message::{AskPart, Holding, Message, Messages};
-use sr_reader::head::created;
 use sr_tables::tables::Tables;
 use sr_union::rects::Rects;
 use sr_wire::bad_frame::BadFrame;
@@ -72,15 +76,50 @@ fn are(sent: &[Message], wanted: Wanted) -> bool {
     }
 }
 
+// A column of any numbers.
+fn numbers(alloc: Global, name: &str) -> Result<Column, NoMemory>
+    ensures { IfOk result (λ column. is_bad_domain column ≡ false) }
+{
+    Ok(Column {
+        name: Text::of(alloc, name)?,
+        kind: Kind::Num,
+        lo: -1099511627776,
+        hi: 1099511627775,
+    })
+}
+
+// The table.
+fn table(alloc: Global) -> Result<Table, NoMemory>
+    ensures { IfOk result (λ table. is_table table ≡ true) }
+{
+    let key = numbers(alloc, "k")?;
+    let other = numbers(alloc, "a")?;
+    let mut columns = Seq::new(alloc);
+    columns.push(key)?;
+    columns.push(other)?;
+    Ok(Table {
+        name: Text::of(alloc, "t")?,
+        columns,
+        key: 0,
+    })
+}
+
+fn schema(alloc: Global) -> Result<Schema, NoMemory>
+    ensures { IfOk result (λ schema. IsTrue (list_all is_table schema)) }
+{
+    let mut schema = Schema::new(alloc);
+    match schema.add(alloc, table(alloc)?) {
+        Ok(()) => Ok(schema),
+        Err(_) => Err(NoMemory),
+    }
+}
+
 // A server at version 0 whose log keeps one change.
 fn server(alloc: Global) -> Result<Server, NoMemory>
     ensures stands { IfOk result StandsForSome }
     ensures number { IfOk result (λ server. newest_of server.log ≡ 0) }
 {
-    match created(alloc, b"CREATE TABLE t (k INT PRIMARY KEY, a INT)") {
-        Ok(schema) => Server::new(alloc, Tables::empty(alloc, schema)?, 1),
-        Err(_) => Err(NoMemory),
-    }
+    Server::new(alloc, Tables::empty(alloc, schema(alloc)?)?, 1)
 }
 
 // The rect of the keys from `lo` to `hi`.

@@ -1,6 +1,6 @@
 use Rattle.std.proofs.Common.{◌≡◌, drop}
 use Rattle.std.specs.List.{list_all}
-use Rattle.sr_server.specs.Refusals.{holding_suits}
+use Rattle.sr_session.specs.Refusals.{holding_suits}
 use Rattle.sr_server.proofs.misfit.all_holdings_suit.Given as goal
 
 abbrev pub invariant-loop-holding : goal.invariant-loop-holding

@@ -94,6 +94,7 @@ module _ (c : Client) (o : code.AskOut) (number version : ℕ) (again : is_given
         ),
         tt,
       );
+      down = λ down. absurd (let wrong : Some (request.Ask o) ≡ None = f.down down in cc);
       meant = (
         f.meant.0,
         f.meant.1,

@@ -31,6 +31,7 @@ cut-facts : (c : Client) (h : Hidden) → Facts c h → Facts (cut_off c) h
 cut-facts c h f = record {
   tables = f.tables;
   tidy = refl;
+  down = λ down. refl;
   meant = tt;
   fit = tt;
   store = f.store;

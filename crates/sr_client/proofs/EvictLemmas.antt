@@ -81,6 +81,7 @@ facts-without c h place g f out there = record {
   tables = f.tables;
   tidy = subst (λ o. IsTidyWith c.schema (past_of (with_regions c (without place c.store.regions)) (dropped h g)) (out_of h.meaning o)) (sym out)
       (subst (λ o. IsTidyWith c.schema (past_of c h) (out_of h.meaning o)) out f.tidy);
+  down = f.down;
   meant = subst (IsMeant c.schema (counted h.counted_from h.queries) h.meaning) (sym out) tt;
   fit = f.fit;
   store = evicted_store c.schema place c.store.regions f.store;

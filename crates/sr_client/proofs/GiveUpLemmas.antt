@@ -43,6 +43,7 @@ given-facts : (old : Client) (h : Hidden) (c : Client) (cuts : ℕ) → Facts ol
 given-facts old h c cuts f same = record {
   tables = subst (λ s. list_all is_table s ≡ true) (sym same) f.tables;
   tidy = refl;
+  down = λ down. refl;
   meant = tt;
   fit = tt;
   store = none_store c.schema old.store.regions (subst (λ s. IsStore s old.store.regions) (sym same) f.store);

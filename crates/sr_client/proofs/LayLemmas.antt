@@ -3,6 +3,7 @@ use Rattle.std.proofs.Common.{◌≡◌, ℕ, ◌+◌, Bool, true, false, List, 
 use Rattle.std.specs.Prelude.{not, ◌==◌, ◌↔◌}
 use Rattle.std.specs.Option.{is_some}
 use Rattle.std.proofs.lemmas.Bool.Decides.{nat_tests}
+use Rattle.sr_cell.specs.declared.fault.Fault.{Fault}
 use Rattle.sr_cell.specs.declared.table.Table.{Table}
 use Rattle.sr_cell.specs.Cells.{Row}
 use Rattle.sr_message.specs.declared.message.AskPart.{AskPart}
@@ -77,6 +78,7 @@ module _ (c : Client) (m : Message) (r : code.Request) (out : c.out ≡ Some r) 
     laid-facts db = record {
       tables = f.tables;
       tidy = rules-keep-tidy (basis_of (on c db) c.store.limits) (past_of c h) (past_of (laid c m) h) Laid f.tidy (by_message m Laid (past_of (laid c m) h) (step (basis_of (on c db) c.store.limits)));
+      down = f.down;
       meant = f.meant;
       fit = fit-more c.schema (out_of h.meaning c.out) c.version [] c.laid m f.fit (fit h.meaning);
       store = f.store;
@@ -109,33 +111,28 @@ module _ (c : Client) (m : Message) (r : code.Request) (out : c.out ≡ Some r) 
     stands = (stands.0, laid-facts stands.0 stands.1 nothing);
   }
 
--- what is out is an ask
-pub ask-only : (c : Client) (h : Hidden) (r : code.Request) → Facts c h → c.out ≡ Some r → (o : AskOutCode) × (r ≡ request.Ask o)
-ask-only c h (request.Ask o) f out = (o, refl)
-ask-only c h (request.Write n) f out = absurd (subst (IsMeant c.schema (counted h.counted_from h.queries) h.meaning) out f.meant)
-ask-only c h (request.Resume n) f out = absurd (subst (IsMeant c.schema (counted h.counted_from h.queries) h.meaning) out f.meant)
+-- what is not refused, and ends no request, may be laid by
+only-laid : (schema : List Table) (out : Option Request) (pre : List Message) (version : ℕ) (m : Message) → misfit schema out pre version m ≡ None → ((k w : ℕ) → m ≡ Reply k w → ⊥) → ((k w : ℕ) → m ≡ Written k w → ⊥)
+    → ((k : ℕ) (fault : Fault) → m ≡ Refused k fault → ⊥) → ((k w : ℕ) (kept : Bool) → m ≡ Welcome k w kept → ⊥) → IsLaid m
+only-laid schema out pre version (Notice w told) fit reply written refused welcome = tt
+only-laid schema out pre version (Lapse w) fit reply written refused welcome = tt
+only-laid schema out pre version (Rows k part rows) fit reply written refused welcome = tt
+only-laid schema out pre version (Reply k w) fit reply written refused welcome = absurd (reply k w refl)
+only-laid schema out pre version (Written k w) fit reply written refused welcome = absurd (written k w refl)
+only-laid schema out pre version (Refused k fault) fit reply written refused welcome = absurd (refused k fault refl)
+only-laid schema out pre version (Welcome k w kept) fit reply written refused welcome = absurd (welcome k w kept refl)
+only-laid schema out pre version (Hello client n) fit reply written refused welcome = absurd (cc)
+only-laid schema out pre version (Resume client n v holdings) fit reply written refused welcome = absurd (cc)
+only-laid schema out pre version (Ask n mode asks) fit reply written refused welcome = absurd (cc)
+only-laid schema out pre version (Write n sql) fit reply written refused welcome = absurd (cc)
 
-only-laid : (schema : List Table) (number query : ℕ) (meaning : Query) (fresh : Bool) (parts : List AskPart) (pre : List Message) (version : ℕ) (m : Message)
-    → misfit schema (Some (AskOut number query meaning fresh parts)) pre version m ≡ None → ((k w : ℕ) → m ≡ Reply k w → ⊥) → IsLaid m
-only-laid schema number query meaning fresh parts pre version (Notice w told) fit reply = tt
-only-laid schema number query meaning fresh parts pre version (Lapse w) fit reply = tt
-only-laid schema number query meaning fresh parts pre version (Rows k part rows) fit reply = tt
-only-laid schema number query meaning fresh parts pre version (Reply k w) fit reply = absurd (reply k w refl)
-only-laid schema number query meaning fresh parts pre version (Written k w) fit reply = absurd (cc)
-only-laid schema number query meaning fresh parts pre version (Refused k fault) fit reply = absurd (cc)
-only-laid schema number query meaning fresh parts pre version (Welcome k w kept) fit reply = absurd (cc)
-only-laid schema number query meaning fresh parts pre version (Hello client n) fit reply = absurd (cc)
-only-laid schema number query meaning fresh parts pre version (Resume client n v holdings) fit reply = absurd (cc)
-only-laid schema number query meaning fresh parts pre version (Ask n mode asks) fit reply = absurd (cc)
-only-laid schema number query meaning fresh parts pre version (Write n sql) fit reply = absurd (cc)
+pub may-lay : (c : Client) (m : Message) → Stands c → IsFit c m → ((k w : ℕ) → m ≡ Reply k w → ⊥) → ((k w : ℕ) → m ≡ Written k w → ⊥) → ((k : ℕ) (fault : Fault) → m ≡ Refused k fault → ⊥)
+    → ((k w : ℕ) (kept : Bool) → m ≡ Welcome k w kept → ⊥) → IsLaid m
+may-lay c m stands fit reply written refused welcome = only-laid c.schema (out_of stands.0.meaning c.out) c.laid c.version m (fit stands.0.meaning) reply written refused welcome
 
--- what is not refused, and is no reply, may be laid by
-pub may-lay : (c : Client) (m : Message) (r : code.Request) → Stands c → c.out ≡ Some r → IsFit c m → ((k w : ℕ) → m ≡ Reply k w → ⊥) → IsLaid m
-may-lay c m r stands out fit reply =
-    let h = stands.0 in
-    let ask = ask-only c h r stands.1 out in
-    only-laid c.schema ask.0.number ask.0.query_number h.meaning ask.0.fresh ask.0.parts c.laid c.version m
-    (subst (λ o. misfit c.schema (out_of h.meaning o) c.laid c.version m ≡ None) (out ∙ ap (λ r. Some r) ask.1) (fit h.meaning)) reply
+-- a reply is of an ask
+pub replied-ask : (c : Client) (number version : ℕ) (meaning : Query) → IsFit c (Reply number version) → is_ask (out_of meaning c.out) ≡ true
+replied-ask c number version meaning fit = not-false (is_ask (out_of meaning c.out)) (or-none (not (is_ask (out_of meaning c.out))) State _ (fit meaning))
 
 -- ---- refused
 
@@ -145,8 +142,8 @@ out-keys c h f = by c.out refl
     by : (out : Option code.Request) → c.out ≡ out → OutAsksKeys c.schema (out_of h.meaning out)
     by None e = tt
     by (Some (request.Ask o)) e = keys-asked c o h (subst (λ out. Facts (record c { out = out }) h) e f)
-    by (Some (request.Write n)) e = absurd (subst (IsMeant c.schema (counted h.counted_from h.queries) h.meaning) e f.meant)
-    by (Some (request.Resume n)) e = absurd (subst (IsMeant c.schema (counted h.counted_from h.queries) h.meaning) e f.meant)
+    by (Some (request.Write n)) e = tt
+    by (Some (request.Resume n)) e = tt
 
 -- what is promised is not refused
 pub takes-bad : (c : Client) (m : Message) (why : BadFrame) (cuts : ℕ) → ((meaning : Query) → misfit c.schema (out_of meaning c.out) c.laid c.version m ≡ Some why) → Stands c

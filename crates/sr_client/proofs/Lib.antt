@@ -30,7 +30,11 @@ mod Renewal
 mod ReplyLemmas
 mod RestLemmas
 mod Results
+mod ResumeLemmas
 mod SendLemmas
+mod SendsLemmas
+mod SettleLemmas
 mod SuitLemmas
 mod TableLemmas
 mod ToldLemmas
+mod WriteLemmas

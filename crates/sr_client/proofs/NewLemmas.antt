@@ -22,13 +22,14 @@ no_query = record { parts = []; joins = []; outputs = [] }
 abbrev at_first : Hidden
 at_first = record { marks = []; queries = []; counted_from = 0; meaning = no_query }
 
-nothing-kept : (schema : List Table) → Keeps schema (is_held []) (stamp []) []
+pub nothing-kept : (schema : List Table) → Keeps schema (is_held []) (stamp []) []
 nothing-kept schema = record { points = λ t a p point. refl; stamped = All-nil _ }
 
 new-facts : (id : ℕ) (schema : List Table) (limits : Limits) → list_all is_table schema ≡ true → Facts (new_client id schema limits) at_first
 new-facts id schema limits tables = record {
   tables = tables;
   tidy = refl;
+  down = λ down. refl;
   meant = tt;
   fit = tt;
   store = no-store schema;
@@ -45,6 +46,7 @@ opened-facts : (id : ℕ) (schema : List Table) (limits : Limits) → list_all i
 opened-facts id schema limits tables = record {
   tables = tables;
   tidy = refl;
+  down = λ down. refl;
   meant = tt;
   fit = tt;
   store = no-store schema;

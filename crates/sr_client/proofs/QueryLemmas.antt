@@ -150,6 +150,7 @@ module _ (c : Client) (q : Query) (m : model.Query) (store : Store) (marks : Lis
         record {
           tables = f.tables;
           tidy = subst (λ o. IsTidyWith c.schema (past_of (with_now c store) later) (out_of h.meaning o)) (sym out) laid;
+          down = f.down;
           meant = subst (IsMeant c.schema (counted from (with_query h m)) h.meaning) (sym out) tt;
           fit = subst (AreFit c.schema (out_of h.meaning c.out) c.version []) (sym laid) tt;
           store = made.store;

@@ -109,6 +109,7 @@ module _ (c : Client) (o : code.AskOut) (number version : ℕ) (store : Store) (
         record {
           tables = f.tables;
           tidy = refl;
+          down = λ down. refl;
           meant = tt;
           fit = tt;
           store = made.store;

@@ -83,6 +83,7 @@ module _ (c : Client) (version : ℕ) (told : List Tell) (new : List Region) (dr
         record {
           tables = f.tables;
           tidy = subst (λ o. IsTidyWith c.schema (past_of (at_version c version new) (with_drops h drops)) (out_of h.meaning o)) (sym out) laid;
+          down = f.down;
           meant = f.meant;
           fit = subst (AreFit c.schema (out_of h.meaning c.out) version []) (sym laid) tt;
           store = still.store (store-told c.schema told c.store.regions f.store tells);
@@ -145,6 +146,7 @@ module _ (c : Client) (version : ℕ) (out : c.out ≡ None) (fit : IsFit c (Lap
         record {
           tables = f.tables;
           tidy = subst (λ o. IsTidyWith c.schema (past_of (at_version c version []) (with_drops h (map (drop_of Lapsed) c.store.regions))) (out_of h.meaning o)) (sym out) laid;
+          down = f.down;
           meant = f.meant;
           fit = subst (AreFit c.schema (out_of h.meaning c.out) version []) (sym laid) tt;
           store = none_store c.schema c.store.regions f.store;

@@ -141,8 +141,8 @@ module _ (c : Client) (q : Query) (m : model.Query) (asks : List AskPart) (may :
       all-parts c.schema q m (λ (part : Part). EndWith c.schema (counted h.counted_from h.queries ++ m ∷ []) part.table part.rects) one
       (part-end c.schema (counted h.counted_from h.queries) m one.part one.meant one.meant_parts one.is)
 
-  pub sent-facts : Facts (with_out c (next_ask c q asks)) (asked_hidden h m)
-  sent-facts = record {
+  pub sent-facts : c.cut ≡ false → Facts (with_out c (next_ask c q asks)) (asked_hidden h m)
+  sent-facts up = record {
     tables = f.tables;
     tidy = (
       (
@@ -158,6 +158,7 @@ module _ (c : Client) (q : Query) (m : model.Query) (asks : List AskPart) (may :
       ),
       subst AreLaid (sym laid) tt,
     );
+    down = λ down. absurd (let wrong : true ≡ false = sym down ∙ up in cc);
     meant = (may.is, subst (λ qs. PartsEnd c.schema qs q.parts) (sym more) parts-end, subst (λ qs. AsksEnd c.schema qs asks) (sym more) (may.along (counted h.counted_from h.queries ++ m ∷ []) ends parts-end), may.few);
     fit = subst (AreFit c.schema (Some (AskOut c.next_request (c.queries + 1) m fresh asks)) c.version []) (sym laid) tt;
     store = f.store;
@@ -198,7 +199,7 @@ module _ (c : Client) (q : Query) (m : model.Query) (asks : List AskPart) (drops
       let o = r.over db here in
       let old : session.Client = past_of (with_regions c gs) r.hidden in
       let fresh : Bool = is_empty gs in
-      let facts = sent-facts (with_regions c gs) q m asks may r.hidden r.facts in
+      let facts = sent-facts (with_regions c gs) q m asks may r.hidden r.facts up in
       let asked : session.Client → ℕ → session.Client = λ old n. record old { queries = (asked_hidden r.hidden m).queries; next_request = c.next_request + 1; out = Some (AskOut c.next_request n m fresh asks) } in
       record {
         outcome = rules.AskSent drops c.next_request fresh asks;
@@ -227,7 +228,7 @@ module _ (c : Client) (q : Query) (m : model.Query) (asks : List AskPart) (drops
   }
   query-sent new step each (is_sent up) stands = record {
     by_rules = over c (λ db past. Goes db (SaysQuery past (asked_step (next_ask (with_regions c gs) q asks) drops)) (rules.QueryStep (basis_of db c.store.limits) past (Ok m)) gone) (λ h f. sent-goes h f (each h f) up);
-    stands = let r = each stands.0 stands.1 in (asked_hidden r.hidden m, sent-facts (with_regions c gs) q m asks may r.hidden r.facts);
+    stands = let r = each stands.0 stands.1 in (asked_hidden r.hidden m, sent-facts (with_regions c gs) q m asks may r.hidden r.facts up);
   }
 
 -- the rest of a query is asked
@@ -300,6 +301,7 @@ facts-dropped c h f out =
     record {
       tables = f.tables;
       tidy = subst (λ o. IsTidyWith c.schema (past_of (with_regions c []) (dropped_hidden h (map (drop_of Pieces) c.store.regions))) (out_of h.meaning o)) (sym out) (none-laid c h f out);
+      down = f.down;
       meant = subst (IsMeant c.schema (counted (length h.queries + 1) h.queries) h.meaning) (sym out) tt;
       fit = f.fit;
       store = none_store c.schema c.store.regions f.store;

@@ -4,6 +4,8 @@ pub mod Bound
 pub mod Cutting
 pub mod Arriving
 pub mod Sending
+pub mod Sends
+pub mod Settling
 pub mod Shapes
 pub mod Stands
 pub mod Steps

@@ -65,25 +65,25 @@ past_of c h = record {
 
 -- ---- what is known of a client, on any link
 
--- The ask that is out is of a query that means this; both begin and end only where tests of these queries do. No call sends a write, or
--- the first message of a session, yet: so none is out.
+-- The ask that is out is of a query that means this; both begin and end only where tests of these queries do.
 abbrev pub IsMeant : List Table → List Query → Query → Option code.Request → Type 0
 IsMeant schema queries meaning None = Unit {0}
 IsMeant schema queries meaning (Some (Ask o)) =
     IsMeaning schema o.query meaning × PartsEnd schema queries o.query.parts × AsksEnd schema queries o.parts × (count_asked o.parts ≤ most_rects)
-IsMeant schema queries meaning (Some (Write number)) = ⊥
-IsMeant schema queries meaning (Some (Resume number)) = ⊥
+IsMeant schema queries meaning (Some (Write number)) = Unit {0}
+IsMeant schema queries meaning (Some (Resume number)) = Unit {0}
 
 -- None of these messages was refused when it came, behind those that had been laid by.
 abbrev pub AreFit : List Table → Option Request → ℕ → List Message → List Message → Type 0
 AreFit schema out version laid [] = Unit {0}
 AreFit schema out version laid (m ∷ ms) = (misfit schema out laid version m ≡ None) × AreFit schema out version (laid ++ m ∷ []) ms
 
--- The client's regions are the classes of what its marks hold, within the limits; they, and what is out, are cut only along tests of
--- counted queries.
+-- Over a cut link nothing is out. The client's regions are the classes of what its marks hold, within the limits; they, and what is out,
+-- are cut only along tests of counted queries.
 pub record Facts (c : Client) (h : Hidden) : Type 0 where
   pub tables : list_all is_table c.schema ≡ true
   pub tidy : IsTidy c.schema (past_of c h)
+  pub down : c.cut ≡ true → c.out ≡ None
   pub meant : IsMeant c.schema (counted h.counted_from h.queries) h.meaning c.out
   pub fit : AreFit c.schema (out_of h.meaning c.out) c.version [] c.laid
   pub store : IsStore c.schema c.store.regions

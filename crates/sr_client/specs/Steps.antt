@@ -3,12 +3,12 @@ use Rattle.std.specs.Prelude.{ℕ, Bool, true, false, ◌≡◌, List, [], ◌�
 use Rattle.sr_cell.specs.declared.cause.Cause.TheVariants.{Asked as AskedCause}
 use Rattle.sr_message.specs.declared.message.AskPart.{AskPart}
 use Rattle.sr_message.specs.declared.message.Message.{Message}
-use Rattle.sr_message.specs.declared.message.Message.TheVariants.{Ask}
+use Rattle.sr_message.specs.declared.message.Message.TheVariants.{Ask, Write}
 use Rattle.sr_model.specs.Queries.{Query}
 use Rattle.sr_store.specs.Stores.{drop_of}
 use Rattle.sr_session.specs.Sessions.{Database}
 use Rattle.sr_session.specs.Clients as session
-use Rattle.sr_session.specs.Rules.{Outcome, Busy, Down, Answered, AskSent, Evicted, NoSuchClass, CutDone, AlreadyCut, Laid, Applied, Forgot, WriteDone, WriteRefused, Welcomed, next_query}
+use Rattle.sr_session.specs.Rules.{Outcome, Busy, Down, Answered, AskSent, WriteSent, ResumeSent, AlreadyUp, Evicted, NoSuchClass, CutDone, AlreadyCut, Laid, Applied, Forgot, WriteDone, WriteRefused, Welcomed, next_query}
 use Rattle.sr_session.specs.Rules as rules
 use Rattle.sr_client.specs.declared.client.Client.{Client}
 use Rattle.sr_client.specs.declared.client.Request as code
@@ -21,6 +21,10 @@ use Rattle.sr_client.specs.declared.steps.QueryStep.{QueryStep}
 use Rattle.sr_client.specs.declared.steps.QueryStep.TheVariants.{Answered as QueryAnswered, Asked as QueryAsked, Busy as QueryBusy, Down as QueryDown}
 use Rattle.sr_client.specs.declared.steps.Took.{Took}
 use Rattle.sr_client.specs.declared.steps.Took.TheVariants.{Laid as TookLaid, Applied as TookApplied, Forgot as TookForgot, Answered as TookAnswered, Asked as TookAsked, Written as TookWritten, Refused as TookRefused, Welcomed as TookWelcomed, Bad as TookBad}
+use Rattle.sr_client.specs.declared.steps.WriteStep.{WriteStep}
+use Rattle.sr_client.specs.declared.steps.WriteStep.TheVariants.{Sent as WriteIsSent, Sql as WriteSql, Busy as WriteBusy, Down as WriteDown}
+use Rattle.sr_client.specs.declared.steps.ResumeStep.{ResumeStep}
+use Rattle.sr_client.specs.declared.steps.ResumeStep.TheVariants.{Sent as ResumeIsSent, Up as ResumeUp}
 use Rattle.sr_client.specs.declared.steps.EvictStep.{EvictStep}
 use Rattle.sr_client.specs.declared.steps.EvictStep.TheVariants.{Dropped as EvictDropped, Busy as EvictBusy, NoSuch as EvictNoSuch}
 use Rattle.sr_client.specs.Stands.{StandsOver, Stands, Truly, basis_of}
@@ -46,6 +50,18 @@ SaysTook (TookWritten request version marks) o = o ≡ WriteDone request version
 SaysTook (TookRefused request fault marks) o = o ≡ WriteRefused request fault marks
 SaysTook (TookWelcomed version kept marks) o = o ≡ Welcomed version kept marks
 SaysTook (TookBad why) o = ⊥
+
+-- which outcome the step of a write is; that its text is too long is none
+abbrev pub SaysWrite : List ℕ → WriteStep → Outcome → Type 0
+SaysWrite sql (WriteIsSent request message) o = (message ≡ Write request sql) × (o ≡ WriteSent request sql)
+SaysWrite sql (WriteSql fault) o = ⊥
+SaysWrite sql (WriteBusy request) o = o ≡ Busy request
+SaysWrite sql (WriteDown cut) o = o ≡ Down cut []
+
+-- which outcome the step of a resume of that past is
+abbrev pub SaysResume : session.Client → ResumeStep → Outcome → Type 0
+SaysResume past (ResumeIsSent request message) o = (request ≡ past.next_request) × (o ≡ ResumeSent message)
+SaysResume past ResumeUp o = o ≡ AlreadyUp
 
 -- which outcome the step of an eviction is
 abbrev pub SaysEvict : EvictStep → Outcome → Type 0
@@ -92,6 +108,17 @@ pub record Takes (old : Client) (m : Message) (new : Client) (took : Took) : Typ
 pub record Evicts (old : Client) (place : ℕ) (new : Client) (step : EvictStep) : Type 0 where
   pub by_rules : (db : Database) (past : session.Client) → StandsOver db past old
       → Goes db (SaysEvict step) (rules.EvictStep (basis_of db old.store.limits) place past) new
+  pub stands : Stands new
+
+-- For every database and past that the client stands over, what a write does whose text is not too long is a step of the rules.
+pub record Writes (old : Client) (sql : List ℕ) (new : Client) (step : WriteStep) : Type 0 where
+  pub by_rules : (db : Database) (past : session.Client) → StandsOver db past old → Goes db (SaysWrite sql step) (rules.WriteStep sql past) new
+  pub stands : Stands new
+
+-- For every database and past that the client stands over, what a resume does is a step of the rules.
+pub record Resumes (old new : Client) (step : ResumeStep) : Type 0 where
+  pub by_rules : (db : Database) (past : session.Client) → StandsOver db past old
+      → Goes db (SaysResume past step) (rules.ResumeStep db.schema past) new
   pub stands : Stands new
 
 -- For every database and past that the client stands over, what a cut does is a step of the rules.

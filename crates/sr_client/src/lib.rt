@@ -8,6 +8,11 @@ pub mod cut;
 pub mod laws;
 pub mod misfit;
 pub mod query;
+pub mod resume;
+pub mod settle;
 pub mod steps;
 pub mod take;
+#[cfg(test)]
+mod tests;
 mod values;
+pub mod write;

@@ -7,6 +7,7 @@ ghost use Rattle.sr_client.specs.Asking.{AsksRest};
 ghost use Rattle.sr_client.specs.Bound.{IsMeaning};
 ghost use Rattle.sr_client.specs.Cutting.{AreCutAlong, IsOver};
 ghost use Rattle.sr_client.specs.Sending.{next_ask, IsSent};
+ghost use Rattle.sr_client.specs.Sends.{QuerySendsWell};
 ghost use Rattle.sr_client.specs.Stands.{Stands, Stays, HoldsNothing, drawn};
 ghost use Rattle.sr_client.specs.Steps.{Queries};
 
@@ -31,6 +32,7 @@ impl Client {
         requires room { drawn self.old + 2 < 2 ^ 63 }
         ensures queries { (meaning : TheQuery) → IsMeaning self.old.schema query meaning → IfOk result (Queries self.old meaning self.new) }
         ensures stands { Stands self.new }
+        ensures sends { IfOk result (QuerySendsWell self.old.schema self.old.id) }
         ensures version { self.new.version ≡ self.old.version }
         ensures nothing_left { OnErr result (HoldsNothing self.new) }
         ensures stays { Stays self.old self.new }
@@ -50,6 +52,7 @@ impl Client {
         requires meant { (meaning : TheQuery) × IsMeaning self.old.schema query meaning }
         requires room { drawn self.old + 2 < 2 ^ 63 }
         ensures queries { (meaning : TheQuery) → IsMeaning self.old.schema query meaning → IfOk result (Queries self.old meaning self.new) }
+        ensures sends { IfOk result (QuerySendsWell self.old.schema self.old.id) }
         ensures version { self.new.version ≡ self.old.version }
         ensures stays { Stays self.old self.new }
         ensures drawn { drawn self.new ≤ drawn self.old + 2 }
@@ -80,6 +83,7 @@ impl Client {
         requires nothing { AsksRest self.old.schema self.old.store.regions query.now.parts [] }
         requires room { drawn self.old + 2 < 2 ^ 63 }
         ensures queries { (meaning : TheQuery) → IsMeaning self.old.schema query.now meaning → IfOk result (Queries self.old meaning self.new) }
+        ensures sends { IfOk result (QuerySendsWell self.old.schema self.old.id) }
         ensures version { self.new.version ≡ self.old.version }
         ensures stays { Stays self.old self.new }
         ensures drawn { drawn self.new ≤ drawn self.old + 2 }
@@ -110,6 +114,7 @@ impl Client {
         requires over { IsOver self.old.schema self.old.store.regions query.parts }
         requires room { drawn self.old + 2 < 2 ^ 63 }
         ensures queries { (meaning : TheQuery) → IsMeaning self.old.schema query meaning → IfOk result (Queries self.old meaning self.new) }
+        ensures sends { IfOk result (QuerySendsWell self.old.schema self.old.id) }
         ensures version { self.new.version ≡ self.old.version }
         ensures stays { Stays self.old self.new }
         ensures drawn { drawn self.new ≤ drawn self.old + 2 }

@@ -72,6 +72,23 @@ pub enum Took {
     Bad(BadFrame),
 }
 
+/// What comes of a write: a request that is to be sent; that its text is too long; that another request is out; or that the link is
+/// cut.
+#[derive(Drop)]
+pub enum WriteStep {
+    Sent { request: u64, message: Message },
+    Sql(Fault),
+    Busy { request: u64 },
+    Down { cut: u64 },
+}
+
+/// What comes of a resume: the first message of a session, which is to be sent, or that the link is not cut.
+#[derive(Drop)]
+pub enum ResumeStep {
+    Sent { request: u64, message: Message },
+    Up,
+}
+
 /// What comes of an eviction: the region, or that a request is out, or how many regions there are where none has that number.
 #[derive(Drop)]
 pub enum EvictStep {

@@ -1,5 +1,5 @@
 //! What a client does with a message of the server.
-ghost use Rattle.std.specs.Prelude.{◌≡◌, ℕ, ◌+◌, ◌<◌, ◌≤◌, ◌^◌, ◌↔◌, ◌++◌, nat_lt, true, false, List, Some, None, length, IfOk, OnOk, OnErr, IsTrue};
+ghost use Rattle.std.specs.Prelude.{◌≡◌, ◌+◌, ◌<◌, ◌≤◌, ◌^◌, ◌↔◌, ◌++◌, nat_lt, true, false, List, Some, None, length, IfOk, OnOk, OnErr, IsTrue};
 ghost use Rattle.std.specs.List.{list_all, All};
 ghost use Rattle.std.specs.Option.{is_some};
 ghost use Rattle.sr_cell.specs.declared.table.Table.{Table as TheTable};
@@ -12,10 +12,11 @@ ghost use Rattle.sr_session.specs.Arrivals.{arrived_at};
 ghost use Rattle.sr_session.specs.Misfits.{misfit};
 ghost use Rattle.sr_session.specs.Regions.{after_message, after_messages};
 ghost use Rattle.sr_session.specs.Rules.{is_given_up};
-ghost use Rattle.sr_session.specs.Walks.{has_lapse, is_lapse};
+ghost use Rattle.sr_session.specs.Walks.{IsLaid, has_lapse, is_lapse};
 ghost use Rattle.sr_client.specs.declared.steps.Took.TheVariants.{Bad};
 ghost use Rattle.sr_client.specs.Arriving.{arrivals_of};
 ghost use Rattle.sr_client.specs.Laying.{TellsRows, asking, brought, with_brought};
+ghost use Rattle.sr_client.specs.Sends.{TookSendsWell};
 ghost use Rattle.sr_client.specs.Stands.{Stands, Stays, HoldsNothing, IsFit, drawn, out_of};
 ghost use Rattle.sr_client.specs.Steps.{Takes, is_bad};
 
@@ -45,6 +46,7 @@ impl Client {
         ensures takes { IfOk result (Takes self.old message self.new) }
         ensures stands { Stands self.new }
         ensures version { self.old.version ≤ self.new.version }
+        ensures sends { IfOk result (TookSendsWell self.old.schema self.old.id) }
         ensures nothing_left { OnErr result (HoldsNothing self.new) }
         ensures bad_left { IfOk result (λ took. is_bad took ≡ true → HoldsNothing self.new) }
         ensures stays { Stays self.old self.new }
@@ -75,6 +77,7 @@ impl Client {
         ensures takes { IfOk result (Takes self.old message self.new) }
         ensures stands { Stands self.new }
         ensures version { self.old.version ≤ self.new.version }
+        ensures sends { IfOk result (TookSendsWell self.old.schema self.old.id) }
         ensures nothing_left { OnErr result (HoldsNothing self.new) }
         ensures stays { Stays self.old self.new }
         ensures drawn { drawn self.new ≤ drawn self.old + 2 }
@@ -95,6 +98,7 @@ impl Client {
         ensures good { IfOk result (λ took. is_bad took ≡ false) }
         ensures takes { IfOk result (Takes self.old message self.new) }
         ensures version { self.old.version ≤ self.new.version }
+        ensures sends { IfOk result (TookSendsWell self.old.schema self.old.id) }
         ensures stays { Stays self.old self.new }
         ensures drawn { drawn self.new ≤ drawn self.old + 2 }
     {
@@ -115,6 +119,7 @@ impl Client {
         ensures good { IfOk result (λ took. is_bad took ≡ false) }
         ensures takes { IfOk result (Takes self.old message self.new) }
         ensures version { self.old.version ≤ self.new.version }
+        ensures sends { IfOk result (TookSendsWell self.old.schema self.old.id) }
         ensures stays { Stays self.old self.new }
         ensures drawn { drawn self.new ≡ drawn self.old }
     {
@@ -133,6 +138,7 @@ impl Client {
         ensures good { IfOk result (λ took. is_bad took ≡ false) }
         ensures takes { IfOk result (Takes self.old (Notice version told) self.new) }
         ensures version { self.old.version ≤ self.new.version }
+        ensures sends { IfOk result (TookSendsWell self.old.schema self.old.id) }
         ensures stays { Stays self.old self.new }
         ensures drawn { drawn self.new ≡ drawn self.old }
     {
@@ -151,6 +157,7 @@ impl Client {
         ensures good { IfOk result (λ took. is_bad took ≡ false) }
         ensures takes { IfOk result (Takes self.old (Lapse version) self.new) }
         ensures version { self.old.version ≤ self.new.version }
+        ensures sends { IfOk result (TookSendsWell self.old.schema self.old.id) }
         ensures stays { Stays self.old self.new }
         ensures drawn { drawn self.new ≡ drawn self.old }
     {
@@ -170,11 +177,19 @@ impl Client {
         ensures good { IfOk result (λ took. is_bad took ≡ false) }
         ensures takes { IfOk result (Takes self.old message self.new) }
         ensures version { self.old.version ≤ self.new.version }
+        ensures sends { IfOk result (TookSendsWell self.old.schema self.old.id) }
         ensures stays { Stays self.old self.new }
         ensures drawn { drawn self.new ≤ drawn self.old + 2 }
     {
         match message {
             Message::Reply { number, version } => self.reply(alloc, number, version),
+            Message::Written { number, version } => self.written(alloc, number, version),
+            Message::Refused { number, fault } => self.refused(alloc, number, fault),
+            Message::Welcome {
+                number,
+                version,
+                kept,
+            } => self.welcome(alloc, number, version, kept),
             _ => self.lay_by(message),
         }
     }
@@ -183,10 +198,11 @@ impl Client {
         requires stands { Stands self.old }
         requires out { IsTrue (is_some self.old.out) }
         requires fit { IsFit self.old message }
-        requires no_reply { (number version : ℕ) → message ≡ Reply number version → ⊥ }
+        requires laid { IsLaid message }
         ensures good { IfOk result (λ took. is_bad took ≡ false) }
         ensures takes { IfOk result (Takes self.old message self.new) }
         ensures version { self.new.version ≡ self.old.version }
+        ensures sends { IfOk result (TookSendsWell self.old.schema self.old.id) }
         ensures stays { Stays self.old self.new }
         ensures drawn { drawn self.new ≡ drawn self.old }
     {
@@ -204,6 +220,7 @@ impl Client {
         ensures good { IfOk result (λ took. is_bad took ≡ false) }
         ensures takes { IfOk result (Takes self.old (Reply number version) self.new) }
         ensures version { self.old.version ≤ self.new.version }
+        ensures sends { IfOk result (TookSendsWell self.old.schema self.old.id) }
         ensures stays { Stays self.old self.new }
         ensures drawn { drawn self.new ≤ drawn self.old + 2 }
     {
@@ -234,6 +251,7 @@ impl Client {
         ensures good { IfOk result (λ took. is_bad took ≡ false) }
         ensures takes { IfOk result (Takes (asking self.old out.now) (Reply number version) self.new) }
         ensures version { self.old.version ≤ self.new.version }
+        ensures sends { IfOk result (TookSendsWell self.old.schema self.old.id) }
         ensures stays { Stays self.old self.new }
         ensures drawn { drawn self.new ≡ drawn self.old }
     {
@@ -276,7 +294,7 @@ impl Client {
         arrivals_of(alloc, &self.schema, out.parts.as_slice(), rows)
     }
 
-    fn apply_laid(&mut self, alloc: Global, laid: Messages) -> Result<Rows, NoMemory>
+    pub(crate) fn apply_laid(&mut self, alloc: Global, laid: Messages) -> Result<Rows, NoMemory>
         requires { (schema : List TheTable) × IsStore schema self.old.store.regions × All (TellsRows schema) laid }
         ensures rows { IfOk result (λ rows. rows ≡ arrived_at 0 laid) }
         ensures applied { OnOk result (self.new.store.regions ≡ after_messages laid self.old.store.regions) }
@@ -333,6 +351,7 @@ impl Client {
         ensures good { IfOk result (λ took. is_bad took ≡ false) }
         ensures takes { IfOk result (Takes (asking self.old out) (Reply number version) self.new) }
         ensures version { self.old.version ≤ self.new.version }
+        ensures sends { IfOk result (TookSendsWell self.old.schema self.old.id) }
         ensures stays { Stays self.old self.new }
         ensures drawn { drawn self.new ≤ drawn self.old + 2 }
     {
@@ -367,7 +386,7 @@ fn is_given_up(fresh: bool, laid: &[Message]) -> bool
 }
 
 /// Whether a Lapse is among the messages.
-fn has_lapse(messages: &[Message]) -> bool
+pub(crate) fn has_lapse(messages: &[Message]) -> bool
     ensures { result ≡ has_lapse messages.now }
 {
     for message in messages {

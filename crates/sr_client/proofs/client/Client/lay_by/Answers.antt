@@ -2,7 +2,7 @@ use Rattle.std.proofs.Common.{◌≡◌, List, sym, subst}
 use Rattle.sr_message.specs.declared.message.Message.{Message}
 use Rattle.sr_client.specs.declared.steps.Took.TheVariants as took
 use Rattle.sr_client.specs.Steps.{Takes}
-use Rattle.sr_client.proofs.LayLemmas.{takes-laid, may-lay, some-of}
+use Rattle.sr_client.proofs.LayLemmas.{takes-laid, some-of}
 use Rattle.sr_client.proofs.client.Client.lay_by.Goals as goal
 
 pub returns-clause-takes : goal.returns-clause-takes
@@ -10,5 +10,4 @@ returns-clause-takes c =
     let old = c.args.self.now in
     let m = c.args.message in
     let out = some-of old.out c.requires.out in
-    let may = may-lay old m out.0 c.requires.stands out.1 c.requires.fit c.requires.no_reply in
-    subst (λ ms. Takes old m (record old { laid = ms }) took.Laid) (sym c.in_ok-push.ensures.pushed) (takes-laid old m out.0 out.1 c.requires.fit may c.requires.stands)
+    subst (λ ms. Takes old m (record old { laid = ms }) took.Laid) (sym c.in_ok-push.ensures.pushed) (takes-laid old m out.0 out.1 c.requires.fit c.requires.laid c.requires.stands)

@@ -1,0 +1,145 @@
+-- What a resume does.
+use Rattle.std.proofs.Common.{◌≡◌, ℕ, ◌+◌, ◌<◌, Bool, true, false, List, [], ◌∷◌, map, length, refl, sym, ◌∙◌, ap, subst, arith, Some, None}
+use Rattle.std.specs.Prelude.{not, ◌&&◌, ◌||◌, ◌==◌, nat_eq, nat_lt, if◌then◌else◌}
+use Rattle.std.specs.List.{list_all, list_any, All}
+use Rattle.std.specs.Cmp.Derive.{both_true}
+use Rattle.std.proofs.lemmas.Bool.Decides.{nat_tests}
+use Rattle.std.proofs.lemmas.List.Elements.{All-head, All-tail}
+use Rattle.sr_cell.specs.declared.table.Table.{Table}
+use Rattle.sr_cell.specs.Cells.{Row}
+use Rattle.sr_cell.specs.Columns.{table_at, is_point}
+use Rattle.sr_box.specs.Points.{in_any, times, rect_fits}
+use Rattle.sr_union.proofs.Times.{in_any-times}
+use Rattle.sr_message.specs.declared.message.Message.{Message}
+use Rattle.sr_subs.specs.Subscription.{has_point}
+use Rattle.sr_history.specs.declared.mark.Mark.{Mark}
+use Rattle.sr_history.specs.Marks.{is_held}
+use Rattle.sr_history.specs.Classes.{stamp}
+use Rattle.sr_region.specs.declared.region.Region.{Region}
+use Rattle.sr_store.specs.Classes.{Stamps, Keeps, occurs, is_of}
+use Rattle.sr_store.specs.Stores.{IsOfSchema}
+use Rattle.sr_store.proofs.Covering.{all_none}
+use Rattle.sr_session.specs.Sessions.{Database}
+use Rattle.sr_session.specs.Clients as session
+use Rattle.sr_session.specs.Clients.{IsResumeMessage}
+use Rattle.sr_session.specs.Places.{Within, held}
+use Rattle.sr_session.specs.Refusals.{holding_suits, is_request_of}
+use Rattle.sr_session.specs.Rules.{already_up, resumes}
+use Rattle.sr_session.specs.Rules as rules
+use Rattle.sr_session.specs.Walks.{AreLaid, ResumeOut}
+use Rattle.sr_session.proofs.MarkLemmas.{held-any}
+use Rattle.sr_client.specs.declared.client.Client.{Client}
+use Rattle.sr_client.specs.declared.client.Request.TheVariants as request
+use Rattle.sr_client.specs.declared.steps.ResumeStep.TheVariants.{Sent, Up}
+use Rattle.sr_client.specs.Sends.{holding_of, first_of}
+use Rattle.sr_client.specs.Stands.{Hidden, Facts, Stands, StandsOver, past_of, out_of, AreFit}
+use Rattle.sr_client.specs.Steps.{Goes, SaysResume, Resumes}
+use Rattle.sr_client.proofs.OverLemmas.{on, IsHere, over, stands-over}
+use Rattle.sr_client.proofs.QueryLemmas.{none-laid}
+use Rattle.sr_client.proofs.TableLemmas.{have-first}
+
+pub resume-up : (c : Client) → Stands c → c.cut ≡ false → Resumes c c Up
+resume-up c stands up = record {
+  by_rules = over c (λ db past. Goes db (SaysResume past Up) (rules.ResumeStep db.schema past) c) (λ h f db here. record {
+    outcome = rules.AlreadyUp;
+    next = past_of c h;
+    is = refl;
+    allowed = already_up up;
+    stands = stands-over c h db f here;
+  });
+  stands = stands;
+}
+
+-- ---- the first message has all points that are held
+
+-- a point that occurs in regions is one of their points
+occurs-there : (gs : List Region) (t a : ℕ) (p : Row) → (occurs gs t a p ≡ 0 → ⊥) → has_point (map holding_of gs) t p ≡ true
+occurs-there [] t a p some = absurd (some refl)
+occurs-there (g ∷ gs) t a p some = by (is_of g t a) refl (in_any g.rects p) refl some (occurs-there gs t a p)
+  where
+    none : in_any g.rects p ≡ false → times g.rects p ≡ 0
+    none out = let x = in_any-times g.rects p in grind (arith, nat_tests, x, out)
+
+    own : is_of g t a ≡ true → (g.table == t) ≡ true
+    own is = grind (arith, is)
+
+    behind : has_point (map holding_of gs) t p ≡ true → ((g.table == t && in_any g.rects p) || has_point (map holding_of gs) t p) ≡ true
+    behind more = grind (arith, more)
+
+    by : (of : Bool) → is_of g t a ≡ of → (inside : Bool) → in_any g.rects p ≡ inside → ((if of then times g.rects p else 0) + occurs gs t a p ≡ 0 → ⊥)
+        → ((occurs gs t a p ≡ 0 → ⊥) → has_point (map holding_of gs) t p ≡ true) → ((g.table == t && in_any g.rects p) || has_point (map holding_of gs) t p) ≡ true
+    by false e inside f some others = behind (others (λ zero_is. some (omega (arith, zero_is))))
+    by true e true f some others = let here = own e in grind (arith, here, f)
+    by true e false f some others = behind (others (λ zero_is. some (let out = none f in omega (arith, zero_is, out))))
+
+all-there : (schema : List Table) (marks : List Mark) (stamps : Stamps) (gs : List Region) → Keeps schema (is_held marks) stamps gs → Within schema (held marks) (has_point (map holding_of gs))
+all-there schema marks stamps gs keeps t p point is =
+    let some = held-any marks t p is in
+    let count : occurs gs t some.0 p ≡ 1 = keeps.points t some.0 p point ∙ ap (λ b. if b then 1 else 0) some.1 in
+    occurs-there gs t some.0 p (λ zero_is. absurd (omega (arith, count, zero_is)))
+
+first-is : (c : Client) (h : Hidden) → Facts c h → IsResumeMessage c.schema (past_of c h) c.next_request (first_of c c.store.regions)
+first-is c h f = by c.store.regions refl
+  where
+    by : (gs : List Region) → c.store.regions ≡ gs → IsResumeMessage c.schema (past_of c h) c.next_request (first_of c gs)
+    by [] e = (refl, (all_none c.schema h.marks (stamp h.queries) c.store.regions (have-first c.schema f.tables) f.store.each f.keeps).0 e)
+    by (g ∷ gs) e = (refl, refl, all-there c.schema h.marks (stamp h.queries) (g ∷ gs) (subst (Keeps c.schema (is_held h.marks) (stamp h.queries)) e f.keeps))
+
+-- ---- it suits the schema
+
+holding-suits : (schema : List Table) (g : Region) → IsOfSchema schema g → holding_suits schema (holding_of g) ≡ true
+holding-suits schema g is = both_true (below g.table (length schema) is.0) is.1.area.fit
+  where
+    below : (n k : ℕ) → n < k → nat_lt n k ≡ true
+    below n k less = grind (arith, nat_tests, less)
+
+holdings-suit : (schema : List Table) (gs : List Region) → All (IsOfSchema schema) gs → list_all (holding_suits schema) (map holding_of gs) ≡ true
+holdings-suit schema [] all = refl
+holdings-suit schema (g ∷ gs) all = both_true (holding-suits schema g (All-head (IsOfSchema schema) g gs all)) (holdings-suit schema gs (All-tail (IsOfSchema schema) g gs all))
+
+pub first-well : (c : Client) → Stands c → is_request_of c.schema c.id (first_of c c.store.regions) ≡ true
+first-well c stands = by c.store.regions stands.1.store.each
+  where
+    own : (c.id == c.id) ≡ true
+    own = grind (arith, nat_tests)
+
+    by : (gs : List Region) → All (IsOfSchema c.schema) gs → is_request_of c.schema c.id (first_of c gs) ≡ true
+    by [] all = rw own refl
+    by (g ∷ gs) all = let suit = holdings-suit c.schema (g ∷ gs) all in rw (own, suit) refl
+
+-- ---- the link is up
+
+-- the client once its link is up, and the first message out
+abbrev pub resuming : Client → Client
+resuming c = record c { next_request = c.next_request + 1; out = Some (request.Resume c.next_request); cut = false }
+
+resuming-facts : (c : Client) (h : Hidden) → Facts c h → c.cut ≡ true → Facts (resuming c) h
+resuming-facts c h f down =
+    let laid = none-laid c h f (f.down down) in
+    record {
+      tables = f.tables;
+      tidy = (refl, subst AreLaid (sym laid) tt);
+      down = λ wrong. absurd (let no : true ≡ false = sym wrong in cc);
+      meant = tt;
+      fit = subst (AreFit c.schema (Some (ResumeOut c.next_request)) c.version []) (sym laid) tt;
+      store = f.store;
+      keeps = f.keeps;
+      queries = f.queries;
+      last = f.last;
+      rows = f.rows;
+      few = f.few;
+      from = f.from;
+      ends = f.ends;
+    }
+
+pub resume-sent : (c : Client) (message : Message) → Stands c → c.cut ≡ true → message ≡ first_of c c.store.regions → Resumes c (resuming c) (Sent c.next_request message)
+resume-sent c message stands down told = record {
+  by_rules = over c (λ db past. Goes db (SaysResume past (Sent c.next_request message)) (rules.ResumeStep db.schema past) (resuming c)) (λ h f db here. record {
+    outcome = rules.ResumeSent message;
+    next = past_of (resuming c) h;
+    is = (refl, refl);
+    allowed = resumes message down (subst (IsResumeMessage c.schema (past_of c h) c.next_request) (sym told) (first-is c h f));
+    stands = stands-over (resuming c) h db (resuming-facts c h f down) (record { sound = here.sound; within = here.within; are_true = here.are_true });
+  });
+  stands = (stands.0, resuming-facts c stands.0 stands.1 down);
+}

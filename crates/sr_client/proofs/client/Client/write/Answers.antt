@@ -1,0 +1,12 @@
+use Rattle.std.proofs.Common.{rules, ◌≡◌, true, false, None, sym, subst}
+use Rattle.sr_client.proofs.WriteLemmas.{write-busy, write-over-cut, write-sent}
+use Rattle.sr_client.proofs.client.Client.write.Goals as goal
+
+pub returns-in-Some-clause-writes : goal.returns-in-Some-clause-writes
+returns-in-Some-clause-writes c = λ few. write-busy c.args.self.now c.args.sql.now c.number.result c.in-Some.request c.requires.stands (search rules) c.number.ensures
+
+pub returns-then-self-clause-writes : goal.returns-then-self-clause-writes
+returns-then-self-clause-writes c = λ few. write-over-cut c.args.self.now c.args.sql.now c.requires.stands (search rules) (search rules)
+
+pub returns-clause-writes : goal.returns-clause-writes
+returns-clause-writes c = λ few. write-sent c.args.self.now c.args.sql.now _ c.requires.stands (search rules) (search rules) (search rules)

@@ -1,0 +1,74 @@
+//! How a client begins a session anew.
+ghost use Rattle.std.specs.Prelude.{◌≡◌, ◌+◌, ◌<◌, ◌≤◌, ◌^◌, map, IfOk, OnErr};
+ghost use Rattle.sr_client.specs.Sends.{ResumeSendsWell, SendsFirst, first_of, holding_of};
+ghost use Rattle.sr_client.specs.Stands.{Stands, Stays, drawn};
+ghost use Rattle.sr_client.specs.Steps.{Resumes};
+
+use crate::client::{Client, Request};
+use crate::steps::ResumeStep;
+use sr_cell::list::{Copied, NoMemory, Seq};
+use sr_message::message::{Holding, Holdings, Message};
+use sr_region::region::Region;
+use std::alloc::Global;
+
+impl Client {
+    /// Begins a session over a cut link: a Hello where nothing is held, else a Resume of the client's version with all points that
+    /// are held. Nothing is done where the link is not cut, nor after want of memory.
+    pub fn resume(&mut self, alloc: Global) -> Result<ResumeStep, NoMemory>
+        requires stands { Stands self.old }
+        requires room { drawn self.old + 2 < 2 ^ 63 }
+        ensures resumes { IfOk result (Resumes self.old self.new) }
+        ensures first { IfOk result (SendsFirst self.old) }
+        ensures stands { Stands self.new }
+        ensures version { self.new.version ≡ self.old.version }
+        ensures held { self.new.store ≡ self.old.store }
+        ensures cuts { self.new.cuts ≡ self.old.cuts }
+        ensures unchanged { OnErr result (self.new ≡ self.old) }
+        ensures sends { IfOk result (ResumeSendsWell self.old.schema self.old.id) }
+        ensures stays { Stays self.old self.new }
+        ensures drawn { drawn self.new ≤ drawn self.old + 2 }
+    {
+        if !self.cut {
+            return Ok(ResumeStep::Up);
+        }
+        let request = self.next_request;
+        let message = first_of(alloc, self)?;
+        self.next_request = request + 1;
+        self.out = Some(Request::Resume { number: request });
+        self.cut = false;
+        Ok(ResumeStep::Sent { request, message })
+    }
+}
+
+/// The first message of the client's next session.
+fn first_of(alloc: Global, client: &Client) -> Result<Message, NoMemory>
+    ensures { IfOk result (λ message. message ≡ first_of client.now client.now.store.regions) }
+{
+    let regions = client.store.regions.as_slice();
+    if regions.is_empty() {
+        return Ok(Message::Hello {
+            client: client.id,
+            number: client.next_request,
+        });
+    }
+    Ok(Message::Resume {
+        client: client.id,
+        number: client.next_request,
+        version: client.version,
+        holdings: holdings_of(alloc, regions)?,
+    })
+}
+
+/// The points of regions.
+fn holdings_of(alloc: Global, regions: &[Region]) -> Result<Holdings, NoMemory>
+    ensures { IfOk result (λ holdings. holdings ≡ map holding_of regions.now) }
+{
+    let mut holdings = Seq::new(alloc);
+    for region in regions {
+        holdings.push(Holding {
+            table: region.table,
+            rects: region.rects.copy(alloc)?,
+        })?;
+    }
+    Ok(holdings)
+}

@@ -1,52 +1,93 @@
 -- The client that a world lends is the scene's.
-use Rattle.std.proofs.Common.{List, [], ◌∷◌, refl, sym, ◌∙◌, subst}
-use Rattle.std.specs.List.{All}
+use Rattle.std.proofs.Common.{◌≡◌, ℕ, ◌≤◌, true, List, [], ◌∷◌, length, map, refl, sym, ◌∙◌, subst, zero, suc, arith}
+use Rattle.std.specs.List.{All, list_all}
 use Rattle.std.proofs.lemmas.List.Elements.{All-nil, All-cons, All-head, All-tail}
 use Rattle.sr_cell.specs.declared.table.Table.{Table}
 use Rattle.sr_cell.specs.Columns.{table_at}
 use Rattle.sr_model.specs.Queries.{rows_at}
 use Rattle.sr_model.specs.Statements.{Tables}
-use Rattle.sr_model.specs.Changes.{version_at}
+use Rattle.sr_policy.specs.declared.policy.Limits.{Limits}
+use Rattle.sr_query.specs.Bound.{is_table}
 use Rattle.sr_region.specs.declared.region.Region.{Region}
-use Rattle.sr_region.specs.Applied.{HasItsRows}
+use Rattle.sr_region.specs.Applied.{AreTables, HasItsRows}
+use Rattle.sr_store.specs.Fitted.{count_rows}
+use Rattle.sr_store.specs.Past.{class_of}
 use Rattle.sr_store.specs.Told.{told_of, IsTrueOf}
 use Rattle.sr_store.specs.Stores.{IsOfSchema}
 use Rattle.sr_store.proofs.Classing.{are_classes, have_classes}
 use Rattle.sr_store.proofs.Noticing.{told-in}
-use Rattle.sr_scene.specs.Scene.{Scene}
-use Rattle.sr_world.specs.declared.world.World.{World}
-use Rattle.sr_world.specs.Represents.{Past, Facts, Represents, client_of, scene_of}
-use Rattle.sr_world.specs.Lent.{IsLent}
-use Rattle.sr_world.proofs.FactLemmas.{have-first, tables-then}
+use Rattle.sr_trim.proofs.Tables.{table_first}
+use Rattle.sr_union.specs.Grid.{have_first}
+use Rattle.sr_history.specs.Classes.{AreClasses}
+use Rattle.sr_session.specs.Sessions.{Database, tables_of}
+use Rattle.sr_session.specs.Clients.{Client as Past}
+use Rattle.sr_session.specs.Scenes.{Scene}
+use Rattle.sr_client.specs.declared.client.Client.{Client}
+use Rattle.sr_client.specs.Stands.{Facts, Hidden, StandsOver, past_of}
+use Rattle.sr_server.specs.declared.server.Server.{Server}
+use Rattle.sr_world.specs.declared.seat.Seat.{Seat}
+use Rattle.sr_world.specs.Lent.{HasItsPoints, IsLent}
+use Rattle.sr_world.specs.Seats.{SeatStands}
+
+have-first : (schema : List Table) → list_all is_table schema ≡ true → (t : ℕ) → have_first (table_at schema t).columns ≡ true
+have-first [] h t = refl
+have-first (table ∷ schema) h zero = table_first table (grind (arith, h))
+have-first (table ∷ schema) h (suc t) = have-first schema (grind (arith, h)) t
 
 all-both : (P Q R : Region → Type 0) → ((g : Region) → P g → Q g → R g) → (gs : List Region) → All P gs → All Q gs → All R gs
 all-both P Q R f [] p q = All-nil R
 all-both P Q R f (g ∷ gs) p q = All-cons R g gs (f g (All-head P g gs p) (All-head Q g gs q)) (all-both P Q R f gs (All-tail P g gs p) (All-tail Q g gs q))
 
-lent : (w : World) (past : Past) → Facts w past → IsLent (scene_of w past) w.client
-lent w past f = record {
-  past = client_of w past;
-  is = refl;
+-- what a client shows of its past
+record Shows (db : Database) (past : Past) (c : Client) : Type 0 where
+  version : c.version ≡ past.version
+  classes : AreClasses db.schema past.marks past.queries (map class_of c.store.regions)
+  points : All (HasItsPoints db.schema past) c.store.regions
+  rows : All (HasItsRows (tables_of db past.version)) c.store.regions
+
+shows-own : (db : Database) (c : Client) (h : Hidden) → Facts c h → db.schema ≡ c.schema → AreTables db.schema (tables_of db c.version)
+    → All (IsTrueOf (told_of (tables_of db c.version))) c.store.regions → Shows db (past_of c h) c
+shows-own db c h f same are are_true = record {
   version = refl;
-  classes = are_classes schema past.marks past.queries regions (have-first schema f.server.tables) f.client.store.each f.client.store.order f.client.keeps;
-  points = have_classes schema past.marks past.queries regions f.client.store.order f.client.keeps;
-  rows = all-both (IsOfSchema schema) (IsTrueOf (told_of tables)) (HasItsRows tables) projected regions f.client.store.each f.client.are_true;
-  within = f.client.rows;
-  few = f.client.few;
+  classes = subst (λ schema. AreClasses schema h.marks h.queries (map class_of regions)) (sym same) (are_classes c.schema h.marks h.queries regions (have-first c.schema f.tables) f.store.each f.store.order f.keeps);
+  points = subst (λ schema. All (HasItsPoints schema (past_of c h)) regions) (sym same) (have_classes c.schema h.marks h.queries regions f.store.order f.keeps);
+  rows = all-both (IsOfSchema c.schema) (IsTrueOf (told_of tables)) (HasItsRows tables) projected regions f.store.each are_true;
 }
   where
-    schema : List Table
-    schema = w.server.tables.schema
-
     regions : List Region
-    regions = w.client.store.regions
+    regions = c.store.regions
 
     tables : Tables
-    tables = version_at past.versions w.client.version
+    tables = tables_of db c.version
 
-    projected : (g : Region) → IsOfSchema schema g → IsTrueOf (told_of tables) g → HasItsRows tables g
+    own : AreTables c.schema tables
+    own = subst (λ schema. AreTables schema tables) same are
+
+    projected : (g : Region) → IsOfSchema c.schema g → IsTrueOf (told_of tables) g → HasItsRows tables g
     projected g is tells =
-        tells ∙ told-in (table_at schema g.table).columns g.attrs g.rects (rows_at tables g.table) is.1.area.fit is.1.area.only ((tables-then w past f).points g.table)
+        tells ∙ told-in (table_at c.schema g.table).columns g.attrs g.rects (rows_at tables g.table) is.1.area.fit is.1.area.only (own.points g.table)
 
-pub is_lent : (w : World) (s : Scene) → Represents w s → IsLent s w.client
-is_lent w s r = subst (λ s. IsLent s w.client) (sym r.same) (lent w r.past r.facts)
+shows : (db : Database) (past : Past) (c : Client) → StandsOver db past c → Shows db past c
+shows db past c stands =
+    let h = stands.client.hidden in
+    let same : past ≡ past_of c h = stands.client.same in
+    let tables : AreTables db.schema (tables_of db past.version) = stands.sound.tables past.version stands.within in
+    subst (λ p. Shows db p c) (sym same)
+    (shows-own db c h stands.client.facts stands.schema (subst (λ (p : Past). AreTables db.schema (tables_of db p.version)) same tables)
+    (subst (λ (p : Past). All (IsTrueOf (told_of (tables_of db p.version))) c.store.regions) same stands.client.are_true))
+
+pub is-lent : (s : Scene) (n : ℕ) (seat : Seat) (server : Server) → SeatStands s n seat server → IsLent s n seat.client
+is-lent s n seat server h =
+    let x = shows s.database h.pair.client seat.client h.seat.client in
+    let f = h.seat.client.client.facts in
+    record {
+      pair = h.pair;
+      there = h.there;
+      number = h.seat.number;
+      version = x.version;
+      classes = x.classes;
+      points = x.points;
+      rows = x.rows;
+      within = subst (λ (l : Limits). count_rows seat.client.store.regions ≤ l.rows) h.seat.limits f.rows;
+      few = subst (λ (l : Limits). length seat.client.store.regions ≤ l.regions) h.seat.limits f.few;
+    }

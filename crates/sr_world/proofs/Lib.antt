@@ -1,42 +1,20 @@
-pub mod Filters
-pub mod Points
-pub mod PieceLemmas
-pub mod RowMessages
-pub mod Arrivals
-pub mod Bringing
-pub mod Noticed
-pub mod StepLemmas
-pub mod OneAsk
-pub mod ServeLemmas
-pub mod Applying
-pub mod ApplyLemmas
-pub mod Coming
-pub mod Fronts
-pub mod TakeLemmas
-pub mod Items
-pub mod ToldLemmas
-pub mod Covers
-pub mod EndLemmas
-pub mod AskLemmas
-pub mod LendLemmas
-pub mod Calls
-pub mod MeantLemmas
-pub mod Renewal
-pub mod FactLemmas
-pub mod CountLemmas
-pub mod LastLemmas
-pub mod HeavyLemmas
-pub mod Subscribed
-pub mod KeptLemmas
-pub mod NowLemmas
-pub mod SendLemmas
-pub mod DropLemmas
-pub mod CameLemmas
-pub mod ReplyLemmas
-pub mod FinishLemmas
-pub mod SettleLemmas
-pub mod StatementLemmas
-pub mod RunLemmas
+mod ClientLemmas
+mod EventLemmas
+mod LentLemmas
+mod NewLemmas
+mod Numbers
+mod Over
+mod Points
 pub mod ReplayLemmas
-pub mod LentLemmas
-pub mod Nearing
+mod Requests
+pub mod RunLemmas
+mod SeatLemmas
+mod ServeLemmas
+mod Sessions
+mod SettleLemmas
+mod Sound
+mod StepLemmas
+mod Sums
+mod Tests
+mod Texts
+mod WorldLemmas

@@ -16,7 +16,7 @@ use Rattle.sr_model.specs.SortedRows.{ascend}
 use Rattle.sr_model.specs.Statements.{Tables}
 use Rattle.sr_region.specs.Applied.{AreTables}
 use Rattle.sr_tables.specs.Stored.{are_rows, are_stored}
-use Rattle.sr_world.proofs.Filters.{and_left, and_right, and_both}
+use Rattle.sr_world.proofs.Tests.{and_left, and_right, and_both}
 
 takes-in : (k : Kind) (low high : ℤ) (v : Cell) → takes_kind k low high v ≡ true → is_value v ≡ true → in_kind k low high v ≡ true
 takes-in Numbers low high (Num n) takes value = takes

@@ -1,380 +1,173 @@
--- The server takes an ask, and pushes, as the scene says.
-use Rattle.std.proofs.Common.{◌≡◌, ℕ, ◌-◌, ◌≤◌, Bool, true, false, List, [], ◌∷◌, ◌++◌, map, length, refl, sym, ◌∙◌, ap, subst, arith, inl, inr, Option, Some, None, append_assoc, append-nil, if◌then◌else◌}
-use Rattle.std.specs.Prelude.{◌⊎◌}
-use Rattle.std.specs.declared.collections.VecDeque.{VecDeque}
-use Rattle.std.specs.declared.alloc.Global.{Global}
-use Rattle.sr_message.specs.declared.message.Holding.{Holding}
-use Rattle.sr_message.specs.declared.message.AskPart.{AskPart}
+-- What the server does for a client is an event of the scene.
+use Rattle.std.proofs.Common.{◌≡◌, ℕ, true, false, List, [], ◌∷◌, ◌++◌, length, refl, sym, ◌∙◌, ap, subst, Option, Some, None, Result, Ok, Err}
+use Rattle.std.specs.Prelude.{◌↔◌, IfOk, OnOk, IsNone}
+use Rattle.std.specs.Option.{is_some}
+use Rattle.std.specs.List.{list_all}
+use Rattle.sr_cell.specs.declared.fault.Fault.{Fault}
 use Rattle.sr_message.specs.declared.message.Message.{Message}
-use Rattle.sr_message.specs.declared.message.Message.TheVariants.{Ask, Reply}
-use Rattle.sr_language.specs.Events.{Push, ToServer}
-use Rattle.sr_model.specs.Statements.{Tables}
-use Rattle.sr_model.specs.Changes.{newest_of}
-use Rattle.sr_region.specs.declared.region.Region.{Region}
-use Rattle.sr_script.specs.declared.line.RequestKind.TheVariants as kind
-use Rattle.sr_script.specs.declared.line.TraceLine.{TraceLine}
 use Rattle.sr_script.specs.declared.line.TraceLine.TheVariants as line
-use Rattle.sr_scene.specs.Server.{Session, Served, serve_ask, due, pushed, reply_messages, row_messages, holding_of}
-use Rattle.sr_scene.specs.Scene.{Scene, Client}
-use Rattle.sr_scene.specs.Steps.{Happens, ServerTakes}
-use Rattle.sr_scene.specs.Runs.{Delivers, next_delivery}
-use Rattle.sr_world.specs.declared.world.World.{World}
-use Rattle.sr_world.specs.declared.server.Server.{Server}
-use Rattle.sr_world.specs.declared.client.AskOut as code
-use Rattle.sr_world.specs.Client.{is_empty}
-use Rattle.sr_world.specs.Noticing.{noticed, pushed_after, Brings, AreSubscribed}
-use Rattle.sr_world.specs.Worlds.{Stands, DoesEvent, DoesDelivery}
-use Rattle.sr_world.specs.Represents.{Past, ServerFacts, ClientFacts, Facts, Represents, IsAsked, IsReplied, IsOut, Flow, BringsUp, scene_of, client_of}
-use Rattle.sr_world.proofs.Bringing.{brings-on}
-use Rattle.sr_world.proofs.Noticed.{due-same, due-brings, pushed-same, pushed-none, pushed-brings}
-use Rattle.sr_world.proofs.OneAsk.{asks-one}
-use Rattle.sr_world.proofs.StepLemmas.{newest-is, none-subscribed, does}
-
--- ---- the facts that the server's session and the queues leave as they are
-
--- the world with a session of this kind and these queues
-abbrev pub with_session : World → List Holding → ℕ → VecDeque Message Global → VecDeque Message Global → World
-with_session w subs upto to_server to_client = record w { server = record w.server { subs = subs; upto = upto }; to_server = to_server; to_client = to_client }
-
-server-told : (w : World) (past : Past) (subs : List Holding) (upto : ℕ) (to_server to_client : VecDeque Message Global) → ServerFacts w past → upto ≤ w.server.version
-    → ServerFacts (with_session w subs upto to_server to_client) past
-server-told w past subs upto to_server to_client f within = record {
-  tables = f.tables;
-  count = f.count;
-  newest = f.newest;
-  stored = f.stored;
-  then = f.then;
-  remembers = f.remembers;
-  changes = f.changes;
-  upto = within;
-}
-
-client-stays : (w : World) (past : Past) (subs : List Holding) (upto : ℕ) (to_server to_client : VecDeque Message Global) → ClientFacts w past
-    → ClientFacts (with_session w subs upto to_server to_client) past
-client-stays w past subs upto to_server to_client f = record {
-  store = f.store;
-  keeps = f.keeps;
-  are_true = f.are_true;
-  version = f.version;
-  queries = f.queries;
-  last = f.last;
-  rows = f.rows;
-  few = f.few;
-}
-
-facts-told : (w : World) (past : Past) (subs : List Holding) (upto : ℕ) (to_server to_client : VecDeque Message Global) → Facts w past → upto ≤ w.server.version
-    → Flow (with_session w subs upto to_server to_client) past w.client.out → Facts (with_session w subs upto to_server to_client) past
-facts-told w past subs upto to_server to_client f within flow = record {
-  server = server-told w past subs upto to_server to_client f.server within;
-  client = client-stays w past subs upto to_server to_client f.client;
-  cuts = record { from = f.cuts.from; regions = f.cuts.regions; asked = f.cuts.asked };
-  flow = flow;
-}
-
-out-stays : (w : World) (past : Past) (o : code.AskOut) (subs : List Holding) (upto : ℕ) (to_server to_client : VecDeque Message Global) → IsOut w past o
-    → IsOut (with_session w subs upto to_server to_client) past o
-out-stays w past o subs upto to_server to_client out = record {
-  meant = out.meant;
-  earlier = out.earlier;
-  newest = out.newest;
-  number = out.number;
-  asks = out.asks;
-  some = out.some;
-  few = out.few;
-  fresh = out.fresh;
-}
-
--- ---- an ask
-
--- what was asked, where an ask is on its way to the server
-pub record OnItsWay (w : World) (past : Past) (number : ℕ) (fresh : Bool) (parts : List AskPart) (queue : List Message) : Type 0 where
-  pub out : code.AskOut
-  pub is : w.client.out ≡ Some out
-  pub is_out : IsOut w past out
-  pub is_asked : IsAsked w past out
-  pub same_number : number ≡ out.number
-  pub same_mode : fresh ≡ out.fresh
-  pub same_parts : parts ≡ out.parts
-  pub last : queue ≡ []
-
-pub on-its-way : (w : World) (past : Past) (number : ℕ) (fresh : Bool) (parts : List AskPart) (queue : List Message) → Facts w past
-    → w.to_server.items ≡ Ask number fresh parts ∷ queue → OnItsWay w past number fresh parts queue
-on-its-way w past number fresh parts queue f sent = by w.client.out refl f.flow
-  where
-    asked : (o : code.AskOut) → w.client.out ≡ Some o → IsOut w past o → IsAsked w past o → OnItsWay w past number fresh parts queue
-    asked o is is_out is_asked =
-        let same : Ask number fresh parts ∷ queue ≡ Ask o.number o.fresh o.parts ∷ [] = sym sent ∙ is_asked.to_server in
-        record { out = o; is = is; is_out = is_out; is_asked = is_asked; same_number = cc; same_mode = cc; same_parts = cc; last = cc }
-
-    by : (out : Option code.AskOut) → w.client.out ≡ out → Flow w past out → OnItsWay w past number fresh parts queue
-    by None is flow = absurd (let k : Ask number fresh parts ∷ queue ≡ [] = sym sent ∙ flow.0 in cc)
-    by (Some o) is (is_out, inl is_asked) = asked o is is_out is_asked
-    by (Some o) is (is_out, inr is_replied) = absurd (let k : Ask number fresh parts ∷ queue ≡ [] = sym sent ∙ is_replied.to_server in cc)
-
--- one part at most is asked
-pub ask-few : (w : World) (number : ℕ) (fresh : Bool) (parts : List AskPart) (queue : List Message) → Stands w → w.to_server.items ≡ Ask number fresh parts ∷ queue → length parts ≤ 4
-ask-few w number fresh parts queue (s, r) sent =
-    let way = on-its-way w r.past number fresh parts queue r.facts sent in
-    let few = asks-one w.server.tables.schema r.past.marks r.past.meaning way.out.parts way.is_out.meant.may way.is_out.asks in
-    omega (arith, few, ap length way.same_parts)
-
-reply-is : (w : World) (past : Past) (number : ℕ) (parts : List AskPart) → Facts w past
-    → reply_messages past.versions number parts ≡ row_messages w.server.tables.rows number 0 parts ++ Reply number w.server.version ∷ []
-reply-is w past number parts f = rw (newest-is w past f, f.server.newest) refl
-
--- the session of the server
-abbrev pub session_of : World → Session
-session_of w = record { subscription = w.server.subs; upto = w.server.upto }
-
--- what the server sends before the rows
-abbrev pub sent_first : World → Bool → List Message
-sent_first w fresh = if fresh then [] else noticed w.server.history w.server.subs w.server.upto (w.server.version - w.server.upto)
-
--- all that it sends
-abbrev pub sent_for : World → ℕ → Bool → List AskPart → List Message
-sent_for w number fresh parts = sent_first w fresh ++ (row_messages w.server.tables.rows number 0 parts ++ Reply number w.server.version ∷ [])
-
--- what was subscribed before the ask
-abbrev pub subscribed_before : World → Bool → List Holding
-subscribed_before w fresh = if fresh then [] else w.server.subs
-
-due-is : (w : World) (past : Past) → Facts w past
-    → noticed w.server.history w.server.subs w.server.upto (w.server.version - w.server.upto) ≡ due w.server.tables.schema past.versions (session_of w)
-due-is w past f = due-same w.server.tables.schema past.versions w.server.history w.server.version w.server.subs w.server.upto f.server.changes (newest-is w past f) f.server.upto
-
--- what the server makes of an ask
-is-served : (w : World) (past : Past) (number : ℕ) (fresh : Bool) (parts : List AskPart) → Facts w past
-    → serve_ask w.server.tables.schema past.versions (session_of w) number fresh parts
-    ≡ record { versions = past.versions; session = Some (record { subscription = subscribed_before w fresh ++ map holding_of parts; upto = w.server.version }); sent = sent_for w number fresh parts }
-is-served w past number true parts f =
-    let served : ℕ → List Message → Served = λ upto sent. record { versions = past.versions; session = Some (record { subscription = map holding_of parts; upto = upto }); sent = sent } in
-    ap (λ n. served n (reply_messages past.versions number parts)) (newest-is w past f) ∙ ap (served w.server.version) (reply-is w past number parts f)
-is-served w past number false parts f =
-    let served : ℕ → List Message → Served = λ upto sent. record { versions = past.versions; session = Some (record { subscription = w.server.subs ++ map holding_of parts; upto = upto }); sent = sent } in
-    let first : List Message = due w.server.tables.schema past.versions (session_of w) in
-    let reply : List Message = row_messages w.server.tables.rows number 0 parts ++ Reply number w.server.version ∷ [] in
-    ap (λ n. served n (first ++ reply_messages past.versions number parts)) (newest-is w past f)
-    ∙ (ap (λ ms. served w.server.version (first ++ ms)) (reply-is w past number parts f) ∙ ap (λ ms. served w.server.version (ms ++ reply)) (sym (due-is w past f)))
-
-empty-none : (regions : List Region) → is_empty regions ≡ true → regions ≡ []
-empty-none [] empty = refl
-empty-none (g ∷ regions) empty = absurd (cc)
-
--- what is under way to the client once the notices before the reply are sent
-record IsFirst (w : World) (past : Past) (fresh : Bool) : Type 0 where
-  held : AreSubscribed w.server.tables.schema (subscribed_before w fresh) w.client.store.regions
-  until : ℕ
-  brings : Brings w.server.tables.schema past.versions w.server.subs w.client.version until ((w.client.laid ++ w.to_client.items) ++ sent_first w fresh)
-  within : until ≤ w.server.version
-  reaches : (until ≡ w.server.version) ⊎ (w.client.store.regions ≡ [])
-
-is-first : (w : World) (past : Past) (fresh : Bool) → Facts w past → BringsUp w past (w.client.laid ++ w.to_client.items) → fresh ≡ is_empty w.client.store.regions → IsFirst w past fresh
-is-first w past true f brings mode =
-    let none = empty-none w.client.store.regions (sym mode) in
-    record {
-      held = none-subscribed w.server.tables.schema [] w.client.store.regions none;
-      until = w.server.upto;
-      brings = subst (λ ms. Brings w.server.tables.schema past.versions w.server.subs w.client.version w.server.upto ms) (sym (append-nil (w.client.laid ++ w.to_client.items))) brings.1;
-      within = f.server.upto;
-      reaches = inr none;
-    }
-is-first w past false f brings mode =
-    let all = brings-on w.server.tables.schema past.versions w.server.subs w.client.version w.server.upto (w.client.laid ++ w.to_client.items) brings.1
-    w.server.version (due w.server.tables.schema past.versions (session_of w))
-    (due-brings w.server.tables.schema past.versions w.server.subs w.server.upto w.server.version (newest-is w past f) f.server.upto) in
-    record {
-      held = brings.0;
-      until = w.server.version;
-      brings = subst (λ ms. Brings w.server.tables.schema past.versions w.server.subs w.client.version w.server.version ((w.client.laid ++ w.to_client.items) ++ ms)) (sym (due-is w past f)) all;
-      within = omega arith;
-      reaches = inl refl;
-    }
-
-front-then-rest : (laid queue first rows : List Message) → ((laid ++ queue) ++ first) ++ rows ≡ laid ++ (queue ++ (first ++ rows))
-front-then-rest laid queue first rows =
-    append_assoc (laid ++ queue) first rows ∙ append_assoc laid queue (first ++ rows)
-
-rest-then-last : (queue first rows last : List Message) → queue ++ (first ++ (rows ++ last)) ≡ (queue ++ (first ++ rows)) ++ last
-rest-then-last queue first rows last =
-    ap (λ ms. queue ++ ms) (sym (append_assoc first rows last)) ∙ sym (append_assoc queue (first ++ rows) last)
-
--- the world once the server took the ask
-abbrev pub after_ask : World → Bool → List AskPart → VecDeque Message Global → VecDeque Message Global → World
-after_ask w fresh parts to_server to_client = with_session w (subscribed_before w fresh ++ map holding_of parts) w.server.version to_server to_client
-
-flow-served : (w : World) (past : Past) (number : ℕ) (fresh : Bool) (parts : List AskPart) (queue : List Message) (to_server to_client : VecDeque Message Global) → Facts w past
-    → OnItsWay w past number fresh parts queue → to_server.items ≡ queue → to_client.items ≡ w.to_client.items ++ sent_for w number fresh parts
-    → Flow (after_ask w fresh parts to_server to_client) past w.client.out
-flow-served w past number fresh parts queue to_server to_client f way left queued =
-    let first = is-first w past fresh f way.is_asked.brings (way.same_mode ∙ way.is_out.fresh) in
-    let rows : ℕ → List AskPart → List Message = λ k ps. row_messages w.server.tables.rows k 0 ps in
-    let reply : ℕ → List AskPart → List Message = λ k ps. w.to_client.items ++ (sent_first w fresh ++ (rows k ps ++ Reply k w.server.version ∷ [])) in
-    let replied : IsReplied (after_ask w fresh parts to_server to_client) past way.out = record {
-      to_server = left ∙ way.last;
-      notices = (w.client.laid ++ w.to_client.items) ++ sent_first w fresh;
-      rest = w.to_client.items ++ (sent_first w fresh ++ rows way.out.number way.out.parts);
-      front = front-then-rest w.client.laid w.to_client.items (sent_first w fresh) (rows way.out.number way.out.parts);
-      to_client =
-          queued
-          ∙ (ap (λ k. reply k parts) way.same_number
-          ∙ (ap (λ ps. reply way.out.number ps) way.same_parts
-          ∙ rest-then-last w.to_client.items (sent_first w fresh) (rows way.out.number way.out.parts) (Reply way.out.number w.server.version ∷ [])));
-      before = subscribed_before w fresh;
-      subs = ap (λ ps. subscribed_before w fresh ++ map holding_of ps) way.same_parts;
-      held = first.held;
-      earlier = w.server.subs;
-      subscribed = way.is_asked.brings.0;
-      until = first.until;
-      brings = first.brings;
-      within = first.within;
-      reaches = first.reaches;
-      upto = refl;
-    } in
-    let out = out-stays w past way.out (subscribed_before w fresh ++ map holding_of parts) w.server.version to_server to_client way.is_out in
-    subst (λ o. Flow (after_ask w fresh parts to_server to_client) past o) (sym way.is) (out, inr replied)
-
-serves : (w : World) (past : Past) (number : ℕ) (fresh : Bool) (parts : List AskPart) (queue : List Message) (to_server to_client : VecDeque Message Global) → Facts w past
-    → w.to_server.items ≡ Ask number fresh parts ∷ queue → to_server.items ≡ queue → to_client.items ≡ w.to_client.items ++ sent_for w number fresh parts
-    → (next : Scene) × Delivers (scene_of w past) 1 (line.ServerTook 1 kind.Ask (length (sent_for w number fresh parts)) ∷ []) next × Represents (after_ask w fresh parts to_server to_client) next
-serves w past number fresh parts queue to_server to_client f asked left queued =
-    let way = on-its-way w past number fresh parts queue f asked in
-    let changed : World = after_ask w fresh parts to_server to_client in
-    let facts : Facts changed past =
-    facts-told w past (subscribed_before w fresh ++ map holding_of parts) w.server.version to_server to_client f (omega arith) (flow-served w past number fresh parts queue to_server to_client f way left queued) in
-    let session : Option Session = Some (record { subscription = subscribed_before w fresh ++ map holding_of parts; upto = w.server.version }) in
-    let scene : List Tables → List Message → Option Session → List Message → Scene = λ versions asks session answers.
-    record {
-      eager = true;
-      limits = w.client.store.limits;
-      schema = w.server.tables.schema;
-      versions = versions;
-      clients = record (client_of w past) { to_server = asks; session = session; to_client = answers } ∷ [];
-    } in
-    let lines : List TraceLine = line.ServerTook 1 kind.Ask (length (sent_for w number fresh parts)) ∷ [] in
-    let taken : ServerTakes (scene_of w past) 1 (Ask number fresh parts ∷ queue) (client_of w past) lines (scene_of changed past) = (
-      kind.Ask,
-      refl,
-      ap (λ (served : Served). line.ServerTook 1 kind.Ask (length served.sent) ∷ []) (sym (is-served w past number fresh parts f)),
-      ap (λ ms. scene past.versions ms session to_client.items) left
-          ∙ (ap (λ ms. scene past.versions queue session ms) queued
-          ∙ ap (λ (served : Served). scene served.versions queue served.session (w.to_client.items ++ served.sent)) (sym (is-served w past number fresh parts f))),
-    ) in (
-      scene_of changed past,
-      (
-        client_of w past,
-        ToServer 1,
-        refl,
-        subst (λ ms. next_delivery 1 ms w.to_client.items ≡ Some (ToServer 1)) (sym asked) refl,
-        (client_of w past, refl, subst (λ ms. ServerTakes (scene_of w past) 1 ms (client_of w past) lines (scene_of changed past)) (sym asked) taken),
-      ),
-      record { past = past; facts = facts; same = refl },
-    )
-
--- the world with this server and these queues
-abbrev pub with_queues : World → Server → VecDeque Message Global → VecDeque Message Global → World
-with_queues w server to_server to_client = record w { server = server; to_server = to_server; to_client = to_client }
-
-pub does-serve : (w : World) (number : ℕ) (fresh : Bool) (parts : List AskPart) (queue sent : List Message) (server : Server) (to_server to_client : VecDeque Message Global)
-    → w.to_server.items ≡ Ask number fresh parts ∷ queue → to_server.items ≡ queue
-    → server ≡ record w.server { subs = subscribed_before w fresh ++ map holding_of parts; upto = w.server.version }
-    → sent ≡ sent_for w number fresh parts → to_client.items ≡ w.to_client.items ++ sent
-    → DoesDelivery w (with_queues w server to_server to_client) (line.ServerTook 1 kind.Ask (length sent) ∷ [])
-does-serve w number fresh parts queue sent server to_server to_client asked left reached replied queued =
-    let all = queued ∙ ap (λ ms. w.to_client.items ++ ms) replied in
-    let does_it : DoesDelivery w (after_ask w fresh parts to_server to_client) (line.ServerTook 1 kind.Ask (length (sent_for w number fresh parts)) ∷ []) =
-    does (λ s. Delivers s 1) w (after_ask w fresh parts to_server to_client) (line.ServerTook 1 kind.Ask (length (sent_for w number fresh parts)) ∷ [])
-    (λ past f. serves w past number fresh parts queue to_server to_client f asked left all) in
-    subst (λ x. DoesDelivery w (with_queues w x to_server to_client) (line.ServerTook 1 kind.Ask (length sent) ∷ [])) (sym reached)
-    (subst (λ ms. DoesDelivery w (after_ask w fresh parts to_server to_client) (line.ServerTook 1 kind.Ask (length ms) ∷ [])) (sym replied) does_it)
+use Rattle.sr_language.specs.Events.{DoPush, DoToServer}
+use Rattle.sr_model.specs.Statements.{Tables}
+use Rattle.sr_session.specs.Sessions.{Database, Session, newest, serve_push, tables_of}
+use Rattle.sr_session.specs.Clients.{Pair}
+use Rattle.sr_session.specs.Refusals.{has_few_parts, is_request_of, server_misfit}
+use Rattle.sr_session.specs.Scenes.{PushClosed, PushTo, Pushed, Scene, ServerIdle, ServerTook, Taken, ToServer, given, push_closed, pushed, server_idle, server_took, taken}
+use Rattle.sr_server.specs.declared.server.Server.{Server}
+use Rattle.sr_server.specs.Servers.{IsServer, Takes, session_at, with_session}
+use Rattle.sr_runs.specs.Lines.{served_line}
+use Rattle.sr_runs.specs.Runs.{Acts, acts}
+use Rattle.sr_runs.specs.Scripts.{gives_nothing, is_push, is_to_server}
+use Rattle.sr_world.specs.declared.seat.Seat.{Seat}
+use Rattle.sr_world.specs.Worlds.{IsSeat}
+use Rattle.sr_wire.specs.declared.bad_frame.BadFrame.{BadFrame}
+use Rattle.sr_world.specs.Seats.{IsSomeSeat, SeatGoes, SeatStands}
+use Rattle.sr_world.proofs.Over.{Grows, grows-none, grows-taken}
+use Rattle.sr_world.proofs.Requests.{no-misfit, request-parts}
+use Rattle.sr_world.proofs.SeatLemmas.{pair-stands, seat-leads, seat-stays}
+use Rattle.sr_world.proofs.Sound.{sound-of}
+use Rattle.sr_world.proofs.Tests.{and_left, and_right}
+use Rattle.sr_world.proofs.Texts.{is-given}
 
 -- ---- a push
 
--- what a push sends
-abbrev pub sent_by_push : World → List Message
-sent_by_push w = pushed_after w.server.history w.server.subs w.server.upto w.server.version
+pub push-is-closed : (old : Seat) (server : Server) → session_at server.sessions old.client.id ≡ None → SeatGoes (λ n s. Acts s (DoPush n)) old server old server (line.PushClosed old.client.id ∷ [])
+push-is-closed old server none = λ s n h.
+    let closed : h.pair.connection.session ≡ None = sym h.session ∙ subst (λ k. session_at server.sessions k ≡ None) h.seat.number none in
+    seat-stays s n server server old (DoPush n) _ h refl
+    (subst (λ k. Acts s (DoPush n) (line.PushClosed k ∷ []) s) (sym h.seat.number)
+    (acts (DoPush n) (PushTo n) PushClosed s (is_push n) (push_closed n h.pair h.there closed)))
 
--- the world once it is sent
-abbrev pub after_push : World → VecDeque Message Global → World
-after_push w to_client = with_session w w.server.subs w.server.version w.to_server to_client
+pub push-goes : (old new : Seat) (server after : Server) (session : Session) (sent : List Message)
+    → session_at server.sessions old.client.id ≡ Some session
+    → ((db : Database) → IsServer server db → sent ≡ (serve_push db session).sent)
+    → ((db : Database) → IsServer server db → after ≡ record server { sessions = with_session server.sessions old.client.id (serve_push db session).session })
+    → ((db : Database) → IsServer server db → IsServer after db)
+    → new ≡ record old { to_client = old.to_client ++ sent }
+    → SeatGoes (λ n s. Acts s (DoPush n)) old server new after (line.PushSent old.client.id (length sent) ∷ [])
+push-goes old new server after session sent is sends makes stands made = λ s n h.
+    let opened : h.pair.connection.session ≡ Some session = sym h.session ∙ subst (λ k. session_at server.sessions k ≡ Some session) h.seat.number is in
+    let all : sent ≡ (serve_push s.database session).sent = sends s.database h.server in
+    let next : Pair = given h.pair h.pair.connection.to_server (serve_push s.database session) in
+    seat-leads s n server after new (DoPush n) (PushTo n) (Pushed (serve_push s.database session).sent) s.database h.pair next (line.PushSent old.client.id (length sent) ∷ [])
+    h.number h.there h.stands h.server (is_push n) (pushed n h.pair session h.there opened)
+    (rw (h.seat.number, all) refl) (grows-none s.database) (stands s.database h.server)
+    (ap (λ (x : Server). x.sessions) (makes s.database h.server) ∙ ap (λ k. with_session server.sessions k (serve_push s.database session).session) h.seat.number)
+    (subst (λ (seat : Seat). IsSeat s.database s.limits n seat next) (sym made) (record {
+      number = h.seat.number;
+      limits = h.seat.limits;
+      client = h.seat.client;
+      to_server = h.seat.to_server;
+      to_client = ap (λ ms. ms ++ sent) h.seat.to_client ∙ ap (λ ms. h.pair.connection.to_client ++ ms) all;
+      requests = h.seat.requests;
+    }))
 
-pushed-is : (w : World) (past : Past) → Facts w past → sent_by_push w ≡ pushed w.server.tables.schema past.versions (session_of w)
-pushed-is w past f = pushed-same w.server.tables.schema past.versions w.server.history w.server.version w.server.subs w.server.upto f.server.changes (newest-is w past f) f.server.upto
+-- ---- a delivery to the server
 
--- it brings the client up
-brings-pushed : (w : World) (past : Past) (messages : List Message) → Facts w past → BringsUp w past messages
-    → Brings w.server.tables.schema past.versions w.server.subs w.client.version w.server.version (messages ++ sent_by_push w)
-brings-pushed w past messages f brings =
-    subst (λ ms. Brings w.server.tables.schema past.versions w.server.subs w.client.version w.server.version (messages ++ ms)) (sym (pushed-is w past f))
-    (brings-on w.server.tables.schema past.versions w.server.subs w.client.version w.server.upto messages brings.1 w.server.version (pushed w.server.tables.schema past.versions (session_of w))
-    (pushed-brings w.server.tables.schema past.versions w.server.subs w.server.upto w.server.version (newest-is w past f) f.server.upto))
+pub serve-idles : (old : Seat) (server : Server) → old.to_server ≡ [] → SeatGoes (λ n s. Acts s (DoToServer n)) old server old server (line.ServerEmpty old.client.id ∷ [])
+serve-idles old server none = λ s n h.
+    let empty : h.pair.connection.to_server ≡ [] = sym h.seat.to_server ∙ none in
+    let nothing : Result Tables Fault = Ok (tables_of s.database (newest s.database)) in
+    seat-stays s n server server old (DoToServer n) _ h refl
+    (subst (λ k. Acts s (DoToServer n) (line.ServerEmpty k ∷ []) s) (sym h.seat.number)
+    (acts (DoToServer n) (ToServer n nothing) ServerIdle s
+    (is_to_server n h.pair nothing h.there (gives_nothing h.pair.connection.to_server (rw empty refl)))
+    (server_idle n nothing h.pair h.there empty)))
 
-asked-pushed : (w : World) (past : Past) (o : code.AskOut) (to_client : VecDeque Message Global) → Facts w past → to_client.items ≡ w.to_client.items ++ sent_by_push w
-    → IsAsked w past o → IsAsked (after_push w to_client) past o
-asked-pushed w past o to_client f queued asked = record {
-  to_server = asked.to_server;
-  brings = (
-    asked.brings.0,
-    subst (λ ms. Brings w.server.tables.schema past.versions w.server.subs w.client.version w.server.version ms)
-        (append_assoc w.client.laid w.to_client.items (sent_by_push w) ∙ ap (λ ms. w.client.laid ++ ms) (sym queued))
-        (brings-pushed w past (w.client.laid ++ w.to_client.items) f asked.brings),
-  );
-}
+-- the oldest message is a request that suits
+record IsOldest (s : Scene) (n : ℕ) (old : Seat) (server : Server) (m : Message) (queue : List Message) (h : SeatStands s n old server) : Type 0 where
+  first : h.pair.connection.to_server ≡ m ∷ queue
+  is : is_request_of s.database.schema n m ≡ true
+  others : list_all (is_request_of s.database.schema n) queue ≡ true
 
--- nothing is sent while a reply is under way
-replied-pushed : (w : World) (past : Past) (o : code.AskOut) (to_client : VecDeque Message Global) → to_client.items ≡ w.to_client.items ++ sent_by_push w
-    → IsReplied w past o → IsReplied (after_push w to_client) past o
-replied-pushed w past o to_client queued replied =
-    let nothing = pushed-none w.server.history w.server.subs w.server.upto w.server.version replied.upto in
+is-oldest : (s : Scene) (n : ℕ) (old : Seat) (server : Server) (m : Message) (queue : List Message) (h : SeatStands s n old server) → old.to_server ≡ m ∷ queue → IsOldest s n old server m queue h
+is-oldest s n old server m queue h first =
+    let all : list_all (is_request_of s.database.schema n) (m ∷ queue) ≡ true = subst (λ ms. list_all (is_request_of s.database.schema n) ms ≡ true) first h.seat.requests in
     record {
-      to_server = replied.to_server;
-      notices = replied.notices;
-      rest = replied.rest;
-      front = replied.front;
-      to_client = queued ∙ (ap (λ ms. w.to_client.items ++ ms) nothing ∙ (append-nil w.to_client.items ∙ replied.to_client));
-      before = replied.before;
-      subs = replied.subs;
-      held = replied.held;
-      earlier = replied.earlier;
-      subscribed = replied.subscribed;
-      until = replied.until;
-      brings = replied.brings;
-      within = replied.within;
-      reaches = replied.reaches;
-      upto = refl;
+      first = sym h.seat.to_server ∙ first;
+      is = and_left (is_request_of s.database.schema n m) (list_all (is_request_of s.database.schema n) queue) all;
+      others = and_right (is_request_of s.database.schema n m) (list_all (is_request_of s.database.schema n) queue) all;
     }
 
-flow-pushed : (w : World) (past : Past) (to_client : VecDeque Message Global) → Facts w past → to_client.items ≡ w.to_client.items ++ sent_by_push w → (out : Option code.AskOut) → Flow w past out → Flow (after_push w to_client) past out
-flow-pushed w past to_client f queued None flow = (
-  flow.0,
-  flow.1,
-  (
-    flow.2.0,
-    subst (λ ms. Brings w.server.tables.schema past.versions w.server.subs w.client.version w.server.version ms) (sym queued) (brings-pushed w past w.to_client.items f flow.2),
-  ),
-)
-flow-pushed w past to_client f queued (Some o) (is_out, inl asked) =
-    (out-stays w past o w.server.subs w.server.version w.to_server to_client is_out, inl (asked-pushed w past o to_client f queued asked))
-flow-pushed w past to_client f queued (Some o) (is_out, inr replied) =
-    (out-stays w past o w.server.subs w.server.version w.to_server to_client is_out, inr (replied-pushed w past o to_client queued replied))
+-- so it has few parts
+pub oldest-parts : (old : Seat) (server : Server) (m : Message) (queue : List Message) (s : Scene) (n : ℕ) → SeatStands s n old server → old.to_server ≡ m ∷ queue → has_few_parts m ≡ true
+oldest-parts old server m queue s n h first = let o = is-oldest s n old server m queue h first in (request-parts s.database.schema n m o.is).parts
 
-pushes : (w : World) (past : Past) (to_client : VecDeque Message Global) → Facts w past → to_client.items ≡ w.to_client.items ++ sent_by_push w
-    → (next : Scene) × Happens (scene_of w past) (Push 1) (line.PushSent 1 (length (sent_by_push w)) ∷ []) next × Represents (after_push w to_client) next
-pushes w past to_client f queued =
-    let changed : World = after_push w to_client in
-    let facts : Facts changed past =
-    facts-told w past w.server.subs w.server.version w.to_server to_client f (omega arith) (flow-pushed w past to_client f queued w.client.out f.flow) in
-    let client : ℕ → List Message → Client = λ upto answers. record (client_of w past) { session = Some (record { subscription = w.server.subs; upto = upto }); to_client = answers } in
-    let same : client_of changed past ≡ client (newest_of past.versions) (w.to_client.items ++ pushed w.server.tables.schema past.versions (session_of w)) =
-    ap (λ ms. client w.server.version ms) (queued ∙ ap (λ ms. w.to_client.items ++ ms) (pushed-is w past f))
-    ∙ ap (λ n. client n (w.to_client.items ++ pushed w.server.tables.schema past.versions (session_of w))) (sym (newest-is w past f)) in
-    let line_is = ap (λ (ms : List Message). line.PushSent 1 (length ms) ∷ []) (pushed-is w past f) in
-    (scene_of changed past, (client_of w past, client_of changed past, refl, (line_is, same), refl), record { past = past; facts = facts; same = refl })
+-- and nothing stands against it
+pub oldest-fits : (old : Seat) (server : Server) (m : Message) (queue : List Message) (s : Scene) (n : ℕ) → SeatStands s n old server → old.to_server ≡ m ∷ queue
+    → server_misfit server.tables.schema (session_at server.sessions old.client.id) old.client.id m ≡ None
+oldest-fits old server m queue s n h first =
+    let o = is-oldest s n old server m queue h first in
+    let none = no-misfit s.database n h.pair m queue (pair-stands s n old server h) o.first o.is in
+    rw (h.server.knows.schema, h.seat.number, h.session) none
 
-pub does-push : (w : World) (sent : List Message) (server : Server) (to_client : VecDeque Message Global) → server ≡ record w.server { upto = w.server.version }
-    → sent ≡ sent_by_push w → to_client.items ≡ w.to_client.items ++ sent → DoesEvent (Push 1) w (with_queues w server w.to_server to_client) (line.PushSent 1 (length sent) ∷ [])
-does-push w sent server to_client reached told queued =
-    let all = queued ∙ ap (λ ms. w.to_client.items ++ ms) told in
-    let does_it : DoesEvent (Push 1) w (after_push w to_client) (line.PushSent 1 (length (sent_by_push w)) ∷ []) =
-    does (λ s. Happens s (Push 1)) w (after_push w to_client) (line.PushSent 1 (length (sent_by_push w)) ∷ []) (λ past f. pushes w past to_client f all) in
-    subst (λ x. DoesEvent (Push 1) w (with_queues w x w.to_server to_client) (line.PushSent 1 (length sent) ∷ [])) (sym reached)
-    (subst (λ ms. DoesEvent (Push 1) w (after_push w to_client) (line.PushSent 1 (length ms) ∷ [])) (sym told) does_it)
+pub serve-goes : (old new : Seat) (server after : Server) (m : Message) (queue sent : List Message) → old.to_server ≡ m ∷ queue
+    → ((db : Database) → IsServer server db → Takes db server old.client.id m sent after)
+    → new ≡ record old { to_server = queue; to_client = old.to_client ++ sent }
+    → SeatGoes (λ n s. Acts s (DoToServer n)) old server new after (served_line old.client.id (length sent) m)
+serve-goes old new server after m queue sent first takes made = λ s n h.
+    let db = s.database in
+    let o = is-oldest s n old server m queue h first in
+    let t : Takes db server old.client.id m sent after = takes db h.server in
+    let session = h.pair.connection.session in
+    let there : session_at server.sessions old.client.id ≡ session = ap (λ k. session_at server.sessions k) h.seat.number ∙ h.session in
+    let g = is-given db session m queue t.result t.gives in
+    let same : taken db (session_at server.sessions old.client.id) m t.result ≡ taken db session m g.given = ap (λ x. taken db x m t.result) there ∙ sym g.same in
+    let d : Taken = taken db session m g.given in
+    let all : sent ≡ d.served.sent = t.sends ∙ ap (λ (x : Taken). x.served.sent) same in
+    let stands : IsServer after d.database = subst (λ (x : Taken). IsServer after x.database) same t.stands in
+    let grows : Grows db d.database = grows-taken db session m g.given (sound-of d.database stands.sound) in
+    let next : Pair = given h.pair queue d.served in
+    seat-leads s n server after new (DoToServer n) (ToServer n g.given) (ServerTook m d.served.sent) d.database h.pair next (served_line old.client.id (length sent) m)
+    h.number h.there h.stands h.server
+    (is_to_server n h.pair g.given h.there (rw o.first g.gives))
+    (server_took n g.given h.pair m queue h.there o.first)
+    (rw (h.seat.number, all) refl) grows stands
+    (t.sessions ∙ (ap (λ (x : Taken). with_session server.sessions old.client.id x.served.session) same ∙ ap (λ k. with_session server.sessions k d.served.session) h.seat.number))
+    (subst (λ (seat : Seat). IsSeat d.database s.limits n seat next) (sym made) (record {
+      number = h.seat.number;
+      limits = h.seat.limits;
+      client = grows.clients h.pair.client old.client h.seat.client;
+      to_server = refl;
+      to_client = ap (λ ms. ms ++ sent) h.seat.to_client ∙ ap (λ ms. h.pair.connection.to_client ++ ms) all;
+      requests = rw grows.schema o.others;
+    }))
+
+-- ---- what was answered
+
+pub each-ok : {T E : Type 0} (P : T → Type 0) (r : Result T E) (value : T) → IfOk r (λ x. x ≡ value) → P value → IfOk r P
+each-ok P (Ok x) value is p = subst P (sym is) p
+each-ok P (Err e) value is p = tt
+
+pub always-ok : {T E : Type 0} (P : Type 0) (r : Result T E) → P → OnOk r P
+always-ok P (Ok x) p = p
+always-ok P (Err e) p = tt
+
+-- a server that answers messages has a session of the client
+pub push-some : (old new : Seat) (server after : Server) (sent : List Message) (found : Option (List Message)) → found ≡ Some sent
+    → IsNone found ↔ (session_at server.sessions old.client.id ≡ None)
+    → ((db : Database) (session : Session) → IsServer server db → session_at server.sessions old.client.id ≡ Some session → found ≡ Some (serve_push db session).sent)
+    → ((db : Database) (session : Session) → IsServer server db → session_at server.sessions old.client.id ≡ Some session
+    → after ≡ record server { sessions = with_session server.sessions old.client.id (serve_push db session).session })
+    → ((db : Database) → IsServer server db → IsServer after db)
+    → new ≡ record old { to_client = old.to_client ++ sent }
+    → SeatGoes (λ n s. Acts s (DoPush n)) old server new after (line.PushSent old.client.id (length sent) ∷ [])
+push-some old new server after sent found is none sends makes stands made = by (session_at server.sessions old.client.id) refl
+  where
+    by : (session : Option Session) → session_at server.sessions old.client.id ≡ session → SeatGoes (λ n s. Acts s (DoPush n)) old server new after (line.PushSent old.client.id (length sent) ∷ [])
+    by None at = absurd (let wrong : true ≡ false = ap (λ (o : Option (List Message)). is_some o) (sym is) ∙ none.1 at in cc)
+    by (Some session) at =
+        push-goes old new server after session sent at (λ db here. let e : Some sent ≡ Some (serve_push db session).sent = sym is ∙ sends db session here at in cc)
+        (λ db here. makes db session here at) stands made
+
+-- the schema stays
+pub serve-schema : (s : Scene) (n : ℕ) (old : Seat) (server after : Server) (m : Message) (sent : List Message) → SeatStands s n old server → Takes s.database server old.client.id m sent after
+    → after.tables.schema ≡ server.tables.schema
+serve-schema s n old server after m sent h t =
+    let d : Taken = taken s.database (session_at server.sessions old.client.id) m t.result in
+    t.stands.knows.schema ∙ ((grows-taken s.database (session_at server.sessions old.client.id) m t.result (sound-of d.database t.stands.sound)).schema ∙ sym h.server.knows.schema)
+
+-- a message that comes first is not refused
+pub not-refused : (old : Seat) (server : Server) (m : Message) (queue : List Message) (why : BadFrame) → IsSomeSeat old server → old.to_server ≡ m ∷ queue
+    → server_misfit server.tables.schema (session_at server.sessions old.client.id) old.client.id m ≡ Some why → ⊥
+not-refused old server m queue why some first bad =
+    absurd (let wrong : None ≡ Some why = sym (oldest-fits old server m queue some.0 some.1 some.2 first) ∙ bad in cc)

@@ -1,63 +1,119 @@
--- Deliveries one after another, and a query with those that it brings.
-use Rattle.std.proofs.Common.{◌≡◌, ℕ, ◌+◌, List, [], ◌++◌, refl, sym, ◌∙◌, ap, subst, arith, zero, suc, append_assoc, append-nil}
-use Rattle.sr_language.specs.Events.{Event}
+-- Deliveries one after another.
+use Rattle.std.proofs.Common.{◌≡◌, ℕ, suc, ◌+◌, ◌≤◌, true, false, List, [], ◌∷◌, ◌++◌, length, refl, sym, ◌∙◌, subst, arith, append_assoc, append-nil, Some, None}
+use Rattle.sr_message.specs.declared.message.Message.{Message}
 use Rattle.sr_script.specs.declared.line.TraceLine.{TraceLine}
-use Rattle.sr_scene.specs.Scene.{Scene}
-use Rattle.sr_scene.specs.Steps.{Happens}
-use Rattle.sr_scene.specs.Runs.{Steps, DeliversMany, Settles, IsQuiet}
-use Rattle.sr_world.specs.declared.world.World.{World}
-use Rattle.sr_world.specs.Worlds.{Stands, Does, DoesStep, DoesEvent, DoesDelivery, DoesMany, DoesSettle}
-use Rattle.sr_world.specs.Represents.{Past, scene_of}
-use Rattle.sr_world.proofs.StepLemmas.{quiet}
+use Rattle.sr_language.specs.Events.{DoToClient, DoToServer, ScriptEvent}
+use Rattle.sr_session.specs.Scenes.{Scene}
+use Rattle.sr_server.specs.declared.server.Server.{Server}
+use Rattle.sr_runs.specs.Runs.{Acts, Settles, delivers, is_quiet, next_delivery, next_of}
+use Rattle.sr_world.specs.declared.seat.Seat.{Seat}
+use Rattle.sr_world.specs.Seats.{Delivers, IsSomeSeat, LeavesOthers, SeatGoes, has_mail, mail}
 
--- a world that stands for a scene still does
-pub still-stands : (Relation : Scene → List TraceLine → Scene → Type 0) (old new : World) (lines : List TraceLine) → Stands old → Does Relation old new lines → Stands new
-still-stands Relation old new lines stands does = let r = does stands.0 stands.1 in (r.0, r.2)
+-- ---- one after another
 
-pub many-stands : (old new : World) (lines : List TraceLine) → Stands old → DoesMany old new lines → Stands new
-many-stands old new lines stands does = let r = does stands.0 stands.1 in (r.1, r.3)
+others-twice : (s mid next : Scene) (n : ℕ) (one two three : Server) → LeavesOthers s mid n one two → LeavesOthers mid next n two three → LeavesOthers s next n one three
+others-twice s mid next n one two three a b = record {
+  limits = b.limits ∙ a.limits;
+  count = b.count ∙ a.count;
+  schema = b.schema ∙ a.schema;
+  pairs = λ k differ. b.pairs k differ ∙ a.pairs k differ;
+  sessions = λ k number differ. b.sessions k number differ ∙ a.sessions k number differ;
+  clients = λ past c stands. b.clients past c (a.clients past c stands);
+}
 
-pub settle-stands : (old new : World) (lines : List TraceLine) → Stands old → DoesSettle old new lines → Stands new
-settle-stands old new lines stands does = let r = does stands.0 stands.1 in (r.1, r.3)
+-- what was some seat's still is
+pub still-some : (Leads : ℕ → Scene → List TraceLine → Scene → Type 0) (old new : Seat) (server after : Server) (lines : List TraceLine) → IsSomeSeat old server → SeatGoes Leads old server new after lines
+    → IsSomeSeat new after
+still-some Leads old new server after lines some goes = let l = goes some.0 some.1 some.2 in (l.next, some.1, l.stands)
 
-pub many-none : (w : World) → DoesMany w w []
-many-none w s r = (0, s, (refl, refl), r)
+pub delivers-none : (seat : Seat) (server : Server) → SeatGoes (λ n. Delivers 0 n) seat server seat server []
+delivers-none seat server = λ s n h. record {
+  next = s;
+  leads = λ more rest last settles. (let sum : more ≡ 0 + more = omega arith in subst (λ f. Settles n s f rest last) sum settles);
+  stands = h;
+  others = record { limits = refl; count = refl; schema = refl; pairs = λ k differ. refl; sessions = λ k number differ. refl; clients = λ past c stands. stands };
+}
 
-pub many-more : (old mid new : World) (lines more : List TraceLine) → DoesMany old mid lines → DoesDelivery mid new more → DoesMany old new (lines ++ more)
-many-more old mid new lines more first then s r =
-    let a = first s r in
-    let b = then a.1 a.3 in
-    (suc a.0, b.0, (lines, more, a.1, a.2, b.1, refl), b.2)
+-- deliveries, and then others
+pub delivers-both : (j k : ℕ) (one two three : Seat) (a b c : Server) (lines others : List TraceLine) → SeatGoes (λ n. Delivers j n) one a two b lines → SeatGoes (λ n. Delivers k n) two b three c others
+    → SeatGoes (λ n. Delivers (j + k) n) one a three c (lines ++ others)
+delivers-both j k one two three a b c lines others first later = λ s n h.
+    let x = first s n h in
+    let y = later x.next n x.stands in
+    record {
+      next = y.next;
+      leads = λ more rest last settles.
+          let all = x.leads (k + more) (others ++ rest) last (y.leads more rest last settles) in
+          let sum : j + (k + more) ≡ (j + k) + more = omega arith in
+          subst (λ f. Settles n s f ((lines ++ others) ++ rest) last) sum (subst (λ ls. Settles n s (j + (k + more)) ls last) (sym (append_assoc lines others rest)) all);
+      stands = y.stands;
+      others = others-twice s x.next y.next n a b c x.others y.others;
+    }
 
-many-join : (j k : ℕ) (s mid new : Scene) (lines more : List TraceLine) → DeliversMany j 1 s lines mid → DeliversMany k 1 mid more new → DeliversMany (k + j) 1 s (lines ++ more) new
-many-join j zero s mid new lines more first then =
-    let all : DeliversMany j 1 s (lines ++ more) new =
-    subst (λ ms. DeliversMany j 1 s (lines ++ ms) new) (sym then.0) (subst (λ ls. DeliversMany j 1 s ls new) (sym (append-nil lines)) (subst (λ x. DeliversMany j 1 s lines x) (sym then.1) first)) in
-    let sum : j ≡ 0 + j = omega arith in
-    subst (λ n. DeliversMany n 1 s (lines ++ more) new) sum all
-many-join j (suc k) s mid new lines more first then =
-    let front = many-join j k s mid then.2 lines then.0 first then.3 in
-    let all : DeliversMany (suc (k + j)) 1 s (lines ++ more) new = (lines ++ then.0, then.1, then.2, front, then.4, ap (λ ms. lines ++ ms) then.5 ∙ sym (append_assoc lines then.0 then.1)) in
-    let sum : suc (k + j) ≡ suc k + j = omega arith in
-    subst (λ n. DeliversMany n 1 s (lines ++ more) new) sum all
+-- one delivery
+delivers-one : (what : ℕ → ScriptEvent) (one two : Seat) (a b : Server) (lines : List TraceLine) → ((n : ℕ) → next_of n one.to_server one.to_client ≡ Some (what n))
+    → SeatGoes (λ n s. Acts s (what n)) one a two b lines → SeatGoes (λ n. Delivers 1 n) one a two b lines
+delivers-one what one two a b lines is goes = λ s n h.
+    let x = goes s n h in
+    record {
+      next = x.next;
+      leads = λ more rest last settles.
+          let turn : next_delivery n h.pair.connection ≡ Some (what n) = subst (λ ms. next_of n ms h.pair.connection.to_client ≡ Some (what n)) h.seat.to_server (subst (λ ms. next_of n one.to_server ms ≡ Some (what n)) h.seat.to_client (is n)) in
+          let all = delivers s h.pair (what n) lines x.next more rest last h.there turn x.leads settles in
+          let sum : suc more ≡ 1 + more = omega arith in
+          subst (λ f. Settles n s f (lines ++ rest) last) sum all;
+      stands = x.stands;
+      others = x.others;
+    }
 
--- the one deliveries and then the others, after which none is left
-pub settles : (old mid new : World) (lines more : List TraceLine) → DoesMany old mid lines → DoesMany mid new more → new.to_server.items ≡ [] → new.to_client.items ≡ [] → DoesSettle old new (lines ++ more)
-settles old mid new lines more first then none nothing s r =
-    let a = first s r in
-    let b = then a.1 a.3 in
-    let still : IsQuiet b.1 1 = subst (λ x. IsQuiet x 1) (sym b.3.same) (quiet new b.3.past none nothing) in
-    (b.0 + a.0, b.1, (many-join a.0 b.0 s a.1 b.1 lines more a.2 b.2, still), b.3)
+server-turn : (n : ℕ) (to_server to_client : List Message) → (to_server ≡ [] → ⊥) → next_of n to_server to_client ≡ Some (DoToServer n)
+server-turn n [] to_client some = absurd (some refl)
+server-turn n (m ∷ to_server) to_client some = refl
 
-eager : (w : World) (past : Past) (event : Event) (k : ℕ) (mid next : Scene) (lines more : List TraceLine) → Happens (scene_of w past) event lines mid → Settles k 1 mid more next
-    → Steps (scene_of w past) event (lines ++ more) next
-eager w past event k mid next lines more happens settles = (lines, more, mid, happens, (k, (more, [], next, settles, (refl, refl), sym (append-nil more))), refl)
+client-turn : (n : ℕ) (to_server to_client : List Message) → to_server ≡ [] → (to_client ≡ [] → ⊥) → next_of n to_server to_client ≡ Some (DoToClient n)
+client-turn n [] [] none some = absurd (some refl)
+client-turn n [] (m ∷ to_client) none some = refl
+client-turn n (m ∷ to_server) to_client none some = absurd (cc)
 
--- an event and the deliveries that it brings
-pub steps : (event : Event) (old mid new : World) (lines more : List TraceLine) → DoesEvent event old mid lines → DoesSettle mid new more → DoesStep event old new (lines ++ more)
-steps event old mid new lines more happens settles s r =
-    let a = happens s r in
-    let b = settles a.0 a.2 in
-    let step : Happens s event lines a.0 → Steps s event (lines ++ more) b.1 =
-    subst (λ x. Happens x event lines a.0 → Steps x event (lines ++ more) b.1) (sym r.same) (λ h. eager old r.past event b.0 a.0 b.1 lines more h b.2) in
-    (b.1, step a.1, b.3)
+pub serves-more : (k : ℕ) (one two three : Seat) (a b c : Server) (lines others : List TraceLine) → (two.to_server ≡ [] → ⊥) → SeatGoes (λ n. Delivers k n) one a two b lines
+    → SeatGoes (λ n s. Acts s (DoToServer n)) two b three c others → SeatGoes (λ n. Delivers (k + 1) n) one a three c (lines ++ others)
+serves-more k one two three a b c lines others some first later =
+    delivers-both k 1 one two three a b c lines others first (delivers-one (λ n. DoToServer n) two three b c others (λ n. server-turn n two.to_server two.to_client some) later)
+
+pub receives-more : (k : ℕ) (one two three : Seat) (a b c : Server) (lines others : List TraceLine) → two.to_server ≡ [] → (two.to_client ≡ [] → ⊥) → SeatGoes (λ n. Delivers k n) one a two b lines
+    → SeatGoes (λ n s. Acts s (DoToClient n)) two b three c others → SeatGoes (λ n. Delivers (k + 1) n) one a three c (lines ++ others)
+receives-more k one two three a b c lines others none some first later =
+    delivers-both k 1 one two three a b c lines others first (delivers-one (λ n. DoToClient n) two three b c others (λ n. client-turn n two.to_server two.to_client none some) later)
+
+-- ---- until nothing is left
+
+no-mail : (n : ℕ) (to_server to_client : List Message) → has_mail to_server to_client ≡ false → next_of n to_server to_client ≡ None
+no-mail n [] [] none = refl
+no-mail n [] (m ∷ to_client) none = absurd (cc)
+no-mail n (m ∷ to_server) to_client none = absurd (cc)
+
+pub settles-all : (k : ℕ) (one two : Seat) (a b : Server) (lines : List TraceLine) → has_mail two.to_server two.to_client ≡ false → SeatGoes (λ n. Delivers k n) one a two b lines
+    → SeatGoes (λ n s. Settles n s k) one a two b lines
+settles-all k one two a b lines none goes = λ s n h.
+    let x = goes s n h in
+    let quiet : next_delivery n x.stands.pair.connection ≡ None =
+    subst (λ ms. next_of n ms x.stands.pair.connection.to_client ≡ None) x.stands.seat.to_server (subst (λ ms. next_of n two.to_server ms ≡ None) x.stands.seat.to_client (no-mail n two.to_server two.to_client none)) in
+    let all = x.leads 0 [] x.next (is_quiet x.next x.stands.pair x.stands.there quiet) in
+    let sum : k + 0 ≡ k = omega arith in
+    record {
+      next = x.next;
+      leads = subst (λ f. Settles n s f lines x.next) sum (subst (λ ls. Settles n s (k + 0) ls x.next) (append-nil lines) all);
+      stands = x.stands;
+      others = x.others;
+    }
+
+-- ---- mail
+
+pub some-mail : (to_server to_client : List Message) → has_mail to_server to_client ≡ true → mail to_server to_client ≡ 1
+some-mail to_server to_client is = rw is refl
+
+-- once the loop has ended: something was sent, or nothing is left
+pub mail-left : (to_server to_client : List Message) → ((to_server ≡ []) × ((to_client ≡ []) → ⊥) → ⊥) → mail to_server to_client ≤ length to_server
+mail-left [] [] ended = omega arith
+mail-left [] (m ∷ to_client) ended = absurd (ended (refl, λ none. absurd (cc)))
+mail-left (m ∷ to_server) to_client ended = omega arith

@@ -1,334 +1,144 @@
--- One step of a world is one of its scene.
-use Rattle.std.proofs.Common.{◌≡◌, ℕ, ◌+◌, ◌-◌, ◌<◌, ◌≤◌, true, List, [], ◌∷◌, ◌++◌, length, slice_index_or, refl, sym, ◌∙◌, ap, subst, arith, inl, inr, Option, Some, None, Ok, Err, length-append, append-nil}
-use Rattle.std.specs.Prelude.{IsTrue, IfOk, OnOk, Result}
-use Rattle.std.specs.List.{list_all}
-use Rattle.std.proofs.Math.Seq.{get_or-append_seam}
-use Rattle.std.proofs.lemmas.List.{get_or_append_left}
-use Rattle.std.proofs.lemmas.List.Elements.{All-nil}
-use Rattle.std.proofs.lemmas.Bool.{cases_lt}
-use Rattle.sr_cell.specs.declared.change.Change.{Change}
+-- Steps of a world: an event of a script, and the deliveries behind it.
+use Rattle.std.proofs.Common.{append-nil, ◌≡◌, ℕ, suc, ◌+◌, ◌-◌, ◌≤◌, Bool, true, false, List, [], ◌∷◌, ◌++◌, length, refl, sym, ◌∙◌, ap, subst, arith, inl, inr, Some, Result, Ok, Err}
+use Rattle.std.specs.Prelude.{IfOk, IsTrue, OnOk, nat_le, slice_get}
+use Rattle.std.proofs.lemmas.Bool.Decides.{nat_tests}
 use Rattle.sr_cell.specs.declared.fault.Fault.{Fault}
 use Rattle.sr_cell.specs.declared.table.Table.{Table}
-use Rattle.sr_cell.specs.Cells.{Row}
-use Rattle.sr_cell.specs.Columns.{table_at, is_point}
-use Rattle.sr_box.specs.Points.{in_any}
-use Rattle.sr_message.specs.declared.message.Holding.{Holding}
-use Rattle.sr_subs.specs.Subscription.{has_point}
-use Rattle.sr_message.specs.declared.message.Message.TheVariants.{Ask, Reply}
-use Rattle.sr_keyed.specs.Keyed.{are_values}
-use Rattle.sr_language.specs.Events.{Event, Exec}
-use Rattle.sr_model.specs.Statements.{Tables, Write, executed}
-use Rattle.sr_model.specs.Changes.{changes, version_at, changes_at, newest_of}
-use Rattle.sr_policy.specs.declared.policy.Limits.{Limits}
-use Rattle.sr_query.specs.Bound.{is_table}
-use Rattle.sr_history.specs.Marks.{is_held}
-use Rattle.sr_history.specs.Classes.{stamp}
-use Rattle.sr_tables.specs.Stored.{Stored, are_stored}
-use Rattle.sr_region.specs.declared.region.Region.{Region}
-use Rattle.sr_region.specs.Applied.{AreTables}
-use Rattle.sr_store.specs.Classes.{Keeps}
-use Rattle.sr_store.specs.Told.{Told, told_of, AreTrueOf}
-use Rattle.sr_store.specs.Stores.{IsStore}
+use Rattle.sr_model.specs.Queries as model
+use Rattle.sr_query.specs.declared.query.Query.{Query}
+use Rattle.sr_query.specs.declared.write.Write.{Write}
+use Rattle.sr_reader.specs.Read.{Means, is_client, statement_of}
 use Rattle.sr_script.specs.declared.line.TraceLine.{TraceLine}
 use Rattle.sr_script.specs.declared.line.TraceLine.TheVariants as line
-use Rattle.sr_scene.specs.Scene.{Scene, first, tables_at, newest_version}
-use Rattle.sr_scene.specs.Steps.{Happens, Executes, result_of}
-use Rattle.sr_scene.specs.Runs.{Steps, IsQuiet}
+use Rattle.sr_language.specs.Events.{DoExec, DoQuery, DoSettle, ScriptEvent}
+use Rattle.sr_session.specs.Rules.{QueryRefused, query_refused}
+use Rattle.sr_session.specs.Clients.{Pair}
+use Rattle.sr_session.specs.Scenes.{Did, Exec, NotExecuted, QueryOf, Scene, acted, not_executed, pair_at, queried, with_pair}
+use Rattle.sr_client.specs.Bound.{IsMeaning}
+use Rattle.sr_runs.specs.Runs.{Acts, AllSettle, Does, Settles, Steps, acts, alone, does, does_settle, eagerly}
+use Rattle.sr_runs.specs.Scripts.{is_exec, is_query}
 use Rattle.sr_world.specs.declared.world.World.{World}
-use Rattle.sr_world.specs.declared.server.Server.{Server}
-use Rattle.sr_world.specs.Cutting.{EndWith}
-use Rattle.sr_world.specs.declared.client.AskOut.{AskOut}
-use Rattle.sr_world.specs.declared.client.Client.{Client}
-use Rattle.sr_world.specs.Noticing.{Brings, done, AreSubscribed}
-use Rattle.sr_world.specs.Worlds.{Does, DoesStep, IsStill}
-use Rattle.sr_world.specs.Represents.{Past, ServerFacts, ClientFacts, CutFacts, Facts, Represents, Flow, scene_of, client_of}
-use Rattle.sr_world.proofs.Points.{stored-tables}
-use Rattle.sr_world.proofs.Bringing.{version-stays, changes-stay, brings-still}
+use Rattle.sr_world.specs.Worlds.{Goes, IsNumber, IsWorld, Represents, StandsForSome, drawn, potential}
+use Rattle.sr_world.proofs.SeatLemmas.{put-same}
+use Rattle.sr_world.proofs.Tests.{and_left, and_right}
+use Rattle.sr_world.proofs.WorldLemmas.{potential-within, there-is}
 
--- ---- of the answers of calls
+-- ---- numbers
 
--- what holds of the value that a call answers holds of its answer
-pub if_ok : {T E : Type 0} (P : T → Type 0) (r : Result T E) (value : T) → IfOk r (λ x. x ≡ value) → P value → IfOk r P
-if_ok P (Ok x) value is p = subst P (sym is) p
-if_ok P (Err e) value is p = tt
+pub number-of : (w : World) (n : ℕ) → IsTrue (is_client (length w.seats.items) n) → IsNumber w n
+number-of w n is =
+    let low = and_left (nat_le 1 n) (nat_le n (length w.seats.items)) is in
+    let high = and_right (nat_le 1 n) (nat_le n (length w.seats.items)) is in
+    (grind (arith, nat_tests, low), grind (arith, nat_tests, high))
 
-pub if_each : {T E : Type 0} (P : T → Type 0) (r : Result T E) → ((x : T) → r ≡ Ok x → P x) → IfOk r P
-if_each P (Ok x) each = each x refl
-if_each P (Err e) each = tt
+pub settle-room : (w : World) (s : Scene) → Represents w s → potential w ≤ drawn w + 192
+settle-room w s r = potential-within w s r
 
-pub on_ok : {T E : Type 0} (Q : Type 0) (r : Result T E) (x : T) → r ≡ Ok x → OnOk r Q → Q
-on_ok Q r x is h = subst (λ r. OnOk r Q) is h
+-- after an event that draws at most two numbers
+pub potential-after : {E : Type 0} (Leads : Scene → List TraceLine → Scene → Type 0) (old new : World) (r : Result (List TraceLine) E) → StandsForSome old → IfOk r (Goes Leads old new) → OnOk r (drawn new ≤ drawn old + 2)
+    → OnOk r (potential new + 2 ≤ drawn old + 256)
+potential-after {E} Leads old new (Ok lines) some goes few =
+    let x = goes some.0 some.1 in omega (arith, few, potential-within new x.0 x.2)
+potential-after {E} Leads old new (Err e) some goes few = tt
 
-pub of_ok : {T E : Type 0} (P : T → Type 0) (r : Result T E) (x : T) → r ≡ Ok x → IfOk r P → P x
-of_ok P r x is h = subst (λ r. IfOk r P) is h
+pub potential-light : {T E : Type 0} (old new : World) (r : Result T E) → StandsForSome old → OnOk r (potential new ≤ potential old) → OnOk r (potential new + 2 ≤ drawn old + 256)
+potential-light {T} {E} old new (Ok x) some light = omega (arith, light, potential-within old some.0 some.1)
+potential-light {T} {E} old new (Err e) some light = tt
 
--- ---- of the scene
+-- ---- events
 
--- What holds of the scene of each past holds of each scene that the world stands for.
-pub does : (Relation : Scene → List TraceLine → Scene → Type 0) (old new : World) (lines : List TraceLine)
-    → ((past : Past) → Facts old past → (next : Scene) × Relation (scene_of old past) lines next × Represents new next) → Does Relation old new lines
-does Relation old new lines each s r = subst (λ s. (next : Scene) × Relation s lines next × Represents new next) (sym r.same) (each r.past r.facts)
+pub acts-does : {E : Type 0} (old new : World) (what real : ScriptEvent) (r : Result (List TraceLine) E) → what ≡ real → IfOk r (Goes (λ s. Acts s real) old new) → IfOk r (Goes (λ s. Does s what) old new)
+acts-does {E} old new what real (Ok lines) is goes = λ s r.
+    let x = goes s r in
+    (x.0, subst (λ e. Does s e lines x.0) (sym is) (does real lines x.0 x.1), x.2)
+acts-does {E} old new what real (Err e) is goes = tt
 
--- the newest tables of the scene
-pub newest-is : (w : World) (past : Past) → Facts w past → newest_of past.versions ≡ w.server.version
-newest-is w past f = omega (arith, f.server.count)
+pub same-does : {E : Type 0} (old new : World) (what real : ScriptEvent) (r : Result (List TraceLine) E) → what ≡ real → IfOk r (Goes (λ s. Does s real) old new) → IfOk r (Goes (λ s. Does s what) old new)
+same-does {E} old new what real r is goes = subst (λ e. IfOk r (Goes (λ s. Does s e) old new)) (sym is) goes
 
-pub tables-are : (w : World) (past : Past) → Facts w past → tables_at (scene_of w past) (newest_version (scene_of w past)) ≡ w.server.tables.rows
-tables-are w past f = rw (newest-is w past f) f.server.newest
+pub exec-text : (w : World) (fault : Fault) → Goes (λ s. Acts s (DoExec (Err fault))) w w (line.ExecRefused fault ∷ [])
+exec-text w fault = λ s r. (s, acts (DoExec (Err fault)) (Exec (Err fault)) (NotExecuted fault) s (is_exec (Err fault)) (not_executed fault), r)
 
--- what is under way while nothing is out
-pub idle : (w : World) (past : Past) → Facts w past → w.client.out ≡ None → Flow w past None
-idle w past f none = subst (Flow w past) none f.flow
-
--- a scene in which nothing is under way
-pub quiet : (w : World) (past : Past) → w.to_server.items ≡ [] → w.to_client.items ≡ [] → IsQuiet (scene_of w past) 1
-quiet w past none nothing = (client_of w past, refl, rw (none, nothing) refl)
-
--- an event that brings no delivery
-pub no-delivery : (w : World) (past : Past) (event : Event) (lines : List TraceLine) (next : Scene) → Happens (scene_of w past) event lines next → IsQuiet next 1 → Steps (scene_of w past) event lines next
-no-delivery w past event lines next happens still = (lines, [], next, happens, (0, ([], [], next, ((refl, refl), still), (refl, refl), refl)), sym (append-nil lines))
-
-no-last : {X : Type 0} (xs : List X) (x : X) → [] ≡ xs ++ x ∷ [] → ⊥
-no-last [] x none = absurd (cc)
-no-last (y ∷ xs) x none = absurd (cc)
-
--- where nothing is under way nothing is out
-pub still-idle : (w : World) (past : Past) → Facts w past → IsStill w → w.client.out ≡ None
-still-idle w past f still = by w.client.out refl f.flow
+pub query-text : (w : World) (n : ℕ) (fault : Fault) → IsNumber w n → Goes (λ s. Acts s (DoQuery n (Err fault))) w w (line.QuerySql n fault ∷ [])
+query-text w n fault number = λ s r. by s r n (omega (arith, number.0)) (there-is s.pairs (n - 1) (let count = r.count in omega (arith, count, number.0, number.1)))
   where
-    by : (out : Option AskOut) → w.client.out ≡ out → Flow w past out → w.client.out ≡ None
-    by None is flow = is
-    by (Some o) is (is_out, inl asked) = absurd (let k : [] ≡ Ask o.number o.fresh o.parts ∷ [] = sym still.0 ∙ asked.to_server in cc)
-    by (Some o) is (is_out, inr replied) = absurd (no-last replied.rest (Reply o.number w.server.version) (sym still.1 ∙ replied.to_client))
+    by : (s : Scene) → Represents w s → (n : ℕ) → n ≡ suc (n - 1) → (p : Pair) × (slice_get s.pairs (n - 1) ≡ Some p) → (next : Scene) × Acts s (DoQuery n (Err fault)) (line.QuerySql n fault ∷ []) next × Represents w next
+    by s r n place found =
+        let there : pair_at s n ≡ Some found.0 = subst (λ k. pair_at s k ≡ Some found.0) (sym place) found.1 in
+        let still : with_pair s n (acted found.0.client found.0.connection (QueryRefused fault)) ≡ s =
+        ap (λ ms. with_pair s n (record { client = found.0.client; connection = record found.0.connection { to_server = ms } })) (append-nil found.0.connection.to_server) ∙ put-same s n found.0 there in (
+          s,
+          subst (λ x. Acts s (DoQuery n (Err fault)) (line.QuerySql n fault ∷ []) x) still
+              (acts (DoQuery n (Err fault)) (QueryOf n (Err fault)) (Did (QueryRefused fault)) _ (is_query n (Err fault)) (queried n (Err fault) found.0 (QueryRefused fault) found.0.client there (query_refused fault))),
+          r,
+        )
 
--- ---- a world before any event
+-- ---- queries that are bound
 
--- a store without regions
-pub no-store : (schema : List Table) → IsStore schema []
-no-store schema = record {
-  each = All-nil _;
-  order = refl;
-  once = λ t a p point. omega arith;
-  keys = λ t a k. omega arith;
-  few = omega arith;
-  settled = All-nil _;
-}
+meant : (tables : List Table) (query : Result Query Fault) (q : Query) (meaning : Result model.Query Fault) → query ≡ Ok q → Means tables query meaning → (m : model.Query) × IsMeaning tables q m × (meaning ≡ Ok m)
+meant tables query q meaning is means = by meaning (subst (λ r. Means tables r meaning) is means)
+  where
+    by : (meaning : Result model.Query Fault) → Means tables (Ok q) meaning → (m : model.Query) × IsMeaning tables q m × (meaning ≡ Ok m)
+    by (Ok m) means = (m, record { query = means.0; may = means.1; sound = means.2; own = means.3 }, refl)
+    by (Err e) means = absurd means
 
-pub nothing-kept : (schema : List Table) → Keeps schema (is_held []) (stamp []) []
-nothing-kept schema = record { points = λ t a p point. refl; stamped = All-nil _ }
+-- it can be asked of the world
+pub asks : (tables : List Table) (query : Result Query Fault) (q : Query) → query ≡ Ok q → (meaning : Result model.Query Fault) × Means tables query meaning → (m : model.Query) × IsMeaning tables q m
+asks tables query q asked means = let m = meant tables query q means.0 asked means.1 in (m.0, m.1)
 
-pub none-true : (told : Told) (regions : List Region) → regions ≡ [] → AreTrueOf told regions
-none-true told regions none = subst (AreTrueOf told) (sym none) (All-nil _)
+pub asks-query : {E : Type 0} (tables : List Table) (query : Result Query Fault) (n : ℕ) (w new : World) (q : Query) (meaning : Result model.Query Fault) (r : Result (List TraceLine) E) → query ≡ Ok q
+    → Means tables query meaning → ((m : model.Query) → IsMeaning tables q m → IfOk r (Goes (λ s. Acts s (DoQuery n (Ok m))) w new)) → IfOk r (Goes (λ s. Acts s (DoQuery n meaning)) w new)
+asks-query {E} tables query n w new q meaning r asked means goes =
+    let m = meant tables query q meaning asked means in
+    subst (λ e. IfOk r (Goes (λ s. Acts s (DoQuery n e)) w new)) (sym m.2) (goes m.0 m.1)
 
-pub none-subscribed : (schema : List Table) (subs : List Holding) (regions : List Region) → regions ≡ [] → AreSubscribed schema subs regions
-none-subscribed schema subs regions none =
-    subst (AreSubscribed schema subs) (sym none)
-    (All-nil (λ (g : Region). (p : Row) → IsTrue (is_point (table_at schema g.table).columns p) → in_any g.rects p ≡ true → has_point subs g.table p ≡ true))
+pub refuses-query : {E : Type 0} (tables : List Table) (w : World) (n : ℕ) (query : Result Query Fault) (meaning : Result model.Query Fault) (fault : Fault) (r : Result (List TraceLine) E) → query ≡ Err fault → Means tables query meaning
+    → IsNumber w n → IfOk r (λ lines. lines ≡ line.QuerySql n fault ∷ []) → IfOk r (Goes (λ s. Acts s (DoQuery n meaning)) w w)
+refuses-query {E} tables w n query meaning fault (Err e) is means number told = tt
+refuses-query {E} tables w n query meaning fault (Ok lines) is means number told = by meaning (subst (λ q. Means tables q meaning) is means)
+  where
+    by : (meaning : Result model.Query Fault) → Means tables (Err fault) meaning → Goes (λ s. Acts s (DoQuery n meaning)) w w lines
+    by (Ok m) means = absurd means
+    by (Err same) means =
+        subst (λ e. Goes (λ s. Acts s (DoQuery n (Err e))) w w lines) means
+        (subst (Goes (λ s. Acts s (DoQuery n (Err fault))) w w) (sym told) (query-text w n fault number))
 
--- what the server is before the first event
-abbrev pub first_server : Stored → Server
-first_server tables = record { tables = tables; version = 0; history = []; subs = []; upto = 0 }
+pub refuses-exec : {E : Type 0} (w : World) (statement : Result Write Fault) (fault : Fault) (r : Result (List TraceLine) E) → statement ≡ Err fault → IfOk r (λ lines. lines ≡ line.ExecRefused fault ∷ [])
+    → IfOk r (Goes (λ s. Acts s (DoExec (statement_of statement))) w w)
+refuses-exec {E} w statement fault (Err e) is told = tt
+refuses-exec {E} w statement fault (Ok lines) is told =
+    subst (λ x. Goes (λ s. Acts s (DoExec (statement_of x))) w w lines) (sym is) (subst (Goes (λ s. Acts s (DoExec (Err fault))) w w) (sym told) (exec-text w fault))
 
--- what the client is
-abbrev pub first_client : Limits → Client
-first_client limits = record { version = 0; queries = 0; next_request = 1; out = None; laid = []; store = record { regions = []; limits = limits; last = [] } }
+pub carries-out : {E : Type 0} (old new : World) (statement : Result Write Fault) (write : Write) (r : Result (List TraceLine) E) → statement ≡ Ok write
+    → IfOk r (Goes (λ s. Acts s (DoExec (statement_of (let here : Result Write Fault = Ok write in here)))) old new) → IfOk r (Goes (λ s. Acts s (DoExec (statement_of statement))) old new)
+carries-out {E} old new statement write r is goes = subst (λ x. IfOk r (Goes (λ s. Acts s (DoExec (statement_of x))) old new)) (sym is) goes
 
-begins-server : (w : World) (tables : Stored) (past : Past) → IsTrue (list_all is_table tables.schema) → are_stored tables.schema tables.rows ≡ true
-    → IsTrue (list_all (list_all are_values) tables.rows) → w.server ≡ first_server tables → past.versions ≡ tables.rows ∷ [] → ServerFacts w past
-begins-server w tables past sound stored values server versions =
-    let all : AreTables tables.schema tables.rows = stored-tables tables.schema tables.rows stored values in
-    let the : ServerFacts w past = record {
-      tables = rw server sound;
-      count = rw (server, versions) refl;
-      newest = rw (server, versions) refl;
-      stored = rw server stored;
-      then = rw (server, versions) (λ v within. let none : 0 ≡ v = omega (arith, within) in subst (λ k. AreTables tables.schema (version_at (tables.rows ∷ []) k)) none all);
-      remembers = rw server refl;
-      changes = rw server (λ v within. absurd (omega (arith, within)));
-      upto = rw server (omega arith);
-    } in
-    the
+-- ---- a settle
 
--- the world before the first event
-pub begins : (w : World) (tables : Stored) (limits : Limits) → IsTrue (list_all is_table tables.schema) → are_stored tables.schema tables.rows ≡ true
-    → IsTrue (list_all (list_all are_values) tables.rows) → w.server ≡ first_server tables → w.client ≡ first_client limits → w.to_server.items ≡ [] → w.to_client.items ≡ []
-    → Represents w (first true limits tables.schema tables.rows 1)
-begins w tables limits sound stored values server client none nothing =
-    let past : Past = record {
-      versions = tables.rows ∷ [];
-      marks = [];
-      queries = [];
-      counted_from = 0;
-      meaning = record { parts = []; joins = []; outputs = [] };
-    } in
-    let held : ClientFacts w past = record {
-      store = rw (client, server) (no-store tables.schema);
-      keeps = rw (client, server) (nothing-kept tables.schema);
-      are_true = none-true (told_of (version_at past.versions w.client.version)) w.client.store.regions (rw client refl);
-      version = rw (client, server) (omega arith);
-      queries = rw client refl;
-      last = rw client refl;
-      rows = rw client (omega arith);
-      few = rw client (omega arith);
-    } in
-    let cuts : CutFacts w past = record { from = omega arith; regions = rw (client, server) (All-nil (λ (g : Region). EndWith tables.schema [] g.table g.rects)); asked = rw client tt } in
-    let subscribed : AreSubscribed w.server.tables.schema w.server.subs w.client.store.regions = none-subscribed w.server.tables.schema w.server.subs w.client.store.regions (rw client refl) in
-    let brings : Brings w.server.tables.schema past.versions w.server.subs w.client.version w.server.upto w.to_client.items = rw (client, server, nothing) (done 0) in
-    let free : w.client.out ≡ None = rw client refl in
-    let flow : Flow w past None = (none, rw client refl, (subscribed, brings)) in
-    let facts : Facts w past = record { server = begins-server w tables past sound stored values server refl; client = held; cuts = cuts; flow = subst (λ out. Flow w past out) (sym free) flow } in
-    record { past = past; facts = facts; same = rw (client, server, none, nothing) refl }
+pub settled-goes : (old new : World) (n frames : ℕ) (lines : List TraceLine) → Goes (λ s. Settles n s frames) old new lines → Goes (λ s. Does s (DoSettle n)) old new (lines ++ line.Settled n frames ∷ [])
+settled-goes old new n frames lines goes = λ s r. let x = goes s r in (x.0, does_settle n frames lines x.0 x.1, x.2)
 
--- ---- statements
+-- ---- steps
 
-version-new : (versions : List Tables) (tables : Tables) (n : ℕ) → length versions ≡ n → version_at (versions ++ tables ∷ []) n ≡ tables
-version-new versions tables n is = rw (← is) (get_or-append_seam versions tables [] [])
+pub alone-goes : (eager : Bool) (old new : World) (what : ScriptEvent) (lines : List TraceLine) → eager ≡ false → Goes (λ s. Does s what) old new lines → Goes (λ s. Steps eager s what) old new lines
+alone-goes eager old new what lines is goes = λ s r.
+    let x = goes s r in (x.0, subst (λ b. Steps b s what lines x.0) (sym is) (alone s what lines x.0 x.1), x.2)
 
-result-is : (w : World) (past : Past) (write : Write) → Facts w past → result_of (scene_of w past) (Ok write) ≡ executed w.server.tables.schema write w.server.tables.rows
-result-is w past write f = ap (λ tables. executed w.server.tables.schema write tables) (tables-are w past f)
-
-abbrev pub with_server : World → Server → World
-with_server w server = record w { server = server }
-
-abbrev pub with_version : Past → Tables → Past
-with_version past tables = record past { versions = past.versions ++ tables ∷ [] }
-
--- the server once a statement is carried out
-pub record HasCarried (w : World) (server : Server) : Type 0 where
-  pub version : server.version ≡ w.server.version + 1
-  pub schema : server.tables.schema ≡ w.server.tables.schema
-  pub stored : are_stored server.tables.schema server.tables.rows ≡ true
-  pub values : IsTrue (list_all (list_all are_values) server.tables.rows)
-  pub history : server.history ≡ w.server.history ++ changes w.server.tables.schema w.server.tables.rows server.tables.rows ∷ []
-  pub subs : server.subs ≡ w.server.subs
-  pub upto : server.upto ≡ w.server.upto
-
--- the tables of each version
-then-after : (schema : List Table) (versions : List Tables) (tables : Tables) (newest : ℕ) → length versions ≡ newest + 1 → AreTables schema tables
-    → ((v : ℕ) → v ≤ newest → AreTables schema (version_at versions v)) → (v : ℕ) → v ≤ newest + 1 → AreTables schema (version_at (versions ++ tables ∷ []) v)
-then-after schema versions tables newest count new old v within =
-    elim (cases_lt v (newest + 1)) [
-      | inl before ↦ subst (AreTables schema) (sym (version-stays versions tables v (omega (arith, before, count)))) (old v (omega (arith, before)))
-      | inr last ↦ subst (AreTables schema) (sym (version-new versions tables v (omega (arith, last, within, count)))) new
-    ]
-
--- the changes of each version
-changes-after : (schema : List Table) (versions : List Tables) (history : List (List Change)) (old new : Tables) (newest : ℕ) → length versions ≡ newest + 1 → length history ≡ newest → version_at versions newest ≡ old
-    → ((v : ℕ) → v < newest → slice_index_or history v [] ≡ changes_at schema versions (v + 1))
-    → (v : ℕ) → v < newest + 1 → slice_index_or (history ++ changes schema old new ∷ []) v [] ≡ changes_at schema (versions ++ new ∷ []) (v + 1)
-changes-after schema versions history old new newest count remembers is changed v within =
-    elim (cases_lt v newest) [
-      | inl before ↦
-          get_or_append_left history (changes schema old new ∷ []) [] v (omega (arith, before, remembers))
-          ∙ (changed v before ∙ sym (changes-stay schema versions new (v + 1) (omega (arith, before, count))))
-      | inr last ↦
-          let here : length history ≡ v = omega (arith, last, within, remembers) in
-          let before : version_at (versions ++ new ∷ []) (v + 1 - 1) ≡ old =
-          version-stays versions new (v + 1 - 1) (omega (arith, within, count))
-          ∙ (ap (λ k. version_at versions k) (let e : v + 1 - 1 ≡ newest = omega (arith, last, within) in e) ∙ is) in
-          let after : version_at (versions ++ new ∷ []) (v + 1) ≡ new = version-new versions new (v + 1) (omega (arith, last, within, count)) in
-          ap (λ k. slice_index_or (history ++ changes schema old new ∷ []) k []) (sym here)
-          ∙ (get_or-append_seam history (changes schema old new) [] []
-          ∙ (ap (λ x. changes schema x new) (sym before) ∙ ap (λ x. changes schema (version_at (versions ++ new ∷ []) (v + 1 - 1)) x) (sym after)))
-    ]
-
-server-after : (w : World) (past : Past) (server : Server) → ServerFacts w past → HasCarried w server → ServerFacts (with_server w server) (with_version past server.tables.rows)
-server-after w past server f h =
-    let more : (v : ℕ) → v ≤ w.server.version + 1 → AreTables server.tables.schema (version_at (past.versions ++ server.tables.rows ∷ []) v) =
-    then-after server.tables.schema past.versions server.tables.rows w.server.version f.count (stored-tables server.tables.schema server.tables.rows h.stored h.values) (rw h.schema f.then) in
-    let told : (v : ℕ) → v < w.server.version + 1 → slice_index_or (w.server.history ++ changes w.server.tables.schema w.server.tables.rows server.tables.rows ∷ []) v []
-    ≡ changes_at w.server.tables.schema (past.versions ++ server.tables.rows ∷ []) (v + 1) =
-    changes-after w.server.tables.schema past.versions w.server.history w.server.tables.rows server.tables.rows w.server.version f.count f.remembers f.newest f.changes in
-    record {
-      tables = rw h.schema f.tables;
-      count = omega (arith, length-append past.versions (server.tables.rows ∷ []), f.count, h.version);
-      newest = version-new past.versions server.tables.rows server.version (f.count ∙ sym h.version);
-      stored = h.stored;
-      then = rw h.version more;
-      remembers =
-          ap length h.history ∙ omega (arith, length-append w.server.history (changes w.server.tables.schema w.server.tables.rows server.tables.rows ∷ []), f.remembers, h.version);
-      changes = rw (h.version, h.history, h.schema) told;
-      upto = omega (arith, f.upto, h.version, h.upto);
-    }
-
-client-after : (w : World) (past : Past) (server : Server) → Facts w past → HasCarried w server → ClientFacts (with_server w server) (with_version past server.tables.rows)
-client-after w past server f h =
-    let stays : version_at (past.versions ++ server.tables.rows ∷ []) w.client.version ≡ version_at past.versions w.client.version =
-    version-stays past.versions server.tables.rows w.client.version (omega (arith, f.client.version, f.server.count)) in
-    record {
-      store = rw h.schema f.client.store;
-      keeps = rw h.schema f.client.keeps;
-      are_true = subst (λ tables. AreTrueOf (told_of tables) w.client.store.regions) (sym stays) f.client.are_true;
-      version = omega (arith, f.client.version, h.version);
-      queries = f.client.queries;
-      last = rw h.schema f.client.last;
-      rows = f.client.rows;
-      few = f.client.few;
-    }
-
-flow-after : (w : World) (past : Past) (server : Server) → Facts w past → HasCarried w server → Flow w past None → Flow (with_server w server) (with_version past server.tables.rows) None
-flow-after w past server f h flow = (
-  flow.0,
-  flow.1,
-  (
-    rw (h.schema, h.subs) flow.2.0,
-    rw (h.schema, h.subs, h.upto)
-        (brings-still w.server.tables.schema past.versions w.server.subs server.tables.rows w.client.version w.server.upto w.to_client.items flow.2.1 (omega (arith, f.server.upto, f.server.count))),
-  ),
-)
-
--- a statement that is carried out while nothing is under way
-exec-done : (w : World) (past : Past) (server : Server) (write : Write) → Facts w past → IsStill w
-    → executed w.server.tables.schema write w.server.tables.rows ≡ Ok server.tables.rows → HasCarried w server
-    → (next : Scene) × Steps (scene_of w past) (Exec (Ok write)) (line.ExecVersion server.version ∷ []) next × Represents (with_server w server) next
-exec-done w past server write f still made h =
-    let new : Past = with_version past server.tables.rows in
-    let changed : World = with_server w server in
-    let none = still-idle w past f still in
-    let facts : Facts changed new = record {
-      server = server-after w past server f.server h;
-      client = client-after w past server f h;
-      cuts = record { from = f.cuts.from; regions = rw h.schema f.cuts.regions; asked = rw h.schema f.cuts.asked };
-      flow = subst (λ o. Flow changed new o) (sym none) (flow-after w past server f h (idle w past f none));
-    } in
-    let line_is : line.ExecVersion server.version ∷ [] ≡ line.ExecVersion (newest_version (scene_of w past) + 1) ∷ [] =
-    ap (λ v. line.ExecVersion v ∷ []) (h.version ∙ ap (λ v. v + 1) (sym (newest-is w past f))) in
-    let scene : List Table → List Holding → ℕ → Scene = λ schema subs upto. record {
-      eager = true;
-      limits = w.client.store.limits;
-      schema = schema;
-      versions = past.versions ++ server.tables.rows ∷ [];
-      clients = record (client_of w past) { session = Some (record { subscription = subs; upto = upto }) } ∷ [];
-    } in
-    let next_is : scene_of changed new ≡ record (scene_of w past) { versions = past.versions ++ server.tables.rows ∷ [] } =
-    ap (λ schema. scene schema server.subs server.upto) h.schema
-    ∙ (ap (λ subs. scene w.server.tables.schema subs server.upto) h.subs ∙ ap (λ upto. scene w.server.tables.schema w.server.subs upto) h.upto) in
-    let happens : Happens (scene_of w past) (Exec (Ok write)) (line.ExecVersion server.version ∷ []) (scene_of changed new) =
-    subst (λ r. Executes (scene_of w past) r (line.ExecVersion server.version ∷ []) (scene_of changed new)) (sym (result-is w past write f ∙ made)) (line_is, next_is) in (
-      scene_of changed new,
-      no-delivery w past (Exec (Ok write)) (line.ExecVersion server.version ∷ []) (scene_of changed new) happens (quiet changed new still.0 still.1),
-      record { past = new; facts = facts; same = refl },
+pub eager-goes : (eager : Bool) (old mid new : World) (what : ScriptEvent) (lines more : List TraceLine) → eager ≡ true → Goes (λ s. Does s what) old mid lines → Goes (AllSettle 1 (length mid.seats.items)) mid new more
+    → Goes (λ s. Steps eager s what) old new (lines ++ more)
+eager-goes eager old mid new what lines more is goes settles = λ s r.
+    let x = goes s r in
+    let y = settles x.0 x.2 in (
+      y.0,
+      subst (λ b. Steps b s what (lines ++ more) y.0) (sym is) (eagerly s what lines x.0 more y.0 x.1 (subst (λ k. AllSettle 1 k x.0 more y.0) x.2.count y.1)),
+      y.2,
     )
 
--- a statement that is refused
-exec-refused : (w : World) (past : Past) (fault : Fault) (write : Write) → Facts w past → IsStill w
-    → executed w.server.tables.schema write w.server.tables.rows ≡ Err fault
-    → (next : Scene) × Steps (scene_of w past) (Exec (Ok write)) (line.ExecRefused fault ∷ []) next × Represents w next
-exec-refused w past fault write f still refused =
-    let happens : Happens (scene_of w past) (Exec (Ok write)) (line.ExecRefused fault ∷ []) (scene_of w past) =
-    subst (λ r. Executes (scene_of w past) r (line.ExecRefused fault ∷ []) (scene_of w past)) (sym (result-is w past write f ∙ refused)) (refl, refl) in (
-      scene_of w past,
-      no-delivery w past (Exec (Ok write)) (line.ExecRefused fault ∷ []) (scene_of w past) happens (quiet w past still.0 still.1),
-      record { past = past; facts = f; same = refl },
-    )
+-- a world that did something stands for what came of it, or memory was refused
+pub world-after : (Leads : Scene → List TraceLine → Scene → Type 0) (old new : World) (lines : List TraceLine) → StandsForSome old → Goes Leads old new lines → IsWorld new
+world-after Leads old new lines some goes = let x = goes some.0 some.1 in inr (x.0, x.2)
 
-pub does-exec : (w : World) (server : Server) (write : Write) → IsStill w
-    → executed w.server.tables.schema write w.server.tables.rows ≡ Ok server.tables.rows → HasCarried w server
-    → DoesStep (Exec (Ok write)) w (with_server w server) (line.ExecVersion server.version ∷ [])
-does-exec w server write still made h =
-    does (λ s. Steps s (Exec (Ok write))) w (with_server w server) (line.ExecVersion server.version ∷ []) (λ past f. exec-done w past server write f still made h)
-
-pub does-refuse : (w : World) (fault : Fault) (write : Write) → IsStill w
-    → executed w.server.tables.schema write w.server.tables.rows ≡ Err fault → DoesStep (Exec (Ok write)) w w (line.ExecRefused fault ∷ [])
-does-refuse w fault write still refused =
-    does (λ s. Steps s (Exec (Ok write))) w w (line.ExecRefused fault ∷ []) (λ past f. exec-refused w past fault write f still refused)
+-- a world that goes on stands for some scene
+pub stands-on : (w : World) → w.spent ≡ false → IsWorld w → StandsForSome w
+stands-on w ready (inl spent) = absurd (let wrong : true ≡ false = sym spent ∙ ready in cc)
+stands-on w ready (inr some) = some

@@ -1,14 +1,7 @@
-pub mod Answering
-pub mod Asking
-pub mod Bound
-pub mod Client
-pub mod Cutting
 pub mod Lent
-pub mod Noticing
 pub mod Ran
-pub mod Replay
 pub mod Refused
-pub mod Represents
-pub mod Sending
-pub mod Taking
+pub mod Replay
+pub mod Seats
+pub mod Told
 pub mod Worlds

@@ -8,8 +8,9 @@ use Rattle.sr_world.specs.declared.replay.RunFault.TheVariants as fault
 use Rattle.sr_world.specs.Replay.{RefusesLoad}
 
 -- a CREATE line that is refused, or else a file
-abbrev pub IsSetupFault : List ℕ → List Load → RunFault → Type 0
-IsSetupFault script loads fault.WriteFault = ⊥
-IsSetupFault script loads (fault.Setup line why) = FirstRefused 1 [] (lines_of script) line why
-IsSetupFault script loads (fault.Load table why) = RefusesLoad script loads table why
-IsSetupFault script loads (fault.Unbuilt line) = ⊥
+abbrev pub IsSetupFault : ℕ → List ℕ → List Load → RunFault → Type 0
+IsSetupFault clients script loads (fault.Setup line why) = FirstRefused clients 1 [] (lines_of script) line why
+IsSetupFault clients script loads (fault.Load table why) = RefusesLoad clients script loads table why
+IsSetupFault clients script loads fault.WriteFault = ⊥
+IsSetupFault clients script loads (fault.Line line place) = ⊥
+IsSetupFault clients script loads (fault.Unbuilt line) = ⊥

@@ -1,10 +1,10 @@
-//! A server, a client and the queues between them, and the replay of a script over them.
+//! A server and the seats of its clients, with the queues between them, and the replay of a script over them.
 #![tactic(auto)]
 
-pub mod answer;
-pub mod asks;
-pub mod client;
+pub mod events;
+pub(crate) mod lines;
+pub mod queue;
 pub mod replay;
-pub mod server;
-pub mod statements;
+pub mod seat;
+pub mod step;
 pub mod world;

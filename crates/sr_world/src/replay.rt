@@ -1,28 +1,29 @@
 //! The replay of a script.
-ghost use Rattle.std.specs.Prelude.{◌≡◌, ℕ, ◌+◌, ◌<◌, ◌≤◌, ◌^◌, ◌⊎◌, nat_lt, List, [], ◌∷◌, length, map, string_bytes, Ok, IsTrue, IfOk, OnOk, OnErr, IsErrOf};
+ghost use Rattle.std.specs.Prelude.{◌≡◌, ℕ, ◌+◌, ◌*◌, ◌<◌, ◌≤◌, ◌^◌, ◌⊎◌, nat_lt, List, [], ◌∷◌, length, string_bytes, Ok, Some, None, IsTrue, IfOk, OnOk, OnErr, IsErrOf};
 ghost use Rattle.std.specs.List.{list_all, AllZip};
-ghost use Rattle.sr_language.specs.Events.{Event};
+ghost use Rattle.sr_language.specs.Events.{ScriptEvent};
 ghost use Rattle.sr_cell.specs.declared.fault.Fault.{Fault as TheFault};
 ghost use Rattle.sr_cell.specs.declared.list.No.TheVariants.{Refused, NoMemory as Wanting};
 ghost use Rattle.sr_language.specs.Lines.{lines_of};
-ghost use Rattle.sr_language.specs.Script.{start_phase, FirstRefused, FirstUnbuilt};
+ghost use Rattle.sr_language.specs.Script.{start_phase, FirstRefused, FirstUnbuilt, LinePlace as TheLinePlace};
 ghost use Rattle.sr_language.specs.Creates.{Creates};
-ghost use Rattle.sr_reader.specs.Read.{Fits, AreEvents, IsEventLine, event_fits};
+ghost use Rattle.sr_query.specs.Bound.{is_table};
+ghost use Rattle.sr_reader.specs.Lined.{AreLines};
+ghost use Rattle.sr_reader.specs.Read.{Fits, IsEventLine, event_fits};
+ghost use Rattle.sr_server.specs.Servers.{IsClientNumber};
 ghost use Rattle.sr_tables.specs.Stored.{no_rows};
 ghost use Rattle.sr_load.specs.Filling.{filled};
 ghost use Rattle.sr_script.specs.TraceText.{trace_text};
-ghost use Rattle.sr_scene.specs.Runs.{numbered};
+ghost use Rattle.sr_runs.specs.Runs.{numbered};
 ghost use Rattle.sr_io.specs.Causes.{Rose};
 ghost use Rattle.sr_world.specs.declared.replay.RunFault.{RunFault as TheRunFault};
-ghost use Rattle.sr_world.specs.declared.replay.RunFault.TheVariants.{WriteFault, Setup, Load as LoadRefused, Unbuilt};
-ghost use Rattle.sr_world.specs.Represents.{drawn};
-ghost use Rattle.sr_world.specs.Worlds.{Stands, IsStill};
-ghost use Rattle.sr_world.specs.Replay.{RefusesLoad, Wrote, WrotePart};
+ghost use Rattle.sr_world.specs.declared.replay.RunFault.TheVariants.{WriteFault, Line, Setup, Load as LoadRefused, Unbuilt};
+ghost use Rattle.sr_world.specs.Worlds.{IsWorld, SameSetting, drawn, most_drawn};
+ghost use Rattle.sr_world.specs.Replay.{RefusesLoad, Wrote, WrotePart, outside};
 ghost use Rattle.sr_world.specs.Refused.{IsSetupFault};
 ghost use Rattle.sr_world.specs.Ran.{Ran, RanWhole, RanPart, TracedWhole, TracedPart, Stays};
 
-use crate::statements::happen;
-use crate::world::World;
+use crate::world::{Options, World};
 use sr_cell::fault::Fault;
 use sr_cell::list::{No, NoMemory, Seq};
 use sr_cell::table::Table;
@@ -30,10 +31,10 @@ use sr_cell::text::Text;
 use sr_io::outside::{Failed, Sink};
 use sr_io::whole::write_all;
 use sr_load::fill::{Load, LoadFault, fill};
-use sr_policy::policy::Limits;
+use sr_reader::events::read_events;
 use sr_reader::head::created;
-use sr_reader::lines::read_script;
-use sr_reader::script::{EventLine, EventLines, Script};
+use sr_reader::lines::{Lines, read_lines};
+use sr_reader::script::{EventLine, EventLines};
 use sr_script::line::TraceLine;
 use sr_script::text::push_line;
 use sr_tables::tables::Tables;
@@ -44,35 +45,43 @@ use std::alloc::Global;
 pub enum RunFault {
     /// A call of the sink failed.
     WriteFault,
-    /// The line is the first CREATE line that is refused, counted from 1, and why.
+    /// The line is the first that is outside the grammar, counted from 1, and the place of its fault in bytes.
+    Line { line: u64, place: u32 },
+    /// The line is the first CREATE line that is refused, counted from 1, and why. No line is outside the grammar.
     Setup { line: u64, fault: Fault },
-    /// The file for the table of this name is the first that is refused, and why. No CREATE line is refused.
+    /// The file for the table of this name is the first that is refused, and why. No line is outside the grammar, and no CREATE line
+    /// is refused.
     Load { table: Text, fault: Fault },
-    /// The line is the first that does nothing that is built, counted from 1. No CREATE line and no file is refused.
+    /// The line is the first that does nothing that is built, counted from 1. No line is outside the grammar, and no CREATE line and
+    /// no file is refused.
     Unbuilt { line: u64 },
 }
 
-/// Replays a script over tables with the rows of the files, for one client that may keep so much: runs its lines in their order
-/// and writes the trace. Answers the world at the end.
+/// Replays a script over tables with the rows of the files, in a world that is set up as the options say: judges its lines, runs its
+/// events in their order and writes the trace. Answers the world at the end.
 pub fn replay<K: Sink>(
     alloc: Global,
-    limits: Limits,
+    options: Options,
     script: &[u8],
     loads: &[Load],
     sink: &mut K,
 ) -> Result<World, No<RunFault>>
+    requires clients { IsClientNumber options.clients }
     requires script { length script.now < 2 ^ 32 }
     requires loads { IsTrue (list_all (λ load. nat_lt (length load.bytes) (2 ^ 32)) loads.now) }
-    ensures whole { IfOk result (Wrote (K.writing sink.old).written (K.writing sink.new).written limits script.now loads.now) }
-    ensures part_after_fault { IsErrOf result (Refused WriteFault) → WrotePart (K.writing sink.old).written (K.writing sink.new).written limits script.now loads.now }
-    ensures part_in_want { IsErrOf result Wanting → (K.writing sink.new ≡ K.writing sink.old) ⊎ WrotePart (K.writing sink.old).written (K.writing sink.new).written limits script.now loads.now }
-    ensures setup { (line : ℕ) (fault : TheFault) → IsErrOf result (Refused (Setup line fault)) → FirstRefused 1 [] (lines_of script.now) line fault }
+    ensures whole { IfOk result (Wrote (K.writing sink.old).written (K.writing sink.new).written options script.now loads.now) }
+    ensures part_after_fault { IsErrOf result (Refused WriteFault) → WrotePart (K.writing sink.old).written (K.writing sink.new).written options script.now loads.now }
+    ensures part_in_want { IsErrOf result Wanting → (K.writing sink.new ≡ K.writing sink.old) ⊎ WrotePart (K.writing sink.old).written (K.writing sink.new).written options script.now loads.now }
+    ensures line { (line place : ℕ) → IsErrOf result (Refused (Line line place)) → outside options.clients script.now ≡ Some (record { line = line; place = place }) }
+    ensures line_first { (at : TheLinePlace) → outside options.clients script.now ≡ Some at → IsErrOf result (Refused (Line at.line at.place)) ⊎ IsErrOf result Wanting }
+    ensures line_writes_nothing { (line place : ℕ) → IsErrOf result (Refused (Line line place)) → K.writing sink.new ≡ K.writing sink.old }
+    ensures setup { (line : ℕ) (fault : TheFault) → IsErrOf result (Refused (Setup line fault)) → FirstRefused options.clients 1 [] (lines_of script.now) line fault }
     ensures setup_writes_nothing { (line : ℕ) (fault : TheFault) → IsErrOf result (Refused (Setup line fault)) → K.writing sink.new ≡ K.writing sink.old }
-    ensures load { (table : List ℕ) (fault : TheFault) → IsErrOf result (Refused (LoadRefused table fault)) → RefusesLoad script.now loads.now table fault }
+    ensures load { (table : List ℕ) (fault : TheFault) → IsErrOf result (Refused (LoadRefused table fault)) → RefusesLoad options.clients script.now loads.now table fault }
     ensures load_writes_nothing { (table : List ℕ) (fault : TheFault) → IsErrOf result (Refused (LoadRefused table fault)) → K.writing sink.new ≡ K.writing sink.old }
-    ensures unbuilt { (line : ℕ) → IsErrOf result (Refused (Unbuilt line)) → FirstUnbuilt 1 start_phase (lines_of script.now) line }
-    ensures unbuilt_accepts { (line : ℕ) → IsErrOf result (Refused (Unbuilt line)) → (refused : ℕ) (fault : TheFault) → FirstRefused 1 [] (lines_of script.now) refused fault → ⊥ }
-    ensures unbuilt_loads { (line : ℕ) → IsErrOf result (Refused (Unbuilt line)) → (table : List ℕ) (fault : TheFault) → RefusesLoad script.now loads.now table fault → ⊥ }
+    ensures unbuilt { (line : ℕ) → IsErrOf result (Refused (Unbuilt line)) → FirstUnbuilt options.clients 1 start_phase (lines_of script.now) line }
+    ensures unbuilt_accepts { (line : ℕ) → IsErrOf result (Refused (Unbuilt line)) → (refused : ℕ) (fault : TheFault) → FirstRefused options.clients 1 [] (lines_of script.now) refused fault → ⊥ }
+    ensures unbuilt_loads { (line : ℕ) → IsErrOf result (Refused (Unbuilt line)) → (table : List ℕ) (fault : TheFault) → RefusesLoad options.clients script.now loads.now table fault → ⊥ }
     ensures unbuilt_writes_nothing { (line : ℕ) → IsErrOf result (Refused (Unbuilt line)) → K.writing sink.new ≡ K.writing sink.old }
     ensures write_fault_is_counted { IsErrOf result (Refused WriteFault) → Rose (K.writing sink.old).faults (K.writing sink.new).faults }
     ensures faults_never_fall { (K.writing sink.old).faults ≤ (K.writing sink.new).faults }
@@ -85,12 +94,22 @@ pub fn replay<K: Sink>(
     ensures linking_stays { K.linking sink.new ≡ K.linking sink.old }
     ensures complaints_stay { K.complaints sink.new ≡ K.complaints sink.old }
 {
-    let tables = match fill_tables(alloc, script, loads) {
+    let lines = match read_lines(alloc, options.clients, script) {
+        Ok(lines) => lines,
+        Err(No::Refused(at)) => {
+            return Err(No::Refused(RunFault::Line {
+                line: at.line,
+                place: at.place,
+            }));
+        }
+        Err(No::NoMemory) => return Err(No::NoMemory),
+    };
+    let tables = match fill_tables(alloc, &lines, loads) {
         Ok(tables) => tables,
         Err(no) => return Err(no),
     };
-    match read_script(alloc, script) {
-        Ok(read) => match run_script(alloc, limits, read, tables, sink) {
+    match read_events(alloc, tables.schema(), &lines) {
+        Ok(events) => match run_script(alloc, options, events, tables, sink) {
             Ok(world) => Ok(world),
             Err(No::Refused(_)) => Err(No::Refused(RunFault::WriteFault)),
             Err(No::NoMemory) => Err(No::NoMemory),
@@ -103,15 +122,16 @@ pub fn replay<K: Sink>(
 }
 
 /// The tables of the CREATE lines with the rows of the files; or the first CREATE line that is refused, or else the first file.
-fn fill_tables(alloc: Global, script: &[u8], loads: &[Load]) -> Result<Tables, No<RunFault>>
-    requires script { length script.now < 2 ^ 32 }
+fn fill_tables(alloc: Global, lines: &Lines<'_>, loads: &[Load]) -> Result<Tables, No<RunFault>>
+    requires lines { (clients : ℕ) × (script : List ℕ) × AreLines clients script lines.now }
     requires loads { IsTrue (list_all (λ load. nat_lt (length load.bytes) (2 ^ 32)) loads.now) }
-    ensures created { IfOk result (λ tables. Creates [] (lines_of script.now) tables.schema) }
-    ensures accepts { OnOk result ((line : ℕ) (fault : TheFault) → FirstRefused 1 [] (lines_of script.now) line fault → ⊥) }
+    ensures created { (clients : ℕ) (script : List ℕ) → AreLines clients script lines.now → IfOk result (λ tables. Creates clients [] (lines_of script) tables.schema) }
+    ensures sound { IfOk result (λ tables. IsTrue (list_all is_table tables.schema)) }
+    ensures accepts { (clients : ℕ) (script : List ℕ) → AreLines clients script lines.now → OnOk result ((line : ℕ) (fault : TheFault) → FirstRefused clients 1 [] (lines_of script) line fault → ⊥) }
     ensures filled { IfOk result (λ tables. filled tables.schema loads.now (no_rows tables.schema) ≡ Ok tables.rows) }
-    ensures refused { (fault : TheRunFault) → IsErrOf result (Refused fault) → IsSetupFault script.now loads.now fault }
+    ensures refused { (clients : ℕ) (script : List ℕ) → AreLines clients script lines.now → (fault : TheRunFault) → IsErrOf result (Refused fault) → IsSetupFault clients script loads.now fault }
 {
-    let schema = match created(alloc, script) {
+    let schema = match created(alloc, lines) {
         Ok(schema) => schema,
         Err(No::Refused(refused)) => {
             return Err(No::Refused(RunFault::Setup {
@@ -130,20 +150,20 @@ fn fill_tables(alloc: Global, script: &[u8], loads: &[Load]) -> Result<Tables, N
     }
 }
 
-/// Runs a script that was read, over these tables.
+/// Runs the events of a script that was read, over its tables.
 fn run_script<K: Sink>(
     alloc: Global,
-    limits: Limits,
-    script: Script,
+    options: Options,
+    lines: EventLines,
     tables: Tables,
     sink: &mut K,
 ) -> Result<World, No<Failed>>
-    requires fits { Fits script }
-    requires events { (events : List (ℕ × Event)) × AreEvents script events }
-    requires tables { tables.schema ≡ script.schema }
-    requires few { length script.lines < 2 ^ 32 }
-    ensures whole { (events : List (ℕ × Event)) → AreEvents script events → IfOk result (λ world. TracedWhole limits script.schema tables.rows events world (K.writing sink.old).written (K.writing sink.new).written) }
-    ensures part { (events : List (ℕ × Event)) → AreEvents script events → OnErr result (TracedPart limits script.schema tables.rows events (K.writing sink.old).written (K.writing sink.new).written) }
+    requires clients { IsClientNumber options.clients }
+    requires fits { Fits options.clients (record { schema = tables.schema; lines = lines }) }
+    requires events { (events : List (ℕ × ScriptEvent)) × AllZip (IsEventLine tables.schema) lines events }
+    requires few { length lines < 2 ^ 32 }
+    ensures whole { (events : List (ℕ × ScriptEvent)) → AllZip (IsEventLine tables.schema) lines events → IfOk result (λ world. TracedWhole options tables.schema tables.rows events world (K.writing sink.old).written (K.writing sink.new).written) }
+    ensures part { (events : List (ℕ × ScriptEvent)) → AllZip (IsEventLine tables.schema) lines events → OnErr result (TracedPart options tables.schema tables.rows events (K.writing sink.old).written (K.writing sink.new).written) }
     ensures faults_never_fall { (K.writing sink.old).faults ≤ (K.writing sink.new).faults }
     ensures ok_keeps_faults { OnOk result ((K.writing sink.new).faults ≡ (K.writing sink.old).faults) }
     ensures want_keeps_faults { IsErrOf result Wanting → (K.writing sink.new).faults ≡ (K.writing sink.old).faults }
@@ -151,9 +171,11 @@ fn run_script<K: Sink>(
     ensures steady_never_fails { K.IsSteady sink.old → ¬ IsErrOf result (Refused record {}) }
     ensures stays { Stays K K.reading K.linking K.held K.complaints K.IsSteady sink.old sink.new }
 {
-    let Script { schema, lines } = script;
-    let mut world = World::new(alloc, limits, tables);
-    match run_events(alloc, schema.as_slice(), &mut world, lines, sink) {
+    let mut world = match World::new(alloc, options, tables) {
+        Ok(world) => world,
+        Err(_) => return Err(No::NoMemory),
+    };
+    match run_events(alloc, &mut world, lines, sink) {
         Ok(()) => Ok(world),
         Err(no) => Err(no),
     }
@@ -162,19 +184,16 @@ fn run_script<K: Sink>(
 /// Runs the events of the lines.
 fn run_events<K: Sink>(
     alloc: Global,
-    schema: &[Table],
     world: &mut World,
     lines: EventLines,
     sink: &mut K,
 ) -> Result<(), No<Failed>>
-    requires stands { Stands world.old }
-    requires still { IsStill world.old }
-    requires tables { world.old.server.tables.schema ≡ schema.now }
-    requires fits { IsTrue (list_all (λ line. event_fits schema.now line.event) lines) }
-    requires events { (events : List (ℕ × Event)) × AllZip (IsEventLine schema.now) lines events }
-    requires room { drawn world.old + (length lines + length lines) < 2 ^ 63 }
-    ensures whole { (events : List (ℕ × Event)) → AllZip (IsEventLine schema.now) lines events → OnOk result (RanWhole schema.now events world.old world.new (K.writing sink.old).written (K.writing sink.new).written) }
-    ensures part { (events : List (ℕ × Event)) → AllZip (IsEventLine schema.now) lines events → OnErr result (RanPart schema.now events world.old (K.writing sink.old).written (K.writing sink.new).written) }
+    requires world { IsWorld world.old }
+    requires fits { IsTrue (list_all (λ line. event_fits (length world.old.seats.items) world.old.server.tables.schema line.event) lines) }
+    requires events { (events : List (ℕ × ScriptEvent)) × AllZip (IsEventLine world.old.server.tables.schema) lines events }
+    requires room { drawn world.old + length lines * most_drawn < 2 ^ 63 }
+    ensures whole { (events : List (ℕ × ScriptEvent)) → AllZip (IsEventLine world.old.server.tables.schema) lines events → OnOk result (RanWhole world.old.eager world.old.server.tables.schema events world.old world.new (K.writing sink.old).written (K.writing sink.new).written) }
+    ensures part { (events : List (ℕ × ScriptEvent)) → AllZip (IsEventLine world.old.server.tables.schema) lines events → OnErr result (RanPart world.old.eager world.old.server.tables.schema events world.old (K.writing sink.old).written (K.writing sink.new).written) }
     ensures faults_never_fall { (K.writing sink.old).faults ≤ (K.writing sink.new).faults }
     ensures ok_keeps_faults { OnOk result ((K.writing sink.new).faults ≡ (K.writing sink.old).faults) }
     ensures want_keeps_faults { IsErrOf result Wanting → (K.writing sink.new).faults ≡ (K.writing sink.old).faults }
@@ -183,7 +202,7 @@ fn run_events<K: Sink>(
     ensures stays { Stays K K.reading K.linking K.held K.complaints K.IsSteady sink.old sink.new }
 {
     for line in lines.into_vec() {
-        let text = match event_text(alloc, schema, world, line) {
+        let text = match event_text(alloc, world, line) {
             Ok(text) => text,
             Err(_) => return Err(No::NoMemory),
         };
@@ -196,26 +215,20 @@ fn run_events<K: Sink>(
 }
 
 /// What the event of a line does, as the text of its lines.
-fn event_text(
-    alloc: Global,
-    schema: &[Table],
-    world: &mut World,
-    line: EventLine,
-) -> Result<String, NoMemory>
-    requires stands { Stands world.old }
-    requires still { IsStill world.old }
-    requires fits { IsTrue (event_fits world.old.server.tables.schema line.event) }
-    requires means { (event : ℕ × Event) × IsEventLine world.old.server.tables.schema line event }
-    requires room { drawn world.old + 2 < 2 ^ 63 }
-    ensures ran { (event : ℕ × Event) → IsEventLine world.old.server.tables.schema line event → IfOk result (λ text. Ran schema.now (event ∷ []) world.old world.new (string_bytes text)) }
-    ensures stands { OnOk result (Stands world.new) }
-    ensures still { OnOk result (IsStill world.new) }
-    ensures drawn { OnOk result (drawn world.new ≤ drawn world.old + 2) }
-    ensures tables { world.new.server.tables.schema ≡ world.old.server.tables.schema }
+fn event_text(alloc: Global, world: &mut World, line: EventLine) -> Result<String, NoMemory>
+    requires world { IsWorld world.old }
+    requires fits { IsTrue (event_fits (length world.old.seats.items) world.old.server.tables.schema line.event) }
+    requires means { (event : ℕ × ScriptEvent) × IsEventLine world.old.server.tables.schema line event }
+    requires room { drawn world.old + most_drawn < 2 ^ 63 }
+    ensures ran { (event : ℕ × ScriptEvent) → IsEventLine world.old.server.tables.schema line event → IfOk result (λ text. Ran world.old.eager world.old.server.tables.schema (event ∷ []) world.old world.new (string_bytes text)) }
+    ensures world { IsWorld world.new }
+    ensures drawn { OnOk result (drawn world.new ≤ drawn world.old + most_drawn) }
+    ensures setting { SameSetting world.old world.new }
 {
     let EventLine { number, event } = line;
-    let lines = happen(alloc, world, event)?;
-    text_of(alloc, schema, number, lines.as_slice())
+    let lines = world.step(alloc, event)?;
+    let schema = world.server.tables.schema();
+    text_of(alloc, schema.as_slice(), number, lines.as_slice())
 }
 
 /// The text of the lines of an event of this number.

@@ -1,16 +1,28 @@
-use Rattle.std.proofs.Common.{◌∙◌, sym}
-use Rattle.sr_world.proofs.ReplayLemmas.{lines-same, kept-same, traced-part, traced-whole}
+use Rattle.sr_world.proofs.ReplayLemmas.{events-there, fits-first, room-first, traced-none, traced-part, traced-whole}
 use Rattle.sr_world.proofs.replay.run_script.Goals as goal
 
+pub returns-in-Err-clause-part : goal.returns-in-Err-clause-part
+returns-in-Err-clause-part g c = λ events are. traced-none c.args.options _ c.args.tables.rows events _
+
+pub run_events-requires-clause-fits : goal.run_events-requires-clause-fits
+run_events-requires-clause-fits g c = fits-first c.args.options _ c.args.lines c.args.tables.rows _ c.in-Ok.ensures.stands c.requires.fits
+
+pub run_events-requires-clause-room : goal.run_events-requires-clause-room
+run_events-requires-clause-room g c = room-first _ _ _ c.in-Ok.ensures.drawn c.requires.clients c.requires.few
+
 pub run_events-requires-clause-events : goal.run_events-requires-clause-events
-run_events-requires-clause-events g c = let events = c.requires.events in (events.0, lines-same c.args.script _ events.0 events.1 c.as_slice.ensures)
+run_events-requires-clause-events g c =
+    let events = c.requires.events in
+    (events.0, events-there c.args.options _ c.args.lines events.0 c.args.tables.rows _ c.in-Ok.ensures.stands events.1)
 
-pub returns-in-Ok-clause-whole : goal.returns-in-Ok-clause-whole
-returns-in-Ok-clause-whole g c = λ events are.
-    let kept = kept-same c.args.limits _ _ _ c.args.tables.rows (c.requires.tables ∙ sym c.as_slice.ensures) c.new-world.ensures.first in
-    traced-whole c.args.limits _ _ c.args.tables.rows events _ _ _ _ kept c.as_slice.ensures (c.in-Ok.ensures.whole events (lines-same c.args.script _ events are c.as_slice.ensures))
+pub returns-in-Ok-run_events-clause-whole : goal.returns-in-Ok-run_events-clause-whole
+returns-in-Ok-run_events-clause-whole g c = λ events are.
+    let stands = c.in-Ok.ensures.stands in
+    traced-whole c.args.options _ c.args.tables.rows events _ _ _ _ stands c.in-Ok.ensures.eager
+    (c.in-Ok-run_events.ensures.whole events (events-there c.args.options _ c.args.lines events c.args.tables.rows _ stands are))
 
-pub returns-clause-part : goal.returns-clause-part
-returns-clause-part g c = λ events are.
-    let kept = kept-same c.args.limits _ _ _ c.args.tables.rows (c.requires.tables ∙ sym c.as_slice.ensures) c.new-world.ensures.first in
-    traced-part c.args.limits _ _ c.args.tables.rows events _ _ _ kept c.as_slice.ensures (c.in-Err.ensures.part events (lines-same c.args.script _ events are c.as_slice.ensures))
+pub returns-in-Err-run_events-clause-part : goal.returns-in-Err-run_events-clause-part
+returns-in-Err-run_events-clause-part g c = λ events are.
+    let stands = c.in-Ok.ensures.stands in
+    traced-part c.args.options _ c.args.tables.rows events _ _ _ stands c.in-Ok.ensures.eager
+    (c.in-Err-run_events.ensures.part events (events-there c.args.options _ c.args.lines events c.args.tables.rows _ stands are))

@@ -1,7 +1,7 @@
 use Rattle.std.proofs.Common.{◌≡◌, ◌++◌, drop}
 use Rattle.std.specs.String.{string_bytes}
 use Rattle.sr_script.specs.TraceText.{trace_text}
-use Rattle.sr_scene.specs.Runs.{numbered}
+use Rattle.sr_runs.specs.Runs.{numbered}
 use Rattle.sr_world.proofs.replay.text_of.Given as goal
 
 abbrev pub invariant-loop-line : goal.invariant-loop-line

@@ -1,42 +1,29 @@
-use Rattle.std.proofs.Common.{rules, [], ◌≡◌, ◌≤◌, ◌∙◌, subst, ap, arith, length, true, false, None, Ok, refl}
-use Rattle.sr_message.specs.Sizes.{most_rects, count_asked}
-use Rattle.sr_language.specs.Events.{QueryOf}
-use Rattle.sr_world.specs.Asking.{AsksRest}
-use Rattle.sr_world.specs.Cutting.{AreCutAlong}
-use Rattle.sr_world.specs.Sending.{IsSent}
-use Rattle.sr_world.specs.Worlds.{DoesEvent}
-use Rattle.sr_world.proofs.StepLemmas.{if_ok, if_each, of_ok}
-use Rattle.sr_world.proofs.NowLemmas.{does-busy}
-use Rattle.sr_world.proofs.SendLemmas.{does-ask}
-use Rattle.sr_world.proofs.MeantLemmas.{one-query, asks-of}
+use Rattle.std.proofs.Common.{refl, ◌-◌, arith, subst, sym, Ok}
+use Rattle.sr_language.specs.Events.{DoQuery}
+use Rattle.sr_runs.specs.Runs.{Acts}
+use Rattle.sr_client.specs.Bound.{IsMeaning}
+use Rattle.sr_world.specs.Worlds.{drawn_by}
+use Rattle.sr_world.proofs.EventLemmas.{same-setting, seat-room, seat-schema, some-seat, world-drawn, world-goes}
 use Rattle.sr_world.proofs.world.World.ask.Goals as goal
 
-pub returns-in-Some-clause-event : goal.returns-in-Some-clause-event
-returns-in-Some-clause-event c = λ meaning is. if_ok _ c.one_line.result _ c.one_line.ensures (does-busy c.args.self.now c.in-Some.out meaning c.in-Some.is)
+pub query-requires-clause-stands : goal.query-requires-clause-stands
+query-requires-clause-stands c = (c.args.self.now.server, some-seat c.args.self.now c.args.client c.index_mut.result.now c.requires.world c.requires.number c.index_mut.ensures.value)
 
-pub answer_now-requires-clause-nothing : goal.answer_now-requires-clause-nothing
-answer_now-requires-clause-nothing c =
-    let w = c.args.self.now in
-    subst (AsksRest w.server.tables.schema w.client.store.regions c.args.query.parts) (c.if-is_empty.ensures.0 refl)
-    (asks-of w.server.tables.schema c.schema.result.now w.client.store.regions c.args.query.parts c.as_slice.result.now c.in-Ok.asks c.schema.ensures c.as_slice.ensures c.in-Ok.ensures.asks)
+pub query-requires-clause-meant : goal.query-requires-clause-meant
+query-requires-clause-meant c =
+    (c.requires.meant.0, subst (λ schema. IsMeaning schema c.args.query c.requires.meant.0) (sym (seat-schema c.args.self.now c.args.client c.index_mut.result.now c.requires.world c.requires.number c.index_mut.ensures.value)) c.requires.meant.1)
 
-pub send_ask-requires-clause-few : goal.send_ask-requires-clause-few
-send_ask-requires-clause-few c =
-    let one = one-query c.args.self.now.server.tables.schema c.args.query c.requires.asks.0 c.requires.asks.1 in
-    let parts : length c.as_slice.result.now ≡ 1 = ap length (c.as_slice.ensures ∙ one.parts) in
-    omega (arith, c.in-Ok.ensures.few, parts)
+pub query-requires-clause-room : goal.query-requires-clause-room
+query-requires-clause-room c = let room = seat-room drawn_by c.args.self.now c.args.client 2 c.index_mut.result.now c.requires.number c.index_mut.ensures.value c.requires.room in omega (arith, room)
 
-pub returns-else-is_empty-clause-event : goal.returns-else-is_empty-clause-event
-returns-else-is_empty-clause-event c = λ meaning is.
-    let w = c.args.self.now in
-    let q = c.args.query in
-    let asks = c.in-Ok.asks in
-    let new = c.send_ask.new.self in
-    let s = w.server.tables.schema in
-    let idle : w.client.out ≡ None = search rules in
-    let some : asks ≡ [] → ⊥ = λ none. absurd (let wrong : false ≡ true = c.if-is_empty.ensures.1 none in cc) in
-    let rest = asks-of s c.schema.result.now w.client.store.regions q.parts c.as_slice.result.now asks c.schema.ensures c.as_slice.ensures c.in-Ok.ensures.asks in
-    let along = subst (λ ps. AreCutAlong s w.client.store.regions ps asks) c.as_slice.ensures (subst (λ s. AreCutAlong s w.client.store.regions c.as_slice.result.now asks) c.schema.ensures c.in-Ok.ensures.cuts) in
-    let few : count_asked asks ≤ most_rects = c.in-Ok.ensures.rects in
-    if_each (DoesEvent (QueryOf 1 (Ok meaning)) w new) c.send_ask.result
-    (λ lines e. does-ask w q meaning asks new lines idle is rest along some few (of_ok (IsSent w q asks new) c.send_ask.result lines e c.send_ask.ensures.sent))
+pub returns-clause-acts : goal.returns-clause-acts
+returns-clause-acts c = λ meaning means.
+    world-goes (λ n s. Acts s (DoQuery n (Ok meaning))) c.args.self.now _ c.args.client c.index_mut.result.now c.query.new.self c.query.result c.requires.number c.index_mut.ensures.value refl refl
+    (c.query.ensures.goes c.args.self.now.server meaning
+    (subst (λ schema. IsMeaning schema c.args.query meaning) (sym (seat-schema c.args.self.now c.args.client c.index_mut.result.now c.requires.world c.requires.number c.index_mut.ensures.value)) means))
+
+pub returns-clause-drawn : goal.returns-clause-drawn
+returns-clause-drawn c = world-drawn c.args.self.now c.args.client c.index_mut.result.now c.query.new.self c.args.self.now.server.log c.query.result c.requires.number c.index_mut.ensures.value refl c.query.ensures.draws
+
+pub returns-clause-stays : goal.returns-clause-stays
+returns-clause-stays c = same-setting c.args.self.now _ (c.args.client - 1) c.query.new.self refl refl refl

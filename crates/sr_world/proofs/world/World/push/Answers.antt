@@ -1,17 +1,21 @@
-use Rattle.sr_language.specs.Events.{Push}
-use Rattle.sr_scene.specs.Steps.{Happens}
-use Rattle.sr_world.proofs.SettleLemmas.{still-stands, settle-stands, steps}
+use Rattle.std.proofs.Common.{refl, ◌-◌, ap}
+use Rattle.sr_log.specs.Held.{newest as newest_of}
+use Rattle.sr_log.specs.Held.{Held}
+use Rattle.sr_language.specs.Events.{DoPush}
+use Rattle.sr_runs.specs.Runs.{Acts}
+use Rattle.sr_tables.specs.Stored.{Stored}
+use Rattle.sr_world.proofs.EventLemmas.{same-setting, some-seat, unchanged-draws, world-drawn, world-goes}
 use Rattle.sr_world.proofs.world.World.push.Goals as goal
 
-pub settle-requires : goal.settle-requires
-settle-requires c = still-stands (λ s. Happens s (Push 1)) c.args.self.now c.send_notices.new.self c.in_ok-lines.lines c.requires.stands c.in_ok-lines.ensures.event
+pub push-requires : goal.push-requires
+push-requires c = record { stands = some-seat c.args.self.now c.args.client c.index_mut.result.now c.requires.world c.requires.number c.index_mut.ensures.value }
 
-pub returns-clause-steps : goal.returns-clause-steps
-returns-clause-steps c =
-    rw c.in_ok-append.ensures.appended
-    (steps (Push 1) c.args.self.now c.send_notices.new.self c.settle.new.self c.in_ok-lines.lines _ c.in_ok-lines.ensures.event c.in_ok-settle.ensures.settles)
+pub returns-clause-acts : goal.returns-clause-acts
+returns-clause-acts c =
+    world-goes (λ n s. Acts s (DoPush n)) c.args.self.now _ c.args.client c.index_mut.result.now c.push.new.self c.push.result c.requires.number c.index_mut.ensures.value refl refl c.push.ensures.goes
 
-pub returns-clause-stands : goal.returns-clause-stands
-returns-clause-stands c =
-    let sent = still-stands (λ s. Happens s (Push 1)) c.args.self.now c.send_notices.new.self c.in_ok-lines.lines c.requires.stands c.in_ok-lines.ensures.event in
-    settle-stands c.send_notices.new.self c.settle.new.self _ sent c.in_ok-settle.ensures.settles
+pub returns-clause-drawn : goal.returns-clause-drawn
+returns-clause-drawn c = world-drawn c.args.self.now c.args.client c.index_mut.result.now c.push.new.self c.push.new.server.log c.push.result c.requires.number c.index_mut.ensures.value (ap (λ (l : Held). newest_of l) c.push.ensures.log) (unchanged-draws c.index_mut.result.now c.push.new.self c.push.result c.push.ensures.draws)
+
+pub returns-clause-stays : goal.returns-clause-stays
+returns-clause-stays c = same-setting c.args.self.now _ (c.args.client - 1) c.push.new.self refl refl (ap (λ (t : Stored). t.schema) c.push.ensures.tables)

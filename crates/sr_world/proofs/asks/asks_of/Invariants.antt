@@ -1,6 +1,0 @@
-use Rattle.std.proofs.Common.{take}
-use Rattle.sr_world.proofs.AskLemmas.{IsAskedOf}
-use Rattle.sr_world.proofs.asks.asks_of.Given as goal
-
-abbrev pub invariant-loop-part : goal.invariant-loop-part
-invariant-loop-part l = IsAskedOf l.schema l.store.regions (take l.part-index l.parts) l.room l.asks

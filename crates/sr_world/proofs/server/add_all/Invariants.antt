@@ -1,6 +1,0 @@
-use Rattle.std.proofs.Common.{◌≡◌, ◌++◌, take, map}
-use Rattle.sr_scene.specs.Server.{holding_of}
-use Rattle.sr_world.proofs.server.add_all.Given as goal
-
-abbrev pub invariant-loop-part : goal.invariant-loop-part
-invariant-loop-part l = l.subs ≡ l.initial.subs ++ map holding_of (take l.part-index l.parts)

@@ -1,79 +1,128 @@
 -- What a status says of the files that are held.
-use Rattle.std.proofs.Common.{◌≡◌, ℕ, ◌⊎◌, List, [], Option, Ok, Err, inl, inr, arith, sym, subst, ◌∙◌}
+use Rattle.std.proofs.Common.{◌≡◌, ℕ, ◌⊎◌, List, [], Option, Some, None, Ok, Err, inl, inr, arith, sym, subst, ◌∙◌}
 use Rattle.sr_cell.specs.declared.fault.Fault.{Fault}
 use Rattle.sr_cell.specs.declared.table.Table.{Table}
 use Rattle.sr_model.specs.Statements.{Tables}
 use Rattle.sr_language.specs.Lines.{lines_of}
-use Rattle.sr_language.specs.Script.{start_phase, FirstRefused, FirstUnbuilt}
+use Rattle.sr_language.specs.Script.{LinePlace, start_phase, FirstRefused, FirstUnbuilt}
 use Rattle.sr_tables.specs.Stored.{no_rows}
 use Rattle.sr_load.specs.Filling.{filled}
 use Rattle.sr_load.specs.declared.fill.Load.{Load}
 use Rattle.sr_load.specs.declared.fill.LoadFault.{LoadFault}
-use Rattle.sr_policy.specs.declared.policy.Limits.{Limits}
 use Rattle.sr_reader.proofs.OneDoing.{excludes, accepts}
 use Rattle.sr_reader.proofs.Created.{created-tables}
+use Rattle.sr_world.specs.declared.world.Options.{Options}
 use Rattle.sr_world.specs.declared.world.World.{World}
-use Rattle.sr_world.specs.Replay.{RefusesLoad, Wrote}
-use Rattle.sr_cli.specs.Run.{SomeTooLong, IsRefusedSetup, IsRefusedLoad, IsUnbuilt, Replayed, AreHeld, AreLong, FitsFiles}
+use Rattle.sr_world.specs.Replay.{RefusesLoad, Wrote, outside}
+use Rattle.sr_cli.specs.Run.{AreFiles, SomeTooLong, IsOutside, IsRefusedSetup, IsRefusedLoad, IsUnbuilt, Replayed, AreHeld, AreLong, FitsFiles}
 use Rattle.sr_cli.specs.Words.{Words, files_of}
 use Rattle.sr_cli.proofs.SameFiles.{of_files, not_long, long_held}
 
 -- a CREATE line or a file is refused
-abbrev pub Refused : List ℕ → List Load → Type 0
-Refused script loads =
-    ((line : ℕ) × (fault : Fault) × FirstRefused 1 [] (lines_of script) line fault) ⊎ ((table : List ℕ) × (fault : Fault) × RefusesLoad script loads table fault)
+abbrev pub Refused : ℕ → List ℕ → List Load → Type 0
+Refused clients script loads =
+    ((line : ℕ) × (fault : Fault) × FirstRefused clients 1 [] (lines_of script) line fault)
+    ⊎ ((table : List ℕ) × (fault : Fault) × RefusesLoad clients script loads table fault)
 
 -- the same, of files that were read
 abbrev pub IsRefused : (List ℕ → Option (List ℕ)) → Words → Type 0
 IsRefused held words = ((line : ℕ) × (fault : Fault) × IsRefusedSetup held words line fault) ⊎ ((table : List ℕ) × (fault : Fault) × IsRefusedLoad held words table fault)
 
-refused_held : (held : List ℕ → Option (List ℕ)) (words : Words) (script : List ℕ) (loads : List Load) → AreHeld held words script loads → IsRefused held words → Refused script loads
-refused_held held words script loads are (inl (line, fault, r)) =
-    of_files (λ s ls. Refused s ls) held words script r.script loads r.loads r.files are (inl (line, fault, r.first))
-refused_held held words script loads are (inr (table, fault, r)) =
-    of_files (λ s ls. Refused s ls) held words script r.script loads r.loads r.files are (inr (table, fault, r.refuses))
+abbrev pub SomeOutside : (List ℕ → Option (List ℕ)) → Words → Type 0
+SomeOutside held words = (line : ℕ) × (place : ℕ) × IsOutside held words line place
 
-refused_short : (held : List ℕ → Option (List ℕ)) (words : Words) (script : List ℕ) (loads : List Load) → AreHeld held words script loads → IsRefused held words → ¬ AreLong script loads
-refused_short held words script loads are (inl (line, fault, r)) =
-    of_files (λ s ls. ¬ AreLong s ls) held words script r.script loads r.loads r.files are (not_long held words r.script r.loads r.files)
-refused_short held words script loads are (inr (table, fault, r)) =
-    of_files (λ s ls. ¬ AreLong s ls) held words script r.script loads r.loads r.files are (not_long held words r.script r.loads r.files)
+abbrev pub SomeUnbuilt : (List ℕ → Option (List ℕ)) → Words → Type 0
+SomeUnbuilt held words = (line : ℕ) × IsUnbuilt held words line
 
-long_status : (status : ℕ) → (status ≡ 3) ⊎ (status ≡ 4) ⊎ (status ≡ 7) ⊎ (status ≡ 9) ⊎ (status ≡ 10) ⊎ (status ≡ 12)
-    → ¬ (status ≡ 3) → ¬ (status ≡ 4) → ¬ (status ≡ 7) → ¬ (status ≡ 12) → (status ≡ 9) ⊎ (status ≡ 10)
-long_status status (inl is) no_3 no_4 no_7 no_12 = absurd (no_3 is)
-long_status status (inr (inl is)) no_3 no_4 no_7 no_12 = absurd (no_4 is)
-long_status status (inr (inr (inl is))) no_3 no_4 no_7 no_12 = absurd (no_7 is)
-long_status status (inr (inr (inr (inl is)))) no_3 no_4 no_7 no_12 = inl is
-long_status status (inr (inr (inr (inr (inl is))))) no_3 no_4 no_7 no_12 = inr is
-long_status status (inr (inr (inr (inr (inr is))))) no_3 no_4 no_7 no_12 = absurd (no_12 is)
+-- the files that were read, whatever is refused of them
+record Named (held : List ℕ → Option (List ℕ)) (words : Words) (P : List ℕ → List Load → Type 0) : Type 0 where
+  script : List ℕ
+  loads : List Load
+  files : AreFiles held words script loads
+  holds : P script loads
+
+-- what holds of them holds of those that are held
+named_held : (P : List ℕ → List Load → Type 0) (held : List ℕ → Option (List ℕ)) (words : Words) (script : List ℕ) (loads : List Load)
+    → AreHeld held words script loads → Named held words P → P script loads
+named_held P held words script loads are n = of_files P held words script n.script loads n.loads n.files are n.holds
+
+-- which are not too long
+named_short : (P : List ℕ → List Load → Type 0) (held : List ℕ → Option (List ℕ)) (words : Words) (script : List ℕ) (loads : List Load)
+    → AreHeld held words script loads → Named held words P → ¬ AreLong script loads
+named_short P held words script loads are n =
+    of_files (λ s ls. ¬ AreLong s ls) held words script n.script loads n.loads n.files are (not_long held words n.script n.loads n.files)
+
+outside_named : (held : List ℕ → Option (List ℕ)) (words : Words) → SomeOutside held words
+    → Named held words (λ s ls. (at : LinePlace) × (outside words.options.clients s ≡ Some at))
+outside_named held words (line, place, o) = record { script = o.script; loads = o.loads; files = o.files; holds = (record { line = line; place = place }, o.first) }
+
+refused_named : (held : List ℕ → Option (List ℕ)) (words : Words) → IsRefused held words
+    → Named held words (λ s ls. (outside words.options.clients s ≡ None) × Refused words.options.clients s ls)
+refused_named held words (inl (line, fault, r)) = record { script = r.script; loads = r.loads; files = r.files; holds = (r.inside, inl (line, fault, r.first)) }
+refused_named held words (inr (table, fault, r)) = record { script = r.script; loads = r.loads; files = r.files; holds = (r.inside, inr (table, fault, r.refuses)) }
+
+-- what is said of an unbuilt line
+record Unbuilds (clients : ℕ) (script : List ℕ) (loads : List Load) : Type 0 where
+  line : ℕ
+  inside : outside clients script ≡ None
+  first : FirstUnbuilt clients 1 start_phase (lines_of script) line
+  accepts : (refused : ℕ) (fault : Fault) → ¬ FirstRefused clients 1 [] (lines_of script) refused fault
+  loads_accepted : (table : List ℕ) (fault : Fault) → ¬ RefusesLoad clients script loads table fault
+
+unbuilt_named : (held : List ℕ → Option (List ℕ)) (words : Words) → SomeUnbuilt held words → Named held words (Unbuilds words.options.clients)
+unbuilt_named held words (line, u) = record {
+  script = u.script;
+  loads = u.loads;
+  files = u.files;
+  holds = record { line = line; inside = u.inside; first = u.first; accepts = u.accepts; loads_accepted = u.loads_accepted };
+}
+
+-- the statuses that are not 0 and not 2
+abbrev pub Fails : ℕ → Type 0
+Fails status = (status ≡ 3) ⊎ (status ≡ 4) ⊎ (status ≡ 6) ⊎ (status ≡ 7) ⊎ (status ≡ 9) ⊎ (status ≡ 10) ⊎ (status ≡ 12)
+
+long_status : (status : ℕ) → Fails status → ¬ (status ≡ 3) → ¬ (status ≡ 4) → ¬ (status ≡ 6) → ¬ (status ≡ 7) → ¬ (status ≡ 12) → (status ≡ 9) ⊎ (status ≡ 10)
+long_status status (inl is) no_3 no_4 no_6 no_7 no_12 = absurd (no_3 is)
+long_status status (inr (inl is)) no_3 no_4 no_6 no_7 no_12 = absurd (no_4 is)
+long_status status (inr (inr (inl is))) no_3 no_4 no_6 no_7 no_12 = absurd (no_6 is)
+long_status status (inr (inr (inr (inl is)))) no_3 no_4 no_6 no_7 no_12 = absurd (no_7 is)
+long_status status (inr (inr (inr (inr (inl is))))) no_3 no_4 no_6 no_7 no_12 = inl is
+long_status status (inr (inr (inr (inr (inr (inl is)))))) no_3 no_4 no_6 no_7 no_12 = inr is
+long_status status (inr (inr (inr (inr (inr (inr is)))))) no_3 no_4 no_6 no_7 no_12 = absurd (no_12 is)
 
 -- a status that is not 0, with its causes
 pub fits_held : (held : List ℕ → Option (List ℕ)) (left : Option (List ℕ)) (words : Words) (script : List ℕ) (loads : List Load) (status : ℕ)
-    → AreHeld held words script loads
-    → (status ≡ 3) ⊎ (status ≡ 4) ⊎ (status ≡ 7) ⊎ (status ≡ 9) ⊎ (status ≡ 10) ⊎ (status ≡ 12)
-    → ¬ (status ≡ 3) → ¬ (status ≡ 4) → (status ≡ 10 → SomeTooLong held left (files_of words))
-    → (status ≡ 7 → IsRefused held words) → (status ≡ 12 → (line : ℕ) × IsUnbuilt held words line)
-    → FitsFiles script loads status
-fits_held held left words script loads status are only read write too_long refused unbuilt = record {
-  no_read_fault = read;
-  no_write_fault = write;
-  long = λ over. long_status status only read write
-      (λ is. refused_short held words script loads are (refused is) over)
-      (λ is. let u : (line : ℕ) × IsUnbuilt held words line = unbuilt is in
-      of_files (λ s ls. ¬ AreLong s ls) held words script u.1.script loads u.1.loads u.1.files are (not_long held words u.1.script u.1.loads u.1.files) over);
-  too_long = λ is. long_held held left words script loads are (too_long is);
-  refused = λ is. refused_held held words script loads are (refused is);
-  unbuilt = λ is. let u : (line : ℕ) × IsUnbuilt held words line = unbuilt is in
-      (u.0, of_files (λ s ls. FirstUnbuilt 1 start_phase (lines_of s) u.0) held words script u.1.script loads u.1.loads u.1.files are u.1.first);
-  unbuilt_accepts = λ is. let u : (line : ℕ) × IsUnbuilt held words line = unbuilt is in
-      of_files (λ s ls. (line : ℕ) (fault : Fault) → ¬ FirstRefused 1 [] (lines_of s) line fault) held words script u.1.script loads u.1.loads u.1.files are u.1.accepts;
-  unbuilt_loads = λ is. let u : (line : ℕ) × IsUnbuilt held words line = unbuilt is in
-      of_files (λ s ls. (table : List ℕ) (fault : Fault) → ¬ RefusesLoad s ls table fault) held words script u.1.script loads u.1.loads u.1.files are u.1.loads_accepted;
-  built = λ is. absurd (omega (arith, only, is));
-  built_accepts = λ is. absurd (omega (arith, only, is));
-  built_loads = λ is. absurd (omega (arith, only, is));
-}
+    → AreHeld held words script loads → Fails status
+    → ¬ (status ≡ 3) → ¬ (status ≡ 4) → (status ≡ 10 → SomeTooLong held left (files_of words)) → (status ≡ 6 → SomeOutside held words)
+    → (status ≡ 7 → IsRefused held words) → (status ≡ 12 → SomeUnbuilt held words)
+    → FitsFiles words.options.clients script loads status
+fits_held held left words script loads status are fails read write too_long lies refused unbuilt =
+    let line : status ≡ 6 → (at : LinePlace) × (outside words.options.clients script ≡ Some at) = λ is. named_held _ held words script loads are (outside_named held words (lies is)) in
+    let cause : status ≡ 7 → (outside words.options.clients script ≡ None) × Refused words.options.clients script loads = λ is. named_held _ held words script loads are (refused_named held words (refused is)) in
+    let idle : status ≡ 12 → Unbuilds words.options.clients script loads = λ is. named_held _ held words script loads are (unbuilt_named held words (unbuilt is)) in
+    record {
+      no_read_fault = read;
+      no_write_fault = write;
+      long = λ over. long_status status fails read write
+          (λ is. named_short _ held words script loads are (outside_named held words (lies is)) over)
+          (λ is. named_short _ held words script loads are (refused_named held words (refused is)) over)
+          (λ is. named_short _ held words script loads are (unbuilt_named held words (unbuilt is)) over);
+      too_long = λ is. long_held held left words script loads are (too_long is);
+      line = line;
+      inside = inside_by;
+      refused = λ is. (cause is).1;
+      unbuilt = λ is. ((idle is).line, (idle is).first);
+      unbuilt_accepts = λ is. (idle is).accepts;
+      unbuilt_loads = λ is. (idle is).loads_accepted;
+      built = λ is. absurd (omega (arith, fails, is));
+      built_accepts = λ is. absurd (omega (arith, fails, is));
+      built_loads = λ is. absurd (omega (arith, fails, is));
+    }
+  where
+    inside_by : (status ≡ 0) ⊎ (status ≡ 7) ⊎ (status ≡ 12) → outside words.options.clients script ≡ None
+    inside_by (inl is) = absurd (omega (arith, fails, is))
+    inside_by (inr (inl is)) = (named_held _ held words script loads are (refused_named held words (refused is))).0
+    inside_by (inr (inr is)) = (named_held _ held words script loads are (unbuilt_named held words (unbuilt is))).inside
 
 filled_once : (schema tables : List Table) (loads : List Load) (rows : Tables) (fault : LoadFault) → schema ≡ tables
     → filled tables loads (no_rows tables) ≡ Ok rows → filled schema loads (no_rows schema) ≡ Err fault → ⊥
@@ -83,29 +132,31 @@ filled_once schema tables loads rows fault same loaded refuses =
     cc
 
 -- a script that was replayed is built, and neither its CREATE lines nor its files are refused
-wrote_fits : (old new : Option (List ℕ)) (limits : Limits) (script : List ℕ) (loads : List Load) (world : World) → Wrote old new limits script loads world
-    → ¬ AreLong script loads → FitsFiles script loads 0
-wrote_fits old new limits script loads world wrote short =
+wrote_fits : (old new : Option (List ℕ)) (options : Options) (script : List ℕ) (loads : List Load) (world : World) → Wrote old new options script loads world
+    → ¬ AreLong script loads → FitsFiles options.clients script loads 0
+wrote_fits old new options script loads world wrote short =
     let t = wrote.traced in
     record {
       no_read_fault = λ k. omega (arith, k);
       no_write_fault = λ k. omega (arith, k);
       long = λ over. absurd (short over);
       too_long = λ k. absurd (omega (arith, k));
+      line = λ k. absurd (omega (arith, k));
+      inside = λ _. t.inside;
       refused = λ k. absurd (omega (arith, k));
       unbuilt = λ k. absurd (omega (arith, k));
       unbuilt_accepts = λ k. absurd (omega (arith, k));
       unbuilt_loads = λ k. absurd (omega (arith, k));
-      built = λ k line first. excludes 1 start_phase (lines_of script) t.all t.end line t.reads first;
-      built_accepts = λ k line fault first. accepts 1 (lines_of script) t.all t.end line fault t.reads first;
+      built = λ k line first. excludes options.clients 1 start_phase (lines_of script) t.all t.end line t.reads first;
+      built_accepts = λ k line fault first. accepts options.clients 1 (lines_of script) t.all t.end line fault t.reads first;
       built_loads = λ k table fault refuses.
           filled_once refuses.0 t.end.tables loads t.tables (record { table = table; fault = fault })
-          (created-tables (lines_of script) t.all t.end refuses.0 t.reads refuses.1) t.loaded refuses.2;
+          (created-tables options.clients (lines_of script) t.all t.end refuses.0 t.reads refuses.1) t.loaded refuses.2;
     }
 
 -- status 0, with its cause
 pub fits_done : (held : List ℕ → Option (List ℕ)) (words : Words) (script : List ℕ) (loads : List Load) (old new : Option (List ℕ))
-    → AreHeld held words script loads → Replayed held words old new → FitsFiles script loads 0
+    → AreHeld held words script loads → Replayed held words old new → FitsFiles words.options.clients script loads 0
 fits_done held words script loads old new are replayed =
-    of_files (λ s ls. FitsFiles s ls 0) held words script replayed.script loads replayed.loads replayed.files are
-    (wrote_fits old new words.limits replayed.script replayed.loads replayed.world replayed.wrote (not_long held words replayed.script replayed.loads replayed.files))
+    of_files (λ s ls. FitsFiles words.options.clients s ls 0) held words script replayed.script loads replayed.loads replayed.files are
+    (wrote_fits old new words.options replayed.script replayed.loads replayed.world replayed.wrote (not_long held words replayed.script replayed.loads replayed.files))

@@ -1,5 +1,6 @@
 pub mod Cuts
 pub mod FitsLemmas
+pub mod Insides
 pub mod LoadTexts
 pub mod LoadWords
 pub mod Numbers

@@ -2,7 +2,7 @@
 use Rattle.std.proofs.Common.{◌≡◌, ℕ, ◌≤◌, Bool, true, false, List, [], ◌∷◌, length, drop, get_or, Option, Some, None, refl, sym, ap, ◌∙◌, arith}
 use Rattle.std.specs.Prelude.{◌&&◌, if◌then◌else◌}
 use Rattle.std.specs.List.{list_all}
-use Rattle.sr_policy.specs.declared.policy.Limits.{Limits}
+use Rattle.sr_world.specs.declared.world.Options.{Options}
 use Rattle.sr_cli.specs.Words.{LoadWord, Words, load_word, load_words, is_name, with_script, with_files}
 use Rattle.sr_cli.specs.Seen.{is_load, loads_seen, are_files}
 
@@ -28,31 +28,31 @@ first : (words : List (List ℕ)) (a : List ℕ) → 1 ≤ length words → a �
 first [] a long is = absurd (omega arith)
 first (x ∷ words) a long is = let e : a ≡ x = is in cc
 
-abbrev of : Limits → List ℕ → List (List ℕ) → Words
-of limits script loads = record { limits = limits; script = script; loads = loads_seen loads }
+abbrev of : Options → List ℕ → List (List ℕ) → Words
+of options script loads = record { options = options; script = script; loads = loads_seen loads }
 
-said_if : (limits : Limits) (script : List ℕ) (loads : List (List ℕ)) (name l : Bool) → list_all is_load loads ≡ l → (name && l) ≡ true
-    → (if name then with_script limits script (load_words loads) else None) ≡ Some (of limits script loads)
-said_if limits script loads true true is form = rw (all_loads loads is)
-said_if limits script loads true false is form = absurd cc
-said_if limits script loads false l is form = absurd cc
+said_if : (options : Options) (script : List ℕ) (loads : List (List ℕ)) (name l : Bool) → list_all is_load loads ≡ l → (name && l) ≡ true
+    → (if name then with_script options script (load_words loads) else None) ≡ Some (of options script loads)
+said_if options script loads true true is form = rw (all_loads loads is)
+said_if options script loads true false is form = absurd cc
+said_if options script loads false l is form = absurd cc
 
-unsaid_if : (limits : Limits) (script : List ℕ) (loads : List (List ℕ)) (name l : Bool) → list_all is_load loads ≡ l → (name && l) ≡ false
-    → (if name then with_script limits script (load_words loads) else None) ≡ None
-unsaid_if limits script loads true true is form = absurd cc
-unsaid_if limits script loads true false is form = rw (no_loads loads is)
-unsaid_if limits script loads false l is form = refl
+unsaid_if : (options : Options) (script : List ℕ) (loads : List (List ℕ)) (name l : Bool) → list_all is_load loads ≡ l → (name && l) ≡ false
+    → (if name then with_script options script (load_words loads) else None) ≡ None
+unsaid_if options script loads true true is form = absurd cc
+unsaid_if options script loads true false is form = rw (no_loads loads is)
+unsaid_if options script loads false l is form = refl
 
-pub said : (limits : Limits) (words : List (List ℕ)) (script : List ℕ) (loads : List (List ℕ)) → loads ≡ drop 1 words → 1 ≤ length words → script ≡ get_or words 0 script
+pub said : (options : Options) (words : List (List ℕ)) (script : List ℕ) (loads : List (List ℕ)) → loads ≡ drop 1 words → 1 ≤ length words → script ≡ get_or words 0 script
     → {answer : Bool} → answer ≡ are_files script loads → answer ≡ true
-    → with_files (Some limits) words ≡ Some (of limits script loads)
-said limits words script loads behind long front is answer =
+    → with_files (Some options) words ≡ Some (of options script loads)
+said options words script loads behind long front is answer =
     let cut : words ≡ script ∷ loads = first words script long front ∙ ap (λ (ws : List (List ℕ)). script ∷ ws) (sym behind) in
-    ap (with_files (Some limits)) cut ∙ said_if limits script loads (is_name script) (list_all is_load loads) refl (sym is ∙ answer)
+    ap (with_files (Some options)) cut ∙ said_if options script loads (is_name script) (list_all is_load loads) refl (sym is ∙ answer)
 
-pub unsaid : (limits : Limits) (words : List (List ℕ)) (script : List ℕ) (loads : List (List ℕ)) → loads ≡ drop 1 words → 1 ≤ length words → script ≡ get_or words 0 script
+pub unsaid : (options : Options) (words : List (List ℕ)) (script : List ℕ) (loads : List (List ℕ)) → loads ≡ drop 1 words → 1 ≤ length words → script ≡ get_or words 0 script
     → {answer : Bool} → answer ≡ are_files script loads → answer ≡ false
-    → with_files (Some limits) words ≡ None
-unsaid limits words script loads behind long front is answer =
+    → with_files (Some options) words ≡ None
+unsaid options words script loads behind long front is answer =
     let cut : words ≡ script ∷ loads = first words script long front ∙ ap (λ (ws : List (List ℕ)). script ∷ ws) (sym behind) in
-    ap (with_files (Some limits)) cut ∙ unsaid_if limits script loads (is_name script) (list_all is_load loads) refl (sym is ∙ answer)
+    ap (with_files (Some options)) cut ∙ unsaid_if options script loads (is_name script) (list_all is_load loads) refl (sym is ∙ answer)

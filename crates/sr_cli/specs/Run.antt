@@ -5,17 +5,17 @@ use Rattle.sr_cell.specs.declared.fault.Fault.{Fault}
 use Rattle.sr_cell.specs.declared.fault.Why.{Why}
 use Rattle.sr_cell.specs.declared.fault.Why.TheVariants.{UnknownTable}
 use Rattle.sr_language.specs.Lines.{lines_of}
-use Rattle.sr_language.specs.Script.{start_phase, FirstRefused, FirstUnbuilt}
+use Rattle.sr_language.specs.Script.{LinePlace, start_phase, FirstRefused, FirstUnbuilt}
 use Rattle.sr_load.specs.declared.fill.Load.{Load}
 use Rattle.sr_script.specs.TraceText.{why_text}
 use Rattle.sr_io.specs.Pieces.{Lost}
 use Rattle.sr_io.specs.Told.{complained}
 use Rattle.sr_world.specs.declared.world.World.{World}
-use Rattle.sr_world.specs.Replay.{RefusesLoad, Wrote, WrotePart}
+use Rattle.sr_world.specs.Replay.{RefusesLoad, Wrote, WrotePart, outside}
 use Rattle.sr_cli.specs.Words.{LoadWord, Words}
 
 abbrev pub IsStatus : ℕ → Type 0
-IsStatus status = (status ≡ 0) ⊎ (status ≡ 2) ⊎ (status ≡ 3) ⊎ (status ≡ 4) ⊎ (status ≡ 7) ⊎ (status ≡ 9) ⊎ (status ≡ 10) ⊎ (status ≡ 12)
+IsStatus status = (status ≡ 0) ⊎ (status ≡ 2) ⊎ (status ≡ 3) ⊎ (status ≡ 4) ⊎ (status ≡ 6) ⊎ (status ≡ 7) ⊎ (status ≡ 9) ⊎ (status ≡ 10) ⊎ (status ≡ 12)
 
 -- ---- the files
 
@@ -39,14 +39,14 @@ pub record Replayed (held : List ℕ → Option (List ℕ)) (words : Words) (old
   pub loads : List Load
   pub files : AreFiles held words script loads
   pub world : World
-  pub wrote : Wrote old new words.limits script loads world
+  pub wrote : Wrote old new words.options script loads world
 
 -- files were read, and a prefix of the trace was written
 pub record ReplayedInPart (held : List ℕ → Option (List ℕ)) (words : Words) (old new : Option (List ℕ)) : Type 0 where
   pub script : List ℕ
   pub loads : List Load
   pub files : AreFiles held words script loads
-  pub wrote : WrotePart old new words.limits script loads
+  pub wrote : WrotePart old new words.options script loads
 
 -- one byte more than the limit was read
 abbrev pub IsTooLong : Option (List ℕ) → Option (List ℕ) → Type 0
@@ -59,33 +59,49 @@ SomeTooLong held left (name ∷ names) = IsTooLong (held name) left ⊎ ((read :
 
 -- ---- refusals
 
--- files were read, and the script's first CREATE line that is refused is this one, with this fault
+-- files were read, and the script's first line that is outside the grammar is this one, with its fault at this place
+pub record IsOutside (held : List ℕ → Option (List ℕ)) (words : Words) (line place : ℕ) : Type 0 where
+  pub script : List ℕ
+  pub loads : List Load
+  pub files : AreFiles held words script loads
+  pub first : outside words.options.clients script ≡ Some (record { line = line; place = place })
+
+-- files were read, no line is outside the grammar, and the script's first CREATE line that is refused is this one, with this fault
 pub record IsRefusedSetup (held : List ℕ → Option (List ℕ)) (words : Words) (line : ℕ) (fault : Fault) : Type 0 where
   pub script : List ℕ
   pub loads : List Load
   pub files : AreFiles held words script loads
-  pub first : FirstRefused 1 [] (lines_of script) line fault
+  pub inside : outside words.options.clients script ≡ None
+  pub first : FirstRefused words.options.clients 1 [] (lines_of script) line fault
 
--- files were read, and the one for the table of this name is the first that is refused, with this fault; no CREATE line is
+-- files were read, and the one for the table of this name is the first that is refused, with this fault; no line is outside the grammar,
+-- and no CREATE line is refused
 pub record IsRefusedLoad (held : List ℕ → Option (List ℕ)) (words : Words) (table : List ℕ) (fault : Fault) : Type 0 where
   pub script : List ℕ
   pub loads : List Load
   pub files : AreFiles held words script loads
-  pub refuses : RefusesLoad script loads table fault
+  pub inside : outside words.options.clients script ≡ None
+  pub refuses : RefusesLoad words.options.clients script loads table fault
 
--- files were read, and the script's first line that is not built is this one; no CREATE line and no file is refused
+-- files were read, and the script's first line that is not built is this one; no line is outside the grammar, and no CREATE line and no
+-- file is refused
 pub record IsUnbuilt (held : List ℕ → Option (List ℕ)) (words : Words) (line : ℕ) : Type 0 where
   pub script : List ℕ
   pub loads : List Load
   pub files : AreFiles held words script loads
-  pub first : FirstUnbuilt 1 start_phase (lines_of script) line
-  pub accepts : (refused : ℕ) (fault : Fault) → ¬ FirstRefused 1 [] (lines_of script) refused fault
-  pub loads_accepted : (table : List ℕ) (fault : Fault) → ¬ RefusesLoad script loads table fault
+  pub inside : outside words.options.clients script ≡ None
+  pub first : FirstUnbuilt words.options.clients 1 start_phase (lines_of script) line
+  pub accepts : (refused : ℕ) (fault : Fault) → ¬ FirstRefused words.options.clients 1 [] (lines_of script) refused fault
+  pub loads_accepted : (table : List ℕ) (fault : Fault) → ¬ RefusesLoad words.options.clients script loads table fault
 
 -- ---- the error output
 
 abbrev pub line_feed : List ℕ
 line_feed = 10 ∷ []
+
+-- what is said of a line that is outside the grammar
+abbrev pub line_text : ℕ → ℕ → List ℕ
+line_text line place = codes "line " ++ decimal line ++ codes " " ++ decimal place ++ line_feed
 
 -- what is said of a CREATE line that is refused
 abbrev pub setup_text : ℕ → Fault → List ℕ
@@ -102,6 +118,13 @@ load_text table fault = codes "load " ++ table ++ codes " " ++ reason fault.why
 -- what is said of an unbuilt line
 abbrev pub unbuilt_text : ℕ → List ℕ
 unbuilt_text line = codes "unbuilt " ++ decimal line ++ line_feed
+
+-- the line that is outside the grammar was named on the error output, with the place of its fault
+pub record NamedLine (held : List ℕ → Option (List ℕ)) (words : Words) (old new : Option (List ℕ)) : Type 0 where
+  pub line : ℕ
+  pub place : ℕ
+  pub refused : IsOutside held words line place
+  pub said : new ≡ complained (line_text line place) old
 
 -- the refused CREATE line was named on the error output, with its fault
 pub record NamedSetup (held : List ℕ → Option (List ℕ)) (words : Words) (old new : Option (List ℕ)) : Type 0 where
@@ -153,15 +176,17 @@ abbrev pub AreLong : List ℕ → List Load → Type 0
 AreLong script loads = (67108864 < length script) ⊎ SomeLong loads
 
 -- what a host without faults that holds the files lets the status be
-pub record FitsFiles (script : List ℕ) (loads : List Load) (status : ℕ) : Type 0 where
+pub record FitsFiles (clients : ℕ) (script : List ℕ) (loads : List Load) (status : ℕ) : Type 0 where
   pub no_read_fault : ¬ (status ≡ 3)
   pub no_write_fault : ¬ (status ≡ 4)
   pub long : AreLong script loads → (status ≡ 9) ⊎ (status ≡ 10)
   pub too_long : status ≡ 10 → AreLong script loads
-  pub refused : status ≡ 7 → ((line : ℕ) × (fault : Fault) × FirstRefused 1 [] (lines_of script) line fault) ⊎ ((table : List ℕ) × (fault : Fault) × RefusesLoad script loads table fault)
-  pub unbuilt : status ≡ 12 → (line : ℕ) × FirstUnbuilt 1 start_phase (lines_of script) line
-  pub unbuilt_accepts : status ≡ 12 → (line : ℕ) (fault : Fault) → ¬ FirstRefused 1 [] (lines_of script) line fault
-  pub unbuilt_loads : status ≡ 12 → (table : List ℕ) (fault : Fault) → ¬ RefusesLoad script loads table fault
-  pub built : status ≡ 0 → (line : ℕ) → ¬ FirstUnbuilt 1 start_phase (lines_of script) line
-  pub built_accepts : status ≡ 0 → (line : ℕ) (fault : Fault) → ¬ FirstRefused 1 [] (lines_of script) line fault
-  pub built_loads : status ≡ 0 → (table : List ℕ) (fault : Fault) → ¬ RefusesLoad script loads table fault
+  pub line : status ≡ 6 → (at : LinePlace) × (outside clients script ≡ Some at)
+  pub inside : (status ≡ 0) ⊎ (status ≡ 7) ⊎ (status ≡ 12) → outside clients script ≡ None
+  pub refused : status ≡ 7 → ((line : ℕ) × (fault : Fault) × FirstRefused clients 1 [] (lines_of script) line fault) ⊎ ((table : List ℕ) × (fault : Fault) × RefusesLoad clients script loads table fault)
+  pub unbuilt : status ≡ 12 → (line : ℕ) × FirstUnbuilt clients 1 start_phase (lines_of script) line
+  pub unbuilt_accepts : status ≡ 12 → (line : ℕ) (fault : Fault) → ¬ FirstRefused clients 1 [] (lines_of script) line fault
+  pub unbuilt_loads : status ≡ 12 → (table : List ℕ) (fault : Fault) → ¬ RefusesLoad clients script loads table fault
+  pub built : status ≡ 0 → (line : ℕ) → ¬ FirstUnbuilt clients 1 start_phase (lines_of script) line
+  pub built_accepts : status ≡ 0 → (line : ℕ) (fault : Fault) → ¬ FirstRefused clients 1 [] (lines_of script) line fault
+  pub built_loads : status ≡ 0 → (table : List ℕ) (fault : Fault) → ¬ RefusesLoad clients script loads table fault

@@ -3,10 +3,14 @@ use Rattle.std.specs.Prelude.{ℕ, ◌≡◌, ◌++◌, ◌&&◌, Bool, true, fa
 use Rattle.std.specs.List.{filter_map, list_all}
 use Rattle.std.specs.Option.{option_copied}
 use Rattle.sr_load.specs.declared.fill.Load.{Load}
-use Rattle.sr_cli.specs.Words.{Front, LoadWord, Words, load_word, is_name}
+use Rattle.sr_cli.specs.Words.{Flag, Front, LoadWord, Words, load_word, is_name}
 use Rattle.sr_cli.specs.Run.{IsLoad}
+use Rattle.sr_cli.specs.declared.options.Flag as code_flag
 use Rattle.sr_cli.specs.declared.options.Front as code_front
 use Rattle.sr_cli.specs.declared.words.Words as code
+
+abbrev pub flag_seen : code_flag.Flag → Flag
+flag_seen f = record { said = f.said; rest = f.rest.now }
 
 abbrev pub front_seen : code_front.Front → Front
 front_seen f = record { value = option_copied f.value; rest = f.rest.now }
@@ -35,7 +39,7 @@ abbrev pub names_of : List LoadWord → List (List ℕ)
 names_of loads = map (λ load. load.file) loads
 
 abbrev pub words_seen : code.Words → Words
-words_seen w = record { limits = w.limits; script = w.script.now; loads = loads_seen w.loads.now }
+words_seen w = record { options = w.options; script = w.script.now; loads = loads_seen w.loads.now }
 
 -- the file of the word, if it says a load, was read behind the loads
 abbrev pub AddsLoad : (List ℕ → Option (List ℕ)) → Option LoadWord → List Load → List Load → Type 0

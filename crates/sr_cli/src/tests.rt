@@ -83,6 +83,56 @@ query 1 SELECT id, age FROM p WHERE age BETWEEN 100 AND 110
 query 1 SELECT id, age FROM p WHERE age BETWEEN 36 AND 40
 ";
 
+/// A client is cut while an ask is out, and resumes; the other one waits.
+const CUT: &str =
+    "CREATE TABLE p (id INT PRIMARY KEY CHECK (id BETWEEN 0 AND 9999), age INT CHECK (age BETWEEN 0 AND 150))
+exec INSERT INTO p VALUES (1, 35), (2, 45)
+exec INSERT INTO p VALUES (3, 33)
+query 2 SELECT id, age FROM p WHERE age BETWEEN 30 AND 40
+query 1 SELECT id, age FROM p WHERE age BETWEEN 30 AND 40
+settle 1
+query 1 SELECT id, age FROM p WHERE age BETWEEN 35 AND 50
+cut 1
+query 1 SELECT id, age FROM p WHERE age BETWEEN 32 AND 35
+query 1 SELECT id, age FROM p WHERE age BETWEEN 35 AND 50
+resume 1
+settle 1
+query 2 SELECT id, age FROM p WHERE age BETWEEN 30 AND 40
+";
+
+const CUT_TRACE: &str = "2 exec version 1
+3 exec version 2
+4 ask 2 1 fresh 1
+4 part p (id,age) {age 30..40}
+4 query 2 asked 1
+5 ask 1 1 fresh 1
+5 part p (id,age) {age 30..40}
+5 query 1 asked 1
+6 toserver 1 ask 2
+6 toclient 1 laid
+6 answer 1 1 2 2
+6 row 1, 35
+6 row 3, 33
+6 held 1 p (id,age) {age 30..40}
+6 toclient 1 answered
+6 settle 1 3
+7 ask 1 2 more 1
+7 part p (id,age) {age 41..50}
+7 query 1 asked 2
+8 fail 1 query 2
+8 cut 1 1
+9 answer 1 3 2 2
+9 row 1, 35
+9 row 3, 33
+9 query 1 answered 3
+10 query 1 down 1
+11 resume 1 sent 3
+12 toserver 1 resume 1
+12 toclient 1 welcome 2 kept
+12 settle 1 2
+13 query 2 busy 1
+";
+
 /// What happens to rows that were loaded.
 const OVER_LOADS: &str =
     "CREATE TABLE p (id INT PRIMARY KEY CHECK (id BETWEEN 0 AND 9999), age INT CHECK (age BETWEEN 0 AND 150))
@@ -191,54 +241,33 @@ fn run_over(alloc: Global, words: &[&str], script: &str, fails: u64) -> Result<O
 #[test]
 fn other_words_are_refused(rt: HostRuntime) -> Result<(), Fail> {
     let alloc = rt.alloc();
-    let all: [&[&str]; 27] = [
+    let all: [&[&str]; 26] = [
         &[],
         &["replay"],
         &["replay", "--eager"],
-        &["replay", "script"],
         &["replay", "script", "--eager"],
-        &["Replay", "--eager", "script"],
+        &["Replay", "script"],
         &["replay", "--Eager", "script"],
-        &["replay", "--eager", "script", "p"],
-        &["replay", "--eager", "script", "=p.csv"],
-        &["replay", "--eager", "script", "p="],
-        &["replay", "--eager", "script", "p=p.csv", "p"],
-        &["replay", "--eager", "--x"],
-        &["replay", "--eager", "-script"],
-        &["replay", "--eager", "--rows", "script"],
-        &["replay", "--eager", "--rows", "200001", "script"],
-        &[
-            "replay",
-            "--eager",
-            "--rows",
-            "123456789012345678901",
-            "script",
-        ],
-        &[
-            "replay",
-            "--eager",
-            "--rows",
-            "000000000000000000001",
-            "script",
-        ],
-        &["replay", "--eager", "--rows", "x", "script"],
-        &["replay", "--eager", "--rows", "", "script"],
-        &["replay", "--eager", "--rows", "-1", "script"],
-        &["replay", "--eager", "--regions", "1025", "script"],
-        &["replay", "--eager", "--policy", "far", "script"],
-        &[
-            "replay",
-            "--eager",
-            "--regions",
-            "5",
-            "--rows",
-            "5",
-            "script",
-        ],
-        &["replay", "--eager", "--rows", "5", "--rows", "5", "script"],
-        &["replay", "--eager", "script", "--rows", "5"],
-        &["replay", "--eager", "script", "--rows=5"],
-        &["replay", "--rows", "5", "--eager", "script"],
+        &["replay", "--eager", "--eager", "script"],
+        &["replay", "script", "p"],
+        &["replay", "script", "=p.csv"],
+        &["replay", "script", "p="],
+        &["replay", "script", "p=p.csv", "p"],
+        &["replay", "--x"],
+        &["replay", "-script"],
+        &["replay", "--clients", "0", "script"],
+        &["replay", "--clients", "9", "script"],
+        &["replay", "--log", "500001", "script"],
+        &["replay", "--rows", "script"],
+        &["replay", "--rows", "200001", "script"],
+        &["replay", "--rows", "123456789012345678901", "script"],
+        &["replay", "--rows", "x", "script"],
+        &["replay", "--rows", "", "script"],
+        &["replay", "--regions", "1025", "script"],
+        &["replay", "--policy", "far", "script"],
+        &["replay", "--clients", "5", "--log", "5", "script"],
+        &["replay", "--rows", "5", "--rows", "5", "script"],
+        &["replay", "script", "--rows=5"],
     ];
     for words in all {
         let got = run_over(alloc, words, CREATE_ALONE, 0)?;
@@ -262,8 +291,9 @@ fn has_lines(trace: &[u8], lines: &[u8]) -> bool {
 #[test]
 fn scripts_are_replayed(rt: HostRuntime) -> Result<(), Fail> {
     let alloc = rt.alloc();
-    let all: [(&[&str], &str, &str); 6] = [
+    let all: [(&[&str], &str, &str); 7] = [
         (IN_FORM, "", ""),
+        (&["replay", "--clients", "2", "script"], CUT, CUT_TRACE),
         (IN_FORM, TWO_QUERIES, TWO_QUERIES_TRACE),
         (IN_FORM, PUSHED, PUSHED_TRACE),
         (WITH_LOAD, OVER_LOADS, OVER_LOADS_TRACE),
@@ -283,13 +313,16 @@ fn scripts_are_replayed(rt: HostRuntime) -> Result<(), Fail> {
         (
             &[
                 "replay",
-                "--eager",
                 "--rows",
                 "5",
                 "--regions",
                 "1024",
                 "--policy",
                 "recency",
+                "--log",
+                "0",
+                "--clients",
+                "8",
                 "script",
                 "p=p.csv",
             ],
@@ -370,18 +403,18 @@ fn scripts_are_refused(rt: HostRuntime) -> Result<(), Fail> {
             12,
             "unbuilt 3\n",
         ),
-        ("exec x\nCREATE TABLE t (a INT)", 12, "unbuilt 2\n"),
-        ("push 1\nsettle 1", 12, "unbuilt 2\n"),
-        ("\t", 12, "unbuilt 1\n"),
-        ("exec ", 12, "unbuilt 1\n"),
-        ("query 2 SELECT * FROM p", 12, "unbuilt 1\n"),
-        ("push 1 ", 12, "unbuilt 1\n"),
-        ("push 2", 12, "unbuilt 1\n"),
-        ("push", 12, "unbuilt 1\n"),
-        ("push 0001", 12, "unbuilt 1\n"),
-        ("push  1", 12, "unbuilt 1\n"),
-        (" push 1", 12, "unbuilt 1\n"),
-        ("PUSH 1", 12, "unbuilt 1\n"),
+        ("explain 1 SELECT * FROM p", 12, "unbuilt 1\n"),
+        ("CREATE\npush", 6, "line 2 4\n"),
+        ("exec x\nCREATE TABLE t (a INT)", 6, "line 2 0\n"),
+        ("\t", 6, "line 1 0\n"),
+        ("exec ", 6, "line 1 5\n"),
+        ("query 2 SELECT * FROM p", 6, "line 1 6\n"),
+        ("push 1 ", 6, "line 1 7\n"),
+        ("push", 6, "line 1 4\n"),
+        ("push  1", 6, "line 1 5\n"),
+        (" push 1", 6, "line 1 0\n"),
+        ("PUSH 1", 6, "line 1 0\n"),
+        ("evict 1 x", 6, "line 1 8\n"),
     ] {
         let got = run_over(alloc, IN_FORM, script, 0)?;
         assert!(rt; is_refused(&got, status, error), "{script:?}");

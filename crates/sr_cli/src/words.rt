@@ -1,70 +1,118 @@
-//! The words of the program: `replay --eager [--rows N] [--regions N] [--policy P] FILE [TABLE=FILE ..]`.
-ghost use Rattle.std.specs.Prelude.{◌≡◌, Some, option_map};
+//! The words of the program: `replay [--eager] [--rows N] [--regions N] [--policy P] [--log N] [--clients N] FILE [TABLE=FILE ..]`.
+ghost use Rattle.std.specs.Prelude.{◌≡◌, ◌≤◌, Some, IfSome, option_map};
 ghost use Rattle.std.specs.List.{list_all};
-ghost use Rattle.sr_cli.specs.Words.{cut_word, load_word, is_name, with_files, replay_of, words_of as words_said};
+ghost use Rattle.std.specs.Option.{option_copied};
+ghost use Rattle.sr_cli.specs.Words.{cut_word, load_word, is_name, number_or, policy_of, limits_of, with_files, replay_of, words_of as words_said};
 ghost use Rattle.sr_cli.specs.Seen.{is_load, load_of, are_files, words_seen};
 
-use crate::options::{number_or, policy_of, take_option};
+use crate::options::{Range, number_or, policy_of, take_flag, take_option};
 use sr_cell::text::Text;
 use sr_policy::policy::Limits;
+use sr_world::world::Options;
 
-/// How many rows and regions are kept where the words do not say it, and how many they may say.
-const ROWS: u32 = 10_000;
+/// How many clients there are.
+const CLIENTS: Range = Range {
+    default: 1,
+    least: 1,
+    most: 8,
+};
 
-const MOST_ROWS: u32 = 200_000;
+/// How many changes the log of the server keeps.
+const LOG: Range = Range {
+    default: 100_000,
+    least: 0,
+    most: 500_000,
+};
 
-const REGIONS: u32 = 64;
+/// How many rows a client keeps.
+const ROWS: Range = Range {
+    default: 10_000,
+    least: 0,
+    most: 200_000,
+};
 
-const MOST_REGIONS: u32 = 1_024;
+/// How many regions a client keeps.
+const REGIONS: Range = Range {
+    default: 64,
+    least: 0,
+    most: 1_024,
+};
 
-/// What the words say: how much the client may keep, the name of the script, and a word for each load.
+/// What the words say: how the world is set up, the name of the script, and a word for each load.
 #[derive(Clone, Copy)]
 pub struct Words<'a> {
-    pub limits: Limits,
+    pub options: Options,
     pub script: &'a Text,
     pub loads: &'a [Text],
 }
 
 /// What the words say, where they are in the form; takes no memory.
 pub fn words_of(words: &[Text]) -> Option<Words<'_>>
-    ensures { option_map words_seen result ≡ words_said words.now }
+    ensures said { option_map words_seen result ≡ words_said words.now }
+    ensures clients { IfSome result (λ words. (1 ≤ words.options.clients) × (words.options.clients ≤ 8)) }
 {
     match words {
-        [command, eager, rest @ ..] => {
-            if command.as_str() == "replay" && eager.as_str() == "--eager" {
+        [command, rest @ ..] => {
+            if command.as_str() == "replay" {
                 replay_of(rest)
             } else {
                 None
             }
         }
-        _ => None,
+        [] => None,
     }
 }
 
-/// What the words behind `--eager` say.
+/// What the words behind `replay` say.
 fn replay_of(words: &[Text]) -> Option<Words<'_>>
-    ensures { option_map words_seen result ≡ replay_of words.now }
+    ensures said { option_map words_seen result ≡ replay_of words.now }
+    ensures clients { IfSome result (λ words. (1 ≤ words.options.clients) × (words.options.clients ≤ 8)) }
 {
-    let rows = take_option("--rows", words);
+    let eager = take_flag("--eager", words);
+    let rows = take_option("--rows", eager.rest);
     let regions = take_option("--regions", rows.rest);
     let policy = take_option("--policy", regions.rest);
-    let limits = Limits {
-        rows: number_or(ROWS, MOST_ROWS, rows.value)?,
-        regions: number_or(REGIONS, MOST_REGIONS, regions.value)?,
-        policy: policy_of(policy.value)?,
+    let log = take_option("--log", policy.rest);
+    let clients = take_option("--clients", log.rest);
+    let options = Options {
+        eager: eager.said,
+        limits: limits_of(rows.value, regions.value, policy.value)?,
+        log: number_or(LOG, log.value)?,
+        clients: clients_of(clients.value)?,
     };
-    with_files(limits, policy.rest)
+    with_files(options, clients.rest)
 }
 
-/// These limits, with the files that the words name.
-fn with_files(limits: Limits, words: &[Text]) -> Option<Words<'_>>
-    ensures { option_map words_seen result ≡ with_files (Some limits) words.now }
+/// How many clients an option says; without the option one.
+fn clients_of(word: Option<&Text>) -> Option<u8>
+    ensures number { result ≡ number_or 1 1 8 (option_copied word.entry) }
+    ensures within { IfSome result (λ clients. (1 ≤ clients) × (clients ≤ 8)) }
+{
+    let clients = number_or(CLIENTS, word)?;
+    Some(clients as u8)
+}
+
+/// What a client may keep, by the values of its options.
+fn limits_of(rows: Option<&Text>, regions: Option<&Text>, policy: Option<&Text>) -> Option<Limits>
+    ensures { result ≡ limits_of (number_or 10000 0 200000 (option_copied rows.entry)) (number_or 64 0 1024 (option_copied regions.entry)) (policy_of (option_copied policy.entry)) }
+{
+    Some(Limits {
+        rows: number_or(ROWS, rows)?,
+        regions: number_or(REGIONS, regions)?,
+        policy: policy_of(policy)?,
+    })
+}
+
+/// These options, with the files that the words name.
+fn with_files(options: Options, words: &[Text]) -> Option<Words<'_>>
+    ensures said { option_map words_seen result ≡ with_files (Some options) words.now }
+    ensures options { IfSome result (λ words. words.options ≡ options) }
 {
     match words {
         [script, loads @ ..] => {
             if are_files(script, loads) {
                 Some(Words {
-                    limits,
+                    options,
                     script,
                     loads,
                 })

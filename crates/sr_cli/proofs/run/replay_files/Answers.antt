@@ -1,4 +1,6 @@
+use Rattle.std.proofs.Common.{refl}
 use Rattle.std.proofs.lemmas.Result.{on_ok_weaker}
+use Rattle.sr_cli.proofs.Insides.{inside-there}
 use Rattle.sr_cli.proofs.run.replay_files.Goals as goal
 
 pub returns-in-Ok-clause-replayed : goal.returns-in-Ok-clause-replayed
@@ -13,11 +15,30 @@ returns-in-Ok-clause-replayed g c =
     })
     c.replay_read.ensures.replayed
 
+pub returns-in-Ok-clause-setup : goal.returns-in-Ok-clause-setup
+returns-in-Ok-clause-setup g c = λ line fault is. record {
+  script = c.in-Ok.files.script;
+  loads = c.in-Ok.files.loads;
+  files = c.in-Ok.ensures.read;
+  inside = inside-there c.args.words.now.options.clients c.in-Ok.files.script c.replay_read.result _ is refl c.replay_read.ensures.line_first;
+  first = c.replay_read.ensures.setup line fault is;
+}
+
+pub returns-in-Ok-clause-load : goal.returns-in-Ok-clause-load
+returns-in-Ok-clause-load g c = λ table fault is. record {
+  script = c.in-Ok.files.script;
+  loads = c.in-Ok.files.loads;
+  files = c.in-Ok.ensures.read;
+  inside = inside-there c.args.words.now.options.clients c.in-Ok.files.script c.replay_read.result _ is refl c.replay_read.ensures.line_first;
+  refuses = c.replay_read.ensures.load table fault is;
+}
+
 pub returns-in-Ok-clause-unbuilt : goal.returns-in-Ok-clause-unbuilt
 returns-in-Ok-clause-unbuilt g c = λ line is. record {
   script = c.in-Ok.files.script;
   loads = c.in-Ok.files.loads;
   files = c.in-Ok.ensures.read;
+  inside = inside-there c.args.words.now.options.clients c.in-Ok.files.script c.replay_read.result _ is refl c.replay_read.ensures.line_first;
   first = c.replay_read.ensures.unbuilt line is;
   accepts = c.replay_read.ensures.unbuilt_accepts line is;
   loads_accepted = c.replay_read.ensures.unbuilt_loads line is;

@@ -1,0 +1,86 @@
+"""Tables so small that their points can be listed.
+
+A value of a column stands for all values from itself to below the next one: the tests of a script tell only finitely many apart.
+"""
+import bisect
+import collections
+import functools
+import itertools
+import math
+
+
+def number_of(text):
+    """The number of a text's first four bytes."""
+    return int.from_bytes(text[:4].ljust(4, b'\0'), 'big')
+
+
+class Column:
+    """A column with its values, ascending. A column of numbers has a highest one, a column of texts none."""
+
+    def __init__(self, name, values, highest=None):
+        self.name, self.values, self.highest = name, values, highest
+        self.is_text = highest is None
+
+    def place(self, cell):
+        """The value that stands for a cell."""
+        return self.values[bisect.bisect_right(self.values, cell) - 1]
+
+    def above(self, value):
+        """The next of the values, or None."""
+        place = bisect.bisect_right(self.values, value)
+        return self.values[place] if place < len(self.values) else None
+
+    def first(self, value):
+        """The lower end of what the value stands for, as a number."""
+        return number_of(value) if self.is_text else value
+
+    def last(self, value):
+        """The upper end of what the value stands for, as a number."""
+        above = self.above(value)
+        if self.is_text:
+            return 2 ** 32 if above is None else number_of(above)
+        return self.highest if above is None else above - 1
+
+    def has(self, cell):
+        return self.is_text or self.values[0] <= cell <= self.highest
+
+
+class Table:
+    """A table with its points."""
+
+    def __init__(self, name, columns, key):
+        self.name, self.columns, self.key = name, columns, key
+
+    @functools.cached_property
+    def points(self):
+        return list(itertools.product(*(column.values for column in self.columns)))
+
+    def place(self, row):
+        """The point that stands for a row."""
+        return tuple(column.place(cell) for column, cell in zip(self.columns, row))
+
+    def called(self, columns):
+        """The table's name and those of some columns, as a trace has them. Columns are a number of bits."""
+        return '%s (%s)' % (self.name, ','.join(column.name for c, column in enumerate(self.columns) if columns >> c & 1))
+
+    def centre(self, points):
+        """The sum of both ends of the hull, for each column."""
+        return [column.first(min(p[c] for p in points)) + column.last(max(p[c] for p in points))
+                for c, column in enumerate(self.columns)]
+
+    def essential(self, points):
+        """The columns in which alone a point inside and one outside differ."""
+        def has_all(c):
+            lines = collections.Counter(p[:c] + p[c + 1:] for p in points)
+            return set(lines.values()) <= {len(self.columns[c].values)}
+
+        return sum(1 << c for c in range(len(self.columns)) if not has_all(c))
+
+    def grid(self, tests):
+        """The product of one plus the number of a column's ends: the values at which a test becomes true or false as the value rises."""
+        ends = [set() for _ in self.columns]
+        for test in tests:
+            values = self.columns[test.column].values
+            truths = [test.holds({test.column: value}) for value in values]
+            ends[test.column] |= {value for value, before, now in zip(values[1:], truths, truths[1:]) if before != now}
+        return math.prod(1 + len(places) for places in ends)

@@ -29,10 +29,10 @@ def most_memory(process):
     return 0
 
 
-def replay(folder, script, csv=None, options=()):
+def replay(folder, script, csv=None, options=(), eager=True):
     """The seconds and the most memory of one replay, with a file for the table t; the trace lies in the folder then."""
     (folder / 'script').write_text(script)
-    words = [str(PROGRAM), 'replay', '--eager', *options, 'script']
+    words = [str(PROGRAM), 'replay', *(['--eager'] if eager else []), *options, 'script']
     if csv is not None:
         (folder / 't.csv').write_text(csv)
         words.append('t=t.csv')

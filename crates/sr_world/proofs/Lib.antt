@@ -1,3 +1,4 @@
+mod Budgets
 mod ClientLemmas
 mod EventLemmas
 mod LentLemmas

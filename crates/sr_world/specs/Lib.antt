@@ -1,3 +1,4 @@
+pub mod Budgets
 pub mod Lent
 pub mod Ran
 pub mod Refused

@@ -2,6 +2,7 @@
 #![tactic(auto)]
 
 pub mod events;
+pub mod laws;
 pub(crate) mod lines;
 pub mod queue;
 pub mod replay;

@@ -1,0 +1,7 @@
+//! Laws of replays: functions that do nothing, and whose contracts are the laws.
+ghost use Rattle.sr_world.specs.Budgets.{ReplaysKeepToBudgets};
+
+/// In each scene of a replay, after each event and delivery, no client has more rows or regions than it may keep.
+pub fn replays_keep_to_their_budgets()
+    ensures budgets { ReplaysKeepToBudgets }
+{}

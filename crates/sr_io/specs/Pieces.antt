@@ -1,6 +1,7 @@
--- What reading and writing piece by piece takes and leaves.
+-- What reading, writing and sending piece by piece takes and leaves.
 use Rattle.std.specs.Prelude.{◌≡◌, ℕ, ◌<◌, ◌≤◌, Bool, true, false, List, ◌++◌, length, take, Option}
 use Rattle.std.specs.Io.KnownBytes.{Consumes, Appends, IsAtEnd}
+use Rattle.sr_io.specs.Told.{Linking, OnlyFaults, sent_on}
 
 -- one piece was read behind those before; `more` is false exactly at the end
 pub record ReadsPiece (old new : Option (List ℕ)) (before after : List ℕ) (limit : ℕ) (more : Bool) : Type 0 where
@@ -22,3 +23,9 @@ pub record WritesPrefix (old new : Option (List ℕ)) (bytes : List ℕ) : Type 
   pub count : ℕ
   pub within : count ≤ length bytes
   pub appended : Appends old new (take count bytes)
+
+-- some of the bytes were sent, fewer than all of them
+pub record SendsPart (old new : Linking) (bytes : List ℕ) : Type 0 where
+  pub count : ℕ
+  pub fewer : count < length bytes
+  pub sent : OnlyFaults (sent_on (take count bytes) old) new

@@ -1,9 +1,10 @@
-//! The outside: what is read and written, over the runtime and in memory.
+//! The outside: what is read, written and sent, over the runtime and in memory.
 #![tactic(auto)]
 
 pub mod fails;
 pub mod file;
 pub mod mem_host;
+pub mod mem_link;
 pub mod mem_sink;
 pub mod mem_source;
 pub mod outside;
@@ -11,3 +12,4 @@ pub mod real_host;
 #[cfg(test)]
 mod tests;
 pub mod whole;
+pub mod wire;

@@ -1,21 +1,25 @@
 //! A host in memory.
-ghost use Rattle.std.specs.Prelude.{◌≡◌, ◌↔◌, ◌<◌, ◌≤◌, ◌⊎◌, [], length, drop, true, Some, None, vec_len, vec_capacity, IfOk, OnOk, OnErr, IsErrOf};
+ghost use Rattle.std.specs.Prelude.{◌≡◌, ◌↔◌, ◌<◌, ◌≤◌, ◌⊎◌, [], length, drop, take, true, false, Some, None, vec_len, vec_capacity, IfOk, OnOk, OnErr, IsOk, IsErrOf, IsSome, slice_get, MatchOption};
 ghost use Rattle.std.specs.Io.{ReadsAtMost};
 ghost use Rattle.std.specs.Io.KnownBytes.{ReadConsumes, WriteAppends};
-ghost use Rattle.std.specs.Option.{option_copied};
+ghost use Rattle.std.specs.Option.{option_copied, is_some};
 ghost use Rattle.sr_cell.specs.declared.list.No.TheVariants.{Refused, NoMemory as Wanting};
 ghost use Rattle.sr_io.specs.Causes.{Rose};
 ghost use Rattle.sr_io.specs.Fails.{NoneAbove, planned, counted, fails_next};
 ghost use Rattle.sr_io.specs.Files.{held_of};
-ghost use Rattle.sr_io.specs.Told.{no_linking, complained};
+ghost use Rattle.sr_io.specs.Told.{OnlyFaults, Brings, IsOver, sent_on, taken_from, connections, connected, hung_up, complained};
 
 use crate::fails::{Failing, Fails, Planned};
 use crate::file::FileList;
-use crate::outside::{Failed, Host, Outside, Sink, Source};
+use crate::outside::{Dock, Failed, Host, Link, Outside, Sink, Source};
+use crate::wire::Wire;
 use sr_cell::list::{Bytes, Copied, No, NoMemory, Seq};
 use std::alloc::Global;
 
-/// Files, what was written and complained, and the calls that are to fail.
+/// What each further connection will bring.
+pub type Peers = Seq<Bytes>;
+
+/// Files, what was written and complained, connections, and the calls that are to fail.
 #[derive(Drop)]
 pub struct MemHost {
     alloc: Global,
@@ -24,23 +28,30 @@ pub struct MemHost {
     at: usize,
     written: Bytes,
     complaints: Vec<u8>,
+    past: Vec<Wire>,
+    present: Option<Wire>,
+    peers: Peers,
     piece: usize,
     failing: Failing,
     read_faults: u64,
     write_faults: u64,
+    link_faults: u64,
     ghost within: { at ≤ length picked },
     ghost some_piece: { 0 < piece },
     ghost complaints_fit: { vec_len complaints ≤ 4096 },
     // so that a complaint takes no memory
     ghost complaints_room: { 4096 ≤ vec_capacity complaints },
+    // so that hanging up takes no memory
+    ghost past_room: { IsSome present → vec_len past < vec_capacity past },
 }
 
 impl MemHost {
-    /// Nothing is picked or written yet. A call moves at most `piece` bytes; the calls of these numbers fail,
-    /// where reads, writes and picks are counted together.
+    /// Nothing is picked, written or connected yet. A call moves at most `piece` bytes; the calls of these numbers fail,
+    /// where all calls that may fail are counted together.
     pub fn new(
         alloc: Global,
         files: FileList,
+        peers: Peers,
         fails: Fails,
         piece: usize,
     ) -> Result<MemHost, NoMemory>
@@ -48,6 +59,7 @@ impl MemHost {
         ensures held { IfOk result (λ host. ⟦<MemHost as Outside>⟧.held host ≡ held_of files) }
         ensures reading { IfOk result (λ host. ⟦<MemHost as Outside>⟧.reading host ≡ record { left = Some []; faults = 0 }) }
         ensures writing { IfOk result (λ host. ⟦<MemHost as Outside>⟧.writing host ≡ record { written = Some []; faults = 0 }) }
+        ensures linking { IfOk result (λ host. ⟦<MemHost as Outside>⟧.linking host ≡ record { past = []; present = None; peers = Some peers; is_up = false; faults = 0 }) }
         ensures complaints { IfOk result (λ host. ⟦<MemHost as Outside>⟧.complaints host ≡ Some []) }
         ensures plan { IfOk result (λ host. ⟦<MemHost as Planned>⟧.plan host ≡ planned fails piece) }
         ensures steady { IfOk result (λ host. NoneAbove fails 0 ↔ ⟦<MemHost as Outside>⟧.IsSteady host) }
@@ -59,10 +71,14 @@ impl MemHost {
             at: 0,
             written: Seq::new(alloc),
             complaints: Vec::with_capacity(alloc, 4096)?,
+            past: Vec::new(alloc),
+            present: None,
+            peers,
             piece,
             failing: Failing::new(fails),
             read_faults: 0,
             write_faults: 0,
+            link_faults: 0,
         })
     }
 
@@ -81,6 +97,51 @@ impl MemHost {
         same.extend(&self.complaints)?;
         Ok(same)
     }
+
+    /// A copy of the bytes that were sent on a connection, counted from 0; none where it was not made.
+    pub fn sent(&self, alloc: Global, connection: usize) -> Result<Bytes, NoMemory>
+        ensures { IfOk result (λ bytes. MatchOption (slice_get (connections (⟦<MemHost as Outside>⟧.linking self.now)) connection) (bytes ≡ []) (λ made. bytes ≡ made.sent)) }
+    {
+        if connection < self.past.len() {
+            return self.past[connection].sent(alloc);
+        }
+        match &self.present {
+            Some(wire) if connection == self.past.len() => wire.sent(alloc),
+            _ => Ok(Seq::new(alloc)),
+        }
+    }
+
+    /// Makes the connection of the next peer.
+    fn join(&mut self) -> Result<(), No<Failed>>
+        ensures fails_as_listed { IsErrOf result (Refused record {}) ↔ (fails_next (⟦<MemHost as Planned>⟧.plan self.old) ≡ true ⊎ (⟦<MemHost as Outside>⟧.linking self.old).peers ≡ Some []) }
+        ensures call_is_counted { ⟦<MemHost as Planned>⟧.plan self.new ≡ counted (⟦<MemHost as Planned>⟧.plan self.old) }
+        ensures made { OnOk result (⟦<MemHost as Outside>⟧.linking self.new ≡ connected (⟦<MemHost as Outside>⟧.linking self.old)) }
+        ensures none_past_the_last { (⟦<MemHost as Outside>⟧.linking self.old).peers ≡ Some [] → ¬ IsOk result }
+        ensures unchanged { OnErr result (OnlyFaults (⟦<MemHost as Outside>⟧.linking self.old) (⟦<MemHost as Outside>⟧.linking self.new)) }
+        ensures faults_never_fall { (⟦<MemHost as Outside>⟧.linking self.old).faults ≤ (⟦<MemHost as Outside>⟧.linking self.new).faults }
+        ensures want_keeps_faults { IsErrOf result Wanting → (⟦<MemHost as Outside>⟧.linking self.new).faults ≡ (⟦<MemHost as Outside>⟧.linking self.old).faults }
+        ensures failed_is_counted { IsErrOf result (Refused record {}) → Rose (⟦<MemHost as Outside>⟧.linking self.old).faults (⟦<MemHost as Outside>⟧.linking self.new).faults }
+        ensures stays_steady { ⟦<MemHost as Outside>⟧.IsSteady self.old → ⟦<MemHost as Outside>⟧.IsSteady self.new }
+        ensures steady_fails_only_past_the_last { ⟦<MemHost as Outside>⟧.IsSteady self.old → IsErrOf result (Refused record {}) → (⟦<MemHost as Outside>⟧.linking self.old).peers ≡ Some [] }
+        ensures reading_stays { ⟦<MemHost as Outside>⟧.reading self.new ≡ ⟦<MemHost as Outside>⟧.reading self.old }
+        ensures writing_stays { ⟦<MemHost as Outside>⟧.writing self.new ≡ ⟦<MemHost as Outside>⟧.writing self.old }
+        ensures held_stays { ⟦<MemHost as Outside>⟧.held self.new ≡ ⟦<MemHost as Outside>⟧.held self.old }
+        ensures complaints_stay { ⟦<MemHost as Outside>⟧.complaints self.new ≡ ⟦<MemHost as Outside>⟧.complaints self.old }
+    {
+        if self.failing.fails_now() || self.peers.is_empty() {
+            self.link_faults = self.link_faults.saturating_add(1);
+            return Err(No::Refused(Failed));
+        }
+        // for the present connection now, and for the new one once it is given up
+        if self.past.reserve(2).is_err() {
+            return Err(No::NoMemory);
+        }
+        if let Some(wire) = self.present.take() {
+            let _ = self.past.push(wire);
+        }
+        self.present = Some(Wire::new(self.alloc, self.peers.remove(0)));
+        Ok(())
+    }
 }
 
 impl Outside for MemHost {
@@ -88,7 +149,7 @@ impl Outside for MemHost {
 
     ghost writing = { λ s. record { written = Some s.written; faults = s.write_faults } };
 
-    ghost linking = { λ _. no_linking };
+    ghost linking = { λ s. record { past = s.past.items; present = s.present; peers = Some s.peers; is_up = is_some s.present; faults = s.link_faults } };
 
     ghost held = { λ s. held_of s.files };
 
@@ -169,6 +230,137 @@ impl Sink for MemHost {
     }
 }
 
+impl Link for MemHost {
+    fn send(&mut self, bytes: &[u8]) -> Result<usize, No<Failed>>
+        requires { 0 < length bytes.now }
+        ensures fails_as_listed { IsErrOf result (Refused record {}) ↔ (fails_next (⟦<MemHost as Planned>⟧.plan self.old) ≡ true ⊎ (⟦<MemHost as Outside>⟧.linking self.old).is_up ≡ false) }
+        ensures one_piece { IfOk result (λ n. n ≤ (⟦<MemHost as Planned>⟧.plan self.old).piece) }
+        ensures call_is_counted { ⟦<MemHost as Planned>⟧.plan self.new ≡ counted (⟦<MemHost as Planned>⟧.plan self.old) }
+        ensures some_bytes { IfOk result (λ n. (0 < n) × (n ≤ length bytes.now)) }
+        ensures sent { IfOk result (λ n. ⟦<MemHost as Outside>⟧.linking self.new ≡ sent_on (take n bytes.now) (⟦<MemHost as Outside>⟧.linking self.old)) }
+        ensures unchanged { OnErr result (OnlyFaults (⟦<MemHost as Outside>⟧.linking self.old) (⟦<MemHost as Outside>⟧.linking self.new)) }
+        ensures fails_without_connection { (⟦<MemHost as Outside>⟧.linking self.old).is_up ≡ false → IsErrOf result (Refused record {}) }
+        ensures faults_never_fall { (⟦<MemHost as Outside>⟧.linking self.old).faults ≤ (⟦<MemHost as Outside>⟧.linking self.new).faults }
+        ensures want_keeps_faults { IsErrOf result Wanting → (⟦<MemHost as Outside>⟧.linking self.new).faults ≡ (⟦<MemHost as Outside>⟧.linking self.old).faults }
+        ensures failed_is_counted { IsErrOf result (Refused record {}) → Rose (⟦<MemHost as Outside>⟧.linking self.old).faults (⟦<MemHost as Outside>⟧.linking self.new).faults }
+        ensures stays_steady { ⟦<MemHost as Outside>⟧.IsSteady self.old → ⟦<MemHost as Outside>⟧.IsSteady self.new }
+        ensures steady_fails_only_down { ⟦<MemHost as Outside>⟧.IsSteady self.old → IsErrOf result (Refused record {}) → (⟦<MemHost as Outside>⟧.linking self.old).is_up ≡ false }
+        ensures reading_stays { ⟦<MemHost as Outside>⟧.reading self.new ≡ ⟦<MemHost as Outside>⟧.reading self.old }
+        ensures writing_stays { ⟦<MemHost as Outside>⟧.writing self.new ≡ ⟦<MemHost as Outside>⟧.writing self.old }
+        ensures held_stays { ⟦<MemHost as Outside>⟧.held self.new ≡ ⟦<MemHost as Outside>⟧.held self.old }
+        ensures complaints_stay { ⟦<MemHost as Outside>⟧.complaints self.new ≡ ⟦<MemHost as Outside>⟧.complaints self.old }
+    {
+        if self.failing.fails_now() {
+            self.link_faults = self.link_faults.saturating_add(1);
+            return Err(No::Refused(Failed));
+        }
+        match &mut self.present {
+            None => {
+                self.link_faults = self.link_faults.saturating_add(1);
+                Err(No::Refused(Failed))
+            }
+            Some(wire) => Ok(wire.put(bytes, self.piece)?),
+        }
+    }
+
+    fn recv(&mut self, room: &mut [u8]) -> Result<usize, No<Failed>>
+        requires { 0 < length room.old }
+        ensures fails_as_listed { IsErrOf result (Refused record {}) ↔ (fails_next (⟦<MemHost as Planned>⟧.plan self.old) ≡ true ⊎ (⟦<MemHost as Outside>⟧.linking self.old).is_up ≡ false) }
+        ensures one_piece { IfOk result (λ n. n ≤ (⟦<MemHost as Planned>⟧.plan self.old).piece) }
+        ensures call_is_counted { ⟦<MemHost as Planned>⟧.plan self.new ≡ counted (⟦<MemHost as Planned>⟧.plan self.old) }
+        ensures fits_room { ReadsAtMost result room.new }
+        ensures taken { IfOk result (λ n. ⟦<MemHost as Outside>⟧.linking self.new ≡ taken_from (take n room.new) (⟦<MemHost as Outside>⟧.linking self.old)) }
+        ensures brought { IfOk result (λ n. Brings (⟦<MemHost as Outside>⟧.linking self.old).present (take n room.new)) }
+        ensures over { IfOk result (λ n. n ≡ 0 → IsOver (⟦<MemHost as Outside>⟧.linking self.old).present) }
+        ensures unchanged { OnErr result (OnlyFaults (⟦<MemHost as Outside>⟧.linking self.old) (⟦<MemHost as Outside>⟧.linking self.new)) }
+        ensures fails_without_connection { (⟦<MemHost as Outside>⟧.linking self.old).is_up ≡ false → IsErrOf result (Refused record {}) }
+        ensures faults_never_fall { (⟦<MemHost as Outside>⟧.linking self.old).faults ≤ (⟦<MemHost as Outside>⟧.linking self.new).faults }
+        ensures want_keeps_faults { IsErrOf result Wanting → (⟦<MemHost as Outside>⟧.linking self.new).faults ≡ (⟦<MemHost as Outside>⟧.linking self.old).faults }
+        ensures failed_is_counted { IsErrOf result (Refused record {}) → Rose (⟦<MemHost as Outside>⟧.linking self.old).faults (⟦<MemHost as Outside>⟧.linking self.new).faults }
+        ensures stays_steady { ⟦<MemHost as Outside>⟧.IsSteady self.old → ⟦<MemHost as Outside>⟧.IsSteady self.new }
+        ensures steady_fails_only_down { ⟦<MemHost as Outside>⟧.IsSteady self.old → IsErrOf result (Refused record {}) → (⟦<MemHost as Outside>⟧.linking self.old).is_up ≡ false }
+        ensures reading_stays { ⟦<MemHost as Outside>⟧.reading self.new ≡ ⟦<MemHost as Outside>⟧.reading self.old }
+        ensures writing_stays { ⟦<MemHost as Outside>⟧.writing self.new ≡ ⟦<MemHost as Outside>⟧.writing self.old }
+        ensures held_stays { ⟦<MemHost as Outside>⟧.held self.new ≡ ⟦<MemHost as Outside>⟧.held self.old }
+        ensures complaints_stay { ⟦<MemHost as Outside>⟧.complaints self.new ≡ ⟦<MemHost as Outside>⟧.complaints self.old }
+    {
+        if self.failing.fails_now() {
+            self.link_faults = self.link_faults.saturating_add(1);
+            return Err(No::Refused(Failed));
+        }
+        match &mut self.present {
+            None => {
+                self.link_faults = self.link_faults.saturating_add(1);
+                Err(No::Refused(Failed))
+            }
+            Some(wire) => Ok(wire.get(room, self.piece)),
+        }
+    }
+
+    fn link_faults(&self) -> u64 {
+        self.link_faults
+    }
+}
+
+impl Dock for MemHost {
+    /// Every address will do.
+    fn dock(&mut self, _address: &str) -> Result<(), No<Failed>>
+        ensures fails_as_listed { IsErrOf result (Refused record {}) ↔ fails_next (⟦<MemHost as Planned>⟧.plan self.old) ≡ true }
+        ensures call_is_counted { ⟦<MemHost as Planned>⟧.plan self.new ≡ counted (⟦<MemHost as Planned>⟧.plan self.old) }
+        ensures unchanged { OnlyFaults (⟦<MemHost as Outside>⟧.linking self.old) (⟦<MemHost as Outside>⟧.linking self.new) }
+        ensures faults_never_fall { (⟦<MemHost as Outside>⟧.linking self.old).faults ≤ (⟦<MemHost as Outside>⟧.linking self.new).faults }
+        ensures ok_keeps_faults { OnOk result ((⟦<MemHost as Outside>⟧.linking self.new).faults ≡ (⟦<MemHost as Outside>⟧.linking self.old).faults) }
+        ensures want_keeps_faults { IsErrOf result Wanting → (⟦<MemHost as Outside>⟧.linking self.new).faults ≡ (⟦<MemHost as Outside>⟧.linking self.old).faults }
+        ensures failed_is_counted { IsErrOf result (Refused record {}) → Rose (⟦<MemHost as Outside>⟧.linking self.old).faults (⟦<MemHost as Outside>⟧.linking self.new).faults }
+        ensures stays_steady { ⟦<MemHost as Outside>⟧.IsSteady self.old → ⟦<MemHost as Outside>⟧.IsSteady self.new }
+        ensures steady_never_fails { ⟦<MemHost as Outside>⟧.IsSteady self.old → ¬ IsErrOf result (Refused record {}) }
+        ensures reading_stays { ⟦<MemHost as Outside>⟧.reading self.new ≡ ⟦<MemHost as Outside>⟧.reading self.old }
+        ensures writing_stays { ⟦<MemHost as Outside>⟧.writing self.new ≡ ⟦<MemHost as Outside>⟧.writing self.old }
+        ensures held_stays { ⟦<MemHost as Outside>⟧.held self.new ≡ ⟦<MemHost as Outside>⟧.held self.old }
+        ensures complaints_stay { ⟦<MemHost as Outside>⟧.complaints self.new ≡ ⟦<MemHost as Outside>⟧.complaints self.old }
+    {
+        if self.failing.fails_now() {
+            self.link_faults = self.link_faults.saturating_add(1);
+            return Err(No::Refused(Failed));
+        }
+        Ok(())
+    }
+
+    fn accept(&mut self) -> Result<(), No<Failed>>
+        ensures fails_as_listed { IsErrOf result (Refused record {}) ↔ (fails_next (⟦<MemHost as Planned>⟧.plan self.old) ≡ true ⊎ (⟦<MemHost as Outside>⟧.linking self.old).peers ≡ Some []) }
+        ensures call_is_counted { ⟦<MemHost as Planned>⟧.plan self.new ≡ counted (⟦<MemHost as Planned>⟧.plan self.old) }
+        ensures made { OnOk result (⟦<MemHost as Outside>⟧.linking self.new ≡ connected (⟦<MemHost as Outside>⟧.linking self.old)) }
+        ensures none_past_the_last { (⟦<MemHost as Outside>⟧.linking self.old).peers ≡ Some [] → ¬ IsOk result }
+        ensures unchanged { OnErr result (OnlyFaults (⟦<MemHost as Outside>⟧.linking self.old) (⟦<MemHost as Outside>⟧.linking self.new)) }
+        ensures faults_never_fall { (⟦<MemHost as Outside>⟧.linking self.old).faults ≤ (⟦<MemHost as Outside>⟧.linking self.new).faults }
+        ensures want_keeps_faults { IsErrOf result Wanting → (⟦<MemHost as Outside>⟧.linking self.new).faults ≡ (⟦<MemHost as Outside>⟧.linking self.old).faults }
+        ensures failed_is_counted { IsErrOf result (Refused record {}) → Rose (⟦<MemHost as Outside>⟧.linking self.old).faults (⟦<MemHost as Outside>⟧.linking self.new).faults }
+        ensures stays_steady { ⟦<MemHost as Outside>⟧.IsSteady self.old → ⟦<MemHost as Outside>⟧.IsSteady self.new }
+        ensures steady_fails_only_past_the_last { ⟦<MemHost as Outside>⟧.IsSteady self.old → IsErrOf result (Refused record {}) → (⟦<MemHost as Outside>⟧.linking self.old).peers ≡ Some [] }
+        ensures reading_stays { ⟦<MemHost as Outside>⟧.reading self.new ≡ ⟦<MemHost as Outside>⟧.reading self.old }
+        ensures writing_stays { ⟦<MemHost as Outside>⟧.writing self.new ≡ ⟦<MemHost as Outside>⟧.writing self.old }
+        ensures held_stays { ⟦<MemHost as Outside>⟧.held self.new ≡ ⟦<MemHost as Outside>⟧.held self.old }
+        ensures complaints_stay { ⟦<MemHost as Outside>⟧.complaints self.new ≡ ⟦<MemHost as Outside>⟧.complaints self.old }
+    {
+        self.join()
+    }
+
+    fn hang_up(&mut self)
+        ensures is_no_call { ⟦<MemHost as Planned>⟧.plan self.new ≡ ⟦<MemHost as Planned>⟧.plan self.old }
+        ensures over { ⟦<MemHost as Outside>⟧.linking self.new ≡ hung_up (⟦<MemHost as Outside>⟧.linking self.old) }
+        ensures stays_steady { ⟦<MemHost as Outside>⟧.IsSteady self.old → ⟦<MemHost as Outside>⟧.IsSteady self.new }
+        ensures reading_stays { ⟦<MemHost as Outside>⟧.reading self.new ≡ ⟦<MemHost as Outside>⟧.reading self.old }
+        ensures writing_stays { ⟦<MemHost as Outside>⟧.writing self.new ≡ ⟦<MemHost as Outside>⟧.writing self.old }
+        ensures held_stays { ⟦<MemHost as Outside>⟧.held self.new ≡ ⟦<MemHost as Outside>⟧.held self.old }
+        ensures complaints_stay { ⟦<MemHost as Outside>⟧.complaints self.new ≡ ⟦<MemHost as Outside>⟧.complaints self.old }
+    {
+        if let Some(wire) = self.present.take() {
+            // it fits the capacity, so this takes no memory and succeeds
+            let _ = self.past.push(wire);
+        }
+    }
+}
+
 impl Host for MemHost {
     fn pick(&mut self, name: &str) -> Result<(), No<Failed>>
         ensures fails_as_listed { IsErrOf result (Refused record {}) ↔ (fails_next (⟦<MemHost as Planned>⟧.plan self.old) ≡ true ⊎ ⟦<MemHost as Outside>⟧.held self.old name.now ≡ None) }
@@ -201,6 +393,26 @@ impl Host for MemHost {
                 Ok(())
             }
         }
+    }
+
+    /// Every address will do.
+    fn dial(&mut self, _address: &str) -> Result<(), No<Failed>>
+        ensures fails_as_listed { IsErrOf result (Refused record {}) ↔ (fails_next (⟦<MemHost as Planned>⟧.plan self.old) ≡ true ⊎ (⟦<MemHost as Outside>⟧.linking self.old).peers ≡ Some []) }
+        ensures call_is_counted { ⟦<MemHost as Planned>⟧.plan self.new ≡ counted (⟦<MemHost as Planned>⟧.plan self.old) }
+        ensures made { OnOk result (⟦<MemHost as Outside>⟧.linking self.new ≡ connected (⟦<MemHost as Outside>⟧.linking self.old)) }
+        ensures none_past_the_last { (⟦<MemHost as Outside>⟧.linking self.old).peers ≡ Some [] → ¬ IsOk result }
+        ensures unchanged { OnErr result (OnlyFaults (⟦<MemHost as Outside>⟧.linking self.old) (⟦<MemHost as Outside>⟧.linking self.new)) }
+        ensures faults_never_fall { (⟦<MemHost as Outside>⟧.linking self.old).faults ≤ (⟦<MemHost as Outside>⟧.linking self.new).faults }
+        ensures want_keeps_faults { IsErrOf result Wanting → (⟦<MemHost as Outside>⟧.linking self.new).faults ≡ (⟦<MemHost as Outside>⟧.linking self.old).faults }
+        ensures failed_is_counted { IsErrOf result (Refused record {}) → Rose (⟦<MemHost as Outside>⟧.linking self.old).faults (⟦<MemHost as Outside>⟧.linking self.new).faults }
+        ensures stays_steady { ⟦<MemHost as Outside>⟧.IsSteady self.old → ⟦<MemHost as Outside>⟧.IsSteady self.new }
+        ensures steady_fails_only_past_the_last { ⟦<MemHost as Outside>⟧.IsSteady self.old → IsErrOf result (Refused record {}) → (⟦<MemHost as Outside>⟧.linking self.old).peers ≡ Some [] }
+        ensures reading_stays { ⟦<MemHost as Outside>⟧.reading self.new ≡ ⟦<MemHost as Outside>⟧.reading self.old }
+        ensures writing_stays { ⟦<MemHost as Outside>⟧.writing self.new ≡ ⟦<MemHost as Outside>⟧.writing self.old }
+        ensures held_stays { ⟦<MemHost as Outside>⟧.held self.new ≡ ⟦<MemHost as Outside>⟧.held self.old }
+        ensures complaints_stay { ⟦<MemHost as Outside>⟧.complaints self.new ≡ ⟦<MemHost as Outside>⟧.complaints self.old }
+    {
+        self.join()
     }
 
     fn complain(&mut self, bytes: &[u8])

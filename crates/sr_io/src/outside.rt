@@ -1,10 +1,10 @@
 //! The traits of the outside.
-ghost use Rattle.std.specs.Prelude.{◌≡◌, ℕ, ◌<◌, ◌≤◌, List, length, Option, None, OnOk, OnErr, IfOk, IsErrOf};
+ghost use Rattle.std.specs.Prelude.{◌≡◌, ℕ, ◌<◌, ◌≤◌, List, [], length, take, Option, Some, None, false, OnOk, OnErr, IfOk, IsOk, IsErrOf};
 ghost use Rattle.std.specs.Io.{ReadsAtMost};
 ghost use Rattle.std.specs.Io.KnownBytes.{ReadConsumes, WriteAppends};
 ghost use Rattle.sr_cell.specs.declared.list.No.TheVariants.{Refused, NoMemory as Wanting};
 ghost use Rattle.sr_io.specs.Causes.{Rose};
-ghost use Rattle.sr_io.specs.Told.{Reading, Writing, Linking, complained};
+ghost use Rattle.sr_io.specs.Told.{Reading, Writing, Linking, OnlyFaults, Brings, IsOver, sent_on, taken_from, connected, hung_up, complained};
 
 use sr_cell::list::No;
 
@@ -79,8 +79,93 @@ pub trait Sink: Outside {
         ensures { result ≡ (Self.writing self.now).faults };
 }
 
-/// A source and a sink, with files that are read by their names and an error output.
-pub trait Host: Source + Sink {
+/// A connection over which bytes are sent and received.
+pub trait Link: Outside {
+    /// Sends a prefix of `bytes`, one byte at least, and answers how many; fails without a connection.
+    fn send(&mut self, bytes: &[u8]) -> Result<usize, No<Failed>>
+        requires { 0 < length bytes.now }
+        ensures some_bytes { IfOk result (λ n. (0 < n) × (n ≤ length bytes.now)) }
+        ensures sent { IfOk result (λ n. Self.linking self.new ≡ sent_on (take n bytes.now) (Self.linking self.old)) }
+        ensures unchanged { OnErr result (OnlyFaults (Self.linking self.old) (Self.linking self.new)) }
+        ensures fails_without_connection { (Self.linking self.old).is_up ≡ false → IsErrOf result (Refused record {}) }
+        ensures faults_never_fall { (Self.linking self.old).faults ≤ (Self.linking self.new).faults }
+        ensures want_keeps_faults { IsErrOf result Wanting → (Self.linking self.new).faults ≡ (Self.linking self.old).faults }
+        ensures failed_is_counted { IsErrOf result (Refused record {}) → Rose (Self.linking self.old).faults (Self.linking self.new).faults }
+        ensures stays_steady { Self.IsSteady self.old → Self.IsSteady self.new }
+        ensures steady_fails_only_down { Self.IsSteady self.old → IsErrOf result (Refused record {}) → (Self.linking self.old).is_up ≡ false }
+        ensures reading_stays { Self.reading self.new ≡ Self.reading self.old }
+        ensures writing_stays { Self.writing self.new ≡ Self.writing self.old }
+        ensures held_stays { Self.held self.new ≡ Self.held self.old }
+        ensures complaints_stay { Self.complaints self.new ≡ Self.complaints self.old };
+
+    /// Takes some of the bytes to come into the start of `room`, and answers how many; 0 only where the connection has ended.
+    /// Fails without a connection.
+    fn recv(&mut self, room: &mut [u8]) -> Result<usize, No<Failed>>
+        requires { 0 < length room.old }
+        ensures fits_room { ReadsAtMost result room.new }
+        ensures taken { IfOk result (λ n. Self.linking self.new ≡ taken_from (take n room.new) (Self.linking self.old)) }
+        ensures brought { IfOk result (λ n. Brings (Self.linking self.old).present (take n room.new)) }
+        ensures over { IfOk result (λ n. n ≡ 0 → IsOver (Self.linking self.old).present) }
+        ensures unchanged { OnErr result (OnlyFaults (Self.linking self.old) (Self.linking self.new)) }
+        ensures fails_without_connection { (Self.linking self.old).is_up ≡ false → IsErrOf result (Refused record {}) }
+        ensures faults_never_fall { (Self.linking self.old).faults ≤ (Self.linking self.new).faults }
+        ensures want_keeps_faults { IsErrOf result Wanting → (Self.linking self.new).faults ≡ (Self.linking self.old).faults }
+        ensures failed_is_counted { IsErrOf result (Refused record {}) → Rose (Self.linking self.old).faults (Self.linking self.new).faults }
+        ensures stays_steady { Self.IsSteady self.old → Self.IsSteady self.new }
+        ensures steady_fails_only_down { Self.IsSteady self.old → IsErrOf result (Refused record {}) → (Self.linking self.old).is_up ≡ false }
+        ensures reading_stays { Self.reading self.new ≡ Self.reading self.old }
+        ensures writing_stays { Self.writing self.new ≡ Self.writing self.old }
+        ensures held_stays { Self.held self.new ≡ Self.held self.old }
+        ensures complaints_stay { Self.complaints self.new ≡ Self.complaints self.old };
+
+    /// The count of the faults of sending, receiving and connecting; it stops at 2^64 - 1.
+    fn link_faults(&self) -> u64
+        ensures { result ≡ (Self.linking self.now).faults };
+}
+
+/// A link that takes connections of peers, one after another.
+pub trait Dock: Link {
+    /// From now on peers may connect to this address.
+    fn dock(&mut self, address: &str) -> Result<(), No<Failed>>
+        ensures unchanged { OnlyFaults (Self.linking self.old) (Self.linking self.new) }
+        ensures faults_never_fall { (Self.linking self.old).faults ≤ (Self.linking self.new).faults }
+        ensures ok_keeps_faults { OnOk result ((Self.linking self.new).faults ≡ (Self.linking self.old).faults) }
+        ensures want_keeps_faults { IsErrOf result Wanting → (Self.linking self.new).faults ≡ (Self.linking self.old).faults }
+        ensures failed_is_counted { IsErrOf result (Refused record {}) → Rose (Self.linking self.old).faults (Self.linking self.new).faults }
+        ensures stays_steady { Self.IsSteady self.old → Self.IsSteady self.new }
+        ensures steady_never_fails { Self.IsSteady self.old → ¬ IsErrOf result (Refused record {}) }
+        ensures reading_stays { Self.reading self.new ≡ Self.reading self.old }
+        ensures writing_stays { Self.writing self.new ≡ Self.writing self.old }
+        ensures held_stays { Self.held self.new ≡ Self.held self.old }
+        ensures complaints_stay { Self.complaints self.new ≡ Self.complaints self.old };
+
+    /// Waits for the next peer; from now on its connection is used. Fails past the last peer.
+    fn accept(&mut self) -> Result<(), No<Failed>>
+        ensures made { OnOk result (Self.linking self.new ≡ connected (Self.linking self.old)) }
+        ensures none_past_the_last { (Self.linking self.old).peers ≡ Some [] → ¬ IsOk result }
+        ensures unchanged { OnErr result (OnlyFaults (Self.linking self.old) (Self.linking self.new)) }
+        ensures faults_never_fall { (Self.linking self.old).faults ≤ (Self.linking self.new).faults }
+        ensures want_keeps_faults { IsErrOf result Wanting → (Self.linking self.new).faults ≡ (Self.linking self.old).faults }
+        ensures failed_is_counted { IsErrOf result (Refused record {}) → Rose (Self.linking self.old).faults (Self.linking self.new).faults }
+        ensures stays_steady { Self.IsSteady self.old → Self.IsSteady self.new }
+        ensures steady_fails_only_past_the_last { Self.IsSteady self.old → IsErrOf result (Refused record {}) → (Self.linking self.old).peers ≡ Some [] }
+        ensures reading_stays { Self.reading self.new ≡ Self.reading self.old }
+        ensures writing_stays { Self.writing self.new ≡ Self.writing self.old }
+        ensures held_stays { Self.held self.new ≡ Self.held self.old }
+        ensures complaints_stay { Self.complaints self.new ≡ Self.complaints self.old };
+
+    /// Ends the connection, where there is one; takes no memory.
+    fn hang_up(&mut self)
+        ensures over { Self.linking self.new ≡ hung_up (Self.linking self.old) }
+        ensures stays_steady { Self.IsSteady self.old → Self.IsSteady self.new }
+        ensures reading_stays { Self.reading self.new ≡ Self.reading self.old }
+        ensures writing_stays { Self.writing self.new ≡ Self.writing self.old }
+        ensures held_stays { Self.held self.new ≡ Self.held self.old }
+        ensures complaints_stay { Self.complaints self.new ≡ Self.complaints self.old };
+}
+
+/// A source, a sink and a dock, with files that are read by their names, peers to dial and an error output.
+pub trait Host: Source + Sink + Dock {
     /// From now on reads what is held under the name, from its start. It counts as a call of `Source`.
     /// A host that tells what it reads and holds fails at a name that it does not hold.
     fn pick(&mut self, name: &str) -> Result<(), No<Failed>>
@@ -94,6 +179,21 @@ pub trait Host: Source + Sink {
         ensures steady_fails_only_unheld { Self.IsSteady self.old → IsErrOf result (Refused record {}) → Self.held self.old name.now ≡ None }
         ensures writing_stays { Self.writing self.new ≡ Self.writing self.old }
         ensures linking_stays { Self.linking self.new ≡ Self.linking self.old }
+        ensures held_stays { Self.held self.new ≡ Self.held self.old }
+        ensures complaints_stay { Self.complaints self.new ≡ Self.complaints self.old };
+
+    /// Connects to this address; from now on that connection is used. It counts as a call of `Dock`; fails past the last peer.
+    fn dial(&mut self, address: &str) -> Result<(), No<Failed>>
+        ensures made { OnOk result (Self.linking self.new ≡ connected (Self.linking self.old)) }
+        ensures none_past_the_last { (Self.linking self.old).peers ≡ Some [] → ¬ IsOk result }
+        ensures unchanged { OnErr result (OnlyFaults (Self.linking self.old) (Self.linking self.new)) }
+        ensures faults_never_fall { (Self.linking self.old).faults ≤ (Self.linking self.new).faults }
+        ensures want_keeps_faults { IsErrOf result Wanting → (Self.linking self.new).faults ≡ (Self.linking self.old).faults }
+        ensures failed_is_counted { IsErrOf result (Refused record {}) → Rose (Self.linking self.old).faults (Self.linking self.new).faults }
+        ensures stays_steady { Self.IsSteady self.old → Self.IsSteady self.new }
+        ensures steady_fails_only_past_the_last { Self.IsSteady self.old → IsErrOf result (Refused record {}) → (Self.linking self.old).peers ≡ Some [] }
+        ensures reading_stays { Self.reading self.new ≡ Self.reading self.old }
+        ensures writing_stays { Self.writing self.new ≡ Self.writing self.old }
         ensures held_stays { Self.held self.new ≡ Self.held self.old }
         ensures complaints_stay { Self.complaints self.new ≡ Self.complaints self.old };
 

@@ -1,10 +1,12 @@
-//! The host over the runtime: files, standard input and output, and the error output.
-ghost use Rattle.std.specs.Prelude.{◌≡◌, ◌<◌, ◌≤◌, length, None, IfSome};
+//! The host over the runtime: files, standard input and output, the error output, and TCP connections.
+ghost use Rattle.std.specs.Prelude.{◌≡◌, ◌<◌, ◌≤◌, [], length, None, IfSome};
+ghost use Rattle.std.specs.Option.{is_some};
 ghost use Rattle.sr_io.specs.Told.{no_linking};
 
-use crate::outside::{Failed, Host, Outside, Sink, Source};
+use crate::outside::{Dock, Failed, Host, Link, Outside, Sink, Source};
 use sr_cell::list::No;
-use std::io::{ErrorKind, Read};
+use std::io::{ErrorKind, Read, Write};
+use std::net::{Net, OpenListener, OpenStream, TcpListener, TcpStream};
 use std::rt::Files;
 use std::{fs, str};
 
@@ -18,15 +20,18 @@ enum Current<F, I> {
 
 /// A host that tells nothing of its bytes; what it does rests on the operating system.
 #[derive(Drop)]
-pub struct RealHost<R: Files + Input + Print + Eprint + Drop> {
+pub struct RealHost<R: Files + Input + Print + Eprint + Net + Drop> {
     rt: R,
     current: Current<R::File, R::Reader>,
+    stream: Option<R::Stream>,
+    listener: Option<R::Listener>,
     read_faults: u64,
     write_faults: u64,
+    link_faults: u64,
 }
 
-impl<R: Files + Input + Print + Eprint + Drop> RealHost<R> {
-    /// Nothing is picked yet.
+impl<R: Files + Input + Print + Eprint + Net + Drop> RealHost<R> {
+    /// Nothing is picked or connected yet.
     pub fn new(rt: R) -> RealHost<R>
         ensures reading { ⟦<RealHost<R> as Outside>⟧.reading result ≡ record { left = None; faults = 0 } }
         ensures writing { ⟦<RealHost<R> as Outside>⟧.writing result ≡ record { written = None; faults = 0 } }
@@ -35,8 +40,11 @@ impl<R: Files + Input + Print + Eprint + Drop> RealHost<R> {
         RealHost {
             rt,
             current: Current::Nothing,
+            stream: None,
+            listener: None,
             read_faults: 0,
             write_faults: 0,
+            link_faults: 0,
         }
     }
 }
@@ -72,12 +80,27 @@ fn print_some<R: Print>(rt: &R, bytes: &[u8]) -> Option<usize>
     None
 }
 
-impl<R: Files + Input + Print + Eprint + Drop> Outside for RealHost<R> {
+/// Writes some bytes, again after a signal; `None` where that failed or nothing was taken.
+fn write_some<T: Write>(to: &mut T, bytes: &[u8]) -> Option<usize>
+    ensures some_bytes { IfSome result (λ n. (0 < n) × (n ≤ length bytes.now)) }
+{
+    for _ in 0..u64::MAX {
+        match to.write(bytes) {
+            Ok(0) => return None,
+            Ok(count) => return Some(count),
+            Err(e) if e.kind() == ErrorKind::Interrupted => {}
+            Err(_) => return None,
+        }
+    }
+    None
+}
+
+impl<R: Files + Input + Print + Eprint + Net + Drop> Outside for RealHost<R> {
     ghost reading = { λ s. record { left = None; faults = s.read_faults } };
 
     ghost writing = { λ s. record { written = None; faults = s.write_faults } };
 
-    ghost linking = { λ _. no_linking };
+    ghost linking = { λ s. record { past = []; present = None; peers = None; is_up = is_some s.stream; faults = s.link_faults } };
 
     ghost held = { λ _ _. None };
 
@@ -86,7 +109,7 @@ impl<R: Files + Input + Print + Eprint + Drop> Outside for RealHost<R> {
     ghost IsSteady = { λ _. ⊥ };
 }
 
-impl<R: Files + Input + Print + Eprint + Drop> Source for RealHost<R> {
+impl<R: Files + Input + Print + Eprint + Net + Drop> Source for RealHost<R> {
     fn read(&mut self, room: &mut [u8]) -> Result<usize, No<Failed>> {
         let got = match &mut self.current {
             Current::Nothing => Some(0),
@@ -107,7 +130,7 @@ impl<R: Files + Input + Print + Eprint + Drop> Source for RealHost<R> {
     }
 }
 
-impl<R: Files + Input + Print + Eprint + Drop> Sink for RealHost<R> {
+impl<R: Files + Input + Print + Eprint + Net + Drop> Sink for RealHost<R> {
     fn write(&mut self, bytes: &[u8]) -> Result<usize, No<Failed>> {
         match print_some(&self.rt, bytes) {
             Some(count) => Ok(count),
@@ -123,7 +146,73 @@ impl<R: Files + Input + Print + Eprint + Drop> Sink for RealHost<R> {
     }
 }
 
-impl<R: Files + Input + Print + Eprint + Drop> Host for RealHost<R> {
+impl<R: Files + Input + Print + Eprint + Net + Drop> Link for RealHost<R> {
+    fn send(&mut self, bytes: &[u8]) -> Result<usize, No<Failed>> {
+        let put = match &mut self.stream {
+            None => None,
+            Some(stream) => write_some(stream, bytes),
+        };
+        match put {
+            Some(count) => Ok(count),
+            None => {
+                self.link_faults = self.link_faults.saturating_add(1);
+                Err(No::Refused(Failed))
+            }
+        }
+    }
+
+    fn recv(&mut self, room: &mut [u8]) -> Result<usize, No<Failed>> {
+        let got = match &mut self.stream {
+            None => None,
+            Some(stream) => read_some(stream, room),
+        };
+        match got {
+            Some(count) => Ok(count),
+            None => {
+                self.link_faults = self.link_faults.saturating_add(1);
+                Err(No::Refused(Failed))
+            }
+        }
+    }
+
+    fn link_faults(&self) -> u64 {
+        self.link_faults
+    }
+}
+
+impl<R: Files + Input + Print + Eprint + Net + Drop> Dock for RealHost<R> {
+    fn dock(&mut self, address: &str) -> Result<(), No<Failed>> {
+        match TcpListener::bind(&self.rt, address) {
+            Ok(listener) => {
+                self.listener = Some(listener);
+                Ok(())
+            }
+            Err(_) => {
+                self.link_faults = self.link_faults.saturating_add(1);
+                Err(No::Refused(Failed))
+            }
+        }
+    }
+
+    fn accept(&mut self) -> Result<(), No<Failed>> {
+        if let Some(listener) = &self.listener
+            && let Ok((stream, _)) = listener.accept()
+        {
+            // else a small frame behind another would wait
+            let _ = stream.set_nodelay(true);
+            self.stream = Some(stream);
+            return Ok(());
+        }
+        self.link_faults = self.link_faults.saturating_add(1);
+        Err(No::Refused(Failed))
+    }
+
+    fn hang_up(&mut self) {
+        self.stream = None;
+    }
+}
+
+impl<R: Files + Input + Print + Eprint + Net + Drop> Host for RealHost<R> {
     /// The name `-` is standard input.
     fn pick(&mut self, name: &str) -> Result<(), No<Failed>> {
         if name == "-" {
@@ -137,6 +226,21 @@ impl<R: Files + Input + Print + Eprint + Drop> Host for RealHost<R> {
             }
             Err(_) => {
                 self.read_faults = self.read_faults.saturating_add(1);
+                Err(No::Refused(Failed))
+            }
+        }
+    }
+
+    fn dial(&mut self, address: &str) -> Result<(), No<Failed>> {
+        match TcpStream::connect(&self.rt, address) {
+            Ok(stream) => {
+                // else a small frame behind another would wait
+                let _ = stream.set_nodelay(true);
+                self.stream = Some(stream);
+                Ok(())
+            }
+            Err(_) => {
+                self.link_faults = self.link_faults.saturating_add(1);
                 Err(No::Refused(Failed))
             }
         }

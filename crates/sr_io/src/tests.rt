@@ -1,12 +1,13 @@
-//! Runs over the forms in memory, with each call failing in turn, and a file read by the real host.
+//! Runs over the forms in memory, with each call failing in turn, and over the real host: a file is read, and it links itself.
 use crate::fails::Fails;
 use crate::file::{File, FileList};
-use crate::mem_host::MemHost;
+use crate::mem_host::{MemHost, Peers};
+use crate::mem_link::MemLink;
 use crate::mem_sink::MemSink;
 use crate::mem_source::MemSource;
-use crate::outside::{Failed, Host, Sink, Source};
+use crate::outside::{Dock, Failed, Host, Link, Sink, Source};
 use crate::real_host::RealHost;
-use crate::whole::{ReadAll, read_all, write_all};
+use crate::whole::{ReadAll, read_all, send_all, write_all};
 use sr_cell::list::{Bytes, No, NoMemory, Seq};
 use sr_cell::text::Text;
 use std::alloc::Global;
@@ -31,7 +32,15 @@ fn host(alloc: Global, fails: &[u64]) -> Result<MemHost, NoMemory> {
         name: Text::of(alloc, "greeting")?,
         bytes: list(alloc, b"hello")?,
     })?;
-    MemHost::new(alloc, files, numbers(alloc, fails)?, 2)
+    MemHost::new(alloc, files, Seq::new(alloc), numbers(alloc, fails)?, 2)
+}
+
+/// Two peers connect, and the first of them brings `hello`.
+fn dock(alloc: Global, fails: &[u64]) -> Result<MemHost, NoMemory> {
+    let mut peers: Peers = Seq::new(alloc);
+    peers.push(list(alloc, b"hello")?)?;
+    peers.push(Seq::new(alloc))?;
+    MemHost::new(alloc, Seq::new(alloc), peers, numbers(alloc, fails)?, 3)
 }
 
 #[test]
@@ -124,6 +133,93 @@ fn a_source_and_a_sink_fail_at_their_numbers(rt: HostRuntime) -> Result<(), Fail
         assert_eq!(rt; sink.write(b"ab") == Err(No::Refused(Failed)), fails);
     }
     assert_eq!(rt; (source.read_faults(), sink.write_faults()), (2, 2));
+    Ok(())
+}
+
+#[test]
+fn a_host_links_its_peers_in_turn(rt: HostRuntime) -> Result<(), Fail> {
+    let alloc = rt.alloc();
+    let mut host = dock(alloc, &[])?;
+    let mut room = [0u8; 4];
+    host.accept()?;
+    assert_eq!(rt; host.recv(&mut room), Ok(3));
+    send_all(&mut host, b"abcd")?;
+    host.hang_up();
+    assert_eq!(rt; host.send(b"e"), Err(No::Refused(Failed)));
+    host.dial("there")?;
+    assert_eq!(rt; host.recv(&mut room), Ok(0));
+    assert_eq!(rt; host.accept(), Err(No::Refused(Failed)));
+    assert_eq!(rt; host.link_faults(), 2);
+    assert_eq!(rt; room.as_slice(), b"hel\0".as_slice());
+    assert_eq!(rt; host.sent(alloc, 0)?.as_slice(), b"abcd".as_slice());
+    Ok(())
+}
+
+#[test]
+fn each_call_of_a_dock_fails_at_its_number(rt: HostRuntime) -> Result<(), Fail> {
+    let alloc = rt.alloc();
+    let mut room = [0u8; 2];
+    for (number, fails) in [
+        (1, [true, false, false, false]),
+        (2, [false, true, true, true]),
+        (3, [false, false, true, false]),
+        (4, [false, false, false, true]),
+        (5, [false, false, false, false]),
+    ] {
+        let mut host = dock(alloc, &[number])?;
+        let failed = [
+            host.dock("here") == Err(No::Refused(Failed)),
+            host.accept() == Err(No::Refused(Failed)),
+            host.send(b"ab") == Err(No::Refused(Failed)),
+            host.recv(&mut room) == Err(No::Refused(Failed)),
+        ];
+        assert_eq!(rt; failed, fails, "at {number}");
+    }
+    Ok(())
+}
+
+#[test]
+fn a_link_fails_at_its_numbers(rt: HostRuntime) -> Result<(), Fail> {
+    let alloc = rt.alloc();
+    let mut link = MemLink::new(alloc, Seq::new(alloc), numbers(alloc, &[1, 3])?, 1);
+    for fails in [true, false, true, false] {
+        assert_eq!(rt; link.send(b"ab") == Err(No::Refused(Failed)), fails);
+    }
+    assert_eq!(rt; link.link_faults(), 2);
+    assert_eq!(rt; link.sent(alloc)?.as_slice(), b"aa".as_slice());
+    Ok(())
+}
+
+/// Docks at the first of these ports of this machine that is free.
+fn dock_somewhere<H: Host>(host: &mut H) -> Option<&'static str> {
+    for address in [
+        "127.0.0.1:47321",
+        "127.0.0.1:47322",
+        "127.0.0.1:47323",
+        "127.0.0.1:47324",
+    ] {
+        if host.dock(address).is_ok() {
+            return Some(address);
+        }
+    }
+    None
+}
+
+#[test]
+fn the_real_host_links_another(rt: HostRuntime) -> Result<(), Fail> {
+    let mut server = RealHost::new(&rt);
+    let mut client = RealHost::new(&rt);
+    let mut room = [0u8; 4];
+    let address = dock_somewhere(&mut server);
+    assert_eq!(rt; client.recv(&mut room), Err(No::Refused(Failed)));
+    client.dial(address.unwrap_or(""))?;
+    server.accept()?;
+    send_all(&mut client, b"ab")?;
+    assert_eq!(rt; server.recv(&mut room), Ok(2));
+    client.hang_up();
+    assert_eq!(rt; server.recv(&mut room[2..]), Ok(0));
+    assert_eq!(rt; room.as_slice(), b"ab\0\0".as_slice());
+    assert_eq!(rt; client.link_faults(), 1);
     Ok(())
 }
 

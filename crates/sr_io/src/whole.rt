@@ -1,12 +1,13 @@
-//! Whole reads and whole writes.
-ghost use Rattle.std.specs.Prelude.{◌≡◌, ◌+◌, ◌≤◌, length, IfOk, OnOk, OnErr, IsErrOf};
+//! Whole reads, whole writes and whole sends.
+ghost use Rattle.std.specs.Prelude.{◌≡◌, ◌+◌, ◌<◌, ◌≤◌, length, false, IfOk, OnOk, OnErr, IsErrOf};
 ghost use Rattle.std.specs.Io.KnownBytes.{Consumes, Appends, IsAtEnd};
 ghost use Rattle.sr_cell.specs.declared.list.No.TheVariants.{Refused, NoMemory as Wanting};
 ghost use Rattle.sr_io.specs.declared.whole.ReadAll.TheVariants.{ReadFault, TooLong};
 ghost use Rattle.sr_io.specs.Causes.{Rose};
-ghost use Rattle.sr_io.specs.Pieces.{ReadsPiece, Lost, WritesPrefix};
+ghost use Rattle.sr_io.specs.Pieces.{ReadsPiece, Lost, WritesPrefix, SendsPart};
+ghost use Rattle.sr_io.specs.Told.{sent_on};
 
-use crate::outside::{Failed, Sink, Source};
+use crate::outside::{Failed, Link, Sink, Source};
 use sr_cell::list::{Bytes, No, Seq};
 use std::alloc::Global;
 
@@ -113,6 +114,32 @@ pub fn write_all<K: Sink>(sink: &mut K, bytes: &[u8]) -> Result<(), No<Failed>>
     let mut at = 0;
     while at < bytes.len() {
         match sink.write(&bytes[at..]) {
+            Ok(count) => at += count,
+            Err(no) => return Err(no),
+        }
+    }
+    Ok(())
+}
+
+/// Sends all bytes. After an `Err` fewer of them were sent.
+pub fn send_all<L: Link>(link: &mut L, bytes: &[u8]) -> Result<(), No<Failed>>
+    ensures whole { OnOk result (L.linking link.new ≡ sent_on bytes.now (L.linking link.old)) }
+    ensures part { OnErr result (SendsPart (L.linking link.old) (L.linking link.new) bytes.now) }
+    ensures fails_without_connection { (L.linking link.old).is_up ≡ false → 0 < length bytes.now → IsErrOf result (Refused record {}) }
+    ensures faults_never_fall { (L.linking link.old).faults ≤ (L.linking link.new).faults }
+    ensures want_keeps_faults { IsErrOf result Wanting → (L.linking link.new).faults ≡ (L.linking link.old).faults }
+    ensures failed_is_counted { IsErrOf result (Refused record {}) → Rose (L.linking link.old).faults (L.linking link.new).faults }
+    ensures stays_up { (L.linking link.new).is_up ≡ (L.linking link.old).is_up }
+    ensures stays_steady { L.IsSteady link.old → L.IsSteady link.new }
+    ensures steady_fails_only_down { L.IsSteady link.old → IsErrOf result (Refused record {}) → (L.linking link.old).is_up ≡ false }
+    ensures held_stays { L.held link.new ≡ L.held link.old }
+    ensures reading_stays { L.reading link.new ≡ L.reading link.old }
+    ensures writing_stays { L.writing link.new ≡ L.writing link.old }
+    ensures complaints_stay { L.complaints link.new ≡ L.complaints link.old }
+{
+    let mut at = 0;
+    while at < bytes.len() {
+        match link.send(&bytes[at..]) {
             Ok(count) => at += count,
             Err(no) => return Err(no),
         }

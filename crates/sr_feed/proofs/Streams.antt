@@ -1,6 +1,6 @@
 -- A stream is one list of frames.
-use Rattle.std.proofs.Common.{◌≡◌, ℕ, ◌≤◌, Bool, true, List, [], ◌∷◌, ◌++◌, length, take, drop, Option, Some, None, refl, sym, ap, ◌∙◌, append_assoc}
-use Rattle.std.specs.Prelude.{◌≢◌, IsTrue, ◌&&◌, Result, Ok, Err}
+use Rattle.std.proofs.Common.{◌≡◌, ℕ, List, [], ◌∷◌, ◌++◌, length, drop, refl, sym, ap, ◌∙◌, append_assoc}
+use Rattle.std.specs.Prelude.{◌≢◌, IsTrue}
 use Rattle.std.specs.List.{flat_map, list_all}
 use Rattle.std.proofs.lemmas.List.Concat.{flat_map-cons}
 use Rattle.std.proofs.lemmas.List.{drop_at}
@@ -9,7 +9,7 @@ use Rattle.sr_bytes.proofs.Steps.{left_of, right_of}
 use Rattle.sr_wire.specs.declared.wire_fault.WireFault.{WireFault}
 use Rattle.sr_wire.specs.declared.wire_fault.WireFault.TheVariants.{Short}
 use Rattle.sr_wire.specs.Spelling.{spelling, has_spelling}
-use Rattle.sr_wire.specs.Reading.{Decoded, Whole, Faulty, decoded}
+use Rattle.sr_wire.specs.Reading.{Whole, Faulty, decoded}
 use Rattle.sr_wire.proofs.Frames.{decoded_again, one_spelling}
 use Rattle.sr_wire.proofs.Staying.{answer_stays}
 use Rattle.sr_feed.specs.Stream.{Splits}

@@ -1,2 +1,5 @@
 pub mod Stream
 pub mod Laws
+pub mod Fetching
+pub mod Frames
+pub mod Taken

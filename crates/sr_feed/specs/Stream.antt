@@ -1,5 +1,5 @@
 -- A stream, frame by frame.
-use Rattle.std.specs.Prelude.{◌≡◌, ◌≢◌, ℕ, List, [], ◌++◌, length, drop, Option, Some, None, Result, Ok, Err, IsTrue}
+use Rattle.std.specs.Prelude.{◌≡◌, ◌≢◌, ℕ, List, ◌++◌, length, Option, Some, None, Result, Ok, Err, IsTrue}
 use Rattle.std.specs.List.{flat_map, list_all}
 use Rattle.sr_message.specs.declared.message.Message.{Message}
 use Rattle.sr_wire.specs.declared.wire_fault.WireFault.{WireFault}

@@ -1,14 +1,21 @@
-//! The frames of a stream that comes in pieces.
-ghost use Rattle.std.specs.Prelude.{◌≡◌, ℕ, ◌≤◌, List, [], ◌++◌, drop, length, OnOk, OnErr};
+//! The frames of a stream that comes in pieces, also over a link.
+ghost use Rattle.std.specs.Prelude.{◌≡◌, ◌≢◌, ℕ, ◌≤◌, List, [], ◌++◌, true, false, drop, length, OnOk, OnErr, IfOk};
+ghost use Rattle.sr_feed.specs.Fetching.{Fetches};
 ghost use Rattle.sr_feed.specs.Stream.{Gives, IfGiven};
+ghost use Rattle.sr_feed.specs.declared.fetched.Fetched.TheVariants.{LinkFault};
 ghost use Rattle.sr_wire.specs.Spelling.{spelling};
 ghost use Rattle.sr_wire.specs.Reading.{decoded};
 
-use sr_cell::list::NoMemory;
+use crate::fetched::Fetched;
+use sr_cell::list::{No, NoMemory};
+use sr_io::outside::Link;
 use sr_wire::frame::{Frame, decode};
 use sr_wire::wire_fault::WireFault;
 use std::alloc::Global;
 use std::marker::Model;
+
+/// The most bytes that one call takes from a link.
+const PIECE: usize = 65_536;
 
 /// The bytes of a stream that came and are not read yet. Contracts see these bytes.
 #[derive(Drop)]
@@ -88,5 +95,35 @@ impl Feed {
         ensures { self.new ≡ drop size self.old }
     {
         self.read += size;
+    }
+}
+
+/// Takes one piece of what comes over the link, at most 65,536 bytes, and feeds it. In want of memory nothing changes.
+pub fn fetch<L: Link>(link: &mut L, feed: &mut Feed) -> Result<Fetched, NoMemory>
+    ensures fetched { IfOk result (λ fetched. Fetches fetched (L.linking link.old) (L.linking link.new) feed.old feed.new) }
+    ensures feed_unchanged { OnErr result (feed.new ≡ feed.old) }
+    ensures link_unchanged { OnErr result (L.linking link.new ≡ L.linking link.old) }
+    ensures fails_without_connection { (L.linking link.old).is_up ≡ false → IfOk result (λ fetched. fetched ≡ LinkFault) }
+    ensures faults_never_fall { (L.linking link.old).faults ≤ (L.linking link.new).faults }
+    ensures stays_up { (L.linking link.new).is_up ≡ (L.linking link.old).is_up }
+    ensures stays_steady { L.IsSteady link.old → L.IsSteady link.new }
+    ensures steady_fails_only_down { L.IsSteady link.old → (L.linking link.old).is_up ≡ true → IfOk result (λ fetched. fetched ≢ LinkFault) }
+    ensures held_stays { L.held link.new ≡ L.held link.old }
+    ensures reading_stays { L.reading link.new ≡ L.reading link.old }
+    ensures writing_stays { L.writing link.new ≡ L.writing link.old }
+    ensures complaints_stay { L.complaints link.new ≡ L.complaints link.old }
+{
+    feed.let_go();
+    // so that nothing that the link has given is lost in want of memory
+    feed.bytes.reserve(PIECE)?;
+    let mut room = [0u8; PIECE];
+    match link.recv(&mut room) {
+        Ok(0) => Ok(Fetched::End { left: feed.left() }),
+        Ok(bytes) => {
+            feed.bytes.extend_from_slice(&room[..bytes])?;
+            Ok(Fetched::More { bytes })
+        }
+        Err(No::Refused(_)) => Ok(Fetched::LinkFault),
+        Err(No::NoMemory) => Err(NoMemory),
     }
 }

@@ -7,11 +7,10 @@ use Rattle.sr_message.specs.declared.message.Message.{Message}
 use Rattle.sr_bytes.specs.Reading.{Reading, Got, Bad}
 use Rattle.sr_wire.specs.declared.kind.FrameKind.{FrameKind}
 use Rattle.sr_wire.specs.declared.wire_fault.WireFault.{WireFault}
-use Rattle.sr_wire.specs.declared.wire_fault.WireFault.TheVariants.{Field}
 use Rattle.sr_wire.specs.Spelling.{spelling, has_spelling}
 use Rattle.sr_wire.specs.Kinds.{kind_at}
 use Rattle.sr_wire.specs.Bodies.{Answers}
-use Rattle.sr_wire.specs.Reading.{Decoded, Whole, Faulty, decoded, nothing_left, finished, in_frame, length_at, kind_in}
+use Rattle.sr_wire.specs.Reading.{Whole, Faulty, decoded, nothing_left, finished, in_frame, length_at, kind_in}
 use Rattle.sr_wire.proofs.Frames.{decoded_spelled, decoded_again, frame_is, length_is, kind_is, kind_of_option, IsFrame}
 
 pub first_of : (bytes : List ℕ) (r : Result Message WireFault) → IsTrue (are_bytes bytes) → Answers r (decoded bytes) → IfOk r (λ m. (rest : List ℕ) × (bytes ≡ spelling m ++ rest))

@@ -1,5 +1,5 @@
 -- A length that is put in front once the body is written.
-use Rattle.std.proofs.Common.{◌≡◌, ℕ, ◌+◌, ◌-◌, List, ◌++◌, length, drop, ap, ◌∙◌, refl, arith}
+use Rattle.std.proofs.Common.{◌≡◌, ℕ, ◌+◌, List, ◌++◌, length, drop, ap, ◌∙◌, arith}
 use Rattle.std.proofs.lemmas.List.{drop_at, length-append}
 use Rattle.sr_bytes.specs.Spelling.{count_bytes}
 use Rattle.sr_wire.proofs.Frames.{count_length}

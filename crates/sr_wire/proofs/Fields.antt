@@ -1,10 +1,10 @@
 -- Fields one behind the other: what is spelled is read again, and what is read was spelled.
-use Rattle.std.proofs.Common.{◌≡◌, ℕ, Bool, true, List, [], ◌∷◌, ◌++◌, refl, sym, ap, subst, ◌∙◌, append_assoc}
-use Rattle.std.specs.Prelude.{IsTrue, ◌&&◌}
+use Rattle.std.proofs.Common.{◌≡◌, ℕ, Bool, List, ◌++◌, refl, ap, ◌∙◌, append_assoc}
+use Rattle.std.specs.Prelude.{IsTrue}
 use Rattle.sr_cell.specs.Columns.{are_bytes}
-use Rattle.sr_bytes.specs.Reading.{Reading, Got, Bad, Reader, read_on, ◌>>=◌, give}
+use Rattle.sr_bytes.specs.Reading.{Got, Reader, read_on, ◌>>=◌, give}
 use Rattle.sr_bytes.specs.Laws.{IsExact}
-use Rattle.sr_bytes.proofs.Steps.{step_of, got_value, got_rest, rest_bytes, behind, both, left_of, right_of}
+use Rattle.sr_bytes.proofs.Steps.{step_of, got_value, got_rest, rest_bytes, behind}
 use Rattle.sr_wire.specs.Reading.{one, two, three, four}
 
 -- how values of a type are read and spelled

@@ -1,9 +1,9 @@
 -- The formats of fields and of the items of lists.
 use Rattle.std.proofs.Common.{◌≡◌, ℕ, zero, suc, ◌^◌, ◌<◌, ◌≤◌, ◌+◌, Bool, true, false, ltb, List, [], ◌∷◌, ◌++◌, length, Option, Some, None, refl, sym, ap, subst, ◌∙◌, append_assoc, arith}
 use Rattle.std.specs.Prelude.{IsTrue, ◌&&◌, ◌==◌, ◌-◌, nat_le, nat_lt, slice_index_or}
-use Rattle.std.specs.Int.{w16, w32, w64}
+use Rattle.std.specs.Int.{w16, w32}
 use Rattle.std.specs.Str.{is_utf8}
-use Rattle.std.proofs.lemmas.Bool.{ltb-true, lt-ltb, leb-true, le-leb, le-ltb, eqb-true}
+use Rattle.std.proofs.lemmas.Bool.{ltb-true, lt-ltb, leb-true, le-ltb, eqb-true}
 use Rattle.std.proofs.lemmas.List.{take_at, drop_at, length-append}
 use Rattle.sr_cell.specs.declared.fault.Why.{Why}
 use Rattle.sr_cell.specs.declared.fault.Why.TheVariants.{LongText, BadToken, Grammar, Deep, UnknownTable, UnknownColumn, Ambiguous, WrongType, OutOfDomain, NotKeyJoin, Repeated, WrongCount, Mixed, TooWide, TooManyTables, NotAWrite, NotAQuery, DuplicateKey, DomainCell, LongCell, KeyChange, TableFull, TooManyChanges, DuplicateName, TooManyColumns, NoKey, BadDomain, BadHeader, BadRecord, BadNumber, BadUtf8}
@@ -15,16 +15,16 @@ use Rattle.sr_box.specs.Points.{Rect}
 use Rattle.sr_message.specs.declared.message.Holding.{Holding}
 use Rattle.sr_message.specs.declared.message.AskPart.{AskPart}
 use Rattle.sr_message.specs.declared.message.Tell.{Tell}
-use Rattle.sr_bytes.specs.Reading.{Reading, Got, Bad, Reader, read_on, ◌>>=◌, give, passing, many, a_byte, a_number, bytes_that, a_cell, a_row, some_rows, some_rects}
+use Rattle.sr_bytes.specs.Reading.{Got, passing, a_byte, a_number, bytes_that, a_cell, a_row, some_rows, some_rects}
 use Rattle.sr_bytes.specs.Spelling.{long_bytes, count_bytes, short_count_bytes, cell_bytes, row_bytes, rows_bytes, rects_bytes, is_from_to, has_cell_bytes, has_row_bytes, have_rows_bytes, have_rects_bytes}
 use Rattle.sr_bytes.specs.Laws.{IsExact}
-use Rattle.sr_bytes.proofs.Steps.{step_of, got_value, got_rest, passed, rest_bytes, front_bytes, behind, both, left_of, right_of}
+use Rattle.sr_bytes.proofs.Steps.{step_of, got_value, got_rest, passed, front_bytes, behind, both, left_of, right_of}
 use Rattle.sr_bytes.proofs.Numbers.{byte_spelled, byte_in_spelled, byte_in_again, short_count_again, short_count_spelled, count_again, count_spelled, long_again, long_spelled, front_spelled}
 use Rattle.sr_bytes.proofs.Values.{cell_exact, row_exact, rows_exact, rects_exact, counted_exact, listed_exact, counts, counted_bytes, have_counted, listed_bytes}
 use Rattle.sr_wire.specs.Kinds.{why_byte, reasons}
 use Rattle.sr_wire.specs.Spelling.{flag_bytes, holding_bytes, part_bytes, after_bytes, tell_bytes, fault_bytes, wire, is_long, is_table, is_client, has_holding_bytes, has_part_bytes, has_after_bytes, has_tell_bytes}
-use Rattle.sr_wire.specs.Reading.{one, two, three, a_long, a_byte_in, a_flag, a_reason, a_fault, a_client, a_statement, a_holding, some_holdings, some_attrs, a_part, some_parts, after_flag, an_after, a_tell, some_told}
-use Rattle.sr_wire.proofs.Fields.{Format, first_of_all, one_spelled, one_again, two_spelled, two_again, three_spelled, three_again}
+use Rattle.sr_wire.specs.Reading.{a_long, a_byte_in, a_flag, a_reason, a_fault, a_client, a_statement, a_holding, some_holdings, some_attrs, a_part, some_parts, after_flag, an_after, a_tell, some_told}
+use Rattle.sr_wire.proofs.Fields.{Format, first_of_all, one_spelled, two_spelled, two_again, three_spelled, three_again}
 
 -- ---- numbers
 

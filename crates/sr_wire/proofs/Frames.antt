@@ -1,8 +1,8 @@
 -- Frames: what is spelled is decoded again, and what is decoded was spelled.
-use Rattle.std.proofs.Common.{◌≡◌, ℕ, zero, suc, ◌+◌, ◌^◌, ◌<◌, ◌≤◌, Bool, true, false, cond, ltb, eqb, List, [], ◌∷◌, ◌++◌, length, get_or, take, drop, Option, Some, None, refl, sym, ap, subst, ◌∙◌, append_assoc, arith}
-use Rattle.std.specs.Prelude.{IsTrue, ◌&&◌, Result, Ok, Err, nat_le, ◌==◌}
-use Rattle.std.specs.Int.{w32, from_be_bytes, to_be_bytes}
-use Rattle.std.proofs.lemmas.Bool.{ltb-true, ltb-false, lt-ltb, leb-true, le-leb, le-ltb, eqb-true, eqb-false, ne_eqb}
+use Rattle.std.proofs.Common.{◌≡◌, ℕ, ◌+◌, ◌^◌, ◌<◌, ◌≤◌, Bool, true, false, cond, ltb, eqb, List, [], ◌∷◌, ◌++◌, length, get_or, take, drop, Option, Some, None, refl, sym, ap, subst, ◌∙◌, append_assoc, arith}
+use Rattle.std.specs.Prelude.{IsTrue, Result, Ok, Err, nat_le, ◌==◌}
+use Rattle.std.specs.Int.{w32, from_be_bytes}
+use Rattle.std.proofs.lemmas.Bool.{ltb-false, leb-true, le-leb, le-ltb, eqb-true, eqb-false, ne_eqb}
 use Rattle.std.proofs.lemmas.List.{take_at, drop_at, take-append-drop, length-append, length-take-le, length-drop, take-take, append-nil, get_or_at, get_or-take, append_cancel_left}
 use Rattle.std.proofs.Math.Seq.{drop-cons}
 use Rattle.std.proofs.lemmas.Nat.{from_be_bytes-to_be_bytes_4}
@@ -15,11 +15,11 @@ use Rattle.sr_bytes.proofs.Numbers.{count_spelled}
 use Rattle.sr_wire.specs.declared.kind.FrameKind.{FrameKind}
 use Rattle.sr_wire.specs.declared.kind.FrameKind.TheVariants as kinds
 use Rattle.sr_wire.specs.declared.wire_fault.WireFault.{WireFault}
-use Rattle.sr_wire.specs.declared.wire_fault.WireFault.TheVariants.{Short, Long, Kind, Field}
+use Rattle.sr_wire.specs.declared.wire_fault.WireFault.TheVariants.{Short, Long, Field}
 use Rattle.sr_wire.specs.Kinds.{kind_byte, kind_at}
 use Rattle.sr_wire.specs.Spelling.{kind_of, fields_of, body_of, spelling, has_fields, has_spelling, most_bytes}
-use Rattle.sr_wire.specs.Reading.{nothing_left, finished, in_frame, go_on, length_if, length_at, kind_or, kind_in, cut, decoded, fields_at, Decoded, Whole, Faulty}
-use Rattle.sr_wire.proofs.Messages.{fields_again, fields_spelled, AreFields}
+use Rattle.sr_wire.specs.Reading.{nothing_left, finished, in_frame, go_on, length_if, length_at, kind_or, kind_in, cut, decoded, fields_at, Decoded, Whole}
+use Rattle.sr_wire.proofs.Messages.{fields_again, fields_spelled}
 
 -- ---- kinds
 

@@ -5,3 +5,4 @@ pub mod Frames
 pub mod Decoding
 pub mod Encoding
 pub mod Staying
+pub mod Sizes

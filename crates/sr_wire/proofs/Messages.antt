@@ -1,6 +1,6 @@
 -- The fields of each kind: what is spelled is read again, and what is read was spelled.
-use Rattle.std.proofs.Common.{◌≡◌, ℕ, Bool, true, List, ◌++◌, refl, subst}
-use Rattle.std.specs.Prelude.{IsTrue, ◌&&◌, nat_lt}
+use Rattle.std.proofs.Common.{◌≡◌, ℕ, List, ◌++◌, refl, subst}
+use Rattle.std.specs.Prelude.{IsTrue, ◌&&◌}
 use Rattle.sr_cell.specs.Columns.{are_bytes}
 use Rattle.sr_message.specs.declared.message.Message.{Message}
 use Rattle.sr_message.specs.declared.message.Message.TheVariants.{Hello, Resume, Ask, Write, Welcome, Notice, Rows, Reply, Written, Refused, Lapse}

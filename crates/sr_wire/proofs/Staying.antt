@@ -1,12 +1,12 @@
 -- An answer that does not wait for more bytes stays, whatever comes behind.
-use Rattle.std.proofs.Common.{◌≡◌, ℕ, ◌+◌, ◌<◌, ◌≤◌, Bool, true, false, cond, ltb, eqb, List, ◌++◌, length, get_or, take, refl, sym, ap, ◌∙◌, arith, inl, inr}
+use Rattle.std.proofs.Common.{◌≡◌, ℕ, ◌+◌, ◌<◌, ◌≤◌, false, ltb, eqb, List, ◌++◌, length, get_or, take, refl, sym, ap, ◌∙◌, arith, inl, inr}
 use Rattle.std.specs.Prelude.{Result, Ok, Err}
 use Rattle.std.specs.Int.{w32, from_be_bytes}
 use Rattle.std.proofs.lemmas.Bool.{ltb-false, le-ltb, eqb-false, ne_eqb, cases_Bool}
 use Rattle.std.proofs.lemmas.List.{length-append, take-append-le, get_or_append_left}
 use Rattle.sr_wire.specs.declared.kind.FrameKind.{FrameKind}
 use Rattle.sr_wire.specs.declared.wire_fault.WireFault.{WireFault}
-use Rattle.sr_wire.specs.declared.wire_fault.WireFault.TheVariants.{Short, Long, Field}
+use Rattle.sr_wire.specs.declared.wire_fault.WireFault.TheVariants.{Short}
 use Rattle.sr_wire.specs.Kinds.{kind_at}
 use Rattle.sr_wire.specs.Spelling.{most_bytes}
 use Rattle.sr_wire.specs.Reading.{Decoded, Faulty, go_on, length_if, length_at, kind_or, kind_in, cut, in_frame, decoded}

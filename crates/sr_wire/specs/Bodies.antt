@@ -1,5 +1,5 @@
 -- The message that a body shows, and what decoding answers.
-use Rattle.std.specs.Prelude.{◌≡◌, List, ℕ, length, Option, Some, None, Result, Ok, Err}
+use Rattle.std.specs.Prelude.{◌≡◌, ℕ, length, Option, Some, None, Result, Ok, Err}
 use Rattle.sr_message.specs.declared.message.Message.{Message}
 use Rattle.sr_message.specs.declared.message.Message.TheVariants as messages
 use Rattle.sr_wire.specs.declared.body.Body.{Body}

@@ -1,9 +1,8 @@
 -- Three frames, worked out by hand, and one with a byte left over.
-use Rattle.std.specs.Prelude.{pos, ℕ, List, [], ◌∷◌, ◌++◌, ◌≡◌, Bool, true}
+use Rattle.std.specs.Prelude.{pos, ℕ, List, [], ◌∷◌, ◌++◌, ◌≡◌, true}
 use Rattle.sr_box.specs.declared.span.Span.TheVariants.{Full, Nums}
 use Rattle.sr_message.specs.declared.message.Message.{Message}
 use Rattle.sr_message.specs.declared.message.Message.TheVariants.{Hello, Ask, Reply}
-use Rattle.sr_message.specs.declared.message.AskPart.{AskPart}
 use Rattle.sr_wire.specs.declared.wire_fault.WireFault.TheVariants.{Field}
 use Rattle.sr_wire.specs.Spelling.{spelling}
 use Rattle.sr_wire.specs.Reading.{decoded, Whole, Faulty}

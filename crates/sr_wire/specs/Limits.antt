@@ -1,5 +1,5 @@
 -- What a message must keep to be sent, beyond what its type gives.
-use Rattle.std.specs.Prelude.{ℕ, ◌≤◌, Bool, true, ◌&&◌, List, length, Option, Some, None, IsTrue}
+use Rattle.std.specs.Prelude.{ℕ, ◌≤◌, Bool, true, ◌&&◌, nat_le, List, length, sum_by, Option, Some, None, IsTrue}
 use Rattle.std.specs.List.{list_all}
 use Rattle.sr_cell.specs.Cells.{Row}
 use Rattle.sr_message.specs.declared.message.Message.{Message}
@@ -7,6 +7,7 @@ use Rattle.sr_message.specs.declared.message.Message.TheVariants.{Hello, Resume,
 use Rattle.sr_message.specs.declared.message.Holding.{Holding}
 use Rattle.sr_message.specs.declared.message.AskPart.{AskPart}
 use Rattle.sr_message.specs.declared.message.Tell.{Tell}
+use Rattle.sr_message.specs.Sizes.{most_rects, count_asked}
 use Rattle.sr_bytes.specs.Spelling.{is_from_to}
 use Rattle.sr_bytes.specs.Writing.{may_write_cell, may_write_row, may_write_rows, may_write_rects}
 use Rattle.sr_wire.specs.Spelling.{is_client, body_of, most_bytes}
@@ -37,7 +38,21 @@ may_write (Written number version) = true
 may_write (Refused number fault) = true
 may_write (Lapse version) = true
 
+-- the rects of all holdings
+abbrev pub count_held : List Holding → ℕ
+count_held holdings = sum_by (λ h. length h.rects) holdings
+
+-- a message holds or asks no more rects than a client may
+abbrev pub has_few_rects : Message → Bool
+has_few_rects (Resume client number version holdings) = nat_le (count_held holdings) most_rects
+has_few_rects (Ask number fresh parts) = nat_le (count_asked parts) most_rects
+has_few_rects other = true
+
 -- each count and length is in its range, and so is the whole
 pub record IsSendable (message : Message) : Type 0 where
   pub limits : IsTrue (may_write message)
   pub size : length (body_of message) ≤ most_bytes
+
+-- of so few rects the whole is never too long
+abbrev pub FewAreSendable : Type 0
+FewAreSendable = (m : Message) → IsTrue (may_write m) → IsTrue (has_few_rects m) → IsSendable m

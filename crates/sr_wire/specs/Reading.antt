@@ -18,7 +18,7 @@ use Rattle.sr_wire.specs.declared.kind.FrameKind.TheVariants as kinds
 use Rattle.sr_wire.specs.declared.wire_fault.WireFault.{WireFault}
 use Rattle.sr_wire.specs.declared.wire_fault.WireFault.TheVariants.{Short, Long, Kind, Field}
 use Rattle.sr_wire.specs.Kinds.{kind_at, reasons}
-use Rattle.sr_wire.specs.Spelling.{wire, is_client, most_bytes}
+use Rattle.sr_wire.specs.Spelling.{wire, most_bytes}
 
 -- ---- values made of several fields, one behind the other
 

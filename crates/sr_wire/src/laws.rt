@@ -1,5 +1,6 @@
 //! What is true of frames.
 ghost use Rattle.sr_wire.specs.Examples.{AreWorkedFrames};
+ghost use Rattle.sr_wire.specs.Limits.{FewAreSendable};
 ghost use Rattle.sr_wire.specs.Laws.{OneMessage, OneSpelling, IsDecodedAgain, NoneBegins, AnswersStay};
 
 /// The three worked frames are spelled and read as they stand, and a byte too many is at fault.
@@ -30,4 +31,9 @@ pub fn none_begins()
 /// A frame or a fault at the front of bytes stays there, whatever comes behind them.
 pub fn answers_stay()
     ensures { AnswersStay }
+{}
+
+/// A message inside the limits, of no more rects than a client may hold or ask, is short enough to be sent.
+pub fn few_are_sendable()
+    ensures { FewAreSendable }
 {}

@@ -1,6 +1,6 @@
-use Rattle.std.proofs.Common.{◌≡◌, ◌+◌, ◌-◌, ◌≤◌, ◌++◌, length, ap, sym, ◌∙◌, arith, refl}
+use Rattle.std.proofs.Common.{◌≡◌, ◌-◌, length, ◌∙◌, arith, refl}
 use Rattle.sr_bytes.specs.Spelling.{count_bytes}
-use Rattle.sr_wire.specs.Spelling.{body_of, most_bytes}
+use Rattle.sr_wire.specs.Spelling.{body_of}
 use Rattle.sr_wire.proofs.Encoding.{behind_count, IsBehind}
 use Rattle.sr_wire.proofs.encode.encode.Goals as goal
 

@@ -1,4 +1,4 @@
-use Rattle.std.proofs.Common.{◌≡◌, ◌∷◌, ◌++◌, length, take, true}
+use Rattle.std.proofs.Common.{◌≡◌, ◌++◌, length, take, true}
 use Rattle.std.specs.List.{flat_map, list_all}
 use Rattle.sr_bytes.specs.Spelling.{count_bytes}
 use Rattle.sr_wire.specs.Spelling.{holding_bytes, has_holding_bytes}

@@ -1,6 +1,5 @@
 use Rattle.std.proofs.Common.{◌≡◌, ◌∷◌, ◌++◌, length, take, true}
 use Rattle.std.specs.List.{flat_map, list_all}
-use Rattle.sr_bytes.specs.Spelling.{count_bytes}
 use Rattle.sr_wire.specs.Spelling.{part_bytes, has_part_bytes}
 use Rattle.sr_wire.proofs.encode.push_parts.Given as goal
 

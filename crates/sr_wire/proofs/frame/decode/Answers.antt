@@ -1,5 +1,5 @@
-use Rattle.sr_box.proofs.Bytes.{are_bytes-fit}
 use Rattle.sr_wire.proofs.Decoding.{first_of, has_of, every_of}
+use Rattle.sr_cell.proofs.Columns.{are_bytes-fit}
 use Rattle.sr_wire.proofs.frame.decode.Goals as goal
 
 pub returns-clause-first : goal.returns-clause-first

@@ -1,11 +1,10 @@
-use Rattle.std.proofs.Common.{◌≡◌, ◌+◌, ◌≤◌, false, ltb, length, take, sym, ap, ◌∙◌, refl, arith}
+use Rattle.std.proofs.Common.{◌≡◌, ◌+◌, ◌≤◌, false, ltb, length, take, ap, ◌∙◌, refl, arith}
 use Rattle.std.specs.Prelude.{Ok}
 use Rattle.std.proofs.lemmas.Bool.{le-ltb}
-use Rattle.sr_box.proofs.Bytes.{are_bytes-fit}
+use Rattle.sr_cell.proofs.Columns.{are_bytes-fit}
 use Rattle.sr_wire.specs.Bodies.{message_of}
 use Rattle.sr_wire.specs.Reading.{cut, in_frame, go_on, Whole}
 use Rattle.sr_wire.proofs.Decoding.{cut_is}
-use Rattle.sr_wire.proofs.Frames.{IsFrame}
 use Rattle.sr_wire.proofs.frame.frame_of.Goals as goal
 
 pub invariant_of-result : goal.invariant_of-result

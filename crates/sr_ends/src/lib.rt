@@ -1,0 +1,4 @@
+//! The server as the connections of `serve` see it.
+#![tactic(auto)]
+
+pub mod server_end;

@@ -1,0 +1,70 @@
+-- What is true over an honest link.
+use Rattle.std.specs.Prelude.{true, false, ◌≤◌, List, [], ◌∷◌, ◌≡◌, Option, Some, None, Ok}
+use Rattle.std.specs.List.{list_all}
+use Rattle.sr_cell.specs.declared.table.Table.{Table}
+use Rattle.sr_model.specs.Queries.{Query, rows_of}
+use Rattle.sr_model.specs.Statements.{Tables}
+use Rattle.sr_policy.specs.declared.policy.Limits.{Limits}
+use Rattle.sr_query.specs.Bound.{is_table}
+use Rattle.sr_session.specs.Sessions.{Database, newest, tables_of}
+use Rattle.sr_session.specs.Walks.{Request, AskOut, WriteOut, ResumeOut}
+use Rattle.sr_session.specs.Clients.{Client}
+use Rattle.sr_session.specs.Laws.{IsSound, OutAsksKeys}
+use Rattle.sr_session.specs.Misfits.{misfit}
+use Rattle.sr_session.specs.Rules.{Outcome, Answered}
+use Rattle.sr_links.specs.Steps.{Step, Standing, Deed, Queried, Took, AreRuled, past_after}
+use Rattle.sr_links.specs.Honest.{Server, Input, Talk, Explains, Rests, IsTalk, AreTalks, IsHonest, steps_in, steps_of, server_after, server_at_last, has_cut, AreClosedBehind}
+
+-- the query that is answered where this happens
+abbrev pub query_out : Option Request → Option Query
+query_out None = None
+query_out (Some (AskOut number query meaning fresh parts)) = Some meaning
+query_out (Some (WriteOut number)) = None
+query_out (Some (ResumeOut number)) = None
+
+abbrev pub query_of : Deed → Client → Option Query
+query_of (Queried (Ok q)) c = Some q
+query_of (Took m) c = query_out c.out
+query_of other c = None
+
+-- An answer has the rows of its query on the tables of the version that it names.
+abbrev pub IsTrueAnswer : Database → Deed → Client → Outcome → Type 0
+IsTrueAnswer db deed c (Answered number version rows marks) = (q : Query) × (query_of deed c ≡ Some q) × (version ≤ newest db) × (rows ≡ rows_of q (tables_of db version))
+IsTrueAnswer db deed c other = Unit {0}
+
+-- A message that is taken is none that must be refused.
+abbrev pub FitsIf : Database → Client → Deed → Type 0
+FitsIf db c (Took m) = misfit db.schema c.out c.laid c.version m ≡ None
+FitsIf db c other = Unit {0}
+
+abbrev pub AreTrueAnswers : {C : Type 0} → Database → Client → List (Step C) → Type 0
+AreTrueAnswers {C} db c [] = Unit {0}
+AreTrueAnswers {C} db c (step ∷ steps) = IsTrueAnswer db step.deed c step.outcome × FitsIf db c step.deed × AreTrueAnswers db step.past steps
+
+-- Code that has an ask out asks the key of each of its parts.
+abbrev pub AsksKeys : {C : Type 0} → Standing C → Type 0
+AsksKeys {C} IsOf = (schema : List Table) (code : C) (c : Client) (tables : Tables) → IsOf schema code c tables → OutAsksKeys schema c.out
+
+-- Over an honest link each answer is true, and no message is refused, over any number of connections and whatever versions came
+-- meanwhile: wherever the session is closed, or if it never is, for a client that keeps to its rules over any link.
+abbrev pub AnswersAreTrue : {C : Type 0} → Standing C → Type 0
+AnswersAreTrue {C} IsOf = (limits : Limits) (s : Server) (code : C) (c : Client) (talks : List (Talk C)) (pieces : List (List Input)) → AsksKeys IsOf
+    → IsSound s.database → list_all is_table s.database.schema ≡ true → IsSound (server_at_last s pieces).database
+    → Rests IsOf s.database code c → AreTalks IsOf limits code c talks → AreRuled c (steps_of talks) → IsHonest s pieces talks
+    → AreTrueAnswers (server_at_last s pieces).database c (steps_of talks)
+
+-- So it is for any client where no session is open at first, and it is closed behind each connection and nowhere else.
+abbrev pub ServedAnswersAreTrue : {C : Type 0} → Standing C → Type 0
+ServedAnswersAreTrue {C} IsOf = (limits : Limits) (s : Server) (code : C) (c : Client) (talks : List (Talk C)) (pieces : List (List Input)) → AsksKeys IsOf
+    → s.session ≡ None → AreClosedBehind pieces
+    → IsSound s.database → list_all is_table s.database.schema ≡ true → IsSound (server_at_last s pieces).database
+    → Rests IsOf s.database code c → AreTalks IsOf limits code c talks → IsHonest s pieces talks
+    → AreTrueAnswers (server_at_last s pieces).database c (steps_of talks)
+
+-- Where the server has no session before, is never cut off, took all requests of a talk, and all came that it sent, no request is out
+-- at the end.
+abbrev pub WholeTalksEndFree : {C : Type 0} → Standing C → Type 0
+WholeTalksEndFree {C} IsOf = (limits : Limits) (s : Server) (code : C) (c : Client) (talk : Talk C) (inputs : List Input) → AsksKeys IsOf
+    → s.session ≡ None → has_cut inputs ≡ false → IsSound s.database → list_all is_table s.database.schema ≡ true → IsSound (server_after s inputs).database
+    → Rests IsOf s.database code c → IsTalk IsOf limits code c talk → (explains : Explains s inputs (steps_in talk))
+    → explains.frames.rest ≡ [] → explains.given.rest ≡ [] → (past_after c (steps_in talk)).out ≡ None

@@ -1,0 +1,28 @@
+//! Laws of the definitions: functions that do nothing, and whose contracts are the laws.
+ghost use Rattle.sr_cell.specs.declared.table.Table.{Table};
+ghost use Rattle.sr_model.specs.Statements.{Tables};
+ghost use Rattle.sr_session.specs.Clients.{Client};
+ghost use Rattle.std.specs.Prelude.{List};
+ghost use Rattle.sr_links.specs.Answers.{AnswersAreTrue, ServedAnswersAreTrue, WholeTalksEndFree};
+
+/// A client of which only this is known: when it stands for a past, with the rows of some tables of a schema.
+pub trait Peer {
+    ghost is_of: { List Table → Self → Client → Tables → Type 0 };
+}
+
+/// Over an honest link each answer has the rows of its query at the version that it names, and no message is refused: over any number
+/// of connections, whatever the server did meanwhile, and wherever it closed the session, or never did. The client keeps to its rules
+/// over any link.
+pub fn answers_are_true<C: Peer>()
+    ensures { AnswersAreTrue C.is_of }
+{}
+
+/// The same of a client of which nothing is known over other links, where the session is closed behind each connection and nowhere else.
+pub fn served_answers_are_true<C: Peer>()
+    ensures { ServedAnswersAreTrue C.is_of }
+{}
+
+/// Where the server took all requests of a connection, and all that it sent came, no request is out at its end.
+pub fn whole_talks_end_free<C: Peer>()
+    ensures { WholeTalksEndFree C.is_of }
+{}

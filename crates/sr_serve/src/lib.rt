@@ -1,0 +1,5 @@
+//! The program `serve`, once its words and files are read.
+#![tactic(auto)]
+
+pub mod exec;
+pub mod serve;

@@ -1,0 +1,95 @@
+-- What goes over a connection, piece by piece.
+use Rattle.std.proofs.Common.{◌≡◌, ℕ, ◌+◌, List, [], ◌++◌, length, take, Option, Some, None, arith, option_map, append_assoc, refl, sym, ◌∙◌, ap, subst, length-append, append-nil}
+use Rattle.std.proofs.lemmas.List.{drop-drop, take-append-le}
+use Rattle.std.proofs.Math.Seq.{take-add, take-append-add}
+use Rattle.sr_io.specs.Pieces.{SendsPart}
+use Rattle.sr_io.specs.Told.{Reading, Writing, Linking, Connection, sends, takes, sent_on, taken_from, OnlyFaults, Brings}
+use Rattle.sr_talk.specs.Moves.{OnlyLinks}
+
+sends-more : (p : Option Connection) (one two : List ℕ) → option_map (sends two) (option_map (sends one) p) ≡ option_map (sends (one ++ two)) p
+sends-more None one two = refl
+sends-more (Some c) one two = rw (append_assoc c.sent one two) refl
+
+pub sent_on-more : (l : Linking) (one two : List ℕ) → sent_on two (sent_on one l) ≡ sent_on (one ++ two) l
+sent_on-more l one two = rw (sends-more l.present one two) refl
+
+takes-more : (p : Option Connection) (one two : List ℕ) → option_map (takes two) (option_map (takes one) p) ≡ option_map (takes (one ++ two)) p
+takes-more None one two = refl
+takes-more (Some c) one two = rw (append_assoc c.taken one two, length-append one two, drop-drop (length two) (length one) c.coming) refl
+
+pub taken_from-more : (l : Linking) (one two : List ℕ) → taken_from two (taken_from one l) ≡ taken_from (one ++ two) l
+taken_from-more l one two = rw (takes-more l.present one two) refl
+
+takes-nothing : (p : Option Connection) → option_map (takes []) p ≡ p
+takes-nothing None = refl
+takes-nothing (Some c) = rw (append-nil c.taken) refl
+
+pub taken-nothing : (l : Linking) → taken_from [] l ≡ l
+taken-nothing l = rw (takes-nothing l.present) refl
+
+takes-behind : (p : Option Connection) (s t : List ℕ) → option_map (takes t) (option_map (sends s) p) ≡ option_map (sends s) (option_map (takes t) p)
+takes-behind None s t = refl
+takes-behind (Some c) s t = refl
+
+pub taken-behind : (l : Linking) (s t : List ℕ) → taken_from t (sent_on s l) ≡ sent_on s (taken_from t l)
+taken-behind l s t = rw (takes-behind l.present s t) refl
+
+pub brings-nothing : (p : Option Connection) → Brings p []
+brings-nothing None = tt
+brings-nothing (Some c) = refl
+
+pub brings-more : (p : Option Connection) (a b : List ℕ) → Brings p a → Brings (option_map (takes a) p) b → Brings p (a ++ b)
+brings-more None a b one more = tt
+brings-more (Some c) a b one more = rw (length-append a b, take-add (length a) (length b) c.coming, one, more) refl
+
+pub brings-behind : (p : Option Connection) (s b : List ℕ) → Brings (option_map (sends s) p) b → Brings p b
+brings-behind None s b brings = tt
+brings-behind (Some c) s b brings = brings
+
+sends-nothing : (p : Option Connection) → option_map (sends []) p ≡ p
+sends-nothing None = refl
+sends-nothing (Some c) = rw (append-nil c.sent) refl
+
+pub nothing-sent : (l : Linking) → sent_on [] l ≡ l
+nothing-sent l = rw (sends-nothing l.present) refl
+
+-- a part behind what was sent is a part of both
+pub part-behind : (old now new : Linking) (one two : List ℕ) → now ≡ sent_on one old → SendsPart now new two → SendsPart old new (one ++ two)
+part-behind old now new one two is part =
+    let fewer = part.fewer in
+    let same : sent_on (take part.count two) now ≡ sent_on (take (length one + part.count) (one ++ two)) old =
+    ap (sent_on (take part.count two)) is ∙ (sent_on-more old one (take part.count two) ∙ ap (λ bytes. sent_on bytes old) (sym (take-append-add one two part.count))) in
+    record {
+      count = length one + part.count;
+      fewer = omega (arith, fewer, length-append one two);
+      sent = subst (λ l. OnlyFaults l new) same part.sent;
+    }
+
+-- and of more than both
+pub part-front : (old new : Linking) (one two : List ℕ) → SendsPart old new one → SendsPart old new (one ++ two)
+part-front old new one two part =
+    let fewer = part.fewer in
+    record {
+      count = part.count;
+      fewer = omega (arith, fewer, length-append one two);
+      sent = subst (λ bytes. OnlyFaults (sent_on bytes old) new) (sym (take-append-le part.count one two (omega (arith, fewer)))) part.sent;
+    }
+
+-- ---- what stays
+
+module _ (L : Type 0) (reading : L → Reading) (writing : L → Writing) (linking : L → Linking) (held : L → List ℕ → Option (List ℕ)) (complaints : L → Option (List ℕ)) (IsSteady : L → Type 0) where
+  pub stays-still : (l : L) → OnlyLinks L reading writing linking held complaints IsSteady l l
+  stays-still l = record { stays_steady = λ s. s; reading_stays = refl; writing_stays = refl; held_stays = refl; complaints_stay = refl; faults_never_fall = omega arith }
+
+  pub stays-on : (a b c : L) → OnlyLinks L reading writing linking held complaints IsSteady a b → OnlyLinks L reading writing linking held complaints IsSteady b c → OnlyLinks L reading writing linking held complaints IsSteady a c
+  stays-on a b c one two =
+      let x = one.faults_never_fall in
+      let y = two.faults_never_fall in
+      record {
+        stays_steady = λ s. two.stays_steady (one.stays_steady s);
+        reading_stays = two.reading_stays ∙ one.reading_stays;
+        writing_stays = two.writing_stays ∙ one.writing_stays;
+        held_stays = two.held_stays ∙ one.held_stays;
+        complaints_stay = two.complaints_stay ∙ one.complaints_stay;
+        faults_never_fall = omega (arith, x, y);
+      }

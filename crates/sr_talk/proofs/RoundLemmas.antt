@@ -1,0 +1,170 @@
+-- One connection more.
+use Rattle.std.proofs.Common.{◌≡◌, ℕ, ◌+◌, ◌≤◌, List, [], ◌∷◌, ◌++◌, length, take, drop, Option, Some, None, arith, append_assoc, append-nil, refl, sym, ◌∙◌, ap, subst, length-append, option_map, option_to_list}
+use Rattle.std.specs.Prelude.{IfSome, Result}
+use Rattle.std.proofs.lemmas.Grind.{flat_map-append}
+use Rattle.std.proofs.lemmas.List.{take-append-drop, length-take}
+use Rattle.sr_cell.specs.declared.fault.Fault.{Fault as TheFault}
+use Rattle.sr_io.specs.Causes.{Rose}
+use Rattle.sr_io.specs.Told.{Linking, Connection, sends, takes, taken_from, connections, connected, hung_up, next_peer, IsOver}
+use Rattle.sr_message.specs.declared.message.Message.{Message}
+use Rattle.sr_model.specs.Statements.{Tables}
+use Rattle.sr_session.specs.Sessions.{Database}
+use Rattle.sr_links.specs.Honest.{Server}
+use Rattle.sr_talk.specs.Serving.{SentAs, IsWholeAs, CountsAs, Conversation, IsServed, AreServed, RoseBy, all_told, count_faults, connection_line, connection_lines, is_fault, spelled}
+use Rattle.sr_talk.specs.Talked.{SentOn, ClosesAs, EndsAt, Talks}
+use Rattle.sr_talk.specs.Rounds.{at_rest, text_of, Rounds, SoMany}
+use Rattle.sr_talk.specs.declared.serve.How.{How}
+use Rattle.sr_talk.specs.declared.serve.How.TheVariants.{End, Torn, Fault, Bad, Limit}
+use Rattle.sr_talk.specs.declared.serve.Served.{Served}
+
+-- ---- the connection that was made
+
+-- what a link tells of a connection that took these bytes, and sent those
+abbrev after : Option (List (List ℕ)) → List ℕ → List ℕ → Option Connection
+after peers T S = option_map (sends S) (option_map (takes T) (next_peer peers))
+
+-- the bytes that were sent, whatever the end
+record Sent (how : How) (n : ℕ) (all : List ℕ) (l talked : Linking) (T : List ℕ) : Type 0 where
+  pub bytes : List ℕ
+  pub past : talked.past ≡ connections l
+  pub present : talked.present ≡ after l.peers T bytes
+  pub are : SentAs how bytes all
+  pub counts : (frames : ℕ) → n ≡ frames → EndsAt how n → CountsAs how frames (length bytes) (length all)
+
+sent : (how : How) (n : ℕ) (all : List ℕ) (l talked : Linking) (T : List ℕ) → SentOn how n all (taken_from T (connected l)) talked → Sent how n all l talked T
+sent End n all l talked T is = record { bytes = all; past = ap (λ (l : Linking). l.past) is; present = ap (λ (l : Linking). l.present) is; are = refl; counts = λ frames same below. omega (arith, same, below) }
+sent Torn n all l talked T is = record { bytes = all; past = ap (λ (l : Linking). l.past) is; present = ap (λ (l : Linking). l.present) is; are = refl; counts = λ frames same below. omega (arith, same, below) }
+sent Bad n all l talked T is = record { bytes = all; past = ap (λ (l : Linking). l.past) is; present = ap (λ (l : Linking). l.present) is; are = refl; counts = λ frames same below. omega (arith, same, below) }
+sent Limit n all l talked T is = record { bytes = all; past = ap (λ (l : Linking). l.past) is; present = ap (λ (l : Linking). l.present) is; are = refl; counts = λ frames same reached. sym same ∙ reached }
+sent Fault n all l talked T s =
+    let within = s.within in
+    let size : length (take s.count all) ≡ s.count = length-take s.count all ∙ omega (arith, within) in
+    record {
+      bytes = take s.count all;
+      past = s.only.past;
+      present = s.only.present;
+      are = record { rest = drop s.count all; all = sym (take-append-drop s.count all) };
+      counts = λ frames same below. (omega (arith, same, below), λ reached. (let fewer = s.fewer (same ∙ reached) in omega (arith, size, fewer)));
+    }
+
+told-taken : (peers : Option (List (List ℕ))) (T S : List ℕ) → IfSome (after peers T S) (λ t. t.taken ≡ T)
+told-taken None T S = tt
+told-taken (Some []) T S = tt
+told-taken (Some (bytes ∷ more)) T S = refl
+
+told-sent : (P : List ℕ → Type 0) (peers : Option (List (List ℕ))) (T S : List ℕ) → P S → IfSome (after peers T S) (λ t. P t.sent)
+told-sent P None T S h = tt
+told-sent P (Some []) T S h = tt
+told-sent P (Some (bytes ∷ more)) T S h = h
+
+told-over : (present : Option Connection) → IsOver present → IfSome present (λ t. t.coming ≡ [])
+told-over None over = tt
+told-over (Some t) over = over
+
+told-any : (present : Option Connection) → IfSome present (λ t. Unit {0})
+told-any None = tt
+told-any (Some t) = tt
+
+told-whole : (how : How) (old new : Linking) → ClosesAs how old new → IfSome new.present (λ t. IsWholeAs how t.coming)
+told-whole End old new over = told-over new.present over
+told-whole Torn old new over = told-over new.present over
+told-whole Fault old new rose = told-any new.present
+told-whole Bad old new none = told-any new.present
+told-whole Limit old new none = told-any new.present
+
+-- ---- its faults
+
+rose-by : (how : How) (before : ℕ) (old new : Linking) → old.faults ≡ before → before ≤ new.faults → ClosesAs how old new → RoseBy before (is_fault how) new.faults
+rose-by End before old new same up closes = omega (arith, up)
+rose-by Torn before old new same up closes = omega (arith, up)
+rose-by Fault before old new same up closes = subst (λ n. Rose n new.faults) same closes
+rose-by Bad before old new same up closes = omega (arith, up)
+rose-by Limit before old new same up closes = omega (arith, up)
+
+module _ (Gives : Database → Message → Result Tables TheFault → Type 0) where
+  -- what was said over the connection is a conversation
+  pub round : (db : Database) (l made talked new : Linking) (served : Served) (IsAfter IsNew : Server → Type 0) → made ≡ connected l
+      → Talks Gives (at_rest db) made talked served.how served.frames IsAfter → ((s : Server) → IsAfter s → IsNew (at_rest s.database)) → new ≡ hung_up talked → l.faults ≤ talked.faults
+      → Rounds Gives db l new served IsNew
+  round db l made talked new served IsAfter IsNew made_is talks stands gone up =
+      let T : List ℕ = spelled talks.frames ++ talks.left in
+      let s : Sent served.how served.frames (spelled talks.sent) l talked T =
+      sent served.how served.frames (spelled talks.sent) l talked T (subst (λ m. SentOn served.how served.frames (spelled talks.sent) (taken_from T m) talked) made_is talks.is) in
+      record {
+        conversation = record { frames = talks.frames; how = served.how; told = talked.present };
+        after = talks.after;
+        how_is = refl;
+        count_is = talks.count_is;
+        is = record {
+          sent = talks.sent;
+          left = talks.left;
+          answers = talks.answers;
+          ends = talks.ends;
+          taken = subst (λ p. IfSome p (λ t. t.taken ≡ T)) (sym s.present) (told-taken l.peers T s.bytes);
+          bytes = subst (λ p. IfSome p (λ t. SentAs served.how t.sent (spelled talks.sent))) (sym s.present) (told-sent (λ b. SentAs served.how b (spelled talks.sent)) l.peers T s.bytes s.are);
+          whole = told-whole served.how made talked talks.closes;
+          counts = subst (λ p. IfSome p (λ t. CountsAs served.how (length talks.frames) (length t.sent) (length (spelled talks.sent)))) (sym s.present)
+              (told-sent (λ b. CountsAs served.how (length talks.frames) (length b) (length (spelled talks.sent))) l.peers T s.bytes (s.counts (length talks.frames) talks.count_is talks.counts));
+        };
+        made = ap connections gone ∙ (append-nil (connections talked) ∙ ap (λ x. x ++ option_to_list talked.present) s.past);
+        faults = rose-by served.how l.faults made new (ap (λ (l : Linking). l.faults) made_is) (subst (λ (t : Linking). l.faults ≤ t.faults) (sym gone) up) (closes-on served.how made talked new talks.closes gone);
+        stands = stands talks.after talks.stands;
+      }
+    where
+      closes-on : (how : How) (old talked new : Linking) → ClosesAs how old talked → new ≡ hung_up talked → ClosesAs how old new
+      closes-on End old talked new closes gone = subst (λ (l : Linking). IsOver l.present) (sym gone) tt
+      closes-on Torn old talked new closes gone = subst (λ (l : Linking). IsOver l.present) (sym gone) tt
+      closes-on Fault old talked new closes gone = subst (λ (l : Linking). Rose old.faults l.faults) (sym gone) closes
+      closes-on Bad old talked new closes gone = tt
+      closes-on Limit old talked new closes gone = tt
+
+  -- ---- several
+
+  pub served-one : (db last : Database) (cs : List Conversation) (c : Conversation) (after : Server) → AreServed Gives db cs last → IsServed Gives last c after → AreServed Gives db (cs ++ c ∷ []) after.database
+  served-one db last [] c after same is = (after, subst (λ x. IsServed Gives x c after) same is, refl)
+  served-one db last (first ∷ cs) c after (mid, one, others) is = (mid, one, served-one mid.database last cs c after others is)
+
+  pub told-one : (cs : List Conversation) (c : Conversation) → all_told (cs ++ c ∷ []) ≡ all_told cs ++ option_to_list c.told
+  told-one [] c = append-nil (option_to_list c.told)
+  told-one (first ∷ cs) c = ap (λ x. option_to_list first.told ++ x) (told-one cs c) ∙ sym (append_assoc (option_to_list first.told) (all_told cs) (option_to_list c.told))
+
+  pub faults-one : (cs : List Conversation) (c : Conversation) → count_faults (cs ++ c ∷ []) ≡ count_faults cs + is_fault c.how
+  faults-one [] c = omega arith
+  faults-one (first ∷ cs) c = let more = faults-one cs c in omega (arith, more)
+
+  lines-one : (i : ℕ) (cs : List Conversation) (c : Conversation) → connection_lines i (cs ++ c ∷ []) ≡ connection_lines i cs ++ connection_line (i + length cs) c.how (length c.frames) ∷ []
+  lines-one i [] c = ap (λ k. connection_line k c.how (length c.frames) ∷ []) (omega arith)
+  lines-one i (first ∷ cs) c =
+      ap (λ x. connection_line i first.how (length first.frames) ∷ x)
+      (lines-one (i + 1) cs c ∙ ap (λ k. connection_lines (i + 1) cs ++ connection_line k c.how (length c.frames) ∷ []) (omega arith))
+
+  pub texts-one : (cs : List Conversation) (c : Conversation) → text_of (connection_lines 1 (cs ++ c ∷ [])) ≡ text_of (connection_lines 1 cs) ++ connection_line (length cs + 1) c.how (length c.frames)
+  texts-one cs c =
+      ap text_of (lines-one 1 cs c ∙ ap (λ k. connection_lines 1 cs ++ connection_line k c.how (length c.frames) ∷ []) (omega arith))
+      ∙ (flat_map-append (λ line. line) (connection_lines 1 cs) (connection_line (length cs + 1) c.how (length c.frames) ∷ [])
+      ∙ ap (λ x. text_of (connection_lines 1 cs) ++ x) (append-nil (connection_line (length cs + 1) c.how (length c.frames))))
+
+  abbrev pub none-so-far : (db : Database) (l : Linking) (IsNow : Server → Type 0) → IsNow (at_rest db) → SoMany Gives db l l 0 IsNow
+  none-so-far db l IsNow stands = record { conversations = []; last = db; served = refl; made = sym (append-nil (connections l)); number = refl; faults = omega arith; stands = stands }
+
+  abbrev pub one-more : (db : Database) (old now new : Linking) (count : ℕ) (served : Served) (IsNow IsNew : Server → Type 0) → (h : SoMany Gives db old now count IsNow) → Rounds Gives h.last now new served IsNew
+      → SoMany Gives db old new (count + 1) IsNew
+  one-more db old now new count served IsNow IsNew h r =
+      let number = h.number in
+      let before = h.faults in
+      let here : RoseBy now.faults (is_fault r.conversation.how) new.faults = subst (λ how. RoseBy now.faults (is_fault how) new.faults) (sym r.how_is) r.faults in
+      let sum = faults-one h.conversations r.conversation in
+      record {
+        conversations = h.conversations ++ r.conversation ∷ [];
+        last = r.after.database;
+        served = served-one db h.last h.conversations r.conversation r.after h.served r.is;
+        made = r.made ∙ (ap (λ x. x ++ option_to_list r.conversation.told) h.made
+            ∙ (append_assoc (connections old) (all_told h.conversations) (option_to_list r.conversation.told) ∙ ap (λ x. connections old ++ x) (sym (told-one h.conversations r.conversation))));
+        number = omega (arith, number, length-append h.conversations (r.conversation ∷ []));
+        faults = omega (arith, before, here, sum);
+        stands = r.stands;
+      }
+
+  pub same-line : (db : Database) (now new : Linking) (served : Served) (number : ℕ) (IsNew : Server → Type 0) (r : Rounds Gives db now new served IsNew)
+      → connection_line number served.how served.frames ≡ connection_line number r.conversation.how (length r.conversation.frames)
+  same-line db now new served number IsNew r = ap (λ how. connection_line number how served.frames) (sym r.how_is) ∙ ap (λ n. connection_line number r.conversation.how n) r.count_is

@@ -1,0 +1,220 @@
+-- What was said so far over a connection.
+use Rattle.std.proofs.Common.{◌≡◌, ℕ, ◌+◌, ◌<◌, ◌≤◌, List, [], ◌∷◌, ◌++◌, length, take, Option, arith, append_assoc, refl, sym, ◌∙◌, ap, subst, length-append, append-nil, option_map, inl, inr}
+use Rattle.std.specs.Prelude.{Result}
+use Rattle.std.proofs.lemmas.Grind.{flat_map-append}
+use Rattle.std.proofs.Math.Seq.{take-append-add, take-length}
+use Rattle.sr_cell.specs.declared.fault.Fault.{Fault as TheFault}
+use Rattle.sr_io.specs.Causes.{Rose}
+use Rattle.sr_io.specs.Told.{Reading, Writing, Linking, sends, takes, sent_on, taken_from, OnlyFaults, Brings}
+use Rattle.sr_message.specs.declared.message.Message.{Message}
+use Rattle.sr_model.specs.Statements.{Tables}
+use Rattle.sr_session.specs.Sessions.{Database}
+use Rattle.sr_wire.specs.declared.wire_fault.WireFault.{WireFault}
+use Rattle.sr_wire.specs.Spelling.{spelling}
+use Rattle.sr_links.specs.Honest.{Server, Frame as FrameOf, answer}
+use Rattle.sr_talk.specs.Moves.{OnlyLinks}
+use Rattle.sr_talk.specs.Reading.{Reads, Nexts}
+use Rattle.sr_talk.specs.Serving.{Answers, EndsAs, spelled}
+use Rattle.sr_talk.specs.Talked.{Takes, Sends, Turns, SentOn, ClosesAs, EndsAt, Talks}
+use Rattle.sr_talk.specs.declared.frames.Next.TheVariants.{End as NextEnd, Torn as NextTorn, Fault as NextFault, Bad as NextBad}
+use Rattle.sr_talk.specs.declared.serve.How.{How}
+use Rattle.sr_talk.specs.declared.serve.How.TheVariants.{End, Torn, Fault, Bad, Limit}
+use Rattle.sr_talk.specs.declared.serve.Turn.TheVariants.{Refused, Broken}
+use Rattle.sr_talk.proofs.MoveLemmas.{taken_from-more, sent_on-more, taken-behind, taken-nothing, nothing-sent, brings-nothing, brings-more, brings-behind}
+
+-- ---- lists of frames
+
+pub spelled-append : (one two : List Message) → spelled (one ++ two) ≡ spelled one ++ spelled two
+spelled-append one two = flat_map-append spelling one two
+
+spelled-one : (frames : List Message) (m : Message) (left : List ℕ) → spelled (frames ++ m ∷ []) ++ left ≡ spelled frames ++ (spelling m ++ left)
+spelled-one frames m left =
+    ap (λ x. x ++ left) (spelled-append frames (m ∷ []) ∙ ap (λ x. spelled frames ++ x) (append-nil (spelling m))) ∙ append_assoc (spelled frames) (spelling m) left
+
+module _ (Gives : Database → Message → Result Tables TheFault → Type 0) where
+  -- the frames that were answered so far
+  pub record SoFar (s : Server) (first now : Linking) (left : List ℕ) (index : ℕ) (IsNow : Server → Type 0) : Type 0 where
+    pub frames : List Message
+    pub sent : List Message
+    pub after : Server
+    pub brings : Brings first.present (spelled frames ++ left)
+    pub answers : Answers Gives s frames sent after
+    pub is : now ≡ sent_on (spelled sent) (taken_from (spelled frames ++ left) first)
+    pub count_is : index ≡ length frames
+    pub stands : IsNow after
+
+  pub record ServedSoFar (L S : Type 0) (reading : L → Reading) (writing : L → Writing) (linking : L → Linking) (held : L → List ℕ → Option (List ℕ)) (complaints : L → Option (List ℕ)) (IsSteady : L → Type 0) (IsOf : S → Server → Type 0) (room : S → ℕ) (first now : L) (feed : List ℕ) (server_first server : S) (index : ℕ) : Type 0 where
+    pub so_far : (s : Server) → IsOf server_first s → SoFar s (linking first) (linking now) feed index (IsOf server)
+    pub draws : room server_first ≤ room server + index
+    pub stays : OnlyLinks L reading writing linking held complaints IsSteady first now
+    pub up : (linking now).is_up ≡ (linking first).is_up
+
+  answers-one : (s mid : Server) (frames sent : List Message) (m : Message) (one : List Message) (IsNew : Server → Type 0) → Answers Gives s frames sent mid → (t : Takes Gives mid m one IsNew)
+      → Answers Gives s (frames ++ m ∷ []) (sent ++ one) (answer mid (FrameOf m t.result)).server
+  answers-one s mid [] sent m one IsNew (none, same) t =
+      subst (λ x. Answers Gives x (m ∷ []) (sent ++ one) (answer mid (FrameOf m t.result)).server) same
+      (t.result, [], t.accepted, t.gives, ap (λ x. x ++ one) none ∙ (t.sends ∙ sym (append-nil (answer mid (FrameOf m t.result)).sent)), (refl, refl))
+  answers-one s mid (first ∷ frames) sent m one IsNew (result, more, accepted, gives, all, others) t =
+      (result, more ++ one, accepted, gives, ap (λ x. x ++ one) all ∙ append_assoc (answer s (FrameOf first result)).sent more one, answers-one (answer s (FrameOf first result)).server mid frames more m one IsNew others t)
+
+  -- ---- one frame more
+
+  -- after reading
+  record ReadOn (first mid : Linking) (frames sent : List Message) (behind : List ℕ) : Type 0 where
+    pub brings : Brings first.present (spelled frames ++ behind)
+    pub is : mid ≡ sent_on (spelled sent) (taken_from (spelled frames ++ behind) first)
+
+  read-on : (s : Server) (first now mid : Linking) (left frame after : List ℕ) (index : ℕ) (IsNow : Server → Type 0) → (h : SoFar s first now left index IsNow) → Reads now mid left frame after
+      → ReadOn first mid h.frames h.sent (frame ++ after)
+  read-on s first now mid left frame after index IsNow h r =
+      let T : List ℕ = spelled h.frames ++ left in
+      let S : List ℕ = spelled h.sent in
+      let e : T ++ r.bytes ≡ spelled h.frames ++ (frame ++ after) = append_assoc (spelled h.frames) left r.bytes ∙ ap (λ x. spelled h.frames ++ x) r.cut in
+      let b : Brings (option_map (sends S) (option_map (takes T) first.present)) r.bytes = subst (λ (l : Linking). Brings l.present r.bytes) h.is r.brings in
+      record {
+        brings = subst (Brings first.present) e (brings-more first.present T r.bytes h.brings (brings-behind (option_map (takes T) first.present) S r.bytes b));
+        is = r.is ∙ (ap (taken_from r.bytes) h.is ∙ (taken-behind (taken_from T first) S r.bytes ∙ (ap (sent_on S) (taken_from-more first T r.bytes) ∙ ap (λ x. sent_on S (taken_from x first)) e)));
+      }
+
+  pub so-far-start : (s : Server) (l : Linking) (IsNow : Server → Type 0) → IsNow s → SoFar s l l [] 0 IsNow
+  so-far-start s l IsNow stands = record {
+    frames = [];
+    sent = [];
+    after = s;
+    brings = brings-nothing l.present;
+    answers = (refl, refl);
+    is = sym (nothing-sent (taken_from [] l) ∙ taken-nothing l);
+    count_is = refl;
+    stands = stands;
+  }
+
+  pub so-far-more : (s : Server) (first now mid new : Linking) (left after : List ℕ) (m : Message) (index : ℕ) (IsNow IsNew : Server → Type 0) → (h : SoFar s first now left index IsNow)
+      → Reads now mid left (spelling m) after → Sends Gives h.after m mid new IsNew → SoFar s first new after (index + 1) IsNew
+  so-far-more s first now mid new left after m index IsNow IsNew h r t =
+      let on = read-on s first now mid left (spelling m) after index IsNow h r in
+      let count = h.count_is in
+      let behind : List ℕ = spelled h.frames ++ (spelling m ++ after) in
+      record {
+        frames = h.frames ++ m ∷ [];
+        sent = h.sent ++ t.sent;
+        after = (answer h.after (FrameOf m t.takes.result)).server;
+        brings = subst (Brings first.present) (sym (spelled-one h.frames m after)) on.brings;
+        answers = answers-one s h.after h.frames h.sent m t.sent IsNew h.answers t.takes;
+        is = t.is ∙ (ap (sent_on (spelled t.sent)) on.is ∙ (sent_on-more (taken_from behind first) (spelled h.sent) (spelled t.sent)
+            ∙ (ap (λ x. sent_on x (taken_from behind first)) (sym (spelled-append h.sent t.sent))
+            ∙ ap (λ x. sent_on (spelled (h.sent ++ t.sent)) (taken_from x first)) (sym (spelled-one h.frames m after)))));
+        count_is = omega (arith, count, length-append h.frames (m ∷ []));
+        stands = t.takes.stands;
+      }
+
+  -- ---- the end
+
+  -- at which all that was answered was sent
+  quiet-end : (how : How) (s : Server) (first now new : Linking) (left frame after : List ℕ) (index : ℕ) (IsNow IsNew : Server → Type 0) → (h : SoFar s first now left index IsNow) → IsNew h.after → Reads now new left frame after
+      → (new ≡ sent_on (spelled h.sent) (taken_from (spelled h.frames ++ (frame ++ after)) first) → SentOn how index (spelled h.sent) (taken_from (spelled h.frames ++ (frame ++ after)) first) new)
+      → EndsAs how h.after (frame ++ after) → ClosesAs how first new → EndsAt how index → Talks Gives s first new how index IsNew
+  quiet-end how s first now new left frame after index IsNow IsNew h stands r sent ends closes counts =
+      let on = read-on s first now new left frame after index IsNow h r in
+      record {
+        frames = h.frames;
+        sent = h.sent;
+        left = frame ++ after;
+        after = h.after;
+        brings = on.brings;
+        answers = h.answers;
+        is = sent on.is;
+        ends = ends;
+        closes = closes;
+        count_is = h.count_is;
+        counts = counts;
+        stands = stands;
+      }
+
+  module _ (s : Server) (first now new : Linking) (left after : List ℕ) (index : ℕ) (IsNow : Server → Type 0) (h : SoFar s first now left index IsNow) (below : index < 1000000) where
+    pub at-end : Nexts NextEnd now new left after → Talks Gives s first new End index IsNow
+    at-end (r, none, over) = quiet-end End s first now new left [] after index IsNow IsNow h h.stands r (λ e. e) none over below
+
+    pub at-torn : Nexts NextTorn now new left after → Talks Gives s first new Torn index IsNow
+    at-torn (r, some, short, over) = quiet-end Torn s first now new left [] after index IsNow IsNow h h.stands r (λ e. e) (some, short) over below
+
+    pub at-bad : (fault : WireFault) → Nexts (NextBad fault) now new left after → Talks Gives s first new Bad index IsNow
+    at-bad fault (r, faulty, other) = quiet-end Bad s first now new left [] after index IsNow IsNow h h.stands r (λ e. e) (inl (fault, faulty, other)) tt below
+
+    pub at-fault : Nexts NextFault now new left after → Talks Gives s first new Fault index IsNow
+    at-fault all =
+        let on = read-on s first now all.linking left [] after index IsNow h all.reads in
+        let S : List ℕ = spelled h.sent in
+        let before : Linking = taken_from (spelled h.frames ++ after) first in
+        let whole : all.linking ≡ sent_on (take (length S) S) before = on.is ∙ ap (λ x. sent_on x before) (sym (take-length S)) in
+        record {
+          frames = h.frames;
+          sent = h.sent;
+          left = after;
+          after = h.after;
+          brings = on.brings;
+          answers = h.answers;
+          is = record { count = length S; within = omega arith; fewer = λ reached. absurd (omega (arith, below, reached)); only = subst (λ l. OnlyFaults l new) whole all.only };
+          ends = tt;
+          closes = subst (λ (l : Linking). Rose l.faults new.faults) h.is all.rose;
+          count_is = h.count_is;
+          counts = omega (arith, below);
+          stands = h.stands;
+        }
+
+  module _ (s : Server) (first now mid new : Linking) (left after : List ℕ) (m : Message) (index : ℕ) (IsNow IsNew : Server → Type 0) (h : SoFar s first now left index IsNow) (below : index < 1000000) (r : Reads now mid left (spelling m) after) where
+    pub at-refused : Turns Gives Refused h.after m mid new IsNew → Talks Gives s first new Bad index IsNew
+    at-refused (refused, same, stands) =
+        quiet-end Bad s first now new left (spelling m) after index IsNow IsNew h stands (subst (λ l. Reads now l left (spelling m) after) (sym same) r) (λ e. e) (inr (m, after, refl, refused)) tt below
+
+    pub at-broken : Turns Gives Broken h.after m mid new IsNew → Talks Gives s first new Fault (index + 1) IsNew
+    at-broken t =
+        let on = read-on s first now mid left (spelling m) after index IsNow h r in
+        let S : List ℕ = spelled h.sent in
+        let A : List ℕ = spelled t.sent in
+        let part = t.part in
+        let count = h.count_is in
+        let fewer = part.fewer in
+        let both : spelled (h.sent ++ t.sent) ≡ S ++ A = spelled-append h.sent t.sent in
+        let sizes : length (spelled (h.sent ++ t.sent)) ≡ length S + length A = ap (λ x. length x) both ∙ length-append S A in
+        let before : Linking = taken_from (spelled h.frames ++ (spelling m ++ after)) first in
+        let before' : Linking = taken_from (spelled (h.frames ++ m ∷ []) ++ after) first in
+        let same : before' ≡ before = ap (λ x. taken_from x first) (spelled-one h.frames m after) in
+        let e : sent_on (take part.count A) mid ≡ sent_on (take (length S + part.count) (spelled (h.sent ++ t.sent))) before' =
+        ap (sent_on (take part.count A)) on.is ∙ (sent_on-more before S (take part.count A)
+        ∙ (ap (sent_on (S ++ take part.count A)) (sym same) ∙ (ap (λ x. sent_on x before') (sym (take-append-add S A part.count)) ∙ ap (λ x. sent_on (take (length S + part.count) x) before') (sym both)))) in
+        let faults : mid.faults ≡ first.faults = ap (λ (l : Linking). l.faults) on.is in
+        record {
+          frames = h.frames ++ m ∷ [];
+          sent = h.sent ++ t.sent;
+          left = after;
+          after = (answer h.after (FrameOf m t.takes.result)).server;
+          brings = subst (Brings first.present) (sym (spelled-one h.frames m after)) on.brings;
+          answers = answers-one s h.after h.frames h.sent m t.sent IsNew h.answers t.takes;
+          is = record {
+            count = length S + part.count;
+            within = omega (arith, sizes, fewer);
+            fewer = λ reached. omega (arith, sizes, fewer);
+            only = subst (λ l. OnlyFaults l new) e part.sent;
+          };
+          ends = tt;
+          closes = subst (λ n. Rose n new.faults) faults t.rose;
+          count_is = omega (arith, count, length-append h.frames (m ∷ []));
+          counts = omega (arith, below);
+          stands = t.takes.stands;
+        }
+
+  pub at-limit : (s : Server) (first now : Linking) (left : List ℕ) (index : ℕ) (IsNow : Server → Type 0) → SoFar s first now left index IsNow → index ≡ 1000000 → Talks Gives s first now Limit 1000000 IsNow
+  at-limit s first now left index IsNow h reached = record {
+    frames = h.frames;
+    sent = h.sent;
+    left = left;
+    after = h.after;
+    brings = h.brings;
+    answers = h.answers;
+    is = h.is;
+    ends = tt;
+    closes = tt;
+    count_is = sym reached ∙ h.count_is;
+    counts = refl;
+    stands = h.stands;
+  }

@@ -1,0 +1,73 @@
+use Rattle.std.proofs.Common.{◌≡◌, ◌+◌, ◌∙◌, sym, ap, subst, arith, rules}
+use Rattle.std.specs.Prelude.{◌||◌}
+use Rattle.std.specs.Io.KnownBytes.{Appends}
+use Rattle.sr_io.specs.Causes.{Rose}
+use Rattle.sr_io.specs.Pieces.{WritesPrefix}
+use Rattle.sr_io.specs.Told.{Writing}
+use Rattle.sr_talk.specs.Rounds.{EndsBy, RoundsIf}
+use Rattle.sr_talk.specs.Serving.{by_fault, connection_line}
+use Rattle.sr_talk.proofs.SomeLemmas.{ServedSome, some-start, more-served, none-more, unwritten, all-served}
+use Rattle.sr_talk.proofs.rounds.serve_some.Goals as goal
+
+pub loop-done-init : goal.loop-done-init
+loop-done-init g c = some-start g.S.Serves.gives _ _ g.H.Outside.reading g.H.Outside.writing g.H.Outside.linking g.H.Outside.held g.H.Outside.complaints g.H.Outside.IsSteady g.S.Serves.is_of g.S.Serves.room _ _
+
+pub returns-in-None-clause-ending : goal.returns-in-None-clause-ending
+returns-in-None-clause-ending g c db is =
+    let h = c.loop-done.invariant.so_far db is in
+    none-more g.S.Serves.gives db c.args.count (g.H.Outside.linking c.args.host.now) (g.H.Outside.linking c.loop-done.host) (g.H.Outside.linking c.serve_one.new.dock) (g.H.Outside.writing c.args.host.now)
+    (g.H.Outside.writing c.loop-done.host) (g.H.Outside.writing c.serve_one.new.dock) c.loop-done.done c.loop-done.faulty (g.S.Serves.is_of c.loop-done.server) (g.S.Serves.is_of c.serve_one.new.server) (search rules) h
+    (subst (λ round. RoundsIf g.S.Serves.gives round h.many.last (g.H.Outside.linking c.loop-done.host) (g.H.Outside.linking c.serve_one.new.dock) (g.S.Serves.is_of c.serve_one.new.server)) c.in-None.is
+    (c.in_ok-served.ensures.round h.many.last h.many.stands))
+    c.serve_one.ensures.stays.writing_stays
+
+pub returns-in-Err-Refused-clause-ending : goal.returns-in-Err-Refused-clause-ending
+returns-in-Err-Refused-clause-ending g c db is =
+    let h = c.loop-done.invariant.so_far db is in
+    let r = subst (λ round. RoundsIf g.S.Serves.gives round h.many.last (g.H.Outside.linking c.loop-done.host) (g.H.Outside.linking c.serve_one.new.dock) (g.S.Serves.is_of c.serve_one.new.server)) c.in-Some.is
+    (c.in_ok-served.ensures.round h.many.last h.many.stands) in
+    let bytes : c.as_bytes.result.now ≡ connection_line (c.loop-done.done + 1) c.in-Some.served.how c.in-Some.served.frames = search rules in
+    let rose : Rose (g.H.Outside.writing c.serve_one.new.dock).faults (g.H.Outside.writing c.write_all.new.sink).faults = search rules in
+    unwritten g.S.Serves.gives db (g.H.Outside.linking c.args.host.now) (g.H.Outside.linking c.loop-done.host) (g.H.Outside.linking c.serve_one.new.dock) (g.H.Outside.writing c.args.host.now) (g.H.Outside.writing c.loop-done.host)
+    c.loop-done.done c.in-Some.served (g.S.Serves.is_of c.loop-done.server) (g.S.Serves.is_of c.serve_one.new.server) c.args.count (g.H.Outside.writing c.write_all.new.sink) c.loop-done.faulty
+    (g.H.Outside.linking c.write_all.new.sink) (search rules) h r
+    (subst (λ b. WritesPrefix (g.H.Outside.writing c.loop-done.host).written (g.H.Outside.writing c.write_all.new.sink).written b) bytes
+    (subst (λ (w : Writing). WritesPrefix w.written (g.H.Outside.writing c.write_all.new.sink).written c.as_bytes.result.now) c.serve_one.ensures.stays.writing_stays c.write_all.ensures.prefix))
+    (subst (λ (w : Writing). Rose w.faults (g.H.Outside.writing c.write_all.new.sink).faults) c.serve_one.ensures.stays.writing_stays rose)
+    c.write_all.ensures.linking_stays
+
+pub loop-done-preserved : goal.loop-done-preserved
+loop-done-preserved g c = record {
+  so_far = λ db is.
+      let h = c.loop-done.invariant.so_far db is in
+      let r = subst (λ round. RoundsIf g.S.Serves.gives round h.many.last (g.H.Outside.linking c.loop-done.host) (g.H.Outside.linking c.serve_one.new.dock) (g.S.Serves.is_of c.serve_one.new.server)) c.in-Some.is
+      (c.in_ok-served.ensures.round h.many.last h.many.stands) in
+      let bytes : c.as_bytes.result.now ≡ connection_line (c.loop-done.done + 1) c.in-Some.served.how c.in-Some.served.frames = search rules in
+      let line = subst (λ (w : Writing). Appends w.written (g.H.Outside.writing c.write_all.new.sink).written c.as_bytes.result.now) c.serve_one.ensures.stays.writing_stays c.in-Ok.ensures.whole in
+      let faults = c.in-Ok.ensures.ok_keeps_faults ∙ ap (λ (w : Writing). w.faults) c.serve_one.ensures.stays.writing_stays in
+      let more = more-served g.S.Serves.gives db (g.H.Outside.linking c.args.host.now) (g.H.Outside.linking c.loop-done.host) (g.H.Outside.linking c.serve_one.new.dock) (g.H.Outside.writing c.args.host.now)
+      (g.H.Outside.writing c.loop-done.host) c.loop-done.done c.in-Some.served (g.S.Serves.is_of c.loop-done.server) (g.S.Serves.is_of c.serve_one.new.server) (g.H.Outside.writing c.write_all.new.sink) c.loop-done.faulty h r
+      (subst (λ b. Appends (g.H.Outside.writing c.loop-done.host).written (g.H.Outside.writing c.write_all.new.sink).written b) bytes line) faults in
+      subst (λ b. ServedSome g.S.Serves.gives db (g.H.Outside.linking c.args.host.now) (g.H.Outside.linking c.write_all.new.sink) (g.H.Outside.writing c.args.host.now) (g.H.Outside.writing c.write_all.new.sink)
+      (c.loop-done.done + 1) b (g.S.Serves.is_of c.serve_one.new.server)) (sym c.has_failed-faulty.ensures)
+      (subst (λ l. ServedSome g.S.Serves.gives db (g.H.Outside.linking c.args.host.now) l (g.H.Outside.writing c.args.host.now) (g.H.Outside.writing c.write_all.new.sink)
+      (c.loop-done.done + 1) (c.loop-done.faulty || by_fault c.in-Some.served.how) (g.S.Serves.is_of c.serve_one.new.server)) (sym c.write_all.ensures.linking_stays) more);
+  draws = (let before = c.loop-done.invariant.draws in let one = c.serve_one.ensures.draws in omega (arith, before, one));
+  stays = record {
+    stays_steady = λ s. c.write_all.ensures.stays_steady (c.serve_one.ensures.stays.stays_steady (c.loop-done.invariant.stays.stays_steady s));
+    reading_stays = c.write_all.ensures.reading_stays ∙ (c.serve_one.ensures.stays.reading_stays ∙ c.loop-done.invariant.stays.reading_stays);
+    held_stays = c.write_all.ensures.held_stays ∙ (c.serve_one.ensures.stays.held_stays ∙ c.loop-done.invariant.stays.held_stays);
+    complaints_stay = c.write_all.ensures.complaints_stay ∙ (c.serve_one.ensures.stays.complaints_stay ∙ c.loop-done.invariant.stays.complaints_stay);
+  };
+}
+
+pub returns-clause-ending : goal.returns-clause-ending
+returns-clause-ending g c db is =
+    let h = c.loop-done.invariant.so_far db is in
+    let all : c.loop-done.done ≡ c.args.count = search rules in
+    subst (λ ending. EndsBy g.S.Serves.gives ending db c.args.count (g.H.Outside.linking c.args.host.now) (g.H.Outside.linking c.loop-done.host) (g.H.Outside.writing c.args.host.now) (g.H.Outside.writing c.loop-done.host)
+    (g.S.Serves.is_of c.loop-done.server)) (sym c.ending_of.ensures)
+    (all-served g.S.Serves.gives db c.args.count (g.H.Outside.linking c.args.host.now) (g.H.Outside.linking c.loop-done.host) (g.H.Outside.writing c.args.host.now) (g.H.Outside.writing c.loop-done.host) c.loop-done.faulty
+    (g.S.Serves.is_of c.loop-done.server)
+    (subst (λ n. ServedSome g.S.Serves.gives db (g.H.Outside.linking c.args.host.now) (g.H.Outside.linking c.loop-done.host) (g.H.Outside.writing c.args.host.now) (g.H.Outside.writing c.loop-done.host) n c.loop-done.faulty
+    (g.S.Serves.is_of c.loop-done.server)) all h))

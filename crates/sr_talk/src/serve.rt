@@ -1,0 +1,181 @@
+//! One connection of a server.
+ghost use Rattle.std.specs.Prelude.{◌≡◌, ◌≢◌, ◌+◌, ◌<◌, ◌≤◌, true, false, ℕ, List, [], IfOk, IsTrue};
+ghost use Rattle.std.specs.List.{All};
+ghost use Rattle.sr_wire.specs.Limits.{IsSendable};
+ghost use Rattle.sr_wire.specs.Spelling.{has_spelling, spelling};
+ghost use Rattle.sr_links.specs.Honest.{Server};
+ghost use Rattle.sr_talk.specs.Moves.{OnlyLinks, SendsAs};
+ghost use Rattle.sr_talk.specs.Serving.{spelled};
+ghost use Rattle.sr_talk.specs.Talked.{Turns, Talks};
+ghost use Rattle.sr_talk.specs.declared.serve.How.TheVariants.{Fault as ByFault};
+ghost use Rattle.sr_talk.specs.declared.serve.Turn.TheVariants.{Broken};
+
+use crate::frames::{Next, next_frame};
+use crate::parts::Serves;
+use sr_cell::list::{No, NoMemory};
+use sr_feed::feed::Feed;
+use sr_io::outside::Link;
+use sr_io::whole::send_all;
+use sr_message::message::Message;
+use sr_wire::encode::encode;
+use std::alloc::Global;
+
+/// The most frames that are read on one connection.
+const MOST_FRAMES: u32 = 1_000_000;
+
+/// How a connection ended: the peer said no more; it said no more inside of a frame; the link failed; what came next was no frame, or one
+/// that must be refused; or the peer had all its frames.
+#[derive(Clone, Copy, Debug, PartialEq, Eq)]
+pub enum How {
+    End,
+    Torn,
+    Fault,
+    Bad,
+    Limit,
+}
+
+/// A connection that is over: how it ended, and how many frames were read.
+#[derive(Clone, Copy, Debug, PartialEq, Eq)]
+pub struct Served {
+    pub how: How,
+    pub frames: u32,
+}
+
+/// What came of one message: all was sent, it was refused, or the link failed.
+#[derive(Clone, Copy, Debug, PartialEq, Eq)]
+enum Turn {
+    Whole,
+    Refused,
+    Broken,
+}
+
+/// Sends the frames of messages, one after another. Answers false where the link fails.
+pub fn send_messages<L: Link>(
+    alloc: Global,
+    link: &mut L,
+    messages: &[Message],
+) -> Result<bool, NoMemory>
+    requires { All IsSendable messages.now }
+    ensures sent { IfOk result (λ whole. SendsAs whole (L.linking link.old) (L.linking link.new) (spelled messages.now)) }
+    ensures stays { OnlyLinks L L.reading L.writing L.linking L.held L.complaints L.IsSteady link.old link.new }
+    ensures stays_up { (L.linking link.new).is_up ≡ (L.linking link.old).is_up }
+    ensures steady_fails_only_down { L.IsSteady link.old → (L.linking link.old).is_up ≡ true → IfOk result (λ whole. whole ≡ true) }
+{
+    for message in messages {
+        if !send_one(alloc, link, message)? {
+            return Ok(false);
+        }
+    }
+    Ok(true)
+}
+
+/// Sends the frame of a message. Answers false where the link fails.
+fn send_one<L: Link>(alloc: Global, link: &mut L, message: &Message) -> Result<bool, NoMemory>
+    requires { IsSendable message.now }
+    ensures sent { IfOk result (λ whole. SendsAs whole (L.linking link.old) (L.linking link.new) (spelling message.now)) }
+    ensures stays { OnlyLinks L L.reading L.writing L.linking L.held L.complaints L.IsSteady link.old link.new }
+    ensures stays_up { (L.linking link.new).is_up ≡ (L.linking link.old).is_up }
+    ensures steady_fails_only_down { L.IsSteady link.old → (L.linking link.old).is_up ≡ true → IfOk result (λ whole. whole ≡ true) }
+{
+    let bytes = encode(alloc, message)?;
+    match send_all(link, bytes.as_slice()) {
+        Ok(()) => Ok(true),
+        Err(No::Refused(_)) => Ok(false),
+        Err(No::NoMemory) => Err(NoMemory),
+    }
+}
+
+/// Answers one message: sends all, unless it must be refused.
+fn answer_frame<L: Link, S: Serves>(
+    alloc: Global,
+    link: &mut L,
+    server: &mut S,
+    message: &Message,
+) -> Result<Turn, NoMemory>
+    requires stands { (s : Server) × S.is_of server.old s }
+    requires spelled { IsTrue (has_spelling message.now) }
+    requires room { 0 < S.room server.old }
+    ensures turn { (s : Server) → S.is_of server.old s → IfOk result (λ turn. Turns S.gives turn s message.now (L.linking link.old) (L.linking link.new) (S.is_of server.new)) }
+    ensures draws { S.room server.old ≤ S.room server.new + 1 }
+    ensures stays { OnlyLinks L L.reading L.writing L.linking L.held L.complaints L.IsSteady link.old link.new }
+    ensures stays_up { (L.linking link.new).is_up ≡ (L.linking link.old).is_up }
+    ensures steady_fails_only_down { L.IsSteady link.old → (L.linking link.old).is_up ≡ true → IfOk result (λ turn. turn ≢ Broken) }
+{
+    match server.take(alloc, message) {
+        Err(No::Refused(_)) => Ok(Turn::Refused),
+        Err(No::NoMemory) => Err(NoMemory),
+        Ok(sent) => {
+            if send_messages(alloc, link, sent.as_slice())? {
+                Ok(Turn::Whole)
+            } else {
+                Ok(Turn::Broken)
+            }
+        }
+    }
+}
+
+/// Serves one connection to its end: each frame is answered, however the input is cut, until no frame comes, one must be refused, the
+/// link fails, or a million were read.
+pub fn serve_connection<L: Link, S: Serves>(
+    alloc: Global,
+    link: &mut L,
+    server: &mut S,
+) -> Result<Served, NoMemory>
+    requires stands { (s : Server) × S.is_of server.old s }
+    requires room { 1000000 ≤ S.room server.old }
+    ensures talked { (s : Server) → S.is_of server.old s → IfOk result (λ served. Talks S.gives s (L.linking link.old) (L.linking link.new) served.how served.frames (S.is_of server.new)) }
+    ensures draws { S.room server.old ≤ S.room server.new + 1000000 }
+    ensures stays { OnlyLinks L L.reading L.writing L.linking L.held L.complaints L.IsSteady link.old link.new }
+    ensures stays_up { (L.linking link.new).is_up ≡ (L.linking link.old).is_up }
+    ensures steady_fails_only_down { L.IsSteady link.old → (L.linking link.old).is_up ≡ true → IfOk result (λ served. served.how ≢ ByFault) }
+{
+    let mut feed = Feed::new(alloc);
+    for frames in 0..MOST_FRAMES {
+        let message = match next_frame(alloc, link, &mut feed)? {
+            Next::End => {
+                return Ok(Served {
+                    how: How::End,
+                    frames,
+                });
+            }
+            Next::Torn => {
+                return Ok(Served {
+                    how: How::Torn,
+                    frames,
+                });
+            }
+            Next::Fault => {
+                return Ok(Served {
+                    how: How::Fault,
+                    frames,
+                });
+            }
+            Next::Bad(_) => {
+                return Ok(Served {
+                    how: How::Bad,
+                    frames,
+                });
+            }
+            Next::Frame(message) => message,
+        };
+        match answer_frame(alloc, link, server, &message)? {
+            Turn::Whole => {}
+            Turn::Refused => {
+                return Ok(Served {
+                    how: How::Bad,
+                    frames,
+                });
+            }
+            Turn::Broken => {
+                return Ok(Served {
+                    how: How::Fault,
+                    frames: frames + 1,
+                });
+            }
+        }
+    }
+    Ok(Served {
+        how: How::Limit,
+        frames: MOST_FRAMES,
+    })
+}

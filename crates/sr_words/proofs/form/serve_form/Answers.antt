@@ -1,0 +1,11 @@
+use Rattle.std.proofs.Common.{ap, codes, map, ◌∙◌}
+use Rattle.std.proofs.lemmas.Result.{IfOk-weaker}
+use Rattle.clap.specs.Walk.{rule_of}
+use Rattle.sr_words.specs.Forms.{form, serve_form}
+use Rattle.sr_words.proofs.form.serve_form.Goals as goal
+
+pub returns : goal.returns
+unfolding serve_form
+returns c =
+    let items = c.in_ok-args.ensures.items in
+    IfOk-weaker c.command.result _ _ (λ made is. is ∙ ap (λ args. form (codes "serve") (map rule_of args)) items ∙ ap (form (codes "serve")) (cc (c.option.ensures.rule, c.option-2.ensures.rule, c.needed.ensures.rule, c.word.ensures.rule, c.word-2.ensures.rule, c.rest.ensures.rule))) c.command.ensures

@@ -1,0 +1,5 @@
+pub mod Forms
+pub mod Words
+pub mod Reads
+pub mod Seen
+pub mod Ranges

@@ -1,0 +1,11 @@
+//! The words of the program, which the library `clap` reads.
+#![tactic(auto)]
+
+pub mod command;
+pub mod fault;
+mod form;
+pub mod read;
+mod said;
+#[cfg(test)]
+mod tests;
+mod value;

@@ -1,0 +1,8 @@
+//! A large script, made from a number.
+#![tactic(auto)]
+
+pub mod draw;
+pub mod line;
+pub mod script;
+#[cfg(test)]
+mod tests;

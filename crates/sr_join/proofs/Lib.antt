@@ -1,3 +1,10 @@
+pub mod Answered
+pub mod Both
+pub mod Chains
+pub mod Finds
+pub mod Halves
+pub mod Lists
 pub mod OnePart
 pub mod Picked
+pub mod Shows
 pub mod United

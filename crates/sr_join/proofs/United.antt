@@ -2,9 +2,10 @@
 use Rattle.std.proofs.Common.{◌≡◌, ℕ, Bool, true, false, cond, ◌||◌, List, [], ◌∷◌, ◌++◌, drop, length, map, refl, sym, ap, subst, ◌∙◌, arith}
 use Rattle.std.specs.Prelude.{filter, Option, Some, None, option_to_list}
 use Rattle.sr_cell.specs.Cells.{Row, cell_at, cell_le}
+use Rattle.sr_cell.proofs.Order.{cell_le-refl}
 use Rattle.sr_model.specs.SortedRows.{ascend}
 use Rattle.sr_rows.specs.Places.{is_own_next}
-use Rattle.sr_rows.proofs.Order.{cell_le-refl, key_lt-le, key_lt-not, is_first, ascend-tail, ascend-first}
+use Rattle.sr_rows.proofs.Order.{key_lt-le, key_lt-not, is_first, ascend-tail, ascend-first}
 use Rattle.sr_query.specs.declared.condition.Output.{Output}
 use Rattle.sr_join.specs.Found.{past, united, picked}
 

@@ -1,5 +1,6 @@
 //! Answers from rows of two regions, at values worked out by hand.
 use crate::joiner::Joiner;
+use crate::lending::Lending;
 use sr_box::rect::Rect;
 use sr_box::span::Span;
 use sr_cell::attrs::Attrs;
@@ -7,7 +8,7 @@ use sr_cell::cell::{Cell, Row, Rows};
 use sr_cell::list::{NoMemory, Seq};
 use sr_cell::text::Text;
 use sr_query::condition::Output;
-use sr_query::query::{Part, Query};
+use sr_query::query::{KeyJoin, Part, Query};
 use sr_region::inside::rows_inside;
 use sr_union::rects::Rects;
 use std::alloc::Global;
@@ -157,5 +158,84 @@ fn no_rows_change_nothing(rt: HostRuntime) -> Result<(), Fail> {
     joiner.lend(alloc, &query(alloc)?, rows_inside(ALL, &[], &nobody))?;
     let answer = joiner.answer(alloc)?;
     assert!(rt; are(&answer, &[30, 25, 40], &[1, 2, 4]));
+    Ok(())
+}
+
+// ---- several tables
+
+// Ages have a number, which is their key, and a group.
+const AGE_GROUP: Attrs = Attrs(3);
+
+// The groups of the persons' ages, and the persons' numbers.
+fn groups(alloc: Global) -> Result<Query, NoMemory> {
+    let mut parts = Seq::new(alloc);
+    parts.push(part(alloc))?;
+    parts.push(Part {
+        table: 1,
+        key: 0,
+        need: AGE_GROUP,
+        rects: Rects::new(alloc),
+        width: 0,
+    })?;
+    let mut joins = Seq::new(alloc);
+    joins.push(KeyJoin {
+        left: 0,
+        column: 2,
+        right: 1,
+    })?;
+    let mut output = Seq::new(alloc);
+    output.push(Output { part: 1, column: 1 })?;
+    output.push(Output { part: 0, column: 1 })?;
+    Ok(Query {
+        parts,
+        joins,
+        output,
+    })
+}
+
+fn two(alloc: Global, one: Row, other: Row) -> Result<Rows, NoMemory> {
+    let mut rows = Seq::new(alloc);
+    rows.push(one)?;
+    rows.push(other)?;
+    Ok(rows)
+}
+
+// Each age.
+fn every_age(alloc: Global) -> Result<Rects, NoMemory> {
+    let mut rect = Rect::new(alloc);
+    rect.push(Span::Full)?;
+    rect.push(Span::Full)?;
+    let mut rects = Rects::new(alloc);
+    rects.push(rect)?;
+    Ok(rects)
+}
+
+fn joined(alloc: Global, some: &Rows, others: &Rows, ages: &Rows) -> Result<Rows, NoMemory> {
+    let everyone = everyone(alloc)?;
+    let every_age = every_age(alloc)?;
+    let mut lending = Lending::new(alloc);
+    lending.lend(
+        alloc,
+        0,
+        rows_inside(NUMBER_AGE, some.as_slice(), &everyone),
+    )?;
+    lending.lend(
+        alloc,
+        1,
+        rows_inside(AGE_GROUP, ages.as_slice(), &every_age),
+    )?;
+    lending.lend(alloc, 0, rows_inside(ALL, others.as_slice(), &everyone))?;
+    lending.answer(alloc, &groups(alloc)?)
+}
+
+// Persons 2 and 4 of one region, and 1 and 4 of another; nothing is known of the age of person 1.
+#[test]
+fn tables_join_by_key(rt: HostRuntime) -> Result<(), Fail> {
+    let alloc = rt.alloc();
+    let some = two(alloc, short(alloc, 2, 25)?, short(alloc, 4, 40)?)?;
+    let others = two(alloc, long(alloc, "ann", 1, 30)?, long(alloc, "cy", 4, 40)?)?;
+    let ages = two(alloc, short(alloc, 25, 7)?, short(alloc, 40, 8)?)?;
+    let answer = joined(alloc, &some, &others, &ages)?;
+    assert!(rt; are(&answer, &[7, 8], &[2, 4]));
     Ok(())
 }

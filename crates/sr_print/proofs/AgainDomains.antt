@@ -1,8 +1,9 @@
 -- The domain of a column, and the column as its printed rules define it.
 use Rattle.std.proofs.Common.{◌≡◌, ℕ, Bool, true, false, not, List, [], ◌∷◌, ◌++◌, refl, sym, ap, subst, ◌∙◌, arith, ℤ, pos, negsuc, leb-true, le-leb, le_trans, le_antisymm}
-use Rattle.std.specs.Prelude.{◌&&◌, ◌||◌, if◌then◌else◌, IsTrue, int_le, bytes_eq}
+use Rattle.std.specs.Prelude.{◌&&◌, if◌then◌else◌, IsTrue, int_le, bytes_eq}
 use Rattle.std.specs.List.{list_any}
 use Rattle.std.proofs.lemmas.Slice.Eq.{bytes_eq-Decides}
+use Rattle.std.proofs.lemmas.Bool.{not-false, or_parts}
 use Rattle.sr_cell.specs.declared.table.Kind.{Kind}
 use Rattle.sr_cell.specs.declared.table.Kind.TheVariants.{Num, Str}
 use Rattle.sr_cell.specs.declared.table.Column.{Column}
@@ -42,14 +43,6 @@ abbrev pub IsDomain : Kind → ℤ → ℤ → Type 0
 IsDomain Num low high = IsTrue (int_le low_default low && (int_le low high && int_le high high_default))
 IsDomain Str low high = (low ≡ pos 0) × (high ≡ pos 0)
 
-pub neither : (a b : Bool) → (a || b) ≡ false → (a ≡ false) × (b ≡ false)
-neither true b e = absurd cc
-neither false b e = (refl, e)
-
-allowed : (b : Bool) → not b ≡ false → b ≡ true
-allowed true e = refl
-allowed false e = absurd cc
-
 pub record IsColumnAs (name : List ℕ) (kind : Kind) (c : Column) : Type 0 where
   pub named : c.name ≡ name
   pub kinded : c.kind ≡ kind
@@ -64,7 +57,7 @@ defined name Str (PrimaryKey ∷ rules) e = defined name Str rules e
 defined name Num (NotNull ∷ rules) e = defined name Num rules e
 defined name Str (NotNull ∷ rules) e = defined name Str rules e
 defined name Num (Checks check ∷ rules) e =
-    let may = allowed (may_check name Num check) (neither (not (may_check name Num check)) (list_any (is_bad_rule name Num) rules) e).0 in
+    let may = not-false (may_check name Num check) (or_parts (not (may_check name Num check)) (list_any (is_bad_rule name Num) rules) e).0 in
     record { named = refl; kinded = refl; domain = (both_true (bytes_eq check.name name) (int_le low_default check.low && (int_le check.low check.high && int_le check.high high_default)) may).1 }
 defined name Str (Checks check ∷ rules) e = absurd cc
 

@@ -1,6 +1,7 @@
 -- The parts of statements, printed.
 use Rattle.std.proofs.Common.{◌≡◌, ℕ, List, [], ◌∷◌, ◌++◌, inl, inr, Option, Some, None, refl, sym, ap, subst, ◌∙◌}
 use Rattle.std.specs.Prelude.{codes, false}
+use Rattle.std.proofs.lemmas.Option.{same_Some}
 use Rattle.sr_grammar.specs.Tokens.{Key, Mark, Tok}
 use Rattle.sr_grammar.specs.Words.{name_of, reference_of}
 use Rattle.sr_grammar.specs.Rules.{One, Nothing, ◌>>=◌ as ◌▸◌}
@@ -8,7 +9,7 @@ use Rattle.sr_grammar.specs.Conditions.{KEY, MARK, ListOf, InParens, IsLiteral, 
 use Rattle.sr_grammar.specs.Statements.{Where, IsWhere, filter_of, IsListed, IsJoin, IsColumnName, IsColumnNames, IsRow, IsSet}
 use Rattle.sr_grammar.specs.Printed.{token, key, mark, name, commas, parens, literal, reference, condition, where_tokens, listed, join, column_names, row, set}
 use Rattle.sr_print.proofs.AgainTokens.{Writable, joined, cut, Printed, Again, at_end, in_list, parens_again}
-use Rattle.sr_print.proofs.AgainWords.{some_same, name_again, name_one, writable_name, literal_again, reference_again}
+use Rattle.sr_print.proofs.AgainWords.{name_again, name_one, writable_name, literal_again, reference_again}
 use Rattle.sr_print.proofs.AgainConditions.{cond_again}
 
 -- a WHERE, which is printed with another place where the statement does not hold it
@@ -26,7 +27,7 @@ where_again n place (Some filter) x w h = elim h [
       let t = cut k.1 m.1 m.2 s.0 m.3 in
       let c = m.5 in
       let u = cut m.2 c.1 c.2 t.1 c.3 in
-      let e : filter.cond ≡ c.0 = ap (λ f. f.cond) (some_same filter k.0 k.5.0 ∙ c.5.0) in
+      let e : filter.cond ≡ c.0 = ap (λ f. f.cond) (same_Some filter k.0 k.5.0 ∙ c.5.0) in
       let r = cond_again n filter.cond c.1 u.0 (subst (λ z. IsCond n z c.1) (sym e) c.4) in (
         inl (at_end (KEY (codes "WHERE") ▸ λ at. IsCond n ▸ λ c. Nothing (record { place = at; cond = c })) _ Some (record filter { place = place }) _ refl (
           place,

@@ -2,6 +2,7 @@
 use Rattle.std.proofs.Common.{◌≡◌, ℕ, ◌≤◌, Bool, true, false, List, [], ◌∷◌, map, length, inl, inr, Ok, refl, sym, ap, subst, ◌∙◌}
 use Rattle.std.specs.Prelude.{◌||◌, IsTrue}
 use Rattle.std.specs.List.{list_all}
+use Rattle.std.proofs.lemmas.Bool.{or_parts}
 use Rattle.sr_grammar.specs.Tokens.{Bad, Tok, of_kind, tokens_of}
 use Rattle.sr_grammar.specs.Trees.{Statement, Tree, Defines, Says as Stated, statement_of}
 use Rattle.sr_grammar.specs.Statements.{IsStatement}
@@ -9,17 +10,16 @@ use Rattle.sr_grammar.specs.Says.{Says, most_levels}
 use Rattle.sr_grammar.specs.Printed.{printed_tokens}
 use Rattle.sr_grammar.specs.Spaced.{printed}
 use Rattle.sr_grammar.specs.Places.{bare, bare_tree, bare_token, AreSame}
-use Rattle.sr_parser.specs.Reading.{Reading, Got, Fails}
-use Rattle.sr_parser.specs.Readers.{whole}
-use Rattle.sr_parser.specs.Blind.{seen}
-use Rattle.sr_parser.proofs.Top.{each_is_exact}
-use Rattle.sr_parser.proofs.Clean.{has_bad, clean_statement}
-use Rattle.sr_parser.proofs.BlindStatements.{is_blind}
+use Rattle.sr_grammar_laws.specs.Reading.{Reading, Got, Fails}
+use Rattle.sr_grammar_laws.specs.Readers.{whole}
+use Rattle.sr_grammar_laws.specs.Blind.{seen}
+use Rattle.sr_grammar_laws.proofs.Top.{each_is_exact}
+use Rattle.sr_grammar_laws.proofs.Clean.{has_bad, clean_statement}
+use Rattle.sr_grammar_laws.proofs.BlindStatements.{is_blind}
 use Rattle.sr_print.specs.Writable.{is_writable, are_writable}
 use Rattle.sr_print.specs.LexedAgain.{is_writable_or_bad}
 use Rattle.sr_print.specs.ReadAgain.{SaysSame, SaysAgain, ReadAgain}
 use Rattle.sr_print.proofs.Again.{printed_again}
-use Rattle.sr_print.proofs.AgainDomains.{neither}
 use Rattle.sr_print.proofs.AgainTokens.{both_true, true_both}
 use Rattle.sr_print.proofs.LexingAgain.{written_again}
 use Rattle.sr_print.proofs.LexingWritable.{lexed_writable}
@@ -28,7 +28,7 @@ use Rattle.sr_print.proofs.LexingWritable.{lexed_writable}
 none_bad : (ts : List Tok) → IsTrue (list_all is_writable_or_bad ts) → has_bad ts ≡ false → IsTrue (are_writable ts)
 none_bad [] h e = refl
 none_bad (t ∷ ts) h e =
-    let n = neither (of_kind Bad t) (has_bad ts) e in
+    let n = or_parts (of_kind Bad t) (has_bad ts) e in
     let s = both_true (is_writable_or_bad t) (list_all is_writable_or_bad ts) h in
     true_both (is_writable t) (are_writable ts) (go (is_writable t) (of_kind Bad t) s.0 n.0) (none_bad ts s.1 n.1)
   where

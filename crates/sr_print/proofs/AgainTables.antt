@@ -3,6 +3,7 @@ use Rattle.std.proofs.Common.{◌≡◌, ℕ, ◌+◌, ◌<◌, ◌≤◌, Bool,
 use Rattle.std.specs.Prelude.{◌==◌, ◌||◌, if◌then◌else◌, codes, IsTrue}
 use Rattle.std.specs.List.{list_any}
 use Rattle.std.proofs.lemmas.List.{length-map}
+use Rattle.std.proofs.lemmas.Bool.{or_parts}
 use Rattle.sr_cell.specs.declared.table.Column.{Column}
 use Rattle.sr_cell.specs.declared.fault.Fault.{Fault}
 use Rattle.sr_grammar.specs.declared.statement.Definition.{Definition}
@@ -12,10 +13,11 @@ use Rattle.sr_grammar.specs.Conditions.{MARK, ListOf, InParens}
 use Rattle.sr_grammar.specs.Columns.{IsColumn, IsCreate}
 use Rattle.sr_grammar.specs.Trees.{Statement, Create, Tree, Defines, is_key, has_bad_domain, column_of, key_of, table_of, statement_of}
 use Rattle.sr_grammar.specs.Printed.{key, mark, name, parens, column, columns_behind, columns, printed_tokens}
+use Rattle.sr_grammar_laws.proofs.Columns.{key_short}
 use Rattle.sr_print.specs.Writable.{is_name}
 use Rattle.sr_print.proofs.AgainTokens.{Writable, joined, cut, at_end, in_parens, writable_parens}
 use Rattle.sr_print.proofs.AgainWords.{name_again, name_one, writable_name}
-use Rattle.sr_print.proofs.AgainDomains.{neither, defines, IsSound, sound, defines_column, defines_domain, defines_key}
+use Rattle.sr_print.proofs.AgainDomains.{defines, IsSound, sound, defines_column, defines_domain, defines_key}
 use Rattle.sr_print.proofs.AgainColumns.{column_spelled, column_name}
 
 -- columns by the rules that are printed of them; k is the number of the key, c that of the first of these
@@ -106,20 +108,12 @@ redefined_table title k all s l =
 
 -- ---- what was spelled
 
-key_within : (ds : List Definition) → 0 < length (filter is_key ds) → key_of ds < length ds
-key_within [] l = absurd (omega arith)
-key_within (d ∷ ds) l = go (is_key d) l (key_within ds)
-  where
-    go : (t : Bool) → 0 < length (cond t (d ∷ filter is_key ds) (filter is_key ds)) → (0 < length (filter is_key ds) → key_of ds < length ds) → (if t then 0 else key_of ds + 1) < length (d ∷ ds)
-    go true l later = omega arith
-    go false l later = omega (arith, later l)
-
 are_sound : (ds : List Definition) (y : List Tok) → Writable y → Many IsNext ds y → list_any has_bad_domain ds ≡ false → AreSound (map column_of ds)
 are_sound [] y w h e = tt
 are_sound (d ∷ ds) y w h e =
     let s = cut y h.0 h.1 w h.2 in
     let t = cut h.0 h.3.1 h.3.2 s.0 h.3.3 in
-    let n = neither (has_bad_domain d) (list_any has_bad_domain ds) e in
+    let n = or_parts (has_bad_domain d) (list_any has_bad_domain ds) e in
     (sound d (column_name d h.3.2 t.1 h.3.5) n.0, are_sound ds h.1 s.1 h.4 n.1)
 
 abbrev pub Repeated : Rule Tree → Statement → Type 0
@@ -131,7 +125,7 @@ table_again title d ds s n sound e =
     let j = unjudged (list_any has_bad_domain (d ∷ ds)) (length (filter is_key (d ∷ ds)) == 1) _ _ (Create (table_of title (d ∷ ds))) s e in
     let one = eqb-true (length (filter is_key (d ∷ ds))) 1 j.1 in
     let k = key_of (d ∷ ds) in
-    let within : k < length (map column_of (d ∷ ds)) = omega (arith, key_within (d ∷ ds) (omega (arith, one)), length-map (d ∷ ds) column_of) in
+    let within : k < length (map column_of (d ∷ ds)) = omega (arith, key_short (d ∷ ds) (omega (arith, one)), length-map (d ∷ ds) column_of) in
     let c = columns_spelled k (column_of d) (map column_of ds) sound.0 sound.1 in
     let tokens = parens (columns k (map column_of (d ∷ ds))) in
     let shut = in_parens (ListOf (MARK (codes ",")) IsColumn) (redefined k 0 (map column_of (d ∷ ds))) _ c.0 in
@@ -177,5 +171,5 @@ create_again tree x s w h e =
     let made : tree ≡ Defines title.0.text (l.0 ∷ m.0) = all.5.0 ∙ ap (λ z. Defines title.0.text z) ds in
     let says = subst (λ z. statement_of z ≡ Ok s) made e in
     let ok = unjudged (list_any has_bad_domain (l.0 ∷ m.0)) (length (filter is_key (l.0 ∷ m.0)) == 1) _ _ (Create (table_of title.0.text (l.0 ∷ m.0))) s says in
-    let n = neither (has_bad_domain l.0) (list_any has_bad_domain m.0) ok.0 in
+    let n = or_parts (has_bad_domain l.0) (list_any has_bad_domain m.0) ok.0 in
     table_again title.0.text l.0 m.0 s (name_again title.0 title.1 c.0 title.4) (sound l.0 (column_name l.0 l.1 i.0 l.4) n.0, are_sound m.0 m.1 j.0 m.4 n.1) says

@@ -9,6 +9,7 @@ use Rattle.std.proofs.lemmas.Fmt.{decimal_is_IsNumeral, length-decimal-le}
 use Rattle.std.proofs.lemmas.Int.Digits.{digits_value-lt}
 use Rattle.std.proofs.lemmas.Str.{digit_value_digit}
 use Rattle.std.proofs.lemmas.Str.Parse.{digit_from_value}
+use Rattle.std.proofs.lemmas.Option.{same_Some}
 use Rattle.sr_cell.specs.declared.cell.Cell.TheVariants.{Num, Str}
 use Rattle.sr_grammar.specs.declared.statement.Op.TheVariants.{Eq, Ne, Lt, Le, Gt, Ge}
 use Rattle.sr_grammar.specs.Tokens.{Kind, Key, Named, Number, Quoted, Mark, Bad, Tok, is_kind}
@@ -19,9 +20,6 @@ use Rattle.sr_grammar.specs.Printed.{token, mark, name, number, literal, prefix,
 use Rattle.sr_print.specs.Writable.{is_name, is_digits, is_writable_as, are_writable}
 use Rattle.sr_print.proofs.AgainTokens.{Writable, both_true, true_both, cut, only, Printed, Again, at_end}
 
-pub some_same : {A : Type 0} (a b : A) → Some a ≡ Some b → a ≡ b
-some_same a b e = cc
-
 -- ---- names
 
 pub name_again : (a : Word) (x : List Tok) → Writable x → One name_of a x → IsTrue (is_name a.text)
@@ -29,7 +27,7 @@ name_again a x w h = go h.0.kind (only x h.0 w h.2) h.1
   where
     go : (k : Kind) → IsTrue (is_writable_as k h.0.text) → (if is_kind k Named then Some (record { text = h.0.text; place = h.0.from }) else None) ≡ Some a → IsTrue (is_name a.text)
     go Key w e = absurd cc
-    go Named w e = subst (λ z. IsTrue (is_name z.text)) (some_same _ a e) w
+    go Named w e = subst (λ z. IsTrue (is_name z.text)) (same_Some _ a e) w
     go Number w e = absurd cc
     go Quoted w e = absurd cc
     go Mark w e = absurd cc
@@ -77,7 +75,7 @@ number_again n x w h = go h.0.kind (only x h.0 w h.2) h.1
     go : (k : Kind) → IsTrue (is_writable_as k h.0.text) → (if is_kind k Number then Some (digits_value 10 h.0.text) else None) ≡ Some n → n < 10 ^ 18
     go Key w e = absurd cc
     go Named w e = absurd cc
-    go Number w e = subst (λ z. z < 10 ^ 18) (some_same _ n e) (small_value h.0.text w)
+    go Number w e = subst (λ z. z < 10 ^ 18) (same_Some _ n e) (small_value h.0.text w)
     go Quoted w e = absurd cc
     go Mark w e = absurd cc
     go Bad w e = absurd cc
@@ -131,8 +129,8 @@ literal_again l x w h = elim h [
     plain : (k : Kind) (text : List ℕ) (place : ℕ) → IsTrue (is_writable_as k text) → plain_of (token k text place) ≡ Some l → Printed IsLiteral literal l
     plain Key text place w e = absurd cc
     plain Named text place w e = absurd cc
-    plain Number text place w e = at (pos (digits_value 10 text)) place (small_value text w) (sym (some_same _ l e))
-    plain Quoted text place w e = subst (Printed IsLiteral literal) (some_same _ l e) (inr (token Quoted text place, refl, refl), refl)
+    plain Number text place w e = at (pos (digits_value 10 text)) place (small_value text w) (sym (same_Some _ l e))
+    plain Quoted text place w e = subst (Printed IsLiteral literal) (same_Some _ l e) (inr (token Quoted text place, refl, refl), refl)
     plain Mark text place w e = absurd cc
     plain Bad text place w e = absurd cc
 
@@ -157,7 +155,7 @@ prefix_again l x w h = go h.0.kind h.0.text h.0.from h.1
     made text place false t e = absurd cc
     made text place true t e =
         let is : prefix_of (token Quoted text place) ≡ Some (record { cell = Str (take (length text - 1) text); place = place }) = rw t refl in
-        subst (Printed (One prefix_of) prefix) (some_same _ l e)
+        subst (Printed (One prefix_of) prefix) (same_Some _ l e)
         (subst (λ z. One prefix_of (record { cell = Str (take (length text - 1) text); place = place }) (token Quoted z place ∷ [])) (sym (front_of text t)) (token Quoted text place, is, refl), refl)
 
     go : (k : Kind) (text : List ℕ) (place : ℕ) → prefix_of (token k text place) ≡ Some l → Printed (One prefix_of) prefix l
@@ -191,7 +189,7 @@ reference_again n x w h =
       | inl k ↦ (
           let s = cut y k.1 k.2 w k.3 in
           let r = cut k.1 k.4.1 k.4.2 s.0 k.4.3 in
-          let nb : IsTrue (is_name b.text) = subst (λ z. IsTrue (is_name z.text)) (some_same k.0 b (sym k.5.0)) (name_again k.0 k.4.2 r.1 k.4.5) in (
+          let nb : IsTrue (is_name b.text) = subst (λ z. IsTrue (is_name z.text)) (same_Some k.0 b (sym k.5.0)) (name_again k.0 k.4.2 r.1 k.4.5) in (
             (
               a,
               name a.text a.place ∷ [],

@@ -1,10 +1,10 @@
 -- The text of writable tokens has these very tokens.
-use Rattle.std.proofs.Common.{◌≡◌, ℕ, zero, suc, ◌+◌, ◌-◌, ◌<◌, ◌≤◌, ◌==◌, Bool, true, false, List, [], ◌∷◌, ◌++◌, length, take, drop, map, Some, None, inl, inr, refl, sym, ap, ap₂, ◌∙◌, arith}
+use Rattle.std.proofs.Common.{◌≡◌, ℕ, zero, suc, ◌+◌, ◌-◌, ◌<◌, ◌≤◌, ◌==◌, Bool, true, false, List, [], ◌∷◌, ◌++◌, length, take, drop, map, Some, None, inl, inr, refl, sym, ap, ap₂, ◌∙◌, arith, eq-eqb}
 use Rattle.std.specs.Prelude.{if◌then◌else◌, ◌||◌, codes}
 use Rattle.std.proofs.Math.Seq.{take-append_seam, drop-append_seam}
 use Rattle.std.proofs.lemmas.Bool.{and_parts, or_cases, eqb-true}
-use Rattle.std.proofs.lemmas.Bool.Decides.{nat_tests}
 use Rattle.std.proofs.lemmas.List.{drop-drop, length-drop, length-append}
+use Rattle.sr_cell.proofs.Numbers.{lt-eqb}
 use Rattle.sr_token.specs.declared.token.TokenKind.{TokenKind}
 use Rattle.sr_token.specs.Tokens.{Lexeme, Found, is_blank, run, begin, first_token, tokens_within, tokens_from}
 use Rattle.sr_grammar.specs.Tokens.{Tok, lexeme_seen}
@@ -57,17 +57,11 @@ one_blank : (x : Bool) (bytes : List ℕ) → run is_blank bytes ≡ 0 → run i
 one_blank true bytes e = e
 one_blank false bytes e = rw e refl
 
-differ : (m n : ℕ) → m < n → (m == n) ≡ false
-differ m n lt = grind (arith, nat_tests)
-
-same : (m n : ℕ) → m ≡ n → (m == n) ≡ true
-same m n e = grind (arith, nat_tests)
-
 -- one token, and then the rest
 step : (count : ℕ) (source text rest : List ℕ) (at from : ℕ) (kind : TokenKind) → begin source at ≡ from → from < length source → drop from source ≡ text ++ rest
     → first_token (text ++ rest) ≡ Some (kind, length text) → tokens_within (suc count) source at ≡ Found kind from (from + length text) text ∷ tokens_within count source (from + length text)
 step count source text rest at from kind begins lt is front =
-    rw (begins, differ from (length source) lt, is, front)
+    rw (begins, lt-eqb from (length source) lt, is, front)
     (ap (λ (s : List ℕ). Found kind from (from + length text) s ∷ tokens_within count source (from + length text)) (ap (take (length text)) is ∙ take-append_seam text rest))
 
 again : (ts : List Tok) → are_writable ts ≡ true → (count : ℕ) (source : List ℕ) (at : ℕ) (tight : Bool) → drop at source ≡ spaced tight ts → at ≤ length source → length source - at < count
@@ -76,7 +70,7 @@ again ts w zero source at tight is le lt = absurd (omega arith)
 again [] w (suc count) source at tight is le lt =
     let none : length source - at ≡ 0 = sym (length-drop at source) ∙ ap length is in
     let begins : begin source at ≡ length source = ap (λ z. at + run is_blank z) is ∙ omega (arith, none, le) in
-    rw (same (begin source at) (length source) begins) refl
+    rw (eq-eqb (begin source at) (length source) begins) refl
 again (t ∷ ts) w (suc count) source at tight is le lt =
     let parts = and_parts (is_writable t) (are_writable ts) w in
     let blank = if tight || is_close t then [] else codes " " in

@@ -12,8 +12,9 @@ use Rattle.sr_grammar.specs.Tokens.{Kind, Key, Named, Number, Quoted, Mark, Bad,
 use Rattle.sr_grammar.specs.Printed.{token}
 use Rattle.sr_grammar.specs.Spaced.{doubled, text_of_kind, is_close, is_open, spaced}
 use Rattle.sr_grammar.specs.Places.{bare_token}
+use Rattle.sr_grammar_laws.proofs.Words.{bytes_eq-true}
 use Rattle.sr_print.specs.Writable.{begins_name, goes_on_name, begins_as_name, marks, is_writable_as}
-use Rattle.sr_print.proofs.LexingRuns.{ends_at, ends_token, bytes_same, word_again, number_again, quoted_again}
+use Rattle.sr_print.proofs.LexingRuns.{ends_at, ends_token, word_again, number_again, quoted_again}
 
 -- what holds of each text of a list holds of a text that is in it
 abbrev pub AllOf : (List ℕ → Type 0) → List (List ℕ) → Type 0
@@ -24,7 +25,7 @@ pub found_in : (P : List ℕ → Type 0) (texts : List (List ℕ)) → AllOf P t
 found_in P [] all text e = absurd cc
 found_in P (x ∷ xs) all text e =
     elim (or_cases (bytes_eq text x) (list_any (bytes_eq text) xs) e) [
-      | inl same ↦ rw (bytes_same text x same) all.0
+      | inl same ↦ rw (bytes_eq-true text x same) all.0
       | inr later ↦ found_in P xs all.1 text later
     ]
 
@@ -178,7 +179,7 @@ inside (b ∷ text) = go (b == 39) refl (inside text)
 
 -- the token that is seen there
 pub seen_again : (kind : Kind) (text : List ℕ) (from : ℕ) → is_writable_as kind text ≡ true → bare_token (seen (code_of kind) from (text_of_kind kind text)) ≡ token kind text 0
-seen_again Key text from e = let same : upper text ≡ text = bytes_same (upper text) text (and_parts (bytes_eq (upper text) text) _ (reserved_is text e)).0 in rw (same, e) refl
+seen_again Key text from e = let same : upper text ≡ text = bytes_eq-true (upper text) text (and_parts (bytes_eq (upper text) text) _ (reserved_is text e)).0 in rw (same, e) refl
 seen_again Named text from e =
     let x = and_parts (begins_as_name text) _ e in
     let y = and_parts (list_all goes_on_name text) _ x.1 in
@@ -200,10 +201,10 @@ close_ends Bad text rest e = absurd cc
 close_ends Mark text rest e =
     elim (or_cases (bytes_eq text (codes ",") || bytes_eq text (codes ")")) (bytes_eq text (codes ".")) e) [
       | inl early ↦ elim (or_cases (bytes_eq text (codes ",")) (bytes_eq text (codes ")")) early) [
-        | inl same ↦ rw (bytes_same text (codes ",") same) refl
-        | inr same ↦ rw (bytes_same text (codes ")") same) refl
+        | inl same ↦ rw (bytes_eq-true text (codes ",") same) refl
+        | inr same ↦ rw (bytes_eq-true text (codes ")") same) refl
       ]
-      | inr same ↦ rw (bytes_same text (codes ".") same) refl
+      | inr same ↦ rw (bytes_eq-true text (codes ".") same) refl
     ]
 
 pub spaced_ends : (ts : List Tok) → ends_token (spaced false ts) ≡ true

@@ -1,11 +1,10 @@
 -- The token at the front of a text that was written out, where what follows does not go on with it.
 use Rattle.std.proofs.Common.{◌≡◌, ℕ, ◌+◌, ◌==◌, Bool, true, false, List, [], ◌∷◌, ◌++◌, length, Some, refl, sym, ap, ◌∙◌, arith, length-append, append_assoc}
-use Rattle.std.specs.Prelude.{if◌then◌else◌, ◌||◌, nat_le, codes, bytes_eq}
+use Rattle.std.specs.Prelude.{if◌then◌else◌, ◌||◌, nat_le, codes}
 use Rattle.std.specs.Char.{is_ascii_digit}
 use Rattle.std.specs.List.{list_all}
-use Rattle.std.proofs.lemmas.Bool.{and_parts}
+use Rattle.std.proofs.lemmas.Bool.{and_parts, cond-true, cond-false}
 use Rattle.std.proofs.lemmas.Bool.Decides.{nat_tests}
-use Rattle.std.proofs.lemmas.Slice.Eq.{bytes_eq-Decides}
 use Rattle.sr_token.specs.declared.token.TokenKind.TheVariants as kinds
 use Rattle.sr_token.specs.Tokens.{begins_word, goes_on_word, run, quoted_length, longer, at_most, quoted_token, first_token}
 use Rattle.sr_grammar.specs.Spaced.{doubled}
@@ -18,9 +17,6 @@ ends_at b = b == 32 || (b == 44 || (b == 41 || b == 46))
 abbrev pub ends_token : List ℕ → Bool
 ends_token [] = true
 ends_token (b ∷ bytes) = ends_at b
-
-pub bytes_same : (xs ys : List ℕ) → bytes_eq xs ys ≡ true → xs ≡ ys
-bytes_same xs ys e = (bytes_eq-Decides xs ys).0 e
 
 -- ---- runs
 
@@ -40,18 +36,10 @@ run_again passes ends (b ∷ text) rest all stops =
     let parts = and_parts (passes b) (list_all passes text) all in
     rw (parts.0, run_again passes ends text rest parts.1 stops) (omega arith)
 
-if_true : {X : Type 0} (x : Bool) (a c : X) → x ≡ true → (if x then a else c) ≡ a
-if_true true a c e = refl
-if_true false a c e = absurd cc
-
-if_false : {X : Type 0} (x : Bool) (a c : X) → x ≡ false → (if x then a else c) ≡ c
-if_false true a c e = absurd cc
-if_false false a c e = refl
-
 pub word_again : (b : ℕ) (bytes rest : List ℕ) → begins_word b ≡ true → list_all goes_on_word (b ∷ bytes) ≡ true → nat_le (length (b ∷ bytes)) 64 ≡ true → ends_token rest ≡ true
     → first_token ((b ∷ bytes) ++ rest) ≡ Some (kinds.Word, length (b ∷ bytes))
 word_again b bytes rest is all short stops =
-    if_true (begins_word b) _ _ is ∙ ap (at_most 64 kinds.Word) (run_again goes_on_word word-ends (b ∷ bytes) rest all stops) ∙ if_true (nat_le (length (b ∷ bytes)) 64) _ _ short
+    cond-true (begins_word b) _ _ is ∙ ap (at_most 64 kinds.Word) (run_again goes_on_word word-ends (b ∷ bytes) rest all stops) ∙ cond-true (nat_le (length (b ∷ bytes)) 64) _ _ short
 
 digit_no_word : (b : ℕ) → is_ascii_digit b ≡ true → begins_word b ≡ false
 digit_no_word b e = grind (arith, nat_tests)
@@ -60,8 +48,8 @@ pub number_again : (b : ℕ) (bytes rest : List ℕ) → list_all is_ascii_digit
     → first_token ((b ∷ bytes) ++ rest) ≡ Some (kinds.Number, length (b ∷ bytes))
 number_again b bytes rest all short stops =
     let first : is_ascii_digit b ≡ true = (and_parts (is_ascii_digit b) (list_all is_ascii_digit bytes) all).0 in
-    if_false (begins_word b) _ _ (digit_no_word b first) ∙ if_true (is_ascii_digit b) _ _ first
-    ∙ ap (at_most 18 kinds.Number) (run_again is_ascii_digit digit-ends (b ∷ bytes) rest all stops) ∙ if_true (nat_le (length (b ∷ bytes)) 18) _ _ short
+    cond-false (begins_word b) _ _ (digit_no_word b first) ∙ cond-true (is_ascii_digit b) _ _ first
+    ∙ ap (at_most 18 kinds.Number) (run_again is_ascii_digit digit-ends (b ∷ bytes) rest all stops) ∙ cond-true (nat_le (length (b ∷ bytes)) 18) _ _ short
 
 -- ---- texts in quotes
 

@@ -2,10 +2,10 @@
 use Rattle.std.proofs.Common.{◌≡◌, ℕ, ◌+◌, List, [], ◌∷◌, ◌++◌, refl, sym, ap, subst, ◌∙◌}
 use Rattle.sr_cell.specs.declared.table.Table.{Table}
 use Rattle.std.specs.Prelude.{Result, Ok, Err}
-use Rattle.sr_language.specs.Events.{ScriptEvent}
-use Rattle.sr_language.specs.Lines.{lines_of}
-use Rattle.sr_language.specs.Script.{Line, Silent, CreateLine, EventLine, line_of, Creating, Running, Phase, start_phase, LineDoes, Reads}
-use Rattle.sr_language.specs.Creates.{CreatesFrom, Creates}
+use Rattle.sr_lines.specs.Events.{ScriptEvent}
+use Rattle.sr_lines.specs.Lines.{lines_of}
+use Rattle.sr_lines.specs.Script.{Line, Silent, CreateLine, EventLine, line_of, Creating, Running, Phase, start_phase, LineDoes, Reads}
+use Rattle.sr_lines.specs.Creates.{CreatesFrom, Creates}
 use Rattle.sr_reader.specs.declared.script.Script.{Script}
 use Rattle.sr_reader.specs.Read.{IsRead}
 use Rattle.sr_reader.proofs.OneDoing.{one_create}

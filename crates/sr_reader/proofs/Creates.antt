@@ -10,10 +10,10 @@ use Rattle.sr_grammar.specs.Rules.{Rule, ◌or◌}
 use Rattle.sr_grammar.specs.Columns.{IsCreate}
 use Rattle.sr_grammar.specs.Statements.{IsSelect, IsInsert, IsUpdate, IsDelete, IsStatement}
 use Rattle.sr_grammar.specs.Says.{most_levels, Says}
-use Rattle.sr_parser.specs.Reading.{next_is}
-use Rattle.sr_parser.proofs.RowCounts.{judged_create}
-use Rattle.sr_parser.proofs.Words.{Begins, Apart, begins_then, begins_token, is-apart}
-use Rattle.sr_language.specs.Script.{begins_create}
+use Rattle.sr_grammar_laws.specs.Reading.{next_is}
+use Rattle.sr_grammar_laws.proofs.RowCounts.{judged_create}
+use Rattle.sr_grammar_laws.proofs.Words.{Begins, Apart, begins_then, begins_token, is-apart}
+use Rattle.sr_lines.specs.Script.{begins_create}
 
 begins_select : (n : ℕ) → Begins (IsSelect n) (is Key (codes "SELECT"))
 begins_select n = begins_then _ _ _ (begins_token Key (codes "SELECT"))

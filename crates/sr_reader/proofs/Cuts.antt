@@ -6,7 +6,7 @@ use Rattle.std.proofs.lemmas.Str.{IsUtf8-from_is_utf8, is_utf8-from_IsUtf8}
 use denote.Ref.{Bor}
 use Rattle.std.proofs.lemmas.Grind.{common_steps}
 use Rattle.std.proofs.lemmas.Bool.Decides.{nat_tests}
-use Rattle.sr_language.specs.Lines.{lines_of, before_line}
+use Rattle.sr_lines.specs.Lines.{lines_of, before_line}
 use Rattle.sr_reader.specs.Cutting.{first_end, without_return}
 
 -- a last line that is not ended

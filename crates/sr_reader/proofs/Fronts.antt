@@ -13,8 +13,8 @@ use Rattle.sr_grammar.specs.declared.statement.Statement.TheVariants as statemen
 use Rattle.sr_grammar.specs.Trees.{Create}
 use Rattle.sr_grammar.specs.Seen.{statement_seen}
 use Rattle.sr_grammar.specs.Says.{Says}
-use Rattle.sr_language.specs.Script.{Words, Line, Silent, CreateLine, EventLine, Reading, is_blank, begins_create, event_of, placed, line_of, RefusesTable, AddsTable, RefusedFrom, FirstRefused}
-use Rattle.sr_language.specs.Creates.{CreatesFrom, Creates}
+use Rattle.sr_lines.specs.Script.{Words, Line, Silent, CreateLine, EventLine, Reading, is_blank, begins_create, event_of, placed, line_of, RefusesTable, AddsTable, RefusedFrom, FirstRefused}
+use Rattle.sr_lines.specs.Creates.{CreatesFrom, Creates}
 use Rattle.sr_query.specs.Bound.{is_table}
 use Rattle.sr_reader.specs.declared.head.RefusedLine.{RefusedLine}
 use Rattle.sr_reader.proofs.OneDoing.{one_create, no_fault}

@@ -9,8 +9,8 @@ use Rattle.std.proofs.lemmas.Str.{IsUtf8-from_is_utf8, is_utf8-from_IsUtf8}
 use Rattle.sr_token.specs.declared.token.TokenKind.{TokenKind}
 use Rattle.sr_token.specs.Tokens.{Lexeme, Found, Bad, tokens_from}
 use Rattle.sr_grammar.specs.Tokens.{Key, is, seen, lexeme_seen, tokens_of}
-use Rattle.sr_language.specs.Script.{Silent, CreateLine, is_blank, begins_create, event_of, event_line, line_of}
-use Rattle.sr_language.proofs.Parts.{faults_leave_ends}
+use Rattle.sr_lines.specs.Script.{Silent, CreateLine, is_blank, begins_create, event_of, event_line, line_of}
+use Rattle.sr_lines.proofs.Parts.{faults_leave_ends}
 
 -- ---- the first token of a line
 
@@ -46,16 +46,6 @@ no_text bytes other = by (is_utf8 bytes) refl
     by : (b : Bool) → is_utf8 bytes ≡ b → is_utf8 bytes ≡ false
     by true is = absurd (other (IsUtf8-from_is_utf8 bytes is))
     by false is = is
-
-pub one_is : (a b : Bool) → a ≡ true → (a || b) ≡ true
-one_is a b is = rw is refl
-
-pub other_is : (a b : Bool) → b ≡ true → (a || b) ≡ true
-other_is true b is = refl
-other_is false b is = is
-
-pub neither_is : (a b : Bool) → a ≡ false → b ≡ false → (a || b) ≡ false
-neither_is a b is other = rw (is, other) refl
 
 -- what a fault leaves is no longer than the line
 pub left_within : (clients : ℕ) (line rest : List ℕ) → Err rest ≡ event_of clients line → length rest ≤ length line

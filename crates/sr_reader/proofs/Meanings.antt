@@ -1,7 +1,6 @@
 -- What was read of a text is what the text means, and all that it means.
-use Rattle.std.proofs.Common.{◌≡◌, ℕ, ◌<◌, Bool, true, false, List, length, refl, sym, ap, subst, ◌∙◌, arith, inl, inr}
-use Rattle.std.specs.Prelude.{Option, Some, None, Result, Ok, Err, IsTrue, IfOk, nat_lt}
-use Rattle.std.proofs.lemmas.Bool.Decides.{nat_tests}
+use Rattle.std.proofs.Common.{◌≡◌, ℕ, Bool, true, false, List, length, refl, sym, ap, subst, ◌∙◌, arith, inl, inr, lt-ltb}
+use Rattle.std.specs.Prelude.{Option, Some, None, Result, Ok, Err, IsTrue, IfOk}
 use Rattle.sr_cell.specs.declared.list.NoMemory.{NoMemory}
 use Rattle.sr_cell.specs.declared.table.Table.{Table}
 use Rattle.sr_cell.specs.declared.fault.Fault.{Fault}
@@ -19,20 +18,17 @@ use Rattle.sr_query.specs.declared.query.Query.{Query}
 use Rattle.sr_query.specs.declared.write.Write.{Write}
 use Rattle.sr_query.specs.declared.write.Write.TheVariants as written
 use Rattle.sr_bind.proofs.OnTables.{bound_suits, bound_rows}
-use Rattle.sr_language.specs.Built.{may_ask}
-use Rattle.sr_language.specs.Script.{Writes, AsksOf}
+use Rattle.sr_lines.specs.Built.{may_ask}
+use Rattle.sr_lines.specs.Script.{Writes, AsksOf}
 use Rattle.std.specs.List.{list_all}
+use Rattle.std.proofs.lemmas.Bool.{both_ways}
 use Rattle.sr_query.specs.Bound.{is_table}
-use Rattle.sr_language.proofs.Own.{bound_need_own}
-use Rattle.sr_language.proofs.Sound.{bound_are_sound}
+use Rattle.sr_lines.proofs.Own.{bound_need_own}
+use Rattle.sr_lines.proofs.Sound.{bound_are_sound}
 use Rattle.sr_reader.specs.Read.{statement_of, few_rows, statement_fits, Means}
 use Rattle.sr_reader.specs.Meaning.{said_seen, IsCreated, IsBound, IsAsking}
 use Rattle.sr_reader.proofs.OneDoing.{one_statement, no_fault, asks_bound}
-use Rattle.sr_parser.proofs.RowCounts.{fewer_rows}
-
-true_and_false : (b : Bool) → b ≡ true → b ≡ false → ⊥
-true_and_false true t f = cc
-true_and_false false t f = cc
+use Rattle.sr_grammar_laws.proofs.RowCounts.{fewer_rows}
 
 -- ---- what was said
 
@@ -64,14 +60,11 @@ other_creates_none sql says s said is other u create = not_create u s (one_state
 
 -- ---- statements that write
 
-less : (n most : ℕ) → n < most → nat_lt n most ≡ true
-less n most few = grind (arith, nat_tests)
-
 rows_few : (tables : List Table) (sql : List ℕ) (s : Statement) (w : Write) → Says sql (Ok s) → bound_write tables s ≡ Ok (write_of w) → few_rows w ≡ true
 rows_few tables sql s (written.Insert table rows) says told =
     let i = bound_rows tables s table rows told in
     let few = fewer_rows sql i.0 (subst (λ z. Says sql (Ok z)) i.1 says) in
-    less (length rows) 65536 (omega (arith, i.2, few))
+    lt-ltb (length rows) 65536 (omega (arith, i.2, few))
 rows_few tables sql s (written.Update table sets filter) says told = refl
 rows_few tables sql s (written.Delete table filter) says told = refl
 
@@ -119,7 +112,7 @@ not_asked : (tables : List Table) (sql : List ℕ) (s : Statement) (q : model.Qu
 not_asked tables sql s q (Err fault) says told may asks = no_query q fault (sym told ∙ asks_bound tables sql s (Err fault) says asks)
 not_asked tables sql s q (Ok r) says told may asks =
     let same : q ≡ r = same_query q r (sym told ∙ asks_bound tables sql s (Ok r) says asks) in
-    true_and_false (may_ask q) (ap may_ask same ∙ asks.3) may
+    both_ways (may_ask q) may (ap may_ask same ∙ asks.3)
 
 of_bound : (tables : List Table) (sql : List ℕ) (s : Statement) (found : Option (Result Query Fault)) → Says sql (Ok s) → IsBound tables s found → IsAsking tables sql found
 of_bound tables sql s None says bound = λ meaning asks. not_asked tables sql s bound.0 meaning says bound.1 bound.2 asks

@@ -1,5 +1,5 @@
 -- The parts of a line, and the numbers that they write.
-use Rattle.std.proofs.Common.{◌≡◌, ℕ, suc, ◌+◌, ◌<◌, ◌≤◌, ◌^◌, Bool, true, false, List, [], ◌∷◌, length, take, drop, refl, ap, subst, ◌∙◌, arith}
+use Rattle.std.proofs.Common.{◌≡◌, ℕ, suc, ◌+◌, ◌<◌, ◌^◌, Bool, true, false, List, [], ◌∷◌, length, take, drop, refl, ap, subst, ◌∙◌, arith, one-add, leb-true}
 use Rattle.std.specs.Prelude.{◌==◌, ◌&&◌, nat_le, Option, Some, None, Result, Ok, Err, if◌then◌else◌}
 use Rattle.std.specs.Char.{is_ascii_digit}
 use Rattle.std.specs.List.{list_all, position_or_len}
@@ -7,16 +7,13 @@ use Rattle.std.specs.Result.{OkIff, result_ok}
 use Rattle.std.specs.Str.{all_ascii_digits}
 use Rattle.std.specs.Str.Parse.{ParsesUnsigned, digits_value}
 use denote.Ref.{Bor}
-use Rattle.std.proofs.lemmas.Bool.Decides.{nat_tests}
 use Rattle.std.proofs.lemmas.Str.Parse.{parse_digits, numerals_by_value, digits_value_short, tells_all_ascii_digits}
 use Rattle.std.proofs.lemmas.Str.Pattern.{IsSplitOnceResult, split_once_first}
-use Rattle.sr_language.specs.Parts.{is_client}
-use Rattle.sr_language.specs.Script.{part_of, behind, are_digits, client_number, place_number}
+use Rattle.std.proofs.lemmas.Bool.{and_right}
+use Rattle.sr_lines.specs.Parts.{is_client}
+use Rattle.sr_lines.specs.Script.{part_of, behind, are_digits, client_number, place_number}
 
 -- ---- the cut at the first space
-
-one_more : (n : ℕ) → 1 + n ≡ suc n
-one_more n = omega arith
 
 two_more : (n : ℕ) → 1 + n + 1 ≡ suc (n + 1)
 two_more n = omega arith
@@ -27,7 +24,7 @@ cut_part (b ∷ line) = by (b == 32) refl (cut_part line)
   where
     by : (x : Bool) → (b == 32) ≡ x → take (position_or_len (λ b. b == 32) line) line ≡ part_of line → take (position_or_len (λ b. b == 32) (b ∷ line)) (b ∷ line) ≡ part_of (b ∷ line)
     by true is more = rw is refl
-    by false is more = rw (is, one_more (position_or_len (λ b. b == 32) line)) (ap (λ z. b ∷ z) more)
+    by false is more = rw (is, one-add (position_or_len (λ b. b == 32) line)) (ap (λ z. b ∷ z) more)
 
 cut_behind : (line : List ℕ) → drop (position_or_len (λ b. b == 32) line + 1) line ≡ behind line
 cut_behind [] = refl
@@ -69,9 +66,6 @@ digit_parts true true false is = absurd cc
 digit_parts true false c is = absurd cc
 digit_parts false b c is = absurd cc
 
-at_most : (n most : ℕ) → nat_le n most ≡ true → n ≤ most
-at_most n most is = grind (arith, nat_tests)
-
 -- what `parse` makes of digits
 parsed : {E : Type 0} (k most : ℕ) (part : List ℕ) (r : Result ℕ E) → ParsesUnsigned k 10 part r → are_digits most part ≡ true → OkIff r ((0 < length part) × (digits_value 10 part < 2 ^ k)) (digits_value 10 part)
 parsed k most part r parses are =
@@ -81,30 +75,26 @@ parsed k most part r parses are =
 long_enough : (most : ℕ) (part : List ℕ) → are_digits most part ≡ true → 0 < length part
 long_enough most part are =
     let p = digit_parts (nat_le 1 (length part)) (nat_le (length part) most) (list_all is_ascii_digit part) are in
-    at_most 1 (length part) p.0
+    leb-true 1 (length part) p.0
 
 is_small : (most : ℕ) (part : List ℕ) → are_digits most part ≡ true → digits_value 10 part < 10 ^ most
 is_small most part are =
     let p = digit_parts (nat_le 1 (length part)) (nat_le (length part) most) (list_all is_ascii_digit part) are in
-    digits_value_short (numerals_by_value (λ ds. all_ascii_digits ds ≡ true) tells_all_ascii_digits) part most (same_digits part ∙ p.2) (at_most (length part) most p.1)
+    digits_value_short (numerals_by_value (λ ds. all_ascii_digits ds ≡ true) tells_all_ascii_digits) part most (same_digits part ∙ p.2) (leb-true (length part) most p.1)
 
 too_large : (clients v : ℕ) → clients < 256 → (v < 256 → ⊥) → nat_le v clients ≡ false
 too_large clients v few large = by (nat_le v clients) refl
   where
     by : (b : Bool) → nat_le v clients ≡ b → nat_le v clients ≡ false
-    by true is = absurd (large (let h = at_most v clients is in omega arith))
+    by true is = absurd (large (let h = leb-true v clients is in omega arith))
     by false is = is
-
-and_false : (a b : Bool) → b ≡ false → (a && b) ≡ false
-and_false true b is = is
-and_false false b is = refl
 
 pub client_err : {E : Type 0} (clients : ℕ) (part : List ℕ) (r : Result ℕ E) (e : E) → clients < 256 → are_digits 3 part ≡ true → ParsesUnsigned 8 10 part r → r ≡ Err e → None ≡ client_number clients part
 client_err clients part r e few are parses is =
     let never = rw is at (parsed 8 3 part r parses are) in
     let v = digits_value 10 part in
     let large : nat_le v clients ≡ false = too_large clients v few (λ small. never (long_enough 3 part are, small)) in
-    rw (and_false (are_digits 3 part && nat_le 1 v) (nat_le v clients) large) refl
+    rw (and_right (are_digits 3 part && nat_le 1 v) (nat_le v clients) large) refl
 
 pub client_ok : {E : Type 0} (part : List ℕ) (r : Result ℕ E) (n : ℕ) → are_digits 3 part ≡ true → ParsesUnsigned 8 10 part r → r ≡ Ok n → n ≡ digits_value 10 part
 client_ok part r n are parses is = (rw is at (parsed 8 3 part r parses are)).1

@@ -6,13 +6,13 @@ use Rattle.sr_cell.specs.declared.fault.Fault.{Fault}
 use Rattle.sr_cell.specs.Faults.{table_fault}
 use Rattle.sr_grammar.specs.Trees.{Statement, Create}
 use Rattle.sr_grammar.specs.Says.{Says}
-use Rattle.sr_parser.proofs.OneSaying.{each_says_one}
+use Rattle.sr_grammar_laws.proofs.OneSaying.{each_says_one}
 use Rattle.sr_model.specs.Queries.{Query}
 use Rattle.sr_model.specs.Statements.{Write}
-use Rattle.sr_language.specs.Events.{ScriptEvent, DoExec, DoQuery}
+use Rattle.sr_lines.specs.Events.{ScriptEvent, DoExec, DoQuery}
 use Rattle.sr_query.specs.Binding.{bound_query}
 use Rattle.sr_query.specs.Writes.{bound_write}
-use Rattle.sr_language.specs.Script.{Words, ExecSql, QuerySql, WriteSql, ExplainSql, PushTo, ToServer, ToClient, Settle, Evict, Cut, Resume, Line, Silent, CreateLine, EventLine, line_of, RefusedFrom, FirstRefused, Phase, start_phase, Writes, AsksOf, Means, LineDoes, Reads, FirstUnbuilt}
+use Rattle.sr_lines.specs.Script.{Words, ExecSql, QuerySql, WriteSql, ExplainSql, PushTo, ToServer, ToClient, Settle, Evict, Cut, Resume, Line, Silent, CreateLine, EventLine, line_of, RefusedFrom, FirstRefused, Phase, start_phase, Writes, AsksOf, Means, LineDoes, Reads, FirstUnbuilt}
 
 -- ---- a text means one thing
 

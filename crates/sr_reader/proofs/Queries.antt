@@ -8,7 +8,7 @@ use Rattle.sr_model.specs.Queries as model
 use Rattle.sr_query.specs.declared.query.Part.{Part}
 use Rattle.sr_query.specs.declared.query.KeyJoin.{KeyJoin}
 use Rattle.sr_query.specs.Bound.{IsPart, IsJoin}
-use Rattle.sr_language.specs.Built.{is_one, joins_nothing}
+use Rattle.sr_lines.specs.Built.{is_one, joins_nothing}
 
 many : (n : ℕ) → (suc (suc n) == 1) ≡ false
 many n = grind (arith, nat_tests)

@@ -5,8 +5,8 @@ use Rattle.sr_cell.specs.declared.table.Table.{Table}
 use Rattle.sr_cell.specs.declared.fault.Fault.{Fault}
 use Rattle.sr_query.specs.declared.query.Query.{Query}
 use Rattle.sr_query.specs.declared.write.Write.{Write}
-use Rattle.sr_language.specs.Events.{DoExec, DoQuery, DoWrite}
-use Rattle.sr_language.specs.Script.{ExecSql, QuerySql, WriteSql, Writes}
+use Rattle.sr_lines.specs.Events.{DoExec, DoQuery, DoWrite}
+use Rattle.sr_lines.specs.Script.{ExecSql, QuerySql, WriteSql, Writes}
 use Rattle.sr_reader.specs.declared.script.Event.TheVariants as read
 use Rattle.sr_reader.specs.Meaning.{IsAsking, IsSaid}
 use Rattle.sr_reader.specs.Read.{statement_of, statement_fits}

@@ -3,8 +3,10 @@ use Rattle.std.proofs.Common.{◌≡◌, ℕ, zero, suc, ◌+◌, ◌<◌, ◌�
 use Rattle.std.specs.Prelude.{Option, Some, None, Ok, Err, ◌==◌, ◌&&◌, ◌||◌, slice_index_or, if◌then◌else◌}
 use Rattle.std.specs.List.{AllZip}
 use Rattle.std.proofs.lemmas.Slice.Zip.{AllZip-long}
-use Rattle.sr_language.specs.Lines.{lines_of, before_line, begins_with_feed}
-use Rattle.sr_language.specs.Script.{Line as TheLine, Silent, CreateLine, EventLine, line_of, Stage, Creating, LinePlace, outside_from, first_outside}
+use Rattle.std.proofs.lemmas.List.{drop_all}
+use Rattle.sr_cell.proofs.Lists.{AllZip-push}
+use Rattle.sr_lines.specs.Lines.{lines_of, before_line, begins_with_feed}
+use Rattle.sr_lines.specs.Script.{Line as TheLine, Silent, CreateLine, EventLine, line_of, Stage, Creating, LinePlace, outside_from, first_outside}
 use Rattle.sr_reader.specs.declared.line.Line.{Line}
 use Rattle.sr_reader.specs.LineSeen.{line_seen}
 use Rattle.sr_reader.specs.Lined.{IsLine, AreLines, stage_by, is_event, is_create, GoesOn, StopsAt}
@@ -42,12 +44,6 @@ fault_stops clients text running place is i later = rw is (at_fault running plac
 
 -- ---- the walk
 
-pub zip_push : {A B : Type 0} (R : A → B → Type 0) (xs : List A) (ys : List B) (x : A) (y : B) → AllZip R xs ys → R x y → AllZip R (xs ++ x ∷ []) (ys ++ y ∷ [])
-zip_push R [] [] x y all here = (here, tt)
-zip_push R [] (b ∷ ys) x y all here = absurd all
-zip_push R (a ∷ xs) [] x y all here = absurd all
-zip_push R (a ∷ xs) (b ∷ ys) x y all here = (all.0, zip_push R xs ys x y all.1 here)
-
 -- what the walk keeps: these lines stand in front of the rest, and the first that is outside is the rest's
 pub record Cut (clients : ℕ) (bytes : List ℕ) (number : ℕ) (rest : List ℕ) (running : Bool) (lines : List Line) : Type 0 where
   pub counted : number + length rest ≤ length bytes + 1
@@ -67,7 +63,7 @@ cut_line clients bytes rest after text number running lines line so_far cut shor
   inside = let h = so_far.inside in omega arith;
   texts = so_far.texts ++ text ∷ [];
   split = so_far.split ∙ (ap (λ z. so_far.texts ++ z) cut ∙ sym (append_assoc so_far.texts (text ∷ []) (lines_of after)));
-  are = zip_push (IsLine clients) so_far.texts lines text line so_far.are is;
+  are = AllZip-push (IsLine clients) so_far.texts lines text line so_far.are is;
   outside = so_far.outside ∙ (ap (first_outside clients number (stage_by running)) cut ∙ on number (λ next. first_outside clients (number + 1) next (lines_of after)));
 }
 
@@ -96,12 +92,6 @@ at_line R (a ∷ xs) (b ∷ ys) (suc i) d y all inside is =
     let next : suc i + 1 ≡ suc (i + 1) = omega arith in
     (more.0, rw next more.1, more.2)
 
-past_end : {A : Type 0} (xs : List A) (i : ℕ) → length xs ≤ i → drop i xs ≡ []
-past_end [] zero past = refl
-past_end [] (suc i) past = refl
-past_end (x ∷ xs) zero past = absurd (omega (arith, past))
-past_end (x ∷ xs) (suc i) past = past_end xs i (omega (arith, past))
-
 pub line_here : (clients : ℕ) (bytes : List ℕ) (lines items : List Line) (i : ℕ) (d line : Line) → items ≡ lines → AreLines clients bytes lines → i < length items → slice_index_or items i d ≡ line
     → (text : List ℕ) × (drop i (lines_of bytes) ≡ text ∷ drop (i + 1) (lines_of bytes)) × IsLine clients text line
 line_here clients bytes lines items i d line same are inside is =
@@ -109,7 +99,7 @@ line_here clients bytes lines items i d line same are inside is =
 
 pub none_here : (clients : ℕ) (bytes : List ℕ) (lines items : List Line) (i : ℕ) → items ≡ lines → AreLines clients bytes lines → length items ≤ i → drop i (lines_of bytes) ≡ []
 none_here clients bytes lines items i same are past =
-    past_end (lines_of bytes) i (omega (arith, ap length same, past, AllZip-long (IsLine clients) (lines_of bytes) lines are))
+    drop_all i (lines_of bytes) (omega (arith, ap length same, past, AllZip-long (IsLine clients) (lines_of bytes) lines are))
 
 -- ---- no more lines than bytes
 

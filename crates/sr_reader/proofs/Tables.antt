@@ -3,13 +3,13 @@ use Rattle.std.proofs.Common.{◌≡◌, ℕ, ◌+◌, Bool, true, false, List, 
 use Rattle.std.specs.Prelude.{Option, Some, None, ◌&&◌, not, nat_lt, nat_le, if◌then◌else◌}
 use Rattle.std.specs.List.{list_all}
 use Rattle.std.proofs.lemmas.Bool.Decides.{nat_tests}
+use Rattle.std.proofs.lemmas.Bool.{and_parts}
 use Rattle.sr_cell.specs.declared.table.Column.{Column}
 use Rattle.sr_cell.specs.declared.table.Table.{Table}
 use Rattle.sr_cell.specs.declared.fault.Fault.{Fault}
 use Rattle.sr_cell.specs.declared.fault.Why.{Why}
 use Rattle.sr_cell.specs.Names.{is_bad_domain, bad_domain_from, has_table_named, repeat_at}
 use Rattle.sr_cell.specs.Faults.{fault_or, column_fault, table_fault}
-use Rattle.sr_parser.proofs.Words.{and_parts}
 use Rattle.sr_query.specs.Bound.{is_table}
 
 no_bad : (n : ℕ) (columns : List Column) → bad_domain_from n columns ≡ None → list_all (λ c. not (is_bad_domain c)) columns ≡ true

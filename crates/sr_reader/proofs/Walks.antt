@@ -1,14 +1,15 @@
 -- Reading the events of a script, one line after another.
-use Rattle.std.proofs.Common.{◌≡◌, ℕ, ◌+◌, ◌≤◌, Bool, true, false, List, [], ◌∷◌, ◌++◌, length, refl, sym, ap, subst, inl, inr, ◌∙◌, arith, append_assoc, append-nil}
-use Rattle.std.specs.Prelude.{Option, Some, None, Result, Ok, IsTrue, ◌&&◌}
+use Rattle.std.proofs.Common.{◌≡◌, ℕ, ◌+◌, ◌≤◌, true, List, [], ◌∷◌, ◌++◌, length, refl, sym, ap, subst, inl, inr, ◌∙◌, arith, append_assoc, append-nil}
+use Rattle.std.specs.Prelude.{Option, Some, None, Result, Ok, IsTrue}
 use Rattle.std.specs.List.{list_all, AllZip}
 use Rattle.std.proofs.lemmas.List.{length-append}
 use Rattle.sr_cell.specs.declared.table.Table.{Table}
-use Rattle.sr_language.specs.Events.{ScriptEvent}
-use Rattle.sr_language.specs.Lines.{lines_of}
-use Rattle.sr_language.specs.Script.{Words, Line, Silent, CreateLine, EventLine as EventOf, line_of, Stage, Creating, Running, LinePlace, outside_from, first_outside, Phase, start_phase, Means, LineDoes, Reads, FirstUnbuilt}
-use Rattle.sr_language.specs.Creates.{CreatesFrom, Creates}
-use Rattle.sr_language.proofs.Parts.{events_name_clients}
+use Rattle.sr_cell.proofs.Lists.{list_all-push, AllZip-push}
+use Rattle.sr_lines.specs.Events.{ScriptEvent}
+use Rattle.sr_lines.specs.Lines.{lines_of}
+use Rattle.sr_lines.specs.Script.{Words, Line, Silent, CreateLine, EventLine as EventOf, line_of, Stage, Creating, Running, LinePlace, outside_from, first_outside, Phase, start_phase, Means, LineDoes, Reads, FirstUnbuilt}
+use Rattle.sr_lines.specs.Creates.{CreatesFrom, Creates}
+use Rattle.sr_lines.proofs.Parts.{events_name_clients}
 use Rattle.sr_query.specs.Bound.{is_table}
 use Rattle.sr_reader.specs.declared.script.Event.{Event}
 use Rattle.sr_reader.specs.declared.script.EventLine.{EventLine}
@@ -19,15 +20,7 @@ use Rattle.sr_reader.specs.Lined.{IsLine, AreOf}
 use Rattle.sr_reader.specs.Meaning.{IsSaid}
 use Rattle.sr_reader.specs.Read.{IsEventLine, Fits, IsRead, event_fits}
 use Rattle.sr_reader.proofs.Fronts.{event_of_line}
-use Rattle.sr_reader.proofs.Stages.{zip_push, few_lines}
-
-all_push : {A : Type 0} (p : A → Bool) (xs : List A) (x : A) → list_all p xs ≡ true → p x ≡ true → list_all p (xs ++ x ∷ []) ≡ true
-all_push p [] x all is = rw is refl
-all_push p (y ∷ xs) x all is = by (p y) refl (all_push p xs x) all
-  where
-    by : (b : Bool) → p y ≡ b → (list_all p xs ≡ true → p x ≡ true → list_all p (xs ++ x ∷ []) ≡ true) → (b && list_all p xs) ≡ true → (p y && list_all p (xs ++ x ∷ [])) ≡ true
-    by true here more rest = rw (here, more rest is) refl
-    by false here more rest = absurd cc
+use Rattle.sr_reader.proofs.Stages.{few_lines}
 
 -- among the CREATE lines the schema is what they still make of these tables; among the events it is these
 abbrev Waits : ℕ → List Table → List Table → Stage → List (List ℕ) → Type 0
@@ -161,8 +154,8 @@ module _ (clients : ℕ) (bytes : List ℕ) (schema : List Table) (number : ℕ)
       let line : EventLine = record { number = number; event = event } in
       step some walked.tables Running (events ++ line ∷ []) does tables
       (sym (event_inside number (λ next. first_outside clients (number + 1) next after) walked.stage words) ∙ inside_here (Ok (EventOf words)) is)
-      (zip_push (IsEventLine schema) events walked.before line (number, said.0) walked.are (said.0, said.2, refl)) (let e = length-append events (line ∷ []) in omega (arith, e))
-      (all_push (λ l. event_fits clients schema l.event) events line walked.fits (said.3 clients names))
+      (AllZip-push (IsEventLine schema) events walked.before line (number, said.0) walked.are (said.0, said.2, refl)) (let e = length-append events (line ∷ []) in omega (arith, e))
+      (list_all-push (λ l. event_fits clients schema l.event) events line walked.fits (said.3 clients names))
 
   pub walked_unbuilt : (words : Words) → line_of clients text ≡ Ok (EventOf words) → IsSaid schema words None → FirstUnbuilt clients 1 start_phase (lines_of bytes) number
   walked_unbuilt words is none =

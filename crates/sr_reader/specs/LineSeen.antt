@@ -5,7 +5,7 @@ use Rattle.sr_reader.specs.declared.words.Words.{Words}
 use Rattle.sr_reader.specs.declared.words.Words.TheVariants as words
 use Rattle.sr_reader.specs.declared.line.Line.{Line}
 use Rattle.sr_reader.specs.declared.line.Line.TheVariants as code
-use Rattle.sr_language.specs.Script as script
+use Rattle.sr_lines.specs.Script as script
 
 abbrev pub words_seen : Words → script.Words
 words_seen (words.Exec sql) = script.ExecSql sql.now

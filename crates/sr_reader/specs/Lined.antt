@@ -2,9 +2,9 @@
 use Rattle.std.specs.Prelude.{◌≡◌, ℕ, ◌||◌, Bool, true, false, List, [], Option, Some, None, Ok}
 use Rattle.std.specs.List.{AllZip}
 use Rattle.sr_cell.specs.declared.table.Table.{Table}
-use Rattle.sr_language.specs.Lines.{lines_of}
-use Rattle.sr_language.specs.Script.{Line as TheLine, Silent, CreateLine, EventLine, line_of, Stage, Creating, Running, LinePlace, outside_from, first_outside}
-use Rattle.sr_language.specs.Creates.{Creates}
+use Rattle.sr_lines.specs.Lines.{lines_of}
+use Rattle.sr_lines.specs.Script.{Line as TheLine, Silent, CreateLine, EventLine, line_of, Stage, Creating, Running, LinePlace, outside_from, first_outside}
+use Rattle.sr_lines.specs.Creates.{Creates}
 use Rattle.sr_reader.specs.declared.line.Line.{Line}
 use Rattle.sr_reader.specs.declared.script.LinePlace as code
 use Rattle.sr_reader.specs.LineSeen.{line_seen}

@@ -9,11 +9,11 @@ use Rattle.sr_grammar.specs.Says.{Says}
 use Rattle.sr_model.specs.Queries as model
 use Rattle.sr_query.specs.Binding.{bound_query}
 use Rattle.sr_query.specs.declared.query.Query.{Query}
-use Rattle.sr_language.specs.Built.{may_ask}
-use Rattle.sr_language.specs.Events.{ScriptEvent}
-use Rattle.sr_language.specs.Parts.{names_client}
-use Rattle.sr_language.specs.Script.{Words, AsksOf}
-use Rattle.sr_language.specs.Script as script
+use Rattle.sr_lines.specs.Built.{may_ask}
+use Rattle.sr_lines.specs.Events.{ScriptEvent}
+use Rattle.sr_lines.specs.Parts.{names_client}
+use Rattle.sr_lines.specs.Script.{Words, AsksOf}
+use Rattle.sr_lines.specs.Script as script
 use Rattle.sr_reader.specs.declared.script.Event.{Event}
 use Rattle.sr_reader.specs.Read.{Means, IsEvent, event_fits}
 

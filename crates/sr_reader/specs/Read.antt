@@ -5,19 +5,19 @@ use Rattle.sr_cell.specs.declared.fault.Fault.{Fault}
 use Rattle.sr_cell.specs.declared.table.Table.{Table}
 use Rattle.sr_model.specs.Queries as model
 use Rattle.sr_model.specs.Statements as statements
-use Rattle.sr_language.specs.Events.{ScriptEvent, DoExec, DoQuery, DoWrite, DoPush, DoToServer, DoToClient, DoSettle, DoEvict, DoCut, DoResume}
+use Rattle.sr_lines.specs.Events.{ScriptEvent, DoExec, DoQuery, DoWrite, DoPush, DoToServer, DoToClient, DoSettle, DoEvict, DoCut, DoResume}
 use Rattle.sr_query.specs.Bound.{is_table, IsQuery}
 use Rattle.sr_query.specs.declared.query.Query.{Query}
 use Rattle.sr_query.specs.declared.write.Write.{Write}
 use Rattle.sr_query.specs.declared.write.Write.TheVariants as writes
 use Rattle.sr_query.specs.Writes.{suits}
 use Rattle.sr_query.specs.Written.{write_of}
-use Rattle.sr_language.specs.Lines.{lines_of}
-use Rattle.sr_language.specs.Built.{may_ask}
-use Rattle.sr_language.specs.Own.{needs_own}
-use Rattle.sr_language.specs.Sound.{is_sound}
-pub use Rattle.sr_language.specs.Parts.{is_client}
-use Rattle.sr_language.specs.Script.{Phase, start_phase, Reads}
+use Rattle.sr_lines.specs.Lines.{lines_of}
+use Rattle.sr_lines.specs.Built.{may_ask}
+use Rattle.sr_lines.specs.Own.{needs_own}
+use Rattle.sr_lines.specs.Sound.{is_sound}
+pub use Rattle.sr_lines.specs.Parts.{is_client}
+use Rattle.sr_lines.specs.Script.{Phase, start_phase, Reads}
 use Rattle.sr_reader.specs.declared.script.Event as code
 use Rattle.sr_reader.specs.declared.script.Event.TheVariants as read
 use Rattle.sr_reader.specs.declared.script.EventLine.{EventLine}

@@ -4,7 +4,7 @@ ghost use Rattle.std.specs.List.{AllZip};
 ghost use Rattle.sr_cell.specs.declared.table.Table.{Table};
 ghost use Rattle.sr_model.specs.Queries.{Part, Join, Query as TheQuery};
 ghost use Rattle.sr_query.specs.Bound.{IsPart, IsJoin, IsQuery};
-ghost use Rattle.sr_language.specs.Built.{is_one, joins_nothing, may_ask};
+ghost use Rattle.sr_lines.specs.Built.{is_one, joins_nothing, may_ask};
 
 use sr_query::query::Query;
 

@@ -1,6 +1,6 @@
 //! The lines of a script, cut off one by one.
 ghost use Rattle.std.specs.Prelude.{◌≡◌, ◌<◌, ◌≤◌, ◌∷◌, length};
-ghost use Rattle.sr_language.specs.Lines.{lines_of};
+ghost use Rattle.sr_lines.specs.Lines.{lines_of};
 ghost use Rattle.sr_reader.specs.Cutting.{first_end, without_return};
 
 /// The first line, without its end, and the lines behind it.

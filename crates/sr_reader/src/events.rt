@@ -2,8 +2,8 @@
 ghost use Rattle.std.specs.Prelude.{◌≡◌, ℕ, List, IsTrue, IfOk, IsErrOf};
 ghost use Rattle.std.specs.List.{list_all};
 ghost use Rattle.sr_cell.specs.declared.list.No.TheVariants.{Refused};
-ghost use Rattle.sr_language.specs.Lines.{lines_of};
-ghost use Rattle.sr_language.specs.Script.{ExecSql, QuerySql, WriteSql, start_phase, FirstUnbuilt};
+ghost use Rattle.sr_lines.specs.Lines.{lines_of};
+ghost use Rattle.sr_lines.specs.Script.{ExecSql, QuerySql, WriteSql, start_phase, FirstUnbuilt};
 ghost use Rattle.sr_query.specs.Bound.{is_table};
 ghost use Rattle.sr_reader.specs.declared.script.UnbuiltLine.{UnbuiltLine as TheUnbuiltLine};
 ghost use Rattle.sr_reader.specs.LineSeen.{words_seen};

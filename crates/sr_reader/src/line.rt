@@ -2,7 +2,7 @@
 ghost use Rattle.std.specs.Prelude.{◌≡◌, ◌<◌, ◌^◌, length, nat_eq, codes};
 ghost use Rattle.std.specs.List.{starts_with};
 ghost use Rattle.sr_grammar.specs.Tokens.{Key, is, seen, tokens_of};
-ghost use Rattle.sr_language.specs.Script.{is_blank, begins_create, event_line, line_of};
+ghost use Rattle.sr_lines.specs.Script.{is_blank, begins_create, event_line, line_of};
 ghost use Rattle.sr_reader.specs.LineSeen.{read_seen};
 
 use crate::words::{Words, event_of};

@@ -1,8 +1,8 @@
 //! The lines of a script.
 ghost use Rattle.std.specs.Prelude.{◌≡◌, ◌<◌, ◌^◌, ◌||◌, length, None, Some, IfOk, IfErr, OnOk, IsErrOf};
 ghost use Rattle.sr_cell.specs.declared.list.No.TheVariants.{Refused};
-ghost use Rattle.sr_language.specs.Lines.{lines_of};
-ghost use Rattle.sr_language.specs.Script.{Creating, first_outside};
+ghost use Rattle.sr_lines.specs.Lines.{lines_of};
+ghost use Rattle.sr_lines.specs.Script.{Creating, first_outside};
 ghost use Rattle.sr_reader.specs.declared.script.LinePlace.{LinePlace as TheLinePlace};
 ghost use Rattle.sr_reader.specs.LineSeen.{line_seen};
 ghost use Rattle.sr_reader.specs.Lined.{IsLine, AreLines, place_seen, is_event, is_create, GoesOn, StopsAt};

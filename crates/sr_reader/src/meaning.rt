@@ -5,7 +5,7 @@ ghost use Rattle.sr_grammar.specs.Says.{Says};
 ghost use Rattle.sr_grammar.specs.Seen.{statement_seen};
 ghost use Rattle.sr_query.specs.Bound.{is_table};
 ghost use Rattle.sr_query.specs.Writes.{bound_write};
-ghost use Rattle.sr_language.specs.Script.{Writes};
+ghost use Rattle.sr_lines.specs.Script.{Writes};
 ghost use Rattle.sr_reader.specs.Read.{statement_of, statement_fits};
 ghost use Rattle.sr_reader.specs.Meaning.{said_seen, IsCreated, IsBound, IsAsking};
 

@@ -2,8 +2,8 @@
 ghost use Rattle.std.specs.Prelude.{◌≡◌};
 ghost use Rattle.std.specs.Char.{is_ascii_digit};
 ghost use Rattle.std.specs.List.{list_all};
-ghost use Rattle.sr_language.specs.Parts.{is_client};
-ghost use Rattle.sr_language.specs.Script.{part_of, behind, are_digits, client_number, place_number};
+ghost use Rattle.sr_lines.specs.Parts.{is_client};
+ghost use Rattle.sr_lines.specs.Script.{part_of, behind, are_digits, client_number, place_number};
 
 /// The part in front of the first space, and what stands behind that space: nothing, where there is none.
 pub(crate) fn split(line: &str) -> (&str, &str)

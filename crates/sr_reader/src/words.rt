@@ -1,7 +1,7 @@
 //! Events, as lines write them.
 ghost use Rattle.std.specs.Prelude.{◌≡◌, ℕ, List};
 ghost use Rattle.std.specs.Borrow.{Bor};
-ghost use Rattle.sr_language.specs.Script.{Words as TheWords, text, ending, last_client, client_text, client_place, event_of};
+ghost use Rattle.sr_lines.specs.Script.{Words as TheWords, text, ending, last_client, client_text, client_place, event_of};
 ghost use Rattle.sr_reader.specs.LineSeen.{made_of, reading_seen};
 
 use crate::parts::{client_number, place_number, split};

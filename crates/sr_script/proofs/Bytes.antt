@@ -3,7 +3,7 @@ use Rattle.std.proofs.Common.{◌≡◌, ℕ, ◌<◌, ◌-◌, ◌^◌, ◌/◌
 use Rattle.std.specs.Fmt.{digits, digit_glyph, padded_integral, format_spec}
 use Rattle.std.proofs.lemmas.Fmt.{hex_byte as printed}
 use Rattle.std.proofs.lemmas.Bool.Decides.{nat_tests}
-use Rattle.sr_language.specs.Texts.{hex_digit, hex_byte}
+use Rattle.sr_lines.specs.Texts.{hex_digit, hex_byte}
 
 digit : (d : ℕ) → digit_glyph false d ≡ hex_digit d
 digit d = grind (arith, nat_tests)

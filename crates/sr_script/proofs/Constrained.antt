@@ -5,7 +5,7 @@ use Rattle.std.proofs.lemmas.Bool.{cases_lt}
 use Rattle.sr_cell.specs.declared.table.Column.{Column}
 use Rattle.sr_box.specs.declared.span.Span.{Span}
 use Rattle.sr_box.specs.declared.span.Span.TheVariants.{Full, Nums, Strs}
-use Rattle.sr_language.specs.Texts.{joined}
+use Rattle.sr_lines.specs.Texts.{joined}
 use Rattle.sr_script.specs.TraceText.{span_text, spans_text}
 
 pub span_text_one : (c : Column) (s : Span) → (s ≡ Full → ⊥) → span_text c s ≡ joined (codes ", ") (span_text c s) ∷ []

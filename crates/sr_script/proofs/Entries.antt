@@ -3,6 +3,8 @@ use Rattle.std.proofs.Common.{◌≡◌, ℕ, Bool, true, false, List, [], ◌�
 use Rattle.std.specs.Prelude.{ℤ, ◌&&◌, int_le, codes, bytes_eq}
 use Rattle.std.specs.List.{list_all, list_any, AllByRecursion}
 use Rattle.std.proofs.lemmas.Int.{ints}
+use Rattle.std.specs.Cmp.{first_so, second_so}
+use Rattle.std.proofs.lemmas.Bool.{not-true}
 use Rattle.sr_cell.specs.declared.table.Kind.{Kind}
 use Rattle.sr_cell.specs.declared.table.Kind.TheVariants.{Num as Numbers, Str as Texts}
 use Rattle.sr_cell.specs.declared.table.Column.{Column}
@@ -10,13 +12,13 @@ use Rattle.sr_box.specs.declared.span.Span.{Span}
 use Rattle.sr_box.specs.declared.span.Span.TheVariants.{Full, Nums, Strs}
 use Rattle.sr_box.specs.Points.{Rect, rect_fits}
 use Rattle.sr_box.specs.Spans.{fits_kind, span_fits}
-use Rattle.sr_language.specs.Texts.{joined, number_text, bytes_text}
+use Rattle.sr_lines.specs.Texts.{joined, number_text, bytes_text}
 use Rattle.sr_script.specs.TraceText.{bound_text, span_text, spans_text, rect_text, rects_text}
 use Rattle.sr_script.specs.Printable.{is_name, are_different, is_signed, has_signed_ends}
-use Rattle.sr_script.proofs.Plain.{left_of, right_of, is_stop, first_is, others_are, number_cut, number_numeral}
+use Rattle.sr_script.proofs.Plain.{is_stop, first_is, others_are, number_cut, number_numeral}
 use Rattle.sr_script.proofs.Quoted.{text_cut, no_text}
 use Rattle.sr_script.proofs.Listed.{IsCut, list_cut}
-use Rattle.sr_script.proofs.Named.{no_same, name_cut, name_begins, or_left, or_right, not_true}
+use Rattle.sr_script.proofs.Named.{no_same, name_cut, name_begins, or_left, or_right}
 
 pub data Entry : Type 0 where
   entry : List ℕ → Span → Entry
@@ -58,9 +60,9 @@ ends_cut Full t x y p q f g h k e = absurd cc
 ends_cut (Nums a b) Full x y p q f g h k e = absurd cc
 ends_cut (Strs a b) Full x y p q f g h k e = absurd cc
 ends_cut (Nums a b) (Nums c d) x y p q f g h k e =
-    let low = number_cut a c (46 ∷ (number_text b ++ (p ∷ x))) (46 ∷ (number_text d ++ (q ∷ y))) 46 46 (left_of _ _ f) (left_of _ _ g) refl refl
+    let low = number_cut a c (46 ∷ (number_text b ++ (p ∷ x))) (46 ∷ (number_text d ++ (q ∷ y))) 46 46 (first_so _ _ f) (first_so _ _ g) refl refl
     (sym (dots (number_text a) (number_text b) (p ∷ x)) ∙ e ∙ dots (number_text c) (number_text d) (q ∷ y)) in
-    let high = number_cut b d x y p q (right_of (is_signed a) _ f) (right_of (is_signed c) _ g) h k (after_dots _ _ low.1) in
+    let high = number_cut b d x y p q (second_so (is_signed a) _ f) (second_so (is_signed c) _ g) h k (after_dots _ _ low.1) in
     (ap₂ Nums low.0 high.0, high.1)
 ends_cut (Strs a b) (Strs c d) x y p q f g h k e =
     let low = text_cut a c (46 ∷ (bound_text b ++ (p ∷ x))) (46 ∷ (bound_text d ++ (q ∷ y))) 46 46 refl refl
@@ -68,10 +70,10 @@ ends_cut (Strs a b) (Strs c d) x y p q f g h k e =
     let high = bound_cut b d x y p q h k (after_dots _ _ low.1) in
     (ap₂ Strs low.0 high.0, high.1)
 ends_cut (Nums a b) (Strs c d) x y p q f g h k e =
-    absurd (no_text (number_text a) 46 (46 ∷ (number_text b ++ (p ∷ x))) c (46 ∷ 46 ∷ (bound_text d ++ (q ∷ y))) (number_numeral a (left_of _ _ f)) refl
+    absurd (no_text (number_text a) 46 (46 ∷ (number_text b ++ (p ∷ x))) c (46 ∷ 46 ∷ (bound_text d ++ (q ∷ y))) (number_numeral a (first_so _ _ f)) refl
     (sym (dots (number_text a) (number_text b) (p ∷ x)) ∙ e ∙ dots (bytes_text c) (bound_text d) (q ∷ y)))
 ends_cut (Strs a b) (Nums c d) x y p q f g h k e =
-    absurd (no_text (number_text c) 46 (46 ∷ (number_text d ++ (q ∷ y))) a (46 ∷ 46 ∷ (bound_text b ++ (p ∷ x))) (number_numeral c (left_of _ _ g)) refl
+    absurd (no_text (number_text c) 46 (46 ∷ (number_text d ++ (q ∷ y))) a (46 ∷ 46 ∷ (bound_text b ++ (p ∷ x))) (number_numeral c (first_so _ _ g)) refl
     (sym (dots (number_text c) (number_text d) (q ∷ y)) ∙ sym e ∙ dots (bytes_text a) (bound_text b) (p ∷ x)))
 
 entry_is : (name after : List ℕ) (s : Span) → (name ++ (codes " " ++ ends_text s)) ++ after ≡ name ++ (32 ∷ (ends_text s ++ after))
@@ -120,10 +122,10 @@ span_ends c s f g other = by c.kind s g other
     by : (k : Kind) (s : Span) → fits_kind k c.lo c.hi s ≡ true → (s ≡ Full → ⊥) → has_ends s ≡ true
     by k Full g other = absurd (other refl)
     by Numbers (Nums lo hi) g other =
-        let ordered = left_of (int_le c.lo lo && int_le lo hi && int_le hi c.hi) _ g in
-        let low = left_of (int_le c.lo lo && int_le lo hi) (int_le hi c.hi) ordered in
-        signed_between c.lo lo hi c.hi (left_of _ _ f) (right_of (is_signed c.lo) _ f) (left_of (int_le c.lo lo) (int_le lo hi) low) (right_of (int_le c.lo lo) (int_le lo hi) low)
-        (right_of (int_le c.lo lo && int_le lo hi) (int_le hi c.hi) ordered)
+        let ordered = first_so (int_le c.lo lo && int_le lo hi && int_le hi c.hi) _ g in
+        let low = first_so (int_le c.lo lo && int_le lo hi) (int_le hi c.hi) ordered in
+        signed_between c.lo lo hi c.hi (first_so _ _ f) (second_so (is_signed c.lo) _ f) (first_so (int_le c.lo lo) (int_le lo hi) low) (second_so (int_le c.lo lo) (int_le lo hi) low)
+        (second_so (int_le c.lo lo && int_le lo hi) (int_le hi c.hi) ordered)
     by Numbers (Strs lo hi) g other = absurd cc
     by Texts (Nums lo hi) g other = absurd cc
     by Texts (Strs lo hi) g other = refl
@@ -138,8 +140,8 @@ entries_fit : (columns : List Column) (r : Rect) → list_all is_name (map (λ (
 entries_fit [] r f g h = tt
 entries_fit (c ∷ columns) [] f g h = tt
 entries_fit (c ∷ columns) (s ∷ r) f g h =
-    of_fits c.name s (entries columns r) (left_of _ _ f) (span_ends c s (left_of _ _ g) (left_of _ _ h))
-    (entries_fit columns r (right_of (is_name c.name) _ f) (right_of (has_signed_ends c) _ g) (right_of (span_fits c s) _ h))
+    of_fits c.name s (entries columns r) (first_so _ _ f) (span_ends c s (first_so _ _ g) (first_so _ _ h))
+    (entries_fit columns r (second_so (is_name c.name) _ f) (second_so (has_signed_ends c) _ g) (second_so (span_fits c s) _ h))
 
 -- ---- a rect by its entries
 
@@ -175,9 +177,9 @@ same_rect [] [] (t ∷ q) apart f g e = absurd cc
 same_rect (c ∷ columns) [] q apart f g e = absurd cc
 same_rect (c ∷ columns) (s ∷ r) [] apart f g e = absurd cc
 same_rect (c ∷ columns) (s ∷ r) (t ∷ q) apart f g e =
-    let none = not_true (list_any (bytes_eq c.name) (map (λ (c : Column). c.name) columns)) (left_of _ _ apart) in
+    let none = not-true (list_any (bytes_eq c.name) (map (λ (c : Column). c.name) columns)) (first_so _ _ apart) in
     let front = one_span c.name s t (entries columns r) (entries columns q) (λ u rest. foreign columns r c.name u rest none) (λ u rest. foreign columns q c.name u rest none) e in
-    let rest = same_rect columns r q (right_of _ _ apart) (right_of (span_fits c s) _ f) (right_of (span_fits c t) _ g) front.1 in
+    let rest = same_rect columns r q (second_so _ _ apart) (second_so (span_fits c s) _ f) (second_so (span_fits c t) _ g) front.1 in
     ap₂ (λ z zs. z ∷ zs) front.0 rest
 
 -- ---- the text of a rect
@@ -215,7 +217,7 @@ rects_are columns are = record {
 
 all_fit : (columns : List Column) (rects : List Rect) → list_all (rect_fits columns) rects ≡ true → AllByRecursion (λ r. rect_fits columns r ≡ true) rects
 all_fit columns [] h = tt
-all_fit columns (r ∷ rects) h = (left_of _ _ h, all_fit columns rects (right_of (rect_fits columns r) _ h))
+all_fit columns (r ∷ rects) h = (first_so _ _ h, all_fit columns rects (second_so (rect_fits columns r) _ h))
 
 pub rects_cut : (columns : List Column) → AreColumns columns → (one other : List Rect) (x y : List ℕ) → list_all (rect_fits columns) one ≡ true → list_all (rect_fits columns) other ≡ true
     → rects_text columns one ++ (10 ∷ x) ≡ rects_text columns other ++ (10 ∷ y) → (one ≡ other) × (x ≡ y)

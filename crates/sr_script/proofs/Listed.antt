@@ -2,7 +2,7 @@
 use Rattle.std.proofs.Common.{◌≡◌, ℕ, true, List, [], ◌∷◌, ◌++◌, map, refl, sym, ap, ◌∙◌, append_assoc}
 use Rattle.std.specs.List.{AllByRecursion}
 use Rattle.std.proofs.lemmas.List.{append_cancel_left}
-use Rattle.sr_language.specs.Texts.{joined}
+use Rattle.sr_lines.specs.Texts.{joined}
 use Rattle.sr_script.proofs.Plain.{is_stop, first_is, others_are}
 
 -- texts that end before a stop: equal texts have the same item, and none begins with a stop

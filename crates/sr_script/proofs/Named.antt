@@ -1,24 +1,22 @@
 -- Names of tables, and sets of columns: different names tell the table and the columns.
 use Rattle.std.proofs.Common.{◌≡◌, ℕ, zero, suc, ◌+◌, ◌^◌, ◌<◌, ◌≤◌, Bool, true, false, cond, List, [], ◌∷◌, ◌++◌, length, map, refl, sym, ap, subst, ◌∙◌, append_assoc, inl, inr, arith}
-use Rattle.std.specs.Prelude.{not, ◌||◌, ◌==◌, codes, bytes_eq}
+use Rattle.std.specs.Prelude.{◌||◌, ◌==◌, codes, bytes_eq}
 use Rattle.std.specs.List.{list_all, list_any, AllByRecursion}
 use Rattle.std.specs.Int.{bit_at}
-use Rattle.std.proofs.lemmas.Bool.{cases_lt}
+use Rattle.std.proofs.lemmas.Bool.{cases_lt, not-true, both_ways}
 use Rattle.std.proofs.lemmas.Bool.Decides.{nat_tests}
 use Rattle.std.proofs.lemmas.Nat.Bits.{same_from_bits_below}
 use Rattle.std.proofs.lemmas.Slice.Eq.{bytes_eq-Decides}
+use Rattle.std.specs.Cmp.{first_so, second_so}
 use Rattle.sr_cell.specs.declared.table.Column.{Column}
 use Rattle.sr_cell.specs.declared.table.Table.{Table}
 use Rattle.sr_cell.specs.Attrs.{has_column}
 use Rattle.sr_cell.specs.Columns.{table_at}
-use Rattle.sr_language.specs.Texts.{joined}
+use Rattle.sr_lines.specs.Texts.{joined}
 use Rattle.sr_script.specs.TraceText.{name_of, names_from, attrs_text}
 use Rattle.sr_script.specs.Printable.{is_name, are_different, has_named_columns}
-use Rattle.sr_script.proofs.Plain.{left_of, right_of, is_stop, others_are, cut, name_plain, no_stop}
+use Rattle.sr_script.proofs.Plain.{is_stop, others_are, cut, name_plain, no_stop}
 use Rattle.sr_script.proofs.Listed.{IsCut, list_cut}
-
-differ : (t : Bool) → t ≡ true → t ≡ false → ⊥
-differ t s g = cc
 
 pub or_left : (a b : Bool) → (a || b) ≡ false → a ≡ false
 or_left true b e = absurd cc
@@ -28,17 +26,10 @@ pub or_right : (a b : Bool) → (a || b) ≡ false → b ≡ false
 or_right true b e = absurd cc
 or_right false b e = e
 
-pub not_true : (b : Bool) → not b ≡ true → b ≡ false
-not_true true e = absurd cc
-not_true false e = refl
-
 -- a name that differs from others is none of them
 pub no_same : (name other : List ℕ) → bytes_eq name other ≡ false → name ≡ other → ⊥
 no_same name other apart same =
-    differ (bytes_eq name other) (ap (bytes_eq name) (sym same) ∙ (bytes_eq-Decides name name).1 refl) apart
-
-pub none_in : List ℕ → List (List ℕ) → Type 0
-none_in name names = list_any (bytes_eq name) names ≡ false
+    both_ways (bytes_eq name other) apart (ap (bytes_eq name) (sym same) ∙ (bytes_eq-Decides name name).1 refl)
 
 name_some : (name : List ℕ) → is_name name ≡ true → 0 < length name
 name_some [] h = absurd cc
@@ -70,8 +61,8 @@ chosen_first false name rest first others = others
 chosen_names : (columns : List Column) (c attrs : ℕ) → list_all is_name (map (λ (c : Column). c.name) columns) ≡ true → AllByRecursion (λ name. is_name name ≡ true) (names_from c attrs columns)
 chosen_names [] c attrs h = tt
 chosen_names (column ∷ columns) c attrs h =
-    chosen_first (has_column attrs c) column.name (names_from (c + 1) attrs columns) (left_of _ _ h)
-    (chosen_names columns (c + 1) attrs (right_of (is_name column.name) (list_all is_name (map (λ (c : Column). c.name) columns)) h))
+    chosen_first (has_column attrs c) column.name (names_from (c + 1) attrs columns) (first_so _ _ h)
+    (chosen_names columns (c + 1) attrs (second_so (is_name column.name) (list_all is_name (map (λ (c : Column). c.name) columns)) h))
 
 foreign_first : (k : Bool) (own name : List ℕ) (names rest : List (List ℕ)) → bytes_eq name own ≡ false → (names ≡ name ∷ rest → ⊥) → cond k (own ∷ names) names ≡ name ∷ rest → ⊥
 foreign_first true own name names rest apart others e = no_same name own apart (let is : name ≡ own = cc in is)
@@ -96,11 +87,11 @@ same_choices : (columns : List Column) (c a b : ℕ) → are_different (map (λ 
     → (j : ℕ) → c ≤ j → j < c + length columns → has_column a j ≡ has_column b j
 same_choices [] c a b apart e j low high = absurd (omega arith)
 same_choices (column ∷ columns) c a b apart e j low high =
-    let none = not_true (list_any (bytes_eq column.name) (map (λ (c : Column). c.name) columns)) (left_of _ _ apart) in
+    let none = not-true (list_any (bytes_eq column.name) (map (λ (c : Column). c.name) columns)) (first_so _ _ apart) in
     let front = one_choice column.name (names_from (c + 1) a columns) (names_from (c + 1) b columns) (has_column a c) (has_column b c)
     (λ rest. foreign columns column.name (c + 1) a rest none) (λ rest. foreign columns column.name (c + 1) b rest none) e in
     elim (cases_lt c j) [
-      | inl after ↦ same_choices columns (c + 1) a b (right_of _ _ apart) front.1 j (omega arith) (omega arith)
+      | inl after ↦ same_choices columns (c + 1) a b (second_so _ _ apart) front.1 j (omega arith) (omega arith)
       | inr upto ↦ let is : c ≡ j = omega arith in subst (λ z. has_column a z ≡ has_column b z) is front.0
     ]
 
@@ -128,13 +119,13 @@ attrs_cut columns a b x y named apart f g e =
 
 pub table_name : (schema : List Table) (t : ℕ) → t < length schema → list_all is_name (map (λ (t : Table). t.name) schema) ≡ true → is_name (name_of schema t) ≡ true
 table_name [] t within h = absurd (omega arith)
-table_name (table ∷ schema) zero within h = left_of _ _ h
-table_name (table ∷ schema) (suc t) within h = table_name schema t (omega arith) (right_of (is_name table.name) _ h)
+table_name (table ∷ schema) zero within h = first_so _ _ h
+table_name (table ∷ schema) (suc t) within h = table_name schema t (omega arith) (second_so (is_name table.name) _ h)
 
 pub table_columns : (schema : List Table) (t : ℕ) → t < length schema → list_all has_named_columns schema ≡ true → has_named_columns (table_at schema t) ≡ true
 table_columns [] t within h = absurd (omega arith)
-table_columns (table ∷ schema) zero within h = left_of _ _ h
-table_columns (table ∷ schema) (suc t) within h = table_columns schema t (omega arith) (right_of (has_named_columns table) _ h)
+table_columns (table ∷ schema) zero within h = first_so _ _ h
+table_columns (table ∷ schema) (suc t) within h = table_columns schema t (omega arith) (second_so (has_named_columns table) _ h)
 
 no_later : (schema : List Table) (name : List ℕ) (t : ℕ) → t < length schema → list_any (bytes_eq name) (map (λ (t : Table). t.name) schema) ≡ false → name ≡ name_of schema t → ⊥
 no_later [] name t within none e = omega arith
@@ -144,6 +135,6 @@ no_later (table ∷ schema) name (suc t) within none e = no_later schema name t 
 pub same_table : (schema : List Table) (t u : ℕ) → are_different (map (λ (t : Table). t.name) schema) ≡ true → t < length schema → u < length schema → name_of schema t ≡ name_of schema u → t ≡ u
 same_table [] t u apart f g e = absurd (omega arith)
 same_table (table ∷ schema) zero zero apart f g e = refl
-same_table (table ∷ schema) (suc t) (suc u) apart f g e = ap suc (same_table schema t u (right_of _ _ apart) (omega arith) (omega arith) e)
-same_table (table ∷ schema) zero (suc u) apart f g e = absurd (no_later schema table.name u (omega arith) (not_true _ (left_of _ _ apart)) e)
-same_table (table ∷ schema) (suc t) zero apart f g e = absurd (no_later schema table.name t (omega arith) (not_true _ (left_of _ _ apart)) (sym e))
+same_table (table ∷ schema) (suc t) (suc u) apart f g e = ap suc (same_table schema t u (second_so _ _ apart) (omega arith) (omega arith) e)
+same_table (table ∷ schema) zero (suc u) apart f g e = absurd (no_later schema table.name u (omega arith) (not-true _ (first_so _ _ apart)) e)
+same_table (table ∷ schema) (suc t) zero apart f g e = absurd (no_later schema table.name t (omega arith) (not-true _ (first_so _ _ apart)) (sym e))

@@ -1,6 +1,6 @@
 -- Words up to a stop, which is a byte that no word has: equal texts have the same word.
 use Rattle.std.proofs.Common.{◌≡◌, ℕ, ◌+◌, ◌%◌, ◌<◌, ◌≤◌, ◌^◌, Bool, true, false, List, [], ◌∷◌, ◌++◌, length, refl, sym, ap, subst, ◌∙◌, add-one, arith}
-use Rattle.std.specs.Prelude.{not, ◌&&◌, ◌||◌, ◌==◌, ℤ, pos, negsuc, decimal}
+use Rattle.std.specs.Prelude.{not, ◌||◌, ◌==◌, ℤ, pos, negsuc, decimal}
 use lib.Signed.{mag}
 use Rattle.std.specs.Char.{is_ascii_digit}
 use Rattle.std.specs.Fmt.{signed_decimal}
@@ -8,19 +8,10 @@ use Rattle.std.specs.List.{list_all}
 use Rattle.std.proofs.lemmas.List.Folds.{list_all-append}
 use Rattle.std.proofs.lemmas.Fmt.{decimal_by_steps, decimal_injective, decimal_nonempty, signed_decimal_injective}
 use Rattle.std.proofs.lemmas.Bool.Decides.{nat_tests}
-use Rattle.sr_language.specs.Texts.{number_text}
+use Rattle.std.proofs.lemmas.Bool.{and_from}
+use Rattle.std.specs.Cmp.{first_so, second_so}
+use Rattle.sr_lines.specs.Texts.{number_text}
 use Rattle.sr_script.specs.Printable.{in_name, is_name, is_signed}
-
-pub left_of : (a b : Bool) → (a && b) ≡ true → a ≡ true
-left_of true b e = refl
-left_of false b e = absurd cc
-
-pub right_of : (a b : Bool) → (a && b) ≡ true → b ≡ true
-right_of true b e = e
-right_of false b e = absurd cc
-
-pub both : (a b : Bool) → a ≡ true → b ≡ true → (a && b) ≡ true
-both a b h g = rw (h, g) refl
 
 -- a blank, the end of a line, or one of , . } )
 abbrev pub is_stop : ℕ → Bool
@@ -51,14 +42,14 @@ pub cut : (a b x y : List ℕ) (p q : ℕ) → is_plain a ≡ true → is_plain 
 cut [] [] x y p q one other s t e = (refl, e)
 cut [] (b ∷ bs) x y p q one other s t e =
     let same : p ≡ b = cc in
-    absurd (clash b (subst (λ z. is_stop z ≡ true) same s) (left_of (goes_on b) (is_plain bs) other))
+    absurd (clash b (subst (λ z. is_stop z ≡ true) same s) (first_so (goes_on b) (is_plain bs) other))
 cut (a ∷ tl) [] x y p q one other s t e =
     let same : q ≡ a = cc in
-    absurd (clash a (subst (λ z. is_stop z ≡ true) same t) (left_of (goes_on a) (is_plain tl) one))
+    absurd (clash a (subst (λ z. is_stop z ≡ true) same t) (first_so (goes_on a) (is_plain tl) one))
 cut (a ∷ tl) (b ∷ bs) x y p q one other s t e =
     let first : a ≡ b = cc in
     let later : tl ++ (p ∷ x) ≡ bs ++ (q ∷ y) = cc in
-    let rest = cut tl bs x y p q (right_of (goes_on a) (is_plain tl) one) (right_of (goes_on b) (is_plain bs) other) s t later in
+    let rest = cut tl bs x y p q (second_so (goes_on a) (is_plain tl) one) (second_so (goes_on b) (is_plain bs) other) s t later in
     let words : tl ≡ bs = rest.0 in
     let whole : a ∷ tl ≡ b ∷ bs = cc in
     (whole, rest.1)
@@ -67,7 +58,7 @@ cut (a ∷ tl) (b ∷ bs) x y p q one other s t e =
 pub no_stop : (a x y : List ℕ) (q : ℕ) → is_plain a ≡ true → 0 < length a → is_stop q ≡ true → a ++ x ≡ q ∷ y → ⊥
 no_stop [] x y q h some t e = omega arith
 no_stop (b ∷ a) x y q h some t e =
-    clash b (subst (λ z. is_stop z ≡ true) (sym (first_is b q (a ++ x) y e)) t) (left_of (goes_on b) (is_plain a) h)
+    clash b (subst (λ z. is_stop z ≡ true) (sym (first_is b q (a ++ x) y e)) t) (first_so (goes_on b) (is_plain a) h)
 
 -- ---- numbers
 
@@ -83,18 +74,18 @@ digit_plain b h = grind (arith, nat_tests)
 pub numeral_plain : (bytes : List ℕ) → is_numeral bytes ≡ true → is_plain bytes ≡ true
 numeral_plain [] h = refl
 numeral_plain (b ∷ bytes) h =
-    both (goes_on b) (is_plain bytes) (digit_plain b (left_of (in_numeral b) (is_numeral bytes) h)) (numeral_plain bytes (right_of (in_numeral b) (is_numeral bytes) h))
+    and_from (goes_on b) (is_plain bytes) (digit_plain b (first_so (in_numeral b) (is_numeral bytes) h)) (numeral_plain bytes (second_so (in_numeral b) (is_numeral bytes) h))
 
 digit_in : (d : ℕ) → d < 10 → in_numeral (48 + d) ≡ true
 digit_in d h = grind (arith, nat_tests)
 
 one_digit : (n : ℕ) → n < 10 → is_numeral ((48 + n) ∷ []) ≡ true
-one_digit n h = both (in_numeral (48 + n)) true (digit_in n h) refl
+one_digit n h = and_from (in_numeral (48 + n)) true (digit_in n h) refl
 
 more_digits : (n : ℕ) (ds : List ℕ) → 10 ≤ n → is_numeral ds ≡ true → is_numeral (ds ++ ((48 + n % 10) ∷ [])) ≡ true
 more_digits n ds big h =
     let small : n % 10 < 10 = omega arith in
-    list_all-append in_numeral ds ((48 + n % 10) ∷ []) ∙ both (is_numeral ds) (is_numeral ((48 + n % 10) ∷ [])) h (one_digit (n % 10) small)
+    list_all-append in_numeral ds ((48 + n % 10) ∷ []) ∙ and_from (is_numeral ds) (is_numeral ((48 + n % 10) ∷ [])) h (one_digit (n % 10) small)
 
 pub decimal_numeral : (n : ℕ) → n < 2 ^ 64 → is_numeral (decimal n) ≡ true
 decimal_numeral n h = decimal_by_steps (λ k ds. is_numeral ds ≡ true) one_digit more_digits n h
@@ -118,7 +109,7 @@ signed_small (negsuc n) h = grind (arith, nat_tests)
 
 signed_numeral : (z : ℤ) → mag z < 2 ^ 63 → is_numeral (number_text z) ≡ true
 signed_numeral (pos n) h = decimal_numeral n (omega arith)
-signed_numeral (negsuc n) h = both (in_numeral 45) (is_numeral (decimal (n + 1))) refl (decimal_numeral (n + 1) (omega arith))
+signed_numeral (negsuc n) h = and_from (in_numeral 45) (is_numeral (decimal (n + 1))) refl (decimal_numeral (n + 1) (omega arith))
 
 pub number_numeral : (z : ℤ) → is_signed z ≡ true → is_numeral (number_text z) ≡ true
 number_numeral z h = signed_numeral z (signed_small z h)
@@ -150,7 +141,7 @@ no_numeral [] p c x y h s f g e =
     apart t s g = cc
 no_numeral (b ∷ a) p c x y h s f g e =
     let same : b ≡ c = cc in
-    apart (in_numeral b) (left_of (in_numeral b) (is_numeral a) h) (ap in_numeral same ∙ f)
+    apart (in_numeral b) (first_so (in_numeral b) (is_numeral a) h) (ap in_numeral same ∙ f)
   where
     apart : (t : Bool) → t ≡ true → t ≡ false → ⊥
     apart t s g = cc
@@ -163,7 +154,7 @@ in_name_plain b h = grind (arith, nat_tests)
 in_names_plain : (bytes : List ℕ) → list_all in_name bytes ≡ true → is_plain bytes ≡ true
 in_names_plain [] h = refl
 in_names_plain (b ∷ bytes) h =
-    both (goes_on b) (is_plain bytes) (in_name_plain b (left_of (in_name b) (list_all in_name bytes) h)) (in_names_plain bytes (right_of (in_name b) (list_all in_name bytes) h))
+    and_from (goes_on b) (is_plain bytes) (in_name_plain b (first_so (in_name b) (list_all in_name bytes) h)) (in_names_plain bytes (second_so (in_name b) (list_all in_name bytes) h))
 
 pub name_plain : (name : List ℕ) → is_name name ≡ true → is_plain name ≡ true
 name_plain [] h = absurd cc

@@ -3,14 +3,12 @@ use Rattle.std.proofs.Common.{◌≡◌, ℕ, ◌+◌, ◌/◌, ◌%◌, Bool, t
 use Rattle.std.specs.Prelude.{◌==◌, nat_le, codes, flat_map}
 use Rattle.std.specs.List.{list_all}
 use Rattle.std.proofs.lemmas.Bool.Decides.{nat_tests}
+use Rattle.std.proofs.lemmas.Bool.{both_ways}
 use Rattle.sr_cell.specs.declared.cell.Cell.{Cell}
 use Rattle.sr_cell.specs.declared.cell.Cell.TheVariants.{Num, Str}
-use Rattle.sr_language.specs.Texts.{number_text, hex_digit, hex_byte, hexadecimal, quoted_byte, quoted, is_printable, bytes_text, cell_text}
+use Rattle.sr_lines.specs.Texts.{number_text, hex_digit, hex_byte, hexadecimal, quoted_byte, quoted, is_printable, bytes_text, cell_text}
 use Rattle.sr_script.specs.Printable.{is_cell}
 use Rattle.sr_script.proofs.Plain.{is_stop, in_numeral, others_are, number_cut, number_numeral, no_numeral, no_number}
-
-differ : (t : Bool) → t ≡ true → t ≡ false → ⊥
-differ t s g = cc
 
 -- ---- in quotes
 
@@ -31,13 +29,13 @@ inside_is (b ∷ s) after = by (b == 39) ∙ ap (λ z. cond (b == 39) (39 ∷ 39
 one_byte : (b c : ℕ) (s t : List ℕ) (k l : Bool) → (b == 39) ≡ k → (c == 39) ≡ l → cond k (39 ∷ 39 ∷ s) (b ∷ s) ≡ cond l (39 ∷ 39 ∷ t) (c ∷ t) → (b ≡ c) × (s ≡ t)
 one_byte b c s t true true f g e = (grind (arith, nat_tests), let rest : s ≡ t = cc in rest)
 one_byte b c s t false false f g e = (let first : b ≡ c = cc in first, let rest : s ≡ t = cc in rest)
-one_byte b c s t true false f g e = let is : 39 ≡ c = cc in absurd (differ (c == 39) (ap (λ z. z == 39) (sym is)) g)
-one_byte b c s t false true f g e = let is : b ≡ 39 = cc in absurd (differ (b == 39) (ap (λ z. z == 39) is) f)
+one_byte b c s t true false f g e = let is : 39 ≡ c = cc in absurd (both_ways (c == 39) g (ap (λ z. z == 39) (sym is)))
+one_byte b c s t false true f g e = let is : b ≡ 39 = cc in absurd (both_ways (b == 39) f (ap (λ z. z == 39) is))
 
 -- no byte in quotes is read where they end
 no_byte : (c p : ℕ) (x t : List ℕ) (k : Bool) → (c == 39) ≡ k → is_stop p ≡ true → 39 ∷ p ∷ x ≡ cond k (39 ∷ 39 ∷ t) (c ∷ t) → ⊥
-no_byte c p x t true f s e = let is : p ≡ 39 = cc in differ (is_stop p) s (ap is_stop is)
-no_byte c p x t false f s e = let is : 39 ≡ c = cc in differ (c == 39) (ap (λ z. z == 39) (sym is)) f
+no_byte c p x t true f s e = let is : p ≡ 39 = cc in both_ways (is_stop p) (ap is_stop is) s
+no_byte c p x t false f s e = let is : 39 ≡ c = cc in both_ways (c == 39) f (ap (λ z. z == 39) (sym is))
 
 quotes_cut : (s t x y : List ℕ) (p q : ℕ) → is_stop p ≡ true → is_stop q ≡ true → inside s (p ∷ x) ≡ inside t (q ∷ y) → (s ≡ t) × (p ∷ x ≡ q ∷ y)
 quotes_cut [] [] x y p q f g e = (refl, let rest : p ∷ x ≡ q ∷ y = cc in rest)

@@ -1,6 +1,6 @@
 -- Texts with a separator between two, as a loop prints them: before each stands a separator, before the first another.
 use Rattle.std.proofs.Common.{◌≡◌, ℕ, List, [], ◌∷◌, ◌++◌, refl, ap, sym, append-nil}
-use Rattle.sr_language.specs.Texts.{joined}
+use Rattle.sr_lines.specs.Texts.{joined}
 
 abbrev pub behind : List ℕ → List ℕ → List (List ℕ) → List ℕ
 behind first separator [] = []

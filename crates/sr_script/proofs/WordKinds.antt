@@ -2,6 +2,8 @@
 use Rattle.std.proofs.Common.{◌≡◌, ℕ, ◌<◌, ◌^◌, Bool, true, false, List, [], ◌∷◌, ◌++◌, length, map, Option, Some, None, refl, sym, ap, subst, ◌∙◌}
 use Rattle.std.specs.Prelude.{decimal, codes, bytes_eq, if◌then◌else◌}
 use Rattle.std.specs.List.{list_all, AllByRecursion}
+use Rattle.std.specs.Cmp.{first_so, second_so}
+use Rattle.std.proofs.lemmas.Option.{same_Some}
 use Rattle.sr_cell.specs.declared.cell.Cell.{Cell}
 use Rattle.sr_cell.specs.declared.cause.Cause.TheVariants as the_cause
 use Rattle.sr_cell.specs.declared.fault.Why.TheVariants as the_why
@@ -13,11 +15,11 @@ use Rattle.sr_cell.specs.declared.table.Table.{Table}
 use Rattle.sr_cell.specs.Cells.{Row}
 use Rattle.sr_cell.specs.Columns.{table_at}
 use Rattle.sr_box.specs.Points.{Rect, rect_fits}
-use Rattle.sr_language.specs.Texts.{joined, cell_text}
+use Rattle.sr_lines.specs.Texts.{joined, cell_text}
 use Rattle.sr_script.specs.declared.line.FailKind.{FailKind}
 use Rattle.sr_script.specs.TraceText.{why_text, cause_text, fail_text, mode_text, kept_text, name_of, attrs_of, rects_of}
 use Rattle.sr_script.specs.Printable.{is_name, are_names, is_cell, IsNamed}
-use Rattle.sr_script.proofs.Plain.{left_of, right_of, is_stop, is_plain, is_numeral, cut, decimal_cut, decimal_plain, decimal_numeral}
+use Rattle.sr_script.proofs.Plain.{is_stop, is_plain, is_numeral, cut, decimal_cut, decimal_plain, decimal_numeral}
 use Rattle.sr_script.proofs.Quoted.{cell_cut, no_cell}
 use Rattle.sr_script.proofs.Listed.{IsCut, list_cut}
 use Rattle.sr_script.proofs.Named.{name_cut, attrs_cut, table_name, table_columns, same_table}
@@ -94,14 +96,11 @@ record IsListed (A : Type 0) (text : A → List ℕ) (all : List A) : Type 0 whe
   finds : (a : A) → find text all (text a) ≡ Some a
   plain : (a : A) → is_plain (text a) ≡ true
 
-some_is : {A : Type 0} (a b : A) → Some a ≡ Some b → a ≡ b
-some_is a b e = cc
-
 listed_cut : (A : Type 0) (text : A → List ℕ) (all : List A) → IsListed A text all → (a b : A) (x y : List ℕ) (p q : ℕ) → is_stop p ≡ true → is_stop q ≡ true
     → text a ++ (p ∷ x) ≡ text b ++ (q ∷ y) → (a ≡ b) × (p ∷ x ≡ q ∷ y)
 listed_cut A text all listed a b x y p q s t e =
     let parts = cut (text a) (text b) x y p q (listed.plain a) (listed.plain b) s t e in
-    (some_is a b (sym (listed.finds a) ∙ ap (find text all) parts.0 ∙ listed.finds b), parts.1)
+    (same_Some a b (sym (listed.finds a) ∙ ap (find text all) parts.0 ∙ listed.finds b), parts.1)
 
 abbrev whys : List Why
 whys =
@@ -178,7 +177,7 @@ cells_are = record { same = cell_cut; begins = no_cell }
 
 cells_fit : (cells : List Cell) → list_all is_cell cells ≡ true → AllByRecursion (λ c. is_cell c ≡ true) cells
 cells_fit [] h = tt
-cells_fit (c ∷ cells) h = (left_of _ _ h, cells_fit cells (right_of (is_cell c) _ h))
+cells_fit (c ∷ cells) h = (first_so _ _ h, cells_fit cells (second_so (is_cell c) _ h))
 
 row_cut : (one other : List Cell) (x y : List ℕ) → list_all is_cell one ≡ true → list_all is_cell other ≡ true
     → joined (codes ", ") (map cell_text one) ++ (10 ∷ x) ≡ joined (codes ", ") (map cell_text other) ++ (10 ∷ y) → (one ≡ other) × (x ≡ y)
@@ -188,18 +187,18 @@ row_cut one other x y f g e =
 columns_are : (schema : List Table) (t : ℕ) → IsNamed schema → t < length schema → AreColumns (table_at schema t).columns
 columns_are schema t named within =
     let table = table_columns schema t within named.1 in
-    let names = left_of _ _ table in record {
-      named = left_of _ _ names;
-      apart = right_of (list_all is_name (map (λ (c : Column). c.name) (table_at schema t).columns)) _ names;
-      ends = right_of (are_names (map (λ (c : Column). c.name) (table_at schema t).columns)) _ table;
+    let names = first_so _ _ table in record {
+      named = first_so _ _ names;
+      apart = second_so (list_all is_name (map (λ (c : Column). c.name) (table_at schema t).columns)) _ names;
+      ends = second_so (are_names (map (λ (c : Column). c.name) (table_at schema t).columns)) _ table;
     }
 
 table_cut : (schema : List Table) (t u : ℕ) (x y : List ℕ) (p q : ℕ) → IsNamed schema → t < length schema → u < length schema → is_stop p ≡ true → is_stop q ≡ true
     → name_of schema t ++ (p ∷ x) ≡ name_of schema u ++ (q ∷ y) → (t ≡ u) × (p ∷ x ≡ q ∷ y)
 table_cut schema t u x y p q named f g h k e =
-    let names = left_of _ _ named.0 in
+    let names = first_so _ _ named.0 in
     let parts = name_cut (name_of schema t) (name_of schema u) x y p q (table_name schema t f names) (table_name schema u g names) h k e in
-    (same_table schema t u (right_of (list_all is_name (map (λ (t : Table). t.name) schema)) _ named.0) f g parts.0, parts.1)
+    (same_table schema t u (second_so (list_all is_name (map (λ (t : Table). t.name) schema)) _ named.0) f g parts.0, parts.1)
 
 -- ---- all kinds
 

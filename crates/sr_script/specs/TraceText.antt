@@ -12,7 +12,7 @@ use Rattle.sr_cell.specs.Attrs.{has_column}
 use Rattle.sr_box.specs.declared.span.Span.{Span}
 use Rattle.sr_box.specs.declared.span.Span.TheVariants.{Full, Nums, Strs}
 use Rattle.sr_box.specs.Points.{Rect}
-use Rattle.sr_language.specs.Texts.{joined, words, number_text, bytes_text, cell_text}
+use Rattle.sr_lines.specs.Texts.{joined, words, number_text, bytes_text, cell_text}
 use Rattle.sr_script.specs.declared.line.TraceLine.{TraceLine}
 use Rattle.sr_script.specs.declared.line.TraceLine.TheVariants as line
 use Rattle.sr_script.specs.declared.line.FailKind.{FailKind}

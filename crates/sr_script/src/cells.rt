@@ -1,7 +1,7 @@
 //! Printed numbers, texts, cells and rows.
 ghost use Rattle.std.specs.Prelude.{◌≡◌, ◌++◌, ◌<◌, ℕ, List, IsTrue, OnOk, codes, map, string_bytes};
 ghost use Rattle.std.specs.List.{list_all};
-ghost use Rattle.sr_language.specs.Texts.{joined, number_text, quoted_byte, quoted, hex_byte, hexadecimal, is_printable, bytes_text, cell_text};
+ghost use Rattle.sr_lines.specs.Texts.{joined, number_text, quoted_byte, quoted, hex_byte, hexadecimal, is_printable, bytes_text, cell_text};
 
 use sr_cell::cell::Cell;
 use sr_cell::list::NoMemory;

@@ -1,6 +1,6 @@
 //! Printed names, sets of columns, and rects.
 ghost use Rattle.std.specs.Prelude.{◌≡◌, ◌++◌, ℕ, List, OnOk, codes, string_bytes};
-ghost use Rattle.sr_language.specs.Texts.{joined, number_text, bytes_text};
+ghost use Rattle.sr_lines.specs.Texts.{joined, number_text, bytes_text};
 ghost use Rattle.sr_cell.specs.Columns.{table_at};
 ghost use Rattle.sr_script.specs.TraceText.{name_of, attrs_text, bound_text, names_from, span_text, spans_text, rect_text, rects_text};
 

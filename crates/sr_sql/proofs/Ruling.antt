@@ -1,23 +1,18 @@
 -- Reading rules one by one reads all of them.
 use Rattle.std.proofs.Common.{◌≡◌, ℕ, zero, suc, ◌+◌, ◌<◌, Bool, true, false, List, [], ◌∷◌, ◌++◌, Option, Some, None, Err, refl, sym, ap, ◌∙◌, append_assoc, arith}
-use Rattle.std.specs.Prelude.{codes, ◌&&◌}
+use Rattle.std.specs.Prelude.{codes}
 use Rattle.std.proofs.lemmas.List.{append-nil}
 use Rattle.sr_grammar.specs.declared.statement.ColumnRule.{ColumnRule}
 use Rattle.sr_grammar.specs.declared.statement.ColumnRule.TheVariants.{PrimaryKey, NotNull, Check as Checks}
-use Rattle.sr_grammar.specs.Tokens.{Key, Tok, is}
+use Rattle.sr_grammar.specs.Tokens.{Tok, is}
 use Rattle.sr_grammar.specs.Columns.{Left, all_left}
-use Rattle.sr_parser.specs.Reading.{Reading, Got, Fails, Reader, ◌>>=◌, and_then, nothing, next_is}
-use Rattle.sr_parser.specs.Readers.{key, in_parens, check, may, rules}
-use Rattle.sr_parser.proofs.Loops.{with_front}
+use Rattle.sr_grammar_laws.specs.Reading.{Reading, Got, Fails, Reader, ◌>>=◌, and_then, nothing, next_is}
+use Rattle.sr_grammar_laws.specs.Readers.{key, in_parens, check, may, rules}
+use Rattle.sr_grammar_laws.proofs.Loops.{with_front}
 use Rattle.sr_sql.specs.Rules.{rule, without}
 use Rattle.sr_sql.specs.Views.{Reads}
 use Rattle.sr_sql.specs.declared.stop.Stop.{Stop}
 use Rattle.sr_sql.specs.declared.stop.Stop.TheVariants as stop
-
-pub may_is : (left : Bool) (word : List ℕ) (ts : List Tok) → (left && next_is (is Key word) ts) ≡ next_is (may left word) ts
-may_is true word [] = refl
-may_is false word [] = refl
-may_is left word (t ∷ ts) = refl
 
 may_true : (left : Bool) (word : List ℕ) (ts : List Tok) → next_is (may left word) ts ≡ true → left ≡ true
 may_true true word ts e = refl

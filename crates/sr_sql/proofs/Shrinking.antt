@@ -3,12 +3,12 @@ use Rattle.std.proofs.Common.{ℕ, suc}
 use Rattle.sr_grammar.specs.Conditions.{IsLiteral, IsReference, IsUnit, ConjOf}
 use Rattle.sr_grammar.specs.Columns.{IsColumn}
 use Rattle.sr_grammar.specs.Statements.{IsColumnName, IsRow, IsSet, IsJoin}
-use Rattle.sr_parser.specs.Readers.{literal, reference, unit, conj_of, column, column_name, row, set, join, begins_join}
-use Rattle.sr_parser.proofs.Words.{no_more}
-use Rattle.sr_parser.proofs.LawsOfConditions.{both_literal, both_reference, both_unit, both_conj, and_more}
-use Rattle.sr_parser.proofs.LawsOfColumns.{both_column, column_more}
-use Rattle.sr_parser.proofs.LawsOfStatements.{both_column_name, both_row, both_set, both_join, join_begins, dot_more}
-use Rattle.sr_parser.proofs.Loops.{Shrinks, shrinks, Takes, takes}
+use Rattle.sr_grammar_laws.specs.Readers.{literal, reference, unit, conj_of, column, column_name, row, set, join, begins_join}
+use Rattle.sr_grammar_laws.proofs.Words.{no_more}
+use Rattle.sr_grammar_laws.proofs.LawsOfConditions.{both_literal, both_reference, both_unit, both_conj, and_more}
+use Rattle.sr_grammar_laws.proofs.LawsOfColumns.{both_column, column_more}
+use Rattle.sr_grammar_laws.proofs.LawsOfStatements.{both_column_name, both_row, both_set, both_join, join_begins, dot_more}
+use Rattle.sr_grammar_laws.proofs.Loops.{Shrinks, shrinks, Takes, takes}
 
 pub literal_less : Shrinks literal
 literal_less = shrinks literal IsLiteral no_more both_literal.good

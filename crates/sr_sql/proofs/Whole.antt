@@ -9,11 +9,11 @@ use Rattle.sr_grammar.specs.Tokens.{Tok, tokens_of}
 use Rattle.sr_grammar.specs.Trees.{Statement, Tree, Defines, Says, statement_of}
 use Rattle.sr_grammar.specs.Says.{most_levels, IsOutside, SaysShort}
 use Rattle.sr_grammar.specs.Seen.{statement_seen}
-use Rattle.sr_parser.specs.Reading.{Got}
-use Rattle.sr_parser.specs.Readers.{whole}
-use Rattle.sr_parser.proofs.Top.{each_is_exact}
-use Rattle.sr_parser.proofs.Bridge.{outside_of}
-use Rattle.sr_parser.proofs.Columns.{columns_fit}
+use Rattle.sr_grammar_laws.specs.Reading.{Got}
+use Rattle.sr_grammar_laws.specs.Readers.{whole}
+use Rattle.sr_grammar_laws.proofs.Top.{each_is_exact}
+use Rattle.sr_grammar_laws.proofs.Bridge.{outside_of}
+use Rattle.sr_grammar_laws.proofs.Columns.{columns_fit}
 use Rattle.sr_sql.specs.declared.stop.Stop.{Stop}
 use Rattle.sr_sql.specs.declared.stop.Stop.TheVariants as stop
 use Rattle.sr_sql.specs.Views.{Reads}

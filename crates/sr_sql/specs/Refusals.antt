@@ -7,7 +7,7 @@ use Rattle.sr_cell.specs.declared.list.No.{No}
 use Rattle.sr_cell.specs.declared.list.No.TheVariants.{Refused, NoMemory}
 use Rattle.sr_grammar.specs.Tokens.{Bad, Tok, of_kind}
 use Rattle.sr_grammar.specs.Says.{place_in}
-use Rattle.sr_parser.specs.Reading.{next_is}
+use Rattle.sr_grammar_laws.specs.Reading.{next_is}
 use Rattle.sr_sql.specs.declared.stop.Stop.{Stop}
 use Rattle.sr_sql.specs.declared.stop.Stop.TheVariants as stop
 

@@ -3,8 +3,8 @@ use Rattle.std.specs.Prelude.{false, Option, Some, None, codes}
 use Rattle.sr_grammar.specs.declared.statement.ColumnRule.{ColumnRule}
 use Rattle.sr_grammar.specs.declared.statement.ColumnRule.TheVariants.{PrimaryKey, NotNull, Check}
 use Rattle.sr_grammar.specs.Columns as grammar
-use Rattle.sr_parser.specs.Reading.{Reader, and_then as ◌>>=◌, nothing, branch}
-use Rattle.sr_parser.specs.Readers.{key, in_parens, check, may}
+use Rattle.sr_grammar_laws.specs.Reading.{Reader, and_then as ◌>>=◌, nothing, branch}
+use Rattle.sr_grammar_laws.specs.Readers.{key, in_parens, check, may}
 use Rattle.sr_sql.specs.declared.columns.Left.{Left}
 
 abbrev pub left_seen : Left → grammar.Left

@@ -1,7 +1,7 @@
 -- What a reader owes to the reader of the grammar.
 use Rattle.std.specs.Prelude.{◌≡◌, ℕ, List, [], ◌∷◌, Option, Some, None, Result, Ok, Err, true, false}
 use Rattle.sr_grammar.specs.Tokens.{Tok}
-use Rattle.sr_parser.specs.Reading.{Got, Fails, Reader}
+use Rattle.sr_grammar_laws.specs.Reading.{Got, Fails, Reader}
 use Rattle.sr_sql.specs.declared.stop.Stop.{Stop}
 use Rattle.sr_sql.specs.declared.stop.Stop.TheVariants as stop
 

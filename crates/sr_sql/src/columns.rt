@@ -3,8 +3,8 @@ ghost use Rattle.std.specs.Prelude.{◌≡◌, codes, IsTrue};
 ghost use Rattle.sr_grammar.specs.Tokens.{Mark, upper, is_reserved};
 ghost use Rattle.sr_grammar.specs.Columns.{all_left};
 ghost use Rattle.sr_grammar.specs.Trees.{Defines};
-ghost use Rattle.sr_parser.specs.Reading.{next_is};
-ghost use Rattle.sr_parser.specs.Readers as grammar;
+ghost use Rattle.sr_grammar_laws.specs.Reading.{next_is};
+ghost use Rattle.sr_grammar_laws.specs.Readers as grammar;
 ghost use Rattle.sr_sql.specs.Views.{Reads};
 ghost use Rattle.sr_sql.specs.Rules.{rule, without, left_seen};
 
@@ -32,7 +32,7 @@ pub(crate) struct Left {
     check: bool,
 }
 
-#[tactic(auto, unfolding(sr_parser::specs::Readers::number))]
+#[tactic(auto, unfolding(sr_grammar_laws::specs::Readers::number))]
 fn number(cursor: &mut Cursor) -> Result<i64, Stop>
     ensures { Reads (λ n. n) grammar.number cursor.old result cursor.new }
 {
@@ -43,7 +43,7 @@ fn number(cursor: &mut Cursor) -> Result<i64, Stop>
     Ok(cursor.number()? as i64)
 }
 
-#[tactic(auto, unfolding(sr_parser::specs::Readers::kind))]
+#[tactic(auto, unfolding(sr_grammar_laws::specs::Readers::kind))]
 fn kind(cursor: &mut Cursor) -> Result<Kind, Stop>
     ensures { Reads (λ k. k) grammar.kind cursor.old result cursor.new }
 {
@@ -59,7 +59,7 @@ fn kind(cursor: &mut Cursor) -> Result<Kind, Stop>
     Ok(Kind::Str)
 }
 
-#[tactic(auto, unfolding(sr_parser::specs::Readers::check))]
+#[tactic(auto, unfolding(sr_grammar_laws::specs::Readers::check))]
 fn check(alloc: Global, cursor: &mut Cursor) -> Result<Check, Stop>
     ensures { Reads (λ c. c) grammar.check cursor.old result cursor.new }
 {
@@ -145,7 +145,7 @@ fn rules(alloc: Global, cursor: &mut Cursor) -> Result<Seq<ColumnRule>, Stop>
     Ok(all)
 }
 
-#[tactic(auto, unfolding(sr_parser::specs::Readers::column))]
+#[tactic(auto, unfolding(sr_grammar_laws::specs::Readers::column))]
 fn column(alloc: Global, cursor: &mut Cursor) -> Result<Definition, Stop>
     ensures { Reads (λ d. d) grammar.column cursor.old result cursor.new }
 {
@@ -172,7 +172,7 @@ fn columns(alloc: Global, cursor: &mut Cursor) -> Result<Definitions, Stop>
     Ok(all)
 }
 
-#[tactic(auto, unfolding(sr_parser::specs::Readers::create))]
+#[tactic(auto, unfolding(sr_grammar_laws::specs::Readers::create))]
 pub(crate) fn create(alloc: Global, cursor: &mut Cursor) -> Result<Written, Stop>
     ensures { Reads (λ w. Defines w.name w.columns) grammar.create cursor.old result cursor.new }
 {

@@ -3,7 +3,7 @@ ghost use Rattle.std.specs.Prelude.{◌≡◌, codes, Option, Some, None};
 ghost use Rattle.sr_grammar.specs.declared.statement.Atom.TheVariants as atoms;
 ghost use Rattle.sr_grammar.specs.Tokens.{Mark};
 ghost use Rattle.sr_grammar.specs.Seen.{cond_seen};
-ghost use Rattle.sr_parser.specs.Readers as grammar;
+ghost use Rattle.sr_grammar_laws.specs.Readers as grammar;
 ghost use Rattle.sr_sql.specs.Views.{Reads};
 
 use crate::cursor::Cursor;
@@ -13,7 +13,7 @@ use sr_cell::cell::Cell;
 use sr_grammar::statement::{Atom, Cond, Literal, Literals, Name};
 use std::alloc::Global;
 
-#[tactic(auto, unfolding(sr_parser::specs::Readers::literal))]
+#[tactic(auto, unfolding(sr_grammar_laws::specs::Readers::literal))]
 pub(crate) fn literal(alloc: Global, cursor: &mut Cursor) -> Result<Literal, Stop>
     ensures { Reads (λ l. l) grammar.literal cursor.old result cursor.new }
 {
@@ -28,7 +28,7 @@ pub(crate) fn literal(alloc: Global, cursor: &mut Cursor) -> Result<Literal, Sto
     cursor.plain(alloc)
 }
 
-#[tactic(auto, unfolding(sr_parser::specs::Readers::reference))]
+#[tactic(auto, unfolding(sr_grammar_laws::specs::Readers::reference))]
 pub(crate) fn reference(alloc: Global, cursor: &mut Cursor) -> Result<Name, Stop>
     ensures { Reads (λ n. n) grammar.reference cursor.old result cursor.new }
 {
@@ -49,7 +49,7 @@ pub(crate) fn reference(alloc: Global, cursor: &mut Cursor) -> Result<Name, Stop
     })
 }
 
-#[tactic(auto, unfolding(sr_parser::specs::Readers::between))]
+#[tactic(auto, unfolding(sr_grammar_laws::specs::Readers::between))]
 fn between(alloc: Global, cursor: &mut Cursor) -> Result<(Literal, Literal), Stop>
     ensures inside { Reads (λ x. atoms.Between x.0 x.1) (grammar.between atoms.Between) cursor.old result cursor.new }
     ensures outside { Reads (λ x. atoms.NotBetween x.0 x.1) (grammar.between atoms.NotBetween) cursor.old result cursor.new }
@@ -61,7 +61,7 @@ fn between(alloc: Global, cursor: &mut Cursor) -> Result<(Literal, Literal), Sto
     Ok((low, high))
 }
 
-#[tactic(auto, unfolding(sr_parser::specs::Readers::like))]
+#[tactic(auto, unfolding(sr_grammar_laws::specs::Readers::like))]
 fn like(alloc: Global, cursor: &mut Cursor) -> Result<Literal, Stop>
     ensures like { Reads atoms.Prefix (grammar.like atoms.Prefix) cursor.old result cursor.new }
     ensures unlike { Reads atoms.NotPrefix (grammar.like atoms.NotPrefix) cursor.old result cursor.new }
@@ -83,7 +83,7 @@ pub(crate) fn literals(alloc: Global, cursor: &mut Cursor) -> Result<Literals, S
     Ok(all)
 }
 
-#[tactic(auto, unfolding(sr_parser::specs::Readers::in_list))]
+#[tactic(auto, unfolding(sr_grammar_laws::specs::Readers::in_list))]
 fn in_list(alloc: Global, cursor: &mut Cursor) -> Result<Literals, Stop>
     ensures inside { Reads atoms.OneOf (grammar.in_list atoms.OneOf) cursor.old result cursor.new }
     ensures outside { Reads atoms.NotOneOf (grammar.in_list atoms.NotOneOf) cursor.old result cursor.new }
@@ -95,7 +95,7 @@ fn in_list(alloc: Global, cursor: &mut Cursor) -> Result<Literals, Stop>
     Ok(all)
 }
 
-#[tactic(auto, unfolding(sr_parser::specs::Readers::atom))]
+#[tactic(auto, unfolding(sr_grammar_laws::specs::Readers::atom))]
 fn atom(alloc: Global, cursor: &mut Cursor) -> Result<Atom, Stop>
     ensures { Reads (λ a. a) grammar.atom cursor.old result cursor.new }
 {
@@ -125,7 +125,7 @@ fn atom(alloc: Global, cursor: &mut Cursor) -> Result<Atom, Stop>
     Ok(Atom::Cmp(op, value))
 }
 
-#[tactic(auto, unfolding(sr_parser::specs::Readers::comparison))]
+#[tactic(auto, unfolding(sr_grammar_laws::specs::Readers::comparison))]
 fn comparison(alloc: Global, cursor: &mut Cursor) -> Result<Cond, Stop>
     ensures { Reads cond_seen grammar.comparison cursor.old result cursor.new }
 {
@@ -136,7 +136,7 @@ fn comparison(alloc: Global, cursor: &mut Cursor) -> Result<Cond, Stop>
 
 /// A NOT, a condition in parentheses or a test, where so many of the first two may stand one inside the other.
 #[cycle(cond)]
-#[tactic(auto, unfolding(sr_parser::specs::Readers::unit))]
+#[tactic(auto, unfolding(sr_grammar_laws::specs::Readers::unit))]
 fn unit(alloc: Global, cursor: &mut Cursor, levels: u8) -> Result<Cond, Stop>
     ensures { Reads cond_seen (grammar.unit levels) cursor.old result cursor.new }
 {
@@ -161,7 +161,7 @@ fn unit(alloc: Global, cursor: &mut Cursor, levels: u8) -> Result<Cond, Stop>
 }
 
 #[cycle(cond)]
-#[tactic(auto, unfolding(sr_parser::specs::Readers::conj_of))]
+#[tactic(auto, unfolding(sr_grammar_laws::specs::Readers::conj_of))]
 fn conj(alloc: Global, cursor: &mut Cursor, levels: u8) -> Result<Cond, Stop>
     ensures { Reads cond_seen (grammar.conj_of (grammar.unit levels)) cursor.old result cursor.new }
 {
@@ -179,7 +179,7 @@ fn conj(alloc: Global, cursor: &mut Cursor, levels: u8) -> Result<Cond, Stop>
 }
 
 #[cycle(cond)]
-#[tactic(auto, unfolding(sr_parser::specs::Readers::cond_of))]
+#[tactic(auto, unfolding(sr_grammar_laws::specs::Readers::cond_of))]
 pub(crate) fn cond(alloc: Global, cursor: &mut Cursor, levels: u8) -> Result<Cond, Stop>
     ensures { Reads cond_seen (grammar.cond_of (grammar.unit levels)) cursor.old result cursor.new }
 {

@@ -3,7 +3,7 @@ ghost use Rattle.std.specs.Prelude.{◌≡◌, ◌↔◌, ◌<◌, ◌^◌, [], 
 ghost use Rattle.sr_token.specs.Texts.{IsTextOf};
 ghost use Rattle.sr_grammar.specs.Tokens.{Key, Mark, Bad, is, of_kind, upper, is_reserved, lexeme_seen, tokens_of};
 ghost use Rattle.sr_grammar.specs.Words.{place_of, name_of, number_of, plain_of, prefix_of, op_of};
-ghost use Rattle.sr_parser.specs.Reading.{one, next_is};
+ghost use Rattle.sr_grammar_laws.specs.Reading.{one, next_is};
 ghost use Rattle.sr_sql.specs.Views.{Reads, next_place};
 ghost use Rattle.sr_sql.specs.Next.{item_seen, left_seen, IsNext, word_of};
 

@@ -5,7 +5,7 @@ ghost use Rattle.sr_cell.specs.declared.list.No.TheVariants.{Refused};
 ghost use Rattle.sr_grammar.specs.Trees.{statement_of};
 ghost use Rattle.sr_grammar.specs.Says.{most_levels, SaysShort, Says};
 ghost use Rattle.sr_grammar.specs.Seen.{statement_seen};
-ghost use Rattle.sr_parser.specs.Readers as grammar;
+ghost use Rattle.sr_grammar_laws.specs.Readers as grammar;
 ghost use Rattle.sr_sql.specs.Views.{Reads};
 ghost use Rattle.sr_sql.specs.Seen.{tree_seen, columns_in};
 ghost use Rattle.sr_sql.specs.Refusals.{fault_at, refusal};
@@ -30,7 +30,7 @@ pub(crate) enum Parsed {
     Statement(Statement),
 }
 
-#[tactic(auto, unfolding(sr_parser::specs::Readers::tree))]
+#[tactic(auto, unfolding(sr_grammar_laws::specs::Readers::tree))]
 fn tree(alloc: Global, cursor: &mut Cursor) -> Result<Parsed, Stop>
     ensures { Reads tree_seen (grammar.tree most_levels) cursor.old result cursor.new }
 {
@@ -49,7 +49,7 @@ fn tree(alloc: Global, cursor: &mut Cursor) -> Result<Parsed, Stop>
     Ok(Parsed::Statement(Statement::Delete(delete(alloc, cursor)?)))
 }
 
-#[tactic(auto, unfolding(sr_parser::specs::Readers::statement))]
+#[tactic(auto, unfolding(sr_grammar_laws::specs::Readers::statement))]
 fn statement(alloc: Global, cursor: &mut Cursor) -> Result<Parsed, Stop>
     ensures { Reads tree_seen (grammar.statement most_levels) cursor.old result cursor.new }
 {
@@ -60,7 +60,7 @@ fn statement(alloc: Global, cursor: &mut Cursor) -> Result<Parsed, Stop>
     Ok(tree)
 }
 
-#[tactic(auto, unfolding(sr_parser::specs::Readers::whole))]
+#[tactic(auto, unfolding(sr_grammar_laws::specs::Readers::whole))]
 fn whole(alloc: Global, cursor: &mut Cursor) -> Result<Parsed, Stop>
     ensures { Reads tree_seen (grammar.whole most_levels) cursor.old result cursor.new }
 {

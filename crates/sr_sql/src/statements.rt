@@ -5,8 +5,8 @@ ghost use Rattle.sr_grammar.specs.Trees.{Says, Selects, Inserts, Updates, Delete
 ghost use Rattle.sr_grammar.specs.Statements.{filter_of, place_of_where};
 ghost use Rattle.sr_grammar.specs.Says.{most_levels};
 ghost use Rattle.sr_grammar.specs.Seen.{filter_seen, select_seen, update_seen, delete_seen};
-ghost use Rattle.sr_parser.specs.Reading.{next_is, many};
-ghost use Rattle.sr_parser.specs.Readers as grammar;
+ghost use Rattle.sr_grammar_laws.specs.Reading.{next_is, many};
+ghost use Rattle.sr_grammar_laws.specs.Readers as grammar;
 ghost use Rattle.sr_sql.specs.Views.{Reads};
 ghost use Rattle.sr_sql.specs.Seen.{where_seen, shown_seen};
 
@@ -36,7 +36,7 @@ pub(crate) struct Shown {
     list: Names,
 }
 
-#[tactic(auto, unfolding(sr_parser::specs::Readers::filter))]
+#[tactic(auto, unfolding(sr_grammar_laws::specs::Readers::filter))]
 fn filter(alloc: Global, cursor: &mut Cursor) -> Result<Option<Where>, Stop>
     ensures { Reads where_seen (grammar.filter most_levels) cursor.old result cursor.new }
 {
@@ -72,7 +72,7 @@ fn references(alloc: Global, cursor: &mut Cursor) -> Result<Names, Stop>
     Ok(all)
 }
 
-#[tactic(auto, unfolding(sr_parser::specs::Readers::listed))]
+#[tactic(auto, unfolding(sr_grammar_laws::specs::Readers::listed))]
 fn listed(alloc: Global, cursor: &mut Cursor) -> Result<Shown, Stop>
     ensures { Reads shown_seen grammar.listed cursor.old result cursor.new }
 {
@@ -87,7 +87,7 @@ fn listed(alloc: Global, cursor: &mut Cursor) -> Result<Shown, Stop>
     Ok(Shown { all: false, list })
 }
 
-#[tactic(auto, unfolding(sr_parser::specs::Readers::join))]
+#[tactic(auto, unfolding(sr_grammar_laws::specs::Readers::join))]
 fn join(alloc: Global, cursor: &mut Cursor) -> Result<JoinOn, Stop>
     ensures { Reads (λ j. j) grammar.join cursor.old result cursor.new }
 {
@@ -125,7 +125,7 @@ fn joins(alloc: Global, cursor: &mut Cursor) -> Result<JoinOns, Stop>
     Ok(all)
 }
 
-#[tactic(auto, unfolding(sr_parser::specs::Readers::select))]
+#[tactic(auto, unfolding(sr_grammar_laws::specs::Readers::select))]
 pub(crate) fn select(alloc: Global, cursor: &mut Cursor) -> Result<Select, Stop>
     ensures { Reads (λ s. Says (Selects (select_seen s))) (grammar.select most_levels) cursor.old result cursor.new }
 {
@@ -146,7 +146,7 @@ pub(crate) fn select(alloc: Global, cursor: &mut Cursor) -> Result<Select, Stop>
     })
 }
 
-#[tactic(auto, unfolding(sr_parser::specs::Readers::column_name))]
+#[tactic(auto, unfolding(sr_grammar_laws::specs::Readers::column_name))]
 fn column_name(alloc: Global, cursor: &mut Cursor) -> Result<Name, Stop>
     ensures { Reads (λ n. n) grammar.column_name cursor.old result cursor.new }
 {
@@ -171,7 +171,7 @@ fn columns(alloc: Global, cursor: &mut Cursor) -> Result<Names, Stop>
     Ok(all)
 }
 
-#[tactic(auto, unfolding(sr_parser::specs::Readers::column_names))]
+#[tactic(auto, unfolding(sr_grammar_laws::specs::Readers::column_names))]
 fn column_names(alloc: Global, cursor: &mut Cursor) -> Result<Names, Stop>
     ensures { Reads (λ x. x) grammar.column_names cursor.old result cursor.new }
 {
@@ -184,7 +184,7 @@ fn column_names(alloc: Global, cursor: &mut Cursor) -> Result<Names, Stop>
     Ok(all)
 }
 
-#[tactic(auto, unfolding(sr_parser::specs::Readers::row))]
+#[tactic(auto, unfolding(sr_grammar_laws::specs::Readers::row))]
 fn row(alloc: Global, cursor: &mut Cursor) -> Result<LiteralRow, Stop>
     ensures { Reads (λ r. r) grammar.row cursor.old result cursor.new }
 {
@@ -207,7 +207,7 @@ fn rows(alloc: Global, cursor: &mut Cursor) -> Result<LiteralRows, Stop>
     Ok(all)
 }
 
-#[tactic(auto, unfolding(sr_parser::specs::Readers::insert))]
+#[tactic(auto, unfolding(sr_grammar_laws::specs::Readers::insert))]
 pub(crate) fn insert(alloc: Global, cursor: &mut Cursor) -> Result<Insert, Stop>
     ensures { Reads (λ i. Says (Inserts i)) grammar.insert cursor.old result cursor.new }
 {
@@ -225,7 +225,7 @@ pub(crate) fn insert(alloc: Global, cursor: &mut Cursor) -> Result<Insert, Stop>
     })
 }
 
-#[tactic(auto, unfolding(sr_parser::specs::Readers::set))]
+#[tactic(auto, unfolding(sr_grammar_laws::specs::Readers::set))]
 fn set(alloc: Global, cursor: &mut Cursor) -> Result<Set, Stop>
     ensures { Reads (λ s. s) grammar.set cursor.old result cursor.new }
 {
@@ -248,7 +248,7 @@ fn sets(alloc: Global, cursor: &mut Cursor) -> Result<Sets, Stop>
     Ok(all)
 }
 
-#[tactic(auto, unfolding(sr_parser::specs::Readers::update))]
+#[tactic(auto, unfolding(sr_grammar_laws::specs::Readers::update))]
 pub(crate) fn update(alloc: Global, cursor: &mut Cursor) -> Result<Update, Stop>
     ensures { Reads (λ u. Says (Updates (update_seen u))) (grammar.update most_levels) cursor.old result cursor.new }
 {
@@ -265,7 +265,7 @@ pub(crate) fn update(alloc: Global, cursor: &mut Cursor) -> Result<Update, Stop>
     })
 }
 
-#[tactic(auto, unfolding(sr_parser::specs::Readers::delete))]
+#[tactic(auto, unfolding(sr_grammar_laws::specs::Readers::delete))]
 pub(crate) fn delete(alloc: Global, cursor: &mut Cursor) -> Result<Delete, Stop>
     ensures { Reads (λ d. Says (Deletes (delete_seen d))) (grammar.delete most_levels) cursor.old result cursor.new }
 {

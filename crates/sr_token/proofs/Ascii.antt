@@ -75,14 +75,14 @@ quoted-last (suc fuel) (b ∷ c ∷ bytes) lt n e = go (b == 39) (c == 39) (quot
         let s : n - 1 ≡ suc (k.0 - 1) = omega (arith, k.2, h.0) in
         (omega (arith, k.2), omega (arith, k.2, h.1), rw s h.2)
 
-abbrev token : TokenKind → ℕ → Option (TokenKind × ℕ)
+abbrev pub token : TokenKind → ℕ → Option (TokenKind × ℕ)
 token kind n = Some (kind, n)
 
-unfoldable second : Option (TokenKind × ℕ) → ℕ
+unfoldable pub second : Option (TokenKind × ℕ) → ℕ
 second None = 0
 second (Some t) = t.1
 
-same_length : (j k : TokenKind) (m n : ℕ) → token j m ≡ token k n → m ≡ n
+pub same_length : (j k : TokenKind) (m n : ℕ) → token j m ≡ token k n → m ≡ n
 unfolding second
 same_length j k m n e = ap second e
 

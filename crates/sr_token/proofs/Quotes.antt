@@ -10,9 +10,9 @@ longer-again i n (Some k) = ap (λ z. Some z) (omega arith)
 two : (b c : ℕ) (bs : List ℕ) → b ≡ 39 → c ≡ 39 → quoted_length (b ∷ c ∷ bs) ≡ longer 2 (quoted_length bs)
 two b c bs e f = rw (e, f) refl
 
-pub plain : (b : ℕ) (bs : List ℕ) → (b == 39) ≡ false → quoted_length (b ∷ bs) ≡ longer 1 (quoted_length bs)
-plain b [] e = rw e refl
-plain b (c ∷ bs) e = rw e refl
+pub quoted_length-plain : (b : ℕ) (bs : List ℕ) → (b == 39) ≡ false → quoted_length (b ∷ bs) ≡ longer 1 (quoted_length bs)
+quoted_length-plain b [] e = rw e refl
+quoted_length-plain b (c ∷ bs) e = rw e refl
 
 pub quoted-doubled : (bs : List ℕ) (i : ℕ) → i + 1 < length bs → get_or bs i 0 ≡ 39 → get_or bs (i + 1) 0 ≡ 39 → quoted_length (drop i bs) ≡ longer 2 (quoted_length (drop (i + 2) bs))
 quoted-doubled bs i lt e f =
@@ -29,4 +29,4 @@ pub quoted-plain : (bs : List ℕ) (i : ℕ) → i < length bs → (get_or bs i 
 quoted-plain bs i lt e =
     let k : i + 1 ≡ suc i = omega arith in
     let a : drop i bs ≡ get_or bs i 0 ∷ drop (suc i) bs = drop-cons bs i 0 lt in
-    rw (a, k) (plain (get_or bs i 0) (drop (suc i) bs) e)
+    rw (a, k) (quoted_length-plain (get_or bs i 0) (drop (suc i) bs) e)

@@ -3,6 +3,7 @@ use Rattle.std.proofs.Common.{◌≡◌, ℕ, zero, suc, ◌+◌, ◌-◌, ◌<�
 use Rattle.std.specs.Prelude.{if◌then◌else◌}
 use Rattle.std.proofs.lemmas.List.{length-drop}
 use Rattle.std.proofs.lemmas.Bool.Decides.{nat_tests}
+use Rattle.sr_cell.proofs.Numbers.{lt-eqb}
 use Rattle.sr_token.specs.declared.token.TokenKind.{TokenKind}
 use Rattle.sr_token.specs.declared.token.Token.{Token}
 use Rattle.sr_token.specs.Tokens.{Found, Bad, begin, first_token, then_rest, tokens_within, tokens_from}
@@ -27,21 +28,18 @@ enough (suc k) (suc l) source at lt lu le =
         ap (λ z. Found t.0 (begin source at) (begin source at + t.1) (take t.1 (drop (begin source at) source)) ∷ z)
         (rest t.1 front.some (omega (arith, front.some, front.within, length-drop (begin source at) source)))
 
-differ : (m n : ℕ) → m < n → (m == n) ≡ false
-differ m n lt = grind (arith, nat_tests)
-
 pub none_left : (source : List ℕ) (at : ℕ) → begin source at ≡ length source → tokens_from source at ≡ []
 unfolding tokens_from
 none_left source at ends = let e : (begin source at == length source) ≡ true = grind (arith, nat_tests, ends) in rw e refl
 
 pub bad_left : (source : List ℕ) (at : ℕ) → begin source at < length source → IsTokenAt source (begin source at) None → tokens_from source at ≡ Bad (begin source at) ∷ []
 unfolding tokens_from
-bad_left source at inside none = let e = differ (begin source at) (length source) inside in rw (e, none) refl
+bad_left source at inside none = let e = lt-eqb (begin source at) (length source) inside in rw (e, none) refl
 
 pub token_left : (source : List ℕ) (at : ℕ) (t : Token) → begin source at < length source → IsTokenAt source (begin source at) (Some t) → tokens_from source at ≡ Found t.kind t.from t.to t.text.now ∷ tokens_from source t.to
 unfolding tokens_from
 token_left source at t inside is =
-    let e = differ (begin source at) (length source) inside in
+    let e = lt-eqb (begin source at) (length source) inside in
     let sum : begin source at + (t.to - begin source at) ≡ t.to = omega (arith, is.3) in
     let rest : tokens_within (length source - at) source t.to ≡ tokens_within (suc (length source - t.to)) source t.to = enough (length source - at) (suc (length source - t.to)) source t.to (omega (arith, is.3, is.4, inside)) (omega arith) is.4 in
     rw (e, is.0, sum, is.1, is.2) (ap (λ z. Found t.kind (begin source at) t.to (take (t.to - begin source at) (drop (begin source at) source)) ∷ z) rest)

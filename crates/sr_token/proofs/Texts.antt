@@ -10,9 +10,9 @@ use Rattle.sr_token.specs.declared.token.Token.{Token}
 use Rattle.sr_token.specs.Places.{IsTokenAt}
 use Rattle.sr_token.specs.Tokens.{begins_word, goes_on_word, run, quoted_length, longer, mark_length, at_most, quoted_token, mark_token, first_token}
 use Rattle.sr_token.specs.Texts.{AreDigits, IsQuoted, IsTextOf}
-use Rattle.sr_token.proofs.Ascii.{first_token-front}
-use Rattle.sr_token.proofs.Quotes.{plain}
+use Rattle.sr_token.proofs.Ascii.{first_token-front, token, same_length}
 use Rattle.sr_token.proofs.Spans.{run-all}
+use Rattle.sr_token.proofs.Quotes.{quoted_length-plain}
 
 -- what is read up to its end ends there, whatever follows
 quoted-whole : (fuel : ℕ) (bytes : List ℕ) (n : ℕ) → length bytes < fuel → quoted_length bytes ≡ Some n → quoted_length (take n bytes) ≡ Some n
@@ -42,22 +42,11 @@ quoted-whole (suc fuel) (b ∷ c ∷ bytes) n lt e = go (b == 39) (c == 39) refl
         let k = back n 1 (quoted_length (c ∷ bytes)) e in
         let s : n ≡ suc k.0 = omega (arith, k.2) in
         let t : k.0 + 1 ≡ suc k.0 = omega arith in
-        rw s (plain b (take k.0 (c ∷ bytes)) p ∙ rw (next k.0 k.1) (ap (λ z. Some z) t))
-
-abbrev token : TokenKind → ℕ → Option (TokenKind × ℕ)
-token kind n = Some (kind, n)
-
-unfoldable second : Option (TokenKind × ℕ) → ℕ
-second None = 0
-second (Some t) = t.1
+        rw s (quoted_length-plain b (take k.0 (c ∷ bytes)) p ∙ rw (next k.0 k.1) (ap (λ z. Some z) t))
 
 unfoldable first : Option (TokenKind × ℕ) → TokenKind
 first None = Word
 first (Some t) = t.0
-
-same_length : (j k : TokenKind) (m n : ℕ) → token j m ≡ token k n → m ≡ n
-unfolding second
-same_length j k m n e = ap second e
 
 same_kind : (j k : TokenKind) (m n : ℕ) → token j m ≡ token k n → j ≡ k
 unfolding first

@@ -1,6 +1,6 @@
 use Rattle.std.proofs.Common.{◌≡◌, ◌∙◌, ◌+◌, ◌≤◌, length, drop, sym, subst, refl, List, arith}
-use Rattle.sr_language.specs.Lines.{lines_of}
-use Rattle.sr_language.specs.Script.{start_phase, FirstUnbuilt}
+use Rattle.sr_lines.specs.Lines.{lines_of}
+use Rattle.sr_lines.specs.Script.{start_phase, FirstUnbuilt}
 use Rattle.sr_reader.specs.declared.script.EventLine.{EventLine}
 use Rattle.sr_reader.specs.declared.script.UnbuiltLine.{UnbuiltLine}
 use Rattle.sr_reader.specs.LineSeen.{words_seen}

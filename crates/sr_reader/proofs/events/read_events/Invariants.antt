@@ -1,5 +1,5 @@
 use Rattle.std.proofs.Common.{ℕ, ◌+◌, List, drop}
-use Rattle.sr_language.specs.Lines.{lines_of}
+use Rattle.sr_lines.specs.Lines.{lines_of}
 use Rattle.sr_reader.specs.Lined.{AreOf}
 use Rattle.sr_reader.proofs.Walks.{Walked}
 use Rattle.sr_reader.proofs.events.read_events.Given as goal

@@ -1,7 +1,7 @@
 use Rattle.std.proofs.Common.{◌≡◌, ◌∙◌, ◌+◌, ◌≤◌, true, length, drop, sym, subst, ap, List, Err, arith}
 use Rattle.std.specs.List.{list_all}
 use Rattle.sr_cell.specs.declared.table.Table.{Table}
-use Rattle.sr_language.specs.Lines.{lines_of}
+use Rattle.sr_lines.specs.Lines.{lines_of}
 use Rattle.sr_query.specs.Bound.{is_table}
 use Rattle.sr_reader.specs.declared.head.RefusedLine.{RefusedLine}
 use Rattle.sr_reader.specs.LineSeen.{words_seen}

@@ -1,6 +1,6 @@
 use Rattle.std.proofs.Common.{◌≡◌, ℕ, ◌+◌, true, List, drop}
 use Rattle.std.specs.List.{list_all}
-use Rattle.sr_language.specs.Lines.{lines_of}
+use Rattle.sr_lines.specs.Lines.{lines_of}
 use Rattle.sr_query.specs.Bound.{is_table}
 use Rattle.sr_reader.specs.Lined.{AreLines}
 use Rattle.sr_reader.proofs.Fronts.{Fronted}

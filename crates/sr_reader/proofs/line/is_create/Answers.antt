@@ -3,7 +3,7 @@ use Rattle.std.specs.Prelude.{codes}
 use Rattle.sr_token.specs.declared.token.TokenKind.{TokenKind}
 use Rattle.sr_token.specs.declared.token.TokenKind.TheVariants as code
 use Rattle.sr_grammar.specs.Tokens.{Key, is, seen}
-use Rattle.sr_reader.proofs.Cases.{is-key}
+use Rattle.sr_grammar.proofs.Cases.{is-key}
 use Rattle.sr_reader.proofs.line.is_create.Goals as goal
 
 pub returns-then-eq : goal.returns-then-eq

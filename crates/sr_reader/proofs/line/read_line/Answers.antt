@@ -1,8 +1,9 @@
 use Rattle.std.proofs.Common.{◌≡◌, true, Ok, sym, subst, ◌∙◌}
 use Rattle.std.specs.Prelude.{◌||◌, nat_eq, codes}
 use Rattle.std.specs.List.{starts_with}
-use Rattle.sr_language.specs.Script.{Silent, CreateLine, is_blank, event_line, line_of}
-use Rattle.sr_reader.proofs.LineWords.{not_text, silent, created, event, is_text, no_text, one_is, other_is, neither_is}
+use Rattle.std.proofs.lemmas.Bool.{or_left, or_right, or_from}
+use Rattle.sr_lines.specs.Script.{Silent, CreateLine, is_blank, event_line, line_of}
+use Rattle.sr_reader.proofs.LineWords.{not_text, silent, created, event, is_text, no_text}
 use Rattle.sr_reader.proofs.line.read_line.Goals as goal
 use Rattle.sr_reader.proofs.line.read_line.Goals.{then-is_blank-via-then-is_blank, then-is_blank-via-else-is_blank+then-is_comment}
 
@@ -15,8 +16,8 @@ returns-then-is_blank c =
     let same = c.in-Ok.ensures.cases.0 in
     let text = is_text c.args.line.now line same c.in-Ok.ensures.cases.1 in
     let quiet : (is_blank line || starts_with nat_eq line (codes "#")) ≡ true = elim c.then-is_blank.branch [
-      | then-is_blank-via-then-is_blank w ↦ one_is (is_blank line) (starts_with nat_eq line (codes "#")) (sym c.is_blank.ensures ∙ w.if-is_blank.true)
-      | then-is_blank-via-else-is_blank+then-is_comment w ↦ other_is (is_blank line) (starts_with nat_eq line (codes "#")) (sym w.is_comment.ensures ∙ w.if-is_comment.true)
+      | then-is_blank-via-then-is_blank w ↦ or_left (is_blank line) (starts_with nat_eq line (codes "#")) (sym c.is_blank.ensures ∙ w.if-is_blank.true)
+      | then-is_blank-via-else-is_blank+then-is_comment w ↦ or_right (is_blank line) (starts_with nat_eq line (codes "#")) (sym w.is_comment.ensures ∙ w.if-is_comment.true)
     ] in
     subst (λ z. Ok Silent ≡ line_of c.args.clients z) same (silent c.args.clients line text quiet)
 
@@ -25,7 +26,7 @@ returns-then-begins_create c =
     let line = c.in-Ok.text.now in
     let same = c.in-Ok.ensures.cases.0 in
     let text = is_text c.args.line.now line same c.in-Ok.ensures.cases.1 in
-    let loud = neither_is (is_blank line) (starts_with nat_eq line (codes "#")) (sym c.is_blank.ensures ∙ c.if-is_blank.false) (sym c.is_comment.ensures ∙ c.if-is_comment.false) in
+    let loud = or_from (is_blank line) (starts_with nat_eq line (codes "#")) (sym c.is_blank.ensures ∙ c.if-is_blank.false) (sym c.is_comment.ensures ∙ c.if-is_comment.false) in
     subst (λ z. Ok (CreateLine line) ≡ line_of c.args.clients z) same (created c.args.clients line text loud (sym c.begins_create.ensures ∙ c.if-begins_create.true))
 
 pub returns : goal.returns
@@ -33,5 +34,5 @@ returns c =
     let line = c.in-Ok.text.now in
     let same = c.in-Ok.ensures.cases.0 in
     let text = is_text c.args.line.now line same c.in-Ok.ensures.cases.1 in
-    let loud = neither_is (is_blank line) (starts_with nat_eq line (codes "#")) (sym c.is_blank.ensures ∙ c.if-is_blank.false) (sym c.is_comment.ensures ∙ c.if-is_comment.false) in
+    let loud = or_from (is_blank line) (starts_with nat_eq line (codes "#")) (sym c.is_blank.ensures ∙ c.if-is_blank.false) (sym c.is_comment.ensures ∙ c.if-is_comment.false) in
     c.read_event.ensures ∙ subst (λ z. event_line c.args.clients line ≡ line_of c.args.clients z) same (event c.args.clients line text loud (sym c.begins_create.ensures ∙ c.if-begins_create.false))

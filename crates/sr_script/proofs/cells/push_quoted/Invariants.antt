@@ -1,5 +1,5 @@
 use Rattle.std.proofs.Common.{◌≡◌, ◌++◌, drop, codes, flat_map, string_bytes}
-use Rattle.sr_language.specs.Texts.{quoted_byte, quoted}
+use Rattle.sr_lines.specs.Texts.{quoted_byte, quoted}
 use Rattle.sr_script.proofs.cells.push_quoted.Given as goal
 
 abbrev pub invariant-loop-byte : goal.invariant-loop-byte

@@ -1,6 +1,6 @@
 use Rattle.std.proofs.Common.{◌≡◌, ◌++◌, drop, codes, map, string_bytes}
 use Rattle.std.specs.Str.{IsUtf8}
-use Rattle.sr_language.specs.Texts.{joined, cell_text}
+use Rattle.sr_lines.specs.Texts.{joined, cell_text}
 use Rattle.sr_script.proofs.Separated.{behind}
 use Rattle.sr_script.proofs.cells.push_row.Given as goal
 

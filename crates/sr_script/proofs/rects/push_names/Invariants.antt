@@ -1,6 +1,6 @@
 use Rattle.std.proofs.Common.{◌≡◌, ◌++◌, drop, codes, string_bytes}
 use Rattle.std.specs.Str.{IsUtf8}
-use Rattle.sr_language.specs.Texts.{joined}
+use Rattle.sr_lines.specs.Texts.{joined}
 use Rattle.sr_script.specs.TraceText.{names_from}
 use Rattle.sr_script.proofs.Separated.{behind}
 use Rattle.sr_script.proofs.rects.push_names.Given as goal

@@ -1,8 +1,8 @@
 use Rattle.std.proofs.Common.{length}
 use Rattle.std.specs.Prelude.{codes}
 use Rattle.sr_grammar.specs.Tokens.{Mark}
-use Rattle.sr_parser.specs.Readers.{column, list}
-use Rattle.sr_parser.proofs.Loops.{Going}
+use Rattle.sr_grammar_laws.specs.Readers.{column, list}
+use Rattle.sr_grammar_laws.proofs.Loops.{Going}
 use Rattle.sr_sql.proofs.columns.columns.Given as goal
 
 abbrev pub invariant-more : goal.invariant-more

@@ -1,6 +1,6 @@
 use Rattle.std.proofs.lemmas.Result.{err_from_is_err_and}
 use Rattle.sr_grammar.specs.Columns.{all_left}
-use Rattle.sr_parser.specs.Readers.{rules}
+use Rattle.sr_grammar_laws.specs.Readers.{rules}
 use Rattle.sr_sql.specs.Rules.{left_seen}
 use Rattle.sr_sql.proofs.Ruling.{ruling_first, ruling_on, ruling_done, ruling_stops, rules_less}
 use Rattle.sr_sql.proofs.columns.rules.Goals as goal

@@ -1,5 +1,5 @@
 use Rattle.sr_grammar.specs.Columns.{all_left}
-use Rattle.sr_parser.specs.Readers.{rules}
+use Rattle.sr_grammar_laws.specs.Readers.{rules}
 use Rattle.sr_sql.specs.Rules.{left_seen}
 use Rattle.sr_sql.proofs.Ruling.{how_many, Ruling}
 use Rattle.sr_sql.proofs.columns.rules.Given as goal

@@ -4,9 +4,9 @@ use Rattle.std.proofs.lemmas.List.{map_push, length-append}
 use Rattle.std.proofs.lemmas.Result.{err_from_is_err_and}
 use Rattle.sr_grammar.specs.Tokens.{Key, Mark, is}
 use Rattle.sr_grammar.specs.Words.{place_of}
-use Rattle.sr_parser.specs.Reading.{next_is}
-use Rattle.sr_parser.specs.Readers.{unit, conj_of, comparison, list}
-use Rattle.sr_parser.proofs.Loops.{one_shrinks, goes_on}
+use Rattle.sr_grammar_laws.specs.Reading.{next_is}
+use Rattle.sr_grammar_laws.specs.Readers.{unit, conj_of, comparison, list}
+use Rattle.sr_grammar_laws.proofs.Loops.{one_shrinks, goes_on}
 use Rattle.sr_sql.proofs.Shrinking.{unit_less, conj_less}
 use Rattle.sr_grammar.specs.Seen.{cond_seen}
 use Rattle.sr_sql.proofs.Trees.{unit_test, reads_same, paren_err}

@@ -1,9 +1,9 @@
 use Rattle.std.proofs.Common.{◌≡◌, ◌+◌, ◌*◌, ◌≤◌, map, length, true}
 use Rattle.std.specs.Prelude.{codes}
 use Rattle.sr_grammar.specs.Tokens.{Key, is}
-use Rattle.sr_parser.specs.Reading.{next_is}
-use Rattle.sr_parser.specs.Readers.{unit, conj_of, list}
-use Rattle.sr_parser.proofs.Loops.{Going}
+use Rattle.sr_grammar_laws.specs.Reading.{next_is}
+use Rattle.sr_grammar_laws.specs.Readers.{unit, conj_of, list}
+use Rattle.sr_grammar_laws.proofs.Loops.{Going}
 use Rattle.sr_grammar.specs.Seen.{cond_seen}
 use Rattle.sr_sql.proofs.conditions.+cond.Given as goal
 

@@ -2,8 +2,8 @@ use Rattle.std.proofs.Common.{rules, arith}
 use Rattle.std.specs.Prelude.{codes}
 use Rattle.sr_grammar.specs.Tokens.{Mark}
 use Rattle.sr_grammar.specs.Words.{place_of}
-use Rattle.sr_parser.specs.Readers.{literal, list}
-use Rattle.sr_parser.proofs.Loops.{goes_on, one_shrinks}
+use Rattle.sr_grammar_laws.specs.Readers.{literal, list}
+use Rattle.sr_grammar_laws.proofs.Loops.{goes_on, one_shrinks}
 use Rattle.sr_sql.proofs.Shrinking.{literal_less}
 use Rattle.sr_sql.proofs.conditions.literals.Goals as goal
 

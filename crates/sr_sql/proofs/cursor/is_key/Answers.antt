@@ -2,7 +2,7 @@ use Rattle.std.proofs.Common.{◌≡◌, rules, ap, ◌∙◌, sym}
 use Rattle.sr_token.specs.declared.token.TokenKind.{TokenKind}
 use Rattle.sr_token.specs.declared.token.TokenKind.TheVariants as code
 use Rattle.sr_grammar.specs.Tokens.{Key, is, upper, seen}
-use Rattle.sr_sql.proofs.Cases.{is-key}
+use Rattle.sr_grammar.proofs.Cases.{is-key}
 use Rattle.sr_sql.proofs.cursor.is_key.Goals as goal
 
 pub returns-then-eq : goal.returns-then-eq

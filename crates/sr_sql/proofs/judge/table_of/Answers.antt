@@ -1,6 +1,6 @@
 use Rattle.std.proofs.Common.{◌≡◌, filter, length, arith, rules}
 use Rattle.sr_grammar.specs.Trees.{is_key, key_of}
-use Rattle.sr_parser.proofs.Columns.{key_short}
+use Rattle.sr_grammar_laws.proofs.Columns.{key_short}
 use Rattle.sr_sql.proofs.judge.table_of.Goals as goal
 
 pub overflow_cast-key : goal.overflow_cast-key

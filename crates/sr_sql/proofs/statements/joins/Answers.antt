@@ -1,7 +1,7 @@
 use Rattle.std.proofs.Common.{rules}
-use Rattle.sr_parser.specs.Reading.{many}
-use Rattle.sr_parser.specs.Readers.{begins_join, join}
-use Rattle.sr_parser.proofs.Loops.{while_on}
+use Rattle.sr_grammar_laws.specs.Reading.{many}
+use Rattle.sr_grammar_laws.specs.Readers.{begins_join, join}
+use Rattle.sr_grammar_laws.proofs.Loops.{while_on}
 use Rattle.sr_sql.proofs.Shrinking.{join_takes}
 use Rattle.sr_sql.proofs.statements.joins.Goals as goal
 

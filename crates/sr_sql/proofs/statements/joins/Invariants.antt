@@ -1,7 +1,7 @@
 use Rattle.std.proofs.Common.{length}
-use Rattle.sr_parser.specs.Reading.{many}
-use Rattle.sr_parser.specs.Readers.{begins_join, join}
-use Rattle.sr_parser.proofs.Loops.{While}
+use Rattle.sr_grammar_laws.specs.Reading.{many}
+use Rattle.sr_grammar_laws.specs.Readers.{begins_join, join}
+use Rattle.sr_grammar_laws.proofs.Loops.{While}
 use Rattle.sr_sql.proofs.statements.joins.Given as goal
 
 abbrev pub invariant-more : goal.invariant-more

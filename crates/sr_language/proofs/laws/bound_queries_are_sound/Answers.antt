@@ -1,5 +1,0 @@
-use Rattle.sr_language.proofs.Sound.{bound_are_sound}
-use Rattle.sr_language.proofs.laws.bound_queries_are_sound.Goals as goal
-
-pub returns : goal.returns
-returns c = bound_are_sound

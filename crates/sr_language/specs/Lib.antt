@@ -1,9 +1,0 @@
-pub mod Texts
-pub mod Events
-pub mod Lines
-pub mod Built
-pub mod Sound
-pub mod Script
-pub mod Parts
-pub mod Creates
-pub mod Own

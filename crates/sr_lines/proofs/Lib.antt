@@ -1,0 +1,9 @@
+pub mod Sets
+pub mod Compared
+pub mod Selected
+pub mod Short
+pub mod Sound
+pub mod Own
+pub mod Constrained
+pub mod Parts
+pub mod Joined

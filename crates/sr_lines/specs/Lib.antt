@@ -1,0 +1,11 @@
+pub mod Texts
+pub mod Events
+pub mod Joined
+pub mod Lines
+pub mod Built
+pub mod Short
+pub mod Sound
+pub mod Script
+pub mod Parts
+pub mod Creates
+pub mod Own

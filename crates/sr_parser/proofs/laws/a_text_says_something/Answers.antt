@@ -1,5 +1,0 @@
-use Rattle.sr_parser.proofs.OneSaying.{each_says_something}
-use Rattle.sr_parser.proofs.laws.a_text_says_something.Goals as goal
-
-pub returns : goal.returns
-returns c = record { something = each_says_something }

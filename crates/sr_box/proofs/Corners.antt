@@ -1,5 +1,5 @@
 -- A point and its corner lie in the same rects.
-use Rattle.std.proofs.Common.{◌≡◌, ℕ, ℤ, pos, Bool, true, false, not, ◌&&◌, List, [], ◌∷◌, ◌++◌, refl, sym, ap, arith, Option, Some, None}
+use Rattle.std.proofs.Common.{◌≡◌, ℕ, ℤ, pos, Bool, true, false, not, ◌&&◌, List, [], ◌∷◌, ◌++◌, refl, ap, arith, Option, Some, None}
 use Rattle.std.specs.Prelude.{IsTrue, int_le, int_lt, ◌+ℤ◌, if◌then◌else◌, map, flat_map}
 use Rattle.std.specs.List.{AllByRecursion, list_all}
 use Rattle.std.proofs.lemmas.Int.{ints}
@@ -10,12 +10,13 @@ use Rattle.sr_cell.specs.declared.table.Kind.{Kind}
 use Rattle.sr_cell.specs.declared.table.Kind.TheVariants.{Num as Numbers, Str as Texts}
 use Rattle.sr_cell.specs.Cells.{Row, text_le, cell_le}
 use Rattle.sr_cell.specs.Columns.{in_kind, in_column}
+use Rattle.sr_cell.proofs.Booleans.{same_tests}
+use Rattle.sr_cell.proofs.Order.{cell_le-trans, cell_le-total, cell_le-refl}
 use Rattle.sr_box.specs.declared.span.Span.{Span}
 use Rattle.sr_box.specs.declared.span.Span.TheVariants.{Full, Nums, Strs}
 use Rattle.sr_box.specs.Spans.{is_below, in_span, fits_kind, span_fits}
 use Rattle.sr_box.specs.Points.{Rect, in_rect, rect_fits}
 use Rattle.sr_box.specs.Corners.{text_cut, end_cut, num_cut, cuts_of, first_value, greatest_below, first_span, other_spans, corner, CornersDecide}
-use Rattle.sr_box.proofs.Order.{cell_le-trans, cell_le-total, cell_le-refl}
 
 -- c is at most both or at most neither
 abbrev Agrees : Cell → Cell → Cell → Type 0
@@ -25,12 +26,6 @@ record IsGreatest (best v w : Cell) (cuts : List Cell) : Type 0 where
   above : IsTrue (cell_le best w)
   below : IsTrue (cell_le w v)
   agree : AllByRecursion (Agrees v w) cuts
-
-equal_tests : (a b : Bool) → (a ≡ true → b ≡ true) → (b ≡ true → a ≡ true) → a ≡ b
-equal_tests true true f g = refl
-equal_tests true false f g = sym (f refl)
-equal_tests false true f g = g refl
-equal_tests false false f g = refl
 
 chosen : (best c v : Cell) → (b d : Bool) → cell_le c v ≡ b → cell_le best c ≡ d → IsTrue (cell_le best v)
     → IsTrue (cell_le best (if b && d then c else best)) × IsTrue (cell_le (if b && d then c else best) v) × (IsTrue (cell_le c v) → IsTrue (cell_le c (if b && d then c else best)))
@@ -48,7 +43,7 @@ greatest best v (c ∷ cuts) low =
     record {
       above = cell_le-trans best next w one.0 more.above;
       below = more.below;
-      agree = (equal_tests _ _ (λ h. cell_le-trans c w v h more.below) (λ h. cell_le-trans c next w (one.2 h) more.above), more.agree);
+      agree = (same_tests _ _ (λ h. cell_le-trans c w v h more.below) (λ h. cell_le-trans c next w (one.2 h) more.above), more.agree);
     }
 
 -- the greatest cut is a value of the column

@@ -47,10 +47,6 @@ not_whole-max [] c None h = absurd (grind arith)
 not_whole-max (b ∷ a) [] None h = refl
 not_whole-max (b ∷ a) (d ∷ c) None h = grind arith
 
-not_whole-some : (x : List ℕ) (e : List ℕ) → is_whole x (Some e) ≡ false
-not_whole-some [] e = refl
-not_whole-some (b ∷ x) e = refl
-
 not_whole-min : (a : List ℕ) (b d : Option (List ℕ)) → is_whole a b ≡ false → is_whole a (end_min b d) ≡ false
 not_whole-min a (Some b) None h = h
 not_whole-min [] (Some b) (Some d) h = grind arith

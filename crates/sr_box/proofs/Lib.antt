@@ -1,4 +1,3 @@
-pub mod Bytes
 pub mod Widths
 pub mod Order
 pub mod Parts
@@ -8,3 +7,4 @@ pub mod Constrained
 pub mod Meets
 pub mod Prefixes
 pub mod Projected
+pub mod Essential

@@ -69,10 +69,6 @@ abbrev pub behind : Rect → Option Rect → Option Rect
 behind spans None = None
 behind spans (Some r) = Some (spans ++ r)
 
-pub behind_none : (m : Option Rect) → behind [] m ≡ m
-behind_none None = refl
-behind_none (Some r) = refl
-
 pub behind_more : (spans : Rect) (s : Span) (m : Option Rect) → behind spans (with_first (Some s) m) ≡ behind (spans ++ s ∷ []) m
 behind_more spans s None = refl
 behind_more spans s (Some r) = ap Some (sym (append_assoc spans (s ∷ []) r))

@@ -11,12 +11,10 @@ use Rattle.sr_box.specs.declared.span.Span.{Span}
 use Rattle.sr_box.specs.declared.span.Span.TheVariants.{Full, Nums, Strs}
 use Rattle.sr_cell.specs.Cells.{text_le}
 use Rattle.sr_cell.specs.Columns.{in_kind}
+use Rattle.sr_cell.proofs.Order.{text_le-trans, text_le-total}
 use Rattle.sr_box.specs.Spans.{is_below, in_span, fits_kind}
 use Rattle.sr_box.specs.Cut.{nums, strs, text_max, end_min, meet, under, over, is_under, is_over, in_maybe}
-use Rattle.sr_box.proofs.Order.{text_le-trans, text_le-total, text_max-is, end_min-is, is_below-between}
-
-nums-num : (lo hi n : ℤ) → in_maybe (nums lo hi) (Num n) ≡ (int_le lo n && int_le n hi)
-nums-num lo hi n = grind (arith, ints)
+use Rattle.sr_box.proofs.Order.{text_max-is, end_min-is, is_below-between}
 
 nums-str : (lo hi : ℤ) (s : List ℕ) → in_maybe (nums lo hi) (Str s) ≡ false
 nums-str lo hi s = grind (arith, ints)

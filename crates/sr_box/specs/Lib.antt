@@ -4,3 +4,4 @@ pub mod Corners
 pub mod Cut
 pub mod Prefixes
 pub mod Projected
+pub mod Rows

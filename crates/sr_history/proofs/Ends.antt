@@ -12,12 +12,12 @@ use Rattle.sr_cell.specs.declared.table.Kind.{Kind}
 use Rattle.sr_cell.specs.declared.table.Kind.TheVariants.{Num as Numbers, Str as Texts}
 use Rattle.sr_cell.specs.Cells.{cell_eq, cell_le}
 use Rattle.sr_cell.specs.Columns.{in_kind}
+use Rattle.sr_cell.proofs.Order.{cell_eq-sound}
 use Rattle.sr_box.specs.declared.span.Span.{Span}
 use Rattle.sr_box.specs.declared.span.Span.TheVariants.{Full, Nums, Strs}
 use Rattle.sr_box.specs.Spans.{fits_kind}
 use Rattle.sr_box.specs.Points.{Rect, rect_fits}
 use Rattle.sr_box.specs.Corners.{text_cut, end_cut, cuts_of, first_value}
-use Rattle.sr_box.proofs.Order.{cell_eq-sound}
 use Rattle.sr_union.specs.Grid.{is_among, has_cut, first_cuts, others, distinct, grid, CutsAmong}
 use Rattle.sr_union.proofs.Cuts.{is_among-append, nums-cut, strs-cut}
 use Rattle.sr_model.specs.Ends.{ends}

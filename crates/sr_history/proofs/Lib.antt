@@ -1,2 +1,4 @@
 pub mod Distinct
 pub mod Ends
+pub mod Marking
+pub mod SameClass

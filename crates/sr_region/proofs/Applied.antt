@@ -1,5 +1,5 @@
 -- A region stays one when a change is applied.
-use Rattle.std.proofs.Common.{◌≡◌, ℕ, zero, suc, Bool, true, false, cond, not, ◌&&◌, ◌||◌, List, [], ◌∷◌, refl, sym, ap, subst, ◌∙◌, arith}
+use Rattle.std.proofs.Common.{◌≡◌, ℕ, zero, suc, Bool, true, false, cond, not, ◌||◌, List, [], ◌∷◌, refl, sym, ap, subst, ◌∙◌, arith}
 use Rattle.std.specs.Prelude.{ℤ, Option, Some, None, if◌then◌else◌}
 use Rattle.std.specs.List.{All}
 use Rattle.std.proofs.lemmas.Int.{ints}
@@ -13,6 +13,7 @@ use Rattle.sr_cell.specs.declared.table.Kind.TheVariants.{Num as Numbers, Str as
 use Rattle.sr_cell.specs.Attrs.{has_column, project}
 use Rattle.sr_cell.specs.Cells.{Row, cell_at, cell_le, cell_eq}
 use Rattle.sr_cell.specs.Columns.{in_kind, is_point}
+use Rattle.sr_cell.proofs.Order.{apart-cells}
 use Rattle.sr_model.specs.SortedRows.{ascend, with_row}
 use Rattle.sr_box.specs.Points.{Rect, in_any}
 use Rattle.sr_rows.specs.Places.{is_apart}
@@ -21,7 +22,8 @@ use Rattle.sr_rows.proofs.Places.{with_row-ascend}
 use Rattle.sr_rows.proofs.Parts.{ascend-filter}
 use Rattle.sr_region.specs.declared.region.Region.{Region}
 use Rattle.sr_region.specs.Regions.{rank, IsPart, IsRowIn, IsArea, IsRegion}
-use Rattle.sr_region.specs.Applied.{without_key, with_new, applied, IsNew}
+use Rattle.sr_region.specs.Applied.{with_new, applied, IsNew}
+use Rattle.sr_rows.specs.Keys.{without_key}
 use Rattle.sr_region.specs.Entering.{part_in, with_part}
 use Rattle.sr_region.proofs.Ranks.{stand}
 use Rattle.sr_region.proofs.Parts.{is_in-point}
@@ -45,9 +47,6 @@ cells-order (c ∷ cs) [] q n h g = absurd (cc)
 cells-order (c ∷ cs) (v ∷ p) [] n h g = absurd (cc)
 cells-order (c ∷ cs) (v ∷ p) (w ∷ q) zero h g = kind-order c.kind c.lo c.hi v w (grind arith) (grind arith)
 cells-order (c ∷ cs) (v ∷ p) (w ∷ q) (suc n) h g = cells-order cs p q n (grind arith) (grind arith)
-
-apart-cells : (v w : Cell) → (cell_le v w || cell_le w v) ≡ true → cell_eq v w ≡ false → ((cell_le v w && not (cell_le w v)) || (cell_le w v && not (cell_le v w))) ≡ true
-apart-cells v w h n = grind arith
 
 -- ---- the new row among the others
 

@@ -4,7 +4,7 @@ use Rattle.std.specs.Prelude.{Bool, not, ◌&&◌, nat_eq}
 use Rattle.std.specs.List.{list_all, All}
 use Rattle.std.proofs.lemmas.Bool.Decides.{nat_tests}
 use Rattle.std.proofs.lemmas.List.Folds.{list_all-append}
-use Rattle.std.proofs.lemmas.List.Elements.{All-nil, All-weaker}
+use Rattle.std.proofs.lemmas.List.Elements.{All-weaker}
 use Rattle.sr_cell.specs.declared.table.Table.{Table}
 use Rattle.sr_cell.specs.Cells.{Row}
 use Rattle.sr_cell.specs.Columns.{is_point}
@@ -17,10 +17,6 @@ use Rattle.sr_region.specs.declared.region.Region.{Region}
 use Rattle.sr_region.specs.Regions.{rank, IsRowIn, IsArea, IsRegion, AreOfClass, joined}
 use Rattle.sr_region.proofs.Parts.{in-first, in-second}
 use Rattle.sr_region.proofs.Ordered.{All-with_row, All-with_rows, with_rows-ascend}
-
-pub empty-region : (t : Table) (table key attrs stamp : ℕ) (rects : List Rect) → IsArea t key attrs rects
-    → IsRegion t (record { table = table; key = key; attrs = attrs; stamp = stamp; rects = rects; rows = [] })
-empty-region t table key attrs stamp rects area = record { area = area; rows = All-nil (IsRowIn t.columns attrs rects); ascending = refl }
 
 pub put-region : (t : Table) (r : Region) (row : Row) (place : ℕ) (rows : List Row) → place ≡ rank r.attrs r.key → rows ≡ with_row place r.rows row
     → IsRegion t r → IsRowIn t.columns r.attrs r.rects row → is_apart (rank r.attrs r.key) r.rows row ≡ true → IsRegion t (record r { rows = rows })

@@ -6,15 +6,17 @@ use Rattle.std.proofs.lemmas.List.Elements.{All-nil, All-append, All-weaker, All
 use Rattle.sr_cell.specs.declared.cell.Cell.{Cell}
 use Rattle.sr_cell.specs.declared.change.Change.{Change}
 use Rattle.sr_cell.specs.declared.table.Table.{Table}
-use Rattle.sr_cell.specs.Cells.{Row, cell_at, cell_le, cell_eq}
+use Rattle.sr_cell.specs.Cells.{Row, cell_at, cell_eq}
 use Rattle.sr_cell.specs.Columns.{is_point, table_at}
+use Rattle.sr_cell.proofs.Lists.{find-none}
+use Rattle.sr_cell.proofs.Order.{cell_eq-sound}
 use Rattle.sr_model.specs.SortedRows.{has_key, with_row}
 use Rattle.sr_model.specs.Queries.{rows_at}
 use Rattle.sr_model.specs.Statements.{Tables}
 use Rattle.sr_model.specs.Changes.{row_with, same_row, all_keys, table_changes, changes_from}
-use Rattle.sr_box.proofs.Order.{cell_eq-sound}
+use Rattle.sr_rows.proofs.Elements.{list_any-with_row}
 use Rattle.sr_region.specs.Applied.{IsNew, is_point_if_there, has_points}
-use Rattle.sr_region.proofs.Found.{find-passes, find-among, find-none, same_row-sound}
+use Rattle.sr_region.proofs.Found.{find-passes, find-among, same_row-sound}
 
 -- ---- what a change is
 
@@ -66,15 +68,6 @@ module _ (table : Table) (t : ℕ) (old new : List Row) where
 
 -- ---- a key without change has the same row
 
-any-row : (p : Row → Bool) (key : ℕ) (rows : List Row) (row : Row) → list_any p (with_row key rows row) ≡ (p row || list_any p rows)
-any-row p key [] row = refl
-any-row p key (r ∷ rows) row = go (cell_le (cell_at r key) (cell_at row key)) (any-row p key rows row)
-  where
-    go : (b : Bool) → list_any p (with_row key rows row) ≡ (p row || list_any p rows)
-        → list_any p (if b then r ∷ with_row key rows row else row ∷ r ∷ rows) ≡ (p row || (p r || list_any p rows))
-    go true ih = grind (arith, ih)
-    go false ih = refl
-
 has-keys : (key : ℕ) (v : Cell) (rows others : List Row) → has_key key v (all_keys key rows others) ≡ (has_key key v rows || has_key key v others)
 has-keys key v rows [] = go (has_key key v rows)
   where
@@ -92,7 +85,7 @@ has-keys key v rows (x ∷ others) =
         → has_key key v (all_keys key (with_row key rows x) others) ≡ (has_key key v (with_row key rows x) || has_key key v others)
         → has_key key v (all_keys key (if b then rows else with_row key rows x) others) ≡ (has_key key v rows || (cell_eq (cell_at x key) v || has_key key v others))
     go true has one two = known (cell_eq (cell_at x key) v) refl has one
-    go false has one two = let any = any-row (λ row. cell_eq (cell_at row key) v) key rows x in grind (arith, two, any)
+    go false has one two = let any = list_any-with_row (λ row. cell_eq (cell_at row key) v) key rows x in grind (arith, two, any)
 
 -- a change of that key
 abbrev pub has_change : Cell → List Change → Bool

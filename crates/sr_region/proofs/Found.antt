@@ -1,16 +1,18 @@
 -- What is found among rows by its key.
-use Rattle.std.proofs.Common.{◌≡◌, ℕ, Bool, true, false, cond, not, ◌&&◌, ◌||◌, List, [], ◌∷◌, map, refl, sym, ap, subst, ◌∙◌, arith}
+use Rattle.std.proofs.Common.{◌≡◌, ℕ, Bool, true, false, cond, not, ◌&&◌, List, [], ◌∷◌, map, refl, sym, ap, subst, ◌∙◌, arith}
 use Rattle.std.specs.Prelude.{filter, find, Option, Some, None, if◌then◌else◌}
-use Rattle.std.specs.List.{list_all, list_any}
+use Rattle.std.specs.List.{list_all}
 use Rattle.sr_cell.specs.declared.cell.Cell.{Cell}
 use Rattle.sr_cell.specs.Attrs.{project}
 use Rattle.sr_cell.specs.Cells.{Row, cell_at, cell_le, cell_eq}
-use Rattle.sr_model.specs.SortedRows.{key_lt, ascend, with_row, row_eq}
+use Rattle.sr_cell.proofs.Lists.{find-none}
+use Rattle.sr_cell.proofs.Order.{cell_eq-sound, cell_eq-refl}
+use Rattle.sr_model.specs.SortedRows.{key_lt, ascend, with_row}
 use Rattle.sr_model.specs.Changes.{row_with, same_row}
 use Rattle.sr_box.specs.Points.{Rect, in_any}
-use Rattle.sr_box.proofs.Order.{cell_eq-sound, cell_eq-refl}
 use Rattle.sr_rows.proofs.Order.{key_lt-not, is_first, ascend-tail, ascend-first, first-ascend}
-use Rattle.sr_region.specs.Applied.{without_key}
+use Rattle.sr_rows.proofs.Elements.{row_eq-sound}
+use Rattle.sr_rows.specs.Keys.{without_key}
 use Rattle.sr_region.specs.Entering.{part_in, with_part}
 use Rattle.sr_region.proofs.Places.{lacks-behind}
 
@@ -30,24 +32,7 @@ find-among p q (y ∷ xs) x all h = go (p y) h (find-among p q xs x (grind arith
     go true h ih = let same : y ≡ x = cc in subst (λ z. q z ≡ true) same (grind (arith, all))
     go false h ih = ih h
 
-pub find-none : {X : Type 0} (p : X → Bool) (xs : List X) → list_any p xs ≡ false → find p xs ≡ None
-find-none p [] h = refl
-find-none p (x ∷ xs) h = go (p x) h (find-none p xs)
-  where
-    go : (b : Bool) → (b || list_any p xs) ≡ false → (list_any p xs ≡ false → find p xs ≡ None) → cond b (Some x) (find p xs) ≡ None
-    go true h ih = absurd (cc)
-    go false h ih = ih h
-
 -- ---- rows are equal where their cells are
-
-row_eq-sound : (p q : Row) → row_eq p q ≡ true → p ≡ q
-row_eq-sound [] [] h = refl
-row_eq-sound [] (w ∷ q) h = absurd (cc)
-row_eq-sound (v ∷ p) [] h = absurd (cc)
-row_eq-sound (v ∷ p) (w ∷ q) h =
-    let one : v ≡ w = cell_eq-sound v w (grind arith) in
-    let others : p ≡ q = row_eq-sound p q (grind arith) in
-    cc
 
 pub same_row-sound : (p q : Option Row) → same_row p q ≡ true → p ≡ q
 same_row-sound None None h = refl

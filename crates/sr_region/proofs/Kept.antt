@@ -10,15 +10,17 @@ use Rattle.sr_cell.specs.declared.table.Table.{Table}
 use Rattle.sr_cell.specs.Attrs.{project}
 use Rattle.sr_cell.specs.Cells.{Row, cell_at, cell_eq}
 use Rattle.sr_cell.specs.Columns.{is_point, table_at}
+use Rattle.sr_cell.proofs.Order.{cell_eq-sound}
 use Rattle.sr_model.specs.Changes.{row_with, table_changes, changes_from, changes}
 use Rattle.sr_model.specs.Queries.{rows_at}
 use Rattle.sr_model.specs.SortedRows.{ascend}
 use Rattle.sr_model.specs.Statements.{Tables}
 use Rattle.sr_box.specs.Points.{Rect, in_any}
-use Rattle.sr_box.proofs.Order.{cell_eq-sound}
 use Rattle.sr_region.specs.declared.region.Region.{Region}
 use Rattle.sr_region.specs.Regions.{rank, IsRegion}
-use Rattle.sr_region.specs.Applied.{without_key, applied, applied_all, IsNew, has_row, has_points, concerns, HasItsRows, ApplyKeepsRows}
+use Rattle.sr_region.specs.Applied.{applied, applied_all, IsNew, has_points, concerns, HasItsRows, ApplyKeepsRows}
+use Rattle.sr_box.specs.Rows.{has_row}
+use Rattle.sr_rows.specs.Keys.{without_key}
 use Rattle.sr_region.specs.Entering.{part_in}
 use Rattle.sr_region.proofs.Ranks.{stand}
 use Rattle.sr_region.proofs.Applied.{applied-region, with_new-part}

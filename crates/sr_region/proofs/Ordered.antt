@@ -1,13 +1,13 @@
 -- Rows put among others by key.
-use Rattle.std.proofs.Common.{◌≡◌, ℕ, true, false, List, [], ◌∷◌, ◌++◌, take, drop, refl, arith}
-use Rattle.std.specs.Prelude.{Bool, ◌&&◌, ◌||◌, if◌then◌else◌}
+use Rattle.std.proofs.Common.{◌≡◌, ℕ, true, List, [], ◌∷◌, ◌++◌, take, drop, arith}
 use Rattle.std.specs.List.{list_all, All}
 use Rattle.std.proofs.lemmas.List.Elements.{All-same, All-append, All-take, All-drop, All-cons, All-head, All-tail}
-use Rattle.sr_cell.specs.Cells.{Row, cell_at, cell_le}
-use Rattle.sr_model.specs.SortedRows.{key_lt, ascend, with_row, with_rows}
+use Rattle.sr_cell.specs.Cells.{Row, cell_at}
+use Rattle.sr_model.specs.SortedRows.{ascend, with_row, with_rows}
 use Rattle.sr_rows.specs.Places.{place_at, is_apart}
-use Rattle.sr_rows.proofs.Order.{is_first, ascend-tail, ascend-first}
+use Rattle.sr_rows.proofs.Order.{ascend-tail, ascend-first}
 use Rattle.sr_rows.proofs.Places.{with_row-place, with_row-ascend}
+use Rattle.sr_rows.proofs.Elements.{apart-next}
 
 pub All-with_row : (P : Row → Type 0) (key : ℕ) (rows : List Row) (row : Row) → All P rows → P row → All P (with_row key rows row)
 All-with_row P key rows row all one =
@@ -19,23 +19,6 @@ pub All-with_rows : (P : Row → Type 0) (key : ℕ) (rows more : List Row) → 
 All-with_rows P key rows [] all each = all
 All-with_rows P key rows (m ∷ more) all each =
     All-with_rows P key (with_row key rows m) more (All-with_row P key rows m all (All-head P m more each)) (All-tail P m more each)
-
-list_all-row : (p : Row → Bool) (key : ℕ) (rows : List Row) (row : Row) → list_all p (with_row key rows row) ≡ (p row && list_all p rows)
-list_all-row p key [] row = refl
-list_all-row p key (r ∷ rows) row = go (cell_le (cell_at r key) (cell_at row key)) (list_all-row p key rows row)
-  where
-    go : (b : Bool) → list_all p (with_row key rows row) ≡ (p row && list_all p rows)
-        → list_all p (if b then r ∷ with_row key rows row else row ∷ r ∷ rows) ≡ (p row && (p r && list_all p rows))
-    go true ih = grind (arith, ih)
-    go false ih = refl
-
--- ascending rows, each apart from the rows, can be put one by one
-apart-next : (key : ℕ) (rows more : List Row) (m : Row) → is_first key m more ≡ true → list_all (is_apart key rows) more ≡ true → list_all (is_apart key (with_row key rows m)) more ≡ true
-apart-next key rows [] m f h = refl
-apart-next key rows (r ∷ more) m f h =
-    let ih = apart-next key rows more m (grind arith) (grind arith) in
-    let one = list_all-row (λ other. key_lt key other r || key_lt key r other) key rows m in
-    grind (arith, ih, one, f, h)
 
 pub with_rows-ascend : (key : ℕ) (rows more : List Row) → ascend key rows ≡ true → ascend key more ≡ true → list_all (is_apart key rows) more ≡ true → ascend key (with_rows key rows more) ≡ true
 with_rows-ascend key rows [] h k apart = h

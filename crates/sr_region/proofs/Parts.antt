@@ -1,21 +1,16 @@
 -- Rows of some columns, and the points that have these cells.
-use Rattle.std.proofs.Common.{◌≡◌, ℕ, true, List, [], ◌∷◌, ◌++◌, length, refl, ◌∙◌, arith}
+use Rattle.std.proofs.Common.{◌≡◌, ℕ, true, List, [], ◌∷◌, ◌++◌, refl, ◌∙◌, arith}
 use Rattle.std.specs.Prelude.{◌||◌}
 use Rattle.std.specs.List.{list_all}
 use Rattle.sr_cell.specs.declared.table.Column.{Column}
 use Rattle.sr_cell.specs.Attrs.{project}
 use Rattle.sr_cell.specs.Cells.{Row}
 use Rattle.sr_cell.specs.Columns.{is_point}
+use Rattle.sr_cell.proofs.Columns.{point-length}
 use Rattle.sr_box.specs.Points.{Rect, in_any, rect_fits, constrains_only}
 use Rattle.sr_box.proofs.Projected.{parts_decide}
 use Rattle.sr_union.proofs.Inner.{fits_length}
 use Rattle.sr_region.specs.Regions.{is_in, IsRowIn}
-
-point-length : (cs : List Column) (p : Row) → is_point cs p ≡ true → length p ≡ length cs
-point-length [] [] h = refl
-point-length [] (v ∷ p) h = absurd (grind arith)
-point-length (c ∷ cs) [] h = absurd (grind arith)
-point-length (c ∷ cs) (v ∷ p) h = let ih = point-length cs p (grind arith) in omega (arith, ih)
 
 -- a point lies in the rects where its cells do
 pub is_in-point : (cs : List Column) (attrs : ℕ) (rects : List Rect) (p : Row) → list_all (rect_fits cs) rects ≡ true → list_all (constrains_only attrs 0) rects ≡ true → is_point cs p ≡ true

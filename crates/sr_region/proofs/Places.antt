@@ -4,12 +4,12 @@ use Rattle.std.specs.Prelude.{slice_set, if◌then◌else◌}
 use Rattle.std.proofs.lemmas.Bool.Decides.{nat_tests}
 use Rattle.sr_cell.specs.declared.cell.Cell.{Cell}
 use Rattle.sr_cell.specs.Cells.{Row, cell_at, cell_le, cell_eq}
+use Rattle.sr_cell.proofs.Order.{cell_le-trans, cell_eq-sound}
 use Rattle.sr_model.specs.SortedRows.{ascend, has_key, with_row}
-use Rattle.sr_box.proofs.Order.{cell_eq-sound}
 use Rattle.sr_rows.specs.Places.{place_at}
-use Rattle.sr_rows.proofs.Order.{cell_le-trans, key_lt-le, key_lt-not, is_first, ascend-tail, ascend-first}
+use Rattle.sr_rows.proofs.Order.{key_lt-le, key_lt-not, is_first, ascend-tail, ascend-first}
 use Rattle.sr_rows.proofs.Places.{has_key-place, with_row-place}
-use Rattle.sr_region.specs.Applied.{without_key}
+use Rattle.sr_rows.specs.Keys.{without_key}
 
 module _ (key : ℕ) where
   -- ---- the row of a key

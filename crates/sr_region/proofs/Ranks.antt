@@ -1,8 +1,9 @@
 -- The place of a column among those of a set.
-use Rattle.std.proofs.Common.{◌≡◌, ℕ, zero, suc, ◌+◌, [], ◌∷◌, refl, sym, ap, ◌∙◌, arith}
-use Rattle.std.specs.Prelude.{Bool, true, false, if◌then◌else◌}
+use Rattle.std.proofs.Common.{◌≡◌, ℕ, zero, suc, ◌+◌, [], ◌∷◌, refl, sym, ap, ◌∙◌, arith, ◌-◌, List, map}
+use Rattle.std.specs.Prelude.{Bool, true, false, if◌then◌else◌, ◌&&◌}
 use Rattle.sr_cell.specs.Attrs.{has_column, project, project_from}
 use Rattle.sr_cell.specs.Cells.{Row, cell_at}
+use Rattle.sr_model.specs.SortedRows.{ascend, key_lt}
 use Rattle.sr_region.specs.Regions.{rank}
 use Rattle.sr_region.specs.Laws.{CellsStand}
 
@@ -40,3 +41,8 @@ stand attrs column row has =
     let none : 0 + rank_from attrs 0 column ≡ rank_from attrs 0 column = omega arith in
     let same : rank attrs column ≡ rank_from attrs 0 column = ap (rank attrs) (sym zeros) ∙ rank-split attrs 0 column ∙ none in
     ap (cell_at (project attrs row)) same ∙ stand-from 0 attrs row column (ap (has_column attrs) zeros ∙ has)
+
+pub ascend-project : (a key : ℕ) (rows : List Row) → has_column a key ≡ true → ascend (rank a key) (map (project a) rows) ≡ ascend key rows
+ascend-project a key [] has = refl
+ascend-project a key (r ∷ []) has = refl
+ascend-project a key (r ∷ s ∷ rows) has = rw (stand a key r has, stand a key s has) (ap (λ b. key_lt key r s && b) (ascend-project a key (s ∷ rows) has))

@@ -1,12 +1,11 @@
 -- The halves of a region.
 use Rattle.std.proofs.Common.{◌≡◌, ℕ, ◌+◌, ◌≤◌, true, false, cond, List, [], ◌∷◌, ◌++◌, refl, sym, ap, ◌∙◌, arith}
-use Rattle.std.specs.Prelude.{Bool, not, ◌&&◌, nat_eq, if◌then◌else◌, filter, ℤ, pos, ◌+ℤ◌, int_lt, Option, Some, None}
+use Rattle.std.specs.Prelude.{Bool, not, ◌&&◌, nat_eq, if◌then◌else◌, filter, ℤ}
 use Rattle.std.specs.List.{list_all, All}
 use Rattle.std.proofs.lemmas.Bool.Decides.{nat_tests}
 use Rattle.std.proofs.lemmas.List.Folds.{list_all-append}
 use Rattle.std.proofs.lemmas.List.Elements.{All-nil, All-cons, All-head, All-tail}
 use Rattle.sr_cell.specs.declared.cell.Cell.{Cell}
-use Rattle.sr_cell.specs.declared.cell.Cell.TheVariants.{Num, Str}
 use Rattle.sr_cell.specs.declared.table.Column.{Column}
 use Rattle.sr_cell.specs.declared.table.Table.{Table}
 use Rattle.sr_cell.specs.declared.table.Kind.{Kind}
@@ -16,10 +15,8 @@ use Rattle.sr_cell.specs.Cells.{Row}
 use Rattle.sr_cell.specs.Columns.{is_point}
 use Rattle.sr_box.specs.declared.span.Span.{Span}
 use Rattle.sr_box.specs.declared.span.Span.TheVariants.{Full, Nums, Strs}
-use Rattle.sr_box.specs.Spans.{fits_kind}
 use Rattle.sr_box.specs.Points.{Rect, Points, in_any, times, rect_fits, constrains_only}
-use Rattle.sr_box.specs.Corners.{cuts_of, num_cut}
-use Rattle.sr_box.proofs.Order.{cell_eq-refl}
+use Rattle.sr_box.specs.Corners.{cuts_of}
 use Rattle.sr_rows.proofs.Parts.{ascend-filter}
 use Rattle.sr_union.specs.Pieces.{IsMinus}
 use Rattle.sr_union.specs.Grid.{is_among, has_cut, first_cuts, others, grid, CutsAmong, AreCutFrom, have_first}
@@ -28,29 +25,11 @@ use Rattle.sr_union.proofs.Parts.{are_part, are_fit}
 use Rattle.sr_union.proofs.Among.{AreCutFrom-append}
 use Rattle.sr_union.proofs.Once.{grid_among, are_trans}
 use Rattle.sr_union.proofs.Low.{has_point}
+use Rattle.sr_union.proofs.SpanCuts.{numbers_cut, texts_cut}
 use Rattle.sr_region.specs.declared.region.Region.{Region}
 use Rattle.sr_region.specs.Regions.{rank, is_in, IsRowIn, IsRegion}
 use Rattle.sr_region.specs.Halves.{MaybeHalf, IsInside, IsOutside, half_of}
 use Rattle.sr_region.proofs.Parts.{is_in-point}
-
--- a constraint that fits its column has a cut
-number-cut : (low high lo hi : ℤ) → fits_kind Numbers low high (Nums lo hi) ≡ true → (v : Cell) × (has_cut Numbers low high (Nums lo hi) v ≡ true)
-number-cut low high lo hi f = go (int_lt low lo) refl (int_lt hi high) refl
-  where
-    go : (a : Bool) → int_lt low lo ≡ a → (b : Bool) → int_lt hi high ≡ b → (v : Cell) × (is_among (num_cut a lo ++ num_cut b (hi +ℤ pos 1)) v ≡ true)
-    go true d b e = (Num lo, grind (arith, cell_eq-refl (Num lo)))
-    go false d true e = (Num (hi +ℤ pos 1), grind (arith, cell_eq-refl (Num (hi +ℤ pos 1))))
-    go false d false e = absurd (grind (arith, d, e, f))
-
-numbers-cut : (k : Kind) (low high lo hi : ℤ) → fits_kind k low high (Nums lo hi) ≡ true → (v : Cell) × (has_cut k low high (Nums lo hi) v ≡ true)
-numbers-cut Numbers low high lo hi f = number-cut low high lo hi f
-numbers-cut Texts low high lo hi f = absurd (grind arith)
-
-texts-cut : (k : Kind) (low high : ℤ) (lo : List ℕ) (hi : Option (List ℕ)) → fits_kind k low high (Strs lo hi) ≡ true → (v : Cell) × (has_cut k low high (Strs lo hi) v ≡ true)
-texts-cut Numbers low high lo hi f = absurd (grind arith)
-texts-cut Texts low high [] None f = absurd (grind arith)
-texts-cut Texts low high [] (Some hi) f = (Str hi, grind (arith, cell_eq-refl (Str hi)))
-texts-cut Texts low high (b ∷ lo) hi f = (Str (b ∷ lo), grind (arith, cell_eq-refl (Str (b ∷ lo))))
 
 no-cut : (k : Kind) (low high : ℤ) → cuts_of k low high Full ≡ []
 no-cut Numbers low high = refl
@@ -88,11 +67,11 @@ cut-only (k ∷ cs) given attrs c [] f h only = refl
 cut-only (k ∷ cs) given attrs c (Full ∷ r) f h only = cut-only cs (others given) attrs (c + 1) r (grind arith) h.1 (others-only given attrs c only)
 cut-only (k ∷ cs) given attrs c (Nums lo hi ∷ r) f h only =
     let ih = cut-only cs (others given) attrs (c + 1) r (grind arith) h.1 (others-only given attrs c only) in
-    let is = is-constrained k given attrs c (Nums lo hi) only h.0 (numbers-cut k.kind k.lo k.hi lo hi (grind arith)) in
+    let is = is-constrained k given attrs c (Nums lo hi) only h.0 (numbers_cut k.kind k.lo k.hi lo hi (grind arith)) in
     rw (is, ih) refl
 cut-only (k ∷ cs) given attrs c (Strs lo hi ∷ r) f h only =
     let ih = cut-only cs (others given) attrs (c + 1) r (grind arith) h.1 (others-only given attrs c only) in
-    let is = is-constrained k given attrs c (Strs lo hi) only h.0 (texts-cut k.kind k.lo k.hi lo hi (grind arith)) in
+    let is = is-constrained k given attrs c (Strs lo hi) only h.0 (texts_cut k.kind k.lo k.hi lo hi (grind arith)) in
     rw (is, ih) refl
 
 -- rects whose cuts are among those of others constrain no other columns

@@ -1,24 +1,22 @@
 -- What changes do to the rows of a region.
-use Rattle.std.specs.Prelude.{ℕ, ◌<◌, Bool, true, not, ◌||◌, ◌==◌, List, [], ◌∷◌, ◌≡◌, Option, Some, None, map, filter, length, IsTrue, false, ◌&&◌, if◌then◌else◌}
+use Rattle.std.specs.Prelude.{ℕ, ◌<◌, Bool, true, ◌||◌, ◌==◌, List, [], ◌∷◌, ◌≡◌, Option, Some, None, map, filter, length, IsTrue, ◌&&◌, if◌then◌else◌}
 use Rattle.std.specs.List.{list_all}
 use Rattle.sr_cell.specs.declared.cell.Cell.{Cell}
 use Rattle.sr_cell.specs.declared.change.Change.{Change}
 use Rattle.sr_cell.specs.declared.table.Column.{Column}
 use Rattle.sr_cell.specs.declared.table.Table.{Table}
 use Rattle.sr_cell.specs.Attrs.{project}
-use Rattle.sr_cell.specs.Cells.{Row, cell_at, cell_eq}
+use Rattle.sr_cell.specs.Cells.{Row, cell_at}
 use Rattle.sr_cell.specs.Columns.{is_point, table_at}
 use Rattle.sr_model.specs.Changes.{changes}
 use Rattle.sr_model.specs.Queries.{rows_at}
 use Rattle.sr_model.specs.SortedRows.{ascend, with_row}
 use Rattle.sr_model.specs.Statements.{Tables}
 use Rattle.sr_box.specs.Points.{Rect, in_any}
+use Rattle.sr_box.specs.Rows.{has_row}
+use Rattle.sr_rows.specs.Keys.{without_key}
 use Rattle.sr_region.specs.declared.region.Region.{Region}
 use Rattle.sr_region.specs.Regions.{rank, IsRegion}
-
--- the rows of other keys
-abbrev pub without_key : ℕ → Cell → List Row → List Row
-without_key key v rows = filter (λ row. not (cell_eq (cell_at row key) v)) rows
 
 -- the row, with the cells of these columns, among the others, if it lies in the rects
 abbrev pub with_new : ℕ → ℕ → List Rect → Option Row → List Row → List Row
@@ -39,10 +37,6 @@ IsNew t v (Some row) = IsTrue (is_point t.columns row) × (cell_at row t.key ≡
 abbrev pub applied_all : List Change → Region → Region
 applied_all [] g = g
 applied_all (c ∷ changes) g = applied_all changes (if c.table == g.table then applied c.key c.after g else g)
-
-abbrev pub has_row : List Rect → Option Row → Bool
-has_row rects None = false
-has_row rects (Some row) = in_any rects row
 
 -- the old or the new row of the change lies in the region
 abbrev pub concerns : Region → Change → Bool

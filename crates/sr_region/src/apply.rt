@@ -1,7 +1,7 @@
 //! What a change does to the rows of a region.
 ghost use Rattle.std.specs.Prelude.{◌≡◌, ◌+◌, ◌<◌, true, ◌++◌, length, take, drop, IfNone, IfSome, IfOk, OnOk, OnErr};
 ghost use Rattle.sr_model.specs.SortedRows.{ascend, with_row};
-ghost use Rattle.sr_region.specs.Applied.{without_key};
+ghost use Rattle.sr_rows.specs.Keys.{without_key};
 ghost use Rattle.sr_region.specs.Entering.{part_in, with_part};
 
 use sr_cell::attrs::Attrs;

@@ -38,10 +38,6 @@ with_regions-occurs hs (g ∷ gs) t a p = let ih = with_regions-occurs (with_reg
 
 -- ---- one after another
 
-pub with_regions_push : (hs gs : List Region) (g : Region) → with_regions hs (gs ++ g ∷ []) ≡ with_region (with_regions hs gs) g
-with_regions_push hs [] g = refl
-with_regions_push hs (f ∷ gs) g = with_regions_push (with_region hs f) gs g
-
 pub with_regions_append : (hs gs more : List Region) → with_regions hs (gs ++ more) ≡ with_regions (with_regions hs gs) more
 with_regions_append hs [] more = refl
 with_regions_append hs (g ∷ gs) more = with_regions_append (with_region hs g) gs more

@@ -6,7 +6,6 @@ use Rattle.std.proofs.lemmas.List.Sums.{AllPass-from_list_all, list_all-from_All
 use Rattle.sr_cell.specs.declared.cause.Cause.TheVariants.{Absorbed, Pieces}
 use Rattle.sr_cell.specs.declared.table.Table.{Table}
 use Rattle.sr_cell.specs.Columns.{table_at}
-use Rattle.sr_history.specs.declared.mark.Mark.{Mark}
 use Rattle.sr_query.specs.declared.query.Part.{Part}
 use Rattle.sr_query.specs.Bound.{is_table}
 use Rattle.sr_region.specs.declared.region.Region.{Region}
@@ -27,7 +26,7 @@ use Rattle.sr_store.proofs.Keeping.{arrivals_used}
 use Rattle.sr_store.proofs.Merging.{flags_both, count_both, drops_sifted}
 use Rattle.sr_store.proofs.Refusals.{old_come, left_cut}
 use Rattle.sr_store.proofs.Settled.{settled_less, flags_none, flags_same, absorbed_both}
-use Rattle.sr_store.proofs.Together.{still_all, changed_all, still_order, together, news_classes}
+use Rattle.sr_store.proofs.Together.{changed_all, still_order, together, news_classes}
 
 has-key : (schema : List Table) (gs : List Region) → All (IsOfSchema schema) gs → All (HasKey (λ t. (table_at schema t).key)) gs
 has-key schema gs all = All-weaker (IsOfSchema schema) (HasKey (λ t. (table_at schema t).key)) (λ g is. is.1.area.key) gs all

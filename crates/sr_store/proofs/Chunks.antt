@@ -1,22 +1,24 @@
 -- Rows in rects of tables, of regions or of what arrives: such rows are those of some telling just where no key stands twice.
-use Rattle.std.proofs.Common.{◌≡◌, ℕ, ◌+◌, ◌≤◌, Bool, true, false, cond, not, ◌&&◌, ◌||◌, List, [], ◌∷◌, ◌++◌, refl, sym, ap, subst, ◌∙◌, arith}
-use Rattle.std.specs.Prelude.{◌==◌, filter, nat_eq, if◌then◌else◌}
+use Rattle.std.proofs.Common.{◌≡◌, ℕ, ◌+◌, ◌≤◌, Bool, true, false, cond, not, ◌&&◌, ◌||◌, List, [], ◌∷◌, refl, sym, ap, subst, ◌∙◌, arith}
+use Rattle.std.specs.Prelude.{filter, nat_eq, if◌then◌else◌}
 use Rattle.std.specs.List.{list_all, list_any, All}
 use Rattle.std.proofs.lemmas.Bool.Decides.{nat_tests}
 use Rattle.std.proofs.lemmas.List.Elements.{All-nil, All-cons, All-head, All-tail, All-weaker}
+use Rattle.std.proofs.lemmas.Bool.{or_right}
 use Rattle.sr_cell.specs.declared.cell.Cell.{Cell}
 use Rattle.sr_cell.specs.declared.table.Table.{Table}
 use Rattle.sr_cell.specs.Attrs.{has_column, project}
-use Rattle.sr_cell.specs.Cells.{Row, cell_at, cell_le, cell_eq}
+use Rattle.sr_cell.specs.Cells.{Row, cell_at, cell_eq}
 use Rattle.sr_cell.specs.Columns.{table_at, is_point}
+use Rattle.sr_cell.proofs.Order.{cell_eq-sound, cell_eq-refl}
 use Rattle.sr_model.specs.SortedRows.{key_lt, ascend, has_key, with_row, with_rows}
-use Rattle.sr_box.specs.Points.{Rect, in_any, times, rect_fits, constrains_only}
-use Rattle.sr_box.proofs.Order.{cell_eq-sound, cell_eq-refl}
+use Rattle.sr_box.specs.Points.{in_any, times, rect_fits, constrains_only}
 use Rattle.sr_rows.specs.Places.{is_apart}
-use Rattle.sr_rows.proofs.Order.{is_first, ascend-tail, ascend-first}
+use Rattle.sr_rows.proofs.Order.{ascend-tail, ascend-first}
 use Rattle.sr_rows.proofs.Places.{with_row-ascend}
-use Rattle.sr_rows.proofs.Parts.{ascend-filter, with_rows-other}
+use Rattle.sr_rows.proofs.Parts.{ascend-filter, first-filter, with_rows-none}
 use Rattle.sr_union.proofs.Times.{in_any-times}
+use Rattle.sr_rows.proofs.Elements.{list_any-with_rows, apart-next}
 use Rattle.sr_region.specs.declared.region.Region.{Region}
 use Rattle.sr_region.specs.Regions.{rank, is_in, IsPart, IsRowIn}
 use Rattle.sr_region.proofs.Ranks.{stand}
@@ -26,7 +28,7 @@ use Rattle.sr_region.proofs.Applied.{rows-apart}
 use Rattle.sr_store.specs.Classes.{is_of, occurs, key_occurs}
 use Rattle.sr_store.specs.Told.{Told, IsTold, IsTrueOf, AreTrueOf}
 use Rattle.sr_store.specs.Stores.{IsOfSchema}
-use Rattle.sr_store.proofs.Truths.{in-part, first-filter}
+use Rattle.sr_store.proofs.Truths.{in-part}
 use Rattle.sr_store.proofs.Telling.{filter-with_row}
 
 -- rows in rects of a table of the schema, by key
@@ -70,40 +72,7 @@ of-parts g t a e = (grind (arith, nat_tests), grind (arith, nat_tests))
 pub of-self : (g : Region) → is_of g g.table g.attrs ≡ true
 of-self g = grind (arith, nat_tests)
 
-or-later : (b c : Bool) → c ≡ true → (b || c) ≡ true
-or-later true c e = refl
-or-later false c e = e
-
 -- ---- rows put together
-
-any-row : (p : Row → Bool) (key : ℕ) (rows : List Row) (row : Row) → list_any p (with_row key rows row) ≡ (p row || list_any p rows)
-any-row p key [] row = refl
-any-row p key (r ∷ rows) row = go (cell_le (cell_at r key) (cell_at row key)) (any-row p key rows row)
-  where
-    go : (b : Bool) → list_any p (with_row key rows row) ≡ (p row || list_any p rows)
-        → list_any p (if b then r ∷ with_row key rows row else row ∷ r ∷ rows) ≡ (p row || (p r || list_any p rows))
-    go true ih = grind (arith, ih)
-    go false ih = refl
-
-any-rows : (p : Row → Bool) (key : ℕ) (rows more : List Row) → list_any p (with_rows key rows more) ≡ (list_any p rows || list_any p more)
-any-rows p key rows [] = grind arith
-any-rows p key rows (m ∷ more) = let ih = any-rows p key (with_row key rows m) more in let e = any-row p key rows m in grind (arith, ih, e)
-
-all-row : (p : Row → Bool) (key : ℕ) (rows : List Row) (row : Row) → list_all p (with_row key rows row) ≡ (p row && list_all p rows)
-all-row p key [] row = refl
-all-row p key (r ∷ rows) row = go (cell_le (cell_at r key) (cell_at row key)) (all-row p key rows row)
-  where
-    go : (b : Bool) → list_all p (with_row key rows row) ≡ (p row && list_all p rows)
-        → list_all p (if b then r ∷ with_row key rows row else row ∷ r ∷ rows) ≡ (p row && (p r && list_all p rows))
-    go true ih = grind (arith, ih)
-    go false ih = refl
-
-apart-next : (key : ℕ) (rows more : List Row) (m : Row) → is_first key m more ≡ true → list_all (is_apart key rows) more ≡ true → list_all (is_apart key (with_row key rows m)) more ≡ true
-apart-next key rows [] m f h = refl
-apart-next key rows (r ∷ more) m f h =
-    let ih = apart-next key rows more m (grind arith) (grind arith) in
-    let one = all-row (λ other. key_lt key other r || key_lt key r other) key rows m in
-    grind (arith, ih, one, f, h)
 
 filter-with_rows : (key : ℕ) (f : Row → Bool) (rows more : List Row) → ascend key rows ≡ true → ascend key more ≡ true → list_all (is_apart key rows) more ≡ true
     → filter f (with_rows key rows more) ≡ with_rows key (filter f rows) (filter f more)
@@ -115,10 +84,6 @@ filter-with_rows key f rows (m ∷ more) h k apart =
     go : (b : Bool) → with_rows key (if b then with_row key (filter f rows) m else filter f rows) (filter f more) ≡ with_rows key (filter f rows) (cond b (m ∷ filter f more) (filter f more))
     go true = refl
     go false = refl
-
-with_rows-none : (key : ℕ) (rows : List Row) → ascend key rows ≡ true → with_rows key [] rows ≡ rows
-with_rows-none key [] h = refl
-with_rows-none key (m ∷ rows) h = with_rows-other key [] m rows h refl ∙ ap (λ xs. m ∷ xs) (with_rows-none key rows (ascend-tail key m rows h))
 
 none-pass : (P : Row → Type 0) (f : Row → Bool) → ((row : Row) → P row → f row ≡ false) → (rows : List Row) → All P rows → filter f rows ≡ []
 none-pass P f fails [] all = refl
@@ -134,7 +99,7 @@ apart-lists : (t : Table) (a key : ℕ) → has_column a key ≡ true → (rows 
 apart-lists t a key has rows [] all each none = refl
 apart-lists t a key has rows (m ∷ others) all each none =
     let ih = apart-lists t a key has rows others all (All-tail (IsPart t.columns a) m others each)
-    (λ k holds. none k (or-later (cell_eq (cell_at m (rank a key)) k) (has_key (rank a key) k others) holds)) in
+    (λ k holds. none k (or_right (cell_eq (cell_at m (rank a key)) k) (has_key (rank a key) k others) holds)) in
     let part = All-head (IsPart t.columns a) m others each in
     let v = cell_at part.0 key in
     let same : cell_at m (rank a key) ≡ v = ap (λ x. cell_at x (rank a key)) (sym part.2) ∙ stand a key part.0 has in
@@ -253,7 +218,7 @@ module _ (schema : List Table) where
       go true e y ih =
           let at = at-of t a g e (All-head (IsChunk schema) g gs each) in
           either (has_key (rank a (table_at schema t).key) k g.rows) (has_key (rank a (table_at schema t).key) k (rows_of gs t a))
-          (sym (any-rows (λ row. cell_eq (cell_at row (rank a (table_at schema t).key)) k) (rank a (table_at schema t).key) g.rows (rows_of gs t a)) ∙ y)
+          (sym (list_any-with_rows (λ row. cell_eq (cell_at row (rank a (table_at schema t).key)) k) (rank a (table_at schema t).key) g.rows (rows_of gs t a)) ∙ y)
           (λ own. counts (is_of g t a) (has_key (rank g.attrs g.key) k g.rows) (key_occurs gs t a k) e (ap (λ n. has_key n k g.rows) at.place ∙ own)) ih
       go false e y ih = let le = ih y in omega (arith, le)
 

@@ -34,10 +34,10 @@ same-is k g = go (k.table == g.table) (k.attrs == g.attrs) (k.stamp == g.stamp) 
     go : (x y z : Bool) → x ≡ (g.table == k.table) → y ≡ (g.attrs == k.attrs) → z ≡ (g.stamp == k.stamp) → (x && y && z) ≡ (g.table == k.table && g.attrs == k.attrs && g.stamp == k.stamp)
     go x y z ex ey ez = rw (ex, ey, ez) refl
 
-of-table : (g : Region) (t a : ℕ) → is_of g t a ≡ true → g.table ≡ t
+pub of-table : (g : Region) (t a : ℕ) → is_of g t a ≡ true → g.table ≡ t
 of-table g t a h = grind (arith, nat_tests)
 
-of-attrs : (g : Region) (t a : ℕ) → is_of g t a ≡ true → g.attrs ≡ a
+pub of-attrs : (g : Region) (t a : ℕ) → is_of g t a ≡ true → g.attrs ≡ a
 of-attrs g t a h = grind (arith, nat_tests)
 
 class-walk : (schema : List Table) (stamps : Stamps) (gs : List Region) (k : Class) (p : Row) → is_point (table_at schema k.table).columns p ≡ true → All (IsStamped schema stamps) gs

@@ -4,6 +4,7 @@ use Rattle.std.specs.Prelude.{Bool, not, ◌&&◌, ◌||◌, ◌==◌, nat_eq, i
 use Rattle.std.specs.List.{list_any, All}
 use Rattle.std.proofs.lemmas.Bool.Decides.{nat_tests}
 use Rattle.std.proofs.lemmas.List.Elements.{All-head}
+use Rattle.std.specs.Cmp.{first_so, second_so}
 use Rattle.sr_cell.specs.declared.table.Table.{Table}
 use Rattle.sr_cell.specs.declared.cause.Cause.{Cause}
 use Rattle.sr_cell.specs.Cells.{Row}
@@ -16,9 +17,9 @@ use Rattle.sr_union.proofs.Once.{in_any-append}
 use Rattle.sr_union.proofs.Low.{has_point}
 use Rattle.sr_query.specs.declared.query.Part.{Part}
 use Rattle.sr_history.specs.declared.mark.Mark.{Mark}
-use Rattle.sr_history.specs.declared.mark.Mark.TheVariants.{Held as HeldMark, Dropped}
 use Rattle.sr_history.specs.Marks.{attrs_of, is_held, is_covered, HoldsNothing, with_marks}
 use Rattle.sr_history.specs.Drops.{is_held_wider}
+use Rattle.sr_history.proofs.Marking.{some-attrs, any-attrs}
 use Rattle.sr_region.specs.declared.region.Region.{Region}
 use Rattle.sr_store.specs.declared.store.Arrival.{Arrival}
 use Rattle.sr_store.specs.Classes.{Held, Stamps, occurs, Keeps}
@@ -67,38 +68,15 @@ chosen-has test (g ∷ gs) t p b m k = go (g.table == t) (test g.attrs) (g.attrs
 
 -- ---- marks whose columns pass a test
 
-any-mark : (test : ℕ → Bool) (marks : List Mark) (t b : ℕ) (p : Row) → is_held marks t b p ≡ true → test b ≡ true → list_any (λ mark. test (attrs_of mark)) marks ≡ true
-any-mark test [] t b p h k = absurd (grind arith)
-any-mark test (m ∷ marks) t b p h k = go (test (attrs_of m)) refl (any-mark test marks t b p)
-  where
-    same : attrs_of m ≡ b → test (attrs_of m) ≡ true
-    same e = ap test e ∙ k
-
-    go : (x : Bool) → test (attrs_of m) ≡ x → (is_held marks t b p ≡ true → test b ≡ true → list_any (λ mark. test (attrs_of mark)) marks ≡ true) → (x || list_any (λ mark. test (attrs_of mark)) marks) ≡ true
-    go true e ih = refl
-    go false e ih = ih (rest m (λ q. let x = sym (same q) ∙ e in grind (arith, x)) h) k
-      where
-        rest : (m : Mark) → (attrs_of m ≡ b → ⊥) → is_held (m ∷ marks) t b p ≡ true → is_held marks t b p ≡ true
-        rest (HeldMark u a rects) ne i = grind (arith, nat_tests)
-        rest (Dropped cause u a s rects) ne i = grind (arith, nat_tests)
-
-some-mark : (test : ℕ → Bool) (marks : List Mark) → list_any (λ mark. test (attrs_of mark)) marks ≡ true → (b : ℕ) × (test b ≡ true)
-some-mark test [] h = absurd (grind arith)
-some-mark test (m ∷ marks) h = go (some-mark test marks) (test (attrs_of m)) refl h
-  where
-    go : (list_any (λ mark. test (attrs_of mark)) marks ≡ true → (b : ℕ) × (test b ≡ true)) → (x : Bool) → test (attrs_of m) ≡ x → (x || list_any (λ mark. test (attrs_of mark)) marks) ≡ true → (b : ℕ) × (test b ≡ true)
-    go more true e k = (attrs_of m, e)
-    go more false e k = more k
-
 -- a point of the table lies in these regions exactly where it is held under such columns
 chosen-is : (test : ℕ → Bool) (marks : List Mark) (gs : List Region) (t : ℕ) (p : Row) → ((b : ℕ) → occurs gs t b p ≡ (if is_held marks t b p then 1 else 0))
     → in_any (chosen test gs t) p ≡ list_any (λ mark. test (attrs_of mark) && is_held marks t (attrs_of mark) p) marks
 chosen-is test marks gs t p h = equal (in_any (chosen test gs t) p) (list_any (λ mark. test (attrs_of mark) && is_held marks t (attrs_of mark) p) marks)
     (λ i. let s = chosen-some test gs t p i in let m = s.1 in let y = held s.0 s.2 in
-    any-mark (λ b. test b && is_held marks t b p) marks t s.0 p (held s.0 s.2) (grind (arith, m, y)))
-    (λ i. let s = some-mark (λ b. test b && is_held marks t b p) marks i in
-    chosen-has test gs t p s.0 (left (test s.0) (is_held marks t s.0 p) s.1)
-    (λ e. let x = h s.0 in let y = right (test s.0) (is_held marks t s.0 p) s.1 in grind (arith, x, y, e)))
+    some-attrs (λ b. test b && is_held marks t b p) marks t s.0 p (held s.0 s.2) (grind (arith, m, y)))
+    (λ i. let s = any-attrs (λ b. test b && is_held marks t b p) marks i in
+    chosen-has test gs t p s.0 (first_so (test s.0) (is_held marks t s.0 p) s.1)
+    (λ e. let x = h s.0 in let y = second_so (test s.0) (is_held marks t s.0 p) s.1 in grind (arith, x, y, e)))
   where
     held : (b : ℕ) → ((occurs gs t b p ≡ 0) → ⊥) → is_held marks t b p ≡ true
     held b k = go (is_held marks t b p) (h b)
@@ -106,12 +84,6 @@ chosen-is test marks gs t p h = equal (in_any (chosen test gs t) p) (list_any (�
         go : (x : Bool) → occurs gs t b p ≡ (if x then 1 else 0) → x ≡ true
         go true e = refl
         go false e = absurd (k e)
-
-    left : (x y : Bool) → (x && y) ≡ true → x ≡ true
-    left x y e = grind arith
-
-    right : (x y : Bool) → (x && y) ≡ true → y ≡ true
-    right x y e = grind arith
 
     equal : (x y : Bool) → (x ≡ true → y ≡ true) → (y ≡ true → x ≡ true) → x ≡ y
     equal true y f g = sym (f refl)

@@ -16,6 +16,7 @@ use Rattle.sr_store.specs.Classes.{Held, Stamps, is_of, occurs, key_occurs, IsSt
 use Rattle.sr_store.specs.Stores.{IsOfSchema, IsStore, count_rects, IsAbsorbedIn}
 use Rattle.sr_store.specs.Answered.{AreFlags, same_flag, flagged}
 use Rattle.sr_store.proofs.Settled.{settled_less}
+use Rattle.sr_store.proofs.Joining.{before-trans}
 
 -- ---- what each region has
 
@@ -81,9 +82,6 @@ flagged_few b (f ∷ fs) (g ∷ gs) = go (same_flag f b) (flagged_few b fs gs) (
         subst (λ n. count_rects (flagged b fs gs) ≤ n) (sym more) le
 
 -- ---- class order
-
-before-trans : (f g h : Region) → is_before f g ≡ true → is_before g h ≡ true → is_before f h ≡ true
-before-trans f g h x y = grind (arith, nat_tests)
 
 abbrev pub before_all : Region → List Region → Bool
 before_all f gs = list_all (is_before f) gs

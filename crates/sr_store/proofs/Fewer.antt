@@ -28,10 +28,10 @@ module _ (schema : List Table) (policy : Policy) (last : List Last) (cause : Cau
   drops_end old new [] h = subst (λ gs. size gs ≤ limit) (sym h.1) h.0
   drops_end old new (d ∷ drops) h = drops_end (without h.1 old) new drops h.5
 
-count_rows-cons : (g : Region) (gs : List Region) → count_rows (g ∷ gs) ≡ length g.rows + count_rows gs
+pub count_rows-cons : (g : Region) (gs : List Region) → count_rows (g ∷ gs) ≡ length g.rows + count_rows gs
 count_rows-cons g gs = sum_by-cons (λ (g : Region). length g.rows) g gs
 
-less-after : (n : ℕ) (gs : List Region) → count_rows (take n gs ++ drop (suc n) gs) ≤ count_rows gs
+pub less-after : (n : ℕ) (gs : List Region) → count_rows (take n gs ++ drop (suc n) gs) ≤ count_rows gs
 less-after zero [] = omega arith
 less-after (suc n) [] = omega arith
 less-after zero (g ∷ gs) = let e = count_rows-cons g gs in let le : count_rows gs ≤ length g.rows + count_rows gs = omega arith in subst (λ m. count_rows gs ≤ m) (sym e) le
@@ -41,7 +41,7 @@ less-after (suc n) (g ∷ gs) =
     let le : length g.rows + count_rows left ≤ length g.rows + count_rows gs = omega (arith, ih) in
     subst (λ m. count_rows (g ∷ left) ≤ m) (sym (count_rows-cons g gs)) (subst (λ m. m ≤ length g.rows + count_rows gs) (sym (count_rows-cons g left)) le)
 
-fewer_rows : (n : ℕ) (gs : List Region) → count_rows (without n gs) ≤ count_rows gs
+pub fewer_rows : (n : ℕ) (gs : List Region) → count_rows (without n gs) ≤ count_rows gs
 fewer_rows n gs = let e : suc n ≡ n + 1 = omega arith in subst (λ m. count_rows (take n gs ++ drop m gs) ≤ count_rows gs) e (less-after n gs)
 
 -- what is true of the regions without any one is true of those that fit

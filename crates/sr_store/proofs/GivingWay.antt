@@ -1,5 +1,5 @@
 -- Rows that give way to those that arrive.
-use Rattle.std.proofs.Common.{◌≡◌, ℕ, zero, suc, ◌+◌, ◌<◌, ◌≤◌, Bool, true, false, cond, not, ◌&&◌, ◌||◌, List, [], ◌∷◌, ◌++◌, length, take, drop, map, inl, refl, sym, ap, subst, ◌∙◌, arith}
+use Rattle.std.proofs.Common.{◌≡◌, ℕ, zero, suc, ◌+◌, ◌<◌, ◌≤◌, Bool, true, false, cond, not, ◌&&◌, ◌||◌, List, [], ◌∷◌, ◌++◌, map, inl, refl, sym, ap, subst, ◌∙◌, arith}
 use Rattle.std.specs.Prelude.{◌==◌, filter, flat_map, nat_eq, if◌then◌else◌, Result, Ok, Err, IfOk, ◌⊎◌}
 use Rattle.std.specs.List.{list_all, list_any, All}
 use Rattle.std.proofs.lemmas.Bool.Decides.{nat_tests}
@@ -8,26 +8,26 @@ use Rattle.sr_cell.specs.declared.cause.Cause.TheVariants.{Pieces}
 use Rattle.sr_cell.specs.declared.cell.Cell.{Cell}
 use Rattle.sr_cell.specs.declared.table.Table.{Table}
 use Rattle.sr_cell.specs.Cells.{Row, cell_at, cell_eq}
-use Rattle.sr_cell.specs.Columns.{table_at, is_point}
-use Rattle.sr_model.specs.SortedRows.{ascend, has_key}
-use Rattle.sr_box.specs.Points.{Rect, in_any, times}
-use Rattle.sr_box.proofs.Order.{cell_eq-sound, cell_eq-refl}
+use Rattle.sr_cell.specs.Columns.{table_at}
+use Rattle.sr_model.specs.SortedRows.{has_key}
+use Rattle.sr_box.specs.Points.{in_any, times}
+use Rattle.sr_cell.proofs.Order.{cell_eq-sound, cell_eq-refl}
 use Rattle.sr_rows.proofs.Parts.{ascend-filter}
 use Rattle.sr_history.specs.declared.mark.Mark.{Mark}
 use Rattle.sr_query.specs.declared.query.Part.{Part}
 use Rattle.sr_policy.specs.declared.policy.Limits.{Limits}
 use Rattle.sr_policy.specs.declared.policy.Last.{Last}
 use Rattle.sr_region.specs.declared.region.Region.{Region}
-use Rattle.sr_region.specs.Regions.{rank, is_in, IsRowIn, IsRegion}
+use Rattle.sr_region.specs.Regions.{rank, is_in, IsRowIn}
 use Rattle.sr_store.specs.declared.store.Arrival.{Arrival}
 use Rattle.sr_store.specs.Classes.{Held, Stamps, is_of, occurs, key_occurs, IsStamped, is_before, ascends, Keeps}
 use Rattle.sr_store.specs.Told.{Told, IsTold, IsTrueOf, AreTrueOf}
 use Rattle.sr_store.specs.Stores.{IsOfSchema, IsStore, drop_of, IsAbsorbedIn}
-use Rattle.sr_store.specs.Answered.{arrivals_at, keys_at, BringOwnKeys, brings, gives_way, giving_way, IsArrival, AreApart, HaveArrived, rects_on, is_used, weight_from, IsRenewed, IsHeavy, IsGivenUp}
+use Rattle.sr_store.specs.Answered.{arrivals_at, keys_at, brings, gives_way, giving_way, IsArrival, AreApart, HaveArrived, rects_on, is_used, weight_from, IsRenewed, IsHeavy, IsGivenUp}
 use Rattle.sr_store.specs.Fitted.{lasts_of, IsFitted, IsAnswered}
 use Rattle.sr_store.specs.Renewing.{IsCutFrom}
 use Rattle.sr_store.specs.Laws.{SomeTellingFits, NothingGivesWay}
-use Rattle.sr_store.proofs.Chunks.{IsChunk, region-chunk, lies, lies-occurs, HaveOwnKeys, HaveOwnPoints, lacks-filter, some-telling, keys-once, of-parts, of-self}
+use Rattle.sr_store.proofs.Chunks.{IsChunk, region-chunk, lies, lies-occurs, HaveOwnPoints, lacks-filter, some-telling, keys-once, of-parts, of-self}
 use Rattle.sr_store.proofs.Restamping.{All-left, All-right}
 use Rattle.sr_store.proofs.Settled.{settled_less}
 

@@ -6,6 +6,7 @@ use Rattle.std.proofs.lemmas.Bool.Decides.{nat_tests}
 use Rattle.std.proofs.lemmas.List.Elements.{All-head, All-tail}
 use Rattle.sr_cell.specs.declared.table.Table.{Table}
 use Rattle.sr_cell.specs.Columns.{table_at}
+use Rattle.sr_cell.proofs.Numbers.{eqb_same}
 use Rattle.sr_box.specs.Points.{Rect}
 use Rattle.sr_union.specs.Grid.{grid, AreCutFrom}
 use Rattle.sr_union.proofs.Among.{AreCutFrom-append}
@@ -16,7 +17,7 @@ use Rattle.sr_region.specs.declared.region.Region.{Region}
 use Rattle.sr_store.specs.declared.store.Arrival.{Arrival}
 use Rattle.sr_store.specs.Stores.{IsOfSchema, count_rects, wider}
 use Rattle.sr_store.specs.Answered.{IsArrival, are_once, is_used, rects_on, weight_from, IsHeavy}
-use Rattle.sr_store.specs.Renewing.{touching, IsCutFrom, IsArrivalCutFrom, IsRenewal}
+use Rattle.sr_store.specs.Renewing.{touching, IsCutFrom, IsRenewal}
 use Rattle.sr_store.specs.Making.{wider_both}
 use Rattle.sr_store.proofs.Tables.{tables_first}
 use Rattle.sr_store.proofs.Dropping.{count_rects-cons}
@@ -24,9 +25,6 @@ use Rattle.sr_store.proofs.Keeping.{old_used, arrivals_used}
 use Rattle.sr_store.proofs.Counting.{pieces, has_sets, pieces_few}
 use Rattle.sr_store.proofs.Given.{FitsPart, regions_cut, parts_cut, arrivals_cut, given_fit, wider_cut}
 use Rattle.sr_store.proofs.Touching.{touching_cut}
-
-same-number : (n : ℕ) → (n == n) ≡ true
-same-number n = grind (arith, nat_tests)
 
 -- ---- one grid that is too large
 
@@ -78,7 +76,7 @@ heavy_one schema regions parts arrivals t a rects below used cut large = record 
   once = one-once t a;
   used = λ u. one-used regions arrivals t a u used;
   heavy =
-      let own : length (one_set t a t) ≡ 1 = ap (λ b. length (if b then a ∷ [] else [])) (same-number t) in
+      let own : length (one_set t a t) ≡ 1 = ap (λ b. length (if b then a ∷ [] else [])) (eqb_same t) in
       let all = weight-at (one_set t a) (rects_on regions parts arrivals) schema t 0 t (omega arith) below in
       let more = grid_among (table_at schema t).columns (rects_on regions parts arrivals t) rects cut in
       sums (grid (table_at schema t).columns rects) (grid (table_at schema t).columns (rects_on regions parts arrivals t)) (length (one_set t a t)) (weight_from (one_set t a) (rects_on regions parts arrivals) 0 schema)
@@ -111,11 +109,6 @@ heavy_wider schema regions parts arrivals still news g h used cut still_cut news
     (AreCutFrom-append cs given (wider still g.table g.attrs) (wider news g.table g.attrs)
     (wider_cut schema (rects_on regions parts arrivals) still g.table g.attrs still_cut) (wider_cut schema (rects_on regions parts arrivals) news g.table g.attrs news_cut)))
     large
-
--- what arrives
-pub heavy_arrival : (schema : List Table) (regions : List Region) (parts : List Part) (arrivals : List Arrival) (r : Arrival) → IsArrival schema parts r → is_used regions arrivals r.table r.attrs ≡ true
-    → IsArrivalCutFrom schema (rects_on regions parts arrivals) r → 16384 < grid (table_at schema r.table).columns r.rects → IsHeavy schema regions parts arrivals
-heavy_arrival schema regions parts arrivals r h used cut large = heavy_one schema regions parts arrivals r.table r.attrs r.rects h.table used cut large
 
 -- ---- too many rects
 
@@ -162,7 +155,7 @@ sets-all (g ∷ gs) t = go (g.table == t) (list_any (λ y. g.attrs == y) (sets_o
         any-true : (b : Bool) → ((b || true) && true) ≡ true
         any-true true = refl
         any-true false = refl
-    go true false e f ih more = rw (same-number g.attrs, more ih) (any-true (not (g.table == t)))
+    go true false e f ih more = rw (eqb_same g.attrs, more ih) (any-true (not (g.table == t)))
       where
         any-true : (b : Bool) → ((b || true) && true) ≡ true
         any-true true = refl
@@ -173,9 +166,6 @@ sets-all (g ∷ gs) t = go (g.table == t) (list_any (λ y. g.attrs == y) (sets_o
 abbrev pieces_from : List Region → ℕ → List Table → ℕ
 pieces_from gs t [] = 0
 pieces_from gs t (table ∷ schema) = pieces gs t + pieces_from gs (t + 1) schema
-
-from-none : (t : ℕ) (schema : List Table) → 0 ≤ pieces_from [] t schema
-from-none t schema = omega arith
 
 from-more : (g : Region) (gs : List Region) (t : ℕ) (schema : List Table) → pieces_from gs t schema ≤ pieces_from (g ∷ gs) t schema
 from-more g gs t [] = omega arith

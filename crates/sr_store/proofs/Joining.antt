@@ -1,5 +1,5 @@
 -- One region put among others at its place in class order.
-use Rattle.std.proofs.Common.{◌≡◌, ℕ, ◌+◌, ◌<◌, zero, suc, Bool, true, false, cond, List, [], ◌∷◌, ◌++◌, length, take, drop, refl, sym, ap, subst, ◌∙◌, arith}
+use Rattle.std.proofs.Common.{◌≡◌, ℕ, ◌+◌, ◌<◌, zero, suc, Bool, true, false, cond, List, [], ◌∷◌, ◌++◌, length, take, drop, refl, sym, ap, subst, ◌∙◌, arith, one-add, add-one}
 use Rattle.std.specs.Prelude.{if◌then◌else◌, Some, slice_get, slice_index_or}
 use Rattle.std.specs.List.{All}
 use Rattle.std.specs.List.Sorted.{IsPartitionedBy}
@@ -13,13 +13,7 @@ use Rattle.sr_store.specs.Classes.{is_before, is_same, ascends}
 use Rattle.sr_store.specs.Renewing.{with_region}
 use Rattle.sr_store.specs.Making.{place_in, is_same_first, HasKey, IsKeyed, CanJoin}
 
-one_more : (n : ℕ) → 1 + n ≡ suc n
-one_more n = omega arith
-
-more_one : (n : ℕ) → n + 1 ≡ suc n
-more_one n = omega arith
-
-before-trans : (f g h : Region) → is_before f g ≡ true → is_before g h ≡ true → is_before f h ≡ true
+pub before-trans : (f g h : Region) → is_before f g ≡ true → is_before g h ≡ true → is_before f h ≡ true
 before-trans f g h x y = grind (arith, nat_tests)
 
 not-back : (h g : Region) → is_before h g ≡ true → is_before g h ≡ false
@@ -62,7 +56,7 @@ with_region-new (h ∷ hs) g s = go (is_before h g) refl s (with_region-new hs g
     go : (b : Bool) → is_before h g ≡ b → is_same_first (drop (cond b (1 + place_in hs g) 0) (h ∷ hs)) g ≡ false
         → (is_same_first (drop (place_in hs g) hs) g ≡ false → with_region hs g ≡ take (place_in hs g) hs ++ g ∷ drop (place_in hs g) hs)
         → with_region (h ∷ hs) g ≡ take (cond b (1 + place_in hs g) 0) (h ∷ hs) ++ g ∷ drop (cond b (1 + place_in hs g) 0) (h ∷ hs)
-    go true e s ih = rw one_more (behind h hs g e ∙ ap (λ xs. h ∷ xs) (ih (rw one_more at s)))
+    go true e s ih = rw one-add (behind h hs g e ∙ ap (λ xs. h ∷ xs) (ih (rw one-add at s)))
     go false e s ih = let b = else-before h g e s in rw b refl
 
 -- where the one at its place is of its class, both are joined
@@ -74,7 +68,7 @@ with_region-joined (h ∷ hs) g own s is = go (is_before h g) refl s is (with_re
     go : (b : Bool) → is_before h g ≡ b → is_same_first (drop (cond b (1 + place_in hs g) 0) (h ∷ hs)) g ≡ true → slice_get (h ∷ hs) (cond b (1 + place_in hs g) 0) ≡ Some own
         → (is_same_first (drop (place_in hs g) hs) g ≡ true → slice_get hs (place_in hs g) ≡ Some own → with_region hs g ≡ take (place_in hs g) hs ++ joined own g ∷ drop (suc (place_in hs g)) hs)
         → with_region (h ∷ hs) g ≡ take (cond b (1 + place_in hs g) 0) (h ∷ hs) ++ joined own g ∷ drop (suc (cond b (1 + place_in hs g) 0)) (h ∷ hs)
-    go true e s is ih = rw one_more (behind h hs g e ∙ ap (λ xs. h ∷ xs) (ih (rw one_more at s) (rw one_more at is)))
+    go true e s is ih = rw one-add (behind h hs g e ∙ ap (λ xs. h ∷ xs) (ih (rw one-add at s) (rw one-add at is)))
     go false e s is ih = let b = same-level h g s in let o : h ≡ own = cc in rw (b, s) (ap (λ k. joined k g ∷ hs) o)
 
 put-back : {X : Type 0} (xs : List X) (n : ℕ) (x : X) → n < length xs → take n (take n xs ++ drop (suc n) xs) ++ x ∷ drop n (take n xs ++ drop (suc n) xs) ≡ take n xs ++ x ∷ drop (suc n) xs
@@ -94,7 +88,7 @@ same-at (h ∷ hs) (suc n) g own is s = same-at hs n g own is s
 pub added_joined : (hs removed new : List Region) (g own both : Region) (n : ℕ) → n ≡ place_in hs g → is_same_first (drop n hs) g ≡ true → slice_get hs n ≡ Some own
     → removed ≡ take n hs ++ drop (n + 1) hs → both ≡ joined own g → new ≡ take n removed ++ both ∷ drop n removed → new ≡ with_region hs g
 added_joined hs removed new g own both n place s is gone one put =
-    let e : removed ≡ take n hs ++ drop (suc n) hs = gone ∙ ap (λ m. take n hs ++ drop m hs) (more_one n) in
+    let e : removed ≡ take n hs ++ drop (suc n) hs = gone ∙ ap (λ m. take n hs ++ drop m hs) (add-one n) in
     put ∙ ap (λ xs. take n xs ++ both ∷ drop n xs) e ∙ put-back hs n both (slice_get_within hs n own is) ∙ ap (λ k. take n hs ++ k ∷ drop (suc n) hs) one
     ∙ ap (λ m. take m hs ++ joined own g ∷ drop (suc m) hs) place
     ∙ sym (with_region-joined hs g own (subst (λ m. is_same_first (drop m hs) g ≡ true) place s) (subst (λ m. slice_get hs m ≡ Some own) place is))

@@ -1,6 +1,6 @@
 -- The rows that the marks keep are those of the regions.
 use Rattle.std.proofs.Common.{◌≡◌, ℕ, ◌+◌, ◌<◌, ◌≤◌, zero, suc, true, false, cond, List, [], ◌∷◌, length, map, refl, sym, ap, subst, ◌∙◌, arith}
-use Rattle.std.specs.Prelude.{Bool, not, ◌&&◌, ◌||◌, ◌==◌, nat_eq, if◌then◌else◌, filter, sum_by, count_by}
+use Rattle.std.specs.Prelude.{Bool, not, ◌&&◌, ◌==◌, nat_eq, if◌then◌else◌, filter, sum_by, count_by}
 use Rattle.std.specs.List.{list_all, list_any, All}
 use Rattle.std.proofs.lemmas.Bool.Decides.{nat_tests}
 use Rattle.std.proofs.lemmas.List.Elements.{All-nil, All-cons, All-head, All-tail}
@@ -14,9 +14,9 @@ use Rattle.sr_model.specs.Statements.{Tables}
 use Rattle.sr_box.specs.Points.{Rect, times, rect_fits, constrains_only}
 use Rattle.sr_union.proofs.Times.{in_any-times}
 use Rattle.sr_history.specs.declared.mark.Mark.{Mark}
-use Rattle.sr_history.specs.declared.mark.Mark.TheVariants.{Held as HeldMark, Dropped}
 use Rattle.sr_history.specs.Marks.{attrs_of, is_held}
 use Rattle.sr_history.specs.Kept.{sets_of, kept_from, kept}
+use Rattle.sr_history.proofs.Marking.{held-set}
 use Rattle.sr_region.specs.declared.region.Region.{Region}
 use Rattle.sr_region.specs.Regions.{is_in}
 use Rattle.sr_region.specs.Applied.{AreTables}
@@ -140,18 +140,6 @@ region-rows schema tables g are h is =
     sym (ap length is ∙ own-rows (table_at schema g.table).columns g.attrs g.rects (rows_at tables g.table) h.1.area.fit h.1.area.only h.1.area.once (are.points g.table))
 
 -- ---- the columns of each region are those of some mark
-
-held-set : (marks : List Mark) (t a : ℕ) (p : Row) → is_held marks t a p ≡ true → list_any (λ y. a == y) (map attrs_of marks) ≡ true
-held-set [] t a p h = absurd (grind arith)
-held-set (m ∷ marks) t a p h = go (a == attrs_of m) refl (held-set marks t a p)
-  where
-    rest : (m : Mark) → (a == attrs_of m) ≡ false → is_held (m ∷ marks) t a p ≡ true → is_held marks t a p ≡ true
-    rest (HeldMark u b rects) ne i = grind (arith, nat_tests)
-    rest (Dropped cause u b s rects) ne i = grind (arith, nat_tests)
-
-    go : (b : Bool) → (a == attrs_of m) ≡ b → (is_held marks t a p ≡ true → list_any (λ y. a == y) (map attrs_of marks) ≡ true) → (b || list_any (λ y. a == y) (map attrs_of marks)) ≡ true
-    go true e ih = refl
-    go false e ih = ih (rest m e h)
 
 abbrev IsUsed : List Mark → Region → Type 0
 IsUsed marks g = list_any (λ y. g.attrs == y) (map attrs_of marks) ≡ true

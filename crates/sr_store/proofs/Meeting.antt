@@ -1,5 +1,5 @@
 -- What is dropped from regions so that they fit is what the budgets demand of the marks behind them.
-use Rattle.std.proofs.Common.{◌≡◌, ℕ, ◌<◌, ◌≤◌, zero, suc, true, false, List, [], ◌∷◌, ◌++◌, length, map, refl, sym, ap, subst, ◌∙◌, arith}
+use Rattle.std.proofs.Common.{◌≡◌, ℕ, ◌<◌, ◌≤◌, zero, suc, true, false, List, [], ◌∷◌, length, map, refl, sym, ap, subst, ◌∙◌, arith}
 use Rattle.std.specs.Prelude.{Bool, ◌&&◌, ◌||◌, ◌==◌, Some, slice_get}
 use Rattle.std.specs.List.{list_all, list_any, All, AllZip}
 use Rattle.std.proofs.lemmas.Bool.Decides.{nat_tests}
@@ -24,6 +24,7 @@ use Rattle.sr_history.specs.Drops.{IsDropOf}
 use Rattle.sr_history.specs.Kept.{kept}
 use Rattle.sr_history.specs.Victims.{AreLast, last_parts, IsSeen, IsVictim}
 use Rattle.sr_history.specs.Budgets.{DropsForRows, DropsForRegions}
+use Rattle.sr_history.proofs.Marking.{with_marks-append}
 use Rattle.sr_region.specs.declared.region.Region.{Region}
 use Rattle.sr_region.specs.Applied.{AreTables}
 use Rattle.sr_store.specs.Classes.{occurs, Keeps}
@@ -178,10 +179,6 @@ module _ (schema : List Table) (tables : Tables) (limits : Limits) (queries : Li
         ),
         rest.1,
       )
-
-with_marks-append : (marks one more : List Mark) → with_marks marks (one ++ more) ≡ with_marks (with_marks marks one) more
-with_marks-append marks [] more = refl
-with_marks-append marks (d ∷ one) more = with_marks-append (d ∷ marks) one more
 
 pub fitted_meets_budgets : FittedMeetsBudgets
 fitted_meets_budgets schema tables limits marks queries last old new drops sound are_tables store keeps rows are_last h =

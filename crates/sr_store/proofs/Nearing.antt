@@ -1,19 +1,18 @@
 -- The rects that meet others: of the cover, and of regions with more columns.
-use Rattle.std.proofs.Common.{◌≡◌, ◌≤◌, ◌<◌, ◌+◌, zero, suc, length, slice_index_or, arith, cond, true, false, List, [], ◌∷◌, ◌++◌, refl, ◌∙◌, ◌↔◌, sym, ap, subst}
-use Rattle.std.specs.Prelude.{ℕ, Bool, if◌then◌else◌, not, ◌&&◌, ◌==◌, filter}
+use Rattle.std.proofs.Common.{◌≡◌, ◌≤◌, ◌<◌, ◌+◌, length, slice_index_or, cond, true, false, List, [], ◌∷◌, ◌++◌, refl, ◌∙◌, ◌↔◌, sym, ap, subst}
+use Rattle.std.specs.Prelude.{ℕ, Bool, not, ◌&&◌, ◌==◌, filter}
 use Rattle.std.specs.List.{flat_map, list_all}
 use Rattle.std.proofs.lemmas.List.{append-nil}
 use Rattle.sr_cell.specs.declared.table.Column.{Column}
 use Rattle.sr_cell.specs.Attrs.{includes}
-use Rattle.sr_cell.specs.Cells.{Row}
-use Rattle.sr_box.specs.Points.{Rect, rect_fits, in_rect, times}
+use Rattle.sr_box.specs.Points.{Rect, rect_fits}
 use Rattle.sr_query.specs.declared.query.Part.{Part}
 use Rattle.sr_region.specs.declared.region.Region.{Region}
 use Rattle.sr_union.specs.Pieces.{near, IsWithin, HasOutside}
 use Rattle.sr_union.specs.Grid.{AreCutFrom, grid}
 use Rattle.sr_union.proofs.Among.{AreCutFrom-append}
 use Rattle.sr_union.proofs.Meets.{near-append, near-in, near-are}
-use Rattle.sr_union.proofs.Once.{grid_among}
+use Rattle.sr_union.proofs.Once.{grid_among, are_at}
 use Rattle.sr_union.proofs.Parts.{are_part}
 use Rattle.sr_store.specs.Stores.{serves, cover_of, wider}
 
@@ -58,26 +57,14 @@ grid_near cs rects others fit other_fit =
 pub outside_near : (cs : List Column) (rects others : List Rect) → HasOutside cs rects (near rects others) → HasOutside cs rects others
 outside_near cs rects others (p, point, inside, outside) = (p, point, inside, sym (near-in rects others p inside) ∙ outside)
 
-pub times_one : (r : Rect) (p : Row) → times (r ∷ []) p ≤ 1
-times_one r p = go (in_rect r p)
-  where
-    go : (b : Bool) → (if b then 1 else 0) + 0 ≤ 1
-    go true = omega arith
-    go false = omega arith
-
 pub fit_one : (cs : List Column) (r : Rect) → rect_fits cs r ≡ true → list_all (rect_fits cs) (r ∷ []) ≡ true
 fit_one cs r f = rw f refl
-
-cut-at : (cs : List Column) (given rects : List Rect) (i : ℕ) (d : Rect) → AreCutFrom cs given rects → i < length rects → AreCutFrom cs given (slice_index_or rects i d ∷ [])
-cut-at cs given [] i d h below = absurd (omega (arith, below))
-cut-at cs given (r ∷ rects) zero d h below = (h.0, h.1, tt)
-cut-at cs given (r ∷ rects) (suc i) d h below = cut-at cs given rects i d h.2 (omega (arith, below))
 
 -- one of the rects makes no greater grid with others than all
 pub grid_one : (cs : List Column) (rects others : List Rect) (i : ℕ) (r : Rect) → list_all (rect_fits cs) rects ≡ true → list_all (rect_fits cs) others ≡ true
     → i < length rects → r ≡ slice_index_or rects i r → grid cs (r ∷ others) ≤ grid cs (rects ++ others)
 grid_one cs rects others i r fit other_fit below is =
     let own = are_part cs [] rects others fit in
-    let one = subst (λ q. AreCutFrom cs (rects ++ others) (q ∷ [])) (sym is) (cut-at cs (rects ++ others) rects i r own below) in
+    let one = subst (λ q. AreCutFrom cs (rects ++ others) (q ∷ [])) (sym is) (are_at cs (rects ++ others) rects i r own below) in
     let other = subst (λ rs. AreCutFrom cs (rects ++ rs) others) (append-nil others) (are_part cs rects others [] other_fit) in
     grid_among cs (rects ++ others) (r ∷ others) (AreCutFrom-append cs (rects ++ others) (r ∷ []) others one other)

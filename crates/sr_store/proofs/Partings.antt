@@ -1,6 +1,8 @@
 -- Flags of regions, one by one.
-use Rattle.std.proofs.Common.{◌≡◌, ℕ, zero, suc, ◌+◌, ◌-◌, ◌<◌, ◌≤◌, Bool, true, false, List, [], ◌∷◌, length, drop, get_or, refl, ap, ◌∙◌, arith}
+use Rattle.std.proofs.Common.{◌≡◌, ℕ, zero, suc, ◌+◌, ◌-◌, ◌<◌, ◌≤◌, Bool, true, false, List, [], ◌∷◌, length, take, drop, ◌++◌, Some, get_or, refl, ap, sym, subst, ◌∙◌, arith}
 use Rattle.std.specs.Prelude.{if◌then◌else◌}
+use Rattle.std.specs.List.{slice_get}
+use Rattle.std.proofs.lemmas.Option.{same_Some}
 use Rattle.std.specs.List.{All, AllZip}
 use Rattle.std.proofs.lemmas.List.Elements.{All-nil, All-cons}
 use Rattle.sr_query.specs.declared.query.Part.{Part}
@@ -47,3 +49,59 @@ room_less all left room from behind n sum step le = omega (arith, sum, step, le)
 
 pub room_none : (all left room from behind n : ℕ) → all + left ≡ room + from → from ≡ n + behind → left < n → room < all
 room_none all left room from behind n sum step le = omega (arith, sum, step, le)
+
+-- the regions, those from one number on without the ones with a flag
+abbrev pub sifted : List Bool → List Region → ℕ → List Region
+sifted fs gs i = take i gs ++ flagged false (drop i fs) (drop i gs)
+
+sifted-out : (fs : List Bool) (gs : List Region) (i : ℕ) (d : Bool) → length fs ≡ length gs → i < length fs → get_or fs i d ≡ true
+    → take i (sifted fs gs (suc i)) ++ drop (suc i) (sifted fs gs (suc i)) ≡ sifted fs gs i
+sifted-out [] gs i d long below set = absurd (omega (arith, below))
+sifted-out (f ∷ fs) [] i d long below set = absurd (omega (arith, long))
+sifted-out (true ∷ fs) (g ∷ gs) zero d long below set = refl
+sifted-out (false ∷ fs) (g ∷ gs) zero d long below set = let no : false ≡ true = set in absurd (cc)
+sifted-out (f ∷ fs) (g ∷ gs) (suc i) d long below set = ap (λ gs. g ∷ gs) (sifted-out fs gs i d (omega (arith, long)) (omega (arith, below)) set)
+
+sifted-kept : (fs : List Bool) (gs : List Region) (i : ℕ) (d : Bool) → length fs ≡ length gs → i < length fs → get_or fs i d ≡ false
+    → (sifted fs gs (suc i) ≡ sifted fs gs i) × (flagged true (drop (suc i) fs) (drop (suc i) gs) ≡ flagged true (drop i fs) (drop i gs))
+sifted-kept [] gs i d long below set = absurd (omega (arith, below))
+sifted-kept (f ∷ fs) [] i d long below set = absurd (omega (arith, long))
+sifted-kept (false ∷ fs) (g ∷ gs) zero d long below set = (refl, refl)
+sifted-kept (true ∷ fs) (g ∷ gs) zero d long below set = let no : true ≡ false = set in absurd (cc)
+sifted-kept (f ∷ fs) (g ∷ gs) (suc i) d long below set =
+    let (same, flags) = sifted-kept fs gs i d (omega (arith, long)) (omega (arith, below)) set in
+    (ap (λ gs. g ∷ gs) same, flags)
+
+flagged-out : (fs : List Bool) (gs : List Region) (i : ℕ) (d : Bool) (out : Region) → length fs ≡ length gs → i < length fs → get_or fs i d ≡ true
+    → slice_get (sifted fs gs (suc i)) i ≡ Some out → out ∷ flagged true (drop (suc i) fs) (drop (suc i) gs) ≡ flagged true (drop i fs) (drop i gs)
+flagged-out [] gs i d out long below set is = absurd (omega (arith, below))
+flagged-out (f ∷ fs) [] i d out long below set is = absurd (omega (arith, long))
+flagged-out (true ∷ fs) (g ∷ gs) zero d out long below set is = ap (λ g. g ∷ flagged true fs gs) (sym (same_Some g out is))
+flagged-out (false ∷ fs) (g ∷ gs) zero d out long below set is = let no : false ≡ true = set in absurd (cc)
+flagged-out (f ∷ fs) (g ∷ gs) (suc i) d out long below set is = flagged-out fs gs i d out (omega (arith, long)) (omega (arith, below)) set is
+
+-- a region with a flag is taken out
+pub take_out_set : (fs : List Bool) (gs : List Region) (i : ℕ) (d : Bool) (out : Region) → length fs ≡ length gs → 0 < i → i ≤ length fs → get_or fs (i - 1) d ≡ true
+    → slice_get (sifted fs gs i) (i - 1) ≡ Some out
+    → (take (i - 1) (sifted fs gs i) ++ drop (i - 1 + 1) (sifted fs gs i) ≡ sifted fs gs (i - 1)) × (out ∷ flagged true (drop i fs) (drop i gs) ≡ flagged true (drop (i - 1) fs) (drop (i - 1) gs))
+take_out_set fs gs zero d out long some in_range set is = absurd (omega (arith, some))
+take_out_set fs gs (suc i) d out long some in_range set is =
+    let before : i ≡ suc i - 1 = omega arith in
+    let more : i + 1 ≡ suc i = omega arith in
+    subst (λ n. get_or fs n d ≡ true → slice_get (sifted fs gs (suc i)) n ≡ Some out
+    → (take n (sifted fs gs (suc i)) ++ drop (n + 1) (sifted fs gs (suc i)) ≡ sifted fs gs n) × (out ∷ flagged true (drop (suc i) fs) (drop (suc i) gs) ≡ flagged true (drop n fs) (drop n gs)))
+    before
+    (λ set is. (
+      ap (λ n. take i (sifted fs gs (suc i)) ++ drop n (sifted fs gs (suc i))) more ∙ sifted-out fs gs i d long (omega (arith, in_range)) set,
+      flagged-out fs gs i d out long (omega (arith, in_range)) set is,
+    ))
+    set is
+
+-- one without stays
+pub take_out_plain : (fs : List Bool) (gs : List Region) (i : ℕ) (d : Bool) → length fs ≡ length gs → 0 < i → i ≤ length fs → get_or fs (i - 1) d ≡ false
+    → (sifted fs gs i ≡ sifted fs gs (i - 1)) × (flagged true (drop i fs) (drop i gs) ≡ flagged true (drop (i - 1) fs) (drop (i - 1) gs))
+take_out_plain fs gs zero d long some in_range set = absurd (omega (arith, some))
+take_out_plain fs gs (suc i) d long some in_range set =
+    let before : i ≡ suc i - 1 = omega arith in
+    subst (λ n. get_or fs n d ≡ false → (sifted fs gs (suc i) ≡ sifted fs gs n) × (flagged true (drop (suc i) fs) (drop (suc i) gs) ≡ flagged true (drop n fs) (drop n gs)))
+    before (λ set. sifted-kept fs gs i d long (omega (arith, in_range)) set) set

@@ -1,5 +1,5 @@
 -- Why an answer is refused.
-use Rattle.std.proofs.Common.{◌≡◌, ℕ, ◌<◌, ◌≤◌, true, false, Bool, List, ◌∷◌, ◌++◌, length, sym, subst, arith}
+use Rattle.std.proofs.Common.{◌≡◌, ℕ, ◌<◌, true, false, Bool, List, ◌∷◌, ◌++◌, length, sym, subst}
 use Rattle.std.specs.List.{list_all, All}
 use Rattle.std.proofs.lemmas.List.Elements.{All-head, All-weaker}
 use Rattle.std.proofs.lemmas.List.Sums.{AllPass-from_list_all}
@@ -8,17 +8,16 @@ use Rattle.sr_cell.specs.Columns.{table_at}
 use Rattle.sr_box.specs.Points.{rect_fits}
 use Rattle.sr_union.specs.Grid.{grid}
 use Rattle.sr_query.specs.declared.query.Part.{Part}
-use Rattle.sr_query.specs.Bound.{is_table}
 use Rattle.sr_region.specs.declared.region.Region.{Region}
 use Rattle.sr_store.specs.declared.store.Arrival.{Arrival}
-use Rattle.sr_store.specs.Stores.{IsOfSchema, count_rects}
+use Rattle.sr_store.specs.Stores.{IsOfSchema}
 use Rattle.sr_store.specs.Answered.{IsArrival, is_used, rects_on, IsHeavy, flagged}
 use Rattle.sr_store.specs.Renewing.{touching, IsCutFrom, IsArrivalCutFrom, IsRenewal}
 use Rattle.sr_store.specs.Making.{FitsSchema, ComesFrom, wider_both}
 use Rattle.sr_store.proofs.Keeping.{old_used, arrivals_used}
-use Rattle.sr_store.proofs.Dropping.{flagged_all, flagged_few}
+use Rattle.sr_store.proofs.Dropping.{flagged_all}
 use Rattle.sr_store.proofs.Given.{FitsPart, regions_cut, parts_cut, arrivals_cut, fits_cut}
-use Rattle.sr_store.proofs.Heavy.{heavy_one, heavy_touched, heavy_wider, heavy_many}
+use Rattle.sr_store.proofs.Heavy.{heavy_one, heavy_touched, heavy_wider}
 
 -- an arrival of a table of the schema, of which the columns are used and the rects are among those of the table
 abbrev pub IsCome : List Table → List Region → List Part → List Arrival → Arrival → Type 0

@@ -4,26 +4,21 @@ use Rattle.std.specs.Prelude.{◌==◌, filter, slice_index_or}
 use Rattle.std.proofs.lemmas.List.{at_drop_more}
 use Rattle.std.proofs.lemmas.List.Elements.{filter_agree}
 use Rattle.sr_cell.specs.declared.cell.Cell.{Cell}
-use Rattle.sr_cell.specs.Cells.{Row, cell_at, cell_le, cell_eq}
+use Rattle.sr_cell.specs.Cells.{Row, cell_at, cell_eq}
+use Rattle.sr_cell.proofs.Lists.{filter-filter}
+use Rattle.sr_cell.proofs.Order.{cell_eq-symm}
 use Rattle.sr_model.specs.SortedRows.{ascend, has_key}
 use Rattle.sr_rows.proofs.Parts.{ascend-filter}
 use Rattle.sr_region.specs.declared.region.Region.{Region}
 use Rattle.sr_region.specs.Regions.{rank}
-use Rattle.sr_region.specs.Applied.{without_key}
+use Rattle.sr_rows.specs.Keys.{without_key}
 use Rattle.sr_store.specs.declared.store.Arrival.{Arrival}
 use Rattle.sr_store.specs.Answered.{brings, gives_way}
 use Rattle.sr_store.specs.Making.{without_keys, IsByKey}
-use Rattle.sr_store.proofs.Truths.{filter-filter}
 
 keep-all : (f : Row → Bool) → ((row : Row) → f row ≡ true) → (rows : List Row) → filter f rows ≡ rows
 keep-all f all [] = refl
 keep-all f all (r ∷ rows) = rw (all r) (ap (λ xs. r ∷ xs) (keep-all f all rows))
-
-eq-either : (v w : Cell) → cell_eq v w ≡ cell_eq w v
-eq-either v w = go (cell_le v w) (cell_le w v)
-  where
-    go : (a b : Bool) → (a && b) ≡ (b && a)
-    go a b = grind arith
 
 -- ---- key by key
 
@@ -31,7 +26,7 @@ one-key : (key : ℕ) (r : Row) (others rows : List Row) → without_keys key ot
 one-key key r others rows =
     filter-filter (λ row. not (cell_eq (cell_at row key) (cell_at r key))) (λ row. not (has_key key (cell_at row key) others)) rows
     ∙ filter_agree (λ row. not (cell_eq (cell_at row key) (cell_at r key)) && not (has_key key (cell_at row key) others)) (λ row. not (has_key key (cell_at row key) (r ∷ others)))
-    (λ row. go (cell_eq (cell_at row key) (cell_at r key)) (cell_eq (cell_at r key) (cell_at row key)) (has_key key (cell_at row key) others) (eq-either (cell_at row key) (cell_at r key))) rows
+    (λ row. go (cell_eq (cell_at row key) (cell_at r key)) (cell_eq (cell_at r key) (cell_at row key)) (has_key key (cell_at row key) others) (cell_eq-symm (cell_at row key) (cell_at r key))) rows
   where
     go : (b c d : Bool) → b ≡ c → (not b && not d) ≡ not (c || d)
     go b c d e = grind (arith, e)
@@ -50,15 +45,6 @@ pub keys-ascend : (key : ℕ) (v : Cell) (rows next : List Row) → next ≡ wit
 keys-ascend key v rows next is h = ap (ascend key) is ∙ ascend-filter key (λ row. not (cell_eq (cell_at row key) v)) rows h
 
 -- ---- one arrival after another
-
-pub way-own : (r : Arrival) (g : Region) → (r.table == g.table && r.attrs == g.attrs) ≡ true → record g { rows = without_keys (rank g.attrs g.key) r.rows g.rows } ≡ gives_way (r ∷ []) g
-way-own r g e =
-    ap (λ rows. record g { rows = rows })
-    (filter_agree (λ row. not (has_key (rank g.attrs g.key) (cell_at row (rank g.attrs g.key)) r.rows)) (λ row. not (brings (r ∷ []) g (cell_at row (rank g.attrs g.key))))
-    (λ row. go (r.table == g.table && r.attrs == g.attrs) e (has_key (rank g.attrs g.key) (cell_at row (rank g.attrs g.key)) r.rows)) g.rows)
-  where
-    go : (b : Bool) → b ≡ true → (h : Bool) → not h ≡ not ((b && h) || false)
-    go b e h = grind (arith, e)
 
 pub way-other : (r : Arrival) (g : Region) → (r.table == g.table && r.attrs == g.attrs) ≡ false → g ≡ gives_way (r ∷ []) g
 way-other r g e =

@@ -5,6 +5,7 @@ use Rattle.std.specs.List.{list_all, All}
 use Rattle.std.proofs.lemmas.Bool.Decides.{nat_tests}
 use Rattle.std.proofs.lemmas.List.Folds.{list_all-append}
 use Rattle.std.proofs.lemmas.List.Elements.{All-nil, All-cons, All-head, All-tail, All-append}
+use Rattle.std.specs.Cmp.{first_so, second_so}
 use Rattle.sr_cell.specs.declared.table.Table.{Table}
 use Rattle.sr_cell.specs.Attrs.{project}
 use Rattle.sr_cell.specs.Cells.{Row}
@@ -25,6 +26,7 @@ use Rattle.sr_store.specs.Stores.{IsOfSchema}
 use Rattle.sr_store.specs.Renewing.{touching, IsCutFrom, with_stamp, pieces_of, IsRestamped}
 use Rattle.sr_store.proofs.Truths.{true_half}
 use Rattle.sr_store.proofs.Touching.{touching-is, touching_cut}
+use Rattle.sr_store.proofs.Classing.{of-table}
 
 pub occurs-append : (xs ys : List Region) (t a : ℕ) (p : Row) → occurs (xs ++ ys) t a p ≡ occurs xs t a p + occurs ys t a p
 occurs-append [] ys t a p = omega arith
@@ -42,12 +44,6 @@ record ArePieces (schema : List Table) (whole : Region) (cut : List Rect) (those
 
 of-same : (whole g : Region) (t a : ℕ) → g.table ≡ whole.table → g.attrs ≡ whole.attrs → is_of g t a ≡ is_of whole t a
 of-same whole g t a table attrs = ap (λ x. x == t && g.attrs == a) table ∙ ap (λ x. whole.table == t && x == a) attrs
-
-of-table : (g : Region) (t a : ℕ) → is_of g t a ≡ true → g.table ≡ t
-of-table g t a e = grind (arith, nat_tests)
-
-of-attrs : (g : Region) (t a : ℕ) → is_of g t a ≡ true → g.attrs ≡ a
-of-attrs g t a e = grind (arith, nat_tests)
 
 no-pieces : (schema : List Table) (whole : Region) (cut : List Rect) (those : Points) (n : ℕ) → HasNoPoint (table_at schema whole.table).columns those → ArePieces schema whole cut those n []
 no-pieces schema whole cut those n none = record {
@@ -191,12 +187,6 @@ restamped-in number parts stamps t a p inside = rw (sym (touching-is parts t a p
 restamped-out : (number : ℕ) (parts : List Part) (stamps : Stamps) (t a : ℕ) (p : Row) → in_any (touching parts t a) p ≡ false → restamped number parts stamps t a p ≡ stamps t a p
 restamped-out number parts stamps t a p outside = rw (sym (touching-is parts t a p) ∙ outside) refl
 
-left-true : (b c : Bool) → (b && c) ≡ true → b ≡ true
-left-true b c e = grind arith
-
-right-true : (b c : Bool) → (b && c) ≡ true → c ≡ true
-right-true b c e = grind arith
-
 right-false : (b c : Bool) → (b && not c) ≡ true → c ≡ false
 right-false b c e = grind arith
 
@@ -210,18 +200,18 @@ two-pieces schema number parts g outside inside h o i = record {
   stamped = λ stamps are. All-append (IsStamped schema (restamped number parts stamps)) outside inside
       (o.stamped (restamped number parts stamps) (λ p point those.
       restamped-out number parts stamps g.table g.attrs p (right-false (in_any g.rects p) (in_any cut p) those)
-      ∙ All-head (IsStamped schema stamps) g [] are p point (left-true (in_any g.rects p) (not (in_any cut p)) those)))
-      (i.stamped (restamped number parts stamps) (λ p point those. restamped-in number parts stamps g.table g.attrs p (right-true (in_any g.rects p) (in_any cut p) those)));
+      ∙ All-head (IsStamped schema stamps) g [] are p point (first_so (in_any g.rects p) (not (in_any cut p)) those)))
+      (i.stamped (restamped number parts stamps) (λ p point those. restamped-in number parts stamps g.table g.attrs p (second_so (in_any g.rects p) (in_any cut p) those)));
   are_true = λ told is_told are. let one = All-head (IsTrueOf told) g [] are in All-append (IsTrueOf told) outside inside (o.are_true told is_told one) (i.are_true told is_told one);
   cuts = λ given are cut_parts.
       let all = AreCutFrom-append (table_at schema g.table).columns (given g.table) g.rects cut (All-head (IsCutFrom schema given) g [] are) (touching_cut schema given parts g.table g.attrs cut_parts) in
       All-append (IsCutFrom schema given) outside inside (o.cuts given all) (i.cuts given all);
   used = λ used is.
-      let one = o.used used (left-true (used g.table g.attrs) true is) in
-      let two = i.used used (left-true (used g.table g.attrs) true is) in
+      let one = o.used used (first_so (used g.table g.attrs) true is) in
+      let two = i.used used (first_so (used g.table g.attrs) true is) in
       list_all-append (λ g. used g.table g.attrs) outside inside ∙ rw (one, two) refl;
   classes = λ is new own.
-      let one = o.classes is (left-true (is g.table g.attrs g.stamp) true own) in
+      let one = o.classes is (first_so (is g.table g.attrs g.stamp) true own) in
       let two = i.classes is (new g.table g.attrs) in
       list_all-append (λ g. is g.table g.attrs g.stamp) outside inside ∙ rw (one, two) refl;
 }
@@ -283,12 +273,12 @@ restamped_append schema number parts old pieces more next h k = record {
       (h.cuts given (All-left (IsCutFrom schema given) old more are) cut_parts) (k.cuts given (All-right (IsCutFrom schema given) old more are) cut_parts);
   used = λ used is.
       let two = sym (list_all-append (λ g. used g.table g.attrs) old more) ∙ is in
-      let x = h.used used (left-true (list_all (λ g. used g.table g.attrs) old) (list_all (λ g. used g.table g.attrs) more) two) in
-      let y = k.used used (right-true (list_all (λ g. used g.table g.attrs) old) (list_all (λ g. used g.table g.attrs) more) two) in
+      let x = h.used used (first_so (list_all (λ g. used g.table g.attrs) old) (list_all (λ g. used g.table g.attrs) more) two) in
+      let y = k.used used (second_so (list_all (λ g. used g.table g.attrs) old) (list_all (λ g. used g.table g.attrs) more) two) in
       list_all-append (λ g. used g.table g.attrs) pieces next ∙ rw (x, y) refl;
   classes = λ is new own.
       let two = sym (list_all-append (λ g. is g.table g.attrs g.stamp) old more) ∙ own in
-      let x = h.classes is new (left-true (list_all (λ g. is g.table g.attrs g.stamp) old) (list_all (λ g. is g.table g.attrs g.stamp) more) two) in
-      let y = k.classes is new (right-true (list_all (λ g. is g.table g.attrs g.stamp) old) (list_all (λ g. is g.table g.attrs g.stamp) more) two) in
+      let x = h.classes is new (first_so (list_all (λ g. is g.table g.attrs g.stamp) old) (list_all (λ g. is g.table g.attrs g.stamp) more) two) in
+      let y = k.classes is new (second_so (list_all (λ g. is g.table g.attrs g.stamp) old) (list_all (λ g. is g.table g.attrs g.stamp) more) two) in
       list_all-append (λ g. is g.table g.attrs g.stamp) pieces next ∙ rw (x, y) refl;
 }

@@ -1,22 +1,19 @@
 -- Regions put together are regions, with the right rows.
-use Rattle.std.proofs.Common.{◌≡◌, ℕ, ◌+◌, ◌≤◌, true, List, [], ◌++◌, sym, ap, subst, ◌∙◌, arith}
+use Rattle.std.proofs.Common.{◌≡◌, ℕ, ◌+◌, ◌≤◌, true, List, sym, ap, subst, ◌∙◌, arith}
 use Rattle.std.specs.List.{All}
 use Rattle.std.proofs.lemmas.Bool.Decides.{nat_tests}
-use Rattle.std.proofs.lemmas.List.Elements.{All-nil, All-weaker}
 use Rattle.sr_cell.specs.declared.table.Table.{Table}
 use Rattle.sr_cell.specs.Cells.{Row}
 use Rattle.sr_cell.specs.Columns.{table_at, is_point}
-use Rattle.sr_model.specs.SortedRows.{ascend}
 use Rattle.sr_region.specs.declared.region.Region.{Region}
-use Rattle.sr_region.specs.Regions.{rank, IsRegion, AreOfClass, joined}
+use Rattle.sr_region.specs.Regions.{IsRegion, AreOfClass, joined}
 use Rattle.sr_region.proofs.Areas.{joined-region}
 use Rattle.sr_store.specs.Classes.{occurs, is_same}
 use Rattle.sr_store.specs.Told.{Told, IsTold, IsTrueOf, AreTrueOf}
 use Rattle.sr_store.specs.Stores.{IsOfSchema}
 use Rattle.sr_store.specs.Renewing.{with_regions}
 use Rattle.sr_store.proofs.Truths.{ArePair, pair_apart, pair_true}
-use Rattle.sr_store.proofs.Restamping.{occurs-append, All-left}
-use Rattle.sr_store.proofs.Adding.{HaveNone, AreOnce, with_regions-all}
+use Rattle.sr_store.proofs.Adding.{HaveNone, with_regions-all}
 
 same-table : (h g : Region) → is_same h g ≡ true → g.table ≡ h.table
 same-table h g e = grind (arith, nat_tests)
@@ -29,12 +26,6 @@ same-stamp h g e = grind (arith, nat_tests)
 
 same-key : (schema : List Table) (h g : Region) → is_same h g ≡ true → IsOfSchema schema h → IsOfSchema schema g → g.key ≡ h.key
 same-key schema h g e one other = other.1.area.key ∙ ap (λ t. (table_at schema t).key) (same-table h g e) ∙ sym one.1.area.key
-
--- the rows of a region stand by the key of each region of its class
-pub same_ascend : (schema : List Table) (h g : Region) → is_same h g ≡ true → IsOfSchema schema h → IsOfSchema schema g → ascend (rank h.attrs h.key) g.rows ≡ true
-same_ascend schema h g e one other =
-    ap (λ key. ascend (rank h.attrs key) g.rows) (sym (same-key schema h g e one other))
-    ∙ ap (λ a. ascend (rank a g.key) g.rows) (sym (same-attrs h g e)) ∙ other.1.ascending
 
 -- a region of a table of the schema, with the right rows
 abbrev pub IsSound : List Table → Told → Region → Type 0
@@ -75,12 +66,3 @@ pub with_regions-sound : (schema : List Table) (told : Told) (hs gs : List Regio
     → All (IsOfSchema schema) hs → AreTrueOf told hs → All (IsOfSchema schema) gs → AreTrueOf told gs → All (IsSound schema told) (with_regions hs gs)
 with_regions-sound schema told hs gs is_told once hs_each hs_true gs_each gs_true =
     with_regions-all schema (IsSound schema told) (joined_sound schema told is_told) hs gs once (to-sound schema told hs hs_each hs_true) (to-sound schema told gs gs_each gs_true)
-
--- and so are the first of them
-pub each_so_far : (schema : List Table) (told : Told) (gs more : List Region) → IsTold schema told → AreOnce schema (gs ++ more)
-    → All (IsOfSchema schema) (gs ++ more) → AreTrueOf told (gs ++ more) → All (IsOfSchema schema) (with_regions [] gs)
-each_so_far schema told gs more is_told once each are =
-    All-weaker (IsSound schema told) (IsOfSchema schema) (λ g is. is.0) (with_regions [] gs)
-    (with_regions-sound schema told [] gs is_told
-    (λ t a p point. let x = once t a p point in let y = occurs-append gs more t a p in omega (arith, x, y))
-    (All-nil (IsOfSchema schema)) (All-nil (IsTrueOf told)) (All-left (IsOfSchema schema) gs more each) (All-left (IsTrueOf told) gs more are))

@@ -14,6 +14,7 @@ use Rattle.sr_history.specs.declared.mark.Mark.{Mark}
 use Rattle.sr_history.specs.Marks.{is_held, with_marks}
 use Rattle.sr_history.specs.Classes.{Numbered, stamp}
 use Rattle.sr_history.specs.Drops.{Absorbs}
+use Rattle.sr_history.proofs.Marking.{with_marks-append}
 use Rattle.sr_region.specs.declared.region.Region.{Region}
 use Rattle.sr_store.specs.declared.store.Arrival.{Arrival}
 use Rattle.sr_store.specs.Classes.{Stamps, occurs, IsStamped, Keeps, restamped}
@@ -22,11 +23,6 @@ use Rattle.sr_store.specs.Answered.{arrives, held_of, AreFlags, flagged, IsRenew
 use Rattle.sr_store.proofs.Dropping.{AreFlags_length, kept_keeps, evicted_keeps}
 use Rattle.sr_store.proofs.Covering.{held_more, held_less, keeps_same}
 use Rattle.sr_store.proofs.Absorbing.{absorbs_is}
-
--- more marks, and then more
-with_marks-append : (marks one more : List Mark) → with_marks marks (one ++ more) ≡ with_marks (with_marks marks one) more
-with_marks-append marks [] more = refl
-with_marks-append marks (m ∷ one) more = with_marks-append (m ∷ marks) one more
 
 -- what stays after drops is what the marks say with them
 less-keeps : (schema : List Table) (cause : Cause) (marks : List Mark) (stamps : Stamps) (dropped left : List Region)

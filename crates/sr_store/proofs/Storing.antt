@@ -1,5 +1,5 @@
 -- A store stays one when it is told which rows keys have.
-use Rattle.std.proofs.Common.{◌≡◌, ◌≤◌, List, map, subst, arith}
+use Rattle.std.proofs.Common.{List, map, subst, arith}
 use Rattle.std.specs.List.{All}
 use Rattle.std.proofs.lemmas.List.Elements.{All-weaker, All-map}
 use Rattle.sr_cell.specs.declared.table.Table.{Table}

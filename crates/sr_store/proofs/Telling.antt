@@ -1,5 +1,5 @@
 -- Regions once it is told which rows keys have.
-use Rattle.std.proofs.Common.{◌≡◌, ◌≢◌, ℕ, zero, suc, ◌+◌, ◌<◌, Bool, true, false, cond, not, List, [], ◌∷◌, ◌++◌, length, take, drop, map, refl, sym, ap, subst, ◌∙◌, arith}
+use Rattle.std.proofs.Common.{◌≡◌, ◌≢◌, ℕ, zero, suc, ◌+◌, ◌<◌, Bool, true, false, cond, not, List, [], ◌∷◌, ◌++◌, length, take, drop, map, refl, sym, ap, subst, ◌∙◌, arith, eqb-true}
 use Rattle.std.specs.Prelude.{◌==◌, filter, fold, slice_index_or, Option, Some, None, if◌then◌else◌}
 use Rattle.std.specs.List.{All}
 use Rattle.std.proofs.lemmas.Bool.Decides.{nat_tests}
@@ -16,10 +16,11 @@ use Rattle.sr_box.specs.Points.{times, in_any}
 use Rattle.sr_rows.specs.Places.{is_apart}
 use Rattle.sr_rows.proofs.Order.{ascend-tail, ascend-first}
 use Rattle.sr_rows.proofs.Places.{with_row-ascend}
-use Rattle.sr_rows.proofs.Parts.{ascend-filter}
+use Rattle.sr_rows.proofs.Parts.{ascend-filter, first-filter}
 use Rattle.sr_region.specs.declared.region.Region.{Region}
 use Rattle.sr_region.specs.Regions.{rank, is_in, IsPart, IsRegion}
-use Rattle.sr_region.specs.Applied.{without_key, applied, IsNew}
+use Rattle.sr_region.specs.Applied.{applied, IsNew}
+use Rattle.sr_rows.specs.Keys.{without_key}
 use Rattle.sr_region.proofs.Parts.{is_in-point}
 use Rattle.sr_region.proofs.Ordered.{All-with_row}
 use Rattle.sr_region.proofs.Places.{row-front}
@@ -28,14 +29,10 @@ use Rattle.sr_store.specs.Classes.{is_of, occurs, is_before, ascends}
 use Rattle.sr_store.specs.Told.{Told, IsTold, IsTrueOf, AreTrueOf}
 use Rattle.sr_store.specs.Stores.{IsOfSchema, count_rects}
 use Rattle.sr_store.specs.Noticed.{told_to, IsTellOf}
-use Rattle.sr_store.proofs.Truths.{first-filter}
 
 -- the region after one tell
 abbrev pub after_tell : Tell → Region → Region
 after_tell tell g = if tell.table == g.table then applied tell.key tell.after g else g
-
-same-number : (n m : ℕ) → (n == m) ≡ true → n ≡ m
-same-number n m e = grind (arith, nat_tests)
 
 -- ---- only the rows change
 
@@ -104,7 +101,7 @@ cells-ascend t a v rows (Some row) has new all h =
 
 module _ (schema : List Table) (tell : Tell) (is : IsTellOf schema tell) where
   new-in : (t : ℕ) → (tell.table == t) ≡ true → IsNew (table_at schema t) tell.key tell.after
-  new-in t e = subst (λ n. IsNew (table_at schema n) tell.key tell.after) (same-number tell.table t e) is.1
+  new-in t e = subst (λ n. IsNew (table_at schema n) tell.key tell.after) (eqb-true tell.table t e) is.1
 
   told-after : (told : Told) → IsTold schema told → IsTold schema (tells schema tell told)
   told-after told h = record { rows = λ t a. rows t a (tell.table == t) refl; ascending = λ t a has. ascending t a has (tell.table == t) refl }

@@ -1,5 +1,5 @@
 -- The regions that an answer leaves as they are, and those that it makes, put together.
-use Rattle.std.proofs.Common.{◌≡◌, ℕ, ◌+◌, ◌≤◌, Bool, true, false, List, [], ◌∷◌, ◌++◌, length, get_or, refl, sym, ap, subst, ◌∙◌, arith}
+use Rattle.std.proofs.Common.{◌≡◌, ℕ, ◌+◌, ◌≤◌, Bool, true, false, List, [], ◌∷◌, get_or, refl, sym, ap, subst, ◌∙◌, arith}
 use Rattle.std.specs.Prelude.{not, ◌&&◌, ◌||◌, ◌==◌, nat_eq, if◌then◌else◌}
 use Rattle.std.specs.List.{list_all, All, AllZip}
 use Rattle.std.proofs.lemmas.Bool.Decides.{nat_tests}
@@ -7,21 +7,19 @@ use Rattle.std.proofs.lemmas.List.Elements.{All-head, All-tail, All-weaker}
 use Rattle.sr_cell.specs.declared.table.Table.{Table}
 use Rattle.sr_cell.specs.Cells.{Row}
 use Rattle.sr_cell.specs.Columns.{table_at, is_point}
-use Rattle.sr_box.specs.Points.{Rect}
 use Rattle.sr_query.specs.declared.query.Part.{Part}
-use Rattle.sr_query.specs.Bound.{is_table}
 use Rattle.sr_region.specs.declared.region.Region.{Region}
 use Rattle.sr_store.specs.declared.store.Arrival.{Arrival}
-use Rattle.sr_store.specs.Classes.{Held, Stamps, occurs, IsStamped, ascends, Keeps, is_same, restamped}
+use Rattle.sr_store.specs.Classes.{Held, Stamps, occurs, IsStamped, ascends, Keeps, restamped}
 use Rattle.sr_store.specs.Told.{Told, IsTold, IsTrueOf, AreTrueOf}
 use Rattle.sr_store.specs.Stores.{IsOfSchema, IsAbsorbedIn}
-use Rattle.sr_store.specs.Answered.{arrives, arrivals_at, IsArrival, AreApart, HaveArrived, flagged}
-use Rattle.sr_store.specs.Renewing.{IsCutFrom, IsPartCutFrom, IsArrivalCutFrom, with_regions, IsRenewal}
+use Rattle.sr_store.specs.Answered.{arrives, arrivals_at, AreApart, HaveArrived, flagged}
+use Rattle.sr_store.specs.Renewing.{IsCutFrom, with_regions, IsRenewal}
 use Rattle.sr_store.specs.Making.{IsStill, AreParted, IsUnmetOr, IsKeptOr}
 use Rattle.sr_store.proofs.Adding.{with_regions-occurs, with_regions-ascends, with_regions-all, with_regions-used, with_regions-classes, joined_stamped, joined_cut}
 use Rattle.sr_store.proofs.Dropping.{flagged_all, flagged_occurs, flagged_ascends}
 use Rattle.sr_store.proofs.Keeping.{arrives-is, held_sum}
-use Rattle.sr_store.proofs.Merging.{has_none, have_no_class, parted_classes}
+use Rattle.sr_store.proofs.Merging.{have_no_class, parted_classes}
 use Rattle.sr_store.proofs.Settled.{not_absorbed}
 use Rattle.sr_store.proofs.Sound.{IsSound, with_regions-sound}
 use Rattle.sr_store.proofs.Untouched.{still_stamped}

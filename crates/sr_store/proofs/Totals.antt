@@ -1,8 +1,7 @@
 -- Sums over lists.
-use Rattle.std.proofs.Common.{◌≡◌, ℕ, ◌+◌, true, false, List, [], ◌∷◌, refl, ap, ◌∙◌, arith}
+use Rattle.std.proofs.Common.{◌≡◌, ℕ, ◌+◌, true, false, List, [], ◌∷◌, refl, ap, ◌∙◌, arith, eqb-true}
 use Rattle.std.specs.Prelude.{Bool, ◌||◌, ◌==◌, if◌then◌else◌, sum_by}
 use Rattle.std.specs.List.{list_any}
-use Rattle.std.proofs.lemmas.Bool.Decides.{nat_tests}
 use Rattle.std.proofs.lemmas.List.Sums.{sum_by-cons}
 use Rattle.sr_history.specs.Kept.{each_once}
 
@@ -30,9 +29,6 @@ module _ {X : Type 0} where
 
 -- ---- numbers that stand in a list once
 
-same-num : (x y : ℕ) → (x == y) ≡ true → x ≡ y
-same-num x y e = grind (arith, nat_tests, e)
-
 -- of the numbers of a list, each once, one alone is that one
 pub total_once : (x n : ℕ) (xs : List ℕ) → total (λ y. if x == y then n else 0) (each_once xs) ≡ (if list_any (λ y. x == y) xs then n else 0)
 total_once x n [] = refl
@@ -40,10 +36,10 @@ total_once x n (z ∷ zs) = go (list_any (λ y. z == y) zs) refl (x == z) refl (
   where
     go : (b : Bool) → list_any (λ y. z == y) zs ≡ b → (e : Bool) → (x == z) ≡ e → total (λ y. if x == y then n else 0) (each_once zs) ≡ (if list_any (λ y. x == y) zs then n else 0)
         → total (λ y. if x == y then n else 0) (if b then each_once zs else z ∷ each_once zs) ≡ (if e || list_any (λ y. x == y) zs then n else 0)
-    go true eb true ee ih = ih ∙ ap (λ c. if c then n else 0) (ap (λ w. list_any (λ y. w == y) zs) (same-num x z ee) ∙ eb)
+    go true eb true ee ih = ih ∙ ap (λ c. if c then n else 0) (ap (λ w. list_any (λ y. w == y) zs) (eqb-true x z ee) ∙ eb)
     go true eb false ee ih = ih
     go false eb true ee ih =
-        let none : list_any (λ y. x == y) zs ≡ false = ap (λ w. list_any (λ y. w == y) zs) (same-num x z ee) ∙ eb in
+        let none : list_any (λ y. x == y) zs ≡ false = ap (λ w. list_any (λ y. w == y) zs) (eqb-true x z ee) ∙ eb in
         let zero : total (λ y. if x == y then n else 0) (each_once zs) ≡ 0 = ih ∙ ap (λ c. if c then n else 0) none in
         let first : (if x == z then n else 0) ≡ n = ap (λ c. if c then n else 0) ee in
         omega (arith, zero, first)

@@ -1,18 +1,17 @@
 -- The rects of the parts that touch a region.
-use Rattle.std.proofs.Common.{◌≡◌, ℕ, ◌+◌, true, false, cond, List, [], ◌∷◌, min, refl, sym, ap, subst, ◌∙◌, arith}
-use Rattle.std.specs.Prelude.{Bool, ◌&&◌, ◌||◌, ◌==◌, bit_and, filter, flat_map}
+use Rattle.std.proofs.Common.{◌≡◌, ℕ, true, false, cond, List, [], ◌∷◌, refl, subst, ◌∙◌, arith}
+use Rattle.std.specs.Prelude.{Bool, ◌&&◌, ◌||◌, ◌==◌, filter, flat_map}
 use Rattle.std.specs.List.{list_all, All}
 use Rattle.std.proofs.lemmas.Bool.Decides.{nat_tests}
 use Rattle.std.proofs.lemmas.List.Folds.{list_all-append}
 use Rattle.std.proofs.lemmas.List.Elements.{All-head, All-tail}
-use Rattle.std.proofs.lemmas.Nat.Bits.{bit_at_and}
-use Rattle.std.specs.Int.{bit_at}
+use Rattle.std.specs.Cmp.{first_so, second_so}
 use Rattle.sr_cell.specs.declared.table.Table.{Table}
-use Rattle.sr_cell.specs.Attrs.{has_column, includes}
+use Rattle.sr_cell.specs.Attrs.{includes}
 use Rattle.sr_cell.specs.Cells.{Row}
 use Rattle.sr_cell.specs.Columns.{table_at}
-use Rattle.sr_box.specs.declared.span.Span.TheVariants.{Full, Nums, Strs}
 use Rattle.sr_box.specs.Points.{Rect, in_any, rect_fits, constrains_only}
+use Rattle.sr_box.proofs.Constrained.{all-constrains_only-more}
 use Rattle.sr_union.specs.Grid.{AreCutFrom}
 use Rattle.sr_union.proofs.Once.{in_any-append}
 use Rattle.sr_union.proofs.Among.{AreCutFrom-append}
@@ -29,32 +28,6 @@ touching-is (part ∷ parts) t a p = go (part.table == t && includes a part.need
         ≡ (b && in_any part.rects p || touches parts t a p)
     go true ih = in_any-append part.rects (touching parts t a) p ∙ rw ih refl
     go false ih = ih
-
--- a column of a set is one of each set that includes it
-pub has-more : (a b c : ℕ) → includes a b ≡ true → has_column b c ≡ true → has_column a c ≡ true
-has-more a b c inc has =
-    let e : bit_and a b ≡ b = grind (arith, nat_tests) in
-    let one : bit_at b c ≡ 1 = grind (arith, nat_tests) in
-    let both : min (bit_at a c) (bit_at b c) ≡ bit_at b c = sym (bit_at_and a b c) ∙ ap (λ n. bit_at n c) e in
-    let is : bit_at a c ≡ 1 = omega arith in
-    rw is refl
-
-more-only : (a b c : ℕ) (r : Rect) → includes a b ≡ true → constrains_only b c r ≡ true → constrains_only a c r ≡ true
-more-only a b c [] inc only = refl
-more-only a b c (Full ∷ r) inc only = more-only a b (c + 1) r inc only
-more-only a b c (Nums lo hi ∷ r) inc only = let ih = more-only a b (c + 1) r inc (grind arith) in let has = has-more a b c inc (grind arith) in rw (has, ih) refl
-more-only a b c (Strs lo hi ∷ r) inc only = let ih = more-only a b (c + 1) r inc (grind arith) in let has = has-more a b c inc (grind arith) in rw (has, ih) refl
-
--- rects that constrain only the columns of a set constrain only those of each set that includes it
-pub all-more-only : (a b : ℕ) (rects : List Rect) → includes a b ≡ true → list_all (constrains_only b 0) rects ≡ true → list_all (constrains_only a 0) rects ≡ true
-all-more-only a b [] inc only = refl
-all-more-only a b (r ∷ rects) inc only = let ih = all-more-only a b rects inc (grind arith) in let one = more-only a b 0 r inc (grind arith) in grind (arith, ih, one)
-
-left-true : (b c : Bool) → (b && c) ≡ true → b ≡ true
-left-true b c e = grind arith
-
-right-true : (b c : Bool) → (b && c) ≡ true → c ≡ true
-right-true b c e = grind arith
 
 abbrev FitsPart : List Table → Part → Type 0
 FitsPart schema part = list_all (rect_fits (table_at schema part.table).columns) part.rects ≡ true
@@ -73,7 +46,7 @@ touching_fits schema (part ∷ parts) t a fit =
         → list_all (rect_fits (table_at schema part.table).columns) part.rects ≡ true
         → list_all (rect_fits (table_at schema t).columns) (flat_map (λ part. part.rects) (cond b (part ∷ filter (λ part. part.table == t && includes a part.need) parts) (filter (λ part. part.table == t && includes a part.need) parts))) ≡ true
     go true is ih one =
-        let same : part.table ≡ t = let x = left-true (part.table == t) (includes a part.need) is in grind (arith, nat_tests, x) in
+        let same : part.table ≡ t = let x = first_so (part.table == t) (includes a part.need) is in grind (arith, nat_tests, x) in
         let here = subst (λ u. list_all (rect_fits (table_at schema u).columns) part.rects ≡ true) same one in
         list_all-append (rect_fits (table_at schema t).columns) part.rects (touching parts t a) ∙ rw (here, ih) refl
     go false is ih one = ih
@@ -87,7 +60,7 @@ touching_only (part ∷ parts) t a only =
     go : (b : Bool) → (part.table == t && includes a part.need) ≡ b → list_all (constrains_only a 0) (touching parts t a) ≡ true → list_all (constrains_only part.need 0) part.rects ≡ true
         → list_all (constrains_only a 0) (flat_map (λ part. part.rects) (cond b (part ∷ filter (λ part. part.table == t && includes a part.need) parts) (filter (λ part. part.table == t && includes a part.need) parts))) ≡ true
     go true is ih one =
-        let here = all-more-only a part.need part.rects (right-true (part.table == t) (includes a part.need) is) one in
+        let here = all-constrains_only-more a part.need part.rects (second_so (part.table == t) (includes a part.need) is) one in
         list_all-append (constrains_only a 0) part.rects (touching parts t a) ∙ rw (here, ih) refl
     go false is ih one = ih
 
@@ -100,7 +73,7 @@ touching_cut schema given (part ∷ parts) t a cut =
     go : (b : Bool) → (part.table == t && includes a part.need) ≡ b → AreCutFrom (table_at schema t).columns (given t) (touching parts t a) → IsPartCutFrom schema given part
         → AreCutFrom (table_at schema t).columns (given t) (flat_map (λ part. part.rects) (cond b (part ∷ filter (λ part. part.table == t && includes a part.need) parts) (filter (λ part. part.table == t && includes a part.need) parts)))
     go true is ih one =
-        let same : part.table ≡ t = let x = left-true (part.table == t) (includes a part.need) is in grind (arith, nat_tests, x) in
+        let same : part.table ≡ t = let x = first_so (part.table == t) (includes a part.need) is in grind (arith, nat_tests, x) in
         let here = subst (λ u. AreCutFrom (table_at schema u).columns (given u) part.rects) same one in
         AreCutFrom-append (table_at schema t).columns (given t) part.rects (touching parts t a) here ih
     go false is ih one = ih

@@ -1,27 +1,23 @@
 -- What the tests need of stores to which no rows come, or one.
-use Rattle.std.proofs.Common.{◌≡◌, ℕ, ◌+◌, ◌<◌, ◌≤◌, zero, suc, true, false, List, [], ◌∷◌, length, map, get_or, refl, sym, ap, subst, ◌∙◌, arith}
-use Rattle.std.specs.Prelude.{Bool, ◌&&◌, ◌==◌, if◌then◌else◌, filter, ℤ, pos, Some}
+use Rattle.std.proofs.Common.{◌≡◌, ℕ, ◌+◌, ◌<◌, ◌≤◌, zero, suc, true, false, List, [], ◌∷◌, length, get_or, refl, sym, ap, subst, ◌∙◌, arith}
+use Rattle.std.specs.Prelude.{Bool, ◌&&◌, ◌==◌, if◌then◌else◌, ℤ, pos, Some}
 use Rattle.std.specs.List.{All}
 use Rattle.std.proofs.lemmas.Bool.Decides.{nat_tests}
 use Rattle.std.proofs.lemmas.List.Elements.{All-nil, All-cons, All-same}
 use Rattle.sr_cell.specs.declared.cell.Cell.TheVariants.{Num}
 use Rattle.sr_cell.specs.declared.table.Table.{Table}
-use Rattle.sr_cell.specs.Attrs.{includes, has_column, project}
+use Rattle.sr_cell.specs.Attrs.{includes}
 use Rattle.sr_cell.specs.Cells.{Row, cell_at}
 use Rattle.sr_cell.specs.Columns.{table_at, is_point}
 use Rattle.sr_message.specs.declared.message.Tell.{Tell}
-use Rattle.sr_model.specs.Queries.{rows_at}
-use Rattle.sr_model.specs.SortedRows.{ascend}
 use Rattle.sr_box.specs.Points.{Rect, in_any}
 use Rattle.sr_query.specs.declared.query.Part.{Part}
 use Rattle.sr_region.specs.declared.region.Region.{Region}
-use Rattle.sr_region.specs.Regions.{rank, is_in, IsPart}
 use Rattle.sr_store.specs.declared.store.Arrival.{Arrival}
 use Rattle.sr_store.specs.declared.store.Store.{Store}
 use Rattle.sr_store.specs.Classes.{occurs}
-use Rattle.sr_store.specs.Told.{Told, told_of, IsTold, IsTrueOf, AreTrueOf}
 use Rattle.sr_store.specs.Stores.{IsOfSchema, IsStore, cover_of, IsAbsorbedIn}
-use Rattle.sr_store.specs.Answered.{AreApart, HaveArrived}
+use Rattle.sr_store.specs.Answered.{AreApart}
 use Rattle.sr_store.specs.Making.{HaveNoCommon}
 use Rattle.sr_store.specs.Noticed.{IsTellOf}
 use Rattle.sr_store.proofs.Covering.{cover_has}

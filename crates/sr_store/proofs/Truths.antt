@@ -8,11 +8,12 @@ use Rattle.sr_cell.specs.declared.table.Table.{Table}
 use Rattle.sr_cell.specs.Attrs.{has_column, project}
 use Rattle.sr_cell.specs.Cells.{Row}
 use Rattle.sr_cell.specs.Columns.{table_at, is_point}
+use Rattle.sr_cell.proofs.Lists.{filter-filter}
 use Rattle.sr_model.specs.SortedRows.{ascend, with_rows}
 use Rattle.sr_box.specs.Points.{Rect, Points, in_any, rect_fits, constrains_only, AreSame}
 use Rattle.sr_rows.specs.Places.{is_apart}
 use Rattle.sr_rows.proofs.Order.{is_first, ascend-tail, ascend-first}
-use Rattle.sr_rows.proofs.Parts.{with_rows-filters}
+use Rattle.sr_rows.proofs.Parts.{with_rows-filters, first-filter}
 use Rattle.sr_region.specs.declared.region.Region.{Region}
 use Rattle.sr_region.specs.Regions.{rank, is_in, IsPart, IsRegion, joined}
 use Rattle.sr_region.proofs.Parts.{is_in-point, is_in-append}
@@ -23,15 +24,6 @@ use Rattle.sr_store.specs.Stores.{IsOfSchema}
 pub filter-on : (P : Row → Type 0) (f g : Row → Bool) → ((row : Row) → P row → f row ≡ g row) → (rows : List Row) → All P rows → filter f rows ≡ filter g rows
 filter-on P f g same [] all = refl
 filter-on P f g same (row ∷ rows) all = rw (same row (All-head P row rows all), filter-on P f g same rows (All-tail P row rows all)) refl
-
-pub filter-filter : (f g : Row → Bool) (rows : List Row) → filter g (filter f rows) ≡ filter (λ row. f row && g row) rows
-filter-filter f g [] = refl
-filter-filter f g (row ∷ rows) = go (f row) (filter-filter f g rows)
-  where
-    go : (b : Bool) → filter g (filter f rows) ≡ filter (λ row. f row && g row) rows
-        → filter g (cond b (row ∷ filter f rows) (filter f rows)) ≡ cond (b && g row) (row ∷ filter (λ row. f row && g row) rows) (filter (λ row. f row && g row) rows)
-    go true ih = rw ih refl
-    go false ih = ih
 
 -- a row of some columns lies in rects where a point with its cells does
 pub in-part : (cs : List Column) (a : ℕ) (rects : List Rect) (row : Row) → list_all (rect_fits cs) rects ≡ true → list_all (constrains_only a 0) rects ≡ true → (part : IsPart cs a row)
@@ -102,14 +94,6 @@ one-apart key row (r ∷ rows) f = let ih = one-apart key row rows (grind arith)
 more-apart : (key : ℕ) (row : Row) (rows others : List Row) → is_first key row others ≡ true → list_all (is_apart key rows) others ≡ true → list_all (is_apart key (row ∷ rows)) others ≡ true
 more-apart key row rows [] f h = refl
 more-apart key row rows (r ∷ others) f h = let ih = more-apart key row rows others (grind arith) (grind arith) in grind (arith, ih)
-
-pub first-filter : (key : ℕ) (r : Row) (f : Row → Bool) (rows : List Row) → is_first key r rows ≡ true → is_first key r (filter f rows) ≡ true
-first-filter key r f [] h = refl
-first-filter key r f (s ∷ rows) h = go (f s) (first-filter key r f rows (grind arith))
-  where
-    go : (b : Bool) → is_first key r (filter f rows) ≡ true → is_first key r (cond b (s ∷ filter f rows) (filter f rows)) ≡ true
-    go true ih = grind (arith, ih)
-    go false ih = ih
 
 filters-apart : (key : ℕ) (f g : Row → Bool) (all : List Row) → ascend key all ≡ true → list_all (λ row. not (f row && g row)) all ≡ true
     → list_all (is_apart key (filter f all)) (filter g all) ≡ true

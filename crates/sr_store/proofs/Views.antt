@@ -1,6 +1,6 @@
 -- Regions, and how a policy sees them, place by place; and how both grow fewer.
 use Rattle.std.proofs.Common.{◌≡◌, ℕ, ◌+◌, ◌<◌, ◌≤◌, zero, suc, true, false, List, [], ◌∷◌, ◌++◌, length, take, drop, refl, sym, ap, subst, ◌∙◌, arith}
-use Rattle.std.specs.Prelude.{Bool, nat_lt, Some, slice_get}
+use Rattle.std.specs.Prelude.{Bool, nat_lt}
 use Rattle.std.specs.List.{AllZip}
 use Rattle.std.proofs.lemmas.Bool.Decides.{nat_tests}
 use Rattle.std.proofs.lemmas.List.{append_assoc, append-nil}
@@ -45,14 +45,6 @@ pub victim_within : (policy : Policy) (last : List Last) (views others : List Cl
 victim_within policy last views others n same v = subst (λ (vs : List ClassView). n < length vs) same (slice_get_within others n v.class v.there)
 
 -- ---- one region after another
-
-fewer-after : {A : Type 0} (xs : List A) (n : ℕ) (x : A) → slice_get xs n ≡ Some x → length (take n xs ++ drop (suc n) xs) + 1 ≡ length xs
-fewer-after [] n x is = absurd (cc)
-fewer-after (y ∷ xs) zero x is = omega arith
-fewer-after (y ∷ xs) (suc n) x is = let ih = fewer-after xs n x is in omega (arith, ih)
-
-pub fewer_without : (n : ℕ) (gs : List Region) (g : Region) → slice_get gs n ≡ Some g → length (without n gs) < length gs
-fewer_without n gs g is = let le = fewer-after gs n g is in let e : suc n ≡ n + 1 = omega arith in let f : length (take n gs ++ drop (n + 1) gs) + 1 ≡ length gs = subst (λ m. length (take n gs ++ drop m gs) + 1 ≡ length gs) e le in omega (arith, f)
 
 -- what was dropped so far: whatever else has to be dropped stands behind it
 pub record DropsSoFar (schema : List Table) (policy : Policy) (last : List Last) (cause : Cause) (size : List Region → ℕ) (limit : ℕ) (old mid : Fitting) : Type 0 where

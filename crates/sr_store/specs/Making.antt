@@ -1,5 +1,5 @@
 -- Steps on the way to the new regions.
-use Rattle.std.specs.Prelude.{ℕ, Bool, true, false, not, ◌&&◌, ◌==◌, ◌+◌, ◌≤◌, map, filter, flat_map, IsTrue, List, [], ◌∷◌, ◌++◌, ◌≡◌, Option, None, Some, length, ◌<◌}
+use Rattle.std.specs.Prelude.{ℕ, Bool, true, false, not, ◌&&◌, ◌==◌, ◌+◌, ◌≤◌, map, filter, flat_map, IsTrue, List, [], ◌∷◌, ◌++◌, ◌≡◌, Option, length, ◌<◌}
 use Rattle.std.specs.List.{list_all, All, prefix_len}
 use Rattle.sr_cell.specs.declared.cause.Cause.TheVariants.{Pieces}
 use Rattle.sr_cell.specs.declared.table.Column.{Column}
@@ -10,7 +10,6 @@ use Rattle.sr_cell.specs.Cells.{Row, cell_at}
 use Rattle.sr_model.specs.SortedRows.{ascend, has_key}
 use Rattle.sr_box.specs.Points.{Rect, in_any, rect_fits}
 use Rattle.sr_union.specs.Pieces.{IsWithin}
-use Rattle.sr_history.specs.declared.mark.Mark.{Mark}
 use Rattle.sr_query.specs.declared.query.Part.{Part}
 use Rattle.sr_region.specs.declared.region.Region.{Region}
 use Rattle.sr_region.specs.Regions.{rank}

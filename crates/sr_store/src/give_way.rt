@@ -4,9 +4,9 @@ ghost use Rattle.std.specs.List.{All};
 ghost use Rattle.sr_cell.specs.Cells.{cell_at};
 ghost use Rattle.sr_model.specs.SortedRows.{ascend};
 ghost use Rattle.sr_region.specs.Regions.{rank};
-ghost use Rattle.sr_region.specs.Applied.{without_key};
 ghost use Rattle.sr_store.specs.Answered.{gives_way, giving_way};
 ghost use Rattle.sr_store.specs.Making.{without_keys, IsByKey};
+ghost use Rattle.sr_rows.specs.Keys.{without_key};
 
 use crate::store::Arrival;
 use sr_cell::cell::{Cell, Row, Rows};

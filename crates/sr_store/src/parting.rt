@@ -17,8 +17,45 @@ pub(crate) struct Parted {
     pub(crate) flagged: Seq<Region>,
 }
 
+/// So many regions are taken out one by one; for more of them all are moved.
+const FEW: usize = 4;
+
+/// Whether few flags are set.
+fn are_few(flags: &[bool]) -> bool {
+    flags.iter().filter(|flag| **flag).count() <= FEW
+}
+
 /// The regions without flag, and those with one.
 pub(crate) fn sift(alloc: Global, regions: Seq<Region>, flags: &[bool]) -> Result<Parted, NoMemory>
+    requires { length flags.now ≡ length regions }
+    ensures plain { IfOk result (λ both. both.plain ≡ flagged false flags.now regions) }
+    ensures flagged { IfOk result (λ both. both.flagged ≡ flagged true flags.now regions) }
+{
+    if are_few(flags) {
+        take_out(alloc, regions, flags)
+    } else {
+        move_all(alloc, regions, flags)
+    }
+}
+
+/// Takes out the regions with a flag, the last first; the others stay where they are, but for what closes the gaps.
+fn take_out(alloc: Global, regions: Seq<Region>, flags: &[bool]) -> Result<Parted, NoMemory>
+    requires { length flags.now ≡ length regions }
+    ensures plain { IfOk result (λ both. both.plain ≡ flagged false flags.now regions) }
+    ensures flagged { IfOk result (λ both. both.flagged ≡ flagged true flags.now regions) }
+{
+    let mut plain = regions;
+    let mut flagged = Seq::new(alloc);
+    for i in (0..flags.len()).rev() {
+        if flags[i] {
+            flagged.insert(0, plain.remove(i))?;
+        }
+    }
+    Ok(Parted { plain, flagged })
+}
+
+/// Moves each region to those without flag, or to those with one.
+fn move_all(alloc: Global, regions: Seq<Region>, flags: &[bool]) -> Result<Parted, NoMemory>
     requires { length flags.now ≡ length regions }
     ensures plain { IfOk result (λ both. both.plain ≡ flagged false flags.now regions) }
     ensures flagged { IfOk result (λ both. both.flagged ≡ flagged true flags.now regions) }

@@ -1,6 +1,6 @@
 -- What is left of rects, from what was cut and tidied.
 use Rattle.std.proofs.Common.{◌≡◌, ◌≢◌, ℕ, ◌<◌, ◌≤◌, ◌*◌, ◌⊎◌, ◌↔◌, inl, inr, Bool, true, false, List, [], ◌∷◌, ◌++◌, length, refl, arith, ◌∙◌, sym, ap, subst}
-use Rattle.std.specs.Prelude.{not, ◌&&◌, nat_eq, nat_le, slice_set, if◌then◌else◌}
+use Rattle.std.specs.Prelude.{not, ◌&&◌, nat_eq, nat_le, if◌then◌else◌}
 use Rattle.std.specs.List.{list_all, AllByRecursion}
 use Rattle.std.proofs.lemmas.Bool.Decides.{nat_tests}
 use Rattle.std.proofs.lemmas.List.{append-nil}
@@ -9,6 +9,7 @@ use Rattle.sr_cell.specs.Attrs.{has_column}
 use Rattle.sr_cell.specs.Cells.{Row}
 use Rattle.sr_cell.specs.Columns.{is_point}
 use Rattle.sr_box.specs.Points.{Rect, in_any, times, rect_fits, constrained, IsEssential, HasPoint, HasNoPoint}
+use Rattle.sr_box.proofs.Essential.{essential-same}
 use Rattle.sr_union.specs.Pieces.{IsMinus, IsOnce, IsWithin, AllConstrainEssential}
 use Rattle.sr_union.specs.Grid.{AreCutFrom, grid, have_first}
 use Rattle.sr_union.proofs.Times.{in_any-times}
@@ -32,18 +33,10 @@ minus_is cs rects cover left minus p e = in_any-times left p ∙ left_point (in_
 pub once_left : (cs : List Column) (rects once cover left : List Rect) → IsOnce cs rects once → IsMinus cs once cover left → (p : Row) → is_point cs p ≡ true → in_any left p ≡ left_over rects cover p
 once_left cs rects once cover left is minus p e = minus_is cs once cover left minus p e ∙ ap (λ b. b && not (in_any cover p)) (in_any-once cs rects once is p e)
 
-essential_same : (cs : List Column) (a b : Row → Bool) (c : ℕ) → ((p : Row) → is_point cs p ≡ true → a p ≡ b p) → IsEssential cs a c → IsEssential cs b c
-essential_same cs a b c same e = record {
-  inside = e.inside;
-  other = e.other;
-  is_inside = (e.is_inside.0, sym (same e.inside e.is_inside.0) ∙ e.is_inside.1);
-  is_outside = (e.is_outside.0, sym (same (slice_set e.inside c e.other) e.is_outside.0) ∙ e.is_outside.1);
-}
-
 needs_same : (cs : List Column) (need : ℕ) (a b : Row → Bool) (c : ℕ) → ((p : Row) → is_point cs p ≡ true → a p ≡ b p)
     → (has_column need c ≡ true) ⊎ IsEssential cs a c → (has_column need c ≡ true) ⊎ IsEssential cs b c
 needs_same cs need a b c same (inl e) = inl e
-needs_same cs need a b c same (inr e) = inr (essential_same cs a b c same e)
+needs_same cs need a b c same (inr e) = inr (essential-same cs a b c same e)
 
 bound_same : (cs : List Column) (need : ℕ) (a : Row → Bool) (left rest : List Rect) → ((p : Row) → is_point cs p ≡ true → in_any left p ≡ a p) → AllConstrainEssential cs need left rest
     → AllByRecursion (λ r. (c : ℕ) → has_column (constrained r) c ≡ true → (has_column need c ≡ true) ⊎ IsEssential cs a c) rest

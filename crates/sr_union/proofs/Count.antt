@@ -14,11 +14,11 @@ use Rattle.sr_box.specs.declared.span.Span.{Span}
 use Rattle.sr_box.specs.declared.span.Span.TheVariants.{Full, Nums, Strs}
 use Rattle.sr_cell.specs.Cells.{cell_eq}
 use Rattle.sr_cell.specs.Columns.{in_column, in_kind, is_point}
+use Rattle.sr_cell.proofs.Order.{text_le-refl, cell_eq-sound, cell_eq-refl}
 use Rattle.sr_box.specs.Spans.{in_span, fits_kind}
 use Rattle.sr_box.specs.Points.{in_rect, rect_fits, times}
 use Rattle.sr_box.specs.Corners.{cuts_of, first_value}
 use Rattle.sr_union.specs.Grid.{is_among, has_cut, first_cuts, others, distinct, grid, CutsAmong, AreCutFrom, have_first}
-use Rattle.sr_box.proofs.Order.{text_le-refl, cell_eq-sound, cell_eq-refl}
 
 abbrev behind : Cell → List (List Cell) → List (List Cell)
 behind v [] = []
@@ -117,10 +117,6 @@ held-corners (c ∷ cs) given [] f h = absurd (grind arith)
 held-corners (c ∷ cs) given (s ∷ r) f h =
     let ih = held-corners cs (others given) r (grind arith) h.1 in
     let x = held-crossed s r (starts c given) (corners cs (others given)) (start-in c.kind c.lo c.hi s (first_cuts c given) (grind arith) h.0) in omega (arith, ih, x)
-
-total-none : (ps : List (List Cell)) → total [] ps ≡ 0
-total-none [] = refl
-total-none (p ∷ ps) = let ih = total-none ps in omega (arith, ih)
 
 total-more : (r : List Span) (rs : List (List Span)) (ps : List (List Cell)) → total (r ∷ rs) ps ≡ held r ps + total rs ps
 total-more r rs [] = refl

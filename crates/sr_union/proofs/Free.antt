@@ -2,7 +2,7 @@
 use Rattle.std.proofs.Common.{◌≡◌, ℕ, zero, suc, true, false, List, [], ◌∷◌, ◌++◌, ◌+◌, ◌*◌, ◌/◌, ◌%◌, ◌^◌, ◌<◌, ◌≤◌, ◌⊎◌, inl, inr, length, slice_index_or, refl, arith, ◌∙◌, sym, ap, subst}
 use Rattle.std.specs.Prelude.{Bool, ◌||◌, ◌==◌, slice_set, if◌then◌else◌, ℤ, pos, ◌+ℤ◌, int_lt, Some, None}
 use Rattle.std.specs.List.{list_all}
-use Rattle.std.proofs.Math.Nat.{pow-succ', div-div-eq-div-mul, add-mul-div_left, add-mul-mod_self_left, zero-div, div-one}
+use Rattle.std.proofs.Math.Nat.{pow-succ', div-div-eq-div-mul, add-mul-div_left, add-mul-mod_self_left, div-one}
 use Rattle.sr_cell.specs.declared.cell.Cell.{Cell}
 use Rattle.sr_cell.specs.declared.cell.Cell.TheVariants.{Num, Str}
 use Rattle.sr_cell.specs.declared.table.Kind.{Kind}
@@ -15,19 +15,21 @@ use Rattle.sr_box.specs.declared.span.Span.{Span}
 use Rattle.sr_box.specs.declared.span.Span.TheVariants.{Full, Nums, Strs}
 use Rattle.sr_box.specs.Spans.{fits_kind}
 use Rattle.sr_box.specs.Points.{Rect, in_rect, in_any, rect_fits, constrains, constrained, IsEssential}
-use Rattle.sr_union.specs.Grid.{is_among, has_cut, first_cuts, others, CutsAmong, AreCutFrom, grid, have_first}
+use Rattle.sr_union.specs.Grid.{is_among, has_cut, first_cuts, others, CutsAmong, AreCutFrom, have_first}
 use Rattle.sr_union.specs.Free.{free_all, span_at, is_free, IsSettled, IsNext, kept, essential, freed}
 use Rattle.sr_union.proofs.Low.{low_of, low-in}
 use Rattle.sr_union.proofs.Cuts.{is_among-append}
 use Rattle.sr_union.proofs.Inner.{fits_length}
-use Rattle.sr_union.proofs.Once.{are_self, are_at, grid_among}
-use Rattle.sr_union.proofs.Among.{AreCutFrom-append}
-use Rattle.sr_union.proofs.Parts.{are_part, are_fit}
-use Rattle.std.proofs.lemmas.List.{append-nil}
-use Rattle.sr_box.proofs.Order.{cell_eq-refl}
+use Rattle.sr_union.proofs.Once.{are_self}
+use Rattle.sr_union.proofs.Parts.{are_fit}
 use Rattle.sr_box.specs.Corners.{num_cut, cuts_of}
-use Rattle.sr_union.specs.Pieces.{HasOutside, IsOnce, IsWithin, ConstrainsEssential, AllConstrainEssential}
+use Rattle.sr_union.specs.Pieces.{HasOutside, IsWithin, ConstrainsEssential, AllConstrainEssential}
 use Rattle.std.proofs.lemmas.Bool.{cases_lt}
+use Rattle.sr_cell.proofs.Booleans.{same_tests}
+use Rattle.sr_cell.proofs.Order.{cell_eq-refl}
+use Rattle.sr_cell.proofs.ColumnSets.{has_column-none}
+use Rattle.sr_box.proofs.Essential.{essential-same}
+use Rattle.sr_union.proofs.SpanCuts.{no_cut-full}
 
 -- a point of a freed rect, and a point of the rect that differs in that column alone
 record Swapped (cs : List Column) (r : Rect) (c : ℕ) (p : Row) : Type 0 where
@@ -112,18 +114,10 @@ constrained-behind b n c = ap (λ m. m % 2 == 1) (ap (λ d. ((if b then 1 else 0
     half true = add-mul-div_left 1 n (omega arith) ∙ omega arith
     half false = add-mul-div_left 0 n (omega arith) ∙ omega arith
 
-none-constrained : (c : ℕ) → has_column 0 c ≡ false
-none-constrained c = rw (zero-div (2 ^ c)) refl
-
 pub constrained-is : (r : Rect) (c : ℕ) → has_column (constrained r) c ≡ constrains (span_at c r)
-constrained-is [] c = none-constrained c
+constrained-is [] c = has_column-none c
 constrained-is (s ∷ r) zero = constrained-first (constrains s) (constrained r)
 constrained-is (s ∷ r) (suc c) = constrained-behind (constrains s) (constrained r) c ∙ constrained-is r c
-
--- the cuts of freed rects
-no_cut : (k : Kind) (low high : ℤ) (v : Cell) → has_cut k low high Full v ≡ false
-no_cut Numbers low high v = refl
-no_cut Texts low high v = refl
 
 free-fits : (cs : List Column) (r : Rect) (c : ℕ) → rect_fits cs r ≡ true → rect_fits cs (slice_set r c Full) ≡ true
 free-fits cs [] c f = f
@@ -134,7 +128,7 @@ free-fits (k ∷ cs) (s ∷ r) (suc c) f = let ih = free-fits cs r c (grind arit
 free-among : (cs : List Column) (r : Rect) (c : ℕ) (given : List Rect) → CutsAmong cs r given → CutsAmong cs (slice_set r c Full) given
 free-among [] r c given h = tt
 free-among (k ∷ cs) [] c given h = tt
-free-among (k ∷ cs) (s ∷ r) zero given h = ((λ v e. let n = no_cut k.kind k.lo k.hi v in absurd (grind (arith, e, n))), h.1)
+free-among (k ∷ cs) (s ∷ r) zero given h = ((λ v e. let n = no_cut-full k.kind k.lo k.hi v in absurd (grind (arith, e, n))), h.1)
 free-among (k ∷ cs) (s ∷ r) (suc c) given h = (h.0, free-among cs r c (others given) h.1)
 
 pub free_all-are : (cs : List Column) (given rects : List Rect) (c : ℕ) → AreCutFrom cs given rects → AreCutFrom cs given (free_all c rects)
@@ -162,7 +156,7 @@ free-cuts c ([] ∷ given) v h = free-cuts c given v (grind arith)
 free-cuts c ((s ∷ r) ∷ given) v h = is_among-append (cuts_of c.kind c.lo c.hi s) (first_cuts c given) v ∙ go s (grind arith) (free-cuts c given v (grind arith))
   where
     go : (s : Span) → constrains s ≡ false → is_among (first_cuts c given) v ≡ false → (is_among (cuts_of c.kind c.lo c.hi s) v || is_among (first_cuts c given) v) ≡ false
-    go Full e ih = let n = no_cut c.kind c.lo c.hi v in grind (arith, n, ih)
+    go Full e ih = let n = no_cut-full c.kind c.lo c.hi v in grind (arith, n, ih)
     go (Nums lo hi) e ih = absurd (grind arith)
     go (Strs lo hi) e ih = absurd (grind arith)
 
@@ -204,15 +198,6 @@ pub settled_all : (cs : List Column) (keep : ℕ) (given rects tidy : List Rect)
 settled_all cs keep given rects [] s h = tt
 settled_all cs keep given rects (r ∷ tidy) s h = (settled_one cs keep given rects r s h.0 h.1, settled_all cs keep given rects tidy s h.2)
 
--- the same points give the same essential columns
-essential-same : (cs : List Column) (a b : Row → Bool) (c : ℕ) → ((p : Row) → is_point cs p ≡ true → a p ≡ b p) → IsEssential cs a c → IsEssential cs b c
-essential-same cs a b c same e = record {
-  inside = e.inside;
-  other = e.other;
-  is_inside = (e.is_inside.0, sym (same e.inside e.is_inside.0) ∙ e.is_inside.1);
-  is_outside = (e.is_outside.0, sym (same (slice_set e.inside c e.other) e.is_outside.0) ∙ e.is_outside.1);
-}
-
 -- what stands after the first columns have been looked at
 pub record IsTidied (cs : List Column) (keep n : ℕ) (given rects : List Rect) : Type 0 where
   pub same : (p : Row) → is_point cs p ≡ true → in_any rects p ≡ in_any given p
@@ -239,35 +224,16 @@ settled_at cs keep n given rects before at k l = go (cases_lt k n)
     go (inl x) = before k x
     go (inr x) = let is : n ≡ k = omega (arith, l, x) in subst (IsSettled cs keep given rects) is at
 
-both_ways : (a b : Bool) → (a ≡ true → b ≡ true) → (b ≡ true → a ≡ true) → a ≡ b
-both_ways true true f g = refl
-both_ways true false f g = sym (f refl)
-both_ways false true f g = g refl
-both_ways false false f g = refl
-
 pub tidied_more : (cs : List Column) (keep n : ℕ) (given rects next : List Rect) → IsTidied cs keep n given rects → IsNext cs keep n rects next → IsTidied cs keep (n + 1) given next
 tidied_more cs keep n given rects next t (kept h e) = subst (IsTidied cs keep (n + 1) given) (sym e) (record { same = t.same; cuts = t.cuts; settled = settled_at cs keep n given rects t.settled (inl h); as_many = t.as_many })
 tidied_more cs keep n given rects next t (essential h e) =
     subst (IsTidied cs keep (n + 1) given) (sym e) (record { same = t.same; cuts = t.cuts; settled = settled_at cs keep n given rects t.settled (inr (inl (essential-same cs (in_any rects) (in_any given) n t.same h))); as_many = t.as_many })
 tidied_more cs keep n given rects next t (freed h e) = subst (IsTidied cs keep (n + 1) given) (sym e) (record {
-  same = λ p is. both_ways (in_any (free_all n rects) p) (in_any rects p) (h p is) (free_all-has n rects p) ∙ t.same p is;
+  same = λ p is. same_tests (in_any (free_all n rects) p) (in_any rects p) (h p is) (free_all-has n rects p) ∙ t.same p is;
   cuts = free_all-are cs given rects n t.cuts;
   settled = settled_at cs keep n given (free_all n rects) (λ k l. settled_stays cs keep n k given rects (t.settled k l)) (inr (inr (free_all-free n rects)));
   as_many = free_all-length n rects ∙ t.as_many;
 })
-
--- the points of the tidied rects, once
-pub tidied_once : (cs : List Column) (given rects tidy : List Rect) → ((p : Row) → is_point cs p ≡ true → in_any rects p ≡ in_any given p) → IsOnce cs rects tidy → IsOnce cs given tidy
-tidied_once cs given rects tidy same h p e = h p e ∙ ap (λ b. if b then 1 else 0) (same p e)
-
--- one rect of a list beside others
-pub within_grid : (cs : List Column) (rects others items : List Rect) (i : ℕ) (r : Rect) → list_all (rect_fits cs) rects ≡ true → list_all (rect_fits cs) others ≡ true → items ≡ rects → i < length items
-    → r ≡ slice_index_or items i r → grid cs (r ∷ others) ≤ grid cs (rects ++ others)
-within_grid cs rects others items i r f g e l is =
-    let at = subst (λ xs. r ≡ slice_index_or xs i r) e is in let short = subst (λ xs. i < length xs) e l in
-    grid_among cs (rects ++ others) (r ∷ others) (AreCutFrom-append cs (rects ++ others) (r ∷ []) others
-    (subst (λ x. AreCutFrom cs (rects ++ others) (x ∷ [])) (sym at) (are_at cs (rects ++ others) rects i r (are_part cs [] rects others f) short))
-    (subst (λ all. AreCutFrom cs (rects ++ all) others) (append-nil others) (are_part cs rects others [] g)))
 
 in_any_at : (rects : List Rect) (i : ℕ) (d : Rect) (p : Row) → i < length rects → in_rect (slice_index_or rects i d) p ≡ true → in_any rects p ≡ true
 in_any_at [] i d p l h = absurd (omega (arith, l))
@@ -302,10 +268,6 @@ free_all-same c (r ∷ rects) h = let one = free-same r c (grind (arith, h)) in 
 pub free_next : (cs : List Column) (keep c : ℕ) (rects : List Rect) → is_free c rects ≡ true → IsNext cs keep c rects rects
 free_next cs keep c rects h = let same = free_all-same c rects h in
     freed (subst (λ rs. IsWithin cs rs rects) (sym same) (λ p is inside. inside)) (sym same)
-
-pub free_grid : (cs : List Column) (rects next : List Rect) (c : ℕ) → list_all (rect_fits cs) rects ≡ true → next ≡ free_all c rects → grid cs (next ++ rects) ≤ grid cs rects
-free_grid cs rects next c f e = grid_among cs rects (next ++ rects)
-    (AreCutFrom-append cs rects next rects (subst (AreCutFrom cs rects) (sym e) (free_all-are cs rects rects c (are_self cs rects f))) (are_self cs rects f))
 
 pub free_needed : (cs : List Column) (keep c : ℕ) (rects next : List Rect) → have_first cs ≡ true → list_all (rect_fits cs) rects ≡ true → c < length cs → next ≡ free_all c rects → HasOutside cs next rects
     → IsNext cs keep c rects rects

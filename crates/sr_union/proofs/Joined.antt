@@ -2,7 +2,7 @@
 use Rattle.std.proofs.Common.{◌≡◌, ℕ, zero, suc, true, false, List, [], ◌∷◌, ◌++◌, ◌+◌, ◌-◌, ◌<◌, length, take, drop, slice_index_or, refl, arith, ◌∙◌, sym, append_assoc, ap, subst}
 use Rattle.std.specs.Prelude.{Bool, ◌||◌, Option, Some, None, ℤ, pos, ◌+ℤ◌, if◌then◌else◌, slice_get, slice_set}
 use Rattle.std.specs.List.{list_all}
-use Rattle.std.proofs.lemmas.List.{length-append, length-drop, take_more}
+use Rattle.std.proofs.lemmas.List.{length-append, length-drop, take_more, take_all}
 use Rattle.std.proofs.lemmas.List.Folds.{list_all-append}
 use Rattle.std.proofs.lemmas.Int.{ints}
 use Rattle.sr_cell.specs.declared.cell.Cell.{Cell}
@@ -12,18 +12,19 @@ use Rattle.sr_cell.specs.declared.table.Kind.TheVariants.{Num as Numbers, Str as
 use Rattle.sr_cell.specs.declared.table.Column.{Column}
 use Rattle.sr_cell.specs.Cells.{Row}
 use Rattle.sr_cell.specs.Columns.{in_kind, in_column, is_point}
+use Rattle.sr_cell.proofs.Order.{text_le-trans, text_le-total}
 use Rattle.sr_box.specs.declared.span.Span.{Span}
 use Rattle.sr_box.specs.declared.span.Span.TheVariants.{Full, Nums, Strs}
 use Rattle.sr_box.specs.Spans.{in_span, is_whole, fits_kind, span_fits}
 use Rattle.sr_box.specs.Points.{Rect, in_rect, rect_fits, times}
-use Rattle.sr_box.proofs.Order.{text_le-trans, text_le-total, is_below-between}
+use Rattle.sr_box.proofs.Order.{is_below-between}
 use Rattle.sr_union.specs.Grid.{is_among, has_cut, first_cuts, others, CutsAmong, AreCutFrom}
 use Rattle.sr_union.specs.Pieces.{IsMinus, IsOnce}
 use Rattle.sr_union.specs.Joined.{AreBeside, numbers, texts, IsBoth, IsJoined}
 use Rattle.sr_union.proofs.Times.{times-append}
 use Rattle.sr_union.proofs.Cuts.{nums-cut, strs-cut}
 use Rattle.sr_union.proofs.Among.{AreCutFrom-append}
-use Rattle.sr_union.proofs.Parts.{are_fit, take_all}
+use Rattle.sr_union.proofs.Parts.{are_fit}
 use Rattle.sr_union.proofs.Inner.{fits_length}
 use Rattle.sr_union.proofs.Once.{are_self, are_trans, once_more, with_one}
 
@@ -196,7 +197,7 @@ joined_trans cs a b c h k = record {
 pub joined_fit : (cs : List Column) (a b : List Rect) → IsJoined cs a b → list_all (rect_fits cs) a ≡ true → list_all (rect_fits cs) b ≡ true
 joined_fit cs a b h f = are_fit cs a b (h.cuts a (are_self cs a f))
 
-are_parts : (cs : List Column) (given a b : List Rect) → AreCutFrom cs given (a ++ b) → AreCutFrom cs given a × AreCutFrom cs given b
+pub are_parts : (cs : List Column) (given a b : List Rect) → AreCutFrom cs given (a ++ b) → AreCutFrom cs given a × AreCutFrom cs given b
 are_parts cs given [] b h = (tt, h)
 are_parts cs given (r ∷ a) b h = let ih = are_parts cs given a b h.2 in ((h.0, h.1, ih.0), ih.1)
 
@@ -255,8 +256,8 @@ fits_at (d ∷ cs) (x ∷ r) (suc k) c s f l i j = fits_at cs r k c s (grind (ar
 rest_same : (r q : Rect) (k : ℕ) → take (length r - (k + 1)) (drop (k + 1) r) ≡ take (length q - (k + 1)) (drop (k + 1) q) → drop (suc k) r ≡ drop (suc k) q
 rest_same r q k e =
     let more : k + 1 ≡ suc k = omega arith in
-    let l = take_all (drop (k + 1) r) (length r - (k + 1)) (let x = length-drop (k + 1) r in omega (arith, x)) in
-    let m = take_all (drop (k + 1) q) (length q - (k + 1)) (let x = length-drop (k + 1) q in omega (arith, x)) in
+    let l = take_all (length r - (k + 1)) (drop (k + 1) r) (let x = length-drop (k + 1) r in omega (arith, x)) in
+    let m = take_all (length q - (k + 1)) (drop (k + 1) q) (let x = length-drop (k + 1) q in omega (arith, x)) in
     subst (λ n. drop n r ≡ drop n q) more (sym l ∙ e ∙ m)
 
 -- two rects of which a test has found that they differ in the k-th column alone

@@ -16,3 +16,5 @@ pub mod Joined
 pub mod Staying
 pub mod Searching
 pub mod Slices
+pub mod Distinct
+pub mod SpanCuts

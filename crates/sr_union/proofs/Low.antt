@@ -10,12 +10,12 @@ use Rattle.sr_cell.specs.declared.table.Kind.{Kind}
 use Rattle.sr_cell.specs.declared.table.Kind.TheVariants.{Num as Numbers, Str as Texts}
 use Rattle.sr_cell.specs.Cells.{Row}
 use Rattle.sr_cell.specs.Columns.{in_kind, is_point}
+use Rattle.sr_cell.proofs.Order.{text_le-refl}
 use Rattle.sr_box.specs.declared.span.Span.{Span}
 use Rattle.sr_box.specs.declared.span.Span.TheVariants.{Full, Nums, Strs}
 use Rattle.sr_box.specs.Spans.{in_span, fits_kind}
 use Rattle.sr_box.specs.Points.{Rect, in_rect, in_any, rect_fits, HasPoint}
 use Rattle.sr_box.specs.Corners.{first_value}
-use Rattle.sr_box.proofs.Order.{text_le-refl}
 use Rattle.sr_union.specs.Grid.{have_first}
 
 unfoldable pub low_of : Kind → ℤ → Span → Cell

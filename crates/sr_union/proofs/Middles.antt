@@ -5,6 +5,7 @@ use Rattle.std.specs.List.{list_any, list_all}
 use Rattle.std.proofs.lemmas.Int.{ints, to_z-of_z}
 use Rattle.std.proofs.lemmas.Bool.Decides.{nat_tests}
 use Rattle.std.proofs.lemmas.List.Folds.{list_all-append}
+use Rattle.std.specs.Cmp.{first_so, second_so}
 use Rattle.sr_cell.specs.declared.cell.Cell.{Cell}
 use Rattle.sr_cell.specs.declared.cell.Cell.TheVariants.{Num, Str}
 use Rattle.sr_cell.specs.declared.table.Column.{Column}
@@ -14,10 +15,10 @@ use Rattle.sr_box.specs.declared.span.Span.{Span}
 use Rattle.sr_box.specs.declared.span.Span.TheVariants.{Full, Nums, Strs}
 use Rattle.sr_cell.specs.Cells.{text_le}
 use Rattle.sr_cell.specs.Columns.{are_bytes, in_kind, in_column, is_point}
+use Rattle.sr_cell.proofs.Order.{text_le-trans, text_le-total, text_le-refl}
 use Rattle.sr_box.specs.Spans.{in_span, span_fits, fits_kind, end_bytes, is_below}
 use Rattle.sr_box.specs.Points.{Rect, in_rect, in_any, rect_fits}
 use Rattle.sr_box.specs.Corners.{first_value, first_span, other_spans}
-use Rattle.sr_box.proofs.Order.{text_le-refl, text_le-trans, text_le-total}
 use Rattle.sr_union.specs.Grid.{is_inner_kind, is_inner, all_inner, have_first}
 use Rattle.sr_union.proofs.Low.{low_point, low-point, low-in, has_point, low_of as cell_low}
 use Rattle.sr_union.specs.Centre.{bytes_1, bytes_2, bytes_3, first_bytes, low_of, high_text, high_of, least, greatest, middle, least_low, greatest_high, middle_at, centre_from, SameCentre}
@@ -68,13 +69,7 @@ least-le x y xs ys h = least-all (λ u. int_le (least y ys) u) x xs (walk (x ∷
   where
     walk : (us : List ℤ) → list_all (λ u. list_any (λ v. int_le v u) (y ∷ ys)) us ≡ true → list_all (λ u. int_le (least y ys) u) us ≡ true
     walk [] h = refl
-    walk (u ∷ us) h = let a = least-any y u ys (both (list_any (λ v. int_le v u) (y ∷ ys)) _ h) in let b = walk us (other (list_any (λ v. int_le v u) (y ∷ ys)) _ h) in grind (arith, a, b)
-      where
-        both : (a b : Bool) → (a && b) ≡ true → a ≡ true
-        both a b h = grind arith
-
-        other : (a b : Bool) → (a && b) ≡ true → b ≡ true
-        other a b h = grind arith
+    walk (u ∷ us) h = let a = least-any y u ys (first_so (list_any (λ v. int_le v u) (y ∷ ys)) _ h) in let b = walk us (second_so (list_any (λ v. int_le v u) (y ∷ ys)) _ h) in grind (arith, a, b)
 
 -- the order of first bytes
 mono_1 : (s t : List ℕ) → are_bytes s ≡ true → are_bytes t ≡ true → text_le s t ≡ true → (bytes_1 s ≤ bytes_1 t) × (bytes_1 s < 256)
@@ -227,13 +222,7 @@ greatest-le x y xs ys h = greatest-all (λ u. int_le u (greatest y ys)) x xs (wa
   where
     walk : (us : List ℤ) → list_all (λ u. list_any (λ v. int_le u v) (y ∷ ys)) us ≡ true → list_all (λ u. int_le u (greatest y ys)) us ≡ true
     walk [] h = refl
-    walk (u ∷ us) h = let a = greatest-any y u ys (both (list_any (λ v. int_le u v) (y ∷ ys)) _ h) in let b = walk us (other (list_any (λ v. int_le u v) (y ∷ ys)) _ h) in grind (arith, a, b)
-      where
-        both : (a b : Bool) → (a && b) ≡ true → a ≡ true
-        both a b h = grind arith
-
-        other : (a b : Bool) → (a && b) ≡ true → b ≡ true
-        other a b h = grind arith
+    walk (u ∷ us) h = let a = greatest-any y u ys (first_so (list_any (λ v. int_le u v) (y ∷ ys)) _ h) in let b = walk us (second_so (list_any (λ v. int_le u v) (y ∷ ys)) _ h) in grind (arith, a, b)
 
 -- the number of a point's value in the k-th column
 abbrev val_at : List Column → ℕ → List Cell → ℤ

@@ -1,50 +1,17 @@
 -- Fewer cuts, a smaller grid.
-use Rattle.std.proofs.Common.{◌≡◌, ◌≤◌, ◌+◌, true, false, List, [], ◌∷◌, length, refl, arith, ◌∙◌, sym, ap}
-use Rattle.std.specs.Prelude.{Bool, if◌then◌else◌}
-use Rattle.std.specs.List.{IsDistinct, AllByRecursion}
-use Rattle.std.specs.Cmp.{IsEquivalence}
-use Rattle.std.specs.Set.{is_member}
+use Rattle.std.proofs.Common.{◌≡◌, ◌≤◌, ◌+◌, true, List, [], ◌∷◌, length, arith, ◌∙◌, sym}
 use Rattle.std.proofs.lemmas.Map.Made.{length-le_from_is_member}
 use Rattle.std.proofs.lemmas.Nat.{mul-le}
 use Rattle.sr_cell.specs.declared.cell.Cell.{Cell}
 use Rattle.sr_cell.specs.declared.table.Column.{Column}
 use Rattle.sr_box.specs.declared.span.Span.{Span}
-use Rattle.sr_cell.specs.Cells.{cell_eq}
+use Rattle.sr_cell.proofs.Order.{cell_eq-laws}
 use Rattle.sr_box.specs.Points.{rect_fits}
 use Rattle.sr_box.specs.Corners.{cuts_of}
 use Rattle.sr_union.specs.Grid.{is_among, first_cuts, others, distinct, grid, CutsAmong, AreCutFrom}
 use Rattle.sr_union.proofs.Cuts.{is_among-append}
 use Rattle.sr_union.proofs.Count.{distinct-among}
-use Rattle.sr_box.proofs.Order.{cell_eq-sound, cell_eq-refl}
-
-cell_eq-symm : (u v : Cell) → cell_eq u v ≡ cell_eq v u
-cell_eq-symm u v = go (cell_eq u v) (cell_eq v u) refl refl
-  where
-    go : (a b : Bool) → cell_eq u v ≡ a → cell_eq v u ≡ b → a ≡ b
-    go true true x y = refl
-    go false false x y = refl
-    go true false x y = let e = cell_eq-sound u v x in sym (cell_eq-refl v) ∙ (ap (cell_eq v) (sym e) ∙ y)
-    go false true x y = let e = cell_eq-sound v u y in sym (sym (cell_eq-refl u) ∙ (ap (cell_eq u) (sym e) ∙ x))
-
-cell_eq-laws : IsEquivalence cell_eq
-cell_eq-laws = record { refl = cell_eq-refl; symm = cell_eq-symm; congr = λ u v w h. ap (λ x. cell_eq x w) (cell_eq-sound u v h) }
-
-member-is : (vs : List Cell) (q : Cell) → is_member cell_eq vs q ≡ is_among vs q
-member-is [] q = refl
-member-is (v ∷ vs) q = let ih = member-is vs q in let s = cell_eq-symm q v in grind (arith, ih, s)
-
-none-same : (v : Cell) (vs : List Cell) → is_among vs v ≡ false → AllByRecursion (λ y. cell_eq v y ≡ false) vs
-none-same v [] h = tt
-none-same v (u ∷ vs) h = (cell_eq-symm v u ∙ grind arith, none-same v vs (grind arith))
-
-distinct-is : (vs : List Cell) → IsDistinct cell_eq (distinct vs)
-unfolding IsDistinct
-distinct-is [] = tt
-distinct-is (v ∷ vs) = go (is_among vs v) refl (distinct-is vs) (distinct-among vs v)
-  where
-    go : (b : Bool) → is_among vs v ≡ b → IsDistinct cell_eq (distinct vs) → is_among (distinct vs) v ≡ is_among vs v → IsDistinct cell_eq (if b then distinct vs else v ∷ distinct vs)
-    go true e ih d = ih
-    go false e ih d = (none-same v (distinct vs) (d ∙ e), ih)
+use Rattle.sr_union.proofs.Distinct.{member-is, distinct-is}
 
 abbrev pub AllAmong : List Column → List (List Span) → List (List Span) → Type 0
 AllAmong [] a b = Unit {0}

@@ -20,9 +20,6 @@ pub in_any-append : (a b : List Rect) (p : Row) → in_any (a ++ b) p ≡ (in_an
 in_any-append [] b p = refl
 in_any-append (r ∷ a) b p = let ih = in_any-append a b p in grind (arith, ih)
 
-pub once_none : (cs : List Column) → IsOnce cs [] []
-once_none cs p e = refl
-
 -- one rect more, without the points that are there
 pub once_more : (cs : List Column) (done once left : List Rect) (r : Rect) → IsOnce cs done once → IsMinus cs (r ∷ []) once left → IsOnce cs (done ++ r ∷ []) (once ++ left)
 once_more cs done once left r h m p e =

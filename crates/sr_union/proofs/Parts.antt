@@ -1,5 +1,5 @@
 -- Rects and their own cuts; what is left after some of the others.
-use Rattle.std.proofs.Common.{◌≡◌, ℕ, ◌<◌, ◌≤◌, ◌+◌, ◌*◌, zero, suc, true, List, [], ◌∷◌, ◌++◌, length, take, slice_index_or, refl, arith, ◌∙◌, sym, append_assoc, subst, ap}
+use Rattle.std.proofs.Common.{◌≡◌, ℕ, ◌<◌, ◌≤◌, ◌+◌, ◌*◌, zero, suc, true, List, [], ◌∷◌, ◌++◌, length, take, slice_index_or, refl, arith, ◌∙◌, sym, append_assoc, subst}
 use Rattle.std.specs.List.{list_all}
 use Rattle.std.proofs.lemmas.List.Folds.{list_all-append}
 use Rattle.std.proofs.lemmas.List.{append-nil, take_more}
@@ -69,9 +69,3 @@ left_few cs rs qs k m d f g h = length-grid cs (rs ++ qs) (minus_all cs rs (take
 
 pub left_more : (cs : List Column) (rs qs : List (List Span)) (k : ℕ) (d : List Span) → k < length qs → minus_all cs rs (take (k + 1) qs) ≡ minus_each cs (minus_all cs rs (take k qs)) (slice_index_or qs k d)
 left_more cs rs qs k d l = rw (take_more qs k d l) (minus_all-append cs rs (take k qs) (slice_index_or qs k d ∷ []))
-
-pub take_all : {X : Type 0} (xs : List X) (k : ℕ) → length xs ≤ k → take k xs ≡ xs
-take_all [] zero h = refl
-take_all [] (suc k) h = refl
-take_all (x ∷ xs) zero h = absurd (omega arith)
-take_all (x ∷ xs) (suc k) h = ap (λ r. x ∷ r) (take_all xs k (omega arith))

@@ -2,7 +2,7 @@
 use Rattle.std.proofs.Common.{◌≡◌, ℕ, ◌<◌, ◌+◌, zero, suc, true, false, List, [], ◌∷◌, ◌++◌, length, drop, take, refl, arith, ◌∙◌, sym, ap, subst, slice_index_or, append_assoc}
 use Rattle.std.specs.Prelude.{Bool, ◌&&◌, ◌||◌, IsTrue, if◌then◌else◌}
 use Rattle.std.specs.List.{list_all, sum_by}
-use Rattle.std.proofs.lemmas.List.{append-nil, take_more}
+use Rattle.std.proofs.lemmas.List.{append-nil, take_more, take_all}
 use Rattle.std.proofs.lemmas.List.Folds.{list_all-append}
 use Rattle.std.proofs.lemmas.List.Sums.{sum_by-append, sum_by-cons}
 use Rattle.sr_cell.specs.declared.table.Column.{Column}
@@ -13,7 +13,7 @@ use Rattle.sr_union.specs.Grid.{have_first}
 use Rattle.sr_union.specs.Search.{from_met, is_nothing, is_covered, is_done, todos, steps, steps_of}
 use Rattle.sr_union.proofs.Times.{minus_all-times}
 use Rattle.sr_union.proofs.Among.{rect_minus-are}
-use Rattle.sr_union.proofs.Parts.{left_are, are_fit, are_part, take_all}
+use Rattle.sr_union.proofs.Parts.{left_are, are_fit, are_part}
 use Rattle.sr_union.proofs.Within.{within_from, outside_from}
 use Rattle.sr_union.specs.declared.search.Todo.{Todo}
 
@@ -93,7 +93,7 @@ nothing-not [] h e = absurd (cc)
 nothing-not (r ∷ rs) h e = absurd (cc)
 
 fit_left : (cs : List Column) (r : Rect) (qs : List Rect) → rect_fits cs r ≡ true → list_all (rect_fits cs) qs ≡ true → list_all (rect_fits cs) (minus_all cs (r ∷ []) qs) ≡ true
-fit_left cs r qs f g = subst (λ all. list_all (rect_fits cs) (minus_all cs (r ∷ []) all) ≡ true) (take_all qs (length qs) (omega arith))
+fit_left cs r qs f g = subst (λ all. list_all (rect_fits cs) (minus_all cs (r ∷ []) all) ≡ true) (take_all (length qs) qs (omega arith))
     (are_fit cs ((r ∷ []) ++ qs) (minus_all cs (r ∷ []) (take (length qs) qs)) (left_are cs (r ∷ []) qs (length qs) (grind (arith, f)) g))
 
 pub covered-within : (cs : List Column) (r : Rect) (qs : List Rect) → have_first cs ≡ true → rect_fits cs r ≡ true → list_all (rect_fits cs) qs ≡ true

@@ -1,7 +1,7 @@
 -- A rect cut column by column, from the first to the last.
 use Rattle.std.proofs.Common.{◌≡◌, ℕ, ◌<◌, ◌≤◌, ◌+◌, zero, suc, List, [], ◌∷◌, ◌++◌, length, take, drop, slice_index_or, refl, arith, ◌∙◌, ap, sym, subst, append_assoc}
 use Rattle.std.specs.Prelude.{Option, Some, None, map, option_to_list, slice_set}
-use Rattle.std.proofs.lemmas.List.{append-nil}
+use Rattle.std.proofs.lemmas.List.{append-nil, drop_all}
 use Rattle.sr_cell.specs.declared.table.Column.{Column}
 use Rattle.sr_box.specs.declared.span.Span.{Span}
 use Rattle.sr_box.specs.declared.span.Span.TheVariants.{Full}
@@ -82,16 +82,10 @@ step cs r q i c s t out next all l m n e f g h k =
     let u = placed r i (under c.lo s t) in let o = placed r i (over c.hi s t) in let rest = further cs r q i (meet s t) in
     ap (λ xs. xs ++ rest) h ∙ (append_assoc out (u ++ o) rest ∙ (ap (λ xs. out ++ xs) (append_assoc u o rest ∙ sym (pieces cs r q i c s t l m n e f g)) ∙ k))
 
-drop_all : {X : Type 0} (xs : List X) (i : ℕ) → length xs ≤ i → drop i xs ≡ []
-drop_all [] zero h = refl
-drop_all [] (suc i) h = refl
-drop_all (x ∷ xs) zero h = absurd (omega arith)
-drop_all (x ∷ xs) (suc i) h = drop_all xs i (omega (arith, h))
-
 -- at the end nothing is left to cut
 pub cut_all_columns : (cs : List Column) (r q : Rect) (i : ℕ) (out all : List Rect) → length cs ≤ i → out ++ ahead (take i r) (rect_minus (drop i cs) (drop i r) (drop i q)) ≡ all → out ≡ all
 cut_all_columns cs r q i out all l h =
-    let none : ahead (take i r) (rect_minus (drop i cs) (drop i r) (drop i q)) ≡ [] = ap (λ xs. ahead (take i r) (rect_minus xs (drop i r) (drop i q))) (drop_all cs i l) in
+    let none : ahead (take i r) (rect_minus (drop i cs) (drop i r) (drop i q)) ≡ [] = ap (λ xs. ahead (take i r) (rect_minus xs (drop i r) (drop i q))) (drop_all i cs l) in
     sym (append-nil out) ∙ (ap (λ xs. out ++ xs) (sym none) ∙ h)
 
 -- both have something in the column, which takes the rect's place there

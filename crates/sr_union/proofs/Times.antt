@@ -1,16 +1,14 @@
 -- In how many rects a point lies.
 use Rattle.std.proofs.Common.{◌≡◌, ℕ, true, false, List, [], ◌∷◌, ◌++◌, ◌+◌, refl, arith, ◌∙◌}
-use Rattle.std.specs.Prelude.{Bool, not, ◌&&◌, ◌||◌, Option, Some, None, ℤ, int_le, if◌then◌else◌, nat_eq}
+use Rattle.std.specs.Prelude.{Bool, not, ◌&&◌, ◌||◌, Option, Some, None, if◌then◌else◌, nat_eq}
 use Rattle.std.specs.Option.{is_some}
 use Rattle.std.specs.List.{list_all}
 use Rattle.std.proofs.lemmas.Bool.Decides.{nat_tests}
 use Rattle.sr_cell.specs.declared.cell.Cell.{Cell}
-use Rattle.sr_cell.specs.declared.cell.Cell.TheVariants.{Num, Str}
-use Rattle.sr_cell.specs.declared.table.Kind.{Kind}
-use Rattle.sr_cell.specs.declared.table.Kind.TheVariants.{Num as Numbers, Str as Texts}
 use Rattle.sr_cell.specs.declared.table.Column.{Column}
 use Rattle.sr_box.specs.declared.span.Span.{Span}
 use Rattle.sr_cell.specs.Columns.{in_kind, is_point}
+use Rattle.sr_cell.proofs.Columns.{in_kind-low, in_kind-high}
 use Rattle.sr_box.specs.Spans.{in_span, span_fits}
 use Rattle.sr_box.specs.Points.{in_rect, in_any, rect_fits, times}
 use Rattle.sr_box.specs.Cut.{meet, under, over, is_under, is_over, in_maybe}
@@ -32,19 +30,6 @@ fronts-times s (r ∷ rs) v p = let ih = fronts-times s rs v p in grind (arith, 
 with_fronts-times : (m : Option Span) (rs : List (List Span)) (v : Cell) (p : List Cell) → times (with_fronts m rs) (v ∷ p) ≡ (if in_maybe m v then times rs p else 0)
 with_fronts-times None rs v p = refl
 with_fronts-times (Some s) rs v p = fronts-times s rs v p
-
--- the values of a column of numbers lie in its domain
-low-is : (k : Kind) (low high : ℤ) (v : Cell) → in_kind k low high v ≡ true → (n : ℤ) → v ≡ Num n → int_le low n ≡ true
-low-is Numbers low high (Num m) h n e = grind (arith, e)
-low-is Numbers low high (Str m) h n e = absurd (cc)
-low-is Texts low high (Num m) h n e = absurd (grind arith)
-low-is Texts low high (Str m) h n e = absurd (cc)
-
-high-is : (k : Kind) (low high : ℤ) (v : Cell) → in_kind k low high v ≡ true → (n : ℤ) → v ≡ Num n → int_le n high ≡ true
-high-is Numbers low high (Num m) h n e = grind (arith, e)
-high-is Numbers low high (Str m) h n e = absurd (cc)
-high-is Texts low high (Num m) h n e = absurd (grind arith)
-high-is Texts low high (Str m) h n e = absurd (cc)
 
 -- the table of truth
 counted : (u o i mu mo mi a r q : Bool) (n : ℕ) → mu ≡ (a && u) → mo ≡ (a && o) → mi ≡ (a && i) → i ≡ not (u || o) → (u && o) ≡ false
@@ -73,7 +58,7 @@ rect_minus-times (c ∷ cs) (s ∷ r) (t ∷ q) (v ∷ p) f h =
       with_fronts-times (meet s t) (rect_minus cs r q) v p,
     )
     (counted (is_under t v) (is_over t v) (in_span t v) (in_maybe (under c.lo s t) v) (in_maybe (over c.hi s t) v) (in_maybe (meet s t) v) (in_span s v) (in_rect r p) (in_rect q p) _
-    (under-is c.lo s t v (low-is c.kind c.lo c.hi v hv)) (over-is c.hi s t v (high-is c.kind c.lo c.hi v hv)) (meet-is s t v) ap.0 ap.1 ih)
+    (under-is c.lo s t v (in_kind-low c.kind c.lo c.hi v hv)) (over-is c.hi s t v (in_kind-high c.kind c.lo c.hi v hv)) (meet-is s t v) ap.0 ap.1 ih)
 
 -- rects that do not meet have no point in common
 meets-is : (r q : List Span) (p : List Cell) → meets r q ≡ false → (in_rect r p && in_rect q p) ≡ false

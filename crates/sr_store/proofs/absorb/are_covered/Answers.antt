@@ -1,7 +1,6 @@
-use Rattle.std.proofs.Common.{◌≡◌, ◌<◌, ◌≤◌, ◌++◌, ◌∷◌, true, false, refl, sym, subst, take, take_all, arith}
+use Rattle.std.proofs.Common.{refl, subst, take_all, arith}
 use Rattle.sr_cell.specs.Columns.{table_at}
-use Rattle.sr_union.specs.Pieces.{IsWithin, HasOutside}
-use Rattle.sr_union.specs.Grid.{grid}
+use Rattle.sr_union.specs.Pieces.{IsWithin}
 use Rattle.sr_union.proofs.Free.{outside_more}
 use Rattle.sr_union.proofs.Once.{err_same}
 use Rattle.sr_union.proofs.Searching.{fits_items, within_more}

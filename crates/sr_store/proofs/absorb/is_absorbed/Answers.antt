@@ -1,9 +1,9 @@
-use Rattle.std.proofs.Common.{◌≡◌, ◌<◌, ◌++◌, true, false, ap, sym, subst}
+use Rattle.std.proofs.Common.{◌≡◌, ◌<◌, ◌++◌, true, sym, subst}
 use Rattle.std.specs.Prelude.{IsTrue, ◌↔◌}
 use Rattle.std.specs.List.{list_all}
 use Rattle.sr_cell.specs.Columns.{table_at}
 use Rattle.sr_box.specs.Points.{rect_fits}
-use Rattle.sr_union.specs.Pieces.{IsWithin, HasOutside}
+use Rattle.sr_union.specs.Pieces.{IsWithin}
 use Rattle.sr_union.specs.Grid.{grid}
 use Rattle.sr_union.proofs.Once.{err_same}
 use Rattle.sr_union.proofs.Searching.{decided}

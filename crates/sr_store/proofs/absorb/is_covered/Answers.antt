@@ -1,4 +1,4 @@
-use Rattle.std.proofs.Common.{◌≡◌, ◌<◌, ◌≤◌, ◌*◌, ◌++◌, ◌∷◌, [], ◌∙◌, true, false, arith, ap, sym, subst}
+use Rattle.std.proofs.Common.{◌≡◌, ◌<◌, ◌≤◌, ◌*◌, ◌++◌, ◌∷◌, [], ◌∙◌, true, arith, ap, sym, subst}
 use Rattle.std.specs.Prelude.{IsTrue}
 use Rattle.std.specs.List.{list_all}
 use Rattle.sr_cell.specs.Cells.{Row}
@@ -7,10 +7,10 @@ use Rattle.sr_box.specs.Points.{rect_fits, times}
 use Rattle.sr_union.specs.Pieces.{near, IsWithin, HasOutside}
 use Rattle.sr_union.specs.Grid.{grid}
 use Rattle.sr_union.proofs.Meets.{near-fits}
-use Rattle.sr_union.proofs.Once.{err_same}
+use Rattle.sr_union.proofs.Once.{err_same, one_le}
 use Rattle.sr_store.specs.Making.{wider_both}
 use Rattle.sr_store.proofs.Fits.{both_fit}
-use Rattle.sr_store.proofs.Nearing.{within_near, outside_near, grid_near, times_one, fit_one}
+use Rattle.sr_store.proofs.Nearing.{within_near, outside_near, grid_near, fit_one}
 use Rattle.sr_store.proofs.absorb.is_covered.Goals as goal
 
 pub within-requires-clause-self_fits : goal.within-requires-clause-self_fits
@@ -54,7 +54,7 @@ returns-clause-over c = λ e.
     let all = wider_both c.args.still.now c.args.news.now c.args.region.now in
     let found = c.in_ok-found.ensures ∙ ap (λ rects. near rects all) c.in_ok-one.ensures in
     let fits = both_fit c.args.schema.now c.args.still.now c.args.news.now c.args.region.now c.requires.still c.requires.news in
-    let once = λ (p : Row) (point : IsTrue (is_point c.table_at-table.result.now.columns p)). subst (λ rects. times rects p ≤ 1) (sym c.in_ok-one.ensures) (times_one r p) in
+    let once = λ (p : Row) (point : IsTrue (is_point c.table_at-table.result.now.columns p)). subst (λ rects. times rects p ≤ 1) (sym c.in_ok-one.ensures) (one_le r p) in
     let many = subst (λ t. 16384 < 1 * grid t.columns (c.in_ok-one.one ++ c.in_ok-found.found)) c.table_at-table.ensures.found (c.in-Err.ensures.over 1 (err_same c.in-Err.no _ e) once) in
     let more = subst (λ rects. 16384 < 1 * grid cs (rects ++ c.in_ok-found.found)) c.in_ok-one.ensures many in
     let large = subst (λ rects. 16384 < 1 * grid cs ((r ∷ []) ++ rects)) found more in

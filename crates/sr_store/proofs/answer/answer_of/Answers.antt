@@ -1,4 +1,4 @@
-use Rattle.std.proofs.Common.{◌≡◌, ◌∙◌, ◌++◌, true, map, rules, sym, ap, subst}
+use Rattle.std.proofs.Common.{◌∙◌, ◌++◌, true, map, rules, sym, ap, subst}
 use Rattle.sr_cell.specs.declared.cause.Cause.TheVariants.{Absorbed, Pieces}
 use Rattle.sr_store.specs.Stores.{IsOfSchema, drop_of}
 use Rattle.sr_store.specs.Answered.{flagged, held_of}

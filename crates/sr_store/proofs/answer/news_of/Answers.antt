@@ -1,4 +1,4 @@
-use Rattle.std.proofs.Common.{◌≡◌, ◌∙◌, sym, ap, subst}
+use Rattle.std.proofs.Common.{sym, subst}
 use Rattle.std.specs.List.{All, AllZip}
 use Rattle.sr_union.proofs.Once.{err_same}
 use Rattle.sr_store.specs.Told.{IsTrueOf}

@@ -1,4 +1,4 @@
-use Rattle.std.proofs.Common.{◌∙◌, sym, ap, take, drop, ◌++◌, ◌+◌, arith}
+use Rattle.std.proofs.Common.{◌∙◌, sym, arith}
 use Rattle.sr_region.proofs.Places.{without-none, without-at, place-there}
 use Rattle.sr_store.proofs.give_way.remove_key.Goals as goal
 

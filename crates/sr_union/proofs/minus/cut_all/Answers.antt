@@ -1,9 +1,10 @@
 use Rattle.std.proofs.Common.{◌≡◌, arith, take, length, ◌∙◌, ◌<◌, ◌≤◌, ◌+◌, ◌*◌, ap, subst, sym, true, ◌++◌}
 use Rattle.std.specs.List.{list_all}
+use Rattle.std.proofs.lemmas.List.{take_all}
 use Rattle.sr_box.specs.Points.{rect_fits, times}
 use Rattle.sr_union.specs.Pieces.{minus_all, minus_each}
 use Rattle.sr_union.specs.Grid.{grid, AreCutFrom}
-use Rattle.sr_union.proofs.Parts.{left_are, left_few, left_more, are_fit, take_all}
+use Rattle.sr_union.proofs.Parts.{left_are, left_few, left_more, are_fit}
 use Rattle.sr_union.proofs.Times.{minus_all-times}
 use Rattle.sr_union.proofs.minus.cut_all.Goals as goal
 
@@ -40,7 +41,7 @@ pub returns-clause-points : goal.returns-clause-points
 returns-clause-points c = λ p e.
     let inv = subst (λ xs. c.loop-other.left ≡ minus_all c.args.columns.now c.args.rects (take c.loop-other.other-index xs)) c.as_slice-other-items.ensures c.loop-other.invariant.0 in
     let l = ap length c.as_slice-other-items.ensures in
-    let t : take c.loop-other.other-index c.args.others.now ≡ c.args.others.now = take_all c.args.others.now c.loop-other.other-index (omega (arith, l)) in
+    let t : take c.loop-other.other-index c.args.others.now ≡ c.args.others.now = take_all c.loop-other.other-index c.args.others.now (omega (arith, l)) in
     ap (λ r. times r p) (inv ∙ ap (minus_all c.args.columns.now c.args.rects) t) ∙ minus_all-times c.args.columns.now c.args.rects c.args.others.now p c.requires.others_fit e
 
 pub returns-clause-cuts : goal.returns-clause-cuts

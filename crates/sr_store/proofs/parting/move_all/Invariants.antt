@@ -1,7 +1,7 @@
 use Rattle.std.proofs.Common.{◌≡◌, ◌+◌, ◌++◌, true, false, length, drop}
 use Rattle.std.specs.Vec.Iter.{into_iter_items}
 use Rattle.sr_store.specs.Answered.{flagged}
-use Rattle.sr_store.proofs.parting.sift.Given as goal
+use Rattle.sr_store.proofs.parting.move_all.Given as goal
 
 abbrev pub invariant-loop-region : goal.invariant-loop-region
 invariant-loop-region l = record {

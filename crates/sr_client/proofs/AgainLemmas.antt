@@ -33,6 +33,7 @@ use Rattle.sr_client.specs.declared.client.Client.{Client}
 use Rattle.sr_client.specs.declared.client.Request.TheVariants as request
 use Rattle.sr_client.specs.declared.steps.Took.TheVariants as took
 use Rattle.sr_client.specs.Laying.{asking}
+use Rattle.sr_client.specs.Sends.{IsWellSent}
 use Rattle.sr_client.specs.Stands.{Hidden, Facts, Stands, Truly, IsFit, past_of, basis_of}
 use Rattle.sr_client.specs.Steps.{Goes, SaysTook, Takes}
 use Rattle.sr_client.proofs.AskLemmas.{asks-whole, whole-along}
@@ -40,6 +41,8 @@ use Rattle.sr_client.proofs.AskedLemmas.{one, is-out}
 use Rattle.sr_client.proofs.MeantLemmas.{IsOneQuery, are-sound}
 use Rattle.sr_client.proofs.OverLemmas.{on, IsHere, over, stands-over}
 use Rattle.sr_client.proofs.SendLemmas.{whole-rects}
+use Rattle.sr_client.proofs.SendableLemmas.{ask-sent}
+use Rattle.sr_client.proofs.ShortLemmas.{counted-short}
 use Rattle.sr_client.proofs.TableLemmas.{have-first}
 
 -- the second ask of the query
@@ -109,8 +112,15 @@ module _ (c : Client) (o : code.AskOut) (number version : ℕ) (again : is_given
       rows = omega arith;
       few = omega arith;
       from = f.from;
+      short = f.short;
       ends = All-nil (λ (g : Region). EndWith c.schema (counted h.counted_from h.queries) g.table g.rects);
     }
+
+    pub again-sent : IsWellSent c.schema c.id (Ask c.next_request true whole)
+    again-sent =
+        ask-sent c.schema c.id c.next_request true (with_marks h.marks (map (drop_of Lapsed) c.store.regions)) (counted h.counted_from h.queries) o.query h.meaning (whole_asks o.query.parts) f.tables f.meant.0 asks some
+        (counted-short h.counted_from h.queries f.short)
+        (whole-along c.schema o.query.parts (counted h.counted_from h.queries) (All-nil (λ (g : Region). EndWith c.schema (counted h.counted_from h.queries) g.table g.rects)) f.meant.1) (whole-rects c.schema o.query h.meaning f.meant.0)
 
     again-goes : (db : Database) → IsHere db (asking c o) → Truly (on c db) (past_of (asking c o) h) (Reply number version)
         → Goes (on c db) (SaysTook (took.Asked c.next_request (Ask c.next_request true whole) drops)) (rules.TakeStep (basis_of (on c db) c.store.limits) (past_of (asking c o) h) (Reply number version)) (once_more c o version)

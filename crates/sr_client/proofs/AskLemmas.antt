@@ -31,8 +31,9 @@ use Rattle.sr_history.specs.Marks.{is_held, is_covered}
 use Rattle.sr_history.specs.Rests.{rest_of, Asks, nothing, covered, asked}
 use Rattle.sr_history.specs.Load.{parts_on}
 use Rattle.sr_history.proofs.Ends.{cuts_keep_ends}
-use Rattle.sr_language.specs.Sound.{columns_in, is_sound_part}
-use Rattle.sr_language.proofs.Constrained.{rects_constrain_needed}
+use Rattle.sr_lines.specs.Short.{has_short_texts}
+use Rattle.sr_lines.specs.Sound.{columns_in, is_sound_part}
+use Rattle.sr_lines.proofs.Constrained.{rects_constrain_needed}
 use Rattle.sr_region.specs.declared.region.Region.{Region}
 use Rattle.sr_store.specs.Classes.{Stamps, Keeps}
 use Rattle.sr_store.specs.Stores.{cover_of}
@@ -214,7 +215,7 @@ entry-count table attrs (r ∷ rest) = sum_by-cons (λ (ask : AskPart). length a
 part-narrow : (schema : List Table) (part : Part) (m : model.Part) → IsPart schema part m → is_sound_part schema m ≡ true → length part.rects ≤ 64
 part-narrow schema part m is sound =
     let key = nat_lt m.table (length schema) && has_column m.need (table_at schema m.table).key in
-    let fits = (and_parts (key && columns_in m.need m.condition) (nat_le (width true m.condition) 64) sound).1 in
+    let fits = (and_parts (nat_le (width true m.condition) 64) (has_short_texts m.condition) (and_parts (key && columns_in m.need m.condition) _ sound).1).0 in
     let narrow : width true m.condition ≤ 64 = grind (arith, nat_tests, fits) in omega (arith, is.rects.few, narrow)
 
 entry-narrow : (table attrs : ℕ) (rects : List Rect) → length rects ≤ 64 → All (λ (ask : AskPart). length ask.rects ≤ 64) (entry_of table attrs rects)

@@ -20,7 +20,7 @@ use Rattle.sr_query.specs.declared.query.Part.{Part}
 use Rattle.sr_history.specs.declared.mark.Mark.{Mark}
 use Rattle.sr_history.specs.Marks.{is_held, is_covered}
 use Rattle.sr_history.specs.Rests.{IsRest}
-use Rattle.sr_language.specs.Sound.{is_sound_part}
+use Rattle.sr_lines.specs.Sound.{is_sound_part}
 use Rattle.sr_rows.proofs.Parts.{ascend-filter}
 use Rattle.sr_region.specs.declared.region.Region.{Region}
 use Rattle.sr_region.specs.Regions.{rank, is_in, IsRowIn}

@@ -41,6 +41,7 @@ cut-facts c h f = record {
   rows = f.rows;
   few = f.few;
   from = f.from;
+  short = f.short;
   ends = f.ends;
 }
 

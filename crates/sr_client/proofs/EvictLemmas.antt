@@ -91,6 +91,7 @@ facts-without c h place g f out there = record {
   rows = let less = fewer-rows place c.store.regions in let at = f.rows in omega (arith, less, at);
   few = let less = fewer-regions place c.store.regions in let at = f.few in omega (arith, less, at);
   from = f.from;
+  short = f.short;
   ends = evicted_all (λ (r : Region). EndWith c.schema (counted h.counted_from h.queries) r.table r.rects) place c.store.regions f.ends;
 }
 

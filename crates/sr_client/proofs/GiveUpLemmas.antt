@@ -11,7 +11,7 @@ use Rattle.sr_store.specs.Classes.{Keeps}
 use Rattle.sr_store.specs.Stores.{IsStore}
 use Rattle.sr_store.proofs.Fewer.{none_store}
 use Rattle.sr_client.specs.declared.client.Client.{Client}
-use Rattle.sr_client.specs.Stands.{Hidden, Facts, Stands, given_up}
+use Rattle.sr_client.specs.Stands.{Hidden, Facts, Stands, given_up, asks_short}
 use Rattle.std.specs.List.{list_all}
 use Rattle.sr_query.specs.Bound.{is_table}
 use Rattle.std.proofs.Common.{true, subst, sym}
@@ -33,6 +33,10 @@ blank-last : (n : ℕ) (parts : List Part) → fold (λ parts (q : Numbered). if
 blank-last zero parts = refl
 blank-last (suc n) parts = blank-last n parts
 
+blank-short : (n : ℕ) → list_all (λ (q : Numbered). asks_short q.query) (blank n) ≡ true
+blank-short zero = refl
+blank-short (suc n) = blank-short n
+
 abbrev nothing_known : ℕ → Hidden
 nothing_known n = record { marks = []; queries = blank n; counted_from = 0; meaning = no_query }
 
@@ -53,6 +57,7 @@ given-facts old h c cuts f same = record {
   rows = omega arith;
   few = omega arith;
   from = omega arith;
+  short = blank-short c.queries;
   ends = All-nil _;
 }
 

@@ -88,6 +88,7 @@ module _ (c : Client) (m : Message) (r : code.Request) (out : c.out ≡ Some r) 
       rows = f.rows;
       few = f.few;
       from = f.from;
+      short = f.short;
       ends = f.ends;
     }
 

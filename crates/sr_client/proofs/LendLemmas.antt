@@ -91,6 +91,18 @@ passed-region schema tables query part gs region test found o serve is =
     by : (t i c : Bool) → (t || (i && c)) ≡ (t || (i && (c || false)))
     by t i c = grind arith
 
+-- a region whose points are away from the part's has nothing for it
+pub apart-region : (schema : List Table) (tables : Tables) (query : Query) (part : Part) (gs : List Region) (region : Region) (test : Row → Bool) (found : List Row) → IsOnePart schema tables query part
+    → serves part region ≡ true → ((p : Row) → (in_any region.rects p && in_any part.rects p) ≡ false)
+    → IsFound part.key query.output (rows_at tables part.table) (λ p. test p || is_kept part gs p) found
+    → IsFound part.key query.output (rows_at tables part.table) (λ p. test p || is_kept part (gs ++ region ∷ []) p) found
+apart-region schema tables query part gs region test found o serve apart is =
+    by-same part.key query.output (rows_at tables part.table) (is_point (table_at schema part.table).columns) (λ p. test p || is_kept part gs p) (λ p. test p || is_kept part (gs ++ region ∷ []) p) found o.points
+    (λ p point. rw (cover-more part gs region p, serve) (by (test p) (in_any part.rects p) (in_any (cover_of part gs) p) (in_any region.rects p) (apart p))) is
+  where
+    by : (t i c r : Bool) → (r && i) ≡ false → (t || (i && c)) ≡ (t || (i && (c || r)))
+    by t i c r apart = grind (arith, apart)
+
 -- the rows that arrive
 pub lent-arrival : (schema : List Table) (tables : Tables) (query : Query) (part : Part) (rs : List Arrival) (r : Arrival) (test : Row → Bool) (shown old new : List Row) → IsOnePart schema tables query part
     → Suits schema part r → r.rows ≡ filter (is_in r.attrs r.rects) (told_of tables r.table r.attrs) → shown ≡ filter (is_in r.attrs part.rects) r.rows

@@ -32,8 +32,10 @@ mod RestLemmas
 mod Results
 mod ResumeLemmas
 mod SendLemmas
+mod SendableLemmas
 mod SendsLemmas
 mod SettleLemmas
+mod ShortLemmas
 mod SuitLemmas
 mod TableLemmas
 mod ToldLemmas

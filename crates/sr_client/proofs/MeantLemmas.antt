@@ -18,11 +18,12 @@ use Rattle.sr_query.specs.Bound.{IsPart, output_of}
 use Rattle.sr_query.specs.declared.condition.Output.{Output}
 use Rattle.sr_query.specs.declared.query.Part.{Part}
 use Rattle.sr_query.specs.declared.query.Query.{Query}
+use Rattle.sr_query.specs.Joined.{is_needed, needs_column}
 use Rattle.sr_history.specs.declared.mark.Mark.{Mark}
 use Rattle.sr_history.specs.Rests.{rest_of, IsRest, Asks, nothing, covered, asked}
-use Rattle.sr_language.specs.Built.{is_one, joins_nothing}
-use Rattle.sr_language.specs.Sound.{is_sound, is_sound_part, is_needed, needs_column}
-use Rattle.sr_language.proofs.Constrained.{rects_constrain_needed}
+use Rattle.sr_lines.specs.Built.{is_one, joins_nothing}
+use Rattle.sr_lines.specs.Sound.{is_sound, is_sound_part}
+use Rattle.sr_lines.proofs.Constrained.{rects_constrain_needed}
 use Rattle.sr_join.specs.Found.{cells_of, has_outputs}
 use Rattle.sr_join.proofs.OnePart.{one-part}
 use Rattle.sr_client.specs.Asking.{AreMeant, AsksRest}

@@ -39,6 +39,7 @@ new-facts id schema limits tables = record {
   rows = omega arith;
   few = omega arith;
   from = omega arith;
+  short = refl;
   ends = All-nil _;
 }
 
@@ -56,6 +57,7 @@ opened-facts id schema limits tables = record {
   rows = omega arith;
   few = omega arith;
   from = omega arith;
+  short = refl;
   ends = All-nil _;
 }
 

@@ -49,6 +49,7 @@ use Rattle.sr_client.proofs.KeptLemmas.{IsAnswering, AreTrue, from_of, kept, kep
 use Rattle.sr_client.proofs.LastLemmas.{last-answered}
 use Rattle.sr_client.proofs.MeantLemmas.{IsOneQuery, one-query, are-sound, is-one-part, part-fits, all-parts, no-rest}
 use Rattle.sr_client.proofs.OverLemmas.{on, IsHere, over, stands-over}
+use Rattle.sr_client.proofs.ShortLemmas.{shorts-more, meaning-short}
 
 -- ---- while a request is out
 
@@ -160,6 +161,7 @@ module _ (c : Client) (q : Query) (m : model.Query) (store : Store) (marks : Lis
           rows = k.rows;
           few = k.regions;
           from = let few = k.few in omega (arith, few, more);
+          short = shorts-more h.queries m true f.short (meaning-short c.schema q m is);
           ends = k.ends;
         }
 

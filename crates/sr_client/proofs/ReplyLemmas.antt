@@ -67,6 +67,7 @@ use Rattle.sr_client.proofs.MirrorLemmas.{at-mirror}
 use Rattle.sr_client.proofs.OverLemmas.{on, IsHere, over, stands-over}
 use Rattle.sr_client.proofs.SendLemmas.{whole-rects}
 use Rattle.sr_client.proofs.SuitLemmas.{reply-later}
+use Rattle.sr_client.proofs.ShortLemmas.{shorts-set, meaning-short}
 use Rattle.sr_client.proofs.TableLemmas.{have-first}
 
 set-length : (qs : List Numbered) (n : ℕ) (x : Numbered) → length (slice_set qs n x) ≡ length qs
@@ -120,6 +121,7 @@ module _ (c : Client) (o : code.AskOut) (number version : ℕ) (store : Store) (
           rows = k.rows;
           few = k.regions;
           from = let few = k.few in omega (arith, few, count, number_is);
+          short = shorts-set h.queries (o.query_number - 1) h.meaning true f.short (meaning-short c.schema o.query h.meaning f.meant.0);
           ends = k.ends;
         }
 

@@ -93,6 +93,7 @@ module _ (c : Client) (version : ℕ) (told : List Tell) (new : List Region) (dr
           rows = still.rows;
           few = still.regions;
           from = f.from;
+          short = f.short;
           ends =
               let ends = told-end c.schema (counted h.counted_from h.queries) told c.store.regions f.ends in
               All-weaker (Contains (map (told_to told) c.store.regions)) (λ (g : Region). EndWith c.schema (counted h.counted_from h.queries) g.table g.rects)
@@ -156,6 +157,7 @@ module _ (c : Client) (version : ℕ) (out : c.out ≡ None) (fit : IsFit c (Lap
           rows = omega arith;
           few = omega arith;
           from = f.from;
+          short = f.short;
           ends = All-nil (λ (g : Region). EndWith c.schema (counted h.counted_from h.queries) g.table g.rects);
         }
 

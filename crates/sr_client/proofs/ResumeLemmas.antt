@@ -129,6 +129,7 @@ resuming-facts c h f down =
       rows = f.rows;
       few = f.few;
       from = f.from;
+      short = f.short;
       ends = f.ends;
     }
 

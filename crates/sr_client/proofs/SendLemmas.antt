@@ -59,6 +59,7 @@ use Rattle.sr_client.proofs.MeantLemmas.{IsOneQuery, one-query, are-meant, are-s
 use Rattle.sr_client.proofs.OverLemmas.{on, IsHere, with_regions, over, stands-over}
 use Rattle.sr_client.proofs.QueryLemmas.{none-laid}
 use Rattle.sr_client.proofs.Renewal.{HaveFirst}
+use Rattle.sr_client.proofs.ShortLemmas.{shorts-more, meaning-short}
 use Rattle.sr_client.proofs.TableLemmas.{have-first}
 
 is-empty : (gs : List Region) → is_empty gs ≡ true → gs ≡ []
@@ -141,6 +142,9 @@ module _ (c : Client) (q : Query) (m : model.Query) (asks : List AskPart) (may :
       all-parts c.schema q m (λ (part : Part). EndWith c.schema (counted h.counted_from h.queries ++ m ∷ []) part.table part.rects) one
       (part-end c.schema (counted h.counted_from h.queries) m one.part one.meant one.meant_parts one.is)
 
+  pub ask-ends : AsksEnd c.schema (counted h.counted_from h.queries ++ m ∷ []) asks
+  ask-ends = may.along (counted h.counted_from h.queries ++ m ∷ []) ends parts-end
+
   pub sent-facts : c.cut ≡ false → Facts (with_out c (next_ask c q asks)) (asked_hidden h m)
   sent-facts up = record {
     tables = f.tables;
@@ -159,7 +163,7 @@ module _ (c : Client) (q : Query) (m : model.Query) (asks : List AskPart) (may :
       subst AreLaid (sym laid) tt,
     );
     down = λ down. absurd (let wrong : true ≡ false = sym down ∙ up in cc);
-    meant = (may.is, subst (λ qs. PartsEnd c.schema qs q.parts) (sym more) parts-end, subst (λ qs. AsksEnd c.schema qs asks) (sym more) (may.along (counted h.counted_from h.queries ++ m ∷ []) ends parts-end), may.few);
+    meant = (may.is, subst (λ qs. PartsEnd c.schema qs q.parts) (sym more) parts-end, subst (λ qs. AsksEnd c.schema qs asks) (sym more) ask-ends, may.few);
     fit = subst (AreFit c.schema (Some (AskOut c.next_request (c.queries + 1) m fresh asks)) c.version []) (sym laid) tt;
     store = f.store;
     keeps = keeps_same c.schema (is_held h.marks) (is_held h.marks) (stamp h.queries) (stamp (asked_hidden h m).queries) c.store.regions (λ t a p point. refl) (λ t a p point. sym (stamp_none h.queries m t a p)) f.keeps;
@@ -168,6 +172,7 @@ module _ (c : Client) (q : Query) (m : model.Query) (asks : List AskPart) (may :
     rows = f.rows;
     few = f.few;
     from = let few = f.from in omega (arith, few, counts);
+    short = shorts-more h.queries m false f.short (meaning-short c.schema q m may.is);
     ends = subst (λ qs. RegionsEnd c.schema qs c.store.regions) (sym more) ends;
   }
 
@@ -295,7 +300,7 @@ load-heavy c h q m one f large =
 abbrev dropped_hidden : Hidden → List Mark → Hidden
 dropped_hidden h drops = record h { marks = with_marks h.marks drops; counted_from = length h.queries + 1 }
 
-facts-dropped : (c : Client) (h : Hidden) → Facts c h → c.out ≡ None → Facts (with_regions c []) (dropped_hidden h (map (drop_of Pieces) c.store.regions))
+pub facts-dropped : (c : Client) (h : Hidden) → Facts c h → c.out ≡ None → Facts (with_regions c []) (dropped_hidden h (map (drop_of Pieces) c.store.regions))
 facts-dropped c h f out =
     let new : Hidden = dropped_hidden h (map (drop_of Pieces) c.store.regions) in
     record {
@@ -311,6 +316,7 @@ facts-dropped c h f out =
       rows = omega arith;
       few = omega arith;
       from = omega arith;
+      short = f.short;
       ends = All-nil (λ (g : Region). EndWith c.schema (counted (length h.queries + 1) h.queries) g.table g.rects);
     }
 
@@ -354,19 +360,27 @@ whole-rects schema q m is =
     let sum = sum_by-le (λ (ask : AskPart). length ask.rects) 64 (whole_asks q.parts) narrow in
     omega (arith, few, sum)
 
-pub query-drops : (c : Client) (q : Query) (m : model.Query) (drops : List Mark) (new : Client) (step : QueryStep) → c.out ≡ None → IsMeaning c.schema q m → IsOver c.schema c.store.regions q.parts
-    → drops ≡ map (drop_of Pieces) c.store.regions → IsSent (with_regions c []) q (whole_asks q.parts) drops new step → Stands c → Queries c m new step
-query-drops c q m drops new step out is over drops_are sent stands =
+-- all of a query, once all is dropped
+pub may-ask-whole : (c : Client) (q : Query) (m : model.Query) → c.out ≡ None → IsMeaning c.schema q m → IsOver c.schema c.store.regions q.parts → Stands c → MayAsk (with_regions c []) q m (whole_asks q.parts)
+may-ask-whole c q m out is over stands =
     let s = c.schema in
     let one = one-query s q m is in
     let large = large-one s c.store.regions q.parts one.part one.parts over in
-    let may : MayAsk (with_regions c []) q m (whole_asks q.parts) = record {
+    record {
       out = out;
       is = is;
       rest = subst (λ ps. AsksRest s [] ps (whole_asks ps)) (sym one.parts) (asks-whole s one.part one.meant one.is one.sound (have-first s stands.1.tables));
       along = whole-along s q.parts;
       some = some-asked q.parts one.part one.parts large.some;
       few = whole-rects s q m is;
-    } in
+    }
+
+pub query-drops : (c : Client) (q : Query) (m : model.Query) (drops : List Mark) (new : Client) (step : QueryStep) → c.out ≡ None → IsMeaning c.schema q m → IsOver c.schema c.store.regions q.parts
+    → drops ≡ map (drop_of Pieces) c.store.regions → IsSent (with_regions c []) q (whole_asks q.parts) drops new step → Stands c → Queries c m new step
+query-drops c q m drops new step out is over drops_are sent stands =
+    let s = c.schema in
+    let one = one-query s q m is in
+    let large = large-one s c.store.regions q.parts one.part one.parts over in
+    let may = may-ask-whole c q m out is over stands in
     query-sent c q m (whole_asks q.parts) (map (drop_of Pieces) c.store.regions) [] may new step (ready-dropped c q m one out large)
     (subst (λ ms. IsSent (with_regions c []) q (whole_asks q.parts) ms new step) drops_are sent) stands

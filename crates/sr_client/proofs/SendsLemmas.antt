@@ -22,8 +22,8 @@ use Rattle.sr_query.specs.declared.query.Query.{Query}
 use Rattle.sr_history.specs.declared.mark.Mark.{Mark}
 use Rattle.sr_history.specs.Classes.{stamp}
 use Rattle.sr_history.specs.Rests.{rest_of, IsRest, Asks, nothing, covered, asked}
-use Rattle.sr_language.specs.Built.{is_one, joins_nothing}
-use Rattle.sr_language.specs.Sound.{is_sound_part}
+use Rattle.sr_lines.specs.Built.{is_one, joins_nothing}
+use Rattle.sr_lines.specs.Sound.{is_sound_part}
 use Rattle.sr_session.specs.Refusals.{are_columns, suits_table, part_suits, is_request_of}
 use Rattle.sr_client.specs.Arriving.{is_empty}
 use Rattle.sr_client.specs.Asking.{AsksRest, whole_asks}
@@ -167,12 +167,6 @@ ask-well schema client number fresh marks q m asks is rest =
   where
     few : (n : ℕ) → n ≤ 4 → nat_le n 4 ≡ true
     few n le = grind (arith, nat_tests, le)
-
--- so is what the step of a query sends
-pub sent-well : (c : Client) (q : Query) (m : model.Query) (asks : List AskPart) (drops marks : List Mark) (new : Client) (step : QueryStep) → IsSent c q asks drops new step → IsMeaning c.schema q m
-    → Asks c.schema marks m.parts asks → QuerySendsWell c.schema c.id step
-sent-well c q m asks drops marks new step (is_down down) is rest = tt
-sent-well c q m asks drops marks new step (is_sent up) is rest = ask-well c.schema c.id c.next_request (is_empty c.store.regions) marks q m asks is rest
 
 -- ---- all of a query
 

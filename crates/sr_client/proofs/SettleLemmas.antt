@@ -155,6 +155,7 @@ left-facts c h version marks gs f l = record {
   rows = l.rows;
   few = l.few;
   from = f.from;
+  short = f.short;
   ends = l.ends;
 }
 

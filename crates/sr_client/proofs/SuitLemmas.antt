@@ -13,8 +13,8 @@ use Rattle.sr_cell.specs.declared.table.Table.{Table}
 use Rattle.sr_cell.specs.Attrs.{has_column, project, project_from}
 use Rattle.sr_cell.specs.Cells.{Row, cell_at, cell_eq}
 use Rattle.sr_cell.specs.Columns.{table_at, is_point, in_column, in_kind, takes_cell, takes_kind, fits_columns}
+use Rattle.sr_cell.proofs.Order.{cell_eq-sound}
 use Rattle.sr_box.specs.Points.{Rect}
-use Rattle.sr_box.proofs.Order.{cell_eq-sound}
 use Rattle.sr_box.specs.Corners.{first_value}
 use Rattle.sr_union.specs.Grid.{have_first}
 use Rattle.sr_message.specs.declared.message.AskPart.{AskPart}

@@ -66,6 +66,7 @@ writing-facts c h f out up =
       rows = f.rows;
       few = f.few;
       from = f.from;
+      short = f.short;
       ends = f.ends;
     }
 

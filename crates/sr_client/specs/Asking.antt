@@ -10,7 +10,7 @@ use Rattle.sr_query.specs.declared.query.Part.{Part}
 use Rattle.sr_history.specs.declared.mark.Mark.{Mark}
 use Rattle.sr_history.specs.Marks.{is_held}
 use Rattle.sr_history.specs.Rests.{Asks}
-use Rattle.sr_language.specs.Sound.{is_sound_part}
+use Rattle.sr_lines.specs.Sound.{is_sound_part}
 use Rattle.sr_region.specs.declared.region.Region.{Region}
 use Rattle.sr_store.specs.Classes.{Stamps, Keeps}
 

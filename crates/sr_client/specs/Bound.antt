@@ -4,9 +4,9 @@ use Rattle.sr_cell.specs.declared.table.Table.{Table}
 use Rattle.sr_model.specs.Queries as model
 use Rattle.sr_query.specs.Bound.{IsQuery}
 use Rattle.sr_query.specs.declared.query.Query.{Query}
-use Rattle.sr_language.specs.Built.{may_ask}
-use Rattle.sr_language.specs.Own.{needs_own}
-use Rattle.sr_language.specs.Sound.{is_sound}
+use Rattle.sr_lines.specs.Built.{may_ask}
+use Rattle.sr_lines.specs.Own.{needs_own}
+use Rattle.sr_lines.specs.Sound.{is_sound}
 
 -- the query stands for this one, which names one table, and which needs the columns that it names, all of them its table's
 pub record IsMeaning (tables : List Table) (q : Query) (meaning : model.Query) : Type 0 where

@@ -8,6 +8,7 @@ use Rattle.sr_model.specs.Queries.{Query, rows_of}
 use Rattle.sr_model.specs.Statements.{Tables}
 use Rattle.sr_policy.specs.declared.policy.Limits.{Limits}
 use Rattle.sr_query.specs.Bound.{is_table}
+use Rattle.sr_lines.specs.Short.{has_short_texts}
 use Rattle.sr_history.specs.declared.mark.Mark.{Mark}
 use Rattle.sr_history.specs.Marks.{is_held}
 use Rattle.sr_history.specs.Classes.{Numbered, stamp}
@@ -78,8 +79,12 @@ abbrev pub AreFit : List Table → Option Request → ℕ → List Message → L
 AreFit schema out version laid [] = Unit {0}
 AreFit schema out version laid (m ∷ ms) = (misfit schema out laid version m ≡ None) × AreFit schema out version (laid ++ m ∷ []) ms
 
+-- the query compares short texts alone
+abbrev pub asks_short : Query → Bool
+asks_short q = list_all (λ part. has_short_texts part.condition) q.parts
+
 -- Over a cut link nothing is out. The client's regions are the classes of what its marks hold, within the limits; they, and what is out,
--- are cut only along tests of counted queries.
+-- are cut only along tests of counted queries, which compare short texts.
 pub record Facts (c : Client) (h : Hidden) : Type 0 where
   pub tables : list_all is_table c.schema ≡ true
   pub tidy : IsTidy c.schema (past_of c h)
@@ -93,6 +98,7 @@ pub record Facts (c : Client) (h : Hidden) : Type 0 where
   pub rows : count_rows c.store.regions ≤ c.store.limits.rows
   pub few : length c.store.regions ≤ c.store.limits.regions
   pub from : h.counted_from ≤ length h.queries + 1
+  pub short : list_all (λ n. asks_short n.query) h.queries ≡ true
   pub ends : RegionsEnd c.schema (counted h.counted_from h.queries) c.store.regions
 
 -- The client stands for some past.

@@ -38,7 +38,7 @@ pub fn answer(
     joiner.answer(alloc)
 }
 
-/// Lends the rows of the regions that serve the part, as far as they lie in it.
+/// Lends the rows of the regions that serve the part, as far as they lie in it. Rows of regions away from it are not looked at.
 fn lend_regions(
     alloc: Global,
     joiner: &mut Joiner,
@@ -52,7 +52,9 @@ fn lend_regions(
 {
     for region in regions {
         if region.serves(part.table, part.need) {
-            joiner.lend(alloc, query, region.rows_in(&part.rects))?;
+            if region.rects.meets(&part.rects) {
+                joiner.lend(alloc, query, region.rows_in(&part.rects))?;
+            }
         }
     }
     Ok(())

@@ -1,6 +1,6 @@
 //! How a client begins a session anew.
-ghost use Rattle.std.specs.Prelude.{◌≡◌, ◌+◌, ◌<◌, ◌≤◌, ◌^◌, map, IfOk, OnErr};
-ghost use Rattle.sr_client.specs.Sends.{ResumeSendsWell, SendsFirst, first_of, holding_of};
+ghost use Rattle.std.specs.Prelude.{◌≡◌, ◌+◌, ◌<◌, ◌≤◌, ◌^◌, length, map, IfOk, OnOk, OnErr};
+ghost use Rattle.sr_client.specs.Sends.{IsOfFormat, ResumeSendsWell, SendsFirst, first_of, holding_of};
 ghost use Rattle.sr_client.specs.Stands.{Stands, Stays, drawn};
 ghost use Rattle.sr_client.specs.Steps.{Resumes};
 
@@ -24,7 +24,7 @@ impl Client {
         ensures held { self.new.store ≡ self.old.store }
         ensures cuts { self.new.cuts ≡ self.old.cuts }
         ensures unchanged { OnErr result (self.new ≡ self.old) }
-        ensures sends { IfOk result (ResumeSendsWell self.old.schema self.old.id) }
+        ensures sends { IsOfFormat self.old → IfOk result (ResumeSendsWell self.old.schema self.old.id) }
         ensures stays { Stays self.old self.new }
         ensures drawn { drawn self.new ≤ drawn self.old + 2 }
     {
@@ -40,10 +40,18 @@ impl Client {
     }
 }
 
+/// The most tables of a schema.
+const MOST_TABLES: usize = 16;
+
 /// The first message of the client's next session.
 fn first_of(alloc: Global, client: &Client) -> Result<Message, NoMemory>
-    ensures { IfOk result (λ message. message ≡ first_of client.now client.now.store.regions) }
+    ensures first { IfOk result (λ message. message ≡ first_of client.now client.now.store.regions) }
+    ensures few { OnOk result (length client.now.schema ≤ 16) }
 {
+    // a schema has no more tables, which its type keeps to itself
+    if client.schema.len() > MOST_TABLES {
+        return Err(NoMemory);
+    }
     let regions = client.store.regions.as_slice();
     if regions.is_empty() {
         return Ok(Message::Hello {

@@ -2,7 +2,7 @@
 use Rattle.std.proofs.Common.{◌≡◌, ℕ, zero, suc, ◌+◌, ◌-◌, ◌≤◌, List, [], ◌∷◌, ◌++◌, length, take, drop, refl, sym, ap, arith, inl, inr, ◌∙◌}
 use Rattle.std.specs.Prelude.{min, nat_lt, filter}
 use Rattle.std.proofs.lemmas.Bool.{cases_lt, lt-ltb, le-ltb}
-use Rattle.std.proofs.lemmas.List.{drop-map, drop_all, length-drop, map-append, take_all}
+use Rattle.std.proofs.lemmas.List.{drop-map, drop_all, length-drop, map-append, take_all, drop_min}
 use Rattle.sr_cell.specs.declared.change.Change.{Change}
 use Rattle.sr_log.specs.declared.entry.Entry.{Entry}
 use Rattle.sr_log.specs.Held.{changes_of, numbered}
@@ -42,19 +42,13 @@ above-drop version last (c ∷ later) from = elim (cases_lt version (last + 1)) 
       rw (le-ltb version (last + 1) above) (above-drop version (last + 1) later above ∙ ap (λ n. drop n (numbered last (c ∷ later))) (sym some))
 ]
 
-drop-min : {X : Type 0} (n : ℕ) (xs : List X) → drop (min n (length xs)) xs ≡ drop n xs
-drop-min n xs = elim (cases_lt n (length xs)) [
-  | inl within ↦ ap (λ k. drop k xs) (omega (arith, within))
-  | inr over ↦ drop_all (min n (length xs)) xs (omega (arith, over)) ∙ sym (drop_all n xs over)
-]
-
 -- The entries behind the first ones are those above a version.
 pub tail_above : (version last first : ℕ) (entries : List Entry) → last ≤ version → first ≡ min (version - last) (length entries) → entries ≡ numbered last (changes_of entries) →
     take (length entries - first) (drop first entries) ≡ filter (λ e. nat_lt version e.version) (numbered last (changes_of entries))
 tail_above version last first entries from place is =
     take_all (length entries - first) (drop first entries) (omega (arith, length-drop first entries))
     ∙ ap (λ k. drop k entries) place
-    ∙ drop-min (version - last) entries
+    ∙ drop_min (version - last) entries
     ∙ ap (λ es. drop (version - last) es) is
     ∙ sym (above-drop version last (changes_of entries) from)
 

@@ -17,7 +17,7 @@ use Rattle.sr_session.proofs.MarkLemmas.{kept}
 use Rattle.sr_session.proofs.PointLemmas.{a-covered-query-is-answered}
 use Rattle.sr_session.proofs.ReachLemmas.{at-set}
 use Rattle.sr_runs.specs.Lines.{answer_lines, lines_of, mark_lines}
-use Rattle.sr_language.specs.Events.{DoQuery, ScriptEvent}
+use Rattle.sr_lines.specs.Events.{DoQuery, ScriptEvent}
 use Rattle.sr_runs.specs.Scripts.{Is, is_cut, is_evict, is_exec, is_push, is_query, is_resume, is_to_client, is_to_server, is_write_of}
 use Rattle.sr_runs.specs.Runs.{Acts, Does, Steps, acts, alone, does, does_settle, eagerly, too_long}
 use Rattle.sr_runs.specs.Headline.{ACoveredQueryAsksNothing, IsAnsweredAtOnce}

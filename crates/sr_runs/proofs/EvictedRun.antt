@@ -12,7 +12,7 @@ use Rattle.sr_session.specs.Rules.{answers, as_it_is, evicts, evicts_none, lays,
 use Rattle.sr_session.specs.Scenes.{Scene, client_took, evicted, executed, new_pair, queried, server_took}
 use Rattle.sr_runs.specs.Example.{ages, default_limits, query, row, schema}
 use Rattle.sr_runs.specs.EvictedClass.{evicting_events, evicting_lines, evicting_start}
-use Rattle.sr_language.specs.Events.{DoEvict, DoQuery}
+use Rattle.sr_lines.specs.Events.{DoEvict, DoQuery}
 use Rattle.sr_runs.specs.Scripts.{gives_nothing, is_evict, is_exec, is_query, is_to_client, is_to_server}
 use Rattle.sr_runs.specs.Runs.{AllSettle, Runs, Settles, Steps, acts, delivers, does, eagerly, ends, goes_on, is_quiet, no_client, one_more}
 use Rattle.sr_runs.proofs.ExampleRests.{ask, first-asks}

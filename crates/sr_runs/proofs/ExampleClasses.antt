@@ -1,8 +1,9 @@
 -- The classes of the worked example: one at a time, which is not absorbed and is within the budgets.
-use Rattle.std.proofs.Common.{◌≡◌, ℕ, Bool, true, false, ◌&&◌, ◌≤◌, List, [], ◌∷◌, refl, sym, subst, ◌∙◌, arith, inl, lit≤}
-use Rattle.std.specs.Prelude.{IsTrue, ◌==◌, max, if◌then◌else◌, codes}
+use Rattle.std.proofs.Common.{◌≡◌, ℕ, Bool, true, false, ◌≤◌, List, [], ◌∷◌, refl, sym, subst, ◌∙◌, arith, inl, lit≤, eqb-true}
+use Rattle.std.specs.Prelude.{IsTrue, max, if◌then◌else◌, codes}
 use Rattle.std.proofs.lemmas.Bool.Decides.{nat_tests}
 use Rattle.std.proofs.lemmas.Int.{ints}
+use Rattle.std.specs.Cmp.{first_so, second_so}
 use Rattle.sr_cell.specs.declared.cause.Cause.TheVariants.{Lapsed}
 use Rattle.sr_cell.specs.Cells.{Row}
 use Rattle.sr_cell.specs.Columns.{table_at, is_point}
@@ -13,32 +14,15 @@ use Rattle.sr_history.specs.Marks.{is_held}
 use Rattle.sr_history.specs.Classes.{Numbered, Class, AreClasses, in_class, same_class, stamp}
 use Rattle.sr_history.specs.Drops.{IsAbsorbed, Absorbs, DropsAll, is_held_wider}
 use Rattle.sr_history.specs.Budgets.{MeetsBudgets}
+use Rattle.sr_history.proofs.SameClass.{same_class-sound}
 use Rattle.sr_runs.specs.Example.{ages, default_limits, employee, employees, query, schema}
 use Rattle.sr_runs.proofs.ExampleRests.{held_1, held_none, lapsed, of-employees, same-points}
 
 abbrev pub class : ℕ → Class
 class n = record { table = 0; attrs = 3; stamp = n }
 
-abbrev made : ℕ → ℕ → ℕ → Class
-made t a n = record { table = t; attrs = a; stamp = n }
-
-same-fields : (t a n u b m : ℕ) → t ≡ u → a ≡ b → n ≡ m → made t a n ≡ made u b m
-same-fields t a n u b m table attrs stamp = cc
-
-is-same : (a b : Class) → same_class a b ≡ true → a ≡ b
-is-same a b e = same-fields a.table a.attrs a.stamp b.table b.attrs b.stamp (grind (arith, nat_tests)) (grind (arith, nat_tests)) (grind (arith, nat_tests))
-
 class-is : (k : Class) (n : ℕ) → k.table ≡ 0 → k.attrs ≡ 3 → k.stamp ≡ n → same_class k (class n) ≡ true
 class-is k n t a s = grind (arith, nat_tests, t, a, s)
-
-first-of : (x y : Bool) → (x && y) ≡ true → x ≡ true
-first-of x y e = grind arith
-
-second-of : (x y : Bool) → (x && y) ≡ true → y ≡ true
-second-of x y e = grind arith
-
-equal-nat : (m n : ℕ) → (m == n) ≡ true → m ≡ n
-equal-nat m n e = grind (arith, nat_tests)
 
 -- two columns of table 0 alone are held, all points have this stamp, and there is one
 module _ (marks : List Mark) (queries : List Numbered) (n : ℕ) (only : (t a : ℕ) (p : Row) → is_held marks t a p ≡ true → (t ≡ 0) × (a ≡ 3))
@@ -46,8 +30,8 @@ module _ (marks : List Mark) (queries : List Numbered) (n : ℕ) (only : (t a : 
     (some : HasPoint employees.columns (in_class marks queries (class n))) (wider : (p : Row) → is_held_wider marks 0 3 p ≡ false) where
   of-stamp : (k : Class) → HasPoint (table_at schema k.table).columns (in_class marks queries k) → (k.table ≡ 0) × (k.attrs ≡ 3) × (k.stamp ≡ n)
   of-stamp k (p, point, inside) =
-      let held : is_held marks k.table k.attrs p ≡ true = first-of (is_held marks k.table k.attrs p) _ inside in
-      let own : stamp queries k.table k.attrs p ≡ k.stamp = equal-nat _ _ (second-of (is_held marks k.table k.attrs p) _ inside) in
+      let held : is_held marks k.table k.attrs p ≡ true = first_so (is_held marks k.table k.attrs p) _ inside in
+      let own : stamp queries k.table k.attrs p ≡ k.stamp = eqb-true _ _ (second_so (is_held marks k.table k.attrs p) _ inside) in
       let is = only k.table k.attrs p held in
       (is.0, is.1, go k.table k.attrs is.0 is.1 point held own)
     where
@@ -59,7 +43,7 @@ module _ (marks : List Mark) (queries : List Numbered) (n : ℕ) (only : (t a : 
   one-class = record {
     order = refl;
     each = λ k. (
-      λ among. let e = is-same k (class n) (grind (arith, among)) in subst (λ k. HasPoint (table_at schema k.table).columns (in_class marks queries k)) (sym e) some,
+      λ among. let e = same_class-sound k (class n) (grind (arith, among)) in subst (λ k. HasPoint (table_at schema k.table).columns (in_class marks queries k)) (sym e) some,
       λ has. let is = of-stamp k has in let e = class-is k n is.0 is.1 is.2 in grind (arith, e),
     );
   }

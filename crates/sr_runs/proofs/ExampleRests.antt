@@ -1,6 +1,7 @@
 -- What the queries of the worked example ask.
 use Rattle.std.proofs.Common.{◌≡◌, ℕ, ℤ, pos, Bool, true, false, List, [], ◌∷◌, refl, sym, ◌∙◌, subst, arith, inl, inr}
 use Rattle.std.specs.Prelude.{int_le, IsTrue, slice_set, zero, suc, codes}
+use Rattle.std.proofs.lemmas.Bool.{both_ways}
 use Rattle.sr_cell.specs.declared.cause.Cause.TheVariants.{Lapsed}
 use Rattle.sr_cell.specs.declared.cell.Cell.{Cell}
 use Rattle.sr_cell.specs.declared.cell.Cell.TheVariants.{Num, Str}
@@ -71,9 +72,6 @@ whole-same = same-points _ _ (λ m n s d low high. grind arith)
 abbrev DependsOnTwo : (Row → Bool) → Type 0
 DependsOnTwo a = (x y z w u v : Cell) → a (x ∷ y ∷ z ∷ w ∷ []) ≡ a (x ∷ y ∷ u ∷ v ∷ [])
 
-contrary : (b : Bool) → b ≡ false → b ≡ true → ⊥
-contrary b no_b is_b = let wrong : false ≡ true = sym no_b ∙ is_b in absurd (cc)
-
 -- so only the two first ones can be essential
 pub only-two : (a : Row → Bool) (c : ℕ) → DependsOnTwo a → IsEssential employees.columns a c → IsTrue (has_column 3 c)
 only-two a zero two e = refl
@@ -84,15 +82,15 @@ only-two a (suc (suc c)) two e = absurd (by (an-employee e.inside e.is_inside.0)
     by p zero is out =
         let inside : a (Num p.id ∷ Num p.age ∷ Str p.name ∷ Num p.dept ∷ []) ≡ true = subst (λ q. a q ≡ true) p.is is in
         let outside : a (Num p.id ∷ Num p.age ∷ e.other ∷ Num p.dept ∷ []) ≡ false = subst (λ q. a (slice_set q 2 e.other) ≡ false) p.is out in
-        contrary _ outside (two (Num p.id) (Num p.age) e.other (Num p.dept) (Str p.name) (Num p.dept) ∙ inside)
+        both_ways _ outside (two (Num p.id) (Num p.age) e.other (Num p.dept) (Str p.name) (Num p.dept) ∙ inside)
     by p (suc zero) is out =
         let inside : a (Num p.id ∷ Num p.age ∷ Str p.name ∷ Num p.dept ∷ []) ≡ true = subst (λ q. a q ≡ true) p.is is in
         let outside : a (Num p.id ∷ Num p.age ∷ Str p.name ∷ e.other ∷ []) ≡ false = subst (λ q. a (slice_set q 3 e.other) ≡ false) p.is out in
-        contrary _ outside (two (Num p.id) (Num p.age) (Str p.name) e.other (Str p.name) (Num p.dept) ∙ inside)
+        both_ways _ outside (two (Num p.id) (Num p.age) (Str p.name) e.other (Str p.name) (Num p.dept) ∙ inside)
     by p (suc (suc k)) is out =
         let inside : a (Num p.id ∷ Num p.age ∷ Str p.name ∷ Num p.dept ∷ []) ≡ true = subst (λ q. a q ≡ true) p.is is in
         let outside : a (Num p.id ∷ Num p.age ∷ Str p.name ∷ Num p.dept ∷ []) ≡ false = subst (λ q. a (slice_set q (suc (suc (suc (suc k)))) e.other) ≡ false) p.is out in
-        contrary _ outside inside
+        both_ways _ outside inside
 
 -- where the asked points are these, and one of them is there, this is asked
 pub asks-ages : (marks : List Mark) (low high from to : ℕ) → IsRest schema marks (part low high) (ask from to) → Asks schema marks (part low high ∷ []) (ask from to ∷ [])

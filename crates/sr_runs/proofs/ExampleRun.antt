@@ -17,7 +17,7 @@ use Rattle.sr_session.specs.Clients.{Client, Connection}
 use Rattle.sr_session.specs.Rules.{Holds, answers, as_it_is, asks_once_more, lays, query_asks, renewed, with_ask}
 use Rattle.sr_session.specs.Scenes.{Scene, client_took, executed, new_pair, pushed, queried, server_took}
 use Rattle.sr_runs.specs.Example.{ages, default_limits, employee, employees, events, lines, query, row, schema, start}
-use Rattle.sr_language.specs.Events.{DoPush, DoQuery}
+use Rattle.sr_lines.specs.Events.{DoPush, DoQuery}
 use Rattle.sr_runs.specs.Scripts.{gives_nothing, is_exec, is_push, is_query, is_to_client, is_to_server}
 use Rattle.sr_runs.specs.Runs.{Runs, Settles, Steps, acts, alone, delivers, does, does_settle, ends, goes_on, is_quiet}
 use Rattle.sr_runs.proofs.ExampleRests.{ask, first-asks, held_1, lapsed, second-asks, whole-asks}

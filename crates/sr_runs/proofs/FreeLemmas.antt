@@ -14,7 +14,7 @@ use Rattle.sr_session.specs.Scenes.{Did, Event, Happens, Report, Scene, Taken, T
 use Rattle.sr_session.proofs.EventLemmas.{other-stays, same-pairs}
 use Rattle.sr_session.proofs.ReachLemmas.{at-set}
 use Rattle.sr_runs.specs.Lines.{lines_of}
-use Rattle.sr_language.specs.Events.{DoToClient, DoToServer, ScriptEvent}
+use Rattle.sr_lines.specs.Events.{DoToClient, DoToServer, ScriptEvent}
 use Rattle.sr_runs.specs.Scripts.{Is, is_cut, is_evict, is_exec, is_push, is_query, is_resume, is_to_client, is_to_server, is_write_of}
 use Rattle.sr_runs.specs.Runs.{Acts, AllSettle, Settles, acts, delivers, is_quiet, next_of, no_client, one_more, too_long}
 use Rattle.sr_runs.proofs.Splits.{Side, in_left, in_right, none-there, split}

@@ -7,7 +7,7 @@ use Rattle.sr_script.specs.declared.line.TraceLine.TheVariants as line
 use Rattle.sr_session.specs.Scenes.{Event, Report, Scene}
 use Rattle.sr_session.specs.Texts.{long_text}
 use Rattle.sr_runs.specs.Lines.{lines_of}
-use Rattle.sr_language.specs.Events.{ScriptEvent}
+use Rattle.sr_lines.specs.Events.{ScriptEvent}
 use Rattle.sr_runs.specs.Runs.{Acts, AllSettle, Does, Settles, Steps, acts, alone, delivers, does, does_settle, eagerly, ends, goes_on, is_quiet, no_client, numbered, one_more, too_long}
 use Rattle.sr_runs.specs.Headline.{IsMoment, IsTold, Leads, LinesAreTold, is_of_no_event}
 use Rattle.sr_runs.proofs.Splits.{Side, in_left, in_right, none-there, only-one, split}

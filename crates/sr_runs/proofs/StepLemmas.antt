@@ -4,7 +4,7 @@ use Rattle.sr_script.specs.declared.line.TraceLine.{TraceLine}
 use Rattle.sr_session.specs.Scenes.{Event, Report, Scene, first_scene, done, next}
 use Rattle.sr_session.specs.Scenes.{Runs as EventsRun}
 use Rattle.sr_session.proofs.ReachLemmas.{reached-stands}
-use Rattle.sr_language.specs.Events.{ScriptEvent}
+use Rattle.sr_lines.specs.Events.{ScriptEvent}
 use Rattle.sr_runs.specs.Runs.{Acts, AllSettle, Does, Runs, Settles, acts, alone, delivers, does, does_settle, eagerly, ends, goes_on, is_quiet, no_client, one_more, too_long}
 use Rattle.sr_runs.specs.Headline.{ScriptsReach, ScriptsStand, StepsAreEvents}
 

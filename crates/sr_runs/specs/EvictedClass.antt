@@ -6,7 +6,7 @@ use Rattle.sr_script.specs.declared.line.TraceLine.{TraceLine}
 use Rattle.sr_script.specs.declared.line.TraceLine.TheVariants as line
 use Rattle.sr_session.specs.Scenes.{Scene, first_scene}
 use Rattle.sr_runs.specs.Example.{ages, default_limits, events, query, row, schema}
-use Rattle.sr_language.specs.Events.{DoEvict, DoQuery, ScriptEvent}
+use Rattle.sr_lines.specs.Events.{DoEvict, DoQuery, ScriptEvent}
 
 abbrev pub evicting_trace : List ℕ
 evicting_trace = codes "3 exec version 1\n4 exec version 2\n5 ask 1 1 fresh 1\n5 part emp (id,age) {age 30..40}\n5 query 1 asked 1\n5 toserver 1 ask 2\n5 toclient 1 laid\n5 answer 1 1 2 2\n5 row 1, 35\n5 row 3, 33\n5 held 1 emp (id,age) {age 30..40}\n5 toclient 1 answered\n6 evict 1 none 1\n7 drop 1 asked emp (id,age) 1 {age 30..40}\n7 evict 1 dropped\n8 ask 1 2 fresh 1\n8 part emp (id,age) {age 30..40}\n8 query 1 asked 2\n8 toserver 1 ask 2\n8 toclient 1 laid\n8 answer 1 2 2 2\n8 row 1, 35\n8 row 3, 33\n8 held 1 emp (id,age) {age 30..40}\n8 toclient 1 answered\n"

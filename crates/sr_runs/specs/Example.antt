@@ -17,7 +17,7 @@ use Rattle.sr_script.specs.declared.line.RequestKind.TheVariants as kind
 use Rattle.sr_script.specs.declared.line.TraceLine.{TraceLine}
 use Rattle.sr_script.specs.declared.line.TraceLine.TheVariants as line
 use Rattle.sr_session.specs.Scenes.{Scene, first_scene}
-use Rattle.sr_language.specs.Events.{DoExec, DoPush, DoQuery, DoSettle, ScriptEvent}
+use Rattle.sr_lines.specs.Events.{DoExec, DoPush, DoQuery, DoSettle, ScriptEvent}
 
 abbrev pub trace : List ℕ
 trace = codes "3 exec version 1\n4 exec version 2\n5 ask 1 1 fresh 1\n5 part emp (id,age) {age 30..40}\n5 query 1 asked 1\n6 toserver 1 ask 2\n6 toclient 1 laid\n6 answer 1 1 2 2\n6 row 1, 35\n6 row 3, 33\n6 held 1 emp (id,age) {age 30..40}\n6 toclient 1 answered\n6 settle 1 3\n7 ask 1 2 more 1\n7 part emp (id,age) {age 41..50}\n7 query 1 asked 2\n8 exec version 3\n9 exec version 4\n10 exec version 5\n11 push 1 sent 1\n12 toserver 1 ask 2\n12 toclient 1 laid\n12 toclient 1 laid\n12 drop 1 lapsed emp (id,age) 1 {age 30..40}\n12 ask 1 3 fresh 1\n12 part emp (id,age) {age 35..50}\n12 toclient 1 asked 3\n12 toserver 1 ask 2\n12 toclient 1 laid\n12 answer 1 2 5 2\n12 row 1, 35\n12 row 2, 48\n12 held 1 emp (id,age) {age 35..50}\n12 toclient 1 answered\n12 settle 1 7\n"

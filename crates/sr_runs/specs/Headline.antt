@@ -15,7 +15,7 @@ use Rattle.sr_session.specs.Headline.{AsksTheUncovered, IsCovered, IsReached, Is
 use Rattle.sr_session.specs.Scenes.{Did, Event, Happens, Report, Scene, SceneStands, client_of, first_scene, pair_at}
 use Rattle.sr_session.specs.Scenes.{Runs as EventsRun}
 use Rattle.sr_runs.specs.Lines.{answer_lines, lines_of, mark_lines, part_line}
-use Rattle.sr_language.specs.Events.{DoQuery, ScriptEvent}
+use Rattle.sr_lines.specs.Events.{DoQuery, ScriptEvent}
 use Rattle.sr_runs.specs.Runs.{Runs, Steps, numbered}
 
 -- ---- steps are runs of events

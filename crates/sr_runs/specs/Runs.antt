@@ -7,7 +7,7 @@ use Rattle.sr_session.specs.Clients.{Connection, Pair}
 use Rattle.sr_session.specs.Scenes.{Event, Happens, Report, Scene, pair_at}
 use Rattle.sr_session.specs.Texts.{most_text, long_text}
 use Rattle.sr_runs.specs.Lines.{lines_of}
-use Rattle.sr_language.specs.Events.{DoSettle, DoToClient, DoToServer, DoWrite, ScriptEvent}
+use Rattle.sr_lines.specs.Events.{DoSettle, DoToClient, DoToServer, DoWrite, ScriptEvent}
 use Rattle.sr_runs.specs.Scripts.{Is}
 
 -- ---- deliveries

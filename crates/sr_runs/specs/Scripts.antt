@@ -6,8 +6,8 @@ use Rattle.sr_message.specs.declared.message.Message.TheVariants.{Write}
 use Rattle.sr_model.specs.Queries.{Query}
 use Rattle.sr_model.specs.Statements.{Tables, executed}
 use Rattle.sr_model.specs.Statements.{Write as Statement}
-use Rattle.sr_language.specs.Events.{ScriptEvent, DoExec, DoQuery, DoWrite, DoPush, DoToServer, DoToClient, DoEvict, DoCut, DoResume}
-use Rattle.sr_language.specs.Script.{Writes}
+use Rattle.sr_lines.specs.Events.{ScriptEvent, DoExec, DoQuery, DoWrite, DoPush, DoToServer, DoToClient, DoEvict, DoCut, DoResume}
+use Rattle.sr_lines.specs.Script.{Writes}
 use Rattle.sr_session.specs.Sessions.{Database, newest, tables_of}
 use Rattle.sr_session.specs.Clients.{Pair}
 use Rattle.sr_session.specs.Scenes.{CutOf, Event, EvictOf, Exec, PushTo, QueryOf, ResumeOf, Scene, ToClient, ToServer, WriteOf, pair_at}

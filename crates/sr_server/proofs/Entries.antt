@@ -8,8 +8,9 @@ use Rattle.sr_cell.specs.declared.change.Change.{Change}
 use Rattle.sr_cell.specs.declared.table.Table.{Table}
 use Rattle.sr_cell.specs.Cells.{Row}
 use Rattle.sr_box.specs.Points.{Rect}
+use Rattle.sr_box.specs.Rows.{has_row}
 use Rattle.sr_message.specs.declared.message.Holding.{Holding}
-use Rattle.sr_subs.specs.Subscription.{has_point, has_row, touches, is_bare, FitsSome}
+use Rattle.sr_subs.specs.Subscription.{has_point, touches, is_bare, FitsSome}
 use Rattle.sr_subs.proofs.Empty.{empty_where_bare}
 use Rattle.sr_message.specs.declared.message.Tell.{Tell}
 use Rattle.sr_message.specs.Tells.{tell_of}
@@ -22,7 +23,8 @@ use Rattle.sr_model.specs.Changes.{changes, version_at, changes_at}
 use Rattle.sr_message.specs.declared.message.Message.{Message}
 use Rattle.sr_message.specs.declared.message.Message.TheVariants.{Notice, Lapse}
 use Rattle.sr_session.specs.Sessions.{Database, Session, all_changes, closing, closing_if, due, due_if, floor_of, is_lost, newest, notice, notices, pushed, subscribes_some, told_at}
-use Rattle.sr_session.proofs.SendLemmas.{floor-within, changes-count}
+use Rattle.sr_log.proofs.Least.{floor-within}
+use Rattle.sr_session.proofs.SendLemmas.{changes-count}
 use Rattle.sr_server.specs.Noticed.{noticed, last_changes}
 use Rattle.sr_server.specs.Servers.{Logs}
 

@@ -5,3 +5,4 @@ pub mod Standing
 pub mod Fitting
 pub mod Serving
 pub mod Taking
+pub mod Sending

@@ -1,10 +1,11 @@
 -- A server at the first version, and after a statement.
-use Rattle.std.proofs.Common.{◌≡◌, suc, ◌-◌, ◌<◌, ◌≤◌, true, List, [], ◌∷◌, ◌++◌, length, refl, sym, ◌∙◌, ap, subst, arith, Option, Some, None}
-use Rattle.std.specs.Prelude.{Bool, replicate, IsTrue}
+use Rattle.std.proofs.Common.{◌≡◌, ℕ, suc, ◌-◌, ◌<◌, ◌≤◌, true, List, [], ◌∷◌, ◌++◌, length, refl, sym, ◌∙◌, ap, subst, arith, Option, Some, None}
+use Rattle.std.specs.Prelude.{Bool, nat_le, replicate, IsTrue}
 use Rattle.std.specs.List.{All, list_all}
 use Rattle.std.proofs.lemmas.List.{length-append, length-replicate}
 use Rattle.std.proofs.lemmas.List.Elements.{All-weaker, All-replicate}
 use Rattle.std.proofs.lemmas.List.Folds.{list_all-append}
+use Rattle.std.proofs.lemmas.Bool.Decides.{nat_tests}
 use Rattle.sr_cell.specs.declared.change.Change.{Change}
 use Rattle.sr_cell.specs.declared.table.Table.{Table}
 use Rattle.sr_keyed.specs.Keyed.{are_values}
@@ -16,7 +17,7 @@ use Rattle.sr_query.specs.Bound.{is_table}
 use Rattle.sr_session.specs.Sessions.{Database, Session, all_changes, newest, tables_of, with_version}
 use Rattle.sr_tables.specs.Stored.{Stored, are_stored}
 use Rattle.sr_server.specs.declared.server.Server.{Server}
-use Rattle.sr_server.specs.Servers.{IsCarriedOut, IsServer, IsSessionIf, IsSound, Logs, first_database}
+use Rattle.sr_server.specs.Servers.{are_few, IsCarriedOut, IsServer, IsSessionIf, IsSound, Logs, first_database}
 
 -- ---- a version more
 
@@ -24,7 +25,7 @@ at-end : (versions : List Tables) (tables : Tables) → version_at (versions ++ 
 at-end [] tables = refl
 at-end (old ∷ versions) tables = at-end versions tables
 
-newest-more : (db : Database) (tables : Tables) → newest (with_version db tables) ≡ length db.versions
+pub newest-more : (db : Database) (tables : Tables) → newest (with_version db tables) ≡ length db.versions
 newest-more db tables = omega (arith, length-append db.versions (tables ∷ []))
 
 tables-more : (db : Database) (tables : Tables) → tables_of (with_version db tables) (newest (with_version db tables)) ≡ tables
@@ -65,12 +66,24 @@ sessions-stay db tables sessions all = All-weaker (IsSessionIf db) (IsSessionIf 
 all-more : {X : Type 0} (test : X → Bool) (xs : List X) (x : X) → list_all test xs ≡ true → test x ≡ true → list_all test (xs ++ x ∷ []) ≡ true
 all-more test xs x all one = list_all-append test xs (x ∷ []) ∙ rw (all, one) refl
 
-sound-more : (db : Database) (tables : Tables) → IsSound db → are_stored db.schema tables ≡ true → list_all (list_all are_values) tables ≡ true → IsSound (with_version db tables)
-sound-more db tables sound stored values = record {
+few-more : (db : Database) (tables : Tables) (made : List Change) → IsSound db → made ≡ changes db.schema (tables_of db (newest db)) tables → length made ≤ 10000
+    → list_all are_few (all_changes db.schema (db.versions ++ tables ∷ [])) ≡ true
+few-more db tables made sound are few =
+    let last : are_few made ≡ true = by (length made) few in
+    ap (list_all are_few) (changes-more db.schema db.versions tables sound.some)
+    ∙ all-more are_few (all_changes db.schema db.versions) (changes db.schema (tables_of db (newest db)) tables) sound.few (ap are_few (sym are) ∙ last)
+  where
+    by : (n : ℕ) → n ≤ 10000 → nat_le n 10000 ≡ true
+    by n few = grind (arith, nat_tests)
+
+sound-more : (db : Database) (tables : Tables) (made : List Change) → IsSound db → are_stored db.schema tables ≡ true → list_all (list_all are_values) tables ≡ true
+    → made ≡ changes db.schema (tables_of db (newest db)) tables → length made ≤ 10000 → IsSound (with_version db tables)
+sound-more db tables made sound stored values are few = record {
   tables = sound.tables;
   some = (let more = length-append db.versions (tables ∷ []) in omega (arith, more));
   stored = all-more (are_stored db.schema) db.versions tables sound.stored stored;
   values = all-more (list_all (list_all are_values)) db.versions tables sound.values values;
+  few = few-more db tables made sound are few;
 }
 
 -- ---- servers
@@ -82,15 +95,16 @@ pub record HasSound (held : Stored) : Type 0 where
   pub values : list_all (list_all are_values) held.rows ≡ true
 
 -- a statement is carried out on tables and a log, which are put in the place of the old ones
-pub carried-by : (old new : Server) (tables : Stored) (log : Held) (made : List Change) → tables.schema ≡ old.tables.schema → made ≡ changes old.tables.schema old.tables.rows tables.rows
+pub carried-by : (old new : Server) (tables : Stored) (log : Held) (made : List Change) → tables.schema ≡ old.tables.schema → made ≡ changes old.tables.schema old.tables.rows tables.rows → length made ≤ 10000
     → log ≡ record old.log { room = log.room } → IsPushed log made new.log → new ≡ record { tables = tables; log = new.log; sessions = old.sessions }
     → are_stored new.tables.schema new.tables.rows ≡ true → list_all (list_all are_values) new.tables.rows ≡ true → IsCarriedOut old new
-carried-by old new tables log made schema are roomy pushed is stored values =
+carried-by old new tables log made schema are few roomy pushed is stored values =
     let there : new.tables ≡ tables = ap (λ (s : Server). s.tables) is in
     record {
       schema = ap (λ (t : Stored). t.schema) there ∙ schema;
       made = made;
       are = are ∙ ap (λ (t : Stored). changes old.tables.schema old.tables.rows t.rows) (sym there);
+      few = few;
       pushed = subst (λ (h : Held). IsPushed h made new.log) roomy pushed;
       stored = stored;
       values = values;
@@ -103,7 +117,7 @@ stands-more old new db is did =
     let are : did.made ≡ changes db.schema (tables_of db (newest db)) new.tables.rows =
     did.are ∙ (ap (λ s. changes s old.tables.rows new.tables.rows) is.knows.schema ∙ ap (λ rows. changes db.schema rows new.tables.rows) is.knows.rows) in
     record {
-      sound = sound-more db new.tables.rows is.sound (subst (λ s. are_stored s new.tables.rows ≡ true) schema did.stored) did.values;
+      sound = sound-more db new.tables.rows did.made is.sound (subst (λ s. are_stored s new.tables.rows ≡ true) schema did.stored) did.values are did.few;
       knows = record {
         schema = schema;
         rows = sym (tables-more db new.tables.rows);
@@ -131,7 +145,7 @@ stands-still old new db is tables log sessions count = record {
 pub first-stands : (server : Server) → HasSound server.tables → server.log.floor ≡ 0 → server.log.kept ≡ [] → server.sessions ≡ replicate 64 None
     → IsServer server (first_database server.tables.schema server.log.limit server.tables.rows)
 first-stands server sound floor kept sessions = record {
-  sound = record { tables = sound.tables; some = omega arith; stored = rw sound.stored refl; values = rw sound.values refl };
+  sound = record { tables = sound.tables; some = omega arith; stored = rw sound.stored refl; values = rw sound.values refl; few = refl };
   knows = record { schema = refl; rows = refl; log = (refl, kept, floor) };
   count = ap length sessions ∙ length-replicate {A = Option Session} 64 None;
   sessions = subst (All (IsSessionIf (first_database server.tables.schema server.log.limit server.tables.rows))) (sym sessions)

@@ -11,7 +11,7 @@ use Rattle.sr_grammar.specs.Trees.{Statement, Create, Selects, Inserts, Updates,
 use Rattle.sr_message.specs.declared.message.Message.{Message}
 use Rattle.sr_message.specs.declared.message.Message.TheVariants.{Hello, Resume, Ask, Write, Welcome, Notice, Rows, Reply, Written, Refused, Lapse}
 use Rattle.sr_model.specs.Statements.{Tables}
-use Rattle.sr_parser.proofs.RowCounts.{fewer_rows}
+use Rattle.sr_grammar_laws.proofs.RowCounts.{fewer_rows}
 use Rattle.sr_session.specs.Scenes.{Taken, taken}
 use Rattle.sr_session.specs.Sessions.{Database, Session, newest, serve, serve_write, tables_of, with_version}
 use Rattle.sr_tables.specs.Stored.{Stored, done_by, statement_is_short}
@@ -22,7 +22,7 @@ use Rattle.sr_server.proofs.Fitting.{serve-fits, write-fits}
 use Rattle.sr_log.specs.Held.{newest as newest_of}
 use Rattle.sr_server.proofs.Entries.{newest-is}
 use Rattle.sr_server.proofs.Slots.{last-session, session-is, sessions-are}
-use Rattle.sr_server.proofs.Standing.{session-stays, stands-more, stands-still}
+use Rattle.sr_server.proofs.Standing.{newest-more, session-stays, stands-more, stands-still}
 
 pub both-ok : {A E : Type 0} (r : Result A E) (P : A → Type 0) (Q : Type 0) (R : A → Type 0) → ((a : A) → P a → Q → R a) → IfOk r P → OnOk r Q → IfOk r R
 both-ok (Ok a) P Q R more p q = more a p q
@@ -214,6 +214,12 @@ later-one db tables = omega (arith, length-append db.versions (tables ∷ []))
 
 grows-with : (old new : Server) (db later : Database) → IsServer old db → IsServer new later → newest later ≤ newest db + 1 → newest_of new.log ≤ newest_of old.log + 1
 grows-with old new db later is is_new one = omega (arith, one, newest-is db old.log is.knows.log, newest-is later new.log is_new.knows.log)
+
+pub newest-carried : (db : Database) (old new : Server) → IsServer old db → IsCarriedOut old new → newest_of new.log ≡ newest_of old.log + 1
+newest-carried db old new is did =
+    let after = stands-more old new db is did in
+    let some = is.sound.some in
+    omega (arith, some, newest-more db new.tables.rows, newest-is db old.log is.knows.log, newest-is (with_version db new.tables.rows) new.log after.knows.log)
 
 taken-one : (db : Database) (session : Option Session) (m : Message) (result : Result Tables Fault) → newest (taken db session m result).database ≤ newest db + 1
 taken-one db None m result = omega arith

@@ -1,5 +1,5 @@
 -- Which databases a server stands for, and what it makes of a message.
-use Rattle.std.specs.Prelude.{ℕ, ◌-◌, true, ◌<◌, ◌≤◌, List, [], ◌∷◌, ◌≡◌, ◌⊎◌, length, slice_index_or, slice_set, Option, Some, None, Result, Ok, IsTrue}
+use Rattle.std.specs.Prelude.{ℕ, ◌-◌, Bool, true, nat_le, ◌<◌, ◌≤◌, List, [], ◌∷◌, ◌≡◌, ◌⊎◌, length, slice_index_or, slice_set, Option, Some, None, Result, Ok, IsTrue}
 use Rattle.std.specs.List.{All, AllByRecursion, list_all}
 use Rattle.sr_cell.specs.declared.change.Change.{Change}
 use Rattle.sr_cell.specs.declared.fault.Fault.{Fault}
@@ -51,12 +51,17 @@ IsSessionIf db (Some session) = IsSession db session
 abbrev pub Logs : Database → Held → Type 0
 Logs db log = KeepsNewest db.log_limit (all_changes db.schema db.versions) log
 
--- There is a version, and the rows of each are such as tables of the schema may have.
+-- no more changes than a notice may tell
+abbrev pub are_few : List Change → Bool
+are_few changes = nat_le (length changes) 10000
+
+-- There is a version, the rows of each are such as tables of the schema may have, and none has too many changes.
 pub record IsSound (db : Database) : Type 0 where
   pub tables : IsTrue (list_all is_table db.schema)
   pub some : 0 < length db.versions
   pub stored : IsTrue (list_all (are_stored db.schema) db.versions)
   pub values : IsTrue (list_all (list_all (list_all are_values)) db.versions)
+  pub few : IsTrue (list_all are_few (all_changes db.schema db.versions))
 
 -- the tables of the newest version, and the log of the newest versions
 pub record Knows (stored : Stored) (held : Held) (db : Database) : Type 0 where
@@ -85,6 +90,7 @@ pub record IsCarriedOut (old new : Server) : Type 0 where
   pub schema : new.tables.schema ≡ old.tables.schema
   pub made : List Change
   pub are : made ≡ changes old.tables.schema old.tables.rows new.tables.rows
+  pub few : length made ≤ 10000
   pub pushed : IsPushed old.log made new.log
   pub stored : are_stored new.tables.schema new.tables.rows ≡ true
   pub values : list_all (list_all are_values) new.tables.rows ≡ true

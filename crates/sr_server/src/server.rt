@@ -1,6 +1,6 @@
 //! The server.
-ghost use Rattle.std.specs.Prelude.{◌≡◌, ◌<◌, ◌≤◌, ◌+◌, true, [], ◌∷◌, ◌^◌, ◌↔◌, length, replicate, Ok, Err, Some, None, IsTrue, IsNone, IfOk, OnOk, OnErr, IsErrOf};
-ghost use Rattle.std.specs.List.{list_all, AllByRecursion};
+ghost use Rattle.std.specs.Prelude.{◌≡◌, ◌<◌, ◌≤◌, ◌+◌, true, [], ◌∷◌, ◌^◌, ◌↔◌, length, replicate, Ok, Err, Some, None, IsTrue, IsNone, IfSome, IfOk, OnOk, OnErr, IsErrOf};
+ghost use Rattle.std.specs.List.{list_all, All, AllByRecursion};
 ghost use Rattle.sr_cell.specs.declared.fault.Fault.{Fault as TheFault};
 ghost use Rattle.sr_cell.specs.declared.list.No.TheVariants.{Refused, NoMemory as Wanting};
 ghost use Rattle.sr_grammar.specs.Seen.{statement_seen};
@@ -13,6 +13,7 @@ ghost use Rattle.sr_query.specs.Writes.{suits};
 ghost use Rattle.sr_session.specs.Sessions.{Database, Session as TheSession, newest, with_version, serve, serve_push, serve_write};
 ghost use Rattle.sr_subs.specs.Subscription.{FitsSome};
 ghost use Rattle.sr_tables.specs.Stored.{are_stored, done_by, is_short, statement_is_short};
+ghost use Rattle.sr_wire.specs.Limits.{IsSendable};
 ghost use Rattle.sr_wire.specs.declared.bad_frame.BadFrame.{BadFrame as TheBadFrame};
 ghost use Rattle.sr_session.specs.Refusals.{server_misfit, has_few_parts, is_open};
 ghost use Rattle.sr_server.specs.Servers.{IsCarriedOut, IsClientNumber, IsServer, Logs, StandsForSome, Executes, Takes, GivesUp, first_database, session_at, with_session};
@@ -98,6 +99,24 @@ impl Server {
         }
     }
 
+    /// As `exec`, of a text: one that says no statement is refused with its fault.
+    pub fn exec_text(&mut self, alloc: Global, sql: &str) -> Result<u64, No<Fault>>
+        requires stands { StandsForSome self.old }
+        requires number { newest_of self.old.log + 1 < 2 ^ 63 }
+        ensures done { OnOk result (Executes self.old.tables.schema sql.now self.old.tables.rows (Ok self.new.tables.rows)) }
+        ensures version { IfOk result (λ version. version ≡ newest_of self.old.log + 1) }
+        ensures stands { (db : Database) → IsServer self.old db → OnOk result (IsServer self.new (with_version db self.new.tables.rows)) }
+        ensures sessions { self.new.sessions ≡ self.old.sessions }
+        ensures refused { (fault : TheFault) → IsErrOf result (Refused fault) → Executes self.old.tables.schema sql.now self.old.tables.rows (Err fault) }
+        ensures unchanged { OnErr result (self.new ≡ record self.old { log = record self.old.log { room = self.new.log.room } }) }
+        ensures grows { newest_of self.new.log ≤ newest_of self.old.log + 1 }
+    {
+        match self.write(alloc, sql) {
+            Ok(()) => Ok(self.log.version()),
+            Err(no) => Err(no),
+        }
+    }
+
     /// Takes a message of that client: it is refused and changes nothing, or carried out and answered, in order, with the messages
     /// to send. A write that is carried out makes a version. After want of memory the client's session is closed; a write that was
     /// carried out stays.
@@ -114,6 +133,7 @@ impl Server {
         ensures bad { (why : TheBadFrame) → IsErrOf result (Refused why) ↔ (server_misfit self.old.tables.schema (session_at self.old.sessions client) client message.now ≡ Some why) }
         ensures unchanged { (why : TheBadFrame) → IsErrOf result (Refused why) → self.new ≡ self.old }
         ensures taken { (db : Database) → IsServer self.old db → IfOk result (λ sent. Takes db self.old client message.now sent self.new) }
+        ensures sendable { IfOk result (λ sent. All IsSendable sent) }
         ensures wanting { (db : Database) → IsServer self.old db → IsErrOf result Wanting → GivesUp db self.old client message.now self.new }
         ensures stands { StandsForSome self.new }
         ensures grows { newest_of self.new.log ≤ newest_of self.old.log + 1 }
@@ -136,6 +156,7 @@ impl Server {
         ensures same { session_at self.old.sessions client ≡ None → self.new ≡ self.old }
         ensures sent { (db : Database) (session : TheSession) → IsServer self.old db → session_at self.old.sessions client ≡ Some session → IfOk result (λ sent. sent ≡ Some (serve_push db session).sent) }
         ensures session { (db : Database) (session : TheSession) → IsServer self.old db → session_at self.old.sessions client ≡ Some session → OnOk result (self.new ≡ record self.old { sessions = with_session self.old.sessions client (serve_push db session).session }) }
+        ensures sendable { IfOk result (λ sent. IfSome sent (All IsSendable)) }
         ensures closed { OnErr result (self.new ≡ record self.old { sessions = with_session self.old.sessions client None }) }
         ensures stands { (db : Database) → IsServer self.old db → IsServer self.new db }
         ensures others { self.new ≡ record self.old { sessions = self.new.sessions } }

@@ -29,8 +29,9 @@ use Rattle.sr_session.proofs.MarkLemmas.{AreDrops, IsDrop, is-drop, regions-drop
 use Rattle.sr_session.proofs.DropLemmas.{all-dropped}
 use Rattle.sr_session.proofs.ExecLemmas.{newest-more, version-stays}
 use Rattle.sr_session.proofs.EventLemmas.{at, events-keep, first-stands, get-all, same-pairs}
-use Rattle.sr_session.proofs.ReachLemmas.{at-set, same-database, stands-version}
+use Rattle.sr_session.proofs.ReachLemmas.{at-set, same-database}
 use Rattle.sr_session.proofs.CountLemmas.{classes-still, kept-less, kept-none, no-classes, others-left, without, without-fewer}
+use Rattle.sr_session.proofs.ServeLemmas.{stands-version}
 
 -- ---- budgets that are met
 
@@ -263,7 +264,7 @@ grows s new event report (client_idle n old is empty) = same
 grows s new event report (client_took n old m queue o c is first step) = put-grows s n (acted c (record old.connection { to_client = queue }) o)
 
 -- where all tables are of the schema then, they were before
-tables-before : (old new : Database) → 0 < length old.versions → Grows old new → HasTables new → HasTables old
+pub tables-before : (old new : Database) → 0 < length old.versions → Grows old new → HasTables new → HasTables old
 tables-before old new some same h v below = h v below
 tables-before old new some (more tables) h v below =
     let last = newest-more old tables some in

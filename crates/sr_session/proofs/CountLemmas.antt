@@ -16,6 +16,8 @@ use Rattle.sr_history.specs.Marks.{HoldsNothing, attrs_of, is_held}
 use Rattle.sr_history.specs.Kept.{each_once, kept, kept_from, sets_of}
 use Rattle.sr_history.specs.Classes.{AreClasses, Class, Numbered, ascending, in_class, in_class_order, same_class, stamp, stamp_from}
 use Rattle.sr_history.specs.Drops.{IsDropOf}
+use Rattle.sr_history.proofs.Marking.{held-set}
+use Rattle.sr_history.proofs.SameClass.{same_class-sound}
 use Rattle.sr_store.proofs.Totals.{total, total_is, total_none}
 use Rattle.sr_session.proofs.MarkLemmas.{IsDrop}
 
@@ -48,19 +50,6 @@ after-drop (Dropped cause u b st rects) marks drop t a p is = go ((u == t && b =
     go : (x : Bool) → (if x then false else is_held marks t a p) ≡ true → is_held marks t a p ≡ true
     go true e = absurd (cc)
     go false e = e
-
--- under columns that no mark has nothing is held
-held-set : (marks : List Mark) (t a : ℕ) (p : Row) → is_held marks t a p ≡ true → list_any (λ y. a == y) (map attrs_of marks) ≡ true
-held-set [] t a p h = absurd (cc)
-held-set (m ∷ marks) t a p h = go (a == attrs_of m) refl (held-set marks t a p)
-  where
-    rest : (m : Mark) → (a == attrs_of m) ≡ false → is_held (m ∷ marks) t a p ≡ true → is_held marks t a p ≡ true
-    rest (Held u b rects) ne i = grind (arith, nat_tests)
-    rest (Dropped cause u b s rects) ne i = grind (arith, nat_tests)
-
-    go : (b : Bool) → (a == attrs_of m) ≡ b → (is_held marks t a p ≡ true → list_any (λ y. a == y) (map attrs_of marks) ≡ true) → (b || list_any (λ y. a == y) (map attrs_of marks)) ≡ true
-    go true e ih = refl
-    go false e ih = ih (rest m e h)
 
 none-counted : (f : Row → Bool) (rows : List Row) → ((p : Row) → f p ≡ false) → count_by f rows ≡ 0
 none-counted f rows h = total_is (λ p. cond (f p) 1 0) rows ∙ total_none (λ p. cond (f p) 1 0) rows (λ p. ap (λ b. cond b 1 0) (h p))
@@ -205,15 +194,6 @@ without-ascends chosen (k ∷ classes) h = let two = ascends-all k classes h in 
     go true ih a = ih
     go false ih a = all-ascends k (without chosen classes) a ih
 
-abbrev made : ℕ → ℕ → ℕ → Class
-made t a n = record { table = t; attrs = a; stamp = n }
-
-same-fields : (t a n u b m : ℕ) → t ≡ u → a ≡ b → n ≡ m → made t a n ≡ made u b m
-same-fields t a n u b m table attrs stamp = cc
-
-is-same : (a b : Class) → same_class a b ≡ true → a ≡ b
-is-same a b e = same-fields a.table a.attrs a.stamp b.table b.attrs b.stamp (grind (arith, nat_tests)) (grind (arith, nat_tests)) (grind (arith, nat_tests))
-
 -- a class among those that are left is one of all, and another one
 among-without : (k chosen : Class) (classes : List Class) → list_any (same_class k) (without chosen classes) ≡ true → (list_any (same_class k) classes ≡ true) × (same_class chosen k ≡ false)
 among-without k chosen [] h = absurd (cc)
@@ -222,7 +202,7 @@ among-without k chosen (n ∷ classes) h = go (same_class chosen n) refl h (λ t
     here : (b : Bool) → same_class k n ≡ b → same_class chosen n ≡ false → (b || list_any (same_class k) (without chosen classes)) ≡ true
         → (list_any (same_class k) (without chosen classes) ≡ true → (list_any (same_class k) classes ≡ true) × (same_class chosen k ≡ false))
         → ((b || list_any (same_class k) classes) ≡ true) × (same_class chosen k ≡ false)
-    here true e other h ih = (refl, ap (same_class chosen) (is-same k n e) ∙ other)
+    here true e other h ih = (refl, ap (same_class chosen) (same_class-sound k n e) ∙ other)
     here false e other h ih = ih h
 
     go : (b : Bool) → same_class chosen n ≡ b → list_any (same_class k) (if b then without chosen classes else n ∷ without chosen classes) ≡ true
@@ -238,7 +218,7 @@ without-among k chosen (n ∷ classes) h other = go (same_class chosen n) refl (
     go : (b : Bool) → same_class chosen n ≡ b → (x : Bool) → same_class k n ≡ x → (x || list_any (same_class k) classes) ≡ true
         → (list_any (same_class k) classes ≡ true → list_any (same_class k) (without chosen classes) ≡ true)
         → list_any (same_class k) (if b then without chosen classes else n ∷ without chosen classes) ≡ true
-    go true e true f h ih = absurd (let same = ap (same_class chosen) (is-same k n f) in let wrong : true ≡ false = sym e ∙ (sym same ∙ other) in cc)
+    go true e true f h ih = absurd (let same = ap (same_class chosen) (same_class-sound k n f) in let wrong : true ≡ false = sym e ∙ (sym same ∙ other) in cc)
     go true e false f h ih = ih h
     go false e true f h ih = rw f refl
     go false e false f h ih = rw f (ih h)
@@ -288,7 +268,7 @@ others-left schema marks queries cause chosen (Dropped why u b st rects) classes
         → (x : Bool) → same_class chosen k ≡ x → x ≡ false
     another k p point inside old false e = refl
     another k p point inside old true e =
-        let same : chosen ≡ k = is-same chosen k e in
+        let same : chosen ≡ k = same_class-sound chosen k e in
         let table : u ≡ k.table = drop.1 ∙ ap (λ c. c.table) same in
         let attrs : b ≡ k.attrs = drop.2 ∙ ap (λ c. c.attrs) same in
         let own : in_class marks queries chosen p ≡ true = subst (λ c. in_class marks queries c p ≡ true) (sym same) old in

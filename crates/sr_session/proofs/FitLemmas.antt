@@ -1,7 +1,8 @@
 -- What is promised is not refused.
-use Rattle.std.proofs.Common.{◌≡◌, ℕ, ◌<◌, ◌≤◌, Bool, true, false, List, [], ◌∷◌, ◌++◌, refl, sym, subst, arith, Option, Some, None}
+use Rattle.std.proofs.Common.{◌≡◌, ℕ, ◌≤◌, Bool, true, false, List, [], ◌∷◌, ◌++◌, refl, sym, subst, arith, Option, Some, None, le-ltb}
 use Rattle.std.specs.Prelude.{◌==◌, not, nat_le, nat_lt, max}
 use Rattle.std.proofs.lemmas.Bool.Decides.{nat_tests}
+use Rattle.std.proofs.lemmas.Bool.{lt-leb}
 use Rattle.sr_message.specs.declared.message.Message.{Message}
 use Rattle.sr_message.specs.declared.message.Message.TheVariants.{Hello, Resume, Ask, Write, Welcome, Notice, Rows, Reply, Written, Refused, Lapse}
 use Rattle.sr_session.specs.Sessions.{Database, Session}
@@ -60,12 +61,6 @@ past : (b : Bool) (why : BadFrame) (later : Option BadFrame) → b ≡ false →
 past true why later none h = absurd (cc)
 past false why later none h = h
 
-not-most : (w v : ℕ) → v < w → nat_le w v ≡ false
-not-most w v below = grind (arith, nat_tests, below)
-
-not-less : (w v : ℕ) → v ≤ w → nat_lt w v ≡ false
-not-less w v below = grind (arith, nat_tests, below)
-
 asks-it : (out : Option Request) (k : ℕ) → IsAskOf out k → (not (is_ask out) ≡ false) × (not (is_number out k) ≡ false)
 asks-it None k is = absurd is
 asks-it (Some (AskOut number query meaning fresh parts)) k is = (refl, let same : (k == number) ≡ true = grind (arith, nat_tests, is) in rw same refl)
@@ -90,7 +85,7 @@ module _ (db : Database) (out : Option Request) (laid : List Message) (m : Mirro
   replied-fits (Some (AskOut number query meaning fresh parts)) k w h =
       let is = asks-it (Some (AskOut number query meaning fresh parts)) k h.0.0 in
       let up = h.0.1.0 in
-      past false State _ refl (past (not (k == number)) Number _ is.1 (past (nat_lt w (known v laid)) Version None (not-less w (known v laid) (omega (arith, below, up))) tt))
+      past false State _ refl (past (not (k == number)) Number _ is.1 (past (nat_lt w (known v laid)) Version None (le-ltb w (known v laid) (omega (arith, below, up))) tt))
   replied-fits (Some (WriteOut number)) k w h = absurd h.0
   replied-fits (Some (ResumeOut number)) k w h = absurd h.0
 
@@ -101,8 +96,8 @@ module _ (db : Database) (out : Option Request) (laid : List Message) (m : Mirro
   first-fits : (x : Message) → Walks db out m (x ∷ queue) session → IsShapely (misfit db.schema out laid v x)
   first-fits (Notice w told) h =
       let up = h.0.0 in
-      past (nat_le w (known v laid)) Version _ (not-most w (known v laid) (omega (arith, below, up))) (shape-only (not (told_suits db.schema told)))
-  first-fits (Lapse w) h = let up = h.0 in past (nat_le w (known v laid)) Version None (not-most w (known v laid) (omega (arith, below, up))) tt
+      past (nat_le w (known v laid)) Version _ (lt-leb w (known v laid) (omega (arith, below, up))) (shape-only (not (told_suits db.schema told)))
+  first-fits (Lapse w) h = let up = h.0 in past (nat_le w (known v laid)) Version None (lt-leb w (known v laid) (omega (arith, below, up))) tt
   first-fits (Rows k part rows) h =
       let is = asks-it out k h.0 in
       past (not (is_ask out)) State _ is.0 (past (not (is_number out k)) Number _ is.1 (shape-only (not (rows_suit db.schema (parts_of out) laid part rows))))
@@ -110,12 +105,12 @@ module _ (db : Database) (out : Option Request) (laid : List Message) (m : Mirro
   first-fits (Written k w) h =
       let is = writes-it out k h.0.0 in
       let up = h.0.1.0 in
-      past (not (is_write out)) State _ is.0 (past (not (is_number out k)) Number _ is.1 (past (nat_lt w (known v laid)) Version None (not-less w (known v laid) (omega (arith, below, up))) tt))
+      past (not (is_write out)) State _ is.0 (past (not (is_number out k)) Number _ is.1 (past (nat_lt w (known v laid)) Version None (le-ltb w (known v laid) (omega (arith, below, up))) tt))
   first-fits (Refused k fault) h = let is = writes-it out k h.0 in past (not (is_write out)) State _ is.0 (past (not (is_number out k)) Number None is.1 tt)
   first-fits (Welcome k w kept) h =
       let is = resumes-it out k h.0.0 in
       let up = welcomes-up kept k w h in
-      past (not (is_resume out)) State _ is.0 (past (not (is_number out k)) Number _ is.1 (past (nat_lt w (known v laid)) Version None (not-less w (known v laid) (omega (arith, below, up))) tt))
+      past (not (is_resume out)) State _ is.0 (past (not (is_number out k)) Number _ is.1 (past (nat_lt w (known v laid)) Version None (le-ltb w (known v laid) (omega (arith, below, up))) tt))
   first-fits (Hello client number) h = absurd h
   first-fits (Resume client number version holdings) h = absurd h
   first-fits (Ask number fresh parts) h = absurd h

@@ -16,8 +16,9 @@ use Rattle.sr_session.specs.Scenes.{Did, Event, Happens, Report, Scene, SceneSta
 use Rattle.sr_session.specs.Headline.{AnswersNeverFall, QueriesKeepTheirNumbers, VersionsNeverFall, query_at}
 use Rattle.sr_session.proofs.MarkLemmas.{kept}
 use Rattle.sr_session.proofs.EventLemmas.{at, events-keep, get-set-other, other-stays, same-pairs}
-use Rattle.sr_session.proofs.ReachLemmas.{at-set, get-first, get-last, get-set-same, reached-stands, stands-tidy, stands-version}
+use Rattle.sr_session.proofs.ReachLemmas.{at-set, get-first, get-last, get-set-same, reached-stands, stands-tidy}
 use Rattle.sr_session.proofs.AnswerLemmas.{answers-are-right}
+use Rattle.sr_session.proofs.ServeLemmas.{stands-version}
 
 -- ---- a client later
 

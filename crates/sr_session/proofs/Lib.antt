@@ -1,4 +1,3 @@
-pub mod Booleans
 pub mod PlaceLemmas
 pub mod WalkLemmas
 pub mod ExecLemmas

@@ -1,7 +1,7 @@
 -- What marks add to what is held.
 use Rattle.std.proofs.Common.{◌≡◌, ℕ, ◌+◌, Bool, true, false, List, [], ◌∷◌, ◌++◌, refl, sym, ◌∙◌, ap, subst, arith, inl, inr}
 use Rattle.std.specs.Prelude.{◌&&◌, ◌||◌, ◌==◌, if◌then◌else◌}
-use Rattle.std.specs.List.{list_any, AllZip}
+use Rattle.std.specs.List.{AllZip}
 use Rattle.std.proofs.lemmas.Bool.Decides.{nat_tests}
 use Rattle.sr_cell.specs.declared.cause.Cause.{Cause}
 use Rattle.sr_cell.specs.declared.cause.Cause.TheVariants.{Pieces}
@@ -13,10 +13,11 @@ use Rattle.sr_message.specs.declared.message.AskPart.{AskPart}
 use Rattle.sr_policy.specs.declared.policy.Limits.{Limits}
 use Rattle.sr_history.specs.declared.mark.Mark.{Mark}
 use Rattle.sr_history.specs.declared.mark.Mark.TheVariants.{Held, Dropped}
-use Rattle.sr_history.specs.Marks.{attrs_of, concerns, is_held_mark, is_held, with_marks}
+use Rattle.sr_history.specs.Marks.{is_held, with_marks}
 use Rattle.sr_history.specs.Classes.{Numbered, Class, stamp}
 use Rattle.sr_history.specs.Drops.{IsDropOf, DropsEach, DropsAll, AbsorbsFrom}
 use Rattle.sr_history.specs.Budgets.{DropsForRows, DropsForRegions, MeetsBudgets}
+use Rattle.sr_history.proofs.Marking.{some-attrs, any-attrs}
 use Rattle.sr_session.specs.Places.{Places, Within, asked, both, held}
 use Rattle.sr_session.specs.Clients.{Client, answered}
 use Rattle.sr_session.specs.Rules.{AnswerStep, Answering, Basis, GivesUp, Holds, Renews, given_up, renewed}
@@ -29,35 +30,8 @@ gained (Dropped cause u a stamp rects ∷ ms) t p = gained ms t p
 
 -- ---- held under some columns
 
-pub some-attrs : (F : ℕ → Bool) (ms : List Mark) (t a : ℕ) (p : Row) → is_held ms t a p ≡ true → F a ≡ true → list_any (λ mark. F (attrs_of mark)) ms ≡ true
-some-attrs F [] t a p is own = absurd (cc)
-some-attrs F (mark ∷ ms) t a p is own = go (concerns mark t a p) refl is (some-attrs F ms t a p)
-  where
-    same : (mark : Mark) → concerns mark t a p ≡ true → attrs_of mark ≡ a
-    same (Held u b rects) e = by (u == t) (b == a) (in_any rects p) e refl
-      where
-        by : (x y z : Bool) → (x && y && z) ≡ true → (b == a) ≡ y → b ≡ a
-        by x y z e is = let yes : y ≡ true = grind (arith, e) in let equal : (b == a) ≡ true = is ∙ yes in grind (arith, nat_tests, equal)
-    same (Dropped cause u b stamp rects) e = by (u == t) (b == a) (in_any rects p) e refl
-      where
-        by : (x y z : Bool) → (x && y && z) ≡ true → (b == a) ≡ y → b ≡ a
-        by x y z e is = let yes : y ≡ true = grind (arith, e) in let equal : (b == a) ≡ true = is ∙ yes in grind (arith, nat_tests, equal)
-
-    go : (b : Bool) → concerns mark t a p ≡ b → (if b then is_held_mark mark else is_held ms t a p) ≡ true
-        → (is_held ms t a p ≡ true → F a ≡ true → list_any (λ mark. F (attrs_of mark)) ms ≡ true) → (F (attrs_of mark) || list_any (λ mark. F (attrs_of mark)) ms) ≡ true
-    go true e is ih = let here : F (attrs_of mark) ≡ true = ap F (same mark e) ∙ own in rw here refl
-    go false e is ih = let there = ih is own in grind (arith, there)
-
 pub held-some : (ms : List Mark) (t a : ℕ) (p : Row) → is_held ms t a p ≡ true → held ms t p ≡ true
 held-some ms t a p is = some-attrs (λ a. is_held ms t a p) ms t a p is is
-
-pub any-attrs : (F : ℕ → Bool) (ms : List Mark) → list_any (λ mark. F (attrs_of mark)) ms ≡ true → (a : ℕ) × (F a ≡ true)
-any-attrs F [] is = absurd (cc)
-any-attrs F (mark ∷ ms) is = go (F (attrs_of mark)) refl is (any-attrs F ms)
-  where
-    go : (b : Bool) → F (attrs_of mark) ≡ b → (b || list_any (λ mark. F (attrs_of mark)) ms) ≡ true → (list_any (λ mark. F (attrs_of mark)) ms ≡ true → (a : ℕ) × (F a ≡ true)) → (a : ℕ) × (F a ≡ true)
-    go true e is ih = (attrs_of mark, e)
-    go false e is ih = ih is
 
 pub held-any : (ms : List Mark) (t : ℕ) (p : Row) → held ms t p ≡ true → (a : ℕ) × (is_held ms t a p ≡ true)
 held-any ms t p is = any-attrs (λ a. is_held ms t a p) ms is

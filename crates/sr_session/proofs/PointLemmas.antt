@@ -16,12 +16,12 @@ use Rattle.sr_history.specs.declared.mark.Mark.{Mark}
 use Rattle.sr_history.specs.Marks.{is_covered, is_held}
 use Rattle.sr_history.specs.Rests.{Asks, IsRest, asked, covered, nothing, rest_of}
 use Rattle.sr_history.specs.Classes.{Numbered, stamp}
+use Rattle.sr_history.proofs.Marking.{some-attrs, any-attrs}
 use Rattle.sr_session.specs.Sessions.{tables_of}
 use Rattle.sr_session.specs.Clients.{Client, Pair}
 use Rattle.sr_session.specs.Rules.{Answered, Before, DropsFirst, Outcome, QueryStep, as_it_is, emptied, next_query, query_answered, query_asks, query_busy, query_down, query_refused, sent_of}
 use Rattle.sr_session.specs.Scenes.{Scene, acted, basis_of, pair_at, queried, with_pair}
 use Rattle.sr_session.specs.Headline.{ACoveredQueryIsAnswered, ACoveredQuerySendsNothing, AreAskedFor, AsksByPoints, HasClassFor, IsAskedJust, IsCovered, IsDroppedFirst, IsOfSomePart, IsSilent, IsTooHeavy, IsUncovered}
-use Rattle.sr_session.proofs.MarkLemmas.{any-attrs, some-attrs}
 use Rattle.sr_session.proofs.QueryLemmas.{silent-line}
 use Rattle.sr_session.proofs.ReachLemmas.{at-set}
 

@@ -1,8 +1,7 @@
 -- The rows that were laid by are those that are asked.
-use Rattle.std.proofs.Common.{◌≡◌, ℕ, zero, suc, ◌+◌, ◌<◌, ◌≤◌, Bool, true, false, List, [], ◌∷◌, ◌++◌, map, length, take, drop, refl, sym, ◌∙◌, ap, subst, arith, Option, Some, append_assoc, append-nil, length-drop}
+use Rattle.std.proofs.Common.{◌≡◌, ℕ, zero, suc, ◌+◌, ◌<◌, ◌≤◌, Bool, true, false, List, [], ◌∷◌, ◌++◌, map, length, take, drop, refl, sym, ◌∙◌, ap, subst, arith, Option, Some, append_assoc, append-nil, length-drop, eq-eqb, ne_eqb}
 use Rattle.std.specs.Prelude.{◌==◌, slice_get, if◌then◌else◌}
-use Rattle.std.proofs.lemmas.Bool.Decides.{nat_tests}
-use Rattle.std.proofs.lemmas.List.{take-append-drop, drop_all}
+use Rattle.std.proofs.lemmas.List.{take-append-drop}
 use Rattle.sr_cell.specs.Cells.{Row}
 use Rattle.sr_message.specs.declared.message.AskPart.{AskPart}
 use Rattle.sr_model.specs.Statements.{Tables}
@@ -48,9 +47,6 @@ came-is db out i m (Write number sql ∷ ms) h = absurd h
 
 -- ---- pieces
 
-no-more : (n : ℕ) (rows : List Row) → length rows ≤ n → drop n rows ≡ []
-no-more n rows few = drop_all n rows few
-
 -- the pieces of a part, one after another, are its rows; of other parts they are none
 pieces-of : (i part number n : ℕ) (rows : List Row) → length rows ≤ n → arrived_at i (map (Rows number part) (pieces n rows)) ≡ (if part == i then rows else [])
 pieces-of i part number n [] few = by (part == i)
@@ -70,12 +66,6 @@ pieces-of i part number (suc n) (row ∷ rows) few =
     by true = ap (λ r. row ∷ r) (take-append-drop 255 rows)
     by false = refl
 
-is-part : (n k : ℕ) → n ≡ k → (n == k) ≡ true
-is-part n k e = grind (arith, nat_tests)
-
-is-other : (n k : ℕ) → (n ≡ k → ⊥) → (n == k) ≡ false
-is-other n k e = grind (arith, nat_tests)
-
 -- later parts bring nothing of an earlier one
 none-before : (tables : Tables) (number i first : ℕ) (parts : List AskPart) → i < first → arrived_at i (row_messages tables number first parts) ≡ []
 none-before tables number i first [] below = refl
@@ -83,7 +73,7 @@ none-before tables number i first (ask ∷ parts) below =
     let rows = asked_rows tables ask in
     let differs : first ≡ i → ⊥ = λ e. absurd (omega (arith, e, below)) in
     arrived-append i (map (Rows number first) (pieces (length (asked_rows tables ask)) (asked_rows tables ask))) (row_messages tables number (first + 1) parts)
-    ∙ (ap (λ r. r ++ arrived_at i (row_messages tables number (first + 1) parts)) (pieces-of i first number (length (asked_rows tables ask)) (asked_rows tables ask) (omega arith) ∙ ap (λ b. if b then asked_rows tables ask else []) (is-other first i differs))
+    ∙ (ap (λ r. r ++ arrived_at i (row_messages tables number (first + 1) parts)) (pieces-of i first number (length (asked_rows tables ask)) (asked_rows tables ask) (omega arith) ∙ ap (λ b. if b then asked_rows tables ask else []) (ne_eqb first i differs))
     ∙ none-before tables number i (first + 1) parts (omega (arith, below)))
 
 part-rows : (tables : Tables) (number first i : ℕ) (parts : List AskPart) (ask : AskPart) → slice_get parts i ≡ Some ask → arrived_at (first + i) (row_messages tables number first parts) ≡ asked_rows tables ask
@@ -92,13 +82,13 @@ part-rows tables number first zero (a ∷ parts) ask at =
     let same : a ≡ ask = cc in
     let own : first ≡ first + 0 = omega arith in
     arrived-append (first + 0) (map (Rows number first) (pieces (length (asked_rows tables a)) (asked_rows tables a))) (row_messages tables number (first + 1) parts)
-    ∙ (ap (λ r. r ++ arrived_at (first + 0) (row_messages tables number (first + 1) parts)) (pieces-of (first + 0) first number (length (asked_rows tables a)) (asked_rows tables a) (omega arith) ∙ ap (λ b. if b then asked_rows tables a else []) (is-part first (first + 0) own))
+    ∙ (ap (λ r. r ++ arrived_at (first + 0) (row_messages tables number (first + 1) parts)) (pieces-of (first + 0) first number (length (asked_rows tables a)) (asked_rows tables a) (omega arith) ∙ ap (λ b. if b then asked_rows tables a else []) (eq-eqb first (first + 0) own))
     ∙ (ap (λ r. asked_rows tables a ++ r) (none-before tables number (first + 0) (first + 1) parts (omega arith)) ∙ (append-nil (asked_rows tables a) ∙ ap (asked_rows tables) same)))
 part-rows tables number first (suc i) (a ∷ parts) ask at =
     let differs : first ≡ first + suc i → ⊥ = λ e. absurd (omega (arith, e)) in
     let next : first + 1 + i ≡ first + suc i = omega arith in
     arrived-append (first + suc i) (map (Rows number first) (pieces (length (asked_rows tables a)) (asked_rows tables a))) (row_messages tables number (first + 1) parts)
-    ∙ (ap (λ r. r ++ arrived_at (first + suc i) (row_messages tables number (first + 1) parts)) (pieces-of (first + suc i) first number (length (asked_rows tables a)) (asked_rows tables a) (omega arith) ∙ ap (λ b. if b then asked_rows tables a else []) (is-other first (first + suc i) differs))
+    ∙ (ap (λ r. r ++ arrived_at (first + suc i) (row_messages tables number (first + 1) parts)) (pieces-of (first + suc i) first number (length (asked_rows tables a)) (asked_rows tables a) (omega arith) ∙ ap (λ b. if b then asked_rows tables a else []) (ne_eqb first (first + suc i) differs))
     ∙ subst (λ j. arrived_at j (row_messages tables number (first + 1) parts) ≡ asked_rows tables ask) next (part-rows tables number (first + 1) i parts ask at))
 
 pub rows-are-asked : RowsAreAsked

@@ -1,23 +1,23 @@
 -- What a server sends goes on with what is promised.
-use Rattle.std.proofs.Common.{◌≡◌, ℕ, zero, suc, ◌+◌, ◌-◌, ◌<◌, ◌≤◌, Bool, true, false, List, [], ◌∷◌, ◌++◌, length, refl, sym, ◌∙◌, ap, subst, arith, inl, inr, Option, Some, None}
+use Rattle.std.proofs.Common.{◌≡◌, ℕ, zero, suc, ◌+◌, ◌-◌, ◌<◌, ◌≤◌, Bool, true, false, List, [], ◌∷◌, ◌++◌, length, refl, sym, ◌∙◌, ap, subst, arith, inl, inr, Option, Some, None, ltb-true, leb-true}
 use Rattle.std.specs.Prelude.{◌&&◌, ◌||◌, ◌==◌, nat_le, nat_lt, ◌⊎◌, if◌then◌else◌}
 use Rattle.std.specs.List.{list_any}
 use Rattle.std.proofs.lemmas.Bool.Decides.{nat_tests}
+use Rattle.std.specs.Cmp.{second_so}
 use Rattle.sr_cell.specs.declared.change.Change.{Change}
 use Rattle.sr_cell.specs.declared.table.Table.{Table}
 use Rattle.sr_cell.specs.Cells.{Row}
+use Rattle.sr_box.specs.Rows.{has_row}
 use Rattle.sr_message.specs.declared.message.Holding.{Holding}
 use Rattle.sr_subs.specs.Subscription.{has_point, touches}
-use Rattle.sr_subs.specs.Subscription as subscribed
 use Rattle.sr_message.specs.declared.message.Tell.{Tell}
-use Rattle.sr_log.specs.Kept.{floor, total}
 use Rattle.sr_model.specs.Statements.{Tables}
 use Rattle.sr_message.specs.declared.message.Message.{Message}
 use Rattle.sr_message.specs.declared.message.Message.TheVariants.{Hello, Resume, Ask, Write, Welcome, Notice, Rows, Reply, Written, Refused, Lapse}
+use Rattle.sr_log.proofs.Least.{floor-within}
 use Rattle.sr_session.specs.Sessions.{Database, Session, all_changes, closing, closing_if, due_if, floor_of, is_lost, newest, notice, notices, subscribes_some, told_at}
 use Rattle.sr_session.specs.Places.{Places, Within, at_row, concerns}
 use Rattle.sr_session.specs.Walks.{Comes, Ends, Mirror, Quiet, Request, Tells, Walks, brought, forgot, noticed, replied, welcomed}
-use Rattle.sr_session.proofs.Booleans.{and-right}
 use Rattle.sr_session.proofs.PlaceLemmas.{concerns-more, within-self}
 
 -- ---- messages behind those under way
@@ -70,16 +70,16 @@ more-any f db more (h ∷ hs) is = go (f h) refl is (more-any f db more hs)
 concerned-touches : (subs : List Holding) (c : Change) → concerns (has_point subs) c ≡ true → touches subs c ≡ true
 concerned-touches subs c is = by (at_row (has_point subs) c.table c.before) refl
   where
-    one : (row : Option Row) → at_row (has_point subs) c.table row ≡ true → list_any (λ (h : Holding). h.table == c.table && subscribed.has_row h.rects row) subs ≡ true
+    one : (row : Option Row) → at_row (has_point subs) c.table row ≡ true → list_any (λ (h : Holding). h.table == c.table && has_row h.rects row) subs ≡ true
     one None is = absurd (cc)
     one (Some p) is = is
 
     by : (b : Bool) → at_row (has_point subs) c.table c.before ≡ b → touches subs c ≡ true
     by true here =
-        more-any (λ h. h.table == c.table && subscribed.has_row h.rects c.before) (λ h. h.table == c.table && (subscribed.has_row h.rects c.before || subscribed.has_row h.rects c.after))
+        more-any (λ h. h.table == c.table && has_row h.rects c.before) (λ h. h.table == c.table && (has_row h.rects c.before || has_row h.rects c.after))
         (λ h i. grind (arith, i)) subs (one c.before here)
     by false here =
-        more-any (λ h. h.table == c.table && subscribed.has_row h.rects c.after) (λ h. h.table == c.table && (subscribed.has_row h.rects c.before || subscribed.has_row h.rects c.after))
+        more-any (λ h. h.table == c.table && has_row h.rects c.after) (λ h. h.table == c.table && (has_row h.rects c.before || has_row h.rects c.after))
         (λ h i. grind (arith, i)) subs (one c.after (grind (arith, is, here)))
 
 -- what a server tells of a version is what has to be told
@@ -90,14 +90,8 @@ told-tells db subs places within w = record {
   are = refl;
 }
 
-pub at-most : (u k : ℕ) → nat_le u k ≡ true → u ≤ k
-at-most u k e = grind (arith, nat_tests)
-
 just-above : (u k : ℕ) → nat_le u k ≡ false → u ≤ k + 1 → u ≡ k + 1
 just-above u k e below = grind (arith, nat_tests)
-
-is-less : (u k : ℕ) → nat_lt u k ≡ true → u < k
-is-less u k e = grind (arith, nat_tests)
 
 strictly : (v w : ℕ) → v ≤ w → (v ≡ w → ⊥) → v < w
 strictly v w up differs = grind (arith, up, differs)
@@ -124,7 +118,7 @@ notices-walk db out subs (suc n) k to m rest new sum within comes on =
     quiet none u above below = by (nat_le u k) refl
       where
         by : (b : Bool) → nat_le u k ≡ b → Tells db m.places u []
-        by true e = comes.1 u above (at-most u k e)
+        by true e = comes.1 u above (leb-true u k e)
         by false e = let same : u ≡ k + 1 = just-above u k e below in subst (λ w. Tells db m.places w []) (sym same) none
 
     told-now : (tell : Tell) (told : List Tell) → told_at db subs (k + 1) ≡ tell ∷ told → (v : ℕ) → WasTold db subs (k + 1) v → WasTold db subs m.version v
@@ -144,26 +138,18 @@ notices-walk db out subs (suc n) k to m rest new sum within comes on =
 
 -- ---- the log
 
-pub floor-within : (limit : ℕ) (all : List (List Change)) → floor limit all ≤ length all
-floor-within limit [] = omega arith
-floor-within limit (changes ∷ later) = by (nat_le (total (changes ∷ later)) limit) (floor-within limit later)
-  where
-    by : (b : Bool) → floor limit later ≤ length later → (if b then 0 else floor limit later + 1) ≤ length (changes ∷ later)
-    by true h = omega arith
-    by false h = omega (arith, h)
-
 pub changes-count : (schema : List Table) (versions : List Tables) → length (all_changes schema versions) ≡ length versions - 1
 changes-count schema [] = omega arith
 changes-count schema (old ∷ []) = omega arith
 changes-count schema (old ∷ new ∷ versions) = let ih = changes-count schema (new ∷ versions) in omega (arith, ih)
 
-floor-below : (db : Database) → floor_of db ≤ newest db
+pub floor-below : (db : Database) → floor_of db ≤ newest db
 floor-below db = let within = floor-within db.log_limit (all_changes db.schema db.versions) in let count = changes-count db.schema db.versions in omega (arith, within, count)
 
 pub lost-later : (db : Database) (session : Session) → is_lost db session ≡ true → session.upto < newest db
 lost-later db session lost =
     let below = floor-below db in
-    let above : session.upto < floor_of db = is-less session.upto (floor_of db) (and-right (subscribes_some session.subscription) (nat_lt session.upto (floor_of db)) lost) in
+    let above : session.upto < floor_of db = ltb-true session.upto (floor_of db) (second_so (subscribes_some session.subscription) (nat_lt session.upto (floor_of db)) lost) in
     omega (arith, below, above)
 
 -- ---- what is due
@@ -195,7 +181,7 @@ closing-walk db m v session new upto within before was comes true e [] is = (
 )
   where
     below : WasTold db session.subscription m.version v → v < newest db
-    below (inl same) = let later : session.upto < newest db = is-less session.upto (newest db) e in omega (arith, same, before, later)
+    below (inl same) = let later : session.upto < newest db = ltb-true session.upto (newest db) e in omega (arith, same, before, later)
     below (inr some) =
         let differs : v ≡ newest db → ⊥ = λ same. some (ap (told_at db session.subscription) same ∙ is) in
         strictly v (newest db) comes.0 differs

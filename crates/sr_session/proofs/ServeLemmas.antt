@@ -120,13 +120,13 @@ version-within db c l session h = by c.out h.flows
     by out (is_sent request o all f) = let later = walks-later db None (mirror_of c) (pending c l) session f.walks in omega (arith, later, up)
     by out (is_served request o all f) = let later = walks-later db (Some request) (mirror_of c) (pending c l) session f.walks in omega (arith, later, up)
 
-pair-within : (db : Database) (pair : Pair) → Stands db pair → pair.client.version ≤ newest db
-pair-within db pair (is_open session h) = version-within db pair.client pair.connection session h
-pair-within db pair (is_down h) = h.version
-pair-within db pair (is_resuming h) = h.version
+pub stands-version : (db : Database) (pair : Pair) → Stands db pair → pair.client.version ≤ newest db
+stands-version db pair (is_open session h) = version-within db pair.client pair.connection session h
+stands-version db pair (is_down h) = h.version
+stands-version db pair (is_resuming h) = h.version
 
 pub cuts-stand : (db : Database) (old : Pair) (o : Outcome) (new : Client) → Stands db old → CutStep old.client o new → Stands db (cut_off new)
-cuts-stand db old o new h (cuts up) = is_down (record { down = refl; out = refl; laid = refl; to_server = refl; to_client = refl; session_is = refl; version = pair-within db old h })
+cuts-stand db old o new h (cuts up) = is_down (record { down = refl; out = refl; laid = refl; to_server = refl; to_client = refl; session_is = refl; version = stands-version db old h })
 cuts-stand db old o new (is_open session h) (already_cut down) = absurd (let wrong : true ≡ false = sym down ∙ h.up in cc)
 cuts-stand db old o new (is_down h) (already_cut down) = is_down (record { down = h.down; out = h.out; laid = h.laid; to_server = refl; to_client = refl; session_is = refl; version = h.version })
 cuts-stand db old o new (is_resuming h) (already_cut down) = absurd (let wrong : true ≡ false = sym down ∙ h.up in cc)

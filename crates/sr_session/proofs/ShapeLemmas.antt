@@ -5,6 +5,8 @@ use Rattle.std.specs.List.{list_all, All}
 use Rattle.std.proofs.lemmas.Bool.Decides.{nat_tests}
 use Rattle.std.proofs.lemmas.List.{take-append-drop, get_or_at}
 use Rattle.std.proofs.lemmas.List.Elements.{All-head, All-tail}
+use Rattle.std.proofs.lemmas.Bool.{and_from}
+use Rattle.std.specs.Cmp.{first_so, second_so}
 use Rattle.sr_cell.specs.declared.table.Column.{Column}
 use Rattle.sr_cell.specs.declared.table.Table.{Table}
 use Rattle.sr_cell.specs.Attrs.{has_column, project, project_from}
@@ -19,16 +21,16 @@ use Rattle.sr_history.specs.declared.mark.Mark.{Mark}
 use Rattle.sr_history.specs.Rests.{Asks, nothing, covered, asked}
 use Rattle.sr_region.specs.Regions.{rank, is_in}
 use Rattle.sr_region.proofs.Parts.{is_in-point}
-use Rattle.sr_region.proofs.Ranks.{stand}
+use Rattle.sr_region.proofs.Ranks.{ascend-project}
 use Rattle.sr_rows.proofs.Parts.{ascend-filter}
 use Rattle.sr_message.specs.declared.message.Message.{Message}
 use Rattle.sr_message.specs.declared.message.Message.TheVariants.{Hello, Resume, Ask, Write, Welcome, Notice, Rows, Reply, Written, Refused, Lapse}
+use Rattle.sr_rows.proofs.Order.{ascend-tail}
 use Rattle.sr_session.specs.Sessions.{Database, Session, asked_rows, newest, pieces, row_messages, tables_of}
 use Rattle.sr_session.specs.Walks.{AskOut, Mirror, Passes, Request, Walks, brought, forgot, noticed, walked}
 use Rattle.sr_session.specs.Clients.{Flows, is_sent, is_served, mirror_of}
 use Rattle.sr_session.specs.Misfits.{ask_at, cells_fit, fit_ask, goes_on, last_came, last_row, rows_suit, suits}
 use Rattle.sr_session.specs.Laws.{AsksKey, PromisedRowsSuit}
-use Rattle.sr_session.proofs.Booleans.{and-left, and-right, both-true}
 use Rattle.sr_session.proofs.WalkLemmas.{walks-later}
 use Rattle.sr_session.proofs.TakeLemmas.{walks-split}
 
@@ -38,13 +40,13 @@ ascend-front : (key : ℕ) (xs ys : List Row) → ascend key (xs ++ ys) ≡ true
 ascend-front key [] ys h = refl
 ascend-front key (r ∷ []) ys h = refl
 ascend-front key (r ∷ s ∷ xs) ys h =
-    both-true (key_lt key r s) (ascend key (s ∷ xs)) (and-left (key_lt key r s) (ascend key (s ∷ (xs ++ ys))) h) (ascend-front key (s ∷ xs) ys (and-right (key_lt key r s) (ascend key (s ∷ (xs ++ ys))) h))
+    and_from (key_lt key r s) (ascend key (s ∷ xs)) (first_so (key_lt key r s) (ascend key (s ∷ (xs ++ ys))) h) (ascend-front key (s ∷ xs) ys (second_so (key_lt key r s) (ascend key (s ∷ (xs ++ ys))) h))
 
-abbrev last_of : Row → List Row → Row
+abbrev pub last_of : Row → List Row → Row
 last_of r [] = r
 last_of r (s ∷ rows) = last_of s rows
 
-last-at : (r : Row) (rows : List Row) → slice_index_or (r ∷ rows) (length (r ∷ rows) - 1) [] ≡ last_of r rows
+pub last-at : (r : Row) (rows : List Row) → slice_index_or (r ∷ rows) (length (r ∷ rows) - 1) [] ≡ last_of r rows
 last-at r [] = refl
 last-at r (s ∷ rows) =
     let less : length (r ∷ s ∷ rows) - 1 ≡ suc (length (s ∷ rows) - 1) = omega arith in
@@ -53,11 +55,7 @@ last-at r (s ∷ rows) =
 -- behind the last of a front, what follows ascends
 ascend-behind : (key : ℕ) (r : Row) (xs ys : List Row) → ascend key ((r ∷ xs) ++ ys) ≡ true → ascend key (last_of r xs ∷ ys) ≡ true
 ascend-behind key r [] ys h = h
-ascend-behind key r (s ∷ xs) ys h = ascend-behind key s xs ys (and-right (key_lt key r s) (ascend key (s ∷ (xs ++ ys))) h)
-
-ascend-tail : (key : ℕ) (r : Row) (rows : List Row) → ascend key (r ∷ rows) ≡ true → ascend key rows ≡ true
-ascend-tail key r [] h = refl
-ascend-tail key r (s ∷ rows) h = and-right (key_lt key r s) (ascend key (s ∷ rows)) h
+ascend-behind key r (s ∷ xs) ys h = ascend-behind key s xs ys (second_so (key_lt key r s) (ascend key (s ∷ (xs ++ ys))) h)
 
 -- ---- rows of some columns
 
@@ -70,17 +68,12 @@ project-fits attrs c [] [] h = refl
 project-fits attrs c [] (v ∷ p) h = absurd (cc)
 project-fits attrs c (column ∷ columns) [] h = absurd (cc)
 project-fits attrs c (column ∷ columns) (v ∷ p) h =
-    go (has_column attrs c) refl (project-fits attrs (c + 1) columns p (and-right (takes_cell column v) (fits_columns columns p) h)) (and-left (takes_cell column v) (fits_columns columns p) h)
+    go (has_column attrs c) refl (project-fits attrs (c + 1) columns p (second_so (takes_cell column v) (fits_columns columns p) h)) (first_so (takes_cell column v) (fits_columns columns p) h)
   where
     go : (b : Bool) → has_column attrs c ≡ b → cells_fit attrs (c + 1) columns (project_from (c + 1) attrs p) ≡ true → takes_cell column v ≡ true
         → cells_fit attrs c (column ∷ columns) (if b then v ∷ project_from (c + 1) attrs p else project_from (c + 1) attrs p) ≡ true
     go true e ih own = rw (e, own, ih) refl
     go false e ih own = still-fits attrs c column columns (project_from (c + 1) attrs p) e ih
-
-ascend-project : (a key : ℕ) (rows : List Row) → has_column a key ≡ true → ascend (rank a key) (map (project a) rows) ≡ ascend key rows
-ascend-project a key [] has = refl
-ascend-project a key (r ∷ []) has = refl
-ascend-project a key (r ∷ s ∷ rows) has = rw (stand a key r has, stand a key s has) (ap (λ b. key_lt key r s && b) (ascend-project a key (s ∷ rows) has))
 
 fit-rows : (schema : List Table) (ask : AskPart) (rows : List Row) → list_all (rect_fits (table_at schema ask.table).columns) ask.rects ≡ true → list_all (constrains_only ask.attrs 0) ask.rects ≡ true
     → list_all (is_point (table_at schema ask.table).columns) rows ≡ true → list_all (fits_columns (table_at schema ask.table).columns) rows ≡ true
@@ -88,7 +81,7 @@ fit-rows : (schema : List Table) (ask : AskPart) (rows : List Row) → list_all 
 fit-rows schema ask [] fit only points fits = refl
 fit-rows schema ask (p ∷ rows) fit only points fits =
     go (in_any ask.rects p) refl
-    (fit-rows schema ask rows fit only (and-right (is_point cs p) (list_all (is_point cs) rows) points) (and-right (fits_columns cs p) (list_all (fits_columns cs) rows) fits))
+    (fit-rows schema ask rows fit only (second_so (is_point cs p) (list_all (is_point cs) rows) points) (second_so (fits_columns cs p) (list_all (fits_columns cs) rows) fits))
   where
     cs : List Column
     cs = (table_at schema ask.table).columns
@@ -100,9 +93,9 @@ fit-rows schema ask (p ∷ rows) fit only points fits =
         → fit_ask schema ask (map (project ask.attrs) (if b then p ∷ filter (in_any ask.rects) rows else filter (in_any ask.rects) rows)) ≡ true
     go true e ih =
         let cells : cells_fit ask.attrs 0 (table_at schema ask.table).columns (project ask.attrs p) ≡ true =
-        project-fits ask.attrs 0 (table_at schema ask.table).columns p (and-left (fits_columns (table_at schema ask.table).columns p) (list_all (fits_columns (table_at schema ask.table).columns) rows) fits) in
+        project-fits ask.attrs 0 (table_at schema ask.table).columns p (first_so (fits_columns (table_at schema ask.table).columns p) (list_all (fits_columns (table_at schema ask.table).columns) rows) fits) in
         let inside : is_in ask.attrs ask.rects (project ask.attrs p) ≡ true =
-        is_in-point (table_at schema ask.table).columns ask.attrs ask.rects p fit only (and-left (is_point (table_at schema ask.table).columns p) (list_all (is_point (table_at schema ask.table).columns) rows) points) ∙ e in
+        is_in-point (table_at schema ask.table).columns ask.attrs ask.rects p fit only (first_so (is_point (table_at schema ask.table).columns p) (list_all (is_point (table_at schema ask.table).columns) rows) points) ∙ e in
         rw (cells, inside, ih) refl
     go false e ih = ih
 
@@ -120,8 +113,8 @@ Before i (Some last) = last.0 < i
 list_all-split : (test : Row → Bool) (xs ys : List Row) → list_all test (xs ++ ys) ≡ true → (list_all test xs ≡ true) × (list_all test ys ≡ true)
 list_all-split test [] ys h = (refl, h)
 list_all-split test (x ∷ xs) ys h =
-    let rest = list_all-split test xs ys (and-right (test x) (list_all test (xs ++ ys)) h) in
-    (both-true (test x) (list_all test xs) (and-left (test x) (list_all test (xs ++ ys)) h) rest.0, rest.1)
+    let rest = list_all-split test xs ys (second_so (test x) (list_all test (xs ++ ys)) h) in
+    (and_from (test x) (list_all test xs) (first_so (test x) (list_all test (xs ++ ys)) h) rest.0, rest.1)
 
 module _ (schema : List Table) (parts : List AskPart) (number i : ℕ) (below : i < length parts) where
   key : ℕ
@@ -137,7 +130,7 @@ module _ (schema : List Table) (parts : List AskPart) (number i : ℕ) (below : 
       go : (b : Bool) → (if b then ascend (rank (ask_at parts i).attrs (table_at schema (ask_at parts i).table).key) (last.1 ∷ (xs ++ ys)) else (nat_lt last.0 i && ascend (rank (ask_at parts i).attrs (table_at schema (ask_at parts i).table).key) (xs ++ ys))) ≡ true
           → (if b then ascend (rank (ask_at parts i).attrs (table_at schema (ask_at parts i).table).key) (last.1 ∷ xs) else (nat_lt last.0 i && ascend (rank (ask_at parts i).attrs (table_at schema (ask_at parts i).table).key) xs)) ≡ true
       go true h = ascend-front _ (last.1 ∷ xs) ys h
-      go false h = both-true (nat_lt last.0 i) _ (and-left (nat_lt last.0 i) _ h) (ascend-front _ xs ys (and-right (nat_lt last.0 i) _ h))
+      go false h = and_from (nat_lt last.0 i) _ (first_so (nat_lt last.0 i) _ h) (ascend-front _ xs ys (second_so (nat_lt last.0 i) _ h))
 
   all-ascend : (last : Option (ℕ × Row)) (rows : List Row) → goes_on (rank (ask_at parts i).attrs (table_at schema (ask_at parts i).table).key) i last rows ≡ true → ascend (rank (ask_at parts i).attrs (table_at schema (ask_at parts i).table).key) rows ≡ true
   all-ascend None rows h = h
@@ -146,7 +139,7 @@ module _ (schema : List Table) (parts : List AskPart) (number i : ℕ) (below : 
       go : (b : Bool) → (if b then ascend (rank (ask_at parts i).attrs (table_at schema (ask_at parts i).table).key) (last.1 ∷ rows) else (nat_lt last.0 i && ascend (rank (ask_at parts i).attrs (table_at schema (ask_at parts i).table).key) rows)) ≡ true
           → ascend (rank (ask_at parts i).attrs (table_at schema (ask_at parts i).table).key) rows ≡ true
       go true h = ascend-tail _ last.1 rows h
-      go false h = and-right (nat_lt last.0 i) _ h
+      go false h = second_so (nat_lt last.0 i) _ h
 
   pieces-suit : (n : ℕ) (rows : List Row) (last : Option (ℕ × Row)) (more : List Message) → length rows ≤ n → fit_ask schema (ask_at parts i) rows ≡ true
       → goes_on (rank (ask_at parts i).attrs (table_at schema (ask_at parts i).table).key) i last rows ≡ true → Before (i + 1) last
@@ -167,7 +160,7 @@ module _ (schema : List Table) (parts : List AskPart) (number i : ℕ) (below : 
       let own : (i == i) ≡ true = grind (arith, nat_tests) in
       let within : nat_lt i (length parts) ≡ true = grind (arith, nat_tests, below) in
       let short : length (drop 255 rows) ≤ n = omega (arith, few, length-drop 255 rows) in (
-        both-true (nat_lt i (length parts)) _ within (both-true (fit_ask schema (ask_at parts i) (row ∷ take 255 rows)) _ split.0 here),
+        and_from (nat_lt i (length parts)) _ within (and_from (fit_ask schema (ask_at parts i) (row ∷ take 255 rows)) _ split.0 here),
         pieces-suit n (drop 255 rows) (Some (i, slice_index_or (row ∷ take 255 rows) (length (row ∷ take 255 rows) - 1) [])) more short split.1
             (ap (λ b. if b then ascend (rank (ask_at parts i).attrs (table_at schema (ask_at parts i).table).key) (slice_index_or (row ∷ take 255 rows) (length (row ∷ take 255 rows) - 1) [] ∷ drop 255 rows) else (nat_lt i i && ascend (rank (ask_at parts i).attrs (table_at schema (ask_at parts i).table).key) (drop 255 rows))) own ∙ behind)
             (omega arith) on,
@@ -224,7 +217,7 @@ module _ (schema : List Table) (tables : Tables) (number : ℕ) (points : (t : �
 
 -- ---- at any place among the messages
 
-came-append : (last : Option (ℕ × Row)) (xs ys : List Message) → last_came last (xs ++ ys) ≡ last_came (last_came last xs) ys
+pub came-append : (last : Option (ℕ × Row)) (xs ys : List Message) → last_came last (xs ++ ys) ≡ last_came (last_came last xs) ys
 came-append last [] ys = refl
 came-append last (Rows k part rows ∷ xs) ys = came-append (last_row last part rows) xs ys
 came-append last (Notice w told ∷ xs) ys = came-append last xs ys

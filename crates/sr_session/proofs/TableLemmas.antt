@@ -20,7 +20,7 @@ use Rattle.sr_session.proofs.ExecLemmas.{newest-more, version-stays}
 use Rattle.sr_session.proofs.EventLemmas.{events-keep, first-stands}
 use Rattle.sr_session.proofs.ReachLemmas.{same-database}
 
-last-version : (versions : List Tables) (tables : Tables) → version_at (versions ++ tables ∷ []) (length versions) ≡ tables
+pub last-version : (versions : List Tables) (tables : Tables) → version_at (versions ++ tables ∷ []) (length versions) ≡ tables
 last-version [] tables = refl
 last-version (x ∷ versions) tables = last-version versions tables
 

@@ -5,12 +5,15 @@ use Rattle.std.specs.List.{list_all}
 use Rattle.std.proofs.lemmas.Bool.Decides.{nat_tests}
 use Rattle.std.proofs.lemmas.List.{map-append}
 use Rattle.std.proofs.lemmas.List.Elements.{filter-append}
-use Rattle.sr_cell.specs.declared.cell.Cell.{Cell}
+use Rattle.std.proofs.lemmas.Bool.{and_from}
+use Rattle.std.specs.Cmp.{first_so, second_so}
 use Rattle.sr_cell.specs.declared.change.Change.{Change}
 use Rattle.sr_cell.specs.declared.table.Column.{Column}
 use Rattle.sr_cell.specs.declared.table.Table.{Table}
 use Rattle.sr_cell.specs.Cells.{Row, cell_at, cell_le, cell_eq}
 use Rattle.sr_cell.specs.Columns.{table_at, takes_cell, fits_columns, is_point}
+use Rattle.sr_cell.proofs.Lists.{list_all-filter}
+use Rattle.sr_cell.proofs.Order.{apart-cells}
 use Rattle.sr_message.specs.declared.message.Tell.{Tell}
 use Rattle.sr_message.specs.Tells.{tell_of}
 use Rattle.sr_model.specs.SortedRows.{ascend, key_lt, has_key, with_row}
@@ -29,38 +32,27 @@ use Rattle.sr_session.specs.Clients.{Flows, is_idle, is_sent, is_served, mirror_
 use Rattle.sr_session.specs.Misfits.{tell_suits, tells_ascend, told_suits}
 use Rattle.sr_session.specs.Laws.{IsSound, PromisedTellsSuit}
 use Rattle.sr_message.specs.declared.message.Message.TheVariants.{Notice}
-use Rattle.sr_session.proofs.Booleans.{and-left, and-right, both-true}
+use Rattle.sr_rows.proofs.Elements.{list_all-with_row}
 use Rattle.sr_session.proofs.WalkLemmas.{walks-later}
 use Rattle.sr_session.proofs.TakeLemmas.{walks-split}
 
 -- ---- the keys of both lists
 
-all-with_row : (P : Row → Bool) (key : ℕ) (rows : List Row) (row : Row) → list_all P rows ≡ true → P row ≡ true → list_all P (with_row key rows row) ≡ true
-all-with_row P key [] row all own = both-true (P row) true own refl
-all-with_row P key (r ∷ rows) row all own = go (cell_le (cell_at r key) (cell_at row key)) (all-with_row P key rows row (and-right (P r) (list_all P rows) all) own)
-  where
-    go : (b : Bool) → list_all P (with_row key rows row) ≡ true → list_all P (if b then r ∷ with_row key rows row else row ∷ r ∷ rows) ≡ true
-    go true ih = both-true (P r) (list_all P (with_row key rows row)) (and-left (P r) (list_all P rows) all) ih
-    go false ih = both-true (P row) (list_all P (r ∷ rows)) own all
-
 keys-all : (P : Row → Bool) (key : ℕ) (rows others : List Row) → list_all P rows ≡ true → list_all P others ≡ true → list_all P (all_keys key rows others) ≡ true
 keys-all P key rows [] all more = all
-keys-all P key rows (x ∷ others) all more = keys-all P key (if has_key key (cell_at x key) rows then rows else with_row key rows x) others (go (has_key key (cell_at x key) rows)) (and-right (P x) (list_all P others) more)
+keys-all P key rows (x ∷ others) all more = keys-all P key (if has_key key (cell_at x key) rows then rows else with_row key rows x) others (go (has_key key (cell_at x key) rows)) (second_so (P x) (list_all P others) more)
   where
     go : (b : Bool) → list_all P (if b then rows else with_row key rows x) ≡ true
     go true = all
-    go false = all-with_row P key rows x all (and-left (P x) (list_all P others) more)
-
-apart-cells : (v w : Cell) → (cell_le v w || cell_le w v) ≡ true → cell_eq v w ≡ false → ((cell_le v w && not (cell_le w v)) || (cell_le w v && not (cell_le v w))) ≡ true
-apart-cells v w h n = grind arith
+    go false = list_all-with_row P key rows x all (first_so (P x) (list_all P others) more)
 
 apart : (cs : List Column) (key : ℕ) (rows : List Row) (x : Row) → list_all (is_point cs) rows ≡ true → is_point cs x ≡ true → has_key key (cell_at x key) rows ≡ false → is_apart key rows x ≡ true
 apart cs key [] x all own none = refl
 apart cs key (r ∷ rows) x all own none =
     let differ : cell_eq (cell_at r key) (cell_at x key) ≡ false = left-none (cell_eq (cell_at r key) (cell_at x key)) (has_key key (cell_at x key) rows) none in
     let rest : has_key key (cell_at x key) rows ≡ false = right-none (cell_eq (cell_at r key) (cell_at x key)) (has_key key (cell_at x key) rows) none in
-    both-true _ (is_apart key rows x) (apart-cells (cell_at r key) (cell_at x key) (cells-order cs r x key (and-left (is_point cs r) (list_all (is_point cs) rows) all) own) differ)
-    (apart cs key rows x (and-right (is_point cs r) (list_all (is_point cs) rows) all) own rest)
+    and_from _ (is_apart key rows x) (apart-cells (cell_at r key) (cell_at x key) (cells-order cs r x key (first_so (is_point cs r) (list_all (is_point cs) rows) all) own) differ)
+    (apart cs key rows x (second_so (is_point cs r) (list_all (is_point cs) rows) all) own rest)
   where
     left-none : (a b : Bool) → (a || b) ≡ false → a ≡ false
     left-none a b e = grind arith
@@ -71,10 +63,10 @@ apart cs key (r ∷ rows) x all own none =
 keys-ascend : (cs : List Column) (key : ℕ) (rows others : List Row) → ascend key rows ≡ true → list_all (is_point cs) rows ≡ true → list_all (is_point cs) others ≡ true → ascend key (all_keys key rows others) ≡ true
 keys-ascend cs key rows [] order all more = order
 keys-ascend cs key rows (x ∷ others) order all more =
-    keys-ascend cs key (if has_key key (cell_at x key) rows then rows else with_row key rows x) others (ordered (has_key key (cell_at x key) rows) refl) (points (has_key key (cell_at x key) rows)) (and-right (is_point cs x) (list_all (is_point cs) others) more)
+    keys-ascend cs key (if has_key key (cell_at x key) rows then rows else with_row key rows x) others (ordered (has_key key (cell_at x key) rows) refl) (points (has_key key (cell_at x key) rows)) (second_so (is_point cs x) (list_all (is_point cs) others) more)
   where
     own : is_point cs x ≡ true
-    own = and-left (is_point cs x) (list_all (is_point cs) others) more
+    own = first_so (is_point cs x) (list_all (is_point cs) others) more
 
     ordered : (b : Bool) → has_key key (cell_at x key) rows ≡ b → ascend key (if b then rows else with_row key rows x) ≡ true
     ordered true e = order
@@ -82,23 +74,23 @@ keys-ascend cs key rows (x ∷ others) order all more =
 
     points : (b : Bool) → list_all (is_point cs) (if b then rows else with_row key rows x) ≡ true
     points true = all
-    points false = all-with_row (is_point cs) key rows x all own
+    points false = list_all-with_row (is_point cs) key rows x all own
 
 -- ---- one tell
 
 key-takes : (cs : List Column) (k : ℕ) (row : Row) → k < length cs → fits_columns cs row ≡ true → (elim (slice_get cs k) as (λ column. Bool) [ None ↦ false | Some column ↦ takes_cell column (cell_at row k) ]) ≡ true
 key-takes [] k row below fits = absurd (omega (arith, below))
 key-takes (c ∷ cs) k [] below fits = absurd (cc)
-key-takes (c ∷ cs) zero (v ∷ row) below fits = and-left (takes_cell c v) (fits_columns cs row) fits
-key-takes (c ∷ cs) (suc k) (v ∷ row) below fits = key-takes cs k row (omega (arith, below)) (and-right (takes_cell c v) (fits_columns cs row) fits)
+key-takes (c ∷ cs) zero (v ∷ row) below fits = first_so (takes_cell c v) (fits_columns cs row) fits
+key-takes (c ∷ cs) (suc k) (v ∷ row) below fits = key-takes cs k row (omega (arith, below)) (second_so (takes_cell c v) (fits_columns cs row) fits)
 
 found-good : (p q : Row → Bool) (rows : List Row) → list_all q rows ≡ true → (elim (find p rows) as (λ after. Bool) [ None ↦ true | Some row ↦ q row && p row ]) ≡ true
 found-good p q [] all = refl
-found-good p q (r ∷ rows) all = go (p r) refl (found-good p q rows (and-right (q r) (list_all q rows) all))
+found-good p q (r ∷ rows) all = go (p r) refl (found-good p q rows (second_so (q r) (list_all q rows) all))
   where
     go : (b : Bool) → p r ≡ b → (elim (find p rows) as (λ after. Bool) [ None ↦ true | Some row ↦ q row && p row ]) ≡ true
         → (elim (if b then Some r else find p rows) as (λ after. Bool) [ None ↦ true | Some row ↦ q row && p row ]) ≡ true
-    go true e ih = both-true (q r) (p r) (and-left (q r) (list_all q rows) all) e
+    go true e ih = and_from (q r) (p r) (first_so (q r) (list_all q rows) all) e
     go false e ih = ih
 
 abbrev change_of : Table → ℕ → List Row → List Row → Row → Change
@@ -129,14 +121,6 @@ some-keys table t old new test (row ∷ keys) = go (not (same_row (change_of tab
     go true false e ih = rw e ih
     go false b e ih = ih
 
-all-filter : (P f : Row → Bool) (rows : List Row) → list_all P rows ≡ true → list_all P (filter f rows) ≡ true
-all-filter P f [] all = refl
-all-filter P f (r ∷ rows) all = go (f r) (all-filter P f rows (and-right (P r) (list_all P rows) all))
-  where
-    go : (b : Bool) → list_all P (filter f rows) ≡ true → list_all P (cond b (r ∷ filter f rows) (filter f rows)) ≡ true
-    go true ih = both-true (P r) (list_all P (filter f rows)) (and-left (P r) (list_all P rows) all) ih
-    go false ih = ih
-
 -- tells of that table, and of that table or later ones
 abbrev at : ℕ → Tell → Bool
 at t tell = tell.table == t
@@ -152,16 +136,16 @@ module _ (schema : List Table) (t : ℕ) (within : t < length schema) (tables : 
   tell-suits row own fits =
       let in_schema : nat_lt t (length schema) ≡ true = grind (arith, nat_tests, within) in
       let below : (table_at schema t).key < length (table_at schema t).columns = grind (arith, nat_tests, tables) in
-      both-true (nat_lt t (length schema)) _ in_schema
-      (both-true _ _ (key-takes (table_at schema t).columns (table_at schema t).key row below own)
+      and_from (nat_lt t (length schema)) _ in_schema
+      (and_from _ _ (key-takes (table_at schema t).columns (table_at schema t).key row below own)
       (found-good (λ r. cell_eq (cell_at r (table_at schema t).key) (cell_at row (table_at schema t).key)) (fits_columns (table_at schema t).columns) new fits))
 
   keys-suit : (keys : List Row) → list_all (fits_columns (table_at schema t).columns) keys ≡ true → list_all (fits_columns (table_at schema t).columns) new ≡ true
       → list_all (tell_suits schema) (map tell_of (map (change_of (table_at schema t) t old new) keys)) ≡ true
   keys-suit [] all fits = refl
   keys-suit (row ∷ keys) all fits =
-      both-true _ _ (tell-suits row (and-left (fits_columns (table_at schema t).columns row) (list_all (fits_columns (table_at schema t).columns) keys) all) fits)
-      (keys-suit keys (and-right (fits_columns (table_at schema t).columns row) (list_all (fits_columns (table_at schema t).columns) keys) all) fits)
+      and_from _ _ (tell-suits row (first_so (fits_columns (table_at schema t).columns row) (list_all (fits_columns (table_at schema t).columns) keys) all) fits)
+      (keys-suit keys (second_so (fits_columns (table_at schema t).columns row) (list_all (fits_columns (table_at schema t).columns) keys) all) fits)
 
 -- ---- order
 
@@ -170,16 +154,16 @@ keys-tell table t old new [] order = refl
 keys-tell table t old new (r ∷ []) order = refl
 keys-tell table t old new (r ∷ s ∷ keys) order =
     let own : (t == t) ≡ true = grind (arith, nat_tests) in
-    let first = and-left (key_lt table.key r s) (ascend table.key (s ∷ keys)) order in
+    let first = first_so (key_lt table.key r s) (ascend table.key (s ∷ keys)) order in
     let less = by (cell_le (cell_at r table.key) (cell_at s table.key)) (cell_le (cell_at s table.key) (cell_at r table.key)) (nat_lt t t) (t == t) own first in
-    both-true _ _ less (keys-tell table t old new (s ∷ keys) (and-right (key_lt table.key r s) (ascend table.key (s ∷ keys)) order))
+    and_from _ _ less (keys-tell table t old new (s ∷ keys) (second_so (key_lt table.key r s) (ascend table.key (s ∷ keys)) order))
   where
     by : (a b c d : Bool) → d ≡ true → (a && not b) ≡ true → (c || (d && (a && not (a && b)))) ≡ true
     by a b c d e h = grind (arith, e, h)
 
 keys-at : (table : Table) (t : ℕ) (old new keys : List Row) → list_all (at t) (map tell_of (map (change_of table t old new) keys)) ≡ true
 keys-at table t old new [] = refl
-keys-at table t old new (r ∷ keys) = let own : (t == t) ≡ true = grind (arith, nat_tests) in both-true (t == t) _ own (keys-at table t old new keys)
+keys-at table t old new (r ∷ keys) = let own : (t == t) ≡ true = grind (arith, nat_tests) in and_from (t == t) _ own (keys-at table t old new keys)
 
 goes-before : (u v t : ℕ) → (u == t) ≡ true → nat_lt (t + 1) (v + 1) ≡ true → nat_lt u v ≡ true
 goes-before u v t e f = grind (arith, nat_tests, e, f)
@@ -188,31 +172,31 @@ tells-append : (t : ℕ) (xs ys : List Tell) → tells_ascend xs ≡ true → li
 tells-append t [] ys order all more later = more
 tells-append t (a ∷ []) [] order all more later = refl
 tells-append t (a ∷ []) (b ∷ ys) order all more later =
-    let less : nat_lt a.table b.table ≡ true = goes-before a.table b.table t (and-left (at t a) true all) (and-left (from (t + 1) b) (list_all (from (t + 1)) ys) later) in
-    both-true _ _ (by (nat_lt a.table b.table) _ less) more
+    let less : nat_lt a.table b.table ≡ true = goes-before a.table b.table t (first_so (at t a) true all) (first_so (from (t + 1) b) (list_all (from (t + 1)) ys) later) in
+    and_from _ _ (by (nat_lt a.table b.table) _ less) more
   where
     by : (x y : Bool) → x ≡ true → (x || y) ≡ true
     by x y e = grind (arith, e)
 tells-append t (a ∷ b ∷ xs) ys order all more later =
-    both-true _ _ (and-left _ (tells_ascend (b ∷ xs)) order) (tells-append t (b ∷ xs) ys (and-right _ (tells_ascend (b ∷ xs)) order) (and-right (at t a) (list_all (at t) (b ∷ xs)) all) more later)
+    and_from _ _ (first_so _ (tells_ascend (b ∷ xs)) order) (tells-append t (b ∷ xs) ys (second_so _ (tells_ascend (b ∷ xs)) order) (second_so (at t a) (list_all (at t) (b ∷ xs)) all) more later)
 
 at-from : (t : ℕ) (xs : List Tell) → list_all (at t) xs ≡ true → list_all (from t) xs ≡ true
 at-from t [] all = refl
 at-from t (a ∷ xs) all =
-    let same = and-left (at t a) (list_all (at t) xs) all in
+    let same = first_so (at t a) (list_all (at t) xs) all in
     let here : nat_lt t (a.table + 1) ≡ true = grind (arith, nat_tests, same) in
-    both-true _ _ here (at-from t xs (and-right (at t a) (list_all (at t) xs) all))
+    and_from _ _ here (at-from t xs (second_so (at t a) (list_all (at t) xs) all))
 
 from-later : (t : ℕ) (xs : List Tell) → list_all (from (t + 1)) xs ≡ true → list_all (from t) xs ≡ true
 from-later t [] all = refl
 from-later t (a ∷ xs) all =
-    let later = and-left (from (t + 1) a) (list_all (from (t + 1)) xs) all in
+    let later = first_so (from (t + 1) a) (list_all (from (t + 1)) xs) all in
     let here : nat_lt t (a.table + 1) ≡ true = grind (arith, nat_tests, later) in
-    both-true _ _ here (from-later t xs (and-right (from (t + 1) a) (list_all (from (t + 1)) xs) all))
+    and_from _ _ here (from-later t xs (second_so (from (t + 1) a) (list_all (from (t + 1)) xs) all))
 
 all-append : (P : Tell → Bool) (xs ys : List Tell) → list_all P xs ≡ true → list_all P ys ≡ true → list_all P (xs ++ ys) ≡ true
 all-append P [] ys a b = b
-all-append P (x ∷ xs) ys a b = both-true (P x) _ (and-left (P x) (list_all P xs) a) (all-append P xs ys (and-right (P x) (list_all P xs) a) b)
+all-append P (x ∷ xs) ys a b = and_from (P x) _ (first_so (P x) (list_all P xs) a) (all-append P xs ys (second_so (P x) (list_all P xs) a) b)
 
 -- ---- all tables
 
@@ -236,18 +220,18 @@ good schema (table ∷ rest) t (o ∷ old) (n ∷ new) test same count tables wa
     let own : table ≡ table_at schema t = same 0 (omega arith) ∙ ap (table_at schema) (let e : t + 0 ≡ t = omega arith in e) in
     let within : t < length schema = omega (arith, count) in
     let ih = good schema rest (t + 1) old new test (λ k below. same (suc k) (omega (arith, below)) ∙ ap (table_at schema) (let e : t + suc k ≡ t + 1 + k = omega arith in e)) (omega (arith, count))
-    (and-right (is_table table) (list_all is_table rest) tables) was.1 is.1 in
+    (second_so (is_table table) (list_all is_table rest) tables) was.1 is.1 in
     let f : Row → Bool = λ row. not (same_row (change_of table t o n row).before (change_of table t o n row).after) && test (change_of table t o n row) in
     let keys : List Row = filter f (all_keys table.key o n) in
     let here : map tell_of (filter test (table_changes table t o n)) ≡ map tell_of (map (change_of table t o n) keys) = ap (map tell_of) (some-keys table t o n test (all_keys table.key o n)) in
     let split : map tell_of (filter test (table_changes table t o n ++ changes_from (t + 1) rest old new)) ≡ map tell_of (map (change_of table t o n) keys) ++ map tell_of (filter test (changes_from (t + 1) rest old new)) =
     ap (map tell_of) (filter-append test (table_changes table t o n) (changes_from (t + 1) rest old new))
     ∙ (map-append tell_of (filter test (table_changes table t o n)) (filter test (changes_from (t + 1) rest old new)) ∙ ap (λ ms. ms ++ map tell_of (filter test (changes_from (t + 1) rest old new))) here) in
-    let fit_keys : list_all (fits_columns table.columns) keys ≡ true = all-filter (fits_columns table.columns) f (all_keys table.key o n) (keys-all (fits_columns table.columns) table.key o n was.0.0 is.0.0) in
+    let fit_keys : list_all (fits_columns table.columns) keys ≡ true = list_all-filter (fits_columns table.columns) f (all_keys table.key o n) (keys-all (fits_columns table.columns) table.key o n was.0.0 is.0.0) in
     let ordered : ascend table.key keys ≡ true = ascend-filter table.key f (all_keys table.key o n) (keys-ascend table.columns table.key o n was.0.2 was.0.1 is.0.1) in
     let suit_keys : list_all (tell_suits schema) (map tell_of (map (change_of table t o n) keys)) ≡ true =
     subst (λ (u : Table). list_all (fits_columns u.columns) keys ≡ true → list_all (fits_columns u.columns) n ≡ true → list_all (tell_suits schema) (map tell_of (map (change_of u t o n) keys)) ≡ true) (sym own)
-    (keys-suit schema t within (subst (λ u. is_table u ≡ true) own (and-left (is_table table) (list_all is_table rest) tables)) o n keys) fit_keys is.0.0 in
+    (keys-suit schema t within (subst (λ u. is_table u ≡ true) own (first_so (is_table table) (list_all is_table rest) tables)) o n keys) fit_keys is.0.0 in
     let now = keys-at table t o n keys in
     subst (AreGood schema t) (sym split) (record {
       suit = all-append (tell_suits schema) (map tell_of (map (change_of table t o n) keys)) _ suit_keys ih.suit;
@@ -275,7 +259,7 @@ told-good db places v w told sound tables above below h =
     let was = each-fits db.schema (tables_of db (w - 1)) before.few (sound.fits (w - 1) (omega (arith, below))) before.points before.ascending in
     let is = each-fits db.schema (tables_of db w) after.few (sound.fits w below) after.points after.ascending in
     let all = changes-good db.schema (tables_of db (w - 1)) (tables_of db w) h.test tables was is in
-    subst (λ ts. told_suits db.schema ts ≡ true) (sym h.are) (both-true _ _ all.suit all.order)
+    subst (λ ts. told_suits db.schema ts ≡ true) (sym h.are) (and_from _ _ all.suit all.order)
 
 pub promised-tells-suit : PromisedTellsSuit
 promised-tells-suit db c l session queue w told sound tables h first = by c.out h.flows

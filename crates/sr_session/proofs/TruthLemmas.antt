@@ -4,16 +4,20 @@ use Rattle.std.specs.Prelude.{◌&&◌, ◌||◌, ◌==◌, filter}
 use Rattle.std.specs.List.{All}
 use Rattle.std.proofs.lemmas.Bool.Decides.{nat_tests}
 use Rattle.std.proofs.lemmas.List.Elements.{All-nil, All-map, All-weaker}
+use Rattle.std.specs.Cmp.{first_so, second_so}
+use Rattle.std.proofs.lemmas.Bool.{or_left, or_right}
 use Rattle.sr_cell.specs.declared.change.Change.{Change}
 use Rattle.sr_cell.specs.declared.table.Table.{Table}
 use Rattle.sr_cell.specs.Cells.{Row}
 use Rattle.sr_cell.specs.Columns.{table_at, is_point}
+use Rattle.sr_cell.proofs.Booleans.{or-other}
 use Rattle.sr_box.specs.Points.{in_any}
 use Rattle.sr_message.specs.declared.message.Tell.{Tell}
 use Rattle.sr_message.specs.Tells.{tell_of}
 use Rattle.sr_model.specs.Changes.{changes}
 use Rattle.sr_region.specs.declared.region.Region.{Region}
-use Rattle.sr_region.specs.Applied.{AreTables, is_point_if_there, has_points, has_row}
+use Rattle.sr_region.specs.Applied.{AreTables, is_point_if_there, has_points}
+use Rattle.sr_box.specs.Rows.{has_row}
 use Rattle.sr_region.specs.Applied as regions
 use Rattle.sr_store.specs.Told.{told_of, AreTrueOf, IsTrueOf}
 use Rattle.sr_store.specs.Stores.{IsStore}
@@ -29,7 +33,6 @@ use Rattle.sr_session.specs.Places.{Places, at_row, concerns}
 use Rattle.sr_session.specs.Walks.{AskOut, Mirror, Passes, Request, Tells, brought, forgot, noticed, walked}
 use Rattle.sr_session.specs.Clients.{mirror_of}
 use Rattle.sr_session.specs.Regions.{AreAt, LaidMessagesKeepTrue, LieIn, after_messages}
-use Rattle.sr_session.proofs.Booleans.{and-left, and-right, or-left, or-right, or-other}
 use Rattle.sr_session.proofs.TakeLemmas.{passes-later}
 
 -- ---- notices change rows alone
@@ -61,15 +64,15 @@ concerned schema places region lie c points is = subst (λ t. (at_row places t c
     same = same-table c.table region.table (has_row region.rects c.before || has_row region.rects c.after) is
 
     rows : (has_row region.rects c.before || has_row region.rects c.after) ≡ true
-    rows = and-right (c.table == region.table) (has_row region.rects c.before || has_row region.rects c.after) is
+    rows = second_so (c.table == region.table) (has_row region.rects c.before || has_row region.rects c.after) is
 
     by : (b : Bool) → has_row region.rects c.before ≡ b → (at_row places region.table c.before || at_row places region.table c.after) ≡ true
     by true here =
-        or-left (at_row places region.table c.before) (at_row places region.table c.after)
-        (row-lies schema places region lie c.before (and-left (is_point_if_there (table_at schema region.table).columns c.before) (is_point_if_there (table_at schema region.table).columns c.after) points) here)
+        or_left (at_row places region.table c.before) (at_row places region.table c.after)
+        (row-lies schema places region lie c.before (first_so (is_point_if_there (table_at schema region.table).columns c.before) (is_point_if_there (table_at schema region.table).columns c.after) points) here)
     by false none =
-        or-right (at_row places region.table c.before) (at_row places region.table c.after)
-        (row-lies schema places region lie c.after (and-right (is_point_if_there (table_at schema region.table).columns c.before) (is_point_if_there (table_at schema region.table).columns c.after) points)
+        or_right (at_row places region.table c.before) (at_row places region.table c.after)
+        (row-lies schema places region lie c.after (second_so (is_point_if_there (table_at schema region.table).columns c.before) (is_point_if_there (table_at schema region.table).columns c.after) points)
         (or-other (has_row region.rects c.before) (has_row region.rects c.after) rows none))
 
 -- ---- from one version to the next

@@ -1,9 +1,8 @@
 -- Rects that fit their columns have a point, so a subscription with a rect has one.
 use Rattle.std.proofs.Common.{◌≡◌, ℕ, Bool, true, false, List, [], ◌∷◌, refl, sym, ◌∙◌, arith, ◌↔◌}
-use Rattle.std.specs.Prelude.{ℤ, pos, IsTrue, ◌&&◌, ◌||◌, ◌==◌}
+use Rattle.std.specs.Prelude.{ℤ, pos, IsTrue, ◌&&◌, ◌==◌}
 use Rattle.std.specs.List.{list_all, AllByRecursion}
-use Rattle.std.proofs.lemmas.Bool.{and_parts}
-use Rattle.std.proofs.lemmas.Bool.Decides.{nat_tests}
+use Rattle.std.proofs.lemmas.Bool.{and_parts, or_right}
 use Rattle.std.proofs.lemmas.Int.{ints}
 use Rattle.sr_cell.specs.declared.cell.Cell.{Cell}
 use Rattle.sr_cell.specs.declared.cell.Cell.TheVariants.{Num, Str}
@@ -11,11 +10,12 @@ use Rattle.sr_cell.specs.declared.table.Kind.{Kind}
 use Rattle.sr_cell.specs.declared.table.Kind.TheVariants.{Num as Numbers, Str as Texts}
 use Rattle.sr_cell.specs.declared.table.Column.{Column}
 use Rattle.sr_cell.specs.Cells.{Row}
+use Rattle.sr_cell.proofs.Numbers.{eqb_same}
+use Rattle.sr_cell.proofs.Order.{text_le-refl}
 use Rattle.sr_box.specs.declared.span.Span.{Span}
 use Rattle.sr_box.specs.declared.span.Span.TheVariants.{Full, Nums, Strs}
 use Rattle.sr_box.specs.Spans.{in_span, fits_kind}
 use Rattle.sr_box.specs.Points.{Rect, in_rect, in_any, rect_fits}
-use Rattle.sr_box.proofs.Order.{text_le-refl}
 use Rattle.sr_message.specs.declared.message.Holding.{Holding}
 use Rattle.sr_subs.specs.Subscription.{has_point, FitsSome, is_bare}
 
@@ -43,13 +43,6 @@ corner_in (c ∷ columns) (s ∷ r) fit =
     let both = and_parts (fits_kind c.kind c.lo c.hi s) (rect_fits columns r) fit in
     rw (least_in c.kind c.lo c.hi s both.0, corner_in columns r both.1) refl
 
-is_self : (n : ℕ) → (n == n) ≡ true
-is_self n = grind (arith, nat_tests)
-
-or_second : (a b : Bool) → b ≡ true → (a || b) ≡ true
-or_second true b is = refl
-or_second false b is = is
-
 -- a subscription with a rect has a point
 some_point : (holdings : List Holding) → AllByRecursion FitsSome holdings → list_all (λ h. is_bare h.rects) holdings ≡ false → (t : ℕ) × (row : Row) × (has_point holdings t row ≡ true)
 some_point [] fit some = absurd cc
@@ -60,10 +53,10 @@ some_point (h ∷ holdings) fit some = go h.rects refl fit.0.1 (some_point holdi
         → (is_bare rects && list_all (λ h. is_bare h.rects) holdings) ≡ false → (t : ℕ) × (row : Row) × (has_point (h ∷ holdings) t row ≡ true)
     go [] is fits others some =
         let later = others some in
-        (later.0, later.1, or_second (h.table == later.0 && in_any h.rects later.1) (has_point holdings later.0 later.1) later.2)
+        (later.0, later.1, or_right (h.table == later.0 && in_any h.rects later.1) (has_point holdings later.0 later.1) later.2)
     go (r ∷ rects) is fits others some =
         let here = corner_in fit.0.0 r (and_parts (rect_fits fit.0.0 r) (list_all (rect_fits fit.0.0) rects) fits).0 in
-        (h.table, corner r, rw (is_self h.table, is, here) refl)
+        (h.table, corner r, rw (eqb_same h.table, is, here) refl)
 
 no_point : (holdings : List Holding) → list_all (λ h. is_bare h.rects) holdings ≡ true → (t : ℕ) (row : Row) → has_point holdings t row ≡ false
 no_point [] bare t row = refl

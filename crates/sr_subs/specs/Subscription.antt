@@ -1,19 +1,16 @@
 -- Subscriptions: points of tables, as lists of rects, and the changes that touch them.
-use Rattle.std.specs.Prelude.{ℕ, Bool, true, false, ◌&&◌, ◌||◌, ◌==◌, List, [], ◌∷◌, Option, Some, None, IsTrue}
+use Rattle.std.specs.Prelude.{ℕ, Bool, true, false, ◌&&◌, ◌||◌, ◌==◌, List, [], ◌∷◌, IsTrue}
 use Rattle.std.specs.List.{list_all, list_any}
 use Rattle.sr_cell.specs.declared.change.Change.{Change}
 use Rattle.sr_cell.specs.declared.table.Column.{Column}
 use Rattle.sr_cell.specs.Cells.{Row}
 use Rattle.sr_box.specs.Points.{Rect, in_any, rect_fits}
+use Rattle.sr_box.specs.Rows.{has_row}
 use Rattle.sr_message.specs.declared.message.Holding.{Holding}
 
 -- the subscription has that row of the table of that number
 abbrev pub has_point : List Holding → ℕ → Row → Bool
 has_point subscription t row = list_any (λ h. h.table == t && in_any h.rects row) subscription
-
-abbrev pub has_row : List Rect → Option Row → Bool
-has_row rects None = false
-has_row rects (Some row) = in_any rects row
 
 -- the old or the new row is subscribed
 abbrev pub touches : List Holding → Change → Bool

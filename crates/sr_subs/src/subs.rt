@@ -2,7 +2,8 @@
 ghost use Rattle.std.specs.Prelude.{◌≡◌, ℕ, false, ◌∷◌, ◌++◌, ◌↔◌, [], ◌&&◌, ◌||◌, ◌==◌, OnOk, OnErr, IsTrue};
 ghost use Rattle.std.specs.List.{list_all, AllByRecursion};
 ghost use Rattle.sr_cell.specs.Cells.{Row as TheRow};
-ghost use Rattle.sr_subs.specs.Subscription.{has_point, has_row, touches, FitsSome, is_bare};
+ghost use Rattle.sr_subs.specs.Subscription.{has_point, touches, FitsSome, is_bare};
+ghost use Rattle.sr_box.specs.Rows.{has_row};
 
 use sr_cell::cell::Row;
 use sr_cell::change::Change;

@@ -1,6 +1,6 @@
 -- What a client does is an event of the scene.
 use Rattle.std.proofs.Common.{◌≡◌, ℕ, ◌+◌, ◌≤◌, ◌<◌, Bool, true, false, List, [], ◌∷◌, ◌++◌, length, refl, sym, ◌∙◌, ap, subst, arith, append-nil, None, Result, Ok, Err}
-use Rattle.std.specs.Prelude.{IfOk, OnOk, nat_le, option_to_list}
+use Rattle.std.specs.Prelude.{IfOk, IfSome, OnOk, nat_le, Option, Some, option_to_list}
 use Rattle.std.proofs.lemmas.Bool.Decides.{nat_tests}
 use Rattle.sr_cell.specs.declared.fault.Fault.{Fault}
 use Rattle.std.specs.List.{list_all}
@@ -10,7 +10,7 @@ use Rattle.sr_message.specs.declared.message.Message.{Message}
 use Rattle.sr_message.specs.declared.message.Message.TheVariants as kinds
 use Rattle.sr_script.specs.declared.line.TraceLine.{TraceLine}
 use Rattle.sr_script.specs.declared.line.TraceLine.TheVariants as line
-use Rattle.sr_language.specs.Events.{DoCut, DoEvict, DoQuery, DoResume, DoToClient, DoWrite, ScriptEvent}
+use Rattle.sr_lines.specs.Events.{DoCut, DoEvict, DoQuery, DoResume, DoToClient, DoWrite, ScriptEvent}
 use Rattle.sr_model.specs.Queries.{Query}
 use Rattle.sr_policy.specs.declared.policy.Limits.{Limits}
 use Rattle.sr_session.specs.Sessions.{Database}
@@ -34,7 +34,8 @@ use Rattle.sr_client.specs.declared.steps.Took.{Took}
 use Rattle.sr_client.specs.declared.steps.Took.TheVariants as took
 use Rattle.sr_client.specs.Stands.{StandsOver, Stays, basis_of, drawn, out_of}
 use Rattle.sr_client.specs.Steps.{Cuts, Evicts, Goes, Queries, Resumes, SaysCut, SaysEvict, SaysQuery, SaysResume, SaysTook, SaysWrite, Takes, Writes}
-use Rattle.sr_client.specs.Sends.{QuerySendsWell, ResumeSendsWell, TookSendsWell, WriteSendsWell}
+use Rattle.sr_wire.specs.Limits.{IsSendable}
+use Rattle.sr_client.specs.Sends.{IsOfFormat, IsWellSent, QuerySendsWell, ResumeSendsWell, TookSendsWell, WriteSendsWell}
 use Rattle.sr_server.specs.declared.server.Server.{Server}
 use Rattle.sr_server.specs.Servers.{IsServer, with_session}
 use Rattle.sr_runs.specs.Lines.{cut_line, details, evict_line, lines_of, query_line, resume_line, taken_line, write_line}
@@ -67,18 +68,31 @@ sends-one schema n m is = rw is refl
 few-parts : (schema : List Table) (n : ℕ) (m : Message) → is_request_of schema n m ≡ true → has_few_parts m ≡ true
 few-parts schema n m is = (request-parts schema n m is).parts
 
+-- ---- what is sent
+
+-- what a step tells to be sent is what its outcome sends, which may be sent
+told-sendable : (sent : Option Message) (o : Outcome) → option_to_list sent ≡ sent_of o → ((m : Message) → sent_of o ≡ m ∷ [] → IsSendable m) → IfSome sent IsSendable
+told-sendable None o told each = tt
+told-sendable (Some m) o told each = each m (sym told)
+
+only : (a b : Message) → a ∷ [] ≡ b ∷ [] → a ≡ b
+only a b is = cc
+
+none-sent : (m : Message) → [] ≡ m ∷ [] → IsSendable m
+none-sent m is = absurd (cc)
+
 -- ---- queries
 
 pub query-few : (schema : List Table) (n : ℕ) (step : QueryStep) → QuerySendsWell schema n step → QueryAsksFew step
 query-few schema n (query.Answered q version rows marks) sends = tt
-query-few schema n (query.Asked q request message marks) sends = few-parts schema n message sends
+query-few schema n (query.Asked q request message marks) sends = few-parts schema n message sends.request
 query-few schema n (query.Busy request) sends = tt
 query-few schema n (query.Down number marks) sends = tt
 
 query-sends : (schema : List Table) (n : ℕ) (past : session.Client) (step : QueryStep) (o : Outcome) → QuerySendsWell schema n step → SaysQuery past step o → list_all (is_request_of schema n) (sent_of o) ≡ true
 query-sends schema n past (query.Answered q version rows marks) o sends says = rw says refl
 query-sends schema n past (query.Asked q request message marks) o sends says =
-    let one : is_request_of schema n (kinds.Ask request says.1 says.2) ≡ true = subst (λ m. is_request_of schema n m ≡ true) says.3 sends in
+    let one : is_request_of schema n (kinds.Ask request says.1 says.2) ≡ true = subst (λ m. is_request_of schema n m ≡ true) says.3 sends.request in
     rw says.4 (sends-one schema n (kinds.Ask request says.1 says.2) one)
 query-sends schema n past (query.Busy request) o sends says = rw says refl
 query-sends schema n past (query.Down number marks) o sends says = rw says refl
@@ -203,6 +217,7 @@ cut-goes {E} old new server after step (Ok lines) does stays rest closed serves 
         (record {
           number = id;
           limits = stays.limits ∙ h.seat.limits;
+          regions = h.seat.regions;
           client = g.stands;
           to_server = ap (λ (x : Seat). x.to_server) rest;
           to_client = ap (λ (x : Seat). x.to_client) rest;
@@ -224,7 +239,7 @@ took-few schema n took.Laid sends = tt
 took-few schema n (took.Applied version marks) sends = tt
 took-few schema n (took.Forgot version marks) sends = tt
 took-few schema n (took.Answered q version rows marks) sends = tt
-took-few schema n (took.Asked request message marks) sends = few-parts schema n message sends
+took-few schema n (took.Asked request message marks) sends = few-parts schema n message sends.request
 took-few schema n (took.Written request version marks) sends = tt
 took-few schema n (took.Refused request fault marks) sends = tt
 took-few schema n (took.Welcomed version kept marks) sends = tt
@@ -236,7 +251,7 @@ took-sends schema n (took.Applied version marks) o sends says = rw says refl
 took-sends schema n (took.Forgot version marks) o sends says = rw says refl
 took-sends schema n (took.Answered q version rows marks) o sends says = rw says refl
 took-sends schema n (took.Asked request message marks) o sends says =
-    let one : is_request_of schema n (kinds.Ask request says.0 says.1) ≡ true = subst (λ m. is_request_of schema n m ≡ true) says.2 sends in
+    let one : is_request_of schema n (kinds.Ask request says.0 says.1) ≡ true = subst (λ m. is_request_of schema n m ≡ true) says.2 sends.request in
     rw says.3 (sends-one schema n (kinds.Ask request says.0 says.1) one)
 took-sends schema n (took.Written request version marks) o sends says = rw says refl
 took-sends schema n (took.Refused request fault marks) o sends says = rw says refl
@@ -316,7 +331,7 @@ receive-lightens old mid new m queue step told some first takes rest tells made 
 
 write-sends : (schema : List Table) (n : ℕ) (sql : List ℕ) (step : WriteStep) (o : Outcome) → WriteSendsWell schema n step → SaysWrite sql step o → list_all (is_request_of schema n) (sent_of o) ≡ true
 write-sends schema n sql (writes.Sent request message) o sends says =
-    let one : is_request_of schema n (kinds.Write request sql) ≡ true = subst (λ m. is_request_of schema n m ≡ true) says.0 sends in
+    let one : is_request_of schema n (kinds.Write request sql) ≡ true = subst (λ m. is_request_of schema n m ≡ true) says.0 sends.request in
     rw says.1 (sends-one schema n (kinds.Write request sql) one)
 write-sends schema n sql (writes.Sql fault) o sends says = absurd says
 write-sends schema n sql (writes.Busy request) o sends says = rw says refl
@@ -392,13 +407,21 @@ write-numbers old new sql step some long does = by (nat_le (length sql) most_tex
 
 -- ---- a resume
 
+-- the format has a number for the client and room for its regions
+of-format : (s : Scene) (n : ℕ) (old : Seat) (server : Server) → SeatStands s n old server → IsOfFormat old.client
+of-format s n old server h = record {
+  first = (let id = h.seat.number in let number = h.number.0 in omega (arith, id, number));
+  last = (let id = h.seat.number in let number = h.number.1 in omega (arith, id, number));
+  regions = subst (λ (l : Limits). l.regions ≤ 1024) (sym h.seat.limits) h.seat.regions;
+}
+
 resume-sends : (schema : List Table) (n : ℕ) (past : session.Client) (step : ResumeStep) (o : Outcome) → ResumeSendsWell schema n step → SaysResume past step o → list_all (is_request_of schema n) (sent_of o) ≡ true
-resume-sends schema n past (resumes.Sent request message) o sends says = rw says.1 (sends-one schema n message sends)
+resume-sends schema n past (resumes.Sent request message) o sends says = rw says.1 (sends-one schema n message sends.request)
 resume-sends schema n past resumes.Up o sends says = rw says refl
 
 pub resume-goes : {E : Type 0} (old mid new : Seat) (server : Server) (step : ResumeStep) (told : Told) (r : Result (List TraceLine) E)
     → Resumes old.client mid.client step → Stays old.client mid.client → mid ≡ record old { client = mid.client }
-    → ((past : session.Client) (o : Outcome) → SaysResume past step o → IsToldOf mid.client.id resume_line o told) → ResumeSendsWell old.client.schema old.client.id step
+    → ((past : session.Client) (o : Outcome) → SaysResume past step o → IsToldOf mid.client.id resume_line o told) → (IsOfFormat old.client → ResumeSendsWell old.client.schema old.client.id step)
     → OnOk r (new ≡ record mid { to_server = mid.to_server ++ option_to_list told.sent }) → IfOk r (λ lines. lines ≡ told.lines)
     → IfOk r (SeatGoes (λ n s. Acts s (DoResume n)) old server new server)
 resume-goes {E} old mid new server step told r does stays rest tells sends made is =
@@ -409,7 +432,7 @@ resume-goes {E} old mid new server step told r does stays rest tells sends made 
         let past = h.pair.client in
         let g = does.by_rules s.database past h.seat.client in
         let well : ResumeSendsWell s.database.schema n step =
-        subst (λ k. ResumeSendsWell s.database.schema k step) h.seat.number (subst (λ schema. ResumeSendsWell schema old.client.id step) (sym h.seat.client.schema) sends) in
+        subst (λ k. ResumeSendsWell s.database.schema k step) h.seat.number (subst (λ schema. ResumeSendsWell schema old.client.id step) (sym h.seat.client.schema) (sends (of-format s n old server h))) in
         sent-leads s n old mid new server (DoResume n) (ResumeOf n) h.pair.connection told resume_line g.outcome g.next h refl refl stays g.stands
         (rest ∙ ap (λ ms. record old { client = mid.client; to_client = ms }) (sym (ap (λ (x : Seat). x.to_client) rest)))
         (ap (λ (x : Seat). x.to_client) rest ∙ h.seat.to_client) made (tells past g.outcome g.is)
@@ -425,3 +448,79 @@ resume-numbers old new step some does =
 
 pub same-step : {E : Type 0} (a b : WriteStep) → (let here : Result WriteStep E = Ok a in here) ≡ Ok b → a ≡ b
 same-step {E} a b is = cc
+
+-- ---- all that goes out may be sent
+
+query-each : (schema : List Table) (n : ℕ) (past : session.Client) (step : QueryStep) (o : Outcome) → QuerySendsWell schema n step → SaysQuery past step o → (m : Message) → sent_of o ≡ m ∷ [] → IsSendable m
+query-each schema n past (query.Answered q version rows marks) o sends says = rw says none-sent
+query-each schema n past (query.Asked q request message marks) o sends says = λ m is.
+    let here : kinds.Ask request says.1 says.2 ∷ [] ≡ m ∷ [] = ap sent_of (sym says.4) ∙ is in
+    subst IsSendable (says.3 ∙ only (kinds.Ask request says.1 says.2) m here) sends.sendable
+query-each schema n past (query.Busy request) o sends says = rw says none-sent
+query-each schema n past (query.Down number marks) o sends says = rw says none-sent
+
+pub query-sendable : (old : Seat) (mid : Client) (meaning : Query) (step : QueryStep) (sent : Option Message) → (server : Server) × IsSomeSeat old server → Queries old.client meaning mid step
+    → ((past : session.Client) (o : Outcome) → SaysQuery past step o → option_to_list sent ≡ sent_of o) → QuerySendsWell old.client.schema old.client.id step → IfSome sent IsSendable
+query-sendable old mid meaning step sent some does tells sends =
+    let h = some.1.2 in
+    let past = h.pair.client in
+    let g = does.by_rules some.1.0.database past h.seat.client in
+    told-sendable sent g.outcome (tells past g.outcome g.is) (query-each old.client.schema old.client.id past step g.outcome sends g.is)
+
+took-each : (schema : List Table) (n : ℕ) (step : Took) (o : Outcome) → TookSendsWell schema n step → SaysTook step o → (m : Message) → sent_of o ≡ m ∷ [] → IsSendable m
+took-each schema n took.Laid o sends says = rw says none-sent
+took-each schema n (took.Applied version marks) o sends says = rw says none-sent
+took-each schema n (took.Forgot version marks) o sends says = rw says none-sent
+took-each schema n (took.Answered q version rows marks) o sends says = rw says none-sent
+took-each schema n (took.Asked request message marks) o sends says = λ m is.
+    let here : kinds.Ask request says.0 says.1 ∷ [] ≡ m ∷ [] = ap sent_of (sym says.3) ∙ is in
+    subst IsSendable (says.2 ∙ only (kinds.Ask request says.0 says.1) m here) sends.sendable
+took-each schema n (took.Written request version marks) o sends says = rw says none-sent
+took-each schema n (took.Refused request fault marks) o sends says = rw says none-sent
+took-each schema n (took.Welcomed version kept marks) o sends says = rw says none-sent
+took-each schema n (took.Bad why) o sends says = absurd says
+
+pub took-sendable : (old : Seat) (m : Message) (queue : List Message) (new : Client) (step : Took) (sent : Option Message) → (server : Server) × IsSomeSeat old server → old.to_client ≡ m ∷ queue → Takes old.client m new step
+    → ((o : Outcome) → SaysTook step o → option_to_list sent ≡ sent_of o) → TookSendsWell old.client.schema old.client.id step → IfSome sent IsSendable
+took-sendable old m queue new step sent some first does tells sends =
+    let h = some.1.2 in
+    let g = taken-by-rules some.1.0 some.1.1 old some.0 m queue new step h first does in
+    told-sendable sent g.outcome (tells g.outcome g.is) (took-each old.client.schema old.client.id step g.outcome sends g.is)
+
+-- what a write sends; of a text that is too long nothing is
+write-each : (schema : List Table) (n : ℕ) (sql : List ℕ) (step : WriteStep) (o : Outcome) → WriteSendsWell schema n step → SaysWrite sql step o → (m : Message) → sent_of o ≡ m ∷ [] → IsSendable m
+write-each schema n sql (writes.Sent request message) o sends says = λ m is.
+    let here : kinds.Write request sql ∷ [] ≡ m ∷ [] = ap sent_of (sym says.1) ∙ is in
+    subst IsSendable (says.0 ∙ only (kinds.Write request sql) m here) sends.sendable
+write-each schema n sql (writes.Sql fault) o sends says = absurd says
+write-each schema n sql (writes.Busy request) o sends says = rw says none-sent
+write-each schema n sql (writes.Down number) o sends says = rw says none-sent
+
+pub write-sendable : (old : Seat) (mid : Client) (sql : List ℕ) (step : WriteStep) (sent : Option Message) → (server : Server) × IsSomeSeat old server
+    → (most_text < length sql → (step ≡ writes.Sql long_text) × (mid ≡ old.client)) → (length sql ≤ most_text → Writes old.client sql mid step)
+    → ((o : Outcome) → SaysWrite sql step o → option_to_list sent ≡ sent_of o) → ((fault : Fault) → step ≡ writes.Sql fault → sent ≡ None)
+    → WriteSendsWell old.client.schema old.client.id step → IfSome sent IsSendable
+write-sendable old mid sql step sent some long does tells refused sends = by (nat_le (length sql) most_text) refl
+  where
+    by : (b : Bool) → nat_le (length sql) most_text ≡ b → IfSome sent IsSendable
+    by true e =
+        let h = some.1.2 in
+        let g = (does (grind (arith, nat_tests, e))).by_rules some.1.0.database h.pair.client h.seat.client in
+        told-sendable sent g.outcome (tells g.outcome g.is) (write-each old.client.schema old.client.id sql step g.outcome sends g.is)
+    by false e =
+        let over : most_text < length sql = grind (arith, nat_tests, e) in
+        subst (λ (s : Option Message). IfSome s IsSendable) (sym (refused long_text (long over).0)) tt
+
+resume-each : (schema : List Table) (n : ℕ) (past : session.Client) (step : ResumeStep) (o : Outcome) → ResumeSendsWell schema n step → SaysResume past step o → (m : Message) → sent_of o ≡ m ∷ [] → IsSendable m
+resume-each schema n past (resumes.Sent request message) o sends says = λ m is.
+    let here : message ∷ [] ≡ m ∷ [] = ap sent_of (sym says.1) ∙ is in
+    subst IsSendable (only message m here) sends.sendable
+resume-each schema n past resumes.Up o sends says = rw says none-sent
+
+pub resume-sendable : (old : Seat) (mid : Client) (step : ResumeStep) (sent : Option Message) → (server : Server) × IsSomeSeat old server → Resumes old.client mid step
+    → ((past : session.Client) (o : Outcome) → SaysResume past step o → option_to_list sent ≡ sent_of o) → (IsOfFormat old.client → ResumeSendsWell old.client.schema old.client.id step) → IfSome sent IsSendable
+resume-sendable old mid step sent some does tells sends =
+    let h = some.1.2 in
+    let past = h.pair.client in
+    let g = does.by_rules some.1.0.database past h.seat.client in
+    told-sendable sent g.outcome (tells past g.outcome g.is) (resume-each old.client.schema old.client.id past step g.outcome (sends (of-format some.1.0 some.1.1 old some.0 h)) g.is)

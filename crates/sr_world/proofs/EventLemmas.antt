@@ -9,7 +9,7 @@ use Rattle.sr_log.specs.Held.{Held}
 use Rattle.sr_model.specs.Statements.{Write, executed}
 use Rattle.sr_script.specs.declared.line.TraceLine.{TraceLine}
 use Rattle.sr_script.specs.declared.line.TraceLine.TheVariants as line
-use Rattle.sr_language.specs.Events.{DoExec}
+use Rattle.sr_lines.specs.Events.{DoExec}
 use Rattle.sr_session.specs.Sessions.{Database, newest, tables_of, with_version}
 use Rattle.sr_session.specs.Clients.{Pair}
 use Rattle.sr_session.specs.Scenes.{Exec, Executed, NotExecuted, Scene, executed as happens_executed, not_executed}
@@ -101,6 +101,7 @@ kept : (db next : Database) (s : Scene) (n : â„•) (seat : Seat) (pair : Pair) â†
 kept db next s n seat pair grows own = record {
   number = own.number;
   limits = own.limits;
+  regions = own.regions;
   client = grows.clients pair.client seat.client own.client;
   to_server = own.to_server;
   to_client = own.to_client;

@@ -5,7 +5,7 @@ use Rattle.std.specs.List.{list_all}
 use Rattle.std.proofs.lemmas.List.{length-set}
 use Rattle.std.proofs.lemmas.List.Folds.{list_all-append}
 use Rattle.sr_script.specs.declared.line.TraceLine.{TraceLine}
-use Rattle.sr_language.specs.Events.{ScriptEvent}
+use Rattle.sr_lines.specs.Events.{ScriptEvent}
 use Rattle.sr_session.specs.Sessions.{Database}
 use Rattle.sr_session.specs.Clients.{Client, Connection, Pair, Stands, is_down, is_open, is_resuming}
 use Rattle.sr_session.specs.Refusals.{is_request_of}
@@ -112,6 +112,7 @@ client-leads s n old new server what event l o next lines h session queue stays 
     (record {
       number = stays.id ∙ h.seat.number;
       limits = stays.limits ∙ h.seat.limits;
+      regions = h.seat.regions;
       client = stands;
       to_server = sent ∙ ap (λ ms. ms ++ sent_of o) (h.seat.to_server ∙ sym queue);
       to_client = queued;

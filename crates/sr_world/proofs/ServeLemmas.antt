@@ -6,7 +6,7 @@ use Rattle.std.specs.List.{list_all}
 use Rattle.sr_cell.specs.declared.fault.Fault.{Fault}
 use Rattle.sr_message.specs.declared.message.Message.{Message}
 use Rattle.sr_script.specs.declared.line.TraceLine.TheVariants as line
-use Rattle.sr_language.specs.Events.{DoPush, DoToServer}
+use Rattle.sr_lines.specs.Events.{DoPush, DoToServer}
 use Rattle.sr_model.specs.Statements.{Tables}
 use Rattle.sr_session.specs.Sessions.{Database, Session, newest, serve_push, tables_of}
 use Rattle.sr_session.specs.Clients.{Pair}
@@ -55,6 +55,7 @@ push-goes old new server after session sent is sends makes stands made = λ s n 
     (subst (λ (seat : Seat). IsSeat s.database s.limits n seat next) (sym made) (record {
       number = h.seat.number;
       limits = h.seat.limits;
+      regions = h.seat.regions;
       client = h.seat.client;
       to_server = h.seat.to_server;
       to_client = ap (λ ms. ms ++ sent) h.seat.to_client ∙ ap (λ ms. h.pair.connection.to_client ++ ms) all;
@@ -126,6 +127,7 @@ serve-goes old new server after m queue sent first takes made = λ s n h.
     (subst (λ (seat : Seat). IsSeat d.database s.limits n seat next) (sym made) (record {
       number = h.seat.number;
       limits = h.seat.limits;
+      regions = h.seat.regions;
       client = grows.clients h.pair.client old.client h.seat.client;
       to_server = refl;
       to_client = ap (λ ms. ms ++ sent) h.seat.to_client ∙ ap (λ ms. h.pair.connection.to_client ++ ms) all;

@@ -2,7 +2,7 @@
 use Rattle.std.proofs.Common.{◌≡◌, ℕ, suc, ◌+◌, ◌≤◌, true, false, List, [], ◌∷◌, ◌++◌, length, refl, sym, ◌∙◌, subst, arith, append_assoc, append-nil, Some, None}
 use Rattle.sr_message.specs.declared.message.Message.{Message}
 use Rattle.sr_script.specs.declared.line.TraceLine.{TraceLine}
-use Rattle.sr_language.specs.Events.{DoToClient, DoToServer, ScriptEvent}
+use Rattle.sr_lines.specs.Events.{DoToClient, DoToServer, ScriptEvent}
 use Rattle.sr_session.specs.Scenes.{Scene}
 use Rattle.sr_server.specs.declared.server.Server.{Server}
 use Rattle.sr_runs.specs.Runs.{Acts, Settles, delivers, is_quiet, next_delivery, next_of}

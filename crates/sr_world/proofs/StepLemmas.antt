@@ -10,7 +10,7 @@ use Rattle.sr_query.specs.declared.write.Write.{Write}
 use Rattle.sr_reader.specs.Read.{Means, is_client, statement_of}
 use Rattle.sr_script.specs.declared.line.TraceLine.{TraceLine}
 use Rattle.sr_script.specs.declared.line.TraceLine.TheVariants as line
-use Rattle.sr_language.specs.Events.{DoExec, DoQuery, DoSettle, ScriptEvent}
+use Rattle.sr_lines.specs.Events.{DoExec, DoQuery, DoSettle, ScriptEvent}
 use Rattle.sr_session.specs.Rules.{QueryRefused, query_refused}
 use Rattle.sr_session.specs.Clients.{Pair}
 use Rattle.sr_session.specs.Scenes.{Did, Exec, NotExecuted, QueryOf, Scene, acted, not_executed, pair_at, queried, with_pair}

@@ -7,7 +7,7 @@ use Rattle.sr_message.specs.declared.message.Message.{Message}
 use Rattle.sr_message.specs.declared.message.Message.TheVariants.{Hello, Resume, Ask, Write, Welcome, Notice, Rows, Reply, Written, Refused, Lapse}
 use Rattle.sr_model.specs.Statements.{Tables, executed}
 use Rattle.sr_model.specs.Statements.{Write as TheWrite}
-use Rattle.sr_language.specs.Script.{Writes}
+use Rattle.sr_lines.specs.Script.{Writes}
 use Rattle.sr_query.specs.Binding.{◌>>=◌}
 use Rattle.sr_query.specs.Writes.{bound_write}
 use Rattle.sr_session.specs.Sessions.{Database, Session, newest, serve, tables_of}

@@ -5,6 +5,7 @@ use Rattle.std.proofs.lemmas.Option.{slice_get_read}
 use Rattle.std.proofs.lemmas.List.{length-set}
 use Rattle.sr_log.specs.Held.{newest as newest_of}
 use Rattle.sr_script.specs.declared.line.TraceLine.{TraceLine}
+use Rattle.sr_policy.specs.declared.policy.Limits.{Limits}
 use Rattle.sr_session.specs.Clients.{Pair}
 use Rattle.sr_session.specs.Scenes.{Scene, pair_at}
 use Rattle.sr_session.proofs.EventLemmas.{at, get-set-other}
@@ -93,6 +94,7 @@ module _ (old new : World) (s next : Scene) (place : ℕ) (seat after : Seat) (r
   kept-seat k one pair own = record {
     number = own.number;
     limits = own.limits ∙ sym others.limits;
+    regions = subst (λ (l : Limits). l.regions ≤ 1024) (sym others.limits) own.regions;
     client = others.clients pair.client one.client own.client;
     to_server = own.to_server;
     to_client = own.to_client;

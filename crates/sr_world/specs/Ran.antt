@@ -2,7 +2,7 @@
 use Rattle.std.specs.Prelude.{ℕ, ◌≡◌, Bool, List, ◌++◌, Option}
 use Rattle.std.specs.Io.KnownBytes.{Appends}
 use Rattle.sr_cell.specs.declared.table.Table.{Table}
-use Rattle.sr_language.specs.Events.{ScriptEvent}
+use Rattle.sr_lines.specs.Events.{ScriptEvent}
 use Rattle.sr_model.specs.Statements.{Tables}
 use Rattle.sr_script.specs.declared.line.TraceLine.{TraceLine}
 use Rattle.sr_script.specs.TraceText.{trace_text}

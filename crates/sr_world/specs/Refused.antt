@@ -1,7 +1,7 @@
 -- Why a script is not run.
 use Rattle.std.specs.Prelude.{ℕ, List, []}
-use Rattle.sr_language.specs.Lines.{lines_of}
-use Rattle.sr_language.specs.Script.{FirstRefused}
+use Rattle.sr_lines.specs.Lines.{lines_of}
+use Rattle.sr_lines.specs.Script.{FirstRefused}
 use Rattle.sr_load.specs.declared.fill.Load.{Load}
 use Rattle.sr_world.specs.declared.replay.RunFault.{RunFault}
 use Rattle.sr_world.specs.declared.replay.RunFault.TheVariants as fault

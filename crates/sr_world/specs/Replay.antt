@@ -4,10 +4,10 @@ use Rattle.std.specs.Io.KnownBytes.{Appends}
 use Rattle.sr_cell.specs.declared.fault.Fault.{Fault}
 use Rattle.sr_cell.specs.declared.table.Table.{Table}
 use Rattle.sr_model.specs.Statements.{Tables}
-use Rattle.sr_language.specs.Events.{ScriptEvent}
-use Rattle.sr_language.specs.Lines.{lines_of}
-use Rattle.sr_language.specs.Script.{Creating, LinePlace, Phase, Reads, first_outside, start_phase}
-use Rattle.sr_language.specs.Creates.{Creates}
+use Rattle.sr_lines.specs.Events.{ScriptEvent}
+use Rattle.sr_lines.specs.Lines.{lines_of}
+use Rattle.sr_lines.specs.Script.{Creating, LinePlace, Phase, Reads, first_outside, start_phase}
+use Rattle.sr_lines.specs.Creates.{Creates}
 use Rattle.sr_tables.specs.Stored.{no_rows}
 use Rattle.sr_load.specs.Filling.{filled}
 use Rattle.sr_load.specs.declared.fill.Load.{Load}

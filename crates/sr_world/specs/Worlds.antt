@@ -25,11 +25,12 @@ seat_at w (suc n) = slice_get w.seats.items n
 abbrev pub IsNumber : World → ℕ → Type 0
 IsNumber w n = (1 ≤ n) × (n ≤ length w.seats.items)
 
--- The client of that number stands for its past over the database, and may keep what each may; each queue has its messages; and what is on
--- its way to the server are requests of this client.
+-- The client of that number stands for its past over the database, and may keep what each may, no more regions than the format has room
+-- for; each queue has its messages; and what is on its way to the server are requests of this client.
 pub record IsSeat (db : Database) (most : Limits) (n : ℕ) (seat : Seat) (pair : Pair) : Type 0 where
   pub number : seat.client.id ≡ n
   pub limits : seat.client.store.limits ≡ most
+  pub regions : most.regions ≤ 1024
   pub client : StandsOver db pair.client seat.client
   pub to_server : seat.to_server ≡ pair.connection.to_server
   pub to_client : seat.to_client ≡ pair.connection.to_client

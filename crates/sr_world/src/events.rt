@@ -1,7 +1,7 @@
 //! What each event of a script does to a world.
 ghost use Rattle.std.specs.Prelude.{◌≡◌, ◌+◌, ◌<◌, ◌≤◌, ◌^◌, [], length, true, Ok, Result, IsTrue, IfOk, OnOk};
 ghost use Rattle.sr_cell.specs.declared.fault.Fault.{Fault as TheFault};
-ghost use Rattle.sr_language.specs.Events.{DoCut, DoEvict, DoExec, DoPush, DoQuery, DoResume, DoSettle, DoToClient, DoToServer, DoWrite};
+ghost use Rattle.sr_lines.specs.Events.{DoCut, DoEvict, DoExec, DoPush, DoQuery, DoResume, DoSettle, DoToClient, DoToServer, DoWrite};
 ghost use Rattle.sr_model.specs.Queries.{Query as TheQuery};
 ghost use Rattle.sr_query.specs.Written.{write_of};
 ghost use Rattle.sr_query.specs.Writes.{suits};

@@ -4,7 +4,6 @@
 pub mod events;
 pub mod laws;
 pub(crate) mod lines;
-pub mod queue;
 pub mod replay;
 pub mod seat;
 pub mod step;

@@ -1,12 +1,12 @@
 //! The replay of a script.
 ghost use Rattle.std.specs.Prelude.{◌≡◌, ℕ, ◌+◌, ◌*◌, ◌<◌, ◌≤◌, ◌^◌, ◌⊎◌, nat_lt, List, [], ◌∷◌, length, string_bytes, Ok, Some, None, IsTrue, IfOk, OnOk, OnErr, IsErrOf};
 ghost use Rattle.std.specs.List.{list_all, AllZip};
-ghost use Rattle.sr_language.specs.Events.{ScriptEvent};
+ghost use Rattle.sr_lines.specs.Events.{ScriptEvent};
 ghost use Rattle.sr_cell.specs.declared.fault.Fault.{Fault as TheFault};
 ghost use Rattle.sr_cell.specs.declared.list.No.TheVariants.{Refused, NoMemory as Wanting};
-ghost use Rattle.sr_language.specs.Lines.{lines_of};
-ghost use Rattle.sr_language.specs.Script.{start_phase, FirstRefused, FirstUnbuilt, LinePlace as TheLinePlace};
-ghost use Rattle.sr_language.specs.Creates.{Creates};
+ghost use Rattle.sr_lines.specs.Lines.{lines_of};
+ghost use Rattle.sr_lines.specs.Script.{start_phase, FirstRefused, FirstUnbuilt, LinePlace as TheLinePlace};
+ghost use Rattle.sr_lines.specs.Creates.{Creates};
 ghost use Rattle.sr_query.specs.Bound.{is_table};
 ghost use Rattle.sr_reader.specs.Lined.{AreLines};
 ghost use Rattle.sr_reader.specs.Read.{Fits, IsEventLine, event_fits};
@@ -67,6 +67,7 @@ pub fn replay<K: Sink>(
     sink: &mut K,
 ) -> Result<World, No<RunFault>>
     requires clients { IsClientNumber options.clients }
+    requires regions { options.limits.regions ≤ 1024 }
     requires script { length script.now < 2 ^ 32 }
     requires loads { IsTrue (list_all (λ load. nat_lt (length load.bytes) (2 ^ 32)) loads.now) }
     ensures whole { IfOk result (Wrote (K.writing sink.old).written (K.writing sink.new).written options script.now loads.now) }
@@ -159,6 +160,7 @@ fn run_script<K: Sink>(
     sink: &mut K,
 ) -> Result<World, No<Failed>>
     requires clients { IsClientNumber options.clients }
+    requires regions { options.limits.regions ≤ 1024 }
     requires fits { Fits options.clients (record { schema = tables.schema; lines = lines }) }
     requires events { (events : List (ℕ × ScriptEvent)) × AllZip (IsEventLine tables.schema) lines events }
     requires few { length lines < 2 ^ 32 }

@@ -1,13 +1,14 @@
 //! A client with its queues, and what happens between it and the server.
-ghost use Rattle.std.specs.Prelude.{◌≡◌, ◌+◌, ◌<◌, ◌≤◌, ◌++◌, ◌^◌, ◌⊎◌, [], length, option_to_list, Ok, IsTrue, IfOk, OnOk};
+ghost use Rattle.std.specs.Prelude.{◌≡◌, ◌+◌, ◌<◌, ◌≤◌, ◌++◌, ◌^◌, ◌⊎◌, [], length, option_to_list, Ok, IsTrue, IfSome, IfOk, OnOk};
 ghost use Rattle.std.specs.List.{list_all};
-ghost use Rattle.sr_language.specs.Events.{DoCut, DoEvict, DoPush, DoQuery, DoResume, DoToClient, DoToServer, DoWrite};
+ghost use Rattle.sr_lines.specs.Events.{DoCut, DoEvict, DoPush, DoQuery, DoResume, DoToClient, DoToServer, DoWrite};
 ghost use Rattle.sr_log.specs.Held.{newest as newest_of};
 ghost use Rattle.sr_model.specs.Queries.{Query as TheQuery};
 ghost use Rattle.sr_query.specs.Bound.{is_table};
 ghost use Rattle.sr_session.specs.Laws.{IsSound};
 ghost use Rattle.sr_session.specs.Scenes.{new_pair};
 ghost use Rattle.sr_session.specs.Sessions.{Database};
+ghost use Rattle.sr_wire.specs.Limits.{IsSendable};
 ghost use Rattle.sr_client.specs.Bound.{IsMeaning};
 ghost use Rattle.sr_server.specs.declared.server.Server.{Server as TheServer};
 ghost use Rattle.sr_runs.specs.Runs.{Acts, Settles};
@@ -18,17 +19,17 @@ use crate::lines::{
     Told, lines_of_cut, lines_of_evict, one_line, served_line, told_of_query, told_of_resume,
     told_of_took, told_of_write,
 };
-use crate::queue::Queue;
 use sr_cell::list::{No, NoMemory, Seq};
 use sr_cell::schema::Schema;
 use sr_client::client::Client;
+use sr_feed::queue::Queue;
 use sr_policy::policy::Limits;
 use sr_query::query::Query;
 use sr_script::line::{TraceLine, TraceLines};
 use sr_server::server::Server;
 use std::alloc::Global;
 
-/// A client, the messages on their way to the server, and those on their way to the client; the oldest first.
+/// A client, the frames on their way to the server, and those on their way to the client; the oldest first.
 #[derive(Drop)]
 pub struct Seat {
     pub client: Client,
@@ -81,6 +82,7 @@ impl Seat {
     /// A client whose first messages have passed, with nothing on its way; takes no memory.
     pub(crate) fn new(alloc: Global, id: u8, schema: Schema, limits: Limits) -> Seat
         requires tables { IsTrue (list_all is_table schema) }
+        requires regions { limits.regions ≤ 1024 }
         ensures stands { (db : Database) → IsSound db → db.schema ≡ schema → IsSeat db limits id result new_pair }
         ensures drawn { drawn_by result ≡ 1 }
     {
@@ -101,7 +103,7 @@ impl Seat {
     {
         let step = self.client.query(alloc, query)?;
         let told = told_of_query(alloc, self.client.id, step)?;
-        self.send(told)
+        self.send(alloc, told)
     }
 
     /// The client sends the text of a write, for the server to judge.
@@ -113,7 +115,7 @@ impl Seat {
     {
         let step = self.client.write(alloc, sql)?;
         let told = told_of_write(alloc, self.client.id, step)?;
-        self.send(told)
+        self.send(alloc, told)
     }
 
     /// The client begins a session over a cut link.
@@ -125,7 +127,7 @@ impl Seat {
     {
         let step = self.client.resume(alloc)?;
         let told = told_of_resume(alloc, self.client.id, step)?;
-        self.send(told)
+        self.send(alloc, told)
     }
 
     /// The client drops the class of that place.
@@ -171,7 +173,7 @@ impl Seat {
             None => one_line(alloc, TraceLine::PushClosed { client }),
             Some(sent) => {
                 let frames = sent.len() as u64;
-                self.to_client.append(sent)?;
+                self.to_client.append(alloc, &sent)?;
                 one_line(alloc, TraceLine::PushSent { client, frames })
             }
         }
@@ -192,13 +194,14 @@ impl Seat {
         ensures schema { server.new.tables.schema ≡ server.old.tables.schema }
     {
         let client = self.client.id;
-        let Some(message) = self.to_server.pop() else {
+        let oldest = self.to_server.pop(alloc)?;
+        let Some(message) = oldest else {
             return one_line(alloc, TraceLine::ServerEmpty { client });
         };
         match server.take(alloc, client, &message) {
             Ok(sent) => {
                 let frames = sent.len() as u64;
-                self.to_client.append(sent)?;
+                self.to_client.append(alloc, &sent)?;
                 served_line(alloc, client, &message, frames)
             }
             Err(No::Refused(_)) => unreachable!(),
@@ -215,7 +218,8 @@ impl Seat {
         ensures rank { OnOk result (rank self.new.client.out + length self.new.to_server ≤ rank self.old.client.out + length self.old.to_server) }
         ensures one_less { OnOk result (self.old.to_client ≡ [] ⊎ (length self.new.to_client + 1 ≡ length self.old.to_client)) }
     {
-        let Some(message) = self.to_client.pop() else {
+        let oldest = self.to_client.pop(alloc)?;
+        let Some(message) = oldest else {
             return one_line(
                 alloc,
                 TraceLine::ClientEmpty {
@@ -225,11 +229,12 @@ impl Seat {
         };
         let took = self.client.take(alloc, message)?;
         let told = told_of_took(alloc, self.client.id, took)?;
-        self.send(told)
+        self.send(alloc, told)
     }
 
     /// Puts what is sent, if anything is, behind what is on its way to the server, and answers the lines.
-    fn send(&mut self, told: Told) -> Result<TraceLines, NoMemory>
+    fn send(&mut self, alloc: Global, told: Told) -> Result<TraceLines, NoMemory>
+        requires sendable { IfSome told.sent IsSendable }
         ensures sent { OnOk result (self.new ≡ record self.old { to_server = self.old.to_server ++ option_to_list told.sent }) }
         ensures lines { IfOk result (λ lines. lines ≡ told.lines) }
     {
@@ -237,7 +242,7 @@ impl Seat {
         match sent {
             None => Ok(lines),
             Some(message) => {
-                self.to_server.push(message)?;
+                self.to_server.push(alloc, &message)?;
                 Ok(lines)
             }
         }

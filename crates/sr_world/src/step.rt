@@ -1,7 +1,7 @@
 //! A step of a world: an event of a script, and with eager delivery the deliveries behind it.
 ghost use Rattle.std.specs.Prelude.{◌≡◌, ◌+◌, ◌<◌, ◌≤◌, ◌^◌, length, true, Err, Result, IsTrue, IfOk, OnOk, OnErr};
 ghost use Rattle.sr_cell.specs.declared.fault.Fault.{Fault as TheFault};
-ghost use Rattle.sr_language.specs.Events.{DoExec, DoQuery, DoSettle, ScriptEvent};
+ghost use Rattle.sr_lines.specs.Events.{DoExec, DoQuery, DoSettle, ScriptEvent};
 ghost use Rattle.sr_model.specs.Queries.{Query as TheQuery};
 ghost use Rattle.sr_reader.specs.Read.{IsEvent, Means, event_fits, statement_fits, statement_of};
 ghost use Rattle.sr_session.specs.Scenes.{Scene};

@@ -1,5 +1,5 @@
 //! A world: a server, and clients with numbers from 1.
-ghost use Rattle.std.specs.Prelude.{◌≡◌, ◌+◌, ◌<◌, ◌^◌, [], None, IfOk, OnOk};
+ghost use Rattle.std.specs.Prelude.{◌≡◌, ◌+◌, ◌<◌, ◌≤◌, ◌^◌, [], None, IfOk, OnOk};
 ghost use Rattle.sr_log.specs.Held.{newest as newest_of};
 ghost use Rattle.sr_session.specs.Sessions.{Database, opened};
 ghost use Rattle.sr_session.specs.Scenes.{Scene, first_scene};
@@ -17,8 +17,8 @@ use sr_server::server::Server;
 use sr_tables::tables::Tables;
 use std::alloc::Global;
 
-/// How a world is set up: whether all deliveries are made after each event, what each client may keep, how many changes the log of
-/// the server keeps, and how many clients there are, 1 to 64.
+/// How a world is set up: whether all deliveries are made after each event, what each client may keep, at most 1,024 regions, how many
+/// changes the log of the server keeps, and how many clients there are, 1 to 64.
 #[derive(Clone, Copy)]
 pub struct Options {
     pub eager: bool,
@@ -41,6 +41,7 @@ impl World {
     /// number 1.
     pub fn new(alloc: Global, options: Options, tables: Tables) -> Result<World, NoMemory>
         requires clients { IsClientNumber options.clients }
+        requires regions { options.limits.regions ≤ 1024 }
         ensures stands { IfOk result (λ world. Represents world (first_scene options.limits tables.schema options.log tables.rows options.clients)) }
         ensures eager { IfOk result (λ world. world.eager ≡ options.eager) }
         ensures drawn { IfOk result (λ world. drawn world ≡ options.clients) }

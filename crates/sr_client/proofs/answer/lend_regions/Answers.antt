@@ -1,4 +1,4 @@
-use Rattle.std.proofs.Common.{rules, ◌∷◌, [], ◌++◌, sym, Bool, subst, take, ◌||◌}
+use Rattle.std.proofs.Common.{rules, refl, ◌∷◌, [], ◌++◌, sym, Bool, subst, take, ◌||◌}
 use Rattle.sr_cell.specs.Cells.{Row}
 use Rattle.sr_model.specs.Queries.{rows_at}
 use Rattle.sr_store.specs.Told.{told_of, IsTrueOf}
@@ -6,8 +6,8 @@ use Rattle.sr_store.specs.Stores.{IsOfSchema}
 use Rattle.sr_join.specs.Found.{IsFound}
 use Rattle.sr_client.specs.Answering.{is_kept}
 use Rattle.sr_client.proofs.Items.{take-item, take-end}
-use Rattle.sr_client.proofs.LendLemmas.{Lends, lent-region, passed-region}
-use Rattle.sr_client.proofs.answer.lend_regions.Goals.{then-serves+in_ok-lend, else-serves}
+use Rattle.sr_client.proofs.LendLemmas.{Lends, lent-region, passed-region, apart-region}
+use Rattle.sr_client.proofs.answer.lend_regions.Goals.{then-serves+then-meets+in_ok-lend, then-serves+else-meets, else-serves}
 use Rattle.sr_client.proofs.answer.lend_regions.Goals as goal
 
 pub loop-region-preserved : goal.loop-region-preserved
@@ -22,12 +22,15 @@ loop-region-preserved c = λ schema tables test o rows found.
     let items = take-item c.args.regions.now i region (search rules) c.region-item.is in
     subst (λ gs. IsFound part.key query.output (rows_at tables part.table) (λ p. test p || is_kept part gs p) c.if-serves.joiner.found) (sym items)
     (elim c.if-serves.branch [
-      | then-serves+in_ok-lend w ↦
+      | then-serves+then-meets+in_ok-lend w ↦
           subst (λ j. IsFound part.key query.output (rows_at tables part.table) (λ p. test p || is_kept part (take i c.args.regions.now ++ region ∷ []) p) j.found) (sym w.joiner-is)
           (lent-region schema tables query part (take i c.args.regions.now) region test w.rows_in.result.rows c.loop-region.joiner.found w.lend.new.self.found o each is_true (sym w.if-serves.ensures)
           w.rows_in.ensures.rows
           (subst (λ a. (f g : Row → Bool) → Lends query a (rows_at tables part.table) f g w.rows_in.result.rows c.loop-region.joiner.found w.lend.new.self.found) w.rows_in.ensures.attrs
           (λ f g. w.in_ok-lend.ensures.found (rows_at tables part.table) f g)) before)
+      | then-serves+else-meets w ↦
+          subst (λ j. IsFound part.key query.output (rows_at tables part.table) (λ p. test p || is_kept part (take i c.args.regions.now ++ region ∷ []) p) j.found) (sym w.joiner-is)
+          (apart-region schema tables query part (take i c.args.regions.now) region test c.loop-region.joiner.found o (sym w.if-serves.ensures) (λ p. w.if-meets.ensures.apart p refl) before)
       | else-serves w ↦
           subst (λ j. IsFound part.key query.output (rows_at tables part.table) (λ p. test p || is_kept part (take i c.args.regions.now ++ region ∷ []) p) j.found) (sym w.joiner-is)
           (passed-region schema tables query part (take i c.args.regions.now) region test c.loop-region.joiner.found o (sym w.if-serves.ensures) before)

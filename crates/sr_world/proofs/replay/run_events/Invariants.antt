@@ -1,7 +1,7 @@
 use Rattle.std.proofs.Common.{◌≡◌, ℕ, ◌+◌, ◌*◌, ◌≤◌, List, length, IsTrue}
 use Rattle.std.specs.List.{list_all, AllZip}
 use Rattle.std.specs.Vec.Iter.{into_iter_items}
-use Rattle.sr_language.specs.Events.{ScriptEvent}
+use Rattle.sr_lines.specs.Events.{ScriptEvent}
 use Rattle.sr_reader.specs.Read.{IsEventLine, event_fits}
 use Rattle.sr_world.specs.Worlds.{IsWorld, SameSetting, drawn, most_drawn}
 use Rattle.sr_world.specs.Ran.{Stays}

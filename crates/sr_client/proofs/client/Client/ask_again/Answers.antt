@@ -1,11 +1,10 @@
 use Rattle.std.proofs.Common.{[], true, ◌≡◌, ◌∙◌, ap, sym, subst}
-use Rattle.sr_history.specs.Rests.{Asks}
-use Rattle.sr_session.specs.Refusals.{is_request_of}
+use Rattle.sr_message.specs.declared.message.Message.TheVariants.{Ask}
 use Rattle.sr_client.specs.Asking.{whole_asks}
 use Rattle.sr_client.specs.Laying.{asking}
+use Rattle.sr_client.specs.Sends.{IsWellSent}
 use Rattle.sr_client.specs.Stands.{out_of}
-use Rattle.sr_client.proofs.AgainLemmas.{again-of}
-use Rattle.sr_client.proofs.SendsLemmas.{ask-well, whole-asked}
+use Rattle.sr_client.proofs.AgainLemmas.{again-of, again-sent}
 use Rattle.sr_client.proofs.SuitLemmas.{reply-later}
 use Rattle.sr_client.proofs.client.Client.ask_again.Goals as goal
 
@@ -23,9 +22,7 @@ returns-clause-version c =
 pub returns-clause-sends : goal.returns-clause-sends
 returns-clause-sends c =
     let old = c.args.self.now in
-    let q = c.args.out.query in
     let h = c.requires.stands.0 in
-    let is = c.requires.stands.1.meant.0 in
     let parts_are = c.in_ok-parts.ensures.is ∙ ap whole_asks c.as_slice.ensures in
-    let are = subst (Asks old.schema [] h.meaning.parts) (sym parts_are) (whole-asked old.schema q h.meaning c.requires.stands.1.tables is) in
-    subst (λ m. is_request_of old.schema old.id m ≡ true) (sym c.in_ok-message.ensures) (ask-well old.schema old.id old.next_request true [] q h.meaning c.in_ok-parts.parts is are)
+    let whole = again-sent old c.args.out c.args.number c.args.version c.requires.again h c.requires.stands.1 in
+    subst (IsWellSent old.schema old.id) (sym c.in_ok-message.ensures) (subst (λ parts. IsWellSent old.schema old.id (Ask old.next_request true parts)) (sym parts_are) whole)

@@ -1,5 +1,4 @@
 use Rattle.std.proofs.Common.{[], ◌≡◌, ◌∙◌, ap, sym, subst}
-use Rattle.sr_history.specs.Rests.{Asks}
 use Rattle.sr_store.specs.declared.store.Store.{Store}
 use Rattle.sr_client.specs.Asking.{whole_asks}
 use Rattle.sr_client.specs.Sending.{IsSent}
@@ -8,8 +7,8 @@ use Rattle.sr_client.specs.Steps.{Queries}
 use Rattle.sr_client.specs.declared.client.Client.{Client}
 use Rattle.sr_client.proofs.OverLemmas.{with_regions}
 use Rattle.sr_client.proofs.Results.{if_each, of_ok}
-use Rattle.sr_client.proofs.SendLemmas.{query-drops}
-use Rattle.sr_client.proofs.SendsLemmas.{sent-well, whole-asked}
+use Rattle.sr_client.proofs.SendLemmas.{query-drops, facts-dropped, may-ask-whole}
+use Rattle.sr_client.proofs.SendableLemmas.{sent-well}
 use Rattle.sr_client.proofs.client.Client.drop_and_ask.Goals as goal
 
 abbrev with_store : Client → Store → Client
@@ -35,7 +34,10 @@ returns-clause-sends c =
     let drops = c.in_ok-drops.drops in
     let meaning = c.requires.meant.0 in
     let is = c.requires.meant.1 in
-    let asks_are = c.in_ok-asks.ensures.is ∙ ap whole_asks c.as_slice.ensures in
-    let are = subst (Asks old.schema [] meaning.parts) (sym asks_are) (whole-asked old.schema q meaning c.requires.stands.1.tables is) in
+    let h = c.requires.stands.0 in
+    let f = facts-dropped old h c.requires.stands.1 c.requires.idle in
     if_each (QuerySendsWell old.schema old.id) c.send_ask.result (λ step e.
-    sent-well (with_store old c.drop_all.new.self) q meaning c.in_ok-asks.asks drops [] new step (of_ok (IsSent (with_store old c.drop_all.new.self) q c.in_ok-asks.asks drops new) c.send_ask.result step e c.send_ask.ensures.sent) is are)
+    let sent = of_ok (IsSent (with_store old c.drop_all.new.self) q c.in_ok-asks.asks drops new) c.send_ask.result step e c.send_ask.ensures.sent in
+    let emptied = subst (λ (s : Store). IsSent (with_store old s) q c.in_ok-asks.asks drops new step) c.drop_all.ensures.nothing_left sent in
+    let whole = subst (λ asks. IsSent (with_regions old []) q asks drops new step) (c.in_ok-asks.ensures.is ∙ ap whole_asks c.as_slice.ensures) emptied in
+    sent-well (with_regions old []) q meaning (whole_asks q.parts) drops _ new step (may-ask-whole old q meaning c.requires.idle is c.requires.over c.requires.stands) f whole)

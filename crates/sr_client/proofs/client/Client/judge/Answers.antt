@@ -1,16 +1,15 @@
 use Rattle.std.proofs.Common.{rules, [], ◌≡◌, ◌≤◌, ◌∙◌, subst, sym, ap, arith, length, true, false, None, refl}
-use Rattle.sr_history.specs.Classes.{stamp}
 use Rattle.sr_message.specs.Sizes.{most_rects, count_asked}
 use Rattle.sr_client.specs.Asking.{AsksRest}
 use Rattle.sr_client.specs.Cutting.{AreCutAlong, IsOver}
 use Rattle.sr_client.specs.Sending.{IsSent}
 use Rattle.sr_client.specs.Sends.{QuerySendsWell}
 use Rattle.sr_client.specs.Steps.{Queries}
-use Rattle.sr_client.proofs.MeantLemmas.{asks-of, are-meant, are-sound}
+use Rattle.sr_client.proofs.MeantLemmas.{asks-of, are-meant}
 use Rattle.sr_client.proofs.QueryLemmas.{query-busy}
 use Rattle.sr_client.proofs.Results.{if_each, of_ok}
 use Rattle.sr_client.proofs.SendLemmas.{query-asks}
-use Rattle.sr_client.proofs.SendsLemmas.{sent-well}
+use Rattle.sr_client.proofs.SendableLemmas.{sent-well}
 use Rattle.sr_client.proofs.client.Client.judge.Goals as goal
 
 pub returns-in-Some-clause-queries : goal.returns-in-Some-clause-queries
@@ -47,7 +46,11 @@ returns-else-is_empty-clause-sends c =
     let f = c.requires.stands.1 in
     let meaning = c.requires.meant.0 in
     let is = c.requires.meant.1 in
+    let idle : old.out ≡ None = search rules in
+    let some : asks ≡ [] → ⊥ = λ none. absurd (let wrong : false ≡ true = c.if-is_empty.ensures.1 none in cc) in
     let rest = asks-of old.schema old.schema old.store.regions q.parts c.as_slice.result.now asks refl c.as_slice.ensures c.in-Ok.ensures.asks in
-    let are = rest h.marks (stamp h.queries) meaning.parts f.keeps is.query.parts (are-sound old.schema q meaning is) in
+    let along = subst (λ ps. AreCutAlong old.schema old.store.regions ps asks) c.as_slice.ensures c.in-Ok.ensures.cuts in
+    let few : count_asked asks ≤ most_rects = c.in-Ok.ensures.rects in
     if_each (QuerySendsWell old.schema old.id) c.send_ask.result (λ step e.
-    sent-well old q meaning asks c.new.result h.marks new step (of_ok (IsSent old q asks c.new.result new) c.send_ask.result step e c.send_ask.ensures.sent) is are)
+    sent-well old q meaning asks c.new.result h new step (record { out = idle; is = is; rest = rest; along = along; some = some; few = few }) f
+    (of_ok (IsSent old q asks c.new.result new) c.send_ask.result step e c.send_ask.ensures.sent))

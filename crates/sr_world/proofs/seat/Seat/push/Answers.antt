@@ -1,7 +1,7 @@
 use Rattle.std.proofs.Common.{refl, subst, sym, ◌∷◌, []}
 use Rattle.sr_script.specs.declared.line.TraceLine.TheVariants as line
 use Rattle.sr_server.specs.declared.server.Server.{Server}
-use Rattle.sr_language.specs.Events.{DoPush}
+use Rattle.sr_lines.specs.Events.{DoPush}
 use Rattle.sr_runs.specs.Runs.{Acts}
 use Rattle.sr_world.specs.declared.seat.Seat.{Seat}
 use Rattle.sr_world.specs.Seats.{SeatGoes}

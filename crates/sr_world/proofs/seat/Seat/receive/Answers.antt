@@ -2,10 +2,11 @@ use Rattle.std.proofs.Common.{rules, refl, subst, ◌∷◌, [], ◌≡◌, List
 use Rattle.std.proofs.lemmas.Result.{on_ok_weaker}
 use Rattle.sr_message.specs.declared.message.Message.{Message}
 use Rattle.sr_script.specs.declared.line.TraceLine.TheVariants as line
-use Rattle.sr_language.specs.Events.{DoToClient}
+use Rattle.sr_lines.specs.Events.{DoToClient}
 use Rattle.sr_runs.specs.Runs.{Acts}
 use Rattle.sr_world.specs.Seats.{SeatGoes}
-use Rattle.sr_world.proofs.ClientLemmas.{receive-goes, receive-idles, receive-lightens}
+use Rattle.sr_world.proofs.ClientLemmas.{receive-goes, receive-idles, receive-lightens, took-sendable}
+use Rattle.sr_feed.proofs.Frames.{first}
 use Rattle.sr_world.proofs.ServeLemmas.{each-ok}
 use Rattle.sr_world.proofs.seat.Seat.receive.Goals as goal
 
@@ -21,7 +22,7 @@ pub returns-clause-goes : goal.returns-clause-goes
 returns-clause-goes c = λ server.
     let old = c.args.self.now in
     receive-goes old (record old { client = c.take.new.self; to_client = c.pop.new.self }) c.send.new.self server c.in-Some.message c.pop.new.self c.in_ok-took.took c.in_ok-told.told c.send.result
-    c.in-Some.ensures.taken c.in_ok-took.ensures.takes c.take.ensures.stays refl
+    (first c.in_ok-oldest.oldest c.in-Some.message c.args.self.now.to_client c.pop.new.self c.in-Some.is c.in_ok-oldest.ensures.taken) c.in_ok-took.ensures.takes c.take.ensures.stays refl
     (λ o says. record { lines = c.in_ok-told.ensures.lines o says; sent = c.in_ok-told.ensures.sent o says })
     c.in_ok-took.ensures.sends c.send.ensures.sent c.send.ensures.lines
 
@@ -29,12 +30,19 @@ pub returns-clause-lightens : goal.returns-clause-lightens
 returns-clause-lightens c =
     let old = c.args.self.now in
     on_ok_weaker c.send.result (λ made. (receive-lightens old (record old { client = c.take.new.self; to_client = c.pop.new.self }) c.send.new.self c.in-Some.message c.pop.new.self c.in_ok-took.took c.in_ok-told.told
-    c.requires.stands c.in-Some.ensures.taken c.in_ok-took.ensures.takes refl
+    c.requires.stands (first c.in_ok-oldest.oldest c.in-Some.message c.args.self.now.to_client c.pop.new.self c.in-Some.is c.in_ok-oldest.ensures.taken) c.in_ok-took.ensures.takes refl
     (λ o says. record { lines = c.in_ok-told.ensures.lines o says; sent = c.in_ok-told.ensures.sent o says }) made).all) c.send.ensures.sent
 
 pub returns-clause-rank : goal.returns-clause-rank
 returns-clause-rank c =
     let old = c.args.self.now in
     on_ok_weaker c.send.result (λ made. (receive-lightens old (record old { client = c.take.new.self; to_client = c.pop.new.self }) c.send.new.self c.in-Some.message c.pop.new.self c.in_ok-took.took c.in_ok-told.told
-    c.requires.stands c.in-Some.ensures.taken c.in_ok-took.ensures.takes refl
+    c.requires.stands (first c.in_ok-oldest.oldest c.in-Some.message c.args.self.now.to_client c.pop.new.self c.in-Some.is c.in_ok-oldest.ensures.taken) c.in_ok-took.ensures.takes refl
     (λ o says. record { lines = c.in_ok-told.ensures.lines o says; sent = c.in_ok-told.ensures.sent o says }) made).rank) c.send.ensures.sent
+
+pub send-requires : goal.send-requires
+send-requires c = record {
+  sendable =
+      took-sendable c.args.self.now c.in-Some.message c.pop.new.self c.take.new.self c.in_ok-took.took c.in_ok-told.told.sent c.requires.stands (first c.in_ok-oldest.oldest c.in-Some.message c.args.self.now.to_client c.pop.new.self c.in-Some.is c.in_ok-oldest.ensures.taken)
+      c.in_ok-took.ensures.takes c.in_ok-told.ensures.sent c.in_ok-took.ensures.sends;
+}

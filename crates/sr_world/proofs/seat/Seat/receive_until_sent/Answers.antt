@@ -1,5 +1,5 @@
 use Rattle.std.proofs.Common.{arith, ap, ◌≡◌, length}
-use Rattle.sr_language.specs.Events.{DoToClient}
+use Rattle.sr_lines.specs.Events.{DoToClient}
 use Rattle.sr_runs.specs.Runs.{Acts}
 use Rattle.sr_world.proofs.SettleLemmas.{delivers-none, receives-more, still-some}
 use Rattle.sr_world.proofs.seat.Seat.receive_until_sent.Goals as goal

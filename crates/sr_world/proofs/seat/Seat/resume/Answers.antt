@@ -2,7 +2,7 @@ use Rattle.std.proofs.Common.{◌≤◌, ◌+◌, refl, sym, subst}
 use Rattle.std.proofs.lemmas.Result.{on_ok_weaker}
 use Rattle.sr_world.specs.declared.seat.Seat.{Seat}
 use Rattle.sr_world.specs.Worlds.{drawn_by}
-use Rattle.sr_world.proofs.ClientLemmas.{resume-goes, resume-numbers}
+use Rattle.sr_world.proofs.ClientLemmas.{resume-goes, resume-numbers, resume-sendable}
 use Rattle.sr_world.proofs.seat.Seat.resume.Goals as goal
 
 pub returns-clause-goes : goal.returns-clause-goes
@@ -18,3 +18,9 @@ returns-clause-draws c =
     let old = c.args.self.now in
     let few = resume-numbers old c.resume.new.self c.in_ok-step.step c.requires.stands c.in_ok-step.ensures.resumes in
     on_ok_weaker c.send.result (λ made. subst (λ (x : Seat). drawn_by x ≤ drawn_by old + 2) (sym made) few) c.send.ensures.sent
+
+pub send-requires : goal.send-requires
+send-requires c = record {
+  sendable =
+      resume-sendable c.args.self.now c.resume.new.self c.in_ok-step.step c.in_ok-told.told.sent c.requires.stands c.in_ok-step.ensures.resumes c.in_ok-told.ensures.sent c.in_ok-step.ensures.sends;
+}

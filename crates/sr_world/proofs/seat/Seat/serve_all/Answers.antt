@@ -1,5 +1,5 @@
 use Rattle.std.proofs.Common.{arith, ◌∙◌, refl}
-use Rattle.sr_language.specs.Events.{DoToServer}
+use Rattle.sr_lines.specs.Events.{DoToServer}
 use Rattle.sr_runs.specs.Runs.{Acts}
 use Rattle.sr_world.proofs.SettleLemmas.{delivers-none, serves-more, still-some}
 use Rattle.sr_world.proofs.seat.Seat.serve_all.Goals as goal

@@ -1,5 +1,5 @@
 use Rattle.std.proofs.Common.{refl, ◌-◌, arith, subst, sym, Ok}
-use Rattle.sr_language.specs.Events.{DoQuery}
+use Rattle.sr_lines.specs.Events.{DoQuery}
 use Rattle.sr_runs.specs.Runs.{Acts}
 use Rattle.sr_client.specs.Bound.{IsMeaning}
 use Rattle.sr_world.specs.Worlds.{drawn_by}

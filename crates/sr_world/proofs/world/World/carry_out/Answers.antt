@@ -1,5 +1,5 @@
 use Rattle.std.proofs.Common.{rules, refl, Ok, ◌∷◌, []}
-use Rattle.sr_language.specs.Events.{DoExec}
+use Rattle.sr_lines.specs.Events.{DoExec}
 use Rattle.sr_query.specs.Written.{write_of}
 use Rattle.sr_runs.specs.Runs.{Acts}
 use Rattle.sr_script.specs.declared.line.TraceLine.TheVariants as line

@@ -1,7 +1,7 @@
 use Rattle.std.proofs.Common.{refl, ◌-◌, arith, ap}
 use Rattle.sr_log.specs.Held.{newest as newest_of}
 use Rattle.sr_log.specs.Held.{Held}
-use Rattle.sr_language.specs.Events.{DoCut}
+use Rattle.sr_lines.specs.Events.{DoCut}
 use Rattle.sr_runs.specs.Runs.{Acts}
 use Rattle.sr_tables.specs.Stored.{Stored}
 use Rattle.sr_world.specs.Worlds.{drawn_by}

@@ -1,5 +1,5 @@
 use Rattle.std.proofs.Common.{ℕ, arith, subst, sym, ap, ◌∙◌, List}
-use Rattle.sr_language.specs.Events.{DoCut, DoEvict, DoExec, DoPush, DoQuery, DoResume, DoToClient, DoToServer, DoWrite}
+use Rattle.sr_lines.specs.Events.{DoCut, DoEvict, DoExec, DoPush, DoQuery, DoResume, DoToClient, DoToServer, DoWrite}
 use Rattle.sr_reader.specs.Read.{IsEvent, statement_of}
 use Rattle.sr_runs.specs.Runs.{Acts}
 use Rattle.sr_world.proofs.StepLemmas.{acts-does, potential-after, potential-light, settle-room}

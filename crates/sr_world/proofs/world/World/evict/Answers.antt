@@ -1,5 +1,5 @@
 use Rattle.std.proofs.Common.{refl, ◌-◌}
-use Rattle.sr_language.specs.Events.{DoEvict}
+use Rattle.sr_lines.specs.Events.{DoEvict}
 use Rattle.sr_runs.specs.Runs.{Acts}
 use Rattle.sr_world.proofs.EventLemmas.{same-setting, some-seat, world-drawn, world-goes}
 use Rattle.sr_world.proofs.world.World.evict.Goals as goal

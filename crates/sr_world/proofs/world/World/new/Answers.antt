@@ -11,6 +11,7 @@ clients-init c =
 
 pub new-requires-in-clients : goal.new-requires-in-clients
 new-requires-in-clients c = record {
+  regions = c.requires.regions;
   tables = rw (c.in_ok-schema.ensures, c.schema.ensures)
       (begun-tables c.args.tables.schema c.args.options.log c.args.tables.rows c.open.new.server
       (c.in_ok-open.ensures.stands (first_database c.args.tables.schema c.args.options.log c.args.tables.rows) c.clients.invariant.database));

@@ -1,7 +1,7 @@
 use Rattle.std.proofs.Common.{refl, ◌-◌, ap}
 use Rattle.sr_log.specs.Held.{newest as newest_of}
 use Rattle.sr_log.specs.Held.{Held}
-use Rattle.sr_language.specs.Events.{DoPush}
+use Rattle.sr_lines.specs.Events.{DoPush}
 use Rattle.sr_runs.specs.Runs.{Acts}
 use Rattle.sr_tables.specs.Stored.{Stored}
 use Rattle.sr_world.proofs.EventLemmas.{same-setting, some-seat, unchanged-draws, world-drawn, world-goes}

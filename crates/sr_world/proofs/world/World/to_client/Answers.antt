@@ -1,5 +1,5 @@
 use Rattle.std.proofs.Common.{refl, ◌-◌, arith}
-use Rattle.sr_language.specs.Events.{DoToClient}
+use Rattle.sr_lines.specs.Events.{DoToClient}
 use Rattle.sr_runs.specs.Runs.{Acts}
 use Rattle.sr_world.specs.Worlds.{drawn_by}
 use Rattle.sr_world.proofs.EventLemmas.{lighter-client, same-setting, seat-room, some-seat, world-goes, world-lightens}

@@ -1,5 +1,5 @@
 use Rattle.std.proofs.Common.{refl, ◌-◌, arith}
-use Rattle.sr_language.specs.Events.{DoWrite}
+use Rattle.sr_lines.specs.Events.{DoWrite}
 use Rattle.sr_runs.specs.Runs.{Acts}
 use Rattle.sr_world.specs.Worlds.{drawn_by}
 use Rattle.sr_world.proofs.EventLemmas.{same-setting, seat-room, some-seat, world-drawn, world-goes}

@@ -1,0 +1,176 @@
+-- What is asked and held begins and ends at short texts.
+use Rattle.std.proofs.Common.{◌≡◌, ℕ, ℤ, zero, suc, ◌+◌, ◌≤◌, Bool, true, false, List, [], ◌∷◌, ◌++◌, length, Some, None, refl, sym, ap, subst, ◌∙◌, arith}
+use Rattle.std.specs.Prelude.{◌&&◌, ◌||◌, ◌==◌, not, nat_le, int_le, int_lt, slice_set, map, ◌-◌, flat_map, filter, drop, if◌then◌else◌}
+use Rattle.std.specs.List.{list_all, list_any, AllByRecursion}
+use Rattle.std.specs.Cmp.Derive.{both_true}
+use Rattle.std.proofs.lemmas.Bool.{and_parts}
+use Rattle.std.proofs.lemmas.Bool.Decides.{nat_tests}
+use Rattle.std.proofs.lemmas.List.Folds.{list_all-append}
+use Rattle.std.proofs.lemmas.List.Concat.{flat_map-cons}
+use Rattle.sr_cell.specs.declared.cell.Cell.{Cell}
+use Rattle.sr_cell.specs.declared.cell.Cell.TheVariants.{Num, Str}
+use Rattle.sr_cell.specs.declared.table.Column.{Column}
+use Rattle.sr_cell.specs.declared.table.Kind.{Kind}
+use Rattle.sr_cell.specs.declared.table.Kind.TheVariants.{Num as Numbers, Str as Texts}
+use Rattle.sr_cell.specs.declared.table.Table.{Table}
+use Rattle.sr_cell.specs.Cells.{text_le, cell_eq}
+use Rattle.sr_cell.specs.Columns.{are_bytes}
+use Rattle.sr_cell.proofs.Order.{cell_eq-sound, cell_eq-refl}
+use Rattle.sr_box.specs.declared.span.Span.{Span}
+use Rattle.sr_box.specs.declared.span.Span.TheVariants.{Full, Nums, Strs}
+use Rattle.sr_box.specs.Corners.{text_cut, end_cut}
+use Rattle.sr_box.specs.Points.{Rect, rect_fits}
+use Rattle.sr_box.specs.Spans.{fits_kind, is_below, is_whole, end_bytes}
+use Rattle.sr_union.specs.Grid.{is_among, has_cut}
+use Rattle.sr_bytes.specs.Spelling.{is_from_to}
+use Rattle.sr_bytes.specs.Writing.{may_write_span, may_write_rect}
+use Rattle.sr_model.specs.Conditions.{Cond}
+use Rattle.sr_model.specs.Ends.{ends}
+use Rattle.sr_model.specs.Queries as model
+use Rattle.sr_query.specs.declared.query.Query.{Query}
+use Rattle.sr_query.specs.Joined.{is_needed}
+use Rattle.sr_history.specs.Classes.{Numbered}
+use Rattle.sr_history.specs.Ends.{CutsIn, part_ends, EndsAmong, AllEndAmong}
+use Rattle.sr_history.specs.Load.{parts_on}
+use Rattle.sr_lines.specs.Short.{is_short, has_short_texts}
+use Rattle.sr_lines.specs.Sound.{is_sound_part, columns_in}
+use Rattle.sr_lines.proofs.Short.{ends_are_short}
+use Rattle.sr_session.specs.Rules.{counted}
+use Rattle.sr_client.specs.Bound.{IsMeaning}
+use Rattle.sr_client.specs.Stands.{asks_short}
+
+-- ---- queries
+
+abbrev part_short : model.Part → Bool
+part_short part = has_short_texts part.condition
+
+parts-short : (schema : List Table) (parts : List model.Part) → list_all (is_sound_part schema) parts ≡ true → list_all (λ (part : model.Part). has_short_texts part.condition) parts ≡ true
+parts-short schema [] sound = refl
+parts-short schema (part ∷ parts) sound =
+    let s = and_parts (is_sound_part schema part) (list_all (is_sound_part schema) parts) sound in
+    let own : part_short part ≡ true = grind (arith, s.0) in
+    both_true own (parts-short schema parts s.1)
+
+pub meaning-short : (schema : List Table) (q : Query) (m : model.Query) → IsMeaning schema q m → asks_short m ≡ true
+meaning-short schema q m is = parts-short schema m.parts (and_parts (list_all (is_sound_part schema) m.parts) (list_all (is_needed m.parts) m.outputs) is.sound).0
+
+pub shorts-more : (queries : List Numbered) (m : model.Query) (done : Bool) → list_all (λ (n : Numbered). asks_short n.query) queries ≡ true → asks_short m ≡ true
+    → list_all (λ (n : Numbered). asks_short n.query) (queries ++ record { query = m; answered = done } ∷ []) ≡ true
+shorts-more queries m done all own = list_all-append (λ (n : Numbered). asks_short n.query) queries (record { query = m; answered = done } ∷ []) ∙ both_true all (both_true own refl)
+
+pub shorts-set : (queries : List Numbered) (k : ℕ) (m : model.Query) (done : Bool) → list_all (λ (n : Numbered). asks_short n.query) queries ≡ true → asks_short m ≡ true
+    → list_all (λ (n : Numbered). asks_short n.query) (slice_set queries k (record { query = m; answered = done })) ≡ true
+shorts-set [] k m done all own = refl
+shorts-set (q ∷ queries) zero m done all own = both_true own (and_parts (asks_short q.query) (list_all (λ (n : Numbered). asks_short n.query) queries) all).1
+shorts-set (q ∷ queries) (suc k) m done all own =
+    let s = and_parts (asks_short q.query) (list_all (λ (n : Numbered). asks_short n.query) queries) all in
+    both_true s.0 (shorts-set queries k m done s.1 own)
+
+-- those that are counted
+pub counted-short : (from : ℕ) (queries : List Numbered) → list_all (λ (n : Numbered). asks_short n.query) queries ≡ true → list_all asks_short (counted from queries) ≡ true
+counted-short from queries all = by (from - 1) queries all
+  where
+    mapped : (queries : List Numbered) → list_all (λ (n : Numbered). asks_short n.query) queries ≡ true → list_all asks_short (map (λ (n : Numbered). n.query) queries) ≡ true
+    mapped [] all = refl
+    mapped (q ∷ queries) all = let s = and_parts (asks_short q.query) (list_all (λ (n : Numbered). asks_short n.query) queries) all in both_true s.0 (mapped queries s.1)
+
+    by : (k : ℕ) (queries : List Numbered) → list_all (λ (n : Numbered). asks_short n.query) queries ≡ true → list_all asks_short (map (λ (n : Numbered). n.query) (drop k queries)) ≡ true
+    by zero queries all = mapped queries all
+    by (suc k) [] all = refl
+    by (suc k) (q ∷ queries) all = by k queries (and_parts (asks_short q.query) (list_all (λ (n : Numbered). asks_short n.query) queries) all).1
+
+-- ---- where their tests begin and end
+
+kept : (p q : model.Part → Bool) (parts : List model.Part) → list_all p parts ≡ true → list_all p (filter q parts) ≡ true
+kept p q [] all = refl
+kept p q (part ∷ parts) all = let s = and_parts (p part) (list_all p parts) all in go (q part) s.0 (kept p q parts s.1)
+  where
+    go : (b : Bool) → p part ≡ true → list_all p (filter q parts) ≡ true → list_all p (if b then part ∷ filter q parts else filter q parts) ≡ true
+    go true here rest = both_true here rest
+    go false here rest = rest
+
+all-parts-short : (queries : List model.Query) → list_all asks_short queries ≡ true → list_all (λ (part : model.Part). has_short_texts part.condition) (flat_map (λ (q : model.Query). q.parts) queries) ≡ true
+all-parts-short [] all = refl
+all-parts-short (q ∷ queries) all =
+    let s = and_parts (asks_short q) (list_all asks_short queries) all in
+    ap (list_all (λ (part : model.Part). has_short_texts part.condition)) (flat_map-cons (λ (q : model.Query). q.parts) q queries)
+    ∙ (list_all-append (λ (part : model.Part). has_short_texts part.condition) q.parts (flat_map (λ (q : model.Query). q.parts) queries) ∙ both_true s.0 (all-parts-short queries s.1))
+
+ends-short : (parts : List model.Part) (c : ℕ) → list_all (λ (part : model.Part). has_short_texts part.condition) parts ≡ true → list_all (is_short 121) (part_ends parts c) ≡ true
+ends-short [] c all = refl
+ends-short (part ∷ parts) c all =
+    let s = and_parts (has_short_texts part.condition) (list_all (λ (part : model.Part). has_short_texts part.condition) parts) all in
+    ap (list_all (is_short 121)) (flat_map-cons (λ (part : model.Part). ends c part.condition) part parts)
+    ∙ (list_all-append (is_short 121) (ends c part.condition) (part_ends parts c) ∙ both_true (ends_are_short c part.condition s.0) (ends-short parts c s.1))
+
+among-short : (vs : List Cell) (v : Cell) → list_all (is_short 121) vs ≡ true → is_among vs v ≡ true → is_short 121 v ≡ true
+among-short [] v all among = absurd (cc)
+among-short (u ∷ vs) v all among =
+    let s = and_parts (is_short 121 u) (list_all (is_short 121) vs) all in
+    go (cell_eq u v) refl among s.0 (λ rest. among-short vs v s.1 rest)
+  where
+    go : (b : Bool) → cell_eq u v ≡ b → (b || is_among vs v) ≡ true → is_short 121 u ≡ true → (is_among vs v ≡ true → is_short 121 v ≡ true) → is_short 121 v ≡ true
+    go true same among own rest = subst (λ w. is_short 121 w ≡ true) (cell_eq-sound u v same) own
+    go false same among own rest = rest among
+
+-- ---- spans
+
+abbrev CutsShort : Kind → ℤ → ℤ → Span → Type 0
+CutsShort k low high s = (v : Cell) → has_cut k low high s v ≡ true → is_short 121 v ≡ true
+
+first-is : (v : Cell) (vs : List Cell) → is_among (v ∷ vs) v ≡ true
+first-is v vs = rw (cell_eq-refl v) refl
+
+later-is : (u v : Cell) (vs : List Cell) → is_among vs v ≡ true → is_among (u ∷ vs) v ≡ true
+later-is u v vs among = go (cell_eq u v)
+  where
+    go : (b : Bool) → (b || is_among vs v) ≡ true
+    go true = refl
+    go false = among
+
+span-may : (k : Kind) (low high : ℤ) (s : Span) → fits_kind k low high s ≡ true → CutsShort k low high s → may_write_span s ≡ true
+span-may k low high Full fits short = refl
+span-may Numbers low high (Nums lo hi) fits short = let s = and_parts (int_le low lo && int_le lo hi) _ (and_parts (int_le low lo && int_le lo hi && int_le hi high) _ fits).0 in (and_parts (int_le low lo) (int_le lo hi) (and_parts (int_le low lo && int_le lo hi) (int_le hi high) (and_parts (int_le low lo && int_le lo hi && int_le hi high) _ fits).0).0).1
+span-may Numbers low high (Strs lo hi) fits short = absurd (cc)
+span-may Texts low high (Nums lo hi) fits short = absurd (cc)
+span-may Texts low high (Strs [] None) fits short = absurd (let none = (and_parts (are_bytes [] && end_bytes None && is_below [] None) (not (is_whole [] None)) fits).1 in cc)
+span-may Texts low high (Strs (b ∷ lo) None) fits short = both_true (short (Str (b ∷ lo)) (first-is (Str (b ∷ lo)) [])) refl
+span-may Texts low high (Strs [] (Some hi)) fits short =
+    let below = (and_parts (are_bytes [] && end_bytes (Some hi)) (is_below [] (Some hi)) (and_parts (are_bytes [] && end_bytes (Some hi) && is_below [] (Some hi)) _ fits).0).1 in
+    both_true (both_true refl (short (Str hi) (first-is (Str hi) []))) below
+span-may Texts low high (Strs (b ∷ lo) (Some hi)) fits short =
+    let below = (and_parts (are_bytes (b ∷ lo) && end_bytes (Some hi)) (is_below (b ∷ lo) (Some hi)) (and_parts (are_bytes (b ∷ lo) && end_bytes (Some hi) && is_below (b ∷ lo) (Some hi)) _ fits).0).1 in
+    both_true (both_true (short (Str (b ∷ lo)) (first-is (Str (b ∷ lo)) (Str hi ∷ []))) (short (Str hi) (later-is (Str (b ∷ lo)) (Str hi) (Str hi ∷ []) (first-is (Str hi) [])))) below
+
+spans-may : (values : ℕ → List Cell) (c : ℕ) (columns : List Column) (r : Rect) → ((k : ℕ) → list_all (is_short 121) (values k) ≡ true) → CutsIn values c columns r → rect_fits columns r ≡ true
+    → list_all may_write_span r ≡ true
+spans-may values c [] [] short cuts fits = refl
+spans-may values c [] (s ∷ r) short cuts fits = absurd (cc)
+spans-may values c (column ∷ columns) [] short cuts fits = absurd (cc)
+spans-may values c (column ∷ columns) (s ∷ r) short cuts fits =
+    let p = and_parts (fits_kind column.kind column.lo column.hi s) (rect_fits columns r) fits in
+    both_true (span-may column.kind column.lo column.hi s p.0 (λ v cut. among-short (values c) v (short c) (cuts.0 v cut)))
+    (spans-may values (c + 1) columns r short cuts.1 p.1)
+
+fits-length : (columns : List Column) (r : Rect) → rect_fits columns r ≡ true → length r ≡ length columns
+fits-length [] [] fits = refl
+fits-length [] (s ∷ r) fits = absurd (cc)
+fits-length (column ∷ columns) [] fits = absurd (cc)
+fits-length (column ∷ columns) (s ∷ r) fits = ap (λ n. suc n) (fits-length columns r (and_parts (fits_kind column.kind column.lo column.hi s) (rect_fits columns r) fits).1)
+
+pub from-to : (low high n : ℕ) → low ≤ n → n ≤ high → is_from_to low high n ≡ true
+from-to low high n above below = both_true (is-le low n above) (is-le n high below)
+  where
+    is-le : (a b : ℕ) → a ≤ b → nat_le a b ≡ true
+    is-le a b le = grind (arith, nat_tests)
+
+-- rects of a table that end only where tests of these queries do
+pub rects-may : (columns : List Column) (t : ℕ) (queries : List model.Query) (rects : List Rect) → 1 ≤ length columns → length columns ≤ 12 → list_all asks_short queries ≡ true
+    → AllEndAmong columns (parts_on t queries) rects → list_all (rect_fits columns) rects ≡ true → list_all may_write_rect rects ≡ true
+rects-may columns t queries [] some few short along fits = refl
+rects-may columns t queries (r ∷ rects) some few short along fits =
+    let p = and_parts (rect_fits columns r) (list_all (rect_fits columns) rects) fits in
+    let count = fits-length columns r p.0 in
+    let values = λ (c : ℕ). ends-short (parts_on t queries) c (kept part_short (λ (part : model.Part). part.table == t) (flat_map (λ (q : model.Query). q.parts) queries) (all-parts-short queries short)) in
+    both_true (both_true (from-to 1 12 (length r) (omega (arith, count, some)) (omega (arith, count, few))) (spans-may (part_ends (parts_on t queries)) 0 columns r values along.0 p.0))
+    (rects-may columns t queries rects some few short along.1 p.1)

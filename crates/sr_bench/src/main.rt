@@ -1,9 +1,14 @@
 //! How many rects the differences and the disjoint lists of random rects have and, with the word `times`, how long each
-//! takes, with the making of the random rects.
+//! takes, with the making of the random rects. With the word `wire`: how fast frames are written and read.
 #![tactic(auto)]
 
+mod frames;
+mod messages;
+mod mutate;
 mod rects;
+mod wire;
 
+use frames::frames;
 use rects::{Random, table_of};
 use sr_cell::list::No;
 use sr_union::minus::Over;
@@ -15,6 +20,9 @@ use std::{env, io};
 const LIMIT: u32 = 16384;
 
 fn main(rt: HostRuntime) -> io::Result<()> {
+    if env::args(&rt)?.any(|word| word.as_str() == "wire") {
+        return frames(&rt);
+    }
     let timed = env::args(&rt)?.any(|word| word.as_str() == "times");
     for columns in [2, 4] {
         for count in [10, 20, 50, 100] {

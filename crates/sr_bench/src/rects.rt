@@ -1,5 +1,6 @@
 //! Random rects of a table of numbers.
 ghost use Rattle.std.specs.Prelude.{◌≡◌, ◌<◌, true, IfOk};
+ghost use Rattle.sr_bytes.specs.Writing.{may_write_span};
 ghost use Rattle.sr_union.specs.Grid.{all_inner, have_first, is_inner};
 ghost use Rattle.sr_cell.specs.Columns.{in_column};
 ghost use Rattle.sr_box.specs.Corners.{first_value};
@@ -25,7 +26,7 @@ pub struct Random {
 
 impl Random {
     /// The next number, below 2 ^ 16.
-    fn next(&mut self) -> u16 {
+    pub fn next(&mut self) -> u16 {
         self.state = self
             .state
             .wrapping_mul(6364136223846793005)
@@ -33,7 +34,10 @@ impl Random {
         (self.state >> 48) as u16
     }
 
-    fn span(&mut self) -> Span {
+    /// The numbers from one to another that is not below it.
+    pub fn span(&mut self) -> Span
+        ensures { may_write_span result ≡ true }
+    {
         let lo = 1 + self.next() % LAST;
         let hi = lo.saturating_add(self.next() % self.width.max(1)).min(LAST);
         Span::Nums {

@@ -1,13 +1,12 @@
 -- The columns that a query names are among the first twelve of their tables, and its parts are those of its tables.
 use Rattle.std.proofs.Common.{◌≡◌, ℕ, zero, suc, ◌+◌, ◌<◌, ◌≤◌, Bool, true, false, List, [], ◌∷◌, ◌++◌, length, take, map, flat_map, refl, subst, ◌∙◌, arith}
-use Rattle.std.specs.Prelude.{◌==◌, ◌&&◌, nat_lt, Result, Ok, Err, Option, Some, None, bytes_eq, slice_index_or, if◌then◌else◌}
+use Rattle.std.specs.Prelude.{◌==◌, ◌&&◌, nat_lt, Ok, Option, Some, None, bytes_eq, slice_index_or, if◌then◌else◌}
 use Rattle.std.specs.List.{list_all}
 use Rattle.std.specs.Cmp.Derive.{both_true}
 use Rattle.std.proofs.lemmas.Bool.{and_parts, eqb-true}
 use Rattle.std.proofs.lemmas.Bool.Decides.{nat_tests}
 use Rattle.std.proofs.lemmas.List.{length-take}
 use Rattle.std.proofs.lemmas.List.Folds.{list_all-append, list_all-map}
-use Rattle.sr_cell.specs.declared.fault.Fault.{Fault}
 use Rattle.sr_cell.specs.declared.fault.Why.TheVariants.{NotKeyJoin}
 use Rattle.sr_cell.specs.declared.table.Column.{Column}
 use Rattle.sr_cell.specs.declared.table.Table.{Table}
@@ -18,13 +17,10 @@ use Rattle.sr_grammar.specs.Trees.{Select}
 use Rattle.sr_model.specs.Queries.{Output, Join}
 use Rattle.sr_query.specs.Binding.{fault, ◌>>=◌, each, column_named, output_in, outputs_named, part_named, the_one, column_of_part, resolved, is_key_join, key_join, joins_from, join_columns, columns_of_part, all_outputs, outputs_of, table_of_part, Bound, Bounds, Testing, Conjunction, Disjunction, Negation, no_more, one_more, references, all_references, named_columns}
 use Rattle.sr_query.specs.Bound.{is_table}
+use Rattle.sr_query.proofs.Steps.{split_ok, part_within}
 use Rattle.sr_resolve.specs.Known.{is_within}
 use Rattle.sr_bind.specs.AreBound.{are_bound, all_are_bound}
 use Rattle.sr_bind.specs.Needs.{is_low, is_joined, is_near_join}
-
-pub split_ok : {A B : Type 0} (r : Result A Fault) (f : A → Result B Fault) (b : B) → (r >>= f) ≡ Ok b → (a : A) × (r ≡ Ok a) × (f a ≡ Ok b)
-split_ok (Ok a) f b e = (a, refl, e)
-split_ok (Err bad) f b e = absurd cc
 
 -- a column of a table, of so many parts
 abbrev pub is_near : ℕ → Output → Bool
@@ -63,14 +59,6 @@ one_near : (parts place : ℕ) (os : List Output) (o : Output) → the_one place
 one_near parts place [] o e all = absurd cc
 one_near parts place (p ∷ []) o e all = let same : p ≡ o = cc in subst (λ x. is_near parts x ≡ true) same (and_parts (is_near parts p) true all).0
 one_near parts place (p ∷ q ∷ os) o e all = absurd cc
-
-part_within : (schema : List Table) (part p : ℕ) (tables name : List ℕ) → part_named schema part tables name ≡ Some p → p < part + length tables
-part_within schema part p [] name e = absurd cc
-part_within schema part p (t ∷ tables) name e = go (bytes_eq (table_at schema t).name name) e (part_within schema (part + 1) p tables name)
-  where
-    go : (x : Bool) → (if x then Some part else part_named schema (part + 1) tables name) ≡ Some p → (part_named schema (part + 1) tables name ≡ Some p → p < part + 1 + length tables) → p < part + suc (length tables)
-    go true e rest = let same : part ≡ p = cc in omega arith
-    go false e rest = let less = rest e in omega arith
 
 by_table : (schema : List Table) (tables : List ℕ) (place : ℕ) (column : List ℕ) (part : Option ℕ) (o : Output) → list_all is_table schema ≡ true
     → ((p : ℕ) → part ≡ Some p → p < length tables) → column_of_part schema tables place column part ≡ Ok o → is_near (length tables) o ≡ true

@@ -47,13 +47,6 @@ one_more_bound schema tables conds i cond bs all b whole within is e pushed h =
     go (Ok more) = ap (λ x. Ok x) (sym (one_behind bs b more))
     go (Err fault) = refl
 
--- a condition that is refused
-pub one_refused : (schema : List Table) (tables : List ℕ) (conds : List Cond) (i : ℕ) (cond : Cond) (bs : List Bound) (fault : Fault) (whole : Result Bounds Fault)
-    → i < length conds → cond ≡ get_or conds i cond → bound schema tables (cond_seen cond) ≡ Err fault
-    → whole ≡ (bound_list schema tables (drop i conds) >>= λ more. Ok (behind bs more)) → whole ≡ Err fault
-one_refused schema tables conds i cond bs fault whole within is e h =
-    let f = front conds i cond within is in h ∙ rw (f, e) refl
-
 pub members_are_bound : (schema : List Table) (tables : List ℕ) (bs : List Bound) → all_are_bound schema tables (bounds_of bs) ≡ list_all (are_bound schema tables) bs
 members_are_bound schema tables [] = refl
 members_are_bound schema tables (b ∷ bs) = ap (λ x. are_bound schema tables b && x) (members_are_bound schema tables bs)

@@ -2,11 +2,11 @@
 use Rattle.std.proofs.Common.{◌≡◌, ℕ, ◌+◌, ◌<◌, List, [], ◌∷◌, ◌++◌, length, drop, refl, sym, ap, subst, ◌∙◌, append_assoc, drop-cons, add-one}
 use Rattle.std.specs.Prelude.{Result, Ok, Err, filter, slice_index_or}
 use Rattle.std.specs.List.{AllZip}
-use Rattle.std.proofs.lemmas.List.{append-nil}
 use Rattle.sr_cell.specs.declared.fault.Fault.{Fault}
 use Rattle.sr_cell.specs.declared.list.No.{No}
 use Rattle.sr_cell.specs.declared.list.No.TheVariants.{Refused, NoMemory}
 use Rattle.sr_cell.specs.declared.table.Table.{Table}
+use Rattle.sr_cell.proofs.Lists.{AllZip-push}
 use Rattle.sr_model.specs.Conditions.{And}
 use Rattle.sr_model.specs.Queries as model
 use Rattle.sr_query.specs.declared.query.Part.{Part}
@@ -22,26 +22,13 @@ pub record Going (schema : List Table) (parts : List Part) (all rest : List mode
   pub narrow : each narrow all ≡ (each narrow rest >>= λ more. Ok (made ++ more))
   pub are : AllZip (IsPart schema) parts made
 
-zip_push : {A B : Type 0} (R : A → B → Type 0) (xs : List A) (ys : List B) (x : A) (y : B) → AllZip R xs ys → R x y → AllZip R (xs ++ x ∷ []) (ys ++ y ∷ [])
-zip_push R [] [] x y h one = (one, tt)
-zip_push R [] (b ∷ ys) x y h one = absurd h
-zip_push R (a ∷ xs) [] x y h one = absurd h
-zip_push R (a ∷ xs) (b ∷ ys) x y h one = (h.0, zip_push R xs ys x y h.1 one)
-
-pub none_made : (schema : List Table) (all : List model.Part) → Going schema [] all all
-none_made schema all = record { made = []; whole = refl; narrow = go (each narrow all); are = tt }
-  where
-    go : (r : Result (List model.Part) Fault) → r ≡ (r >>= λ more. Ok more)
-    go (Ok ms) = refl
-    go (Err fault) = refl
-
 pub one_made : (schema : List Table) (parts longer : List Part) (all rest : List model.Part) (p : Part) (m : model.Part) → longer ≡ parts ++ p ∷ [] → narrow m ≡ Ok m → IsPart schema p m
     → Going schema parts all (m ∷ rest) → Going schema longer all rest
 one_made schema parts longer all rest p m pushed fits is g = record {
   made = g.made ++ m ∷ [];
   whole = g.whole ∙ sym (append_assoc g.made (m ∷ []) rest);
   narrow = g.narrow ∙ rw fits (go (each narrow rest));
-  are = rw pushed (zip_push (IsPart schema) parts g.made p m g.are is);
+  are = rw pushed (AllZip-push (IsPart schema) parts g.made p m g.are is);
 }
   where
     go : (r : Result (List model.Part) Fault) → ((r >>= λ more. Ok (m ∷ more)) >>= λ more. Ok (g.made ++ more)) ≡ (r >>= λ more. Ok ((g.made ++ m ∷ []) ++ more))
@@ -52,11 +39,6 @@ pub one_not_made : (schema : List Table) (parts : List Part) (all rest : List mo
     → Going schema parts all (m ∷ rest) → AreNarrow schema (Err no) all
 one_not_made schema parts all rest m (Refused fault) wide g = g.narrow ∙ rw wide refl
 one_not_made schema parts all rest m NoMemory wide g = tt
-
-pub all_made : (schema : List Table) (parts : List Part) (all : List model.Part) → Going schema parts all [] → AreNarrow schema (Ok parts) all
-all_made schema parts all g =
-    let same : all ≡ g.made = g.whole ∙ append-nil g.made in
-    (g.narrow ∙ ap (λ x. Ok x) (sym g.whole), rw same g.are)
 
 -- the next part, by the conjuncts on it
 next_part : (schema : List Table) (tables : List ℕ) (columns : List model.Output) (bs own : List Bound) (i : ℕ) → i < length tables → own ≡ filter (is_on i) bs

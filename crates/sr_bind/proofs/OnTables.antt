@@ -1,19 +1,18 @@
 -- A bound statement suits its table.
-use Rattle.std.proofs.Common.{◌≡◌, ℕ, suc, ◌+◌, ◌<◌, Bool, true, false, List, [], ◌∷◌, ◌++◌, length, map, refl, sym, ap, ◌∙◌, arith}
+use Rattle.std.proofs.Common.{◌≡◌, ℕ, ◌+◌, ◌<◌, Bool, true, false, List, [], ◌∷◌, ◌++◌, length, map, refl, sym, ap, ◌∙◌, arith, lt-ltb, eq-eqb}
 use Rattle.std.specs.Prelude.{Option, Some, None, Result, Ok, Err, ◌==◌, ◌&&◌, not, nat_lt, bytes_eq, IsTrue, IfOk, if◌then◌else◌}
 use Rattle.std.specs.List.{list_all}
 use Rattle.std.specs.Cmp.Derive.{both_true}
-use Rattle.std.proofs.lemmas.Bool.Decides.{nat_tests}
 use Rattle.std.proofs.lemmas.List.{length-map}
 use Rattle.std.proofs.lemmas.List.Quantifiers.{position-Some}
 use Rattle.sr_cell.specs.declared.list.No.{No}
 use Rattle.sr_cell.specs.declared.fault.Fault.{Fault}
 use Rattle.sr_cell.specs.declared.fault.Why.TheVariants.{WrongCount, KeyChange, Repeated}
-use Rattle.sr_cell.specs.declared.table.Column.{Column}
 use Rattle.sr_cell.specs.declared.table.Table.{Table}
 use Rattle.sr_cell.specs.Cells.{Row}
 use Rattle.sr_cell.specs.Columns.{table_at}
 use Rattle.sr_cell.specs.Names.{table_named}
+use Rattle.sr_cell.proofs.Results.{same_Ok}
 use Rattle.sr_grammar.specs.declared.statement.Insert.{Insert}
 use Rattle.sr_grammar.specs.declared.statement.LiteralRow.{LiteralRow}
 use Rattle.sr_grammar.specs.declared.statement.Set.{Set}
@@ -25,15 +24,8 @@ use Rattle.sr_query.specs.Writes.{table_known, typed, numbers_from, listed, type
 use Rattle.sr_query.specs.declared.write.Write as declared
 use Rattle.sr_query.specs.Decided.{Decides}
 use Rattle.sr_query.specs.Written.{write_of}
+use Rattle.sr_query.proofs.Steps.{split_ok, each-length, length-numbers_from}
 use Rattle.sr_bind.proofs.Low.{column_within}
-
--- the first of two steps and what the second makes of it
-taken : {A B : Type 0} (r : Result A Fault) (f : A → Result B Fault) (b : B) → (r >>= f) ≡ Ok b → (a : A) × (r ≡ Ok a) × (f a ≡ Ok b)
-taken (Ok a) f b e = (a, refl, e)
-taken (Err d) f b e = absurd cc
-
-same_value : {A : Type 0} (a b : A) → (let here : Result A Fault = Ok a in here) ≡ Ok b → a ≡ b
-same_value a b e = cc
 
 -- ---- the table
 
@@ -47,20 +39,10 @@ known_within schema place t name e = go (table_named schema name) refl e
     go None is e = absurd cc
     go (Some u) is e =
         let found = position-Some (λ (table : Table). bytes_eq name table.name) schema u no_table is in
-        let same = same_value u t e in
+        let same = same_Ok u t e in
         omega (arith, found.0, same)
 
-less : (n most : ℕ) → n < most → nat_lt n most ≡ true
-less n most few = grind (arith, nat_tests)
-
 -- ---- the rows of an INSERT
-
-numbers_many : (c : ℕ) (columns : List Column) → length (numbers_from c columns) ≡ length columns
-numbers_many c [] = refl
-numbers_many c (column ∷ columns) = grind (arith, numbers_many (c + 1) columns)
-
-is_same : (n m : ℕ) → n ≡ m → (n == m) ≡ true
-is_same n m e = grind (arith, nat_tests)
 
 abbrev is_wide : Table → Row → Bool
 is_wide t row = length row == length t.columns
@@ -72,16 +54,16 @@ row_wide t columns r row e = go (not (length r.literals == length columns)) e
         → is_wide t row ≡ true
     go true e = absurd cc
     go false e =
-        let made = taken (typed_each t columns r.literals) (λ values. Ok (map (λ c. value_for c columns values) (numbers_from 0 t.columns))) row e in
-        let same = same_value _ row made.2 in
-        is_same (length row) (length t.columns) (sym (ap length same) ∙ (length-map (numbers_from 0 t.columns) (λ c. value_for c columns made.0) ∙ numbers_many 0 t.columns))
+        let made = split_ok (typed_each t columns r.literals) (λ values. Ok (map (λ c. value_for c columns values) (numbers_from 0 t.columns))) row e in
+        let same = same_Ok _ row made.2 in
+        eq-eqb (length row) (length t.columns) (sym (ap length same) ∙ (length-map (numbers_from 0 t.columns) (λ c. value_for c columns made.0) ∙ length-numbers_from 0 t.columns))
 
 rows_wide : (t : Table) (columns : List ℕ) (rows : List LiteralRow) (made : List Row) → each (row_of t columns) rows ≡ Ok made → list_all (is_wide t) made ≡ true
-rows_wide t columns [] made e = let none = same_value [] made e in rw (← none) refl
+rows_wide t columns [] made e = let none = same_Ok [] made e in rw (← none) refl
 rows_wide t columns (r ∷ rows) made e =
-    let first = taken (row_of t columns r) (λ b. each (row_of t columns) rows >>= λ bs. Ok (b ∷ bs)) made e in
-    let others = taken (each (row_of t columns) rows) (λ bs. Ok (first.0 ∷ bs)) made first.2 in
-    let same = same_value (first.0 ∷ others.0) made others.2 in
+    let first = split_ok (row_of t columns r) (λ b. each (row_of t columns) rows >>= λ bs. Ok (b ∷ bs)) made e in
+    let others = split_ok (each (row_of t columns) rows) (λ bs. Ok (first.0 ∷ bs)) made first.2 in
+    let same = same_Ok (first.0 ∷ others.0) made others.2 in
     rw (← same) (both_true (row_wide t columns r first.0 first.1) (rows_wide t columns rows others.0 others.1))
 
 -- ---- the places of an UPDATE
@@ -95,45 +77,45 @@ set_free t named place c name e = go (column_named 0 t.columns name) refl e
     by : (k : ℕ) (key among : Bool) → k < length t.columns → (k == t.key) ≡ key → (if key then fault KeyChange place else (if among then fault Repeated place else Ok k)) ≡ Ok c → is_free t c ≡ true
     by k true among within is e = absurd cc
     by k false true within is e = absurd cc
-    by k false false within is e = let same = same_value k c e in rw (← same) (rw (less k (length t.columns) within, is) refl)
+    by k false false within is e = let same = same_Ok k c e in rw (← same) (rw (lt-ltb k (length t.columns) within, is) refl)
 
     go : (o : Option ℕ) → column_named 0 t.columns name ≡ o → set_column t named place o ≡ Ok c → is_free t c ≡ true
     go None is e = absurd cc
     go (Some k) is e = by k (k == t.key) (is_among named k) (omega (arith, column_within 0 k t.columns name is)) refl e
 
 places_free : (t : Table) (named : List ℕ) (sets : List Set) (places : List Place) → places_from t named sets ≡ Ok places → list_all (λ p. is_free t p.column) places ≡ true
-places_free t named [] places e = let none = same_value [] places e in rw (← none) refl
+places_free t named [] places e = let none = same_Ok [] places e in rw (← none) refl
 places_free t named (s ∷ sets) places e =
-    let column = taken (set_column t named s.name.place (column_named 0 t.columns s.name.column)) _ places e in
-    let value = taken (typed (column_at t column.0).kind s.value) _ places column.2 in
-    let others = taken (places_from t (named ++ column.0 ∷ []) sets) _ places value.2 in
-    let same = same_value _ places others.2 in
+    let column = split_ok (set_column t named s.name.place (column_named 0 t.columns s.name.column)) _ places e in
+    let value = split_ok (typed (column_at t column.0).kind s.value) _ places column.2 in
+    let others = split_ok (places_from t (named ++ column.0 ∷ []) sets) _ places value.2 in
+    let same = same_Ok _ places others.2 in
     rw (← same) (both_true (set_free t named s.name.place column.0 s.name.column column.1) (places_free t (named ++ column.0 ∷ []) sets others.0 others.1))
 
 -- ---- a statement
 
 insert_suits : (schema : List Table) (s : Insert) (w : Write) → bound_write schema (tree.Inserts s) ≡ Ok w → suits schema w ≡ true
 insert_suits schema s w e =
-    let t = taken (table_known s.place (table_named schema s.table)) (inserting schema s) w e in
-    let columns = taken (listed (table_at schema t.0) s.place s.columns) _ w t.2 in
-    let rows = taken (each (row_of (table_at schema t.0) columns.0) s.rows) _ w columns.2 in
-    let same = same_value _ w rows.2 in
-    rw (← same) (both_true (less t.0 (length schema) (known_within schema s.place t.0 s.table t.1)) (rows_wide (table_at schema t.0) columns.0 s.rows rows.0 rows.1))
+    let t = split_ok (table_known s.place (table_named schema s.table)) (inserting schema s) w e in
+    let columns = split_ok (listed (table_at schema t.0) s.place s.columns) _ w t.2 in
+    let rows = split_ok (each (row_of (table_at schema t.0) columns.0) s.rows) _ w columns.2 in
+    let same = same_Ok _ w rows.2 in
+    rw (← same) (both_true (lt-ltb t.0 (length schema) (known_within schema s.place t.0 s.table t.1)) (rows_wide (table_at schema t.0) columns.0 s.rows rows.0 rows.1))
 
 update_suits : (schema : List Table) (s : tree.Update) (w : Write) → bound_write schema (tree.Updates s) ≡ Ok w → suits schema w ≡ true
 update_suits schema s w e =
-    let t = taken (table_known s.place (table_named schema s.table)) (updating schema s) w e in
-    let places = taken (places_from (table_at schema t.0) [] s.sets) _ w t.2 in
-    let condition = taken (condition_in schema t.0 s.filter) _ w places.2 in
-    let same = same_value _ w condition.2 in
-    rw (← same) (both_true (less t.0 (length schema) (known_within schema s.place t.0 s.table t.1)) (places_free (table_at schema t.0) [] s.sets places.0 places.1))
+    let t = split_ok (table_known s.place (table_named schema s.table)) (updating schema s) w e in
+    let places = split_ok (places_from (table_at schema t.0) [] s.sets) _ w t.2 in
+    let condition = split_ok (condition_in schema t.0 s.filter) _ w places.2 in
+    let same = same_Ok _ w condition.2 in
+    rw (← same) (both_true (lt-ltb t.0 (length schema) (known_within schema s.place t.0 s.table t.1)) (places_free (table_at schema t.0) [] s.sets places.0 places.1))
 
 delete_suits : (schema : List Table) (s : tree.Delete) (w : Write) → bound_write schema (tree.Deletes s) ≡ Ok w → suits schema w ≡ true
 delete_suits schema s w e =
-    let t = taken (table_known s.place (table_named schema s.table)) (deleting schema s) w e in
-    let condition = taken (condition_in schema t.0 s.filter) _ w t.2 in
-    let same = same_value _ w condition.2 in
-    rw (← same) (both_true (less t.0 (length schema) (known_within schema s.place t.0 s.table t.1)) refl)
+    let t = split_ok (table_known s.place (table_named schema s.table)) (deleting schema s) w e in
+    let condition = split_ok (condition_in schema t.0 s.filter) _ w t.2 in
+    let same = same_Ok _ w condition.2 in
+    rw (← same) (both_true (lt-ltb t.0 (length schema) (known_within schema s.place t.0 s.table t.1)) refl)
 
 pub bound_suits : (schema : List Table) (s : tree.Statement) (w : Write) → bound_write schema s ≡ Ok w → suits schema w ≡ true
 bound_suits schema (tree.Create t) w e = absurd cc
@@ -149,14 +131,6 @@ decided_suits schema s (Err refusal) told = tt
 
 -- ---- how many rows an INSERT has
 
-each_long : {A B : Type 0} (f : A → Result B Fault) (all : List A) (made : List B) → each f all ≡ Ok made → length made ≡ length all
-each_long f [] made e = let none = same_value [] made e in sym (ap length none)
-each_long f (a ∷ all) made e =
-    let first = taken (f a) (λ b. each f all >>= λ bs. Ok (b ∷ bs)) made e in
-    let others = taken (each f all) (λ bs. Ok (first.0 ∷ bs)) made first.2 in
-    let same = same_value (first.0 ∷ others.0) made others.2 in
-    sym (ap length same) ∙ ap suc (each_long f all others.0 others.1)
-
 same_rows : (t u : ℕ) (rows made : List Row) → Inserting t rows ≡ Inserting u made → rows ≡ made
 same_rows t u rows made e = cc
 
@@ -171,17 +145,17 @@ pub bound_rows : (schema : List Table) (s : tree.Statement) (u : ℕ) (rows : Li
 bound_rows schema (tree.Create t) u rows e = absurd cc
 bound_rows schema (tree.Selects s) u rows e = absurd cc
 bound_rows schema (tree.Inserts s) u rows e =
-    let t = taken (table_known s.place (table_named schema s.table)) (inserting schema s) (Inserting u rows) e in
-    let columns = taken (listed (table_at schema t.0) s.place s.columns) _ (Inserting u rows) t.2 in
-    let made = taken (each (row_of (table_at schema t.0) columns.0) s.rows) _ (Inserting u rows) columns.2 in
-    let same = same_rows t.0 u made.0 rows (same_value _ (Inserting u rows) made.2) in
-    (s, refl, sym (ap length same) ∙ each_long (row_of (table_at schema t.0) columns.0) s.rows made.0 made.1)
+    let t = split_ok (table_known s.place (table_named schema s.table)) (inserting schema s) (Inserting u rows) e in
+    let columns = split_ok (listed (table_at schema t.0) s.place s.columns) _ (Inserting u rows) t.2 in
+    let made = split_ok (each (row_of (table_at schema t.0) columns.0) s.rows) _ (Inserting u rows) columns.2 in
+    let same = same_rows t.0 u made.0 rows (same_Ok _ (Inserting u rows) made.2) in
+    (s, refl, sym (ap length same) ∙ each-length (row_of (table_at schema t.0) columns.0) s.rows made.0 made.1)
 bound_rows schema (tree.Updates s) u rows e =
-    let t = taken (table_known s.place (table_named schema s.table)) (updating schema s) (Inserting u rows) e in
-    let places = taken (places_from (table_at schema t.0) [] s.sets) _ (Inserting u rows) t.2 in
-    let condition = taken (condition_in schema t.0 s.filter) _ (Inserting u rows) places.2 in
-    absurd (not_update t.0 u places.0 condition.0 rows (same_value _ (Inserting u rows) condition.2))
+    let t = split_ok (table_known s.place (table_named schema s.table)) (updating schema s) (Inserting u rows) e in
+    let places = split_ok (places_from (table_at schema t.0) [] s.sets) _ (Inserting u rows) t.2 in
+    let condition = split_ok (condition_in schema t.0 s.filter) _ (Inserting u rows) places.2 in
+    absurd (not_update t.0 u places.0 condition.0 rows (same_Ok _ (Inserting u rows) condition.2))
 bound_rows schema (tree.Deletes s) u rows e =
-    let t = taken (table_known s.place (table_named schema s.table)) (deleting schema s) (Inserting u rows) e in
-    let condition = taken (condition_in schema t.0 s.filter) _ (Inserting u rows) t.2 in
-    absurd (not_delete t.0 u condition.0 rows (same_value _ (Inserting u rows) condition.2))
+    let t = split_ok (table_known s.place (table_named schema s.table)) (deleting schema s) (Inserting u rows) e in
+    let condition = split_ok (condition_in schema t.0 s.filter) _ (Inserting u rows) t.2 in
+    absurd (not_delete t.0 u condition.0 rows (same_Ok _ (Inserting u rows) condition.2))

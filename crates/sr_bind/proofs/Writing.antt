@@ -1,12 +1,11 @@
 -- One step more of what a statement writes.
 use Rattle.std.proofs.Common.{◌≡◌, ℕ, ◌+◌, ◌<◌, pos, true, false, List, [], ◌∷◌, ◌++◌, length, map, drop, get_or, refl, sym, ap, ◌∙◌, add-one, append_assoc, drop-cons, arith}
 use Rattle.std.specs.Prelude.{Result, Ok, Err, ◌==◌, nat_lt, nat_le, IsTrue}
-use Rattle.std.specs.List.{list_all}
 use Rattle.std.specs.Cmp.Derive.{both_true}
 use Rattle.std.proofs.lemmas.Bool.{and_parts}
 use Rattle.std.proofs.lemmas.Bool.Decides.{nat_tests}
 use Rattle.std.proofs.lemmas.List.Folds.{list_all-append}
-use Rattle.std.proofs.lemmas.List.{map_push}
+use Rattle.std.proofs.lemmas.List.{map_push, drop_more}
 use Rattle.sr_cell.specs.declared.cell.Cell.{Cell}
 use Rattle.sr_cell.specs.declared.cell.Cell.TheVariants.{Num}
 use Rattle.sr_cell.specs.declared.fault.Fault.{Fault}
@@ -49,16 +48,13 @@ are_columns_more t columns after c less are pushed =
     let all = list_all-append (λ d. nat_lt d (length t.columns)) columns (c ∷ []) ∙ both_true x.1 (both_true last refl) in
     rw pushed (both_true x.0 all)
 
-front : {A : Type 0} (xs : List A) (i : ℕ) (d : A) → i < length xs → drop i xs ≡ get_or xs i d ∷ drop (i + 1) xs
-front xs i d within = drop-cons xs i d within ∙ ap (λ k. get_or xs i d ∷ drop k xs) (sym (add-one i))
-
 no_literal : Literal
 no_literal = record { cell = Num (pos 0); place = 0 }
 
 -- the value for another column than the next
 pub other_column : (c i e : ℕ) (columns : List ℕ) (literals : List Literal) → i < length columns → i < length literals → (get_or columns i e == c) ≡ false
     → value_for c (drop i columns) (cells_of (drop i literals)) ≡ value_for c (drop (i + 1) columns) (cells_of (drop (i + 1) literals))
-other_column c i e columns literals a b other = rw (front columns i e a, front literals i no_literal b, other) refl
+other_column c i e columns literals a b other = rw (drop_more columns i e a, drop_more literals i no_literal b, other) refl
 
 -- a place that is set, and those behind it
 abbrev put : ℕ → Cell → model.Place
@@ -93,7 +89,7 @@ not_placed t named s sets fault e = go (set_column t named s.name.place (column_
     go (Err f) e = let same : f ≡ fault = cc in ap (λ x. Err x) same
 
 next_set : (sets : List Set) (i : ℕ) (s : Set) → i < length sets → s ≡ get_or sets i s → drop i sets ≡ s ∷ drop (i + 1) sets
-next_set sets i s within is = front sets i s within ∙ ap (λ x. x ∷ drop (i + 1) sets) (sym is)
+next_set sets i s within is = drop_more sets i s within ∙ ap (λ x. x ∷ drop (i + 1) sets) (sym is)
 
 pub one_place_more : (t : Table) (sets : List Set) (i : ℕ) (s : Set) (places all : List Place) (p : Place) (whole : Result (List model.Place) Fault)
     → i < length sets → s ≡ get_or sets i s → next_place t (columns_of places) s ≡ Ok (place_of p) → all ≡ places ++ p ∷ []

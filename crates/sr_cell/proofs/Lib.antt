@@ -1,3 +1,9 @@
 pub mod Order
 pub mod Fitting
 pub mod TableNames
+pub mod Booleans
+pub mod Numbers
+pub mod Results
+pub mod Lists
+pub mod ColumnSets
+pub mod Columns

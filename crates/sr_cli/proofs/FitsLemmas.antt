@@ -3,8 +3,8 @@ use Rattle.std.proofs.Common.{◌≡◌, ℕ, ◌⊎◌, List, [], Option, Some,
 use Rattle.sr_cell.specs.declared.fault.Fault.{Fault}
 use Rattle.sr_cell.specs.declared.table.Table.{Table}
 use Rattle.sr_model.specs.Statements.{Tables}
-use Rattle.sr_language.specs.Lines.{lines_of}
-use Rattle.sr_language.specs.Script.{LinePlace, start_phase, FirstRefused, FirstUnbuilt}
+use Rattle.sr_lines.specs.Lines.{lines_of}
+use Rattle.sr_lines.specs.Script.{LinePlace, start_phase, FirstRefused, FirstUnbuilt}
 use Rattle.sr_tables.specs.Stored.{no_rows}
 use Rattle.sr_load.specs.Filling.{filled}
 use Rattle.sr_load.specs.declared.fill.Load.{Load}

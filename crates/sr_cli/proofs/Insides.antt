@@ -1,7 +1,7 @@
 -- Where something else is named, no line is outside the grammar.
-use Rattle.std.proofs.Common.{◌≡◌, ℕ, ◌⊎◌, Bool, true, false, List, Option, Some, None, Err, inl, inr, refl, subst}
+use Rattle.std.proofs.Common.{◌≡◌, ℕ, ◌⊎◌, Bool, true, false, List, Option, Some, None, inl, inr, refl, subst}
 use Rattle.std.specs.Prelude.{IsErrOf, Result}
-use Rattle.sr_language.specs.Script.{LinePlace}
+use Rattle.sr_lines.specs.Script.{LinePlace}
 use Rattle.sr_world.specs.Replay.{outside}
 use Rattle.sr_cli.specs.declared.run.Refusal.{Refusal}
 use Rattle.sr_cli.specs.declared.run.Refusal.TheVariants.{Read, Write, Memory, TooLong, Line, Setup, Load, Unbuilt}

@@ -1,8 +1,5 @@
-pub mod Cuts
 pub mod FitsLemmas
 pub mod Insides
 pub mod LoadTexts
-pub mod LoadWords
-pub mod Numbers
 pub mod ReadSoFar
 pub mod SameFiles

@@ -7,8 +7,8 @@ use Rattle.std.proofs.lemmas.Bool.Decides.{nat_tests}
 use Rattle.std.specs.Io.KnownBytes.{Consumes}
 use Rattle.sr_load.specs.declared.fill.Load.{Load}
 use Rattle.sr_cli.specs.Run.{IsWhatIsHeld, IsLoad, AreFiles, IsTooLong, SomeTooLong, IsHeldLoad, AreHeld, SomeLong, AreLong}
-use Rattle.sr_cli.specs.Words.{LoadWord, Words}
-use Rattle.sr_cli.specs.Seen.{names_of}
+use Rattle.sr_words.specs.declared.command.LoadWord.{LoadWord}
+use Rattle.sr_cli.specs.Words.{Words, names_of}
 
 same_bytes : (held : Option (List ℕ)) (bytes read : List ℕ) → held ≡ Some bytes → IsWhatIsHeld held read → read ≡ bytes
 same_bytes held bytes read is what = subst (λ h. IfSome h (λ b. read ≡ b)) is what.told

@@ -4,15 +4,16 @@ use Rattle.std.specs.List.{AllZip}
 use Rattle.sr_cell.specs.declared.fault.Fault.{Fault}
 use Rattle.sr_cell.specs.declared.fault.Why.{Why}
 use Rattle.sr_cell.specs.declared.fault.Why.TheVariants.{UnknownTable}
-use Rattle.sr_language.specs.Lines.{lines_of}
-use Rattle.sr_language.specs.Script.{LinePlace, start_phase, FirstRefused, FirstUnbuilt}
+use Rattle.sr_lines.specs.Lines.{lines_of}
+use Rattle.sr_lines.specs.Script.{LinePlace, start_phase, FirstRefused, FirstUnbuilt}
 use Rattle.sr_load.specs.declared.fill.Load.{Load}
 use Rattle.sr_script.specs.TraceText.{why_text}
 use Rattle.sr_io.specs.Pieces.{Lost}
 use Rattle.sr_io.specs.Told.{complained}
 use Rattle.sr_world.specs.declared.world.World.{World}
 use Rattle.sr_world.specs.Replay.{RefusesLoad, Wrote, WrotePart, outside}
-use Rattle.sr_cli.specs.Words.{LoadWord, Words}
+use Rattle.sr_words.specs.declared.command.LoadWord.{LoadWord}
+use Rattle.sr_cli.specs.Words.{Words}
 
 abbrev pub IsStatus : ℕ → Type 0
 IsStatus status = (status ≡ 0) ⊎ (status ≡ 2) ⊎ (status ≡ 3) ⊎ (status ≡ 4) ⊎ (status ≡ 6) ⊎ (status ≡ 7) ⊎ (status ≡ 9) ⊎ (status ≡ 10) ⊎ (status ≡ 12)

@@ -4,16 +4,16 @@ ghost use Rattle.std.specs.List.{list_all, AllZip};
 ghost use Rattle.sr_io.specs.Causes.{Rose};
 ghost use Rattle.sr_load.specs.declared.fill.Load.{Load as TheLoad};
 ghost use Rattle.sr_cli.specs.Run.{IsLoad, AreFiles, IsTooLong, SomeTooLong, IsHeldLoad, AreHeld};
-ghost use Rattle.sr_cli.specs.Words.{LoadWord, load_word, files_of};
-ghost use Rattle.sr_cli.specs.Seen.{AddsLoad, load_of, loads_seen, names_of, words_seen};
+ghost use Rattle.sr_cli.specs.Words.{files_of, names_of, words_seen};
+ghost use Rattle.sr_cli.specs.Seen.{AddsLoad};
 ghost use Rattle.sr_cli.specs.declared.file.ReadFault.TheVariants.{Fault, NoMemory as Wanting, TooLong};
 
 use crate::file::{ReadFault, read_file};
-use crate::words::{Words, cut_load};
 use sr_cell::list::{Bytes, Seq};
 use sr_cell::text::Text;
 use sr_io::outside::Host;
 use sr_load::fill::{Load, Loads};
+use sr_words::command::{LoadWord, ReplayWords};
 use std::alloc::Global;
 
 /// What was read: the script, and the files for the tables.
@@ -26,7 +26,7 @@ pub struct Files {
 /// Reads the script, and then the files for the tables in their order. The first that cannot be read or is too long ends it.
 pub fn read_files<H: Host>(
     alloc: Global,
-    words: &Words<'_>,
+    words: &ReplayWords,
     host: &mut H,
 ) -> Result<Files, ReadFault>
     ensures read { IfOk result (λ files. AreFiles (H.held host.old) (words_seen words.now) files.script files.loads) }
@@ -48,22 +48,22 @@ pub fn read_files<H: Host>(
         Ok(script) => script,
         Err(no) => return Err(no),
     };
-    match read_loads(alloc, words.loads, host) {
+    match read_loads(alloc, words.loads.as_slice(), host) {
         Ok(loads) => Ok(Files { script, loads }),
         Err(no) => Err(no),
     }
 }
 
 /// Reads the files for the tables.
-fn read_loads<H: Host>(alloc: Global, words: &[Text], host: &mut H) -> Result<Loads, ReadFault>
-    ensures read { IfOk result (AllZip (IsLoad (H.held host.old)) (loads_seen words.now)) }
-    ensures too_long { IsErrOf result TooLong → SomeTooLong (H.held host.old) (H.reading host.new).left (names_of (loads_seen words.now)) }
+fn read_loads<H: Host>(alloc: Global, words: &[LoadWord], host: &mut H) -> Result<Loads, ReadFault>
+    ensures read { IfOk result (AllZip (IsLoad (H.held host.old)) words.now) }
+    ensures too_long { IsErrOf result TooLong → SomeTooLong (H.held host.old) (H.reading host.new).left (names_of words.now) }
     ensures fault_is_counted { IsErrOf result Fault → Rose (H.reading host.old).faults (H.reading host.new).faults }
     ensures ok_keeps_faults { OnOk result ((H.reading host.new).faults ≡ (H.reading host.old).faults) }
     ensures want_keeps_faults { IsErrOf result Wanting → (H.reading host.new).faults ≡ (H.reading host.old).faults }
     ensures too_long_keeps_faults { IsErrOf result TooLong → (H.reading host.new).faults ≡ (H.reading host.old).faults }
     ensures stays_steady { H.IsSteady host.old → H.IsSteady host.new }
-    ensures steady_never_faults { H.IsSteady host.old → IsErrOf result Fault → (loads : List TheLoad) → ¬ AllZip (IsHeldLoad (H.held host.old)) (loads_seen words.now) loads }
+    ensures steady_never_faults { H.IsSteady host.old → IsErrOf result Fault → (loads : List TheLoad) → ¬ AllZip (IsHeldLoad (H.held host.old)) words.now loads }
     ensures held_stays { H.held host.new ≡ H.held host.old }
     ensures writing_stays { H.writing host.new ≡ H.writing host.old }
     ensures linking_stays { H.linking host.new ≡ H.linking host.old }
@@ -71,7 +71,7 @@ fn read_loads<H: Host>(alloc: Global, words: &[Text], host: &mut H) -> Result<Lo
 {
     let mut loads = Seq::new(alloc);
     for word in words {
-        match add_load(alloc, word.as_str(), &mut loads, host) {
+        match add_load(alloc, word, &mut loads, host) {
             Ok(()) => {}
             Err(no) => return Err(no),
         }
@@ -79,63 +79,55 @@ fn read_loads<H: Host>(alloc: Global, words: &[Text], host: &mut H) -> Result<Lo
     Ok(loads)
 }
 
-/// Reads the file that the word names, if it says a load.
+/// Reads the file that the word names, and adds it.
 fn add_load<H: Host>(
     alloc: Global,
-    word: &str,
+    word: &LoadWord,
     loads: &mut Loads,
     host: &mut H,
 ) -> Result<(), ReadFault>
-    ensures read { OnOk result (AddsLoad (H.held host.old) (load_word word.now) loads.old loads.new) }
-    ensures too_long { IsErrOf result TooLong → (load : LoadWord) × (load_word word.now ≡ Some load) × IsTooLong (H.held host.old load.file) (H.reading host.new).left }
+    ensures read { OnOk result (AddsLoad (H.held host.old) word.now loads.old loads.new) }
+    ensures too_long { IsErrOf result TooLong → IsTooLong (H.held host.old word.now.file) (H.reading host.new).left }
     ensures fault_is_counted { IsErrOf result Fault → Rose (H.reading host.old).faults (H.reading host.new).faults }
     ensures ok_keeps_faults { OnOk result ((H.reading host.new).faults ≡ (H.reading host.old).faults) }
     ensures want_keeps_faults { IsErrOf result Wanting → (H.reading host.new).faults ≡ (H.reading host.old).faults }
     ensures too_long_keeps_faults { IsErrOf result TooLong → (H.reading host.new).faults ≡ (H.reading host.old).faults }
     ensures stays_steady { H.IsSteady host.old → H.IsSteady host.new }
-    ensures steady_never_faults { H.IsSteady host.old → IsErrOf result Fault → (load : LoadWord) × (load_word word.now ≡ Some load) × (H.held host.old load.file ≡ None) }
+    ensures steady_never_faults { H.IsSteady host.old → IsErrOf result Fault → H.held host.old word.now.file ≡ None }
     ensures held_stays { H.held host.new ≡ H.held host.old }
     ensures writing_stays { H.writing host.new ≡ H.writing host.old }
     ensures linking_stays { H.linking host.new ≡ H.linking host.old }
     ensures complaints_stay { H.complaints host.new ≡ H.complaints host.old }
 {
-    match cut_load(word) {
-        None => Ok(()),
-        Some((table, name)) => match read_load(alloc, table, name, host) {
-            Ok(load) => match loads.push(load) {
-                Ok(()) => Ok(()),
-                Err(_) => Err(ReadFault::NoMemory),
-            },
-            Err(no) => Err(no),
+    match read_load(alloc, word, host) {
+        Ok(load) => match loads.push(load) {
+            Ok(()) => Ok(()),
+            Err(_) => Err(ReadFault::NoMemory),
         },
+        Err(no) => Err(no),
     }
 }
 
-/// Reads the file of that name for that table.
-fn read_load<H: Host>(
-    alloc: Global,
-    table: &str,
-    name: &str,
-    host: &mut H,
-) -> Result<Load, ReadFault>
-    ensures read { IfOk result (IsLoad (H.held host.old) (load_of table.now name.now)) }
-    ensures too_long { IsErrOf result TooLong → IsTooLong (H.held host.old name.now) (H.reading host.new).left }
+/// Reads the file that the word names.
+fn read_load<H: Host>(alloc: Global, word: &LoadWord, host: &mut H) -> Result<Load, ReadFault>
+    ensures read { IfOk result (IsLoad (H.held host.old) word.now) }
+    ensures too_long { IsErrOf result TooLong → IsTooLong (H.held host.old word.now.file) (H.reading host.new).left }
     ensures fault_is_counted { IsErrOf result Fault → Rose (H.reading host.old).faults (H.reading host.new).faults }
     ensures ok_keeps_faults { OnOk result ((H.reading host.new).faults ≡ (H.reading host.old).faults) }
     ensures want_keeps_faults { IsErrOf result Wanting → (H.reading host.new).faults ≡ (H.reading host.old).faults }
     ensures too_long_keeps_faults { IsErrOf result TooLong → (H.reading host.new).faults ≡ (H.reading host.old).faults }
     ensures stays_steady { H.IsSteady host.old → H.IsSteady host.new }
-    ensures steady_never_faults { H.IsSteady host.old → IsErrOf result Fault → H.held host.old name.now ≡ None }
+    ensures steady_never_faults { H.IsSteady host.old → IsErrOf result Fault → H.held host.old word.now.file ≡ None }
     ensures held_stays { H.held host.new ≡ H.held host.old }
     ensures writing_stays { H.writing host.new ≡ H.writing host.old }
     ensures linking_stays { H.linking host.new ≡ H.linking host.old }
     ensures complaints_stay { H.complaints host.new ≡ H.complaints host.old }
 {
-    let bytes = match read_file(alloc, name, host) {
+    let bytes = match read_file(alloc, word.file.as_str(), host) {
         Ok(bytes) => bytes,
         Err(no) => return Err(no),
     };
-    match Text::of(alloc, table) {
+    match Text::of(alloc, word.table.as_str()) {
         Ok(table) => Ok(Load { table, bytes }),
         Err(_) => Err(ReadFault::NoMemory),
     }

@@ -5,7 +5,6 @@ ghost use Rattle.std.specs.Prelude.{◌≡◌, map, drop, string_bytes, IfOk};
 
 mod file;
 mod files;
-mod options;
 mod run;
 #[cfg(test)]
 mod tests;

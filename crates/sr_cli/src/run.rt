@@ -1,9 +1,9 @@
 //! The top call.
-ghost use Rattle.std.specs.Prelude.{◌≡◌, ℕ, ◌⊎◌, ◌↔◌, ◌<◌, ◌^◌, nat_lt, List, [], length, string_bytes, Some, None, IsTrue, IfSome, IfOk, OnOk, IsErrOf};
+ghost use Rattle.std.specs.Prelude.{◌≡◌, ℕ, ◌⊎◌, ◌↔◌, ◌<◌, ◌≤◌, ◌^◌, nat_lt, List, [], length, string_bytes, Some, None, IsTrue, IfSome, IfOk, OnOk, IsErrOf};
 ghost use Rattle.std.specs.List.{list_all};
 ghost use Rattle.sr_cell.specs.declared.fault.Fault.{Fault as TheFault};
-ghost use Rattle.sr_language.specs.Lines.{lines_of};
-ghost use Rattle.sr_language.specs.Script.{start_phase, FirstRefused, FirstUnbuilt, LinePlace as TheLinePlace};
+ghost use Rattle.sr_lines.specs.Lines.{lines_of};
+ghost use Rattle.sr_lines.specs.Script.{start_phase, FirstRefused, FirstUnbuilt, LinePlace as TheLinePlace};
 ghost use Rattle.sr_server.specs.Servers.{IsClientNumber};
 ghost use Rattle.sr_load.specs.declared.fill.Load.{Load};
 ghost use Rattle.sr_world.specs.declared.world.World.{World};
@@ -11,18 +11,18 @@ ghost use Rattle.sr_world.specs.Replay.{RefusesLoad, Wrote, WrotePart, outside};
 ghost use Rattle.sr_io.specs.Causes.{Rose};
 ghost use Rattle.sr_io.specs.Told.{complained};
 ghost use Rattle.sr_cli.specs.Run.{IsStatus, Replayed, ReplayedInPart, SomeTooLong, IsOutside, IsRefusedSetup, IsRefusedLoad, IsUnbuilt, NamedLine, NamedSetup, NamedLoad, NamedUnbuilt, line_text, setup_text, load_text, unbuilt_text, error_text, AreHeld, FitsFiles};
-ghost use Rattle.sr_cli.specs.Words.{Words as TheWords, words_of, files_of, OnWords};
-ghost use Rattle.sr_cli.specs.Seen.{words_seen};
+ghost use Rattle.sr_cli.specs.Words.{Words as TheWords, words_of, words_seen, files_of, OnWords};
 ghost use Rattle.sr_cli.specs.declared.run.Refusal.TheVariants.{Read, Write, Memory, TooLong, Line, Setup, Load as LoadRefused, Unbuilt};
 
 use crate::file::ReadFault;
 use crate::files::{Files, read_files};
-use crate::words::{Words, words_of};
+use crate::words::{Asked, asked_of};
 use sr_cell::fault::{Fault, Why};
 use sr_cell::list::{No, NoMemory};
 use sr_cell::text::Text;
 use sr_io::outside::Host;
 use sr_script::words::why_word;
+use sr_words::command::ReplayWords;
 use sr_world::replay::{RunFault, replay};
 use sr_world::world::Options;
 use std::alloc::Global;
@@ -51,7 +51,8 @@ pub enum Refusal {
 /// Does all that the words ask for, and answers the status to end with.
 pub fn run<H: Host>(alloc: Global, words: &[Text], host: &mut H) -> u8
     ensures only { IsStatus result }
-    ensures words { (result ≡ 2) ↔ (words_of words.now ≡ None) }
+    ensures words { result ≡ 2 → words_of words.now ≡ None }
+    ensures other_words { words_of words.now ≡ None → (result ≡ 2) ⊎ (result ≡ 9) }
     ensures words_alone { result ≡ 2 → H.reading host.new ≡ H.reading host.old }
     ensures replayed { result ≡ 0 → OnWords words.now (λ w. Replayed (H.held host.old) w (H.writing host.old).written (H.writing host.new).written) }
     ensures read_fault_is_counted { result ≡ 3 → Rose (H.reading host.old).faults (H.reading host.new).faults }
@@ -72,12 +73,16 @@ pub fn run<H: Host>(alloc: Global, words: &[Text], host: &mut H) -> u8
     ensures held_stays { H.held host.new ≡ H.held host.old }
     ensures linking_stays { H.linking host.new ≡ H.linking host.old }
 {
-    match words_of(words) {
-        None => {
+    match asked_of(alloc, words) {
+        Asked::Nothing => {
             host.complain(b"words\n");
             2
         }
-        Some(words) => match replay_files(alloc, &words, host) {
+        Asked::NoMemory => {
+            host.complain(b"memory\n");
+            9
+        }
+        Asked::Replay(words) => match replay_files(alloc, &words, host) {
             Ok(()) => 0,
             Err(refusal) => report(alloc, refusal, host),
         },
@@ -85,8 +90,9 @@ pub fn run<H: Host>(alloc: Global, words: &[Text], host: &mut H) -> u8
 }
 
 /// Reads the files that the words name, replays the script and writes its trace.
-fn replay_files<H: Host>(alloc: Global, words: &Words<'_>, host: &mut H) -> Result<(), Refusal>
-    requires clients { IsClientNumber words.now.options.clients }
+fn replay_files<H: Host>(alloc: Global, words: &ReplayWords, host: &mut H) -> Result<(), Refusal>
+    requires clients { IsClientNumber words.now.setup.clients }
+    requires regions { words.now.setup.limits.regions ≤ 1024 }
     ensures replayed { OnOk result (Replayed (H.held host.old) (words_seen words.now) (H.writing host.old).written (H.writing host.new).written) }
     ensures read_fault_is_counted { IsErrOf result Read → Rose (H.reading host.old).faults (H.reading host.new).faults }
     ensures read_fault_writes_nothing { IsErrOf result Read → H.writing host.new ≡ H.writing host.old }
@@ -112,11 +118,18 @@ fn replay_files<H: Host>(alloc: Global, words: &Words<'_>, host: &mut H) -> Resu
     ensures linking_stays { H.linking host.new ≡ H.linking host.old }
     ensures complaints_stay { H.complaints host.new ≡ H.complaints host.old }
 {
+    let setup = words.setup;
+    let options = Options {
+        eager: setup.eager,
+        limits: setup.limits,
+        log: setup.log,
+        clients: setup.clients,
+    };
     match read_files(alloc, words, host) {
         Err(ReadFault::Fault) => Err(Refusal::Read),
         Err(ReadFault::NoMemory) => Err(Refusal::Memory),
         Err(ReadFault::TooLong) => Err(Refusal::TooLong),
-        Ok(files) => replay_read(alloc, words.options, &files, host),
+        Ok(files) => replay_read(alloc, options, &files, host),
     }
 }
 
@@ -128,6 +141,7 @@ fn replay_read<H: Host>(
     host: &mut H,
 ) -> Result<(), Refusal>
     requires clients { IsClientNumber options.clients }
+    requires regions { options.limits.regions ≤ 1024 }
     requires script { length files.now.script < 2 ^ 32 }
     requires loads { IsTrue (list_all (λ load. nat_lt (length load.bytes) (2 ^ 32)) files.now.loads) }
     ensures replayed { OnOk result ((world : World) × Wrote (H.writing host.old).written (H.writing host.new).written options files.now.script files.now.loads world) }

@@ -7,40 +7,28 @@ use Rattle.std.proofs.lemmas.Int.{ints}
 use Rattle.std.proofs.lemmas.List.{length-append}
 use Rattle.std.proofs.lemmas.List.Folds.{list_any-append, list_all-append}
 use Rattle.sr_cell.specs.declared.cell.Cell.{Cell}
-use Rattle.sr_cell.specs.declared.cell.Cell.TheVariants.{Num, Str}
 use Rattle.sr_cell.specs.declared.table.Kind.{Kind}
 use Rattle.sr_cell.specs.declared.table.Kind.TheVariants.{Num as Numbers, Str as Texts}
 use Rattle.sr_cell.specs.declared.table.Column.{Column}
 use Rattle.sr_cell.specs.Cells.{text_le}
 use Rattle.sr_cell.specs.Columns.{in_kind, in_column}
 use Rattle.sr_cell.specs.Names.{is_bad_by, is_bad_domain}
+use Rattle.sr_cell.proofs.Order.{text_le-trans, text_le-total}
+use Rattle.sr_cell.proofs.Columns.{in_kind-low, in_kind-high}
 use Rattle.sr_box.specs.declared.span.Span.{Span}
 use Rattle.sr_box.specs.declared.span.Span.TheVariants.{Full, Nums, Strs}
 use Rattle.sr_box.specs.Spans.{in_span, span_fits, fits_kind, is_below}
 use Rattle.sr_box.specs.Corners.{first_value}
 use Rattle.sr_box.specs.Cut.{nums, strs, text_max, end_min, under, over, is_under, is_over, in_maybe}
 use Rattle.sr_box.proofs.Fits.{maybe_fits, under-fits, over-fits}
-use Rattle.sr_box.proofs.Order.{text_le-trans, text_le-total, end_min-is}
+use Rattle.sr_box.proofs.Order.{end_min-is}
 use Rattle.sr_box.proofs.Parts.{under-is, over-is, apart-is}
 use Rattle.sr_union.specs.Grid.{is_among, has_cut}
 use Rattle.sr_union.proofs.Cuts.{maybe_cut, under-cut, over-cut}
 use Rattle.sr_union.proofs.Low.{low_of, low-in}
+use Rattle.sr_union.proofs.SpanCuts.{no_cut-full}
 use Rattle.sr_condition.specs.Ranges.{EndsAt, in_spans, times_in, beside, without, AreSpans, AreApart}
-use Rattle.sr_condition.proofs.Parts.{no_cut-full}
 use Rattle.sr_condition.proofs.Joins.{ends-append, in_left, in_right, spans-with}
-
--- the values of a column of numbers lie in its domain
-low-is : (k : Kind) (low high : ℤ) (v : Cell) → in_kind k low high v ≡ true → (n : ℤ) → v ≡ Num n → int_le low n ≡ true
-low-is Numbers low high (Num m) h n e = grind (arith, e)
-low-is Numbers low high (Str m) h n e = absurd (cc)
-low-is Texts low high (Num m) h n e = absurd (grind arith)
-low-is Texts low high (Str m) h n e = absurd (cc)
-
-high-is : (k : Kind) (low high : ℤ) (v : Cell) → in_kind k low high v ≡ true → (n : ℤ) → v ≡ Num n → int_le n high ≡ true
-high-is Numbers low high (Num m) h n e = grind (arith, e)
-high-is Numbers low high (Str m) h n e = absurd (cc)
-high-is Texts low high (Num m) h n e = absurd (grind arith)
-high-is Texts low high (Str m) h n e = absurd (cc)
 
 -- ---- of one span
 
@@ -67,14 +55,14 @@ times-append (s ∷ a) b v = let ih = times-append a b v in omega (arith, ih)
 
 beside-in : (column : Column) (t s : Span) (v : Cell) → span_fits column t ≡ true → in_column column v ≡ true → in_spans (beside column t s) v ≡ (in_span s v && not (in_span t v))
 beside-in column t s v f p =
-    let u = under-is column.lo s t v (low-is column.kind column.lo column.hi v p) in let o = over-is column.hi s t v (high-is column.kind column.lo column.hi v p) in
+    let u = under-is column.lo s t v (in_kind-low column.kind column.lo column.hi v p) in let o = over-is column.hi s t v (in_kind-high column.kind column.lo column.hi v p) in
     let a = apart-is column.kind column.lo column.hi t v f p in let a0 = a.0 in
     let x = some-in (under column.lo s t) v in let y = some-in (over column.hi s t) v in
     list_any-append (λ w. in_span w v) (option_to_list (under column.lo s t)) (option_to_list (over column.hi s t)) ∙ grind (arith, u, o, a0, x, y)
 
 beside-times : (column : Column) (t s : Span) (v : Cell) → span_fits column t ≡ true → in_column column v ≡ true → times_in (beside column t s) v ≤ (if in_span s v then 1 else 0)
 beside-times column t s v f p =
-    let u = under-is column.lo s t v (low-is column.kind column.lo column.hi v p) in let o = over-is column.hi s t v (high-is column.kind column.lo column.hi v p) in
+    let u = under-is column.lo s t v (in_kind-low column.kind column.lo column.hi v p) in let o = over-is column.hi s t v (in_kind-high column.kind column.lo column.hi v p) in
     let a = apart-is column.kind column.lo column.hi t v f p in let a1 = a.1 in
     let x = some-times (under column.lo s t) v in let y = some-times (over column.hi s t) v in
     let z = times-append (option_to_list (under column.lo s t)) (option_to_list (over column.hi s t)) v in

@@ -10,11 +10,11 @@ use Rattle.sr_cell.specs.declared.table.Kind.TheVariants.{Num as Numbers, Str as
 use Rattle.sr_cell.specs.declared.table.Column.{Column}
 use Rattle.sr_cell.specs.Cells.{text_le, cell_le, cell_eq}
 use Rattle.sr_cell.specs.Columns.{in_kind, are_bytes}
+use Rattle.sr_cell.proofs.Order.{cell_eq-sound}
 use Rattle.sr_box.specs.declared.span.Span.TheVariants.{Nums, Strs}
 use Rattle.sr_box.specs.Spans.{in_span, is_below, end_bytes}
 use Rattle.sr_box.specs.Corners.{text_cut, end_cut, num_cut}
 use Rattle.sr_box.specs.Prefixes as box
-use Rattle.sr_box.proofs.Order.{cell_eq-sound}
 use Rattle.sr_box.proofs.Prefixes.{prefixes_are_spans, prefixes_fit}
 use Rattle.sr_union.specs.Grid.{is_among, has_cut}
 use Rattle.sr_union.proofs.Cuts.{is_among-append}

@@ -15,10 +15,10 @@ use Rattle.sr_box.specs.Points.{Rect, in_rect, in_any, rect_fits, full_rect}
 use Rattle.sr_model.specs.Conditions.{Cond, Test, Tests}
 use Rattle.sr_model.specs.Ends.{test_ends, ends}
 use Rattle.sr_model.specs.Width.{test_width}
+use Rattle.sr_union.proofs.SpanCuts.{no_cut-full}
 use Rattle.sr_query.specs.Bound.{EndsWithTests}
 use Rattle.sr_condition.specs.Ranges.{says_test, in_spans, EndsAt, AreSpans}
 use Rattle.sr_condition.specs.Said.{says, rect_with, AreRects}
-use Rattle.sr_condition.proofs.Parts.{no_cut-full}
 
 -- ---- the rect that has all points
 

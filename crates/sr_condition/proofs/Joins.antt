@@ -1,14 +1,11 @@
 -- Lists of spans of a column.
 use Rattle.std.proofs.Common.{◌≡◌, ℕ, ◌+◌, ◌≤◌, true, List, [], ◌∷◌, ◌++◌, arith, ◌∙◌}
-use Rattle.std.specs.Prelude.{Bool, ◌||◌}
+use Rattle.std.specs.Prelude.{Bool}
 use Rattle.std.specs.List.{AllByRecursion}
-use Rattle.std.proofs.lemmas.List.{length-append}
-use Rattle.std.proofs.lemmas.List.Folds.{list_any-append, list_all-append}
 use Rattle.sr_cell.specs.declared.cell.Cell.{Cell}
 use Rattle.sr_cell.specs.declared.table.Column.{Column}
 use Rattle.sr_cell.specs.Columns.{in_column}
 use Rattle.sr_box.specs.declared.span.Span.{Span}
-use Rattle.sr_box.specs.Spans.{in_span, span_fits}
 use Rattle.sr_union.specs.Grid.{is_among}
 use Rattle.sr_union.proofs.Cuts.{is_among-append}
 use Rattle.sr_condition.specs.Ranges.{EndsAt, AreSpans}
@@ -31,12 +28,3 @@ pub spans-with : (column : Column) (a b : Cell → Bool) (m n : ℕ) (p q : List
     → ((v : Cell) → is_among p v ≡ true → is_among q v ≡ true) → AreSpans column b n q spans
 spans-with column a b m n p q spans are same more ends =
     record { fits = are.fits; points = λ v i. are.points v i ∙ same v i; few = let f = are.few in omega arith; ends = ends-more column p q spans ends are.ends }
-
-pub spans-append : (column : Column) (a b : Cell → Bool) (m n : ℕ) (p q : List Cell) (x y : List Span) → AreSpans column a m p x → AreSpans column b n q y
-    → AreSpans column (λ v. a v || b v) (m + n) (p ++ q) (x ++ y)
-spans-append column a b m n p q x y one other = record {
-  fits = let f = one.fits in let g = other.fits in list_all-append (span_fits column) x y ∙ grind arith;
-  points = λ v i. let f = one.points v i in let g = other.points v i in list_any-append (λ s. in_span s v) x y ∙ grind (arith, f, g);
-  few = let f = one.few in let g = other.few in let l = length-append x y in omega arith;
-  ends = ends-append column (p ++ q) x y (ends-more column p (p ++ q) x (in_left p q) one.ends) (ends-more column q (p ++ q) y (in_right p q) other.ends);
-}

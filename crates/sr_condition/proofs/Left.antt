@@ -10,10 +10,9 @@ use Rattle.sr_cell.specs.declared.table.Column.{Column}
 use Rattle.sr_cell.specs.Cells.{cell_eq}
 use Rattle.sr_cell.specs.Columns.{in_column}
 use Rattle.sr_cell.specs.Names.{is_bad_domain}
+use Rattle.sr_cell.proofs.Order.{cell_eq-sound}
 use Rattle.sr_box.specs.declared.span.Span.{Span}
-use Rattle.sr_box.specs.declared.span.Span.TheVariants.{Full}
 use Rattle.sr_box.specs.Spans.{in_span, span_fits}
-use Rattle.sr_box.proofs.Order.{cell_eq-sound}
 use Rattle.sr_union.specs.Grid.{is_among}
 use Rattle.sr_union.proofs.Cuts.{is_among-append}
 use Rattle.sr_union.proofs.Low.{low_of, low-in}
@@ -21,7 +20,7 @@ use Rattle.sr_model.specs.Conditions.{passes, OneOf}
 use Rattle.sr_model.specs.Ends.{test_ends}
 use Rattle.sr_condition.specs.Ranges.{says_test, EndsAt, in_spans, is_left, times_in, beside, AreSpans, AreApart}
 use Rattle.sr_condition.proofs.Joins.{spans-with}
-use Rattle.sr_condition.proofs.Apart.{first-in, apart-without, apart-whole}
+use Rattle.sr_condition.proofs.Apart.{first-in, apart-without}
 
 -- ---- each span has a value of the list, and each value lies in one span at most
 
@@ -136,10 +135,6 @@ left-done column places taken items i spans same most least apart =
   where
     end : i ≡ length taken
     end = let e = ap length same in omega (arith, e, most, least)
-
-pub left-whole : (column : Column) (places : List Cell) (spans : List Span) → spans ≡ Full ∷ [] → AreApart column (is_left []) 1 places spans
-left-whole column places spans is =
-    subst (AreApart column (is_left []) 1 places) (sym is) (apart-with column (λ v. true) (is_left []) 1 [] places (Full ∷ []) (apart-whole column) (λ v i. refl) (λ v h. absurd (grind arith)))
 
 -- what is left by the spans between the values has the values
 pub inside-spans : (column : Column) (vs : List Cell) (most : ℕ) (between : List Span) (n : ℕ) (spans : List Span) → is_bad_domain column ≡ false

@@ -20,6 +20,7 @@ use Rattle.sr_box.proofs.Parts.{meet-is}
 use Rattle.sr_box.proofs.Order.{is_below-between}
 use Rattle.sr_union.specs.Grid.{is_among, has_cut}
 use Rattle.sr_union.proofs.Cuts.{maybe_cut, meet-cut}
+use Rattle.sr_union.proofs.SpanCuts.{no_cut-full}
 use Rattle.sr_condition.specs.Ranges.{is_range, IsRange, number_part, text_part, part_of, AreSpans}
 
 -- a part, or none, as spans
@@ -29,10 +30,6 @@ pub maybe-spans : (column : Column) (m : Option Span) (values : Cell → Bool) (
 maybe-spans column None values places f h e = record { fits = refl; points = h; few = omega arith; ends = tt }
 maybe-spans column (Some s) values places f h e =
     record { fits = grind arith; points = λ v p. let x = h v p in grind (arith, x); few = omega arith; ends = (e, tt) }
-
-pub no_cut-full : (k : Kind) (low high : ℤ) (v : Cell) → has_cut k low high Full v ≡ false
-no_cut-full Numbers low high v = refl
-no_cut-full Texts low high v = refl
 
 no_cut-domain : (low high : ℤ) (v : Cell) → has_cut Numbers low high (Nums low high) v ≡ false
 no_cut-domain low high v = let a : int_lt low low ≡ false = grind (arith, ints) in let b : int_lt high high ≡ false = grind (arith, ints) in rw (a, b) refl

@@ -12,11 +12,11 @@ use Rattle.sr_cell.specs.declared.table.Kind.TheVariants.{Num as Numbers, Str as
 use Rattle.sr_cell.specs.declared.table.Column.{Column}
 use Rattle.sr_cell.specs.Cells.{cell_eq}
 use Rattle.sr_cell.specs.Columns.{in_kind, in_column}
+use Rattle.sr_cell.proofs.Order.{text_le-refl, cell_eq-sound, cell_eq-refl}
 use Rattle.sr_box.specs.declared.span.Span.{Span}
 use Rattle.sr_box.specs.declared.span.Span.TheVariants.{Full, Nums, Strs}
 use Rattle.sr_box.specs.Spans.{in_span, span_fits, fits_kind}
 use Rattle.sr_box.specs.Corners.{text_cut, end_cut}
-use Rattle.sr_box.proofs.Order.{cell_eq-sound, cell_eq-refl, text_le-refl}
 use Rattle.sr_union.specs.Grid.{is_among, has_cut}
 use Rattle.sr_union.proofs.Cuts.{is_among-append, nums-cut, strs-cut}
 use Rattle.sr_model.specs.Conditions.{OneOf}

@@ -7,8 +7,8 @@ use Rattle.std.proofs.lemmas.List.Concat.{flat_map-append}
 use Rattle.sr_cell.specs.declared.cell.Cell.{Cell}
 use Rattle.sr_cell.specs.declared.table.Column.{Column}
 use Rattle.sr_cell.specs.Cells.{cell_le, cell_eq}
-use Rattle.sr_box.proofs.Order.{cell_le-trans}
 use Rattle.sr_cell.specs.Names.{is_bad_domain}
+use Rattle.sr_cell.proofs.Order.{cell_le-trans}
 use Rattle.sr_box.specs.declared.span.Span.{Span}
 use Rattle.sr_box.specs.declared.span.Span.TheVariants.{Full}
 use Rattle.sr_grammar.specs.declared.statement.Op.{Op}

@@ -12,7 +12,7 @@ use Rattle.sr_cell.specs.declared.cell.Cell.TheVariants.{Num, Str}
 use Rattle.sr_cell.specs.declared.table.Kind.{Kind}
 use Rattle.sr_cell.specs.declared.table.Kind.TheVariants.{Num as Numbers, Str as Texts}
 use Rattle.sr_cell.specs.Cells.{Row, cell_le}
-use Rattle.sr_box.proofs.Order.{cell_le-trans}
+use Rattle.sr_cell.proofs.Order.{cell_le-trans}
 use Rattle.sr_keyed.specs.Keyed.{is_of, is_from, is_up_to, is_between}
 use Rattle.sr_keyed.specs.Entries.{AreKeyed, are_ends, bound_of}
 use Rattle.sr_keyed.proofs.Order.{order, order-le, order-lt}

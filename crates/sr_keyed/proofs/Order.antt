@@ -1,8 +1,7 @@
 -- The order of the map's keys, among cells of one kind, is that of cells.
 use Rattle.std.proofs.Common.{◌≡◌, ℕ, true, not, ◌&&◌, List, refl, arith}
-use Rattle.std.specs.Prelude.{ℤ}
 use Rattle.std.specs.declared.cmp.Ordering.{Ordering}
-use Rattle.std.specs.Ordering.{int_cmp, nat_cmp, is_le, is_lt, is_eq}
+use Rattle.std.specs.Ordering.{nat_cmp, is_le, is_lt, is_eq}
 use Rattle.std.specs.Cmp.Lexicographic.{slice_cmp}
 use Rattle.std.proofs.lemmas.Cmp.{same_from_slice_cmp}
 use Rattle.std.proofs.lemmas.Int.{ints}
@@ -13,22 +12,14 @@ use Rattle.sr_cell.specs.declared.table.Kind.{Kind}
 use Rattle.sr_cell.specs.declared.table.Kind.TheVariants.{Num as Numbers, Str as Texts}
 use Rattle.sr_cell.specs.contracts.cell.CellOrd.TheImpl as cell_ord
 use Rattle.sr_cell.specs.Cells.{cell_le, cell_eq, text_le}
+use Rattle.sr_cell.proofs.Order.{is_text_le}
 use Rattle.sr_keyed.specs.Keyed.{is_of}
 
 abbrev pub order : Cell → Cell → Ordering
 order = (cell_ord.ghosts).cmp
 
-num_order : (a b : ℤ) → order (Num a) (Num b) ≡ int_cmp a b
-num_order a b = refl
-
-text_order : (s t : List ℕ) → order (Str s) (Str t) ≡ slice_cmp nat_cmp s t
-text_order s t = refl
-
 text_above : (xs ys : List ℕ) (o : Ordering) → o ≡ slice_cmp nat_cmp xs ys → is_lt o ≡ not (text_le ys xs)
 text_above = same_from_slice_cmp nat_cmp is_lt (λ xs ys. not (text_le ys xs)) refl (λ _ _. refl) (λ _ _. refl) (λ x y xs ys o h. grind (arith, nat_tests))
-
-text_below : (xs ys : List ℕ) (o : Ordering) → o ≡ slice_cmp nat_cmp xs ys → is_le o ≡ text_le xs ys
-text_below = same_from_slice_cmp nat_cmp is_le text_le refl (λ _ _. refl) (λ _ _. refl) (λ x y xs ys o h. grind (arith, nat_tests))
 
 text_same : (xs ys : List ℕ) (o : Ordering) → o ≡ slice_cmp nat_cmp xs ys → is_eq o ≡ (text_le ys xs && text_le xs ys)
 text_same = same_from_slice_cmp nat_cmp is_eq (λ xs ys. text_le ys xs && text_le xs ys) refl (λ _ _. refl) (λ _ _. refl) (λ x y xs ys o h. grind (arith, nat_tests))
@@ -45,7 +36,7 @@ order-le Numbers (Num a) (Str t) h k = absurd (grind arith)
 order-le Texts (Num a) (Str t) h k = absurd (grind arith)
 order-le Numbers (Str s) b h k = absurd (grind arith)
 order-le Texts (Str s) (Num b) h k = absurd (grind arith)
-order-le Texts (Str s) (Str t) h k = text_below s t _ refl
+order-le Texts (Str s) (Str t) h k = is_text_le s t _ refl
 
 pub order-lt : (kind : Kind) (a b : Cell) → is_of kind a ≡ true → is_of kind b ≡ true → is_lt (order a b) ≡ not (cell_le b a)
 order-lt kind (Num a) (Num b) h k = grind (arith, ints)

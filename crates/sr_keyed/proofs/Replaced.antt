@@ -10,8 +10,9 @@ use Rattle.std.proofs.lemmas.Map.Keys.{sorted_head, sorted_tail}
 use Rattle.sr_cell.specs.declared.cell.Cell.{Cell}
 use Rattle.sr_cell.specs.declared.table.Kind.{Kind}
 use Rattle.sr_cell.specs.Cells.{Row, cell_at, cell_eq}
-use Rattle.sr_box.proofs.Order.{cell_le-trans, cell_eq-sound}
-use Rattle.sr_keyed.specs.Keyed.{is_of, with_replaced, without_key}
+use Rattle.sr_cell.proofs.Order.{cell_le-trans, cell_eq-sound}
+use Rattle.sr_keyed.specs.Keyed.{is_of, with_replaced}
+use Rattle.sr_rows.specs.Keys.{without_key}
 use Rattle.sr_keyed.specs.Entries.{AreKeyed}
 use Rattle.sr_keyed.proofs.Order.{order, order-eq}
 use Rattle.sr_keyed.proofs.Entries.{here, before}

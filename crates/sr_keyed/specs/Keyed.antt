@@ -1,5 +1,5 @@
 -- Rows by key, as contracts see them.
-use Rattle.std.specs.Prelude.{ℕ, Bool, true, false, not, ◌&&◌, List, map, filter, Option, Some, None, if◌then◌else◌}
+use Rattle.std.specs.Prelude.{ℕ, Bool, true, false, ◌&&◌, List, map, Option, Some, None, if◌then◌else◌}
 use Rattle.std.specs.List.{list_all}
 use Rattle.sr_cell.specs.declared.cell.Cell.{Cell}
 use Rattle.sr_cell.specs.declared.cell.Cell.TheVariants.{Num, Str}
@@ -31,9 +31,6 @@ are_values row = list_all is_value row
 -- the row that has another's key gives way to it
 abbrev pub with_replaced : ℕ → Row → List Row → List Row
 with_replaced key row rows = map (λ r. if cell_eq (cell_at r key) (cell_at row key) then row else r) rows
-
-abbrev pub without_key : ℕ → Cell → List Row → List Row
-without_key key v rows = filter (λ r. not (cell_eq (cell_at r key) v)) rows
 
 abbrev pub is_from : Option Cell → Cell → Bool
 is_from None v = true

@@ -10,7 +10,8 @@ ghost use Rattle.sr_cell.specs.Cells.{cell_at};
 ghost use Rattle.sr_cell.specs.Columns.{are_bytes};
 ghost use Rattle.sr_model.specs.SortedRows.{ascend, has_key, with_row};
 ghost use Rattle.sr_model.specs.Changes.{row_with};
-ghost use Rattle.sr_keyed.specs.Keyed.{is_of, is_value, are_values, with_replaced, without_key, is_between};
+ghost use Rattle.sr_keyed.specs.Keyed.{is_of, is_value, are_values, with_replaced, is_between};
+ghost use Rattle.sr_rows.specs.Keys.{without_key};
 ghost use Rattle.sr_keyed.specs.Entries.{are_ends, bound_of};
 
 use sr_cell::cell::{Cell, Row, Rows};

@@ -22,11 +22,6 @@ digit_at ds i all h =
     let at = list_all_at is_digit ds i 0 h in
     grind (arith, nat_tests, at)
 
-pub low_digit : (ds : List ℕ) (i : ℕ) → list_all is_digit ds ≡ true → i < length ds → 48 ≤ get_or ds i 0
-low_digit ds i all h =
-    let at = list_all_at is_digit ds i 0 h in
-    grind (arith, nat_tests, at)
-
 -- one digit more
 pub value_more : (ds : List ℕ) (i : ℕ) → list_all is_digit ds ≡ true → i < length ds
     → digits_value 10 (take (i + 1) ds) ≡ digits_value 10 (take i ds) * 10 + (get_or ds i 0 - 48)

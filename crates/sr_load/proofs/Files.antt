@@ -1,11 +1,13 @@
 -- The rows of a file that go into a table one after another, and files one after another.
-use Rattle.std.proofs.Common.{◌≡◌, ℕ, zero, suc, ◌+◌, ◌<◌, ◌&&◌, Bool, true, false, List, [], ◌∷◌, length, Ok, Err, Some, None, refl, sym, ap, ◌∙◌, arith, drop, drop-cons}
+use Rattle.std.proofs.Common.{◌≡◌, ℕ, zero, suc, ◌+◌, ◌<◌, true, List, [], ◌∷◌, length, Ok, Err, Some, None, refl, sym, ap, ◌∙◌, arith, drop, drop-cons}
 use Rattle.std.proofs.lemmas.List.{get_or-set_same}
 use Rattle.std.specs.Prelude.{Option, Result, slice_set, slice_index_or}
+use Rattle.std.specs.Cmp.{second_so}
 use Rattle.sr_cell.specs.declared.fault.Fault.{Fault}
 use Rattle.sr_cell.specs.declared.table.Table.{Table}
 use Rattle.sr_cell.specs.Cells.{Row}
 use Rattle.sr_cell.specs.Columns.{table_at}
+use Rattle.sr_cell.proofs.Results.{same_Ok}
 use Rattle.sr_model.specs.Loads.{load_fault, of_record, rows_loaded}
 use Rattle.sr_model.specs.Queries.{rows_at}
 use Rattle.sr_model.specs.SortedRows.{with_row}
@@ -15,17 +17,13 @@ use Rattle.sr_load.specs.declared.fill.LoadFault.{LoadFault}
 use Rattle.sr_load.specs.Filling.{of_file, with_file, filled}
 use Rattle.sr_tables.specs.Stored.{are_rows, are_stored, with_loaded}
 
-second : (a b : Bool) → (a && b) ≡ true → b ≡ true
-second true b both = both
-second false b both = absurd (cc)
-
 -- each table has its rows
 pub stored-length : (schema : List Table) (tables : Tables) → are_stored schema tables ≡ true → length tables ≡ length schema
 stored-length [] [] stored = refl
 stored-length [] (rows ∷ tables) stored = absurd (cc)
 stored-length (t ∷ schema) [] stored = absurd (cc)
 stored-length (t ∷ schema) (rows ∷ tables) stored =
-    let more = stored-length schema tables (second (are_rows t rows) (are_stored schema tables) stored) in
+    let more = stored-length schema tables (second_so (are_rows t rows) (are_stored schema tables) stored) in
     omega (arith, more)
 
 -- of a table's rows the last that were put there count
@@ -43,12 +41,9 @@ with-again : (tables : Tables) (t : ℕ) (rows : List Row) (r : Result (List Row
 with-again tables t rows (Ok last) = ap Ok (set-again tables t rows last)
 with-again tables t rows (Err fault) = refl
 
-same_value : {A : Type 0} (a b : A) → (let here : Result A Fault = Ok a in here) ≡ Ok b → a ≡ b
-same_value a b e = cc
-
 -- the tables after a row have it in place of those that were there
 loaded-none : (tables new : Tables) (t : ℕ) (rows : List Row) (f : Option Fault) → with_table tables t (or_else f (Ok rows)) ≡ Ok new → (f ≡ None) × (slice_set tables t rows ≡ new)
-loaded-none tables new t rows None e = (refl, same_value (slice_set tables t rows) new e)
+loaded-none tables new t rows None e = (refl, same_Ok (slice_set tables t rows) new e)
 loaded-none tables new t rows (Some fault) e = absurd (cc)
 
 pub one-loaded-length : (schema : List Table) (t : ℕ) (row : Row) (tables new : Tables) → with_loaded schema t row tables ≡ Ok new → length new ≡ length tables
@@ -69,15 +64,6 @@ one-loaded schema t n row more tables new there e =
     ∙ sym (with-again tables t after (rows_loaded table (n + 1) more after))
     ∙ ap (λ now. with_table (slice_set tables t after) t (rows_loaded table (n + 1) more now)) (sym (get_or-set_same tables t after [] there))
     ∙ ap (λ all. with_table all t (rows_loaded table (n + 1) more (rows_at all t))) is.1
-
--- a row that is refused is the fault of the file
-pub one-refused : (schema : List Table) (t n : ℕ) (row : Row) (more : List Row) (tables : Tables) (fault : Fault)
-    → of_record n (load_fault (table_at schema t) (rows_at tables t) row) ≡ Some fault
-    → with_table tables t (rows_loaded (table_at schema t) n (row ∷ more) (rows_at tables t)) ≡ Err fault
-one-refused schema t n row more tables fault e =
-    let table = table_at schema t in
-    let rows = rows_at tables t in
-    ap (λ (f : Option Fault). with_table tables t (or_else f (rows_loaded table (n + 1) more (with_row table.key rows row)))) e
 
 -- ---- files
 

@@ -4,35 +4,17 @@ use Rattle.std.specs.Prelude.{pos, None, slice_get, slice_index_or}
 use Rattle.std.specs.Option.{unwrap_or}
 use Rattle.std.proofs.lemmas.Option.{unwrap_or-slice_get}
 use Rattle.std.specs.List.{list_all}
-use Rattle.std.proofs.lemmas.Int.{ints}
 use Rattle.std.proofs.lemmas.Bool.Decides.{nat_tests}
 use Rattle.sr_cell.specs.declared.cell.Cell.{Cell}
-use Rattle.sr_cell.specs.declared.cell.Cell.TheVariants.{Num, Str}
+use Rattle.sr_cell.specs.declared.cell.Cell.TheVariants.{Num}
 use Rattle.sr_cell.specs.Cells.{Row, cell_at, cell_le, text_le}
+use Rattle.sr_cell.proofs.Order.{cell_le-trans}
 use Rattle.sr_model.specs.SortedRows.{key_lt, ascend}
-
-pub text_le-trans : (s t u : List ℕ) → text_le s t ≡ true → text_le t u ≡ true → text_le s u ≡ true
-text_le-trans [] t u h k = refl
-text_le-trans (a ∷ s) [] u h k = absurd (grind arith)
-text_le-trans (a ∷ s) (b ∷ t) [] h k = absurd (grind arith)
-text_le-trans (a ∷ s) (b ∷ t) (c ∷ u) h k = let ih = text_le-trans s t u in grind (arith, nat_tests, ih)
 
 pub text_le-total : (s t : List ℕ) → (text_le s t || text_le t s) ≡ true
 text_le-total [] t = refl
 text_le-total (a ∷ s) [] = refl
 text_le-total (a ∷ s) (b ∷ t) = let ih = text_le-total s t in grind (arith, nat_tests, ih)
-
-pub cell_le-trans : (a b c : Cell) → cell_le a b ≡ true → cell_le b c ≡ true → cell_le a c ≡ true
-cell_le-trans (Num a) (Num b) (Num c) h k = grind (arith, ints)
-cell_le-trans (Num a) (Num b) (Str c) h k = absurd (grind arith)
-cell_le-trans (Num a) (Str b) c h k = absurd (grind arith)
-cell_le-trans (Str a) (Num b) c h k = absurd (grind arith)
-cell_le-trans (Str a) (Str b) (Num c) h k = absurd (grind arith)
-cell_le-trans (Str a) (Str b) (Str c) h k = text_le-trans a b c h k
-
-pub cell_le-refl : (v : Cell) → cell_le v v ≡ true
-cell_le-refl (Num n) = grind (arith, ints)
-cell_le-refl (Str s) = let t = text_le-total s s in grind (arith, t)
 
 -- a row that is too short has 0 there
 pub cell_at_absent : (row : Row) (key : ℕ) → slice_get row key ≡ None → slice_index_or row key (Num (pos 0)) ≡ Num (pos 0)

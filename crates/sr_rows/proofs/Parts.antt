@@ -1,16 +1,15 @@
 -- Rows put among others, and parts of rows put together.
-use Rattle.std.proofs.Common.{◌≡◌, ℕ, ◌+◌, Bool, true, false, cond, not, ◌&&◌, ◌||◌, List, [], ◌∷◌, ◌++◌, take, drop, refl, sym, ap, subst, ◌∙◌, arith, append_assoc}
+use Rattle.std.proofs.Common.{◌≡◌, ℕ, ◌+◌, Bool, true, false, cond, not, ◌&&◌, ◌||◌, List, [], ◌∷◌, ◌++◌, refl, sym, ap, subst, ◌∙◌, arith}
 use Rattle.std.specs.Prelude.{filter, Option, Some, None, option_to_list}
-use Rattle.std.specs.List.{list_all, prefix_len}
-use Rattle.std.proofs.lemmas.List.Folds.{list_all-append}
+use Rattle.std.specs.List.{list_all}
 use Rattle.sr_cell.specs.declared.cell.Cell.{Cell}
 use Rattle.sr_cell.specs.Cells.{Row, cell_at, cell_le}
+use Rattle.sr_cell.proofs.Order.{cell_le-trans, cell_le-refl}
 use Rattle.sr_model.specs.SortedRows.{ascend, with_row, with_rows}
-use Rattle.sr_rows.specs.Places.{place_at, is_own_next}
-use Rattle.sr_rows.proofs.Order.{cell_le-trans, cell_le-refl, key_lt-le, key_lt-not, is_first, ascend-tail, ascend-first, first-ascend}
-use Rattle.sr_rows.proofs.Places.{with_row-place, one_more}
+use Rattle.sr_rows.specs.Places.{is_own_next}
+use Rattle.sr_rows.proofs.Order.{key_lt-le, key_lt-not, is_first, ascend-tail, ascend-first, first-ascend}
 
-first-filter : (key : ℕ) (r : Row) (f : Row → Bool) (rows : List Row) → is_first key r rows ≡ true → is_first key r (filter f rows) ≡ true
+pub first-filter : (key : ℕ) (r : Row) (f : Row → Bool) (rows : List Row) → is_first key r rows ≡ true → is_first key r (filter f rows) ≡ true
 first-filter key r f [] h = refl
 first-filter key r f (s ∷ rows) h = go (f s) (first-filter key r f rows (grind arith))
   where
@@ -60,31 +59,8 @@ with_rows-behind key before rows [] h = refl
 with_rows-behind key before rows (row ∷ more) h =
     ap (λ xs. with_rows key xs more) (with_row-behind key before rows row (grind arith)) ∙ with_rows-behind key before (with_row key rows row) more (grind arith)
 
-prefix-passes : {X : Type 0} (p : X → Bool) (xs : List X) → list_all p (take (prefix_len p xs) xs) ≡ true
-prefix-passes p [] = refl
-prefix-passes p (x ∷ xs) = go (p x) refl (prefix-passes p xs)
-  where
-    go : (b : Bool) → p x ≡ b → list_all p (take (prefix_len p xs) xs) ≡ true → list_all p (take (cond b (1 + prefix_len p xs) 0) (x ∷ xs)) ≡ true
-    go true e ih = rw one_more (grind (arith, e, ih))
-    go false e ih = refl
-
 one-passes : (key : ℕ) (row : Row) → are_at_most key (cell_at row key) (row ∷ []) ≡ true
 one-passes key row = let t = cell_le-refl (cell_at row key) in grind (arith, t)
-
--- the first of some ascending rows goes to its place, and the others behind it
-pub with_rows-step : (key : ℕ) (rows : List Row) (row : Row) (more : List Row) → ascend key (row ∷ more) ≡ true
-    → with_rows key rows (row ∷ more)
-    ≡ (take (place_at key (cell_at row key) rows) rows ++ row ∷ []) ++ with_rows key (drop (place_at key (cell_at row key) rows) rows) more
-with_rows-step key rows row more h =
-    let p : Row → Bool = λ r. cell_le (cell_at r key) (cell_at row key) in
-    let before = take (place_at key (cell_at row key) rows) rows in
-    let after = drop (place_at key (cell_at row key) rows) rows in
-    let e : with_row key rows row ≡ (before ++ row ∷ []) ++ after = with_row-place key rows row ∙ sym (append_assoc before (row ∷ []) after) in
-    let one = prefix-passes p rows in
-    let two = one-passes key row in
-    let all : are_at_most key (cell_at row key) (before ++ row ∷ []) ≡ true = list_all-append p before (row ∷ []) ∙ grind (arith, one, two) in
-    ap (λ xs. with_rows key xs more) e
-    ∙ with_rows-behind key (before ++ row ∷ []) after more (at_most-first key row more (before ++ row ∷ []) (ascend-first key row more h) all)
 
 with_row-front : (key : ℕ) (row : Row) (rows : List Row) → is_first key row rows ≡ true → with_row key rows row ≡ row ∷ rows
 with_row-front key row [] f = refl
@@ -143,3 +119,8 @@ next-other key own more rest None h is e = ap (λ xs. with_rows key own xs) e
 next-other key own more rest (Some m) h is e =
     let P : List Row → Type 0 = λ xs. ascend key xs ≡ true → is_own_next key own xs ≡ false → with_rows key own xs ≡ m ∷ with_rows key own rest in
     subst P (sym e) (with_rows-other key own m rest) h is
+
+-- ascending rows put one after another
+pub with_rows-none : (key : ℕ) (rows : List Row) → ascend key rows ≡ true → with_rows key [] rows ≡ rows
+with_rows-none key [] h = refl
+with_rows-none key (r ∷ rows) h = with_rows-other key [] r rows h refl ∙ ap (λ xs. r ∷ xs) (with_rows-none key rows (ascend-tail key r rows h))

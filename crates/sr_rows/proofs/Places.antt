@@ -1,5 +1,5 @@
 -- Places of rows by key.
-use Rattle.std.proofs.Common.{◌≡◌, ℕ, zero, suc, ◌+◌, ◌-◌, ◌<◌, ◌≤◌, Bool, true, false, cond, ◌&&◌, ◌||◌, List, [], ◌∷◌, ◌++◌, length, take, drop, refl, sym, ap, arith}
+use Rattle.std.proofs.Common.{◌≡◌, ℕ, zero, suc, ◌+◌, ◌-◌, ◌<◌, ◌≤◌, Bool, true, false, cond, ◌&&◌, ◌||◌, List, [], ◌∷◌, ◌++◌, length, take, drop, refl, sym, ap, arith, one-add}
 use Rattle.std.specs.Prelude.{if◌then◌else◌, nat_lt, slice_index_or}
 use Rattle.std.specs.List.{prefix_len}
 use Rattle.std.specs.List.Sorted.{IsPartitionedBy, IsPartitionPoint}
@@ -7,9 +7,10 @@ use Rattle.std.proofs.lemmas.List.Sums.{prefix_len_is}
 use Rattle.std.proofs.lemmas.Bool.Decides.{nat_tests}
 use Rattle.sr_cell.specs.declared.cell.Cell.{Cell}
 use Rattle.sr_cell.specs.Cells.{Row, cell_at, cell_le}
+use Rattle.sr_cell.proofs.Order.{cell_le-trans}
 use Rattle.sr_model.specs.SortedRows.{key_lt, ascend, has_key, with_row}
 use Rattle.sr_rows.specs.Places.{place_at, is_apart}
-use Rattle.sr_rows.proofs.Order.{cell_le-trans, key_lt-le, key_lt-not, is_first, ascend-tail, ascend-first, first-ascend}
+use Rattle.sr_rows.proofs.Order.{key_lt-le, key_lt-not, is_first, ascend-tail, ascend-first, first-ascend}
 
 -- the rows before one whose key is at most the cell have such keys too
 first_le : (key : ℕ) (v : Cell) (r : Row) (rows : List Row) (j : ℕ) (d : Row) → is_first key r rows ≡ true → j < length rows
@@ -30,9 +31,6 @@ point-place p [] n le point = omega arith
 point-place p (x ∷ xs) n le point =
     sym (prefix_len_is p (x ∷ xs) n x le (λ k below. point.0 k x (omega arith) below) (λ below. point.1 n x (omega arith) below))
 
-pub one_more : (n : ℕ) → 1 + n ≡ suc n
-one_more n = omega arith
-
 pub with_row-place : (key : ℕ) (rows : List Row) (row : Row)
     → with_row key rows row ≡ take (place_at key (cell_at row key) rows) rows ++ row ∷ drop (place_at key (cell_at row key) rows) rows
 with_row-place key [] row = refl
@@ -41,7 +39,7 @@ with_row-place key (r ∷ rows) row = go (cell_le (cell_at r key) (cell_at row k
     go : (b : Bool) → with_row key rows row ≡ take (place_at key (cell_at row key) rows) rows ++ row ∷ drop (place_at key (cell_at row key) rows) rows
         → (if b then r ∷ with_row key rows row else row ∷ r ∷ rows)
         ≡ take (cond b (1 + place_at key (cell_at row key) rows) 0) (r ∷ rows) ++ row ∷ drop (cond b (1 + place_at key (cell_at row key) rows) 0) (r ∷ rows)
-    go true ih = rw one_more (ap (λ xs. r ∷ xs) ih)
+    go true ih = rw one-add (ap (λ xs. r ∷ xs) ih)
     go false ih = refl
 
 -- no row from one on that stands behind the cell has it as key

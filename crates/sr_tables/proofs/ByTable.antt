@@ -1,10 +1,11 @@
 -- What holds of the rows of each table holds of one of them, and after one of them has changed.
 use Rattle.std.proofs.Common.{◌≡◌, ℕ, ◌<◌, ◌&&◌, Bool, true, false, List, [], ◌∷◌, ◌++◌, ◌+◌, ◌≤◌, ◌∙◌, take, length, map, refl, sym, ap, subst, arith, zero, suc, IsTrue}
-use Rattle.std.proofs.lemmas.Bool.{and_parts}
+use Rattle.std.proofs.lemmas.Bool.{and_parts, and_from}
 use Rattle.std.proofs.lemmas.Bool.Decides.{nat_tests}
 use Rattle.std.proofs.lemmas.List.{take_more, take_all, map-append}
 use Rattle.std.specs.Prelude.{nat_le, nat_lt, not, ◌==◌, slice_set, slice_index_or}
 use Rattle.std.specs.List.{list_all, AllZip}
+use Rattle.std.specs.Cmp.{first_so, second_so}
 use Rattle.sr_cell.specs.declared.table.Table.{Table}
 use Rattle.sr_cell.specs.Columns.{table_at, fits_columns}
 use Rattle.sr_model.specs.Queries.{rows_at}
@@ -55,19 +56,11 @@ there schema all t zip known = omega (arith, zip-length schema all zip, known)
 
 -- the statement is on one of the tables
 pub known-of : (schema : List Table) (w : Write) → IsTrue (suits schema w) → table_of w < length schema
-known-of schema w fits = let first : nat_lt (table_of w) (length schema) ≡ true = left (nat_lt (table_of w) (length schema)) (suits_table (table_at schema (table_of w)) w) fits in grind (arith, nat_tests)
-  where
-    left : (a b : Bool) → (a && b) ≡ true → a ≡ true
-    left true b both = refl
-    left false b both = both
+known-of schema w fits = let first : nat_lt (table_of w) (length schema) ≡ true = first_so (nat_lt (table_of w) (length schema)) (suits_table (table_at schema (table_of w)) w) fits in grind (arith, nat_tests)
 
 -- and it suits that table
 pub suits-of : (schema : List Table) (w : Write) → IsTrue (suits schema w) → IsTrue (suits_table (table_at schema (table_of w)) w)
-suits-of schema w fits = right (nat_lt (table_of w) (length schema)) (suits_table (table_at schema (table_of w)) w) fits
-  where
-    right : (a b : Bool) → (a && b) ≡ true → b ≡ true
-    right true b both = both
-    right false b both = absurd (cc)
+suits-of schema w fits = second_so (nat_lt (table_of w) (length schema)) (suits_table (table_at schema (table_of w)) w) fits
 
 pub places-suit : (table : Table) (sets : List Place) → IsTrue (list_all (λ (p : model.Place). nat_lt p.column (length table.columns) && not (p.column == table.key)) (map place_of sets))
     → IsTrue (list_all (λ (p : Place). nat_lt p.column (length table.columns) && not (p.column == table.key)) sets)
@@ -87,9 +80,6 @@ abbrev pub AllAscend : List Keyed → Type 0
 AllAscend [] = Unit {0}
 AllAscend (k ∷ all) = (ascend k.key k.rows ≡ true) × AllAscend all
 
-both : (a b : Bool) → a ≡ true → b ≡ true → (a && b) ≡ true
-both a b p q = rw (p, q) refl
-
 pub ascend-more : (all : List Keyed) (k : Keyed) → AllAscend all → ascend k.key k.rows ≡ true → AllAscend (all ++ k ∷ [])
 ascend-more [] k up one = (one, tt)
 ascend-more (j ∷ all) k up one = (up.0, ascend-more all k up.1 one)
@@ -100,9 +90,9 @@ all-stored [] (k ∷ all) zip up few = absurd zip
 all-stored (t ∷ schema) [] zip up few = absurd zip
 all-stored (t ∷ schema) (k ∷ all) zip up few =
     let each = and_parts (nat_le (length k.rows) 65536) (are_few (rows_in all)) few in
-    both (are_rows t k.rows) (are_stored schema (rows_in all))
-    (both (ascend t.key k.rows && list_all (fits_columns t.columns) k.rows) (nat_le (length k.rows) 65536)
-    (both (ascend t.key k.rows) (list_all (fits_columns t.columns) k.rows) (subst (λ key. ascend key k.rows ≡ true) zip.0.key up.0) zip.0.fits) each.0)
+    and_from (are_rows t k.rows) (are_stored schema (rows_in all))
+    (and_from (ascend t.key k.rows && list_all (fits_columns t.columns) k.rows) (nat_le (length k.rows) 65536)
+    (and_from (ascend t.key k.rows) (list_all (fits_columns t.columns) k.rows) (subst (λ key. ascend key k.rows ≡ true) zip.0.key up.0) zip.0.fits) each.0)
     (all-stored schema all zip.1 up.1 each.1)
 
 pub zip-more : (schema : List Table) (all : List Keyed) (t : Table) (k : Keyed) → AllZip IsKeyed schema all → IsKeyed t k → AllZip IsKeyed (schema ++ t ∷ []) (all ++ k ∷ [])

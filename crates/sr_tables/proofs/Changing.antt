@@ -1,19 +1,21 @@
 -- What rows among others change.
 use Rattle.std.proofs.Common.{◌≡◌, ℕ, Bool, true, false, cond, not, ◌||◌, List, [], ◌∷◌, refl, sym, ap, ◌∙◌, arith}
-use Rattle.std.specs.Prelude.{if◌then◌else◌, filter, find, map, fold, Some, None}
+use Rattle.std.specs.Prelude.{if◌then◌else◌, filter, find, map, fold, Some}
 use Rattle.std.specs.List.{list_all, list_any, AllByRecursion as Each}
 use Rattle.sr_cell.specs.declared.change.Change.{Change}
 use Rattle.sr_cell.specs.declared.table.Table.{Table}
 use Rattle.sr_cell.specs.Cells.{Row, cell_at, cell_le, cell_eq}
-use Rattle.sr_model.specs.SortedRows.{key_lt, ascend, has_key, with_row, with_rows, row_eq}
+use Rattle.sr_cell.proofs.Lists.{filter-map, find-none}
+use Rattle.sr_cell.proofs.Order.{cell_le-trans, cell_le-refl}
+use Rattle.sr_model.specs.SortedRows.{key_lt, ascend, has_key, with_row, with_rows}
 use Rattle.sr_model.specs.Changes.{row_with, same_row, all_keys, table_changes}
 use Rattle.sr_rows.specs.Places.{is_apart}
-use Rattle.sr_rows.proofs.Order.{cell_le-trans, cell_le-refl, key_lt-le, key_lt-not, is_first, ascend-tail, ascend-first}
+use Rattle.sr_rows.proofs.Order.{key_lt-le, key_lt-not, is_first, ascend-tail, ascend-first}
 use Rattle.sr_rows.proofs.Places.{with_row-ascend}
-use Rattle.sr_rows.proofs.Parts.{with_rows-other}
+use Rattle.sr_rows.proofs.Elements.{list_any-with_row, row_eq-refl}
 use Rattle.sr_tables.specs.Inserts.{are_apart}
 use Rattle.sr_tables.specs.Added.{added_rows}
-use Rattle.sr_tables.proofs.Inserts.{list_any-with_row, list_all-rows, apart-ascend}
+use Rattle.sr_tables.proofs.Inserts.{list_all-rows, apart-ascend}
 use Rattle.sr_tables.proofs.Inserting.{apart-each, with_rows-fresh}
 
 -- ---- look-ups
@@ -24,14 +26,6 @@ find-some p (y ∷ xs) x h = go (p y) h (find-some p xs x)
   where
     go : (b : Bool) → cond b (Some y) (find p xs) ≡ Some x → (find p xs ≡ Some x → list_any p xs ≡ true) → (b || list_any p xs) ≡ true
     go true h ih = refl
-    go false h ih = ih h
-
-find-none : {X : Type 0} (p : X → Bool) (xs : List X) → list_any p xs ≡ false → find p xs ≡ None
-find-none p [] h = refl
-find-none p (y ∷ xs) h = go (p y) h (find-none p xs)
-  where
-    go : (b : Bool) → (b || list_any p xs) ≡ false → (list_any p xs ≡ false → find p xs ≡ None) → cond b (Some y) (find p xs) ≡ None
-    go true h ih = absurd (cc)
     go false h ih = ih h
 
 -- the rows' keys differ
@@ -147,11 +141,6 @@ filter-rows p key rows (m ∷ more) h apart passes =
     filter-rows p key (with_row key rows m) more (with_row-ascend key rows m h (grind arith)) (grind arith) (grind arith)
     ∙ ap (λ xs. with_rows key xs more) (filter-row p key rows m h (grind arith))
 
--- ascending rows put one after another
-with_rows-again : (key : ℕ) (rows : List Row) → ascend key rows ≡ true → with_rows key [] rows ≡ rows
-with_rows-again key [] h = refl
-with_rows-again key (r ∷ rows) h = with_rows-other key [] r rows h refl ∙ ap (λ xs. r ∷ xs) (with_rows-again key rows (ascend-tail key r rows h))
-
 -- the new rows are those that pass
 new_part : (p : Row → Bool) (key : ℕ) (rows more : List Row) → ascend key rows ≡ true → are_apart key rows more ≡ true
     → list_all (λ row. not (p row)) rows ≡ true → list_all p more ≡ true → filter p (with_rows key rows more) ≡ with_rows key [] more
@@ -210,10 +199,6 @@ all_keys-with_rows key rows more h apart =
 
 -- ---- the changes
 
-row_eq-same : (row : Row) → row_eq row row ≡ true
-row_eq-same [] = refl
-row_eq-same (v ∷ row) = let ih = row_eq-same row in let one = cell_le-refl v in grind (arith, ih, one)
-
 -- of each key: what stood there, and what stands there now
 abbrev change_of : Table → ℕ → List Row → List Row → Row → Change
 change_of table t old new row =
@@ -222,21 +207,12 @@ change_of table t old new row =
 abbrev differs : Table → List Row → List Row → Row → Bool
 differs table old new row = not (same_row (row_with table.key (cell_at row table.key) old) (row_with table.key (cell_at row table.key) new))
 
-filter-map : {X Y : Type 0} (p : Y → Bool) (f : X → Y) (xs : List X) → filter p (map f xs) ≡ map f (filter (λ x. p (f x)) xs)
-filter-map p f [] = refl
-filter-map {X} {Y} p f (x ∷ xs) = go (p (f x)) (filter-map p f xs)
-  where
-    go : (b : Bool) → filter p (map f xs) ≡ map f (filter (λ x. p (f x)) xs)
-        → cond b (f x ∷ filter p (map f xs)) (filter p (map f xs)) ≡ map f (cond b (x ∷ filter (λ x. p (f x)) xs) (filter (λ x. p (f x)) xs))
-    go true ih = ap (λ ys. f x ∷ ys) ih
-    go false ih = ih
-
 stays : (table : Table) (old new others : List Row) → Each (λ s. row_with table.key (cell_at s table.key) old ≡ Some s) others
     → Each (λ s. row_with table.key (cell_at s table.key) new ≡ Some s) others → list_all (λ row. not (differs table old new row)) others ≡ true
 stays table old new [] was is = refl
 stays table old new (s ∷ others) was is =
     let ih = stays table old new others was.1 is.1 in
-    let same = row_eq-same s in
+    let same = row_eq-refl s in
     let e : same_row (row_with table.key (cell_at s table.key) old) (row_with table.key (cell_at s table.key) new) ≡ true = rw (was.0, is.0) same in
     grind (arith, ih, e)
 

@@ -6,12 +6,13 @@ use Rattle.std.proofs.lemmas.List.Elements.{filter_agree}
 use Rattle.sr_cell.specs.declared.cell.Cell.{Cell}
 use Rattle.sr_cell.specs.declared.table.Table.{Table}
 use Rattle.sr_cell.specs.Cells.{Row, cell_at, cell_eq}
-use Rattle.sr_box.proofs.Order.{cell_eq-refl}
+use Rattle.sr_cell.proofs.Order.{cell_eq-refl}
 use Rattle.sr_model.specs.SortedRows.{ascend, has_key}
 use Rattle.sr_model.specs.Changes.{table_changes, same_row}
 use Rattle.sr_rows.proofs.Order.{is_first, ascend-tail, ascend-first}
-use Rattle.sr_keyed.specs.Keyed.{without_key}
-use Rattle.sr_tables.proofs.Keys.{row_eq-refl, first-lacks, first-differs}
+use Rattle.sr_rows.proofs.Elements.{row_eq-refl}
+use Rattle.sr_rows.specs.Keys.{without_key}
+use Rattle.sr_tables.proofs.Keys.{first-lacks, first-differs}
 use Rattle.sr_tables.proofs.Kept.{change_by, changes-kept, map-passed}
 
 module _ (p : Row → Bool) where

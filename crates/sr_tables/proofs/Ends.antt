@@ -39,7 +39,7 @@ above-end kind v w h k = go (is_of kind w) refl
     go true e = let order = in_order kind v w h e in grind (arith, order)
     go false e = refl
 
-takes-kind : (kind : Kind) (low high : ℤ) (v : Cell) → takes_kind kind low high v ≡ true → is_of kind v ≡ true
+pub takes-kind : (kind : Kind) (low high : ℤ) (v : Cell) → takes_kind kind low high v ≡ true → is_of kind v ≡ true
 takes-kind Numbers low high (Num n) h = refl
 takes-kind Numbers low high (Str s) h = absurd (cc)
 takes-kind Texts low high (Num n) h = absurd (cc)

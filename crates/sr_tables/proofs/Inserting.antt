@@ -3,11 +3,12 @@ use Rattle.std.proofs.Common.{◌≡◌, ℕ, Bool, true, false, ◌||◌, List,
 use Rattle.std.specs.Prelude.{if◌then◌else◌}
 use Rattle.std.specs.List.{list_all}
 use Rattle.sr_cell.specs.Cells.{Row, cell_at, cell_le}
+use Rattle.sr_cell.proofs.Order.{cell_le-trans}
 use Rattle.sr_model.specs.SortedRows.{key_lt, with_row, with_rows}
 use Rattle.sr_rows.specs.Places.{is_apart}
-use Rattle.sr_rows.proofs.Order.{cell_le-trans, key_lt-le, key_lt-not}
+use Rattle.sr_rows.proofs.Order.{key_lt-le, key_lt-not}
+use Rattle.sr_rows.proofs.Elements.{list_all-row}
 use Rattle.sr_tables.specs.Inserts.{are_apart}
-use Rattle.sr_tables.proofs.Inserts.{list_all-row}
 
 -- ---- the order in which rows are put does not matter
 

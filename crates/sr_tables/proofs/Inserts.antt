@@ -1,9 +1,9 @@
 -- What a statement's rows make of a table's rows.
 use Rattle.std.proofs.Common.{◌≡◌, ℕ, zero, suc, ◌+◌, ◌<◌, ◌≤◌, Bool, true, false, ◌&&◌, ◌||◌, List, [], ◌∷◌, length, drop, refl, ap, ◌∙◌, arith}
 use Rattle.std.specs.Prelude.{ℤ, if◌then◌else◌, nat_lt, Option, Some, None, Result, Ok, Err, ◌==◌}
-use Rattle.std.specs.List.{list_all, list_any}
+use Rattle.std.specs.List.{list_all}
 use Rattle.std.proofs.lemmas.Int.{ints}
-use Rattle.std.proofs.lemmas.List.{drop_all}
+use Rattle.std.proofs.lemmas.List.{drop_all, length-map}
 use Rattle.std.proofs.lemmas.Bool.Decides.{nat_tests}
 use Rattle.sr_cell.specs.declared.cell.Cell.{Cell}
 use Rattle.sr_cell.specs.declared.cell.Cell.TheVariants.{Num, Str}
@@ -11,6 +11,7 @@ use Rattle.sr_cell.specs.declared.table.Kind.{Kind}
 use Rattle.sr_cell.specs.declared.table.Kind.TheVariants.{Num as Numbers, Str as Texts}
 use Rattle.sr_cell.specs.declared.table.Column.{Column}
 use Rattle.sr_cell.specs.declared.table.Table.{Table}
+use Rattle.sr_cell.specs.declared.change.Change.{Change}
 use Rattle.sr_cell.specs.declared.fault.Fault.{Fault}
 use Rattle.sr_cell.specs.declared.fault.Why.TheVariants.{DuplicateKey, TableFull, TooManyChanges}
 use Rattle.sr_cell.specs.Cells.{Row, cell_at, cell_le, cell_eq}
@@ -19,44 +20,17 @@ use Rattle.sr_model.specs.SortedRows.{ascend, has_key, with_row, with_rows}
 use Rattle.sr_model.specs.Loads.{room_fault, load_fault}
 use Rattle.sr_model.specs.Statements.{cell_fault, first_fault, bad_cell_from, key_fault, fault_of_row, or_else, within_limits, inserted}
 use Rattle.sr_rows.specs.Places.{is_apart}
+use Rattle.sr_tables.specs.Added.{added_row, added_rows}
 use Rattle.sr_tables.specs.Inserts.{fault_from, limit_fault, are_apart}
 use Rattle.sr_rows.proofs.Order.{text_le-total}
 use Rattle.sr_rows.proofs.Places.{with_row-ascend}
+use Rattle.sr_rows.proofs.Elements.{list_any-with_rows, list_all-row, list_all-with_row}
 
 -- tests, counts and orders of rows with more rows
-
-pub list_any-with_row : (p : Row → Bool) (key : ℕ) (rows : List Row) (row : Row) → list_any p (with_row key rows row) ≡ (p row || list_any p rows)
-list_any-with_row p key [] row = refl
-list_any-with_row p key (r ∷ rows) row = go (cell_le (cell_at r key) (cell_at row key)) (list_any-with_row p key rows row)
-  where
-    go : (b : Bool) → list_any p (with_row key rows row) ≡ (p row || list_any p rows)
-        → list_any p (if b then r ∷ with_row key rows row else row ∷ r ∷ rows) ≡ (p row || (p r || list_any p rows))
-    go true ih = grind (arith, ih)
-    go false ih = refl
-
-list_any-with_rows : (p : Row → Bool) (key : ℕ) (rows more : List Row) → list_any p (with_rows key rows more) ≡ (list_any p rows || list_any p more)
-list_any-with_rows p key rows [] = or_false (list_any p rows)
-  where
-    or_false : (b : Bool) → b ≡ (b || false)
-    or_false true = refl
-    or_false false = refl
-list_any-with_rows p key rows (row ∷ more) =
-    let ih = list_any-with_rows p key (with_row key rows row) more in
-    let one = list_any-with_row p key rows row in
-    grind (arith, ih, one)
 
 -- what the rows of a statement have, and what the table had
 pub has_key_with_rows : (key : ℕ) (v : Cell) (rows more : List Row) → has_key key v (with_rows key rows more) ≡ (has_key key v rows || has_key key v more)
 has_key_with_rows key v rows more = list_any-with_rows (λ row. cell_eq (cell_at row key) v) key rows more
-
-pub list_all-row : (p : Row → Bool) (key : ℕ) (rows : List Row) (row : Row) → list_all p (with_row key rows row) ≡ (p row && list_all p rows)
-list_all-row p key [] row = refl
-list_all-row p key (r ∷ rows) row = go (cell_le (cell_at r key) (cell_at row key)) (list_all-row p key rows row)
-  where
-    go : (b : Bool) → list_all p (with_row key rows row) ≡ (p row && list_all p rows)
-        → list_all p (if b then r ∷ with_row key rows row else row ∷ r ∷ rows) ≡ (p row && (p r && list_all p rows))
-    go true ih = grind (arith, ih)
-    go false ih = refl
 
 pub list_all-rows : (p : Row → Bool) (key : ℕ) (rows more : List Row) → list_all p (with_rows key rows more) ≡ (list_all p rows && list_all p more)
 list_all-rows p key rows [] = and_true (list_all p rows)
@@ -68,9 +42,6 @@ list_all-rows p key rows (row ∷ more) =
     let ih = list_all-rows p key (with_row key rows row) more in
     let one = list_all-row p key rows row in
     grind (arith, ih, one)
-
-pub list_all-with_row : (p : Row → Bool) (key : ℕ) (rows : List Row) (row : Row) → list_all p rows ≡ true → p row ≡ true → list_all p (with_row key rows row) ≡ true
-list_all-with_row p key rows row all one = let both = list_all-row p key rows row in grind (arith, both, all, one)
 
 pub length-with_row : (key : ℕ) (rows : List Row) (row : Row) → length (with_row key rows row) ≡ suc (length rows)
 length-with_row key [] row = refl
@@ -131,13 +102,13 @@ inserted-by table more rows =
 
 -- rows that fit
 
-fits-kind : (kind : Kind) (low high : ℤ) (c : ℕ) (v : Cell) → cell_fault kind low high c v ≡ None → takes_kind kind low high v ≡ true
+pub fits-kind : (kind : Kind) (low high : ℤ) (c : ℕ) (v : Cell) → cell_fault kind low high c v ≡ None → takes_kind kind low high v ≡ true
 fits-kind Numbers low high c (Num n) h = grind arith
 fits-kind Numbers low high c (Str s) h = absurd (cc)
 fits-kind Texts low high c (Num n) h = absurd (cc)
 fits-kind Texts low high c (Str s) h = grind (arith, nat_tests)
 
-first_fault-none : (one other : Option Fault) → first_fault one other ≡ None → (one ≡ None) × (other ≡ None)
+pub first_fault-none : (one other : Option Fault) → first_fault one other ≡ None → (one ≡ None) × (other ≡ None)
 first_fault-none (Some fault) other h = absurd (cc)
 first_fault-none None other h = (refl, h)
 
@@ -225,3 +196,16 @@ pub inserted-done : (table : Table) (more rows : List Row) → fault_from table 
 inserted-done table more rows none few =
     inserted-by table more rows ∙ ap (λ x. or_else x (or_else (limit_fault (length more) (length rows + length more)) (Ok (with_rows table.key rows more)))) none
     ∙ ap (λ x. or_else x (Ok (with_rows table.key rows more))) few
+
+-- ---- a change for each row
+
+pub few-inserted : (number key count : ℕ) (more : List Row) (changes : List Change) → changes ≡ added_rows number key (with_rows key [] more) → limit_fault (length more) count ≡ None → length changes ≤ 10000
+few-inserted number key count more changes are few =
+    let size = ap length are ∙ (length-map (with_rows key [] more) (added_row number key) ∙ length-with_rows key [] more) in
+    let least = by (nat_lt 65536 count) (nat_lt 10000 (length more)) refl few in
+    omega (arith, size, least)
+  where
+    by : (a b : Bool) → nat_lt 10000 (length more) ≡ b → (let here : Option Fault = if a then Some (record { why = TableFull; at = 65536 }) else (if b then Some (record { why = TooManyChanges; at = length more }) else None) in here) ≡ None → length more ≤ 10000
+    by true b is e = absurd cc
+    by false true is e = absurd cc
+    by false false is e = grind (arith, nat_tests, is)

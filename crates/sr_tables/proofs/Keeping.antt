@@ -1,5 +1,5 @@
 -- Rows of a table stay rows of it.
-use Rattle.std.proofs.Common.{◌≡◌, ℕ, suc, ◌+◌, ◌<◌, Bool, true, false, ◌||◌, List, [], ◌∷◌, length, refl, sym, ap, ◌∙◌, arith}
+use Rattle.std.proofs.Common.{◌≡◌, ℕ, suc, ◌+◌, ◌<◌, Bool, true, false, List, [], ◌∷◌, length, refl, sym, ap, ◌∙◌, arith}
 use Rattle.std.specs.Prelude.{None, pos}
 use Rattle.std.specs.List.{list_all}
 use Rattle.sr_cell.specs.declared.cell.Cell.{Cell}
@@ -9,16 +9,17 @@ use Rattle.sr_cell.specs.declared.table.Column.{Column}
 use Rattle.sr_cell.specs.declared.table.Table.{Table}
 use Rattle.sr_cell.specs.Cells.{Row, cell_at}
 use Rattle.sr_cell.specs.Columns.{fits_columns}
-use Rattle.sr_model.specs.SortedRows.{ascend, has_key, with_row, with_rows, key_lt}
+use Rattle.sr_model.specs.SortedRows.{ascend, has_key, with_row, with_rows}
 use Rattle.sr_model.specs.Statements.{fault_of_row, first_fault}
 use Rattle.sr_rows.specs.Places.{is_apart}
-use Rattle.sr_rows.proofs.Order.{is_first, ascend-tail, ascend-first}
+use Rattle.sr_rows.proofs.Order.{ascend-tail, ascend-first}
+use Rattle.sr_rows.proofs.Elements.{list_all-with_row, apart-next}
 use Rattle.sr_keyed.specs.Keyed.{Keyed, is_of}
 use Rattle.sr_tables.specs.Stored.{IsKeyed}
 use Rattle.sr_tables.specs.Inserts.{fault_from, are_apart}
-use Rattle.sr_tables.proofs.Inserts.{list_all-with_row, list_all-row, list_all-rows, apart-fits, apart-ascend, has_key_with_rows}
+use Rattle.sr_tables.proofs.Inserts.{list_all-rows, apart-fits, apart-ascend, has_key_with_rows}
 use Rattle.sr_tables.proofs.Inserting.{apart-each, apart-alone, with_rows-among}
-use Rattle.sr_tables.proofs.Taking.{kind-fits}
+use Rattle.sr_tables.proofs.Ends.{fits-kind_of}
 
 pub all_first : (p : Row → Bool) (row : Row) (rows : List Row) → list_all p (row ∷ rows) ≡ true → p row ≡ true
 all_first p row rows h = grind arith
@@ -40,7 +41,7 @@ same_keyed k key kind rows a b c =
 -- a row that fits has a key of the rows' kind
 pub key-kind : (t : Table) (k : Keyed) (row : Row) → IsKeyed t k → t.key < length t.columns → fits_columns t.columns row ≡ true → is_of k.kind (cell_at row k.key) ≡ true
 key-kind t k row keyed below fits =
-    let is = kind-fits t.columns t.key row (record { name = []; kind = Texts; lo = pos 0; hi = pos 0 }) below fits in
+    let is = fits-kind_of t.columns t.key row (record { name = []; kind = Texts; lo = pos 0; hi = pos 0 }) below fits in
     let key = keyed.key in
     let kind = keyed.kind in
     cc
@@ -77,14 +78,6 @@ pub fresh-step : (t : Table) (i : ℕ) (rows fresh rest : List Row) (row : Row) 
 fresh-step t i rows fresh rest row apart none =
     ap (λ fault. first_fault fault (fault_from t (i + 1) (with_row t.key (with_rows t.key rows fresh) row) rest)) none
     ∙ ap (λ xs. fault_from t (i + 1) xs rest) (sym (with_rows-among t.key rows fresh row apart))
-
--- ascending rows, each apart from the rows, can be put one by one
-apart-next : (key : ℕ) (rows more : List Row) (m : Row) → is_first key m more ≡ true → list_all (is_apart key rows) more ≡ true → list_all (is_apart key (with_row key rows m)) more ≡ true
-apart-next key rows [] m f h = refl
-apart-next key rows (r ∷ more) m f h =
-    let ih = apart-next key rows more m (grind arith) (grind arith) in
-    let one = list_all-row (λ other. key_lt key other r || key_lt key r other) key rows m in
-    grind (arith, ih, one, f, h)
 
 apart-ascending : (key : ℕ) (rows more : List Row) → ascend key more ≡ true → list_all (is_apart key rows) more ≡ true → are_apart key rows more ≡ true
 apart-ascending key rows [] h each = refl

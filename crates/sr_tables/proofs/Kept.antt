@@ -5,6 +5,7 @@ use Rattle.std.specs.List.{list_all, filter_map, AllByRecursion}
 use Rattle.sr_cell.specs.declared.change.Change.{Change}
 use Rattle.sr_cell.specs.declared.table.Table.{Table}
 use Rattle.sr_cell.specs.Cells.{Row, cell_at}
+use Rattle.sr_cell.proofs.Lists.{filter-map}
 use Rattle.sr_model.specs.SortedRows.{ascend, has_key}
 use Rattle.sr_model.specs.Changes.{row_with, same_row, all_keys, table_changes}
 use Rattle.sr_tables.proofs.Keys.{KeepsKey, has-own, has-kept, found-kept}
@@ -20,15 +21,6 @@ map-passed f g p same (x ∷ xs) = go (p x) refl (map-passed f g p same xs)
     go : (b : Bool) → p x ≡ b → map f (filter p xs) ≡ map g (filter p xs) → map f (cond b (x ∷ filter p xs) (filter p xs)) ≡ map g (cond b (x ∷ filter p xs) (filter p xs))
     go true e ih = let one = same x e in cc
     go false e ih = ih
-
-pub filter-map : {X Y : Type 0} (p : Y → Bool) (f : X → Y) (xs : List X) → filter p (map f xs) ≡ map f (filter (λ x. p (f x)) xs)
-filter-map p f [] = refl
-filter-map p f (x ∷ xs) = go (p (f x)) (filter-map p f xs)
-  where
-    go : (b : Bool) → filter p (map f xs) ≡ map f (filter (λ x. p (f x)) xs)
-        → cond b (f x ∷ filter p (map f xs)) (filter p (map f xs)) ≡ map f (cond b (x ∷ filter (λ x. p (f x)) xs) (filter (λ x. p (f x)) xs))
-    go true ih = ap (λ ys. f x ∷ ys) ih
-    go false ih = ih
 
 -- the rows that pass are among those that pass a wider test
 pub filter-wider : {X : Type 0} (p q : X → Bool) → ((x : X) → p x ≡ true → q x ≡ true) → (xs : List X) → filter p (filter q xs) ≡ filter p xs

@@ -4,25 +4,13 @@ use Rattle.std.specs.Prelude.{Option, Some, None}
 use Rattle.std.specs.List.{list_all, filter_map, cons_option, AllByRecursion}
 use Rattle.sr_cell.specs.declared.cell.Cell.{Cell}
 use Rattle.sr_cell.specs.Cells.{Row, cell_at, cell_le, cell_eq}
-use Rattle.sr_box.proofs.Order.{cell_eq-sound, cell_eq-refl}
+use Rattle.sr_cell.proofs.Order.{cell_eq-refl}
 use Rattle.sr_model.specs.SortedRows.{key_lt, ascend, has_key, row_eq}
 use Rattle.sr_model.specs.Changes.{row_with}
 use Rattle.sr_rows.proofs.Order.{key_lt-not, is_first, ascend-tail, ascend-first, first-ascend}
+use Rattle.sr_rows.proofs.Elements.{row_eq-refl, row_eq-sound}
 
 -- rows are equal just where their cells are
-
-pub row_eq-refl : (row : Row) → row_eq row row ≡ true
-row_eq-refl [] = refl
-row_eq-refl (v ∷ row) = let one = cell_eq-refl v in let ih = row_eq-refl row in grind (arith, one, ih)
-
-pub row_eq-sound : (p q : Row) → row_eq p q ≡ true → p ≡ q
-row_eq-sound [] [] h = refl
-row_eq-sound [] (w ∷ q) h = absurd (cc)
-row_eq-sound (v ∷ p) [] h = absurd (cc)
-row_eq-sound (v ∷ p) (w ∷ q) h =
-    let one : v ≡ w = cell_eq-sound v w (grind arith) in
-    let others : p ≡ q = row_eq-sound p q (grind arith) in
-    cc
 
 pub same-rows : (b : Bool) (p q : Row) → (IsTrue b ↔ (p ≡ q)) → b ≡ row_eq p q
 same-rows true p q iff = let same : p ≡ q = iff.0 (search rules) in sym (subst (λ r. row_eq p r ≡ true) same (row_eq-refl p))

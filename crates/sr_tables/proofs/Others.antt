@@ -1,22 +1,14 @@
 -- A statement changes one table, so the changes of a version are those of that table.
-use Rattle.std.proofs.Common.{◌≡◌, ℕ, ◌+◌, ◌<◌, ◌&&◌, Bool, true, not, List, [], ◌∷◌, length, map, Option, Some, None, refl, ◌∙◌, ap, arith, zero, suc, append-nil}
+use Rattle.std.proofs.Common.{◌≡◌, ℕ, ◌+◌, ◌<◌, true, not, List, [], ◌∷◌, length, map, Option, Some, None, refl, ◌∙◌, ap, arith, zero, suc, append-nil}
 use Rattle.std.specs.Prelude.{filter, slice_set}
 use Rattle.sr_cell.specs.declared.change.Change.{Change}
 use Rattle.sr_cell.specs.declared.table.Table.{Table}
-use Rattle.sr_cell.specs.Cells.{Row, cell_at, cell_eq}
+use Rattle.sr_cell.specs.Cells.{Row, cell_at}
 use Rattle.sr_cell.specs.Columns.{table_at}
 use Rattle.sr_model.specs.Queries.{rows_at}
-use Rattle.sr_model.specs.SortedRows.{row_eq}
 use Rattle.sr_model.specs.Statements.{Tables}
 use Rattle.sr_model.specs.Changes.{row_with, same_row, all_keys, table_changes, changes_from, changes}
-use Rattle.sr_box.proofs.Order.{cell_eq-refl}
-
-and_both : (a b : Bool) → a ≡ true → b ≡ true → (a && b) ≡ true
-and_both a b p q = rw (p, q) refl
-
-pub row_eq-refl : (row : Row) → row_eq row row ≡ true
-row_eq-refl [] = refl
-row_eq-refl (v ∷ row) = and_both (cell_eq v v) (row_eq row row) (cell_eq-refl v) (row_eq-refl row)
+use Rattle.sr_rows.proofs.Elements.{row_eq-refl}
 
 pub same_row-refl : (row : Option Row) → same_row row row ≡ true
 same_row-refl None = refl

@@ -1,6 +1,6 @@
 -- What UPDATE and DELETE, step by step, make of a table's rows.
 use Rattle.std.proofs.Common.{◌≡◌, ℕ, suc, Bool, true, false, cond, not, ◌&&◌, List, [], ◌∷◌, map, length, refl, sym, ap, subst, ◌∙◌, arith}
-use Rattle.std.specs.Prelude.{◌<◌, ◌≤◌, nat_lt, filter, fold, Option, Some, None, Result, Ok, Err, if◌then◌else◌}
+use Rattle.std.specs.Prelude.{◌<◌, ◌≤◌, nat_lt, filter, fold, Option, None, Result, Ok, Err, if◌then◌else◌}
 use Rattle.std.specs.List.{list_all, filter_map}
 use Rattle.std.proofs.lemmas.List.{length-map}
 use Rattle.std.proofs.lemmas.Bool.Decides.{nat_tests}
@@ -12,12 +12,13 @@ use Rattle.sr_cell.specs.declared.fault.Fault.{Fault}
 use Rattle.sr_cell.specs.declared.fault.Why.TheVariants.{TooManyChanges}
 use Rattle.sr_cell.specs.Cells.{Row, cell_at, cell_eq}
 use Rattle.sr_cell.specs.Columns.{fits_columns}
-use Rattle.sr_box.proofs.Order.{cell_eq-sound}
+use Rattle.sr_cell.proofs.Order.{cell_eq-sound}
 use Rattle.sr_model.specs.Conditions.{Cond}
 use Rattle.sr_model.specs.SortedRows.{ascend, has_key}
 use Rattle.sr_model.specs.Statements.{Place, meets, places_fault, updated_row, is_changed, updated, deleted, or_else, within_changes}
 use Rattle.sr_model.specs.Changes.{table_changes}
-use Rattle.sr_keyed.specs.Keyed.{Keyed, with_replaced, without_key, is_from, is_up_to, is_between}
+use Rattle.sr_keyed.specs.Keyed.{Keyed, with_replaced, is_from, is_up_to, is_between}
+use Rattle.sr_rows.specs.Keys.{without_key}
 use Rattle.sr_tables.specs.Stored.{IsKeyed}
 use Rattle.sr_tables.specs.Steps.{update_change, delete_change, is_known, replaced_by, removed_by}
 use Rattle.sr_tables.proofs.Keys.{has-own}
@@ -102,9 +103,6 @@ many-rows : (n : ℕ) (rows : List Row) → nat_lt 10000 n ≡ true → within_c
 many-rows n rows e = rw e refl
 
 -- ---- UPDATE
-
-pub updated-placed : (t : Table) (places : List Place) (c : Option Cond) (rows : List Row) (fault : Fault) → places_fault t places ≡ Some fault → updated t places c rows ≡ Err fault
-updated-placed t places c rows fault is = ap (λ o. or_else o (within_changes (length (filter (is_changed places c) rows)) (map (updated_row places c) rows))) is
 
 module _ (t : Table) (number : ℕ) (places : List Place) (c : Option Cond) (k : Keyed) (keyed : IsKeyed t k) (below : t.key < length t.columns) (placed : are_places t places ≡ true)
     (changes : List Change) (are : changes ≡ map (update_change number t.key places c) (filter (is_changed places c) k.rows)) (none : places_fault t places ≡ None) where

@@ -1,22 +1,21 @@
 -- Rows with new values in some columns.
 use Rattle.std.proofs.Common.{◌≡◌, ◌≢◌, ℕ, zero, suc, Bool, true, false, not, ◌&&◌, List, [], ◌∷◌, map, length, refl, sym, ◌∙◌, arith}
-use Rattle.std.specs.Prelude.{ℤ, pos, ◌==◌, nat_lt, slice_set, slice_index_or, Option, Some, None, if◌then◌else◌}
+use Rattle.std.specs.Prelude.{pos, ◌==◌, nat_lt, slice_set, slice_index_or, Option, Some, None, if◌then◌else◌}
 use Rattle.std.specs.List.{list_all}
 use Rattle.std.proofs.lemmas.List.{get_or-set_other}
 use Rattle.std.proofs.lemmas.Bool.Decides.{nat_tests}
 use Rattle.sr_cell.specs.declared.cell.Cell.{Cell}
-use Rattle.sr_cell.specs.declared.cell.Cell.TheVariants.{Num, Str}
-use Rattle.sr_cell.specs.declared.table.Kind.{Kind}
-use Rattle.sr_cell.specs.declared.table.Kind.TheVariants.{Num as Numbers, Str as Texts}
+use Rattle.sr_cell.specs.declared.cell.Cell.TheVariants.{Num}
+use Rattle.sr_cell.specs.declared.table.Kind.TheVariants.{Str as Texts}
 use Rattle.sr_cell.specs.declared.table.Column.{Column}
 use Rattle.sr_cell.specs.declared.table.Table.{Table}
-use Rattle.sr_cell.specs.declared.fault.Fault.{Fault}
 use Rattle.sr_cell.specs.Cells.{Row, cell_at}
-use Rattle.sr_cell.specs.Columns.{takes_kind, takes_cell, fits_columns}
+use Rattle.sr_cell.specs.Columns.{takes_cell, fits_columns}
 use Rattle.sr_model.specs.Conditions.{Cond}
-use Rattle.sr_model.specs.Statements.{Place, cell_fault, first_fault, column_of, meets, place_fault, places_fault, with_places, updated_row, is_changed}
+use Rattle.sr_model.specs.Statements.{Place, column_of, meets, place_fault, places_fault, with_places, updated_row, is_changed}
 use Rattle.sr_model.specs.SortedRows.{row_eq}
-use Rattle.sr_tables.proofs.Keys.{row_eq-refl, row_eq-sound}
+use Rattle.sr_rows.proofs.Elements.{row_eq-refl, row_eq-sound}
+use Rattle.sr_tables.proofs.Inserts.{fits-kind, first_fault-none}
 
 -- each place is a column of the table, and not the key
 abbrev pub are_places : Table → List Place → Bool
@@ -38,16 +37,6 @@ updated_row-key t places c h row = go (meets c row)
     go false = refl
 
 -- new values that can stand in their columns
-
-fits-kind : (kind : Kind) (low high : ℤ) (c : ℕ) (v : Cell) → cell_fault kind low high c v ≡ None → takes_kind kind low high v ≡ true
-fits-kind Numbers low high c (Num n) h = grind arith
-fits-kind Numbers low high c (Str s) h = absurd (cc)
-fits-kind Texts low high c (Num n) h = absurd (cc)
-fits-kind Texts low high c (Str s) h = grind (arith, nat_tests)
-
-first_fault-none : (one other : Option Fault) → first_fault one other ≡ None → (one ≡ None) × (other ≡ None)
-first_fault-none (Some fault) other h = absurd (cc)
-first_fault-none None other h = (refl, h)
 
 fits-set : (columns : List Column) (row : Row) (c : ℕ) (v : Cell) (d : Column) → fits_columns columns row ≡ true → takes_cell (slice_index_or columns c d) v ≡ true
     → fits_columns columns (slice_set row c v) ≡ true

@@ -1,5 +1,5 @@
 -- A statement of few rows is bound to a write of few rows.
-use Rattle.std.proofs.Common.{◌≡◌, ℕ, List, [], ◌∷◌, length, Ok, Err, refl, sym, ap, subst, arith, IsTrue}
+use Rattle.std.proofs.Common.{◌≡◌, ℕ, List, [], length, Ok, Err, refl, sym, subst, IsTrue}
 use Rattle.std.specs.Prelude.{Result, ◌^◌, nat_lt}
 use Rattle.sr_cell.specs.declared.fault.Fault.{Fault}
 use Rattle.sr_cell.specs.declared.table.Table.{Table}
@@ -11,6 +11,7 @@ use Rattle.sr_grammar.specs.Trees as tree
 use Rattle.sr_model.specs.Statements.{Write, Insert as Inserting, Update as Updating, Delete as Deleting}
 use Rattle.sr_query.specs.Binding.{◌>>=◌, each}
 use Rattle.sr_query.specs.Writes.{bound_write, table_known, listed, row_of, inserting, updating, deleting, places_from, condition_in}
+use Rattle.sr_query.proofs.Steps.{each-length}
 use Rattle.sr_tables.specs.Stored.{is_short, statement_is_short}
 
 record Bind {A B : Type 0} (r : Result A Fault) (f : A → Result B Fault) (b : B) : Type 0 where
@@ -21,14 +22,6 @@ record Bind {A B : Type 0} (r : Result A Fault) (f : A → Result B Fault) (b : 
 bind : {A B : Type 0} (r : Result A Fault) (f : A → Result B Fault) (b : B) → (r >>= f) ≡ Ok b → Bind r f b
 bind (Ok a) f b is = record { value = a; is = refl; rest = is }
 bind (Err e) f b is = absurd (cc)
-
-each-length : {A B : Type 0} (f : A → Result B Fault) (xs : List A) (ys : List B) → each f xs ≡ Ok ys → length ys ≡ length xs
-each-length f [] ys is = let same : [] ≡ ys = cc in sym (ap length same)
-each-length f (x ∷ xs) ys is =
-    let first = bind (f x) (λ b. each f xs >>= λ bs. Ok (b ∷ bs)) ys is in
-    let rest = bind (each f xs) (λ bs. Ok (first.value ∷ bs)) ys first.rest in
-    let same : first.value ∷ rest.value ≡ ys = (let k = rest.rest in cc) in
-    omega (arith, ap length same, each-length f xs rest.value rest.is)
 
 insert-short : (schema : List Table) (s : Insert) (t : ℕ) (w : Write) → inserting schema s t ≡ Ok w → IsTrue (nat_lt (length s.rows) (2 ^ 32)) → IsTrue (is_short w)
 insert-short schema s t w is short =

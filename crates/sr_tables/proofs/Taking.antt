@@ -1,19 +1,14 @@
 -- Rows that are taken out again; keys of a kind.
-use Rattle.std.proofs.Common.{◌≡◌, ℕ, zero, suc, ◌<◌, Bool, true, false, cond, not, ◌&&◌, ◌||◌, List, [], ◌∷◌, length, refl, sym, ap, ◌∙◌, arith}
-use Rattle.std.specs.Prelude.{ℤ, filter, slice_index_or}
+use Rattle.std.proofs.Common.{◌≡◌, ℕ, Bool, true, false, cond, not, ◌&&◌, ◌||◌, List, [], ◌∷◌, refl, sym, ap, ◌∙◌, arith}
+use Rattle.std.specs.Prelude.{filter}
 use Rattle.std.specs.List.{list_all, list_any}
-use Rattle.sr_cell.specs.declared.cell.Cell.{Cell}
-use Rattle.sr_cell.specs.declared.cell.Cell.TheVariants.{Num, Str}
-use Rattle.sr_cell.specs.declared.table.Kind.{Kind}
-use Rattle.sr_cell.specs.declared.table.Kind.TheVariants.{Num as Numbers, Str as Texts}
-use Rattle.sr_cell.specs.declared.table.Column.{Column}
+use Rattle.std.proofs.lemmas.List.Elements.{filter_agree}
 use Rattle.sr_cell.specs.declared.change.Change.{Change}
 use Rattle.sr_cell.specs.Cells.{Row, cell_at, cell_eq}
-use Rattle.sr_cell.specs.Columns.{takes_kind, fits_columns}
+use Rattle.sr_cell.proofs.Order.{cell_le-refl}
 use Rattle.sr_model.specs.SortedRows.{with_row}
 use Rattle.sr_rows.specs.Places.{is_apart}
-use Rattle.sr_rows.proofs.Order.{cell_le-refl}
-use Rattle.sr_keyed.specs.Keyed.{is_of, without_key}
+use Rattle.sr_rows.specs.Keys.{without_key}
 use Rattle.sr_tables.specs.Added.{added_row, added_rows, is_changed, is_unchanged}
 use Rattle.sr_tables.proofs.Changing.{apart-differs, filter-out}
 
@@ -29,10 +24,6 @@ filter-twice {X} p q (x ∷ xs) = go (q x) (p x) refl (filter-twice p q xs)
     go true false e ih = rw e ih
     go false c e ih = ih
 
-filter-agree : {X : Type 0} (p q : X → Bool) → ((x : X) → p x ≡ q x) → (xs : List X) → filter p xs ≡ filter q xs
-filter-agree p q same [] = refl
-filter-agree p q same (x ∷ xs) = rw (same x, filter-agree p q same xs) refl
-
 not_either : (a b : Bool) → (not a && not b) ≡ not (a || b)
 not_either true b = refl
 not_either false b = refl
@@ -41,7 +32,7 @@ pub take_next : (key : ℕ) (c : Change) (changes : List Change) (rows : List Ro
     → filter (is_unchanged key changes) (without_key key c.key rows) ≡ filter (is_unchanged key (c ∷ changes)) rows
 take_next key c changes rows =
     filter-twice (is_unchanged key changes) (λ row. not (cell_eq (cell_at row key) c.key)) rows
-    ∙ filter-agree (λ row. not (cell_eq (cell_at row key) c.key) && is_unchanged key changes row) (is_unchanged key (c ∷ changes))
+    ∙ filter_agree (λ row. not (cell_eq (cell_at row key) c.key) && is_unchanged key changes row) (is_unchanged key (c ∷ changes))
     (λ row. not_either (cell_eq (cell_at row key) c.key) (list_any (λ (d : Change). cell_eq (cell_at row key) d.key) changes)) rows
 
 filter-all : {X : Type 0} (p : X → Bool) (xs : List X) → list_all p xs ≡ true → filter p xs ≡ xs
@@ -85,17 +76,3 @@ pub fresh_go : (key : ℕ) (changes : List Change) (rows : List Row) (row : Row)
 fresh_go key changes rows row h = filter-out (is_unchanged key changes) key rows row (ap not h)
 
 -- ---- kinds
-
-kind-taken : (kind : Kind) (low high : ℤ) (v : Cell) → takes_kind kind low high v ≡ true → is_of kind v ≡ true
-kind-taken Numbers low high (Num n) h = refl
-kind-taken Numbers low high (Str s) h = absurd (cc)
-kind-taken Texts low high (Num n) h = absurd (cc)
-kind-taken Texts low high (Str s) h = refl
-
--- a row that fits has a key of the column's kind
-pub kind-fits : (columns : List Column) (key : ℕ) (row : Row) (d : Column) → key < length columns → fits_columns columns row ≡ true
-    → is_of (slice_index_or columns key d).kind (cell_at row key) ≡ true
-kind-fits [] key row d below h = absurd (omega arith)
-kind-fits (c ∷ columns) key [] d below h = absurd (cc)
-kind-fits (c ∷ columns) zero (v ∷ row) d below h = kind-taken c.kind c.lo c.hi v (grind arith)
-kind-fits (c ∷ columns) (suc key) (v ∷ row) d below h = kind-fits columns key row d (omega arith) (grind arith)

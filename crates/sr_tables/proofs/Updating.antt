@@ -4,7 +4,7 @@ use Rattle.std.specs.Prelude.{filter, fold, Some}
 use Rattle.std.specs.List.{filter_map}
 use Rattle.sr_cell.specs.declared.table.Table.{Table}
 use Rattle.sr_cell.specs.Cells.{Row, cell_at, cell_eq}
-use Rattle.sr_box.proofs.Order.{cell_eq-refl}
+use Rattle.sr_cell.proofs.Order.{cell_eq-refl}
 use Rattle.sr_model.specs.SortedRows.{key_lt, ascend, has_key, row_eq}
 use Rattle.sr_model.specs.Changes.{table_changes}
 use Rattle.sr_rows.proofs.Order.{is_first, ascend-tail, ascend-first}

@@ -5,7 +5,8 @@ use Rattle.sr_cell.specs.Cells.{Row, cell_at}
 use Rattle.sr_model.specs.Conditions.{Cond}
 use Rattle.sr_model.specs.SortedRows.{has_key}
 use Rattle.sr_model.specs.Statements.{Place, updated_row}
-use Rattle.sr_keyed.specs.Keyed.{Keyed, with_replaced, without_key}
+use Rattle.sr_rows.specs.Keys.{without_key}
+use Rattle.sr_keyed.specs.Keyed.{Keyed, with_replaced}
 
 -- what an UPDATE makes of a row, and what a DELETE does
 abbrev pub update_change : ℕ → ℕ → List Place → Option Cond → Row → Change

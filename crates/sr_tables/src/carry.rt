@@ -39,6 +39,7 @@ pub(crate) fn carry_out(
     requires short { IsTrue (is_short (write_of write)) }
     ensures done { OnOk result (executed schema.now (write_of write) (rows_in all.old.items) ≡ Ok (rows_in all.new.items)) }
     ensures changes { IfOk result (λ made. made ≡ changes schema.now (rows_in all.old.items) (rows_in all.new.items)) }
+    ensures few { IfOk result (λ made. length made ≤ 10000) }
     ensures refused { (fault : TheFault) → IsErrOf result (Refused fault) → executed schema.now (write_of write) (rows_in all.old.items) ≡ Err fault }
     ensures unchanged { OnErr result (all.new.items ≡ all.old.items) }
     ensures keyed { AllZip IsKeyed schema.now all.new.items }
@@ -68,6 +69,7 @@ fn insert_into(
     requires short { length more < 2 ^ 32 }
     ensures done { OnOk result (executed schema.now (Insert table more) (rows_in all.old.items) ≡ Ok (rows_in all.new.items)) }
     ensures changes { IfOk result (λ made. made ≡ changes schema.now (rows_in all.old.items) (rows_in all.new.items)) }
+    ensures few { IfOk result (λ made. length made ≤ 10000) }
     ensures refused { (fault : TheFault) → IsErrOf result (Refused fault) → executed schema.now (Insert table more) (rows_in all.old.items) ≡ Err fault }
     ensures unchanged { OnErr result (all.new.items ≡ all.old.items) }
     ensures keyed { AllZip IsKeyed schema.now all.new.items }
@@ -91,6 +93,7 @@ fn update_in(
     requires suits { IsTrue (suits schema.now (Update table (map place_of sets.now) (condition_of filter.now.condition))) }
     ensures done { OnOk result (executed schema.now (Update table (map place_of sets.now) (condition_of filter.now.condition)) (rows_in all.old.items) ≡ Ok (rows_in all.new.items)) }
     ensures changes { IfOk result (λ made. made ≡ changes schema.now (rows_in all.old.items) (rows_in all.new.items)) }
+    ensures few { IfOk result (λ made. length made ≤ 10000) }
     ensures refused { (fault : TheFault) → IsErrOf result (Refused fault) → executed schema.now (Update table (map place_of sets.now) (condition_of filter.now.condition)) (rows_in all.old.items) ≡ Err fault }
     ensures unchanged { OnErr result (all.new.items ≡ all.old.items) }
     ensures keyed { AllZip IsKeyed schema.now all.new.items }
@@ -120,6 +123,7 @@ fn delete_from(
     requires suits { IsTrue (suits schema.now (Delete table (condition_of filter.now.condition))) }
     ensures done { OnOk result (executed schema.now (Delete table (condition_of filter.now.condition)) (rows_in all.old.items) ≡ Ok (rows_in all.new.items)) }
     ensures changes { IfOk result (λ made. made ≡ changes schema.now (rows_in all.old.items) (rows_in all.new.items)) }
+    ensures few { IfOk result (λ made. length made ≤ 10000) }
     ensures refused { (fault : TheFault) → IsErrOf result (Refused fault) → executed schema.now (Delete table (condition_of filter.now.condition)) (rows_in all.old.items) ≡ Err fault }
     ensures unchanged { OnErr result (all.new.items ≡ all.old.items) }
     ensures keyed { AllZip IsKeyed schema.now all.new.items }

@@ -96,6 +96,7 @@ pub(crate) fn delete(
     requires few { length rows.old.rows ≤ 65536 }
     ensures done { IfOk result (λ changes. deleted (condition_of filter.now.condition) rows.old.rows ≡ Ok rows.new.rows) }
     ensures changes { IfOk result (λ changes. changes ≡ table_changes table.now number rows.old.rows rows.new.rows) }
+    ensures few { IfOk result (λ changes. length changes ≤ 10000) }
     ensures refused { (fault : TheFault) → IsErrOf result (Refused fault) → deleted (condition_of filter.now.condition) rows.old.rows ≡ Err fault }
     ensures unchanged { OnErr result (rows.new ≡ rows.old) }
     ensures keyed { IsKeyed table.now rows.new }

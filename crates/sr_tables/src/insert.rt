@@ -33,6 +33,7 @@ pub(crate) fn insert(
     requires few { length more < 2 ^ 32 }
     ensures done { IfOk result (λ changes. inserted table.now 0 more rows.old.rows ≡ Ok rows.new.rows) }
     ensures changes { IfOk result (λ changes. changes ≡ table_changes table.now number rows.old.rows rows.new.rows) }
+    ensures few { IfOk result (λ changes. length changes ≤ 10000) }
     ensures refused { (fault : TheFault) → IsErrOf result (Refused fault) → inserted table.now 0 more rows.old.rows ≡ Err fault }
     ensures unchanged { OnErr result (rows.new ≡ rows.old) }
     ensures keyed { IsKeyed table.now rows.new }

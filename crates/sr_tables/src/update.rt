@@ -130,6 +130,7 @@ pub(crate) fn update(
     requires places { IsTrue (list_all (λ p. nat_lt p.column (length table.now.columns) && not (p.column == table.now.key)) sets.now) }
     ensures done { IfOk result (λ changes. updated table.now (map place_of sets.now) (condition_of filter.now.condition) rows.old.rows ≡ Ok rows.new.rows) }
     ensures changes { IfOk result (λ changes. changes ≡ table_changes table.now number rows.old.rows rows.new.rows) }
+    ensures few { IfOk result (λ changes. length changes ≤ 10000) }
     ensures refused { (fault : TheFault) → IsErrOf result (Refused fault) → updated table.now (map place_of sets.now) (condition_of filter.now.condition) rows.old.rows ≡ Err fault }
     ensures unchanged { OnErr result (rows.new ≡ rows.old) }
     ensures keyed { IsKeyed table.now rows.new }

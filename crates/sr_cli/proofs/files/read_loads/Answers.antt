@@ -1,7 +1,6 @@
-use Rattle.std.proofs.Common.{◌≡◌, Some, None, Err, refl, ap, subst, ◌∙◌}
+use Rattle.std.proofs.Common.{◌≡◌, None, Err, refl, ap, subst, ◌∙◌}
 use Rattle.std.specs.Prelude.{IsErrOf}
 use Rattle.sr_cli.specs.Run.{IsTooLong}
-use Rattle.sr_cli.specs.Words.{LoadWord, load_word}
 use Rattle.sr_cli.specs.Seen.{AddsLoad}
 use Rattle.sr_cli.proofs.ReadSoFar.{none_read, one_read, one_long, one_unheld}
 use Rattle.sr_cli.proofs.files.read_loads.Goals as goal
@@ -24,10 +23,9 @@ pub loop-word-preserved : goal.loop-word-preserved
 loop-word-preserved g c =
     let before = c.loop-word.invariant in
     let did = c.in-Ok.ensures in
-    let adds = subst (λ h. AddsLoad h (load_word c.as_str.result.now) c.loop-word.loads c.add_load.new.loads) before.held_stays did.read in
+    let adds = subst (λ h. AddsLoad h c.word-item.result c.loop-word.loads c.add_load.new.loads) before.held_stays did.read in
     record {
-      read = one_read _ c.args.words.now c.loop-word.word-index c.word-item.result c.loop-word.loads c.add_load.new.loads c.loop-word-test.true c.word-item.is before.read
-          (subst (λ w. AddsLoad (g.H.Outside.held c.args.host.now) (load_word w) c.loop-word.loads c.add_load.new.loads) c.as_str.ensures adds);
+      read = one_read _ c.args.words.now c.loop-word.word-index c.word-item.result c.loop-word.loads c.add_load.new.loads c.loop-word-test.true c.word-item.is before.read adds;
       same_faults = did.ok_keeps_faults ∙ before.same_faults;
       stays_steady = λ s. did.stays_steady (before.stays_steady s);
       held_stays = did.held_stays ∙ before.held_stays;
@@ -40,14 +38,11 @@ pub returns-in-Err-clause-too_long : goal.returns-in-Err-clause-too_long
 returns-in-Err-clause-too_long g c = λ is.
     let before = c.loop-word.invariant in
     let left = (g.H.Outside.reading c.add_load.new.host).left in
-    let held = subst (λ h. (load : LoadWord) × (load_word c.as_str.result.now ≡ Some load) × IsTooLong (h load.file) left) before.held_stays (c.in-Err.ensures.too_long (ap Err (no_is _ _ is))) in
     one_long _ c.args.words.now c.loop-word.word-index c.word-item.result c.loop-word.loads left c.loop-word-test.true c.word-item.is before.read
-    (subst (λ w. (load : LoadWord) × (load_word w ≡ Some load) × IsTooLong (g.H.Outside.held c.args.host.now load.file) left) c.as_str.ensures held)
+    (subst (λ h. IsTooLong (h c.word-item.result.file) left) before.held_stays (c.in-Err.ensures.too_long (ap Err (no_is _ _ is))))
 
 pub returns-in-Err-clause-steady_never_faults : goal.returns-in-Err-clause-steady_never_faults
 returns-in-Err-clause-steady_never_faults g c = λ steady is.
     let before = c.loop-word.invariant in
-    let held = subst (λ h. (load : LoadWord) × (load_word c.as_str.result.now ≡ Some load) × (h load.file ≡ None)) before.held_stays
-    (c.in-Err.ensures.steady_never_faults (before.stays_steady steady) (ap Err (no_is _ _ is))) in
     one_unheld _ c.args.words.now c.loop-word.word-index c.word-item.result c.loop-word.loads c.loop-word-test.true c.word-item.is before.read
-    (subst (λ w. (load : LoadWord) × (load_word w ≡ Some load) × (g.H.Outside.held c.args.host.now load.file ≡ None)) c.as_str.ensures held)
+    (subst (λ h. h c.word-item.result.file ≡ None) before.held_stays (c.in-Err.ensures.steady_never_faults (before.stays_steady steady) (ap Err (no_is _ _ is))))

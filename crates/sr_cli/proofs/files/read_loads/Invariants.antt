@@ -1,11 +1,10 @@
 use Rattle.std.proofs.Common.{◌≡◌, drop}
-use Rattle.sr_cli.specs.Seen.{loads_seen}
 use Rattle.sr_cli.proofs.ReadSoFar.{ReadSoFar}
 use Rattle.sr_cli.proofs.files.read_loads.Given as goal
 
 abbrev pub invariant-loop-word : goal.invariant-loop-word
 invariant-loop-word g l = record {
-  read : ReadSoFar (g.H.Outside.held l.fn.host) (loads_seen l.words) l.loads (loads_seen (drop l.word-index l.words));
+  read : ReadSoFar (g.H.Outside.held l.fn.host) l.words l.loads (drop l.word-index l.words);
   same_faults : (g.H.Outside.reading l.host).faults ≡ (g.H.Outside.reading l.fn.host).faults;
   stays_steady : g.H.Outside.IsSteady l.fn.host → g.H.Outside.IsSteady l.host;
   held_stays : g.H.Outside.held l.host ≡ g.H.Outside.held l.fn.host;

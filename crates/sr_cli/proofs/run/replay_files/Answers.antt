@@ -20,7 +20,7 @@ returns-in-Ok-clause-setup g c = λ line fault is. record {
   script = c.in-Ok.files.script;
   loads = c.in-Ok.files.loads;
   files = c.in-Ok.ensures.read;
-  inside = inside-there c.args.words.now.options.clients c.in-Ok.files.script c.replay_read.result _ is refl c.replay_read.ensures.line_first;
+  inside = inside-there c.args.words.now.setup.clients c.in-Ok.files.script c.replay_read.result _ is refl c.replay_read.ensures.line_first;
   first = c.replay_read.ensures.setup line fault is;
 }
 
@@ -29,7 +29,7 @@ returns-in-Ok-clause-load g c = λ table fault is. record {
   script = c.in-Ok.files.script;
   loads = c.in-Ok.files.loads;
   files = c.in-Ok.ensures.read;
-  inside = inside-there c.args.words.now.options.clients c.in-Ok.files.script c.replay_read.result _ is refl c.replay_read.ensures.line_first;
+  inside = inside-there c.args.words.now.setup.clients c.in-Ok.files.script c.replay_read.result _ is refl c.replay_read.ensures.line_first;
   refuses = c.replay_read.ensures.load table fault is;
 }
 
@@ -38,7 +38,7 @@ returns-in-Ok-clause-unbuilt g c = λ line is. record {
   script = c.in-Ok.files.script;
   loads = c.in-Ok.files.loads;
   files = c.in-Ok.ensures.read;
-  inside = inside-there c.args.words.now.options.clients c.in-Ok.files.script c.replay_read.result _ is refl c.replay_read.ensures.line_first;
+  inside = inside-there c.args.words.now.setup.clients c.in-Ok.files.script c.replay_read.result _ is refl c.replay_read.ensures.line_first;
   first = c.replay_read.ensures.unbuilt line is;
   accepts = c.replay_read.ensures.unbuilt_accepts line is;
   loads_accepted = c.replay_read.ensures.unbuilt_loads line is;

@@ -1,5 +1,5 @@
-use Rattle.sr_keyed.proofs.Values.{bytes-fit}
 use Rattle.sr_keyed.proofs.keyed.know_bytes.Goals as goal
+use Rattle.sr_cell.proofs.Columns.{are_bytes-fit}
 
 pub returns : goal.returns
-returns c = bytes-fit c.args.text.now c.type_inv.text
+returns c = are_bytes-fit c.args.text.now c.type_inv.text

@@ -5,7 +5,7 @@ use Rattle.sr_model.specs.SortedRows.{ascend, with_rows}
 use Rattle.sr_model.specs.Changes.{table_changes}
 use Rattle.sr_tables.specs.Inserts.{are_apart, limit_fault}
 use Rattle.sr_tables.specs.Added.{added_rows}
-use Rattle.sr_tables.proofs.Inserts.{refused-by_row, refused-by_limit, inserted-done, apart-faultless}
+use Rattle.sr_tables.proofs.Inserts.{refused-by_row, refused-by_limit, inserted-done, apart-faultless, few-inserted}
 use Rattle.sr_tables.proofs.Inserting.{with_rows-fresh}
 use Rattle.sr_tables.proofs.Changing.{changes-with_rows}
 use Rattle.sr_tables.proofs.Keeping.{apart-fresh}
@@ -48,3 +48,9 @@ returns-in-Ok-put_fresh-clause-changes c =
     let ascending : ascend t.key rows ≡ true = ap (λ n. ascend n rows) (sym c.requires.keyed.key) ∙ c.know_ascending.ensures in
     c.in-Ok-put_fresh.ensures.changes ∙ ap (λ xs. added_rows c.args.number t.key xs) c.in-Ok.ensures.fresh
     ∙ sym (changes-with_rows t c.args.number rows c.args.more ascending apart.0) ∙ ap (λ xs. table_changes t c.args.number rows xs) (sym new)
+
+pub returns-in-Ok-put_fresh-clause-few : goal.returns-in-Ok-put_fresh-clause-few
+returns-in-Ok-put_fresh-clause-few c =
+    let t = c.args.table.now in
+    let few : limit_fault (length c.args.more) (length c.args.rows.now.rows + length c.args.more) ≡ None = cc in
+    few-inserted c.args.number t.key (length c.args.rows.now.rows + length c.args.more) c.args.more _ (c.in-Ok-put_fresh.ensures.changes ∙ ap (λ xs. added_rows c.args.number t.key xs) c.in-Ok.ensures.fresh) few

@@ -1,7 +1,7 @@
 use Rattle.std.proofs.Common.{◌≡◌, ◌+◌, ◌∷◌, length, drop, get_or, ap, sym, ◌∙◌, arith}
 use Rattle.std.specs.Prelude.{filter}
 use Rattle.std.proofs.lemmas.List.{drop_all, drop_more}
-use Rattle.sr_keyed.specs.Keyed.{without_key}
+use Rattle.sr_rows.specs.Keys.{without_key}
 use Rattle.sr_tables.specs.Added.{is_unchanged}
 use Rattle.sr_tables.proofs.Taking.{take_next, take_none}
 use Rattle.sr_tables.proofs.Keeping.{same_keyed}

@@ -5,10 +5,10 @@ use Rattle.std.specs.Map.{values_of}
 use Rattle.std.proofs.lemmas.Result.{on_ok_weaker}
 use Rattle.sr_cell.specs.Cells.{cell_at}
 use Rattle.sr_model.specs.SortedRows.{has_key}
+use Rattle.sr_rows.proofs.Elements.{list_all-with_row}
 use Rattle.sr_keyed.specs.Keyed.{Keyed, is_of, are_values}
 use Rattle.sr_keyed.proofs.Order.{order}
 use Rattle.sr_keyed.proofs.Entries.{either_way, insert-row, insert-keyed}
-use Rattle.sr_keyed.proofs.Values.{all-with_row}
 use Rattle.sr_keyed.proofs.keyed.KeyedRows.insert.Goals as goal
 
 pub invariant_of-self : goal.invariant_of-self
@@ -25,7 +25,7 @@ invariant_of-self c =
       either_way c.put.result c.put.ensures.put c.put.ensures.unchanged
           (λ e. rw (e, c.in-Ok.ensures, c.key_at.ensures)
           (subst (λ rows. list_all are_values rows ≡ true) (sym (insert-row c.self.inside.key c.self.inside.kind c.args.row map c.self.invariant.0 kind other))
-          (all-with_row are_values c.self.inside.key (values_of map) c.args.row c.self.invariant.2 c.know_values.ensures)))
+          (list_all-with_row are_values c.self.inside.key (values_of map) c.args.row c.self.invariant.2 c.know_values.ensures)))
           (λ e. rw e c.self.invariant.2),
     )
 

@@ -1,6 +1,0 @@
-use Rattle.std.proofs.Common.{sym}
-use Rattle.sr_cli.proofs.Cuts.{uncut}
-use Rattle.sr_cli.proofs.words.cut_word.Goals as goal
-
-pub returns-in-None : goal.returns-in-None
-returns-in-None c = sym (uncut c.args.word.now c.in-None.ensures.cases)

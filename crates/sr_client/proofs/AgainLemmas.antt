@@ -24,6 +24,7 @@ use Rattle.sr_session.specs.Clients.{asks_again}
 use Rattle.sr_session.specs.Laws.{IsAnswerable}
 use Rattle.sr_session.specs.Rules.{AskSent, asks_once_more, counted, is_given_up}
 use Rattle.sr_session.specs.Rules as rules
+use Rattle.sr_session.specs.Walks.{AskOut}
 use Rattle.sr_session.proofs.DropLemmas.{asks-some}
 use Rattle.sr_session.proofs.TakeLemmas.{replies-are-answerable}
 use Rattle.sr_client.specs.Asking.{AsksRest, whole_asks}
@@ -34,12 +35,13 @@ use Rattle.sr_client.specs.declared.client.Request.TheVariants as request
 use Rattle.sr_client.specs.declared.steps.Took.TheVariants as took
 use Rattle.sr_client.specs.Laying.{asking}
 use Rattle.sr_client.specs.Sends.{IsWellSent}
-use Rattle.sr_client.specs.Stands.{Hidden, Facts, Stands, Truly, IsFit, past_of, basis_of}
-use Rattle.sr_client.specs.Steps.{Goes, SaysTook, Takes}
+use Rattle.sr_client.specs.Stands.{Hidden, Facts, Stands, StandsOver, Truly, IsFit, past_of, basis_of}
+use Rattle.sr_client.specs.Steps.{Takes}
 use Rattle.sr_client.proofs.AskLemmas.{asks-whole, whole-along}
 use Rattle.sr_client.proofs.AskedLemmas.{one, is-out}
 use Rattle.sr_client.proofs.MeantLemmas.{IsOneQuery, are-sound}
-use Rattle.sr_client.proofs.OverLemmas.{on, IsHere, over, stands-over}
+use Rattle.sr_client.proofs.MoveLemmas.{takes-by}
+use Rattle.sr_client.proofs.OverLemmas.{on, IsHere, stands-over}
 use Rattle.sr_client.proofs.SendLemmas.{whole-rects}
 use Rattle.sr_client.proofs.SendableLemmas.{ask-sent}
 use Rattle.sr_client.proofs.ShortLemmas.{counted-short}
@@ -116,6 +118,13 @@ module _ (c : Client) (o : code.AskOut) (number version : ℕ) (again : is_given
       ends = All-nil (λ (g : Region). EndWith c.schema (counted h.counted_from h.queries) g.table g.rects);
     }
 
+    again-up : c.cut ≡ false
+    again-up = by c.cut refl
+      where
+        by : (cut : Bool) → c.cut ≡ cut → cut ≡ false
+        by true down = absurd (let wrong : Some (request.Ask o) ≡ None = f.down down in cc)
+        by false up = refl
+
     pub again-sent : IsWellSent c.schema c.id (Ask c.next_request true whole)
     again-sent =
         ask-sent c.schema c.id c.next_request true (with_marks h.marks (map (drop_of Lapsed) c.store.regions)) (counted h.counted_from h.queries) o.query h.meaning (whole_asks o.query.parts) f.tables f.meant.0 asks some
@@ -123,32 +132,34 @@ module _ (c : Client) (o : code.AskOut) (number version : ℕ) (again : is_given
         (whole-along c.schema o.query.parts (counted h.counted_from h.queries) (All-nil (λ (g : Region). EndWith c.schema (counted h.counted_from h.queries) g.table g.rects)) f.meant.1) (whole-rects c.schema o.query h.meaning f.meant.0)
 
     again-goes : (db : Database) → IsHere db (asking c o) → Truly (on c db) (past_of (asking c o) h) (Reply number version)
-        → Goes (on c db) (SaysTook (took.Asked c.next_request (Ask c.next_request true whole) drops)) (rules.TakeStep (basis_of (on c db) c.store.limits) (past_of (asking c o) h) (Reply number version)) (once_more c o version)
+        → rules.TakeStep (basis_of (on c db) c.store.limits) (past_of (asking c o) h) (Reply number version) (AskSent drops c.next_request true whole)
+        (asks_again (past_of (asking c o) h) version drops o.query_number h.meaning whole)
+        × StandsOver (on c db) (asks_again (past_of (asking c o) h) version drops o.query_number h.meaning whole) (once_more c o version)
     again-goes db here t =
         let answerable : IsAnswerable (on c db) (past_of (asking c o) h) t.rest t.session o.number o.query_number h.meaning o.fresh o.parts number version =
-        replies-are-answerable (on c db) (past_of (asking c o) h) t.connection t.session t.rest o.number o.query_number h.meaning o.fresh o.parts number version t.is_open refl t.first in
-        record {
-          outcome = AskSent drops c.next_request true whole;
-          next = asks_again (past_of (asking c o) h) version drops o.query_number h.meaning whole;
-          is = (true, whole, refl, refl);
-          allowed = subst (λ k. rules.TakeStep (basis_of (on c db) c.store.limits) (past_of (asking c o) h) (Reply k version) (AskSent drops c.next_request true whole)
+        replies-are-answerable (on c db) (past_of (asking c o) h) t.connection t.session t.rest o.number o.query_number h.meaning o.fresh o.parts number version t.is_open refl t.first in (
+          subst (λ k. rules.TakeStep (basis_of (on c db) c.store.limits) (past_of (asking c o) h) (Reply k version) (AskSent drops c.next_request true whole)
               (asks_again (past_of (asking c o) h) version drops o.query_number h.meaning whole)) (sym answerable.number_is)
               (asks_once_more o.number o.query_number h.meaning o.fresh o.parts version drops whole refl again answerable.later
               (drops_all c.schema h.marks h.queries Lapsed c.store.regions (have-first c.schema f.tables) f.store.each f.store.order f.keeps) asks
-              (whole-rects c.schema o.query h.meaning f.meant.0));
-          stands = stands-over (once_more c o version) later db again-facts (record {
+              (whole-rects c.schema o.query h.meaning f.meant.0)),
+          stands-over (once_more c o version) later db again-facts (record {
             sound = here.sound;
             within = answerable.within;
             are_true = All-nil (IsTrueOf (told_of (tables_of db version)));
-          });
-        }
+          }),
+        )
 
   pub takes-again : Stands (asking c o) → Takes (asking c o) (Reply number version) (once_more c o version) (took.Asked c.next_request (Ask c.next_request true whole) drops)
-  takes-again stands = record {
-    by_rules = over (asking c o) (λ db past. Truly db past (Reply number version)
-        → Goes db (SaysTook (took.Asked c.next_request (Ask c.next_request true whole) drops)) (rules.TakeStep (basis_of db c.store.limits) past (Reply number version)) (once_more c o version)) again-goes;
-    stands = (later stands.0 stands.1, again-facts stands.0 stands.1);
-  }
+  takes-again stands = takes-by (asking c o) (once_more c o version) (Reply number version) (took.Asked c.next_request (Ask c.next_request true whole) drops) (λ h f. record {
+    outcome = AskSent drops c.next_request true whole;
+    next = asks_again (past_of (asking c o) h) version drops o.query_number h.meaning whole;
+    is = (true, whole, refl, refl);
+    link = (again-up h f, again-up h f, λ none. absurd (let wrong : Some (AskOut c.next_request o.query_number h.meaning true whole) ≡ None = none in cc));
+    draws = omega arith;
+    stands = (later h f, again-facts h f, refl);
+    over = again-goes h f;
+  }) stands
 
 -- the same, of what calls gave
 pub again-of : (c : Client) (o : code.AskOut) (number version : ℕ) → is_given_up o.fresh c.laid ≡ true → (parts : List AskPart) (drops : List Mark) (store : Store) (laid : List Message) (message : Message)

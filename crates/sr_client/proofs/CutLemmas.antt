@@ -1,5 +1,5 @@
 -- What a cut does.
-use Rattle.std.proofs.Common.{◌≡◌, ℕ, ◌+◌, true, false, [], refl, ap, None}
+use Rattle.std.proofs.Common.{◌≡◌, ℕ, ◌+◌, true, false, [], refl, ap, None, arith}
 use Rattle.sr_session.specs.Sessions.{Database}
 use Rattle.sr_session.specs.Clients as session
 use Rattle.sr_session.specs.Rules.{CutDone, AlreadyCut, cuts, already_cut}
@@ -8,20 +8,20 @@ use Rattle.sr_client.specs.declared.client.Client.{Client}
 use Rattle.sr_client.specs.declared.steps.CutStep.TheVariants.{Cut, Already}
 use Rattle.sr_client.specs.declared.steps.Ended.{Ended}
 use Rattle.sr_client.specs.Stands.{Hidden, Facts, Stands, past_of}
-use Rattle.sr_client.specs.Steps.{Goes, SaysCut, Cuts, ended_of}
-use Rattle.sr_client.proofs.OverLemmas.{on, IsHere, over, stands-over}
+use Rattle.sr_client.specs.Steps.{Cuts, ended_of}
+use Rattle.sr_client.proofs.MoveLemmas.{cuts-by}
+use Rattle.sr_client.proofs.OverLemmas.{on, IsHere, stands-over}
 
 pub cut-already : (c : Client) → Stands c → c.cut ≡ true → Cuts c c (Already c.cuts)
-cut-already c stands down = record {
-  by_rules = over c (λ db past. Goes db (SaysCut past c (Already c.cuts)) (rules.CutStep past) c) (λ h f db here. record {
-    outcome = AlreadyCut c.cuts;
-    next = past_of c h;
-    is = refl;
-    allowed = already_cut down;
-    stands = stands-over c h db f here;
-  });
-  stands = stands;
-}
+cut-already c stands down = cuts-by c c (Already c.cuts) (λ h f. record {
+  outcome = AlreadyCut c.cuts;
+  next = past_of c h;
+  is = refl;
+  link = down;
+  draws = omega arith;
+  stands = (h, f, refl);
+  over = λ db here it. (already_cut down, stands-over c h db f here);
+}) stands
 
 -- the client once its link is cut
 abbrev pub cut_off : Client → Client
@@ -46,13 +46,12 @@ cut-facts c h f = record {
 }
 
 pub cut-now : (c : Client) (ended : Ended) → Stands c → c.cut ≡ false → ended ≡ ended_of c.out → Cuts c (cut_off c) (Cut (c.cuts + 1) ended)
-cut-now c ended stands up is = record {
-  by_rules = over c (λ db past. Goes db (SaysCut past c (Cut (c.cuts + 1) ended)) (rules.CutStep past) (cut_off c)) (λ h f db here. record {
-    outcome = CutDone (c.cuts + 1) (past_of c h).out;
-    next = past_of (cut_off c) h;
-    is = (is, refl);
-    allowed = cuts up;
-    stands = stands-over (cut_off c) h db (cut-facts c h f) (record { sound = here.sound; within = here.within; are_true = here.are_true });
-  });
-  stands = (stands.0, cut-facts c stands.0 stands.1);
-}
+cut-now c ended stands up is = cuts-by c (cut_off c) (Cut (c.cuts + 1) ended) (λ h f. record {
+  outcome = CutDone (c.cuts + 1) (past_of c h).out;
+  next = past_of (cut_off c) h;
+  is = (is, refl);
+  link = refl;
+  draws = omega arith;
+  stands = (h, cut-facts c h f, refl);
+  over = λ db here it. (cuts up, stands-over (cut_off c) h db (cut-facts c h f) (record { sound = here.sound; within = here.within; are_true = here.are_true }));
+}) stands

@@ -28,47 +28,48 @@ use Rattle.sr_client.specs.declared.client.Client.{Client}
 use Rattle.sr_client.specs.declared.client.Request as code
 use Rattle.sr_client.specs.declared.steps.EvictStep.TheVariants.{Dropped, Busy, NoSuch}
 use Rattle.sr_client.specs.Stands.{Hidden, Facts, Stands, StandsOver, past_of, out_of, request_of, basis_of, IsMeant, AreFit}
-use Rattle.sr_client.specs.Steps.{Goes, SaysEvict, Evicts}
+use Rattle.sr_client.specs.Steps.{Evicts}
 use Rattle.sr_client.proofs.FitLemmas.{fewer-rows, fewer-regions}
-use Rattle.sr_client.proofs.OverLemmas.{on, IsHere, with_regions, over, stands-over}
+use Rattle.sr_client.proofs.MoveLemmas.{evicts-by}
+use Rattle.sr_client.proofs.OverLemmas.{on, IsHere, with_regions, stands-over}
 use Rattle.sr_client.proofs.TableLemmas.{have-first}
 
 -- ---- what is left as it was
 
 pub busy_evicts : (c : Client) (place number : ℕ) (request : code.Request) → Stands c → c.out ≡ Some request → ((meaning : Query) → number ≡ number_of (request_of meaning request))
     → Evicts c place c (Busy number)
-busy_evicts c place number request stands out number_is = record {
-  by_rules = λ db past s.
-      let h = s.client.hidden in
-      let r : Request = request_of h.meaning request in
-      let past_out : past.out ≡ Some (request_of h.meaning request) = ap (λ (p : session.Client). p.out) s.client.same ∙ ap (out_of h.meaning) out in
-      record {
-        outcome = rules.Busy number;
-        next = past;
-        is = refl;
-        allowed = subst (λ k. rules.EvictStep (basis_of db c.store.limits) place past (rules.Busy k) past) (sym (number_is h.meaning)) (evict_busy r past_out);
-        stands = s;
-      };
-  stands = stands;
-}
+busy_evicts c place number request stands out number_is = evicts-by c c place (Busy number) (λ h f. record {
+  outcome = rules.Busy number;
+  next = past_of c h;
+  is = refl;
+  link = refl;
+  draws = omega arith;
+  stands = (h, f, refl);
+  over = λ db here it. (
+    subst (λ k. rules.EvictStep (basis_of (on c db) c.store.limits) place (past_of c h) (rules.Busy k) (past_of c h)) (sym (number_is h.meaning))
+        (evict_busy (request_of h.meaning request) (ap (out_of h.meaning) out)),
+    stands-over c h db f here,
+  );
+}) stands
 
 pub none_evicts : (c : Client) (place count : ℕ) → Stands c → c.out ≡ None → count ≡ length c.store.regions → length c.store.regions ≤ place → Evicts c place c (NoSuch count)
-none_evicts c place count stands out is few = record {
-  by_rules = over c (λ db past. Goes db (SaysEvict (NoSuch count)) (rules.EvictStep (basis_of db c.store.limits) place past) c) (λ h f db here.
+none_evicts c place count stands out is few = evicts-by c c place (NoSuch count) (λ h f. record {
+  outcome = rules.NoSuchClass count;
+  next = past_of c h;
+  is = refl;
+  link = refl;
+  draws = omega arith;
+  stands = (h, f, refl);
+  over = λ db here it.
       let gs = c.store.regions in
       let classes : List Class = map class_of gs in
       let len : length (map class_of c.store.regions) ≡ length c.store.regions = length-map c.store.regions class_of in
-      let are = are_classes c.schema h.marks h.queries gs (have-first c.schema f.tables) f.store.each f.store.order f.keeps in
-      record {
-        outcome = rules.NoSuchClass count;
-        next = past_of c h;
-        is = refl;
-        allowed = subst (λ k. rules.EvictStep (basis_of (on c db) c.store.limits) place (past_of c h) (rules.NoSuchClass k) (past_of c h)) (len ∙ sym is)
-            (evicts_none classes (ap (out_of h.meaning) out) are (omega (arith, len, few)));
-        stands = stands-over c h db f here;
-      });
-  stands = stands;
-}
+      let are = are_classes c.schema h.marks h.queries gs (have-first c.schema f.tables) f.store.each f.store.order f.keeps in (
+        subst (λ k. rules.EvictStep (basis_of (on c db) c.store.limits) place (past_of c h) (rules.NoSuchClass k) (past_of c h)) (len ∙ sym is)
+            (evicts_none classes (ap (out_of h.meaning) out) are (omega (arith, len, few))),
+        stands-over c h db f here,
+      );
+}) stands
 
 -- ---- a region is dropped
 
@@ -102,24 +103,23 @@ at-place (h ∷ gs) (suc n) g there = at-place gs n g there
 
 pub one_evicts : (c : Client) (place : ℕ) (g : Region) → Stands c → c.out ≡ None → slice_get c.store.regions place ≡ Some g
     → Evicts c place (with_regions c (without place c.store.regions)) (Dropped g)
-one_evicts c place g stands out there = record {
-  by_rules = over c (λ db past. Goes db (SaysEvict (Dropped g)) (rules.EvictStep (basis_of db c.store.limits) place past) (with_regions c (without place c.store.regions))) (λ h f db here.
+one_evicts c place g stands out there = evicts-by c (with_regions c (without place c.store.regions)) place (Dropped g) (λ h f. record {
+  outcome = Evicted (drop_of Asked g);
+  next = past_of (with_regions c (without place c.store.regions)) (dropped h g);
+  is = refl;
+  link = refl;
+  draws = omega arith;
+  stands = (dropped h g, facts-without c h place g f out there, refl);
+  over = λ db here it.
       let gs = c.store.regions in
-      let new = with_regions c (without place c.store.regions) in
       let classes : List Class = map class_of gs in
       let are = are_classes c.schema h.marks h.queries gs (have-first c.schema f.tables) f.store.each f.store.order f.keeps in
-      let own = have_classes c.schema h.marks h.queries gs f.store.order f.keeps in
-      record {
-        outcome = Evicted (drop_of Asked g);
-        next = past_of new (dropped h g);
-        is = refl;
-        allowed = evicts classes (class_of g) (drop_of Asked g) (ap (out_of h.meaning) out) are (at-place gs place g there)
-            (drop_at c.schema h.marks h.queries Asked gs place g there f.store.each own);
-        stands = stands-over new (dropped h g) db (facts-without c h place g f out there) (record {
+      let own = have_classes c.schema h.marks h.queries gs f.store.order f.keeps in (
+        evicts classes (class_of g) (drop_of Asked g) (ap (out_of h.meaning) out) are (at-place gs place g there) (drop_at c.schema h.marks h.queries Asked gs place g there f.store.each own),
+        stands-over (with_regions c (without place c.store.regions)) (dropped h g) db (facts-without c h place g f out there) (record {
           sound = here.sound;
           within = here.within;
           are_true = evicted_all (IsTrueOf (told_of (tables_of db c.version))) place gs here.are_true;
-        });
-      });
-  stands = (dropped stands.0 g, facts-without c stands.0 place g stands.1 out there);
-}
+        }),
+      );
+}) stands

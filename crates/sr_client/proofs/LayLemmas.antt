@@ -35,6 +35,7 @@ use Rattle.sr_client.specs.Stands.{Hidden, Facts, Stands, Truly, IsFit, past_of,
 use Rattle.sr_client.specs.Steps.{Goes, SaysTook, Takes, is_bad}
 use Rattle.sr_client.proofs.AskedLemmas.{keys-asked}
 use Rattle.sr_client.proofs.GiveUpLemmas.{given-stands}
+use Rattle.sr_client.proofs.MoveLemmas.{takes-by}
 use Rattle.sr_client.proofs.OverLemmas.{on, IsHere, over, stands-over}
 use Rattle.sr_client.proofs.SuitLemmas.{or-none, or-later, not-false, fit-more}
 
@@ -66,6 +67,10 @@ is-for schema r pre version (Resume client n v holdings) fit = tt
 is-for schema r pre version (Ask n mode parts) fit = tt
 is-for schema r pre version (Write n sql) fit = tt
 
+-- some database, of which nothing is asked
+abbrev nothing : Database
+nothing = record { schema = []; log_limit = 0; versions = [] }
+
 module _ (c : Client) (m : Message) (r : code.Request) (out : c.out ≡ Some r) (fit : IsFit c m) (is : IsLaid m) where
   module _ (h : Hidden) (f : Facts c h) where
     own : IsForRequest (request_of h.meaning r) m
@@ -74,10 +79,10 @@ module _ (c : Client) (m : Message) (r : code.Request) (out : c.out ≡ Some r) 
     step : (b : rules.Basis) → rules.TakeStep b (past_of c h) m Laid (past_of (laid c m) h)
     step b = lays (request_of h.meaning r) m (ap (out_of h.meaning) out) is own
 
-    laid-facts : (db : Database) → Facts (laid c m) h
-    laid-facts db = record {
+    laid-facts : Facts (laid c m) h
+    laid-facts = record {
       tables = f.tables;
-      tidy = rules-keep-tidy (basis_of (on c db) c.store.limits) (past_of c h) (past_of (laid c m) h) Laid f.tidy (by_message m Laid (past_of (laid c m) h) (step (basis_of (on c db) c.store.limits)));
+      tidy = rules-keep-tidy (basis_of (on c nothing) c.store.limits) (past_of c h) (past_of (laid c m) h) Laid f.tidy (by_message m Laid (past_of (laid c m) h) (step (basis_of (on c nothing) c.store.limits)));
       down = f.down;
       meant = f.meant;
       fit = fit-more c.schema (out_of h.meaning c.out) c.version [] c.laid m f.fit (fit h.meaning);
@@ -92,25 +97,19 @@ module _ (c : Client) (m : Message) (r : code.Request) (out : c.out ≡ Some r) 
       ends = f.ends;
     }
 
-    laid-goes : (db : Database) → IsHere db c → Truly (on c db) (past_of c h) m
-        → Goes (on c db) (SaysTook took.Laid) (rules.TakeStep (basis_of (on c db) c.store.limits) (past_of c h) m) (laid c m)
-    laid-goes db here t = record {
-      outcome = Laid;
-      next = past_of (laid c m) h;
-      is = refl;
-      allowed = step (basis_of (on c db) c.store.limits);
-      stands = stands-over (laid c m) h db (laid-facts db) (record { sound = here.sound; within = here.within; are_true = here.are_true });
-    }
-
-  -- some database, of which nothing is asked
-  abbrev nothing : Database
-  nothing = record { schema = []; log_limit = 0; versions = [] }
-
   pub takes-laid : Stands c → Takes c m (laid c m) took.Laid
-  takes-laid stands = record {
-    by_rules = over c (λ db past. Truly db past m → Goes db (SaysTook took.Laid) (rules.TakeStep (basis_of db c.store.limits) past m) (laid c m)) laid-goes;
-    stands = (stands.0, laid-facts stands.0 stands.1 nothing);
-  }
+  takes-laid stands = takes-by c (laid c m) m took.Laid (λ h f. record {
+    outcome = Laid;
+    next = past_of (laid c m) h;
+    is = refl;
+    link = refl;
+    draws = omega arith;
+    stands = (h, laid-facts h f, refl);
+    over = λ db here t. (
+      step h f (basis_of (on c db) c.store.limits),
+      stands-over (laid c m) h db (laid-facts h f) (record { sound = here.sound; within = here.within; are_true = here.are_true }),
+    );
+  }) stands
 
 -- what is not refused, and ends no request, may be laid by
 only-laid : (schema : List Table) (out : Option Request) (pre : List Message) (version : ℕ) (m : Message) → misfit schema out pre version m ≡ None → ((k w : ℕ) → m ≡ Reply k w → ⊥) → ((k w : ℕ) → m ≡ Written k w → ⊥)
@@ -154,6 +153,7 @@ takes-bad c m why cuts bad stands = record {
       let never : misfit c.schema (out_of h.meaning c.out) c.laid c.version m ≡ None =
       never-refused (on c db) (past_of c h) t.connection t.session m t.rest here.sound f.tables (out-keys c h f) t.is_open t.first in
       absurd (let wrong : Some why ≡ None = sym (bad h.meaning) ∙ never in cc));
+  moves = λ past s good. absurd (let wrong : true ≡ false = good in cc);
   stands = given-stands c c cuts stands refl;
 }
 

@@ -9,6 +9,8 @@ mod Covers
 mod CutLemmas
 mod EndLemmas
 mod EvictLemmas
+mod ExplainLemmas
+mod FallLemmas
 mod FitLemmas
 mod GiveUpLemmas
 mod GoesLemmas
@@ -20,6 +22,7 @@ mod LayLemmas
 mod LendLemmas
 mod MeantLemmas
 mod MirrorLemmas
+mod MoveLemmas
 mod Nearing
 mod NewLemmas
 mod OverLemmas

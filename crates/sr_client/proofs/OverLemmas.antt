@@ -18,7 +18,7 @@ pub record IsHere (db : Database) (c : Client) : Type 0 where
   pub within : c.version ≤ newest db
   pub are_true : AreTrueOf (told_of (tables_of db c.version)) c.store.regions
 
-of-schema : (c : Client) (Goal : Database → session.Client → Type 0) (h : Hidden) → Facts c h → ((db : Database) → IsHere db c → Goal (on c db) (past_of c h))
+pub of-schema : (c : Client) (Goal : Database → session.Client → Type 0) (h : Hidden) → Facts c h → ((db : Database) → IsHere db c → Goal (on c db) (past_of c h))
     → (db : Database) → db.schema ≡ c.schema → IsSound db → c.version ≤ newest db → AreTrueOf (told_of (tables_of db c.version)) c.store.regions → Goal db (past_of c h)
 of-schema c Goal h f each db same sound within are_true =
     subst (λ (s : List Table). Goal (record db { schema = s }) (past_of c h)) (sym same)

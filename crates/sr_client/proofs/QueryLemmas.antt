@@ -40,7 +40,7 @@ use Rattle.sr_client.specs.declared.client.Client.{Client}
 use Rattle.sr_client.specs.declared.client.Request as code
 use Rattle.sr_client.specs.declared.steps.QueryStep.TheVariants.{Answered, Busy}
 use Rattle.sr_client.specs.Stands.{Hidden, Facts, Stands, StandsOver, past_of, out_of, request_of, basis_of, IsMeant, AreFit}
-use Rattle.sr_client.specs.Steps.{Goes, SaysQuery, Queries}
+use Rattle.sr_client.specs.Steps.{Queries}
 use Rattle.sr_client.proofs.Calls.{Answers, IsAfter, none-arrived}
 use Rattle.sr_client.proofs.CountLemmas.{counted-more}
 use Rattle.sr_client.proofs.CoverLemmas.{filter-points, kept-all}
@@ -48,27 +48,27 @@ use Rattle.sr_client.proofs.EndLemmas.{regions-more, part-end}
 use Rattle.sr_client.proofs.KeptLemmas.{IsAnswering, AreTrue, from_of, kept, kept-true, kept-last, answer-step}
 use Rattle.sr_client.proofs.LastLemmas.{last-answered}
 use Rattle.sr_client.proofs.MeantLemmas.{IsOneQuery, one-query, are-sound, is-one-part, part-fits, all-parts, no-rest}
-use Rattle.sr_client.proofs.OverLemmas.{on, IsHere, over, stands-over}
+use Rattle.sr_client.proofs.MoveLemmas.{queries-by}
+use Rattle.sr_client.proofs.OverLemmas.{on, IsHere, stands-over}
 use Rattle.sr_client.proofs.ShortLemmas.{shorts-more, meaning-short}
 
 -- ---- while a request is out
 
 pub query-busy : (c : Client) (m : model.Query) (number : ℕ) (request : code.Request) → Stands c → c.out ≡ Some request → ((meaning : model.Query) → number ≡ number_of (request_of meaning request))
     → Queries c m c (Busy number)
-query-busy c m number request stands out number_is = record {
-  by_rules = λ db past s.
-      let h = s.client.hidden in
-      let r : Request = request_of h.meaning request in
-      let past_out : past.out ≡ Some (request_of h.meaning request) = ap (λ (p : session.Client). p.out) s.client.same ∙ ap (out_of h.meaning) out in
-      record {
-        outcome = rules.Busy number;
-        next = past;
-        is = refl;
-        allowed = subst (λ k. rules.QueryStep (basis_of db c.store.limits) past (Ok m) (rules.Busy k) past) (sym (number_is h.meaning)) (query_busy m r past_out);
-        stands = s;
-      };
-  stands = stands;
-}
+query-busy c m number request stands out number_is = queries-by c c m (Busy number) (λ h f. record {
+  outcome = rules.Busy number;
+  next = past_of c h;
+  is = refl;
+  link = refl;
+  draws = omega arith;
+  stands = (h, f, refl);
+  over = λ db here it. (
+    subst (λ k. rules.QueryStep (basis_of (on c db) c.store.limits) (past_of c h) (Ok m) (rules.Busy k) (past_of c h)) (sym (number_is h.meaning))
+        (query_busy m (request_of h.meaning request) (ap (out_of h.meaning) out)),
+    stands-over c h db f here,
+  );
+}) stands
 
 -- ---- at once
 
@@ -165,38 +165,42 @@ module _ (c : Client) (q : Query) (m : model.Query) (store : Store) (marks : Lis
           ends = k.ends;
         }
 
-    now-goes : (db : Database) → IsHere db c
-        → Goes (on c db) (SaysQuery (past_of c h) (Answered (c.queries + 1) c.version rows marks)) (rules.QueryStep (basis_of (on c db) c.store.limits) (past_of c h) (Ok m)) (with_now c store)
-    now-goes db here =
+    now-same : answered (past_of c h) (with_query h m) from c.version marks ≡ past_of (with_now c store) later
+    now-same = sym (ap (λ o. record (past_of (with_now c store) later) { out = out_of h.meaning o }) out ∙ ap (λ ms. record (past_of (with_now c store) later) { out = None; laid = ms }) laid)
+
+    now-over : (db : Database) → IsHere db c
+        → rules.QueryStep (basis_of (on c db) c.store.limits) (past_of c h) (Ok m) (rules.Answered (c.queries + 1) c.version rows marks) (answered (past_of c h) (with_query h m) from c.version marks)
+        × StandsOver (on c db) (answered (past_of c h) (with_query h m) from c.version marks) (with_now c store)
+    now-over db here =
         let past : session.Client = past_of c h in
         let asks : Asks c.schema h.marks m.parts [] = nothing h.marks (stamp h.queries) m.parts f.keeps is.query.parts (are-sound c.schema q m is) in
         let free = no-rest c.schema h.marks m.parts [] one.meant asks one.meant_parts refl in
         let are = here.sound.tables c.version here.within in
         let t : AreTrue c.schema (tables_of db c.version) [] c.store.regions = record { are_tables = are; are_true = here.are_true; arrived = none-arrived (told_of (tables_of db c.version)) } in
-        let next : session.Client = answered past (with_query h m) from c.version marks in
         let step : AnswerStep (basis_of (on c db) c.store.limits) (answering_now past m) past marks (answered past (with_query h m) from c.version marks) =
-        answer-step c.schema (length h.queries + 1) q.parts [] c.store [] m (with_query h m) (past_of c h) answering store marks after db c.version t in
-        record {
-          outcome = rules.Answered (c.queries + 1) c.version rows marks;
-          next = answered past (with_query h m) from c.version marks;
-          is = refl;
-          allowed = subst (λ n. rules.QueryStep (basis_of (on c db) c.store.limits) (past_of c h) (Ok m) (rules.Answered (n + 1) c.version rows marks) (answered past (with_query h m) from c.version marks)) f.queries
-              (query_answered m rows marks (answered past (with_query h m) from c.version marks) (ap (out_of h.meaning) out) asks (rows-now c h db q m one rows f here free gives) step);
-          stands = record {
+        answer-step c.schema (length h.queries + 1) q.parts [] c.store [] m (with_query h m) (past_of c h) answering store marks after db c.version t in (
+          subst (λ n. rules.QueryStep (basis_of (on c db) c.store.limits) (past_of c h) (Ok m) (rules.Answered (n + 1) c.version rows marks) (answered past (with_query h m) from c.version marks)) f.queries
+              (query_answered m rows marks (answered past (with_query h m) from c.version marks) (ap (out_of h.meaning) out) asks (rows-now c h db q m one rows f here free gives) step),
+          record {
             sound = here.sound;
             schema = refl;
             within = here.within;
             client = record {
               hidden = later;
               facts = now-facts;
-              same = sym (ap (λ o. record (past_of (with_now c store) later) { out = out_of h.meaning o }) out ∙ ap (λ ms. record (past_of (with_now c store) later) { out = None; laid = ms }) laid);
+              same = now-same;
               are_true = kept-true c.schema (length h.queries + 1) q.parts [] c.store [] m (with_query h m) (past_of c h) answering store marks after (tables_of db c.version) t;
             };
-          };
-        }
+          },
+        )
 
   pub answered-now : Stands c → Queries c m (with_now c store) (Answered (c.queries + 1) c.version rows marks)
-  answered-now stands = record {
-    by_rules = over c (λ db past. Goes db (SaysQuery past (Answered (c.queries + 1) c.version rows marks)) (rules.QueryStep (basis_of db c.store.limits) past (Ok m)) (with_now c store)) now-goes;
-    stands = (later stands.0 stands.1, now-facts stands.0 stands.1);
-  }
+  answered-now stands = queries-by c (with_now c store) m (Answered (c.queries + 1) c.version rows marks) (λ h f. record {
+    outcome = rules.Answered (c.queries + 1) c.version rows marks;
+    next = answered (past_of c h) (with_query h m) (from h f) c.version marks;
+    is = refl;
+    link = refl;
+    draws = omega arith;
+    stands = (later h f, now-facts h f, now-same h f);
+    over = λ db here it. now-over h f db here;
+  }) stands

@@ -54,7 +54,7 @@ use Rattle.sr_client.specs.declared.client.Request.TheVariants as request
 use Rattle.sr_client.specs.declared.steps.Took.TheVariants as took
 use Rattle.sr_client.specs.Laying.{asking}
 use Rattle.sr_client.specs.Stands.{Hidden, Facts, Stands, StandsOver, Truly, IsFit, past_of, out_of, basis_of, IsMeant, AreFit}
-use Rattle.sr_client.specs.Steps.{Goes, SaysTook, Takes}
+use Rattle.sr_client.specs.Steps.{Takes}
 use Rattle.sr_client.specs.Values.{has_values}
 use Rattle.sr_client.proofs.AskLemmas.{asks-whole, whole-along}
 use Rattle.sr_client.proofs.AskedLemmas.{one, is-out, single, asked, are-one, laid-store, laid-keeps, answering}
@@ -64,7 +64,8 @@ use Rattle.sr_client.proofs.CoverLemmas.{filter-points}
 use Rattle.sr_client.proofs.KeptLemmas.{IsAnswering, AreTrue, from_of, kept, kept-true, kept-last, answer-step}
 use Rattle.sr_client.proofs.MeantLemmas.{IsOneQuery, IsOneAsk, is-one-part, one-query, are-sound, all-parts, part-fits}
 use Rattle.sr_client.proofs.MirrorLemmas.{at-mirror}
-use Rattle.sr_client.proofs.OverLemmas.{on, IsHere, over, stands-over}
+use Rattle.sr_client.proofs.MoveLemmas.{takes-by}
+use Rattle.sr_client.proofs.OverLemmas.{on, IsHere, stands-over}
 use Rattle.sr_client.proofs.SendLemmas.{whole-rects}
 use Rattle.sr_client.proofs.SuitLemmas.{reply-later}
 use Rattle.sr_client.proofs.ShortLemmas.{shorts-set, meaning-short}
@@ -170,21 +171,19 @@ module _ (c : Client) (o : code.AskOut) (number version : ℕ) (store : Store) (
           given ∙ (ap (map (cells_of o.query.output)) chosen
           ∙ (ap (λ t. map (cells_of o.query.output) (filter (points_of q1.meant) (rows_at (tables_of db version) t))) q1.is.table ∙ sym (q1.answer (tables_of db version))))
 
-      reply-goes : Goes (on c db) (SaysTook (took.Answered o.query_number version rows marks)) (rules.TakeStep (basis_of (on c db) c.store.limits) (past_of (asking c o) h) (Reply number version)) (replied c version store)
+      reply-goes : rules.TakeStep (basis_of (on c db) c.store.limits) (past_of (asking c o) h) (Reply number version) (rules.Answered o.query_number version rows marks)
+          (answered (past_of (asking c o) h) (with_answered o.query_number h.meaning h.queries) from version marks)
+          × StandsOver (on c db) (answered (past_of (asking c o) h) (with_answered o.query_number h.meaning h.queries) from version marks) (replied c version store)
       reply-goes =
           let step : AnswerStep (basis_of (on c db) c.store.limits) (answering_then (past_of (asking c o) h) o.query_number h.meaning o.parts version) (past_of (asking c o) h) marks
           (answered (past_of (asking c o) h) (with_answered o.query_number h.meaning h.queries) from version marks) =
           answer-step c.schema o.query_number o.query.parts (arrivals_of c.schema o.parts (arrived_at 0 c.laid)) (record c.store { regions = after_messages c.laid c.store.regions }) o.parts h.meaning
-          (with_answered o.query_number h.meaning h.queries) (past_of (asking c o) h) know store marks made db version are-true in
-          record {
-            outcome = rules.Answered o.query_number version rows marks;
-            next = answered (past_of (asking c o) h) (with_answered o.query_number h.meaning h.queries) from version marks;
-            is = refl;
-            allowed = subst (λ k. rules.TakeStep (basis_of (on c db) c.store.limits) (past_of (asking c o) h) (Reply k version) (rules.Answered o.query_number version rows marks)
+          (with_answered o.query_number h.meaning h.queries) (past_of (asking c o) h) know store marks made db version are-true in (
+            subst (λ k. rules.TakeStep (basis_of (on c db) c.store.limits) (past_of (asking c o) h) (Reply k version) (rules.Answered o.query_number version rows marks)
                 (answered (past_of (asking c o) h) (with_answered o.query_number h.meaning h.queries) from version marks)) (sym answerable.number_is)
                 (answers o.number o.query_number h.meaning o.fresh o.parts version rows marks (answered (past_of (asking c o) h) (with_answered o.query_number h.meaning h.queries) from version marks)
-                refl whole answerable.later rows-right step);
-            stands = record {
+                refl whole answerable.later rows-right step),
+            record {
               sound = here.sound;
               schema = refl;
               within = answerable.within;
@@ -195,12 +194,16 @@ module _ (c : Client) (o : code.AskOut) (number version : ℕ) (store : Store) (
                 are_true = kept-true c.schema o.query_number o.query.parts (arrivals_of c.schema o.parts (arrived_at 0 c.laid)) (record c.store { regions = after_messages c.laid c.store.regions }) o.parts h.meaning
                     (with_answered o.query_number h.meaning h.queries) (past_of (asking c o) h) know store marks made (tables_of db version) are-true;
               };
-            };
-          }
+            },
+          )
 
   pub takes-reply : Stands (asking c o) → Takes (asking c o) (Reply number version) (replied c version store) (took.Answered o.query_number version rows marks)
-  takes-reply stands = record {
-    by_rules = over (asking c o) (λ db past. Truly db past (Reply number version)
-        → Goes db (SaysTook (took.Answered o.query_number version rows marks)) (rules.TakeStep (basis_of db c.store.limits) past (Reply number version)) (replied c version store)) (λ h f db here t. reply-goes h f db here t);
-    stands = (later stands.0 stands.1, reply-facts stands.0 stands.1);
-  }
+  takes-reply stands = takes-by (asking c o) (replied c version store) (Reply number version) (took.Answered o.query_number version rows marks) (λ h f. record {
+    outcome = rules.Answered o.query_number version rows marks;
+    next = answered (past_of (asking c o) h) (with_answered o.query_number h.meaning h.queries) (from h f) version marks;
+    is = refl;
+    link = refl;
+    draws = omega arith;
+    stands = (later h f, reply-facts h f, refl);
+    over = λ db here t. reply-goes h f db here t;
+  }) stands

@@ -38,10 +38,11 @@ use Rattle.sr_client.specs.Cutting.{EndWith, RegionsEnd}
 use Rattle.sr_client.specs.declared.client.Client.{Client}
 use Rattle.sr_client.specs.declared.steps.Took.TheVariants as took
 use Rattle.sr_client.specs.Stands.{Hidden, Facts, Stands, StandsOver, Truly, IsFit, past_of, out_of, basis_of, IsMeant, AreFit}
-use Rattle.sr_client.specs.Steps.{Goes, SaysTook, Takes}
+use Rattle.sr_client.specs.Steps.{Takes}
 use Rattle.sr_client.proofs.FitLemmas.{fitted-keeps}
 use Rattle.sr_client.proofs.MirrorLemmas.{at-mirror}
-use Rattle.sr_client.proofs.OverLemmas.{on, IsHere, with_regions, over, stands-over}
+use Rattle.sr_client.proofs.MoveLemmas.{takes-by}
+use Rattle.sr_client.proofs.OverLemmas.{on, IsHere, with_regions, stands-over}
 use Rattle.sr_client.proofs.QueryLemmas.{none-laid}
 use Rattle.sr_client.proofs.SuitLemmas.{notice-later, lapse-later}
 use Rattle.sr_client.proofs.TableLemmas.{have-first}
@@ -101,7 +102,8 @@ module _ (c : Client) (version : ℕ) (told : List Tell) (new : List Region) (dr
         }
 
     notice-goes : (db : Database) → IsHere db c → Truly (on c db) (past_of c h) (Notice version told)
-        → Goes (on c db) (SaysTook (took.Applied version drops)) (rules.TakeStep (basis_of (on c db) c.store.limits) (past_of c h) (Notice version told)) (at_version c version new)
+        → rules.TakeStep (basis_of (on c db) c.store.limits) (past_of c h) (Notice version told) (Applied version drops) (past_of (at_version c version new) (with_drops h drops))
+        × StandsOver (on c db) (past_of (at_version c version new) (with_drops h drops)) (at_version c version new)
     notice-goes db here t =
         let walks = idle-walk (on c db) (past_of c h) (Notice version told) t (ap (out_of h.meaning) out) in
         let later = walks-later (on c db) None (noticed (mirror_of (past_of c h)) version) t.rest t.session walks.1 in
@@ -113,26 +115,26 @@ module _ (c : Client) (version : ℕ) (told : List Tell) (new : List Region) (dr
         (record { store = at.store; lie = at.lie; are_true = at.are_true }) in
         let met = fitted_meets_budgets c.schema (tables_of db version) c.store.limits h.marks h.queries c.store.last (map (told_to told) c.store.regions) new drops f.tables (here.sound.tables version below) now.store
         noticed-keeps now.are_true f.last fitted in
-        let still = fitted_fit_still c.schema c.store.limits c.store.last (map (told_to told) c.store.regions) new drops fitted in
-        record {
-          outcome = Applied version drops;
-          next = past_of (at_version c version new) (with_drops h drops);
-          is = refl;
-          allowed = applies version told drops (ap (out_of h.meaning) out) (omega (arith, up)) met.0;
-          stands = stands-over (at_version c version new) (with_drops h drops) db notice-facts (record {
+        let still = fitted_fit_still c.schema c.store.limits c.store.last (map (told_to told) c.store.regions) new drops fitted in (
+          applies version told drops (ap (out_of h.meaning) out) (omega (arith, up)) met.0,
+          stands-over (at_version c version new) (with_drops h drops) db notice-facts (record {
             sound = here.sound;
             within = below;
             are_true = All-weaker (Contains (map (told_to told) c.store.regions)) (IsTrueOf (told_of (tables_of db version)))
                 (λ g some. All-contains (IsTrueOf (told_of (tables_of db version))) (map (told_to told) c.store.regions) g now.are_true some) new still.some;
-          });
-        }
+          }),
+        )
 
   pub takes-notice : Stands c → Takes c (Notice version told) (at_version c version new) (took.Applied version drops)
-  takes-notice stands = record {
-    by_rules = over c (λ db past. Truly db past (Notice version told)
-        → Goes db (SaysTook (took.Applied version drops)) (rules.TakeStep (basis_of db c.store.limits) past (Notice version told)) (at_version c version new)) notice-goes;
-    stands = (with_drops stands.0 drops, notice-facts stands.0 stands.1);
-  }
+  takes-notice stands = takes-by c (at_version c version new) (Notice version told) (took.Applied version drops) (λ h f. record {
+    outcome = Applied version drops;
+    next = past_of (at_version c version new) (with_drops h drops);
+    is = refl;
+    link = refl;
+    draws = omega arith;
+    stands = (with_drops h drops, notice-facts h f, refl);
+    over = notice-goes h f;
+  }) stands
 
 -- ---- a Lapse
 
@@ -162,32 +164,34 @@ module _ (c : Client) (version : ℕ) (out : c.out ≡ None) (fit : IsFit c (Lap
         }
 
     lapse-goes : (db : Database) → IsHere db c → Truly (on c db) (past_of c h) (Lapse version)
-        → Goes (on c db) (SaysTook (took.Forgot version (map (drop_of Lapsed) c.store.regions))) (rules.TakeStep (basis_of (on c db) c.store.limits) (past_of c h) (Lapse version)) (at_version c version [])
+        → rules.TakeStep (basis_of (on c db) c.store.limits) (past_of c h) (Lapse version) (Forgot version (map (drop_of Lapsed) c.store.regions))
+        (past_of (at_version c version []) (with_drops h (map (drop_of Lapsed) c.store.regions)))
+        × StandsOver (on c db) (past_of (at_version c version []) (with_drops h (map (drop_of Lapsed) c.store.regions))) (at_version c version [])
     lapse-goes db here t =
         let walks = idle-walk (on c db) (past_of c h) (Lapse version) t (ap (out_of h.meaning) out) in
         let later = walks-later (on c db) None (forgot (mirror_of (past_of c h)) version) t.rest t.session walks.1 in
         let upto = t.is_open.upto in
         let below : version ≤ newest db = omega (arith, later, upto) in
-        let up = walks.0 in
-        record {
-          outcome = Forgot version (map (drop_of Lapsed) c.store.regions);
-          next = past_of (at_version c version []) (with_drops h (map (drop_of Lapsed) c.store.regions));
-          is = refl;
-          allowed = forgets version (map (drop_of Lapsed) c.store.regions) (ap (out_of h.meaning) out) (omega (arith, up))
-              (drops_all c.schema h.marks h.queries Lapsed c.store.regions (have-first c.schema f.tables) f.store.each f.store.order f.keeps);
-          stands = stands-over (at_version c version []) (with_drops h (map (drop_of Lapsed) c.store.regions)) db lapse-facts (record {
+        let up = walks.0 in (
+          forgets version (map (drop_of Lapsed) c.store.regions) (ap (out_of h.meaning) out) (omega (arith, up))
+              (drops_all c.schema h.marks h.queries Lapsed c.store.regions (have-first c.schema f.tables) f.store.each f.store.order f.keeps),
+          stands-over (at_version c version []) (with_drops h (map (drop_of Lapsed) c.store.regions)) db lapse-facts (record {
             sound = here.sound;
             within = below;
             are_true = All-nil (IsTrueOf (told_of (tables_of db version)));
-          });
-        }
+          }),
+        )
 
   pub takes-lapse : Stands c → Takes c (Lapse version) (at_version c version []) (took.Forgot version (map (drop_of Lapsed) c.store.regions))
-  takes-lapse stands = record {
-    by_rules = over c (λ db past. Truly db past (Lapse version)
-        → Goes db (SaysTook (took.Forgot version (map (drop_of Lapsed) c.store.regions))) (rules.TakeStep (basis_of db c.store.limits) past (Lapse version)) (at_version c version [])) lapse-goes;
-    stands = (with_drops stands.0 (map (drop_of Lapsed) c.store.regions), lapse-facts stands.0 stands.1);
-  }
+  takes-lapse stands = takes-by c (at_version c version []) (Lapse version) (took.Forgot version (map (drop_of Lapsed) c.store.regions)) (λ h f. record {
+    outcome = Forgot version (map (drop_of Lapsed) c.store.regions);
+    next = past_of (at_version c version []) (with_drops h (map (drop_of Lapsed) c.store.regions));
+    is = refl;
+    link = refl;
+    draws = omega arith;
+    stands = (with_drops h (map (drop_of Lapsed) c.store.regions), lapse-facts h f, refl);
+    over = lapse-goes h f;
+  }) stands
 
 -- ---- no other message
 

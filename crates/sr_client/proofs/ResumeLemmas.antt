@@ -33,22 +33,22 @@ use Rattle.sr_client.specs.declared.client.Request.TheVariants as request
 use Rattle.sr_client.specs.declared.steps.ResumeStep.TheVariants.{Sent, Up}
 use Rattle.sr_client.specs.Sends.{holding_of, first_of}
 use Rattle.sr_client.specs.Stands.{Hidden, Facts, Stands, StandsOver, past_of, out_of, AreFit}
-use Rattle.sr_client.specs.Steps.{Goes, SaysResume, Resumes}
-use Rattle.sr_client.proofs.OverLemmas.{on, IsHere, over, stands-over}
+use Rattle.sr_client.specs.Steps.{Resumes}
+use Rattle.sr_client.proofs.MoveLemmas.{resumes-by}
+use Rattle.sr_client.proofs.OverLemmas.{on, IsHere, stands-over}
 use Rattle.sr_client.proofs.QueryLemmas.{none-laid}
 use Rattle.sr_client.proofs.TableLemmas.{have-first}
 
 pub resume-up : (c : Client) → Stands c → c.cut ≡ false → Resumes c c Up
-resume-up c stands up = record {
-  by_rules = over c (λ db past. Goes db (SaysResume past Up) (rules.ResumeStep db.schema past) c) (λ h f db here. record {
-    outcome = rules.AlreadyUp;
-    next = past_of c h;
-    is = refl;
-    allowed = already_up up;
-    stands = stands-over c h db f here;
-  });
-  stands = stands;
-}
+resume-up c stands up = resumes-by c c Up (λ h f. record {
+  outcome = rules.AlreadyUp;
+  next = past_of c h;
+  is = refl;
+  link = (up, up);
+  draws = omega arith;
+  stands = (h, f, refl);
+  over = λ db here it. (already_up up, stands-over c h db f here);
+}) stands
 
 -- ---- the first message has all points that are held
 
@@ -134,13 +134,15 @@ resuming-facts c h f down =
     }
 
 pub resume-sent : (c : Client) (message : Message) → Stands c → c.cut ≡ true → message ≡ first_of c c.store.regions → Resumes c (resuming c) (Sent c.next_request message)
-resume-sent c message stands down told = record {
-  by_rules = over c (λ db past. Goes db (SaysResume past (Sent c.next_request message)) (rules.ResumeStep db.schema past) (resuming c)) (λ h f db here. record {
-    outcome = rules.ResumeSent message;
-    next = past_of (resuming c) h;
-    is = (refl, refl);
-    allowed = resumes message down (subst (IsResumeMessage c.schema (past_of c h) c.next_request) (sym told) (first-is c h f));
-    stands = stands-over (resuming c) h db (resuming-facts c h f down) (record { sound = here.sound; within = here.within; are_true = here.are_true });
-  });
-  stands = (stands.0, resuming-facts c stands.0 stands.1 down);
-}
+resume-sent c message stands down told = resumes-by c (resuming c) (Sent c.next_request message) (λ h f. record {
+  outcome = rules.ResumeSent message;
+  next = past_of (resuming c) h;
+  is = (refl, refl);
+  link = (down, refl, λ none. absurd (let wrong : Some (ResumeOut c.next_request) ≡ None = none in cc));
+  draws = omega arith;
+  stands = (h, resuming-facts c h f down, refl);
+  over = λ db here it. (
+    resumes message down (subst (IsResumeMessage c.schema (past_of c h) c.next_request) (sym told) (first-is c h f)),
+    stands-over (resuming c) h db (resuming-facts c h f down) (record { sound = here.sound; within = here.within; are_true = here.are_true }),
+  );
+}) stands

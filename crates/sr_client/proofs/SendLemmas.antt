@@ -48,7 +48,7 @@ use Rattle.sr_client.specs.declared.client.Client.{Client}
 use Rattle.sr_client.specs.declared.steps.QueryStep.{QueryStep}
 use Rattle.sr_client.specs.declared.steps.QueryStep.TheVariants.{Asked, Down}
 use Rattle.sr_client.specs.Stands.{Hidden, Facts, Stands, StandsOver, past_of, out_of, basis_of, IsMeant, AreFit}
-use Rattle.sr_client.specs.Steps.{Goes, SaysQuery, Queries}
+use Rattle.sr_client.specs.Steps.{SaysQuery, Queries}
 use Rattle.sr_client.proofs.AskLemmas.{asks-whole, whole-along, whole-narrow}
 use Rattle.sr_client.proofs.Covers.{cover-fits}
 use Rattle.sr_client.proofs.CountLemmas.{counted-more}
@@ -56,7 +56,8 @@ use Rattle.sr_client.proofs.EndLemmas.{end-append, cover-end, regions-more, part
 use Rattle.sr_client.proofs.HeavyLemmas.{heavy-table}
 use Rattle.sr_client.proofs.LastLemmas.{last-asked}
 use Rattle.sr_client.proofs.MeantLemmas.{IsOneQuery, one-query, are-meant, are-sound, part-fits, part-table, all-parts}
-use Rattle.sr_client.proofs.OverLemmas.{on, IsHere, with_regions, over, stands-over}
+use Rattle.sr_client.proofs.MoveLemmas.{MovesHere, queries-by}
+use Rattle.sr_client.proofs.OverLemmas.{on, IsHere, with_regions, stands-over}
 use Rattle.sr_client.proofs.QueryLemmas.{none-laid}
 use Rattle.sr_client.proofs.Renewal.{HaveFirst}
 use Rattle.sr_client.proofs.ShortLemmas.{shorts-more, meaning-short}
@@ -184,24 +185,27 @@ module _ (c : Client) (q : Query) (m : model.Query) (asks : List AskPart) (drops
   abbrev gone : Client
   gone = with_out (with_regions c gs) (next_ask (with_regions c gs) q asks)
 
-  down-goes : (h : Hidden) → IsReady c m h drops gs → c.cut ≡ true → (db : Database) → IsHere db c
-      → Goes (on c db) (SaysQuery (past_of c h) (Down c.cuts drops)) (rules.QueryStep (basis_of (on c db) c.store.limits) (past_of c h) (Ok m)) (with_regions c gs)
-  down-goes h r down db here =
-      let o = r.over db here in
-      record {
-        outcome = rules.Down c.cuts drops;
-        next = past_of (with_regions c gs) r.hidden;
-        is = refl;
-        allowed = down-some (basis_of (on c db) c.store.limits) (past_of c h) (past_of (with_regions c gs) r.hidden) m drops asks (ap (out_of h.meaning) may.out) o.0 down may.some
-            (are-asked (with_regions c gs) q m asks may r.hidden r.facts);
-        stands = stands-over (with_regions c gs) r.hidden db r.facts o.1;
-      }
+  down-goes : (h : Hidden) → IsReady c m h drops gs → c.cut ≡ true
+      → MovesHere c (with_regions c gs) (past_of c h) (SaysQuery (past_of c h) (Down c.cuts drops)) (λ db. Unit {0}) (λ db. rules.QueryStep (basis_of db c.store.limits) (past_of c h) (Ok m))
+  down-goes h r down = record {
+    outcome = rules.Down c.cuts drops;
+    next = past_of (with_regions c gs) r.hidden;
+    is = refl;
+    link = refl;
+    draws = omega arith;
+    stands = (r.hidden, r.facts, refl);
+    over = λ db here it.
+        let o = r.over db here in (
+          down-some (basis_of (on c db) c.store.limits) (past_of c h) (past_of (with_regions c gs) r.hidden) m drops asks (ap (out_of h.meaning) may.out) o.0 down may.some
+              (are-asked (with_regions c gs) q m asks may r.hidden r.facts),
+          stands-over (with_regions c gs) r.hidden db r.facts o.1,
+        );
+  }
 
-  sent-goes : (h : Hidden) → Facts c h → IsReady c m h drops gs → c.cut ≡ false → (db : Database) → IsHere db c
-      → Goes (on c db) (SaysQuery (past_of c h) (asked_step (next_ask (with_regions c gs) q asks) drops)) (rules.QueryStep (basis_of (on c db) c.store.limits) (past_of c h) (Ok m))
-      (with_out (with_regions c gs) (next_ask (with_regions c gs) q asks))
-  sent-goes h f r up db here =
-      let o = r.over db here in
+  sent-goes : (h : Hidden) → Facts c h → IsReady c m h drops gs → c.cut ≡ false
+      → MovesHere c (with_out (with_regions c gs) (next_ask (with_regions c gs) q asks)) (past_of c h) (SaysQuery (past_of c h) (asked_step (next_ask (with_regions c gs) q asks) drops)) (λ db. Unit {0})
+      (λ db. rules.QueryStep (basis_of db c.store.limits) (past_of c h) (Ok m))
+  sent-goes h f r up =
       let old : session.Client = past_of (with_regions c gs) r.hidden in
       let fresh : Bool = is_empty gs in
       let facts = sent-facts (with_regions c gs) q m asks may r.hidden r.facts up in
@@ -210,31 +214,31 @@ module _ (c : Client) (q : Query) (m : model.Query) (asks : List AskPart) (drops
         outcome = rules.AskSent drops c.next_request fresh asks;
         next = with_ask old m fresh asks;
         is = (ap (λ n. n + 1) (sym f.queries), fresh, asks, refl, refl);
-        allowed = asks-some (basis_of (on c db) c.store.limits) (past_of c h) old m drops asks fresh (ap (out_of h.meaning) may.out) o.0 up may.some
-            (are-asked (with_regions c gs) q m asks may r.hidden r.facts) may.few (mode (with_regions c gs) q m asks may r.hidden r.facts);
-        stands = record {
-          sound = here.sound;
-          schema = refl;
-          within = here.within;
-          client = record {
-            hidden = asked_hidden r.hidden m;
-            facts = facts;
-            same = ap (λ n. asked old (n + 1)) r.facts.queries;
-            are_true = o.1.are_true;
-          };
-        };
+        link = (up, up, λ none. absurd (let wrong : Some (AskOut c.next_request (length r.hidden.queries + 1) m fresh asks) ≡ None = none in cc));
+        draws = omega arith;
+        stands = (asked_hidden r.hidden m, facts, ap (λ n. asked old (n + 1)) r.facts.queries);
+        over = λ db here it.
+            let o = r.over db here in (
+              asks-some (basis_of (on c db) c.store.limits) (past_of c h) old m drops asks fresh (ap (out_of h.meaning) may.out) o.0 up may.some
+                  (are-asked (with_regions c gs) q m asks may r.hidden r.facts) may.few (mode (with_regions c gs) q m asks may r.hidden r.facts),
+              record {
+                sound = here.sound;
+                schema = refl;
+                within = here.within;
+                client = record {
+                  hidden = asked_hidden r.hidden m;
+                  facts = facts;
+                  same = ap (λ n. asked old (n + 1)) r.facts.queries;
+                  are_true = o.1.are_true;
+                };
+              },
+            );
       }
 
   -- for every past that the client stood for
   pub query-sent : (new : Client) (step : QueryStep) → ((h : Hidden) → Facts c h → IsReady c m h drops gs) → IsSent (with_regions c gs) q asks drops new step → Stands c → Queries c m new step
-  query-sent new step each (is_down down) stands = record {
-    by_rules = over c (λ db past. Goes db (SaysQuery past (Down c.cuts drops)) (rules.QueryStep (basis_of db c.store.limits) past (Ok m)) (with_regions c gs)) (λ h f. down-goes h (each h f) down);
-    stands = let r = each stands.0 stands.1 in (r.hidden, r.facts);
-  }
-  query-sent new step each (is_sent up) stands = record {
-    by_rules = over c (λ db past. Goes db (SaysQuery past (asked_step (next_ask (with_regions c gs) q asks) drops)) (rules.QueryStep (basis_of db c.store.limits) past (Ok m)) gone) (λ h f. sent-goes h f (each h f) up);
-    stands = let r = each stands.0 stands.1 in (asked_hidden r.hidden m, sent-facts (with_regions c gs) q m asks may r.hidden r.facts up);
-  }
+  query-sent new step each (is_down down) stands = queries-by c (with_regions c gs) m (Down c.cuts drops) (λ h f. down-goes h (each h f) down) stands
+  query-sent new step each (is_sent up) stands = queries-by c gone m (asked_step (next_ask (with_regions c gs) q asks) drops) (λ h f. sent-goes h f (each h f) up) stands
 
 -- the rest of a query is asked
 pub query-asks : (c : Client) (q : Query) (m : model.Query) (asks : List AskPart) (new : Client) (step : QueryStep) → MayAsk c q m asks → IsSent c q asks [] new step → Stands c → Queries c m new step
@@ -243,12 +247,12 @@ query-asks c q m asks new step may sent stands = query-sent c q m asks [] c.stor
 -- ---- all is dropped first
 
 -- the part has rects, and with those that cover it they make too large a grid
-record IsLarge (schema : List Table) (regions : List Region) (part : Part) : Type 0 where
+pub record IsLarge (schema : List Table) (regions : List Region) (part : Part) : Type 0 where
   some : part.rects ≡ [] → ⊥
   large : most_rects < grid (table_at schema part.table).columns (part.rects ++ cover_of part regions)
 
 -- the one part is so
-large-one : (schema : List Table) (regions : List Region) (parts : List Part) (part : Part) → parts ≡ part ∷ [] → IsOver schema regions parts → IsLarge schema regions part
+pub large-one : (schema : List Table) (regions : List Region) (parts : List Part) (part : Part) → parts ≡ part ∷ [] → IsOver schema regions parts → IsLarge schema regions part
 large-one schema regions parts part own over = by part.rects refl
   where
     columns : List Column
@@ -278,7 +282,7 @@ some-asked parts part own some none = by part.rects refl
         absurd (cc)
 
 -- the load is too high
-load-heavy : (c : Client) (h : Hidden) (q : Query) (m : model.Query) (one : IsOneQuery c.schema q m) → Facts c h → IsLarge c.schema c.store.regions one.part
+pub load-heavy : (c : Client) (h : Hidden) (q : Query) (m : model.Query) (one : IsOneQuery c.schema q m) → Facts c h → IsLarge c.schema c.store.regions one.part
     → IsHeavy c.schema h.marks [] m (counted h.counted_from (h.queries ++ record { query = m; answered = false } ∷ []))
 load-heavy c h q m one f large =
     let s = c.schema in

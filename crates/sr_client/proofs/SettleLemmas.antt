@@ -43,12 +43,13 @@ use Rattle.sr_client.specs.declared.steps.Took.TheVariants as took
 use Rattle.sr_client.specs.Laying.{TellsRows}
 use Rattle.sr_client.specs.Settling.{settled_at, SettlesTo, WelcomesTo}
 use Rattle.sr_client.specs.Stands.{Hidden, Facts, Stands, StandsOver, Truly, IsFit, AreFit, past_of, out_of, basis_of}
-use Rattle.sr_client.specs.Steps.{Goes, SaysTook, Takes}
+use Rattle.sr_client.specs.Steps.{KeepsLink, SaysTook, Takes}
 use Rattle.sr_client.specs.Values.{has_values}
 use Rattle.sr_client.proofs.AskedLemmas.{after-all, after-keeps, after-store}
 use Rattle.sr_client.proofs.FitLemmas.{fitted-keeps}
 use Rattle.sr_client.proofs.MirrorLemmas.{at-mirror}
-use Rattle.sr_client.proofs.OverLemmas.{on, IsHere, over, stands-over}
+use Rattle.sr_client.proofs.MoveLemmas.{takes-by}
+use Rattle.sr_client.proofs.OverLemmas.{on, IsHere, stands-over}
 use Rattle.sr_client.proofs.RestLemmas.{with_drops}
 use Rattle.sr_client.proofs.SuitLemmas.{known-least, lapse-later, laid-tells, not-false, notice-later, or-later, or-none}
 use Rattle.sr_client.proofs.TableLemmas.{have-first}
@@ -252,17 +253,26 @@ module _ (c : Client) (h : Hidden) (f : Facts c h) (db : Database) (here : IsHer
 -- ---- a step of the rules
 
 module _ (c : Client) (values : list_all has_values c.laid ≡ true) (m : Message) (answer : Took) (version : ℕ) (marks : List Mark) (gs : List Region) where
-  -- what the rules allow of a client that is left so
-  pub left-goes : (h : Hidden) (f : Facts c h) (db : Database) (here : IsHere db c) (o : rules.Outcome) → SaysTook answer o → IsLeft c h marks gs → version ≤ newest db
-      → AreTrueOf (told_of (tables_of db version)) gs → rules.TakeStep (basis_of (on c db) c.store.limits) (past_of c h) m o (settled (past_of c h) version marks)
-      → Goes (on c db) (SaysTook answer) (rules.TakeStep (basis_of (on c db) c.store.limits) (past_of c h) m) (settled_at c version gs)
-  left-goes h f db here o is left within are step = record {
+  -- the rules allow it, and the regions that are left are true
+  pub record IsTaken (o : rules.Outcome) (h : Hidden) (db : Database) : Type 0 where
+    pub step : rules.TakeStep (basis_of (on c db) c.store.limits) (past_of c h) m o (settled (past_of c h) version marks)
+    pub within : version ≤ newest db
+    pub are : AreTrueOf (told_of (tables_of db version)) gs
+
+  -- a client that is left so
+  pub takes-left : (o : rules.Outcome) → SaysTook answer o → ((past : session.Client) → KeepsLink past o (settled past version marks)) → ((h : Hidden) → Facts c h → IsLeft c h marks gs)
+      → ((h : Hidden) → Facts c h → (db : Database) → IsHere db c → Truly (on c db) (past_of c h) m → IsTaken o h db) → Stands c → Takes c m (settled_at c version gs) answer
+  takes-left o is link left taken stands = takes-by c (settled_at c version gs) m answer (λ h f. record {
     outcome = o;
     next = past_of (settled_at c version gs) (with_drops h marks);
     is = is;
-    allowed = step;
-    stands = stands-over (settled_at c version gs) (with_drops h marks) db (left-facts c h version marks gs f left) (record { sound = here.sound; within = within; are_true = are });
-  }
+    link = link (past_of c h);
+    draws = omega arith;
+    stands = (with_drops h marks, left-facts c h version marks gs f (left h f), refl);
+    over = λ db here t.
+        let k = taken h f db here t in
+        (k.step, stands-over (settled_at c version gs) (with_drops h marks) db (left-facts c h version marks gs f (left h f)) (record { sound = here.sound; within = k.within; are_true = k.are }));
+  }) stands
 
 -- ---- a write made a version
 
@@ -272,23 +282,22 @@ module _ (c : Client) (number version : ℕ) (marks : List Mark) (gs : List Regi
     written-left = settles-left c h f values (has_lapse c.laid) marks gs refl s
 
     written-goes : (db : Database) → IsHere db c → Truly (on c db) (past_of c h) (Written number version)
-        → Goes (on c db) (SaysTook (took.Written number version marks)) (rules.TakeStep (basis_of (on c db) c.store.limits) (past_of c h) (Written number version)) (settled_at c version gs)
+        → IsTaken c values (Written number version) (took.Written number version marks) version marks gs (rules.WriteDone number version marks) h db
     written-goes db here t =
         let out : out_of h.meaning c.out ≡ Some (WriteOut number) = write-out c.schema (out_of h.meaning c.out) c.laid c.version number version (fit h.meaning) in
         let e = ending (on c db) (past_of c h) t.connection t.session (WriteOut number) (Written number version) t.rest t.is_open out t.first (λ x walks. absurd walks.0.0) in
         let later = walks-later (on c db) None (welcomed true (walked (mirror_of (past_of c h)) c.laid) version) t.rest t.session e.walks.1 in
         let upto = t.is_open.upto in
         let comes = comes-quietly c h f db here (WriteOut number) e.passes version (omega (arith, later, upto)) e.walks.0.1 in
-        left-goes c values (Written number version) (took.Written number version marks) version marks gs h f db here (rules.WriteDone number version marks) refl written-left comes.within
-        (settles-true c h f values db here version comes.within comes.now (has_lapse c.laid) marks gs s)
-        (written number version marks out comes.later (settles-drops c h f values db here version comes.within comes.now (has_lapse c.laid) marks gs refl s))
+        record {
+          step = written number version marks out comes.later (settles-drops c h f values db here version comes.within comes.now (has_lapse c.laid) marks gs refl s);
+          within = comes.within;
+          are = settles-true c h f values db here version comes.within comes.now (has_lapse c.laid) marks gs s;
+        }
 
   pub takes-written : Stands c → Takes c (Written number version) (settled_at c version gs) (took.Written number version marks)
-  takes-written stands = record {
-    by_rules = over c (λ db past. Truly db past (Written number version)
-        → Goes db (SaysTook (took.Written number version marks)) (rules.TakeStep (basis_of db c.store.limits) past (Written number version)) (settled_at c version gs)) written-goes;
-    stands = (with_drops stands.0 marks, left-facts c stands.0 version marks gs stands.1 (written-left stands.0 stands.1));
-  }
+  takes-written stands =
+      takes-left c values (Written number version) (took.Written number version marks) version marks gs (rules.WriteDone number version marks) refl (λ past. refl) written-left written-goes stands
 
 -- ---- a write was refused
 
@@ -301,7 +310,7 @@ module _ (c : Client) (number : ℕ) (fault : Fault) (marks : List Mark) (gs : L
     refused-left = settles-left c h f values (has_lapse c.laid) marks gs refl s
 
     refused-goes : (db : Database) → IsHere db c → Truly (on c db) (past_of c h) (Refused number fault)
-        → Goes (on c db) (SaysTook (took.Refused number fault marks)) (rules.TakeStep (basis_of (on c db) c.store.limits) (past_of c h) (Refused number fault)) (settled_at c (version_after c.version c.laid) gs)
+        → IsTaken c values (Refused number fault) (took.Refused number fault marks) (version_after c.version c.laid) marks gs (rules.WriteRefused number fault marks) h db
     refused-goes db here t =
         let out : out_of h.meaning c.out ≡ Some (WriteOut number) = refused-out c.schema (out_of h.meaning c.out) c.laid c.version number fault (fit h.meaning) in
         let e = ending (on c db) (past_of c h) t.connection t.session (WriteOut number) (Refused number fault) t.rest t.is_open out t.first (λ x walks. absurd walks.0) in
@@ -309,16 +318,15 @@ module _ (c : Client) (number : ℕ) (fault : Fault) (marks : List Mark) (gs : L
         let later = walks-later (on c db) None (welcomed true m m.version) t.rest t.session e.walks.1 in
         let upto = t.is_open.upto in
         let comes : ComesTo c db (version_after c.version c.laid) = subst (ComesTo c db) (walked-version (mirror_of (past_of c h)) c.laid e.all) (comes-there c h f db here (WriteOut number) e.passes (omega (arith, later, upto))) in
-        left-goes c values (Refused number fault) (took.Refused number fault marks) (version_after c.version c.laid) marks gs h f db here (rules.WriteRefused number fault marks) refl refused-left comes.within
-        (settles-true c h f values db here (version_after c.version c.laid) comes.within comes.now (has_lapse c.laid) marks gs s)
-        (refused_write number fault marks out comes.later (settles-drops c h f values db here (version_after c.version c.laid) comes.within comes.now (has_lapse c.laid) marks gs refl s))
+        record {
+          step = refused_write number fault marks out comes.later (settles-drops c h f values db here (version_after c.version c.laid) comes.within comes.now (has_lapse c.laid) marks gs refl s);
+          within = comes.within;
+          are = settles-true c h f values db here (version_after c.version c.laid) comes.within comes.now (has_lapse c.laid) marks gs s;
+        }
 
   pub takes-refused : Stands c → Takes c (Refused number fault) (settled_at c (version_after c.version c.laid) gs) (took.Refused number fault marks)
-  takes-refused stands = record {
-    by_rules = over c (λ db past. Truly db past (Refused number fault)
-        → Goes db (SaysTook (took.Refused number fault marks)) (rules.TakeStep (basis_of db c.store.limits) past (Refused number fault)) (settled_at c (version_after c.version c.laid) gs)) refused-goes;
-    stands = (with_drops stands.0 marks, left-facts c stands.0 (version_after c.version c.laid) marks gs stands.1 (refused-left stands.0 stands.1));
-  }
+  takes-refused stands =
+      takes-left c values (Refused number fault) (took.Refused number fault marks) (version_after c.version c.laid) marks gs (rules.WriteRefused number fault marks) refl (λ past. refl) refused-left refused-goes stands
 
 -- ---- a session is open
 
@@ -366,14 +374,13 @@ module _ (c : Client) (number version : ℕ) (kept : Bool) (marks : List Mark) (
             subst (AreTrueOf (told_of (tables_of db version))) (sym none) (All-nil (IsTrueOf (told_of (tables_of db version)))),
           )
 
-      welcome-goes : Goes (on c db) (SaysTook (took.Welcomed version kept marks)) (rules.TakeStep (basis_of (on c db) c.store.limits) (past_of c h) (Welcome number version kept)) (settled_at c version gs)
-      welcome-goes =
-          left-goes c values (Welcome number version kept) (took.Welcomed version kept marks) version marks gs h f db here (rules.Welcomed version kept marks) refl welcome-left within fine.are
-          (is_welcomed number version kept marks out (welcome-later c.schema (out_of h.meaning c.out) c.laid c.version number version kept (fit h.meaning)) fine.drops)
+      welcome-goes : IsTaken c values (Welcome number version kept) (took.Welcomed version kept marks) version marks gs (rules.Welcomed version kept marks) h db
+      welcome-goes = record {
+        step = is_welcomed number version kept marks out (welcome-later c.schema (out_of h.meaning c.out) c.laid c.version number version kept (fit h.meaning)) fine.drops;
+        within = within;
+        are = fine.are;
+      }
 
   pub takes-welcome : Stands c → Takes c (Welcome number version kept) (settled_at c version gs) (took.Welcomed version kept marks)
-  takes-welcome stands = record {
-    by_rules = over c (λ db past. Truly db past (Welcome number version kept)
-        → Goes db (SaysTook (took.Welcomed version kept marks)) (rules.TakeStep (basis_of db c.store.limits) past (Welcome number version kept)) (settled_at c version gs)) (λ h f db here t. welcome-goes h f db here t);
-    stands = (with_drops stands.0 marks, left-facts c stands.0 version marks gs stands.1 (welcome-left stands.0 stands.1));
-  }
+  takes-welcome stands =
+      takes-left c values (Welcome number version kept) (took.Welcomed version kept marks) version marks gs (rules.Welcomed version kept marks) refl (λ past. refl) welcome-left (λ h f db here t. welcome-goes h f db here t) stands

@@ -1,5 +1,5 @@
 -- What a write does.
-use Rattle.std.proofs.Common.{◌≡◌, ℕ, ◌+◌, true, false, List, [], refl, sym, ◌∙◌, ap, subst, Some, None}
+use Rattle.std.proofs.Common.{◌≡◌, ℕ, ◌+◌, true, false, List, [], refl, sym, ◌∙◌, ap, subst, Some, None, arith}
 use Rattle.sr_message.specs.declared.message.Message.{Message}
 use Rattle.sr_message.specs.declared.message.Message.TheVariants.{Write}
 use Rattle.sr_model.specs.Queries.{Query}
@@ -12,39 +12,37 @@ use Rattle.sr_client.specs.declared.client.Client.{Client}
 use Rattle.sr_client.specs.declared.client.Request as code
 use Rattle.sr_client.specs.declared.client.Request.TheVariants as request
 use Rattle.sr_client.specs.declared.steps.WriteStep.TheVariants.{Sent, Busy, Down}
-use Rattle.sr_client.specs.Stands.{Hidden, Facts, Stands, StandsOver, past_of, out_of, request_of, AreFit}
-use Rattle.sr_client.specs.Steps.{Goes, SaysWrite, Writes}
-use Rattle.sr_client.proofs.OverLemmas.{on, IsHere, over, stands-over}
+use Rattle.sr_client.specs.Stands.{Hidden, Facts, Stands, past_of, out_of, request_of, AreFit}
+use Rattle.sr_client.specs.Steps.{Writes}
+use Rattle.sr_client.proofs.MoveLemmas.{writes-by}
+use Rattle.sr_client.proofs.OverLemmas.{on, IsHere, stands-over}
 use Rattle.sr_client.proofs.QueryLemmas.{none-laid}
 
 pub write-busy : (c : Client) (sql : List ℕ) (number : ℕ) (request : code.Request) → Stands c → c.out ≡ Some request → ((meaning : Query) → number ≡ number_of (request_of meaning request))
     → Writes c sql c (Busy number)
-write-busy c sql number request stands out number_is = record {
-  by_rules = λ db past s.
-      let h = s.client.hidden in
-      let r : Request = request_of h.meaning request in
-      let past_out : past.out ≡ Some (request_of h.meaning request) = ap (λ (p : session.Client). p.out) s.client.same ∙ ap (out_of h.meaning) out in
-      record {
-        outcome = rules.Busy number;
-        next = past;
-        is = refl;
-        allowed = subst (λ k. rules.WriteStep sql past (rules.Busy k) past) (sym (number_is h.meaning)) (write_busy r past_out);
-        stands = s;
-      };
-  stands = stands;
-}
+write-busy c sql number request stands out number_is = writes-by c c sql (Busy number) (λ h f. record {
+  outcome = rules.Busy number;
+  next = past_of c h;
+  is = refl;
+  link = refl;
+  draws = omega arith;
+  stands = (h, f, refl);
+  over = λ db here it. (
+    subst (λ k. rules.WriteStep sql (past_of c h) (rules.Busy k) (past_of c h)) (sym (number_is h.meaning)) (write_busy (request_of h.meaning request) (ap (out_of h.meaning) out)),
+    stands-over c h db f here,
+  );
+}) stands
 
 pub write-over-cut : (c : Client) (sql : List ℕ) → Stands c → c.out ≡ None → c.cut ≡ true → Writes c sql c (Down c.cuts)
-write-over-cut c sql stands out down = record {
-  by_rules = over c (λ db past. Goes db (SaysWrite sql (Down c.cuts)) (rules.WriteStep sql past) c) (λ h f db here. record {
-    outcome = rules.Down c.cuts [];
-    next = past_of c h;
-    is = refl;
-    allowed = write_down (ap (out_of h.meaning) out) down;
-    stands = stands-over c h db f here;
-  });
-  stands = stands;
-}
+write-over-cut c sql stands out down = writes-by c c sql (Down c.cuts) (λ h f. record {
+  outcome = rules.Down c.cuts [];
+  next = past_of c h;
+  is = refl;
+  link = refl;
+  draws = omega arith;
+  stands = (h, f, refl);
+  over = λ db here it. (write_down (ap (out_of h.meaning) out) down, stands-over c h db f here);
+}) stands
 
 -- the client once a write is out
 abbrev pub writing : Client → Client
@@ -71,13 +69,15 @@ writing-facts c h f out up =
     }
 
 pub write-sent : (c : Client) (sql : List ℕ) (message : Message) → Stands c → c.out ≡ None → c.cut ≡ false → message ≡ Write c.next_request sql → Writes c sql (writing c) (Sent c.next_request message)
-write-sent c sql message stands out up told = record {
-  by_rules = over c (λ db past. Goes db (SaysWrite sql (Sent c.next_request message)) (rules.WriteStep sql past) (writing c)) (λ h f db here. record {
-    outcome = rules.WriteSent c.next_request sql;
-    next = past_of (writing c) h;
-    is = (told, refl);
-    allowed = write_sends (ap (out_of h.meaning) out) up;
-    stands = stands-over (writing c) h db (writing-facts c h f out up) (record { sound = here.sound; within = here.within; are_true = here.are_true });
-  });
-  stands = (stands.0, writing-facts c stands.0 stands.1 out up);
-}
+write-sent c sql message stands out up told = writes-by c (writing c) sql (Sent c.next_request message) (λ h f. record {
+  outcome = rules.WriteSent c.next_request sql;
+  next = past_of (writing c) h;
+  is = (told, refl);
+  link = (up, up, λ none. absurd (let wrong : Some (WriteOut c.next_request) ≡ None = none in cc));
+  draws = omega arith;
+  stands = (h, writing-facts c h f out up, refl);
+  over = λ db here it. (
+    write_sends (ap (out_of h.meaning) out) up,
+    stands-over (writing c) h db (writing-facts c h f out up) (record { sound = here.sound; within = here.within; are_true = here.are_true }),
+  );
+}) stands

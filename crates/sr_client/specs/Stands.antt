@@ -105,6 +105,10 @@ pub record Facts (c : Client) (h : Hidden) : Type 0 where
 abbrev pub Stands : Client → Type 0
 Stands c = (h : Hidden) × Facts c h
 
+-- The client stands for this past, on any link.
+abbrev pub StandsFor : session.Client → Client → Type 0
+StandsFor past c = (h : Hidden) × Facts c h × (past ≡ past_of c h)
+
 -- the numbers that were drawn: queries and requests
 abbrev pub drawn : Client → ℕ
 drawn c = c.queries + c.next_request

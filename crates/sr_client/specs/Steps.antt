@@ -1,5 +1,5 @@
 -- What the calls of a client answer, and that it is what the rules allow.
-use Rattle.std.specs.Prelude.{ℕ, Bool, true, false, ◌≡◌, List, [], ◌∷◌, ◌++◌, Option, Some, None, Ok}
+use Rattle.std.specs.Prelude.{ℕ, ◌+◌, ◌≤◌, Bool, true, false, ◌≡◌, ◌≢◌, List, [], ◌∷◌, ◌++◌, Option, Some, None, Ok}
 use Rattle.sr_cell.specs.declared.cause.Cause.TheVariants.{Asked as AskedCause}
 use Rattle.sr_message.specs.declared.message.AskPart.{AskPart}
 use Rattle.sr_message.specs.declared.message.Message.{Message}
@@ -27,7 +27,7 @@ use Rattle.sr_client.specs.declared.steps.ResumeStep.{ResumeStep}
 use Rattle.sr_client.specs.declared.steps.ResumeStep.TheVariants.{Sent as ResumeIsSent, Up as ResumeUp}
 use Rattle.sr_client.specs.declared.steps.EvictStep.{EvictStep}
 use Rattle.sr_client.specs.declared.steps.EvictStep.TheVariants.{Dropped as EvictDropped, Busy as EvictBusy, NoSuch as EvictNoSuch}
-use Rattle.sr_client.specs.Stands.{StandsOver, Stands, Truly, basis_of}
+use Rattle.sr_client.specs.Stands.{StandsOver, StandsFor, Stands, Truly, basis_of, drawn}
 
 -- ---- what an answer says
 
@@ -91,41 +91,6 @@ pub record Goes (db : Database) (says : Outcome → Type 0) (rule : Outcome → 
   pub allowed : rule outcome next
   pub stands : StandsOver db next new
 
--- For every database and past that the client stands over, what a query does is a step of the rules.
-pub record Queries (old : Client) (meaning : Query) (new : Client) (step : QueryStep) : Type 0 where
-  pub by_rules : (db : Database) (past : session.Client) → StandsOver db past old
-      → Goes db (SaysQuery past step) (rules.QueryStep (basis_of db old.store.limits) past (Ok meaning)) new
-  pub stands : Stands new
-
--- For every database and past that the client stands over, and of which the message is truly promised, what it does is a step of the
--- rules.
-pub record Takes (old : Client) (m : Message) (new : Client) (took : Took) : Type 0 where
-  pub by_rules : (db : Database) (past : session.Client) → StandsOver db past old → Truly db past m
-      → Goes db (SaysTook took) (rules.TakeStep (basis_of db old.store.limits) past m) new
-  pub stands : Stands new
-
--- For every database and past that the client stands over, what an eviction does is a step of the rules.
-pub record Evicts (old : Client) (place : ℕ) (new : Client) (step : EvictStep) : Type 0 where
-  pub by_rules : (db : Database) (past : session.Client) → StandsOver db past old
-      → Goes db (SaysEvict step) (rules.EvictStep (basis_of db old.store.limits) place past) new
-  pub stands : Stands new
-
--- For every database and past that the client stands over, what a write does whose text is not too long is a step of the rules.
-pub record Writes (old : Client) (sql : List ℕ) (new : Client) (step : WriteStep) : Type 0 where
-  pub by_rules : (db : Database) (past : session.Client) → StandsOver db past old → Goes db (SaysWrite sql step) (rules.WriteStep sql past) new
-  pub stands : Stands new
-
--- For every database and past that the client stands over, what a resume does is a step of the rules.
-pub record Resumes (old new : Client) (step : ResumeStep) : Type 0 where
-  pub by_rules : (db : Database) (past : session.Client) → StandsOver db past old
-      → Goes db (SaysResume past step) (rules.ResumeStep db.schema past) new
-  pub stands : Stands new
-
--- For every database and past that the client stands over, what a cut does is a step of the rules.
-pub record Cuts (old new : Client) (step : CutStep) : Type 0 where
-  pub by_rules : (db : Database) (past : session.Client) → StandsOver db past old → Goes db (SaysCut past old step) (rules.CutStep past) new
-  pub stands : Stands new
-
 -- the message was refused
 abbrev pub is_bad : Took → Bool
 is_bad (TookBad why) = true
@@ -137,3 +102,69 @@ is_bad (TookAsked request message marks) = false
 is_bad (TookWritten request version marks) = false
 is_bad (TookRefused request fault marks) = false
 is_bad (TookWelcomed version kept marks) = false
+
+-- What is sent is out then, over a link that is up. A resume brings the link up, a cut takes it down, and nothing else changes it.
+abbrev pub KeepsLink : session.Client → Outcome → session.Client → Type 0
+KeepsLink past (AskSent drops request fresh parts) next = (past.cut ≡ false) × (next.cut ≡ false) × (next.out ≢ None)
+KeepsLink past (WriteSent request sql) next = (past.cut ≡ false) × (next.cut ≡ false) × (next.out ≢ None)
+KeepsLink past (ResumeSent message) next = (past.cut ≡ true) × (next.cut ≡ false) × (next.out ≢ None)
+KeepsLink past AlreadyUp next = (past.cut ≡ false) × (next.cut ≡ false)
+KeepsLink past (CutDone cut ended) next = next.cut ≡ true
+KeepsLink past (AlreadyCut cut) next = next.cut ≡ true
+KeepsLink past other next = next.cut ≡ past.cut
+
+-- From a past that the client stood for on some link: one outcome and one next past, for which it stands, whatever the database. Over
+-- each database that it stood over, and of which this holds, they are what the rules allow, and it stands over the next past.
+pub record Moves (old new : Client) (past : session.Client) (says : Outcome → Type 0) (If : Database → Type 0) (rule : Database → Outcome → session.Client → Type 0) : Type 0 where
+  pub outcome : Outcome
+  pub next : session.Client
+  pub is : says outcome
+  pub link : KeepsLink past outcome next
+  pub draws : drawn new + new.cuts ≤ (drawn old + old.cuts) + 2
+  pub stands : StandsFor next new
+  pub over : (db : Database) → StandsOver db past old → If db → rule db outcome next × StandsOver db next new
+
+-- For every database and past that the client stands over, what a query does is a step of the rules; the next past is the same for all
+-- databases. So it is with what else a client does.
+pub record Queries (old : Client) (meaning : Query) (new : Client) (step : QueryStep) : Type 0 where
+  pub by_rules : (db : Database) (past : session.Client) → StandsOver db past old
+      → Goes db (SaysQuery past step) (rules.QueryStep (basis_of db old.store.limits) past (Ok meaning)) new
+  pub moves : (past : session.Client) → StandsFor past old
+      → Moves old new past (SaysQuery past step) (λ db. Unit {0}) (λ db. rules.QueryStep (basis_of db old.store.limits) past (Ok meaning))
+  pub stands : Stands new
+
+-- For every database and past that the client stands over, and of which the message is truly promised, what it does is a step of the
+-- rules.
+pub record Takes (old : Client) (m : Message) (new : Client) (took : Took) : Type 0 where
+  pub by_rules : (db : Database) (past : session.Client) → StandsOver db past old → Truly db past m
+      → Goes db (SaysTook took) (rules.TakeStep (basis_of db old.store.limits) past m) new
+  pub moves : (past : session.Client) → StandsFor past old → is_bad took ≡ false
+      → Moves old new past (SaysTook took) (λ db. Truly db past m) (λ db. rules.TakeStep (basis_of db old.store.limits) past m)
+  pub stands : Stands new
+
+-- For every database and past that the client stands over, what an eviction does is a step of the rules.
+pub record Evicts (old : Client) (place : ℕ) (new : Client) (step : EvictStep) : Type 0 where
+  pub by_rules : (db : Database) (past : session.Client) → StandsOver db past old
+      → Goes db (SaysEvict step) (rules.EvictStep (basis_of db old.store.limits) place past) new
+  pub moves : (past : session.Client) → StandsFor past old
+      → Moves old new past (SaysEvict step) (λ db. Unit {0}) (λ db. rules.EvictStep (basis_of db old.store.limits) place past)
+  pub stands : Stands new
+
+-- For every database and past that the client stands over, what a write does whose text is not too long is a step of the rules.
+pub record Writes (old : Client) (sql : List ℕ) (new : Client) (step : WriteStep) : Type 0 where
+  pub by_rules : (db : Database) (past : session.Client) → StandsOver db past old → Goes db (SaysWrite sql step) (rules.WriteStep sql past) new
+  pub moves : (past : session.Client) → StandsFor past old → Moves old new past (SaysWrite sql step) (λ db. Unit {0}) (λ db. rules.WriteStep sql past)
+  pub stands : Stands new
+
+-- For every database and past that the client stands over, what a resume does is a step of the rules.
+pub record Resumes (old new : Client) (step : ResumeStep) : Type 0 where
+  pub by_rules : (db : Database) (past : session.Client) → StandsOver db past old
+      → Goes db (SaysResume past step) (rules.ResumeStep db.schema past) new
+  pub moves : (past : session.Client) → StandsFor past old → Moves old new past (SaysResume past step) (λ db. Unit {0}) (λ db. rules.ResumeStep db.schema past)
+  pub stands : Stands new
+
+-- For every database and past that the client stands over, what a cut does is a step of the rules.
+pub record Cuts (old new : Client) (step : CutStep) : Type 0 where
+  pub by_rules : (db : Database) (past : session.Client) → StandsOver db past old → Goes db (SaysCut past old step) (rules.CutStep past) new
+  pub moves : (past : session.Client) → StandsFor past old → Moves old new past (SaysCut past old step) (λ db. Unit {0}) (λ db. rules.CutStep past)
+  pub stands : Stands new

@@ -1,6 +1,7 @@
 //! A client and its state.
 ghost use Rattle.std.specs.Prelude.{◌≡◌, ◌-◌, ◌^◌, min, IsTrue};
 ghost use Rattle.std.specs.List.{list_all};
+ghost use Rattle.std.specs.Option.{is_some};
 ghost use Rattle.sr_model.specs.Queries.{Query as TheQuery};
 ghost use Rattle.sr_query.specs.Bound.{is_table};
 ghost use Rattle.sr_store.specs.Fitted.{count_rows};
@@ -116,6 +117,13 @@ impl Client {
         ensures { result.now ≡ self.now.store.regions }
     {
         self.store.regions.as_slice()
+    }
+
+    /// Whether a request is out; takes no memory.
+    pub fn is_waiting(&self) -> bool
+        ensures { result ≡ is_some self.now.out }
+    {
+        self.out.is_some()
     }
 
     /// How many rows the regions have, or the greatest number of the type where there are more; takes no memory.

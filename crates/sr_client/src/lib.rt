@@ -5,6 +5,7 @@ pub mod answer;
 pub mod asks;
 pub mod client;
 pub mod cut;
+pub mod explain;
 pub mod laws;
 pub mod misfit;
 pub mod query;
@@ -15,4 +16,5 @@ pub mod take;
 #[cfg(test)]
 mod tests;
 mod values;
+mod victims;
 pub mod write;

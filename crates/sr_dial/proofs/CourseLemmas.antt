@@ -1,0 +1,206 @@
+-- A run, one step more.
+use Rattle.std.proofs.Common.{◌≡◌, ℕ, ◌+◌, ◌≤◌, Bool, true, false, List, [], ◌∷◌, ◌++◌, arith, append_assoc, append-nil, refl, sym, ◌∙◌, ap, subst, Option, Some, None, option_map, option_to_list}
+use Rattle.std.specs.Prelude.{◌≢◌, ◌&&◌, ◌||◌, IfSome, flat_map, take}
+use Rattle.std.specs.Io.KnownBytes.{Appends}
+use Rattle.std.specs.List.{list_any, All}
+use Rattle.std.proofs.lemmas.Grind.{flat_map-append}
+use Rattle.sr_io.specs.Causes.{Rose}
+use Rattle.sr_io.specs.Told.{Connection, Linking, Writing, connections, sends, sent_on}
+use Rattle.sr_io.proofs.SoFar.{Appends-append}
+use Rattle.sr_message.specs.declared.message.Message.{Message}
+use Rattle.sr_script.specs.declared.line.TraceLine.{TraceLine}
+use Rattle.sr_script.specs.TraceText.{line_text}
+use Rattle.sr_session.specs.Clients.{Client}
+use Rattle.sr_session.specs.Rules.{sent_of}
+use Rattle.sr_links.specs.Steps.{Step, Standing, Deed, IsFair, AreFair, OnOne, StaysOn, code_after, given_of, past_after, requests_of, taken_by}
+use Rattle.sr_talk.specs.Calls.{Call, Cause, Done, all_done, calls_told, count_faults, done_in, fails, is_failed, is_fault, line_of, lines_done, lines_of, one_if, steps_in, text_of}
+use Rattle.sr_talk.specs.Serving.{RoseBy, spelled}
+use Rattle.sr_talk.proofs.TalkLemmas.{spelled-append}
+use Rattle.sr_dial.specs.Known.{Setting, Makes}
+use Rattle.sr_dial.specs.Runs.{IsCarried, IsInPlace, SentAs, left_by, more_taken}
+use Rattle.sr_dial.specs.Courses.{At, Course, IsCall, IsThere, Start, Stepped, line_after}
+use Rattle.sr_dial.proofs.ListLemmas.{all-one, any-one, code-append, count-one, fails-one, fair-append, given-append, line-append, lines-append, on-append, past-append, place-append, requests-append, steps-append, taken-append, told-one}
+
+-- what is so of a connection is so, changed, of what a link tells of it
+pub map-told : (f : Connection → Connection) (P Q : Connection → Type 0) (told : Option Connection) → ((t : Connection) → P t → Q (f t)) → IfSome told P → IfSome (option_map f told) Q
+map-told f P Q None each h = tt
+map-told f P Q (Some t) each h = each t h
+
+pub weaken-told : (P Q : Connection → Type 0) (told : Option Connection) → ((t : Connection) → P t → Q t) → IfSome told P → IfSome told Q
+weaken-told P Q None each h = tt
+weaken-told P Q (Some t) each h = each t h
+
+pub append-some : (xs ys : List Message) → xs ≢ [] → xs ++ ys ≢ []
+append-some [] ys some none = some refl
+append-some (x ∷ xs) ys some none = cc
+
+pub or-no : (a b : Bool) → b ≡ false → (a || b) ≡ a
+or-no true b none = refl
+or-no false b none = none
+
+-- one step, with what it leaves behind it
+abbrev pub with_step : {C : Type 0} → Call C → Done C → Option Connection → List ℕ → Call C
+with_step {C} call d told left = record { first = call.first; others = call.others ++ d ∷ []; connected = call.connected; told = told; left = left }
+
+module _ {C : Type 0} where
+  pub all-step : (E : List (Call C)) (call : Call C) (d : Done C) (told : Option Connection) (left : List ℕ) → all_done (E ++ with_step call d told left ∷ []) ≡ all_done (E ++ call ∷ []) ++ d ∷ []
+  all-step E call d told left =
+      all-one E (with_step call d told left) ∙ (sym (append_assoc (all_done E) (done_in call) (d ∷ [])) ∙ ap (λ ds. ds ++ d ∷ []) (sym (all-one E call)))
+
+  -- the client behind it
+  pub past-one : (c : Client) (ds : List (Done C)) (d : Done C) → past_after c (steps_in (ds ++ d ∷ [])) ≡ d.step.past
+  past-one c ds d = ap (past_after c) (steps-append ds (d ∷ [])) ∙ past-append c (steps_in ds) (d.step ∷ [])
+
+  pub past-step : (c : Client) (E : List (Call C)) (call : Call C) (d : Done C) (told : Option Connection) (left : List ℕ) → left_by c (E ++ with_step call d told left ∷ []) ≡ d.step.past
+  past-step c E call d told left = ap (λ ds. past_after c (steps_in ds)) (all-step E call d told left) ∙ past-one c (all_done (E ++ call ∷ [])) d
+
+  -- the client of the present call
+  pub past-call : (c : Client) (E : List (Call C)) (call : Call C) → left_by c (E ++ call ∷ []) ≡ past_after call.first.step.past (steps_in call.others)
+  past-call c E call =
+      ap (λ ds. past_after c (steps_in ds)) (all-one E call) ∙ (ap (past_after c) (steps-append (all_done E) (done_in call)) ∙ past-append c (steps_in (all_done E)) (steps_in (done_in call)))
+
+  pub given-step : (call : Call C) (d : Done C) (told : Option Connection) (left : List ℕ) → given_of (steps_in (done_in (with_step call d told left))) ≡ given_of (steps_in (done_in call)) ++ taken_by d.step.deed
+  given-step call d told left =
+      ap given_of (steps-append (done_in call) (d ∷ [])) ∙ (given-append (steps_in (done_in call)) (d.step ∷ []) ∙ ap (λ ms. given_of (steps_in (done_in call)) ++ ms) (append-nil (taken_by d.step.deed)))
+
+  pub requests-step : (call : Call C) (d : Done C) (told : Option Connection) (left : List ℕ)
+      → requests_of (steps_in (done_in (with_step call d told left))) ≡ requests_of (steps_in (done_in call)) ++ sent_of d.step.outcome
+  requests-step call d told left =
+      ap requests_of (steps-append (done_in call) (d ∷ []))
+      ∙ (requests-append (steps_in (done_in call)) (d.step ∷ []) ∙ ap (λ ms. requests_of (steps_in (done_in call)) ++ ms) (append-nil (sent_of d.step.outcome)))
+
+  -- where a call did not fail, no fault is counted of it
+  pub count-still : (E : List (Call C)) (call : Call C) → fails call ≡ false → count_faults (E ++ call ∷ []) ≡ count_faults E
+  count-still E call none = count-one E call ∙ (ap (λ b. count_faults E + one_if (b && is_fault call)) none ∙ omega arith)
+
+  -- the connections that are told, in any state of the link
+  pub made-of : (down : Bool) (E : List (Call C)) (call : Call C) (old l : Linking) → IsThere down E call old l → connections l ≡ connections old ++ calls_told (E ++ call ∷ [])
+  made-of true E call old l there = there
+  made-of false E call old l (present, past, none, connected) =
+      ap (λ p. l.past ++ option_to_list p) present
+      ∙ (ap (λ x. x ++ option_to_list call.told) past
+      ∙ (append_assoc (connections old) (calls_told E) (option_to_list call.told) ∙ ap (λ x. connections old ++ x) (sym (told-one E call))))
+
+module _ (C : Type 0) (Stands : C → Client → Type 0) (IsOf : Standing C) (k : Setting) (s : Start C) where
+  -- a step that was made
+  abbrev pub done_of : {code new : C} {c : Client} {deed : Deed} {lines : List TraceLine} {sent : List Message} → ℕ → Cause → Makes Stands IsOf k code new c deed lines sent → Done C
+  done_of {code} {new} {c} {deed} {lines} {sent} number cause m = record { number = number; cause = cause; step = record { deed = deed; outcome = m.outcome; past = m.next; code = new } }
+
+  module _ (script : List (ℕ × Deed)) (line came number : ℕ) (cause : Cause) (P Q : List ℕ → Type 0) (code new : C) (deed : Deed) (lines : List TraceLine) (sent : List Message)
+      (says : (texts : List ℕ) → P texts → Q (texts ++ flat_map (line_text k.schema number) lines)) where
+    pub stepped-one : (ds : List (Done C)) → Stepped C Stands IsOf k s script line came ds P code → (m : Makes Stands IsOf k code new (past_after s.past (steps_in ds)) deed lines sent)
+        → IsInPlace cause line number deed (past_after s.past (steps_in ds))
+        → Stepped C Stands IsOf k s (script ++ line_of cause number deed) number (more_taken cause came) (ds ++ done_of number cause m ∷ []) Q new
+    stepped-one ds h m place =
+        let past : past_after s.past (steps_in (ds ++ done_of number cause m ∷ [])) ≡ m.next = past-one s.past ds (done_of number cause m) in
+        let texts : flat_map (text_of k.schema k.number) (ds ++ done_of number cause m ∷ []) ≡ flat_map (text_of k.schema k.number) ds ++ flat_map (line_text k.schema number) (lines_of k.number deed m.outcome) =
+        flat_map-append (text_of k.schema k.number) ds (done_of number cause m ∷ []) ∙ ap (λ x. flat_map (text_of k.schema k.number) ds ++ x) (append-nil (flat_map (line_text k.schema number) (lines_of k.number deed m.outcome))) in
+        record {
+          in_place = place-append 0 s.past ds (done_of number cause m ∷ []) h.in_place (subst (λ n. IsInPlace cause n number deed (past_after s.past (steps_in ds))) (sym h.line_is) place, tt);
+          line_is = line-append 0 ds (done_of number cause m ∷ []);
+          came_is = taken-append 0 ds (done_of number cause m ∷ []) ∙ ap (more_taken cause) h.came_is;
+          lines = lines-append ds (done_of number cause m ∷ []) ∙ (ap (λ x. lines_done ds ++ x) (append-nil (line_of cause number deed)) ∙ ap (λ x. x ++ line_of cause number deed) h.lines);
+          fair = subst (AreFair IsOf k.limits s.code s.past) (sym (steps-append ds (done_of number cause m ∷ [])))
+              (fair-append IsOf k.limits s.code s.past (steps_in ds) ((done_of number cause m).step ∷ []) h.fair
+              (subst (λ x. IsFair IsOf k.limits x (past_after s.past (steps_in ds)) (done_of number cause m).step) (sym h.code_is) m.fair, tt));
+          code_is = ap (code_after s.code) (steps-append ds (done_of number cause m ∷ [])) ∙ code-append s.code (steps_in ds) ((done_of number cause m).step ∷ []);
+          stands = subst (Stands new) (sym past) m.stands;
+          rests = subst (λ (p : Client). p.cut ≡ true → p.out ≡ None) (sym past) m.rests;
+          writes = subst Q (sym texts) (subst (λ ls. Q (flat_map (text_of k.schema k.number) ds ++ flat_map (line_text k.schema number) ls)) m.lines_are (says (flat_map (text_of k.schema k.number) ds) h.writes));
+        }
+
+    -- ---- a step of the present call
+
+    -- with what the link tells then
+    abbrev pub course-one : (feed left new_feed : List ℕ) (same : left ≡ new_feed) (told : Option Connection) (h : Course C Stands IsOf k s script line came P feed code) (m : Makes Stands IsOf k code new (left_by s.past (h.earlier ++ h.call ∷ [])) deed lines sent)
+        → IsInPlace cause line number deed (left_by s.past (h.earlier ++ h.call ∷ [])) → StaysOn (left_by s.past (h.earlier ++ h.call ∷ [])) deed
+        → IfSome told (λ t. t.taken ≡ spelled (given_of (steps_in (done_in h.call)) ++ taken_by deed) ++ left)
+        → Course C Stands IsOf k s (script ++ line_of cause number deed) number (more_taken cause came) Q new_feed new
+    course-one feed left new_feed same told h m place stays taken = record {
+      earlier = h.earlier;
+      call = with_step h.call (done_of number cause m) told left;
+      are = h.are;
+      is = record {
+        first = h.is.first;
+        was_cut = h.is.was_cut;
+        on_one = subst (OnOne h.call.first.step.past) (sym (steps-append h.call.others (done_of number cause m ∷ [])))
+            (on-append h.call.first.step.past (steps_in h.call.others) (done_of number cause m).step h.is.on_one (subst (λ c. StaysOn c deed) (past-call s.past h.earlier h.call) stays));
+      };
+      carried = h.carried;
+      left = same;
+      some = λ none. append-some (requests_of (steps_in (done_in h.call))) (sent_of m.outcome) h.some (sym (requests-step h.call (done_of number cause m) told left) ∙ none);
+      taken = subst (λ ms. IfSome told (λ t. t.taken ≡ spelled ms ++ left)) (sym (given-step h.call (done_of number cause m) told left)) taken;
+      steps = subst (λ ds. Stepped C Stands IsOf k s (script ++ line_of cause number deed) number (more_taken cause came) ds Q new) (sym (all-step h.earlier h.call (done_of number cause m) told left))
+          (stepped-one (all_done (h.earlier ++ h.call ∷ [])) h.steps m place);
+    }
+
+    module _ (failed : Bool) (l new_l : Linking) (feed left : List ℕ) (h : At C Stands IsOf k s script line came failed l P feed code)
+        (m : Makes Stands IsOf k code new (left_by s.past (h.course.earlier ++ h.course.call ∷ [])) deed lines sent)
+        (place : IsInPlace cause line number deed (left_by s.past (h.course.earlier ++ h.course.call ∷ []))) (stays : StaysOn (left_by s.past (h.course.earlier ++ h.course.call ∷ [])) deed)
+        (not_failed : is_failed cause ≡ false) where
+      -- all behind it went over the link, which is up
+      pub at-up : (left_by s.past (h.course.earlier ++ h.course.call ∷ [])).cut ≡ false → m.next.cut ≡ false → feed ≡ spelled (taken_by deed) ++ left → new_l ≡ sent_on (spelled sent) l
+          → At C Stands IsOf k s (script ++ line_of cause number deed) number (more_taken cause came) failed new_l Q left new
+      at-up up still fed is =
+          let there = subst (λ b. IsThere b h.course.earlier h.course.call s.linking l) up h.there in
+          let fails-no : fails (with_step h.course.call (done_of number cause m) (option_map (sends (spelled sent)) h.course.call.told) left) ≡ false =
+          fails-one h.course.call.others (done_of number cause m) ∙ (or-no (fails h.course.call) (is_failed cause) not_failed ∙ there.2) in
+          let same : fails (with_step h.course.call (done_of number cause m) (option_map (sends (spelled sent)) h.course.call.told) left) ≡ fails h.course.call = fails-no ∙ sym there.2 in
+          let sum : requests_of (steps_in (done_in (with_step h.course.call (done_of number cause m) (option_map (sends (spelled sent)) h.course.call.told) left))) ≡ requests_of (steps_in (done_in h.course.call)) ++ sent =
+          requests-step h.course.call (done_of number cause m) (option_map (sends (spelled sent)) h.course.call.told) left ∙ ap (λ ms. requests_of (steps_in (done_in h.course.call)) ++ ms) (sym m.sent_is) in
+          let before = h.faults in
+          record {
+            course = course-one feed left left refl (option_map (sends (spelled sent)) h.course.call.told) h.course m place stays
+                (map-told (sends (spelled sent)) (λ t. t.taken ≡ spelled (given_of (steps_in (done_in h.course.call))) ++ h.course.call.left)
+                (λ t. t.taken ≡ spelled (given_of (steps_in (done_in h.course.call)) ++ taken_by deed) ++ left) h.course.call.told
+                (λ t e. e ∙ (ap (λ x. spelled (given_of (steps_in (done_in h.course.call))) ++ x) (h.course.left ∙ fed)
+                ∙ (sym (append_assoc (spelled (given_of (steps_in (done_in h.course.call)))) (spelled (taken_by deed)) left)
+                ∙ ap (λ x. x ++ left) (sym (spelled-append (given_of (steps_in (done_in h.course.call))) (taken_by deed)))))) h.course.taken);
+            sent = map-told (sends (spelled sent)) (λ t. SentAs (fails h.course.call) (requests_of (steps_in (done_in h.course.call))) t.sent)
+                (λ t. SentAs (fails (with_step h.course.call (done_of number cause m) (option_map (sends (spelled sent)) h.course.call.told) left))
+                (requests_of (steps_in (done_in (with_step h.course.call (done_of number cause m) (option_map (sends (spelled sent)) h.course.call.told) left)))) t.sent) h.course.call.told
+                (λ t e.
+                let was : t.sent ≡ spelled (requests_of (steps_in (done_in h.course.call))) = subst (λ b. SentAs b (requests_of (steps_in (done_in h.course.call))) t.sent) there.2 e in
+                subst (λ b. SentAs b (requests_of (steps_in (done_in (with_step h.course.call (done_of number cause m) (option_map (sends (spelled sent)) h.course.call.told) left)))) (t.sent ++ spelled sent)) (sym fails-no)
+                (ap (λ x. x ++ spelled sent) was ∙ (sym (spelled-append (requests_of (steps_in (done_in h.course.call))) sent) ∙ ap spelled (sym sum)))) h.sent;
+            faults = subst (λ n. RoseBy s.linking.faults n new_l.faults)
+                (count-still h.course.earlier h.course.call there.2 ∙ sym (count-still h.course.earlier (with_step h.course.call (done_of number cause m) (option_map (sends (spelled sent)) h.course.call.told) left) fails-no))
+                (subst (λ (x : Linking). RoseBy s.linking.faults (count_faults (h.course.earlier ++ h.course.call ∷ [])) x.faults) (sym is) before);
+            there = subst (λ b. IsThere b h.course.earlier (with_step h.course.call (done_of number cause m) (option_map (sends (spelled sent)) h.course.call.told) left) s.linking new_l)
+                (sym (ap (λ (c : Client). c.cut) (past-step s.past h.course.earlier h.course.call (done_of number cause m) (option_map (sends (spelled sent)) h.course.call.told) left) ∙ still))
+                (ap (λ (x : Linking). x.present) is ∙ ap (option_map (sends (spelled sent))) there.0, ap (λ (x : Linking). x.past) is ∙ there.1, fails-no, there.3);
+            failed_is = any-one h.course.earlier (with_step h.course.call (done_of number cause m) (option_map (sends (spelled sent)) h.course.call.told) left)
+                ∙ (ap (λ b. list_any fails h.course.earlier || b) same ∙ (sym (any-one h.course.earlier h.course.call) ∙ h.failed_is));
+          }
+
+      -- nothing went over the link, which is down then
+      pub at-down : m.next.cut ≡ true → sent ≡ [] → taken_by deed ≡ [] → connections new_l ≡ connections l → l.faults ≤ new_l.faults
+          → At C Stands IsOf k s (script ++ line_of cause number deed) number (more_taken cause came) failed new_l Q feed new
+      at-down down none took same_links more =
+          let fails-same : fails (with_step h.course.call (done_of number cause m) h.course.call.told h.course.call.left) ≡ fails h.course.call =
+          fails-one h.course.call.others (done_of number cause m) ∙ or-no (fails h.course.call) (is_failed cause) not_failed in
+          let sum : requests_of (steps_in (done_in (with_step h.course.call (done_of number cause m) h.course.call.told h.course.call.left))) ≡ requests_of (steps_in (done_in h.course.call)) =
+          requests-step h.course.call (done_of number cause m) h.course.call.told h.course.call.left
+          ∙ (ap (λ ms. requests_of (steps_in (done_in h.course.call)) ++ ms) (sym m.sent_is ∙ none) ∙ append-nil (requests_of (steps_in (done_in h.course.call)))) in
+          let before = h.faults in
+          let count : count_faults (h.course.earlier ++ with_step h.course.call (done_of number cause m) h.course.call.told h.course.call.left ∷ []) ≡ count_faults (h.course.earlier ++ h.course.call ∷ []) =
+          count-one h.course.earlier (with_step h.course.call (done_of number cause m) h.course.call.told h.course.call.left)
+          ∙ (ap (λ b. count_faults h.course.earlier + one_if (b && is_fault h.course.call)) fails-same ∙ sym (count-one h.course.earlier h.course.call)) in
+          record {
+            course = course-one feed h.course.call.left feed h.course.left h.course.call.told h.course m place stays
+                (weaken-told (λ t. t.taken ≡ spelled (given_of (steps_in (done_in h.course.call))) ++ h.course.call.left)
+                (λ t. t.taken ≡ spelled (given_of (steps_in (done_in h.course.call)) ++ taken_by deed) ++ h.course.call.left) h.course.call.told
+                (λ t e. e ∙ ap (λ ms. spelled ms ++ h.course.call.left) (sym (ap (λ ms. given_of (steps_in (done_in h.course.call)) ++ ms) took ∙ append-nil (given_of (steps_in (done_in h.course.call)))))) h.course.taken);
+            sent = weaken-told (λ t. SentAs (fails h.course.call) (requests_of (steps_in (done_in h.course.call))) t.sent)
+                (λ t. SentAs (fails (with_step h.course.call (done_of number cause m) h.course.call.told h.course.call.left))
+                (requests_of (steps_in (done_in (with_step h.course.call (done_of number cause m) h.course.call.told h.course.call.left)))) t.sent) h.course.call.told
+                (λ t e. subst (λ b. SentAs b (requests_of (steps_in (done_in (with_step h.course.call (done_of number cause m) h.course.call.told h.course.call.left)))) t.sent) (sym fails-same)
+                (subst (λ ms. SentAs (fails h.course.call) ms t.sent) (sym sum) e)) h.sent;
+            faults = subst (λ n. RoseBy s.linking.faults n new_l.faults) (sym count) (omega (arith, before, more));
+            there = subst (λ b. IsThere b h.course.earlier (with_step h.course.call (done_of number cause m) h.course.call.told h.course.call.left) s.linking new_l)
+                (sym (ap (λ (c : Client). c.cut) (past-step s.past h.course.earlier h.course.call (done_of number cause m) h.course.call.told h.course.call.left) ∙ down))
+                (same_links ∙ (made-of (left_by s.past (h.course.earlier ++ h.course.call ∷ [])).cut h.course.earlier h.course.call s.linking l h.there
+                ∙ ap (λ x. connections s.linking ++ x) (told-one h.course.earlier h.course.call ∙ sym (told-one h.course.earlier (with_step h.course.call (done_of number cause m) h.course.call.told h.course.call.left)))));
+            failed_is = any-one h.course.earlier (with_step h.course.call (done_of number cause m) h.course.call.told h.course.call.left)
+                ∙ (ap (λ b. list_any fails h.course.earlier || b) fails-same ∙ (sym (any-one h.course.earlier h.course.call) ∙ h.failed_is));
+          }

@@ -1,0 +1,13 @@
+pub mod ListLemmas
+pub mod CourseLemmas
+pub mod BrokenLemmas
+pub mod BeginLemmas
+pub mod EndLemmas
+pub mod HandLemmas
+pub mod LineLemmas
+pub mod WaitLemmas
+pub mod RunLemmas
+pub mod Results
+pub mod SoFarLemmas
+pub mod DeedLemmas
+pub mod SomeLemmas

@@ -1,0 +1,5 @@
+pub mod Known
+pub mod Runs
+pub mod Statuses
+pub mod Courses
+pub mod Carrying

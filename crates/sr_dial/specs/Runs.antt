@@ -1,0 +1,143 @@
+-- What a run of `client` did, over any link, and how it ended.
+--
+-- It is not said here that each outcome goes by the rules over a link that lies: only that it does over every database whose rows the
+-- client has, and where what comes is truly promised.
+use Rattle.std.specs.Prelude.{ℕ, Bool, true, false, List, [], ◌∷◌, ◌++◌, ◌||◌, ◌+◌, flat_map, ◌≡◌, ◌≢◌, Some, None, IfSome}
+use Rattle.std.specs.Io.KnownBytes.{Appends}
+use Rattle.std.specs.List.{list_any, All}
+use Rattle.sr_cell.specs.declared.table.Table.{Table}
+use Rattle.sr_io.specs.Causes.{Rose}
+use Rattle.sr_io.specs.Pieces.{WritesPrefix}
+use Rattle.sr_io.specs.Told.{Linking, Writing, connections}
+use Rattle.sr_message.specs.declared.message.Message.{Message}
+use Rattle.sr_wire.specs.declared.bad_frame.BadFrame.{BadFrame}
+use Rattle.sr_wire.specs.declared.wire_fault.WireFault.{WireFault}
+use Rattle.sr_wire.specs.declared.wire_fault.WireFault.TheVariants.{Short}
+use Rattle.sr_wire.specs.Reading.{Faulty, decoded}
+use Rattle.sr_wire.specs.Spelling.{spelling}
+use Rattle.sr_session.specs.Clients.{Client}
+use Rattle.sr_session.specs.Misfits.{misfit}
+use Rattle.sr_links.specs.Honest.{IsPrefix}
+use Rattle.sr_links.specs.Steps.{AreFair, Standing, Deed, Took, WasCut, Resumed, given_of, requests_of, past_after}
+use Rattle.sr_talk.specs.Calls.{Call, Cause, Scripted, Delivered, Failed, Done, AreCalls, all_done, calls_told, count_faults, done_in, fails, lines_done, steps_in, text_of}
+use Rattle.sr_talk.specs.Serving.{RoseBy, spelled}
+use Rattle.sr_dial.specs.Known.{Setting}
+use Rattle.sr_dial.specs.declared.ending.Ending.{Ending}
+use Rattle.sr_dial.specs.declared.ending.Ending.TheVariants as ending
+
+-- ---- steps
+
+-- A line of the script runs while nothing is out. Messages come while a request is out, and the link fails then, which cuts it; both
+-- have the number of the line that ran. That nobody could be dialled is such a failure: the first message of the session is out.
+abbrev pub IsInPlace : Cause → ℕ → ℕ → Deed → Client → Type 0
+IsInPlace Scripted line number deed c = c.out ≡ None
+IsInPlace Delivered line number (Took m) c = (number ≡ line) × (c.out ≢ None)
+IsInPlace Failed line number WasCut c = (number ≡ line) × (c.out ≢ None)
+IsInPlace cause line number deed c = ⊥
+
+abbrev pub AreInPlace : {C : Type 0} → ℕ → Client → List (Done C) → Type 0
+AreInPlace {C} line c [] = Unit {0}
+AreInPlace {C} line c (d ∷ ds) = IsInPlace d.cause line d.number d.step.deed c × AreInPlace d.number d.step.past ds
+
+-- ---- connections
+
+-- All requests but the last, and a beginning of that.
+pub record SendsMost (requests : List Message) (sent : List ℕ) : Type 0 where
+  pub earlier : List Message
+  pub last : Message
+  pub part : List ℕ
+  pub are : requests ≡ earlier ++ last ∷ []
+  pub beginning : IsPrefix part (spelling last)
+  pub is : sent ≡ spelled earlier ++ part
+
+-- A failure may cut the last request short.
+abbrev pub SentAs : Bool → List Message → List ℕ → Type 0
+SentAs true requests sent = SendsMost requests sent
+SentAs false requests sent = sent ≡ spelled requests
+
+-- What went over the connection of a call, where it is told: the messages that were taken, with what is left behind them, and the
+-- requests; after a failure, or where that is said, the last one may be cut short.
+pub record IsCarried {C : Type 0} (short : Bool) (call : Call C) : Type 0 where
+  pub taken : IfSome call.told (λ t. t.taken ≡ spelled (given_of (steps_in (done_in call))) ++ call.left)
+  pub sent : IfSome call.told (λ t. SentAs (short || fails call) (requests_of (steps_in (done_in call))) t.sent)
+
+-- ---- a run
+
+-- the client as the steps of these calls leave it
+abbrev pub left_by : {C : Type 0} → Client → List (Call C) → Client
+left_by {C} c calls = past_after c (steps_in (all_done calls))
+
+-- how many messages were taken since the last other step
+abbrev pub more_taken : Cause → ℕ → ℕ
+more_taken Delivered n = n + 1
+more_taken cause n = 0
+
+abbrev pub taken_after : {C : Type 0} → ℕ → List (Done C) → ℕ
+taken_after {C} n [] = n
+taken_after {C} n (d ∷ ds) = taken_after (more_taken d.cause n) ds
+
+-- A million messages came for one request, and one more.
+pub record IsFull {C : Type 0} (done : List (Done C)) (left : List ℕ) : Type 0 where
+  pub message : Message
+  pub rest : List ℕ
+  pub many : taken_after 0 done ≡ 1000000
+  pub next : left ≡ spelling message ++ rest
+
+-- The message that came next is refused for this reason.
+pub record IsRefused (schema : List Table) (c : Client) (left : List ℕ) (why : BadFrame) : Type 0 where
+  pub message : Message
+  pub rest : List ℕ
+  pub next : left ≡ spelling message ++ rest
+  pub why_is : misfit schema c.out c.laid c.version message ≡ Some why
+
+-- What came next is no frame, for this reason.
+pub record IsSpoiled (left : List ℕ) (fault : WireFault) : Type 0 where
+  pub fault_is : decoded left ≡ Faulty fault
+  pub whole : fault ≢ Short
+
+-- All lines were carried out, nothing is out, and the link failed or never did.
+pub record EndsFree {C : Type 0} (c : Client) (calls : List (Call C)) (lines script : List (ℕ × Deed)) (failed : Bool) : Type 0 where
+  pub all : lines ≡ script
+  pub free : c.out ≡ None
+  pub failed_is : list_any fails calls ≡ failed
+
+-- Why a run ended, with these lines of a script, the client that its steps leave, and the bytes that are left behind what was taken last.
+abbrev pub EndsBy : {C : Type 0} → Ending → List Table → List (Call C) → Client → List ℕ → List (ℕ × Deed) → List (ℕ × Deed) → Type 0
+EndsBy {C} ending.Whole schema calls c left lines script = EndsFree c calls lines script false
+EndsBy {C} ending.Faulty schema calls c left lines script = EndsFree c calls lines script true
+EndsBy {C} ending.Unwritten schema calls c left lines script = Unit {0}
+EndsBy {C} (ending.Spoiled fault) schema calls c left lines script = IsSpoiled left fault
+EndsBy {C} (ending.Bad why) schema calls c left lines script = IsRefused schema c left why
+EndsBy {C} ending.Limit schema calls c left lines script = IsFull (all_done calls) left
+
+-- Each line is written once its step is done: all of them, or a beginning where one is not written, which is counted as a fault.
+abbrev pub WritesAs : Ending → List ℕ → Writing → Writing → Type 0
+WritesAs ending.Unwritten texts before after = WritesPrefix before.written after.written texts × Rose before.faults after.faults
+WritesAs other texts before after = Appends before.written after.written texts × (after.faults ≡ before.faults)
+
+abbrev pub is_unwritten : Ending → Bool
+is_unwritten ending.Unwritten = true
+is_unwritten other = false
+
+-- A run of the client of that number, which was `c` before, over the lines of a script. Call by call it resumed, and then did what the
+-- lines ask, in order. The link tells just these connections more, and is given up.
+pub record Ran (C : Type 0) (schema : List Table) (client : ℕ) (c : Client) (script : List (ℕ × Deed)) (ended : Ending) (old new : Linking) (before after : Writing) : Type 0 where
+  pub earlier : List (Call C)
+  pub last : Call C
+  pub lines : List (ℕ × Deed)
+  pub are : AreCalls c (earlier ++ last ∷ [])
+  pub in_place : AreInPlace 0 c (all_done (earlier ++ last ∷ []))
+  pub lines_are : lines_done (all_done (earlier ++ last ∷ [])) ≡ lines
+  pub beginning : IsPrefix lines ((0, Resumed) ∷ script)
+  pub carried : All (IsCarried false) earlier
+  pub last_carried : IsCarried (is_unwritten ended) last
+  pub made : connections new ≡ connections old ++ calls_told (earlier ++ last ∷ [])
+  pub hung_up : new.is_up ≡ false
+  pub faults : RoseBy old.faults (count_faults (earlier ++ last ∷ [])) new.faults
+  pub ends : EndsBy ended schema (earlier ++ last ∷ []) (left_by c (earlier ++ last ∷ [])) last.left lines ((0, Resumed) ∷ script)
+  pub writes : WritesAs ended (flat_map (text_of schema client) (all_done (earlier ++ last ∷ []))) before after
+
+-- And each of its steps is fair, from this code on.
+pub record RanFairly (C : Type 0) (IsOf : Standing C) (k : Setting) (code : C) (c : Client) (script : List (ℕ × Deed)) (ended : Ending) (old new : Linking) (before after : Writing) : Type 0 where
+  pub ran : Ran C k.schema k.number c script ended old new before after
+  pub fair : AreFair IsOf k.limits code c (steps_in (all_done (ran.earlier ++ ran.last ∷ [])))

@@ -1,0 +1,273 @@
+//! A run of `client`.
+ghost use Rattle.std.specs.Prelude.{◌≡◌, ◌≤◌, ◌+◌, ◌*◌, ◌++◌, ◌^◌, true, false, ℕ, Bool, List, [], ◌∷◌, None, length, IfOk, if◌then◌else◌};
+ghost use Rattle.sr_session.specs.Clients.{Client as Past};
+ghost use Rattle.sr_links.specs.Steps.{Deed, Resumed};
+ghost use Rattle.sr_talk.specs.Rounds.{OnlyOutput};
+ghost use Rattle.sr_dial.specs.Courses.{At, Broken, EndsLine, Finishes, Free, Hands, IsWritten, Start, Unbegun};
+ghost use Rattle.sr_dial.specs.Known.{AreDeeds, IsDeed, Setting};
+ghost use Rattle.sr_dial.specs.Runs.{RanFairly};
+ghost use Rattle.sr_dial.specs.declared.ending.Ending.TheVariants.{Whole as EndsWhole, Faulty as EndsFaulty, Unwritten as EndsUnwritten};
+ghost use Rattle.sr_dial.specs.declared.run.LineEnd.TheVariants.{Failed as LineFailed, Ends as LineEnds};
+
+use crate::ending::Ending;
+use crate::parts::Asks;
+use crate::steps::{Handed, ask, begin, end, fail};
+use crate::waiting::{Awaited, await_answer};
+use sr_cell::list::NoMemory;
+use sr_cell::table::Table;
+use sr_feed::feed::Feed;
+use sr_io::outside::Host;
+use sr_reader::script::{Event, EventLine, EventLines};
+use std::alloc::Global;
+
+/// How a line ended: it is done, and the link did not fail; it failed; or the run ends.
+#[derive(Clone, Copy, Debug, PartialEq, Eq)]
+pub enum LineEnd {
+    Done,
+    Failed,
+    Ends(Ending),
+}
+
+/// Begins to do what a line asks.
+fn start<H: Host, C: Asks>(
+    alloc: Global,
+    host: &mut H,
+    feed: &mut Feed,
+    client: &mut C,
+    schema: &[Table],
+    address: &str,
+    line: EventLine,
+) -> Result<Handed, NoMemory>
+    requires asks { (deed : Deed) × IsDeed (C.setting client.old).schema line.event deed }
+    requires room { 2 ≤ C.room client.old }
+    ensures started { (k : Setting) (s : Start C) (script : List (ℕ × Deed)) (number : ℕ) (failed : Bool) (deed : Deed) → C.setting client.old ≡ k → schema.now ≡ k.schema → Free C C.stands C.is_of k s script number failed (H.linking host.old) (IsWritten s (H.writing host.old)) feed.old client.old → IsDeed k.schema line.event deed → IfOk result (λ handed. Hands C C.stands C.is_of k handed s (script ++ (line.number, deed) ∷ []) line.number 0 failed (H.linking host.new) (H.writing host.new) feed.new client.new) }
+    ensures setting { C.setting client.new ≡ C.setting client.old }
+    ensures draws { C.room client.old ≤ C.room client.new + 2 }
+    ensures stays { OnlyOutput H H.reading H.held H.complaints H.IsSteady host.old host.new }
+{
+    let EventLine { number, event } = line;
+    match event {
+        Event::Resume { client: id } => begin(
+            alloc,
+            host,
+            feed,
+            client,
+            schema,
+            address,
+            number,
+            Event::Resume { client: id },
+        ),
+        Event::Cut { client: id } => end(
+            alloc,
+            host,
+            client,
+            schema,
+            number,
+            Event::Cut { client: id },
+        ),
+        event => ask(alloc, host, client, schema, number, event),
+    }
+}
+
+/// Does what a line asks, until nothing is out.
+fn run_line<H: Host, C: Asks>(
+    alloc: Global,
+    host: &mut H,
+    feed: &mut Feed,
+    client: &mut C,
+    schema: &[Table],
+    address: &str,
+    line: EventLine,
+) -> Result<LineEnd, NoMemory>
+    requires asks { (deed : Deed) × IsDeed (C.setting client.old).schema line.event deed }
+    requires room { 2000004 ≤ C.room client.old }
+    ensures ended { (k : Setting) (s : Start C) (script : List (ℕ × Deed)) (number : ℕ) (failed : Bool) (deed : Deed) → C.setting client.old ≡ k → schema.now ≡ k.schema → Free C C.stands C.is_of k s script number failed (H.linking host.old) (IsWritten s (H.writing host.old)) feed.old client.old → IsDeed k.schema line.event deed → IfOk result (λ end. EndsLine C C.stands C.is_of k end s (script ++ (line.number, deed) ∷ []) line.number failed (H.linking host.new) (H.writing host.new) feed.new client.new) }
+    ensures setting { C.setting client.new ≡ C.setting client.old }
+    ensures draws { C.room client.old ≤ C.room client.new + 2000004 }
+    ensures stays { OnlyOutput H H.reading H.held H.complaints H.IsSteady host.old host.new }
+{
+    let number = line.number;
+    let handed = start(alloc, host, feed, client, schema, address, line)?;
+    finish(alloc, host, feed, client, schema, number, handed)
+}
+
+/// Goes on with a line of which this came at first.
+fn finish<H: Host, C: Asks>(
+    alloc: Global,
+    host: &mut H,
+    feed: &mut Feed,
+    client: &mut C,
+    schema: &[Table],
+    number: u64,
+    handed: Handed,
+) -> Result<LineEnd, NoMemory>
+    requires room { 2000002 ≤ C.room client.old }
+    ensures ended { (k : Setting) (s : Start C) (script : List (ℕ × Deed)) (failed : Bool) → C.setting client.old ≡ k → schema.now ≡ k.schema → Hands C C.stands C.is_of k handed s script number 0 failed (H.linking host.old) (H.writing host.old) feed.old client.old → IfOk result (λ end. EndsLine C C.stands C.is_of k end s script number failed (H.linking host.new) (H.writing host.new) feed.new client.new) }
+    ensures setting { C.setting client.new ≡ C.setting client.old }
+    ensures draws { C.room client.old ≤ C.room client.new + 2000002 }
+    ensures stays { OnlyOutput H H.reading H.held H.complaints H.IsSteady host.old host.new }
+{
+    match handed {
+        Handed::Whole => settle(alloc, host, feed, client, schema, number),
+        Handed::Broken => failed(alloc, host, client, schema, number),
+        Handed::Unwritten => Ok(LineEnd::Ends(Ending::Unwritten)),
+    }
+}
+
+/// Takes what comes until nothing is out.
+fn settle<H: Host, C: Asks>(
+    alloc: Global,
+    host: &mut H,
+    feed: &mut Feed,
+    client: &mut C,
+    schema: &[Table],
+    number: u64,
+) -> Result<LineEnd, NoMemory>
+    requires room { 2000002 ≤ C.room client.old }
+    ensures ended { (k : Setting) (s : Start C) (script : List (ℕ × Deed)) (failed : Bool) → C.setting client.old ≡ k → schema.now ≡ k.schema → At C C.stands C.is_of k s script number 0 failed (H.linking host.old) (IsWritten s (H.writing host.old)) feed.old client.old → IfOk result (λ end. EndsLine C C.stands C.is_of k end s script number failed (H.linking host.new) (H.writing host.new) feed.new client.new) }
+    ensures setting { C.setting client.new ≡ C.setting client.old }
+    ensures draws { C.room client.old ≤ C.room client.new + 2000002 }
+    ensures stays { OnlyOutput H H.reading H.held H.complaints H.IsSteady host.old host.new }
+{
+    match await_answer(alloc, host, feed, client, schema, number)? {
+        Awaited::Free => Ok(LineEnd::Done),
+        Awaited::Failed => failed(alloc, host, client, schema, number),
+        Awaited::Unwritten => Ok(LineEnd::Ends(Ending::Unwritten)),
+        Awaited::Spoiled(fault) => Ok(LineEnd::Ends(Ending::Spoiled(fault))),
+        Awaited::Bad(why) => Ok(LineEnd::Ends(Ending::Bad(why))),
+        Awaited::Limit => Ok(LineEnd::Ends(Ending::Limit)),
+    }
+}
+
+/// The link failed.
+fn failed<H: Host, C: Asks>(
+    alloc: Global,
+    host: &mut H,
+    client: &mut C,
+    schema: &[Table],
+    number: u64,
+) -> Result<LineEnd, NoMemory>
+    requires room { 2 ≤ C.room client.old }
+    ensures ended { (k : Setting) (s : Start C) (script : List (ℕ × Deed)) (failed : Bool) (feed : List ℕ) → C.setting client.old ≡ k → schema.now ≡ k.schema → Broken C C.stands C.is_of k s script number (H.linking host.old) (IsWritten s (H.writing host.old)) feed client.old → IfOk result (λ end. EndsLine C C.stands C.is_of k end s script number failed (H.linking host.new) (H.writing host.new) feed client.new) }
+    ensures setting { C.setting client.new ≡ C.setting client.old }
+    ensures draws { C.room client.old ≤ C.room client.new + 2 }
+    ensures stays { OnlyOutput H H.reading H.held H.complaints H.IsSteady host.old host.new }
+{
+    let said = fail(alloc, host, client, schema, number)?;
+    Ok(end_of(said))
+}
+
+fn end_of(said: bool) -> LineEnd
+    ensures { result ≡ (if said then LineFailed else LineEnds EndsUnwritten) }
+{
+    if said {
+        LineEnd::Failed
+    } else {
+        LineEnd::Ends(Ending::Unwritten)
+    }
+}
+
+/// Does what the lines ask, one after another, after one that failed or did not.
+fn run_lines<H: Host, C: Asks>(
+    alloc: Global,
+    host: &mut H,
+    feed: &mut Feed,
+    client: &mut C,
+    schema: &[Table],
+    address: &str,
+    lines: EventLines,
+    failed: bool,
+) -> Result<Ending, NoMemory>
+    requires asks { (script : List (ℕ × Deed)) × AreDeeds (C.setting client.old).schema lines script }
+    requires room { 2000004 * length lines ≤ C.room client.old }
+    ensures ended { (k : Setting) (s : Start C) (script : List (ℕ × Deed)) (number : ℕ) (deeds : List (ℕ × Deed)) → C.setting client.old ≡ k → schema.now ≡ k.schema → Free C C.stands C.is_of k s script number failed (H.linking host.old) (IsWritten s (H.writing host.old)) feed.old client.old → AreDeeds k.schema lines deeds → IfOk result (λ ending. Finishes C C.stands C.is_of k ending s (script ++ deeds) (H.linking host.new) (H.writing host.new) feed.new client.new) }
+    ensures stays { OnlyOutput H H.reading H.held H.complaints H.IsSteady host.old host.new }
+{
+    let mut failed = failed;
+    for line in lines.into_vec() {
+        match run_line(alloc, host, feed, client, schema, address, line)? {
+            LineEnd::Done => {}
+            LineEnd::Failed => failed = true,
+            LineEnd::Ends(ending) => return Ok(ending),
+        }
+    }
+    Ok(ending_of(failed))
+}
+
+fn ending_of(failed: bool) -> Ending
+    ensures { result ≡ (if failed then EndsFaulty else EndsWhole) }
+{
+    if failed {
+        Ending::Faulty
+    } else {
+        Ending::Whole
+    }
+}
+
+/// Resumes the client for the first time.
+fn first_line<H: Host, C: Asks>(
+    alloc: Global,
+    host: &mut H,
+    feed: &mut Feed,
+    client: &mut C,
+    schema: &[Table],
+    id: u8,
+    address: &str,
+) -> Result<LineEnd, NoMemory>
+    requires room { 2000004 ≤ C.room client.old }
+    ensures ended { (k : Setting) (s : Start C) → C.setting client.old ≡ k → schema.now ≡ k.schema → Unbegun C C.stands C.is_of k s [] 0 false (H.linking host.old) (IsWritten s (H.writing host.old)) client.old → IfOk result (λ end. EndsLine C C.stands C.is_of k end s ((0, Resumed) ∷ []) 0 false (H.linking host.new) (H.writing host.new) feed.new client.new) }
+    ensures setting { C.setting client.new ≡ C.setting client.old }
+    ensures draws { C.room client.old ≤ C.room client.new + 2000004 }
+    ensures stays { OnlyOutput H H.reading H.held H.complaints H.IsSteady host.old host.new }
+{
+    let event = Event::Resume { client: id };
+    let handed = begin(alloc, host, feed, client, schema, address, 0, event)?;
+    finish(alloc, host, feed, client, schema, 0, handed)
+}
+
+/// Does what the lines ask, if the first resume did not end the run.
+fn go_on<H: Host, C: Asks>(
+    alloc: Global,
+    host: &mut H,
+    feed: &mut Feed,
+    client: &mut C,
+    schema: &[Table],
+    address: &str,
+    lines: EventLines,
+    end: LineEnd,
+) -> Result<Ending, NoMemory>
+    requires asks { (script : List (ℕ × Deed)) × AreDeeds (C.setting client.old).schema lines script }
+    requires room { 2000004 * length lines ≤ C.room client.old }
+    ensures ended { (k : Setting) (s : Start C) (deeds : List (ℕ × Deed)) → C.setting client.old ≡ k → schema.now ≡ k.schema → EndsLine C C.stands C.is_of k end s ((0, Resumed) ∷ []) 0 false (H.linking host.old) (H.writing host.old) feed.old client.old → AreDeeds k.schema lines deeds → IfOk result (λ ending. Finishes C C.stands C.is_of k ending s ((0, Resumed) ∷ deeds) (H.linking host.new) (H.writing host.new) feed.new client.new) }
+    ensures stays { OnlyOutput H H.reading H.held H.complaints H.IsSteady host.old host.new }
+{
+    match end {
+        LineEnd::Done => run_lines(alloc, host, feed, client, schema, address, lines, false),
+        LineEnd::Failed => run_lines(alloc, host, feed, client, schema, address, lines, true),
+        LineEnd::Ends(ending) => Ok(ending),
+    }
+}
+
+/// Resumes the client, whose link is cut, and then does what the lines of a script ask of it, each until nothing is out. Each line of the
+/// trace is written once its step is done. The link is given up at the end.
+pub fn run<H: Host, C: Asks>(
+    alloc: Global,
+    host: &mut H,
+    client: &mut C,
+    schema: &[Table],
+    id: u8,
+    address: &str,
+    lines: EventLines,
+) -> Result<Ending, NoMemory>
+    requires schema { schema.now ≡ (C.setting client.old).schema }
+    requires asks { (script : List (ℕ × Deed)) × AreDeeds (C.setting client.old).schema lines script }
+    requires room { 2000004 * (length lines + 1) ≤ C.room client.old }
+    ensures ran { (c : Past) (script : List (ℕ × Deed)) → C.stands client.old c → c.cut ≡ true → c.out ≡ None → AreDeeds schema.now lines script → IfOk result (λ ending. RanFairly C C.is_of (C.setting client.old) client.old c script ending (H.linking host.old) (H.linking host.new) (H.writing host.old) (H.writing host.new)) }
+    ensures stays { OnlyOutput H H.reading H.held H.complaints H.IsSteady host.old host.new }
+{
+    let mut feed = Feed::new(alloc);
+    let end = first_line(alloc, host, &mut feed, client, schema, id, address)?;
+    let ending = go_on(alloc, host, &mut feed, client, schema, address, lines, end)?;
+    host.hang_up();
+    Ok(ending)
+}

@@ -1,0 +1,197 @@
+//! Steps of a client, carried out over a link.
+ghost use Rattle.std.specs.Prelude.{◌≡◌, ◌≤◌, ◌<◌, ◌+◌, ◌++◌, true, false, ℕ, Bool, List, [], ◌∷◌, flat_map, string_bytes, IfOk, if◌then◌else◌};
+ghost use Rattle.std.specs.List.{All};
+ghost use Rattle.sr_script.specs.TraceText.{line_text};
+ghost use Rattle.sr_session.specs.Clients.{Client as Past};
+ghost use Rattle.sr_wire.specs.Limits.{IsSendable};
+ghost use Rattle.sr_links.specs.Steps.{Deed, Resumed, WasCut};
+ghost use Rattle.sr_talk.specs.Rounds.{OnlyOutput};
+ghost use Rattle.sr_talk.specs.Serving.{spelled};
+ghost use Rattle.sr_dial.specs.Carrying.{Carries, SaysAs};
+ghost use Rattle.sr_dial.specs.Courses.{Broken, FailsAs, Free, Hands, IsReady, IsWritten, Start};
+ghost use Rattle.sr_dial.specs.Known.{IsDeed, IsPlain, Setting};
+ghost use Rattle.sr_dial.specs.declared.steps.Handed.TheVariants.{Whole as HandedWhole, Broken as HandedBroken, Unwritten as HandedUnwritten};
+
+use crate::parts::{Asks, Told};
+use sr_cell::list::{No, NoMemory};
+use sr_cell::table::Table;
+use sr_feed::feed::Feed;
+use sr_io::outside::{Host, Link, Sink};
+use sr_io::whole::write_all;
+use sr_reader::script::Event;
+use sr_script::line::TraceLine;
+use sr_script::text::push_line;
+use sr_talk::serve::send_messages;
+use std::alloc::Global;
+
+/// What came of a step: all was sent and its lines are written; the link failed, and its lines are written; or they are not.
+#[derive(Clone, Copy, Debug, PartialEq, Eq)]
+pub enum Handed {
+    Whole,
+    Broken,
+    Unwritten,
+}
+
+/// The text of lines that have this number.
+fn text_of(
+    alloc: Global,
+    schema: &[Table],
+    number: u64,
+    lines: &[TraceLine],
+) -> Result<String, NoMemory>
+    ensures { IfOk result (λ text. string_bytes text ≡ flat_map (line_text schema.now number) lines.now) }
+{
+    let mut text = String::new(alloc);
+    for line in lines {
+        push_line(&mut text, schema, number, line)?;
+    }
+    Ok(text)
+}
+
+/// Writes the lines of a step. False where the sink fails.
+fn say<K: Sink>(
+    alloc: Global,
+    sink: &mut K,
+    schema: &[Table],
+    number: u64,
+    lines: &[TraceLine],
+) -> Result<bool, NoMemory>
+    ensures said { IfOk result (λ all. SaysAs all (K.writing sink.old) (K.writing sink.new) (flat_map (line_text schema.now number) lines.now)) }
+    ensures stays { OnlyOutput K K.reading K.held K.complaints K.IsSteady sink.old sink.new }
+    ensures linking_stays { K.linking sink.new ≡ K.linking sink.old }
+{
+    let text = text_of(alloc, schema, number, lines)?;
+    match write_all(sink, text.as_bytes()) {
+        Ok(()) => Ok(true),
+        Err(No::Refused(_)) => Ok(false),
+        Err(No::NoMemory) => Err(NoMemory),
+    }
+}
+
+/// Sends what a step sends, and then writes its lines.
+pub(crate) fn carry<H: Link + Sink>(
+    alloc: Global,
+    host: &mut H,
+    schema: &[Table],
+    number: u64,
+    told: &Told,
+) -> Result<Handed, NoMemory>
+    requires sendable { All IsSendable told.now.sent }
+    ensures carried { IfOk result (λ handed. Carries handed (H.linking host.old) (H.linking host.new) (H.writing host.old) (H.writing host.new) (spelled told.now.sent) (flat_map (line_text schema.now number) told.now.lines)) }
+    ensures stays { OnlyOutput H H.reading H.held H.complaints H.IsSteady host.old host.new }
+{
+    let sent = send_messages(alloc, host, told.sent.as_slice())?;
+    if !say(alloc, host, schema, number, told.lines.as_slice())? {
+        return Ok(Handed::Unwritten);
+    }
+    Ok(handed_by(sent))
+}
+
+fn handed_by(sent: bool) -> Handed
+    ensures { result ≡ (if sent then HandedWhole else HandedBroken) }
+{
+    if sent { Handed::Whole } else { Handed::Broken }
+}
+
+fn broken_by(said: bool) -> Handed
+    ensures { result ≡ (if said then HandedBroken else HandedUnwritten) }
+{
+    if said {
+        Handed::Broken
+    } else {
+        Handed::Unwritten
+    }
+}
+
+/// Does what a line asks that leaves the link as it is: a query, a write or an eviction.
+pub(crate) fn ask<H: Link + Sink, C: Asks>(
+    alloc: Global,
+    host: &mut H,
+    client: &mut C,
+    schema: &[Table],
+    number: u64,
+    event: Event,
+) -> Result<Handed, NoMemory>
+    requires asks { (deed : Deed) × IsDeed (C.setting client.old).schema event deed }
+    requires room { 2 ≤ C.room client.old }
+    ensures asked { (k : Setting) (s : Start C) (script : List (ℕ × Deed)) (line : ℕ) (failed : Bool) (feed : List ℕ) (deed : Deed) → C.setting client.old ≡ k → schema.now ≡ k.schema → Free C C.stands C.is_of k s script line failed (H.linking host.old) (IsWritten s (H.writing host.old)) feed client.old → IsDeed k.schema event deed → IsPlain deed → IfOk result (λ handed. Hands C C.stands C.is_of k handed s (script ++ (number, deed) ∷ []) number 0 failed (H.linking host.new) (H.writing host.new) feed client.new) }
+    ensures setting { C.setting client.new ≡ C.setting client.old }
+    ensures draws { C.room client.old ≤ C.room client.new + 2 }
+    ensures stays { OnlyOutput H H.reading H.held H.complaints H.IsSteady host.old host.new }
+{
+    let told = client.act(alloc, event)?;
+    carry(alloc, host, schema, number, &told)
+}
+
+/// The client cuts its link, which is given up.
+pub(crate) fn end<H: Host, C: Asks>(
+    alloc: Global,
+    host: &mut H,
+    client: &mut C,
+    schema: &[Table],
+    number: u64,
+    event: Event,
+) -> Result<Handed, NoMemory>
+    requires asks { (deed : Deed) × IsDeed (C.setting client.old).schema event deed }
+    requires room { 2 ≤ C.room client.old }
+    ensures cut { (k : Setting) (s : Start C) (script : List (ℕ × Deed)) (line : ℕ) (failed : Bool) (feed : List ℕ) → C.setting client.old ≡ k → schema.now ≡ k.schema → Free C C.stands C.is_of k s script line failed (H.linking host.old) (IsWritten s (H.writing host.old)) feed client.old → IsDeed k.schema event WasCut → IfOk result (λ handed. Hands C C.stands C.is_of k handed s (script ++ (number, WasCut) ∷ []) number 0 failed (H.linking host.new) (H.writing host.new) feed client.new) }
+    ensures setting { C.setting client.new ≡ C.setting client.old }
+    ensures draws { C.room client.old ≤ C.room client.new + 2 }
+    ensures stays { OnlyOutput H H.reading H.held H.complaints H.IsSteady host.old host.new }
+{
+    let told = client.act(alloc, event)?;
+    host.hang_up();
+    carry(alloc, host, schema, number, &told)
+}
+
+/// The client resumes: where its link was cut it dials, and sends its first message over the new connection.
+pub(crate) fn begin<H: Host, C: Asks>(
+    alloc: Global,
+    host: &mut H,
+    feed: &mut Feed,
+    client: &mut C,
+    schema: &[Table],
+    address: &str,
+    number: u64,
+    event: Event,
+) -> Result<Handed, NoMemory>
+    requires asks { (deed : Deed) × IsDeed (C.setting client.old).schema event deed }
+    requires room { 2 ≤ C.room client.old }
+    ensures begun { (k : Setting) (s : Start C) (script : List (ℕ × Deed)) (line : ℕ) (failed : Bool) → C.setting client.old ≡ k → schema.now ≡ k.schema → IsReady C C.stands C.is_of k s script line failed (H.linking host.old) (IsWritten s (H.writing host.old)) feed.old client.old → IsDeed k.schema event Resumed → IfOk result (λ handed. Hands C C.stands C.is_of k handed s (script ++ (number, Resumed) ∷ []) number 0 failed (H.linking host.new) (H.writing host.new) feed.new client.new) }
+    ensures setting { C.setting client.new ≡ C.setting client.old }
+    ensures draws { C.room client.old ≤ C.room client.new + 2 }
+    ensures stays { OnlyOutput H H.reading H.held H.complaints H.IsSteady host.old host.new }
+{
+    let told = client.act(alloc, event)?;
+    if told.sent.is_empty() {
+        return carry(alloc, host, schema, number, &told);
+    }
+    *feed = Feed::new(alloc);
+    match host.dial(address) {
+        Ok(()) => carry(alloc, host, schema, number, &told),
+        Err(No::Refused(_)) => {
+            let said = say(alloc, host, schema, number, told.lines.as_slice())?;
+            Ok(broken_by(said))
+        }
+        Err(No::NoMemory) => Err(NoMemory),
+    }
+}
+
+/// The link failed: it is given up, and the client is cut. False where the lines of that are not written.
+pub(crate) fn fail<H: Host, C: Asks>(
+    alloc: Global,
+    host: &mut H,
+    client: &mut C,
+    schema: &[Table],
+    number: u64,
+) -> Result<bool, NoMemory>
+    requires room { 2 ≤ C.room client.old }
+    ensures failed { (k : Setting) (s : Start C) (script : List (ℕ × Deed)) (feed : List ℕ) → C.setting client.old ≡ k → schema.now ≡ k.schema → Broken C C.stands C.is_of k s script number (H.linking host.old) (IsWritten s (H.writing host.old)) feed client.old → IfOk result (λ all. FailsAs C C.stands C.is_of k all s script number (H.linking host.new) (H.writing host.new) feed client.new) }
+    ensures setting { C.setting client.new ≡ C.setting client.old }
+    ensures draws { C.room client.old ≤ C.room client.new + 2 }
+    ensures stays { OnlyOutput H H.reading H.held H.complaints H.IsSteady host.old host.new }
+{
+    let lines = client.cut(alloc)?;
+    host.hang_up();
+    say(alloc, host, schema, number, lines.as_slice())
+}

@@ -1,0 +1,146 @@
+//! Messages are taken until no request is out.
+ghost use Rattle.std.specs.Prelude.{◌≡◌, ◌≤◌, ◌+◌, ◌*◌, ◌++◌, true, ℕ, Bool, List, [], ◌∷◌, IfOk};
+ghost use Rattle.std.specs.Option.{is_some};
+ghost use Rattle.sr_session.specs.Clients.{Client as Past};
+ghost use Rattle.sr_wire.specs.Spelling.{spelling};
+ghost use Rattle.sr_links.specs.Steps.{Deed};
+ghost use Rattle.sr_talk.specs.Rounds.{OnlyOutput};
+ghost use Rattle.sr_dial.specs.Courses.{At, Handles, IsWritten, Start, Waits, handled_by, last_of};
+ghost use Rattle.sr_dial.specs.Known.{Setting};
+ghost use Rattle.sr_dial.specs.Runs.{left_by};
+
+use crate::parts::{Asks, Came};
+use crate::steps::{Handed, carry};
+use sr_cell::list::NoMemory;
+use sr_cell::table::Table;
+use sr_feed::feed::Feed;
+use sr_io::outside::{Link, Sink};
+use sr_message::message::Message;
+use sr_talk::frames::{Next, next_frame};
+use sr_wire::bad_frame::BadFrame;
+use sr_wire::wire_fault::WireFault;
+use std::alloc::Global;
+
+/// The most messages that are taken for one request.
+const MOST_FRAMES: u32 = 1_000_000;
+
+/// What came of a message: it was taken and its lines are written; then the link failed; the lines are not written; or it must be refused.
+#[derive(Clone, Copy, Debug, PartialEq, Eq)]
+pub enum Handled {
+    Whole,
+    Broken,
+    Unwritten,
+    Refused(BadFrame),
+}
+
+/// Why no more messages are awaited: nothing is out; the link failed, or the peer said no more; a line was not written; what came is no
+/// frame, or must be refused; or there were too many.
+#[derive(Clone, Copy, Debug, PartialEq, Eq)]
+pub enum Awaited {
+    Free,
+    Failed,
+    Unwritten,
+    Spoiled(WireFault),
+    Bad(BadFrame),
+    Limit,
+}
+
+/// Takes one message.
+fn handle<H: Link + Sink, C: Asks>(
+    alloc: Global,
+    host: &mut H,
+    client: &mut C,
+    schema: &[Table],
+    number: u64,
+    message: Message,
+) -> Result<Handled, NoMemory>
+    requires room { 2 ≤ C.room client.old }
+    ensures handled { (k : Setting) (s : Start C) (script : List (ℕ × Deed)) (taken : ℕ) (failed : Bool) (after : List ℕ) → C.setting client.old ≡ k → schema.now ≡ k.schema → (h : At C C.stands C.is_of k s script number taken failed (H.linking host.old) (IsWritten s (H.writing host.old)) (spelling message ++ after) client.old) → is_some (left_by s.past (h.course.earlier ++ h.course.call ∷ [])).out ≡ true → IfOk result (λ handled. Handles C C.stands C.is_of k handled s script number taken failed message (H.linking host.new) (H.writing host.new) after client.new) }
+    ensures setting { C.setting client.new ≡ C.setting client.old }
+    ensures draws { C.room client.old ≤ C.room client.new + 2 }
+    ensures stays { OnlyOutput H H.reading H.held H.complaints H.IsSteady host.old host.new }
+{
+    match client.take(alloc, message)? {
+        Came::Bad(why) => Ok(Handled::Refused(why)),
+        Came::Taken(told) => {
+            let handed = carry(alloc, host, schema, number, &told)?;
+            Ok(handled_by(handed))
+        }
+    }
+}
+
+fn handled_by(handed: Handed) -> Handled
+    ensures { result ≡ handled_by handed }
+{
+    match handed {
+        Handed::Whole => Handled::Whole,
+        Handed::Broken => Handled::Broken,
+        Handed::Unwritten => Handled::Unwritten,
+    }
+}
+
+/// Takes messages until no request is out.
+pub(crate) fn await_answer<H: Link + Sink, C: Asks>(
+    alloc: Global,
+    host: &mut H,
+    feed: &mut Feed,
+    client: &mut C,
+    schema: &[Table],
+    number: u64,
+) -> Result<Awaited, NoMemory>
+    requires room { 2000000 ≤ C.room client.old }
+    ensures awaited { (k : Setting) (s : Start C) (script : List (ℕ × Deed)) (failed : Bool) → C.setting client.old ≡ k → schema.now ≡ k.schema → At C C.stands C.is_of k s script number 0 failed (H.linking host.old) (IsWritten s (H.writing host.old)) feed.old client.old → IfOk result (λ how. Waits C C.stands C.is_of k how s script number failed (H.linking host.new) (H.writing host.new) feed.new client.new) }
+    ensures setting { C.setting client.new ≡ C.setting client.old }
+    ensures draws { C.room client.old ≤ C.room client.new + 2000000 }
+    ensures stays { OnlyOutput H H.reading H.held H.complaints H.IsSteady host.old host.new }
+{
+    for taken in 0..MOST_FRAMES {
+        if !client.is_waiting() {
+            return Ok(Awaited::Free);
+        }
+        let message = match next_frame(alloc, host, feed)? {
+            Next::End => return Ok(Awaited::Failed),
+            Next::Torn => return Ok(Awaited::Failed),
+            Next::Fault => return Ok(Awaited::Failed),
+            Next::Bad(fault) => return Ok(Awaited::Spoiled(fault)),
+            Next::Frame(message) => message,
+        };
+        match handle(alloc, host, client, schema, number, message)? {
+            Handled::Whole => {}
+            Handled::Broken => return Ok(Awaited::Failed),
+            Handled::Unwritten => return Ok(Awaited::Unwritten),
+            Handled::Refused(why) => return Ok(Awaited::Bad(why)),
+        }
+    }
+    end_of_many(alloc, host, feed, client, number)
+}
+
+/// As many messages as may be were taken for one request.
+fn end_of_many<H: Link + Sink, C: Asks>(
+    alloc: Global,
+    host: &mut H,
+    feed: &mut Feed,
+    client: &C,
+    number: u64,
+) -> Result<Awaited, NoMemory>
+    ensures awaited { (k : Setting) (s : Start C) (script : List (ℕ × Deed)) (failed : Bool) → At C C.stands C.is_of k s script number 1000000 failed (H.linking host.old) (IsWritten s (H.writing host.old)) feed.old client.now → IfOk result (λ how. Waits C C.stands C.is_of k how s script number failed (H.linking host.new) (H.writing host.new) feed.new client.now) }
+    ensures stays { OnlyOutput H H.reading H.held H.complaints H.IsSteady host.old host.new }
+{
+    if !client.is_waiting() {
+        return Ok(Awaited::Free);
+    }
+    let next = next_frame(alloc, host, feed)?;
+    Ok(last_of(next))
+}
+
+fn last_of(next: Next) -> Awaited
+    ensures { result ≡ last_of next }
+{
+    match next {
+        Next::Frame(_) => Awaited::Limit,
+        Next::End => Awaited::Failed,
+        Next::Torn => Awaited::Failed,
+        Next::Fault => Awaited::Failed,
+        Next::Bad(fault) => Awaited::Spoiled(fault),
+    }
+}

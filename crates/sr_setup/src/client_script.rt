@@ -1,0 +1,178 @@
+//! The script of one client.
+ghost use Rattle.std.specs.Prelude.{◌≡◌, ℕ, ◌<◌, ◌^◌, List, length, None, Some, IsTrue, IfOk, IfErr, OnOk, IfSome, IsErrOf};
+ghost use Rattle.std.specs.List.{list_all};
+ghost use Rattle.sr_cell.specs.declared.list.No.TheVariants.{Refused};
+ghost use Rattle.sr_lines.specs.Lines.{lines_of};
+ghost use Rattle.sr_lines.specs.Script.{QuerySql, WriteSql, FirstUnbuilt};
+ghost use Rattle.sr_query.specs.Bound.{is_table};
+ghost use Rattle.sr_reader.specs.declared.script.LinePlace.{LinePlace as TheLinePlace};
+ghost use Rattle.sr_reader.specs.declared.script.UnbuiltLine.{UnbuiltLine as TheUnbuiltLine};
+ghost use Rattle.sr_reader.specs.Lined.{IsLine, AreLines, place_seen};
+ghost use Rattle.sr_reader.specs.LineSeen.{words_seen};
+ghost use Rattle.sr_reader.specs.Meaning.{IsSaid};
+ghost use Rattle.sr_setup.specs.Files.{clients, first_fault};
+ghost use Rattle.sr_setup.specs.ClientFiles.{doer_of, second_place, client_fault, is_own, over, AreAsked};
+
+use crate::cut::cut_line;
+use crate::query_text::query_of;
+use crate::schema_file::CLIENTS;
+use sr_cell::list::{No, NoMemory, Seq};
+use sr_cell::schema::Schema;
+use sr_cell::text::Text;
+use sr_reader::line::{Line, read_line};
+use sr_reader::lines::Lines;
+use sr_reader::script::{Event, EventLine, EventLines, LinePlace, UnbuiltLine};
+use sr_reader::words::Words;
+use std::alloc::Global;
+
+/// The client that does what the words say, where a client does it by itself.
+fn doer_of(words: Words<'_>) -> Option<u8>
+    ensures { result ≡ doer_of (words_seen words.entry) }
+{
+    match words {
+        Words::Query { client, .. } => Some(client),
+        Words::Write { client, .. } => Some(client),
+        Words::Explain { client, .. } => Some(client),
+        Words::Evict { client, .. } => Some(client),
+        Words::Cut { client } => Some(client),
+        Words::Resume { client } => Some(client),
+        Words::Exec { .. }
+        | Words::Push { .. }
+        | Words::ToServer { .. }
+        | Words::ToClient { .. }
+        | Words::Settle { .. } => None,
+    }
+}
+
+/// Where the second part of a line begins, in bytes.
+fn second_place(line: &[u8]) -> u32
+    requires { length line.now < 2 ^ 32 }
+    ensures { result ≡ second_place line.now }
+{
+    for (i, b) in line.iter().enumerate() {
+        if *b == b' ' {
+            return i as u32 + 1;
+        }
+    }
+    line.len() as u32
+}
+
+/// A line of the script of a client; or the place of its fault.
+fn client_line(bytes: &[u8], id: u8) -> Result<Line<'_>, u32>
+    requires { length bytes.now < 2 ^ 32 }
+    ensures line { IfOk result (IsLine clients bytes.now) }
+    ensures inside { OnOk result (client_fault id bytes.now ≡ None) }
+    ensures outside { IfErr result (λ place. client_fault id bytes.now ≡ Some place) }
+{
+    match read_line(bytes, CLIENTS) {
+        Ok(Line::Silent) => Ok(Line::Silent),
+        Ok(Line::Create(_)) => Err(0),
+        Ok(Line::Event(words)) => match doer_of(words) {
+            Some(client) => {
+                if client == id {
+                    Ok(Line::Event(words))
+                } else {
+                    Err(second_place(bytes))
+                }
+            }
+            None => Err(0),
+        },
+        Err(place) => Err(place),
+    }
+}
+
+/// The lines of the script of a client; or the first that is outside its grammar, with the place of the fault.
+pub fn client_lines(alloc: Global, id: u8, bytes: &[u8]) -> Result<Lines<'_>, No<LinePlace>>
+    requires { length bytes.now < 2 ^ 32 }
+    ensures lines { IfOk result (AreLines clients bytes.now) }
+    ensures inside { OnOk result (first_fault (client_fault id) 1 (lines_of bytes.now) ≡ None) }
+    ensures outside { (fault : TheLinePlace) → IsErrOf result (Refused fault) → first_fault (client_fault id) 1 (lines_of bytes.now) ≡ Some (place_seen fault) }
+{
+    let mut lines = Seq::new(alloc);
+    let mut rest = bytes;
+    let mut number: u64 = 1;
+    'lines: while !rest.is_empty() {
+        let cut = cut_line(rest);
+        match client_line(cut.line, id) {
+            Ok(line) => lines.push(line)?,
+            Err(place) => return Err(No::Refused(LinePlace {
+                line: number,
+                place,
+            })),
+        }
+        rest = cut.rest;
+        number += 1;
+    }
+    Ok(lines)
+}
+
+/// A query, or why its text is refused; None if it is not built.
+fn query(alloc: Global, schema: &Schema, client: u8, sql: &str) -> Result<Option<Event>, NoMemory>
+    requires tables { IsTrue (list_all is_table schema.now) }
+    ensures said { IfOk result (IsSaid schema.now (QuerySql client sql.now)) }
+    ensures own { IfOk result (λ found. IfSome found (λ event. IsTrue (is_own client event))) }
+{
+    match query_of(alloc, schema, sql) {
+        Ok(Some(query)) => Ok(Some(Event::Query { client, query })),
+        Ok(None) => Ok(None),
+        Err(want) => Err(want),
+    }
+}
+
+/// A write, as its text.
+fn write(alloc: Global, schema: &Schema, client: u8, sql: &str) -> Result<Option<Event>, NoMemory>
+    ensures said { IfOk result (IsSaid schema.now (WriteSql client sql.now)) }
+    ensures own { IfOk result (λ found. IfSome found (λ event. IsTrue (is_own client event))) }
+{
+    match Text::of(alloc, sql) {
+        Ok(sql) => Ok(Some(Event::Write { client, sql })),
+        Err(want) => Err(want),
+    }
+}
+
+/// What the words of a client say to the tables; None if that is not built.
+fn event_of(alloc: Global, schema: &Schema, words: Words<'_>) -> Result<Option<Event>, NoMemory>
+    requires tables { IsTrue (list_all is_table schema.now) }
+    requires doer { (id : ℕ) × (doer_of (words_seen words) ≡ Some id) }
+    ensures said { IfOk result (IsSaid schema.now (words_seen words.entry)) }
+    ensures own { (id : ℕ) → doer_of (words_seen words.entry) ≡ Some id → IfOk result (λ found. IfSome found (λ event. IsTrue (is_own id event))) }
+{
+    match words {
+        Words::Query { client, sql } => query(alloc, schema, client, sql),
+        Words::Write { client, sql } => write(alloc, schema, client, sql),
+        Words::Explain { .. } => Ok(None),
+        Words::Evict { client, place } => Ok(Some(Event::Evict { client, place })),
+        Words::Cut { client } => Ok(Some(Event::Cut { client })),
+        Words::Resume { client } => Ok(Some(Event::Resume { client })),
+        Words::Exec { .. }
+        | Words::Push { .. }
+        | Words::ToServer { .. }
+        | Words::ToClient { .. }
+        | Words::Settle { .. } => unreachable!(),
+    }
+}
+
+/// The events of the client's script that the lines are of, over these tables; or the first line that is not built.
+pub fn client_events(
+    alloc: Global,
+    schema: &Schema,
+    id: u8,
+    lines: &Lines<'_>,
+) -> Result<EventLines, No<UnbuiltLine>>
+    requires tables { IsTrue (list_all is_table schema.now) }
+    requires lines { (script : List ℕ) × AreLines clients script lines.now × (first_fault (client_fault id) 1 (lines_of script) ≡ None) }
+    ensures asked { (script : List ℕ) → AreLines clients script lines.now → first_fault (client_fault id) 1 (lines_of script) ≡ None → IfOk result (AreAsked id script schema.now) }
+    ensures unbuilt { (script : List ℕ) → AreLines clients script lines.now → first_fault (client_fault id) 1 (lines_of script) ≡ None → (unbuilt : TheUnbuiltLine) → IsErrOf result (Refused unbuilt) → FirstUnbuilt clients 1 (over schema.now) (lines_of script) unbuilt.number }
+{
+    let mut events = Seq::new(alloc);
+    for (i, line) in lines.as_slice().iter().enumerate() {
+        if let Line::Event(words) = line {
+            let number = i as u64 + 1;
+            match event_of(alloc, schema, *words)? {
+                Some(event) => events.push(EventLine { number, event })?,
+                None => return Err(No::Refused(UnbuiltLine { number })),
+            }
+        }
+    }
+    Ok(events)
+}

@@ -1,0 +1,13 @@
+//! What a server and a client are set up with: the schema file, the exec file, the files for the tables and the client's script, judged
+//! and read.
+#![tactic(auto)]
+
+pub mod client_script;
+pub mod client_setup;
+pub mod cut;
+pub mod exec_file;
+mod query_text;
+pub mod schema_file;
+pub mod setup;
+#[cfg(test)]
+mod tests;

@@ -3,8 +3,8 @@ use Rattle.std.proofs.Common.{◌≡◌, ℕ, ◌⊎◌, Bool, true, false, List
 use Rattle.std.specs.Prelude.{IsErrOf, Result}
 use Rattle.sr_lines.specs.Script.{LinePlace}
 use Rattle.sr_world.specs.Replay.{outside}
-use Rattle.sr_cli.specs.declared.run.Refusal.{Refusal}
-use Rattle.sr_cli.specs.declared.run.Refusal.TheVariants.{Read, Write, Memory, TooLong, Line, Setup, Load, Unbuilt}
+use Rattle.sr_cli.specs.declared.report.Refusal.{Refusal}
+use Rattle.sr_cli.specs.declared.report.Refusal.TheVariants.{Read, Write, Link, Memory, TooLong, Line, Setup, Load, Unbuilt}
 
 -- a refusal that may stand although a line is outside the grammar
 abbrev pub may_lie : Refusal → Bool
@@ -12,6 +12,7 @@ may_lie (Line line place) = true
 may_lie Memory = true
 may_lie Read = false
 may_lie Write = false
+may_lie Link = false
 may_lie TooLong = false
 may_lie (Setup line fault) = false
 may_lie (Load table fault) = false

@@ -1,5 +1,7 @@
 pub mod FitsLemmas
 pub mod Insides
 pub mod LoadTexts
+pub mod OneFilling
 pub mod ReadSoFar
 pub mod SameFiles
+pub mod ServeLemmas

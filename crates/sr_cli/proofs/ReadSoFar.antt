@@ -3,9 +3,8 @@ use Rattle.std.proofs.Common.{◌≡◌, ℕ, ◌<◌, ◌+◌, List, [], ◌∷
 use Rattle.std.proofs.lemmas.List.{drop_more}
 use Rattle.std.specs.List.{AllZip}
 use Rattle.sr_load.specs.declared.fill.Load.{Load}
-use Rattle.sr_cli.specs.Run.{IsLoad, IsTooLong, SomeTooLong, IsHeldLoad}
+use Rattle.sr_cli.specs.Files.{IsLoad, IsTooLong, SomeTooLong, IsHeldLoad, names_of}
 use Rattle.sr_words.specs.declared.command.LoadWord.{LoadWord}
-use Rattle.sr_cli.specs.Words.{names_of}
 use Rattle.sr_cli.specs.Seen.{AddsLoad}
 
 -- the words in front of the rest were read as these loads

@@ -1,3 +1,7 @@
-pub mod Run
+pub mod Commands
+pub mod Errors
+pub mod Files
+pub mod Generate
+pub mod Replay
 pub mod Seen
-pub mod Words
+pub mod Serve

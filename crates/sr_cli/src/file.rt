@@ -1,7 +1,7 @@
 //! Reading a file.
 ghost use Rattle.std.specs.Prelude.{◌≡◌, OnOk, IfOk, IsErrOf};
 ghost use Rattle.sr_io.specs.Causes.{Rose};
-ghost use Rattle.sr_cli.specs.Run.{IsWhatIsHeld, IsTooLong};
+ghost use Rattle.sr_cli.specs.Files.{IsWhatIsHeld, IsTooLong};
 ghost use Rattle.sr_cli.specs.declared.file.ReadFault.TheVariants.{Fault, NoMemory as Wanting, TooLong};
 
 use sr_cell::list::{Bytes, No};

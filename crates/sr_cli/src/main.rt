@@ -1,16 +1,21 @@
-//! The program: replays a script.
+//! The program: replays a script, serves tables, or makes a script.
 #![tactic(auto)]
 
 ghost use Rattle.std.specs.Prelude.{◌≡◌, map, drop, string_bytes, IfOk};
 
 mod file;
-mod files;
+mod generate;
+mod loads;
+mod replay;
+mod report;
 mod run;
+mod serve;
 #[cfg(test)]
 mod tests;
 #[cfg(test)]
 mod tests_calls;
-mod words;
+#[cfg(test)]
+mod tests_programs;
 
 use run::run;
 use sr_cell::list::{No, NoMemory, Seq};

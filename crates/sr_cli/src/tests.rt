@@ -241,15 +241,13 @@ fn run_over(alloc: Global, words: &[&str], script: &str, fails: u64) -> Result<O
 #[test]
 fn other_words_are_refused(rt: HostRuntime) -> Result<(), Fail> {
     let alloc = rt.alloc();
-    let all: [&[&str]; 8] = [
+    let all: [&[&str]; 6] = [
         &[],
         &["replay"],
         &["replay", "--eager", "--eager", "script"],
         &["replay", "--rows", "", "script"],
         &["client", "--id", "1", "--schema", "script", "a", "script"],
-        &["serve", "--schema", "script", "a", "1"],
         &["explain", "script", "SELECT id FROM p"],
-        &["generate", "0", "1"],
     ];
     for words in all {
         let got = run_over(alloc, words, CREATE_ALONE, 0)?;

@@ -1,50 +1,77 @@
-use Rattle.std.proofs.Common.{◌≡◌, ℕ, ◌⊎◌, List, Option, Some, Err, inl, inr, sym, ap, subst, ◌∙◌}
-use Rattle.sr_cell.specs.declared.fault.Fault.{Fault}
-use Rattle.sr_cli.specs.Run.{IsOutside, IsRefusedSetup, IsRefusedLoad, AreHeld, FitsFiles}
-use Rattle.sr_cli.specs.Words.{Words, words_seen}
-use Rattle.sr_cli.specs.declared.run.Refusal.{Refusal}
-use Rattle.sr_cli.specs.declared.run.Refusal.TheVariants.{Line, Setup, Load as LoadRefused}
-use Rattle.sr_cli.proofs.FitsLemmas.{IsRefused, SomeOutside, fits_held, fits_done}
+use Rattle.std.proofs.Common.{◌≡◌, Option, Some, sym, subst, ◌∙◌}
+use Rattle.sr_words.specs.declared.command.Command.{Command}
+use Rattle.sr_words.specs.declared.command.Command.TheVariants.{Replay, Serve, Generate}
+use Rattle.sr_words.specs.declared.command.GenerateWords.{GenerateWords}
+use Rattle.sr_words.specs.declared.command.ReplayWords.{ReplayWords}
+use Rattle.sr_words.specs.declared.command.ServeWords.{ServeWords}
+use Rattle.sr_cli.specs.Generate.{Generates}
+use Rattle.sr_cli.specs.Replay.{Replays}
+use Rattle.sr_cli.specs.Serve.{Serves}
 use Rattle.sr_cli.proofs.run.run.Goals as goal
 
--- what was named was refused
-refused_of : (held : List ℕ → Option (List ℕ)) (words : Words) (refusal : Refusal) (S : ℕ → Fault → Type 0) (L : List ℕ → Fault → Type 0)
-    → ((line : ℕ) (fault : Fault) → refusal ≡ Setup line fault → IsRefusedSetup held words line fault)
-    → ((table : List ℕ) (fault : Fault) → refusal ≡ LoadRefused table fault → IsRefusedLoad held words table fault)
-    → ((line : ℕ) × (fault : Fault) × (refusal ≡ Setup line fault) × S line fault) ⊎ ((table : List ℕ) × (fault : Fault) × (refusal ≡ LoadRefused table fault) × L table fault)
-    → IsRefused held words
-refused_of held words refusal S L setup load (inl (line, fault, is, said)) = inl (line, fault, setup line fault is)
-refused_of held words refusal S L setup load (inr (table, fault, is, said)) = inr (table, fault, load table fault is)
+-- ---- words ask for one thing
 
--- what was named is outside
-outside_of : (held : List ℕ → Option (List ℕ)) (words : Words) (refusal : Refusal) (S : ℕ → ℕ → Type 0)
-    → ((line place : ℕ) → refusal ≡ Line line place → IsOutside held words line place)
-    → (line : ℕ) × (place : ℕ) × (refusal ≡ Line line place) × S line place → SomeOutside held words
-outside_of held words refusal S lies (line, place, is, said) = (line, place, lies line place is)
+one_replay : (said : Option Command) (command : Command) (a w : ReplayWords) → said ≡ Some command → command ≡ Replay a → said ≡ Some (Replay w) → a ≡ w
+one_replay said command a w is here says = let e : Some command ≡ Some (Replay w) = sym is ∙ says in cc
 
-same_words : (a b : Words) (said : Option Words) → said ≡ Some a → said ≡ Some b → b ≡ a
-same_words a b said is says = let e : Some a ≡ Some b = sym is ∙ says in cc
+one_serve : (said : Option Command) (command : Command) (a w : ServeWords) → said ≡ Some command → command ≡ Serve a → said ≡ Some (Serve w) → a ≡ w
+one_serve said command a w is here says = let e : Some command ≡ Some (Serve w) = sym is ∙ says in cc
 
-pub returns-clause-steady : goal.returns-clause-steady
-returns-clause-steady g c = λ steady w script loads says held.
-    let words = words_seen c.in-Replay.words in
-    let same : w ≡ words = same_words words w _ c.in-Replay.ensures.said says in
-    let are : AreHeld (g.H.Outside.held c.args.host.now) words script loads = subst (λ v. AreHeld (g.H.Outside.held c.args.host.now) v script loads) same held in
-    subst (λ v. FitsFiles v.options.clients script loads c.report.result) (sym same)
-    (fits_held _ (g.H.Outside.reading c.replay_files.new.host).left words script loads _ are c.report.ensures.only
-    (λ is. c.in-Err.ensures.steady_reads steady (ap Err (c.report.ensures.read is)) script loads are)
-    (λ is. c.in-Err.ensures.steady_writes steady (ap Err (c.report.ensures.write is)))
-    (λ is. c.in-Err.ensures.too_long (ap Err (c.report.ensures.too_long is)))
-    (λ is. outside_of _ _ _ _ (λ line place named. c.in-Err.ensures.line line place (ap Err named)) (c.report.ensures.line is))
-    (λ is. refused_of _ _ _ _ _
-    (λ line fault named. c.in-Err.ensures.setup line fault (ap Err named))
-    (λ table fault named. c.in-Err.ensures.load table fault (ap Err named))
-    (c.report.ensures.refused is))
-    (λ is. let u = c.report.ensures.unbuilt is in (u.0, c.in-Err.ensures.unbuilt u.0 (ap Err u.1))))
+one_generate : (said : Option Command) (command : Command) (a w : GenerateWords) → said ≡ Some command → command ≡ Generate a → said ≡ Some (Generate w) → a ≡ w
+one_generate said command a w is here says = let e : Some command ≡ Some (Generate w) = sym is ∙ says in cc
 
-pub returns-in-Ok-clause-steady : goal.returns-in-Ok-clause-steady
-returns-in-Ok-clause-steady g c = λ steady w script loads says held.
-    let words = words_seen c.in-Replay.words in
-    let same : w ≡ words = same_words words w _ c.in-Replay.ensures.said says in
-    let are : AreHeld (g.H.Outside.held c.args.host.now) words script loads = subst (λ v. AreHeld (g.H.Outside.held c.args.host.now) v script loads) same held in
-    subst (λ v. FitsFiles v.options.clients script loads 0) (sym same) (fits_done _ words script loads _ _ are c.in-Ok.ensures.replayed)
+pub returns-in-Ok-Replay-clause-replays : goal.returns-in-Ok-Replay-clause-replays
+returns-in-Ok-Replay-clause-replays g c = λ w says.
+    let did = c.run_replay.ensures in
+    let same = one_replay _ _ c.in-Ok-Replay.words w c.in-Ok-Replay.ensures.said c.in-Ok-Replay.field-0-is says in
+    subst (λ (v : ReplayWords). Replays _ g.H.Outside.held g.H.Outside.reading g.H.Outside.writing g.H.Outside.linking g.H.Outside.complaints g.H.Outside.IsSteady c.args.host.now c.run_replay.new.host v c.run_replay.result) same
+    record {
+      only = did.only;
+      replayed = did.replayed;
+      part_after_fault = did.part_after_fault;
+      part_in_want = did.part_in_want;
+      too_long = did.too_long;
+      line = did.line;
+      refused = did.refused;
+      unbuilt = did.unbuilt;
+      writing_keeps_faults = did.writing_keeps_faults;
+      steady = did.steady;
+      linking_stays = did.linking_stays;
+    }
+
+pub returns-in-Ok-Serve-clause-serves : goal.returns-in-Ok-Serve-clause-serves
+returns-in-Ok-Serve-clause-serves g c = λ w says.
+    let did = c.run_serve.ensures in
+    let same = one_serve _ _ c.in-Ok-Serve.words w c.in-Ok-Serve.ensures.said c.in-Ok-Serve.field-0-is says in
+    subst (λ (v : ServeWords). Serves _ g.H.Outside.held g.H.Outside.reading g.H.Outside.writing g.H.Outside.linking g.H.Outside.complaints g.H.Outside.IsSteady c.args.host.now c.run_serve.new.host v c.run_serve.result) same
+    record {
+      only = did.only;
+      whole = did.whole;
+      unwritten = did.unwritten;
+      faulty = did.faulty;
+      too_long = did.too_long;
+      line = did.line;
+      refused = did.refused;
+      steady = did.steady;
+    }
+
+pub returns-in-Ok-Generate-clause-generates : goal.returns-in-Ok-Generate-clause-generates
+returns-in-Ok-Generate-clause-generates g c = λ w says.
+    let did = c.run_generate.ensures in
+    let same = one_generate _ _ c.in-Ok-Generate.words w c.in-Ok-Generate.ensures.said c.in-Ok-Generate.field-0-is says in
+    subst (λ (v : GenerateWords). Generates _ g.H.Outside.reading g.H.Outside.writing g.H.Outside.linking g.H.Outside.IsSteady c.args.host.now c.run_generate.new.host v c.run_generate.result) same
+    record {
+      only = did.only;
+      made = did.made;
+      made_in_part = did.made_in_part;
+      made_alone = did.made_alone;
+      summary = did.summary;
+      summary_in_part = did.summary_in_part;
+      line = did.line;
+      refused = did.refused;
+      unbuilt = did.unbuilt;
+      writing_keeps_faults = did.writing_keeps_faults;
+      steady = did.steady;
+      reading_stays = did.reading_stays;
+      linking_stays = did.linking_stays;
+    }

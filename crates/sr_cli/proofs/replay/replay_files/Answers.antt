@@ -1,7 +1,7 @@
 use Rattle.std.proofs.Common.{refl}
 use Rattle.std.proofs.lemmas.Result.{on_ok_weaker}
 use Rattle.sr_cli.proofs.Insides.{inside-there}
-use Rattle.sr_cli.proofs.run.replay_files.Goals as goal
+use Rattle.sr_cli.proofs.replay.replay_files.Goals as goal
 
 pub returns-in-Ok-clause-replayed : goal.returns-in-Ok-clause-replayed
 returns-in-Ok-clause-replayed g c =

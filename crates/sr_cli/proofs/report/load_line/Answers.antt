@@ -1,9 +1,9 @@
 use Rattle.std.proofs.Common.{◌≡◌, ◌++◌, string_bytes, sym, rules, ◌∙◌}
 use Rattle.std.specs.Prelude.{codes, decimal}
 use Rattle.sr_script.specs.TraceText.{why_text}
-use Rattle.sr_cli.specs.Run.{line_feed}
+use Rattle.sr_cli.specs.Errors.{line_feed}
 use Rattle.sr_cli.proofs.LoadTexts.{unknown_text, reason_text}
-use Rattle.sr_cli.proofs.run.load_line.Goals as goal
+use Rattle.sr_cli.proofs.report.load_line.Goals as goal
 
 pub returns-in_ok-format-in-UnknownTable : goal.returns-in_ok-format-in-UnknownTable
 returns-in_ok-format-in-UnknownTable c = c.in_ok-format-in-UnknownTable.ensures.ok ∙ sym (unknown_text c.args.table.now c.args.fault c.in-UnknownTable.is)

@@ -1,6 +1,6 @@
 use Rattle.std.proofs.Common.{◌≡◌, drop}
 use Rattle.sr_cli.proofs.ReadSoFar.{ReadSoFar}
-use Rattle.sr_cli.proofs.files.read_loads.Given as goal
+use Rattle.sr_cli.proofs.loads.read_loads.Given as goal
 
 abbrev pub invariant-loop-word : goal.invariant-loop-word
 invariant-loop-word g l = record {

@@ -1,62 +1,28 @@
-//! Reading the files that the words name.
-ghost use Rattle.std.specs.Prelude.{◌≡◌, ℕ, ◌<◌, ◌^◌, nat_lt, List, Some, None, IsTrue, IfOk, OnOk, IsErrOf, length};
+//! Reading the files for the tables.
+ghost use Rattle.std.specs.Prelude.{◌≡◌, ◌<◌, ◌^◌, nat_lt, List, None, IsTrue, IfOk, OnOk, IsErrOf, length};
 ghost use Rattle.std.specs.List.{list_all, AllZip};
 ghost use Rattle.sr_io.specs.Causes.{Rose};
 ghost use Rattle.sr_load.specs.declared.fill.Load.{Load as TheLoad};
-ghost use Rattle.sr_cli.specs.Run.{IsLoad, AreFiles, IsTooLong, SomeTooLong, IsHeldLoad, AreHeld};
-ghost use Rattle.sr_cli.specs.Words.{files_of, names_of, words_seen};
+ghost use Rattle.sr_cli.specs.Files.{IsLoad, IsTooLong, SomeTooLong, IsHeldLoad, names_of};
 ghost use Rattle.sr_cli.specs.Seen.{AddsLoad};
 ghost use Rattle.sr_cli.specs.declared.file.ReadFault.TheVariants.{Fault, NoMemory as Wanting, TooLong};
 
 use crate::file::{ReadFault, read_file};
-use sr_cell::list::{Bytes, Seq};
+use sr_cell::list::Seq;
 use sr_cell::text::Text;
 use sr_io::outside::Host;
 use sr_load::fill::{Load, Loads};
-use sr_words::command::{LoadWord, ReplayWords};
+use sr_words::command::LoadWord;
 use std::alloc::Global;
 
-/// What was read: the script, and the files for the tables.
-#[derive(Drop)]
-pub struct Files {
-    pub script: Bytes,
-    pub loads: Loads,
-}
-
-/// Reads the script, and then the files for the tables in their order. The first that cannot be read or is too long ends it.
-pub fn read_files<H: Host>(
+/// Reads the files for the tables, in their order. The first that cannot be read or is too long ends it.
+pub(crate) fn read_loads<H: Host>(
     alloc: Global,
-    words: &ReplayWords,
+    words: &[LoadWord],
     host: &mut H,
-) -> Result<Files, ReadFault>
-    ensures read { IfOk result (λ files. AreFiles (H.held host.old) (words_seen words.now) files.script files.loads) }
-    ensures script { IfOk result (λ files. length files.script < 2 ^ 32) }
-    ensures loads { IfOk result (λ files. IsTrue (list_all (λ load. nat_lt (length load.bytes) (2 ^ 32)) files.loads)) }
-    ensures too_long { IsErrOf result TooLong → SomeTooLong (H.held host.old) (H.reading host.new).left (files_of (words_seen words.now)) }
-    ensures fault_is_counted { IsErrOf result Fault → Rose (H.reading host.old).faults (H.reading host.new).faults }
-    ensures ok_keeps_faults { OnOk result ((H.reading host.new).faults ≡ (H.reading host.old).faults) }
-    ensures want_keeps_faults { IsErrOf result Wanting → (H.reading host.new).faults ≡ (H.reading host.old).faults }
-    ensures too_long_keeps_faults { IsErrOf result TooLong → (H.reading host.new).faults ≡ (H.reading host.old).faults }
-    ensures stays_steady { H.IsSteady host.old → H.IsSteady host.new }
-    ensures steady_never_faults { H.IsSteady host.old → IsErrOf result Fault → (script : List ℕ) (loads : List TheLoad) → ¬ AreHeld (H.held host.old) (words_seen words.now) script loads }
-    ensures held_stays { H.held host.new ≡ H.held host.old }
-    ensures writing_stays { H.writing host.new ≡ H.writing host.old }
-    ensures linking_stays { H.linking host.new ≡ H.linking host.old }
-    ensures complaints_stay { H.complaints host.new ≡ H.complaints host.old }
-{
-    let script = match read_file(alloc, words.script.as_str(), host) {
-        Ok(script) => script,
-        Err(no) => return Err(no),
-    };
-    match read_loads(alloc, words.loads.as_slice(), host) {
-        Ok(loads) => Ok(Files { script, loads }),
-        Err(no) => Err(no),
-    }
-}
-
-/// Reads the files for the tables.
-fn read_loads<H: Host>(alloc: Global, words: &[LoadWord], host: &mut H) -> Result<Loads, ReadFault>
+) -> Result<Loads, ReadFault>
     ensures read { IfOk result (AllZip (IsLoad (H.held host.old)) words.now) }
+    ensures short { IfOk result (λ loads. IsTrue (list_all (λ load. nat_lt (length load.bytes) (2 ^ 32)) loads)) }
     ensures too_long { IsErrOf result TooLong → SomeTooLong (H.held host.old) (H.reading host.new).left (names_of words.now) }
     ensures fault_is_counted { IsErrOf result Fault → Rose (H.reading host.old).faults (H.reading host.new).faults }
     ensures ok_keeps_faults { OnOk result ((H.reading host.new).faults ≡ (H.reading host.old).faults) }

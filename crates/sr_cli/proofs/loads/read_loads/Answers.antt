@@ -1,9 +1,11 @@
 use Rattle.std.proofs.Common.{◌≡◌, None, Err, refl, ap, subst, ◌∙◌}
 use Rattle.std.specs.Prelude.{IsErrOf}
-use Rattle.sr_cli.specs.Run.{IsTooLong}
+use Rattle.sr_cli.specs.Files.{IsTooLong}
 use Rattle.sr_cli.specs.Seen.{AddsLoad}
-use Rattle.sr_cli.proofs.ReadSoFar.{none_read, one_read, one_long, one_unheld}
-use Rattle.sr_cli.proofs.files.read_loads.Goals as goal
+use Rattle.std.proofs.lemmas.List.{drop_all}
+use Rattle.sr_cli.proofs.SameFiles.{are_short}
+use Rattle.sr_cli.proofs.ReadSoFar.{all_read, none_read, one_read, one_long, one_unheld}
+use Rattle.sr_cli.proofs.loads.read_loads.Goals as goal
 
 no_is : {T E : Type 0} (a b : E) → IsErrOf {T = T} (Err a) b → a ≡ b
 no_is a b is = cc
@@ -46,3 +48,8 @@ returns-in-Err-clause-steady_never_faults g c = λ steady is.
     let before = c.loop-word.invariant in
     one_unheld _ c.args.words.now c.loop-word.word-index c.word-item.result c.loop-word.loads c.loop-word-test.true c.word-item.is before.read
     (subst (λ h. h c.word-item.result.file ≡ None) before.held_stays (c.in-Err.ensures.steady_never_faults (before.stays_steady steady) (ap Err (no_is _ _ is))))
+
+pub returns-clause-short : goal.returns-clause-short
+returns-clause-short g c =
+    let past = drop_all c.loop-word.word-index c.args.words.now c.loop-word-test.false in
+    are_short _ c.args.words.now c.loop-word.loads (all_read _ c.args.words.now c.loop-word.loads _ past c.loop-word.invariant.read)

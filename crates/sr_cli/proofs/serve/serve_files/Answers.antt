@@ -1,0 +1,46 @@
+use Rattle.std.proofs.Common.{Err, ap}
+use Rattle.std.proofs.lemmas.Result.{on_ok_weaker}
+use Rattle.sr_cli.proofs.serve.serve_files.Goals as goal
+
+pub returns-in-Ok-clause-whole : goal.returns-in-Ok-clause-whole
+returns-in-Ok-clause-whole g c =
+    on_ok_weaker c.serve_read.result
+    (λ ends. record {
+      schema = c.in-Ok.files.schema;
+      exec = c.in-Ok.files.exec;
+      loads = c.in-Ok.files.loads;
+      files = c.in-Ok.ensures.read;
+      ends = rw (c.in-Ok.ensures.linking_stays, c.in-Ok.ensures.writing_stays) at ends;
+    })
+    c.serve_read.ensures.whole
+
+pub returns-in-Ok-clause-unwritten : goal.returns-in-Ok-clause-unwritten
+returns-in-Ok-clause-unwritten g c = λ is. record {
+  schema = c.in-Ok.files.schema;
+  exec = c.in-Ok.files.exec;
+  loads = c.in-Ok.files.loads;
+  files = c.in-Ok.ensures.read;
+  ends = rw (c.in-Ok.ensures.linking_stays, c.in-Ok.ensures.writing_stays) at (c.serve_read.ensures.unwritten is);
+}
+
+pub returns-in-Ok-clause-faulty : goal.returns-in-Ok-clause-faulty
+returns-in-Ok-clause-faulty g c = λ is. record {
+  schema = c.in-Ok.files.schema;
+  exec = c.in-Ok.files.exec;
+  loads = c.in-Ok.files.loads;
+  files = c.in-Ok.ensures.read;
+  ends = rw (c.in-Ok.ensures.linking_stays, c.in-Ok.ensures.writing_stays) at (c.serve_read.ensures.faulty is);
+}
+
+pub returns-in-Err-Fault-clause-steady_reads : goal.returns-in-Err-Fault-clause-steady_reads
+returns-in-Err-Fault-clause-steady_reads g c = λ steady failed schema exec loads are.
+    c.in-Err-Fault.ensures.steady_never_faults steady (ap Err c.in-Err-Fault.field-0-is) schema exec loads are
+
+pub returns-in-Ok-clause-setup : goal.returns-in-Ok-clause-setup
+returns-in-Ok-clause-setup g c = λ line fault is. record {
+  schema = c.in-Ok.files.schema;
+  exec = c.in-Ok.files.exec;
+  loads = c.in-Ok.files.loads;
+  files = c.in-Ok.ensures.read;
+  refuses = c.serve_read.ensures.setup line fault is;
+}

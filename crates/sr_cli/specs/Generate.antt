@@ -1,0 +1,40 @@
+-- What `generate` does, and why it ends with each status.
+use Rattle.std.specs.Prelude.{◌≡◌, ℕ, ◌⊎◌, List, [], Option, Some, true, false}
+use Rattle.std.specs.Io.KnownBytes.{Appends}
+use Rattle.sr_cell.specs.declared.fault.Fault.{Fault}
+use Rattle.sr_generate.specs.Script.{script}
+use Rattle.sr_io.specs.Pieces.{WritesPrefix}
+use Rattle.sr_io.specs.Told.{Reading, Writing, Linking}
+use Rattle.sr_lines.specs.Lines.{lines_of}
+use Rattle.sr_lines.specs.Script.{start_phase, FirstRefused, FirstUnbuilt}
+use Rattle.sr_summary.specs.Summary.{Summarizes}
+use Rattle.sr_world.specs.Replay.{outside}
+use Rattle.sr_words.specs.declared.command.GenerateWords.{GenerateWords}
+
+-- a summary of the script was written
+pub record Summarized (script : List ℕ) (old new : Option (List ℕ)) : Type 0 where
+  pub text : List ℕ
+  pub summarizes : Summarizes script text
+  pub written : Appends old new text
+
+-- a prefix of one was written
+pub record SummarizedInPart (script : List ℕ) (old new : Option (List ℕ)) : Type 0 where
+  pub text : List ℕ
+  pub summarizes : Summarizes script text
+  pub written : WritesPrefix old new text
+
+-- What `generate` does over a host, by the status that it ends with.
+pub record Generates (H : Type 0) (reading : H → Reading) (writing : H → Writing) (linking : H → Linking) (IsSteady : H → Type 0) (old new : H) (words : GenerateWords) (status : ℕ) : Type 0 where
+  pub only : (status ≡ 0) ⊎ (status ≡ 4) ⊎ (status ≡ 6) ⊎ (status ≡ 7) ⊎ (status ≡ 9) ⊎ (status ≡ 12)
+  pub made : words.whole_script ≡ true → status ≡ 0 → Appends (writing old).written (writing new).written (script words.seed words.events)
+  pub made_in_part : words.whole_script ≡ true → WritesPrefix (writing old).written (writing new).written (script words.seed words.events)
+  pub made_alone : words.whole_script ≡ true → (status ≡ 0) ⊎ (status ≡ 4) ⊎ (status ≡ 9)
+  pub summary : words.whole_script ≡ false → status ≡ 0 → Summarized (script words.seed words.events) (writing old).written (writing new).written
+  pub summary_in_part : words.whole_script ≡ false → status ≡ 4 → SummarizedInPart (script words.seed words.events) (writing old).written (writing new).written
+  pub line : status ≡ 6 → (line : ℕ) × (place : ℕ) × (outside 1 (script words.seed words.events) ≡ Some (record { line = line; place = place }))
+  pub refused : status ≡ 7 → (line : ℕ) × (fault : Fault) × FirstRefused 1 1 [] (lines_of (script words.seed words.events)) line fault
+  pub unbuilt : status ≡ 12 → (line : ℕ) × FirstUnbuilt 1 1 start_phase (lines_of (script words.seed words.events)) line
+  pub writing_keeps_faults : (status ≡ 4) ⊎ ((writing new).faults ≡ (writing old).faults)
+  pub steady : IsSteady old → ¬ (status ≡ 4)
+  pub reading_stays : reading new ≡ reading old
+  pub linking_stays : linking new ≡ linking old

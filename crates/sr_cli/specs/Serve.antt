@@ -1,0 +1,147 @@
+-- What `serve` does, and why it ends with each status.
+use Rattle.std.specs.Prelude.{◌≡◌, ℕ, ◌⊎◌, List, [], ◌∷◌, ◌++◌, Option, Some, None, option_to_list}
+use Rattle.std.specs.List.{AllZip}
+use Rattle.sr_cell.specs.declared.fault.Fault.{Fault}
+use Rattle.sr_lines.specs.Script.{LinePlace}
+use Rattle.sr_load.specs.declared.fill.Load.{Load}
+use Rattle.sr_io.specs.Told.{Reading, Writing, Linking, complained}
+use Rattle.sr_serve.specs.Runs.{Ran}
+use Rattle.sr_server.specs.Servers.{first_database}
+use Rattle.sr_setup.specs.Files.{outside, RefusesCreate, RefusesLoad, SetsUp}
+use Rattle.sr_tables.specs.Stored.{Stored}
+use Rattle.sr_talk.specs.declared.rounds.Ending.{Ending}
+use Rattle.sr_talk.specs.declared.rounds.Ending.TheVariants.{Whole, Faulty, Unwritten}
+use Rattle.sr_words.specs.declared.command.ServeWords.{ServeWords}
+use Rattle.sr_cli.specs.Files.{IsWhatIsHeld, IsLoad, SomeTooLong, IsHeldLoad, IsLong, SomeLong, names_of}
+use Rattle.sr_cli.specs.Errors.{line_text, setup_text, load_text}
+
+-- ---- the files
+
+-- the name of the exec file, if it is named
+abbrev pub exec_files : Option (List ℕ) → List (List ℕ)
+exec_files exec = option_to_list exec
+
+-- the names of all files, in the order in which they are read
+abbrev pub files_of : ServeWords → List (List ℕ)
+files_of words = words.schema ∷ (exec_files words.exec ++ names_of words.loads)
+
+-- what was read of the exec file: nothing, where none is named
+abbrev pub IsExec : (List ℕ → Option (List ℕ)) → Option (List ℕ) → List ℕ → Type 0
+IsExec held None read = read ≡ []
+IsExec held (Some name) read = IsWhatIsHeld (held name) read
+
+-- what was read under the names: a schema file, an exec file, and the files for the tables
+pub record AreFiles (held : List ℕ → Option (List ℕ)) (words : ServeWords) (schema exec : List ℕ) (loads : List Load) : Type 0 where
+  pub schema_read : IsWhatIsHeld (held words.schema) schema
+  pub exec_read : IsExec held words.exec exec
+  pub loads_read : AllZip (IsLoad held) words.loads loads
+
+-- Files are set up, and a server of their tables ran: it carried out the statements of the exec file, served so many connections, and
+-- ended so.
+pub record Ends (schema exec : List ℕ) (loads : List Load) (words : ServeWords) (ending : Ending) (old new : Linking) (before after : Writing) : Type 0 where
+  pub tables : Stored
+  pub statements : List (List ℕ)
+  pub sets_up : SetsUp schema exec loads tables statements
+  pub ran : Ran (first_database tables.schema words.log tables.rows) statements words.count ending old new before after
+
+-- the same, of files that were read
+pub record Served (held : List ℕ → Option (List ℕ)) (words : ServeWords) (ending : Ending) (old new : Linking) (before after : Writing) : Type 0 where
+  pub schema : List ℕ
+  pub exec : List ℕ
+  pub loads : List Load
+  pub files : AreFiles held words schema exec loads
+  pub ends : Ends schema exec loads words ending old new before after
+
+-- ---- refusals
+
+-- files were read, and their first line that is outside the grammar of its file is this one, with its fault at this place
+pub record IsOutside (held : List ℕ → Option (List ℕ)) (words : ServeWords) (line place : ℕ) : Type 0 where
+  pub schema : List ℕ
+  pub exec : List ℕ
+  pub loads : List Load
+  pub files : AreFiles held words schema exec loads
+  pub first : outside schema exec ≡ Some (record { line = line; place = place })
+
+-- files were read, and the first CREATE line that is refused is this one, with this fault
+pub record IsRefusedCreate (held : List ℕ → Option (List ℕ)) (words : ServeWords) (line : ℕ) (fault : Fault) : Type 0 where
+  pub schema : List ℕ
+  pub exec : List ℕ
+  pub loads : List Load
+  pub files : AreFiles held words schema exec loads
+  pub refuses : RefusesCreate schema exec line fault
+
+-- files were read, and the one for the table of this name is the first that is refused, with this fault
+pub record IsRefusedLoad (held : List ℕ → Option (List ℕ)) (words : ServeWords) (table : List ℕ) (fault : Fault) : Type 0 where
+  pub schema : List ℕ
+  pub exec : List ℕ
+  pub loads : List Load
+  pub files : AreFiles held words schema exec loads
+  pub refuses : RefusesLoad schema exec loads table fault
+
+-- ---- the error output
+
+-- the line that is outside the grammar was named on the error output, with the place of its fault
+pub record NamedLine (held : List ℕ → Option (List ℕ)) (words : ServeWords) (old new : Option (List ℕ)) : Type 0 where
+  pub line : ℕ
+  pub place : ℕ
+  pub refused : IsOutside held words line place
+  pub said : new ≡ complained (line_text line place) old
+
+-- the refused CREATE line was named on the error output, with its fault
+pub record NamedCreate (held : List ℕ → Option (List ℕ)) (words : ServeWords) (old new : Option (List ℕ)) : Type 0 where
+  pub line : ℕ
+  pub fault : Fault
+  pub refused : IsRefusedCreate held words line fault
+  pub said : new ≡ complained (setup_text line fault) old
+
+-- the table of the refused file was named on the error output, with the fault
+pub record NamedLoad (held : List ℕ → Option (List ℕ)) (words : ServeWords) (old new : Option (List ℕ)) : Type 0 where
+  pub table : List ℕ
+  pub fault : Fault
+  pub refused : IsRefusedLoad held words table fault
+  pub said : new ≡ complained (load_text table fault) old
+
+-- ---- a host without faults
+
+-- the exec file that is held: no bytes, where none is named
+abbrev pub IsHeldExec : (List ℕ → Option (List ℕ)) → Option (List ℕ) → List ℕ → Type 0
+IsHeldExec held None exec = exec ≡ []
+IsHeldExec held (Some name) exec = held name ≡ Some exec
+
+-- the host holds all the files, and these are they
+pub record AreHeld (held : List ℕ → Option (List ℕ)) (words : ServeWords) (schema exec : List ℕ) (loads : List Load) : Type 0 where
+  pub schema_held : held words.schema ≡ Some schema
+  pub exec_held : IsHeldExec held words.exec exec
+  pub loads_held : AllZip (IsHeldLoad held) words.loads loads
+
+-- one of the files has more bytes than the limit
+abbrev pub AreLong : List ℕ → List ℕ → List Load → Type 0
+AreLong schema exec loads = IsLong schema ⊎ IsLong exec ⊎ SomeLong loads
+
+-- a server ran
+abbrev pub DidRun : ℕ → Type 0
+DidRun status = (status ≡ 0) ⊎ (status ≡ 4) ⊎ (status ≡ 5)
+
+-- what a host without faults that holds the files lets the status be
+pub record FitsFiles (schema exec : List ℕ) (loads : List Load) (status : ℕ) : Type 0 where
+  pub no_read_fault : ¬ (status ≡ 3)
+  pub long : AreLong schema exec loads → (status ≡ 9) ⊎ (status ≡ 10)
+  pub too_long : status ≡ 10 → AreLong schema exec loads
+  pub line : status ≡ 6 → (at : LinePlace) × (outside schema exec ≡ Some at)
+  pub refused : status ≡ 7 → ((line : ℕ) × (fault : Fault) × RefusesCreate schema exec line fault) ⊎ ((table : List ℕ) × (fault : Fault) × RefusesLoad schema exec loads table fault)
+  pub inside : DidRun status → outside schema exec ≡ None
+  pub accepts : DidRun status → (line : ℕ) (fault : Fault) → ¬ RefusesCreate schema exec line fault
+  pub accepts_loads : DidRun status → (table : List ℕ) (fault : Fault) → ¬ RefusesLoad schema exec loads table fault
+
+-- ---- a run
+
+-- What `serve` does over a host, by the status that it ends with.
+pub record Serves (H : Type 0) (held : H → List ℕ → Option (List ℕ)) (reading : H → Reading) (writing : H → Writing) (linking : H → Linking) (complaints : H → Option (List ℕ)) (IsSteady : H → Type 0) (old new : H) (words : ServeWords) (status : ℕ) : Type 0 where
+  pub only : (status ≡ 0) ⊎ (status ≡ 3) ⊎ (status ≡ 4) ⊎ (status ≡ 5) ⊎ (status ≡ 6) ⊎ (status ≡ 7) ⊎ (status ≡ 9) ⊎ (status ≡ 10)
+  pub whole : status ≡ 0 → Served (held old) words Whole (linking old) (linking new) (writing old) (writing new)
+  pub unwritten : status ≡ 4 → Served (held old) words Unwritten (linking old) (linking new) (writing old) (writing new)
+  pub faulty : status ≡ 5 → Served (held old) words Faulty (linking old) (linking new) (writing old) (writing new)
+  pub too_long : status ≡ 10 → SomeTooLong (held old) (reading new).left (files_of words)
+  pub line : status ≡ 6 → NamedLine (held old) words (complaints old) (complaints new)
+  pub refused : status ≡ 7 → NamedCreate (held old) words (complaints old) (complaints new) ⊎ NamedLoad (held old) words (complaints old) (complaints new)
+  pub steady : IsSteady old → (schema exec : List ℕ) (loads : List Load) → AreHeld (held old) words schema exec loads → FitsFiles schema exec loads status

@@ -1,0 +1,224 @@
+"""Messages as frames of bytes, as docs/FORMATS.md has them."""
+from collections import namedtuple
+
+MOST_BYTES = 134217728
+WIRE = 1
+
+# to the server
+Hello = namedtuple('Hello', 'client number')
+Resume = namedtuple('Resume', 'client number version holdings')
+Ask = namedtuple('Ask', 'number fresh parts')
+Write = namedtuple('Write', 'number sql')
+# to the client
+Welcome = namedtuple('Welcome', 'number version kept')
+Notice = namedtuple('Notice', 'version tells')
+Rows = namedtuple('Rows', 'number part rows')
+Reply = namedtuple('Reply', 'number version')
+Written = namedtuple('Written', 'number version')
+Refused = namedtuple('Refused', 'number why place')
+Lapse = namedtuple('Lapse', 'version')
+# in them: a rect is a span for each column, and a span None for all values, (lo, hi) of numbers or of texts, hi None where there is none
+Holding = namedtuple('Holding', 'table rects')
+Part = namedtuple('Part', 'table columns rects')
+Tell = namedtuple('Tell', 'table key after')
+
+KINDS = {0x01: Hello, 0x02: Resume, 0x03: Ask, 0x04: Write, 0x11: Welcome, 0x12: Notice, 0x13: Rows, 0x14: Reply, 0x15: Written,
+         0x16: Refused, 0x17: Lapse}
+FROM_CLIENTS = (Hello, Resume, Ask, Write)
+
+
+# ---- writing
+
+def number(value, size):
+    return value.to_bytes(size, 'big', signed=value < 0)
+
+
+def text(value):
+    return number(len(value), 1) + value
+
+
+def span_bytes(span):
+    if span is None:
+        return b'\x00'
+    lo, hi = span
+    if isinstance(lo, int):
+        return b'\x01' + number(lo, 8) + number(hi, 8)
+    return b'\x03' + text(lo) if hi is None else b'\x02' + text(lo) + text(hi)
+
+
+def rects_bytes(rects):
+    return number(len(rects), 4) + b''.join(number(len(rect), 1) + b''.join(map(span_bytes, rect)) for rect in rects)
+
+
+def cell_bytes(cell):
+    return b'\x00' + number(cell, 8) if isinstance(cell, int) else b'\x01' + text(cell)
+
+
+def row_bytes(row):
+    return number(len(row), 1) + b''.join(map(cell_bytes, row))
+
+
+def part_bytes(part):
+    return number(part.table, 1) + number(sum(1 << column for column in part.columns), 2) + rects_bytes(part.rects)
+
+
+def tell_bytes(tell):
+    after = b'\x00' if tell.after is None else b'\x01' + row_bytes(tell.after)
+    return number(tell.table, 1) + cell_bytes(tell.key) + after
+
+
+def fields(message):
+    kind = type(message)
+    if kind is Hello:
+        return number(WIRE, 1) + number(message.client, 1) + number(message.number, 8)
+    if kind is Resume:
+        holdings = b''.join(number(held.table, 1) + rects_bytes(held.rects) for held in message.holdings)
+        return fields(Hello(message.client, message.number)) + number(message.version, 8) + number(len(message.holdings), 4) + holdings
+    if kind is Ask:
+        return number(message.number, 8) + number(message.fresh, 1) + number(len(message.parts), 1) + b''.join(map(part_bytes, message.parts))
+    if kind is Write:
+        return number(message.number, 8) + number(len(message.sql), 4) + message.sql
+    if kind is Welcome:
+        return number(message.number, 8) + number(message.version, 8) + number(message.kept, 1)
+    if kind is Notice:
+        return number(message.version, 8) + number(len(message.tells), 4) + b''.join(map(tell_bytes, message.tells))
+    if kind is Rows:
+        return number(message.number, 8) + number(message.part, 1) + number(len(message.rows), 2) + b''.join(map(row_bytes, message.rows))
+    if kind is Refused:
+        return number(message.number, 8) + number(message.why, 1) + number(message.place, 4)
+    return b''.join(number(value, 8) for value in message)
+
+
+def frame(message):
+    kind = next(byte for byte, kind in KINDS.items() if kind is type(message))
+    body = number(kind, 1) + fields(message)
+    return number(len(body), 4) + body
+
+
+def spelled(messages):
+    return b''.join(map(frame, messages))
+
+
+# ---- reading
+
+class Short(Exception):
+    """More bytes have to come."""
+
+
+class Fault(Exception):
+    """No frame begins so. It says what is wrong, as an error line does."""
+
+
+class Fields:
+    """Reads the fields of one frame from the left. At the first that is outside the rules it names the place."""
+
+    def __init__(self, whole):
+        self.bytes, self.at = whole, 5
+
+    def take(self, size):
+        if self.at + size > len(self.bytes):
+            raise Fault('field %d' % self.at)
+        self.at += size
+        return self.bytes[self.at - size:self.at]
+
+    def number(self, size, least=0, most=None):
+        place, value = self.at, int.from_bytes(self.take(size), 'big')
+        if value < least or (most is not None and value > most):
+            raise Fault('field %d' % place)
+        return value
+
+    def signed(self):
+        return int.from_bytes(self.take(8), 'big', signed=True)
+
+    def text(self, most):
+        size = self.number(1, 0, most)
+        return self.take(size)
+
+    def utf8(self, place, value):
+        try:
+            value.decode('utf-8')
+        except UnicodeDecodeError:
+            raise Fault('field %d' % place) from None
+        return value
+
+    def many(self, size, least, most, item):
+        return [item() for _ in range(self.number(size, least, most))]
+
+    def span(self):
+        place, kind = self.at, self.number(1, 0, 3)
+        if kind == 0:
+            return None
+        lo, hi = (self.signed(), self.signed()) if kind == 1 else (self.text(121), self.text(121) if kind == 2 else None)
+        if (kind == 1 and lo > hi) or (kind == 2 and lo >= hi) or (kind == 3 and not lo):
+            raise Fault('field %d' % place)
+        return lo, hi
+
+    def rect(self):
+        return tuple(self.many(1, 1, 12, self.span))
+
+    def rects(self):
+        return self.many(4, 1, 16384, self.rect)
+
+    def cell(self):
+        if self.number(1, 0, 1) == 0:
+            return self.signed()
+        place = self.at
+        return self.utf8(place, self.text(120))
+
+    def row(self):
+        return tuple(self.many(1, 1, 12, self.cell))
+
+    def holding(self):
+        return Holding(self.number(1, 0, 15), self.rects())
+
+    def part(self):
+        table, columns = self.number(1, 0, 15), self.number(2, 0, 4095)
+        return Part(table, [column for column in range(12) if columns >> column & 1], self.rects())
+
+    def tell(self):
+        table, key = self.number(1, 0, 15), self.cell()
+        return Tell(table, key, self.row() if self.number(1, 0, 1) else None)
+
+    def message(self, kind):
+        if kind in (Hello, Resume):
+            self.number(1, WIRE, WIRE)
+            client, request = self.number(1, 1, 64), self.number(8)
+            if kind is Hello:
+                return Hello(client, request)
+            return Resume(client, request, self.number(8), self.many(4, 1, 1024, self.holding))
+        if kind is Ask:
+            return Ask(self.number(8), self.number(1, 0, 1) == 1, self.many(1, 1, 4, self.part))
+        if kind is Write:
+            request, size, place = self.number(8), self.number(4, 0, 65536), self.at
+            return Write(request, self.utf8(place, self.take(size)))
+        if kind is Welcome:
+            return Welcome(self.number(8), self.number(8), self.number(1, 0, 1) == 1)
+        if kind is Notice:
+            return Notice(self.number(8), self.many(4, 0, 10000, self.tell))
+        if kind is Rows:
+            return Rows(self.number(8), self.number(1, 0, 3), self.many(2, 1, 256, self.row))
+        if kind is Refused:
+            return Refused(self.number(8), self.number(1, 1, 31), self.number(4))
+        return kind(*[self.number(8) for _ in kind._fields])
+
+
+def read(stream):
+    """The first message of a stream, and how many bytes it has."""
+    if len(stream) < 4:
+        raise Short
+    length = int.from_bytes(stream[:4], 'big')
+    if length == 0:
+        raise Fault('field 0')
+    if length > MOST_BYTES:
+        raise Fault('long %d' % length)
+    if len(stream) == 4:
+        raise Short
+    if stream[4] not in KINDS:
+        raise Fault('kind %d' % stream[4])
+    if len(stream) < length + 4:
+        raise Short
+    fields_of = Fields(stream[:length + 4])
+    message = fields_of.message(KINDS[stream[4]])
+    if fields_of.at < length + 4:
+        raise Fault('field %d' % fields_of.at)
+    return message, length + 4

@@ -1,0 +1,129 @@
+"""The program `serve`, dialled over loopback, and the server of this folder beside it."""
+import pathlib
+import socket
+import subprocess
+import tempfile
+
+from frames import Ask, Hello, Holding, Lapse, Part, Resume, Write, frame, spelled
+from model import SCHEMA, Model
+
+ROWS = [(1, 35, b'ann'), (2, 45, b'bob'), (3, 33, b"cy's"), (300, 30, b'\xc3\xa9')]
+LOG = 3
+SECONDS = 20
+
+AGES_30_40 = (None, (30, 40), None)
+NAMES_FROM_B = (None, None, (b'b', None))
+HELLO = Hello(1, 0)
+WHOLE = Part(0, [0, 1, 2], [(None, None, None)])
+
+
+def statement(row):
+    return "INSERT INTO p VALUES (%d, %d, '%s')" % (row[0], row[1], row[2].decode().replace("'", "''"))
+
+
+# ---- what is sent to the server
+
+def honest():
+    """A conversation with each kind of request."""
+    return [HELLO, Ask(1, True, [Part(0, [0, 1], [AGES_30_40])]), Write(2, b'UPDATE p SET age = 50 WHERE id = 1'),
+            Ask(3, False, [Part(0, [0, 1, 2], [NAMES_FROM_B])])]
+
+
+def cut_after_each_byte():
+    stream = spelled(honest())
+    return [('cut after byte %d' % size, [stream[:size]]) for size in range(len(stream) + 1)]
+
+
+def in_pieces():
+    stream = spelled(honest())
+    return [('in pieces of %d' % size, [stream[at:at + size] for at in range(0, len(stream), size)]) for size in (1, 7, 64)]
+
+
+def resumed():
+    holdings = [Holding(0, [AGES_30_40])]
+    return [('resume from version %d' % version, [spelled([Resume(7, 0, version, holdings), Ask(1, False, [WHOLE])])]) for version in range(0, 9)]
+
+
+def refused():
+    """Requests that suit no rule, and what comes behind them is not answered."""
+    wrong = {
+        'a request before the greeting': [Ask(1, True, [WHOLE])],
+        'a second greeting': [HELLO, Hello(2, 0)],
+        'a message of a server': [HELLO, Lapse(1)],
+        'a table that is not there': [HELLO, Ask(1, True, [Part(1, [0], [(None, None, None)])])],
+        'a column that is not there': [HELLO, Ask(1, True, [Part(0, [0, 3], [(None, None, None)])])],
+        'an ask without the key': [HELLO, Ask(1, True, [Part(0, [1], [(None, None, None)])])],
+        'a span of a column that is not asked': [HELLO, Ask(1, True, [Part(0, [0], [AGES_30_40])])],
+        'a number outside the domain': [HELLO, Ask(1, True, [Part(0, [0, 1], [(None, (30, 151), None)])])],
+        'a text in a column of numbers': [HELLO, Ask(1, True, [Part(0, [0, 1], [(None, (b'a', None), None)])])],
+        'a rect of two columns': [HELLO, Ask(1, True, [Part(0, [0, 1], [(None, None)])])],
+        'a holding of no table': [Resume(1, 0, 1, [Holding(3, [(None, None, None)])])],
+    }
+    return [(name, [spelled(messages + [Ask(9, True, [WHOLE])])]) for name, messages in wrong.items()]
+
+
+def mutated():
+    """Each byte of an ask with its highest and its lowest bit turned."""
+    whole = frame(Ask(1, True, [Part(0, [0, 1], [AGES_30_40])]))
+    turned = [(at, whole[:at] + bytes([whole[at] ^ bit]) + whole[at + 1:]) for at in range(len(whole)) for bit in (0x80, 0x01)]
+    return [('byte %d of an ask' % at, [frame(HELLO) + stream]) for at, stream in turned]
+
+
+# ---- the program
+
+def free_address():
+    with socket.socket() as some:
+        some.bind(('127.0.0.1', 0))
+        return '127.0.0.1:%d' % some.getsockname()[1]
+
+
+def talk(address, pieces):
+    """What comes on a connection that brings these pieces and is then closed on this side."""
+    host, port = address.split(':')
+    with socket.create_connection((host, int(port)), SECONDS) as link:
+        link.setsockopt(socket.IPPROTO_TCP, socket.TCP_NODELAY, 1)
+        try:
+            for piece in pieces:
+                link.sendall(piece)
+            link.shutdown(socket.SHUT_WR)
+        except OSError:
+            pass  # the server hung up on what it refused
+        got = b''
+        while more := received(link):
+            got += more
+        return got
+
+
+def received(link):
+    try:
+        return link.recv(65536)
+    except ConnectionResetError:
+        return b''  # it hung up with bytes unread
+
+
+def run(program):
+    """Serves all conversations, one after another; gives a name and what was wrong for each."""
+    cases = in_pieces() + cut_after_each_byte() + resumed() + refused() + mutated()
+    with tempfile.TemporaryDirectory() as folder:
+        schema, texts, address = pathlib.Path(folder) / 'schema', pathlib.Path(folder) / 'exec', free_address()
+        schema.write_text(SCHEMA, encoding='utf-8')
+        texts.write_text(''.join(statement(row) + '\n' for row in ROWS), encoding='utf-8')
+        words = ['serve', '--log', str(LOG), '--exec', texts, '--schema', schema, address, str(len(cases))]
+        with subprocess.Popen([program, *words], bufsize=0, stdout=subprocess.PIPE, stderr=subprocess.PIPE) as serving:
+            model, lines = Model(ROWS, LOG), ['exec version %d' % version for version in range(1, len(ROWS) + 1)]
+            faults = []
+            if serving.stdout.readline() != b'listening\n':
+                return [('serve', 'does not listen: ' + serving.stderr.read().decode())]
+            for number, (name, pieces) in enumerate(cases, 1):
+                wanted, how, frames = model.serve(b''.join(pieces))
+                got = talk(address, pieces)
+                # behind bytes that are refused the link may be reset, and what was sent is then lost in part
+                same = got == wanted or how == 'bad' and wanted.startswith(got)
+                faults.append((name, None if same else 'got %s, wanted %s' % (got.hex(), wanted.hex())))
+                lines.append('connection %d %s %d' % (number, how, frames))
+            output, _ = serving.communicate(timeout=SECONDS)
+            told = output.decode().splitlines()
+            wrong = next((pair for pair in zip(told + [None] * len(lines), lines) if pair[0] != pair[1]), None)
+            faults.append(('the lines of serve', None if told == lines else 'got, wanted: %s' % (wrong,)))
+            faults.append(('the status of serve', None if serving.returncode == 0 else 'status %d' % serving.returncode))
+            return faults

@@ -1,6 +1,5 @@
 -- What a reply does behind a Lapse: the second ask.
-use Rattle.std.proofs.Common.{◌≡◌, ℕ, ◌+◌, ◌≤◌, Bool, true, false, List, [], ◌∷◌, map, refl, sym, ◌∙◌, ap, subst, arith, Some, None}
-use Rattle.std.specs.List.{list_all, All}
+use Rattle.std.proofs.Common.{◌≡◌, ℕ, ◌+◌, Bool, true, false, List, [], map, refl, sym, subst, arith, Some, None}
 use Rattle.std.proofs.lemmas.List.Elements.{All-nil}
 use Rattle.sr_cell.specs.declared.cause.Cause.TheVariants.{Lapsed}
 use Rattle.sr_message.specs.declared.message.AskPart.{AskPart}
@@ -27,7 +26,7 @@ use Rattle.sr_session.specs.Rules as rules
 use Rattle.sr_session.specs.Walks.{AskOut}
 use Rattle.sr_session.proofs.DropLemmas.{asks-some}
 use Rattle.sr_session.proofs.TakeLemmas.{replies-are-answerable}
-use Rattle.sr_client.specs.Asking.{AsksRest, whole_asks}
+use Rattle.sr_client.specs.Asking.{whole_asks}
 use Rattle.sr_client.specs.Cutting.{EndWith}
 use Rattle.sr_client.specs.declared.client.AskOut as code
 use Rattle.sr_client.specs.declared.client.Client.{Client}
@@ -35,11 +34,11 @@ use Rattle.sr_client.specs.declared.client.Request.TheVariants as request
 use Rattle.sr_client.specs.declared.steps.Took.TheVariants as took
 use Rattle.sr_client.specs.Laying.{asking}
 use Rattle.sr_client.specs.Sends.{IsWellSent}
-use Rattle.sr_client.specs.Stands.{Hidden, Facts, Stands, StandsOver, Truly, IsFit, past_of, basis_of}
+use Rattle.sr_client.specs.Stands.{Hidden, Facts, Stands, StandsOver, Truly, past_of, basis_of}
 use Rattle.sr_client.specs.Steps.{Takes}
 use Rattle.sr_client.proofs.AskLemmas.{asks-whole, whole-along}
-use Rattle.sr_client.proofs.AskedLemmas.{one, is-out}
-use Rattle.sr_client.proofs.MeantLemmas.{IsOneQuery, are-sound}
+use Rattle.sr_client.proofs.AskedLemmas.{is-out}
+use Rattle.sr_client.proofs.MeantLemmas.{are-sound}
 use Rattle.sr_client.proofs.MoveLemmas.{takes-by}
 use Rattle.sr_client.proofs.OverLemmas.{on, IsHere, stands-over}
 use Rattle.sr_client.proofs.SendLemmas.{whole-rects}
@@ -74,10 +73,8 @@ module _ (c : Client) (o : code.AskOut) (number version : ℕ) (again : is_given
 
     asks : Asks c.schema (with_marks h.marks (map (drop_of Lapsed) c.store.regions)) h.meaning.parts (whole_asks o.query.parts)
     asks =
-        let q = one c o h f in
-        let rest : AsksRest c.schema [] o.query.parts (whole_asks o.query.parts) =
-        subst (λ ps. AsksRest c.schema [] ps (whole_asks ps)) (sym q.parts) (asks-whole c.schema q.part q.meant q.is q.sound (have-first c.schema f.tables)) in
-        rest (with_marks h.marks (map (drop_of Lapsed) c.store.regions)) (stamp h.queries) h.meaning.parts keeps f.meant.0.query.parts (are-sound c.schema o.query h.meaning f.meant.0)
+        asks-whole c.schema o.query.parts (have-first c.schema f.tables) (with_marks h.marks (map (drop_of Lapsed) c.store.regions)) (stamp h.queries) h.meaning.parts keeps f.meant.0.query.parts
+        (are-sound c.schema o.query h.meaning f.meant.0)
 
     some : whole_asks o.query.parts ≡ [] → ⊥
     some = asks-some c.schema h.marks (with_marks h.marks (map (drop_of Lapsed) c.store.regions)) none h.meaning.parts o.parts (whole_asks o.query.parts) (is-out c o h f).1.asks asks (is-out c o h f).1.some

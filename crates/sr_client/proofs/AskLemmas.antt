@@ -1,5 +1,5 @@
 -- What is asked of some parts is what is left of them.
-use Rattle.std.proofs.Common.{◌≡◌, ℕ, ◌+◌, ◌<◌, ◌≤◌, zero, suc, Bool, true, false, List, [], ◌∷◌, ◌++◌, length, refl, sym, ◌∙◌, ap, subst, arith, inl, inr, get_or, take, append-nil, length-append}
+use Rattle.std.proofs.Common.{◌≡◌, ℕ, ◌+◌, ◌<◌, ◌≤◌, zero, suc, Bool, true, false, List, [], ◌∷◌, ◌++◌, length, refl, sym, ◌∙◌, ap, subst, arith, inl, inr, get_or, take, length-append}
 use Rattle.std.specs.Prelude.{IsTrue, not, ◌&&◌, ◌⊎◌, ◌↔◌, nat_le, nat_lt, sum_by}
 use Rattle.std.specs.List.{list_all, All, AllZip}
 use Rattle.std.proofs.lemmas.Bool.{and_parts}
@@ -154,13 +154,6 @@ whole-trimmed columns need rects first fit only = record {
         let p = has_point columns rects (λ none. absurd (let wrong : r ∷ rs ≡ [] = sym e ∙ none in cc)) fit first in
         absurd (let wrong : true ≡ false = sym p.2 ∙ (same p.0 ∙ free p.0 p.1) in cc)
 
-pub asks-whole : (schema : List Table) (part : Part) (m : model.Part) → IsPart schema part m → is_sound_part schema m ≡ true → ((t : ℕ) → have_first (table_at schema t).columns ≡ true)
-    → AsksRest schema [] (part ∷ []) (whole_asks (part ∷ []))
-asks-whole schema part m is sound first =
-    let fit = subst (λ t. list_all (rect_fits (table_at schema t).columns) part.rects ≡ true) (sym is.table) is.rects.fits in
-    subst (AsksRest schema [] (part ∷ [])) (sym (append-nil (entry_of part.table part.need part.rects)))
-    (asks-rest schema [] part part.need part.rects (whole-trimmed (table_at schema part.table).columns part.need part.rects (first part.table) fit (rects_constrain_needed schema part m is sound)))
-
 -- ---- where what is asked begins and ends
 
 entry-ends : (schema : List Table) (queries : List model.Query) (table attrs : ℕ) (rects : List Rect) → EndWith schema queries table rects → AsksEnd schema queries (entry_of table attrs rects)
@@ -275,6 +268,16 @@ asks-append schema regions xs ys own bs a b marks stamps meant keeps zip sound =
 pub asks-nothing : (schema : List Table) (regions : List Region) → AsksRest schema regions [] []
 asks-nothing schema regions marks stamps [] keeps zip sound = nothing
 asks-nothing schema regions marks stamps (m ∷ meant) keeps zip sound = absurd zip
+
+-- all of some parts, where nothing is held
+pub asks-whole : (schema : List Table) (parts : List Part) → ((t : ℕ) → have_first (table_at schema t).columns ≡ true) → AsksRest schema [] parts (whole_asks parts)
+asks-whole schema [] first marks stamps meant keeps zip sound = asks-nothing schema [] marks stamps meant keeps zip sound
+asks-whole schema (p ∷ parts) first marks stamps [] keeps zip sound = absurd zip
+asks-whole schema (p ∷ parts) first marks stamps (m ∷ meant) keeps zip sound =
+    let own = and_parts (is_sound_part schema m) (list_all (is_sound_part schema) meant) sound in
+    let fit = subst (λ t. list_all (rect_fits (table_at schema t).columns) p.rects ≡ true) (sym zip.0.table) zip.0.rects.fits in
+    let trimmed = whole-trimmed (table_at schema p.table).columns p.need p.rects (first p.table) fit (rects_constrain_needed schema p m zip.0 own.0) in
+    asks-append schema [] (p ∷ []) parts (entry_of p.table p.need p.rects) (whole_asks parts) (asks-rest schema [] p p.need p.rects trimmed) (asks-whole schema parts first) marks stamps (m ∷ meant) keeps zip sound
 
 -- what is asked of some parts, with room for so many rects more
 pub record IsAskedOf (schema : List Table) (regions : List Region) (parts : List Part) (room : ℕ) (asks : List AskPart) : Type 0 where

@@ -1,12 +1,13 @@
 -- What the client's store and its answer are, as calls give them.
 use Rattle.std.proofs.Common.{[], subst}
-use Rattle.std.specs.Prelude.{ℕ, ◌≡◌, ◌||◌, ◌⊎◌, List, map, filter}
-use Rattle.std.specs.List.{All}
+use Rattle.std.specs.Prelude.{ℕ, ◌≡◌, ◌⊎◌, List, filter}
+use Rattle.std.specs.List.{All, AllZip}
 use Rattle.std.proofs.lemmas.List.Elements.{All-nil}
 use Rattle.sr_cell.specs.declared.table.Table.{Table}
 use Rattle.sr_cell.specs.Cells.{Row}
 use Rattle.sr_model.specs.Statements.{Tables}
-use Rattle.sr_model.specs.Queries.{rows_at}
+use Rattle.sr_model.specs.Queries as model
+use Rattle.sr_model.specs.Queries.{rows_of}
 use Rattle.sr_query.specs.declared.query.Part.{Part}
 use Rattle.sr_query.specs.declared.query.Query.{Query}
 use Rattle.sr_history.specs.declared.mark.Mark.{Mark}
@@ -19,14 +20,13 @@ use Rattle.sr_store.specs.Stores.{IsStore}
 use Rattle.sr_store.specs.Answered.{giving_way, HaveArrived, IsGivenUp, rects_on}
 use Rattle.sr_store.specs.Fitted.{lasts_of, IsAnswered}
 use Rattle.sr_store.specs.Renewing.{IsCutFrom}
-use Rattle.sr_join.specs.Found.{cells_of}
-use Rattle.sr_client.specs.Answering.{is_kept, is_new, IsOnePart, HaveRows, BringRows}
+use Rattle.sr_join.specs.Lent.{IsJoinable}
+use Rattle.sr_client.specs.Answering.{HaveRows, IsThere}
 
--- the rows that a query of one part answers
+-- the rows that a query answers
 abbrev pub Answers : Query → List Region → List Arrival → List Row → Type 0
-Answers query regions arrivals rows = (schema : List Table) (tables : Tables) (part : Part) → IsOnePart schema tables query part
-    → HaveRows schema tables regions → BringRows schema tables part arrivals
-    → rows ≡ map (cells_of query.output) (filter (λ p. is_kept part regions p || is_new part arrivals p) (rows_at tables part.table))
+Answers query regions arrivals rows = (schema : List Table) (tables : Tables) (meaning : model.Query) → IsJoinable schema tables query meaning
+    → HaveRows schema tables regions → AllZip (IsThere schema tables regions arrivals) query.parts meaning.parts → rows ≡ rows_of meaning tables
 
 -- the store after an answer
 pub record IsAfter (schema : List Table) (number : ℕ) (parts : List Part) (arrivals : List Arrival) (old new : Store) (marks : List Mark) : Type 0 where

@@ -1,25 +1,32 @@
 -- What regions cover of a part.
 use Rattle.std.proofs.Common.{◌≡◌, ℕ, Bool, true, false, List, [], ◌∷◌, refl, ◌∙◌, ap, subst, arith}
 use Rattle.std.specs.Prelude.{not, ◌&&◌, ◌||◌, filter}
-use Rattle.std.specs.List.{list_all}
+use Rattle.std.specs.List.{list_all, AllZip}
+use Rattle.std.proofs.lemmas.Bool.{and_parts}
+use Rattle.std.proofs.lemmas.List.Elements.{All-nil}
 use Rattle.sr_cell.specs.declared.table.Table.{Table}
 use Rattle.sr_cell.specs.declared.table.Column.{Column}
 use Rattle.sr_cell.specs.Cells.{Row}
 use Rattle.sr_cell.specs.Columns.{table_at, is_point}
 use Rattle.sr_box.specs.Points.{in_any, HasNoPoint}
+use Rattle.sr_message.specs.declared.message.AskPart.{AskPart}
 use Rattle.sr_model.specs.Queries as model
-use Rattle.sr_model.specs.Queries.{points_of}
+use Rattle.sr_model.specs.Queries.{points_of, rows_at}
+use Rattle.sr_model.specs.Statements.{Tables}
 use Rattle.sr_query.specs.Bound.{IsPart}
 use Rattle.sr_query.specs.declared.query.Part.{Part}
 use Rattle.sr_history.specs.declared.mark.Mark.{Mark}
 use Rattle.sr_history.specs.Marks.{is_held, is_covered}
-use Rattle.sr_history.specs.Rests.{rest_of}
+use Rattle.sr_history.specs.Rests.{rest_of, Asks, nothing, covered, asked}
+use Rattle.sr_lines.specs.Sound.{is_sound_part}
 use Rattle.sr_region.specs.declared.region.Region.{Region}
 use Rattle.sr_store.specs.Classes.{Stamps, Keeps}
+use Rattle.sr_store.specs.Told.{told_of}
 use Rattle.sr_store.specs.Stores.{cover_of}
 use Rattle.sr_store.proofs.Covering.{cover_is}
-use Rattle.sr_client.specs.Answering.{is_kept, is_new}
-use Rattle.sr_client.proofs.MeantLemmas.{part-points}
+use Rattle.sr_client.specs.Answering.{is_kept, is_new, Suits, IsThere}
+use Rattle.sr_client.proofs.Calls.{none-arrived}
+use Rattle.sr_client.proofs.MeantLemmas.{part-points, part-over}
 
 -- of points, two tests that agree on them keep the same ones
 pub filter-points : (cs : List Column) (f g : Row → Bool) (rows : List Row) → list_all (is_point cs) rows ≡ true → ((p : Row) → is_point cs p ≡ true → f p ≡ g p) → filter f rows ≡ filter g rows
@@ -44,3 +51,21 @@ kept-all schema marks stamps regions part m keeps is none p point =
   where
     by : (i c : Bool) → (i && not c) ≡ false → ((i && c) || (i && false)) ≡ i
     by i c h = grind (arith, h)
+
+-- where nothing is left to ask of parts, all their points are held
+pub all-held : (schema : List Table) (tables : Tables) (marks : List Mark) (stamps : Stamps) (regions : List Region) (parts : List Part) (meant : List model.Part) (asks : List AskPart) → Asks schema marks meant asks → asks ≡ []
+    → ((t : ℕ) → list_all (is_point (table_at schema t).columns) (rows_at tables t) ≡ true) → Keeps schema (is_held marks) stamps regions → AllZip (IsPart schema) parts meant
+    → list_all (is_sound_part schema) meant ≡ true → AllZip (IsThere schema tables regions []) parts meant
+all-held schema tables marks stamps regions [] meant asks nothing none points keeps zip sound = tt
+all-held schema tables marks stamps regions (p ∷ parts) meant asks nothing none points keeps zip sound = absurd zip
+all-held schema tables marks stamps regions [] meant asks (covered m others more free rest) none points keeps zip sound = absurd zip
+all-held schema tables marks stamps regions (p ∷ parts) meant asks (covered m others more free rest) none points keeps zip sound =
+    let s = and_parts (is_sound_part schema m) (list_all (is_sound_part schema) others) sound in (
+      record {
+        over = part-over schema tables p m zip.0 s.0 points;
+        brings = record { suit = All-nil (Suits schema p); arrived = none-arrived (told_of tables) };
+        points = kept-all schema marks stamps regions p m keeps zip.0 free;
+      },
+      all-held schema tables marks stamps regions parts others more rest none points keeps zip.1 s.1,
+    )
+all-held schema tables marks stamps regions parts meant asks (asked m others ask more is rest) none points keeps zip sound = absurd (cc)

@@ -1,10 +1,10 @@
 -- Rects that begin and end only where tests of some queries do.
-use Rattle.std.proofs.Common.{◌≡◌, ℕ, ◌+◌, Bool, true, false, cond, List, [], ◌∷◌, ◌++◌, refl, sym, ◌∙◌, ap, subst, arith, append-nil}
+use Rattle.std.proofs.Common.{◌≡◌, ℕ, ◌+◌, Bool, true, false, cond, List, [], ◌∷◌, ◌++◌, refl, sym, ◌∙◌, ap, subst, arith, append-nil, append_assoc}
 use Rattle.std.specs.Prelude.{◌==◌, ◌&&◌, filter, flat_map}
-use Rattle.std.specs.List.{All, AllByRecursion}
+use Rattle.std.specs.List.{All, AllZip, AllByRecursion}
 use Rattle.std.proofs.lemmas.Bool.Decides.{nat_tests}
 use Rattle.std.proofs.lemmas.Grind.{flat_map-append}
-use Rattle.std.proofs.lemmas.List.Elements.{All-head, All-tail, All-weaker, filter-append}
+use Rattle.std.proofs.lemmas.List.Elements.{All-nil, All-cons, All-head, All-tail, All-weaker, filter-append}
 use Rattle.sr_cell.specs.declared.table.Column.{Column}
 use Rattle.sr_cell.specs.declared.table.Table.{Table}
 use Rattle.sr_cell.specs.Attrs.{includes}
@@ -95,7 +95,7 @@ pub asks-more : (schema : List Table) (a b : List Query) (asks : List AskPart) �
 asks-more schema a b asks ends =
     All-weaker (λ (ask : AskPart). EndWith schema a ask.table ask.rects) (λ (ask : AskPart). EndWith schema (a ++ b) ask.table ask.rects) (λ ask e. end-more schema a b ask.table ask.rects e) asks ends
 
--- ---- the query's own part
+-- ---- the query's own parts
 
 end-with : (c : ℕ) (columns : List Column) (condition : Cond) (r : Rect) → EndsWithTests c columns condition r → EndsWith c columns condition r
 end-with c [] condition r h = tt
@@ -106,19 +106,31 @@ all-end-with : (columns : List Column) (condition : Cond) (rects : List Rect) �
 all-end-with columns condition [] a = tt
 all-end-with columns condition (r ∷ rects) a = (end-with 0 columns condition r a.0, all-end-with columns condition rects a.1)
 
-own-parts : (q : Query) (m : model.Part) → q.parts ≡ m ∷ [] → parts_on m.table (q ∷ []) ≡ m ∷ []
-own-parts q m own =
-    let one : flat_map (λ (x : Query). x.parts) (q ∷ []) ≡ m ∷ [] = append-nil q.parts ∙ own in
+abbrev is_of : ℕ → model.Part → Bool
+is_of t part = part.table == t
+
+own-parts : (q : Query) (before after : List model.Part) (m : model.Part) → q.parts ≡ before ++ m ∷ after → parts_on m.table (q ∷ []) ≡ filter (is_of m.table) before ++ m ∷ filter (is_of m.table) after
+own-parts q before after m own =
+    let one : flat_map (λ (x : Query). x.parts) (q ∷ []) ≡ before ++ m ∷ after = append-nil q.parts ∙ own in
     let same : (m.table == m.table) ≡ true = grind (arith, nat_tests) in
-    ap (filter (λ part. part.table == m.table)) one ∙ ap (λ b. cond b (m ∷ []) []) same
+    ap (filter (λ part. part.table == m.table)) one
+    ∙ (filter-append (λ (part : model.Part). part.table == m.table) before (m ∷ after)
+    ∙ ap (λ b. filter (is_of m.table) before ++ cond b (m ∷ filter (is_of m.table) after) (filter (is_of m.table) after)) same)
 
-own-end : (schema : List Table) (q : Query) (part : Part) (m : model.Part) → q.parts ≡ m ∷ [] → IsPart schema part m → EndWith schema (q ∷ []) part.table part.rects
-own-end schema q part m own is =
+own-end : (schema : List Table) (q : Query) (before after : List model.Part) (part : Part) (m : model.Part) → q.parts ≡ before ++ m ∷ after → IsPart schema part m → EndWith schema (q ∷ []) part.table part.rects
+own-end schema q before after part m own is =
     subst (λ t. EndWith schema (q ∷ []) t part.rects) (sym is.table)
-    (subst (λ parts. AllEndAmong (table_at schema m.table).columns parts part.rects) (sym (own-parts q m own))
+    (subst (λ parts. AllEndAmong (table_at schema m.table).columns parts part.rects) (sym (own-parts q before after m own))
+    (more_parts_keep_ends (table_at schema m.table).columns (filter (is_of m.table) before) (m ∷ []) (filter (is_of m.table) after) part.rects
     (parts_have_their_ends (table_at schema m.table).columns (m ∷ []) m part.rects (0, omega arith, refl)
-    (all-end-with (table_at schema m.table).columns m.condition part.rects is.rects.ends)))
+    (all-end-with (table_at schema m.table).columns m.condition part.rects is.rects.ends))))
 
--- the part of the last query ends where tests of the queries do
-pub part-end : (schema : List Table) (queries : List Query) (q : Query) (part : Part) (m : model.Part) → q.parts ≡ m ∷ [] → IsPart schema part m → EndWith schema (queries ++ q ∷ []) part.table part.rects
-part-end schema queries q part m own is = end-last schema queries (q ∷ []) part.table part.rects (own-end schema q part m own is)
+-- the parts of the last query end where tests of the queries do; these stand before them
+pub parts-end : (schema : List Table) (queries : List Query) (q : Query) (before : List model.Part) (parts : List Part) (meant : List model.Part) → q.parts ≡ before ++ meant → AllZip (IsPart schema) parts meant
+    → PartsEnd schema (queries ++ q ∷ []) parts
+parts-end schema queries q before [] meant own zip = All-nil (λ (part : Part). EndWith schema (queries ++ q ∷ []) part.table part.rects)
+parts-end schema queries q before (p ∷ parts) [] own zip = absurd zip
+parts-end schema queries q before (p ∷ parts) (m ∷ meant) own zip =
+    All-cons (λ (part : Part). EndWith schema (queries ++ q ∷ []) part.table part.rects) p parts
+    (end-last schema queries (q ∷ []) p.table p.rects (own-end schema q before meant p m own zip.0))
+    (parts-end schema queries q (before ++ m ∷ []) parts meant (own ∙ sym (append_assoc before (m ∷ []) meant)) zip.1)

@@ -1,6 +1,6 @@
 -- How a query would be answered from the regions of a client is what the rules say of its past.
-use Rattle.std.proofs.Common.{◌≡◌, ℕ, zero, suc, ◌+◌, ◌*◌, ◌<◌, ◌≤◌, Bool, true, false, List, [], ◌∷◌, ◌++◌, map, length, take, get_or, refl, sym, ◌∙◌, ap, subst, arith, inl, inr}
-use Rattle.std.specs.Prelude.{not, ◌&&◌, ◌==◌, nat_eq, ◌⊎◌}
+use Rattle.std.proofs.Common.{◌≡◌, ℕ, zero, suc, ◌+◌, ◌*◌, ◌<◌, Bool, true, false, List, [], ◌∷◌, ◌++◌, map, length, take, get_or, refl, sym, ◌∙◌, ap, subst, arith, inl, inr, Option, Some, None}
+use Rattle.std.specs.Prelude.{not, ◌&&◌, ◌==◌, nat_eq}
 use Rattle.std.specs.List.{list_all, All, AllZip}
 use Rattle.std.proofs.lemmas.Bool.Decides.{nat_tests}
 use Rattle.std.proofs.lemmas.List.Elements.{All-nil, All-head, All-tail}
@@ -9,23 +9,21 @@ use Rattle.sr_cell.specs.declared.table.Table.{Table}
 use Rattle.sr_cell.specs.Attrs.{includes}
 use Rattle.sr_cell.specs.Cells.{Row}
 use Rattle.sr_cell.specs.Columns.{table_at, is_point}
-use Rattle.sr_box.specs.Points.{Rect, in_any, times, rect_fits, HasPoint, HasNoPoint}
+use Rattle.sr_box.specs.Points.{Rect, in_any, times, rect_fits, HasNoPoint}
 use Rattle.sr_union.specs.Grid.{AreCutFrom}
 use Rattle.sr_union.proofs.Low.{has_point}
 use Rattle.sr_union.proofs.Times.{in_any-times}
 use Rattle.sr_message.specs.declared.message.AskPart.{AskPart}
 use Rattle.sr_model.specs.Queries as model
 use Rattle.sr_model.specs.Queries.{points_of}
-use Rattle.sr_model.specs.Statements.{Tables}
-use Rattle.sr_query.specs.Bound.{is_table, IsPart}
+use Rattle.sr_query.specs.Bound.{IsPart}
 use Rattle.sr_query.specs.declared.query.Part.{Part}
 use Rattle.sr_query.specs.declared.query.Query.{Query}
 use Rattle.sr_history.specs.declared.mark.Mark.{Mark}
 use Rattle.sr_history.specs.Marks.{is_held, HoldsNothing}
 use Rattle.sr_history.specs.Classes.{Numbered, stamp, in_class}
-use Rattle.sr_history.specs.Rests.{rest_of, IsRest, Asks, asked}
+use Rattle.sr_history.specs.Rests.{IsRest, Asks, asked}
 use Rattle.sr_history.specs.Rests as rests
-use Rattle.sr_lines.specs.Sound.{is_sound_part}
 use Rattle.sr_region.specs.declared.region.Region.{Region}
 use Rattle.sr_store.specs.Classes.{ascends, Keeps}
 use Rattle.sr_store.specs.Past.{class_of}
@@ -34,24 +32,24 @@ use Rattle.sr_store.proofs.Classing.{IsSolid, all_solid, HasClass, have_classes,
 use Rattle.sr_explain.specs.declared.explanation.ProbeView.{ProbeView}
 use Rattle.sr_explain.specs.declared.explanation.ExplainPart.{ExplainPart}
 use Rattle.sr_explain.specs.declared.explanation.Explanation.{Explanation}
-use Rattle.sr_explain.specs.Explained.{served_by, IsProbe, ProbesOf, ExplainsPart, MayDropFirst, marks_then, count_in}
+use Rattle.sr_explain.specs.Explained.{served_by, IsProbe, ProbesOf, ExplainsPart, marks_then, count_in}
 use Rattle.sr_explain.specs.Explained as explain
 use Rattle.sr_session.specs.Sessions.{Database, tables_of}
 use Rattle.sr_client.specs.Asking.{AsksRest, whole_asks}
 use Rattle.sr_client.specs.Bound.{IsMeaning}
 use Rattle.sr_client.specs.Cutting.{IsOver}
-use Rattle.sr_client.specs.Explaining.{IsAway, IsProbeOf, AreProbes, nothing, away, probed, IsRestIn, IsExplained, IsExplainedOne, Fall, Explains}
-use Rattle.sr_client.specs.Explaining as code
+use Rattle.sr_client.specs.Explaining.{IsAway, IsProbeOf, AreProbes, nothing, away, probed, entry_for, IsRestIn, IsExplained, Fall, Explains}
 use Rattle.sr_client.specs.declared.client.Client.{Client}
-use Rattle.sr_client.specs.Stands.{Hidden, past_of, Facts, Stands, basis_of}
+use Rattle.sr_client.specs.Stands.{Hidden, past_of, Facts, basis_of}
 use Rattle.sr_client.proofs.AskLemmas.{asks-whole}
 use Rattle.sr_client.proofs.Covers.{left-true, same-number}
 use Rattle.sr_client.proofs.FallLemmas.{are-victims}
 use Rattle.sr_client.proofs.Items.{take-item}
-use Rattle.sr_client.proofs.MeantLemmas.{IsOneQuery, one-query, are-sound, IsOneAsk, one-ask}
+use Rattle.sr_client.proofs.EntryLemmas.{IsFound, all-found}
+use Rattle.sr_client.proofs.MeantLemmas.{are-sound, tables-differ}
 use Rattle.sr_client.proofs.OverLemmas.{on, IsHere, over}
 use Rattle.sr_client.proofs.Renewal.{HaveFirst}
-use Rattle.sr_client.proofs.SendLemmas.{large-one, load-heavy}
+use Rattle.sr_client.proofs.SendLemmas.{load-heavy}
 use Rattle.sr_client.proofs.TableLemmas.{have-first}
 
 -- ---- probes
@@ -147,32 +145,40 @@ entry-asks : (schema : List Table) (marks : List Mark) (m : model.Part) (t a : �
 entry-asks schema marks m t a [] rest = absurd (let s = rest.some in let e = rest.same s.0 s.1 ∙ s.2 in cc)
 entry-asks schema marks m t a (r ∷ rects) rest = asked m [] (ask_from t a (r ∷ rects)) [] rest rests.nothing
 
-rest-asked : (schema : List Table) (marks : List Mark) (part : Part) (m : model.Part) (asks : List AskPart) (e : ExplainPart) → part.table ≡ m.table → e.table ≡ part.table
-    → Asks schema marks (m ∷ []) asks → IsRestIn asks e.attrs e.rest → Asks schema marks (m ∷ []) (explain.asked_of e)
-rest-asked schema marks part m [] e table own h is = subst (λ rects. Asks schema marks (m ∷ []) (explain.entry_of e.table e.attrs rects)) (sym is) h
-rest-asked schema marks part m (a ∷ asks) e table own h is =
-    let one = one-ask schema marks (m ∷ []) (a ∷ asks) m h refl (λ none. absurd (cc)) in
-    let same : a ≡ one.ask = let e = one.one in cc in
-    let rest : IsRest schema marks m a = subst (IsRest schema marks m) (sym same) one.rest in
+rest-asked : (schema : List Table) (marks : List Mark) (part : Part) (m : model.Part) (o : Option AskPart) (e : ExplainPart) → part.table ≡ m.table → e.table ≡ part.table
+    → IsFound schema marks m o → IsRestIn o e.attrs e.rest → Asks schema marks (m ∷ []) (explain.asked_of e)
+rest-asked schema marks part m None e table own free is = subst (λ rects. Asks schema marks (m ∷ []) (explain.entry_of e.table e.attrs rects)) (sym is) (rests.covered m [] [] free rests.nothing)
+rest-asked schema marks part m (Some a) e table own rest is =
     let t : a.table ≡ e.table = rest.table ∙ (sym table ∙ sym own) in
     let path : a ≡ ask_from e.table e.attrs e.rest = ap (λ t. ask_from t a.attrs a.rects) t ∙ (ap (λ n. ask_from e.table n a.rects) (sym is.0) ∙ ap (ask_from e.table e.attrs) (sym is.1)) in
     entry-asks schema marks m e.table e.attrs e.rest (subst (IsRest schema marks m) path rest)
 
 -- ---- a part
 
-explains-part : (schema : List Table) (marks : List Mark) (queries : List Numbered) (regions : List Region) (part : Part) (m : model.Part) (asks : List AskPart) (e : ExplainPart)
-    → HaveFirst schema → All (IsOfSchema schema) regions → ascends regions ≡ true → Keeps schema (is_held marks) (stamp queries) regions → IsPart schema part m
-    → Asks schema marks (m ∷ []) asks → IsExplained regions asks part e → ExplainsPart schema marks queries m e
-explains-part schema marks queries regions part m asks e first each order keeps is rest h = record {
-  table = h.table ∙ is.table;
-  need = h.need ∙ is.need;
-  probes = (
-    map class_of regions,
-    are_classes schema marks queries regions first each order keeps,
-    probes-of schema marks queries part m is first regions e.probes each (have_classes schema marks queries regions order keeps) h.probes,
-  );
-  rest = rest-asked schema marks part m asks e is.table h.table rest h.rest;
-}
+module _ (schema : List Table) (marks : List Mark) (queries : List Numbered) (regions : List Region) (asks : List AskPart) (first : HaveFirst schema) (each : All (IsOfSchema schema) regions)
+    (order : ascends regions ≡ true) (keeps : Keeps schema (is_held marks) (stamp queries) regions) where
+  explains-part : (part : Part) (m : model.Part) (e : ExplainPart) → IsPart schema part m → IsFound schema marks m (entry_for m.table asks) → IsExplained regions asks part e → ExplainsPart schema marks queries m e
+  explains-part part m e is found h = record {
+    table = h.table ∙ is.table;
+    need = h.need ∙ is.need;
+    probes = (
+      map class_of regions,
+      are_classes schema marks queries regions first each order keeps,
+      probes-of schema marks queries part m is first regions e.probes each (have_classes schema marks queries regions order keeps) h.probes,
+    );
+    rest = rest-asked schema marks part m (entry_for m.table asks) e is.table h.table found (subst (λ t. IsRestIn (entry_for t asks) e.attrs e.rest) is.table h.rest);
+  }
+
+  -- and so each
+  explains-parts : (parts : List Part) (meant : List model.Part) (es : List ExplainPart) → AllZip (IsPart schema) parts meant → All (λ m. IsFound schema marks m (entry_for m.table asks)) meant
+      → AllZip (IsExplained regions asks) parts es → AllZip (ExplainsPart schema marks queries) meant es
+  explains-parts [] [] [] zip found h = tt
+  explains-parts [] [] (e ∷ es) zip found h = absurd h
+  explains-parts [] (m ∷ meant) es zip found h = absurd zip
+  explains-parts (p ∷ parts) [] es zip found h = absurd zip
+  explains-parts (p ∷ parts) (m ∷ meant) [] zip found h = absurd h
+  explains-parts (p ∷ parts) (m ∷ meant) (e ∷ es) zip found h =
+      (explains-part p m e zip.0 (All-head (λ m. IsFound schema marks m (entry_for m.table asks)) m meant found) h.0, explains-parts parts meant es zip.1 (All-tail (λ m. IsFound schema marks m (entry_for m.table asks)) m meant found) h.1)
 
 nothing-keeps : (schema : List Table) (queries : List Numbered) → Keeps schema (is_held []) (stamp queries) []
 nothing-keeps schema queries = record { points = λ t a p point. refl; stamped = All-nil _ }
@@ -191,19 +197,13 @@ some-held schema marks queries (g ∷ gs) solid has some none =
 
 module _ (c : Client) (q : Query) (m : model.Query) (e : Explanation) (means : IsMeaning c.schema q m) (version : e.version ≡ c.version)
     (fall : Fall c.schema c.store.limits.policy c.store.last c.store.regions e.victims) where
-  one : IsOneQuery c.schema q m
-  one = one-query c.schema q m means
-
-  -- the part by itself
-  one-part : (marks : List Mark) (queries : List Numbered) (regions : List Region) (asks : List AskPart) → HaveFirst c.schema → All (IsOfSchema c.schema) regions → ascends regions ≡ true
-      → Keeps c.schema (is_held marks) (stamp queries) regions → AsksRest c.schema regions q.parts asks → IsExplainedOne regions asks q e.parts
+  -- the parts by themselves
+  each-part : (marks : List Mark) (queries : List Numbered) (regions : List Region) (asks : List AskPart) → HaveFirst c.schema → All (IsOfSchema c.schema) regions → ascends regions ≡ true
+      → Keeps c.schema (is_held marks) (stamp queries) regions → AsksRest c.schema regions q.parts asks → AllZip (IsExplained regions asks) q.parts e.parts
       → AllZip (ExplainsPart c.schema marks queries) m.parts e.parts
-  one-part marks queries regions asks first each order keeps rest h =
+  each-part marks queries regions asks first each order keeps rest h =
       let all : Asks c.schema marks m.parts asks = rest marks (stamp queries) m.parts keeps means.query.parts (are-sound c.schema q m means) in
-      let alone : Asks c.schema marks (one.meant ∷ []) asks = subst (λ ps. Asks c.schema marks ps asks) one.meant_parts all in
-      let holds = explains-part c.schema marks queries regions one.part one.meant asks h.0 first each order keeps one.is alone (h.2 one.part one.parts) in
-      subst (λ ms. AllZip (ExplainsPart c.schema marks queries) ms e.parts) (sym one.meant_parts)
-      (subst (AllZip (ExplainsPart c.schema marks queries) (one.meant ∷ [])) (sym h.1) (holds, tt))
+      explains-parts c.schema marks queries regions asks first each order keeps q.parts m.parts e.parts means.query.parts (all-found c.schema marks m.parts asks all (tables-differ c.schema q m means)) h
 
   victims-are : (h : Hidden) → Facts c h → (db : Database) → IsHere db c
       → explain.AreVictims c.store.limits.policy c.schema (count_in (tables_of db c.version) h.marks h.queries) h.queries h.marks e.victims
@@ -211,14 +211,14 @@ module _ (c : Client) (q : Query) (m : model.Query) (e : Explanation) (means : I
       are-victims c.schema (tables_of db c.version) c.store.limits.policy h.marks h.queries c.store.last c.store.regions e.victims f.tables (here.sound.tables c.version here.within) f.store f.keeps
       here.are_true f.last fall
 
-  module _ (asks : List AskPart) (light : e.pieces ≡ false) (rest : AsksRest c.schema c.store.regions q.parts asks) (parts : IsExplainedOne c.store.regions asks q e.parts) where
+  module _ (asks : List AskPart) (light : e.pieces ≡ false) (rest : AsksRest c.schema c.store.regions q.parts asks) (parts : AllZip (IsExplained c.store.regions asks) q.parts e.parts) where
     trimmed-here : (h : Hidden) → Facts c h → (db : Database) → IsHere db c
         → explain.Explains (basis_of (on c db) c.store.limits) (count_in (tables_of db c.version) h.marks h.queries) (past_of c h) m e
     trimmed-here h f db here = record {
       version = version;
       pieces = λ heavy. absurd (let wrong : true ≡ false = sym heavy ∙ light in cc);
       parts = subst (λ b. AllZip (ExplainsPart c.schema (marks_then b h.marks) h.queries) m.parts e.parts) (sym light)
-          (one-part h.marks h.queries c.store.regions asks (have-first c.schema f.tables) f.store.each f.store.order f.keeps rest parts);
+          (each-part h.marks h.queries c.store.regions asks (have-first c.schema f.tables) f.store.each f.store.order f.keeps rest parts);
       victims = victims-are h f db here;
     }
 
@@ -226,13 +226,10 @@ module _ (c : Client) (q : Query) (m : model.Query) (e : Explanation) (means : I
     explains-trimmed =
         over c (λ db past. explain.Explains (basis_of db c.store.limits) (count_in (tables_of db past.version) past.marks past.queries) past m e) trimmed-here
 
-  module _ (large : IsOver c.schema c.store.regions q.parts) (parts : IsExplainedOne [] (whole_asks q.parts) q e.parts)
+  module _ (large : IsOver c.schema c.store.regions q.parts) (parts : AllZip (IsExplained [] (whole_asks q.parts)) q.parts e.parts)
       (some : e.pieces ≡ true → c.store.regions ≡ [] → ⊥) (none : e.pieces ≡ false → c.store.regions ≡ []) where
-    whole-rest : HaveFirst c.schema → AsksRest c.schema [] q.parts (whole_asks q.parts)
-    whole-rest first = subst (λ ps. AsksRest c.schema [] ps (whole_asks ps)) (sym one.parts) (asks-whole c.schema one.part one.meant one.is one.sound first)
-
     from-nothing : (marks : List Mark) (queries : List Numbered) → HaveFirst c.schema → Keeps c.schema (is_held marks) (stamp queries) [] → AllZip (ExplainsPart c.schema marks queries) m.parts e.parts
-    from-nothing marks queries first keeps = one-part marks queries [] (whole_asks q.parts) first (All-nil (IsOfSchema c.schema)) refl keeps (whole-rest first) parts
+    from-nothing marks queries first keeps = each-part marks queries [] (whole_asks q.parts) first (All-nil (IsOfSchema c.schema)) refl keeps (asks-whole c.schema q.parts first) parts
 
     whole-here : (h : Hidden) → Facts c h → (db : Database) → IsHere db c
         → explain.Explains (basis_of (on c db) c.store.limits) (count_in (tables_of db c.version) h.marks h.queries) (past_of c h) m e
@@ -241,7 +238,7 @@ module _ (c : Client) (q : Query) (m : model.Query) (e : Explanation) (means : I
       pieces = λ heavy. record {
         some = some-held c.schema h.marks h.queries c.store.regions (all_solid c.schema c.store.regions (have-first c.schema f.tables) f.store.each)
             (have_classes c.schema h.marks h.queries c.store.regions f.store.order f.keeps) (some heavy);
-        heavy = load-heavy c h q m one f (large-one c.schema c.store.regions q.parts one.part one.parts large);
+        heavy = load-heavy c h q m means f large;
       };
       parts = by e.pieces refl;
       victims = victims-are h f db here;

@@ -1,10 +1,14 @@
 -- Where the store would have too many pieces, the load of the past is too high.
-use Rattle.std.proofs.Common.{◌≡◌, ℕ, ◌+◌, ◌*◌, ◌≤◌, ◌<◌, zero, suc, Bool, true, false, List, [], ◌∷◌, length, refl, sym, ◌∙◌, ap, subst, arith, inl, inr}
-use Rattle.std.specs.Prelude.{IsTrue, not, ◌&&◌, ◌||◌, ◌==◌, ◌⊎◌, max, if◌then◌else◌}
-use Rattle.std.specs.List.{list_all, list_any, All}
-use Rattle.std.proofs.Math.Nat.{le-max_left}
+use Rattle.std.proofs.Common.{◌≡◌, ℕ, ◌+◌, ◌*◌, ◌≤◌, ◌<◌, zero, suc, Bool, true, false, List, [], ◌∷◌, ◌++◌, map, length, refl, sym, ◌∙◌, ap, subst, arith, inl, inr}
+use Rattle.std.specs.Prelude.{IsTrue, not, ◌&&◌, ◌||◌, ◌==◌, ◌⊎◌, max, sum_by, if◌then◌else◌}
+use Rattle.std.specs.List.{list_all, list_any, All, AllZip}
+use Rattle.std.specs.Cmp.Derive.{both_true}
+use Rattle.std.proofs.Math.Nat.{le-max_left, le-max_right, add-mul}
+use Rattle.std.proofs.lemmas.Bool.{and_parts}
 use Rattle.std.proofs.lemmas.Bool.Decides.{nat_tests}
 use Rattle.std.proofs.lemmas.Nat.{mul-le}
+use Rattle.std.proofs.lemmas.List.Folds.{list_all-append}
+use Rattle.std.proofs.lemmas.List.Sums.{sum_by-cons}
 use Rattle.std.proofs.lemmas.List.Elements.{All-head, All-tail}
 use Rattle.sr_cell.specs.declared.table.Table.{Table}
 use Rattle.sr_cell.specs.Cells.{Row}
@@ -16,6 +20,10 @@ use Rattle.sr_union.proofs.Times.{in_any-times}
 use Rattle.sr_message.specs.declared.message.AskPart.{AskPart}
 use Rattle.sr_model.specs.Queries.{Query}
 use Rattle.sr_model.specs.Queries as model
+use Rattle.sr_query.specs.Bound.{IsPart}
+use Rattle.sr_query.specs.Joined.{are_different}
+use Rattle.sr_query.specs.declared.query.Part.{Part}
+use Rattle.sr_lines.specs.Sound.{is_sound_part}
 use Rattle.sr_history.specs.declared.mark.Mark.{Mark}
 use Rattle.sr_history.specs.Marks.{is_held}
 use Rattle.sr_history.specs.Load.{ends_grid, parts_on, AreSets, count_of, load_from, IsHeavy}
@@ -24,9 +32,13 @@ use Rattle.sr_history.proofs.Ends.{grids_are_few}
 use Rattle.sr_region.specs.declared.region.Region.{Region}
 use Rattle.sr_store.specs.declared.store.Arrival.{Arrival}
 use Rattle.sr_store.specs.Classes.{Stamps, is_of, occurs, Keeps}
-use Rattle.sr_store.specs.Stores.{IsOfSchema}
+use Rattle.sr_store.specs.Stores.{IsOfSchema, cover_of}
 use Rattle.sr_store.specs.Answered.{is_used, are_once, weight_from}
-use Rattle.sr_client.specs.Cutting.{EndWith}
+use Rattle.sr_client.specs.Cutting.{EndWith, RegionsEnd, PartsEnd, IsOver, grid_with, grid_of_part}
+use Rattle.sr_client.proofs.Covers.{cover-fits}
+use Rattle.sr_client.proofs.EndLemmas.{end-append, cover-end}
+use Rattle.sr_client.proofs.MeantLemmas.{part-fits, part-table}
+use Rattle.sr_client.proofs.PartsLemmas.{is_named, first-differs, rest-differs}
 use Rattle.sr_client.proofs.Renewal.{HaveFirst}
 
 -- ---- the sets of columns
@@ -178,15 +190,110 @@ load-at counts queries (table ∷ schema) t s (suc i) e l =
     behind : (n m k : ℕ) → k ≤ m → k ≤ n + m
     behind n m k le = omega (arith, le)
 
--- a table that the query names, with too large a grid
-pub heavy-table : (schema : List Table) (marks : List Mark) (q : Query) (queries : List Query) (t : ℕ) (rects : List Rect) → t < length schema → list_any (λ (part : model.Part). part.table == t) q.parts ≡ true
-    → list_all (rect_fits (table_at schema t).columns) rects ≡ true → EndWith schema queries t rects → 16384 < grid (table_at schema t).columns rects → IsHeavy schema marks [] q queries
-heavy-table schema marks q queries t rects below named fit ends large = (
+-- ---- tables side by side
+
+-- how many of the parts are of the table
+abbrev times_in : List model.Part → ℕ → ℕ
+times_in [] t = 0
+times_in (m ∷ ms) t = (if m.table == t then 1 else 0) + times_in ms t
+
+lacks-none : (ms : List model.Part) (t : ℕ) → is_named t ms ≡ false → times_in ms t ≡ 0
+lacks-none [] t none = refl
+lacks-none (m ∷ ms) t none = go (m.table == t) none (lacks-none ms t)
+  where
+    go : (b : Bool) → (b || is_named t ms) ≡ false → (is_named t ms ≡ false → times_in ms t ≡ 0) → (if b then 1 else 0) + times_in ms t ≡ 0
+    go true none ih = absurd (cc)
+    go false none ih = let rest = ih none in omega (arith, rest)
+
+-- of different tables each is named once at most
+times-few : (ms : List model.Part) (t : ℕ) → are_different (map (λ (m : model.Part). m.table) ms) ≡ true → times_in ms t ≤ (if is_named t ms then 1 else 0)
+times-few [] t differ = omega arith
+times-few (m ∷ ms) t differ = go (m.table == t) refl (times-few ms t (rest-differs m ms differ))
+  where
+    one : (n : ℕ) → n ≡ 0 → 1 + n ≤ 1
+    one n none = omega (arith, none)
+
+    still : (n k : ℕ) → n ≤ k → 0 + n ≤ k
+    still n k le = omega (arith, le)
+
+    go : (b : Bool) → (m.table == t) ≡ b → times_in ms t ≤ (if is_named t ms then 1 else 0) → (if b then 1 else 0) + times_in ms t ≤ (if b || is_named t ms then 1 else 0)
+    go true is ih =
+        let same : m.table ≡ t = grind (arith, nat_tests, is) in
+        one (times_in ms t) (lacks-none ms t (subst (λ n. is_named n ms ≡ false) same (first-differs m ms differ)))
+    go false is ih = still (times_in ms t) (if is_named t ms then 1 else 0) ih
+
+load-le : (f g : ℕ → ℕ) (queries : List Query) → ((t : ℕ) → f t ≤ g t) → (schema : List Table) (s : ℕ) → load_from f s schema queries ≤ load_from g s schema queries
+load-le f g queries few [] s = omega arith
+load-le f g queries few (table ∷ schema) s =
+    both (f s * ends_grid 0 table.columns (parts_on s queries)) (load_from f (s + 1) schema queries) (g s * ends_grid 0 table.columns (parts_on s queries)) (load_from g (s + 1) schema queries)
+    (mul-le (f s) (ends_grid 0 table.columns (parts_on s queries)) (g s) (ends_grid 0 table.columns (parts_on s queries)) (few s) (omega arith))
+    (load-le f g queries few schema (s + 1))
+  where
+    both : (n m k l : ℕ) → n ≤ k → m ≤ l → n + m ≤ k + l
+    both n m k l a b = omega (arith, a, b)
+
+load-add : (f g : ℕ → ℕ) (queries : List Query) (schema : List Table) (s : ℕ) → load_from (λ t. f t + g t) s schema queries ≡ load_from f s schema queries + load_from g s schema queries
+load-add f g queries [] s = omega arith
+load-add f g queries (table ∷ schema) s =
+    both (f s) (g s) (ends_grid 0 table.columns (parts_on s queries)) (load_from (λ t. f t + g t) (s + 1) schema queries) (load_from f (s + 1) schema queries) (load_from g (s + 1) schema queries)
+    (load-add f g queries schema (s + 1))
+  where
+    both : (a b w n l m : ℕ) → n ≡ l + m → (a + b) * w + n ≡ (a * w + l) + (b * w + m)
+    both a b w n l m e = let d = add-mul a b w in omega (arith, d, e)
+
+module _ (schema : List Table) (queries : List Query) (regions : List Region) (each : All (IsOfSchema schema) regions) (ends : RegionsEnd schema queries regions) where
+  -- the grid of a part that ends where tests of the queries do
+  part-grid : (part : Part) (m : model.Part) → IsPart schema part m → EndWith schema queries part.table part.rects
+      → grid_of_part schema regions part ≤ ends_grid 0 (table_at schema part.table).columns (parts_on part.table queries)
+  part-grid part m is own = by part.rects (part-fits schema part m is) own
+    where
+      least : (n : ℕ) → 0 ≤ n
+      least n = omega arith
+
+      by : (rects : List Rect) → list_all (rect_fits (table_at schema part.table).columns) rects ≡ true → EndWith schema queries part.table rects
+          → grid_with (table_at schema part.table).columns (cover_of part regions) rects ≤ ends_grid 0 (table_at schema part.table).columns (parts_on part.table queries)
+      by [] fit along = least (ends_grid 0 (table_at schema part.table).columns (parts_on part.table queries))
+      by (r ∷ rects) fit along =
+          few-at schema queries part.table ((r ∷ rects) ++ cover_of part regions)
+          (list_all-append (rect_fits (table_at schema part.table).columns) (r ∷ rects) (cover_of part regions) ∙ both_true fit (cover-fits schema part regions each))
+          (end-append schema queries part.table (r ∷ rects) (cover_of part regions) along (cover-end schema queries part regions ends))
+
+  -- the grids of sound parts together
+  grids-load : (parts : List Part) (meant : List model.Part) → AllZip (IsPart schema) parts meant → list_all (is_sound_part schema) meant ≡ true → PartsEnd schema queries parts
+      → sum_by (grid_of_part schema regions) parts ≤ load_from (times_in meant) 0 schema queries
+  grids-load [] meant zip sound own = omega arith
+  grids-load (p ∷ parts) [] zip sound own = absurd zip
+  grids-load (p ∷ parts) (m ∷ meant) zip sound own =
+      let s = and_parts (is_sound_part schema m) (list_all (is_sound_part schema) meant) sound in
+      let here = part-grid p m zip.0 (All-head (λ (part : Part). EndWith schema queries part.table part.rects) p parts own) in
+      let there = grids-load parts meant zip.1 s.1 (All-tail (λ (part : Part). EndWith schema queries part.table part.rects) p parts own) in
+      let at = load-at (λ t. if m.table == t then 1 else 0) queries schema m.table 0 m.table (omega arith) (subst (λ t. t < length schema) zip.0.table (part-table schema p m zip.0 s.0)) in
+      let own_test : (m.table == m.table) ≡ true = grind (arith, nat_tests) in
+      let once = subst (λ b. (if b then 1 else 0) * ends_grid 0 (table_at schema m.table).columns (parts_on m.table queries) ≤ load_from (λ t. if m.table == t then 1 else 0) 0 schema queries) own_test at in
+      let small = subst (λ t. grid_of_part schema regions p ≤ ends_grid 0 (table_at schema t).columns (parts_on t queries)) zip.0.table here in
+      sums (grid_of_part schema regions p) (sum_by (grid_of_part schema regions) parts) (sum_by (grid_of_part schema regions) (p ∷ parts)) (ends_grid 0 (table_at schema m.table).columns (parts_on m.table queries))
+      (load_from (λ t. if m.table == t then 1 else 0) 0 schema queries) (load_from (times_in meant) 0 schema queries) (load_from (times_in (m ∷ meant)) 0 schema queries)
+      (sum_by-cons (grid_of_part schema regions) p parts) small once there (load-add (λ t. if m.table == t then 1 else 0) (times_in meant) queries schema 0)
+    where
+      sums : (g gs all w l ls more : ℕ) → all ≡ g + gs → g ≤ w → 1 * w ≤ l → gs ≤ ls → more ≡ l + ls → all ≤ more
+      sums g gs all w l ls more a b c d e = omega (arith, a, b, c, d, e)
+
+-- parts of different tables, with too large grids
+pub heavy-parts : (schema : List Table) (marks : List Mark) (q : Query) (queries : List Query) (regions : List Region) (parts : List Part) → All (IsOfSchema schema) regions → RegionsEnd schema queries regions
+    → AllZip (IsPart schema) parts q.parts → list_all (is_sound_part schema) q.parts ≡ true → are_different (map (λ (m : model.Part). m.table) q.parts) ≡ true → PartsEnd schema queries parts
+    → IsOver schema regions parts → IsHeavy schema marks [] q queries
+heavy-parts schema marks q queries regions parts each ends zip sound differ own over = (
   (λ u. []),
   (λ u. record { once = refl; each = λ a some. absurd (cc) }),
-  sums (grid (table_at schema t).columns rects) (ends_grid 0 (table_at schema t).columns (parts_on t queries)) (count_of q (λ u. []) t) (load_from (count_of q (λ u. [])) 0 schema queries)
-      large (few-at schema queries t rects fit ends) (ap (λ b. max 0 (if b then 1 else 0)) named) (load-at (count_of q (λ u. [])) queries schema t 0 t (omega arith) below),
+  above (sum_by (grid_of_part schema regions) parts) (load_from (times_in q.parts) 0 schema queries) (load_from (count_of q (λ u. [])) 0 schema queries) over
+      (grids-load schema queries regions each ends parts q.parts zip sound own) (load-le (times_in q.parts) (count_of q (λ u. [])) queries counts schema 0),
 )
   where
-    sums : (g e n l : ℕ) → 16384 < g → g ≤ e → n ≡ 1 → n * e ≤ l → 16384 < l
-    sums g e n l large few one all = let f : 1 * e ≤ l = subst (λ n. n * e ≤ l) one all in omega (arith, large, few, f)
+    above : (n m k : ℕ) → 16384 < n → n ≤ m → m ≤ k → 16384 < k
+    above n m k a b c = omega (arith, a, b, c)
+
+    least : (n k : ℕ) → n ≤ k → n ≤ max 0 k
+    least n k le = let more = le-max_right 0 k in omega (arith, le, more)
+
+    counts : (t : ℕ) → times_in q.parts t ≤ count_of q (λ u. []) t
+    counts t = least (times_in q.parts t) (if is_named t q.parts then 1 else 0) (times-few q.parts t differ)

@@ -22,3 +22,9 @@ take-end [] zero h = refl
 take-end [] (suc i) h = refl
 take-end (x ∷ xs) zero h = absurd (omega (arith, h))
 take-end (x ∷ xs) (suc i) h = ap (λ ys. x ∷ ys) (take-end xs i (omega (arith, h)))
+
+-- an item that was read twice
+pub read-same : {X : Type 0} (xs : List X) (i : ℕ) (x y : X) → i < length xs → x ≡ get_or xs i x → y ≡ get_or xs i y → x ≡ y
+read-same [] i x y within one two = absurd (omega (arith, within))
+read-same (z ∷ xs) zero x y within one two = one ∙ sym two
+read-same (z ∷ xs) (suc i) x y within one two = read-same xs i x y (omega (arith, within)) one two

@@ -1,43 +1,37 @@
 -- Messages that are laid by, and messages that are refused.
-use Rattle.std.proofs.Common.{◌≡◌, ℕ, ◌+◌, Bool, true, false, List, [], ◌∷◌, ◌++◌, refl, sym, ◌∙◌, ap, subst, arith, Option, Some, None}
+use Rattle.std.proofs.Common.{◌≡◌, ℕ, Bool, true, false, List, [], ◌∷◌, ◌++◌, refl, sym, ◌∙◌, ap, subst, arith, Option, Some, None}
 use Rattle.std.specs.Prelude.{not, ◌==◌, ◌↔◌}
 use Rattle.std.specs.Option.{is_some}
 use Rattle.std.proofs.lemmas.Bool.Decides.{nat_tests}
 use Rattle.sr_cell.specs.declared.fault.Fault.{Fault}
 use Rattle.sr_cell.specs.declared.table.Table.{Table}
 use Rattle.sr_cell.specs.Cells.{Row}
-use Rattle.sr_message.specs.declared.message.AskPart.{AskPart}
 use Rattle.sr_message.specs.declared.message.Message.{Message}
 use Rattle.sr_message.specs.declared.message.Message.TheVariants.{Hello, Resume, Ask, Write, Welcome, Notice, Rows, Reply, Written, Refused, Lapse}
 use Rattle.sr_model.specs.Queries.{Query}
 use Rattle.sr_wire.specs.declared.bad_frame.BadFrame.{BadFrame}
 use Rattle.sr_wire.specs.declared.bad_frame.BadFrame.TheVariants.{State, Number, Shape}
-use Rattle.sr_session.specs.Arrivals.{arrived_at}
 use Rattle.sr_session.specs.Sessions.{Database}
-use Rattle.sr_session.specs.Clients as session
-use Rattle.sr_session.specs.Clients.{lays_by}
 use Rattle.sr_session.specs.Laws.{OutAsksKeys}
-use Rattle.sr_session.specs.Misfits.{misfit, or_else, is_ask, is_number, parts_of, rows_suit}
+use Rattle.sr_session.specs.Misfits.{misfit, or_else, is_ask, rows_suit}
 use Rattle.sr_session.specs.Rules.{Laid, IsForRequest, counted, lays}
 use Rattle.sr_session.specs.Rules as rules
-use Rattle.sr_session.specs.Tidy.{IsTidy, by_message}
+use Rattle.sr_session.specs.Tidy.{by_message}
 use Rattle.sr_session.specs.Walks.{Request, AskOut, WriteOut, ResumeOut, IsAskOf, IsLaid}
 use Rattle.sr_session.proofs.NeverLemmas.{never-refused}
 use Rattle.sr_session.proofs.TidyLemmas.{rules-keep-tidy}
-use Rattle.sr_client.specs.declared.client.AskOut.{AskOut as AskOutCode}
 use Rattle.sr_client.specs.declared.client.Client.{Client}
 use Rattle.sr_client.specs.declared.client.Request as code
 use Rattle.sr_client.specs.declared.client.Request.TheVariants as request
 use Rattle.sr_client.specs.declared.steps.Took.{Took}
 use Rattle.sr_client.specs.declared.steps.Took.TheVariants as took
-use Rattle.sr_client.specs.Laying.{asking, brought}
-use Rattle.sr_client.specs.Stands.{Hidden, Facts, Stands, Truly, IsFit, past_of, out_of, request_of, basis_of, IsMeant, given_up}
+use Rattle.sr_client.specs.Stands.{Hidden, Facts, Stands, Truly, IsFit, past_of, out_of, request_of, basis_of, given_up}
 use Rattle.sr_client.specs.Steps.{Goes, SaysTook, Takes, is_bad}
 use Rattle.sr_client.proofs.AskedLemmas.{keys-asked}
 use Rattle.sr_client.proofs.GiveUpLemmas.{given-stands}
 use Rattle.sr_client.proofs.MoveLemmas.{takes-by}
-use Rattle.sr_client.proofs.OverLemmas.{on, IsHere, over, stands-over}
-use Rattle.sr_client.proofs.SuitLemmas.{or-none, or-later, not-false, fit-more}
+use Rattle.sr_client.proofs.OverLemmas.{on, over, stands-over}
+use Rattle.sr_client.proofs.SuitLemmas.{or-none, not-false, fit-more}
 
 -- ---- laid by
 
@@ -136,7 +130,7 @@ replied-ask c number version meaning fit = not-false (is_ask (out_of meaning c.o
 
 -- ---- refused
 
-out-keys : (c : Client) (h : Hidden) → Facts c h → OutAsksKeys c.schema (out_of h.meaning c.out)
+pub out-keys : (c : Client) (h : Hidden) → Facts c h → OutAsksKeys c.schema (out_of h.meaning c.out)
 out-keys c h f = by c.out refl
   where
     by : (out : Option code.Request) → c.out ≡ out → OutAsksKeys c.schema (out_of h.meaning out)
@@ -185,18 +179,3 @@ pub misfit-of : (c : Client) (m : Message) (schema : List Table) (pre : List Mes
     → ((meaning : Query) → why ≡ misfit schema (out_of meaning c.out) pre c.version m) → (meaning : Query) → misfit c.schema (out_of meaning c.out) c.laid c.version m ≡ why
 misfit-of c m schema pre why schema_is laid_is gives meaning =
     sym (gives meaning ∙ (ap (λ s. misfit s (out_of meaning c.out) pre c.version m) schema_is ∙ ap (λ ms. misfit c.schema (out_of meaning c.out) ms c.version m) laid_is))
-
--- ---- rows of the first part
-
-pub arrived-cons : (m : Message) (ms : List Message) → arrived_at 0 (m ∷ ms) ≡ brought m ++ arrived_at 0 ms
-arrived-cons (Rows k part rows) ms = refl
-arrived-cons (Notice w told) ms = refl
-arrived-cons (Lapse w) ms = refl
-arrived-cons (Reply k w) ms = refl
-arrived-cons (Written k w) ms = refl
-arrived-cons (Refused k fault) ms = refl
-arrived-cons (Welcome k w kept) ms = refl
-arrived-cons (Hello client n) ms = refl
-arrived-cons (Resume client n v holdings) ms = refl
-arrived-cons (Ask n mode parts) ms = refl
-arrived-cons (Write n sql) ms = refl

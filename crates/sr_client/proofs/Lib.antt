@@ -1,4 +1,5 @@
 mod AgainLemmas
+mod ArriveLemmas
 mod AskLemmas
 mod AskedLemmas
 mod Calls
@@ -8,9 +9,11 @@ mod CoverLemmas
 mod Covers
 mod CutLemmas
 mod EndLemmas
+mod EntryLemmas
 mod EvictLemmas
 mod ExplainLemmas
 mod FallLemmas
+mod FinishLemmas
 mod FitLemmas
 mod GiveUpLemmas
 mod GoesLemmas
@@ -18,21 +21,22 @@ mod HeavyLemmas
 mod Items
 mod KeptLemmas
 mod LastLemmas
-mod LayLemmas
+pub mod LayLemmas
 mod LendLemmas
 mod MeantLemmas
 mod MirrorLemmas
 mod MoveLemmas
 mod Nearing
-mod NewLemmas
+pub mod NewLemmas
 mod OverLemmas
+mod PartsLemmas
 mod PromiseLemmas
 mod QueryLemmas
 mod ReadLemmas
 mod Renewal
 mod ReplyLemmas
 mod RestLemmas
-mod Results
+pub mod Results
 mod ResumeLemmas
 mod SendLemmas
 mod SendableLemmas

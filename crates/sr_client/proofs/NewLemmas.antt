@@ -16,16 +16,16 @@ use Rattle.sr_client.specs.declared.client.Client.{Client}
 use Rattle.sr_client.specs.Stands.{Hidden, Facts, Stands, StandsOver, new_client, opened_client}
 use Rattle.sr_client.proofs.TableLemmas.{no-store}
 
-abbrev no_query : Query
+abbrev pub no_query : Query
 no_query = record { parts = []; joins = []; outputs = [] }
 
-abbrev at_first : Hidden
+abbrev pub at_first : Hidden
 at_first = record { marks = []; queries = []; counted_from = 0; meaning = no_query }
 
 pub nothing-kept : (schema : List Table) → Keeps schema (is_held []) (stamp []) []
 nothing-kept schema = record { points = λ t a p point. refl; stamped = All-nil _ }
 
-new-facts : (id : ℕ) (schema : List Table) (limits : Limits) → list_all is_table schema ≡ true → Facts (new_client id schema limits) at_first
+pub new-facts : (id : ℕ) (schema : List Table) (limits : Limits) → list_all is_table schema ≡ true → Facts (new_client id schema limits) at_first
 new-facts id schema limits tables = record {
   tables = tables;
   tidy = refl;

@@ -1,38 +1,26 @@
 -- What a query does that is answered at once, or that comes while a request is out.
-use Rattle.std.proofs.Common.{◌≡◌, ℕ, ◌+◌, ◌≤◌, true, false, List, [], ◌∷◌, ◌++◌, map, length, refl, sym, ◌∙◌, ap, subst, arith, Option, Some, None, Ok, length-append}
-use Rattle.std.specs.Prelude.{not, ◌&&◌, ◌||◌, filter}
-use Rattle.std.specs.List.{list_all}
+use Rattle.std.proofs.Common.{◌≡◌, ℕ, ◌+◌, true, List, [], ◌∷◌, ◌++◌, length, refl, sym, ◌∙◌, ap, subst, arith, Some, None, Ok, length-append}
 use Rattle.std.proofs.lemmas.List.Elements.{All-nil}
-use Rattle.sr_cell.specs.declared.table.Table.{Table}
 use Rattle.sr_cell.specs.Cells.{Row}
-use Rattle.sr_cell.specs.Columns.{table_at}
-use Rattle.sr_box.specs.Points.{HasNoPoint}
-use Rattle.sr_message.specs.declared.message.AskPart.{AskPart}
 use Rattle.sr_model.specs.Queries as model
-use Rattle.sr_model.specs.Queries.{rows_at, rows_of, points_of}
+use Rattle.sr_model.specs.Queries.{rows_of}
 use Rattle.sr_model.specs.Statements.{Tables}
-use Rattle.sr_query.specs.declared.query.Part.{Part}
 use Rattle.sr_query.specs.declared.query.Query.{Query}
 use Rattle.sr_history.specs.declared.mark.Mark.{Mark}
-use Rattle.sr_history.specs.Marks.{is_held, with_marks}
+use Rattle.sr_history.specs.Marks.{with_marks}
 use Rattle.sr_history.specs.Classes.{Numbered, stamp}
-use Rattle.sr_history.specs.Rests.{rest_of, Asks}
-use Rattle.sr_region.specs.Applied.{AreTables}
+use Rattle.sr_history.specs.Rests.{Asks}
 use Rattle.sr_store.specs.declared.store.Store.{Store}
 use Rattle.sr_store.specs.declared.store.Arrival.{Arrival}
 use Rattle.sr_store.specs.Told.{told_of}
 use Rattle.sr_store.specs.Answered.{IsArrival}
-use Rattle.sr_store.proofs.Given.{FitsPart}
 use Rattle.sr_store.proofs.Stamping.{stamp_more}
-use Rattle.sr_join.specs.Found.{cells_of}
-use Rattle.sr_session.specs.Sessions.{Database, newest, tables_of}
+use Rattle.sr_session.specs.Sessions.{Database, tables_of}
 use Rattle.sr_session.specs.Clients as session
 use Rattle.sr_session.specs.Clients.{answered}
-use Rattle.sr_session.specs.Walks.{Request}
-use Rattle.sr_session.specs.Rules.{number_of, next_query, answering_now, counted, query_busy, query_answered, AnswerStep}
+use Rattle.sr_session.specs.Rules.{number_of, answering_now, counted, query_busy, query_answered, AnswerStep}
 use Rattle.sr_session.specs.Rules as rules
-use Rattle.sr_session.specs.Tidy.{IsTidy, IsTidyWith}
-use Rattle.sr_client.specs.Answering.{is_kept, is_new, Suits}
+use Rattle.sr_session.specs.Tidy.{IsTidyWith}
 use Rattle.sr_client.specs.Asking.{AsksRest}
 use Rattle.sr_client.specs.Bound.{IsMeaning}
 use Rattle.sr_client.specs.Cutting.{EndWith, RegionsEnd, PartsEnd}
@@ -43,11 +31,11 @@ use Rattle.sr_client.specs.Stands.{Hidden, Facts, Stands, StandsOver, past_of, o
 use Rattle.sr_client.specs.Steps.{Queries}
 use Rattle.sr_client.proofs.Calls.{Answers, IsAfter, none-arrived}
 use Rattle.sr_client.proofs.CountLemmas.{counted-more}
-use Rattle.sr_client.proofs.CoverLemmas.{filter-points, kept-all}
-use Rattle.sr_client.proofs.EndLemmas.{regions-more, part-end}
+use Rattle.sr_client.proofs.CoverLemmas.{all-held}
+use Rattle.sr_client.proofs.EndLemmas.{regions-more, parts-end}
 use Rattle.sr_client.proofs.KeptLemmas.{IsAnswering, AreTrue, from_of, kept, kept-true, kept-last, answer-step}
 use Rattle.sr_client.proofs.LastLemmas.{last-answered}
-use Rattle.sr_client.proofs.MeantLemmas.{IsOneQuery, one-query, are-sound, is-one-part, part-fits, all-parts, no-rest}
+use Rattle.sr_client.proofs.MeantLemmas.{are-sound, is-joinable, parts-fit}
 use Rattle.sr_client.proofs.MoveLemmas.{queries-by}
 use Rattle.sr_client.proofs.OverLemmas.{on, IsHere, stands-over}
 use Rattle.sr_client.proofs.ShortLemmas.{shorts-more, meaning-short}
@@ -84,23 +72,19 @@ abbrev with_query : Hidden → model.Query → List Numbered
 with_query h m = h.queries ++ record { query = m; answered = true } ∷ []
 
 -- the answer is that of the client's version
-rows-now : (c : Client) (h : Hidden) (db : Database) (q : Query) (m : model.Query) (one : IsOneQuery c.schema q m) (rows : List Row) → Facts c h → IsHere db c
-    → HasNoPoint (table_at c.schema one.meant.table).columns (rest_of h.marks one.meant) → Answers q c.store.regions [] rows → rows ≡ rows_of m (tables_of db c.version)
-rows-now c h db q m one rows f here none gives =
-    let s = c.schema in
-    let part = one.part in
+rows-now : (c : Client) (h : Hidden) (db : Database) (q : Query) (m : model.Query) (rows : List Row) → IsMeaning c.schema q m → Facts c h → IsHere db c → Asks c.schema h.marks m.parts [] → Answers q c.store.regions [] rows
+    → rows ≡ rows_of m (tables_of db c.version)
+rows-now c h db q m rows is f here asks gives =
     let tables : Tables = tables_of db c.version in
     let are = here.sound.tables c.version here.within in
-    let given = gives s tables part (is-one-part s tables q m one are.points are.ascending)
-    (record { each = f.store.each; are_true = here.are_true }) (record { suit = All-nil (Suits s part); arrived = none-arrived (told_of tables) }) in
-    let chosen = filter-points (table_at s part.table).columns (λ p. is_kept part c.store.regions p || is_new part [] p) (points_of one.meant) (rows_at tables part.table) (are.points part.table)
-    (kept-all s h.marks (stamp h.queries) c.store.regions part one.meant f.keeps one.is none) in
-    given ∙ (ap (map (cells_of q.output)) chosen ∙ (ap (λ t. map (cells_of q.output) (filter (points_of one.meant) (rows_at tables t))) one.is.table ∙ sym (one.answer tables)))
+    gives c.schema tables m (is-joinable c.schema tables q m is are.ascending)
+    (record { each = f.store.each; are_true = here.are_true })
+    (all-held c.schema tables h.marks (stamp h.queries) c.store.regions q.parts m.parts [] asks refl are.points f.keeps is.query.parts (are-sound c.schema q m is))
 
 -- what is known where a query is answered at once
-is-answering : (c : Client) (h : Hidden) (q : Query) (m : model.Query) → IsOneQuery c.schema q m → Facts c h → IsMeaning c.schema q m
+is-answering : (c : Client) (h : Hidden) (q : Query) (m : model.Query) → Facts c h → IsMeaning c.schema q m
     → IsAnswering c.schema (length h.queries + 1) q.parts [] c.store [] m (with_query h m) (past_of c h)
-is-answering c h q m one f is =
+is-answering c h q m f is =
     let s = c.schema in
     let all : List model.Query = counted h.counted_from h.queries in
     let more : counted h.counted_from (with_query h m) ≡ all ++ m ∷ [] = counted-more h.counted_from h.queries (record { query = m; answered = true }) f.from in
@@ -111,7 +95,7 @@ is-answering c h q m one f is =
       stamps = stamp_more s (length h.queries + 1) q.parts h.queries m is.query.parts refl;
       meant = is.query.parts;
       last = last-answered h.queries m;
-      fit = all-parts s q m (FitsPart s) one (part-fits s one.part one.meant one.is);
+      fit = parts-fit s q m is;
       arrive = All-nil (IsArrival s q.parts);
       apart = λ t a p point. let le = f.store.once t a p point in omega (arith, le);
       holds = tt;
@@ -119,21 +103,18 @@ is-answering c h q m one f is =
       nothing = λ none. refl;
       from = let few = f.from in omega (arith, few);
       regions_end = subst (λ qs. RegionsEnd s qs c.store.regions) (sym more) (regions-more s all (m ∷ []) c.store.regions f.ends);
-      parts_end = subst (λ qs. PartsEnd s qs q.parts) (sym more) (all-parts s q m (λ (part : Part). EndWith s (all ++ m ∷ []) part.table part.rects) one (part-end s all m one.part one.meant one.meant_parts one.is));
+      parts_end = subst (λ qs. PartsEnd s qs q.parts) (sym more) (parts-end s all m [] q.parts m.parts refl is.query.parts);
       arrivals_end = All-nil (λ (r : Arrival). EndWith s (counted h.counted_from (with_query h m)) r.table r.rects);
     }
 
 module _ (c : Client) (q : Query) (m : model.Query) (store : Store) (marks : List Mark) (rows : List Row) (out : c.out ≡ None) (is : IsMeaning c.schema q m)
     (nothing : AsksRest c.schema c.store.regions q.parts []) (gives : Answers q c.store.regions [] rows) (made : IsAfter c.schema (c.queries + 1) q.parts [] c.store store marks) where
   module _ (h : Hidden) (f : Facts c h) where
-    one : IsOneQuery c.schema q m
-    one = one-query c.schema q m is
-
     after : IsAfter c.schema (length h.queries + 1) q.parts [] c.store store marks
     after = subst (λ n. IsAfter c.schema (n + 1) q.parts [] c.store store marks) (sym f.queries) made
 
     answering : IsAnswering c.schema (length h.queries + 1) q.parts [] c.store [] m (with_query h m) (past_of c h)
-    answering = is-answering c h q m one f is
+    answering = is-answering c h q m f is
 
     abbrev from : ℕ
     from = from_of (length h.queries + 1) h.counted_from after.answered
@@ -174,13 +155,12 @@ module _ (c : Client) (q : Query) (m : model.Query) (store : Store) (marks : Lis
     now-over db here =
         let past : session.Client = past_of c h in
         let asks : Asks c.schema h.marks m.parts [] = nothing h.marks (stamp h.queries) m.parts f.keeps is.query.parts (are-sound c.schema q m is) in
-        let free = no-rest c.schema h.marks m.parts [] one.meant asks one.meant_parts refl in
         let are = here.sound.tables c.version here.within in
         let t : AreTrue c.schema (tables_of db c.version) [] c.store.regions = record { are_tables = are; are_true = here.are_true; arrived = none-arrived (told_of (tables_of db c.version)) } in
         let step : AnswerStep (basis_of (on c db) c.store.limits) (answering_now past m) past marks (answered past (with_query h m) from c.version marks) =
         answer-step c.schema (length h.queries + 1) q.parts [] c.store [] m (with_query h m) (past_of c h) answering store marks after db c.version t in (
           subst (λ n. rules.QueryStep (basis_of (on c db) c.store.limits) (past_of c h) (Ok m) (rules.Answered (n + 1) c.version rows marks) (answered past (with_query h m) from c.version marks)) f.queries
-              (query_answered m rows marks (answered past (with_query h m) from c.version marks) (ap (out_of h.meaning) out) asks (rows-now c h db q m one rows f here free gives) step),
+              (query_answered m rows marks (answered past (with_query h m) from c.version marks) (ap (out_of h.meaning) out) asks (rows-now c h db q m rows is f here asks gives) step),
           record {
             sound = here.sound;
             schema = refl;

@@ -1,75 +1,44 @@
 -- What the reply of an ask does.
-use Rattle.std.proofs.Common.{◌≡◌, ℕ, zero, suc, ◌+◌, ◌-◌, ◌≤◌, ◌<◌, Bool, true, false, List, [], ◌∷◌, ◌++◌, map, length, refl, sym, ◌∙◌, ap, subst, arith, Option, Some, None, length-append}
-use Rattle.std.specs.Prelude.{not, ◌&&◌, ◌||◌, ◌==◌, filter, slice_get, slice_set}
-use Rattle.std.specs.List.{list_all, All}
-use Rattle.std.proofs.lemmas.Bool.Decides.{nat_tests}
-use Rattle.std.proofs.lemmas.List.Elements.{All-nil}
-use Rattle.sr_cell.specs.declared.cause.Cause.TheVariants.{Lapsed}
-use Rattle.sr_cell.specs.declared.table.Table.{Table}
+use Rattle.std.proofs.Common.{◌≡◌, ℕ, zero, suc, ◌-◌, true, false, List, [], ◌∷◌, length, refl, sym, ◌∙◌, ap, subst, arith, None}
+use Rattle.std.specs.Prelude.{slice_set}
+use Rattle.std.specs.List.{list_all}
 use Rattle.sr_cell.specs.Cells.{Row}
-use Rattle.sr_cell.specs.Columns.{table_at}
-use Rattle.sr_message.specs.declared.message.AskPart.{AskPart}
-use Rattle.sr_message.specs.declared.message.Message.{Message}
-use Rattle.sr_message.specs.declared.message.Message.TheVariants.{Ask, Reply}
-use Rattle.sr_message.specs.Sizes.{most_rects, count_asked}
-use Rattle.sr_model.specs.Queries as model
-use Rattle.sr_model.specs.Queries.{rows_at, rows_of, points_of}
-use Rattle.sr_model.specs.Statements.{Tables}
+use Rattle.sr_message.specs.declared.message.Message.TheVariants.{Reply}
+use Rattle.sr_model.specs.Queries.{rows_of}
 use Rattle.sr_history.specs.declared.mark.Mark.{Mark}
-use Rattle.sr_history.specs.Marks.{is_held, with_marks, HoldsNothing}
+use Rattle.sr_history.specs.Marks.{with_marks}
 use Rattle.sr_history.specs.Classes.{Numbered, stamp}
-use Rattle.sr_history.specs.Rests.{Asks}
-use Rattle.sr_region.specs.declared.region.Region.{Region}
 use Rattle.sr_store.specs.declared.store.Store.{Store}
-use Rattle.sr_store.specs.Answered.{HaveArrived}
-use Rattle.sr_store.specs.Told.{told_of, IsTrueOf}
-use Rattle.sr_store.specs.Stores.{drop_of}
-use Rattle.sr_store.proofs.Absorbing.{drops_all}
-use Rattle.sr_store.proofs.Covering.{none_held}
-use Rattle.sr_store.proofs.Fewer.{none_store}
-use Rattle.sr_store.proofs.Stepping.{dropped_marks}
-use Rattle.sr_join.specs.Found.{cells_of}
-use Rattle.sr_session.specs.Arrivals.{arrived_at}
-use Rattle.sr_session.specs.Sessions.{Database, Session, newest, tables_of, asked_rows}
+use Rattle.sr_session.specs.Sessions.{Database, tables_of}
 use Rattle.sr_session.specs.Clients as session
 use Rattle.sr_session.specs.Clients.{answered, asks_again, mirror_of}
 use Rattle.sr_session.specs.Laws.{IsAnswerable}
 use Rattle.sr_session.specs.Regions.{AreAt, after_messages}
 use Rattle.sr_session.specs.Rules.{AskSent, AnswerStep, answers, asks_once_more, answering_then, counted, with_answered, is_given_up}
 use Rattle.sr_session.specs.Rules as rules
-use Rattle.sr_session.specs.Misfits.{misfit, or_else, is_ask, is_number, known}
-use Rattle.sr_session.specs.Tidy.{IsTidy, IsTidyWith}
-use Rattle.sr_session.specs.Walks.{AskOut, walked}
-use Rattle.sr_session.proofs.DropLemmas.{asks-some}
+use Rattle.sr_session.specs.Walks.{walked}
 use Rattle.sr_session.proofs.RowLemmas.{rows-are-asked}
 use Rattle.sr_session.proofs.TakeLemmas.{replies-are-answerable}
 use Rattle.sr_session.proofs.TruthLemmas.{laid-messages-keep-true}
-use Rattle.sr_client.specs.Answering.{is_kept, is_new}
-use Rattle.sr_client.specs.Arriving.{arrival_of, arrivals_of}
-use Rattle.sr_client.specs.Asking.{AsksRest, whole_asks}
-use Rattle.sr_client.specs.Cutting.{EndWith, PartsEnd, AsksEnd, RegionsEnd}
+use Rattle.sr_client.specs.Arriving.{arrivals_of}
 use Rattle.sr_client.specs.declared.client.AskOut as code
 use Rattle.sr_client.specs.declared.client.Client.{Client}
-use Rattle.sr_client.specs.declared.client.Request.TheVariants as request
 use Rattle.sr_client.specs.declared.steps.Took.TheVariants as took
 use Rattle.sr_client.specs.Laying.{asking}
-use Rattle.sr_client.specs.Stands.{Hidden, Facts, Stands, StandsOver, Truly, IsFit, past_of, out_of, basis_of, IsMeant, AreFit}
+use Rattle.sr_client.specs.Stands.{Hidden, Facts, Stands, StandsOver, Truly, IsFit, past_of, basis_of}
 use Rattle.sr_client.specs.Steps.{Takes}
 use Rattle.sr_client.specs.Values.{has_values}
-use Rattle.sr_client.proofs.AskLemmas.{asks-whole, whole-along}
-use Rattle.sr_client.proofs.AskedLemmas.{one, is-out, single, asked, are-one, laid-store, laid-keeps, answering}
+use Rattle.sr_client.proofs.AskedLemmas.{is-out, laid-keeps}
 use Rattle.sr_client.proofs.Calls.{Answers, IsAfter}
-use Rattle.sr_client.proofs.CameLemmas.{arrival-rows, arrival-suits, all-there}
-use Rattle.sr_client.proofs.CoverLemmas.{filter-points}
+use Rattle.sr_client.proofs.CameLemmas.{CameOf, all-came, there-all}
+use Rattle.sr_client.proofs.FinishLemmas.{came-right, answering}
 use Rattle.sr_client.proofs.KeptLemmas.{IsAnswering, AreTrue, from_of, kept, kept-true, kept-last, answer-step}
-use Rattle.sr_client.proofs.MeantLemmas.{IsOneQuery, IsOneAsk, is-one-part, one-query, are-sound, all-parts, part-fits}
+use Rattle.sr_client.proofs.MeantLemmas.{are-sound, is-joinable, tables-differ}
 use Rattle.sr_client.proofs.MirrorLemmas.{at-mirror}
 use Rattle.sr_client.proofs.MoveLemmas.{takes-by}
-use Rattle.sr_client.proofs.OverLemmas.{on, IsHere, stands-over}
-use Rattle.sr_client.proofs.SendLemmas.{whole-rects}
-use Rattle.sr_client.proofs.SuitLemmas.{reply-later}
+use Rattle.sr_client.proofs.OverLemmas.{on, IsHere}
+use Rattle.sr_client.proofs.PartsLemmas.{EachFrom, each-at}
 use Rattle.sr_client.proofs.ShortLemmas.{shorts-set, meaning-short}
-use Rattle.sr_client.proofs.TableLemmas.{have-first}
 
 set-length : (qs : List Numbered) (n : ℕ) (x : Numbered) → length (slice_set qs n x) ≡ length qs
 set-length [] n x = refl
@@ -83,8 +52,8 @@ abbrev pub replied : Client → ℕ → Store → Client
 replied c version store = record c { version = version; out = None; laid = []; store = store }
 
 module _ (c : Client) (o : code.AskOut) (number version : ℕ) (store : Store) (marks : List Mark) (rows : List Row) (fit : IsFit (asking c o) (Reply number version)) (whole : is_given_up o.fresh c.laid ≡ false)
-    (values : list_all has_values c.laid ≡ true) (gives : Answers o.query (after_messages c.laid c.store.regions) (arrivals_of c.schema o.parts (arrived_at 0 c.laid)) rows)
-    (made : IsAfter c.schema o.query_number o.query.parts (arrivals_of c.schema o.parts (arrived_at 0 c.laid)) (record c.store { regions = after_messages c.laid c.store.regions }) store marks) where
+    (values : list_all has_values c.laid ≡ true) (gives : Answers o.query (after_messages c.laid c.store.regions) (arrivals_of c.schema o.parts c.laid) rows)
+    (made : IsAfter c.schema o.query_number o.query.parts (arrivals_of c.schema o.parts c.laid) (record c.store { regions = after_messages c.laid c.store.regions }) store marks) where
   module _ (h : Hidden) (f : Facts (asking c o) h) where
     abbrev past : session.Client
     past = past_of (asking c o) h
@@ -92,7 +61,7 @@ module _ (c : Client) (o : code.AskOut) (number version : ℕ) (store : Store) (
     abbrev queries : List Numbered
     queries = with_answered o.query_number h.meaning h.queries
 
-    know : IsAnswering c.schema o.query_number o.query.parts (arrivals_of c.schema o.parts (arrived_at 0 c.laid)) (record c.store { regions = after_messages c.laid c.store.regions }) o.parts h.meaning
+    know : IsAnswering c.schema o.query_number o.query.parts (arrivals_of c.schema o.parts c.laid) (record c.store { regions = after_messages c.laid c.store.regions }) o.parts h.meaning
         (with_answered o.query_number h.meaning h.queries) (past_of (asking c o) h)
     know = answering c o h f values whole
 
@@ -104,7 +73,7 @@ module _ (c : Client) (o : code.AskOut) (number version : ℕ) (store : Store) (
 
     reply-facts : Facts (replied c version store) later
     reply-facts =
-        let k = kept c.schema o.query_number o.query.parts (arrivals_of c.schema o.parts (arrived_at 0 c.laid)) (record c.store { regions = after_messages c.laid c.store.regions }) o.parts h.meaning
+        let k = kept c.schema o.query_number o.query.parts (arrivals_of c.schema o.parts c.laid) (record c.store { regions = after_messages c.laid c.store.regions }) o.parts h.meaning
         (with_answered o.query_number h.meaning h.queries) (past_of (asking c o) h) know store marks made in
         let count : length (with_answered o.query_number h.meaning h.queries) ≡ length h.queries = set-length h.queries (o.query_number - 1) (record { query = h.meaning; answered = true }) in
         let number_is = (is-out c o h f).1.query_is in
@@ -117,7 +86,7 @@ module _ (c : Client) (o : code.AskOut) (number version : ℕ) (store : Store) (
           store = made.store;
           keeps = k.points;
           queries = count ∙ f.queries;
-          last = kept-last c.schema o.query_number o.query.parts (arrivals_of c.schema o.parts (arrived_at 0 c.laid)) (record c.store { regions = after_messages c.laid c.store.regions }) o.parts h.meaning
+          last = kept-last c.schema o.query_number o.query.parts (arrivals_of c.schema o.parts c.laid) (record c.store { regions = after_messages c.laid c.store.regions }) o.parts h.meaning
               (with_answered o.query_number h.meaning h.queries) (past_of (asking c o) h) know store marks made;
           rows = k.rows;
           few = k.regions;
@@ -136,40 +105,29 @@ module _ (c : Client) (o : code.AskOut) (number version : ℕ) (store : Store) (
           laid-messages-keep-true (on c db) (past_of (asking c o) h) t.rest t.session o.number o.query_number h.meaning o.fresh o.parts number version c.store.regions here.sound answerable
           (at-mirror (asking c o) h db f here)
 
-      came : arrived_at 0 c.laid ≡ asked_rows (tables_of db version) (single c o h f).ask
+      came : EachFrom (CameOf (tables_of db version) c.laid) 0 o.parts
       came =
-          rows-are-asked (on c db) (past_of (asking c o) h) t.rest t.session o.number o.query_number h.meaning o.fresh o.parts number version 0 (single c o h f).ask answerable
-          (ap (λ ps. slice_get ps 0) (single c o h f).one)
+          each-at (CameOf (tables_of db version) c.laid) o.parts
+          (λ k ask at. rows-are-asked (on c db) (past_of (asking c o) h) t.rest t.session o.number o.query_number h.meaning o.fresh o.parts number version k ask answerable at)
 
-      are-true : AreTrue c.schema (tables_of db version) (arrivals_of c.schema o.parts (arrived_at 0 c.laid)) (after_messages c.laid c.store.regions)
+      are-true : AreTrue c.schema (tables_of db version) (arrivals_of c.schema o.parts c.laid) (after_messages c.laid c.store.regions)
       are-true =
           let are = here.sound.tables version answerable.within in
           record {
             are_tables = are;
             are_true = now.are_true;
-            arrived = subst (HaveArrived (told_of (tables_of db version))) (sym (are-one c o h f values))
-                (arrival-rows c.schema h.marks (tables_of db version) (one c o h f).part (one c o h f).meant (single c o h f).ask (arrived_at 0 c.laid) (asked c o h f) are came);
+            arrived = all-came c.schema h.marks c.laid (tables_of db version) are 0 o.query.parts h.meaning.parts o.parts (is-out c o h f).1.asks f.meant.0.query.parts
+                (are-sound c.schema o.query h.meaning f.meant.0) came;
           }
 
       -- the rows are the query's at that version
       rows-right : rows ≡ rows_of h.meaning (tables_of db version)
       rows-right =
-          let s = c.schema in
-          let q1 = one c o h f in
-          let ask : AskPart = (single c o h f).ask in
           let are = here.sound.tables version answerable.within in
-          let given = subst (λ rs. Answers o.query (after_messages c.laid c.store.regions) rs rows) (are-one c o h f values) gives s (tables_of db version) q1.part
-          (is-one-part s (tables_of db version) o.query h.meaning q1 are.points are.ascending)
+          gives c.schema (tables_of db version) h.meaning (is-joinable c.schema (tables_of db version) o.query h.meaning f.meant.0 are.ascending)
           (record { each = now.store.each; are_true = now.are_true })
-          (record {
-            suit = arrival-suits s h.marks q1.part q1.meant ask (arrived_at 0 c.laid) (asked c o h f);
-            arrived = arrival-rows s h.marks (tables_of db version) q1.part q1.meant ask (arrived_at 0 c.laid) (asked c o h f) are came;
-          }) in
-          let chosen = filter-points (table_at s q1.part.table).columns (λ p. is_kept q1.part (after_messages c.laid c.store.regions) p || is_new q1.part (arrival_of s ask (arrived_at 0 c.laid) ∷ []) p) (points_of q1.meant)
-          (rows_at (tables_of db version) q1.part.table) (are.points q1.part.table)
-          (all-there s h.marks (stamp h.queries) q1.part q1.meant ask (arrived_at 0 c.laid) (after_messages c.laid c.store.regions) (asked c o h f) (laid-keeps c o h f values whole)) in
-          given ∙ (ap (map (cells_of o.query.output)) chosen
-          ∙ (ap (λ t. map (cells_of o.query.output) (filter (points_of q1.meant) (rows_at (tables_of db version) t))) q1.is.table ∙ sym (q1.answer (tables_of db version))))
+          (there-all c.schema h.marks c.laid (tables_of db version) are 0 (stamp h.queries) (after_messages c.laid c.store.regions) o.query.parts h.meaning.parts o.parts (is-out c o h f).1.asks
+          f.meant.0.query.parts (are-sound c.schema o.query h.meaning f.meant.0) (tables-differ c.schema o.query h.meaning f.meant.0) (laid-keeps c o h f values whole) (came-right c o h f values) came)
 
       reply-goes : rules.TakeStep (basis_of (on c db) c.store.limits) (past_of (asking c o) h) (Reply number version) (rules.Answered o.query_number version rows marks)
           (answered (past_of (asking c o) h) (with_answered o.query_number h.meaning h.queries) from version marks)
@@ -177,7 +135,7 @@ module _ (c : Client) (o : code.AskOut) (number version : ℕ) (store : Store) (
       reply-goes =
           let step : AnswerStep (basis_of (on c db) c.store.limits) (answering_then (past_of (asking c o) h) o.query_number h.meaning o.parts version) (past_of (asking c o) h) marks
           (answered (past_of (asking c o) h) (with_answered o.query_number h.meaning h.queries) from version marks) =
-          answer-step c.schema o.query_number o.query.parts (arrivals_of c.schema o.parts (arrived_at 0 c.laid)) (record c.store { regions = after_messages c.laid c.store.regions }) o.parts h.meaning
+          answer-step c.schema o.query_number o.query.parts (arrivals_of c.schema o.parts c.laid) (record c.store { regions = after_messages c.laid c.store.regions }) o.parts h.meaning
           (with_answered o.query_number h.meaning h.queries) (past_of (asking c o) h) know store marks made db version are-true in (
             subst (λ k. rules.TakeStep (basis_of (on c db) c.store.limits) (past_of (asking c o) h) (Reply k version) (rules.Answered o.query_number version rows marks)
                 (answered (past_of (asking c o) h) (with_answered o.query_number h.meaning h.queries) from version marks)) (sym answerable.number_is)
@@ -191,7 +149,7 @@ module _ (c : Client) (o : code.AskOut) (number version : ℕ) (store : Store) (
                 hidden = later;
                 facts = reply-facts;
                 same = refl;
-                are_true = kept-true c.schema o.query_number o.query.parts (arrivals_of c.schema o.parts (arrived_at 0 c.laid)) (record c.store { regions = after_messages c.laid c.store.regions }) o.parts h.meaning
+                are_true = kept-true c.schema o.query_number o.query.parts (arrivals_of c.schema o.parts c.laid) (record c.store { regions = after_messages c.laid c.store.regions }) o.parts h.meaning
                     (with_answered o.query_number h.meaning h.queries) (past_of (asking c o) h) know store marks made (tables_of db version) are-true;
               };
             },

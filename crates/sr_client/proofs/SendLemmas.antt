@@ -1,17 +1,13 @@
 -- What a query does that asks something.
 use Rattle.std.proofs.Common.{◌≡◌, ℕ, ◌+◌, ◌≤◌, ◌<◌, Bool, true, false, List, [], ◌∷◌, ◌++◌, map, length, refl, sym, ◌∙◌, ap, subst, arith, Some, None, Ok, length-append}
-use Rattle.std.specs.Prelude.{IsTrue, ◌↔◌, ◌==◌, sum_by}
-use Rattle.std.specs.List.{list_all, list_any, All}
-use Rattle.std.proofs.lemmas.Bool.Decides.{nat_tests}
-use Rattle.std.proofs.lemmas.List.Folds.{list_all-append}
+use Rattle.std.specs.Prelude.{IsTrue, ◌↔◌, sum_by}
+use Rattle.std.specs.List.{All}
 use Rattle.std.proofs.lemmas.List.Elements.{All-nil}
 use Rattle.std.proofs.lemmas.List.Sums.{sum_by-cons, sum_by-le}
 use Rattle.sr_cell.specs.declared.cause.Cause.TheVariants.{Pieces}
-use Rattle.sr_cell.specs.declared.table.Column.{Column}
 use Rattle.sr_cell.specs.declared.table.Table.{Table}
 use Rattle.sr_cell.specs.Columns.{table_at}
-use Rattle.sr_box.specs.Points.{Rect, rect_fits}
-use Rattle.sr_union.specs.Grid.{grid}
+use Rattle.sr_box.specs.Points.{Rect}
 use Rattle.sr_message.specs.declared.message.AskPart.{AskPart}
 use Rattle.sr_message.specs.Sizes.{most_rects, count_asked}
 use Rattle.sr_model.specs.Queries as model
@@ -19,8 +15,7 @@ use Rattle.sr_query.specs.declared.query.Part.{Part}
 use Rattle.sr_query.specs.declared.query.Query.{Query}
 use Rattle.sr_history.specs.declared.mark.Mark.{Mark}
 use Rattle.sr_history.specs.Marks.{is_held, HoldsNothing, with_marks}
-use Rattle.sr_history.specs.Classes.{Numbered, stamp}
-use Rattle.sr_history.specs.Drops.{DropsAll}
+use Rattle.sr_history.specs.Classes.{stamp}
 use Rattle.sr_history.specs.Load.{IsHeavy}
 use Rattle.sr_history.specs.Rests.{Asks}
 use Rattle.sr_history.specs.Victims.{AreLast}
@@ -36,9 +31,9 @@ use Rattle.sr_store.proofs.Stepping.{dropped_marks}
 use Rattle.sr_session.specs.Sessions.{Database, tables_of}
 use Rattle.sr_session.specs.Clients as session
 use Rattle.sr_session.specs.Walks.{AskOut, AreLaid}
-use Rattle.sr_session.specs.Rules.{Before, DropsFirst, as_it_is, emptied, counted, next_query, with_ask, query_asks, query_down}
+use Rattle.sr_session.specs.Rules.{Before, as_it_is, emptied, counted, with_ask, query_asks, query_down}
 use Rattle.sr_session.specs.Rules as rules
-use Rattle.sr_session.specs.Tidy.{IsTidy, IsTidyWith}
+use Rattle.sr_session.specs.Tidy.{IsTidyWith}
 use Rattle.sr_client.specs.Asking.{AsksRest, entry_of, whole_asks}
 use Rattle.sr_client.specs.Arriving.{is_empty}
 use Rattle.sr_client.specs.Bound.{IsMeaning}
@@ -46,16 +41,15 @@ use Rattle.sr_client.specs.Cutting.{EndWith, RegionsEnd, PartsEnd, AsksEnd, AreC
 use Rattle.sr_client.specs.Sending.{next_ask, with_out, asked_step, IsSent, is_down, is_sent}
 use Rattle.sr_client.specs.declared.client.Client.{Client}
 use Rattle.sr_client.specs.declared.steps.QueryStep.{QueryStep}
-use Rattle.sr_client.specs.declared.steps.QueryStep.TheVariants.{Asked, Down}
-use Rattle.sr_client.specs.Stands.{Hidden, Facts, Stands, StandsOver, past_of, out_of, basis_of, IsMeant, AreFit}
+use Rattle.sr_client.specs.declared.steps.QueryStep.TheVariants.{Down}
+use Rattle.sr_client.specs.Stands.{Hidden, Facts, Stands, past_of, out_of, basis_of, IsMeant, AreFit}
 use Rattle.sr_client.specs.Steps.{SaysQuery, Queries}
 use Rattle.sr_client.proofs.AskLemmas.{asks-whole, whole-along, whole-narrow}
-use Rattle.sr_client.proofs.Covers.{cover-fits}
 use Rattle.sr_client.proofs.CountLemmas.{counted-more}
-use Rattle.sr_client.proofs.EndLemmas.{end-append, cover-end, regions-more, part-end}
-use Rattle.sr_client.proofs.HeavyLemmas.{heavy-table}
+use Rattle.sr_client.proofs.EndLemmas.{regions-more, parts-end}
+use Rattle.sr_client.proofs.HeavyLemmas.{heavy-parts}
 use Rattle.sr_client.proofs.LastLemmas.{last-asked}
-use Rattle.sr_client.proofs.MeantLemmas.{IsOneQuery, one-query, are-meant, are-sound, part-fits, part-table, all-parts}
+use Rattle.sr_client.proofs.MeantLemmas.{are-meant, are-sound, tables-differ, parts-few}
 use Rattle.sr_client.proofs.MoveLemmas.{MovesHere, queries-by}
 use Rattle.sr_client.proofs.OverLemmas.{on, IsHere, with_regions, stands-over}
 use Rattle.sr_client.proofs.QueryLemmas.{none-laid}
@@ -137,14 +131,11 @@ module _ (c : Client) (q : Query) (m : model.Query) (asks : List AskPart) (may :
   ends : RegionsEnd c.schema (counted h.counted_from h.queries ++ m ∷ []) c.store.regions
   ends = regions-more c.schema (counted h.counted_from h.queries) (m ∷ []) c.store.regions f.ends
 
-  parts-end : PartsEnd c.schema (counted h.counted_from h.queries ++ m ∷ []) q.parts
-  parts-end =
-      let one = one-query c.schema q m may.is in
-      all-parts c.schema q m (λ (part : Part). EndWith c.schema (counted h.counted_from h.queries ++ m ∷ []) part.table part.rects) one
-      (part-end c.schema (counted h.counted_from h.queries) m one.part one.meant one.meant_parts one.is)
+  own-end : PartsEnd c.schema (counted h.counted_from h.queries ++ m ∷ []) q.parts
+  own-end = parts-end c.schema (counted h.counted_from h.queries) m [] q.parts m.parts refl may.is.query.parts
 
   pub ask-ends : AsksEnd c.schema (counted h.counted_from h.queries ++ m ∷ []) asks
-  ask-ends = may.along (counted h.counted_from h.queries ++ m ∷ []) ends parts-end
+  ask-ends = may.along (counted h.counted_from h.queries ++ m ∷ []) ends own-end
 
   pub sent-facts : c.cut ≡ false → Facts (with_out c (next_ask c q asks)) (asked_hidden h m)
   sent-facts up = record {
@@ -164,7 +155,7 @@ module _ (c : Client) (q : Query) (m : model.Query) (asks : List AskPart) (may :
       subst AreLaid (sym laid) tt,
     );
     down = λ down. absurd (let wrong : true ≡ false = sym down ∙ up in cc);
-    meant = (may.is, subst (λ qs. PartsEnd c.schema qs q.parts) (sym more) parts-end, subst (λ qs. AsksEnd c.schema qs asks) (sym more) ask-ends, may.few);
+    meant = (may.is, subst (λ qs. PartsEnd c.schema qs q.parts) (sym more) own-end, subst (λ qs. AsksEnd c.schema qs asks) (sym more) ask-ends, may.few);
     fit = subst (AreFit c.schema (Some (AskOut c.next_request (c.queries + 1) m fresh asks)) c.version []) (sym laid) tt;
     store = f.store;
     keeps = keeps_same c.schema (is_held h.marks) (is_held h.marks) (stamp h.queries) (stamp (asked_hidden h m).queries) c.store.regions (λ t a p point. refl) (λ t a p point. sym (stamp_none h.queries m t a p)) f.keeps;
@@ -246,59 +237,34 @@ query-asks c q m asks new step may sent stands = query-sent c q m asks [] c.stor
 
 -- ---- all is dropped first
 
--- the part has rects, and with those that cover it they make too large a grid
-pub record IsLarge (schema : List Table) (regions : List Region) (part : Part) : Type 0 where
-  some : part.rects ≡ [] → ⊥
-  large : most_rects < grid (table_at schema part.table).columns (part.rects ++ cover_of part regions)
-
--- the one part is so
-pub large-one : (schema : List Table) (regions : List Region) (parts : List Part) (part : Part) → parts ≡ part ∷ [] → IsOver schema regions parts → IsLarge schema regions part
-large-one schema regions parts part own over = by part.rects refl
+-- parts of which nothing would be asked have no grids
+no-grids : (schema : List Table) (regions : List Region) (parts : List Part) → whole_asks parts ≡ [] → sum_by (grid_of_part schema regions) parts ≡ 0
+no-grids schema regions [] none = refl
+no-grids schema regions (p ∷ parts) none =
+    sum_by-cons (grid_of_part schema regions) p parts ∙ by p.rects none (no-grids schema regions parts)
   where
-    columns : List Column
-    columns = (table_at schema part.table).columns
+    still : (n : ℕ) → n ≡ 0 → 0 + n ≡ 0
+    still n e = omega (arith, e)
 
-    own_grid : sum_by (grid_of_part schema regions) parts ≡ grid_of_part schema regions part
-    own_grid = ap (sum_by (grid_of_part schema regions)) own ∙ (sum_by-cons (grid_of_part schema regions) part [] ∙ omega arith)
+    by : (rects : List Rect) → entry_of p.table p.need rects ++ whole_asks parts ≡ [] → (whole_asks parts ≡ [] → sum_by (grid_of_part schema regions) parts ≡ 0)
+        → grid_with (table_at schema p.table).columns (cover_of p regions) rects + sum_by (grid_of_part schema regions) parts ≡ 0
+    by [] none rest = still (sum_by (grid_of_part schema regions) parts) (rest none)
+    by (r ∷ rects) none rest = absurd (cc)
 
-    large : most_rects < grid_with columns (cover_of part regions) part.rects
-    large = omega (arith, over, own_grid)
-
-    by : (rects : List Rect) → part.rects ≡ rects → IsLarge schema regions part
-    by [] e = absurd (let none : most_rects < 0 = subst (λ rs. most_rects < grid_with columns (cover_of part regions) rs) e large in omega (arith, none))
-    by (r ∷ rects) e =
-        let own = subst (λ rs. most_rects < grid_with columns (cover_of part regions) rs) e large in
-        record { some = λ none. absurd (let wrong : r ∷ rects ≡ [] = sym e ∙ none in cc); large = subst (λ rs. most_rects < grid columns (rs ++ cover_of part regions)) (sym e) own }
-
--- so it is asked
-pub some-asked : (parts : List Part) (part : Part) → parts ≡ part ∷ [] → (part.rects ≡ [] → ⊥) → whole_asks parts ≡ [] → ⊥
-some-asked parts part own some none = by part.rects refl
-  where
-    by : (rects : List Rect) → part.rects ≡ rects → ⊥
-    by [] e = some e
-    by (r ∷ rects) e =
-        let here : entry_of part.table part.need part.rects ++ [] ≡ [] = sym (ap whole_asks own) ∙ none in
-        let there : entry_of part.table part.need (r ∷ rects) ++ [] ≡ [] = subst (λ rs. entry_of part.table part.need rs ++ [] ≡ []) e here in
-        absurd (cc)
+-- where the grids are too large something is asked
+pub some-asked : (schema : List Table) (regions : List Region) (parts : List Part) → IsOver schema regions parts → whole_asks parts ≡ [] → ⊥
+some-asked schema regions parts over none = let grids = no-grids schema regions parts none in absurd (omega (arith, over, grids))
 
 -- the load is too high
-pub load-heavy : (c : Client) (h : Hidden) (q : Query) (m : model.Query) (one : IsOneQuery c.schema q m) → Facts c h → IsLarge c.schema c.store.regions one.part
+pub load-heavy : (c : Client) (h : Hidden) (q : Query) (m : model.Query) → IsMeaning c.schema q m → Facts c h → IsOver c.schema c.store.regions q.parts
     → IsHeavy c.schema h.marks [] m (counted h.counted_from (h.queries ++ record { query = m; answered = false } ∷ []))
-load-heavy c h q m one f large =
+load-heavy c h q m is f over =
     let s = c.schema in
-    let regions = c.store.regions in
     let all : List model.Query = counted h.counted_from h.queries in
     let more : counted h.counted_from (h.queries ++ record { query = m; answered = false } ∷ []) ≡ all ++ m ∷ [] = counted-more h.counted_from h.queries (record { query = m; answered = false }) f.from in
-    let fit : list_all (rect_fits (table_at s one.part.table).columns) (one.part.rects ++ cover_of one.part regions) ≡ true =
-    list_all-append (rect_fits (table_at s one.part.table).columns) one.part.rects (cover_of one.part regions) ∙ rw (part-fits s one.part one.meant one.is, cover-fits s one.part regions f.store.each) refl in
-    let same : (one.meant.table == one.part.table) ≡ true = let e = one.is.table in grind (arith, nat_tests, e) in
-    let named : list_any (λ (part : model.Part). part.table == one.part.table) m.parts ≡ true =
-    subst (λ ps. list_any (λ (part : model.Part). part.table == one.part.table) ps ≡ true) (sym one.meant_parts) (rw same refl) in
-    let ends : EndWith s (all ++ m ∷ []) one.part.table (one.part.rects ++ cover_of one.part regions) =
-    end-append s (all ++ m ∷ []) one.part.table one.part.rects (cover_of one.part regions) (part-end s all m one.part one.meant one.meant_parts one.is)
-    (cover-end s (all ++ m ∷ []) one.part regions (regions-more s all (m ∷ []) regions f.ends)) in
     subst (IsHeavy s h.marks [] m) (sym more)
-    (heavy-table s h.marks m (all ++ m ∷ []) one.part.table (one.part.rects ++ cover_of one.part regions) (part-table s one.part one.meant one.is one.sound) named fit ends large.large)
+    (heavy-parts s h.marks m (all ++ m ∷ []) c.store.regions q.parts f.store.each (regions-more s all (m ∷ []) c.store.regions f.ends) is.query.parts (are-sound s q m is) (tables-differ s q m is)
+    (parts-end s all m [] q.parts m.parts refl is.query.parts) over)
 
 -- what is hidden once all is dropped before the next query
 abbrev dropped_hidden : Hidden → List Mark → Hidden
@@ -325,9 +291,9 @@ facts-dropped c h f out =
     }
 
 -- all is dropped; where nothing was held the client stays as it is
-ready-dropped : (c : Client) (q : Query) (m : model.Query) (one : IsOneQuery c.schema q m) → c.out ≡ None → IsLarge c.schema c.store.regions one.part → (h : Hidden) → Facts c h
+ready-dropped : (c : Client) (q : Query) (m : model.Query) → IsMeaning c.schema q m → c.out ≡ None → IsOver c.schema c.store.regions q.parts → (h : Hidden) → Facts c h
     → IsReady c m h (map (drop_of Pieces) c.store.regions) []
-ready-dropped c q m one out large h f = by c.store.regions refl
+ready-dropped c q m is out over h f = by c.store.regions refl
   where
     by : (gs : List Region) → c.store.regions ≡ gs → IsReady c m h (map (drop_of Pieces) c.store.regions) []
     by [] none =
@@ -338,7 +304,7 @@ ready-dropped c q m one out large h f = by c.store.regions refl
       facts = facts-dropped c h f out;
       over = λ db here. (
         emptied (map (drop_of Pieces) c.store.regions) (record {
-          heavy = load-heavy c h q m one f large;
+          heavy = load-heavy c h q m is f over;
           all = drops_all c.schema h.marks h.queries Pieces c.store.regions (have-first c.schema f.tables) f.store.each f.store.order f.keeps;
           some = subst (λ rs. 0 < length (map (drop_of Pieces) rs)) (sym some) (omega arith);
         }),
@@ -346,45 +312,38 @@ ready-dropped c q m one out large h f = by c.store.regions refl
       );
     }
 
--- one part at most is asked
-pub whole-few : (schema : List Table) (q : Query) (m : model.Query) → IsMeaning schema q m → length (whole_asks q.parts) ≤ 4
-whole-few schema q m is =
-    let one = one-query schema q m is in
-    subst (λ ps. length (whole_asks ps) ≤ 4) (sym one.parts) (by one.part.table one.part.need one.part.rects)
+-- an entry of each part at most is asked
+whole-length : (parts : List Part) → length (whole_asks parts) ≤ length parts
+whole-length [] = omega arith
+whole-length (p ∷ parts) = by p.rects (whole-length parts)
   where
-    by : (table need : ℕ) (rects : List Rect) → length (entry_of table need rects ++ []) ≤ 4
-    by table need [] = omega arith
-    by table need (r ∷ rects) = omega arith
+    by : (rects : List Rect) → length (whole_asks parts) ≤ length parts → length (entry_of p.table p.need rects ++ whole_asks parts) ≤ length (p ∷ parts)
+    by [] few = omega (arith, few)
+    by (r ∷ rects) few = omega (arith, few)
 
 -- in few rects
 pub whole-rects : (schema : List Table) (q : Query) (m : model.Query) → IsMeaning schema q m → count_asked (whole_asks q.parts) ≤ most_rects
 whole-rects schema q m is =
     let narrow = whole-narrow schema q.parts (are-meant schema q m is) in
-    let few = whole-few schema q m is in
+    let entries = whole-length q.parts in
+    let few = parts-few schema q m is in
     let sum = sum_by-le (λ (ask : AskPart). length ask.rects) 64 (whole_asks q.parts) narrow in
-    omega (arith, few, sum)
+    omega (arith, entries, few, sum)
 
 -- all of a query, once all is dropped
 pub may-ask-whole : (c : Client) (q : Query) (m : model.Query) → c.out ≡ None → IsMeaning c.schema q m → IsOver c.schema c.store.regions q.parts → Stands c → MayAsk (with_regions c []) q m (whole_asks q.parts)
-may-ask-whole c q m out is over stands =
-    let s = c.schema in
-    let one = one-query s q m is in
-    let large = large-one s c.store.regions q.parts one.part one.parts over in
-    record {
-      out = out;
-      is = is;
-      rest = subst (λ ps. AsksRest s [] ps (whole_asks ps)) (sym one.parts) (asks-whole s one.part one.meant one.is one.sound (have-first s stands.1.tables));
-      along = whole-along s q.parts;
-      some = some-asked q.parts one.part one.parts large.some;
-      few = whole-rects s q m is;
-    }
+may-ask-whole c q m out is over stands = record {
+  out = out;
+  is = is;
+  rest = asks-whole c.schema q.parts (have-first c.schema stands.1.tables);
+  along = whole-along c.schema q.parts;
+  some = some-asked c.schema c.store.regions q.parts over;
+  few = whole-rects c.schema q m is;
+}
 
 pub query-drops : (c : Client) (q : Query) (m : model.Query) (drops : List Mark) (new : Client) (step : QueryStep) → c.out ≡ None → IsMeaning c.schema q m → IsOver c.schema c.store.regions q.parts
     → drops ≡ map (drop_of Pieces) c.store.regions → IsSent (with_regions c []) q (whole_asks q.parts) drops new step → Stands c → Queries c m new step
 query-drops c q m drops new step out is over drops_are sent stands =
-    let s = c.schema in
-    let one = one-query s q m is in
-    let large = large-one s c.store.regions q.parts one.part one.parts over in
     let may = may-ask-whole c q m out is over stands in
-    query-sent c q m (whole_asks q.parts) (map (drop_of Pieces) c.store.regions) [] may new step (ready-dropped c q m one out large)
+    query-sent c q m (whole_asks q.parts) (map (drop_of Pieces) c.store.regions) [] may new step (ready-dropped c q m is out over)
     (subst (λ ms. IsSent (with_regions c []) q (whole_asks q.parts) ms new step) drops_are sent) stands

@@ -1,5 +1,5 @@
 -- What is asked of a query suits the schema.
-use Rattle.std.proofs.Common.{◌≡◌, ℕ, zero, suc, ◌+◌, ◌-◌, ◌*◌, ◌/◌, ◌%◌, ◌^◌, ◌≤◌, ◌<◌, Bool, true, false, inl, inr, List, [], ◌∷◌, length, refl, sym, ◌∙◌, ap, subst, arith}
+use Rattle.std.proofs.Common.{◌≡◌, ℕ, zero, suc, ◌+◌, ◌-◌, ◌/◌, ◌%◌, ◌^◌, ◌≤◌, ◌<◌, Bool, true, false, inl, inr, List, [], ◌∷◌, length, refl, sym, ◌∙◌, ap, subst, arith}
 use Rattle.std.specs.Prelude.{◌&&◌, ◌==◌, nat_lt, nat_le, slice_set}
 use Rattle.std.specs.List.{list_all}
 use Rattle.std.specs.Cmp.Derive.{both_true}
@@ -13,7 +13,7 @@ use Rattle.sr_cell.specs.declared.table.Table.{Table}
 use Rattle.sr_cell.specs.Attrs.{has_column}
 use Rattle.sr_cell.specs.Cells.{Row}
 use Rattle.sr_cell.specs.Columns.{table_at, is_point, in_column}
-use Rattle.sr_box.specs.Points.{Points, rect_fits, constrains_only, IsEssential}
+use Rattle.sr_box.specs.Points.{Points, IsEssential}
 use Rattle.sr_message.specs.declared.message.AskPart.{AskPart}
 use Rattle.sr_message.specs.declared.message.Message.TheVariants.{Ask}
 use Rattle.sr_model.specs.Queries as model
@@ -22,18 +22,12 @@ use Rattle.sr_query.specs.declared.query.Query.{Query}
 use Rattle.sr_history.specs.declared.mark.Mark.{Mark}
 use Rattle.sr_history.specs.Classes.{stamp}
 use Rattle.sr_history.specs.Rests.{rest_of, IsRest, Asks, nothing, covered, asked}
-use Rattle.sr_lines.specs.Built.{is_one, joins_nothing}
 use Rattle.sr_lines.specs.Sound.{is_sound_part}
 use Rattle.sr_session.specs.Refusals.{are_columns, suits_table, part_suits, is_request_of}
-use Rattle.sr_client.specs.Arriving.{is_empty}
-use Rattle.sr_client.specs.Asking.{AsksRest, whole_asks}
+use Rattle.sr_client.specs.Asking.{whole_asks}
 use Rattle.sr_client.specs.Bound.{IsMeaning}
-use Rattle.sr_client.specs.Sends.{QuerySendsWell}
-use Rattle.sr_client.specs.Sending.{IsSent, is_down, is_sent}
-use Rattle.sr_client.specs.declared.client.Client.{Client}
-use Rattle.sr_client.specs.declared.steps.QueryStep.{QueryStep}
 use Rattle.sr_client.proofs.AskLemmas.{asks-whole}
-use Rattle.sr_client.proofs.MeantLemmas.{are-sound, one-query}
+use Rattle.sr_client.proofs.MeantLemmas.{are-sound}
 use Rattle.sr_client.proofs.NewLemmas.{nothing-kept}
 use Rattle.sr_client.proofs.TableLemmas.{have-first}
 
@@ -149,11 +143,6 @@ asks-few schema marks parts asks nothing = omega arith
 asks-few schema marks parts asks (covered part others more none rest) = let few = asks-few schema marks others more rest in omega (arith, few)
 asks-few schema marks parts asks (asked part others ask more is rest) = let few = asks-few schema marks others more rest in omega (arith, few)
 
-one-part : (parts : List model.Part) → is_one parts ≡ true → length parts ≡ 1
-one-part [] one = absurd (cc)
-one-part (part ∷ []) one = refl
-one-part (part ∷ second ∷ parts) one = absurd (cc)
-
 -- ---- the message
 
 -- the ask of a query is a request that suits the schema
@@ -162,8 +151,8 @@ pub ask-well : (schema : List Table) (client number : ℕ) (fresh : Bool) (marks
 ask-well schema client number fresh marks q m asks is rest =
     let suit = asks-suit schema marks m.parts asks rest (are-sound schema q m is) is.own in
     let count = asks-few schema marks m.parts asks rest in
-    let one = one-part m.parts (and_parts (is_one m.parts) (joins_nothing m.joins) is.may).0 in
-    both_true suit (few (length asks) (omega (arith, count, one)))
+    let parts = is.few in
+    both_true suit (few (length asks) (omega (arith, count, parts)))
   where
     few : (n : ℕ) → n ≤ 4 → nat_le n 4 ≡ true
     few n le = grind (arith, nat_tests, le)
@@ -173,6 +162,4 @@ ask-well schema client number fresh marks q m asks is rest =
 -- what is asked of it where nothing is held
 pub whole-asked : (schema : List Table) (q : Query) (m : model.Query) → list_all is_table schema ≡ true → IsMeaning schema q m → Asks schema [] m.parts (whole_asks q.parts)
 whole-asked schema q m tables is =
-    let one = one-query schema q m is in
-    let rest : AsksRest schema [] q.parts (whole_asks q.parts) = subst (λ ps. AsksRest schema [] ps (whole_asks ps)) (sym one.parts) (asks-whole schema one.part one.meant one.is one.sound (have-first schema tables)) in
-    rest [] (stamp []) m.parts (nothing-kept schema) is.query.parts (are-sound schema q m is)
+    asks-whole schema q.parts (have-first schema tables) [] (stamp []) m.parts (nothing-kept schema) is.query.parts (are-sound schema q m is)

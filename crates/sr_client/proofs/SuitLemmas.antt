@@ -1,20 +1,20 @@
 -- What is known of messages that were not refused.
-use Rattle.std.proofs.Common.{◌≡◌, ℕ, zero, suc, ◌+◌, ◌-◌, ◌<◌, ◌≤◌, Bool, true, false, List, [], ◌∷◌, ◌++◌, length, map, refl, sym, ◌∙◌, ap, subst, arith, Option, Some, None, append_assoc, append-nil, slice_index_or}
-use Rattle.std.specs.Prelude.{ℤ, not, ◌&&◌, ◌||◌, ◌==◌, nat_lt, nat_le, max, slice_get, if◌then◌else◌}
-use Rattle.std.specs.List.{list_all, list_any, All}
+use Rattle.std.proofs.Common.{◌≡◌, ℕ, suc, ◌+◌, ◌-◌, ◌<◌, ◌≤◌, Bool, true, false, List, [], ◌∷◌, ◌++◌, length, refl, sym, ◌∙◌, ap, subst, arith, Option, Some, None, append_assoc, append-nil, slice_index_or, inl, inr}
+use Rattle.std.specs.Prelude.{ℤ, not, ◌&&◌, ◌==◌, ◌⊎◌, nat_lt, nat_le, max, slice_get, if◌then◌else◌}
+use Rattle.std.specs.List.{list_all, All}
 use Rattle.std.proofs.lemmas.Bool.Decides.{nat_tests}
 use Rattle.std.proofs.lemmas.List.Elements.{All-nil, All-cons, All-head, All-tail}
+use Rattle.std.proofs.lemmas.Option.{get_or_from_slice_get}
 use Rattle.sr_cell.specs.declared.cell.Cell.{Cell}
 use Rattle.sr_cell.specs.declared.cell.Cell.TheVariants.{Num, Str}
 use Rattle.sr_cell.specs.declared.table.Kind.{Kind}
 use Rattle.sr_cell.specs.declared.table.Kind.TheVariants.{Num as Numbers, Str as Texts}
 use Rattle.sr_cell.specs.declared.table.Column.{Column}
 use Rattle.sr_cell.specs.declared.table.Table.{Table}
-use Rattle.sr_cell.specs.Attrs.{has_column, project, project_from}
+use Rattle.sr_cell.specs.Attrs.{has_column, project_from}
 use Rattle.sr_cell.specs.Cells.{Row, cell_at, cell_eq}
 use Rattle.sr_cell.specs.Columns.{table_at, is_point, in_column, in_kind, takes_cell, takes_kind, fits_columns}
 use Rattle.sr_cell.proofs.Order.{cell_eq-sound}
-use Rattle.sr_box.specs.Points.{Rect}
 use Rattle.sr_box.specs.Corners.{first_value}
 use Rattle.sr_union.specs.Grid.{have_first}
 use Rattle.sr_message.specs.declared.message.AskPart.{AskPart}
@@ -28,12 +28,13 @@ use Rattle.sr_region.specs.Regions.{rank, is_in, IsRowIn}
 use Rattle.sr_store.specs.Noticed.{IsTellOf}
 use Rattle.sr_wire.specs.declared.bad_frame.BadFrame.{BadFrame}
 use Rattle.sr_wire.specs.declared.bad_frame.BadFrame.TheVariants.{State, Number, Version, Shape}
-use Rattle.sr_session.specs.Walks.{Request, AskOut, IsAskOf, IsLaid}
-use Rattle.sr_session.specs.Misfits.{misfit, or_else, known, version_of, is_ask, is_number, parts_of, cells_fit, last_row, last_came, goes_on, ask_at, fit_ask, suits, rows_suit, tell_suits, told_suits, tells_ascend}
+use Rattle.sr_session.specs.Walks.{Request, AskOut}
+use Rattle.sr_session.specs.Misfits.{misfit, or_else, known, version_of, is_ask, is_number, cells_fit, last_row, last_came, goes_on, ask_at, fit_ask, suits, rows_suit, tell_suits, told_suits, tells_ascend}
 use Rattle.sr_session.specs.Arrivals.{arrived_at}
 use Rattle.sr_client.specs.Laying.{TellsRows}
 use Rattle.sr_client.specs.Stands.{AreFit}
 use Rattle.sr_client.specs.Values.{is_value, are_values, tells_values, has_values}
+use Rattle.sr_client.proofs.PartsLemmas.{apart-numbers}
 
 -- ---- Booleans
 
@@ -261,84 +262,142 @@ came-append last (Resume client number version holdings ∷ xs) ys = came-append
 came-append last (Ask number fresh parts ∷ xs) ys = came-append last xs ys
 came-append last (Write number sql ∷ xs) ys = came-append last xs ys
 
--- the last of the rows that came, which are of part 0
-abbrev last_at : List Row → Option (ℕ × Row)
-last_at rows = last_row None 0 rows
+-- the last row that came is the last of these, which are of part i, or of a later part
+abbrev Behind : ℕ → List Row → Option (ℕ × Row) → Type 0
+Behind i [] last = Unit {0}
+Behind i (r ∷ rows) None = ⊥
+Behind i (r ∷ rows) (Some last) = ((last.0 ≡ i) × (last.1 ≡ last_of r rows)) ⊎ (i < last.0)
 
-last-more : (rows more : List Row) → last_row (last_at rows) 0 more ≡ last_at (rows ++ more)
-last-more rows [] = ap last_at (sym (append-nil rows))
-last-more [] (s ∷ more) = refl
-last-more (r ∷ rows) (s ∷ more) = ap (λ (x : Row). Some (0, x)) (last-is s more ∙ (sym (last-behind r rows s more) ∙ sym (last-is r (rows ++ s ∷ more))))
+ascend-rest : (key : ℕ) (r : Row) (rows : List Row) → ascend key (r ∷ rows) ≡ true → ascend key rows ≡ true
+ascend-rest key r [] a = refl
+ascend-rest key r (s ∷ rows) a = and-right (key_lt key r s) (ascend key (s ∷ rows)) a
 
-goes-join : (key : ℕ) (rows more : List Row) → ascend key rows ≡ true → goes_on key 0 (last_at rows) more ≡ true → ascend key (rows ++ more) ≡ true
-goes-join key [] more a b = b
-goes-join key (r ∷ rows) more a b = ascend-join key r rows more a (subst (λ (x : Row). ascend key (x ∷ more) ≡ true) (last-is r rows) b)
+goes-alone : (key i : ℕ) (last : Option (ℕ × Row)) (rows : List Row) → goes_on key i last rows ≡ true → ascend key rows ≡ true
+goes-alone key i None rows goes = goes
+goes-alone key i (Some last) rows goes = go (last.0 == i) goes
+  where
+    go : (b : Bool) → (if b then ascend key (last.1 ∷ rows) else (nat_lt last.0 i && ascend key rows)) ≡ true → ascend key rows ≡ true
+    go true goes = ascend-rest key last.1 rows goes
+    go false goes = and-right (nat_lt last.0 i) (ascend key rows) goes
+
+-- rows of part i behind others of it
+goes-join : (key i : ℕ) (acc : List Row) (last : Option (ℕ × Row)) (rows : List Row) → Behind i acc last → ascend key acc ≡ true → goes_on key i last rows ≡ true → ascend key (acc ++ rows) ≡ true
+goes-join key i [] last rows behind a goes = goes-alone key i last rows goes
+goes-join key i (r ∷ acc) None rows behind a goes = absurd behind
+goes-join key i (r ∷ acc) (Some last) rows (inl own) a goes = go (last.0 == i) refl goes
+  where
+    go : (b : Bool) → (last.0 == i) ≡ b → (if b then ascend key (last.1 ∷ rows) else (nat_lt last.0 i && ascend key rows)) ≡ true → ascend key ((r ∷ acc) ++ rows) ≡ true
+    go true is goes = ascend-join key r acc rows a (subst (λ (x : Row). ascend key (x ∷ rows) ≡ true) own.1 goes)
+    go false is goes = absurd (apart-numbers last.0 i is own.0)
+goes-join key i (r ∷ acc) (Some last) rows (inr later) a goes = go (last.0 == i) refl (nat_lt last.0 i) refl goes
+  where
+    go : (b : Bool) → (last.0 == i) ≡ b → (c : Bool) → nat_lt last.0 i ≡ c → (if b then ascend key (last.1 ∷ rows) else (c && ascend key rows)) ≡ true → ascend key ((r ∷ acc) ++ rows) ≡ true
+    go true is c less goes = absurd (let same : last.0 ≡ i = grind (arith, nat_tests, is) in omega (arith, same, later))
+    go false is true less goes = absurd (let before : last.0 < i = grind (arith, nat_tests, less) in omega (arith, before, later))
+    go false is false less goes = absurd (let wrong : false ≡ true = goes in cc)
+
+behind-more : (i : ℕ) (acc : List Row) (last : Option (ℕ × Row)) (rows : List Row) → Behind i acc last → Behind i (acc ++ rows) (last_row last i rows)
+behind-more i acc last [] behind = subst (λ (xs : List Row). Behind i xs last) (sym (append-nil acc)) behind
+behind-more i [] last (s ∷ more) behind = inl (refl, last-is s more)
+behind-more i (r ∷ acc) last (s ∷ more) behind = inl (refl, last-is s more ∙ sym (last-behind r acc s more))
+
+-- rows of another part, which is a later one where some of part i have come
+behind-other : (key i part : ℕ) (acc : List Row) (last : Option (ℕ × Row)) (rows : List Row) → (part ≡ i → ⊥) → goes_on key part last rows ≡ true → Behind i acc last → Behind i acc (last_row last part rows)
+behind-other key i part acc last [] other goes behind = behind
+behind-other key i part [] last (s ∷ more) other goes behind = tt
+behind-other key i part (r ∷ acc) None (s ∷ more) other goes behind = absurd behind
+behind-other key i part (r ∷ acc) (Some last) (s ∷ more) other goes behind = inr (go (last.0 == part) refl goes behind)
+  where
+    go : (b : Bool) → (last.0 == part) ≡ b → (if b then ascend key (last.1 ∷ s ∷ more) else (nat_lt last.0 part && ascend key (s ∷ more))) ≡ true
+        → ((last.0 ≡ i) × (last.1 ≡ last_of r acc)) ⊎ (i < last.0) → i < part
+    go true is goes (inl own) = let at : last.0 ≡ part = grind (arith, nat_tests, is) in absurd (other (sym at ∙ own.0))
+    go true is goes (inr later) = let at : last.0 ≡ part = grind (arith, nat_tests, is) in omega (arith, at, later)
+    go false is goes (inl own) =
+        let test = and-left (nat_lt last.0 part) (ascend key (s ∷ more)) goes in
+        let before : last.0 < part = grind (arith, nat_tests, test) in
+        let at = own.0 in omega (arith, before, at)
+    go false is goes (inr later) =
+        let test = and-left (nat_lt last.0 part) (ascend key (s ∷ more)) goes in
+        let before : last.0 < part = grind (arith, nat_tests, test) in omega (arith, before, later)
 
 -- what is known of the rows that came
 pub record AreRows (schema : List Table) (ask : AskPart) (rows : List Row) : Type 0 where
   pub each : All (IsRowIn (table_at schema ask.table).columns ask.attrs ask.rects) rows
   pub ascending : ascend (rank ask.attrs (table_at schema ask.table).key) rows ≡ true
 
-module _ (schema : List Table) (ask : AskPart) (number query version : ℕ) (meaning : Query) (fresh : Bool) (first : have_first (table_at schema ask.table).columns ≡ true) where
+-- part number i of what was asked is this one
+module _ (schema : List Table) (asks : List AskPart) (number query version : ℕ) (meaning : Query) (fresh : Bool) (i : ℕ) (ask : AskPart) (at : slice_get asks i ≡ Some ask)
+    (first : have_first (table_at schema ask.table).columns ≡ true) where
   abbrev out : Option Request
-  out = Some (AskOut number query meaning fresh (ask ∷ []))
+  out = Some (AskOut number query meaning fresh asks)
 
   abbrev key : ℕ
   key = rank ask.attrs (table_at schema ask.table).key
 
-  only-first : (part : ℕ) → nat_lt part 1 ≡ true → part ≡ 0
-  only-first part below = grind (arith, nat_tests, below)
+  asked-at : ask_at asks i ≡ ask
+  asked-at = get_or_from_slice_get asks i ask (record { table = 0; attrs = 0; rects = [] }) at
 
-  -- rows behind others
-  rows-more : (pre : List Message) (acc : List Row) (k part : ℕ) (rows : List Row) → misfit schema out pre version (Rows k part rows) ≡ None → last_came None pre ≡ last_at acc → list_all are_values rows ≡ true
-      → AreRows schema ask acc → (part ≡ 0) × AreRows schema ask (acc ++ rows)
-  rows-more pre acc k part rows fit last values a = (zero_is, record { each = all-append (IsRowIn (table_at schema ask.table).columns ask.attrs ask.rects) acc rows a.each own; ascending = goes-join key acc rows a.ascending goes })
+  -- rows that came suit what was asked
+  rows-fit : (pre : List Message) (k part : ℕ) (rows : List Row) (last : Option (ℕ × Row)) → misfit schema out pre version (Rows k part rows) ≡ None → last_came None pre ≡ last
+      → (fit_ask schema (ask_at asks part) rows && goes_on (rank (ask_at asks part).attrs (table_at schema (ask_at asks part).table).key) part last rows) ≡ true
+  rows-fit pre k part rows last fit came =
+      and-right (nat_lt part (length asks)) _ (subst (λ l. suits schema asks l part rows ≡ true) came
+      (not-false (rows_suit schema asks pre part rows) (or-none (not (rows_suit schema asks pre part rows)) Shape None
+      (or-later (not (k == number)) Number (or_else (not (rows_suit schema asks pre part rows)) Shape None) fit))))
+
+  -- rows of this part
+  rows-own : (pre : List Message) (acc : List Row) (last : Option (ℕ × Row)) (k part : ℕ) (rows : List Row) → misfit schema out pre version (Rows k part rows) ≡ None → last_came None pre ≡ last
+      → list_all are_values rows ≡ true → part ≡ i → Behind i acc last → AreRows schema ask acc → AreRows schema ask (acc ++ rows)
+  rows-own pre acc last k part rows fit came values own behind a = record {
+    each = all-append (IsRowIn (table_at schema ask.table).columns ask.attrs ask.rects) acc rows a.each (rows-in schema ask rows first (and-left (fit_ask schema ask rows) (goes_on key i last rows) here) values);
+    ascending = goes-join key i acc last rows behind a.ascending (and-right (fit_ask schema ask rows) (goes_on key i last rows) here);
+  }
     where
-      suit : rows_suit schema (ask ∷ []) pre part rows ≡ true
-      suit = not-false (rows_suit schema (ask ∷ []) pre part rows) (or-none (not (rows_suit schema (ask ∷ []) pre part rows)) Shape None
-          (or-later (not (k == number)) Number (or_else (not (rows_suit schema (ask ∷ []) pre part rows)) Shape None) fit))
+      here : (fit_ask schema ask rows && goes_on key i last rows) ≡ true
+      here =
+          subst (λ (x : AskPart). (fit_ask schema x rows && goes_on (rank x.attrs (table_at schema x.table).key) i last rows) ≡ true) asked-at
+          (subst (λ n. (fit_ask schema (ask_at asks n) rows && goes_on (rank (ask_at asks n).attrs (table_at schema (ask_at asks n).table).key) n last rows) ≡ true) own (rows-fit pre k part rows last fit came))
 
-      zero_is : part ≡ 0
-      zero_is = only-first part (and-left (nat_lt part 1) _ suit)
+  -- what comes leads on the last row
+  came-on : (pre : List Message) (m : Message) (last : Option (ℕ × Row)) → last_came None pre ≡ last → last_came None (pre ++ m ∷ []) ≡ last_came last (m ∷ [])
+  came-on pre m last came = came-append None pre (m ∷ []) ∙ ap (λ l. last_came l (m ∷ [])) came
 
-      at-zero : suits schema (ask ∷ []) (last_at acc) 0 rows ≡ true
-      at-zero = subst (λ l. suits schema (ask ∷ []) l 0 rows ≡ true) last (subst (λ n. suits schema (ask ∷ []) (last_came None pre) n rows ≡ true) zero_is suit)
+  rows-on : (pre ms : List Message) (acc : List Row) (last : Option (ℕ × Row)) → AreFit schema out version pre ms → last_came None pre ≡ last → list_all has_values ms ≡ true → Behind i acc last
+      → AreRows schema ask acc → AreRows schema ask (acc ++ arrived_at i ms)
+  rows-on pre [] acc last fit came values behind a = subst (AreRows schema ask) (sym (append-nil acc)) a
+  rows-on pre (Rows k part rows ∷ ms) acc last fit came values behind a =
+      go (part == i) refl
+      (λ own. rows-on (pre ++ Rows k part rows ∷ []) ms (acc ++ rows) (last_row last part rows) fit.1 (came-on pre (Rows k part rows) last came) others
+      (subst (λ n. Behind i (acc ++ rows) (last_row last n rows)) (sym own) (behind-more i acc last rows behind)) (rows-own pre acc last k part rows fit.0 came own-values own behind a))
+      (λ is. rows-on (pre ++ Rows k part rows ∷ []) ms acc (last_row last part rows) fit.1 (came-on pre (Rows k part rows) last came) others
+      (behind-other (rank (ask_at asks part).attrs (table_at schema (ask_at asks part).table).key) i part acc last rows (apart-numbers part i is)
+      (and-right (fit_ask schema (ask_at asks part) rows) _ (rows-fit pre k part rows last fit.0 came)) behind) a)
+    where
+      own-values : list_all are_values rows ≡ true
+      own-values = and-left (list_all are_values rows) (list_all has_values ms) values
 
-      own : All (IsRowIn (table_at schema ask.table).columns ask.attrs ask.rects) rows
-      own = rows-in schema ask rows first (and-left (fit_ask schema ask rows) (goes_on key 0 (last_at acc) rows) at-zero) values
+      others : list_all has_values ms ≡ true
+      others = and-right (list_all are_values rows) (list_all has_values ms) values
 
-      goes : goes_on key 0 (last_at acc) rows ≡ true
-      goes = and-right (fit_ask schema ask rows) (goes_on key 0 (last_at acc) rows) at-zero
+      go : (b : Bool) → (part == i) ≡ b → (part ≡ i → AreRows schema ask ((acc ++ rows) ++ arrived_at i ms)) → ((part == i) ≡ false → AreRows schema ask (acc ++ arrived_at i ms))
+          → AreRows schema ask (acc ++ ((if b then rows else []) ++ arrived_at i ms))
+      go true is own other = subst (AreRows schema ask) (append_assoc acc rows (arrived_at i ms)) (own (grind (arith, nat_tests, is)))
+      go false is own other = other is
+  rows-on pre (Notice w told ∷ ms) acc last fit came values behind a =
+      rows-on (pre ++ Notice w told ∷ []) ms acc last fit.1 (came-on pre (Notice w told) last came) (and-right (list_all tells_values told) (list_all has_values ms) values) behind a
+  rows-on pre (Lapse w ∷ ms) acc last fit came values behind a = rows-on (pre ++ Lapse w ∷ []) ms acc last fit.1 (came-on pre (Lapse w) last came) values behind a
+  rows-on pre (Reply k w ∷ ms) acc last fit came values behind a = rows-on (pre ++ Reply k w ∷ []) ms acc last fit.1 (came-on pre (Reply k w) last came) values behind a
+  rows-on pre (Written k w ∷ ms) acc last fit came values behind a = rows-on (pre ++ Written k w ∷ []) ms acc last fit.1 (came-on pre (Written k w) last came) values behind a
+  rows-on pre (Refused k fault ∷ ms) acc last fit came values behind a = rows-on (pre ++ Refused k fault ∷ []) ms acc last fit.1 (came-on pre (Refused k fault) last came) values behind a
+  rows-on pre (Welcome k w kept ∷ ms) acc last fit came values behind a = rows-on (pre ++ Welcome k w kept ∷ []) ms acc last fit.1 (came-on pre (Welcome k w kept) last came) values behind a
+  rows-on pre (Hello client n ∷ ms) acc last fit came values behind a = absurd (let wrong = fit.0 in cc)
+  rows-on pre (Resume client n v holdings ∷ ms) acc last fit came values behind a = absurd (let wrong = fit.0 in cc)
+  rows-on pre (Ask n mode parts ∷ ms) acc last fit came values behind a = absurd (let wrong = fit.0 in cc)
+  rows-on pre (Write n sql ∷ ms) acc last fit came values behind a = absurd (let wrong = fit.0 in cc)
 
-  -- what else comes leaves them
-  came-still : (pre : List Message) (acc : List Row) (m : Message) → last_came None pre ≡ last_at acc → last_came (last_at acc) (m ∷ []) ≡ last_at acc → last_came None (pre ++ m ∷ []) ≡ last_at acc
-  came-still pre acc m last same = came-append None pre (m ∷ []) ∙ (ap (λ l. last_came l (m ∷ [])) last ∙ same)
-
-  rows-on : (pre ms : List Message) (acc : List Row) → AreFit schema out version pre ms → last_came None pre ≡ last_at acc → list_all has_values ms ≡ true → AreRows schema ask acc
-      → AreRows schema ask (acc ++ arrived_at 0 ms)
-  rows-on pre [] acc fit last values a = subst (AreRows schema ask) (sym (append-nil acc)) a
-  rows-on pre (Rows k part rows ∷ ms) acc fit last values a =
-      let own = rows-more pre acc k part rows fit.0 last (and-left (list_all are_values rows) (list_all has_values ms) values) a in
-      let came : last_came None (pre ++ Rows k part rows ∷ []) ≡ last_at (acc ++ rows) =
-      came-append None pre (Rows k part rows ∷ []) ∙ (ap (λ l. last_row l part rows) last ∙ (ap (λ n. last_row (last_at acc) n rows) own.0 ∙ last-more acc rows)) in
-      let all = rows-on (pre ++ Rows k part rows ∷ []) ms (acc ++ rows) fit.1 came (and-right (list_all are_values rows) (list_all has_values ms) values) own.1 in
-      let brought : (if part == 0 then rows else []) ≡ rows = ap (λ n. if n == 0 then rows else []) own.0 in
-      subst (AreRows schema ask) (append_assoc acc rows (arrived_at 0 ms) ∙ ap (λ r. acc ++ (r ++ arrived_at 0 ms)) (sym brought)) all
-  rows-on pre (Notice w told ∷ ms) acc fit last values a =
-      rows-on (pre ++ Notice w told ∷ []) ms acc fit.1 (came-still pre acc (Notice w told) last refl) (and-right (list_all tells_values told) (list_all has_values ms) values) a
-  rows-on pre (Lapse w ∷ ms) acc fit last values a = rows-on (pre ++ Lapse w ∷ []) ms acc fit.1 (came-still pre acc (Lapse w) last refl) values a
-  rows-on pre (Reply k w ∷ ms) acc fit last values a = rows-on (pre ++ Reply k w ∷ []) ms acc fit.1 (came-still pre acc (Reply k w) last refl) values a
-  rows-on pre (Written k w ∷ ms) acc fit last values a = rows-on (pre ++ Written k w ∷ []) ms acc fit.1 (came-still pre acc (Written k w) last refl) values a
-  rows-on pre (Refused k fault ∷ ms) acc fit last values a = rows-on (pre ++ Refused k fault ∷ []) ms acc fit.1 (came-still pre acc (Refused k fault) last refl) values a
-  rows-on pre (Welcome k w kept ∷ ms) acc fit last values a = rows-on (pre ++ Welcome k w kept ∷ []) ms acc fit.1 (came-still pre acc (Welcome k w kept) last refl) values a
-  rows-on pre (Hello client n ∷ ms) acc fit last values a = absurd (let wrong = fit.0 in cc)
-  rows-on pre (Resume client n v holdings ∷ ms) acc fit last values a = absurd (let wrong = fit.0 in cc)
-  rows-on pre (Ask n mode parts ∷ ms) acc fit last values a = absurd (let wrong = fit.0 in cc)
-  rows-on pre (Write n sql ∷ ms) acc fit last values a = absurd (let wrong = fit.0 in cc)
-
-  -- all rows that were laid by
-  pub laid-rows : (laid : List Message) → AreFit schema out version [] laid → list_all has_values laid ≡ true → AreRows schema ask (arrived_at 0 laid)
-  laid-rows laid fit values = rows-on [] laid [] fit refl values (record { each = All-nil (IsRowIn (table_at schema ask.table).columns ask.attrs ask.rects); ascending = refl })
+  -- all rows of this part that were laid by
+  pub laid-rows : (laid : List Message) → AreFit schema out version [] laid → list_all has_values laid ≡ true → AreRows schema ask (arrived_at i laid)
+  laid-rows laid fit values = rows-on [] laid [] None fit refl values tt (record { each = All-nil (IsRowIn (table_at schema ask.table).columns ask.attrs ask.rects); ascending = refl })
 
 -- ---- notices that are laid by
 

@@ -1,11 +1,14 @@
 -- What was asked, with the rows that came.
-use Rattle.std.specs.Prelude.{ℕ, Bool, true, false, List, [], ◌∷◌}
+use Rattle.std.specs.Prelude.{ℕ, zero, suc, Bool, true, false, ◌+◌, ◌++◌, List, [], ◌∷◌}
 use Rattle.sr_cell.specs.declared.table.Table.{Table}
 use Rattle.sr_cell.specs.Columns.{table_at}
 use Rattle.sr_cell.specs.Cells.{Row}
 use Rattle.sr_message.specs.declared.message.AskPart.{AskPart}
+use Rattle.sr_message.specs.declared.message.Message.{Message}
+use Rattle.sr_message.specs.declared.message.Message.TheVariants.{Rows}
 use Rattle.sr_region.specs.declared.region.Region.{Region}
 use Rattle.sr_store.specs.declared.store.Arrival.{Arrival}
+use Rattle.sr_session.specs.Arrivals.{arrived_at}
 
 abbrev pub is_empty : List Region → Bool
 is_empty [] = true
@@ -15,7 +18,31 @@ is_empty (g ∷ regions) = false
 abbrev pub arrival_of : List Table → AskPart → List Row → Arrival
 arrival_of schema ask rows = record { table = ask.table; key = (table_at schema ask.table).key; attrs = ask.attrs; rects = ask.rects; rows = rows }
 
--- of the parts that were asked there is one at most
-abbrev pub arrivals_of : List Table → List AskPart → List Row → List Arrival
-arrivals_of schema [] rows = []
-arrivals_of schema (ask ∷ asks) rows = arrival_of schema ask rows ∷ []
+-- the part without rows yet
+abbrev pub unfilled : List Table → AskPart → Arrival
+unfilled schema ask = arrival_of schema ask []
+
+-- the parts, each with the rows that the messages bring of it; i is the number of the first
+abbrev pub arrivals_from : ℕ → List Table → List AskPart → List Message → List Arrival
+arrivals_from i schema [] ms = []
+arrivals_from i schema (ask ∷ asks) ms = arrival_of schema ask (arrived_at i ms) ∷ arrivals_from (i + 1) schema asks ms
+
+abbrev pub arrivals_of : List Table → List AskPart → List Message → List Arrival
+arrivals_of schema asks ms = arrivals_from 0 schema asks ms
+
+-- ---- one message after another
+
+-- the arrivals with rows more of that number
+abbrev pub more_at : ℕ → List Row → List Arrival → List Arrival
+more_at n rows [] = []
+more_at zero rows (r ∷ arrivals) = record r { rows = r.rows ++ rows } ∷ arrivals
+more_at (suc n) rows (r ∷ arrivals) = r ∷ more_at n rows arrivals
+
+-- the arrivals with the rows that the message brings
+abbrev pub with_message : Message → List Arrival → List Arrival
+with_message (Rows number part rows) arrivals = more_at part rows arrivals
+with_message other arrivals = arrivals
+
+abbrev pub with_messages : List Message → List Arrival → List Arrival
+with_messages [] arrivals = arrivals
+with_messages (m ∷ ms) arrivals = with_messages ms (with_message m arrivals)

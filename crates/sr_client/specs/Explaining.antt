@@ -1,5 +1,5 @@
--- How a query of one table would be answered from regions, and in which order these would be dropped.
-use Rattle.std.specs.Prelude.{ℕ, true, false, List, [], ◌∷◌, length, ◌≡◌, ◌⊎◌}
+-- How a query would be answered from regions, and in which order these would be dropped.
+use Rattle.std.specs.Prelude.{ℕ, true, false, ◌==◌, List, [], ◌∷◌, length, Option, Some, None, ◌≡◌, ◌⊎◌, if◌then◌else◌}
 use Rattle.std.specs.List.{list_all}
 use Rattle.sr_cell.specs.declared.table.Column.{Column}
 use Rattle.sr_cell.specs.declared.table.Table.{Table}
@@ -10,7 +10,6 @@ use Rattle.sr_model.specs.Queries.{Query}
 use Rattle.sr_policy.specs.declared.policy.Policy.{Policy}
 use Rattle.sr_policy.specs.declared.policy.Last.{Last}
 use Rattle.sr_query.specs.declared.query.Part.{Part}
-use Rattle.sr_query.specs.declared.query.Query as code
 use Rattle.sr_region.specs.declared.region.Region.{Region}
 use Rattle.sr_store.specs.Stores.{serves}
 use Rattle.sr_store.specs.Fitted.{IsFirstOut, without}
@@ -53,21 +52,22 @@ pub data AreProbes (part : Part) : List Region → List ProbeView → Type 0 whe
 
 -- ---- a part
 
--- the first of the entries, if there is one
-abbrev pub IsRestIn : List AskPart → ℕ → List Rect → Type 0
-IsRestIn [] attrs rest = rest ≡ []
-IsRestIn (ask ∷ asks) attrs rest = (attrs ≡ ask.attrs) × (rest ≡ ask.rects)
+-- the entry for the table, if there is one
+abbrev pub entry_for : ℕ → List AskPart → Option AskPart
+entry_for table [] = None
+entry_for table (ask ∷ asks) = if ask.table == table then Some ask else entry_for table asks
+
+-- what this entry asks, if there is one
+abbrev pub IsRestIn : Option AskPart → ℕ → List Rect → Type 0
+IsRestIn None attrs rest = rest ≡ []
+IsRestIn (Some ask) attrs rest = (attrs ≡ ask.attrs) × (rest ≡ ask.rects)
 
 -- the part, where these regions are probed and these entries asked
 pub record IsExplained (regions : List Region) (asks : List AskPart) (part : Part) (e : ExplainPart) : Type 0 where
   pub table : e.table ≡ part.table
   pub need : e.need ≡ part.need
   pub probes : AreProbes part regions e.probes
-  pub rest : IsRestIn asks e.attrs e.rest
-
--- the one part of a query
-abbrev pub IsExplainedOne : List Region → List AskPart → code.Query → List ExplainPart → Type 0
-IsExplainedOne regions asks q parts = (e : ExplainPart) × (parts ≡ e ∷ []) × ((part : Part) → q.parts ≡ part ∷ [] → IsExplained regions asks part e)
+  pub rest : IsRestIn (entry_for part.table asks) e.attrs e.rest
 
 -- ---- victims
 

@@ -1,20 +1,14 @@
 -- What is laid by, message by message.
-use Rattle.std.specs.Prelude.{ℕ, ◌==◌, List, [], Some, if◌then◌else◌}
+use Rattle.std.specs.Prelude.{List, [], Some}
 use Rattle.std.specs.List.{All}
 use Rattle.sr_cell.specs.declared.table.Table.{Table}
-use Rattle.sr_cell.specs.Cells.{Row}
 use Rattle.sr_message.specs.declared.message.Message.{Message}
-use Rattle.sr_message.specs.declared.message.Message.TheVariants.{Notice, Rows}
+use Rattle.sr_message.specs.declared.message.Message.TheVariants.{Notice}
 use Rattle.sr_store.specs.Noticed.{IsTellOf}
 use Rattle.sr_session.specs.Regions.{after_messages}
 use Rattle.sr_client.specs.declared.client.AskOut.{AskOut}
 use Rattle.sr_client.specs.declared.client.Client.{Client}
 use Rattle.sr_client.specs.declared.client.Request.TheVariants as request
-
--- the rows that a message brings of the first part
-abbrev pub brought : Message → List Row
-brought (Rows number part rows) = if part == 0 then rows else []
-brought other = []
 
 -- what is told is of tables of the schema
 abbrev pub TellsRows : List Table → Message → Type 0

@@ -1,17 +1,16 @@
-//! The answer of a query of one table, from the regions and from what arrives.
-ghost use Rattle.std.specs.Prelude.{◌≡◌, ℕ, ◌<◌, ◌||◌, Bool, List, map, filter, length, IfOk, OnOk};
+//! The answer of a query, from the regions and from what arrives.
+ghost use Rattle.std.specs.Prelude.{◌≡◌, List, filter, IfOk, OnOk};
+ghost use Rattle.std.specs.List.{AllZip};
 ghost use Rattle.sr_cell.specs.declared.table.Table.{Table as TheTable};
-ghost use Rattle.sr_cell.specs.Cells.{Row as Cells};
-ghost use Rattle.sr_model.specs.Queries.{rows_at};
+ghost use Rattle.sr_model.specs.Queries.{Query as TheQuery, rows_at, rows_of};
 ghost use Rattle.sr_model.specs.Statements.{Tables as TheTables};
-ghost use Rattle.sr_query.specs.declared.query.Part.{Part as ThePart};
 ghost use Rattle.sr_region.specs.Regions.{is_in};
-ghost use Rattle.sr_join.specs.Found.{cells_of, IsFound};
-ghost use Rattle.sr_client.specs.Answering.{is_kept, is_new, IsOnePart, HaveRows, BringRows};
+ghost use Rattle.sr_join.specs.Lent.{IsJoinable};
+ghost use Rattle.sr_client.specs.Answering.{is_kept, is_new, IsPartOver, HaveRows, BringRows, LendsMore, IsThere};
 
 use sr_cell::cell::Rows;
 use sr_cell::list::NoMemory;
-use sr_join::joiner::Joiner;
+use sr_join::lending::Lending;
 use sr_query::query::{Part, Query};
 use sr_region::inside::{RowsIn, rows_inside};
 use sr_region::region::Region;
@@ -19,61 +18,61 @@ use sr_store::store::Arrival;
 use sr_union::rects::Rects;
 use std::alloc::Global;
 
-/// The answer of a query: its part's rows in the regions that serve it, and in what arrives.
+/// The answer of a query: its parts' rows in the regions that serve them, and in what arrives, joined by key.
 pub fn answer(
     alloc: Global,
     query: &Query,
     regions: &[Region],
     arrivals: &[Arrival],
 ) -> Result<Rows, NoMemory>
-    requires { 0 < length query.now.parts }
-    ensures { (schema : List TheTable) (tables : TheTables) (part : ThePart) → IfOk result (λ rows. IsOnePart schema tables query.now part
-        → HaveRows schema tables regions.now → BringRows schema tables part arrivals.now
-        → rows ≡ map (cells_of query.now.output) (filter (λ p. is_kept part regions.now p || is_new part arrivals.now p) (rows_at tables part.table))) }
+    ensures { (schema : List TheTable) (tables : TheTables) (meaning : TheQuery) → IfOk result (λ rows. IsJoinable schema tables query.now meaning
+        → HaveRows schema tables regions.now → AllZip (IsThere schema tables regions.now arrivals.now) query.now.parts meaning.parts → rows ≡ rows_of meaning tables) }
 {
-    let part = &query.parts.as_slice()[0];
-    let mut joiner = Joiner::new(alloc);
-    lend_regions(alloc, &mut joiner, query, part, regions)?;
-    lend_arrivals(alloc, &mut joiner, query, part, arrivals)?;
-    joiner.answer(alloc)
+    let mut lending = Lending::new(alloc);
+    let parts = query.parts.as_slice();
+    for i in 0..parts.len() {
+        lend_regions(alloc, &mut lending, i, &parts[i], regions)?;
+        lend_arrivals(alloc, &mut lending, i, &parts[i], arrivals)?;
+    }
+    lending.answer(alloc, query)
 }
 
 /// Lends the rows of the regions that serve the part, as far as they lie in it. Rows of regions away from it are not looked at.
-fn lend_regions(
+fn lend_regions<'a>(
     alloc: Global,
-    joiner: &mut Joiner,
-    query: &Query,
-    part: &Part,
-    regions: &[Region],
+    lending: &mut Lending<'a>,
+    number: usize,
+    part: &'a Part,
+    regions: &'a [Region],
 ) -> Result<(), NoMemory>
-    ensures { (schema : List TheTable) (tables : TheTables) (test : Cells → Bool) → OnOk result (IsOnePart schema tables query.now part.now → HaveRows schema tables regions.now
-        → IsFound part.now.key query.now.output (rows_at tables part.now.table) test joiner.old.found
-        → IsFound part.now.key query.now.output (rows_at tables part.now.table) (λ p. test p || is_kept part.now regions.now p) joiner.new.found) }
+    ensures { (schema : List TheTable) (tables : TheTables) → OnOk result (IsPartOver schema tables part.now → HaveRows schema tables regions.now
+        → LendsMore number part.now.need (rows_at tables part.now.table) (is_kept part.now regions.now) lending.old.runs lending.new.runs) }
 {
     for region in regions {
         if region.serves(part.table, part.need) {
             if region.rects.meets(&part.rects) {
-                joiner.lend(alloc, query, region.rows_in(&part.rects))?;
+                lending.lend(alloc, number, region.rows_in(&part.rects))?;
             }
         }
     }
     Ok(())
 }
 
-/// Lends the rows that arrived, as far as they lie in the part.
-fn lend_arrivals(
+/// Lends the rows that arrived of the part's table, as far as they lie in the part.
+fn lend_arrivals<'a>(
     alloc: Global,
-    joiner: &mut Joiner,
-    query: &Query,
-    part: &Part,
-    arrivals: &[Arrival],
+    lending: &mut Lending<'a>,
+    number: usize,
+    part: &'a Part,
+    arrivals: &'a [Arrival],
 ) -> Result<(), NoMemory>
-    ensures { (schema : List TheTable) (tables : TheTables) (test : Cells → Bool) → OnOk result (IsOnePart schema tables query.now part.now → BringRows schema tables part.now arrivals.now
-        → IsFound part.now.key query.now.output (rows_at tables part.now.table) test joiner.old.found
-        → IsFound part.now.key query.now.output (rows_at tables part.now.table) (λ p. test p || is_new part.now arrivals.now p) joiner.new.found) }
+    ensures { (schema : List TheTable) (tables : TheTables) → OnOk result (IsPartOver schema tables part.now → BringRows schema tables part.now arrivals.now
+        → LendsMore number part.now.need (rows_at tables part.now.table) (is_new part.now arrivals.now) lending.old.runs lending.new.runs) }
 {
     for arrival in arrivals {
-        joiner.lend(alloc, query, arrived_in(arrival, &part.rects))?;
+        if arrival.table == part.table {
+            lending.lend(alloc, number, arrived_in(arrival, &part.rects))?;
+        }
     }
     Ok(())
 }

@@ -1,5 +1,5 @@
 //! A client and its state.
-ghost use Rattle.std.specs.Prelude.{◌≡◌, ◌-◌, ◌^◌, min, IsTrue};
+ghost use Rattle.std.specs.Prelude.{◌≡◌, ◌≤◌, ◌+◌, ◌-◌, ◌^◌, min, IsTrue};
 ghost use Rattle.std.specs.List.{list_all};
 ghost use Rattle.std.specs.Option.{is_some};
 ghost use Rattle.sr_model.specs.Queries.{Query as TheQuery};
@@ -153,7 +153,8 @@ impl Client {
 
     /// Forgets all, as if the link had been cut; takes no memory.
     pub(crate) fn give_up(&mut self, alloc: Global)
-        ensures { self.new ≡ given_up self.old self.new.cuts }
+        ensures given { self.new ≡ given_up self.old self.new.cuts }
+        ensures once { self.new.cuts ≤ self.old.cuts + 1 }
     {
         self.store = Store::new(alloc, self.store.limits);
         self.out = None;

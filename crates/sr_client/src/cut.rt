@@ -1,6 +1,6 @@
 //! What a client does when its link is cut.
-ghost use Rattle.std.specs.Prelude.{◌≡◌, ◌<◌, ◌^◌};
-ghost use Rattle.sr_client.specs.Stands.{Stands, Stays};
+ghost use Rattle.std.specs.Prelude.{◌≡◌, ◌<◌, ◌≤◌, ◌+◌, ◌^◌};
+ghost use Rattle.sr_client.specs.Stands.{Stands, Stays, drawn};
 ghost use Rattle.sr_client.specs.Steps.{Cuts, ended_of};
 
 use crate::client::{Client, Request};
@@ -18,6 +18,8 @@ impl Client {
         ensures version { self.new.version ≡ self.old.version }
         ensures held { self.new.store ≡ self.old.store }
         ensures stays { Stays self.old self.new }
+        ensures drawn { drawn self.new ≡ drawn self.old }
+        ensures once { self.new.cuts ≤ self.old.cuts + 1 }
     {
         if self.cut {
             return CutStep::Already { number: self.cuts };

@@ -1,9 +1,10 @@
 //! How a client would answer a query.
-ghost use Rattle.std.specs.Prelude.{◌≡◌, ◌<◌, [], ◌∷◌, length, IfOk};
+ghost use Rattle.std.specs.Prelude.{◌≡◌, [], ◌∷◌, length, Some, IfOk};
+ghost use Rattle.std.specs.List.{AllZip};
 ghost use Rattle.sr_model.specs.Queries.{Query as TheQuery};
 ghost use Rattle.sr_client.specs.Asking.{whole_asks};
 ghost use Rattle.sr_client.specs.Bound.{IsMeaning};
-ghost use Rattle.sr_client.specs.Explaining.{AreProbes, IsRestIn, IsExplainedOne, Explains};
+ghost use Rattle.sr_client.specs.Explaining.{AreProbes, entry_for, IsRestIn, IsExplained, Explains};
 ghost use Rattle.sr_client.specs.Stands.{Stands};
 
 use crate::asks::{asks_of, whole_asks};
@@ -19,7 +20,7 @@ use sr_union::rects::Rects;
 use std::alloc::Global;
 
 impl Client {
-    /// How a query of one table would be answered now: what its regions would serve of it and what would be asked, as `query` judges
+    /// How a query would be answered now: what its regions would serve of it and what would be asked, as `query` judges
     /// it; and all regions in the order in which they would be dropped one after another. It may be asked while a request is out.
     pub fn explain(&self, alloc: Global, query: &Query) -> Result<Explanation, NoMemory>
         requires stands { Stands self.now }
@@ -33,13 +34,13 @@ impl Client {
             Ok(asks) => Ok(Explanation {
                 version: self.version,
                 pieces: false,
-                parts: explained(alloc, self.store.regions.as_slice(), asks.as_slice(), query)?,
+                parts: explained(alloc, self.store.regions.as_slice(), asks.as_slice(), parts)?,
                 victims,
             }),
             Err(No::Refused(_)) => Ok(Explanation {
                 version: self.version,
                 pieces: !self.store.regions.is_empty(),
-                parts: explained_whole(alloc, query)?,
+                parts: explained_whole(alloc, parts)?,
                 victims,
             }),
             Err(No::NoMemory) => Err(NoMemory),
@@ -47,53 +48,72 @@ impl Client {
     }
 }
 
-/// The one part of a query where nothing is held: all of it would be asked.
-fn explained_whole(alloc: Global, query: &Query) -> Result<ExplainParts, NoMemory>
-    requires { 0 < length query.now.parts }
-    ensures { IfOk result (IsExplainedOne [] (whole_asks query.now.parts) query.now) }
+/// The parts of a query where nothing is held: all of them would be asked.
+fn explained_whole(alloc: Global, parts: &[Part]) -> Result<ExplainParts, NoMemory>
+    ensures { IfOk result (AllZip (IsExplained [] (whole_asks parts.now)) parts.now) }
 {
-    let asks = whole_asks(alloc, query.parts.as_slice())?;
-    explained(alloc, &[], asks.as_slice(), query)
+    let asks = whole_asks(alloc, parts)?;
+    explained(alloc, &[], asks.as_slice(), parts)
 }
 
-/// The one part of a query, where these regions are held and this would be asked.
+/// The parts of a query, where these regions are held and this would be asked.
 fn explained(
     alloc: Global,
     regions: &[Region],
     asks: &[AskPart],
-    query: &Query,
+    parts: &[Part],
 ) -> Result<ExplainParts, NoMemory>
-    requires { 0 < length query.now.parts }
-    ensures { IfOk result (IsExplainedOne regions.now asks.now query.now) }
+    ensures { IfOk result (AllZip (IsExplained regions.now asks.now) parts.now) }
 {
-    let part = &query.parts.as_slice()[0];
+    let mut all = Seq::new(alloc);
+    for part in parts {
+        all.push(explained_part(alloc, regions, asks, part)?)?;
+    }
+    Ok(all)
+}
+
+fn explained_part(
+    alloc: Global,
+    regions: &[Region],
+    asks: &[AskPart],
+    part: &Part,
+) -> Result<ExplainPart, NoMemory>
+    ensures { IfOk result (IsExplained regions.now asks.now part.now) }
+{
     let Trimmed { rest, attrs } = rest_in(alloc, part, asks)?;
     let probes = probes_of(alloc, regions, part)?;
-    let mut parts = Seq::new(alloc);
-    parts.push(ExplainPart {
+    Ok(ExplainPart {
         table: part.table,
         need: part.need,
         probes,
         rest,
         attrs,
-    })?;
-    Ok(parts)
+    })
 }
 
-/// What the first entry asks of the part, if there is one.
+/// What would be asked of the part's table, if anything would.
 fn rest_in(alloc: Global, part: &Part, asks: &[AskPart]) -> Result<Trimmed, NoMemory>
-    ensures { IfOk result (λ trimmed. IsRestIn asks.now trimmed.attrs trimmed.rest) }
+    ensures { IfOk result (λ trimmed. IsRestIn (entry_for part.now.table asks.now) trimmed.attrs trimmed.rest) }
 {
-    match asks {
-        [] => Ok(Trimmed {
-            rest: Rects::new(alloc),
-            attrs: part.need,
-        }),
-        [ask, ..] => Ok(Trimmed {
-            rest: ask.rects.copy(alloc)?,
-            attrs: ask.attrs,
-        }),
+    for ask in asks {
+        if ask.table == part.table {
+            return rest_of(alloc, ask);
+        }
     }
+    Ok(Trimmed {
+        rest: Rects::new(alloc),
+        attrs: part.need,
+    })
+}
+
+/// What the entry asks.
+fn rest_of(alloc: Global, ask: &AskPart) -> Result<Trimmed, NoMemory>
+    ensures { IfOk result (λ trimmed. IsRestIn (Some ask.now) trimmed.attrs trimmed.rest) }
+{
+    Ok(Trimmed {
+        rest: ask.rects.copy(alloc)?,
+        attrs: ask.attrs,
+    })
 }
 
 /// What the regions that serve the part have in common with it.

@@ -23,7 +23,7 @@ use sr_query::query::Query;
 use std::alloc::Global;
 
 impl Client {
-    /// Judges a query of one table. It is answered at once where its points are held under the columns that it needs; else what is
+    /// Judges a query. It is answered at once where its points are held under the columns that its parts need; else what is
     /// left of it is asked, unless the link is cut. Nothing is done while a request is out. After want of memory the client holds
     /// nothing, and is cut.
     pub fn query(&mut self, alloc: Global, query: Query) -> Result<QueryStep, NoMemory>
@@ -37,6 +37,7 @@ impl Client {
         ensures nothing_left { OnErr result (HoldsNothing self.new) }
         ensures stays { Stays self.old self.new }
         ensures drawn { drawn self.new ≤ drawn self.old + 2 }
+        ensures once { self.new.cuts ≤ self.old.cuts + 1 }
     {
         match self.judge(alloc, query) {
             Ok(step) => Ok(step),
@@ -56,6 +57,7 @@ impl Client {
         ensures version { self.new.version ≡ self.old.version }
         ensures stays { Stays self.old self.new }
         ensures drawn { drawn self.new ≤ drawn self.old + 2 }
+        ensures cuts { self.new.cuts ≡ self.old.cuts }
     {
         if let Some(request) = &self.out {
             return Ok(QueryStep::Busy {
@@ -87,6 +89,7 @@ impl Client {
         ensures version { self.new.version ≡ self.old.version }
         ensures stays { Stays self.old self.new }
         ensures drawn { drawn self.new ≤ drawn self.old + 2 }
+        ensures cuts { self.new.cuts ≡ self.old.cuts }
     {
         let number = self.queries + 1;
         let rows = answer(alloc, query, self.store.regions.as_slice(), &[])?;
@@ -118,6 +121,7 @@ impl Client {
         ensures version { self.new.version ≡ self.old.version }
         ensures stays { Stays self.old self.new }
         ensures drawn { drawn self.new ≤ drawn self.old + 2 }
+        ensures cuts { self.new.cuts ≡ self.old.cuts }
     {
         let asks = whole_asks(alloc, query.parts.as_slice())?;
         let drops = self.store.drop_all(alloc, Cause::Pieces)?;
@@ -137,6 +141,7 @@ impl Client {
         ensures version { self.new.version ≡ self.old.version }
         ensures stays { Stays self.old self.new }
         ensures drawn { drawn self.new ≤ drawn self.old + 2 }
+        ensures cuts { self.new.cuts ≡ self.old.cuts }
     {
         if self.cut {
             return Ok(QueryStep::Down {

@@ -41,6 +41,7 @@ impl Client {
         ensures sends { IfOk result (TookSendsWell self.old.schema self.old.id) }
         ensures stays { Stays self.old self.new }
         ensures drawn { drawn self.new ≡ drawn self.old }
+        ensures cuts { self.new.cuts ≡ self.old.cuts }
     {
         know_messages(self.laid.as_slice());
         let marks = self.settle(alloc, version)?;
@@ -66,6 +67,7 @@ impl Client {
         ensures sends { IfOk result (TookSendsWell self.old.schema self.old.id) }
         ensures stays { Stays self.old self.new }
         ensures drawn { drawn self.new ≡ drawn self.old }
+        ensures cuts { self.new.cuts ≡ self.old.cuts }
     {
         know_messages(self.laid.as_slice());
         let version = version_after(self.version, self.laid.as_slice());
@@ -93,6 +95,7 @@ impl Client {
         ensures sends { IfOk result (TookSendsWell self.old.schema self.old.id) }
         ensures stays { Stays self.old self.new }
         ensures drawn { drawn self.new ≡ drawn self.old }
+        ensures cuts { self.new.cuts ≡ self.old.cuts }
     {
         know_messages(self.laid.as_slice());
         let marks = self.settle_welcomed(alloc, version, kept)?;
@@ -117,6 +120,7 @@ impl Client {
         ensures version_left { OnErr result (self.new.version ≡ self.old.version) }
         ensures stays { Stays self.old self.new }
         ensures drawn { drawn self.new ≡ drawn self.old }
+        ensures cuts { self.new.cuts ≡ self.old.cuts }
     {
         if kept {
             self.settle(alloc, version)
@@ -134,6 +138,7 @@ impl Client {
         ensures version_left { OnErr result (self.new.version ≡ self.old.version) }
         ensures stays { Stays self.old self.new }
         ensures drawn { drawn self.new ≡ drawn self.old }
+        ensures cuts { self.new.cuts ≡ self.old.cuts }
     {
         if has_lapse(self.laid.as_slice()) {
             self.settle_empty(alloc, Cause::Lapsed, version)
@@ -149,6 +154,7 @@ impl Client {
         ensures version_left { OnErr result (self.new.version ≡ self.old.version) }
         ensures stays { Stays self.old self.new }
         ensures drawn { drawn self.new ≡ drawn self.old }
+        ensures cuts { self.new.cuts ≡ self.old.cuts }
     {
         let marks = self.store.drop_all(alloc, cause)?;
         self.laid = Seq::new(alloc);
@@ -166,9 +172,10 @@ impl Client {
         ensures version_left { OnErr result (self.new.version ≡ self.old.version) }
         ensures stays { Stays self.old self.new }
         ensures drawn { drawn self.new ≡ drawn self.old }
+        ensures cuts { self.new.cuts ≡ self.old.cuts }
     {
         let laid = mem::replace(&mut self.laid, Seq::new(alloc));
-        self.apply_laid(alloc, laid)?;
+        self.apply_laid(alloc, &mut [], laid)?;
         let marks = self.store.fit(alloc, &self.schema)?;
         self.out = None;
         self.version = version;

@@ -1,5 +1,5 @@
 //! What a client does with a message of the server.
-ghost use Rattle.std.specs.Prelude.{◌≡◌, ◌+◌, ◌<◌, ◌≤◌, ◌^◌, ◌↔◌, ◌++◌, nat_lt, true, false, List, Some, None, length, IfOk, OnOk, OnErr, IsTrue};
+ghost use Rattle.std.specs.Prelude.{◌≡◌, ◌+◌, ◌<◌, ◌≤◌, ◌^◌, ◌↔◌, nat_lt, true, false, List, map, Some, None, length, IfOk, OnOk, OnErr, IsTrue};
 ghost use Rattle.std.specs.List.{list_all, All};
 ghost use Rattle.std.specs.Option.{is_some};
 ghost use Rattle.sr_cell.specs.declared.table.Table.{Table as TheTable};
@@ -8,14 +8,13 @@ ghost use Rattle.sr_message.specs.declared.message.Message.TheVariants.{Notice, 
 ghost use Rattle.sr_model.specs.Queries.{Query as TheQuery};
 ghost use Rattle.sr_wire.specs.declared.bad_frame.BadFrame.{BadFrame as TheBadFrame};
 ghost use Rattle.sr_store.specs.Stores.{IsStore};
-ghost use Rattle.sr_session.specs.Arrivals.{arrived_at};
 ghost use Rattle.sr_session.specs.Misfits.{misfit};
 ghost use Rattle.sr_session.specs.Regions.{after_message, after_messages};
 ghost use Rattle.sr_session.specs.Rules.{is_given_up};
 ghost use Rattle.sr_session.specs.Walks.{IsLaid, has_lapse, is_lapse};
 ghost use Rattle.sr_client.specs.declared.steps.Took.TheVariants.{Bad};
-ghost use Rattle.sr_client.specs.Arriving.{arrivals_of};
-ghost use Rattle.sr_client.specs.Laying.{TellsRows, asking, brought, with_brought};
+ghost use Rattle.sr_client.specs.Arriving.{arrivals_of, more_at, unfilled, with_message, with_messages};
+ghost use Rattle.sr_client.specs.Laying.{TellsRows, asking, with_brought};
 ghost use Rattle.sr_client.specs.Sends.{TookSendsWell};
 ghost use Rattle.sr_client.specs.Stands.{Stands, Stays, HoldsNothing, IsFit, drawn, out_of};
 ghost use Rattle.sr_client.specs.Steps.{Takes, is_bad};
@@ -51,6 +50,7 @@ impl Client {
         ensures bad_left { IfOk result (λ took. is_bad took ≡ true → HoldsNothing self.new) }
         ensures stays { Stays self.old self.new }
         ensures drawn { drawn self.new ≤ drawn self.old + 2 }
+        ensures once { self.new.cuts ≤ self.old.cuts + 1 }
     {
         let why = misfit(
             self.schema.as_slice(),
@@ -81,6 +81,7 @@ impl Client {
         ensures nothing_left { OnErr result (HoldsNothing self.new) }
         ensures stays { Stays self.old self.new }
         ensures drawn { drawn self.new ≤ drawn self.old + 2 }
+        ensures once { self.new.cuts ≤ self.old.cuts + 1 }
     {
         match self.take_one(alloc, message) {
             Ok(took) => Ok(took),
@@ -101,6 +102,7 @@ impl Client {
         ensures sends { IfOk result (TookSendsWell self.old.schema self.old.id) }
         ensures stays { Stays self.old self.new }
         ensures drawn { drawn self.new ≤ drawn self.old + 2 }
+        ensures cuts { self.new.cuts ≡ self.old.cuts }
     {
         if self.out.is_some() {
             self.take_while_out(alloc, message)
@@ -122,6 +124,7 @@ impl Client {
         ensures sends { IfOk result (TookSendsWell self.old.schema self.old.id) }
         ensures stays { Stays self.old self.new }
         ensures drawn { drawn self.new ≡ drawn self.old }
+        ensures cuts { self.new.cuts ≡ self.old.cuts }
     {
         match message {
             Message::Notice { version, told } => self.apply(alloc, version, told),
@@ -141,6 +144,7 @@ impl Client {
         ensures sends { IfOk result (TookSendsWell self.old.schema self.old.id) }
         ensures stays { Stays self.old self.new }
         ensures drawn { drawn self.new ≡ drawn self.old }
+        ensures cuts { self.new.cuts ≡ self.old.cuts }
     {
         know_told(told.as_slice());
         self.store.apply(alloc, told.as_slice())?;
@@ -160,6 +164,7 @@ impl Client {
         ensures sends { IfOk result (TookSendsWell self.old.schema self.old.id) }
         ensures stays { Stays self.old self.new }
         ensures drawn { drawn self.new ≡ drawn self.old }
+        ensures cuts { self.new.cuts ≡ self.old.cuts }
     {
         let marks = self.store.drop_all(alloc, Cause::Lapsed)?;
         self.version = version;
@@ -180,6 +185,7 @@ impl Client {
         ensures sends { IfOk result (TookSendsWell self.old.schema self.old.id) }
         ensures stays { Stays self.old self.new }
         ensures drawn { drawn self.new ≤ drawn self.old + 2 }
+        ensures cuts { self.new.cuts ≡ self.old.cuts }
     {
         match message {
             Message::Reply { number, version } => self.reply(alloc, number, version),
@@ -205,6 +211,7 @@ impl Client {
         ensures sends { IfOk result (TookSendsWell self.old.schema self.old.id) }
         ensures stays { Stays self.old self.new }
         ensures drawn { drawn self.new ≡ drawn self.old }
+        ensures cuts { self.new.cuts ≡ self.old.cuts }
     {
         self.laid.push(message)?;
         Ok(Took::Laid)
@@ -223,6 +230,7 @@ impl Client {
         ensures sends { IfOk result (TookSendsWell self.old.schema self.old.id) }
         ensures stays { Stays self.old self.new }
         ensures drawn { drawn self.new ≤ drawn self.old + 2 }
+        ensures cuts { self.new.cuts ≡ self.old.cuts }
     {
         match self.out.take() {
             Some(Request::Ask(out)) => {
@@ -254,6 +262,7 @@ impl Client {
         ensures sends { IfOk result (TookSendsWell self.old.schema self.old.id) }
         ensures stays { Stays self.old self.new }
         ensures drawn { drawn self.new ≡ drawn self.old }
+        ensures cuts { self.new.cuts ≡ self.old.cuts }
     {
         know_messages(self.laid.as_slice());
         let arrivals = self.bring(alloc, out)?;
@@ -280,43 +289,51 @@ impl Client {
     }
 
     /// Applies what was laid by, in order. Answers what was asked, with the rows that came.
+    #[tactic(auto, using(crate::proofs::ArriveLemmas::arrivals_are))]
     fn bring(&mut self, alloc: Global, out: &AskOut) -> Result<Arrivals, NoMemory>
         requires stands { Stands (asking self.old out.now) }
         requires tells { All (TellsRows self.old.schema) self.old.laid }
         ensures brought { OnOk result (self.new ≡ with_brought self.old) }
-        ensures arrivals { IfOk result (λ arrivals. arrivals ≡ arrivals_of self.old.schema out.now.parts (arrived_at 0 self.old.laid)) }
+        ensures arrivals { IfOk result (λ arrivals. arrivals ≡ arrivals_of self.old.schema out.now.parts self.old.laid) }
         ensures version { self.new.version ≡ self.old.version }
         ensures stays { Stays self.old self.new }
         ensures drawn { drawn self.new ≡ drawn self.old }
+        ensures cuts { self.new.cuts ≡ self.old.cuts }
     {
         let laid = mem::replace(&mut self.laid, Seq::new(alloc));
-        let rows = self.apply_laid(alloc, laid)?;
-        arrivals_of(alloc, &self.schema, out.parts.as_slice(), rows)
+        let mut arrivals = arrivals_of(alloc, &self.schema, out.parts.as_slice())?;
+        self.apply_laid(alloc, arrivals.as_mut_slice(), laid)?;
+        Ok(Seq::from_vec(arrivals))
     }
 
-    pub(crate) fn apply_laid(&mut self, alloc: Global, laid: Messages) -> Result<Rows, NoMemory>
+    /// Applies messages that were laid by: rows are put behind those that arrived of their part.
+    pub(crate) fn apply_laid(
+        &mut self,
+        alloc: Global,
+        arrivals: &mut [Arrival],
+        laid: Messages,
+    ) -> Result<(), NoMemory>
         requires { (schema : List TheTable) × IsStore schema self.old.store.regions × All (TellsRows schema) laid }
-        ensures rows { IfOk result (λ rows. rows ≡ arrived_at 0 laid) }
+        ensures arrivals { OnOk result (arrivals.new ≡ with_messages laid arrivals.old) }
         ensures applied { OnOk result (self.new.store.regions ≡ after_messages laid self.old.store.regions) }
         ensures rest { self.new ≡ record self.old { store = record self.old.store { regions = self.new.store.regions } } }
     {
-        let mut rows = Seq::new(alloc);
         for message in laid.into_vec() {
-            self.apply_one(alloc, &mut rows, message)?;
+            self.apply_one(alloc, arrivals, message)?;
         }
-        Ok(rows)
+        Ok(())
     }
 
-    /// Applies a message that was laid by: a notice is told to the regions, a Lapse drops them, and rows of the first part are put
-    /// behind the others.
+    /// Applies a message that was laid by: a notice is told to the regions, a Lapse drops them, and rows are put behind those that
+    /// arrived of their part.
     fn apply_one(
         &mut self,
         alloc: Global,
-        rows: &mut Rows,
+        arrivals: &mut [Arrival],
         message: Message,
     ) -> Result<(), NoMemory>
         requires { (schema : List TheTable) × IsStore schema self.old.store.regions × TellsRows schema message }
-        ensures rows { OnOk result (rows.new ≡ rows.old ++ brought message) }
+        ensures arrivals { OnOk result (arrivals.new ≡ with_message message arrivals.old) }
         ensures applied { OnOk result (self.new.store.regions ≡ after_message message self.old.store.regions) }
         ensures store { (schema : List TheTable) → OnOk result (IsStore schema self.old.store.regions → TellsRows schema message → IsStore schema self.new.store.regions) }
         ensures rest { self.new ≡ record self.old { store = record self.old.store { regions = self.new.store.regions } } }
@@ -327,11 +344,7 @@ impl Client {
                 self.store.forget(alloc);
                 Ok(())
             }
-            Message::Rows {
-                part,
-                rows: more,
-                ..
-            } if part == 0 => rows.append(more),
+            Message::Rows { part, rows, .. } => add_rows(arrivals, part as usize, rows),
             _ => Ok(()),
         }
     }
@@ -354,6 +367,7 @@ impl Client {
         ensures sends { IfOk result (TookSendsWell self.old.schema self.old.id) }
         ensures stays { Stays self.old self.new }
         ensures drawn { drawn self.new ≤ drawn self.old + 2 }
+        ensures cuts { self.new.cuts ≡ self.old.cuts }
     {
         let parts = whole_asks(alloc, out.query.parts.as_slice())?;
         let marks = self.store.drop_all(alloc, Cause::Lapsed)?;
@@ -403,25 +417,29 @@ fn is_lapse(message: &Message) -> bool
     matches!(message, Message::Lapse { .. })
 }
 
-/// What was asked, with the rows that came: one part at most is asked.
-fn arrivals_of(
-    alloc: Global,
-    schema: &Schema,
-    parts: &[AskPart],
-    rows: Rows,
-) -> Result<Arrivals, NoMemory>
-    requires tables { IsTrue (list_all (λ (ask : TheAskPart). nat_lt ask.table (length schema.now)) parts.now) }
-    ensures { IfOk result (λ arrivals. arrivals ≡ arrivals_of schema.now parts.now rows) }
+/// Puts the rows behind those that arrived of that part, if it was asked.
+fn add_rows(arrivals: &mut [Arrival], part: usize, rows: Rows) -> Result<(), NoMemory>
+    ensures { OnOk result (arrivals.new ≡ more_at part rows arrivals.old) }
 {
-    let mut arrivals = Seq::new(alloc);
-    if parts.len() > 0 {
-        let part = &parts[0];
+    if part < arrivals.len() {
+        arrivals[part].rows.append(rows)?;
+    }
+    Ok(())
+}
+
+/// What was asked, without rows yet.
+fn arrivals_of(alloc: Global, schema: &Schema, asks: &[AskPart]) -> Result<Vec<Arrival>, NoMemory>
+    requires tables { IsTrue (list_all (λ (ask : TheAskPart). nat_lt ask.table (length schema.now)) asks.now) }
+    ensures { IfOk result (λ arrivals. arrivals.items ≡ map (unfilled schema.now) asks.now) }
+{
+    let mut arrivals = Vec::new(alloc);
+    for ask in asks {
         arrivals.push(Arrival {
-            table: part.table,
-            key: schema.as_slice()[part.table as usize].key,
-            attrs: part.attrs,
-            rects: part.rects.copy(alloc)?,
-            rows,
+            table: ask.table,
+            key: schema.as_slice()[ask.table as usize].key,
+            attrs: ask.attrs,
+            rects: ask.rects.copy(alloc)?,
+            rows: Seq::new(alloc),
         })?;
     }
     Ok(arrivals)

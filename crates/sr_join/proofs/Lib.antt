@@ -4,7 +4,4 @@ pub mod Chains
 pub mod Finds
 pub mod Halves
 pub mod Lists
-pub mod OnePart
-pub mod Picked
 pub mod Shows
-pub mod United

@@ -1,12 +1,8 @@
-//! The answer of a query: of one table, from rows of several regions; and of several tables, from rows that are lent of each.
+//! The answer of a query, from rows that are lent of each of its tables.
 #![tactic(auto)]
 
 mod join;
-pub mod joiner;
-pub mod laws;
 pub mod lending;
-mod merge;
-mod pick;
 pub mod runs;
 pub mod shown;
 #[cfg(test)]

@@ -1,5 +1,4 @@
-//! Answers from rows of two regions, at values worked out by hand.
-use crate::joiner::Joiner;
+//! Answers from rows of several regions, at values worked out by hand.
 use crate::lending::Lending;
 use sr_box::rect::Rect;
 use sr_box::span::Span;
@@ -69,24 +68,6 @@ fn everyone(alloc: Global) -> Result<Rects, NoMemory> {
     Ok(rects)
 }
 
-fn lend_two(
-    alloc: Global,
-    joiner: &mut Joiner,
-    attrs: Attrs,
-    one: Row,
-    two: Row,
-) -> Result<(), NoMemory> {
-    let mut rows = Seq::new(alloc);
-    rows.push(one)?;
-    rows.push(two)?;
-    let everyone = everyone(alloc)?;
-    joiner.lend(
-        alloc,
-        &query(alloc)?,
-        rows_inside(attrs, rows.as_slice(), &everyone),
-    )
-}
-
 fn is_row(row: &Row, age: i64, number: i64) -> bool {
     match (row.get(0), row.get(1), row.len()) {
         (Some(Cell::Num(one)), Some(Cell::Num(two)), 2) => *one == age && *two == number,
@@ -106,30 +87,45 @@ fn are(rows: &Rows, ages: &[i64], numbers: &[i64]) -> bool {
     true
 }
 
-// Persons 2 and 4 of one region, and 1 and 4 of another.
-fn of_two_regions(alloc: Global) -> Result<Joiner, NoMemory> {
-    let mut joiner = Joiner::new(alloc);
-    lend_two(
+fn two(alloc: Global, one: Row, other: Row) -> Result<Rows, NoMemory> {
+    let mut rows = Seq::new(alloc);
+    rows.push(one)?;
+    rows.push(other)?;
+    Ok(rows)
+}
+
+// The answer of persons, from rows that are lent one list after another; of the last list just those in the rects.
+fn persons(
+    alloc: Global,
+    some: &Rows,
+    others: &Rows,
+    last: &Rows,
+    rects: &Rects,
+) -> Result<Rows, NoMemory> {
+    let everyone = everyone(alloc)?;
+    let mut lending = Lending::new(alloc);
+    lending.lend(
         alloc,
-        &mut joiner,
-        NUMBER_AGE,
-        short(alloc, 2, 25)?,
-        short(alloc, 4, 40)?,
+        0,
+        rows_inside(NUMBER_AGE, some.as_slice(), &everyone),
     )?;
-    lend_two(
-        alloc,
-        &mut joiner,
-        ALL,
-        long(alloc, "ann", 1, 30)?,
-        long(alloc, "cy", 4, 40)?,
-    )?;
-    Ok(joiner)
+    lending.lend(alloc, 0, rows_inside(ALL, others.as_slice(), &everyone))?;
+    lending.lend(alloc, 0, rows_inside(ALL, last.as_slice(), rects))?;
+    lending.answer(alloc, &query(alloc)?)
+}
+
+// Persons 2 and 4 of one region, 1 and 4 of another, and 3 and 5 of these rects.
+fn of_three_regions(alloc: Global, rects: &Rects) -> Result<Rows, NoMemory> {
+    let some = two(alloc, short(alloc, 2, 25)?, short(alloc, 4, 40)?)?;
+    let others = two(alloc, long(alloc, "ann", 1, 30)?, long(alloc, "cy", 4, 40)?)?;
+    let last = two(alloc, long(alloc, "bo", 3, 50)?, long(alloc, "di", 5, 60)?)?;
+    persons(alloc, &some, &others, &last, rects)
 }
 
 #[test]
 fn a_common_row_counts_once(rt: HostRuntime) -> Result<(), Fail> {
     let alloc = rt.alloc();
-    let answer = of_two_regions(alloc)?.answer(alloc)?;
+    let answer = of_three_regions(alloc, &Rects::new(alloc))?;
     assert!(rt; are(&answer, &[30, 25, 40], &[1, 2, 4]));
     Ok(())
 }
@@ -137,27 +133,8 @@ fn a_common_row_counts_once(rt: HostRuntime) -> Result<(), Fail> {
 #[test]
 fn later_rows_come_between(rt: HostRuntime) -> Result<(), Fail> {
     let alloc = rt.alloc();
-    let mut joiner = of_two_regions(alloc)?;
-    lend_two(
-        alloc,
-        &mut joiner,
-        ALL,
-        long(alloc, "bo", 3, 50)?,
-        long(alloc, "di", 5, 60)?,
-    )?;
-    let answer = joiner.answer(alloc)?;
+    let answer = of_three_regions(alloc, &everyone(alloc)?)?;
     assert!(rt; are(&answer, &[30, 25, 50, 40, 60], &[1, 2, 3, 4, 5]));
-    Ok(())
-}
-
-#[test]
-fn no_rows_change_nothing(rt: HostRuntime) -> Result<(), Fail> {
-    let alloc = rt.alloc();
-    let mut joiner = of_two_regions(alloc)?;
-    let nobody = Rects::new(alloc);
-    joiner.lend(alloc, &query(alloc)?, rows_inside(ALL, &[], &nobody))?;
-    let answer = joiner.answer(alloc)?;
-    assert!(rt; are(&answer, &[30, 25, 40], &[1, 2, 4]));
     Ok(())
 }
 
@@ -191,13 +168,6 @@ fn groups(alloc: Global) -> Result<Query, NoMemory> {
         joins,
         output,
     })
-}
-
-fn two(alloc: Global, one: Row, other: Row) -> Result<Rows, NoMemory> {
-    let mut rows = Seq::new(alloc);
-    rows.push(one)?;
-    rows.push(other)?;
-    Ok(rows)
 }
 
 // Each age.

@@ -1,13 +1,12 @@
-use Rattle.std.proofs.Common.{◌≡◌, List, ◌∷◌, ◌++◌, sym, ◌∙◌, ap, subst, append_assoc}
+use Rattle.std.proofs.Common.{◌≡◌, List, ◌∷◌, sym, ◌∙◌, ap, subst}
 use Rattle.std.specs.List.{All}
 use Rattle.std.proofs.lemmas.List.Elements.{All-head, All-tail}
 use Rattle.sr_message.specs.declared.message.Message.{Message}
 use Rattle.sr_region.specs.declared.region.Region.{Region}
-use Rattle.sr_session.specs.Arrivals.{arrived_at}
 use Rattle.sr_session.specs.Regions.{after_message, after_messages}
+use Rattle.sr_client.specs.Arriving.{with_messages}
 use Rattle.sr_client.specs.declared.client.Client.{Client}
-use Rattle.sr_client.specs.Laying.{TellsRows, brought}
-use Rattle.sr_client.proofs.LayLemmas.{arrived-cons}
+use Rattle.sr_client.specs.Laying.{TellsRows}
 use Rattle.sr_client.proofs.client.Client.apply_laid.Goals as goal
 
 -- a client with other regions
@@ -25,8 +24,7 @@ loop-message-preserved c =
     record {
       same = done.rest ∙ ap (with_regions c.apply_one.new.self.store.regions) before.invariant.same;
       applied = ap (after_messages left) regions ∙ (ap (λ ms. after_messages ms before.self.store.regions) (sym rest) ∙ before.invariant.applied);
-      rows = ap (λ rows. rows ++ arrived_at 0 left) done.rows ∙ (append_assoc before.rows (brought m) (arrived_at 0 left)
-          ∙ (ap (λ ms. before.rows ++ ms) (sym (arrived-cons m left)) ∙ (ap (λ ms. before.rows ++ arrived_at 0 ms) (sym rest) ∙ before.invariant.rows)));
+      arrivals = ap (with_messages left) done.arrivals ∙ (ap (λ ms. with_messages ms before.arrivals) (sym rest) ∙ before.invariant.arrivals);
       store = λ schema store tells.
           let now = before.invariant.store schema store tells in
           let more : All (TellsRows schema) (m ∷ left) = subst (All (TellsRows schema)) rest now.1 in

@@ -1,22 +1,16 @@
-use Rattle.std.proofs.Common.{◌≡◌, ◌∷◌, [], Bool, true, false, refl, sym, ap, subst, arith, Err}
-use Rattle.std.specs.Prelude.{not}
-use Rattle.sr_client.specs.Asking.{AreMeant, AsksRest}
+use Rattle.std.proofs.Common.{◌≡◌, [], true, refl, sym, ap, subst, arith, Err}
+use Rattle.std.specs.List.{AllZip}
+use Rattle.sr_client.specs.Asking.{AreMeant, AsksRest, whole_asks}
 use Rattle.sr_client.specs.Cutting.{IsOver}
-use Rattle.sr_client.specs.Explaining.{IsExplainedOne}
+use Rattle.sr_client.specs.Explaining.{IsExplained}
 use Rattle.sr_client.proofs.ExplainLemmas.{explains-trimmed, explains-whole}
 use Rattle.sr_client.proofs.FallLemmas.{fall-length}
-use Rattle.sr_client.proofs.MeantLemmas.{are-meant, some-part}
+use Rattle.sr_client.proofs.MeantLemmas.{are-meant}
 use Rattle.sr_client.proofs.client.Client.explain.Goals as goal
 
 pub asks_of-requires-clause-meant : goal.asks_of-requires-clause-meant
 asks_of-requires-clause-meant c =
     subst (AreMeant c.args.self.now.schema) (sym c.as_slice-parts.ensures) (are-meant c.args.self.now.schema c.args.query.now c.requires.meant.0 c.requires.meant.1)
-
-pub explained-requires : goal.explained-requires
-explained-requires c = some-part c.args.self.now.schema c.args.query.now c.requires.meant.0 c.requires.meant.1
-
-pub explained_whole-requires : goal.explained_whole-requires
-explained_whole-requires c = some-part c.args.self.now.schema c.args.query.now c.requires.meant.0 c.requires.meant.1
 
 pub returns-in_ok-explained-in-Ok-clause-explains : goal.returns-in_ok-explained-in-Ok-clause-explains
 returns-in_ok-explained-in-Ok-clause-explains c = λ meaning is.
@@ -25,9 +19,9 @@ returns-in_ok-explained-in-Ok-clause-explains c = λ meaning is.
     let asks = c.in-Ok.asks in
     let parts = c.in_ok-explained-in-Ok.field-0 in
     let rest = subst (λ ps. AsksRest old.schema old.store.regions ps asks) c.as_slice-parts.ensures c.in-Ok.ensures.asks in
-    let of_asks = subst (λ xs. IsExplainedOne c.as_slice.result.now xs q parts) c.as_slice-in-Ok.ensures c.in_ok-explained-in-Ok.ensures in
-    let of_regions = subst (λ gs. IsExplainedOne gs asks q parts) c.as_slice.ensures of_asks in
-    explains-trimmed old q meaning _ is refl c.in_ok-victims.ensures asks refl rest of_regions
+    let of_asks = subst (λ xs. AllZip (IsExplained c.as_slice.result.now xs) c.as_slice-parts.result.now parts) c.as_slice-in-Ok.ensures c.in_ok-explained-in-Ok.ensures in
+    let of_regions = subst (λ gs. AllZip (IsExplained gs asks) c.as_slice-parts.result.now parts) c.as_slice.ensures of_asks in
+    explains-trimmed old q meaning _ is refl c.in_ok-victims.ensures asks refl rest (subst (λ ps. AllZip (IsExplained old.store.regions asks) ps parts) c.as_slice-parts.ensures of_regions)
 
 pub returns-in_ok-explained-in-Ok-clause-victims : goal.returns-in_ok-explained-in-Ok-clause-victims
 returns-in_ok-explained-in-Ok-clause-victims c =
@@ -39,7 +33,8 @@ returns-in_ok-explained_whole-in-Err-Refused-clause-explains c = λ meaning is.
     let old = c.args.self.now in
     let q = c.args.query.now in
     let large = subst (IsOver old.schema old.store.regions) c.as_slice-parts.ensures (c.in-Err-Refused.ensures.over (ap Err c.in-Err-Refused.field-0-is)) in
-    explains-whole old q meaning _ is refl c.in_ok-victims.ensures large c.in_ok-explained_whole-in-Err-Refused.ensures
+    let parts = subst (λ ps. AllZip (IsExplained [] (whole_asks ps)) ps c.in_ok-explained_whole-in-Err-Refused.field-0) c.as_slice-parts.ensures c.in_ok-explained_whole-in-Err-Refused.ensures in
+    explains-whole old q meaning _ is refl c.in_ok-victims.ensures large parts
     (λ heavy none. let e : c.is_empty.result ≡ true = c.is_empty.ensures.1 none in absurd (grind (arith, heavy, e)))
     (λ light. c.is_empty.ensures.0 (grind (arith, light)))
 

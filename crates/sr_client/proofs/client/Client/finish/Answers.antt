@@ -1,9 +1,6 @@
-use Rattle.std.proofs.Common.{◌≡◌, ◌∙◌, ◌<◌, true, length, sym, subst, refl, ap}
+use Rattle.std.proofs.Common.{◌≡◌, ◌∙◌, true, sym, subst, refl}
 use Rattle.std.specs.List.{list_all, All}
 use Rattle.sr_message.specs.declared.message.Message.TheVariants.{Reply}
-use Rattle.sr_session.specs.Arrivals.{arrived_at}
-use Rattle.sr_session.specs.Regions.{after_messages}
-use Rattle.sr_store.specs.declared.store.Arrival.{Arrival}
 use Rattle.sr_store.specs.Stores.{IsStore}
 use Rattle.sr_store.specs.Answered.{IsArrival, AreApart, BringOwnKeys}
 use Rattle.sr_client.specs.Arriving.{arrivals_of}
@@ -13,9 +10,10 @@ use Rattle.sr_client.specs.Laying.{asking, with_brought}
 use Rattle.sr_client.specs.Stands.{out_of}
 use Rattle.sr_client.specs.Steps.{Takes}
 use Rattle.sr_client.specs.Values.{has_values}
-use Rattle.sr_client.proofs.AskedLemmas.{Allows, tells, laid-store, allows}
+use Rattle.sr_client.proofs.AskedLemmas.{tells, laid-store}
 use Rattle.sr_client.proofs.Calls.{Answers, IsAfter, after-of, answers-of}
-use Rattle.sr_client.proofs.MeantLemmas.{Fit, Only, Named, parts-fit, parts-only, parts-named, some-part}
+use Rattle.sr_client.proofs.FinishLemmas.{allows}
+use Rattle.sr_client.proofs.MeantLemmas.{Fit, Only, Named, parts-fit, parts-only, parts-named}
 use Rattle.sr_client.proofs.ReplyLemmas.{takes-reply}
 use Rattle.sr_client.proofs.SuitLemmas.{reply-later}
 use Rattle.sr_client.proofs.client.Client.finish.Goals as goal
@@ -24,9 +22,6 @@ pub bring-requires-clause-tells : goal.bring-requires-clause-tells
 bring-requires-clause-tells c =
     let values = subst (λ ms. list_all has_values ms ≡ true) c.as_slice.ensures c.know_messages.ensures in
     tells c.args.self.now c.args.out.now c.requires.stands.0 c.requires.stands.1 values
-
-pub answer-requires : goal.answer-requires
-answer-requires c = some-part c.args.self.now.schema c.args.out.now.query c.requires.stands.0.meaning c.requires.stands.1.meant.0
 
 pub answered-requires-clause-store : goal.answered-requires-clause-store
 answered-requires-clause-store c =
@@ -79,12 +74,12 @@ returns-clause-takes c =
     let b_is = c.in_ok-arrivals.ensures.brought in
     let arrivals_are = c.in_ok-arrivals.ensures.arrivals in
     let values = subst (λ ms. list_all has_values ms ≡ true) c.as_slice.ensures c.know_messages.ensures in
-    let gives : Answers out.query (with_brought old).store.regions (arrivals_of old.schema out.parts (arrived_at 0 old.laid)) rows =
-    subst (λ (x : Client). Answers out.query x.store.regions (arrivals_of old.schema out.parts (arrived_at 0 old.laid)) rows) b_is
-    (answers-of out.query b.store.regions c.as_slice-2.result.now (arrivals_of old.schema out.parts (arrived_at 0 old.laid)) c.as_slice-3.result.now rows c.as_slice-2.ensures (c.as_slice-3.ensures ∙ arrivals_are) c.in_ok-rows.ensures) in
-    let made : IsAfter old.schema out.query_number out.query.parts (arrivals_of old.schema out.parts (arrived_at 0 old.laid)) (with_brought old).store store marks =
-    subst (λ (x : Client). IsAfter x.schema out.query_number out.query.parts (arrivals_of old.schema out.parts (arrived_at 0 old.laid)) x.store store marks) b_is
-    (after-of b.schema b.schema out.query_number out.query.parts c.as_slice-4.result.now (arrivals_of old.schema out.parts (arrived_at 0 old.laid)) c.in_ok-arrivals.arrivals b.store store marks refl c.as_slice-4.ensures arrivals_are
+    let gives : Answers out.query (with_brought old).store.regions (arrivals_of old.schema out.parts old.laid) rows =
+    subst (λ (x : Client). Answers out.query x.store.regions (arrivals_of old.schema out.parts old.laid) rows) b_is
+    (answers-of out.query b.store.regions c.as_slice-2.result.now (arrivals_of old.schema out.parts old.laid) c.as_slice-3.result.now rows c.as_slice-2.ensures (c.as_slice-3.ensures ∙ arrivals_are) c.in_ok-rows.ensures) in
+    let made : IsAfter old.schema out.query_number out.query.parts (arrivals_of old.schema out.parts old.laid) (with_brought old).store store marks =
+    subst (λ (x : Client). IsAfter x.schema out.query_number out.query.parts (arrivals_of old.schema out.parts old.laid) x.store store marks) b_is
+    (after-of b.schema b.schema out.query_number out.query.parts c.as_slice-4.result.now (arrivals_of old.schema out.parts old.laid) c.in_ok-arrivals.arrivals b.store store marks refl c.as_slice-4.ensures arrivals_are
     (record {
       answered = c.in_ok-marks.ensures.answered;
       cuts = c.in_ok-marks.ensures.cuts;

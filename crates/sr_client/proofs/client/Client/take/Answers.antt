@@ -21,14 +21,14 @@ returns-in-Some-clause-bad c = λ w meaning.
 pub returns-in-Some-clause-takes : goal.returns-in-Some-clause-takes
 returns-in-Some-clause-takes c =
     let old = c.args.self.now in
-    subst (λ (x : Client). Takes old c.args.message x (Bad c.in-Some.why)) (sym c.give_up.ensures)
+    subst (λ (x : Client). Takes old c.args.message x (Bad c.in-Some.why)) (sym c.give_up.ensures.given)
     (takes-bad old c.args.message c.in-Some.why c.give_up.new.self.cuts
     (λ meaning. misfit-of old c.args.message c.as_slice.result.now c.as_slice-2.result.now c.misfit-why.result c.as_slice.ensures c.as_slice-2.ensures c.misfit-why.ensures meaning ∙ c.in-Some.is) c.requires.stands)
 
 pub returns-in-Some-clause-stands : goal.returns-in-Some-clause-stands
 returns-in-Some-clause-stands c =
     let old = c.args.self.now in
-    subst Stands (sym c.give_up.ensures) (given-stands old old c.give_up.new.self.cuts c.requires.stands refl)
+    subst Stands (sym c.give_up.ensures.given) (given-stands old old c.give_up.new.self.cuts c.requires.stands refl)
 
 pub take_fit-requires-clause-fit : goal.take_fit-requires-clause-fit
 take_fit-requires-clause-fit c = λ meaning.

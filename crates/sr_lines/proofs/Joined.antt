@@ -17,7 +17,7 @@ use Rattle.sr_model.specs.Queries.{Part, Join, Output, Query}
 use Rattle.sr_query.specs.Binding.{fault, ◌>>=◌, each, is_among, new_table, sources, tables_from, resolved, table_of_part, is_key_join, key_join, joins_from, outputs_of, filter_bound, names_one, references, narrow, needed, named_columns, join_columns, parts_from, Bound, bound_select}
 use Rattle.sr_query.specs.Joined.{needs_column, is_needed, needs_key, key_of, join_each, are_different, is_joined}
 use Rattle.sr_query.proofs.Steps.{split_ok}
-use Rattle.sr_lines.specs.Joined.{BoundAreJoined}
+use Rattle.sr_lines.specs.Joined.{BoundAreJoined, BoundHaveFewParts}
 use Rattle.sr_lines.proofs.Sets.{needed_keeps, one_column, is_covered, covers}
 use Rattle.sr_lines.proofs.Selected.{is_of}
 use Rattle.sr_lines.proofs.Sound.{all_narrow, joined_parts, outputs_sound, made}
@@ -223,3 +223,45 @@ bound_are_joined schema (tree.Create t) q e = absurd cc
 bound_are_joined schema (tree.Inserts s) q e = absurd cc
 bound_are_joined schema (tree.Updates s) q e = absurd cc
 bound_are_joined schema (tree.Deletes s) q e = absurd cc
+
+-- ---- how many tables
+
+tables-few : (schema : List Table) (named : List ℕ) (ws : List Word) (tables : List ℕ) → length named ≤ 4 → tables_from schema named ws ≡ Ok tables → length tables ≤ 4
+tables-few schema named [] tables few e = subst (λ (z : List ℕ). length z ≤ 4) (same_Ok named tables e) few
+tables-few schema named (w ∷ ws) tables few e = go (nat_le 4 (length named)) refl e (λ t room rest. tables-few schema (named ++ t ∷ []) ws tables room rest)
+  where
+    more : (t : ℕ) → nat_le 4 (length named) ≡ false → length (named ++ t ∷ []) ≤ 4
+    more t below = let less : length named < 4 = grind (arith, nat_tests, below) in let n = length-append named (t ∷ []) in omega (arith, less, n)
+
+    go : (b : Bool) → nat_le 4 (length named) ≡ b
+        → (if b then fault TooManyTables w.place else (new_table named w.place (table_named schema w.text) >>= λ t. tables_from schema (named ++ t ∷ []) ws)) ≡ Ok tables
+        → ((t : ℕ) → length (named ++ t ∷ []) ≤ 4 → tables_from schema (named ++ t ∷ []) ws ≡ Ok tables → length tables ≤ 4) → length tables ≤ 4
+    go true is e later = absurd cc
+    go false is e later =
+        let first = split_ok (new_table named w.place (table_named schema w.text)) (λ t. tables_from schema (named ++ t ∷ []) ws) tables e in
+        later first.0 (more first.0 is) first.2
+
+select_few : (schema : List Table) (s : tree.Select) (q : Query) → bound_select schema s ≡ Ok q → length q.parts ≤ 4
+select_few schema s q e =
+    let tables = split_ok (tables_from schema [] (sources s)) _ q e in
+    let joins = split_ok (joins_from schema tables.0 1 s.joins) _ q tables.2 in
+    let outputs = split_ok (outputs_of schema tables.0 s) _ q joins.2 in
+    let bs = split_ok (filter_bound schema tables.0 s.filter) _ q outputs.2 in
+    let named = split_ok (each (λ b. names_one (references b)) bs.0) _ q bs.2 in
+    let columns = named_columns outputs.0 joins.0 bs.0 in
+    let parts = split_ok (each narrow (parts_from schema 0 tables.0 columns bs.0)) _ q named.2 in
+    let same : made (parts_from schema 0 tables.0 columns bs.0) joins.0 outputs.0 ≡ q =
+    ap (λ ps. made ps joins.0 outputs.0) (all_narrow (parts_from schema 0 tables.0 columns bs.0) parts.0 parts.1) ∙ same_Ok (made parts.0 joins.0 outputs.0) q parts.2 in
+    let few = tables-few schema [] (sources s) tables.0 (omega arith) tables.1 in
+    let count = count-parts schema 0 tables.0 columns bs.0 in
+    subst (λ (z : Query). length z.parts ≤ 4) same (at-most (length (parts_from schema 0 tables.0 columns bs.0)) (length tables.0) count few)
+  where
+    at-most : (n m : ℕ) → n ≡ m → m ≤ 4 → n ≤ 4
+    at-most n m same few = omega (arith, same, few)
+
+pub bound_have_few_parts : BoundHaveFewParts
+bound_have_few_parts schema (tree.Selects s) q e = select_few schema s q e
+bound_have_few_parts schema (tree.Create t) q e = absurd cc
+bound_have_few_parts schema (tree.Inserts s) q e = absurd cc
+bound_have_few_parts schema (tree.Updates s) q e = absurd cc
+bound_have_few_parts schema (tree.Deletes s) q e = absurd cc

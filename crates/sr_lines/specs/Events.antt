@@ -10,6 +10,7 @@ pub data ScriptEvent : Type 0 where
   DoExec : (statement : Result Write Fault) → ScriptEvent
   DoQuery : (client : ℕ) → (query : Result Query Fault) → ScriptEvent
   DoWrite : (client : ℕ) → (sql : List ℕ) → ScriptEvent
+  DoExplain : (client : ℕ) → (query : Result Query Fault) → ScriptEvent
   DoPush : (client : ℕ) → ScriptEvent
   DoToServer : (client : ℕ) → ScriptEvent
   DoToClient : (client : ℕ) → ScriptEvent

@@ -2,7 +2,6 @@ pub mod Texts
 pub mod Events
 pub mod Joined
 pub mod Lines
-pub mod Built
 pub mod Short
 pub mod Sound
 pub mod Script

@@ -1,5 +1,5 @@
 -- What the lines of a script say and do.
-use Rattle.std.specs.Prelude.{◌≡◌, ℕ, ◌+◌, ◌-◌, ◌==◌, ◌&&◌, ◌||◌, Bool, false, not, nat_le, List, [], ◌∷◌, ◌++◌, ◌⊎◌, length, nat_eq, codes, Option, Some, None, Result, Ok, Err, IsTrue, if◌then◌else◌}
+use Rattle.std.specs.Prelude.{◌≡◌, ℕ, ◌+◌, ◌-◌, ◌==◌, ◌&&◌, ◌||◌, Bool, false, not, nat_le, List, [], ◌∷◌, ◌++◌, ◌⊎◌, length, nat_eq, codes, Option, Some, None, Result, Ok, Err, if◌then◌else◌}
 use Rattle.std.specs.Char.{is_ascii_digit}
 use Rattle.std.specs.List.{list_all, starts_with}
 use Rattle.std.specs.Str.{is_utf8, bytes_eq}
@@ -13,10 +13,9 @@ use Rattle.sr_grammar.specs.Trees.{Statement, Create}
 use Rattle.sr_grammar.specs.Says.{Says}
 use Rattle.sr_model.specs.Queries.{Query}
 use Rattle.sr_model.specs.Statements.{Write}
-use Rattle.sr_lines.specs.Events.{ScriptEvent, DoExec, DoQuery, DoWrite, DoPush, DoToServer, DoToClient, DoSettle, DoEvict, DoCut, DoResume}
+use Rattle.sr_lines.specs.Events.{ScriptEvent, DoExec, DoQuery, DoWrite, DoExplain, DoPush, DoToServer, DoToClient, DoSettle, DoEvict, DoCut, DoResume}
 use Rattle.sr_query.specs.Binding.{bound_query}
 use Rattle.sr_query.specs.Writes.{bound_write}
-use Rattle.sr_lines.specs.Built.{may_ask}
 
 -- ---- what a line is
 
@@ -210,18 +209,17 @@ abbrev pub Writes : List Table → List ℕ → Result Write Fault → Type 0
 Writes tables sql (Err fault) = Says sql (Err fault) ⊎ ((s : Statement) × Says sql (Ok s) × (bound_write tables s ≡ Err fault))
 Writes tables sql (Ok write) = (s : Statement) × Says sql (Ok s) × (bound_write tables s ≡ Ok write)
 
--- A text that is no statement, or whose statement asks nothing of the tables, is refused. Another asks this query, where such queries
--- are built.
+-- A text that is no statement, or whose statement asks nothing of the tables, is refused. Another asks this query.
 abbrev pub AsksOf : List Table → List ℕ → Result Query Fault → Type 0
 AsksOf tables sql (Err fault) = Says sql (Err fault) ⊎ ((s : Statement) × Says sql (Ok s) × (bound_query tables s ≡ Err fault))
-AsksOf tables sql (Ok query) = (s : Statement) × Says sql (Ok s) × (bound_query tables s ≡ Ok query) × IsTrue (may_ask query)
+AsksOf tables sql (Ok query) = (s : Statement) × Says sql (Ok s) × (bound_query tables s ≡ Ok query)
 
--- The event that the words say over these tables. To explain is not built yet.
+-- The event that the words say over these tables.
 abbrev pub Means : List Table → Words → ScriptEvent → Type 0
 Means tables (ExecSql sql) event = (statement : Result Write Fault) × Writes tables sql statement × (event ≡ DoExec statement)
 Means tables (QuerySql n sql) event = (query : Result Query Fault) × AsksOf tables sql query × (event ≡ DoQuery n query)
 Means tables (WriteSql n sql) event = event ≡ DoWrite n sql
-Means tables (ExplainSql n sql) event = ⊥
+Means tables (ExplainSql n sql) event = (query : Result Query Fault) × AsksOf tables sql query × (event ≡ DoExplain n query)
 Means tables (PushTo n) event = event ≡ DoPush n
 Means tables (ToServer n) event = event ≡ DoToServer n
 Means tables (ToClient n) event = event ≡ DoToClient n
@@ -246,15 +244,3 @@ Reads clients i phase [] events end = (events ≡ []) × (end ≡ phase)
 Reads clients i phase (line ∷ lines) events end =
     (some : List (ℕ × ScriptEvent)) × (others : List (ℕ × ScriptEvent)) × (next : Phase)
     × LineDoes phase i (line_of clients line) some next × Reads clients (i + 1) next lines others end × (events ≡ some ++ others)
-
--- the line, of number i, does nothing that is built where it stands
-abbrev pub DoesNothing : ℕ → Phase → ℕ → List ℕ → Type 0
-DoesNothing clients phase i line = (events : List (ℕ × ScriptEvent)) (next : Phase) → LineDoes phase i (line_of clients line) events next → ⊥
-
--- line n is the first that does nothing that is built; i is the number of the first of these lines
-abbrev pub FirstUnbuilt : ℕ → ℕ → Phase → List (List ℕ) → ℕ → Type 0
-FirstUnbuilt clients i phase [] n = ⊥
-FirstUnbuilt clients i phase (line ∷ lines) n =
-    ((n ≡ i) × DoesNothing clients phase i line)
-    ⊎ ((events : List (ℕ × ScriptEvent)) × (next : Phase) × LineDoes phase i (line_of clients line) events next
-    × FirstUnbuilt clients (i + 1) next lines n)

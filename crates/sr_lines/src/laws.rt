@@ -4,7 +4,7 @@ ghost use Rattle.sr_cell.specs.declared.cell.Cell.TheVariants.{Num, Str};
 ghost use Rattle.sr_lines.specs.Script.{EventLine, Evict, PushTo, QuerySql, Silent, event_line, line_of};
 ghost use Rattle.sr_lines.specs.Parts.{EventsNameClients, FaultsLeaveEnds};
 ghost use Rattle.sr_lines.specs.Texts.{cell_text};
-ghost use Rattle.sr_lines.specs.Joined.{BoundAreJoined};
+ghost use Rattle.sr_lines.specs.Joined.{BoundAreJoined, BoundHaveFewParts};
 ghost use Rattle.sr_lines.specs.Own.{BoundNeedOwn};
 ghost use Rattle.sr_lines.specs.Short.{EndsAreShort};
 ghost use Rattle.sr_lines.specs.Sound.{BoundAreSound, RectsConstrainNeeded};
@@ -59,6 +59,11 @@ pub fn faults_leave_ends()
 /// The tables of each query that a statement asks are joined by their keys.
 pub fn bound_queries_are_joined()
     ensures { BoundAreJoined }
+{}
+
+/// Each query that a statement asks is of four tables at most.
+pub fn bound_queries_have_few_parts()
+    ensures { BoundHaveFewParts }
 {}
 
 /// Each query that a statement asks is sound.

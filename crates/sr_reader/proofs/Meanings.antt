@@ -1,6 +1,6 @@
 -- What was read of a text is what the text means, and all that it means.
-use Rattle.std.proofs.Common.{◌≡◌, ℕ, Bool, true, false, List, length, refl, sym, ap, subst, ◌∙◌, arith, inl, inr, lt-ltb}
-use Rattle.std.specs.Prelude.{Option, Some, None, Result, Ok, Err, IsTrue, IfOk}
+use Rattle.std.proofs.Common.{◌≡◌, ℕ, true, List, length, refl, ap, subst, arith, inl, inr, lt-ltb}
+use Rattle.std.specs.Prelude.{Some, None, Result, Ok, Err, IsTrue, IfOk}
 use Rattle.sr_cell.specs.declared.list.NoMemory.{NoMemory}
 use Rattle.sr_cell.specs.declared.table.Table.{Table}
 use Rattle.sr_cell.specs.declared.fault.Fault.{Fault}
@@ -18,16 +18,15 @@ use Rattle.sr_query.specs.declared.query.Query.{Query}
 use Rattle.sr_query.specs.declared.write.Write.{Write}
 use Rattle.sr_query.specs.declared.write.Write.TheVariants as written
 use Rattle.sr_bind.proofs.OnTables.{bound_suits, bound_rows}
-use Rattle.sr_lines.specs.Built.{may_ask}
 use Rattle.sr_lines.specs.Script.{Writes, AsksOf}
 use Rattle.std.specs.List.{list_all}
-use Rattle.std.proofs.lemmas.Bool.{both_ways}
 use Rattle.sr_query.specs.Bound.{is_table}
+use Rattle.sr_lines.proofs.Joined.{bound_are_joined, bound_have_few_parts}
 use Rattle.sr_lines.proofs.Own.{bound_need_own}
 use Rattle.sr_lines.proofs.Sound.{bound_are_sound}
 use Rattle.sr_reader.specs.Read.{statement_of, few_rows, statement_fits, Means}
 use Rattle.sr_reader.specs.Meaning.{said_seen, IsCreated, IsBound, IsAsking}
-use Rattle.sr_reader.proofs.OneDoing.{one_statement, no_fault, asks_bound}
+use Rattle.sr_reader.proofs.OneDoing.{one_statement, no_fault}
 use Rattle.sr_grammar_laws.proofs.RowCounts.{fewer_rows}
 
 -- ---- what was said
@@ -92,36 +91,19 @@ writes_fault tables sql says fault said is = inl (says_fault sql says fault said
 
 -- ---- queries
 
--- a query that is bound and built is one that stands for its meaning
-pub bound_means : (tables : List Table) (s : Statement) (q : Query) (meaning : model.Query) (may : Bool) → list_all is_table tables ≡ true → bound_query tables s ≡ Ok meaning → IsQuery tables q meaning
-    → may ≡ may_ask meaning → may ≡ true → Means tables (Ok q) (Ok meaning)
-bound_means tables s q meaning may are told is same yes_may = (is, sym same ∙ yes_may, bound_are_sound tables s meaning told, bound_need_own tables s meaning are told)
+-- a query that is bound is one that stands for its meaning
+pub bound_means : (tables : List Table) (s : Statement) (q : Query) (meaning : model.Query) → list_all is_table tables ≡ true → bound_query tables s ≡ Ok meaning → IsQuery tables q meaning → Means tables (Ok q) (Ok meaning)
+bound_means tables s q meaning are told is =
+    (is, bound_are_joined tables s meaning told, bound_have_few_parts tables s meaning told, bound_are_sound tables s meaning told, bound_need_own tables s meaning are told)
 
 asked : (tables : List Table) (sql : List ℕ) (s : Statement) (query : Result Query Fault) (meaning : Result model.Query Fault) → Says sql (Ok s) → bound_query tables s ≡ meaning → Means tables query meaning → AsksOf tables sql meaning
 asked tables sql s query (Err fault) says told means = inr (s, says, told)
-asked tables sql s (Ok q) (Ok meaning) says told means = (s, says, told, means.1)
-asked tables sql s (Err fault) (Ok meaning) says told means = absurd means
+asked tables sql s query (Ok meaning) says told means = (s, says, told)
 
-same_query : (q r : model.Query) → (let here : Result model.Query Fault = Ok q in here) ≡ Ok r → q ≡ r
-same_query q r e = cc
-
-no_query : (q : model.Query) (fault : Fault) → (let here : Result model.Query Fault = Ok q in here) ≡ Err fault → ⊥
-no_query q fault e = cc
-
-not_asked : (tables : List Table) (sql : List ℕ) (s : Statement) (q : model.Query) (meaning : Result model.Query Fault) → Says sql (Ok s) → bound_query tables s ≡ Ok q → may_ask q ≡ false → AsksOf tables sql meaning → ⊥
-not_asked tables sql s q (Err fault) says told may asks = no_query q fault (sym told ∙ asks_bound tables sql s (Err fault) says asks)
-not_asked tables sql s q (Ok r) says told may asks =
-    let same : q ≡ r = same_query q r (sym told ∙ asks_bound tables sql s (Ok r) says asks) in
-    both_ways (may_ask q) may (ap may_ask same ∙ asks.3)
-
-of_bound : (tables : List Table) (sql : List ℕ) (s : Statement) (found : Option (Result Query Fault)) → Says sql (Ok s) → IsBound tables s found → IsAsking tables sql found
-of_bound tables sql s None says bound = λ meaning asks. not_asked tables sql s bound.0 meaning says bound.1 bound.2 asks
-of_bound tables sql s (Some query) says bound = (bound.0, asked tables sql s query bound.0 says bound.1 bound.2, bound.2)
-
-pub asks : (tables : List Table) (sql : List ℕ) (says : Result declared.Statement Fault) (s : declared.Statement) (result : Result (Option (Result Query Fault)) NoMemory)
+pub asks : (tables : List Table) (sql : List ℕ) (says : Result declared.Statement Fault) (s : declared.Statement) (result : Result (Result Query Fault) NoMemory)
     → Says sql (said_seen says) → says ≡ Ok s → IfOk result (IsBound tables (statement_seen s)) → IfOk result (IsAsking tables sql)
-asks tables sql says s (Ok found) said is bound = of_bound tables sql (statement_seen s) found (says_it sql says s said is) bound
+asks tables sql says s (Ok query) said is bound = (bound.0, asked tables sql (statement_seen s) query bound.0 (says_it sql says s said is) bound.1 bound.2, bound.2)
 asks tables sql says s (Err want) said is bound = bound
 
-pub asks_fault : (tables : List Table) (sql : List ℕ) (says : Result declared.Statement Fault) (fault : Fault) → Says sql (said_seen says) → says ≡ Err fault → IsAsking tables sql (Some (Err fault))
+pub asks_fault : (tables : List Table) (sql : List ℕ) (says : Result declared.Statement Fault) (fault : Fault) → Says sql (said_seen says) → says ≡ Err fault → IsAsking tables sql (Err fault)
 asks_fault tables sql says fault said is = (Err fault, inl (says_fault sql says fault said is), refl)

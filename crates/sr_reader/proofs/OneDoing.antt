@@ -1,4 +1,4 @@
--- A line does one thing only, so what is read is neither unbuilt nor refused.
+-- A line does one thing only, so what is read is not refused.
 use Rattle.std.proofs.Common.{◌≡◌, ℕ, ◌+◌, List, [], ◌∷◌, ◌++◌, inl, inr, sym, ap, subst, ◌∙◌}
 use Rattle.std.specs.Prelude.{None, Result, Ok, Err}
 use Rattle.sr_cell.specs.declared.table.Table.{Table}
@@ -9,10 +9,10 @@ use Rattle.sr_grammar.specs.Says.{Says}
 use Rattle.sr_grammar_laws.proofs.OneSaying.{each_says_one}
 use Rattle.sr_model.specs.Queries.{Query}
 use Rattle.sr_model.specs.Statements.{Write}
-use Rattle.sr_lines.specs.Events.{ScriptEvent, DoExec, DoQuery}
+use Rattle.sr_lines.specs.Events.{ScriptEvent, DoExec, DoExplain, DoQuery}
 use Rattle.sr_query.specs.Binding.{bound_query}
 use Rattle.sr_query.specs.Writes.{bound_write}
-use Rattle.sr_lines.specs.Script.{Words, ExecSql, QuerySql, WriteSql, ExplainSql, PushTo, ToServer, ToClient, Settle, Evict, Cut, Resume, Line, Silent, CreateLine, EventLine, line_of, RefusedFrom, FirstRefused, Phase, start_phase, Writes, AsksOf, Means, LineDoes, Reads, FirstUnbuilt}
+use Rattle.sr_lines.specs.Script.{Words, ExecSql, QuerySql, WriteSql, ExplainSql, PushTo, ToServer, ToClient, Settle, Evict, Cut, Resume, Line, Silent, CreateLine, EventLine, line_of, RefusedFrom, FirstRefused, Phase, start_phase, Writes, AsksOf, Means, LineDoes, Reads}
 
 -- ---- a text means one thing
 
@@ -66,7 +66,7 @@ one_meaning : (tables : List Table) (words : Words) (event other : ScriptEvent) 
 one_meaning tables (ExecSql sql) event other a b = a.2 ∙ ap (λ s. DoExec s) (one_write tables sql a.0 b.0 a.1 b.1) ∙ sym b.2
 one_meaning tables (QuerySql n sql) event other a b = a.2 ∙ ap (λ q. DoQuery n q) (one_query tables sql a.0 b.0 a.1 b.1) ∙ sym b.2
 one_meaning tables (WriteSql n sql) event other a b = a ∙ sym b
-one_meaning tables (ExplainSql n sql) event other a b = absurd a
+one_meaning tables (ExplainSql n sql) event other a b = a.2 ∙ ap (λ q. DoExplain n q) (one_query tables sql a.0 b.0 a.1 b.1) ∙ sym b.2
 one_meaning tables (PushTo n) event other a b = a ∙ sym b
 one_meaning tables (ToServer n) event other a b = a ∙ sym b
 one_meaning tables (ToClient n) event other a b = a ∙ sym b
@@ -87,14 +87,6 @@ one_doing phase n (Ok (EventLine words)) events others next after a b =
     let same = one_meaning phase.tables words a.0 b.0 a.1 b.1 in
     (a.2 ∙ ap (λ e. (n, e) ∷ []) same ∙ sym b.2, a.3 ∙ sym b.3)
 one_doing phase n (Err place) events others next after a b = absurd a
-
--- lines that are read have no line that does nothing
-pub excludes : (clients i : ℕ) (phase : Phase) (lines : List (List ℕ)) (events : List (ℕ × ScriptEvent)) (end : Phase) (n : ℕ) → Reads clients i phase lines events end → FirstUnbuilt clients i phase lines n → ⊥
-excludes clients i phase [] events end n reads first = first
-excludes clients i phase (line ∷ lines) events end n reads (inl here) = here.1 reads.0 reads.2 reads.3
-excludes clients i phase (line ∷ lines) events end n reads (inr later) =
-    let same = one_doing phase i (line_of clients line) reads.0 later.0 reads.2 later.1 reads.3 later.2 in
-    excludes clients (i + 1) later.1 lines reads.1 end n (subst (λ next. Reads clients (i + 1) next lines reads.1 end) same.1 reads.4) later.3
 
 -- ---- a script that is read has no CREATE line that is refused
 

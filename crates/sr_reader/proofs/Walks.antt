@@ -1,5 +1,5 @@
 -- Reading the events of a script, one line after another.
-use Rattle.std.proofs.Common.{◌≡◌, ℕ, ◌+◌, ◌≤◌, true, List, [], ◌∷◌, ◌++◌, length, refl, sym, ap, subst, inl, inr, ◌∙◌, arith, append_assoc, append-nil}
+use Rattle.std.proofs.Common.{◌≡◌, ℕ, ◌+◌, ◌≤◌, true, List, [], ◌∷◌, ◌++◌, length, refl, sym, ap, subst, ◌∙◌, arith, append_assoc, append-nil}
 use Rattle.std.specs.Prelude.{Option, Some, None, Result, Ok, IsTrue}
 use Rattle.std.specs.List.{list_all, AllZip}
 use Rattle.std.proofs.lemmas.List.{length-append}
@@ -7,7 +7,7 @@ use Rattle.sr_cell.specs.declared.table.Table.{Table}
 use Rattle.sr_cell.proofs.Lists.{list_all-push, AllZip-push}
 use Rattle.sr_lines.specs.Events.{ScriptEvent}
 use Rattle.sr_lines.specs.Lines.{lines_of}
-use Rattle.sr_lines.specs.Script.{Words, Line, Silent, CreateLine, EventLine as EventOf, line_of, Stage, Creating, Running, LinePlace, outside_from, first_outside, Phase, start_phase, Means, LineDoes, Reads, FirstUnbuilt}
+use Rattle.sr_lines.specs.Script.{Words, Line, Silent, CreateLine, EventLine as EventOf, line_of, Stage, Creating, Running, LinePlace, outside_from, first_outside, Phase, start_phase, Means, LineDoes, Reads}
 use Rattle.sr_lines.specs.Creates.{CreatesFrom, Creates}
 use Rattle.sr_lines.proofs.Parts.{events_name_clients}
 use Rattle.sr_query.specs.Bound.{is_table}
@@ -41,7 +41,6 @@ pub record Walked (clients : ℕ) (bytes : List ℕ) (schema : List Table) (numb
   pub few : length events + length rest ≤ length (lines_of bytes)
   pub fits : list_all (λ line. event_fits clients schema line.event) events ≡ true
   pub reads : (others : List (ℕ × ScriptEvent)) (end : Phase) → Reads clients number (phase_of tables stage) rest others end → Reads clients 1 start_phase (lines_of bytes) (before ++ others) end
-  pub unbuilt : (n : ℕ) → FirstUnbuilt clients number (phase_of tables stage) rest n → FirstUnbuilt clients 1 start_phase (lines_of bytes) n
 
 pub walked_start : (clients : ℕ) (bytes : List ℕ) (schema : List Table) (lines : List code.Line) → AreOf clients bytes schema lines → Walked clients bytes schema 1 (lines_of bytes) []
 walked_start clients bytes schema lines script = record {
@@ -54,7 +53,6 @@ walked_start clients bytes schema lines script = record {
   few = omega arith;
   fits = refl;
   reads = λ others end reads. reads;
-  unbuilt = λ n first. first;
 }
 
 -- ---- what a line of each kind leaves
@@ -107,8 +105,6 @@ module _ (clients : ℕ) (bytes : List ℕ) (schema : List Table) (number : ℕ)
         let here : Reads clients number (phase_of walked.tables walked.stage) rest (some ++ others) end =
         subst (λ z. Reads clients number (phase_of walked.tables walked.stage) z (some ++ others) end) (sym cut) (some, others, phase_of tables stage, does, reads, refl) in
         subst (λ z. Reads clients 1 start_phase (lines_of bytes) z end) (sym (append_assoc walked.before some others)) (walked.reads (some ++ others) end here);
-    unbuilt = λ n first.
-        walked.unbuilt n (subst (λ z. FirstUnbuilt clients number (phase_of walked.tables walked.stage) z n) (sym cut) (inr (some, phase_of tables stage, does, first)));
   }
 
   same : AllZip (IsEventLine schema) events (walked.before ++ [])
@@ -141,7 +137,7 @@ module _ (clients : ℕ) (bytes : List ℕ) (schema : List Table) (number : ℕ)
   walked_quiet (read.Create sql) is other = walked_create sql.now is
   walked_quiet (read.Event words) is other = absurd (other words refl)
 
-  pub walked_event : (words : Words) (event : Event) → line_of clients text ≡ Ok (EventOf words) → IsSaid schema words (Some event)
+  pub walked_event : (words : Words) (event : Event) → line_of clients text ≡ Ok (EventOf words) → IsSaid schema words event
       → Walked clients bytes schema (number + 1) after (events ++ record { number = number; event = event } ∷ [])
   walked_event words event is said =
       let tables : schema ≡ walked.tables = event_waits clients schema walked.tables walked.stage text after words is waits_here in
@@ -156,14 +152,6 @@ module _ (clients : ℕ) (bytes : List ℕ) (schema : List Table) (number : ℕ)
       (sym (event_inside number (λ next. first_outside clients (number + 1) next after) walked.stage words) ∙ inside_here (Ok (EventOf words)) is)
       (AllZip-push (IsEventLine schema) events walked.before line (number, said.0) walked.are (said.0, said.2, refl)) (let e = length-append events (line ∷ []) in omega (arith, e))
       (list_all-push (λ l. event_fits clients schema l.event) events line walked.fits (said.3 clients names))
-
-  pub walked_unbuilt : (words : Words) → line_of clients text ≡ Ok (EventOf words) → IsSaid schema words None → FirstUnbuilt clients 1 start_phase (lines_of bytes) number
-  walked_unbuilt words is none =
-      let tables : schema ≡ walked.tables = event_waits clients schema walked.tables walked.stage text after words is waits_here in
-      let phase = phase_of walked.tables walked.stage in
-      let nothing : (some : List (ℕ × ScriptEvent)) (next : Phase) → LineDoes phase number (line_of clients text) some next → ⊥ =
-      λ some next does. (let here = subst (λ z. LineDoes phase number z some next) is does in none here.0 (subst (λ z. Means z words here.0) (sym tables) here.1)) in
-      walked.unbuilt number (subst (λ z. FirstUnbuilt clients number phase z number) (sym cut) (inl (refl, nothing)))
 
 -- ---- the end of the walk
 

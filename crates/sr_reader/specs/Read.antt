@@ -5,15 +5,15 @@ use Rattle.sr_cell.specs.declared.fault.Fault.{Fault}
 use Rattle.sr_cell.specs.declared.table.Table.{Table}
 use Rattle.sr_model.specs.Queries as model
 use Rattle.sr_model.specs.Statements as statements
-use Rattle.sr_lines.specs.Events.{ScriptEvent, DoExec, DoQuery, DoWrite, DoPush, DoToServer, DoToClient, DoSettle, DoEvict, DoCut, DoResume}
+use Rattle.sr_lines.specs.Events.{ScriptEvent, DoExec, DoQuery, DoWrite, DoExplain, DoPush, DoToServer, DoToClient, DoSettle, DoEvict, DoCut, DoResume}
 use Rattle.sr_query.specs.Bound.{is_table, IsQuery}
+use Rattle.sr_query.specs.Joined.{is_joined}
 use Rattle.sr_query.specs.declared.query.Query.{Query}
 use Rattle.sr_query.specs.declared.write.Write.{Write}
 use Rattle.sr_query.specs.declared.write.Write.TheVariants as writes
 use Rattle.sr_query.specs.Writes.{suits}
 use Rattle.sr_query.specs.Written.{write_of}
 use Rattle.sr_lines.specs.Lines.{lines_of}
-use Rattle.sr_lines.specs.Built.{may_ask}
 use Rattle.sr_lines.specs.Own.{needs_own}
 use Rattle.sr_lines.specs.Sound.{is_sound}
 pub use Rattle.sr_lines.specs.Parts.{is_client}
@@ -30,7 +30,8 @@ statement_of (Err fault) = Err fault
 
 -- a bound query, or the fault of its text, stands for this one
 abbrev pub Means : List Table → Result Query Fault → Result model.Query Fault → Type 0
-Means tables (Ok q) (Ok meaning) = IsQuery tables q meaning × IsTrue (may_ask meaning) × IsTrue (is_sound tables meaning) × IsTrue (needs_own tables meaning)
+Means tables (Ok q) (Ok meaning) =
+    IsQuery tables q meaning × IsTrue (is_joined tables meaning) × (length meaning.parts ≤ 4) × IsTrue (is_sound tables meaning) × IsTrue (needs_own tables meaning)
 Means tables (Ok q) (Err fault) = ⊥
 Means tables (Err fault) (Ok meaning) = ⊥
 Means tables (Err fault) (Err same) = fault ≡ same
@@ -40,6 +41,7 @@ abbrev pub IsEvent : List Table → code.Event → ScriptEvent → Type 0
 IsEvent tables (read.Exec statement) event = event ≡ DoExec (statement_of statement)
 IsEvent tables (read.Query n query) event = (meaning : Result model.Query Fault) × Means tables query meaning × (event ≡ DoQuery n meaning)
 IsEvent tables (read.Write n sql) event = event ≡ DoWrite n sql
+IsEvent tables (read.Explain n query) event = (meaning : Result model.Query Fault) × Means tables query meaning × (event ≡ DoExplain n meaning)
 IsEvent tables (read.Push n) event = event ≡ DoPush n
 IsEvent tables (read.ToServer n) event = event ≡ DoToServer n
 IsEvent tables (read.ToClient n) event = event ≡ DoToClient n
@@ -71,6 +73,7 @@ abbrev pub event_fits : ℕ → List Table → code.Event → Bool
 event_fits clients tables (read.Exec statement) = statement_fits tables statement
 event_fits clients tables (read.Query n query) = is_client clients n
 event_fits clients tables (read.Write n sql) = is_client clients n
+event_fits clients tables (read.Explain n query) = is_client clients n
 event_fits clients tables (read.Push n) = is_client clients n
 event_fits clients tables (read.ToServer n) = is_client clients n
 event_fits clients tables (read.ToClient n) = is_client clients n

@@ -1,11 +1,8 @@
 //! The events of a script.
-ghost use Rattle.std.specs.Prelude.{◌≡◌, ℕ, List, IsTrue, IfOk, IsErrOf};
+ghost use Rattle.std.specs.Prelude.{◌≡◌, ℕ, List, IsTrue, IfOk};
 ghost use Rattle.std.specs.List.{list_all};
-ghost use Rattle.sr_cell.specs.declared.list.No.TheVariants.{Refused};
-ghost use Rattle.sr_lines.specs.Lines.{lines_of};
-ghost use Rattle.sr_lines.specs.Script.{ExecSql, QuerySql, WriteSql, start_phase, FirstUnbuilt};
+ghost use Rattle.sr_lines.specs.Script.{ExecSql, QuerySql, WriteSql, ExplainSql};
 ghost use Rattle.sr_query.specs.Bound.{is_table};
-ghost use Rattle.sr_reader.specs.declared.script.UnbuiltLine.{UnbuiltLine as TheUnbuiltLine};
 ghost use Rattle.sr_reader.specs.LineSeen.{words_seen};
 ghost use Rattle.sr_reader.specs.Lined.{AreOf};
 ghost use Rattle.sr_reader.specs.Meaning.{IsSaid};
@@ -14,48 +11,58 @@ ghost use Rattle.sr_reader.specs.Read.{Fits, IsRead};
 use crate::line::Line;
 use crate::lines::Lines;
 use crate::meaning::{query_of, write_of};
-use crate::script::{Event, EventLine, EventLines, UnbuiltLine};
+use crate::script::{Event, EventLine, EventLines};
 use crate::words::Words;
-use sr_cell::list::{No, NoMemory, Seq};
+use sr_cell::list::{NoMemory, Seq};
 use sr_cell::schema::Schema;
 use sr_cell::text::Text;
 use std::alloc::Global;
 
 /// A statement, or why its text is refused.
-fn exec(alloc: Global, schema: &Schema, sql: &str) -> Result<Option<Event>, NoMemory>
+fn exec(alloc: Global, schema: &Schema, sql: &str) -> Result<Event, NoMemory>
     requires tables { IsTrue (list_all is_table schema.now) }
     ensures { IfOk result (IsSaid schema.now (ExecSql sql.now)) }
 {
     match write_of(alloc, schema, sql) {
-        Ok(statement) => Ok(Some(Event::Exec(statement))),
+        Ok(statement) => Ok(Event::Exec(statement)),
         Err(want) => Err(want),
     }
 }
 
-/// A query, or why its text is refused; None if it is not built.
-fn query(alloc: Global, schema: &Schema, client: u8, sql: &str) -> Result<Option<Event>, NoMemory>
+/// A query, or why its text is refused.
+fn query(alloc: Global, schema: &Schema, client: u8, sql: &str) -> Result<Event, NoMemory>
     requires tables { IsTrue (list_all is_table schema.now) }
     ensures { IfOk result (IsSaid schema.now (QuerySql client sql.now)) }
 {
     match query_of(alloc, schema, sql) {
-        Ok(Some(query)) => Ok(Some(Event::Query { client, query })),
-        Ok(None) => Ok(None),
+        Ok(query) => Ok(Event::Query { client, query }),
+        Err(want) => Err(want),
+    }
+}
+
+/// A query that is to be explained, or why its text is refused.
+fn explain(alloc: Global, schema: &Schema, client: u8, sql: &str) -> Result<Event, NoMemory>
+    requires tables { IsTrue (list_all is_table schema.now) }
+    ensures { IfOk result (IsSaid schema.now (ExplainSql client sql.now)) }
+{
+    match query_of(alloc, schema, sql) {
+        Ok(query) => Ok(Event::Explain { client, query }),
         Err(want) => Err(want),
     }
 }
 
 /// A write, as its text.
-fn write(alloc: Global, schema: &Schema, client: u8, sql: &str) -> Result<Option<Event>, NoMemory>
+fn write(alloc: Global, schema: &Schema, client: u8, sql: &str) -> Result<Event, NoMemory>
     ensures { IfOk result (IsSaid schema.now (WriteSql client sql.now)) }
 {
     match Text::of(alloc, sql) {
-        Ok(sql) => Ok(Some(Event::Write { client, sql })),
+        Ok(sql) => Ok(Event::Write { client, sql }),
         Err(want) => Err(want),
     }
 }
 
-/// What the words of an event say to the schema; None if that is not built.
-fn event_of(alloc: Global, schema: &Schema, words: Words<'_>) -> Result<Option<Event>, NoMemory>
+/// What the words of an event say to the schema.
+fn event_of(alloc: Global, schema: &Schema, words: Words<'_>) -> Result<Event, NoMemory>
     requires tables { IsTrue (list_all is_table schema.now) }
     ensures { IfOk result (IsSaid schema.now (words_seen words.entry)) }
 {
@@ -63,36 +70,33 @@ fn event_of(alloc: Global, schema: &Schema, words: Words<'_>) -> Result<Option<E
         Words::Exec { sql } => exec(alloc, schema, sql),
         Words::Query { client, sql } => query(alloc, schema, client, sql),
         Words::Write { client, sql } => write(alloc, schema, client, sql),
-        Words::Explain { .. } => Ok(None),
-        Words::Push { client } => Ok(Some(Event::Push { client })),
-        Words::ToServer { client } => Ok(Some(Event::ToServer { client })),
-        Words::ToClient { client } => Ok(Some(Event::ToClient { client })),
-        Words::Settle { client } => Ok(Some(Event::Settle { client })),
-        Words::Evict { client, place } => Ok(Some(Event::Evict { client, place })),
-        Words::Cut { client } => Ok(Some(Event::Cut { client })),
-        Words::Resume { client } => Ok(Some(Event::Resume { client })),
+        Words::Explain { client, sql } => explain(alloc, schema, client, sql),
+        Words::Push { client } => Ok(Event::Push { client }),
+        Words::ToServer { client } => Ok(Event::ToServer { client }),
+        Words::ToClient { client } => Ok(Event::ToClient { client }),
+        Words::Settle { client } => Ok(Event::Settle { client }),
+        Words::Evict { client, place } => Ok(Event::Evict { client, place }),
+        Words::Cut { client } => Ok(Event::Cut { client }),
+        Words::Resume { client } => Ok(Event::Resume { client }),
     }
 }
 
-/// Reads the events of the script that the lines are of, whose CREATE lines made the schema; or names the first line that is not built.
+/// Reads the events of the script that the lines are of, whose CREATE lines made the schema.
 pub fn read_events(
     alloc: Global,
     schema: &Schema,
     lines: &Lines<'_>,
-) -> Result<EventLines, No<UnbuiltLine>>
+) -> Result<EventLines, NoMemory>
     requires tables { IsTrue (list_all is_table schema.now) }
     ensures read { (clients : ℕ) (bytes : List ℕ) → AreOf clients bytes schema.now lines.now → IfOk result (λ events. IsRead clients bytes (record { schema = schema.now; lines = events })) }
     ensures fits { (clients : ℕ) (bytes : List ℕ) → AreOf clients bytes schema.now lines.now → IfOk result (λ events. Fits clients (record { schema = schema.now; lines = events })) }
-    ensures unbuilt { (clients : ℕ) (bytes : List ℕ) → AreOf clients bytes schema.now lines.now → (unbuilt : TheUnbuiltLine) → IsErrOf result (Refused unbuilt) → FirstUnbuilt clients 1 start_phase (lines_of bytes) unbuilt.number }
 {
     let mut events = Seq::new(alloc);
     for (i, line) in lines.as_slice().iter().enumerate() {
         if let Line::Event(words) = line {
             let number = i as u64 + 1;
-            match event_of(alloc, schema, *words)? {
-                Some(event) => events.push(EventLine { number, event })?,
-                None => return Err(No::Refused(UnbuiltLine { number })),
-            }
+            let event = event_of(alloc, schema, *words)?;
+            events.push(EventLine { number, event })?;
         }
     }
     Ok(events)

@@ -1,13 +1,12 @@
 //! Reading of scripts: CREATE lines of any tables, then the events of any clients.
 #![tactic(auto)]
 
-mod built;
 mod cut;
 pub mod events;
 pub mod head;
 pub mod line;
 pub mod lines;
-mod meaning;
+pub mod meaning;
 mod parts;
 pub mod script;
 #[cfg(test)]

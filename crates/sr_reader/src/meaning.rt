@@ -9,7 +9,6 @@ ghost use Rattle.sr_lines.specs.Script.{Writes};
 ghost use Rattle.sr_reader.specs.Read.{statement_of, statement_fits};
 ghost use Rattle.sr_reader.specs.Meaning.{said_seen, IsCreated, IsBound, IsAsking};
 
-use crate::built::may_ask;
 use sr_bind::bind::bind_query;
 use sr_bind::write::bind_write;
 use sr_cell::fault::Fault;
@@ -92,24 +91,18 @@ pub(crate) fn write_of(
     }
 }
 
-/// What a statement asks, or why it asks nothing; None if it asks what is not built.
+/// What a statement asks, or why it asks nothing.
 fn bound_query(
     alloc: Global,
     schema: &Schema,
     statement: &Statement,
-) -> Result<Option<Result<Query, Fault>>, NoMemory>
+) -> Result<Result<Query, Fault>, NoMemory>
     requires tables { IsTrue (list_all is_table schema.now) }
     ensures { IfOk result (IsBound schema.now (statement_seen statement.now)) }
 {
     match bind_query(alloc, schema, statement) {
-        Ok(query) => {
-            if may_ask(&query) {
-                Ok(Some(Ok(query)))
-            } else {
-                Ok(None)
-            }
-        }
-        Err(No::Refused(fault)) => Ok(Some(Err(fault))),
+        Ok(query) => Ok(Ok(query)),
+        Err(No::Refused(fault)) => Ok(Err(fault)),
         Err(No::NoMemory) => Err(NoMemory),
     }
 }
@@ -119,25 +112,21 @@ fn query_said(
     alloc: Global,
     schema: &Schema,
     statement: Statement,
-) -> Result<Option<Result<Query, Fault>>, NoMemory>
+) -> Result<Result<Query, Fault>, NoMemory>
     requires tables { IsTrue (list_all is_table schema.now) }
     ensures { IfOk result (IsBound schema.now (statement_seen statement)) }
 {
     bound_query(alloc, schema, &statement)
 }
 
-/// What a text asks, or why it is refused; None if it asks nothing that is built.
+/// What a text asks, or why it is refused.
 #[tactic(none)]
-pub(crate) fn query_of(
-    alloc: Global,
-    schema: &Schema,
-    sql: &str,
-) -> Result<Option<Result<Query, Fault>>, NoMemory>
+pub fn query_of(alloc: Global, schema: &Schema, sql: &str) -> Result<Result<Query, Fault>, NoMemory>
     requires tables { IsTrue (list_all is_table schema.now) }
     ensures { IfOk result (IsAsking schema.now sql.now) }
 {
     match said(alloc, sql)? {
         Ok(statement) => query_said(alloc, schema, statement),
-        Err(fault) => Ok(Some(Err(fault))),
+        Err(why) => Ok(Err(why)),
     }
 }

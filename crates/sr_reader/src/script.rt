@@ -18,6 +18,10 @@ pub enum Event {
         client: u8,
         sql: Text,
     },
+    Explain {
+        client: u8,
+        query: Result<Query, Fault>,
+    },
     Push {
         client: u8,
     },
@@ -63,10 +67,4 @@ pub struct Script {
 pub struct LinePlace {
     pub line: u64,
     pub place: u32,
-}
-
-/// A line that does nothing that is built, by its number counted from 1.
-#[derive(Clone, Copy, Debug, PartialEq, Eq)]
-pub struct UnbuiltLine {
-    pub number: u64,
 }

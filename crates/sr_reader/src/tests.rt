@@ -47,13 +47,12 @@ fn faults_of_lines_have_their_places(rt: HostRuntime) -> Result<(), Fail> {
 enum Came {
     Outside(u64, u32),
     Refused(u64),
-    Unbuilt(u64),
     // so many tables and events
     Read(usize, usize),
     Nothing,
 }
 
-static SCRIPTS: [(&[u8], Came); 8] = [
+static SCRIPTS: [(&[u8], Came); 9] = [
     (b"", Came::Read(0, 0)),
     (
         b"# c\r\nCREATE TABLE t (k INT PRIMARY KEY)\n\npush 2\nexec nonsense",
@@ -73,7 +72,11 @@ static SCRIPTS: [(&[u8], Came); 8] = [
         Came::Refused(2),
     ),
     (b"CREATE TABLE\nexplain 1 x", Came::Refused(1)),
-    (b"resume 1\n\nexplain 1 x\n", Came::Unbuilt(3)),
+    (b"resume 1\n\nexplain 1 x\n", Came::Read(0, 2)),
+    (
+        b"CREATE TABLE t (k INT PRIMARY KEY)\nCREATE TABLE u (j INT PRIMARY KEY)\nexplain 1 SELECT k FROM t JOIN u ON k = j\n",
+        Came::Read(2, 1),
+    ),
 ];
 
 fn reading(alloc: Global, bytes: &[u8]) -> Came {
@@ -92,8 +95,7 @@ fn reading(alloc: Global, bytes: &[u8]) -> Came {
     };
     match read_events(alloc, &schema, &lines) {
         Ok(events) => Came::Read(schema.as_slice().len(), events.len()),
-        Err(No::Refused(unbuilt)) => Came::Unbuilt(unbuilt.number),
-        Err(No::NoMemory) => Came::Nothing,
+        Err(_) => Came::Nothing,
     }
 }
 

@@ -161,7 +161,7 @@ pub record HeadsAsk (event : Event) (report : Report) (l : TraceLine) (own : Lis
   pub more : List TraceLine
   pub own_is : own ≡ map part_line parts ++ more
 
-lacks-here : (lines front : List TraceLine) (l : TraceLine) (own : List TraceLine) → list_any is_head lines ≡ false → is_head l ≡ true → lines ≡ front ++ l ∷ own → ⊥
+pub lacks-here : (lines front : List TraceLine) (l : TraceLine) (own : List TraceLine) → list_any is_head lines ≡ false → is_head l ≡ true → lines ≡ front ++ l ∷ own → ⊥
 lacks-here lines front l own lacks is there =
     let wrong : false ≡ true = sym lacks ∙ (ap (list_any is_head) there ∙ found is_head front l own is) in absurd (cc)
 

@@ -19,7 +19,7 @@ use Rattle.sr_session.proofs.ReachLemmas.{at-set}
 use Rattle.sr_runs.specs.Lines.{answer_lines, lines_of, mark_lines}
 use Rattle.sr_lines.specs.Events.{DoQuery, ScriptEvent}
 use Rattle.sr_runs.specs.Scripts.{Is, is_cut, is_evict, is_exec, is_push, is_query, is_resume, is_to_client, is_to_server, is_write_of}
-use Rattle.sr_runs.specs.Runs.{Acts, Does, Steps, acts, alone, does, does_settle, eagerly, too_long}
+use Rattle.sr_runs.specs.Runs.{Acts, Does, Steps, acts, alone, does, does_settle, eagerly, explains, too_long}
 use Rattle.sr_runs.specs.Headline.{ACoveredQueryAsksNothing, IsAnsweredAtOnce}
 use Rattle.sr_runs.proofs.BlockLemmas.{blocks}
 use Rattle.sr_runs.proofs.FreeLemmas.{AsksNot, IsFree, all-settle-free, asks-not, none-asked, not-joined}
@@ -114,6 +114,7 @@ module _ (s : Scene) (n : ℕ) (q : Query) (old : Pair) (is : pair_at s n ≡ So
       let told = query-event s what event n q being same in
       subst (λ e. FirstBlock new (lines_of e report)) (sym told) (event-block new report (subst (λ e. Happens s e report new) told happens))
   acts-block new what lines same (too_long m sql pair there long) = absurd (cc)
+  acts-block new what lines same (explains m text ls there) = absurd (cc)
 
   does-block : (new : Scene) (what : ScriptEvent) (lines : List TraceLine) → what ≡ DoQuery n (Ok q) → Does s what lines new → FirstBlock new lines
   does-block new what lines same (does a b c act) = acts-block new what lines same act

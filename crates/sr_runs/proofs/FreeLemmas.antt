@@ -16,7 +16,7 @@ use Rattle.sr_session.proofs.ReachLemmas.{at-set}
 use Rattle.sr_runs.specs.Lines.{lines_of}
 use Rattle.sr_lines.specs.Events.{DoToClient, DoToServer, ScriptEvent}
 use Rattle.sr_runs.specs.Scripts.{Is, is_cut, is_evict, is_exec, is_push, is_query, is_resume, is_to_client, is_to_server, is_write_of}
-use Rattle.sr_runs.specs.Runs.{Acts, AllSettle, Settles, acts, delivers, is_quiet, next_of, no_client, one_more, too_long}
+use Rattle.sr_runs.specs.Runs.{Acts, AllSettle, Settles, acts, delivers, explains, is_quiet, next_of, no_client, one_more, too_long}
 use Rattle.sr_runs.proofs.Splits.{Side, in_left, in_right, none-there, split}
 use Rattle.sr_runs.proofs.BlockLemmas.{Blocks, HeadsAnswer, HeadsAsk, blocks, heads}
 
@@ -147,6 +147,7 @@ module _ (n : ℕ) where
       let on = free-on s new event report happens (is-delivery s what event is d) free in
       (on.0, asks-not n event report (blocks s new event report happens) on.1)
   acts-free s new what lines (too_long m sql pair is long) d free = absurd d
+  acts-free s new what lines (explains m text ls is) d free = absurd d
 
   settles-free : (k : ℕ) (s : Scene) (frames : ℕ) (lines : List TraceLine) (new : Scene) → Settles k s frames lines new → IsFree s n → Frees new lines
   settles-free k s frames lines new (is_quiet a pair is quiet) free = (free, none-asked n)

@@ -1,6 +1,7 @@
 pub mod Splits
 pub mod StepLemmas
 pub mod BlockLemmas
+pub mod ExplainLemmas
 pub mod MomentLemmas
 pub mod PairLemmas
 pub mod LineLemmas

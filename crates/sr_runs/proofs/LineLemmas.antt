@@ -19,8 +19,9 @@ use Rattle.sr_session.proofs.AnswerLemmas.{an-ask-asks-the-uncovered, answers-ar
 use Rattle.sr_session.proofs.BudgetLemmas.{Grows, grows, more, same}
 use Rattle.sr_runs.specs.Lines.{part_line}
 use Rattle.sr_runs.specs.Runs.{numbered}
-use Rattle.sr_runs.specs.Headline.{AnswerLinesAreRight, AskLinesAreRight, IsMoment, IsRightAnswerLine, IsRightAskLine, IsScripted, IsTold}
+use Rattle.sr_runs.specs.Headline.{AnswerLinesAreRight, AskLinesAreRight, IsExplained, IsMoment, IsRightAnswerLine, IsRightAskLine, IsScripted, IsTold}
 use Rattle.sr_runs.proofs.BlockLemmas.{HeadsAnswer, HeadsAsk, blocks, heads}
+use Rattle.sr_runs.proofs.ExplainLemmas.{no-head}
 use Rattle.sr_runs.proofs.MomentLemmas.{lines-are-told}
 use Rattle.sr_runs.proofs.PairLemmas.{still-there}
 
@@ -125,9 +126,11 @@ answer-lines-are-right last script front number n query version rows behind ther
     by t (inl h) = right-answer last script number n query version rows behind t h
     by t (inr h) = absurd (let wrong : line.Ask (client_of t.event) h.request h.fresh (length h.parts) ≡ line.Answer n query version rows = h.line_is in cc)
 
-    go : IsTold (start_of last script) last number (line.Answer n query version rows) behind ⊎ IsTrue false → IsRightAnswerLine last number n query version rows behind
+    go : IsTold (start_of last script) last number (line.Answer n query version rows) behind ⊎ (IsExplained (start_of last script) last number (line.Answer n query version rows) behind ⊎ IsTrue false)
+        → IsRightAnswerLine last number n query version rows behind
     go (inl t) = by t (heads t.event t.report (blocks t.moment.before t.moment.after t.event t.report t.moment.happens) t.front (line.Answer n query version rows) t.own refl t.lines)
-    go (inr wrong) = absurd (cc)
+    go (inr (inl h)) = absurd (no-head h.there h.client h.text h.front (line.Answer n query version rows) h.own refl h.explains)
+    go (inr (inr wrong)) = absurd (cc)
 
 -- ---- asks
 
@@ -166,6 +169,8 @@ ask-lines-are-right last script front number n request fresh count behind there 
     by t (inl h) = absurd (let wrong : line.Answer (client_of t.event) h.query h.version (length h.rows) ≡ line.Ask n request fresh count = h.line_is in cc)
     by t (inr h) = right-ask last script number n request fresh count behind t h
 
-    go : IsTold (start_of last script) last number (line.Ask n request fresh count) behind ⊎ IsTrue false → IsRightAskLine last script number n request fresh count behind
+    go : IsTold (start_of last script) last number (line.Ask n request fresh count) behind ⊎ (IsExplained (start_of last script) last number (line.Ask n request fresh count) behind ⊎ IsTrue false)
+        → IsRightAskLine last script number n request fresh count behind
     go (inl t) = by t (heads t.event t.report (blocks t.moment.before t.moment.after t.event t.report t.moment.happens) t.front (line.Ask n request fresh count) t.own refl t.lines)
-    go (inr wrong) = absurd (cc)
+    go (inr (inl h)) = absurd (no-head h.there h.client h.text h.front (line.Ask n request fresh count) h.own refl h.explains)
+    go (inr (inr wrong)) = absurd (cc)

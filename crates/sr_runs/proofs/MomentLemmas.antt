@@ -1,15 +1,18 @@
 -- Each line of a trace is one of an event at its moment.
 use Rattle.std.proofs.Common.{◌≡◌, ℕ, ◌+◌, Bool, List, [], ◌∷◌, ◌++◌, refl, sym, ◌∙◌, ap, subst, inl, inr}
-use Rattle.std.specs.Prelude.{◌⊎◌, IsTrue}
+use Rattle.std.specs.Prelude.{◌⊎◌, IsTrue, Result}
 use Rattle.std.proofs.lemmas.List.{append-nil, append_assoc, map-append}
+use Rattle.sr_cell.specs.declared.fault.Fault.{Fault}
+use Rattle.sr_model.specs.Queries.{Query}
 use Rattle.sr_script.specs.declared.line.TraceLine.{TraceLine}
 use Rattle.sr_script.specs.declared.line.TraceLine.TheVariants as line
 use Rattle.sr_session.specs.Scenes.{Event, Report, Scene}
 use Rattle.sr_session.specs.Texts.{long_text}
+use Rattle.sr_explain.specs.Telling.{ExplainsTo}
 use Rattle.sr_runs.specs.Lines.{lines_of}
 use Rattle.sr_lines.specs.Events.{ScriptEvent}
-use Rattle.sr_runs.specs.Runs.{Acts, AllSettle, Does, Settles, Steps, acts, alone, delivers, does, does_settle, eagerly, ends, goes_on, is_quiet, no_client, numbered, one_more, too_long}
-use Rattle.sr_runs.specs.Headline.{IsMoment, IsTold, Leads, LinesAreTold, is_of_no_event}
+use Rattle.sr_runs.specs.Runs.{Acts, AllSettle, Does, Settles, Steps, acts, alone, delivers, does, does_settle, eagerly, ends, explains, goes_on, is_quiet, no_client, numbered, one_more, too_long}
+use Rattle.sr_runs.specs.Headline.{IsExplained, IsMoment, IsTold, Leads, LinesAreTold, is_of_no_event}
 use Rattle.sr_runs.proofs.Splits.{Side, in_left, in_right, none-there, only-one, split}
 use Rattle.sr_runs.proofs.StepLemmas.{acts-lead, all-settle-lead, both, does-lead, nothing, runs-lead, settles-lead, steps-are-events}
 
@@ -26,8 +29,21 @@ pub record ToldHere (s new : Scene) (l : TraceLine) (behind : List TraceLine) : 
   pub rest : List TraceLine
   pub behind_is : behind ≡ own ++ rest
 
+-- the line is one of an explanation at its moment, and so are the lines behind it
+pub record ExplainedHere (s new : Scene) (l : TraceLine) (behind : List TraceLine) : Type 0 where
+  pub there : Scene
+  pub leads : Leads s there
+  pub follows : Leads there new
+  pub client : ℕ
+  pub text : Result Query Fault
+  pub front : List TraceLine
+  pub own : List TraceLine
+  pub explains : ExplainsTo there client text (front ++ l ∷ own)
+  pub rest : List TraceLine
+  pub behind_is : behind ≡ own ++ rest
+
 abbrev pub Told : Scene → Scene → TraceLine → List TraceLine → Type 0
-Told s new l behind = ToldHere s new l behind ⊎ IsTrue (is_of_no_event l)
+Told s new l behind = ToldHere s new l behind ⊎ (ExplainedHere s new l behind ⊎ IsTrue (is_of_no_event l))
 
 abbrev pub AllTold : Scene → Scene → List TraceLine → Type 0
 AllTold s new lines = (front : List TraceLine) (l : TraceLine) (behind : List TraceLine) → lines ≡ front ++ l ∷ behind → Told s new l behind
@@ -53,7 +69,19 @@ widen s mid after new l behind rest all first last are (inl h) = inl (record {
   rest = h.rest ++ rest;
   behind_is = are ∙ (ap (λ b. b ++ rest) h.behind_is ∙ append_assoc h.own h.rest rest);
 })
-widen s mid after new l behind rest all first last are (inr h) = inr h
+widen s mid after new l behind rest all first last are (inr (inl h)) = inr (inl (record {
+  there = h.there;
+  leads = both s mid h.there first h.leads;
+  follows = both h.there after new h.follows last;
+  client = h.client;
+  text = h.text;
+  front = h.front;
+  own = h.own;
+  explains = h.explains;
+  rest = h.rest ++ rest;
+  behind_is = are ∙ (ap (λ b. b ++ rest) h.behind_is ∙ append_assoc h.own h.rest rest);
+}))
+widen s mid after new l behind rest all first last are (inr (inr h)) = inr (inr h)
 
 joined-told : (s mid new : Scene) (xs ys : List TraceLine) → Leads s mid → Leads mid new → AllTold s mid xs → AllTold mid new ys → AllTold s new (xs ++ ys)
 joined-told s mid new xs ys first last one two front l behind is = go (split xs ys front l behind is)
@@ -67,7 +95,7 @@ none-told s new front l behind is = absurd (none-there front l behind is)
 
 -- a list of one line of no event
 own-told : (s new : Scene) (own : TraceLine) → IsTrue (is_of_no_event own) → AllTold s new (own ∷ [])
-own-told s new own none front l behind is = inr (subst (λ x. IsTrue (is_of_no_event x)) (only-one own front l behind is) none)
+own-told s new own none front l behind is = inr (inr (subst (λ x. IsTrue (is_of_no_event x)) (only-one own front l behind is) none))
 
 acts-told : (s new : Scene) (what : ScriptEvent) (lines : List TraceLine) → Acts s what lines new → AllTold s new lines
 acts-told s new what lines (acts a event report b is happens) front l behind there = inl (record {
@@ -81,6 +109,18 @@ acts-told s new what lines (acts a event report b is happens) front l behind the
   behind_is = sym (append-nil behind);
 })
 acts-told s new what lines (too_long n sql pair is long) front l behind there = own-told s new (line.WriteSql n long_text) refl front l behind there
+acts-told s new what lines (explains n text ls is) front l behind there = inr (inl (record {
+  there = s;
+  leads = nothing s;
+  follows = nothing s;
+  client = n;
+  text = text;
+  front = front;
+  own = behind;
+  explains = subst (ExplainsTo s n text) there is;
+  rest = [];
+  behind_is = sym (append-nil behind);
+}))
 
 settles-told : (n : ℕ) (s : Scene) (frames : ℕ) (lines : List TraceLine) (new : Scene) → Settles n s frames lines new → AllTold s new lines
 settles-told n s frames lines new (is_quiet a pair is quiet) front l behind there = none-told s new front l behind there
@@ -129,8 +169,11 @@ among number (x ∷ lines) (y ∷ front) k l behind is =
     let h = among number lines front k l behind rest in
     record { front = x ∷ h.front; own = h.own; lines_are = ap (λ z. x ∷ z) h.lines_are; behind_is = h.behind_is }
 
+abbrev Numbered : Scene → Scene → ℕ → TraceLine → List (ℕ × TraceLine) → Type 0
+Numbered s new number l behind = IsTold s new number l behind ⊎ (IsExplained s new number l behind ⊎ IsTrue (is_of_no_event l))
+
 farther : (s mid after new : Scene) (number : ℕ) (l : TraceLine) (behind rest all : List (ℕ × TraceLine)) → Leads s mid → Leads after new → all ≡ behind ++ rest
-    → IsTold mid after number l behind ⊎ IsTrue (is_of_no_event l) → IsTold s new number l all ⊎ IsTrue (is_of_no_event l)
+    → Numbered mid after number l behind → Numbered s new number l all
 farther s mid after new number l behind rest all first last are (inl h) = inl (record {
   event = h.event;
   report = h.report;
@@ -141,9 +184,21 @@ farther s mid after new number l behind rest all first last are (inl h) = inl (r
   rest = h.rest ++ rest;
   behind_is = are ∙ (ap (λ b. b ++ rest) h.behind_is ∙ append_assoc (numbered number h.own) h.rest rest);
 })
-farther s mid after new number l behind rest all first last are (inr h) = inr h
+farther s mid after new number l behind rest all first last are (inr (inl h)) = inr (inl (record {
+  there = h.there;
+  leads = both s mid h.there first h.leads;
+  follows = both h.there after new h.follows last;
+  client = h.client;
+  text = h.text;
+  front = h.front;
+  own = h.own;
+  explains = h.explains;
+  rest = h.rest ++ rest;
+  behind_is = are ∙ (ap (λ b. b ++ rest) h.behind_is ∙ append_assoc (numbered number h.own) h.rest rest);
+}))
+farther s mid after new number l behind rest all first last are (inr (inr h)) = inr (inr h)
 
-with-number : (s new : Scene) (number : ℕ) (l : TraceLine) (behind : List TraceLine) → Told s new l behind → IsTold s new number l (numbered number behind) ⊎ IsTrue (is_of_no_event l)
+with-number : (s new : Scene) (number : ℕ) (l : TraceLine) (behind : List TraceLine) → Told s new l behind → Numbered s new number l (numbered number behind)
 with-number s new number l behind (inl h) = inl (record {
   event = h.event;
   report = h.report;
@@ -154,17 +209,29 @@ with-number s new number l behind (inl h) = inl (record {
   rest = numbered number h.rest;
   behind_is = ap (numbered number) h.behind_is ∙ map-append (λ line. (number, line)) h.own h.rest;
 })
-with-number s new number l behind (inr h) = inr h
+with-number s new number l behind (inr (inl h)) = inr (inl (record {
+  there = h.there;
+  leads = h.leads;
+  follows = h.follows;
+  client = h.client;
+  text = h.text;
+  front = h.front;
+  own = h.own;
+  explains = h.explains;
+  rest = numbered number h.rest;
+  behind_is = ap (numbered number) h.behind_is ∙ map-append (λ line. (number, line)) h.own h.rest;
+}))
+with-number s new number l behind (inr (inr h)) = inr (inr h)
 
 abbrev RunTold : Scene → Scene → List (ℕ × TraceLine) → Type 0
 RunTold s new lines = (front : List (ℕ × TraceLine)) (number : ℕ) (l : TraceLine) (behind : List (ℕ × TraceLine)) → lines ≡ front ++ (number, l) ∷ behind
-    → IsTold s new number l behind ⊎ IsTrue (is_of_no_event l)
+    → Numbered s new number l behind
 
 goes-told : (s mid new : Scene) (k : ℕ) (first : List TraceLine) (rest : List (ℕ × TraceLine)) → Leads s mid → Leads mid new → AllTold s mid first → RunTold mid new rest
     → RunTold s new (numbered k first ++ rest)
 goes-told s mid new k first rest one last told more front number l behind there = go (split (numbered k first) rest front (number, l) behind there)
   where
-    go : Side (numbered k first) rest front (number, l) behind → IsTold s new number l behind ⊎ IsTrue (is_of_no_event l)
+    go : Side (numbered k first) rest front (number, l) behind → Numbered s new number l behind
     go (in_left middle e f) =
         let h = among k first front number l middle e in
         farther s s mid new number l (numbered number h.own) rest behind (nothing s) last (f ∙ ap (λ b. b ++ rest) h.behind_is)

@@ -5,7 +5,7 @@ use Rattle.sr_session.specs.Scenes.{Event, Report, Scene, first_scene, done, nex
 use Rattle.sr_session.specs.Scenes.{Runs as EventsRun}
 use Rattle.sr_session.proofs.ReachLemmas.{reached-stands}
 use Rattle.sr_lines.specs.Events.{ScriptEvent}
-use Rattle.sr_runs.specs.Runs.{Acts, AllSettle, Does, Runs, Settles, acts, alone, delivers, does, does_settle, eagerly, ends, goes_on, is_quiet, no_client, one_more, too_long}
+use Rattle.sr_runs.specs.Runs.{Acts, AllSettle, Does, Runs, Settles, acts, alone, delivers, does, does_settle, eagerly, ends, explains, goes_on, is_quiet, no_client, one_more, too_long}
 use Rattle.sr_runs.specs.Headline.{ScriptsReach, ScriptsStand, StepsAreEvents}
 
 -- some events lead from one scene to another
@@ -27,6 +27,7 @@ both s mid new first rest = (_, _, joined s mid new first.0 rest.0 first.1 rest.
 pub acts-lead : (s new : Scene) (what : ScriptEvent) (lines : List TraceLine) → Acts s what lines new → Leads s new
 acts-lead s new what lines (acts a event report b is happens) = (event ∷ [], report ∷ [], next s event report new [] [] new happens (done new))
 acts-lead s new what lines (too_long n sql pair is long) = nothing s
+acts-lead s new what lines (explains n text ls is) = nothing s
 
 pub settles-lead : (n : ℕ) (s : Scene) (frames : ℕ) (lines : List TraceLine) (new : Scene) → Settles n s frames lines new → Leads s new
 settles-lead n s frames lines new (is_quiet a pair is quiet) = nothing s

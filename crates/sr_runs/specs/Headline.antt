@@ -1,5 +1,6 @@
 -- What holds of each scene and each trace of a script.
-use Rattle.std.specs.Prelude.{ℕ, Bool, true, false, ◌≤◌, ◌⊎◌, List, ◌∷◌, ◌++◌, length, map, ◌≡◌, Some, None, Ok, IsTrue}
+use Rattle.std.specs.Prelude.{ℕ, Bool, true, false, ◌≤◌, ◌⊎◌, List, ◌∷◌, ◌++◌, length, map, ◌≡◌, Some, None, Result, Ok, IsTrue}
+use Rattle.sr_cell.specs.declared.fault.Fault.{Fault}
 use Rattle.sr_cell.specs.declared.table.Table.{Table}
 use Rattle.sr_message.specs.declared.message.AskPart.{AskPart}
 use Rattle.sr_model.specs.Queries.{Query, rows_of}
@@ -14,6 +15,7 @@ use Rattle.sr_session.specs.Rules.{AskSent, next_query}
 use Rattle.sr_session.specs.Headline.{AsksTheUncovered, IsCovered, IsReached, IsTooHeavy, query_at}
 use Rattle.sr_session.specs.Scenes.{Did, Event, Happens, Report, Scene, SceneStands, client_of, first_scene, pair_at}
 use Rattle.sr_session.specs.Scenes.{Runs as EventsRun}
+use Rattle.sr_explain.specs.Telling.{ExplainsTo}
 use Rattle.sr_runs.specs.Lines.{answer_lines, lines_of, mark_lines, part_line}
 use Rattle.sr_lines.specs.Events.{DoQuery, ScriptEvent}
 use Rattle.sr_runs.specs.Runs.{Runs, Steps, numbered}
@@ -69,18 +71,32 @@ pub record IsTold (s new : Scene) (number : ℕ) (l : TraceLine) (behind : List 
   pub rest : List (ℕ × TraceLine)
   pub behind_is : behind ≡ numbered number own ++ rest
 
+-- At some moment on the way a client explains how it would answer a query. The line, with the lines behind it, is one of those that
+-- tell it; these stand together.
+pub record IsExplained (s new : Scene) (number : ℕ) (l : TraceLine) (behind : List (ℕ × TraceLine)) : Type 0 where
+  pub there : Scene
+  pub leads : Leads s there
+  pub follows : Leads there new
+  pub client : ℕ
+  pub text : Result Query Fault
+  pub front : List TraceLine
+  pub own : List TraceLine
+  pub explains : ExplainsTo there client text (front ++ l ∷ own)
+  pub rest : List (ℕ × TraceLine)
+  pub behind_is : behind ≡ numbered number own ++ rest
+
 -- the line that ends a settle, or that refuses a write whose text is too long
 abbrev pub is_of_no_event : TraceLine → Bool
 is_of_no_event (line.Settled n frames) = true
 is_of_no_event (line.WriteSql n fault) = true
 is_of_no_event other = false
 
--- Each line of a trace is one of an event at its moment, but for those of no event.
+-- Each line of a trace is one of an event or of an explanation at its moment, but for those of no event.
 abbrev pub LinesAreTold : Type 0
 LinesAreTold = (eager : Bool) (s new : Scene) (events : List (ℕ × ScriptEvent)) (lines : List (ℕ × TraceLine))
     → Runs eager s events lines new → (front : List (ℕ × TraceLine)) (number : ℕ) (l : TraceLine) (behind : List (ℕ × TraceLine))
     → lines ≡ front ++ (number, l) ∷ behind
-    → IsTold s new number l behind ⊎ IsTrue (is_of_no_event l)
+    → IsTold s new number l behind ⊎ (IsExplained s new number l behind ⊎ IsTrue (is_of_no_event l))
 
 -- ---- answers
 

@@ -1,13 +1,16 @@
 -- Steps of a script with their deliveries, whole runs, and their lines.
-use Rattle.std.specs.Prelude.{ℕ, zero, suc, Bool, true, false, ◌+◌, ◌<◌, List, [], ◌∷◌, ◌++◌, length, map, ◌≡◌, Option, Some, None}
+use Rattle.std.specs.Prelude.{ℕ, zero, suc, Bool, true, false, ◌+◌, ◌<◌, List, [], ◌∷◌, ◌++◌, length, map, ◌≡◌, Option, Some, None, Result}
+use Rattle.sr_cell.specs.declared.fault.Fault.{Fault}
 use Rattle.sr_message.specs.declared.message.Message.{Message}
+use Rattle.sr_model.specs.Queries.{Query}
 use Rattle.sr_script.specs.declared.line.TraceLine.{TraceLine}
 use Rattle.sr_script.specs.declared.line.TraceLine.TheVariants as line
 use Rattle.sr_session.specs.Clients.{Connection, Pair}
 use Rattle.sr_session.specs.Scenes.{Event, Happens, Report, Scene, pair_at}
 use Rattle.sr_session.specs.Texts.{most_text, long_text}
 use Rattle.sr_runs.specs.Lines.{lines_of}
-use Rattle.sr_lines.specs.Events.{DoSettle, DoToClient, DoToServer, DoWrite, ScriptEvent}
+use Rattle.sr_explain.specs.Telling.{ExplainsTo}
+use Rattle.sr_lines.specs.Events.{DoExplain, DoSettle, DoToClient, DoToServer, DoWrite, ScriptEvent}
 use Rattle.sr_runs.specs.Scripts.{Is}
 
 -- ---- deliveries
@@ -22,12 +25,13 @@ abbrev pub next_delivery : ℕ → Connection → Option ScriptEvent
 next_delivery n l = next_of n l.to_server l.to_client
 
 -- An event that is one of the scene happens there, and gives the lines of what comes of it. The text of a write that is too long is
--- refused by the client, and nothing happens.
+-- refused by the client, and nothing happens. Nothing happens either where a client explains how it would answer a query.
 pub data Acts (s : Scene) : ScriptEvent → List TraceLine → Scene → Type 0 where
   acts : (what : ScriptEvent) (event : Event) (report : Report) (new : Scene) → Is s what event → Happens s event report new
       → Acts s what (lines_of event report) new
   too_long : (n : ℕ) (sql : List ℕ) (pair : Pair) → pair_at s n ≡ Some pair → most_text < length sql
       → Acts s (DoWrite n sql) (line.WriteSql n long_text ∷ []) s
+  explains : (n : ℕ) (text : Result Query Fault) (lines : List TraceLine) → ExplainsTo s n text lines → Acts s (DoExplain n text) lines s
 
 -- So many deliveries of client n, one after another, until none is left.
 pub data Settles (n : ℕ) : Scene → ℕ → List TraceLine → Scene → Type 0 where

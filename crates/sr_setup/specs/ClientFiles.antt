@@ -1,5 +1,5 @@
 -- What a schema file and the script of one client say.
-use Rattle.std.specs.Prelude.{◌≡◌, ℕ, ◌+◌, ◌≤◌, ◌==◌, Bool, false, List, [], ◌∷◌, length, Option, Some, None, Result, Ok, Err, IsTrue, if◌then◌else◌}
+use Rattle.std.specs.Prelude.{◌≡◌, ℕ, ◌+◌, ◌≤◌, ◌==◌, Bool, true, false, List, [], ◌∷◌, length, Option, Some, None, Result, Ok, Err, IsTrue, if◌then◌else◌}
 use Rattle.std.specs.List.{list_all, AllZip}
 use Rattle.std.specs.Option.{option_or}
 use Rattle.sr_cell.specs.declared.fault.Fault.{Fault}
@@ -7,10 +7,11 @@ use Rattle.sr_cell.specs.declared.table.Table.{Table}
 use Rattle.sr_lines.specs.Creates.{Creates}
 use Rattle.sr_lines.specs.Events.{ScriptEvent}
 use Rattle.sr_lines.specs.Lines.{lines_of}
-use Rattle.sr_lines.specs.Script.{Words, QuerySql, WriteSql, ExplainSql, Evict, Cut, Resume, Line, Silent, CreateLine, EventLine, line_of, LinePlace, FirstRefused, Phase, Running, Reads, FirstUnbuilt}
+use Rattle.sr_lines.specs.Script.{Words, QuerySql, WriteSql, ExplainSql, Evict, Cut, Resume, Line, Silent, CreateLine, EventLine, line_of, LinePlace, FirstRefused, Phase, Running, Reads}
 use Rattle.sr_reader.specs.declared.script.Event as code
 use Rattle.sr_reader.specs.declared.script.Event.TheVariants as read
 use Rattle.sr_reader.specs.declared.script.EventLine as lined
+use Rattle.sr_reader.specs.Meaning.{IsSaid}
 use Rattle.sr_reader.specs.Read.{IsEventLine}
 use Rattle.sr_setup.specs.Files.{clients, first_fault, schema_fault}
 
@@ -70,6 +71,27 @@ pub record AreAsked (id : ℕ) (script : List ℕ) (tables : List Table) (lines 
   pub own : IsTrue (list_all (λ line. is_own id line.event) lines)
   pub few : length lines ≤ length script
 
+-- ---- what is not built
+
+-- a client over a link does not explain yet
+abbrev pub explains : Words → Bool
+explains (ExplainSql n sql) = true
+explains other = false
+
+abbrev pub line_explains : Result Line ℕ → Bool
+line_explains (Ok (EventLine words)) = explains words
+line_explains other = false
+
+-- what the words of a client say to the tables, or none if they explain
+abbrev pub IsOwnSaid : List Table → Words → Option code.Event → Type 0
+IsOwnSaid tables words None = IsTrue (explains words)
+IsOwnSaid tables words (Some event) = (explains words ≡ false) × IsSaid tables words event
+
+-- the first line that explains; i is the number of the first of these lines
+abbrev pub first_explaining : ℕ → List (List ℕ) → Option ℕ
+first_explaining i [] = None
+first_explaining i (line ∷ lines) = if line_explains (line_of clients line) then Some i else first_explaining (i + 1) lines
+
 -- ---- both files
 
 -- the first line that is outside the grammar of its file; those of the schema file come first
@@ -81,12 +103,12 @@ pub record ClientRefuses (id : ℕ) (schema script : List ℕ) (n : ℕ) (fault 
   pub inside : client_outside id schema script ≡ None
   pub first : FirstRefused clients 1 [] (lines_of schema) n fault
 
--- no line is outside the grammar, the CREATE lines make these tables, and line n of the script is the first that does nothing that is built
+-- no line is outside the grammar, the CREATE lines make these tables, and line n of the script is the first that explains
 pub record LeavesUnbuilt (id : ℕ) (schema script : List ℕ) (n : ℕ) : Type 0 where
   pub inside : client_outside id schema script ≡ None
   pub tables : List Table
   pub created : Creates clients [] (lines_of schema) tables
-  pub first : FirstUnbuilt clients 1 (over tables) (lines_of script) n
+  pub first : first_explaining 1 (lines_of script) ≡ Some n
 
 -- no line is outside the grammar, the CREATE lines make the tables, and these are the events of the script
 pub record IsAsked (id : ℕ) (schema script : List ℕ) (tables : List Table) (lines : List lined.EventLine) : Type 0 where

@@ -3,27 +3,33 @@ ghost use Rattle.std.specs.Prelude.{◌≡◌, ℕ, ◌<◌, ◌^◌, List, leng
 ghost use Rattle.std.specs.List.{list_all};
 ghost use Rattle.sr_cell.specs.declared.list.No.TheVariants.{Refused};
 ghost use Rattle.sr_lines.specs.Lines.{lines_of};
-ghost use Rattle.sr_lines.specs.Script.{QuerySql, WriteSql, FirstUnbuilt};
+ghost use Rattle.sr_lines.specs.Script.{QuerySql, WriteSql};
 ghost use Rattle.sr_query.specs.Bound.{is_table};
 ghost use Rattle.sr_reader.specs.declared.script.LinePlace.{LinePlace as TheLinePlace};
-ghost use Rattle.sr_reader.specs.declared.script.UnbuiltLine.{UnbuiltLine as TheUnbuiltLine};
 ghost use Rattle.sr_reader.specs.Lined.{IsLine, AreLines, place_seen};
 ghost use Rattle.sr_reader.specs.LineSeen.{words_seen};
 ghost use Rattle.sr_reader.specs.Meaning.{IsSaid};
 ghost use Rattle.sr_setup.specs.Files.{clients, first_fault};
-ghost use Rattle.sr_setup.specs.ClientFiles.{doer_of, second_place, client_fault, is_own, over, AreAsked};
+ghost use Rattle.sr_setup.specs.ClientFiles.{doer_of, second_place, client_fault, is_own, IsOwnSaid, first_explaining, AreAsked};
+ghost use Rattle.sr_setup.specs.declared.client_script.ExplainLine.{ExplainLine as TheExplainLine};
 
 use crate::cut::cut_line;
-use crate::query_text::query_of;
 use crate::schema_file::CLIENTS;
 use sr_cell::list::{No, NoMemory, Seq};
 use sr_cell::schema::Schema;
 use sr_cell::text::Text;
 use sr_reader::line::{Line, read_line};
 use sr_reader::lines::Lines;
-use sr_reader::script::{Event, EventLine, EventLines, LinePlace, UnbuiltLine};
+use sr_reader::meaning::query_of;
+use sr_reader::script::{Event, EventLine, EventLines, LinePlace};
 use sr_reader::words::Words;
 use std::alloc::Global;
+
+/// A line that explains, which a client does not yet over a link; by its number counted from 1.
+#[derive(Clone, Copy, Debug, PartialEq, Eq)]
+pub struct ExplainLine {
+    pub number: u64,
+}
 
 /// The client that does what the words say, where a client does it by itself.
 fn doer_of(words: Words<'_>) -> Option<u8>
@@ -106,40 +112,39 @@ pub fn client_lines(alloc: Global, id: u8, bytes: &[u8]) -> Result<Lines<'_>, No
     Ok(lines)
 }
 
-/// A query, or why its text is refused; None if it is not built.
-fn query(alloc: Global, schema: &Schema, client: u8, sql: &str) -> Result<Option<Event>, NoMemory>
+/// A query, or why its text is refused.
+fn query(alloc: Global, schema: &Schema, client: u8, sql: &str) -> Result<Event, NoMemory>
     requires tables { IsTrue (list_all is_table schema.now) }
     ensures said { IfOk result (IsSaid schema.now (QuerySql client sql.now)) }
-    ensures own { IfOk result (λ found. IfSome found (λ event. IsTrue (is_own client event))) }
+    ensures own { IfOk result (λ event. IsTrue (is_own client event)) }
 {
     match query_of(alloc, schema, sql) {
-        Ok(Some(query)) => Ok(Some(Event::Query { client, query })),
-        Ok(None) => Ok(None),
+        Ok(query) => Ok(Event::Query { client, query }),
         Err(want) => Err(want),
     }
 }
 
 /// A write, as its text.
-fn write(alloc: Global, schema: &Schema, client: u8, sql: &str) -> Result<Option<Event>, NoMemory>
+fn write(alloc: Global, schema: &Schema, client: u8, sql: &str) -> Result<Event, NoMemory>
     ensures said { IfOk result (IsSaid schema.now (WriteSql client sql.now)) }
-    ensures own { IfOk result (λ found. IfSome found (λ event. IsTrue (is_own client event))) }
+    ensures own { IfOk result (λ event. IsTrue (is_own client event)) }
 {
     match Text::of(alloc, sql) {
-        Ok(sql) => Ok(Some(Event::Write { client, sql })),
+        Ok(sql) => Ok(Event::Write { client, sql }),
         Err(want) => Err(want),
     }
 }
 
-/// What the words of a client say to the tables; None if that is not built.
+/// What the words of a client say to the tables; None if they explain.
 fn event_of(alloc: Global, schema: &Schema, words: Words<'_>) -> Result<Option<Event>, NoMemory>
     requires tables { IsTrue (list_all is_table schema.now) }
     requires doer { (id : ℕ) × (doer_of (words_seen words) ≡ Some id) }
-    ensures said { IfOk result (IsSaid schema.now (words_seen words.entry)) }
+    ensures said { IfOk result (IsOwnSaid schema.now (words_seen words.entry)) }
     ensures own { (id : ℕ) → doer_of (words_seen words.entry) ≡ Some id → IfOk result (λ found. IfSome found (λ event. IsTrue (is_own id event))) }
 {
     match words {
-        Words::Query { client, sql } => query(alloc, schema, client, sql),
-        Words::Write { client, sql } => write(alloc, schema, client, sql),
+        Words::Query { client, sql } => Ok(Some(query(alloc, schema, client, sql)?)),
+        Words::Write { client, sql } => Ok(Some(write(alloc, schema, client, sql)?)),
         Words::Explain { .. } => Ok(None),
         Words::Evict { client, place } => Ok(Some(Event::Evict { client, place })),
         Words::Cut { client } => Ok(Some(Event::Cut { client })),
@@ -152,17 +157,17 @@ fn event_of(alloc: Global, schema: &Schema, words: Words<'_>) -> Result<Option<E
     }
 }
 
-/// The events of the client's script that the lines are of, over these tables; or the first line that is not built.
+/// The events of the client's script that the lines are of, over these tables; or the first line that explains.
 pub fn client_events(
     alloc: Global,
     schema: &Schema,
     id: u8,
     lines: &Lines<'_>,
-) -> Result<EventLines, No<UnbuiltLine>>
+) -> Result<EventLines, No<ExplainLine>>
     requires tables { IsTrue (list_all is_table schema.now) }
     requires lines { (script : List ℕ) × AreLines clients script lines.now × (first_fault (client_fault id) 1 (lines_of script) ≡ None) }
     ensures asked { (script : List ℕ) → AreLines clients script lines.now → first_fault (client_fault id) 1 (lines_of script) ≡ None → IfOk result (AreAsked id script schema.now) }
-    ensures unbuilt { (script : List ℕ) → AreLines clients script lines.now → first_fault (client_fault id) 1 (lines_of script) ≡ None → (unbuilt : TheUnbuiltLine) → IsErrOf result (Refused unbuilt) → FirstUnbuilt clients 1 (over schema.now) (lines_of script) unbuilt.number }
+    ensures explains { (script : List ℕ) → AreLines clients script lines.now → first_fault (client_fault id) 1 (lines_of script) ≡ None → (line : TheExplainLine) → IsErrOf result (Refused line) → first_explaining 1 (lines_of script) ≡ Some line.number }
 {
     let mut events = Seq::new(alloc);
     for (i, line) in lines.as_slice().iter().enumerate() {
@@ -170,7 +175,7 @@ pub fn client_events(
             let number = i as u64 + 1;
             match event_of(alloc, schema, *words)? {
                 Some(event) => events.push(EventLine { number, event })?,
-                None => return Err(No::Refused(UnbuiltLine { number })),
+                None => return Err(No::Refused(ExplainLine { number })),
             }
         }
     }

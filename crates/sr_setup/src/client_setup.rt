@@ -29,7 +29,7 @@ pub enum ClientFault {
     Line { line: u64, place: u32 },
     /// The line is the first CREATE line that is refused, counted from 1, and why. No line is outside the grammar.
     Create { line: u64, fault: Fault },
-    /// The line of the script is the first that is not built, counted from 1. Nothing else is refused.
+    /// The line of the script is the first that explains, which is not built over a link; counted from 1. Nothing else is refused.
     Unbuilt { line: u64 },
 }
 
@@ -104,8 +104,8 @@ pub fn set_up_client(
     };
     match client_events(alloc, &schema, id, &judged.script) {
         Ok(lines) => Ok(Script { schema, lines }),
-        Err(No::Refused(unbuilt)) => Err(No::Refused(ClientFault::Unbuilt {
-            line: unbuilt.number,
+        Err(No::Refused(explains)) => Err(No::Refused(ClientFault::Unbuilt {
+            line: explains.number,
         })),
         Err(No::NoMemory) => Err(No::NoMemory),
     }

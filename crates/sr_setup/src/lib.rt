@@ -6,7 +6,6 @@ pub mod client_script;
 pub mod client_setup;
 pub mod cut;
 pub mod exec_file;
-mod query_text;
 pub mod schema_file;
 pub mod setup;
 #[cfg(test)]

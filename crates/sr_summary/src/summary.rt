@@ -4,10 +4,10 @@ ghost use Rattle.sr_cell.specs.declared.fault.Fault.{Fault as TheFault};
 ghost use Rattle.sr_cell.specs.declared.list.No.TheVariants.{Refused};
 ghost use Rattle.sr_generate.specs.Script.{script};
 ghost use Rattle.sr_lines.specs.Lines.{lines_of};
-ghost use Rattle.sr_lines.specs.Script.{start_phase, FirstRefused, FirstUnbuilt};
+ghost use Rattle.sr_lines.specs.Script.{FirstRefused};
 ghost use Rattle.sr_summary.specs.Summary.{Summarizes, Traces, counts_of, last_lines, summary_text, the_options};
 ghost use Rattle.sr_world.specs.Replay.{outside};
-ghost use Rattle.sr_world.specs.declared.replay.RunFault.TheVariants.{WriteFault, Line, Setup, Load as LoadRefused, Unbuilt};
+ghost use Rattle.sr_world.specs.declared.replay.RunFault.TheVariants.{WriteFault, Line, Setup, Load as LoadRefused};
 
 use crate::count::{count_lines, count_second};
 use sr_cell::list::{Bytes, No, NoMemory, Seq};
@@ -73,7 +73,6 @@ fn replay_all(alloc: Global, script: &[u8]) -> Result<Replayed, No<RunFault>>
     ensures traced { IfOk result (λ replayed. Traces script.now replayed.trace replayed.version) }
     ensures line { (line place : ℕ) → IsErrOf result (Refused (Line line place)) → outside 1 script.now ≡ Some (record { line = line; place = place }) }
     ensures setup { (line : ℕ) (fault : TheFault) → IsErrOf result (Refused (Setup line fault)) → FirstRefused 1 1 [] (lines_of script.now) line fault }
-    ensures unbuilt { (line : ℕ) → IsErrOf result (Refused (Unbuilt line)) → FirstUnbuilt 1 1 start_phase (lines_of script.now) line }
     ensures never_loads { (table : List ℕ) (fault : TheFault) → ¬ IsErrOf result (Refused (LoadRefused table fault)) }
     ensures never_faults { ¬ IsErrOf result (Refused WriteFault) }
 {
@@ -134,7 +133,6 @@ pub fn summary_of(alloc: Global, seed: u64, events: u32) -> Result<String, No<Ru
     ensures summary { IfOk result (λ text. Summarizes (script seed events) (string_bytes text)) }
     ensures line { (line place : ℕ) → IsErrOf result (Refused (Line line place)) → outside 1 (script seed events) ≡ Some (record { line = line; place = place }) }
     ensures setup { (line : ℕ) (fault : TheFault) → IsErrOf result (Refused (Setup line fault)) → FirstRefused 1 1 [] (lines_of (script seed events)) line fault }
-    ensures unbuilt { (line : ℕ) → IsErrOf result (Refused (Unbuilt line)) → FirstUnbuilt 1 1 start_phase (lines_of (script seed events)) line }
     ensures never_loads { (table : List ℕ) (fault : TheFault) → ¬ IsErrOf result (Refused (LoadRefused table fault)) }
     ensures never_faults { ¬ IsErrOf result (Refused WriteFault) }
 {

@@ -58,7 +58,7 @@ pub record IsToldOf (client : ℕ) (last : ℕ → Outcome → List TraceLine) (
   pub sent : option_to_list told.sent ≡ sent_of o
 
 -- the seat keeps the limits of the scene
-by-limits : (Rule : Basis → Type 0) (s : Scene) (n : ℕ) (seat : Seat) (server : Server) → SeatStands s n seat server → Rule (basis_of s.database seat.client.store.limits) → Rule (basis_of s.database s.limits)
+pub by-limits : (Rule : Basis → Type 0) (s : Scene) (n : ℕ) (seat : Seat) (server : Server) → SeatStands s n seat server → Rule (basis_of s.database seat.client.store.limits) → Rule (basis_of s.database s.limits)
 by-limits Rule s n seat server h rule = subst (λ (l : Limits). Rule (basis_of s.database l)) h.seat.limits rule
 
 -- one message more at most
@@ -160,7 +160,7 @@ query-numbers old new meaning step some does =
 
 -- ---- an eviction
 
-evict-nothing : (step : EvictStep) (o : Outcome) → SaysEvict step o → sent_of o ≡ []
+pub evict-nothing : (step : EvictStep) (o : Outcome) → SaysEvict step o → sent_of o ≡ []
 evict-nothing (evicts.Dropped region) o says = rw says refl
 evict-nothing (evicts.Busy request) o says = rw says refl
 evict-nothing (evicts.NoSuch count) o says = rw says refl
@@ -451,7 +451,7 @@ same-step {E} a b is = cc
 
 -- ---- all that goes out may be sent
 
-query-each : (schema : List Table) (n : ℕ) (past : session.Client) (step : QueryStep) (o : Outcome) → QuerySendsWell schema n step → SaysQuery past step o → (m : Message) → sent_of o ≡ m ∷ [] → IsSendable m
+pub query-each : (schema : List Table) (n : ℕ) (past : session.Client) (step : QueryStep) (o : Outcome) → QuerySendsWell schema n step → SaysQuery past step o → (m : Message) → sent_of o ≡ m ∷ [] → IsSendable m
 query-each schema n past (query.Answered q version rows marks) o sends says = rw says none-sent
 query-each schema n past (query.Asked q request message marks) o sends says = λ m is.
     let here : kinds.Ask request says.1 says.2 ∷ [] ≡ m ∷ [] = ap sent_of (sym says.4) ∙ is in
@@ -467,7 +467,7 @@ query-sendable old mid meaning step sent some does tells sends =
     let g = does.by_rules some.1.0.database past h.seat.client in
     told-sendable sent g.outcome (tells past g.outcome g.is) (query-each old.client.schema old.client.id past step g.outcome sends g.is)
 
-took-each : (schema : List Table) (n : ℕ) (step : Took) (o : Outcome) → TookSendsWell schema n step → SaysTook step o → (m : Message) → sent_of o ≡ m ∷ [] → IsSendable m
+pub took-each : (schema : List Table) (n : ℕ) (step : Took) (o : Outcome) → TookSendsWell schema n step → SaysTook step o → (m : Message) → sent_of o ≡ m ∷ [] → IsSendable m
 took-each schema n took.Laid o sends says = rw says none-sent
 took-each schema n (took.Applied version marks) o sends says = rw says none-sent
 took-each schema n (took.Forgot version marks) o sends says = rw says none-sent
@@ -488,7 +488,7 @@ took-sendable old m queue new step sent some first does tells sends =
     told-sendable sent g.outcome (tells g.outcome g.is) (took-each old.client.schema old.client.id step g.outcome sends g.is)
 
 -- what a write sends; of a text that is too long nothing is
-write-each : (schema : List Table) (n : ℕ) (sql : List ℕ) (step : WriteStep) (o : Outcome) → WriteSendsWell schema n step → SaysWrite sql step o → (m : Message) → sent_of o ≡ m ∷ [] → IsSendable m
+pub write-each : (schema : List Table) (n : ℕ) (sql : List ℕ) (step : WriteStep) (o : Outcome) → WriteSendsWell schema n step → SaysWrite sql step o → (m : Message) → sent_of o ≡ m ∷ [] → IsSendable m
 write-each schema n sql (writes.Sent request message) o sends says = λ m is.
     let here : kinds.Write request sql ∷ [] ≡ m ∷ [] = ap sent_of (sym says.1) ∙ is in
     subst IsSendable (says.0 ∙ only (kinds.Write request sql) m here) sends.sendable
@@ -511,7 +511,7 @@ write-sendable old mid sql step sent some long does tells refused sends = by (na
         let over : most_text < length sql = grind (arith, nat_tests, e) in
         subst (λ (s : Option Message). IfSome s IsSendable) (sym (refused long_text (long over).0)) tt
 
-resume-each : (schema : List Table) (n : ℕ) (past : session.Client) (step : ResumeStep) (o : Outcome) → ResumeSendsWell schema n step → SaysResume past step o → (m : Message) → sent_of o ≡ m ∷ [] → IsSendable m
+pub resume-each : (schema : List Table) (n : ℕ) (past : session.Client) (step : ResumeStep) (o : Outcome) → ResumeSendsWell schema n step → SaysResume past step o → (m : Message) → sent_of o ≡ m ∷ [] → IsSendable m
 resume-each schema n past (resumes.Sent request message) o sends says = λ m is.
     let here : message ∷ [] ≡ m ∷ [] = ap sent_of (sym says.1) ∙ is in
     subst IsSendable (only message m here) sends.sendable

@@ -29,6 +29,7 @@ use Rattle.sr_world.specs.declared.world.World.{World}
 use Rattle.sr_world.specs.Seats.{IsSomeSeat, SeatGoes}
 use Rattle.sr_world.specs.Worlds.{Goes, IsNumber, IsSeat, SameSetting, StandsForSome, drawn, drawn_by, potential, seat_at, weight}
 use Rattle.sr_world.proofs.Over.{Grows, grows-more}
+use Rattle.sr_world.proofs.SeatLemmas.{set-same}
 use Rattle.sr_world.proofs.Sound.{sound-of}
 use Rattle.sr_world.proofs.Sums.{sum-set}
 use Rattle.sr_world.proofs.WorldLemmas.{one-seat, seat-stands, seat-within}
@@ -63,6 +64,12 @@ pub world-goes : {E : Type 0} (Leads : ℕ → Scene → List TraceLine → Scen
 world-goes {E} Leads old new n seat after (Ok lines) number is made spent goes =
     one-seat Leads old new n (n - 1) seat after lines (place-of old n number) (there-of old n seat number is) made spent goes
 world-goes {E} Leads old new n seat after (Err e) number is made spent goes = tt
+
+-- a seat is looked at, and nothing changes
+pub world-looks : {E : Type 0} (Leads : ℕ → Scene → List TraceLine → Scene → Type 0) (w : World) (n : ℕ) (seat : Seat) (r : Result (List TraceLine) E)
+    → IsNumber w n → seat ≡ slice_index_or w.seats.items (n - 1) seat → IfOk r (SeatGoes Leads seat w.server seat w.server) → IfOk r (Goes (Leads n) w w)
+world-looks {E} Leads w n seat r number is goes =
+    world-goes Leads w w n seat seat r number is (sym (set-same w.seats.items (n - 1) seat (there-of w n seat number is))) refl goes
 
 -- a client draws numbers, and the server none
 pub world-drawn : {T E : Type 0} (w : World) (n : ℕ) (seat after : Seat) (log : Held) (r : Result T E) → IsNumber w n → seat ≡ slice_index_or w.seats.items (n - 1) seat

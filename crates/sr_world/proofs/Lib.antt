@@ -1,6 +1,7 @@
 mod Budgets
-mod ClientLemmas
+pub mod ClientLemmas
 mod EventLemmas
+mod ExplainLemmas
 mod LentLemmas
 mod NewLemmas
 mod Numbers

@@ -7,16 +7,13 @@ use Rattle.std.proofs.lemmas.List.{length-replicate}
 use Rattle.std.proofs.Math.Seq.{take-length}
 use Rattle.std.specs.Io.KnownBytes.{Appends}
 use Rattle.sr_cell.specs.declared.table.Table.{Table}
-use Rattle.sr_cell.specs.declared.fault.Fault.{Fault}
 use Rattle.sr_lines.specs.Events.{ScriptEvent}
 use Rattle.sr_model.specs.Statements.{Tables}
 use Rattle.sr_lines.specs.Lines.{lines_of}
 use Rattle.sr_lines.specs.Creates.{Creates}
-use Rattle.sr_reader.proofs.Created.{creates-once}
 use Rattle.sr_tables.specs.Stored.{no_rows}
 use Rattle.sr_load.specs.Filling.{filled}
 use Rattle.sr_load.specs.declared.fill.Load.{Load}
-use Rattle.sr_load.specs.declared.fill.LoadFault.{LoadFault}
 use Rattle.sr_reader.specs.Lined.{AreLines, AreOf}
 use Rattle.sr_reader.specs.declared.line.Line.{Line}
 use Rattle.sr_reader.specs.declared.script.Event as code
@@ -32,7 +29,7 @@ use Rattle.sr_io.specs.Pieces.{WritesPrefix}
 use Rattle.sr_world.specs.declared.world.World.{World}
 use Rattle.sr_world.specs.declared.world.Options.{Options}
 use Rattle.sr_world.specs.Worlds.{Goes, Represents, most_drawn}
-use Rattle.sr_world.specs.Replay.{start, outside, RefusesLoad, Trace, Wrote, WrotePart}
+use Rattle.sr_world.specs.Replay.{start, outside, Trace, Wrote, WrotePart}
 use Rattle.sr_world.specs.Ran.{Ran, RanWhole, RanPart, Traced, TracedWhole, TracedPart}
 use Rattle.sr_world.proofs.RunLemmas.{Ran-none, Ran-one, RanWhole-append, RanPart-behind}
 
@@ -334,19 +331,6 @@ Wrote-of options bytes loads s tables kept first last inside read loaded traced 
       stands = p.stands;
       written = p.written;
     }
-
--- a script whose CREATE lines add these tables, where the files fill them, has no file that is refused
-pub accepts-loads : (clients : ℕ) (bytes : List ℕ) (loads : List Load) (schema : List Table) (tables : Tables) → Creates clients [] (lines_of bytes) schema → filled schema loads (no_rows schema) ≡ Ok tables
-    → (table : List ℕ) (fault : Fault) → RefusesLoad clients bytes loads table fault → ⊥
-accepts-loads clients bytes loads schema tables created loaded table fault refuses =
-    let same : schema ≡ refuses.0 = creates-once clients (lines_of bytes) schema refuses.0 created refuses.1 in
-    let refused : filled schema loads (no_rows schema) ≡ Err (record { table = table; fault = fault }) =
-    subst (λ ts. filled ts loads (no_rows ts) ≡ Err (record { table = table; fault = fault })) (sym same) refuses.2 in
-    differ (filled schema loads (no_rows schema)) tables (record { table = table; fault = fault }) loaded refused
-  where
-    differ : (r : Result Tables LoadFault) (tables : Tables) (e : LoadFault) → r ≡ Ok tables → r ≡ Err e → ⊥
-    differ (Ok x) tables e done refused = absurd (cc)
-    differ (Err x) tables e done refused = absurd (cc)
 
 -- a fault that is handed on is that of the call before
 pub same-fault : {A B E : Type 0} (was is : E) → IsErrOf {T = A} (Err was) is → IsErrOf {T = B} (Err was) is

@@ -13,4 +13,3 @@ IsSetupFault clients script loads (fault.Setup line why) = FirstRefused clients 
 IsSetupFault clients script loads (fault.Load table why) = RefusesLoad clients script loads table why
 IsSetupFault clients script loads fault.WriteFault = ⊥
 IsSetupFault clients script loads (fault.Line line place) = ⊥
-IsSetupFault clients script loads (fault.Unbuilt line) = ⊥

@@ -1,7 +1,7 @@
 //! What each event of a script does to a world.
 ghost use Rattle.std.specs.Prelude.{◌≡◌, ◌+◌, ◌<◌, ◌≤◌, ◌^◌, [], length, true, Ok, Result, IsTrue, IfOk, OnOk};
 ghost use Rattle.sr_cell.specs.declared.fault.Fault.{Fault as TheFault};
-ghost use Rattle.sr_lines.specs.Events.{DoCut, DoEvict, DoExec, DoPush, DoQuery, DoResume, DoSettle, DoToClient, DoToServer, DoWrite};
+ghost use Rattle.sr_lines.specs.Events.{DoCut, DoEvict, DoExec, DoExplain, DoPush, DoQuery, DoResume, DoSettle, DoToClient, DoToServer, DoWrite};
 ghost use Rattle.sr_model.specs.Queries.{Query as TheQuery};
 ghost use Rattle.sr_query.specs.Written.{write_of};
 ghost use Rattle.sr_query.specs.Writes.{suits};
@@ -55,6 +55,21 @@ impl World {
         ensures stays { SameSetting self.old self.new }
     {
         self.seats[client as usize - 1].query(alloc, query)
+    }
+
+    /// The client explains how it would answer a query that is bound; nothing changes.
+    pub(crate) fn tell(
+        &self,
+        alloc: Global,
+        client: u8,
+        query: &Query,
+    ) -> Result<TraceLines, NoMemory>
+        requires world { StandsForSome self.now }
+        requires number { IsNumber self.now client }
+        requires meant { (meaning : TheQuery) × IsMeaning self.now.server.tables.schema query.now meaning }
+        ensures acts { (meaning : TheQuery) → IsMeaning self.now.server.tables.schema query.now meaning → IfOk result (Goes (λ s. Acts s (DoExplain client (Ok meaning))) self.now self.now) }
+    {
+        self.seats[client as usize - 1].explain(alloc, query)
     }
 
     /// The client sends the text of a write.

@@ -3,7 +3,7 @@
 
 pub mod events;
 pub mod laws;
-pub(crate) mod lines;
+pub mod lines;
 pub mod replay;
 pub mod seat;
 pub mod step;

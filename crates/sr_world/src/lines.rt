@@ -1,5 +1,5 @@
 //! The lines of what a call answered.
-ghost use Rattle.std.specs.Prelude.{◌≡◌, ℕ, true, List, [], ◌∷◌, ◌++◌, map, option_to_list, None, IfOk, OnOk};
+ghost use Rattle.std.specs.Prelude.{◌≡◌, ◌<◌, ◌^◌, ℕ, true, List, [], ◌∷◌, ◌++◌, length, map, option_to_list, None, Ok, IfOk, OnOk};
 ghost use Rattle.sr_cell.specs.declared.fault.Fault.{Fault as TheFault};
 ghost use Rattle.sr_model.specs.Queries.{Query as TheQuery};
 ghost use Rattle.sr_script.specs.declared.line.TraceLine.TheVariants.{WriteSql};
@@ -10,6 +10,7 @@ ghost use Rattle.sr_client.specs.declared.client.Client.{Client};
 ghost use Rattle.sr_client.specs.declared.steps.WriteStep.TheVariants.{Sql};
 ghost use Rattle.sr_client.specs.Stands.{out_of};
 ghost use Rattle.sr_client.specs.Steps.{SaysCut, SaysEvict, SaysQuery, SaysResume, SaysTook, SaysWrite};
+ghost use Rattle.sr_explain.specs.Telling.{explain_lines};
 ghost use Rattle.sr_runs.specs.Lines.{answer_lines, cut_line, details, evict_line, mark_line, mark_lines, part_line, query_line, resume_line, served_line, taken_line, write_line};
 ghost use Rattle.sr_world.specs.Told.{QueryAsksFew, TookAsksFew, asked_lines, ended_lines};
 
@@ -17,6 +18,8 @@ use sr_cell::cause::Cause;
 use sr_cell::cell::Rows;
 use sr_cell::list::{Copied, NoMemory, Seq};
 use sr_client::steps::{CutStep, Ended, EvictStep, QueryStep, ResumeStep, Took, WriteStep};
+use sr_explain::explanation::Explanation;
+use sr_explain::lines::lines;
 use sr_history::mark::{Mark, Marks};
 use sr_message::message::{AskPart, Message};
 use sr_script::line::{FailKind, RequestKind, TraceLine, TraceLines};
@@ -24,13 +27,13 @@ use std::alloc::Global;
 
 /// The lines of a step, and the message that goes to the server with it.
 #[derive(Drop)]
-pub(crate) struct Told {
-    pub(crate) lines: TraceLines,
-    pub(crate) sent: Option<Message>,
+pub struct Told {
+    pub lines: TraceLines,
+    pub sent: Option<Message>,
 }
 
 /// What is told of the step of a query of that client.
-pub(crate) fn told_of_query(alloc: Global, client: u8, step: QueryStep) -> Result<Told, NoMemory>
+pub fn told_of_query(alloc: Global, client: u8, step: QueryStep) -> Result<Told, NoMemory>
     requires few { QueryAsksFew step }
     ensures lines { (past : Past) (o : Outcome) → SaysQuery past step o → IfOk result (λ told. told.lines ≡ details client o ++ query_line client o) }
     ensures sent { (past : Past) (o : Outcome) → SaysQuery past step o → IfOk result (λ told. option_to_list told.sent ≡ sent_of o) }
@@ -67,7 +70,7 @@ pub(crate) fn told_of_query(alloc: Global, client: u8, step: QueryStep) -> Resul
 }
 
 /// What is told of it that the client took a message. It takes none of its server's in a way that is not told.
-pub(crate) fn told_of_took(alloc: Global, client: u8, took: Took) -> Result<Told, NoMemory>
+pub fn told_of_took(alloc: Global, client: u8, took: Took) -> Result<Told, NoMemory>
     requires few { TookAsksFew took }
     ensures lines { (o : Outcome) → SaysTook took o → IfOk result (λ told. told.lines ≡ details client o ++ taken_line client o) }
     ensures sent { (o : Outcome) → SaysTook took o → IfOk result (λ told. option_to_list told.sent ≡ sent_of o) }
@@ -144,7 +147,7 @@ pub(crate) fn told_of_took(alloc: Global, client: u8, took: Took) -> Result<Told
 }
 
 /// What is told of the step of a write of that client.
-pub(crate) fn told_of_write(alloc: Global, client: u8, step: WriteStep) -> Result<Told, NoMemory>
+pub fn told_of_write(alloc: Global, client: u8, step: WriteStep) -> Result<Told, NoMemory>
     ensures lines { (sql : List ℕ) (o : Outcome) → SaysWrite sql step o → IfOk result (λ told. told.lines ≡ details client o ++ write_line client o) }
     ensures sent { (sql : List ℕ) (o : Outcome) → SaysWrite sql step o → IfOk result (λ told. option_to_list told.sent ≡ sent_of o) }
     ensures refused { (fault : TheFault) → step ≡ Sql fault → IfOk result (λ told. told ≡ record { lines = WriteSql client fault ∷ []; sent = None }) }
@@ -164,7 +167,7 @@ pub(crate) fn told_of_write(alloc: Global, client: u8, step: WriteStep) -> Resul
 }
 
 /// What is told of the step of a resume of that client.
-pub(crate) fn told_of_resume(alloc: Global, client: u8, step: ResumeStep) -> Result<Told, NoMemory>
+pub fn told_of_resume(alloc: Global, client: u8, step: ResumeStep) -> Result<Told, NoMemory>
     ensures lines { (past : Past) (o : Outcome) → SaysResume past step o → IfOk result (λ told. told.lines ≡ details client o ++ resume_line client o) }
     ensures sent { (past : Past) (o : Outcome) → SaysResume past step o → IfOk result (λ told. option_to_list told.sent ≡ sent_of o) }
 {
@@ -194,11 +197,7 @@ fn opening_line(alloc: Global, client: u8, message: &Message) -> Result<TraceLin
 }
 
 /// The lines of an eviction.
-pub(crate) fn lines_of_evict(
-    alloc: Global,
-    client: u8,
-    step: EvictStep,
-) -> Result<TraceLines, NoMemory>
+pub fn lines_of_evict(alloc: Global, client: u8, step: EvictStep) -> Result<TraceLines, NoMemory>
     ensures { (o : Outcome) → SaysEvict step o → IfOk result (λ lines. lines ≡ details client o ++ evict_line client o) }
 {
     match step {
@@ -224,7 +223,7 @@ pub(crate) fn lines_of_evict(
 }
 
 /// The lines of a cut.
-pub(crate) fn lines_of_cut(alloc: Global, client: u8, step: CutStep) -> Result<TraceLines, NoMemory>
+pub fn lines_of_cut(alloc: Global, client: u8, step: CutStep) -> Result<TraceLines, NoMemory>
     ensures { (past : Past) (old : Client) (o : Outcome) (meaning : TheQuery) → past.out ≡ out_of meaning old.out → SaysCut past old step o
         → IfOk result (λ lines. lines ≡ details client o ++ cut_line client o) }
 {
@@ -245,6 +244,23 @@ pub(crate) fn lines_of_cut(alloc: Global, client: u8, step: CutStep) -> Result<T
             },
         ),
     }
+}
+
+/// The lines of an explanation of that client: its details, and its version.
+pub(crate) fn lines_of_explain(
+    alloc: Global,
+    client: u8,
+    explanation: &Explanation,
+) -> Result<TraceLines, NoMemory>
+    requires few { length explanation.now.victims < 2 ^ 32 }
+    ensures { IfOk result (λ told. told ≡ explain_lines client (Ok explanation.now)) }
+{
+    let mut told = lines(alloc, explanation)?;
+    told.push(TraceLine::Explained {
+        client,
+        version: explanation.version,
+    })?;
+    Ok(told)
 }
 
 /// The line of it that the server took this request, and sent so many messages; none of what is no request.

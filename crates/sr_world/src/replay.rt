@@ -5,7 +5,7 @@ ghost use Rattle.sr_lines.specs.Events.{ScriptEvent};
 ghost use Rattle.sr_cell.specs.declared.fault.Fault.{Fault as TheFault};
 ghost use Rattle.sr_cell.specs.declared.list.No.TheVariants.{Refused, NoMemory as Wanting};
 ghost use Rattle.sr_lines.specs.Lines.{lines_of};
-ghost use Rattle.sr_lines.specs.Script.{start_phase, FirstRefused, FirstUnbuilt, LinePlace as TheLinePlace};
+ghost use Rattle.sr_lines.specs.Script.{FirstRefused, LinePlace as TheLinePlace};
 ghost use Rattle.sr_lines.specs.Creates.{Creates};
 ghost use Rattle.sr_query.specs.Bound.{is_table};
 ghost use Rattle.sr_reader.specs.Lined.{AreLines};
@@ -17,7 +17,7 @@ ghost use Rattle.sr_script.specs.TraceText.{trace_text};
 ghost use Rattle.sr_runs.specs.Runs.{numbered};
 ghost use Rattle.sr_io.specs.Causes.{Rose};
 ghost use Rattle.sr_world.specs.declared.replay.RunFault.{RunFault as TheRunFault};
-ghost use Rattle.sr_world.specs.declared.replay.RunFault.TheVariants.{WriteFault, Line, Setup, Load as LoadRefused, Unbuilt};
+ghost use Rattle.sr_world.specs.declared.replay.RunFault.TheVariants.{WriteFault, Line, Setup, Load as LoadRefused};
 ghost use Rattle.sr_world.specs.Worlds.{IsWorld, SameSetting, drawn, most_drawn};
 ghost use Rattle.sr_world.specs.Replay.{RefusesLoad, Wrote, WrotePart, outside};
 ghost use Rattle.sr_world.specs.Refused.{IsSetupFault};
@@ -52,9 +52,6 @@ pub enum RunFault {
     /// The file for the table of this name is the first that is refused, and why. No line is outside the grammar, and no CREATE line
     /// is refused.
     Load { table: Text, fault: Fault },
-    /// The line is the first that does nothing that is built, counted from 1. No line is outside the grammar, and no CREATE line and
-    /// no file is refused.
-    Unbuilt { line: u64 },
 }
 
 /// Replays a script over tables with the rows of the files, in a world that is set up as the options say: judges its lines, runs its
@@ -80,10 +77,6 @@ pub fn replay<K: Sink>(
     ensures setup_writes_nothing { (line : ℕ) (fault : TheFault) → IsErrOf result (Refused (Setup line fault)) → K.writing sink.new ≡ K.writing sink.old }
     ensures load { (table : List ℕ) (fault : TheFault) → IsErrOf result (Refused (LoadRefused table fault)) → RefusesLoad options.clients script.now loads.now table fault }
     ensures load_writes_nothing { (table : List ℕ) (fault : TheFault) → IsErrOf result (Refused (LoadRefused table fault)) → K.writing sink.new ≡ K.writing sink.old }
-    ensures unbuilt { (line : ℕ) → IsErrOf result (Refused (Unbuilt line)) → FirstUnbuilt options.clients 1 start_phase (lines_of script.now) line }
-    ensures unbuilt_accepts { (line : ℕ) → IsErrOf result (Refused (Unbuilt line)) → (refused : ℕ) (fault : TheFault) → FirstRefused options.clients 1 [] (lines_of script.now) refused fault → ⊥ }
-    ensures unbuilt_loads { (line : ℕ) → IsErrOf result (Refused (Unbuilt line)) → (table : List ℕ) (fault : TheFault) → RefusesLoad options.clients script.now loads.now table fault → ⊥ }
-    ensures unbuilt_writes_nothing { (line : ℕ) → IsErrOf result (Refused (Unbuilt line)) → K.writing sink.new ≡ K.writing sink.old }
     ensures write_fault_is_counted { IsErrOf result (Refused WriteFault) → Rose (K.writing sink.old).faults (K.writing sink.new).faults }
     ensures faults_never_fall { (K.writing sink.old).faults ≤ (K.writing sink.new).faults }
     ensures ok_keeps_faults { OnOk result ((K.writing sink.new).faults ≡ (K.writing sink.old).faults) }
@@ -115,10 +108,7 @@ pub fn replay<K: Sink>(
             Err(No::Refused(_)) => Err(No::Refused(RunFault::WriteFault)),
             Err(No::NoMemory) => Err(No::NoMemory),
         },
-        Err(No::Refused(unbuilt)) => Err(No::Refused(RunFault::Unbuilt {
-            line: unbuilt.number,
-        })),
-        Err(No::NoMemory) => Err(No::NoMemory),
+        Err(_) => Err(No::NoMemory),
     }
 }
 

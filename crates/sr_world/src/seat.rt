@@ -1,7 +1,7 @@
 //! A client with its queues, and what happens between it and the server.
 ghost use Rattle.std.specs.Prelude.{◌≡◌, ◌+◌, ◌<◌, ◌≤◌, ◌++◌, ◌^◌, ◌⊎◌, [], length, option_to_list, Ok, IsTrue, IfSome, IfOk, OnOk};
 ghost use Rattle.std.specs.List.{list_all};
-ghost use Rattle.sr_lines.specs.Events.{DoCut, DoEvict, DoPush, DoQuery, DoResume, DoToClient, DoToServer, DoWrite};
+ghost use Rattle.sr_lines.specs.Events.{DoCut, DoEvict, DoExplain, DoPush, DoQuery, DoResume, DoToClient, DoToServer, DoWrite};
 ghost use Rattle.sr_log.specs.Held.{newest as newest_of};
 ghost use Rattle.sr_model.specs.Queries.{Query as TheQuery};
 ghost use Rattle.sr_query.specs.Bound.{is_table};
@@ -16,8 +16,8 @@ ghost use Rattle.sr_world.specs.Seats.{Delivers, IsSomeSeat, SeatGoes, has_mail,
 ghost use Rattle.sr_world.specs.Worlds.{IsSeat, drawn_by, rank, weight};
 
 use crate::lines::{
-    Told, lines_of_cut, lines_of_evict, one_line, served_line, told_of_query, told_of_resume,
-    told_of_took, told_of_write,
+    Told, lines_of_cut, lines_of_evict, lines_of_explain, one_line, served_line, told_of_query,
+    told_of_resume, told_of_took, told_of_write,
 };
 use sr_cell::list::{No, NoMemory, Seq};
 use sr_cell::schema::Schema;
@@ -116,6 +116,16 @@ impl Seat {
         let step = self.client.write(alloc, sql)?;
         let told = told_of_write(alloc, self.client.id, step)?;
         self.send(alloc, told)
+    }
+
+    /// The client explains how it would answer a query; nothing changes.
+    pub(crate) fn explain(&self, alloc: Global, query: &Query) -> Result<TraceLines, NoMemory>
+        requires stands { (server : TheServer) × IsSomeSeat self.now server }
+        requires meant { (meaning : TheQuery) × IsMeaning self.now.client.schema query.now meaning }
+        ensures goes { (server : TheServer) (meaning : TheQuery) → IsMeaning self.now.client.schema query.now meaning → IfOk result (SeatGoes (λ n s. Acts s (DoExplain n (Ok meaning))) self.now server self.now server) }
+    {
+        let explanation = self.client.explain(alloc, query)?;
+        lines_of_explain(alloc, self.client.id, &explanation)
     }
 
     /// The client begins a session over a cut link.

@@ -1,7 +1,7 @@
 //! A step of a world: an event of a script, and with eager delivery the deliveries behind it.
 ghost use Rattle.std.specs.Prelude.{◌≡◌, ◌+◌, ◌<◌, ◌≤◌, ◌^◌, length, true, Err, Result, IsTrue, IfOk, OnOk, OnErr};
 ghost use Rattle.sr_cell.specs.declared.fault.Fault.{Fault as TheFault};
-ghost use Rattle.sr_lines.specs.Events.{DoExec, DoQuery, DoSettle, ScriptEvent};
+ghost use Rattle.sr_lines.specs.Events.{DoExec, DoExplain, DoQuery, DoSettle, ScriptEvent};
 ghost use Rattle.sr_model.specs.Queries.{Query as TheQuery};
 ghost use Rattle.sr_reader.specs.Read.{IsEvent, Means, event_fits, statement_fits, statement_of};
 ghost use Rattle.sr_session.specs.Scenes.{Scene};
@@ -79,6 +79,7 @@ impl World {
             Event::Exec(statement) => self.exec(alloc, statement),
             Event::Query { client, query } => self.query(alloc, client, query),
             Event::Write { client, sql } => self.write(alloc, client, sql.as_str()),
+            Event::Explain { client, query } => self.explain(alloc, client, query),
             Event::Push { client } => self.push(alloc, client),
             Event::ToServer { client } => self.to_server(alloc, client),
             Event::ToClient { client } => self.to_client(alloc, client),
@@ -126,6 +127,24 @@ impl World {
         match query {
             Err(fault) => one_line(alloc, TraceLine::QuerySql { client, fault }),
             Ok(query) => self.ask(alloc, client, query),
+        }
+    }
+
+    /// The client explains how it would answer a query; a text that is refused gives its line. Nothing changes.
+    fn explain(
+        &self,
+        alloc: Global,
+        client: u8,
+        query: Result<Query, Fault>,
+    ) -> Result<TraceLines, NoMemory>
+        requires world { StandsForSome self.now }
+        requires number { IsNumber self.now client }
+        requires means { (meaning : Result TheQuery TheFault) × Means self.now.server.tables.schema query meaning }
+        ensures acts { (meaning : Result TheQuery TheFault) → Means self.now.server.tables.schema query meaning → IfOk result (Goes (λ s. Acts s (DoExplain client meaning)) self.now self.now) }
+    {
+        match query {
+            Err(fault) => one_line(alloc, TraceLine::ExplainSql { client, fault }),
+            Ok(query) => self.tell(alloc, client, &query),
         }
     }
 

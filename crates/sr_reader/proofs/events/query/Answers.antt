@@ -1,7 +1,5 @@
-use Rattle.std.proofs.Common.{subst}
-use Rattle.sr_reader.specs.Meaning.{IsAsking}
 use Rattle.sr_reader.proofs.Saids.{query_said}
 use Rattle.sr_reader.proofs.events.query.Goals as goal
 
-pub returns-in-Ok-Some : goal.returns-in-Ok-Some
-returns-in-Ok-Some c = query_said c.args.schema.now c.args.sql.now c.args.client c.in-Ok-Some.query (subst (λ z. IsAsking c.args.schema.now c.args.sql.now z) c.in-Ok-Some.field-0-is c.in-Ok-Some.ensures)
+pub returns-in-Ok : goal.returns-in-Ok
+returns-in-Ok c = query_said c.args.schema.now c.args.sql.now c.args.client c.in-Ok.query c.in-Ok.ensures

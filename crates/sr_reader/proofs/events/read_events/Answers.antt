@@ -1,29 +1,15 @@
-use Rattle.std.proofs.Common.{◌≡◌, ◌∙◌, ◌+◌, ◌≤◌, length, drop, sym, subst, refl, List, arith}
+use Rattle.std.proofs.Common.{◌∙◌, ◌+◌, ◌≤◌, length, drop, sym, subst, refl, List, arith}
 use Rattle.sr_lines.specs.Lines.{lines_of}
-use Rattle.sr_lines.specs.Script.{start_phase, FirstUnbuilt}
 use Rattle.sr_reader.specs.declared.script.EventLine.{EventLine}
-use Rattle.sr_reader.specs.declared.script.UnbuiltLine.{UnbuiltLine}
 use Rattle.sr_reader.specs.LineSeen.{words_seen}
-use Rattle.sr_reader.specs.Meaning.{IsSaid}
-use Rattle.sr_reader.proofs.Walks.{Walked, walked_start, walked_quiet, walked_event, walked_unbuilt, walked_read}
+use Rattle.sr_reader.proofs.Walks.{Walked, walked_start, walked_quiet, walked_event, walked_read}
 use Rattle.sr_reader.proofs.Stages.{line_here, none_here}
 use Rattle.sr_reader.proofs.events.read_events.Goals as goal
-use Rattle.sr_reader.proofs.events.read_events.Goals.{in-Event+in_ok-event+in-Some+in_ok-push-in-Some, in_default}
+use Rattle.sr_reader.proofs.events.read_events.Goals.{in-Event+in_ok-event+in_ok-push, in_default}
 
 pub loop-i-init : goal.loop-i-init
 loop-i-init c clients bytes script =
     subst (λ (z : List EventLine). Walked clients bytes c.args.schema.now 1 (lines_of bytes) z) (sym c.new-events.ensures) (walked_start clients bytes c.args.schema.now c.args.lines.now script)
-
-pub returns-in-None-clause-unbuilt : goal.returns-in-None-clause-unbuilt
-returns-in-None-clause-unbuilt c clients bytes script unbuilt is =
-    let i = c.loop-i.i in
-    let lines = lines_of bytes in
-    let here = line_here clients bytes c.args.lines.now c.as_slice-line-items.result.now i _ _ c.as_slice-line-items.ensures script.lines c.loop-i-test.true c.in-Event.is in
-    let none = subst (λ z. IsSaid c.args.schema.now (words_seen c.in-Event.words) z) c.in-None.is c.in_ok-event.ensures in
-    let first = walked_unbuilt clients bytes c.args.schema.now (i + 1) (drop i lines) (drop (i + 1) lines) here.0 c.loop-i.events (c.loop-i.invariant clients bytes script) here.1 (words_seen c.in-Event.words) here.2 none in
-    let line : UnbuiltLine = record { number = i + 1 } in
-    let same : line ≡ unbuilt = cc in
-    subst (λ (u : UnbuiltLine). FirstUnbuilt clients 1 start_phase lines u.number) same first
 
 pub loop-i-preserved : goal.loop-i-preserved
 loop-i-preserved c clients bytes script =
@@ -31,10 +17,9 @@ loop-i-preserved c clients bytes script =
     let lines = lines_of bytes in
     let items = c.as_slice-line-items.result.now in
     elim c.match-line.branch [
-      | in-Event+in_ok-event+in-Some+in_ok-push-in-Some w ↦ (let here = line_here clients bytes c.args.lines.now items i _ _ c.as_slice-line-items.ensures script.lines c.loop-i-test.true w.in-Event.is in
-          let said = subst (λ z. IsSaid c.args.schema.now (words_seen w.in-Event.words) z) w.in-Some.is w.in_ok-event.ensures in
-          let next = walked_event clients bytes c.args.schema.now (i + 1) (drop i lines) (drop (i + 1) lines) here.0 c.loop-i.events (c.loop-i.invariant clients bytes script) here.1 (words_seen w.in-Event.words) w.in-Some.event here.2 said in
-          subst (λ (z : List EventLine). Walked clients bytes c.args.schema.now (i + 1 + 1) (drop (i + 1) lines) z) (sym (w.events-is ∙ w.in_ok-push-in-Some.ensures.pushed)) next)
+      | in-Event+in_ok-event+in_ok-push w ↦ (let here = line_here clients bytes c.args.lines.now items i _ _ c.as_slice-line-items.ensures script.lines c.loop-i-test.true w.in-Event.is in
+          let next = walked_event clients bytes c.args.schema.now (i + 1) (drop i lines) (drop (i + 1) lines) here.0 c.loop-i.events (c.loop-i.invariant clients bytes script) here.1 (words_seen w.in-Event.words) w.in_ok-event.event here.2 w.in_ok-event.ensures in
+          subst (λ (z : List EventLine). Walked clients bytes c.args.schema.now (i + 1 + 1) (drop (i + 1) lines) z) (sym (w.events-is ∙ w.in_ok-push.ensures.pushed)) next)
       | in_default w ↦ (let here = line_here clients bytes c.args.lines.now items i _ _ c.as_slice-line-items.ensures script.lines c.loop-i-test.true refl in
           let next = walked_quiet clients bytes c.args.schema.now (i + 1) (drop i lines) (drop (i + 1) lines) here.0 c.loop-i.events (c.loop-i.invariant clients bytes script) here.1 _ here.2 w.in_default.not-Event in
           subst (λ (z : List EventLine). Walked clients bytes c.args.schema.now (i + 1 + 1) (drop (i + 1) lines) z) (sym w.events-is) next)

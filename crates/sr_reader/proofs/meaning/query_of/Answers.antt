@@ -12,4 +12,4 @@ pub returns-in-Ok : goal.returns-in-Ok
 returns-in-Ok c = asks c.args.schema.now c.args.sql.now c.in_ok-statement.field-0 c.in-Ok.statement c.query_said.result c.in_ok-statement.ensures c.in-Ok.is c.query_said.ensures
 
 pub returns-in-Err : goal.returns-in-Err
-returns-in-Err c = asks_fault c.args.schema.now c.args.sql.now c.in_ok-statement.field-0 c.in-Err.fault c.in_ok-statement.ensures c.in-Err.is
+returns-in-Err c = asks_fault c.args.schema.now c.args.sql.now c.in_ok-statement.field-0 c.in-Err.why c.in_ok-statement.ensures c.in-Err.is

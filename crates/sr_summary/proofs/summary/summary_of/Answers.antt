@@ -2,7 +2,7 @@ use Rattle.std.proofs.Common.{◌≡◌, ℕ, ◌<◌, ◌^◌, List, [], length
 use Rattle.std.specs.Prelude.{IsErrOf}
 use Rattle.sr_generate.specs.Script.{script}
 use Rattle.sr_lines.specs.Lines.{lines_of}
-use Rattle.sr_lines.specs.Script.{start_phase, FirstRefused, FirstUnbuilt}
+use Rattle.sr_lines.specs.Script.{FirstRefused}
 use Rattle.sr_summary.specs.Summary.{Traces, counts_of, summary_text}
 use Rattle.sr_summary.specs.declared.summary.Counts.{Counts}
 use Rattle.sr_summary.proofs.Sizes.{short_script}
@@ -30,7 +30,3 @@ returns-in-Ok-text_of-clause-summary c =
 pub returns-clause-setup : goal.returns-clause-setup
 returns-clause-setup c = λ line fault is.
     subst (λ (s : List ℕ). FirstRefused 1 1 [] (lines_of s) line fault) (c.as_slice.ensures ∙ c.in-Ok.ensures) (c.in-Err-replay_all.ensures.setup line fault (same-refusal _ _ is))
-
-pub returns-clause-unbuilt : goal.returns-clause-unbuilt
-returns-clause-unbuilt c = λ line is.
-    subst (λ (s : List ℕ). FirstUnbuilt 1 1 start_phase (lines_of s) line) (c.as_slice.ensures ∙ c.in-Ok.ensures) (c.in-Err-replay_all.ensures.unbuilt line (same-refusal _ _ is))

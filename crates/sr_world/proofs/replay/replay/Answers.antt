@@ -1,6 +1,6 @@
 use Rattle.std.proofs.Common.{inr}
-use Rattle.sr_world.specs.declared.replay.RunFault.TheVariants.{WriteFault, Line, Setup, Load, Unbuilt}
-use Rattle.sr_world.proofs.ReplayLemmas.{Wrote-of, WrotePart-of, accepts-loads, read-there, same-fault}
+use Rattle.sr_world.specs.declared.replay.RunFault.TheVariants.{WriteFault, Line, Setup, Load}
+use Rattle.sr_world.proofs.ReplayLemmas.{Wrote-of, WrotePart-of, read-there, same-fault}
 use Rattle.sr_world.proofs.replay.replay.Goals as goal
 
 -- ---- a CREATE line or a file is refused
@@ -16,15 +16,6 @@ returns-in-Err-clause-setup g c line fault is = c.in-Err.ensures.refused c.args.
 
 pub returns-in-Err-clause-load : goal.returns-in-Err-clause-load
 returns-in-Err-clause-load g c table fault is = c.in-Err.ensures.refused c.args.options.clients c.args.script.now c.in-Ok.ensures.lines (Load table fault) (same-fault _ _ is)
-
-pub returns-in-Err-clause-unbuilt : goal.returns-in-Err-clause-unbuilt
-returns-in-Err-clause-unbuilt g c line is = absurd (c.in-Err.ensures.refused c.args.options.clients c.args.script.now c.in-Ok.ensures.lines (Unbuilt line) (same-fault _ _ is))
-
-pub returns-in-Err-clause-unbuilt_accepts : goal.returns-in-Err-clause-unbuilt_accepts
-returns-in-Err-clause-unbuilt_accepts g c line is = absurd (c.in-Err.ensures.refused c.args.options.clients c.args.script.now c.in-Ok.ensures.lines (Unbuilt line) (same-fault _ _ is))
-
-pub returns-in-Err-clause-unbuilt_loads : goal.returns-in-Err-clause-unbuilt_loads
-returns-in-Err-clause-unbuilt_loads g c line is = absurd (c.in-Err.ensures.refused c.args.options.clients c.args.script.now c.in-Ok.ensures.lines (Unbuilt line) (same-fault _ _ is))
 
 pub returns-in-Err-clause-write_fault_is_counted : goal.returns-in-Err-clause-write_fault_is_counted
 returns-in-Err-clause-write_fault_is_counted g c is = absurd (c.in-Err.ensures.refused c.args.options.clients c.args.script.now c.in-Ok.ensures.lines WriteFault (same-fault _ _ is))
@@ -54,8 +45,3 @@ returns-in-Ok-read_events-clause-part_in_want g c = λ _.
     let tables = c.in-Ok-fill_tables.ensures in
     let read = read-there _ _ _ _ _ _ c.schema.ensures c.in-Ok-read_events.ensures.read are c.in-Ok.ensures.inside (tables.created c.args.options.clients c.args.script.now are) in
     inr (WrotePart-of c.args.options _ _ _ c.in-Ok-fill_tables.tables.rows _ _ c.in-Ok.ensures.inside read tables.filled c.in-Err-NoMemory-run_script.ensures.part)
-
-pub returns-in-Err-Refused-read_events-clause-unbuilt_loads : goal.returns-in-Err-Refused-read_events-clause-unbuilt_loads
-returns-in-Err-Refused-read_events-clause-unbuilt_loads g c line is =
-    let tables = c.in-Ok-fill_tables in
-    accepts-loads c.args.options.clients c.args.script.now _ tables.tables.schema tables.tables.rows (tables.ensures.created c.args.options.clients c.args.script.now c.in-Ok.ensures.lines) tables.ensures.filled

@@ -1,8 +1,8 @@
 use Rattle.std.proofs.Common.{ℕ, arith, subst, sym, ap, ◌∙◌, List}
-use Rattle.sr_lines.specs.Events.{DoCut, DoEvict, DoExec, DoPush, DoQuery, DoResume, DoToClient, DoToServer, DoWrite}
+use Rattle.sr_lines.specs.Events.{DoCut, DoEvict, DoExec, DoExplain, DoPush, DoQuery, DoResume, DoToClient, DoToServer, DoWrite}
 use Rattle.sr_reader.specs.Read.{IsEvent, statement_of}
 use Rattle.sr_runs.specs.Runs.{Acts}
-use Rattle.sr_world.proofs.StepLemmas.{acts-does, potential-after, potential-light, settle-room}
+use Rattle.sr_world.proofs.StepLemmas.{acts-does, looked-draws, potential-after, potential-light, settle-room}
 use Rattle.sr_world.proofs.world.World.event.Goals as goal
 
 pub settle-requires-clause-room : goal.settle-requires-clause-room
@@ -87,3 +87,13 @@ pub returns-in-Query-clause-drawn : goal.returns-in-Query-clause-drawn
 returns-in-Query-clause-drawn c =
     let m = subst (λ e. IsEvent c.args.self.now.server.tables.schema e c.requires.means.0) c.in-Query.is c.requires.means.1 in
     potential-after (λ s. Acts s (DoQuery c.in-Query.client m.0)) c.args.self.now c.query.new.self c.query.result c.requires.world (c.query.ensures.acts m.0 m.1) c.query.ensures.drawn
+
+pub returns-in-Explain-clause-does : goal.returns-in-Explain-clause-does
+returns-in-Explain-clause-does c = λ what is.
+    let m = subst (λ e. IsEvent c.args.self.now.server.tables.schema e what) c.in-Explain.is is in
+    acts-does c.args.self.now c.args.self.now what (DoExplain c.in-Explain.client m.0) c.explain.result m.2 (c.explain.ensures.acts m.0 m.1)
+
+pub returns-in-Explain-clause-drawn : goal.returns-in-Explain-clause-drawn
+returns-in-Explain-clause-drawn c =
+    let m = subst (λ e. IsEvent c.args.self.now.server.tables.schema e c.requires.means.0) c.in-Explain.is c.requires.means.1 in
+    potential-after (λ s. Acts s (DoExplain c.in-Explain.client m.0)) c.args.self.now c.args.self.now c.explain.result c.requires.world (c.explain.ensures.acts m.0 m.1) (looked-draws c.args.self.now c.explain.result)

@@ -14,6 +14,7 @@ plain-deed schema (read.Evict n place) deed is resume cut = subst IsPlain (sym i
 plain-deed schema (read.Cut n) deed is resume cut = absurd (cut n refl)
 plain-deed schema (read.Resume n) deed is resume cut = absurd (resume n refl)
 plain-deed schema (read.Exec statement) deed is resume cut = absurd is
+plain-deed schema (read.Explain n query) deed is resume cut = absurd is
 plain-deed schema (read.Push n) deed is resume cut = absurd is
 plain-deed schema (read.ToServer n) deed is resume cut = absurd is
 plain-deed schema (read.ToClient n) deed is resume cut = absurd is

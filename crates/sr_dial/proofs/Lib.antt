@@ -11,3 +11,6 @@ pub mod Results
 pub mod SoFarLemmas
 pub mod DeedLemmas
 pub mod SomeLemmas
+pub mod HonestLemmas
+pub mod TrueLemmas
+pub mod ServedLemmas

@@ -102,10 +102,11 @@ module _ (C : Type 0) (Stands : C → Client → Type 0) (IsOf : Standing C) (k 
     pub record IsRead (new_l : Linking) (new_w : Writing) (m : Message) (after : List ℕ) : Type 0 where
       pub at : At C Stands IsOf k s script line came failed new_l (IsWritten s new_w) (spelling m ++ after) code
       pub waits : is_some (left_by s.past (at.course.earlier ++ at.course.call ∷ [])).out ≡ true
+      pub spells : IsTrue (has_spelling m)
 
     pub reads-on : (new_l : Linking) (new_w : Writing) (m : Message) (after : List ℕ) → new_w ≡ w → Nexts (Frame m) l new_l feed after → IsRead new_l new_w m after
     reads-on new_l new_w m after same (r, is) =
-        subst (λ x. IsRead new_l x m after) (sym same) (record { at = read new_l (spelling m) after r; waits = read-some new_l (spelling m) after r })
+        subst (λ x. IsRead new_l x m after) (sym same) (record { at = read new_l (spelling m) after r; waits = read-some new_l (spelling m) after r; spells = is })
 
     -- what comes next is the last thing that is looked at
     pub awaits-last : (new_l : Linking) (new_w : Writing) (after : List ℕ) (next : Next) → came ≡ 1000000 → new_w ≡ w → Nexts next l new_l feed after
@@ -124,19 +125,19 @@ module _ (C : Type 0) (Stands : C → Client → Type 0) (IsOf : Standing C) (k 
 module _ (C : Type 0) (Stands : C → Client → Type 0) (IsOf : Standing C) (k : Setting) (s : Start C) (script : List (ℕ × Deed)) (line came : ℕ) (failed : Bool) (l new_l : Linking) (w new_w : Writing) (after : List ℕ) (code new : C) (m : Message)
     (h : At C Stands IsOf k s script line came failed l (IsWritten s w) (spelling m ++ after) code) where
   -- it must be refused
-  pub handles-bad : (why : BadFrame)
+  pub handles-bad : (why : BadFrame) → is_some (left_by s.past (h.course.earlier ++ h.course.call ∷ [])).out ≡ true → IsTrue (has_spelling m)
       → Rattle.sr_session.specs.Misfits.misfit k.schema (left_by s.past (h.course.earlier ++ h.course.call ∷ [])).out (left_by s.past (h.course.earlier ++ h.course.call ∷ [])).laid
       (left_by s.past (h.course.earlier ++ h.course.call ∷ [])).version m ≡ Some why → Over C Stands IsOf k s script (ending.Bad why) l w
-  handles-bad why bad =
-      over-at C Stands IsOf k s script line came l (spelling m ++ after) code w failed (ending.Bad why) h refl (λ whole. record { message = m; rest = after; next = refl; why_is = bad }) (λ texts is. is)
+  handles-bad why some is bad =
+      over-at C Stands IsOf k s script line came l (spelling m ++ after) code w failed (ending.Bad why) h refl (λ whole. record { message = m; rest = after; next = refl; spells = is; waits = some-out C Stands IsOf k s script line came failed l w (spelling m ++ after) code h some; why_is = bad }) (λ texts is. is)
 
   -- it is taken
-  pub handles : (lines : List Rattle.sr_script.specs.declared.line.TraceLine.TraceLine) (sent : List Message) (handed : Handed) → is_some (left_by s.past (h.course.earlier ++ h.course.call ∷ [])).out ≡ true
+  pub handles : (lines : List Rattle.sr_script.specs.declared.line.TraceLine.TraceLine) (sent : List Message) (handed : Handed) → is_some (left_by s.past (h.course.earlier ++ h.course.call ∷ [])).out ≡ true → IsTrue (has_spelling m)
       → Makes Stands IsOf k code new (left_by s.past (h.course.earlier ++ h.course.call ∷ [])) (Took m) lines sent
       → Carries handed l new_l w new_w (spelled sent) (flat_map (line_text k.schema line) lines) → Handles C Stands IsOf k (handled_by handed) s script line came failed m new_l new_w after new
-  handles lines sent handed some made carries =
+  handles lines sent handed some is made carries =
       by handed (subst (λ x. Hands C Stands IsOf k handed s x line (came + 1) failed new_l new_w after new) (append-nil script)
-      (hands-up C Stands IsOf k s script line came line Delivered code new (Took m) lines sent failed l new_l w new_w (spelling m ++ after) after h made (refl, some-out C Stands IsOf k s script line came failed l w (spelling m ++ after) code h some) tt refl
+      (hands-up C Stands IsOf k s script line came line Delivered code new (Took m) lines sent failed l new_l w new_w (spelling m ++ after) after h made (refl, some-out C Stands IsOf k s script line came failed l w (spelling m ++ after) code h some, is) tt refl
       handed (is-up C Stands IsOf k s script line came failed l w (spelling m ++ after) code h some)
       (made.link.0 ∙ is-up C Stands IsOf k s script line came failed l w (spelling m ++ after) code h some) (ap (λ x. x ++ after) (sym (append-nil (spelling m)))) carries))
     where

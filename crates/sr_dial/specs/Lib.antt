@@ -3,3 +3,5 @@ pub mod Runs
 pub mod Statuses
 pub mod Courses
 pub mod Carrying
+pub mod Honest
+pub mod Served

@@ -2,7 +2,7 @@
 --
 -- It is not said here that each outcome goes by the rules over a link that lies: only that it does over every database whose rows the
 -- client has, and where what comes is truly promised.
-use Rattle.std.specs.Prelude.{ℕ, Bool, true, false, List, [], ◌∷◌, ◌++◌, ◌||◌, ◌+◌, flat_map, ◌≡◌, ◌≢◌, Some, None, IfSome}
+use Rattle.std.specs.Prelude.{ℕ, Bool, true, false, List, [], ◌∷◌, ◌++◌, ◌||◌, ◌+◌, flat_map, ◌≡◌, ◌≢◌, Some, None, IfSome, IsTrue}
 use Rattle.std.specs.Io.KnownBytes.{Appends}
 use Rattle.std.specs.List.{list_any, All}
 use Rattle.sr_cell.specs.declared.table.Table.{Table}
@@ -14,7 +14,7 @@ use Rattle.sr_wire.specs.declared.bad_frame.BadFrame.{BadFrame}
 use Rattle.sr_wire.specs.declared.wire_fault.WireFault.{WireFault}
 use Rattle.sr_wire.specs.declared.wire_fault.WireFault.TheVariants.{Short}
 use Rattle.sr_wire.specs.Reading.{Faulty, decoded}
-use Rattle.sr_wire.specs.Spelling.{spelling}
+use Rattle.sr_wire.specs.Spelling.{has_spelling, spelling}
 use Rattle.sr_session.specs.Clients.{Client}
 use Rattle.sr_session.specs.Misfits.{misfit}
 use Rattle.sr_links.specs.Honest.{IsPrefix}
@@ -27,11 +27,12 @@ use Rattle.sr_dial.specs.declared.ending.Ending.TheVariants as ending
 
 -- ---- steps
 
--- A line of the script runs while nothing is out. Messages come while a request is out, and the link fails then, which cuts it; both
--- have the number of the line that ran. That nobody could be dialled is such a failure: the first message of the session is out.
+-- A line of the script runs while nothing is out. Messages, which came as frames, come while a request is out, and the link fails then,
+-- which cuts it; both have the number of the line that ran. That nobody could be dialled is such a failure: the first message of the
+-- session is out.
 abbrev pub IsInPlace : Cause → ℕ → ℕ → Deed → Client → Type 0
 IsInPlace Scripted line number deed c = c.out ≡ None
-IsInPlace Delivered line number (Took m) c = (number ≡ line) × (c.out ≢ None)
+IsInPlace Delivered line number (Took m) c = (number ≡ line) × (c.out ≢ None) × IsTrue (has_spelling m)
 IsInPlace Failed line number WasCut c = (number ≡ line) × (c.out ≢ None)
 IsInPlace cause line number deed c = ⊥
 
@@ -83,11 +84,13 @@ pub record IsFull {C : Type 0} (done : List (Done C)) (left : List ℕ) : Type 0
   pub many : taken_after 0 done ≡ 1000000
   pub next : left ≡ spelling message ++ rest
 
--- The message that came next is refused for this reason.
+-- A request is out, and the message that came next is refused for this reason.
 pub record IsRefused (schema : List Table) (c : Client) (left : List ℕ) (why : BadFrame) : Type 0 where
   pub message : Message
   pub rest : List ℕ
   pub next : left ≡ spelling message ++ rest
+  pub spells : IsTrue (has_spelling message)
+  pub waits : c.out ≢ None
   pub why_is : misfit schema c.out c.laid c.version message ≡ Some why
 
 -- What came next is no frame, for this reason.

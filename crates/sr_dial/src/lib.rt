@@ -2,6 +2,7 @@
 #![tactic(auto)]
 
 pub mod ending;
+pub mod laws;
 pub mod parts;
 pub mod run;
 pub mod steps;

@@ -1,8 +1,8 @@
 //! Messages are taken until no request is out.
-ghost use Rattle.std.specs.Prelude.{◌≡◌, ◌≤◌, ◌+◌, ◌*◌, ◌++◌, true, ℕ, Bool, List, [], ◌∷◌, IfOk};
+ghost use Rattle.std.specs.Prelude.{◌≡◌, ◌≤◌, ◌+◌, ◌*◌, ◌++◌, true, ℕ, Bool, List, [], ◌∷◌, IfOk, IsTrue};
 ghost use Rattle.std.specs.Option.{is_some};
 ghost use Rattle.sr_session.specs.Clients.{Client as Past};
-ghost use Rattle.sr_wire.specs.Spelling.{spelling};
+ghost use Rattle.sr_wire.specs.Spelling.{has_spelling, spelling};
 ghost use Rattle.sr_links.specs.Steps.{Deed};
 ghost use Rattle.sr_talk.specs.Rounds.{OnlyOutput};
 ghost use Rattle.sr_dial.specs.Courses.{At, Handles, IsWritten, Start, Waits, handled_by, last_of};
@@ -55,7 +55,7 @@ fn handle<H: Link + Sink, C: Asks>(
     message: Message,
 ) -> Result<Handled, NoMemory>
     requires room { 2 ≤ C.room client.old }
-    ensures handled { (k : Setting) (s : Start C) (script : List (ℕ × Deed)) (taken : ℕ) (failed : Bool) (after : List ℕ) → C.setting client.old ≡ k → schema.now ≡ k.schema → (h : At C C.stands C.is_of k s script number taken failed (H.linking host.old) (IsWritten s (H.writing host.old)) (spelling message ++ after) client.old) → is_some (left_by s.past (h.course.earlier ++ h.course.call ∷ [])).out ≡ true → IfOk result (λ handled. Handles C C.stands C.is_of k handled s script number taken failed message (H.linking host.new) (H.writing host.new) after client.new) }
+    ensures handled { (k : Setting) (s : Start C) (script : List (ℕ × Deed)) (taken : ℕ) (failed : Bool) (after : List ℕ) → C.setting client.old ≡ k → schema.now ≡ k.schema → (h : At C C.stands C.is_of k s script number taken failed (H.linking host.old) (IsWritten s (H.writing host.old)) (spelling message ++ after) client.old) → is_some (left_by s.past (h.course.earlier ++ h.course.call ∷ [])).out ≡ true → IsTrue (has_spelling message) → IfOk result (λ handled. Handles C C.stands C.is_of k handled s script number taken failed message (H.linking host.new) (H.writing host.new) after client.new) }
     ensures setting { C.setting client.new ≡ C.setting client.old }
     ensures draws { C.room client.old ≤ C.room client.new + 2 }
     ensures stays { OnlyOutput H H.reading H.held H.complaints H.IsSteady host.old host.new }

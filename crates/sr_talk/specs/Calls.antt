@@ -1,25 +1,18 @@
 -- What a run of `client` did.
-use Rattle.std.specs.Prelude.{ℕ, Bool, true, false, nat_lt, ◌&&◌, ◌||◌, not, ◌+◌, List, [], ◌∷◌, ◌++◌, ◌⊎◌, length, map, flat_map, ◌≡◌, ◌≢◌, Option, Some, None, IfSome, option_to_list}
+use Rattle.std.specs.Prelude.{ℕ, Bool, true, false, nat_lt, ◌&&◌, ◌||◌, not, ◌+◌, List, [], ◌∷◌, ◌++◌, length, map, flat_map, ◌≡◌, Option, Some, None, option_to_list}
 use Rattle.std.specs.List.{list_any}
 use Rattle.sr_cell.specs.declared.table.Table.{Table}
-use Rattle.sr_io.specs.Told.{Linking, Connection, connections}
-use Rattle.sr_message.specs.declared.message.Message.{Message}
-use Rattle.sr_policy.specs.declared.policy.Limits.{Limits}
+use Rattle.sr_io.specs.Told.{Connection}
 use Rattle.sr_script.specs.declared.line.TraceLine.{TraceLine}
 use Rattle.sr_script.specs.declared.line.TraceLine.TheVariants as line
 use Rattle.sr_script.specs.TraceText.{line_text}
-use Rattle.sr_store.specs.Told.{Told}
 use Rattle.sr_wire.specs.declared.wire_fault.WireFault.TheVariants.{Short}
 use Rattle.sr_wire.specs.Reading.{Decoded, Faulty, decoded}
-use Rattle.sr_wire.specs.Spelling.{spelling}
 use Rattle.sr_session.specs.Clients.{Client}
-use Rattle.sr_session.specs.Misfits.{misfit}
 use Rattle.sr_session.specs.Rules.{Outcome, QueryRefused}
 use Rattle.sr_runs.specs.Lines.{details, query_line, write_line, evict_line, taken_line, cut_line, resume_line}
-use Rattle.sr_links.specs.Honest.{IsPrefix, Talk}
-use Rattle.sr_links.specs.Steps.{Step, Deed, Queried, Wrote, Evicted, Took, WasCut, Resumed, Does, OnOne, given_of, requests_of, past_after}
-use Rattle.sr_talk.specs.Serving.{IsFaulty, spelled, RoseBy}
-use Rattle.sr_talk.specs.Told.{basis_told, told_by, only_held}
+use Rattle.sr_links.specs.Honest.{Talk}
+use Rattle.sr_links.specs.Steps.{Step, Deed, Queried, Wrote, Evicted, Took, WasCut, Resumed, OnOne, past_after}
 
 -- why a step was made: a line of the script asked for it, as for the first resume, which has number 0; a frame came; or the link failed,
 -- or the connection ended while a request was out
@@ -55,13 +48,6 @@ text_of {C} schema client d = flat_map (line_text schema d.number) (lines_of cli
 
 -- ---- its steps
 
--- Over any link each step goes by the client's rules, where the rows that are kept are those that came.
-abbrev pub AreLawful : {C : Type 0} → List Table → Limits → Told → Client → List (Done C) → Type 0
-AreLawful {C} schema limits told c [] = Unit {0}
-AreLawful {C} schema limits told c (d ∷ ds) =
-    let now = told_by schema c d.step.deed d.step.outcome told in
-    Does (basis_told schema limits now) d.step.deed c d.step.outcome d.step.past × AreLawful schema limits (only_held d.step.past.marks now) d.step.past ds
-
 -- the script's lines, in order
 abbrev pub line_of : Cause → ℕ → Deed → List (ℕ × Deed)
 line_of Scripted number deed = (number, deed) ∷ []
@@ -70,17 +56,6 @@ line_of other number deed = []
 abbrev pub lines_done : {C : Type 0} → List (Done C) → List (ℕ × Deed)
 lines_done {C} [] = []
 lines_done {C} (d ∷ ds) = line_of d.cause d.number d.step.deed ++ lines_done ds
-
--- Between them messages come and links fail, under the number of the line before. No line runs while a request is out.
-abbrev pub IsInPlace : Cause → ℕ → ℕ → Deed → Client → Type 0
-IsInPlace Scripted line number deed c = c.out ≡ None
-IsInPlace Delivered line number (Took m) c = (number ≡ line) × (c.out ≢ None)
-IsInPlace Failed line number WasCut c = number ≡ line
-IsInPlace cause line number deed c = ⊥
-
-abbrev pub AreInPlace : {C : Type 0} → ℕ → Client → List (Done C) → Type 0
-AreInPlace {C} line c [] = Unit {0}
-AreInPlace {C} line c (d ∷ ds) = IsInPlace d.cause line d.number d.step.deed c × AreInPlace d.number d.step.past ds
 
 -- ---- its connections
 
@@ -122,15 +97,6 @@ is_failed other = false
 abbrev pub fails : {C : Type 0} → Call C → Bool
 fails {C} call = list_any (λ d. is_failed d.cause) call.others
 
--- each failure came while a request was out
-abbrev pub IsOutAt : Cause → Client → Type 0
-IsOutAt Failed c = c.out ≢ None
-IsOutAt other c = Unit {0}
-
-abbrev pub FailsWhileOut : {C : Type 0} → Client → List (Done C) → Type 0
-FailsWhileOut {C} c [] = Unit {0}
-FailsWhileOut {C} c (d ∷ ds) = IsOutAt d.cause c × FailsWhileOut d.step.past ds
-
 abbrev pub is_coming : Option Connection → Bool
 is_coming None = false
 is_coming (Some t) = nat_lt 0 (length t.coming)
@@ -151,48 +117,6 @@ abbrev pub count_faults : {C : Type 0} → List (Call C) → ℕ
 count_faults {C} [] = 0
 count_faults {C} (call ∷ calls) = one_if (fails call && is_fault call) + count_faults calls
 
--- ---- bytes
-
--- All requests were sent, but that a failure may cut the last one short; and what was taken is the messages, and what is left. Where no
--- fault is behind a failure, the connection ended while a request was out.
-pub record IsCarried {C : Type 0} (c : Client) (call : Call C) : Type 0 where
-  pub taken : IfSome call.told (λ t. t.taken ≡ spelled (given_of (steps_in (done_in call))) ++ call.left)
-  pub sent : IfSome call.told (λ t. IsPrefix t.sent (spelled (requests_of (steps_in (done_in call)))))
-  pub all_sent : fails call ≡ false → IfSome call.told (λ t. t.sent ≡ spelled (requests_of (steps_in (done_in call))))
-  pub ended : is_fault call ≡ false → FailsWhileOut c (done_in call)
-
-abbrev pub AreCarried : {C : Type 0} → Client → List (Call C) → Type 0
-AreCarried {C} c [] = Unit {0}
-AreCarried {C} c (call ∷ calls) = IsCarried c call × AreCarried (past_after c (steps_in (done_in call))) calls
-
 abbrev pub calls_told : {C : Type 0} → List (Call C) → List Connection
 calls_told {C} [] = []
 calls_told {C} (call ∷ calls) = option_to_list call.told ++ calls_told calls
-
--- Where no message is taken, what came last is no message, or must be refused.
-abbrev pub IsBad : List Table → Client → List ℕ → Type 0
-IsBad schema c left = IsFaulty left ⊎ ((m : Message) × (rest : List ℕ) × (left ≡ spelling m ++ rest) × (misfit schema c.out c.laid c.version m ≢ None))
-
--- ---- its output
-
--- A beginning of the texts is written; with status 0 all, and with 5 too.
-pub record WritesTexts (status : ℕ) (texts : List ℕ) (written : List ℕ) : Type 0 where
-  pub beginning : IsPrefix written texts
-  pub all : (status ≡ 0) ⊎ (status ≡ 5) → written ≡ texts
-
--- A run of the client of that number, which was `c` before, over a script whose lines ask for these deeds.
-pub record Ran (C : Type 0) (schema : List Table) (limits : Limits) (client : ℕ) (c : Client) (script : List (ℕ × Deed)) (status : ℕ) (old new : Linking) (written : List ℕ) : Type 0 where
-  pub calls : List (Call C)
-  pub are : AreCalls c calls
-  pub lawful : AreLawful schema limits (λ t a. []) c (all_done calls)
-  pub lines : IsPrefix (lines_done (all_done calls)) ((0, Resumed) ∷ script)
-  pub in_place : AreInPlace 0 c (all_done calls)
-  pub whole : (status ≡ 0) ⊎ (status ≡ 5) → lines_done (all_done calls) ≡ (0, Resumed) ∷ script
-  pub free : (status ≡ 0) ⊎ (status ≡ 5) → (past_after c (steps_in (all_done calls))).out ≡ None
-  pub carried : AreCarried c calls
-  pub made : connections new ≡ connections old ++ calls_told calls
-  pub writes : WritesTexts status (flat_map (text_of schema client) (all_done calls)) written
-  pub faults : RoseBy old.faults (count_faults calls) new.faults
-  pub none_failed : status ≡ 0 → list_any fails calls ≡ false
-  pub some_failed : status ≡ 5 → list_any fails calls ≡ true
-  pub bad : status ≡ 8 → (call : Call C) × (before : List (Call C)) × (calls ≡ before ++ call ∷ []) × IsBad schema (past_after c (steps_in (all_done calls))) call.left

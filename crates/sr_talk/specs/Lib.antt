@@ -1,7 +1,6 @@
 pub mod Moves
 pub mod Reading
 pub mod Serving
-pub mod Told
 pub mod Calls
 pub mod Talked
 pub mod Rounds

@@ -1,0 +1,76 @@
+-- When the link of a run is honest, and what is true of the run then.
+use Rattle.std.specs.Prelude.{ℕ, true, ◌<◌, ◌≤◌, List, [], ◌∷◌, ◌++◌, length, ◌≡◌, ◌≢◌, None}
+use Rattle.std.specs.List.{list_all}
+use Rattle.sr_cell.specs.declared.table.Table.{Table}
+use Rattle.sr_io.specs.Told.{Linking, Writing}
+use Rattle.sr_query.specs.Bound.{is_table}
+use Rattle.sr_reader.specs.declared.script.EventLine.{EventLine}
+use Rattle.sr_wire.specs.Spelling.{has_spelling}
+use Rattle.sr_session.specs.Clients.{Client}
+use Rattle.sr_session.specs.Laws.{IsSound}
+use Rattle.sr_session.specs.Rules.{Outcome, Answered}
+use Rattle.sr_session.specs.Sessions.{Database}
+use Rattle.sr_links.specs.Answers.{AreTrueAnswers, AsksKeys}
+use Rattle.sr_links.specs.Honest.{Server, Input, IsPrefix, AreClosedBehind, Rests, frames_of, sent_for, server_after, server_at_last}
+use Rattle.sr_links.specs.Steps.{Deed, Standing, Step, given_of, requests_of}
+use Rattle.sr_talk.specs.Calls.{Call, all_done, done_in, steps_in}
+use Rattle.sr_talk.specs.Serving.{spelled}
+use Rattle.sr_dial.specs.Known.{AreDeeds, Setting}
+use Rattle.sr_dial.specs.Runs.{RanFairly}
+use Rattle.sr_dial.specs.Statuses.{status_of}
+use Rattle.sr_dial.specs.declared.ending.Ending.{Ending}
+
+-- ---- honest links
+
+-- the bytes that came over the connection of a call: those of the messages that were taken, and those left behind them
+abbrev pub came_over : {C : Type 0} → Call C → List ℕ
+came_over {C} call = spelled (given_of (steps_in (done_in call))) ++ call.left
+
+-- The inputs of a server explain what came over the connection of a call. The frames that it took are the requests that were sent, in
+-- order, of which the last ones may be missing; and the bytes that came are a beginning of the frames that it sends for them.
+pub record IsExplained {C : Type 0} (s : Server) (inputs : List Input) (call : Call C) : Type 0 where
+  pub frames : IsPrefix (frames_of inputs) (requests_of (steps_in (done_in call)))
+  pub spells : list_all has_spelling (sent_for s inputs) ≡ true
+  pub came : IsPrefix (came_over call) (spelled (sent_for s inputs))
+
+-- There is a piece for each call, and the server goes on from one to the next.
+abbrev pub AreExplained : {C : Type 0} → Server → List (List Input) → List (Call C) → Type 0
+AreExplained {C} s [] [] = Unit {0}
+AreExplained {C} s (piece ∷ pieces) (call ∷ calls) = IsExplained s piece call × AreExplained (server_after s piece) pieces calls
+AreExplained {C} s pieces calls = ⊥
+
+-- The links of these calls are honest: behind them is one server of tables of this schema, whatever versions it makes meanwhile. No
+-- session is open before the first call, and it is closed behind each and nowhere else.
+pub record IsHonest {C : Type 0} (schema : List Table) (s : Server) (pieces : List (List Input)) (calls : List (Call C)) : Type 0 where
+  pub schema_is : s.database.schema ≡ schema
+  pub some : 0 < length s.database.versions
+  pub sound : IsSound (server_at_last s pieces).database
+  pub closed : s.session ≡ None
+  pub behind : AreClosedBehind pieces
+  pub explained : AreExplained s pieces calls
+
+-- ---- what is true over them
+
+-- an answer names the version that the client comes to
+abbrev pub NamesVersion : Outcome → Client → Type 0
+NamesVersion (Answered number version rows marks) c = version ≡ c.version
+NamesVersion other c = Unit {0}
+
+-- No step brings the client to an older version.
+abbrev pub NeverFall : {C : Type 0} → Client → List (Step C) → Type 0
+NeverFall {C} c [] = Unit {0}
+NeverFall {C} c (step ∷ steps) = (c.version ≤ step.past.version) × NamesVersion step.outcome step.past × NeverFall step.past steps
+
+-- Each answer has the rows of its query on the tables of the version that it names, versions never fall, and nothing that came is
+-- refused.
+pub record IsTrue {C : Type 0} (db : Database) (c : Client) (calls : List (Call C)) (ended : Ending) : Type 0 where
+  pub answers : AreTrueAnswers db c (steps_in (all_done calls))
+  pub versions : NeverFall c (steps_in (all_done calls))
+  pub accepted : status_of ended ≢ 8
+
+-- So it is of a run over any number of calls, for any client whose link is cut, and that has the rows of its version on the server.
+abbrev pub HonestRunsAreTrue : {C : Type 0} → Standing C → Type 0
+HonestRunsAreTrue {C} IsOf = (k : Setting) (s : Server) (pieces : List (List Input)) (code : C) (c : Client) (lines : List EventLine) (script : List (ℕ × Deed)) (ended : Ending) (old new : Linking) (before after : Writing)
+    → AsksKeys IsOf → list_all is_table k.schema ≡ true → Rests IsOf s.database code c → AreDeeds k.schema lines script
+    → (run : RanFairly C IsOf k code c script ended old new before after) → IsHonest k.schema s pieces (run.ran.earlier ++ run.ran.last ∷ [])
+    → IsTrue (server_at_last s pieces).database c (run.ran.earlier ++ run.ran.last ∷ []) ended

@@ -1,0 +1,19 @@
+//! Laws of runs of `client`: functions that do nothing, and whose contracts are the laws.
+ghost use Rattle.sr_dial.specs.Honest.{HonestRunsAreTrue};
+ghost use Rattle.sr_dial.specs.Served.{ServedCallsAreExplained};
+
+use sr_links::laws::Peer;
+use sr_talk::parts::Serves;
+
+/// Over an honest link each answer that a run of `client` writes has the rows of its query on the server's tables at the version that it
+/// names, versions never fall, and nothing that comes is refused: over any number of connections in turn, and whatever versions the
+/// server makes meanwhile.
+pub fn honest_runs_are_true<C: Peer>()
+    ensures { HonestRunsAreTrue C.is_of }
+{}
+
+/// The link of calls to a server that serves is honest: what was said over each connection is what the rules give, and the session is
+/// closed behind it.
+pub fn served_calls_are_explained<C, S: Serves>()
+    ensures { ServedCallsAreExplained C S.gives }
+{}

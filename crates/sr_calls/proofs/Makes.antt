@@ -1,0 +1,89 @@
+-- A step of the code is what the rules allow, from any past that it stands for.
+use Rattle.std.proofs.Common.{◌≡◌, true, false, List, [], refl, sym, ◌∙◌, ap, subst, None}
+use Rattle.std.specs.Prelude.{◌≢◌}
+use Rattle.sr_cell.specs.declared.fault.Fault.{Fault}
+use Rattle.sr_message.specs.declared.message.Message.{Message}
+use Rattle.sr_script.specs.declared.line.TraceLine.{TraceLine}
+use Rattle.sr_session.specs.Sessions.{Database}
+use Rattle.sr_session.specs.Clients as session
+use Rattle.sr_session.specs.Rules.{Outcome, AlreadyCut, AlreadyUp, AskSent, CutDone, QueryRefused, ResumeSent, WriteSent, sent_of}
+use Rattle.sr_links.specs.Steps.{Deed, ComesIf, Does, IsFair, basis_on}
+use Rattle.sr_talk.specs.Calls.{lines_of}
+use Rattle.sr_client.specs.Stands.{StandsFor, out_of}
+use Rattle.sr_client.specs.Steps as client
+use Rattle.sr_client.specs.Steps.{Moves}
+use Rattle.sr_client.specs.declared.client.Client.{Client}
+use Rattle.sr_dial.specs.Known.{KeepsLink, Makes}
+use Rattle.sr_calls.specs.ClientEnds.{IsEnd, Stands, setting_of}
+
+-- over a cut link nothing is out
+pub rests : (past : session.Client) (c : Client) → StandsFor past c → past.cut ≡ true → past.out ≡ None
+rests past c s down = ap (λ (p : session.Client). p.out) s.2 ∙ ap (out_of s.0.meaning) (s.1.down (sym (ap (λ (p : session.Client). p.cut) s.2) ∙ down))
+
+-- what is sent is out
+pub waits : (past next : session.Client) (o : Outcome) → client.KeepsLink past o next → sent_of o ≢ [] → next.out ≢ None
+waits past next (AskSent drops request fresh parts) link some = link.2
+waits past next (WriteSent request sql) link some = link.2
+waits past next (ResumeSent message) link some = link.2
+waits past next other link some = absurd (some refl)
+
+-- ---- the link
+
+-- it comes of no resume and of no cut
+abbrev pub IsPlainOutcome : Outcome → Type 0
+IsPlainOutcome (ResumeSent message) = ⊥
+IsPlainOutcome AlreadyUp = ⊥
+IsPlainOutcome (CutDone cut ended) = ⊥
+IsPlainOutcome (AlreadyCut cut) = ⊥
+IsPlainOutcome other = Unit {0}
+
+-- the link stays as it was, and what is sent goes over one that is up
+abbrev pub LinkStays : session.Client → session.Client → List Message → Type 0
+LinkStays past next sent = (next.cut ≡ past.cut) × (sent ≢ [] → past.cut ≡ false)
+
+pub plain_link : (past next : session.Client) (o : Outcome) → IsPlainOutcome o → client.KeepsLink past o next → LinkStays past next (sent_of o)
+plain_link past next (AskSent drops request fresh parts) plain link = (link.1 ∙ sym link.0, λ some. link.0)
+plain_link past next (WriteSent request sql) plain link = (link.1 ∙ sym link.0, λ some. link.0)
+plain_link past next (ResumeSent message) plain link = absurd plain
+plain_link past next AlreadyUp plain link = absurd plain
+plain_link past next (CutDone cut ended) plain link = absurd plain
+plain_link past next (AlreadyCut cut) plain link = absurd plain
+plain_link past next other plain link = (link, λ some. absurd (some refl))
+
+-- ---- a step
+
+module _ (old new : Client) (past : session.Client) (deed : Deed) (says : Outcome → Type 0) (If : Database → Type 0) (rule : Database → Outcome → session.Client → Type 0) (m : Moves old new past says If rule)
+    (does : (db : Database) (o : Outcome) (next : session.Client) → rule db o next → Does (basis_on db old.store.limits) deed past o next) (comes : (db : Database) → ComesIf db past deed → If db) where
+  fair : IsFair IsEnd old.store.limits old past (record { deed = deed; outcome = m.outcome; past = m.next; code = new })
+  fair db sound within is come =
+      let both = m.over db (record { sound = sound; schema = is.0; within = within; client = is.1 }) (comes db come) in
+      (does db m.outcome m.next both.0, (both.1.schema, both.1.client))
+
+  pub makes : (lines : List TraceLine) (sent : List Message) → lines ≡ lines_of old.id deed m.outcome → sent ≡ sent_of m.outcome → KeepsLink deed (sent_of m.outcome) past m.next
+      → Makes Stands IsEnd (setting_of old) old new past deed lines sent
+  makes lines sent lines_are sent_is link = record {
+    outcome = m.outcome;
+    next = m.next;
+    lines_are = lines_are;
+    sent_is = sent_is;
+    link = subst (λ ms. KeepsLink deed ms past m.next) (sym sent_is) link;
+    waits = λ some. waits past m.next m.outcome m.link (λ none. some (sent_is ∙ none));
+    rests = rests m.next new m.stands;
+    stands = m.stands;
+    fair = fair;
+  }
+
+-- what is refused by the client itself changes nothing
+pub refuses : (old : Client) (past : session.Client) (deed : Deed) (fault : Fault) (lines : List TraceLine) → StandsFor past old → lines ≡ lines_of old.id deed (QueryRefused fault) → KeepsLink deed [] past past
+    → ((db : Database) → Does (basis_on db old.store.limits) deed past (QueryRefused fault) past) → Makes Stands IsEnd (setting_of old) old old past deed lines []
+refuses old past deed fault lines stands lines_are link does = record {
+  outcome = QueryRefused fault;
+  next = past;
+  lines_are = lines_are;
+  sent_is = refl;
+  link = link;
+  waits = λ some. absurd (some refl);
+  rests = rests past old stands;
+  stands = stands;
+  fair = λ db sound within is come. (does db, is);
+}

@@ -1,0 +1,192 @@
+-- What the calls of a client do.
+use Rattle.std.proofs.Common.{◌≡◌, ℕ, ◌≤◌, ◌<◌, Bool, true, false, List, [], ◌∷◌, ◌++◌, length, refl, sym, ◌∙◌, ap, subst, arith, Option, Some, None, Result, Ok, Err}
+use Rattle.std.specs.Prelude.{IfOk, option_to_list, nat_le}
+use Rattle.std.specs.List.{All}
+use Rattle.std.proofs.lemmas.Bool.Decides.{nat_tests}
+use Rattle.std.proofs.lemmas.List.Elements.{All-cons, All-nil}
+use Rattle.std.proofs.lemmas.Result.{IfOk-weaker}
+use Rattle.sr_cell.specs.declared.fault.Fault.{Fault}
+use Rattle.sr_message.specs.declared.message.Message.{Message}
+use Rattle.sr_model.specs.Queries.{Query}
+use Rattle.sr_script.specs.declared.line.TraceLine.{TraceLine}
+use Rattle.sr_script.specs.declared.line.TraceLine.TheVariants as line
+use Rattle.sr_session.specs.Clients as session
+use Rattle.sr_session.specs.Rules as rules
+use Rattle.sr_session.specs.Rules.{Outcome, sent_of}
+use Rattle.sr_session.specs.Texts.{long_text, most_text}
+use Rattle.sr_wire.specs.Limits.{IsSendable}
+use Rattle.sr_runs.specs.Lines.{cut_line, details, evict_line, query_line, resume_line, write_line}
+use Rattle.sr_links.specs.Steps.{Evicted, Queried, Resumed, WasCut, Wrote, too_long, writes}
+use Rattle.sr_talk.specs.Calls.{last_lines}
+use Rattle.sr_client.specs.declared.client.Client.{Client}
+use Rattle.sr_client.specs.declared.steps.CutStep.{CutStep}
+use Rattle.sr_client.specs.declared.steps.CutStep.TheVariants as cuts
+use Rattle.sr_client.specs.declared.steps.EvictStep.{EvictStep}
+use Rattle.sr_client.specs.declared.steps.EvictStep.TheVariants as evicts
+use Rattle.sr_client.specs.declared.steps.QueryStep.{QueryStep}
+use Rattle.sr_client.specs.declared.steps.QueryStep.TheVariants as query
+use Rattle.sr_client.specs.declared.steps.ResumeStep.{ResumeStep}
+use Rattle.sr_client.specs.declared.steps.ResumeStep.TheVariants as resumes
+use Rattle.sr_client.specs.declared.steps.WriteStep.{WriteStep}
+use Rattle.sr_client.specs.declared.steps.WriteStep.TheVariants as written
+use Rattle.sr_client.specs.Sends.{QuerySendsWell, ResumeSendsWell, WriteSendsWell}
+use Rattle.sr_client.specs.Stands as client
+use Rattle.sr_client.specs.Stands.{StandsFor, basis_of, out_of, past_of}
+use Rattle.sr_client.specs.Steps as steps
+use Rattle.sr_client.specs.Steps.{Cuts, Evicts, Queries, Resumes, SaysCut, SaysEvict, SaysQuery, SaysResume, SaysWrite, Writes}
+use Rattle.sr_client.proofs.Results.{if_ok}
+use Rattle.sr_world.specs.declared.lines.Told as world
+use Rattle.sr_world.proofs.ClientLemmas.{IsToldOf, evict-nothing, query-each, resume-each, write-each}
+use Rattle.sr_dial.specs.Known.{KeepsLink}
+use Rattle.sr_dial.specs.declared.parts.Told.{Told}
+use Rattle.sr_calls.specs.ClientEnds.{Did}
+use Rattle.sr_calls.proofs.Makes.{IsPlainOutcome, makes, plain_link, refuses}
+
+-- what was told, with what is sent as a list
+abbrev pub list_of : world.Told → Told
+list_of told = record { lines = told.lines; sent = option_to_list told.sent }
+
+-- what may be sent, as a list
+pub told_sendable : (sent : Option Message) → ((m : Message) → option_to_list sent ≡ m ∷ [] → IsSendable m) → All IsSendable (option_to_list sent)
+told_sendable None each = All-nil IsSendable
+told_sendable (Some m) each = All-cons IsSendable m [] (each m refl) (All-nil IsSendable)
+
+-- ---- a query
+
+pub refuses_query : (old : Client) (past : session.Client) (fault : Fault) (told : Told) → StandsFor past old → told ≡ record { lines = line.QuerySql old.id fault ∷ []; sent = [] } → Did old old past (Queried (Err fault)) told
+refuses_query old past fault told stands is =
+    subst (Did old old past (Queried (Err fault))) (sym is)
+    (refuses old past (Queried (Err fault)) fault (line.QuerySql old.id fault ∷ []) stands refl (refl, λ some. absurd (some refl)) (λ db. rules.query_refused fault))
+
+query_plain : (past : session.Client) (step : QueryStep) (o : Outcome) → SaysQuery past step o → IsPlainOutcome o
+query_plain past (query.Answered q version rows marks) o says = subst IsPlainOutcome (sym says) tt
+query_plain past (query.Asked q request message marks) o says = subst IsPlainOutcome (sym says.4) tt
+query_plain past (query.Busy request) o says = subst IsPlainOutcome (sym says) tt
+query_plain past (query.Down number marks) o says = subst IsPlainOutcome (sym says) tt
+
+module _ {E : Type 0} (old new : Client) (meaning : Query) (step : QueryStep) (told : world.Told) (r : Result Told E) (does : Queries old meaning new step)
+    (tells : (past : session.Client) (o : Outcome) → SaysQuery past step o → IsToldOf old.id query_line o told) (is : IfOk r (λ t. t ≡ list_of told)) where
+  pub query_makes : (past : session.Client) → StandsFor past old → IfOk r (Did old new past (Queried (Ok meaning)))
+  query_makes past stands =
+      let m = does.moves past stands in
+      let t = tells past m.outcome m.is in
+      if_ok (Did old new past (Queried (Ok meaning))) r (list_of told) is
+      (makes old new past (Queried (Ok meaning)) (SaysQuery past step) (λ db. Unit {0}) (λ db. rules.QueryStep (basis_of db old.store.limits) past (Ok meaning)) m (λ db o next rule. rule) (λ db come. tt)
+      told.lines (option_to_list told.sent) t.lines t.sent (plain_link past m.next m.outcome (query_plain past step m.outcome m.is) m.link))
+
+  pub query_sendable : client.Stands old → QuerySendsWell old.schema old.id step → IfOk r (λ t. All IsSendable t.sent)
+  query_sendable some sends =
+      let past = past_of old some.0 in
+      let m = does.moves past (some.0, some.1, refl) in
+      let t = tells past m.outcome m.is in
+      if_ok (λ t. All IsSendable t.sent) r (list_of told) is
+      (told_sendable told.sent (λ message one. query-each old.schema old.id past step m.outcome sends m.is message (sym t.sent ∙ one)))
+
+-- ---- a write
+
+write_plain : (sql : List ℕ) (step : WriteStep) (o : Outcome) → SaysWrite sql step o → IsPlainOutcome o
+write_plain sql (written.Sent request message) o says = subst IsPlainOutcome (sym says.1) tt
+write_plain sql (written.Sql fault) o says = absurd says
+write_plain sql (written.Busy request) o says = subst IsPlainOutcome (sym says) tt
+write_plain sql (written.Down number) o says = subst IsPlainOutcome (sym says) tt
+
+write_last : (n : ℕ) (sql : List ℕ) (step : WriteStep) (o : Outcome) → SaysWrite sql step o → write_line n o ≡ last_lines n (Wrote sql) o
+write_last n sql (written.Sent request message) o says = subst (λ o. write_line n o ≡ last_lines n (Wrote sql) o) (sym says.1) refl
+write_last n sql (written.Sql fault) o says = absurd says
+write_last n sql (written.Busy request) o says = subst (λ o. write_line n o ≡ last_lines n (Wrote sql) o) (sym says) refl
+write_last n sql (written.Down number) o says = subst (λ o. write_line n o ≡ last_lines n (Wrote sql) o) (sym says) refl
+
+module _ {E : Type 0} (old new : Client) (sql : List ℕ) (step : WriteStep) (told : world.Told) (r : Result Told E) (long : most_text < length sql → (step ≡ written.Sql long_text) × (new ≡ old))
+    (does : length sql ≤ most_text → Writes old sql new step) (tells : (o : Outcome) → SaysWrite sql step o → IsToldOf old.id write_line o told)
+    (refused : (fault : Fault) → step ≡ written.Sql fault → told ≡ record { lines = line.WriteSql old.id fault ∷ []; sent = None }) (is : IfOk r (λ t. t ≡ list_of told)) where
+  short_makes : (past : session.Client) → StandsFor past old → length sql ≤ most_text → IfOk r (Did old new past (Wrote sql))
+  short_makes past stands short =
+      let m = (does short).moves past stands in
+      let t = tells m.outcome m.is in
+      if_ok (Did old new past (Wrote sql)) r (list_of told) is
+      (makes old new past (Wrote sql) (SaysWrite sql step) (λ db. Unit {0}) (λ db. rules.WriteStep sql past) m (λ db o next rule. writes o next short rule) (λ db come. tt)
+      told.lines (option_to_list told.sent) (t.lines ∙ ap (λ ls. details old.id m.outcome ++ ls) (write_last old.id sql step m.outcome m.is)) t.sent (plain_link past m.next m.outcome (write_plain sql step m.outcome m.is) m.link))
+
+  long_makes : (past : session.Client) → StandsFor past old → most_text < length sql → IfOk r (Did old new past (Wrote sql))
+  long_makes past stands over =
+      let told_is : list_of told ≡ record { lines = line.WriteSql old.id long_text ∷ []; sent = [] } = ap list_of (refused long_text (long over).0) in
+      if_ok (Did old new past (Wrote sql)) r (list_of told) is
+      (subst (λ (c : Client). Did old c past (Wrote sql) (list_of told)) (sym (long over).1)
+      (subst (Did old old past (Wrote sql)) (sym told_is)
+      (refuses old past (Wrote sql) long_text (line.WriteSql old.id long_text ∷ []) stands refl (refl, λ some. absurd (some refl)) (λ db. too_long over))))
+
+  pub write_makes : (past : session.Client) → StandsFor past old → IfOk r (Did old new past (Wrote sql))
+  write_makes past stands = by (nat_le (length sql) most_text) refl
+    where
+      by : (b : Bool) → nat_le (length sql) most_text ≡ b → IfOk r (Did old new past (Wrote sql))
+      by true e = short_makes past stands (grind (arith, nat_tests, e))
+      by false e = long_makes past stands (grind (arith, nat_tests, e))
+
+  pub write_sendable : client.Stands old → WriteSendsWell old.schema old.id step → IfOk r (λ t. All IsSendable t.sent)
+  write_sendable some sends = if_ok (λ t. All IsSendable t.sent) r (list_of told) is (by (nat_le (length sql) most_text) refl)
+    where
+      by : (b : Bool) → nat_le (length sql) most_text ≡ b → All IsSendable (option_to_list told.sent)
+      by true e =
+          let m = (does (grind (arith, nat_tests, e))).moves (past_of old some.0) (some.0, some.1, refl) in
+          let t = tells m.outcome m.is in
+          told_sendable told.sent (λ message one. write-each old.schema old.id sql step m.outcome sends m.is message (sym t.sent ∙ one))
+      by false e =
+          let over : most_text < length sql = grind (arith, nat_tests, e) in
+          let none : option_to_list told.sent ≡ [] = ap (λ (t : world.Told). option_to_list t.sent) (refused long_text (long over).0) in
+          subst (All IsSendable) (sym none) (All-nil IsSendable)
+
+-- ---- an eviction
+
+evict_plain : (step : EvictStep) (o : Outcome) → SaysEvict step o → IsPlainOutcome o
+evict_plain (evicts.Dropped region) o says = subst IsPlainOutcome (sym says) tt
+evict_plain (evicts.Busy request) o says = subst IsPlainOutcome (sym says) tt
+evict_plain (evicts.NoSuch count) o says = subst IsPlainOutcome (sym says) tt
+
+pub evict_makes : (old new : Client) (place : ℕ) (step : EvictStep) (lines : List TraceLine) (told : Told) → Evicts old place new step → ((o : Outcome) → SaysEvict step o → lines ≡ details old.id o ++ evict_line old.id o)
+    → told ≡ record { lines = lines; sent = [] } → (past : session.Client) → StandsFor past old → Did old new past (Evicted place) told
+evict_makes old new place step lines told does tells is past stands =
+    let m = does.moves past stands in
+    subst (Did old new past (Evicted place)) (sym is)
+    (makes old new past (Evicted place) (SaysEvict step) (λ db. Unit {0}) (λ db. rules.EvictStep (basis_of db old.store.limits) place past) m (λ db o next rule. rule) (λ db come. tt)
+    lines [] (tells m.outcome m.is) (sym (evict-nothing step m.outcome m.is)) (plain_link past m.next m.outcome (evict_plain step m.outcome m.is) m.link))
+
+-- ---- a resume
+
+resume_link : (past next : session.Client) (step : ResumeStep) (o : Outcome) → SaysResume past step o → steps.KeepsLink past o next → KeepsLink Resumed (sent_of o) past next
+resume_link past next (resumes.Sent request message) o says link =
+    subst (λ o. steps.KeepsLink past o next → KeepsLink Resumed (sent_of o) past next) (sym says.1) (λ up. (up.0, up.1, refl)) link
+resume_link past next resumes.Up o says link = subst (λ o. steps.KeepsLink past o next → KeepsLink Resumed (sent_of o) past next) (sym says) (λ up. up) link
+
+module _ {E : Type 0} (old new : Client) (step : ResumeStep) (told : world.Told) (r : Result Told E) (does : Resumes old new step)
+    (tells : (past : session.Client) (o : Outcome) → SaysResume past step o → IsToldOf old.id resume_line o told) (is : IfOk r (λ t. t ≡ list_of told)) where
+  pub resume_makes : (past : session.Client) → StandsFor past old → IfOk r (Did old new past Resumed)
+  resume_makes past stands =
+      let m = does.moves past stands in
+      let t = tells past m.outcome m.is in
+      if_ok (Did old new past Resumed) r (list_of told) is
+      (makes old new past Resumed (SaysResume past step) (λ db. Unit {0}) (λ db. rules.ResumeStep db.schema past) m (λ db o next rule. rule) (λ db come. tt)
+      told.lines (option_to_list told.sent) t.lines t.sent (resume_link past m.next step m.outcome m.is m.link))
+
+  pub resume_sendable : client.Stands old → ResumeSendsWell old.schema old.id step → IfOk r (λ t. All IsSendable t.sent)
+  resume_sendable some sends =
+      let past = past_of old some.0 in
+      let m = does.moves past (some.0, some.1, refl) in
+      let t = tells past m.outcome m.is in
+      if_ok (λ t. All IsSendable t.sent) r (list_of told) is
+      (told_sendable told.sent (λ message one. resume-each old.schema old.id past step m.outcome sends m.is message (sym t.sent ∙ one)))
+
+-- ---- a cut
+
+cut_link : (past next : session.Client) (old : Client) (step : CutStep) (o : Outcome) → SaysCut past old step o → steps.KeepsLink past o next → KeepsLink WasCut (sent_of o) past next
+cut_link past next old (cuts.Cut number ended) o says link = subst (λ o. steps.KeepsLink past o next → KeepsLink WasCut (sent_of o) past next) (sym says.1) (λ down. (down, refl)) link
+cut_link past next old (cuts.Already number) o says link = subst (λ o. steps.KeepsLink past o next → KeepsLink WasCut (sent_of o) past next) (sym says) (λ down. (down, refl)) link
+
+pub cut_makes : {E : Type 0} (old new : Client) (step : CutStep) (r : Result (List TraceLine) E) → Cuts old new step
+    → ((past : session.Client) (c : Client) (o : Outcome) (meaning : Query) → past.out ≡ out_of meaning c.out → SaysCut past c step o → IfOk r (λ lines. lines ≡ details old.id o ++ cut_line old.id o))
+    → (past : session.Client) → StandsFor past old → IfOk r (λ lines. Did old new past WasCut (record { lines = lines; sent = [] }))
+cut_makes {E} old new step r does tells past stands =
+    let m = does.moves past stands in
+    let link = cut_link past m.next old step m.outcome m.is m.link in
+    IfOk-weaker r (λ lines. lines ≡ details old.id m.outcome ++ cut_line old.id m.outcome) (λ lines. Did old new past WasCut (record { lines = lines; sent = [] }))
+    (λ lines is. makes old new past WasCut (SaysCut past old step) (λ db. Unit {0}) (λ db. rules.CutStep past) m (λ db o next rule. rule) (λ db come. tt) lines [] is (sym link.1) link)
+    (tells past old m.outcome stands.0.meaning (ap (λ (p : session.Client). p.out) stands.2) m.is)

@@ -1,0 +1,6 @@
+use Rattle.sr_calls.proofs.StepLemmas.{cut_makes}
+use Rattle.sr_calls.proofs.calls.cut.Goals as goal
+
+pub returns-clause-made : goal.returns-clause-made
+returns-clause-made c =
+    cut_makes c.args.client.now c.cut-step.new.self c.cut-step.result c.lines_of_cut.result c.cut-step.ensures.cuts c.lines_of_cut.ensures

@@ -1,0 +1,3 @@
+pub mod ClientEnds
+pub mod Runs
+pub mod Honest

@@ -1,22 +1,17 @@
 -- What a status says of the files that are held.
-use Rattle.std.proofs.Common.{◌≡◌, ℕ, ◌⊎◌, List, [], ◌∷◌, Option, Some, None, Ok, Err, inl, inr, arith, sym, subst, ◌∙◌}
+use Rattle.std.proofs.Common.{◌≡◌, ℕ, ◌⊎◌, List, [], ◌∷◌, Option, Some, None, inl, inr, arith, subst}
 use Rattle.sr_cell.specs.declared.fault.Fault.{Fault}
-use Rattle.sr_cell.specs.declared.table.Table.{Table}
-use Rattle.sr_model.specs.Statements.{Tables}
 use Rattle.sr_lines.specs.Lines.{lines_of}
-use Rattle.sr_lines.specs.Script.{LinePlace, start_phase, FirstRefused, FirstUnbuilt}
-use Rattle.sr_tables.specs.Stored.{no_rows}
-use Rattle.sr_load.specs.Filling.{filled}
+use Rattle.sr_lines.specs.Script.{LinePlace, FirstRefused}
 use Rattle.sr_load.specs.declared.fill.Load.{Load}
-use Rattle.sr_load.specs.declared.fill.LoadFault.{LoadFault}
-use Rattle.sr_reader.proofs.OneDoing.{excludes, accepts}
+use Rattle.sr_reader.proofs.OneDoing.{accepts}
 use Rattle.sr_reader.proofs.Created.{created-tables}
 use Rattle.sr_world.specs.declared.world.Options.{Options}
 use Rattle.sr_world.specs.declared.world.World.{World}
 use Rattle.sr_world.specs.Replay.{RefusesLoad, Wrote, outside}
 use Rattle.sr_words.specs.declared.command.ReplayWords.{ReplayWords}
 use Rattle.sr_cli.specs.Files.{SomeTooLong, names_of}
-use Rattle.sr_cli.specs.Replay.{AreFiles, IsOutside, IsRefusedSetup, IsRefusedLoad, IsUnbuilt, Replayed, AreHeld, AreLong, FitsFiles, files_of, options_of}
+use Rattle.sr_cli.specs.Replay.{AreFiles, IsOutside, IsRefusedSetup, IsRefusedLoad, Replayed, AreHeld, AreLong, FitsFiles, files_of, options_of}
 use Rattle.sr_cli.proofs.OneFilling.{filled_once}
 use Rattle.sr_cli.proofs.SameFiles.{same_bytes, same_loads, some_short, too_long_held, some_long_held}
 
@@ -56,9 +51,6 @@ IsRefused held words = ((line : ℕ) × (fault : Fault) × IsRefusedSetup held w
 abbrev pub SomeOutside : (List ℕ → Option (List ℕ)) → ReplayWords → Type 0
 SomeOutside held words = (line : ℕ) × (place : ℕ) × IsOutside held words line place
 
-abbrev pub SomeUnbuilt : (List ℕ → Option (List ℕ)) → ReplayWords → Type 0
-SomeUnbuilt held words = (line : ℕ) × IsUnbuilt held words line
-
 -- the files that were read, whatever is refused of them
 record Named (held : List ℕ → Option (List ℕ)) (words : ReplayWords) (P : List ℕ → List Load → Type 0) : Type 0 where
   script : List ℕ
@@ -86,70 +78,56 @@ refused_named : (held : List ℕ → Option (List ℕ)) (words : ReplayWords) �
 refused_named held words (inl (line, fault, r)) = record { script = r.script; loads = r.loads; files = r.files; holds = (r.inside, inl (line, fault, r.first)) }
 refused_named held words (inr (table, fault, r)) = record { script = r.script; loads = r.loads; files = r.files; holds = (r.inside, inr (table, fault, r.refuses)) }
 
--- what is said of an unbuilt line
-record Unbuilds (clients : ℕ) (script : List ℕ) (loads : List Load) : Type 0 where
-  line : ℕ
-  inside : outside clients script ≡ None
-  first : FirstUnbuilt clients 1 start_phase (lines_of script) line
-  accepts : (refused : ℕ) (fault : Fault) → ¬ FirstRefused clients 1 [] (lines_of script) refused fault
-  loads_accepted : (table : List ℕ) (fault : Fault) → ¬ RefusesLoad clients script loads table fault
-
-unbuilt_named : (held : List ℕ → Option (List ℕ)) (words : ReplayWords) → SomeUnbuilt held words → Named held words (Unbuilds words.setup.clients)
-unbuilt_named held words (line, u) = record {
-  script = u.script;
-  loads = u.loads;
-  files = u.files;
-  holds = record { line = line; inside = u.inside; first = u.first; accepts = u.accepts; loads_accepted = u.loads_accepted };
-}
-
 -- the statuses that are not 0 and not 2
 abbrev pub Fails : ℕ → Type 0
-Fails status = (status ≡ 3) ⊎ (status ≡ 4) ⊎ (status ≡ 6) ⊎ (status ≡ 7) ⊎ (status ≡ 9) ⊎ (status ≡ 10) ⊎ (status ≡ 12)
+Fails status = (status ≡ 3) ⊎ (status ≡ 4) ⊎ (status ≡ 6) ⊎ (status ≡ 7) ⊎ (status ≡ 9) ⊎ (status ≡ 10)
 
-long_status : (status : ℕ) → Fails status → ¬ (status ≡ 3) → ¬ (status ≡ 4) → ¬ (status ≡ 6) → ¬ (status ≡ 7) → ¬ (status ≡ 12) → (status ≡ 9) ⊎ (status ≡ 10)
-long_status status (inl is) no_3 no_4 no_6 no_7 no_12 = absurd (no_3 is)
-long_status status (inr (inl is)) no_3 no_4 no_6 no_7 no_12 = absurd (no_4 is)
-long_status status (inr (inr (inl is))) no_3 no_4 no_6 no_7 no_12 = absurd (no_6 is)
-long_status status (inr (inr (inr (inl is)))) no_3 no_4 no_6 no_7 no_12 = absurd (no_7 is)
-long_status status (inr (inr (inr (inr (inl is))))) no_3 no_4 no_6 no_7 no_12 = inl is
-long_status status (inr (inr (inr (inr (inr (inl is)))))) no_3 no_4 no_6 no_7 no_12 = inr is
-long_status status (inr (inr (inr (inr (inr (inr is)))))) no_3 no_4 no_6 no_7 no_12 = absurd (no_12 is)
+-- the link does nothing, and each line is built
+pub known_status : (status : ℕ) → (status ≡ 3) ⊎ (status ≡ 4) ⊎ (status ≡ 5) ⊎ (status ≡ 6) ⊎ (status ≡ 7) ⊎ (status ≡ 9) ⊎ (status ≡ 10) ⊎ (status ≡ 12) → ¬ (status ≡ 5) → ¬ (status ≡ 12) → Fails status
+known_status status (inl is) no_5 no_12 = inl is
+known_status status (inr (inl is)) no_5 no_12 = inr (inl is)
+known_status status (inr (inr (inl is))) no_5 no_12 = absurd (no_5 is)
+known_status status (inr (inr (inr (inl is)))) no_5 no_12 = inr (inr (inl is))
+known_status status (inr (inr (inr (inr (inl is))))) no_5 no_12 = inr (inr (inr (inl is)))
+known_status status (inr (inr (inr (inr (inr (inl is)))))) no_5 no_12 = inr (inr (inr (inr (inl is))))
+known_status status (inr (inr (inr (inr (inr (inr (inl is))))))) no_5 no_12 = inr (inr (inr (inr (inr is))))
+known_status status (inr (inr (inr (inr (inr (inr (inr is))))))) no_5 no_12 = absurd (no_12 is)
+
+pub long_status : (status : ℕ) → Fails status → ¬ (status ≡ 3) → ¬ (status ≡ 4) → ¬ (status ≡ 6) → ¬ (status ≡ 7) → (status ≡ 9) ⊎ (status ≡ 10)
+long_status status (inl is) no_3 no_4 no_6 no_7 = absurd (no_3 is)
+long_status status (inr (inl is)) no_3 no_4 no_6 no_7 = absurd (no_4 is)
+long_status status (inr (inr (inl is))) no_3 no_4 no_6 no_7 = absurd (no_6 is)
+long_status status (inr (inr (inr (inl is)))) no_3 no_4 no_6 no_7 = absurd (no_7 is)
+long_status status (inr (inr (inr (inr rest)))) no_3 no_4 no_6 no_7 = rest
 
 -- a status that is not 0, with its causes
 pub fits_held : (held : List ℕ → Option (List ℕ)) (left : Option (List ℕ)) (words : ReplayWords) (script : List ℕ) (loads : List Load) (status : ℕ)
     → AreHeld held words script loads → Fails status
     → ¬ (status ≡ 3) → ¬ (status ≡ 4) → (status ≡ 10 → SomeTooLong held left (files_of words)) → (status ≡ 6 → SomeOutside held words)
-    → (status ≡ 7 → IsRefused held words) → (status ≡ 12 → SomeUnbuilt held words)
+    → (status ≡ 7 → IsRefused held words)
     → FitsFiles words.setup.clients script loads status
-fits_held held left words script loads status are fails read write too_long lies refused unbuilt =
+fits_held held left words script loads status are fails read write too_long lies refused =
     let line : status ≡ 6 → (at : LinePlace) × (outside words.setup.clients script ≡ Some at) = λ is. named_held _ held words script loads are (outside_named held words (lies is)) in
     let cause : status ≡ 7 → (outside words.setup.clients script ≡ None) × Refused words.setup.clients script loads = λ is. named_held _ held words script loads are (refused_named held words (refused is)) in
-    let idle : status ≡ 12 → Unbuilds words.setup.clients script loads = λ is. named_held _ held words script loads are (unbuilt_named held words (unbuilt is)) in
     record {
       no_read_fault = read;
       no_write_fault = write;
       long = λ over. long_status status fails read write
           (λ is. named_short _ held words script loads are (outside_named held words (lies is)) over)
-          (λ is. named_short _ held words script loads are (refused_named held words (refused is)) over)
-          (λ is. named_short _ held words script loads are (unbuilt_named held words (unbuilt is)) over);
+          (λ is. named_short _ held words script loads are (refused_named held words (refused is)) over);
       too_long = λ is. long_held held left words script loads are (too_long is);
       line = line;
       inside = inside_by;
       refused = λ is. (cause is).1;
-      unbuilt = λ is. ((idle is).line, (idle is).first);
-      unbuilt_accepts = λ is. (idle is).accepts;
-      unbuilt_loads = λ is. (idle is).loads_accepted;
-      built = λ is. absurd (omega (arith, fails, is));
-      built_accepts = λ is. absurd (omega (arith, fails, is));
-      built_loads = λ is. absurd (omega (arith, fails, is));
+      accepts = λ is. absurd (omega (arith, fails, is));
+      loads_accepted = λ is. absurd (omega (arith, fails, is));
     }
   where
-    inside_by : (status ≡ 0) ⊎ (status ≡ 7) ⊎ (status ≡ 12) → outside words.setup.clients script ≡ None
+    inside_by : (status ≡ 0) ⊎ (status ≡ 7) → outside words.setup.clients script ≡ None
     inside_by (inl is) = absurd (omega (arith, fails, is))
-    inside_by (inr (inl is)) = (named_held _ held words script loads are (refused_named held words (refused is))).0
-    inside_by (inr (inr is)) = (named_held _ held words script loads are (unbuilt_named held words (unbuilt is))).inside
+    inside_by (inr is) = (named_held _ held words script loads are (refused_named held words (refused is))).0
 
--- a script that was replayed is built, and neither its CREATE lines nor its files are refused
+-- neither the CREATE lines nor the files of a script that was replayed are refused
 wrote_fits : (old new : Option (List ℕ)) (options : Options) (script : List ℕ) (loads : List Load) (world : World) → Wrote old new options script loads world
     → ¬ AreLong script loads → FitsFiles options.clients script loads 0
 wrote_fits old new options script loads world wrote short =
@@ -162,12 +140,8 @@ wrote_fits old new options script loads world wrote short =
       line = λ k. absurd (omega (arith, k));
       inside = λ _. t.inside;
       refused = λ k. absurd (omega (arith, k));
-      unbuilt = λ k. absurd (omega (arith, k));
-      unbuilt_accepts = λ k. absurd (omega (arith, k));
-      unbuilt_loads = λ k. absurd (omega (arith, k));
-      built = λ k line first. excludes options.clients 1 start_phase (lines_of script) t.all t.end line t.reads first;
-      built_accepts = λ k line fault first. accepts options.clients 1 (lines_of script) t.all t.end line fault t.reads first;
-      built_loads = λ k table fault refuses.
+      accepts = λ k line fault first. accepts options.clients 1 (lines_of script) t.all t.end line fault t.reads first;
+      loads_accepted = λ k table fault refuses.
           filled_once refuses.0 t.end.tables loads t.tables (record { table = table; fault = fault })
           (created-tables options.clients (lines_of script) t.all t.end refuses.0 t.reads refuses.1) t.loaded refuses.2;
     }

@@ -1,3 +1,6 @@
+pub mod ClientFits
+pub mod ClientLemmas
+pub mod ExplainFits
 pub mod FitsLemmas
 pub mod Insides
 pub mod LoadTexts

@@ -1,22 +1,14 @@
--- Which commands are built, and how a run of them may end.
-use Rattle.std.specs.Prelude.{◌≡◌, ℕ, ◌⊎◌, List, Option, Some, None, option_and_then}
+-- How a run of a command may end.
+use Rattle.std.specs.Prelude.{◌≡◌, ℕ, ◌⊎◌, List, Some}
 use Rattle.sr_words.specs.Words.{command_of}
-use Rattle.sr_words.specs.declared.command.Command.{Command}
-use Rattle.sr_words.specs.declared.command.Command.TheVariants.{Replay, Client, Serve, Explain, Generate}
+use Rattle.sr_words.specs.declared.command.ClientWords.{ClientWords}
+use Rattle.sr_words.specs.declared.command.Command.TheVariants.{Client}
 
 abbrev pub IsStatus : ℕ → Type 0
 IsStatus status =
-    (status ≡ 0) ⊎ (status ≡ 2) ⊎ (status ≡ 3) ⊎ (status ≡ 4) ⊎ (status ≡ 5) ⊎ (status ≡ 6) ⊎ (status ≡ 7) ⊎ (status ≡ 9) ⊎ (status ≡ 10)
-    ⊎ (status ≡ 12)
+    (status ≡ 0) ⊎ (status ≡ 2) ⊎ (status ≡ 3) ⊎ (status ≡ 4) ⊎ (status ≡ 5) ⊎ (status ≡ 6) ⊎ (status ≡ 7) ⊎ (status ≡ 8) ⊎ (status ≡ 9)
+    ⊎ (status ≡ 10) ⊎ (status ≡ 11) ⊎ (status ≡ 12)
 
--- The commands that are built. Words that ask for another are answered as words in no form.
-abbrev pub built : Command → Option Command
-built (Replay words) = Some (Replay words)
-built (Serve words) = Some (Serve words)
-built (Generate words) = Some (Generate words)
-built (Client words) = None
-built (Explain words) = None
-
--- what the words ask for, where that is built
-abbrev pub asked_of : List (List ℕ) → Option Command
-asked_of words = option_and_then built (command_of words)
+-- the words ask for a client
+abbrev pub AsksClient : List (List ℕ) → Type 0
+AsksClient words = (w : ClientWords) × (command_of words ≡ Some (Client w))

@@ -3,7 +3,10 @@ use Rattle.std.specs.Prelude.{ℕ, ◌==◌, List, [], ◌∷◌, ◌++◌, Opti
 use Rattle.sr_cell.specs.declared.fault.Fault.{Fault}
 use Rattle.sr_cell.specs.declared.fault.Why.{Why}
 use Rattle.sr_cell.specs.declared.fault.Why.TheVariants.{UnknownTable}
+use Rattle.sr_dial.specs.Statuses.{fault_words, why_words}
 use Rattle.sr_script.specs.TraceText.{why_text}
+use Rattle.sr_wire.specs.declared.bad_frame.BadFrame.{BadFrame}
+use Rattle.sr_wire.specs.declared.wire_fault.WireFault.{WireFault}
 
 abbrev pub line_feed : List ℕ
 line_feed = 10 ∷ []
@@ -28,6 +31,20 @@ load_text table fault = codes "load " ++ table ++ codes " " ++ reason fault.why
 abbrev pub unbuilt_text : ℕ → List ℕ
 unbuilt_text line = codes "unbuilt " ++ decimal line ++ line_feed
 
+-- a line of words, with a space between two
+abbrev pub words_text : List (List ℕ) → List ℕ
+words_text [] = line_feed
+words_text (word ∷ []) = word ++ line_feed
+words_text (word ∷ next ∷ words) = word ++ codes " " ++ words_text (next ∷ words)
+
+-- what is said of bytes that are no frame
+abbrev pub spoiled_text : WireFault → List ℕ
+spoiled_text fault = words_text (codes "frame" ∷ fault_words fault)
+
+-- what is said of a message that must be refused
+abbrev pub bad_text : BadFrame → List ℕ
+bad_text why = words_text (codes "frame" ∷ why_words why)
+
 -- what is said at the other statuses that are not 0
 abbrev pub error_text : ℕ → Option (List ℕ)
 error_text status =
@@ -37,4 +54,5 @@ error_text status =
     else (if status == 5 then Some (codes "link" ++ line_feed)
     else (if status == 9 then Some (codes "memory" ++ line_feed)
     else (if status == 10 then Some (codes "too long" ++ line_feed)
-    else None)))))
+    else (if status == 11 then Some (codes "too many frames" ++ line_feed)
+    else None))))))

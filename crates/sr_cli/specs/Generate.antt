@@ -6,7 +6,7 @@ use Rattle.sr_generate.specs.Script.{script}
 use Rattle.sr_io.specs.Pieces.{WritesPrefix}
 use Rattle.sr_io.specs.Told.{Reading, Writing, Linking}
 use Rattle.sr_lines.specs.Lines.{lines_of}
-use Rattle.sr_lines.specs.Script.{start_phase, FirstRefused, FirstUnbuilt}
+use Rattle.sr_lines.specs.Script.{FirstRefused}
 use Rattle.sr_summary.specs.Summary.{Summarizes}
 use Rattle.sr_world.specs.Replay.{outside}
 use Rattle.sr_words.specs.declared.command.GenerateWords.{GenerateWords}
@@ -25,7 +25,7 @@ pub record SummarizedInPart (script : List ℕ) (old new : Option (List ℕ)) : 
 
 -- What `generate` does over a host, by the status that it ends with.
 pub record Generates (H : Type 0) (reading : H → Reading) (writing : H → Writing) (linking : H → Linking) (IsSteady : H → Type 0) (old new : H) (words : GenerateWords) (status : ℕ) : Type 0 where
-  pub only : (status ≡ 0) ⊎ (status ≡ 4) ⊎ (status ≡ 6) ⊎ (status ≡ 7) ⊎ (status ≡ 9) ⊎ (status ≡ 12)
+  pub only : (status ≡ 0) ⊎ (status ≡ 4) ⊎ (status ≡ 6) ⊎ (status ≡ 7) ⊎ (status ≡ 9)
   pub made : words.whole_script ≡ true → status ≡ 0 → Appends (writing old).written (writing new).written (script words.seed words.events)
   pub made_in_part : words.whole_script ≡ true → WritesPrefix (writing old).written (writing new).written (script words.seed words.events)
   pub made_alone : words.whole_script ≡ true → (status ≡ 0) ⊎ (status ≡ 4) ⊎ (status ≡ 9)
@@ -33,7 +33,6 @@ pub record Generates (H : Type 0) (reading : H → Reading) (writing : H → Wri
   pub summary_in_part : words.whole_script ≡ false → status ≡ 4 → SummarizedInPart (script words.seed words.events) (writing old).written (writing new).written
   pub line : status ≡ 6 → (line : ℕ) × (place : ℕ) × (outside 1 (script words.seed words.events) ≡ Some (record { line = line; place = place }))
   pub refused : status ≡ 7 → (line : ℕ) × (fault : Fault) × FirstRefused 1 1 [] (lines_of (script words.seed words.events)) line fault
-  pub unbuilt : status ≡ 12 → (line : ℕ) × FirstUnbuilt 1 1 start_phase (lines_of (script words.seed words.events)) line
   pub writing_keeps_faults : (status ≡ 4) ⊎ ((writing new).faults ≡ (writing old).faults)
   pub steady : IsSteady old → ¬ (status ≡ 4)
   pub reading_stays : reading new ≡ reading old

@@ -1,5 +1,7 @@
+pub mod Client
 pub mod Commands
 pub mod Errors
+pub mod Explain
 pub mod Files
 pub mod Generate
 pub mod Replay

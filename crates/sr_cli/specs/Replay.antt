@@ -3,7 +3,7 @@ use Rattle.std.specs.Prelude.{◌≡◌, ℕ, ◌⊎◌, List, [], ◌∷◌, Op
 use Rattle.std.specs.List.{AllZip}
 use Rattle.sr_cell.specs.declared.fault.Fault.{Fault}
 use Rattle.sr_lines.specs.Lines.{lines_of}
-use Rattle.sr_lines.specs.Script.{LinePlace, start_phase, FirstRefused, FirstUnbuilt}
+use Rattle.sr_lines.specs.Script.{LinePlace, FirstRefused}
 use Rattle.sr_load.specs.declared.fill.Load.{Load}
 use Rattle.sr_io.specs.Told.{Reading, Writing, Linking, complained}
 use Rattle.sr_world.specs.declared.world.Options.{Options}
@@ -12,7 +12,7 @@ use Rattle.sr_world.specs.Replay.{RefusesLoad, Wrote, WrotePart, outside}
 use Rattle.sr_words.specs.declared.command.ReplayWords.{ReplayWords}
 use Rattle.sr_words.specs.declared.command.Setup.{Setup}
 use Rattle.sr_cli.specs.Files.{IsWhatIsHeld, IsLoad, SomeTooLong, IsHeldLoad, IsLong, SomeLong, names_of}
-use Rattle.sr_cli.specs.Errors.{line_text, setup_text, load_text, unbuilt_text}
+use Rattle.sr_cli.specs.Errors.{line_text, setup_text, load_text}
 
 abbrev pub options_of : Setup → Options
 options_of setup = record { eager = setup.eager; limits = setup.limits; log = setup.log; clients = setup.clients }
@@ -69,17 +69,6 @@ pub record IsRefusedLoad (held : List ℕ → Option (List ℕ)) (words : Replay
   pub inside : outside words.setup.clients script ≡ None
   pub refuses : RefusesLoad words.setup.clients script loads table fault
 
--- files were read, and the script's first line that is not built is this one; no line is outside the grammar, and no CREATE line and no
--- file is refused
-pub record IsUnbuilt (held : List ℕ → Option (List ℕ)) (words : ReplayWords) (line : ℕ) : Type 0 where
-  pub script : List ℕ
-  pub loads : List Load
-  pub files : AreFiles held words script loads
-  pub inside : outside words.setup.clients script ≡ None
-  pub first : FirstUnbuilt words.setup.clients 1 start_phase (lines_of script) line
-  pub accepts : (refused : ℕ) (fault : Fault) → ¬ FirstRefused words.setup.clients 1 [] (lines_of script) refused fault
-  pub loads_accepted : (table : List ℕ) (fault : Fault) → ¬ RefusesLoad words.setup.clients script loads table fault
-
 -- ---- the error output
 
 -- the line that is outside the grammar was named on the error output, with the place of its fault
@@ -103,12 +92,6 @@ pub record NamedLoad (held : List ℕ → Option (List ℕ)) (words : ReplayWord
   pub refused : IsRefusedLoad held words table fault
   pub said : new ≡ complained (load_text table fault) old
 
--- the first unbuilt line was named on the error output
-pub record NamedUnbuilt (held : List ℕ → Option (List ℕ)) (words : ReplayWords) (old new : Option (List ℕ)) : Type 0 where
-  pub line : ℕ
-  pub unbuilt : IsUnbuilt held words line
-  pub said : new ≡ complained (unbuilt_text line) old
-
 -- ---- a host without faults
 
 -- the host holds all the files, and these are they
@@ -127,27 +110,22 @@ pub record FitsFiles (clients : ℕ) (script : List ℕ) (loads : List Load) (st
   pub long : AreLong script loads → (status ≡ 9) ⊎ (status ≡ 10)
   pub too_long : status ≡ 10 → AreLong script loads
   pub line : status ≡ 6 → (at : LinePlace) × (outside clients script ≡ Some at)
-  pub inside : (status ≡ 0) ⊎ (status ≡ 7) ⊎ (status ≡ 12) → outside clients script ≡ None
+  pub inside : (status ≡ 0) ⊎ (status ≡ 7) → outside clients script ≡ None
   pub refused : status ≡ 7 → ((line : ℕ) × (fault : Fault) × FirstRefused clients 1 [] (lines_of script) line fault) ⊎ ((table : List ℕ) × (fault : Fault) × RefusesLoad clients script loads table fault)
-  pub unbuilt : status ≡ 12 → (line : ℕ) × FirstUnbuilt clients 1 start_phase (lines_of script) line
-  pub unbuilt_accepts : status ≡ 12 → (line : ℕ) (fault : Fault) → ¬ FirstRefused clients 1 [] (lines_of script) line fault
-  pub unbuilt_loads : status ≡ 12 → (table : List ℕ) (fault : Fault) → ¬ RefusesLoad clients script loads table fault
-  pub built : status ≡ 0 → (line : ℕ) → ¬ FirstUnbuilt clients 1 start_phase (lines_of script) line
-  pub built_accepts : status ≡ 0 → (line : ℕ) (fault : Fault) → ¬ FirstRefused clients 1 [] (lines_of script) line fault
-  pub built_loads : status ≡ 0 → (table : List ℕ) (fault : Fault) → ¬ RefusesLoad clients script loads table fault
+  pub accepts : status ≡ 0 → (line : ℕ) (fault : Fault) → ¬ FirstRefused clients 1 [] (lines_of script) line fault
+  pub loads_accepted : status ≡ 0 → (table : List ℕ) (fault : Fault) → ¬ RefusesLoad clients script loads table fault
 
 -- ---- a run
 
 -- What `replay` does over a host, by the status that it ends with.
 pub record Replays (H : Type 0) (held : H → List ℕ → Option (List ℕ)) (reading : H → Reading) (writing : H → Writing) (linking : H → Linking) (complaints : H → Option (List ℕ)) (IsSteady : H → Type 0) (old new : H) (words : ReplayWords) (status : ℕ) : Type 0 where
-  pub only : (status ≡ 0) ⊎ (status ≡ 3) ⊎ (status ≡ 4) ⊎ (status ≡ 6) ⊎ (status ≡ 7) ⊎ (status ≡ 9) ⊎ (status ≡ 10) ⊎ (status ≡ 12)
+  pub only : (status ≡ 0) ⊎ (status ≡ 3) ⊎ (status ≡ 4) ⊎ (status ≡ 6) ⊎ (status ≡ 7) ⊎ (status ≡ 9) ⊎ (status ≡ 10)
   pub replayed : status ≡ 0 → Replayed (held old) words (writing old).written (writing new).written
   pub part_after_fault : status ≡ 4 → ReplayedInPart (held old) words (writing old).written (writing new).written
   pub part_in_want : status ≡ 9 → (writing new ≡ writing old) ⊎ ReplayedInPart (held old) words (writing old).written (writing new).written
   pub too_long : status ≡ 10 → SomeTooLong (held old) (reading new).left (files_of words)
   pub line : status ≡ 6 → NamedLine (held old) words (complaints old) (complaints new)
   pub refused : status ≡ 7 → NamedSetup (held old) words (complaints old) (complaints new) ⊎ NamedLoad (held old) words (complaints old) (complaints new)
-  pub unbuilt : status ≡ 12 → NamedUnbuilt (held old) words (complaints old) (complaints new)
   pub writing_keeps_faults : (status ≡ 4) ⊎ ((writing new).faults ≡ (writing old).faults)
   pub steady : IsSteady old → (script : List ℕ) (loads : List Load) → AreHeld (held old) words script loads → FitsFiles words.setup.clients script loads status
   pub linking_stays : linking new ≡ linking old

@@ -7,7 +7,7 @@ ghost use Rattle.sr_io.specs.Causes.{Rose};
 ghost use Rattle.sr_io.specs.Pieces.{WritesPrefix};
 ghost use Rattle.sr_io.specs.Told.{complained};
 ghost use Rattle.sr_lines.specs.Lines.{lines_of};
-ghost use Rattle.sr_lines.specs.Script.{start_phase, FirstRefused, FirstUnbuilt};
+ghost use Rattle.sr_lines.specs.Script.{FirstRefused};
 ghost use Rattle.sr_world.specs.Replay.{outside};
 ghost use Rattle.sr_cli.specs.Errors.{error_text};
 ghost use Rattle.sr_cli.specs.Generate.{Summarized, SummarizedInPart};
@@ -26,7 +26,7 @@ use std::alloc::Global;
 /// Writes the script of a seed, or what its replay comes to, and answers the status to end with.
 pub(crate) fn run_generate<H: Host>(alloc: Global, words: GenerateWords, host: &mut H) -> u8
     requires events { words.events ≤ 100000 }
-    ensures only { (result ≡ 0) ⊎ (result ≡ 4) ⊎ (result ≡ 6) ⊎ (result ≡ 7) ⊎ (result ≡ 9) ⊎ (result ≡ 12) }
+    ensures only { (result ≡ 0) ⊎ (result ≡ 4) ⊎ (result ≡ 6) ⊎ (result ≡ 7) ⊎ (result ≡ 9) }
     ensures made { words.whole_script ≡ true → result ≡ 0 → Appends (H.writing host.old).written (H.writing host.new).written (script words.seed words.events) }
     ensures made_in_part { words.whole_script ≡ true → WritesPrefix (H.writing host.old).written (H.writing host.new).written (script words.seed words.events) }
     ensures made_alone { words.whole_script ≡ true → (result ≡ 0) ⊎ (result ≡ 4) ⊎ (result ≡ 9) }
@@ -34,10 +34,9 @@ pub(crate) fn run_generate<H: Host>(alloc: Global, words: GenerateWords, host: &
     ensures summary_in_part { words.whole_script ≡ false → result ≡ 4 → SummarizedInPart (script words.seed words.events) (H.writing host.old).written (H.writing host.new).written }
     ensures line { result ≡ 6 → (line : ℕ) × (place : ℕ) × (outside 1 (script words.seed words.events) ≡ Some (record { line = line; place = place })) }
     ensures refused { result ≡ 7 → (line : ℕ) × (fault : TheFault) × FirstRefused 1 1 [] (lines_of (script words.seed words.events)) line fault }
-    ensures unbuilt { result ≡ 12 → (line : ℕ) × FirstUnbuilt 1 1 start_phase (lines_of (script words.seed words.events)) line }
     ensures write_fault_is_counted { result ≡ 4 → Rose (H.writing host.old).faults (H.writing host.new).faults }
     ensures writing_keeps_faults { (result ≡ 4) ⊎ ((H.writing host.new).faults ≡ (H.writing host.old).faults) }
-    ensures writes_nothing { (result ≡ 6) ⊎ (result ≡ 7) ⊎ (result ≡ 12) → H.writing host.new ≡ H.writing host.old }
+    ensures writes_nothing { (result ≡ 6) ⊎ (result ≡ 7) → H.writing host.new ≡ H.writing host.old }
     ensures steady { H.IsSteady host.old → ¬ (result ≡ 4) }
     ensures silent { result ≡ 0 → H.complaints host.new ≡ H.complaints host.old }
     ensures complaint { IfSome (error_text result) (λ text. H.complaints host.new ≡ complained text (H.complaints host.old)) }
@@ -84,15 +83,14 @@ fn run_script<H: Host>(alloc: Global, seed: u64, events: u32, host: &mut H) -> u
 /// Writes what the replay of the script of a seed comes to.
 fn run_summary<H: Host>(alloc: Global, seed: u64, events: u32, host: &mut H) -> u8
     requires events { events ≤ 100000 }
-    ensures only { (result ≡ 0) ⊎ (result ≡ 4) ⊎ (result ≡ 6) ⊎ (result ≡ 7) ⊎ (result ≡ 9) ⊎ (result ≡ 12) }
+    ensures only { (result ≡ 0) ⊎ (result ≡ 4) ⊎ (result ≡ 6) ⊎ (result ≡ 7) ⊎ (result ≡ 9) }
     ensures whole { result ≡ 0 → Summarized (script seed events) (H.writing host.old).written (H.writing host.new).written }
     ensures part { result ≡ 4 → SummarizedInPart (script seed events) (H.writing host.old).written (H.writing host.new).written }
     ensures line { result ≡ 6 → (line : ℕ) × (place : ℕ) × (outside 1 (script seed events) ≡ Some (record { line = line; place = place })) }
     ensures refused { result ≡ 7 → (line : ℕ) × (fault : TheFault) × FirstRefused 1 1 [] (lines_of (script seed events)) line fault }
-    ensures unbuilt { result ≡ 12 → (line : ℕ) × FirstUnbuilt 1 1 start_phase (lines_of (script seed events)) line }
     ensures write_fault_is_counted { result ≡ 4 → Rose (H.writing host.old).faults (H.writing host.new).faults }
     ensures writing_keeps_faults { (result ≡ 4) ⊎ ((H.writing host.new).faults ≡ (H.writing host.old).faults) }
-    ensures writes_nothing { (result ≡ 6) ⊎ (result ≡ 7) ⊎ (result ≡ 12) → H.writing host.new ≡ H.writing host.old }
+    ensures writes_nothing { (result ≡ 6) ⊎ (result ≡ 7) → H.writing host.new ≡ H.writing host.old }
     ensures steady { H.IsSteady host.old → ¬ (result ≡ 4) }
     ensures silent { result ≡ 0 → H.complaints host.new ≡ H.complaints host.old }
     ensures complaint { IfSome (error_text result) (λ text. H.complaints host.new ≡ complained text (H.complaints host.old)) }
@@ -116,10 +114,9 @@ fn summarize<H: Host>(alloc: Global, seed: u64, events: u32, host: &mut H) -> Re
     ensures line_writes_nothing { (line place : ℕ) → IsErrOf result (Line line place) → H.writing host.new ≡ H.writing host.old }
     ensures setup { (line : ℕ) (fault : TheFault) → IsErrOf result (Setup line fault) → FirstRefused 1 1 [] (lines_of (script seed events)) line fault }
     ensures setup_writes_nothing { (line : ℕ) (fault : TheFault) → IsErrOf result (Setup line fault) → H.writing host.new ≡ H.writing host.old }
-    ensures unbuilt { (line : ℕ) → IsErrOf result (Unbuilt line) → FirstUnbuilt 1 1 start_phase (lines_of (script seed events)) line }
-    ensures unbuilt_writes_nothing { (line : ℕ) → IsErrOf result (Unbuilt line) → H.writing host.new ≡ H.writing host.old }
     ensures never_reads { ¬ IsErrOf result Read }
     ensures never_links { ¬ IsErrOf result Link }
+    ensures never_unbuilt { (line : ℕ) → ¬ IsErrOf result (Unbuilt line) }
     ensures never_too_long { ¬ IsErrOf result TooLong }
     ensures never_loads { (table : List ℕ) (fault : TheFault) → ¬ IsErrOf result (LoadRefused table fault) }
     ensures write_fault_is_counted { IsErrOf result Write → Rose (H.writing host.old).faults (H.writing host.new).faults }
@@ -141,7 +138,6 @@ fn summarize<H: Host>(alloc: Global, seed: u64, events: u32, host: &mut H) -> Re
         Err(No::Refused(RunFault::Setup { line, fault })) => {
             return Err(Refusal::Setup { line, fault });
         }
-        Err(No::Refused(RunFault::Unbuilt { line })) => return Err(Refusal::Unbuilt { line }),
         Err(No::Refused(RunFault::Load { .. })) => unreachable!(),
         Err(No::Refused(RunFault::WriteFault)) => unreachable!(),
     };

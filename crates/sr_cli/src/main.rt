@@ -1,9 +1,12 @@
-//! The program: replays a script, serves tables, or makes a script.
+//! The program: replays a script, explains a query behind it, serves tables, runs a client of a server, or makes a script.
 #![tactic(auto)]
 
 ghost use Rattle.std.specs.Prelude.{◌≡◌, map, drop, string_bytes, IfOk};
 
+mod client;
+mod explain;
 mod file;
+mod frames;
 mod generate;
 mod loads;
 mod replay;
@@ -14,6 +17,8 @@ mod serve;
 mod tests;
 #[cfg(test)]
 mod tests_calls;
+#[cfg(test)]
+mod tests_client;
 #[cfg(test)]
 mod tests_programs;
 

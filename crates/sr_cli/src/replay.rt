@@ -3,7 +3,7 @@ ghost use Rattle.std.specs.Prelude.{◌≡◌, ℕ, ◌⊎◌, ◌<◌, ◌≤�
 ghost use Rattle.std.specs.List.{list_all};
 ghost use Rattle.sr_cell.specs.declared.fault.Fault.{Fault as TheFault};
 ghost use Rattle.sr_lines.specs.Lines.{lines_of};
-ghost use Rattle.sr_lines.specs.Script.{start_phase, FirstRefused, FirstUnbuilt, LinePlace as TheLinePlace};
+ghost use Rattle.sr_lines.specs.Script.{FirstRefused, LinePlace as TheLinePlace};
 ghost use Rattle.sr_server.specs.Servers.{IsClientNumber};
 ghost use Rattle.sr_load.specs.declared.fill.Load.{Load};
 ghost use Rattle.sr_world.specs.declared.world.World.{World};
@@ -12,7 +12,7 @@ ghost use Rattle.sr_io.specs.Causes.{Rose};
 ghost use Rattle.sr_io.specs.Told.{complained};
 ghost use Rattle.sr_cli.specs.Files.{SomeTooLong};
 ghost use Rattle.sr_cli.specs.Errors.{error_text};
-ghost use Rattle.sr_cli.specs.Replay.{Replayed, ReplayedInPart, IsOutside, IsRefusedSetup, IsRefusedLoad, IsUnbuilt, NamedLine, NamedSetup, NamedLoad, NamedUnbuilt, AreFiles, AreHeld, FitsFiles, files_of};
+ghost use Rattle.sr_cli.specs.Replay.{Replayed, ReplayedInPart, IsOutside, IsRefusedSetup, IsRefusedLoad, NamedLine, NamedSetup, NamedLoad, AreFiles, AreHeld, FitsFiles, files_of};
 ghost use Rattle.sr_cli.specs.declared.file.ReadFault.TheVariants.{Fault as ReadFailed, NoMemory as Wanting, TooLong as ReadTooLong};
 ghost use Rattle.sr_cli.specs.declared.report.Refusal.TheVariants.{Read, Write, Link, Memory, TooLong, Line, Setup, Load as LoadRefused, Unbuilt};
 
@@ -38,7 +38,7 @@ struct Files {
 pub(crate) fn run_replay<H: Host>(alloc: Global, words: &ReplayWords, host: &mut H) -> u8
     requires clients { IsClientNumber words.now.setup.clients }
     requires regions { words.now.setup.limits.regions ≤ 1024 }
-    ensures only { (result ≡ 0) ⊎ (result ≡ 3) ⊎ (result ≡ 4) ⊎ (result ≡ 6) ⊎ (result ≡ 7) ⊎ (result ≡ 9) ⊎ (result ≡ 10) ⊎ (result ≡ 12) }
+    ensures only { (result ≡ 0) ⊎ (result ≡ 3) ⊎ (result ≡ 4) ⊎ (result ≡ 6) ⊎ (result ≡ 7) ⊎ (result ≡ 9) ⊎ (result ≡ 10) }
     ensures replayed { result ≡ 0 → Replayed (H.held host.old) words.now (H.writing host.old).written (H.writing host.new).written }
     ensures read_fault_is_counted { result ≡ 3 → Rose (H.reading host.old).faults (H.reading host.new).faults }
     ensures write_fault_is_counted { result ≡ 4 → Rose (H.writing host.old).faults (H.writing host.new).faults }
@@ -47,8 +47,7 @@ pub(crate) fn run_replay<H: Host>(alloc: Global, words: &ReplayWords, host: &mut
     ensures too_long { result ≡ 10 → SomeTooLong (H.held host.old) (H.reading host.new).left (files_of words.now) }
     ensures line { result ≡ 6 → NamedLine (H.held host.old) words.now (H.complaints host.old) (H.complaints host.new) }
     ensures refused { result ≡ 7 → NamedSetup (H.held host.old) words.now (H.complaints host.old) (H.complaints host.new) ⊎ NamedLoad (H.held host.old) words.now (H.complaints host.old) (H.complaints host.new) }
-    ensures unbuilt { result ≡ 12 → NamedUnbuilt (H.held host.old) words.now (H.complaints host.old) (H.complaints host.new) }
-    ensures writes_nothing { (result ≡ 3) ⊎ (result ≡ 6) ⊎ (result ≡ 7) ⊎ (result ≡ 10) ⊎ (result ≡ 12) → H.writing host.new ≡ H.writing host.old }
+    ensures writes_nothing { (result ≡ 3) ⊎ (result ≡ 6) ⊎ (result ≡ 7) ⊎ (result ≡ 10) → H.writing host.new ≡ H.writing host.old }
     ensures reading_keeps_faults { (result ≡ 3) ⊎ ((H.reading host.new).faults ≡ (H.reading host.old).faults) }
     ensures writing_keeps_faults { (result ≡ 4) ⊎ ((H.writing host.new).faults ≡ (H.writing host.old).faults) }
     ensures silent { result ≡ 0 → H.complaints host.new ≡ H.complaints host.old }
@@ -82,9 +81,8 @@ fn replay_files<H: Host>(alloc: Global, words: &ReplayWords, host: &mut H) -> Re
     ensures setup_writes_nothing { (line : ℕ) (fault : TheFault) → IsErrOf result (Setup line fault) → H.writing host.new ≡ H.writing host.old }
     ensures load { (table : List ℕ) (fault : TheFault) → IsErrOf result (LoadRefused table fault) → IsRefusedLoad (H.held host.old) words.now table fault }
     ensures load_writes_nothing { (table : List ℕ) (fault : TheFault) → IsErrOf result (LoadRefused table fault) → H.writing host.new ≡ H.writing host.old }
-    ensures unbuilt { (line : ℕ) → IsErrOf result (Unbuilt line) → IsUnbuilt (H.held host.old) words.now line }
-    ensures unbuilt_writes_nothing { (line : ℕ) → IsErrOf result (Unbuilt line) → H.writing host.new ≡ H.writing host.old }
     ensures never_links { ¬ IsErrOf result Link }
+    ensures never_unbuilt { (line : ℕ) → ¬ IsErrOf result (Unbuilt line) }
     ensures reading_keeps_faults { IsErrOf result Read ⊎ ((H.reading host.new).faults ≡ (H.reading host.old).faults) }
     ensures writing_keeps_faults { IsErrOf result Write ⊎ ((H.writing host.new).faults ≡ (H.writing host.old).faults) }
     ensures stays_steady { H.IsSteady host.old → H.IsSteady host.new }
@@ -150,6 +148,7 @@ fn replay_read<H: Host>(
     ensures replayed { OnOk result ((world : World) × Wrote (H.writing host.old).written (H.writing host.new).written options files.now.script files.now.loads world) }
     ensures never_reads { ¬ IsErrOf result Read }
     ensures never_links { ¬ IsErrOf result Link }
+    ensures never_unbuilt { (line : ℕ) → ¬ IsErrOf result (Unbuilt line) }
     ensures never_too_long { ¬ IsErrOf result TooLong }
     ensures write_fault_is_counted { IsErrOf result Write → Rose (H.writing host.old).faults (H.writing host.new).faults }
     ensures part_after_fault { IsErrOf result Write → WrotePart (H.writing host.old).written (H.writing host.new).written options files.now.script files.now.loads }
@@ -161,10 +160,6 @@ fn replay_read<H: Host>(
     ensures setup_writes_nothing { (line : ℕ) (fault : TheFault) → IsErrOf result (Setup line fault) → H.writing host.new ≡ H.writing host.old }
     ensures load { (table : List ℕ) (fault : TheFault) → IsErrOf result (LoadRefused table fault) → RefusesLoad options.clients files.now.script files.now.loads table fault }
     ensures load_writes_nothing { (table : List ℕ) (fault : TheFault) → IsErrOf result (LoadRefused table fault) → H.writing host.new ≡ H.writing host.old }
-    ensures unbuilt { (line : ℕ) → IsErrOf result (Unbuilt line) → FirstUnbuilt options.clients 1 start_phase (lines_of files.now.script) line }
-    ensures unbuilt_accepts { (line : ℕ) → IsErrOf result (Unbuilt line) → (refused : ℕ) (fault : TheFault) → ¬ FirstRefused options.clients 1 [] (lines_of files.now.script) refused fault }
-    ensures unbuilt_loads { (line : ℕ) → IsErrOf result (Unbuilt line) → (table : List ℕ) (fault : TheFault) → ¬ RefusesLoad options.clients files.now.script files.now.loads table fault }
-    ensures unbuilt_writes_nothing { (line : ℕ) → IsErrOf result (Unbuilt line) → H.writing host.new ≡ H.writing host.old }
     ensures writing_keeps_faults { IsErrOf result Write ⊎ ((H.writing host.new).faults ≡ (H.writing host.old).faults) }
     ensures stays_steady { H.IsSteady host.old → H.IsSteady host.new }
     ensures steady_writes { H.IsSteady host.old → ¬ IsErrOf result Write }
@@ -186,6 +181,5 @@ fn replay_read<H: Host>(
         Err(No::Refused(RunFault::Line { line, place })) => Err(Refusal::Line { line, place }),
         Err(No::Refused(RunFault::Setup { line, fault })) => Err(Refusal::Setup { line, fault }),
         Err(No::Refused(RunFault::Load { table, fault })) => Err(Refusal::Load { table, fault }),
-        Err(No::Refused(RunFault::Unbuilt { line })) => Err(Refusal::Unbuilt { line }),
     }
 }

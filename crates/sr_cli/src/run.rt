@@ -3,16 +3,22 @@ ghost use Rattle.std.specs.Prelude.{◌≡◌, ◌⊎◌, Some, None, IfSome};
 ghost use Rattle.sr_io.specs.Causes.{Rose};
 ghost use Rattle.sr_io.specs.Told.{complained};
 ghost use Rattle.sr_words.specs.Words.{command_of as command_said};
-ghost use Rattle.sr_words.specs.declared.command.Command.TheVariants.{Replay, Serve, Generate};
+ghost use Rattle.sr_words.specs.declared.command.Command.TheVariants.{Replay, Client, Serve, Explain, Generate};
 ghost use Rattle.sr_words.specs.declared.command.ReplayWords.{ReplayWords};
+ghost use Rattle.sr_words.specs.declared.command.ClientWords.{ClientWords};
 ghost use Rattle.sr_words.specs.declared.command.ServeWords.{ServeWords};
+ghost use Rattle.sr_words.specs.declared.command.ExplainWords.{ExplainWords};
 ghost use Rattle.sr_words.specs.declared.command.GenerateWords.{GenerateWords};
-ghost use Rattle.sr_cli.specs.Commands.{IsStatus, asked_of};
+ghost use Rattle.sr_cli.specs.Client.{Dials};
+ghost use Rattle.sr_cli.specs.Commands.{AsksClient, IsStatus};
 ghost use Rattle.sr_cli.specs.Errors.{error_text};
+ghost use Rattle.sr_cli.specs.Explain.{Explains};
 ghost use Rattle.sr_cli.specs.Generate.{Generates};
 ghost use Rattle.sr_cli.specs.Replay.{Replays};
 ghost use Rattle.sr_cli.specs.Serve.{Serves};
 
+use crate::client::run_client;
+use crate::explain::run_explain;
 use crate::generate::run_generate;
 use crate::replay::run_replay;
 use crate::serve::run_serve;
@@ -26,15 +32,17 @@ use std::alloc::Global;
 /// Does all that the words ask for, and answers the status to end with.
 pub fn run<H: Host>(alloc: Global, words: &[Text], host: &mut H) -> u8
     ensures only { IsStatus result }
-    ensures words { result ≡ 2 → asked_of words.now ≡ None }
-    ensures other_words { asked_of words.now ≡ None → (result ≡ 2) ⊎ (result ≡ 9) }
+    ensures words { result ≡ 2 → command_said words.now ≡ None }
+    ensures other_words { command_said words.now ≡ None → (result ≡ 2) ⊎ (result ≡ 9) }
     ensures words_alone { result ≡ 2 → H.reading host.new ≡ H.reading host.old }
     ensures replays { (w : ReplayWords) → command_said words.now ≡ Some (Replay w) → Replays H H.held H.reading H.writing H.linking H.complaints H.IsSteady host.old host.new w result }
+    ensures dials { (w : ClientWords) → command_said words.now ≡ Some (Client w) → Dials H H.held H.reading H.writing H.linking H.complaints H.IsSteady host.old host.new w result }
     ensures serves { (w : ServeWords) → command_said words.now ≡ Some (Serve w) → Serves H H.held H.reading H.writing H.linking H.complaints H.IsSteady host.old host.new w result }
+    ensures explains { (w : ExplainWords) → command_said words.now ≡ Some (Explain w) → Explains H H.held H.reading H.writing H.linking H.complaints H.IsSteady host.old host.new w result }
     ensures generates { (w : GenerateWords) → command_said words.now ≡ Some (Generate w) → Generates H H.reading H.writing H.linking H.IsSteady host.old host.new w result }
     ensures read_fault_is_counted { result ≡ 3 → Rose (H.reading host.old).faults (H.reading host.new).faults }
     ensures write_fault_is_counted { result ≡ 4 → Rose (H.writing host.old).faults (H.writing host.new).faults }
-    ensures link_fault_is_counted { result ≡ 5 → Rose (H.linking host.old).faults (H.linking host.new).faults }
+    ensures link_fault_is_counted { result ≡ 5 → Rose (H.linking host.old).faults (H.linking host.new).faults ⊎ AsksClient words.now }
     ensures reading_keeps_faults { (result ≡ 3) ⊎ ((H.reading host.new).faults ≡ (H.reading host.old).faults) }
     ensures writes_nothing { (result ≡ 2) ⊎ (result ≡ 3) ⊎ (result ≡ 6) ⊎ (result ≡ 7) ⊎ (result ≡ 10) ⊎ (result ≡ 12) → H.writing host.new ≡ H.writing host.old }
     ensures links_nothing { (result ≡ 2) ⊎ (result ≡ 3) ⊎ (result ≡ 6) ⊎ (result ≡ 7) ⊎ (result ≡ 10) ⊎ (result ≡ 12) → H.linking host.new ≡ H.linking host.old }
@@ -47,14 +55,14 @@ pub fn run<H: Host>(alloc: Global, words: &[Text], host: &mut H) -> u8
         Ok(Command::Replay(words)) => run_replay(alloc, &words, host),
         Ok(Command::Serve(words)) => run_serve(alloc, &words, host),
         Ok(Command::Generate(words)) => run_generate(alloc, words, host),
-        Ok(Command::Client(_)) => refuse_words(host),
-        Ok(Command::Explain(_)) => refuse_words(host),
+        Ok(Command::Client(words)) => run_client(alloc, &words, host),
+        Ok(Command::Explain(words)) => run_explain(alloc, &words, host),
         Err(WordsFault::NotInForm) => refuse_words(host),
         Err(WordsFault::NoMemory) => want_memory(host),
     }
 }
 
-/// Says that the words are in no form that is built.
+/// Says that the words are in no form.
 fn refuse_words<H: Host>(host: &mut H) -> u8
     ensures status { result ≡ 2 }
     ensures complaint { IfSome (error_text 2) (λ text. H.complaints host.new ≡ complained text (H.complaints host.old)) }

@@ -133,6 +133,39 @@ const CUT_TRACE: &str = "2 exec version 1
 13 query 2 busy 1
 ";
 
+/// While an ask is out, one query is explained, and a text is refused.
+const EXPLAINED: &str =
+    "CREATE TABLE p (id INT PRIMARY KEY CHECK (id BETWEEN 0 AND 9999), age INT CHECK (age BETWEEN 0 AND 150))
+exec INSERT INTO p VALUES (1, 35), (2, 45)
+query 1 SELECT id, age FROM p WHERE age BETWEEN 30 AND 40
+settle 1
+query 1 SELECT id, age FROM p WHERE age BETWEEN 38 AND 50
+explain 1 SELECT id, age FROM p WHERE age BETWEEN 35 AND 60
+explain 1 SELECT
+";
+
+const EXPLAINED_TRACE: &str = "2 exec version 1
+3 ask 1 1 fresh 1
+3 part p (id,age) {age 30..40}
+3 query 1 asked 1
+4 toserver 1 ask 2
+4 toclient 1 laid
+4 answer 1 1 1 1
+4 row 1, 35
+4 held 1 p (id,age) {age 30..40}
+4 toclient 1 answered
+4 settle 1 3
+5 ask 1 2 more 1
+5 part p (id,age) {age 41..50}
+5 query 1 asked 2
+6 need p (id,age)
+6 probe p (id,age) 1 {age 35..40}
+6 rest p (id,age) {age 41..60}
+6 victim 1 p (id,age) 1 1
+6 explain 1 1
+7 explain 1 sql grammar 6
+";
+
 /// What happens to rows that were loaded.
 const OVER_LOADS: &str =
     "CREATE TABLE p (id INT PRIMARY KEY CHECK (id BETWEEN 0 AND 9999), age INT CHECK (age BETWEEN 0 AND 150))
@@ -246,8 +279,8 @@ fn other_words_are_refused(rt: HostRuntime) -> Result<(), Fail> {
         &["replay"],
         &["replay", "--eager", "--eager", "script"],
         &["replay", "--rows", "", "script"],
-        &["client", "--id", "1", "--schema", "script", "a", "script"],
-        &["explain", "script", "SELECT id FROM p"],
+        &["client", "--id", "65", "--schema", "script", "a", "script"],
+        &["explain", "script"],
     ];
     for words in all {
         let got = run_over(alloc, words, CREATE_ALONE, 0)?;
@@ -271,11 +304,12 @@ fn has_lines(trace: &[u8], lines: &[u8]) -> bool {
 #[test]
 fn scripts_are_replayed(rt: HostRuntime) -> Result<(), Fail> {
     let alloc = rt.alloc();
-    let all: [(&[&str], &str, &str); 7] = [
+    let all: [(&[&str], &str, &str); 8] = [
         (IN_FORM, "", ""),
         (&["replay", "--clients", "2", "script"], CUT, CUT_TRACE),
         (IN_FORM, TWO_QUERIES, TWO_QUERIES_TRACE),
         (IN_FORM, PUSHED, PUSHED_TRACE),
+        (&["replay", "script"], EXPLAINED, EXPLAINED_TRACE),
         (WITH_LOAD, OVER_LOADS, OVER_LOADS_TRACE),
         (
             &[
@@ -315,6 +349,66 @@ fn scripts_are_replayed(rt: HostRuntime) -> Result<(), Fail> {
         assert_eq!(rt; got.error.as_slice(), b"".as_slice());
         assert_eq!(rt; got.trace.as_slice(), trace.as_bytes());
         assert_eq!(rt; got.status, 0);
+    }
+    Ok(())
+}
+
+#[test]
+fn queries_are_explained(rt: HostRuntime) -> Result<(), Fail> {
+    let alloc = rt.alloc();
+    let all: [(&[&str], &str); 3] = [
+        (
+            &[
+                "explain",
+                "--eager",
+                "script",
+                "SELECT id, age FROM p WHERE age BETWEEN 45 AND 60",
+            ],
+            "0 need p (id,age)
+0 probe p (id,age) 2 {age 45..50}
+0 rest p (id,age) {age 51..60}
+0 victim 1 p (id,age) 1 1
+0 victim 2 p (id,age) 2 2
+0 explain 1 2
+",
+        ),
+        (
+            &[
+                "explain",
+                "script",
+                "SELECT id, age FROM p WHERE age BETWEEN 45 AND 60",
+            ],
+            "0 need p (id,age)
+0 rest p (id,age) {age 45..60}
+0 explain 1 0
+",
+        ),
+        (
+            &["explain", "script", "SELECT id FROM q"],
+            "0 explain 1 sql unknown-table 15\n",
+        ),
+    ];
+    for (words, lines) in all {
+        let got = run_over(alloc, words, TWO_QUERIES, 0)?;
+        assert_eq!(rt; got.trace.as_slice(), lines.as_bytes());
+        assert_eq!(rt; got.error.as_slice(), b"".as_slice());
+        assert_eq!(rt; got.status, 0);
+    }
+    Ok(())
+}
+
+#[test]
+fn nothing_is_explained_behind_what_is_refused(rt: HostRuntime) -> Result<(), Fail> {
+    let alloc = rt.alloc();
+    let words: &[&str] = &["explain", "script", "SELECT id FROM p"];
+    for (script, fails, status, error) in [
+        (TWO_QUERIES, 1, 3, "read\n"),
+        (TWO_QUERIES, 4, 4, "write\n"),
+        ("push 1\npush", 0, 6, "line 2 4\n"),
+        ("CREATE", 0, 7, "schema 1 grammar 6\n"),
+    ] {
+        let got = run_over(alloc, words, script, fails)?;
+        assert!(rt; is_refused(&got, status, error), "{script:?}");
     }
     Ok(())
 }
@@ -378,12 +472,6 @@ fn scripts_are_refused(rt: HostRuntime) -> Result<(), Fail> {
             7,
             "schema 2 duplicate-name 0\n",
         ),
-        (
-            "CREATE TABLE t (a INT PRIMARY KEY)\nCREATE TABLE u (b INT PRIMARY KEY, c INT)\nquery 1 SELECT c FROM u JOIN t ON c = a",
-            12,
-            "unbuilt 3\n",
-        ),
-        ("explain 1 SELECT * FROM p", 12, "unbuilt 1\n"),
         ("CREATE\npush", 6, "line 2 4\n"),
         ("exec x\nCREATE TABLE t (a INT)", 6, "line 2 0\n"),
         ("\t", 6, "line 1 0\n"),

@@ -8,6 +8,87 @@ use sr_policy::policy::Policy;
 use std::alloc::Global;
 use std::test::Fail;
 
+const IN_FORM: &str = "replay f
+replay -
+replay --eager --rows 0 --regions 0 --policy recency --log 0 --clients 8 f t=g u=h
+replay f --eager t=g --rows=00000000000000200000 u=h --policy distance
+replay --regions=1024 f --log 500000 --clients=1
+replay -- --eager -t=g
+replay f t==
+client --id 1 --schema s a f
+client a --id=64 --schema=- -
+client --rows 1 --regions 2 --policy distance --id 3 --schema s 127.0.0.1:4711 f
+serve --schema s a 1
+serve --log 5 --exec e --schema s a 1000000 t=g u=h
+explain f SELECT
+explain --eager --clients 2 f SELECT
+generate 0 1
+generate --script 18446744073709551615 100000
+generate 7 --script 00000000000000005000";
+
+// The first of these lines is empty, and two end with a blank.
+const IN_NO_FORM: &str = "
+f
+Replay f
+replay
+replay 
+replay --eager
+replay --help
+replay -h f
+replay --eager --eager f
+replay --eager= f
+replay --rows 1 --rows 2 f
+replay --rows 1 --rows=1 f
+replay --row 1 f
+replay --rows f
+replay --rows= f
+replay --rows -1 f
+replay --rows=-1 f
+replay --rows +1 f
+replay --rows 1x f
+replay --rows 200001 f
+replay --rows 000000000000000000001 f
+replay --regions 1025 f
+replay --log 500001 f
+replay --clients 0 f
+replay --clients 9 f
+replay --policy random f
+replay --policy - f
+replay f g
+replay f =g
+replay f t=
+replay f -t=g
+replay f --x=g
+replay f t=g -
+client --schema s a f
+client --id 0 --schema s a f
+client --id 65 --schema s a f
+client --id=65 --schema s a f
+client --id 1 a f
+client --id 1 --schema s a
+client --id 1 --schema s a f g
+client --id 1 --schema= a f
+client --id 1 --schema -s a f
+client --id 1 --schema s --log 1 a f
+client --id 1 --schema s  f
+serve a 1
+serve --schema s a
+serve --schema s a 0
+serve --schema s a 1000001
+serve --schema s --exec= a 1
+serve --schema s --rows 1 a 1
+serve --schema s a 1 t
+explain f
+explain f 
+explain f SELECT x
+generate 1
+generate 1 0
+generate 1 100001
+generate 18446744073709551616 1
+generate -1 1
+generate 1 1 1
+generate --script=1 1 1";
+
 /// What the words, which are cut at blanks, ask for.
 fn asked(alloc: Global, line: &str) -> Result<Command, WordsFault> {
     let mut words = Seq::new(alloc);
@@ -20,25 +101,7 @@ fn asked(alloc: Global, line: &str) -> Result<Command, WordsFault> {
 #[test]
 fn words_in_a_form_are_taken(rt: HostRuntime) -> Result<(), Fail> {
     let alloc = rt.alloc();
-    for line in [
-        "replay f",
-        "replay -",
-        "replay --eager --rows 0 --regions 0 --policy recency --log 0 --clients 8 f t=g u=h",
-        "replay f --eager t=g --rows=00000000000000200000 u=h --policy distance",
-        "replay --regions=1024 f --log 500000 --clients=1",
-        "replay -- --eager -t=g",
-        "replay f t==",
-        "client --id 1 --schema s a f",
-        "client a --id=64 --schema=- -",
-        "client --rows 1 --regions 2 --policy distance --id 3 --schema s 127.0.0.1:4711 f",
-        "serve --schema s a 1",
-        "serve --log 5 --exec e --schema s a 1000000 t=g u=h",
-        "explain f SELECT",
-        "explain --eager --clients 2 f SELECT",
-        "generate 0 1",
-        "generate --script 18446744073709551615 100000",
-        "generate 7 --script 00000000000000005000",
-    ] {
+    for line in IN_FORM.split('\n') {
         assert!(rt; asked(alloc, line).is_ok(), "{line}");
     }
     Ok(())
@@ -47,69 +110,7 @@ fn words_in_a_form_are_taken(rt: HostRuntime) -> Result<(), Fail> {
 #[test]
 fn other_words_are_refused(rt: HostRuntime) -> Result<(), Fail> {
     let alloc = rt.alloc();
-    for line in [
-        "",
-        "f",
-        "Replay f",
-        "replay",
-        "replay ",
-        "replay --eager",
-        "replay --help",
-        "replay -h f",
-        "replay --eager --eager f",
-        "replay --eager= f",
-        "replay --rows 1 --rows 2 f",
-        "replay --rows 1 --rows=1 f",
-        "replay --row 1 f",
-        "replay --rows f",
-        "replay --rows= f",
-        "replay --rows -1 f",
-        "replay --rows=-1 f",
-        "replay --rows +1 f",
-        "replay --rows 1x f",
-        "replay --rows 200001 f",
-        "replay --rows 000000000000000000001 f",
-        "replay --regions 1025 f",
-        "replay --log 500001 f",
-        "replay --clients 0 f",
-        "replay --clients 9 f",
-        "replay --policy random f",
-        "replay --policy - f",
-        "replay f g",
-        "replay f =g",
-        "replay f t=",
-        "replay f -t=g",
-        "replay f --x=g",
-        "replay f t=g -",
-        "client --schema s a f",
-        "client --id 0 --schema s a f",
-        "client --id 65 --schema s a f",
-        "client --id=65 --schema s a f",
-        "client --id 1 a f",
-        "client --id 1 --schema s a",
-        "client --id 1 --schema s a f g",
-        "client --id 1 --schema= a f",
-        "client --id 1 --schema -s a f",
-        "client --id 1 --schema s --log 1 a f",
-        "client --id 1 --schema s  f",
-        "serve a 1",
-        "serve --schema s a",
-        "serve --schema s a 0",
-        "serve --schema s a 1000001",
-        "serve --schema s --exec= a 1",
-        "serve --schema s --rows 1 a 1",
-        "serve --schema s a 1 t",
-        "explain f",
-        "explain f ",
-        "explain f SELECT x",
-        "generate 1",
-        "generate 1 0",
-        "generate 1 100001",
-        "generate 18446744073709551616 1",
-        "generate -1 1",
-        "generate 1 1 1",
-        "generate --script=1 1 1",
-    ] {
+    for line in IN_NO_FORM.split('\n') {
         assert!(rt;
             matches!(asked(alloc, line), Err(WordsFault::NotInForm)),
             "{line}"

@@ -32,14 +32,3 @@ returns-in-Ok-clause-load g c = λ table fault is. record {
   inside = inside-there c.args.words.now.setup.clients c.in-Ok.files.script c.replay_read.result _ is refl c.replay_read.ensures.line_first;
   refuses = c.replay_read.ensures.load table fault is;
 }
-
-pub returns-in-Ok-clause-unbuilt : goal.returns-in-Ok-clause-unbuilt
-returns-in-Ok-clause-unbuilt g c = λ line is. record {
-  script = c.in-Ok.files.script;
-  loads = c.in-Ok.files.loads;
-  files = c.in-Ok.ensures.read;
-  inside = inside-there c.args.words.now.setup.clients c.in-Ok.files.script c.replay_read.result _ is refl c.replay_read.ensures.line_first;
-  first = c.replay_read.ensures.unbuilt line is;
-  accepts = c.replay_read.ensures.unbuilt_accepts line is;
-  loads_accepted = c.replay_read.ensures.unbuilt_loads line is;
-}

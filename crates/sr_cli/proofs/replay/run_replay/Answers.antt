@@ -1,10 +1,10 @@
-use Rattle.std.proofs.Common.{◌≡◌, ℕ, ◌⊎◌, List, Option, Some, Err, inl, inr, sym, ap, subst, ◌∙◌}
+use Rattle.std.proofs.Common.{◌≡◌, ℕ, ◌⊎◌, List, Option, Err, inl, inr, ap}
 use Rattle.sr_cell.specs.declared.fault.Fault.{Fault}
 use Rattle.sr_words.specs.declared.command.ReplayWords.{ReplayWords}
 use Rattle.sr_cli.specs.Replay.{IsOutside, IsRefusedSetup, IsRefusedLoad}
 use Rattle.sr_cli.specs.declared.report.Refusal.{Refusal}
 use Rattle.sr_cli.specs.declared.report.Refusal.TheVariants.{Line, Setup, Load as LoadRefused}
-use Rattle.sr_cli.proofs.FitsLemmas.{Fails, IsRefused, SomeOutside, fits_held, fits_done}
+use Rattle.sr_cli.proofs.FitsLemmas.{IsRefused, SomeOutside, fits_held, fits_done, known_status}
 use Rattle.sr_cli.proofs.replay.run_replay.Goals as goal
 
 -- what was named was refused
@@ -22,19 +22,15 @@ outside_of : (held : List ℕ → Option (List ℕ)) (words : ReplayWords) (refu
     → (line : ℕ) × (place : ℕ) × (refusal ≡ Line line place) × S line place → SomeOutside held words
 outside_of held words refusal S lies (line, place, is, said) = (line, place, lies line place is)
 
--- the link does nothing
-no_link : (status : ℕ) → (status ≡ 3) ⊎ (status ≡ 4) ⊎ (status ≡ 5) ⊎ (status ≡ 6) ⊎ (status ≡ 7) ⊎ (status ≡ 9) ⊎ (status ≡ 10) ⊎ (status ≡ 12) → ¬ (status ≡ 5) → Fails status
-no_link status (inl is) never = inl is
-no_link status (inr (inl is)) never = inr (inl is)
-no_link status (inr (inr (inl is))) never = absurd (never is)
-no_link status (inr (inr (inr rest))) never = inr (inr rest)
-
 pub returns-in-Err-clause-only : goal.returns-in-Err-clause-only
-returns-in-Err-clause-only g c = inr (no_link c.report.result c.report.ensures.only (λ is. c.in-Err.ensures.never_links (ap Err (c.report.ensures.link is))))
+returns-in-Err-clause-only g c = inr (known_status c.report.result c.report.ensures.only (λ is. c.in-Err.ensures.never_links (ap Err (c.report.ensures.link is)))
+    (λ is. let u = c.report.ensures.unbuilt is in c.in-Err.ensures.never_unbuilt u.0 (ap Err u.1)))
 
 pub returns-in-Err-clause-steady : goal.returns-in-Err-clause-steady
 returns-in-Err-clause-steady g c = λ steady script loads are.
-    fits_held _ (g.H.Outside.reading c.replay_files.new.host).left c.args.words.now script loads _ are (no_link c.report.result c.report.ensures.only (λ is. c.in-Err.ensures.never_links (ap Err (c.report.ensures.link is))))
+    fits_held _ (g.H.Outside.reading c.replay_files.new.host).left c.args.words.now script loads _ are
+    (known_status c.report.result c.report.ensures.only (λ is. c.in-Err.ensures.never_links (ap Err (c.report.ensures.link is)))
+    (λ is. let u = c.report.ensures.unbuilt is in c.in-Err.ensures.never_unbuilt u.0 (ap Err u.1)))
     (λ is. c.in-Err.ensures.steady_reads steady (ap Err (c.report.ensures.read is)) script loads are)
     (λ is. c.in-Err.ensures.steady_writes steady (ap Err (c.report.ensures.write is)))
     (λ is. c.in-Err.ensures.too_long (ap Err (c.report.ensures.too_long is)))
@@ -43,7 +39,6 @@ returns-in-Err-clause-steady g c = λ steady script loads are.
     (λ line fault named. c.in-Err.ensures.setup line fault (ap Err named))
     (λ table fault named. c.in-Err.ensures.load table fault (ap Err named))
     (c.report.ensures.refused is))
-    (λ is. let u = c.report.ensures.unbuilt is in (u.0, c.in-Err.ensures.unbuilt u.0 (ap Err u.1)))
 
 pub returns-in-Ok-clause-steady : goal.returns-in-Ok-clause-steady
 returns-in-Ok-clause-steady g c = λ steady script loads are. fits_done _ c.args.words.now script loads _ _ are c.in-Ok.ensures.replayed

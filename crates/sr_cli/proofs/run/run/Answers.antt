@@ -1,9 +1,13 @@
-use Rattle.std.proofs.Common.{◌≡◌, Option, Some, sym, subst, ◌∙◌}
+use Rattle.std.proofs.Common.{◌≡◌, Option, Some, inr, sym, subst, ap, ◌∙◌}
 use Rattle.sr_words.specs.declared.command.Command.{Command}
-use Rattle.sr_words.specs.declared.command.Command.TheVariants.{Replay, Serve, Generate}
+use Rattle.sr_words.specs.declared.command.Command.TheVariants.{Replay, Client, Serve, Explain, Generate}
+use Rattle.sr_words.specs.declared.command.ClientWords.{ClientWords}
+use Rattle.sr_words.specs.declared.command.ExplainWords.{ExplainWords}
 use Rattle.sr_words.specs.declared.command.GenerateWords.{GenerateWords}
 use Rattle.sr_words.specs.declared.command.ReplayWords.{ReplayWords}
 use Rattle.sr_words.specs.declared.command.ServeWords.{ServeWords}
+use Rattle.sr_cli.specs.Client.{Dials}
+use Rattle.sr_cli.specs.Explain.{Explains}
 use Rattle.sr_cli.specs.Generate.{Generates}
 use Rattle.sr_cli.specs.Replay.{Replays}
 use Rattle.sr_cli.specs.Serve.{Serves}
@@ -17,8 +21,37 @@ one_replay said command a w is here says = let e : Some command ≡ Some (Replay
 one_serve : (said : Option Command) (command : Command) (a w : ServeWords) → said ≡ Some command → command ≡ Serve a → said ≡ Some (Serve w) → a ≡ w
 one_serve said command a w is here says = let e : Some command ≡ Some (Serve w) = sym is ∙ says in cc
 
+one_explain : (said : Option Command) (command : Command) (a w : ExplainWords) → said ≡ Some command → command ≡ Explain a → said ≡ Some (Explain w) → a ≡ w
+one_explain said command a w is here says = let e : Some command ≡ Some (Explain w) = sym is ∙ says in cc
+
 one_generate : (said : Option Command) (command : Command) (a w : GenerateWords) → said ≡ Some command → command ≡ Generate a → said ≡ Some (Generate w) → a ≡ w
 one_generate said command a w is here says = let e : Some command ≡ Some (Generate w) = sym is ∙ says in cc
+
+one_client : (said : Option Command) (command : Command) (a w : ClientWords) → said ≡ Some command → command ≡ Client a → said ≡ Some (Client w) → a ≡ w
+one_client said command a w is here says = let e : Some command ≡ Some (Client w) = sym is ∙ says in cc
+
+pub returns-in-Ok-Client-clause-dials : goal.returns-in-Ok-Client-clause-dials
+returns-in-Ok-Client-clause-dials g c = λ w says.
+    let did = c.run_client.ensures in
+    let same = one_client _ _ c.in-Ok-Client.words w c.in-Ok-Client.ensures.said c.in-Ok-Client.field-0-is says in
+    subst (λ (v : ClientWords). Dials _ g.H.Outside.held g.H.Outside.reading g.H.Outside.writing g.H.Outside.linking g.H.Outside.complaints g.H.Outside.IsSteady c.args.host.now c.run_client.new.host v c.run_client.result) same
+    record {
+      only = did.only;
+      whole = did.whole;
+      unwritten = did.unwritten;
+      faulty = did.faulty;
+      frame = did.frame;
+      limit = did.limit;
+      too_long = did.too_long;
+      line = did.line;
+      refused = did.refused;
+      unbuilt = did.unbuilt;
+      steady = did.steady;
+    }
+
+pub returns-in-Ok-Client-clause-link_fault_is_counted : goal.returns-in-Ok-Client-clause-link_fault_is_counted
+returns-in-Ok-Client-clause-link_fault_is_counted g c = λ is.
+    inr (c.in-Ok-Client.words, c.in-Ok-Client.ensures.said ∙ ap Some c.in-Ok-Client.field-0-is)
 
 pub returns-in-Ok-Replay-clause-replays : goal.returns-in-Ok-Replay-clause-replays
 returns-in-Ok-Replay-clause-replays g c = λ w says.
@@ -33,7 +66,6 @@ returns-in-Ok-Replay-clause-replays g c = λ w says.
       too_long = did.too_long;
       line = did.line;
       refused = did.refused;
-      unbuilt = did.unbuilt;
       writing_keeps_faults = did.writing_keeps_faults;
       steady = did.steady;
       linking_stays = did.linking_stays;
@@ -55,6 +87,24 @@ returns-in-Ok-Serve-clause-serves g c = λ w says.
       steady = did.steady;
     }
 
+pub returns-in-Ok-Explain-clause-explains : goal.returns-in-Ok-Explain-clause-explains
+returns-in-Ok-Explain-clause-explains g c = λ w says.
+    let did = c.run_explain.ensures in
+    let same = one_explain _ _ c.in-Ok-Explain.words w c.in-Ok-Explain.ensures.said c.in-Ok-Explain.field-0-is says in
+    subst (λ (v : ExplainWords). Explains _ g.H.Outside.held g.H.Outside.reading g.H.Outside.writing g.H.Outside.linking g.H.Outside.complaints g.H.Outside.IsSteady c.args.host.now c.run_explain.new.host v c.run_explain.result) same
+    record {
+      only = did.only;
+      explained = did.explained;
+      part_after_fault = did.part_after_fault;
+      part_in_want = did.part_in_want;
+      too_long = did.too_long;
+      line = did.line;
+      refused = did.refused;
+      writing_keeps_faults = did.writing_keeps_faults;
+      steady = did.steady;
+      linking_stays = did.linking_stays;
+    }
+
 pub returns-in-Ok-Generate-clause-generates : goal.returns-in-Ok-Generate-clause-generates
 returns-in-Ok-Generate-clause-generates g c = λ w says.
     let did = c.run_generate.ensures in
@@ -69,7 +119,6 @@ returns-in-Ok-Generate-clause-generates g c = λ w says.
       summary_in_part = did.summary_in_part;
       line = did.line;
       refused = did.refused;
-      unbuilt = did.unbuilt;
       writing_keeps_faults = did.writing_keeps_faults;
       steady = did.steady;
       reading_stays = did.reading_stays;

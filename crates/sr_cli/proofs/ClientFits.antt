@@ -1,0 +1,212 @@
+-- What the status of a run of `client` says of the files that are held.
+use Rattle.std.proofs.Common.{◌≡◌, ℕ, ◌⊎◌, List, Option, Some, None, inl, inr, arith, sym, subst}
+use Rattle.sr_cell.specs.declared.fault.Fault.{Fault}
+use Rattle.sr_dial.specs.declared.ending.Ending.{Ending}
+use Rattle.sr_dial.specs.declared.ending.Ending.TheVariants.{Faulty, Unwritten}
+use Rattle.sr_io.specs.Causes.{Rose}
+use Rattle.sr_io.specs.Told.{Linking, Reading, Writing}
+use Rattle.sr_lines.specs.Script.{LinePlace}
+use Rattle.sr_setup.specs.ClientFiles.{client_outside, ClientRefuses, LeavesUnbuilt}
+use Rattle.sr_words.specs.declared.command.ClientWords.{ClientWords}
+use Rattle.sr_cli.specs.Files.{SomeTooLong}
+use Rattle.sr_cli.specs.Client.{AreFiles, AreHeld, AreLong, DidRun, Dialled, Ends, FitsFiles, IsEnd, NotRead, StopsOver, ending_of, files_of}
+use Rattle.sr_cli.specs.declared.client.Stop.{Stop}
+use Rattle.sr_cli.specs.declared.client.Stop.TheVariants as stop
+use Rattle.sr_cli.specs.declared.report.Refusal.{Refusal}
+use Rattle.sr_cli.specs.declared.report.Refusal.TheVariants as refusal
+use Rattle.sr_cli.proofs.ClientLemmas.{ends_of}
+use Rattle.sr_cli.proofs.SameFiles.{same_bytes, too_long_held}
+
+-- a line that was not written is counted
+pub unwritten_rose : (held : List ℕ → Option (List ℕ)) (words : ClientWords) (old new : Linking) (before after : Writing) → Dialled held words Unwritten old new before after → Rose before.faults after.faults
+unwritten_rose held words old new before after d = d.ends.ran.ran.ran.writes.1
+
+-- ---- a run that ended
+
+read_first : (held : List ℕ → Option (List ℕ)) (words : ClientWords) (from to : Reading) (old new : Linking) (before after : Writing) (ending : Ending) (why : Stop) → ending_of why ≡ Some ending → NotRead held words from to old new before after why → ⊥
+read_first held words from to old new before after ending (stop.Refused refusal.Write) is never = never
+read_first held words from to old new before after ending (stop.Refused refusal.Link) is never = never
+read_first held words from to old new before after ending (stop.Refused refusal.Read) is never = absurd cc
+read_first held words from to old new before after ending (stop.Refused refusal.Memory) is never = absurd cc
+read_first held words from to old new before after ending (stop.Refused refusal.TooLong) is never = absurd cc
+read_first held words from to old new before after ending (stop.Refused (refusal.Line line place)) is never = never
+read_first held words from to old new before after ending (stop.Refused (refusal.Setup line why)) is never = never
+read_first held words from to old new before after ending (stop.Refused (refusal.Load table why)) is never = never
+read_first held words from to old new before after ending (stop.Refused (refusal.Unbuilt line)) is never = never
+read_first held words from to old new before after ending (stop.Spoiled fault) is never = never
+read_first held words from to old new before after ending (stop.Bad why) is never = never
+read_first held words from to old new before after ending stop.Limit is never = never
+
+-- where a run stopped that had begun, a client ran, and what is said of it touches no link and no output
+pub dialled_by : (held : List ℕ → Option (List ℕ)) (words : ClientWords) (from to : Reading) (old mid new : Linking) (before half after : Writing) (ending : Ending) (why : Stop) → ending_of why ≡ Some ending
+    → NotRead held words from to old mid before half why ⊎ StopsOver held words old mid before half why → new ≡ mid → after ≡ half → Dialled held words ending old new before after
+dialled_by held words from to old mid new before half after ending why is (inl never) link output = absurd (read_first held words from to old mid before half ending why is never)
+dialled_by held words from to old mid new before half after ending why is (inr over) link output =
+    subst (λ (l : Linking). Dialled held words ending old l before after) (sym link)
+    (subst (λ (w : Writing). Dialled held words ending old mid before w) (sym output)
+    (record { schema = over.schema; script = over.script; files = over.files; ends = ends_of over.schema over.script words old mid before half ending why is over.stops }))
+
+-- ---- what was read of files that are held is what is held
+
+-- files that were read, and what is so of them
+pub record Named (held : List ℕ → Option (List ℕ)) (words : ClientWords) (P : List ℕ → List ℕ → Type 0) : Type 0 where
+  pub schema : List ℕ
+  pub script : List ℕ
+  pub files : AreFiles held words schema script
+  pub holds : P schema script
+
+named_held : (P : List ℕ → List ℕ → Type 0) (held : List ℕ → Option (List ℕ)) (words : ClientWords) (schema script : List ℕ) → AreHeld held words schema script → Named held words P → P schema script
+named_held P held words schema script are n =
+    let first : n.schema ≡ schema = same_bytes (held words.schema) schema n.schema are.schema_held n.files.schema_read in
+    let second : n.script ≡ script = same_bytes (held words.script) script n.script are.script_held n.files.script_read in
+    subst (P schema) second (subst (λ (s : List ℕ). P s n.script) first n.holds)
+
+not_long : (held : List ℕ → Option (List ℕ)) (words : ClientWords) (schema script : List ℕ) → AreFiles held words schema script → ¬ AreLong schema script
+not_long held words schema script files (inl long) = let w = files.schema_read.within_limit in omega (arith, long, w)
+not_long held words schema script files (inr long) = let w = files.script_read.within_limit in omega (arith, long, w)
+
+named_short : (P : List ℕ → List ℕ → Type 0) (held : List ℕ → Option (List ℕ)) (words : ClientWords) (schema script : List ℕ) → AreHeld held words schema script → Named held words P → ¬ AreLong schema script
+named_short P held words schema script are n =
+    named_held (λ s t. ¬ AreLong s t) held words schema script are (record { schema = n.schema; script = n.script; files = n.files; holds = not_long held words n.schema n.script n.files })
+
+long_held : (held : List ℕ → Option (List ℕ)) (left : Option (List ℕ)) (words : ClientWords) (schema script : List ℕ) → AreHeld held words schema script → SomeTooLong held left (files_of words) → AreLong schema script
+long_held held left words schema script are (inl long) = inl (too_long_held (held words.schema) left schema are.schema_held long)
+long_held held left words schema script are (inr (read, what, inl long)) = inr (too_long_held (held words.script) left script are.script_held long)
+long_held held left words schema script are (inr (read, what, inr (other, is, long))) = absurd long
+
+-- ---- what a status says
+
+abbrev pub Lies : ℕ → List ℕ → List ℕ → Type 0
+Lies id schema script = (at : LinePlace) × (client_outside id schema script ≡ Some at)
+
+abbrev pub RefusesSome : ℕ → List ℕ → List ℕ → Type 0
+RefusesSome id schema script = (line : ℕ) × (fault : Fault) × ClientRefuses id schema script line fault
+
+abbrev pub LeavesSome : ℕ → List ℕ → List ℕ → Type 0
+LeavesSome id schema script = (line : ℕ) × LeavesUnbuilt id schema script line
+
+-- nothing is refused
+pub record Accepted (id : ℕ) (schema script : List ℕ) : Type 0 where
+  pub inside : client_outside id schema script ≡ None
+  pub accepts : (line : ℕ) (fault : Fault) → ¬ ClientRefuses id schema script line fault
+
+-- of files over which a client ran
+pub accepted : (schema script : List ℕ) (words : ClientWords) (ending : Ending) (old new : Linking) (before after : Writing) → Ends schema script words ending old new before after → Accepted words.id schema script
+accepted schema script words ending old new before after ends = record { inside = ends.asked.inside; accepts = λ line fault r. ends.asked.accepts line fault r.first }
+
+-- why a run ended with a status
+pub record Causes (held : List ℕ → Option (List ℕ)) (left : Option (List ℕ)) (words : ClientWords) (status : ℕ) : Type 0 where
+  pub only : IsEnd status
+  pub no_read_fault : ¬ (status ≡ 3)
+  pub too_long : status ≡ 10 → SomeTooLong held left (files_of words)
+  pub line : status ≡ 6 → Named held words (Lies words.id)
+  pub refused : status ≡ 7 → Named held words (RefusesSome words.id)
+  pub unbuilt : status ≡ 12 → Named held words (LeavesSome words.id)
+  pub ran : DidRun status → Named held words (Accepted words.id)
+
+long_status : (status : ℕ) → IsEnd status → ¬ (status ≡ 3) → ¬ (status ≡ 6) → ¬ (status ≡ 7) → ¬ (status ≡ 12) → ¬ DidRun status → (status ≡ 9) ⊎ (status ≡ 10)
+long_status status (inl is) no_3 no_6 no_7 no_12 never = absurd (never (inl is))
+long_status status (inr (inl is)) no_3 no_6 no_7 no_12 never = absurd (no_3 is)
+long_status status (inr (inr (inl is))) no_3 no_6 no_7 no_12 never = absurd (never (inr (inl is)))
+long_status status (inr (inr (inr (inl is)))) no_3 no_6 no_7 no_12 never = absurd (never (inr (inr (inl is))))
+long_status status (inr (inr (inr (inr (inl is))))) no_3 no_6 no_7 no_12 never = absurd (no_6 is)
+long_status status (inr (inr (inr (inr (inr (inl is)))))) no_3 no_6 no_7 no_12 never = absurd (no_7 is)
+long_status status (inr (inr (inr (inr (inr (inr (inl is))))))) no_3 no_6 no_7 no_12 never = absurd (never (inr (inr (inr (inl is)))))
+long_status status (inr (inr (inr (inr (inr (inr (inr (inl is)))))))) no_3 no_6 no_7 no_12 never = inl is
+long_status status (inr (inr (inr (inr (inr (inr (inr (inr (inl is))))))))) no_3 no_6 no_7 no_12 never = inr is
+long_status status (inr (inr (inr (inr (inr (inr (inr (inr (inr (inl is)))))))))) no_3 no_6 no_7 no_12 never = absurd (never (inr (inr (inr (inr is)))))
+long_status status (inr (inr (inr (inr (inr (inr (inr (inr (inr (inr is)))))))))) no_3 no_6 no_7 no_12 never = absurd (no_12 is)
+
+pub fits_held : (held : List ℕ → Option (List ℕ)) (left : Option (List ℕ)) (words : ClientWords) (schema script : List ℕ) (status : ℕ) → AreHeld held words schema script → Causes held left words status → FitsFiles words.id schema script status
+fits_held held left words schema script status are c =
+    let accepts : DidRun status → Accepted words.id schema script = λ did. named_held (Accepted words.id) held words schema script are (c.ran did) in
+    record {
+      no_read_fault = c.no_read_fault;
+      long = λ over. long_status status c.only c.no_read_fault
+          (λ is. named_short (Lies words.id) held words schema script are (c.line is) over)
+          (λ is. named_short (RefusesSome words.id) held words schema script are (c.refused is) over)
+          (λ is. named_short (LeavesSome words.id) held words schema script are (c.unbuilt is) over)
+          (λ did. named_short (Accepted words.id) held words schema script are (c.ran did) over);
+      too_long = λ is. long_held held left words schema script are (c.too_long is);
+      line = λ is. named_held (Lies words.id) held words schema script are (c.line is);
+      refused = λ is. named_held (RefusesSome words.id) held words schema script are (c.refused is);
+      unbuilt = λ is. named_held (LeavesSome words.id) held words schema script are (c.unbuilt is);
+      inside = λ did. (accepts did).inside;
+      accepts = λ did. (accepts did).accepts;
+    }
+
+-- ---- a refusal
+
+-- the statuses of a report
+abbrev pub Reports : ℕ → Type 0
+Reports status = (status ≡ 3) ⊎ (status ≡ 4) ⊎ (status ≡ 5) ⊎ (status ≡ 6) ⊎ (status ≡ 7) ⊎ (status ≡ 9) ⊎ (status ≡ 10) ⊎ (status ≡ 12)
+
+-- what a report says, by its status
+module _ (held : List ℕ → Option (List ℕ)) (words : ClientWords) (from to : Reading) (old new : Linking) (before after : Writing) (refused : Refusal) (status : ℕ) where
+  abbrev pub Why : Refusal → Type 0
+  Why r = NotRead held words from to old new before after (stop.Refused r) ⊎ StopsOver held words old new before after (stop.Refused r)
+
+  too_long_of : Why refusal.TooLong → SomeTooLong held to.left (files_of words)
+  too_long_of (inl not) = not.0
+  too_long_of (inr over) = absurd over.stops
+
+  line_of : (line place : ℕ) → Why (refusal.Line line place) → Named held words (Lies words.id)
+  line_of line place (inl not) = absurd not
+  line_of line place (inr o) = record { schema = o.schema; script = o.script; files = o.files; holds = (record { line = line; place = place }, o.stops.0) }
+
+  create_of : (line : ℕ) (fault : Fault) → Why (refusal.Setup line fault) → Named held words (RefusesSome words.id)
+  create_of line fault (inl not) = absurd not
+  create_of line fault (inr o) = record { schema = o.schema; script = o.script; files = o.files; holds = (line, fault, o.stops.0) }
+
+  load_of : (table : List ℕ) (fault : Fault) → Why (refusal.Load table fault) → ⊥
+  load_of table fault (inl not) = not
+  load_of table fault (inr o) = o.stops
+
+  unbuilt_of : (line : ℕ) → Why (refusal.Unbuilt line) → Named held words (LeavesSome words.id)
+  unbuilt_of line (inl not) = absurd not
+  unbuilt_of line (inr o) = record { schema = o.schema; script = o.script; files = o.files; holds = (line, o.stops.0) }
+
+  write_of : Why refusal.Write → Named held words (Accepted words.id)
+  write_of (inl not) = absurd not
+  write_of (inr o) = record { schema = o.schema; script = o.script; files = o.files; holds = accepted o.schema o.script words Unwritten old new before after o.stops }
+
+  link_of : Why refusal.Link → Named held words (Accepted words.id)
+  link_of (inl not) = absurd not
+  link_of (inr o) = record { schema = o.schema; script = o.script; files = o.files; holds = accepted o.schema o.script words Faulty old new before after o.stops }
+
+  refused_of : (S : ℕ → Fault → Type 0) (L : List ℕ → Fault → Type 0) → Why refused
+      → ((line : ℕ) × (fault : Fault) × (refused ≡ refusal.Setup line fault) × S line fault) ⊎ ((table : List ℕ) × (fault : Fault) × (refused ≡ refusal.Load table fault) × L table fault) → Named held words (RefusesSome words.id)
+  refused_of S L why (inl (line, fault, is, said)) = create_of line fault (subst Why is why)
+  refused_of S L why (inr (table, fault, is, said)) = absurd (load_of table fault (subst Why is why))
+
+  is_end : Reports status → IsEnd status
+  is_end (inl is) = inr (inl is)
+  is_end (inr (inl is)) = inr (inr (inl is))
+  is_end (inr (inr (inl is))) = inr (inr (inr (inl is)))
+  is_end (inr (inr (inr (inl is)))) = inr (inr (inr (inr (inl is))))
+  is_end (inr (inr (inr (inr (inl is))))) = inr (inr (inr (inr (inr (inl is)))))
+  is_end (inr (inr (inr (inr (inr (inl is)))))) = inr (inr (inr (inr (inr (inr (inr (inl is)))))))
+  is_end (inr (inr (inr (inr (inr (inr (inl is))))))) = inr (inr (inr (inr (inr (inr (inr (inr (inl is))))))))
+  is_end (inr (inr (inr (inr (inr (inr (inr is))))))) = inr (inr (inr (inr (inr (inr (inr (inr (inr (inr is)))))))))
+
+  did_run : Reports status → Why refused → (status ≡ 4 → refused ≡ refusal.Write) → (status ≡ 5 → refused ≡ refusal.Link) → DidRun status → Named held words (Accepted words.id)
+  did_run only why write link (inl is) = absurd (omega (arith, only, is))
+  did_run only why write link (inr (inl is)) = write_of (subst Why (write is) why)
+  did_run only why write link (inr (inr (inl is))) = link_of (subst Why (link is) why)
+  did_run only why write link (inr (inr (inr (inl is)))) = absurd (omega (arith, only, is))
+  did_run only why write link (inr (inr (inr (inr is)))) = absurd (omega (arith, only, is))
+
+  pub causes_refused : (P : ℕ → ℕ → Type 0) (S : ℕ → Fault → Type 0) (L : List ℕ → Fault → Type 0) (U : ℕ → Type 0) → Why refused → Reports status → ¬ (status ≡ 3)
+      → (status ≡ 4 → refused ≡ refusal.Write) → (status ≡ 5 → refused ≡ refusal.Link) → (status ≡ 10 → refused ≡ refusal.TooLong)
+      → (status ≡ 6 → (line : ℕ) × (place : ℕ) × (refused ≡ refusal.Line line place) × P line place)
+      → (status ≡ 7 → ((line : ℕ) × (fault : Fault) × (refused ≡ refusal.Setup line fault) × S line fault) ⊎ ((table : List ℕ) × (fault : Fault) × (refused ≡ refusal.Load table fault) × L table fault))
+      → (status ≡ 12 → (line : ℕ) × (refused ≡ refusal.Unbuilt line) × U line) → Causes held to.left words status
+  causes_refused P S L U why only read write link too_long line refused unbuilt = record {
+    only = is_end only;
+    no_read_fault = read;
+    too_long = λ is. too_long_of (subst Why (too_long is) why);
+    line = λ is. (let n = line is in line_of n.0 n.1 (subst Why n.2 why));
+    refused = λ is. refused_of S L why (refused is);
+    unbuilt = λ is. (let n = unbuilt is in unbuilt_of n.0 (subst Why n.1 why));
+    ran = λ did. did_run only why write link did;
+  }

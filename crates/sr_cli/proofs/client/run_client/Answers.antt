@@ -1,0 +1,28 @@
+use Rattle.std.proofs.Common.{◌∙◌, ap, Err}
+use Rattle.sr_cli.specs.declared.client.Stop.TheVariants.{Refused}
+use Rattle.sr_dial.specs.declared.ending.Ending.TheVariants.{Faulty, Unwritten, Limit as TooMany}
+use Rattle.sr_cli.specs.Client.{ending_of}
+use Rattle.sr_cli.proofs.ClientFits.{causes_refused, dialled_by, fits_held}
+use Rattle.sr_cli.proofs.client.run_client.Goals as goal
+
+pub returns-in-Err-Refused-clause-steady : goal.returns-in-Err-Refused-clause-steady
+returns-in-Err-Refused-clause-steady g c = λ steady schema script are.
+    fits_held (g.H.Outside.held c.args.host.now) (g.H.Outside.reading c.client_files.new.host).left c.args.words.now schema script c.report.result are
+    (causes_refused (g.H.Outside.held c.args.host.now) c.args.words.now (g.H.Outside.reading c.args.host.now) (g.H.Outside.reading c.client_files.new.host) (g.H.Outside.linking c.args.host.now) (g.H.Outside.linking c.client_files.new.host) (g.H.Outside.writing c.args.host.now) (g.H.Outside.writing c.client_files.new.host) c.in-Err-Refused.refusal c.report.result _ _ _ _ (rw c.in-Err-Refused.field-0-is at c.in-Err-Refused.ensures.stopped) c.report.ensures.only
+    (λ is. c.in-Err-Refused.ensures.steady_reads steady (ap Err (c.in-Err-Refused.field-0-is ∙ ap Refused (c.report.ensures.read is))) schema script are)
+    c.report.ensures.write c.report.ensures.link c.report.ensures.too_long c.report.ensures.line c.report.ensures.refused c.report.ensures.unbuilt)
+
+pub returns-in-Err-Refused-clause-unwritten : goal.returns-in-Err-Refused-clause-unwritten
+returns-in-Err-Refused-clause-unwritten g c = λ is.
+    dialled_by (g.H.Outside.held c.args.host.now) c.args.words.now (g.H.Outside.reading c.args.host.now) (g.H.Outside.reading c.client_files.new.host) (g.H.Outside.linking c.args.host.now) (g.H.Outside.linking c.client_files.new.host) (g.H.Outside.linking c.report.new.host) (g.H.Outside.writing c.args.host.now) (g.H.Outside.writing c.client_files.new.host) (g.H.Outside.writing c.report.new.host)
+    Unwritten c.in-Err-Refused.field-0 (ap ending_of (c.in-Err-Refused.field-0-is ∙ ap Refused (c.report.ensures.write is))) c.in-Err-Refused.ensures.stopped c.report.ensures.linking_stays c.report.ensures.writing_stays
+
+pub returns-in-Err-Refused-clause-faulty : goal.returns-in-Err-Refused-clause-faulty
+returns-in-Err-Refused-clause-faulty g c = λ is.
+    dialled_by (g.H.Outside.held c.args.host.now) c.args.words.now (g.H.Outside.reading c.args.host.now) (g.H.Outside.reading c.client_files.new.host) (g.H.Outside.linking c.args.host.now) (g.H.Outside.linking c.client_files.new.host) (g.H.Outside.linking c.report.new.host) (g.H.Outside.writing c.args.host.now) (g.H.Outside.writing c.client_files.new.host) (g.H.Outside.writing c.report.new.host)
+    Faulty c.in-Err-Refused.field-0 (ap ending_of (c.in-Err-Refused.field-0-is ∙ ap Refused (c.report.ensures.link is))) c.in-Err-Refused.ensures.stopped c.report.ensures.linking_stays c.report.ensures.writing_stays
+
+pub returns-in-Err-Limit-clause-limit : goal.returns-in-Err-Limit-clause-limit
+returns-in-Err-Limit-clause-limit g c = λ is.
+    dialled_by (g.H.Outside.held c.args.host.now) c.args.words.now (g.H.Outside.reading c.args.host.now) (g.H.Outside.reading c.client_files.new.host) (g.H.Outside.linking c.args.host.now) (g.H.Outside.linking c.client_files.new.host) (g.H.Outside.linking c.report_limit.new.host) (g.H.Outside.writing c.args.host.now) (g.H.Outside.writing c.client_files.new.host) (g.H.Outside.writing c.report_limit.new.host)
+    TooMany c.in-Err-Limit.field-0 (ap ending_of c.in-Err-Limit.field-0-is) c.in-Err-Limit.ensures.stopped c.report_limit.ensures.linking_stays c.report_limit.ensures.writing_stays

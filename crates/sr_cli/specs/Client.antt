@@ -1,0 +1,214 @@
+-- What `client` does, and why it ends with each status.
+use Rattle.std.specs.Prelude.{◌≡◌, ℕ, ◌⊎◌, List, [], ◌∷◌, Option, Some, None}
+use Rattle.sr_calls.specs.Runs.{RanNew}
+use Rattle.sr_cell.specs.declared.fault.Fault.{Fault}
+use Rattle.sr_cell.specs.declared.table.Table.{Table}
+use Rattle.sr_dial.specs.Known.{AreDeeds}
+use Rattle.sr_dial.specs.declared.ending.Ending.{Ending}
+use Rattle.sr_dial.specs.declared.ending.Ending.TheVariants.{Whole, Faulty, Unwritten, Spoiled, Bad as BadMessage, Limit as TooMany}
+use Rattle.sr_io.specs.Causes.{Rose}
+use Rattle.sr_io.specs.Told.{Reading, Writing, Linking, complained}
+use Rattle.sr_lines.specs.Script.{LinePlace}
+use Rattle.sr_links.specs.Steps.{Deed}
+use Rattle.sr_reader.specs.declared.script.EventLine.{EventLine}
+use Rattle.sr_setup.specs.ClientFiles.{client_outside, ClientRefuses, LeavesUnbuilt, IsAsked}
+use Rattle.sr_setup.specs.declared.client_setup.ClientFault.{ClientFault}
+use Rattle.sr_setup.specs.declared.client_setup.ClientFault.TheVariants as fault
+use Rattle.sr_wire.specs.declared.bad_frame.BadFrame.{BadFrame}
+use Rattle.sr_wire.specs.declared.wire_fault.WireFault.{WireFault}
+use Rattle.sr_words.specs.declared.command.ClientWords.{ClientWords}
+use Rattle.sr_cli.specs.Files.{IsWhatIsHeld, SomeTooLong, IsLong}
+use Rattle.sr_cli.specs.Errors.{line_text, setup_text, unbuilt_text, spoiled_text, bad_text}
+use Rattle.sr_cli.specs.declared.client.Stop.{Stop}
+use Rattle.sr_cli.specs.declared.client.Stop.TheVariants as stop
+use Rattle.sr_cli.specs.declared.report.Refusal.{Refusal}
+use Rattle.sr_cli.specs.declared.report.Refusal.TheVariants as refusal
+
+-- ---- the files
+
+-- the names of both files, in the order in which they are read
+abbrev pub files_of : ClientWords → List (List ℕ)
+files_of words = words.schema ∷ words.script ∷ []
+
+-- what was read under the names: a schema file and a script
+pub record AreFiles (held : List ℕ → Option (List ℕ)) (words : ClientWords) (schema script : List ℕ) : Type 0 where
+  pub schema_read : IsWhatIsHeld (held words.schema) schema
+  pub script_read : IsWhatIsHeld (held words.script) script
+
+-- Files are judged and read, and the client of this number ran over a link: it resumed, did what the lines of the script ask, and ended so.
+pub record Ends (schema script : List ℕ) (words : ClientWords) (ending : Ending) (old new : Linking) (before after : Writing) : Type 0 where
+  pub tables : List Table
+  pub lines : List EventLine
+  pub deeds : List (ℕ × Deed)
+  pub asked : IsAsked words.id schema script tables lines
+  pub are : AreDeeds tables lines deeds
+  pub ran : RanNew words.id tables words.limits deeds ending old new before after
+
+-- the same, of files that were read
+pub record Dialled (held : List ℕ → Option (List ℕ)) (words : ClientWords) (ending : Ending) (old new : Linking) (before after : Writing) : Type 0 where
+  pub schema : List ℕ
+  pub script : List ℕ
+  pub files : AreFiles held words schema script
+  pub ends : Ends schema script words ending old new before after
+
+-- ---- refusals
+
+-- files were read, and their first line that is outside the grammar of its file is this one, with its fault at this place
+pub record IsOutside (held : List ℕ → Option (List ℕ)) (words : ClientWords) (line place : ℕ) : Type 0 where
+  pub schema : List ℕ
+  pub script : List ℕ
+  pub files : AreFiles held words schema script
+  pub first : client_outside words.id schema script ≡ Some (record { line = line; place = place })
+
+-- files were read, and the first CREATE line that is refused is this one, with this fault
+pub record IsRefusedCreate (held : List ℕ → Option (List ℕ)) (words : ClientWords) (line : ℕ) (fault : Fault) : Type 0 where
+  pub schema : List ℕ
+  pub script : List ℕ
+  pub files : AreFiles held words schema script
+  pub refuses : ClientRefuses words.id schema script line fault
+
+-- files were read, and the script's first line that is not built is this one
+pub record IsUnbuilt (held : List ℕ → Option (List ℕ)) (words : ClientWords) (line : ℕ) : Type 0 where
+  pub schema : List ℕ
+  pub script : List ℕ
+  pub files : AreFiles held words schema script
+  pub leaves : LeavesUnbuilt words.id schema script line
+
+-- ---- the error output
+
+-- the line that is outside the grammar was named on the error output, with the place of its fault
+pub record NamedLine (held : List ℕ → Option (List ℕ)) (words : ClientWords) (old new : Option (List ℕ)) : Type 0 where
+  pub line : ℕ
+  pub place : ℕ
+  pub refused : IsOutside held words line place
+  pub said : new ≡ complained (line_text line place) old
+
+-- the refused CREATE line was named on the error output, with its fault
+pub record NamedCreate (held : List ℕ → Option (List ℕ)) (words : ClientWords) (old new : Option (List ℕ)) : Type 0 where
+  pub line : ℕ
+  pub fault : Fault
+  pub refused : IsRefusedCreate held words line fault
+  pub said : new ≡ complained (setup_text line fault) old
+
+-- the first unbuilt line was named on the error output
+pub record NamedUnbuilt (held : List ℕ → Option (List ℕ)) (words : ClientWords) (old new : Option (List ℕ)) : Type 0 where
+  pub line : ℕ
+  pub unbuilt : IsUnbuilt held words line
+  pub said : new ≡ complained (unbuilt_text line) old
+
+-- what came is no frame, which was said on the error output, with what stands against it
+pub record NamedSpoiled (held : List ℕ → Option (List ℕ)) (words : ClientWords) (l m : Linking) (before after : Writing) (old new : Option (List ℕ)) : Type 0 where
+  pub fault : WireFault
+  pub dialled : Dialled held words (Spoiled fault) l m before after
+  pub said : new ≡ complained (spoiled_text fault) old
+
+-- a message that came must be refused, which was said on the error output, with why
+pub record NamedBad (held : List ℕ → Option (List ℕ)) (words : ClientWords) (l m : Linking) (before after : Writing) (old new : Option (List ℕ)) : Type 0 where
+  pub why : BadFrame
+  pub dialled : Dialled held words (BadMessage why) l m before after
+  pub said : new ≡ complained (bad_text why) old
+
+-- one or the other
+abbrev pub NamedFrame : (List ℕ → Option (List ℕ)) → ClientWords → Linking → Linking → Writing → Writing → Option (List ℕ) → Option (List ℕ) → Type 0
+NamedFrame held words l m before after old new = NamedSpoiled held words l m before after old new ⊎ NamedBad held words l m before after old new
+
+-- the statuses that it may end with
+abbrev pub IsEnd : ℕ → Type 0
+IsEnd status =
+    (status ≡ 0) ⊎ (status ≡ 3) ⊎ (status ≡ 4) ⊎ (status ≡ 5) ⊎ (status ≡ 6) ⊎ (status ≡ 7) ⊎ (status ≡ 8) ⊎ (status ≡ 9) ⊎ (status ≡ 10)
+    ⊎ (status ≡ 11) ⊎ (status ≡ 12)
+
+-- ---- a host without faults
+
+-- the host holds both files, and these are they
+pub record AreHeld (held : List ℕ → Option (List ℕ)) (words : ClientWords) (schema script : List ℕ) : Type 0 where
+  pub schema_held : held words.schema ≡ Some schema
+  pub script_held : held words.script ≡ Some script
+
+-- one of the files has more bytes than the limit
+abbrev pub AreLong : List ℕ → List ℕ → Type 0
+AreLong schema script = IsLong schema ⊎ IsLong script
+
+-- a client ran
+abbrev pub DidRun : ℕ → Type 0
+DidRun status = (status ≡ 0) ⊎ (status ≡ 4) ⊎ (status ≡ 5) ⊎ (status ≡ 8) ⊎ (status ≡ 11)
+
+-- what a host without faults that holds the files lets the status of the client of this number be
+pub record FitsFiles (id : ℕ) (schema script : List ℕ) (status : ℕ) : Type 0 where
+  pub no_read_fault : ¬ (status ≡ 3)
+  pub long : AreLong schema script → (status ≡ 9) ⊎ (status ≡ 10)
+  pub too_long : status ≡ 10 → AreLong schema script
+  pub line : status ≡ 6 → (at : LinePlace) × (client_outside id schema script ≡ Some at)
+  pub refused : status ≡ 7 → (line : ℕ) × (fault : Fault) × ClientRefuses id schema script line fault
+  pub unbuilt : status ≡ 12 → (line : ℕ) × LeavesUnbuilt id schema script line
+  pub inside : DidRun status → client_outside id schema script ≡ None
+  pub accepts : DidRun status → (line : ℕ) (fault : Fault) → ¬ ClientRefuses id schema script line fault
+
+-- ---- a run
+
+-- What `client` does over a host, by the status that it ends with.
+pub record Dials (H : Type 0) (held : H → List ℕ → Option (List ℕ)) (reading : H → Reading) (writing : H → Writing) (linking : H → Linking) (complaints : H → Option (List ℕ)) (IsSteady : H → Type 0) (old new : H) (words : ClientWords) (status : ℕ) : Type 0 where
+  pub only : IsEnd status
+  pub whole : status ≡ 0 → Dialled (held old) words Whole (linking old) (linking new) (writing old) (writing new)
+  pub unwritten : status ≡ 4 → Dialled (held old) words Unwritten (linking old) (linking new) (writing old) (writing new)
+  pub faulty : status ≡ 5 → Dialled (held old) words Faulty (linking old) (linking new) (writing old) (writing new)
+  pub frame : status ≡ 8 → NamedFrame (held old) words (linking old) (linking new) (writing old) (writing new) (complaints old) (complaints new)
+  pub limit : status ≡ 11 → Dialled (held old) words TooMany (linking old) (linking new) (writing old) (writing new)
+  pub too_long : status ≡ 10 → SomeTooLong (held old) (reading new).left (files_of words)
+  pub line : status ≡ 6 → NamedLine (held old) words (complaints old) (complaints new)
+  pub refused : status ≡ 7 → NamedCreate (held old) words (complaints old) (complaints new)
+  pub unbuilt : status ≡ 12 → NamedUnbuilt (held old) words (complaints old) (complaints new)
+  pub steady : IsSteady old → (schema script : List ℕ) → AreHeld (held old) words schema script → FitsFiles words.id schema script status
+
+-- ---- inside the crate
+
+-- nothing was written, and no link was touched
+pub record Untouched (old new : Linking) (before after : Writing) : Type 0 where
+  pub linking : new ≡ old
+  pub writing : after ≡ before
+
+-- what is said of files that are refused
+abbrev pub refusal_of : ClientFault → Refusal
+refusal_of (fault.Line line place) = refusal.Line line place
+refusal_of (fault.Create line why) = refusal.Setup line why
+refusal_of (fault.Unbuilt line) = refusal.Unbuilt line
+
+-- how a run ended that stopped so, if it began
+abbrev pub ending_of : Stop → Option Ending
+ending_of (stop.Refused refusal.Write) = Some Unwritten
+ending_of (stop.Refused refusal.Link) = Some Faulty
+ending_of (stop.Refused other) = None
+ending_of (stop.Spoiled fault) = Some (Spoiled fault)
+ending_of (stop.Bad why) = Some (BadMessage why)
+ending_of stop.Limit = Some TooMany
+
+-- why a run over these files is refused
+abbrev pub Refuses : List ℕ → List ℕ → ClientWords → Linking → Linking → Writing → Writing → Refusal → Type 0
+Refuses schema script words old new before after refusal.Write = Ends schema script words Unwritten old new before after
+Refuses schema script words old new before after refusal.Link = Ends schema script words Faulty old new before after
+Refuses schema script words old new before after refusal.Memory = Unit {0}
+Refuses schema script words old new before after (refusal.Line line place) = (client_outside words.id schema script ≡ Some (record { line = line; place = place })) × Untouched old new before after
+Refuses schema script words old new before after (refusal.Setup line fault) = ClientRefuses words.id schema script line fault × Untouched old new before after
+Refuses schema script words old new before after (refusal.Unbuilt line) = LeavesUnbuilt words.id schema script line × Untouched old new before after
+Refuses schema script words old new before after other = ⊥
+
+-- why it stops
+abbrev pub Stops : List ℕ → List ℕ → ClientWords → Linking → Linking → Writing → Writing → Stop → Type 0
+Stops schema script words old new before after (stop.Refused refusal) = Refuses schema script words old new before after refusal
+Stops schema script words old new before after (stop.Spoiled fault) = Ends schema script words (Spoiled fault) old new before after
+Stops schema script words old new before after (stop.Bad why) = Ends schema script words (BadMessage why) old new before after
+Stops schema script words old new before after stop.Limit = Ends schema script words TooMany old new before after
+
+-- the same, of files that were read
+pub record StopsOver (held : List ℕ → Option (List ℕ)) (words : ClientWords) (old new : Linking) (before after : Writing) (why : Stop) : Type 0 where
+  pub schema : List ℕ
+  pub script : List ℕ
+  pub files : AreFiles held words schema script
+  pub stops : Stops schema script words old new before after why
+
+-- why the files are not read
+abbrev pub NotRead : (List ℕ → Option (List ℕ)) → ClientWords → Reading → Reading → Linking → Linking → Writing → Writing → Stop → Type 0
+NotRead held words from to old new before after (stop.Refused refusal.Read) = Rose from.faults to.faults × Untouched old new before after
+NotRead held words from to old new before after (stop.Refused refusal.TooLong) = SomeTooLong held to.left (files_of words) × Untouched old new before after
+NotRead held words from to old new before after (stop.Refused refusal.Memory) = Unit {0}
+NotRead held words from to old new before after other = ⊥

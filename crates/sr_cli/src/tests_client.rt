@@ -1,0 +1,147 @@
+//! Runs of `client` over a host in memory.
+use crate::run::run;
+use sr_cell::list::{Bytes, NoMemory, Seq};
+use sr_cell::text::Text;
+use sr_io::file::File;
+use sr_io::mem_host::MemHost;
+use std::alloc::Global;
+use std::test::Fail;
+
+const SCHEMA: &[u8] =
+    b"CREATE TABLE emp (id INT PRIMARY KEY CHECK (id BETWEEN 0 AND 9999), age INT CHECK (age BETWEEN 0 AND 150), name TEXT, dept INT CHECK (dept BETWEEN 0 AND 99))\n";
+
+const SCRIPT: &[u8] = b"query 1 SELECT id, age FROM emp WHERE age BETWEEN 30 AND 40\n";
+
+/// A welcome of a new session at version 2, rows (1, 35) and (3, 33) of request 1, and its reply at version 2.
+const ANSWERS: &[u8] =
+    b"\x00\x00\x00\x12\x11\0\0\0\0\0\0\0\0\0\0\0\0\0\0\0\x02\0\x00\x00\x00\x32\x13\0\0\0\0\0\0\0\x01\0\0\x02\x02\0\0\0\0\0\0\0\0\x01\0\0\0\0\0\0\0\0\x23\x02\0\0\0\0\0\0\0\0\x03\0\0\0\0\0\0\0\0\x21\x00\x00\x00\x11\x14\0\0\0\0\0\0\0\x01\0\0\0\0\0\0\0\x02";
+
+const ANSWERED: &[u8] = b"0 resume 1 sent 0
+0 toclient 1 welcome 2 fresh
+1 ask 1 1 fresh 1
+1 part emp (id,age) {age 30..40}
+1 query 1 asked 1
+1 toclient 1 laid
+1 answer 1 1 2 2
+1 row 1, 35
+1 row 3, 33
+1 held 1 emp (id,age) {age 30..40}
+1 toclient 1 answered
+";
+
+const WORDS: &[&str] = &["client", "--id", "1", "--schema", "schema", "a", "script"];
+
+fn bytes_of(alloc: Global, all: &[u8]) -> Result<Bytes, NoMemory> {
+    let mut bytes = Seq::new(alloc);
+    bytes.extend(all)?;
+    Ok(bytes)
+}
+
+fn file_of(alloc: Global, name: &str, bytes: &[u8]) -> Result<File, NoMemory> {
+    Ok(File {
+        name: Text::of(alloc, name)?,
+        bytes: bytes_of(alloc, bytes)?,
+    })
+}
+
+/// Its one peer says this.
+fn host_of(alloc: Global, script: &[u8], brings: &[u8]) -> Result<MemHost, NoMemory> {
+    let mut files = Seq::new(alloc);
+    files.push(file_of(alloc, "schema", SCHEMA)?)?;
+    files.push(file_of(alloc, "script", script)?)?;
+    let mut peers = Seq::new(alloc);
+    peers.push(bytes_of(alloc, brings)?)?;
+    MemHost::new(alloc, files, peers, Seq::new(alloc), 4096)
+}
+
+/// Whether a run ends with this status, this output and this line on the error output.
+fn ends(
+    alloc: Global,
+    words: &[&str],
+    script: &[u8],
+    brings: &[u8],
+    wanted: (u8, &[u8], &[u8]),
+) -> Result<bool, NoMemory> {
+    let mut all = Seq::new(alloc);
+    for word in words {
+        all.push(Text::of(alloc, word)?)?;
+    }
+    let mut host = host_of(alloc, script, brings)?;
+    let status = run(alloc, all.as_slice(), &mut host);
+    let output = host.written(alloc)?;
+    let error = host.complained(alloc)?;
+    let (said, written, complained) = wanted;
+    Ok(status == said && output.as_slice() == written && error.as_slice() == complained)
+}
+
+#[test]
+fn clients_end(rt: HostRuntime) -> Result<(), Fail> {
+    let alloc = rt.alloc();
+    let resumed: &[u8] = b"0 resume 1 sent 0\n";
+    let all: [(&[&str], &[u8], &[u8], (u8, &[u8], &[u8])); 8] = [
+        (WORDS, SCRIPT, ANSWERS, (0, ANSWERED, b"")),
+        (
+            WORDS,
+            SCRIPT,
+            b"\x08\x00\x00\x01",
+            (8, resumed, b"frame long 134217729\n"),
+        ),
+        (
+            WORDS,
+            b"",
+            b"\x00\x00\x00\x12\x11\0\0\0\0\0\0\0\x01\0\0\0\0\0\0\0\x02\0",
+            (8, resumed, b"frame number\n"),
+        ),
+        (
+            WORDS,
+            b"",
+            b"",
+            (
+                5,
+                b"0 resume 1 sent 0\n0 fail 1 resume 0\n0 cut 1 1\n",
+                b"link\n",
+            ),
+        ),
+        (
+            WORDS,
+            SCRIPT,
+            b"\x00\x00\x00\x12\x11\0\0\0\0\0\0\0\0",
+            (
+                5,
+                b"0 resume 1 sent 0\n0 fail 1 resume 0\n0 cut 1 1\n1 query 1 down 1\n",
+                b"link\n",
+            ),
+        ),
+        (WORDS, b"cut 1\ncut 2", b"", (6, b"", b"line 2 4\n")),
+        (
+            WORDS,
+            b"explain 1 SELECT id FROM emp",
+            b"",
+            (12, b"", b"unbuilt 1\n"),
+        ),
+        (
+            &["client", "--id", "65", "--schema", "schema", "a", "script"],
+            SCRIPT,
+            b"",
+            (2, b"", b"words\n"),
+        ),
+    ];
+    for (words, script, brings, wanted) in all {
+        assert!(rt; ends(alloc, words, script, brings, wanted)?);
+    }
+    Ok(())
+}
+
+#[test]
+fn a_welcome_that_is_not_whole_is_a_cut(rt: HostRuntime) -> Result<(), Fail> {
+    let alloc = rt.alloc();
+    let cut: &[u8] = b"0 resume 1 sent 0\n0 fail 1 resume 0\n0 cut 1 1\n";
+    for length in 0..22usize {
+        let brings = &ANSWERS[..length];
+        assert!(rt;
+            ends(alloc, WORDS, b"", brings, (5, cut, b"link\n"))?,
+            "{length}"
+        );
+    }
+    Ok(())
+}

@@ -1,17 +1,17 @@
 """The program `client`, which dials the peer of this folder; its lines are those of the rules as tests/oracle states them."""
 import pathlib
 import subprocess
-import sys
 import tempfile
+from concurrent.futures import ThreadPoolExecutor
 
-sys.path.append(str(pathlib.Path(__file__).resolve().parent.parent / 'oracle'))
+# it makes the modules of tests/oracle known
+from model import SCHEMA, Model
 
 import compare
 import reader
 from client import Client, Limits
 from frames import Fault, Short, frame, read
 from peer import SECONDS, Peer
-from model import SCHEMA, Model
 from served import LOG, ROWS, statement
 from world import Options, World
 
@@ -109,10 +109,11 @@ def fault_of(program, script, budgets):
     return compare.difference(done.stdout.decode().splitlines(), lines, tables)
 
 
-def bytes_sent(script):
-    """What an honest peer sends on the first connection of a script without cuts, as one list of bytes."""
+def bytes_sent(program, script):
+    """What an honest peer sends on the one connection of a script without cuts, as one list of bytes."""
+    _, peer = run(program, script, [None])
     model, stream, session = Model(ROWS, LOG), b'', None
-    for request in script:
+    for request in peer.connections[0].requests if peer.connections else []:
         session, messages = model.take(session, request)
         stream += b''.join(map(frame, messages))
     return stream
@@ -131,10 +132,10 @@ def first_fault(stream):
     return None
 
 
-def fault_of_turned(program, stream, place, bits):
+def fault_of_turned(program, place, bits):
     """What is wrong with a run whose peer turns bits of one byte."""
-    done, _ = run(program, QUERIES[:2], [None], (place, bits))
-    wanted_error = first_fault(stream[:place] + bytes([stream[place] ^ bits]) + stream[place + 1:])
+    done, peer = run(program, QUERIES[:2], [None], (place, bits))
+    wanted_error = first_fault(peer.first)
     if wanted_error is not None:
         good = (done.returncode, done.stderr.decode()) == (8, wanted_error)
     else:
@@ -143,16 +144,21 @@ def fault_of_turned(program, stream, place, bits):
     return None if good else 'status %d, %r, wanted %r' % (done.returncode, done.stderr, wanted_error)
 
 
-def results(program):
-    """A name and what was wrong, for each case."""
-    _, peer = run(program, QUERIES, [None])
-    stream = bytes_sent(peer.connections[0].requests) if peer.connections else b''
-    yield 'client, honest', fault_of(program, QUERIES, [None])
-    yield 'client, cut and resumed', fault_of(program, RESUMED, [None, None, None])
-    yield 'client, without a peer', fault_of(program, QUERIES, [])
+def cases(program):
+    """A name and what tells what is wrong, for each case."""
+    stream, first = bytes_sent(program, QUERIES), bytes_sent(program, QUERIES[:2])
+    yield 'client, honest', lambda: fault_of(program, QUERIES, [None])
+    yield 'client, cut and resumed', lambda: fault_of(program, RESUMED, [None, None, None])
+    yield 'client, without a peer', lambda: fault_of(program, QUERIES, [])
     for size in range(len(stream)):
-        yield 'client, cut after byte %d' % size, fault_of(program, QUERIES, [size])
-    for size in range(0, len(stream), 5):
-        yield 'client, cut after byte %d, and resumed' % size, fault_of(program, RESUMED, [size, size // 2, None])
-    for place in range(0, len(stream), 3):
-        yield 'client, byte %d turned' % place, fault_of_turned(program, stream, place, 0x80)
+        yield 'client, cut after byte %d' % size, lambda size=size: fault_of(program, QUERIES, [size])
+        yield 'client, cut after byte %d, and resumed' % size, lambda size=size: fault_of(program, RESUMED, [size, size // 2, None])
+    for place in range(0, len(first), 3):
+        yield 'client, byte %d turned' % place, lambda place=place: fault_of_turned(program, place, 0x80)
+
+
+def results(program):
+    """A name and what was wrong, for each case; some run side by side."""
+    names, tells = zip(*cases(program))
+    with ThreadPoolExecutor(4) as pool:
+        return zip(names, pool.map(lambda tell: tell(), tells))

@@ -1,5 +1,11 @@
 """A server of one table by docs/RULES.md, so small that each rule is a line or two."""
+import pathlib
 import re
+import sys
+
+sys.path.append(str(pathlib.Path(__file__).resolve().parent.parent / 'oracle'))
+
+from forgotten import last_dropped
 from frames import FROM_CLIENTS, Ask, Fault, Hello, Lapse, Notice, Reply, Resume, Rows, Short, Tell, Welcome, Write, Written, read, spelled
 
 ROWS_OF_A_FRAME = 256
@@ -78,11 +84,7 @@ class Model:
 
     def floor(self):
         """The log has dropped the versions up to this one."""
-        kept, version = 0, self.version
-        while version > 0 and kept + len(self.changes[version]) <= self.log:
-            kept += len(self.changes[version])
-            version -= 1
-        return version
+        return last_dropped(self.changes, self.log)
 
     def notices(self, rects, above):
         told = [(version, [change for change in self.changes[version] if any(row and has(rects, row) for row in change[1:])])

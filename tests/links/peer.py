@@ -1,4 +1,5 @@
 """The server of this folder behind a real socket, for one client after another."""
+import itertools
 import socket
 import threading
 from collections import namedtuple
@@ -6,6 +7,11 @@ from collections import namedtuple
 from frames import Short, frame, read
 
 SECONDS = 20
+# How long it waits for a request behind a turned bit: the client may wait for the rest of a longer frame, which never comes.
+PATIENCE = 3
+
+# Peers that run side by side have addresses of their own, so that nobody dials another once a peer is gone.
+NUMBERS = itertools.count()
 
 # What a connection came to: the requests that were read, and how many whole frames were sent.
 Connection = namedtuple('Connection', 'requests frames')
@@ -19,8 +25,9 @@ class Peer:
 
     def __init__(self, server, budgets, turned=None):
         self.server, self.budgets, self.turned, self.connections, self.fault = server, budgets, turned, [], None
-        self.docked = socket.create_server(('127.0.0.1', 0))
-        self.address = '127.0.0.1:%d' % self.docked.getsockname()[1]
+        self.first = b''  # what was sent on the first connection
+        self.docked = socket.create_server(('127.0.0.%d' % (1 + next(NUMBERS) % 250), 0))
+        self.address = '%s:%d' % self.docked.getsockname()
         self.thread = threading.Thread(target=self.serve, daemon=True)
 
     def __enter__(self):
@@ -38,8 +45,9 @@ class Peer:
             except OSError:
                 return  # the client dialled less often
             with link:
-                link.settimeout(SECONDS)
+                link.settimeout(PATIENCE if self.turned else SECONDS)
                 self.talk(link, budget)
+        self.docked.close()  # who dials once more is refused
 
     def talk(self, link, budget):
         session, stream, requests, stream_out, sent = None, b'', [], [], 0
@@ -67,6 +75,8 @@ class Peer:
         if self.turned and not self.connections and at <= self.turned[0] < at + len(piece):
             place = self.turned[0] - at
             piece = piece[:place] + bytes([piece[place] ^ self.turned[1]]) + piece[place + 1:]
+        if not self.connections:
+            self.first += piece
         try:
             link.sendall(piece)
         except OSError:

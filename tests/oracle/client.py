@@ -1,7 +1,8 @@
 """A client: what it does at each event, and which lines tell of it."""
 import collections
+import copy
 
-from cache import Cache
+from cache import Cache, includes
 from messages import Ask, AskPart, Hello, Lapse, Notice, Resume, Rows, Write, name_of
 
 # where the load is above it, all classes may be dropped
@@ -213,6 +214,46 @@ class Client:
             self.drop_all('lapsed')
         else:
             self.meet_limits()
+
+    # ---- explanations
+
+    def explain(self, query):
+        """Says how the query would be answered, and changes nothing."""
+        if query.fault():
+            return self.say('explain', 'sql ' + query.fault())
+        held = self.cache
+        if self.would_give_up(query):
+            self.trace.say('pieces')
+            held = Cache(self.tables)
+        for part in query.parts:
+            self.explain_part(part, held)
+        self.say_victims()
+        return self.say('explain', self.version)
+
+    def would_give_up(self, query):
+        """Whether the program told so, where it may."""
+        is_heavy = self.cache.load(query, self.counted + [query], []) > MOST_PIECES
+        return is_heavy and not self.cache.is_empty() and self.trace.next_told() == 'pieces'
+
+    def explain_part(self, part, held):
+        self.trace.say('need ' + self.tables[part.table].called(part.need))
+        for (table, columns, stamp), points in held.classes().items():
+            if table == part.table and includes(columns, part.need) and points & part.points:
+                self.say_rects('probe %s %d' % (self.tables[table].called(columns), stamp), table, points & part.points)
+        points = held.rest(part)
+        if points:
+            asked = self.asked_of(part, points)
+            self.say_rects('rest ' + self.tables[asked.table].called(asked.columns), asked.table, asked.points)
+
+    def say_victims(self):
+        """All classes in the order in which they would be dropped, each with the number of its rows."""
+        left, place = Cache(self.tables), 0
+        left.held = copy.deepcopy(self.cache.held)
+        while not left.is_empty():
+            table, columns, stamp = cls = left.victim(self.limits.policy, self.asked)
+            points, place = left.drop(cls), place + 1
+            rows = sum(self.tables[table].place(row) in points for row in self.versions[self.version][table].values())
+            self.trace.say('victim %d %s %d %d' % (place, self.tables[table].called(columns), stamp, rows))
 
     # ---- other events
 

@@ -3,7 +3,7 @@ import bisect
 import itertools
 import re
 
-RECTS = re.compile(r'(\d+ (?:part|held|drop) .*?) (\{.*\})$')
+RECTS = re.compile(r'(\d+ (?:part|held|drop|probe|rest) .*?) (\{.*\})$')
 SPAN = re.compile(r"(\w+) (-?\d+|'(?:''|[^'])*'|x'[0-9a-f]*')\.\.(-?\d+|'(?:''|[^'])*'|x'[0-9a-f]*'|)(?:, (?=\w)|$)")
 
 

@@ -27,6 +27,19 @@ class Asks:
         world.clients[self.client].query(self.query)
 
 
+class Explains:
+    """A query that a client is to explain."""
+
+    def __init__(self, client, query):
+        self.client, self.query = client, query
+
+    def line(self):
+        return 'explain %d %s' % (self.client, self.query.text)
+
+    def happen(self, world):
+        world.clients[self.client].explain(self.query)
+
+
 class Writes:
     """A statement that a client sends."""
 

@@ -2,7 +2,7 @@
 import collections
 
 from client import Limits
-from events import Asks, Evicts, Exec, Plain, Writes
+from events import Asks, Evicts, Exec, Explains, Plain, Writes
 from queries import BadQuery, joined_query, query_of
 from scripts import LABEL, MUCH_LOG, Maker, READING, SHELF, Script, TABLES, TALLY
 from statements import BadStatement, Delete, Insert
@@ -18,7 +18,7 @@ CHAINS = [[(READING, None), (SHELF, 2)], [(READING, None), (SHELF, 0), (LABEL, 1
           [(LABEL, None), (TALLY, 1)], [(READING, None), (SHELF, 2), (LABEL, 1), (TALLY, 1)]]
 
 # how often an event of each kind comes
-WEIGHTS = {'exec': 22, 'query': 26, 'push': 10, 'evict': 4, 'deliver': 34, 'settle': 6}
+WEIGHTS = {'exec': 22, 'query': 26, 'explain': 5, 'push': 10, 'evict': 4, 'deliver': 34, 'settle': 6}
 SESSION_WEIGHTS = {'write': 7, 'cut': 3, 'resume': 5}
 
 
@@ -70,15 +70,21 @@ class ManyMaker(Maker):
         return Writes(self.client(), self.statement())
 
     def make_query(self):
-        """Often one of the client's own of before, so that something is covered."""
+        return Asks(*self.client_and_query())
+
+    def make_explain(self):
+        return Explains(*self.client_and_query())
+
+    def client_and_query(self):
+        """Often a query of the client's own of before, so that something is covered."""
         if self.random.random() < 0.03:
-            return Asks(self.client(), BadQuery(*self.random.choice(BAD_QUERIES)))
+            return self.client(), BadQuery(*self.random.choice(BAD_QUERIES))
         client = self.client()
         before = self.queries[client]
         if not before or self.random.random() < 0.6:
             before.append(self.new_query(self.number()))
-            return Asks(client, before[-1])
-        return Asks(client, self.random.choice(before))
+            return client, before[-1]
+        return client, self.random.choice(before)
 
     def make_evict(self):
         return Evicts(self.client(), self.random.choice([0, 0, 0, 1, 2, 5]))

@@ -3,7 +3,7 @@ import functools
 import re
 
 from conditions import Both, COMPARISONS, Not, begins, between, compares, one_of
-from events import Asks, Evicts, Exec, PLAIN, Plain, Writes
+from events import Asks, Evicts, Exec, Explains, PLAIN, Plain, Writes
 from lines import CREATE, is_silent, split
 from queries import Part, Query, bits
 from statements import Delete, Insert, Update
@@ -287,6 +287,8 @@ def event_of(line, tables):
         return Evicts(int(client), int(text))
     if word == 'query':
         return Asks(int(client), Reader(text, tables).query())
+    if word == 'explain':
+        return Explains(int(client), Reader(text, tables).query())
     if word == 'write':
         return Writes(int(client), Reader(text, tables).statement())
     raise Unread(word)
@@ -302,7 +304,7 @@ def read_script(script):
             tables.append(Reader(line.decode(), tables).create())
         else:
             events.append((number, event_of(line.decode(), tables)))
-    divide([event.query for _, event in events if isinstance(event, Asks)])
+    divide([event.query for _, event in events if isinstance(event, (Asks, Explains))])
     return tables, events
 
 

@@ -4,7 +4,7 @@ import random
 
 from client import Limits
 from conditions import Both, COMPARISONS, Not, after_prefix, begins, between, compares, one_of
-from events import Asks, Exec, Plain
+from events import Asks, Exec, Explains, Plain
 from queries import query_of
 from statements import Delete, Insert, Update
 from tables import Column, Table
@@ -109,7 +109,9 @@ class Maker:
             return Exec(self.update(number))
         if kind < 0.35:
             return Exec(Delete(TABLES, number, self.condition(number)))
-        return Plain('push', 1) if kind < 0.5 else Asks(1, self.query(number))
+        if kind < 0.5:
+            return Plain('push', 1)
+        return Explains(1, self.query(number)) if kind < 0.55 else Asks(1, self.query(number))
 
     def script(self):
         choose = self.random.choice
@@ -130,7 +132,9 @@ class Maker:
             return Exec(self.insert(BOARD))
         if kind < 0.6:
             return Plain('push', 1)
-        return Asks(1, query_of(TABLES, BOARD, [self.random.randrange(2)], self.test(BOARD))) if kind < 0.8 else self.event()
+        if kind < 0.9:
+            return self.random.choice([Asks, Explains])(1, query_of(TABLES, BOARD, [self.random.randrange(2)], self.test(BOARD)))
+        return self.event()
 
     def cutting_script(self):
         """A script whose load is too high at some queries, and far below at others."""

@@ -1,4 +1,5 @@
 """The server: all versions, and a session for each client."""
+from forgotten import last_dropped
 from messages import Lapse, Notice, Refused, Reply, Rows, Welcome, Written, name_of
 
 ROWS_OF_A_MESSAGE = 256
@@ -40,11 +41,7 @@ class Server:
 
     def floor(self):
         """The log has dropped the versions up to this one."""
-        kept, version = 0, self.version
-        while version > 0 and kept + len(self.changes[version]) <= self.log:
-            kept += len(self.changes[version])
-            version -= 1
-        return version
+        return last_dropped(self.changes, self.log)
 
     # ---- notices
 

@@ -171,6 +171,32 @@ class AsksAgainAsNewQuery(Client):
         super().ask_again(ask._replace(asked=self.queries))
 
 
+class ExplainStamps(Client):
+    """To explain a query stamps what it could be answered from."""
+
+    def explain(self, query):
+        super().explain(query)
+        for part in query.parts:
+            self.cache.touch(part, self.queries + 1)
+
+
+class ExplainNumbers(Client):
+    """To explain a query draws a number."""
+
+    def explain(self, query):
+        super().explain(query)
+        self.queries += not query.fault()
+
+
+class ExplainCountsAtNewest(Client):
+    """The rows of victims are counted at the server's newest version."""
+
+    def say_victims(self):
+        version, self.version = self.version, len(self.versions) - 1
+        super().say_victims()
+        self.version = version
+
+
 class AsksCoveredParts(Client):
     """An ask that has to ask something of one table asks all of the others."""
 
@@ -250,6 +276,8 @@ CLIENTS = {'second_ask_asks_the_old_rest': AsksTheOldRest, 'notice_applied_at_on
            'counts_at_the_newest': CountsAtNewest, 'numbers_busy_queries': NumbersBusyQueries,
            'second_ask_is_a_new_query': AsksAgainAsNewQuery, 'refused_write_stays': RefusedStays, 'cut_forgets': CutForgets,
            'down_though_covered': DownThoughCovered, 'asks_covered_parts': AsksCoveredParts,
+           'explain_stamps': ExplainStamps, 'explain_draws_a_number': ExplainNumbers,
+           'victims_counted_at_the_newest': ExplainCountsAtNewest,
            'numbers_down_queries': NumbersDownQueries, 'says_hello': SaysHello}
 WORLDS = {'delivers_to_the_client_first': DeliversToClientFirst, 'settles_all': SettlesAll}
 

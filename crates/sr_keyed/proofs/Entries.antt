@@ -44,6 +44,16 @@ has-row key kind v (e ∷ es) h =
     go true ih = refl
     go false ih = ih
 
+-- a row that is found has the key
+pub lookup-key : (key : ℕ) (kind : Kind) (v : Cell) (row : Row) (es : List (Cell × Row)) → AreKeyed key kind es → lookup (is_at (order v)) es ≡ Some row → cell_eq (cell_at row key) v ≡ true
+lookup-key key kind v row [] h is = absurd (cc)
+lookup-key key kind v row (e ∷ es) h is = go (is_at (order v) e.0) (here key v e h.0) is (lookup-key key kind v row es h.2)
+  where
+    go : (b : Bool) → b ≡ cell_eq (cell_at e.1 key) v → cond b (Some e.1) (lookup (is_at (order v)) es) ≡ Some row
+        → (lookup (is_at (order v)) es ≡ Some row → cell_eq (cell_at row key) v ≡ true) → cell_eq (cell_at row key) v ≡ true
+    go true at is ih = let same : e.1 ≡ row = cc in subst (λ r. cell_eq (cell_at r key) v ≡ true) same (sym at)
+    go false at is ih = ih is
+
 pub before : (kind : Kind) (a b : Cell) → is_of kind a ≡ true → is_of kind b ≡ true → order a b ≡ Less → (cell_le a b && not (cell_le b a)) ≡ true
 before kind a b h k less =
     let le : true ≡ cell_le a b = ap is_le (sym less) ∙ order-le kind a b h k in

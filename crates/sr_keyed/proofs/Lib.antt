@@ -3,3 +3,5 @@ pub mod Entries
 pub mod Replaced
 pub mod Between
 pub mod Values
+pub mod PlaceOrder
+pub mod Found

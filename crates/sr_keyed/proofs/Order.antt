@@ -1,5 +1,5 @@
 -- The order of the map's keys, among cells of one kind, is that of cells.
-use Rattle.std.proofs.Common.{◌≡◌, ℕ, true, not, ◌&&◌, List, refl, arith}
+use Rattle.std.proofs.Common.{◌≡◌, ℕ, true, false, not, ◌&&◌, List, refl, ap, ◌∙◌, arith}
 use Rattle.std.specs.declared.cmp.Ordering.{Ordering}
 use Rattle.std.specs.Ordering.{nat_cmp, is_le, is_lt, is_eq}
 use Rattle.std.specs.Cmp.Lexicographic.{slice_cmp}
@@ -45,3 +45,17 @@ order-lt Texts (Num a) (Str t) h k = absurd (grind arith)
 order-lt Numbers (Str s) b h k = absurd (grind arith)
 order-lt Texts (Str s) (Num b) h k = absurd (grind arith)
 order-lt Texts (Str s) (Str t) h k = text_above s t _ refl
+
+-- cells that are in order are so in the map's order, whatever their kinds
+
+pub order-below : (a b : Cell) → cell_le a b ≡ true → is_le (order a b) ≡ true
+order-below (Num a) (Num b) le = grind (arith, ints)
+order-below (Num a) (Str t) le = refl
+order-below (Str s) (Num b) le = absurd (cc)
+order-below (Str s) (Str t) le = is_text_le s t _ refl ∙ le
+
+pub order-above : (a b : Cell) → cell_le a b ≡ true → is_lt (order b a) ≡ false
+order-above (Num a) (Num b) le = grind (arith, ints)
+order-above (Num a) (Str t) le = absurd (cc)
+order-above (Str s) (Num b) le = absurd (cc)
+order-above (Str s) (Str t) le = text_above t s _ refl ∙ ap not le

@@ -1,12 +1,10 @@
 -- Rows by key, as contracts see them.
 use Rattle.std.specs.Prelude.{ℕ, Bool, true, false, ◌&&◌, List, map, Option, Some, None, if◌then◌else◌}
-use Rattle.std.specs.List.{list_all}
 use Rattle.sr_cell.specs.declared.cell.Cell.{Cell}
 use Rattle.sr_cell.specs.declared.cell.Cell.TheVariants.{Num, Str}
 use Rattle.sr_cell.specs.declared.table.Kind.{Kind}
 use Rattle.sr_cell.specs.declared.table.Kind.TheVariants.{Num as Numbers, Str as Texts}
 use Rattle.sr_cell.specs.Cells.{Row, cell_at, cell_le, cell_eq}
-use Rattle.sr_cell.specs.Columns.{are_bytes}
 
 -- the number and the kind of the key column, and the rows by key ascending
 pub record Keyed : Type 0 where
@@ -19,14 +17,6 @@ is_of Numbers (Num n) = true
 is_of Numbers (Str s) = false
 is_of Texts (Num n) = false
 is_of Texts (Str s) = true
-
--- a number, or any bytes
-abbrev pub is_value : Cell → Bool
-is_value (Num n) = true
-is_value (Str s) = are_bytes s
-
-abbrev pub are_values : Row → Bool
-are_values row = list_all is_value row
 
 -- the row that has another's key gives way to it
 abbrev pub with_replaced : ℕ → Row → List Row → List Row

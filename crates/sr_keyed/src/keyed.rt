@@ -1,24 +1,28 @@
 //! Rows by key.
-ghost use Rattle.std.specs.Prelude.{◌≡◌, ℕ, ◌<◌, [], true, false, length, map, filter, IsTrue, OnOk, OnErr, IfOk};
+ghost use Rattle.std.specs.Prelude.{◌≡◌, ℕ, ◌<◌, ◌&&◌, ◌++◌, [], true, false, length, map, filter, IsTrue, OnOk, OnErr, IfOk, IfSome};
 ghost use Rattle.std.specs.List.{list_all};
+ghost use Rattle.std.specs.List.Sorted.{IsStrictlySortedBy};
 ghost use Rattle.std.specs.Option.{option_copied};
 ghost use Rattle.std.specs.Range.Bound.{bound_map, IsForward};
 ghost use Rattle.std.specs.Map.{values_of, set_value};
 ghost use Rattle.std.specs.BTreeMap.{IsOrdered, insert_entry, is_at, values};
 ghost use Rattle.std.specs.BTreeMap.Range.{IsLeBy, IsLtBy, entries_between};
-ghost use Rattle.sr_cell.specs.Cells.{cell_at};
-ghost use Rattle.sr_cell.specs.Columns.{are_bytes};
+ghost use Rattle.sr_cell.specs.declared.table.Kind.{Kind as TheKind};
+ghost use Rattle.sr_cell.specs.Cells.{Row as TheRow, cell_at, cell_eq};
+ghost use Rattle.sr_cell.specs.Columns.{are_bytes, is_value, are_values};
 ghost use Rattle.sr_model.specs.SortedRows.{ascend, has_key, with_row};
 ghost use Rattle.sr_model.specs.Changes.{row_with};
-ghost use Rattle.sr_keyed.specs.Keyed.{is_of, is_value, are_values, with_replaced, is_between};
+ghost use Rattle.sr_keyed.specs.Keyed.{is_of, with_replaced, is_from, is_up_to, is_between};
 ghost use Rattle.sr_rows.specs.Keys.{without_key};
-ghost use Rattle.sr_keyed.specs.Entries.{are_ends, bound_of};
+ghost use Rattle.sr_keyed.specs.Entries.{AreKeyed, are_ends, bound_of};
+ghost use Rattle.sr_keyed.specs.Places.{is_indexed, if_passes, rows_at};
 
+use crate::index::{Index, Place};
 use sr_cell::cell::{Cell, Row, Rows};
 use sr_cell::list::{Copied, NoMemory, Seq};
 use sr_cell::table::Kind;
 use std::alloc::Global;
-use std::collections::BTreeMap;
+use std::collections::{BTreeMap, BTreeSet};
 use std::marker::Model;
 use std::ops::Bound;
 
@@ -28,20 +32,23 @@ pub struct KeyedRows {
     key: usize,
     kind: Kind,
     rows: BTreeMap<Cell, Row>,
+    index: Index,
 }
 
 impl Model for KeyedRows {
     ghost use Rattle.std.specs.Prelude.{IsTrue};
     ghost use Rattle.std.specs.List.{list_all};
     ghost use Rattle.std.specs.BTreeMap.{IsOrdered, values};
-    ghost use Rattle.sr_keyed.specs.Keyed.{Keyed, are_values};
+    ghost use Rattle.sr_cell.specs.Columns.{are_values};
+    ghost use Rattle.sr_keyed.specs.Keyed.{Keyed};
     ghost use Rattle.sr_keyed.specs.Entries.{AreKeyed};
+    ghost use Rattle.sr_keyed.specs.Places.{is_indexed};
 
     ghost Value = { Keyed };
 
     ghost view = { λ a. record { key = a.key; kind = a.kind; rows = values a.rows } };
 
-    ghost invariant = { λ a. AreKeyed a.key a.kind a.rows.entries × IsOrdered ⟦<Cell as Ord>⟧.cmp a.rows × IsTrue (list_all are_values (values a.rows)) };
+    ghost invariant = { λ a. AreKeyed a.key a.kind a.rows.entries × IsOrdered ⟦<Cell as Ord>⟧.cmp a.rows × IsTrue (list_all are_values (values a.rows)) × IsTrue (list_all (is_indexed ⟦<Place as Ord>⟧.cmp a.index a.key) (values a.rows)) };
 }
 
 // Facts, which do nothing: what a text's type says of its bytes.
@@ -146,6 +153,81 @@ fn rows_between<'a, 'b>(
     Ok(found)
 }
 
+/// Whether the cell of a column is from one end up to another, both inside.
+#[tactic(auto, using(sr_rows::proofs::Order::cell_at_absent))]
+fn is_between(row: &Row, column: usize, low: Option<&Cell>, high: Option<&Cell>) -> bool
+    ensures { result ≡ is_between column (option_copied low.entry) (option_copied high.entry) row.now }
+{
+    match row.get(column) {
+        Some(cell) => is_inside(cell, low, high),
+        None => is_inside(&Cell::Num(0), low, high),
+    }
+}
+
+/// Whether the cell is from one end up to another, both inside.
+fn is_inside(cell: &Cell, low: Option<&Cell>, high: Option<&Cell>) -> bool
+    ensures { result ≡ (is_from (option_copied low.entry) cell.now && is_up_to (option_copied high.entry) cell.now) }
+{
+    match low {
+        Some(low) if !low.is_at_most(cell) => return false,
+        _ => {}
+    }
+    match high {
+        Some(high) => cell.is_at_most(high),
+        None => true,
+    }
+}
+
+/// Puts the row behind the others, if there is one and its cell of a column is between the ends.
+fn push_near<'a>(
+    found: &mut Vec<&'a Row>,
+    row: Option<&'a Row>,
+    column: usize,
+    low: Option<&Cell>,
+    high: Option<&Cell>,
+) -> Result<(), NoMemory>
+    ensures { OnOk result (map (λ r. r.now) found.new.items ≡ map (λ r. r.now) found.old.items ++ if_passes (is_between column (option_copied low.entry) (option_copied high.entry)) (option_copied row.entry)) }
+{
+    match row {
+        Some(row) if is_between(row, column, low, high) => found.push(row)?,
+        _ => {}
+    }
+    Ok(())
+}
+
+/// The rows with the keys whose cell of a column is between the ends, key by key.
+fn rows_at<'a>(
+    rows: &'a BTreeMap<Cell, Row>,
+    alloc: Global,
+    keys: &BTreeSet<Cell>,
+    column: usize,
+    low: Option<&Cell>,
+    high: Option<&Cell>,
+) -> Result<Vec<&'a Row>, NoMemory>
+    ensures ordered { IsStrictlySortedBy ⟦<Cell as Ord>⟧.cmp keys.now.keys }
+    ensures found { IfOk result (λ found. map (λ r. r.now) found.items ≡ rows_at ⟦<Cell as Ord>⟧.cmp (is_between column (option_copied low.entry) (option_copied high.entry)) rows.now.entries keys.now.keys) }
+{
+    let mut found = Vec::new(alloc);
+    for key in keys {
+        push_near(&mut found, rows.get(key), column, low, high)?;
+    }
+    Ok(found)
+}
+
+/// Takes the row of that key out of the index.
+fn forget(index: &mut Index, rows: &BTreeMap<Cell, Row>, key: usize, value: &Cell)
+    requires { (kind : TheKind) × AreKeyed key kind rows.now.entries }
+    ensures { (other : TheRow) → cell_eq (cell_at other key) value.now ≡ false → is_indexed ⟦<Place as Ord>⟧.cmp index.old key other ≡ true → is_indexed ⟦<Place as Ord>⟧.cmp index.new key other ≡ true }
+{
+    if index.is_empty() {
+        return;
+    }
+    match rows.get(value) {
+        Some(row) => index.remove(key, row),
+        None => {}
+    }
+}
+
 /// All rows of a map, moved out.
 fn all_rows(map: BTreeMap<Cell, Row>, alloc: Global) -> Result<Rows, NoMemory>
     ensures { IfOk result (λ rows. rows ≡ values map) }
@@ -166,6 +248,7 @@ impl KeyedRows {
             key,
             kind,
             rows: BTreeMap::new(alloc),
+            index: Index::new(alloc),
         }
     }
 
@@ -222,25 +305,36 @@ impl KeyedRows {
     {
         know_values(&row);
         match key_at(&row, self.key).copy(alloc) {
-            Ok(key) => put(&mut self.rows, key, row),
+            Ok(key) => {
+                self.index.add(self.key, &row);
+                put(&mut self.rows, key, row)
+            }
             Err(no) => Err(no),
         }
     }
 
-    /// Puts a row in the place of the one that has its key; takes no memory.
+    /// Puts a row in the place of the one that has its key; never fails.
     pub fn replace(&mut self, row: Row)
         requires cell { self.old.key < length row }
         requires known { has_key self.old.key (cell_at row self.old.key) self.old.rows ≡ true }
         ensures { self.new ≡ record self.old { rows = with_replaced self.old.key row self.old.rows } }
     {
         know_values(&row);
+        forget(
+            &mut self.index,
+            &self.rows,
+            self.key,
+            key_at(&row, self.key),
+        );
+        self.index.add(self.key, &row);
         put_in_place(&mut self.rows, self.key, row);
     }
 
-    /// Takes the row of that key out, if there is one; takes no memory.
+    /// Takes the row of that key out, if there is one; never fails.
     pub fn remove(&mut self, key: &Cell)
         ensures { self.new ≡ record self.old { rows = without_key self.old.key key.now self.old.rows } }
     {
+        forget(&mut self.index, &self.rows, self.key, key);
         self.rows.remove(key);
     }
 
@@ -258,6 +352,31 @@ impl KeyedRows {
             return Ok(Vec::new(alloc));
         }
         rows_between(&self.rows, alloc, bound_of(low), bound_of(high))
+    }
+
+    /// Makes an index of a column, if there is none and memory is to be had: no row changes.
+    pub fn index(&mut self, column: usize)
+        ensures { self.new ≡ self.old }
+    {
+        self.index.index(self.key, column, &self.rows);
+    }
+
+    /// The rows whose cell of a column is from one end up to another, both inside, in time of their number: where the
+    /// column has an index, and they are at most a sixteenth of all.
+    pub fn near<'a>(
+        &'a self,
+        alloc: Global,
+        column: usize,
+        low: Option<&Cell>,
+        high: Option<&Cell>,
+    ) -> Option<Vec<&'a Row>>
+        ensures { IfSome result (λ rows. map (λ r. r.now) rows.items ≡ filter (is_between column (option_copied low.entry) (option_copied high.entry)) self.now.rows) }
+    {
+        let most = self.rows.len() / 16;
+        match self.index.near(alloc, column, low, high, most) {
+            Some(keys) => rows_at(&self.rows, alloc, &keys, column, low, high).ok(),
+            None => None,
+        }
     }
 
     /// All rows, moved out.

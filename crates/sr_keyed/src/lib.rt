@@ -1,4 +1,5 @@
-//! Rows by key, in an ordered map.
+//! Rows by key, in an ordered map, with an index of the columns that are asked.
 #![tactic(auto)]
 
+mod index;
 pub mod keyed;

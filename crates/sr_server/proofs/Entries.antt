@@ -4,13 +4,15 @@ use Rattle.std.specs.Prelude.{filter, not, ◌&&◌, nat_lt, IsTrue, ◌↔◌, 
 use Rattle.std.specs.List.{list_all, list_any, AllByRecursion}
 use Rattle.std.proofs.lemmas.Bool.Decides.{nat_tests}
 use Rattle.std.proofs.lemmas.List.{drop-drop, drop_all, drop_more, get_or-drop}
+use Rattle.std.proofs.lemmas.Bool.{lt-ltb}
+use Rattle.sr_union.specs.Search.{is_nothing}
 use Rattle.sr_cell.specs.declared.change.Change.{Change}
 use Rattle.sr_cell.specs.declared.table.Table.{Table}
 use Rattle.sr_cell.specs.Cells.{Row}
 use Rattle.sr_box.specs.Points.{Rect}
 use Rattle.sr_box.specs.Rows.{has_row}
 use Rattle.sr_message.specs.declared.message.Holding.{Holding}
-use Rattle.sr_subs.specs.Subscription.{has_point, touches, is_bare, FitsSome}
+use Rattle.sr_subs.specs.Subscription.{has_point, touches, FitsSome}
 use Rattle.sr_subs.proofs.Empty.{empty_where_bare}
 use Rattle.sr_message.specs.declared.message.Tell.{Tell}
 use Rattle.sr_message.specs.Tells.{tell_of}
@@ -24,7 +26,7 @@ use Rattle.sr_message.specs.declared.message.Message.{Message}
 use Rattle.sr_message.specs.declared.message.Message.TheVariants.{Notice, Lapse}
 use Rattle.sr_session.specs.Sessions.{Database, Session, all_changes, closing, closing_if, due, due_if, floor_of, is_lost, newest, notice, notices, pushed, subscribes_some, told_at}
 use Rattle.sr_log.proofs.Least.{floor-within}
-use Rattle.sr_session.proofs.SendLemmas.{changes-count}
+use Rattle.sr_session.proofs.SendLemmas.{changes-count, floor-below}
 use Rattle.sr_server.specs.Noticed.{noticed, last_changes}
 use Rattle.sr_server.specs.Servers.{Logs}
 
@@ -112,7 +114,7 @@ entries-noticed db held subs v keeps le up =
 
 -- ---- nothing subscribed
 
-bare-touches : (subs : List Holding) (c : Change) → list_all (λ h. is_bare h.rects) subs ≡ true → touches subs c ≡ false
+bare-touches : (subs : List Holding) (c : Change) → list_all (λ h. is_nothing h.rects) subs ≡ true → touches subs c ≡ false
 bare-touches [] c all = refl
 bare-touches (h ∷ subs) c all = by h.rects refl (bare-touches subs c)
   where
@@ -120,27 +122,24 @@ bare-touches (h ∷ subs) c all = by h.rects refl (bare-touches subs c)
     none None = refl
     none (Some p) = refl
 
-    by : (rects : List Rect) → h.rects ≡ rects → (list_all (λ h. is_bare h.rects) subs ≡ true → touches subs c ≡ false) → touches (h ∷ subs) c ≡ false
+    by : (rects : List Rect) → h.rects ≡ rects → (list_all (λ h. is_nothing h.rects) subs ≡ true → touches subs c ≡ false) → touches (h ∷ subs) c ≡ false
     by [] is ih =
-        let rest = ih (let both : (is_bare h.rects && list_all (λ h. is_bare h.rects) subs) ≡ true = all in grind (arith, both)) in
+        let rest = ih (let both : (is_nothing h.rects && list_all (λ h. is_nothing h.rects) subs) ≡ true = all in grind (arith, both)) in
         let before : has_row h.rects c.before ≡ false = ap (λ rs. has_row rs c.before) is ∙ none c.before in
         let after : has_row h.rects c.after ≡ false = ap (λ rs. has_row rs c.after) is ∙ none c.after in
         grind (arith, rest, before, after)
-    by (r ∷ rects) is ih = absurd (let wrong : (is_bare (r ∷ rects) && list_all (λ h. is_bare h.rects) subs) ≡ true = ap (λ rs. is_bare rs && list_all (λ h. is_bare h.rects) subs) (sym is) ∙ all in cc)
+    by (r ∷ rects) is ih = absurd (let wrong : (is_nothing (r ∷ rects) && list_all (λ h. is_nothing h.rects) subs) ≡ true = ap (λ rs. is_nothing rs && list_all (λ h. is_nothing h.rects) subs) (sym is) ∙ all in cc)
 
-none-touch : (subs : List Holding) (cs : List Change) → list_all (λ h. is_bare h.rects) subs ≡ true → filter (touches subs) cs ≡ []
+none-touch : (subs : List Holding) (cs : List Change) → list_all (λ h. is_nothing h.rects) subs ≡ true → filter (touches subs) cs ≡ []
 none-touch subs [] all = refl
 none-touch subs (c ∷ cs) all = rw (bare-touches subs c all) (none-touch subs cs all)
 
-pub none-noticed : (db : Database) (subs : List Holding) (v n : ℕ) → list_all (λ h. is_bare h.rects) subs ≡ true → notices db subs v n ≡ []
+pub none-noticed : (db : Database) (subs : List Holding) (v n : ℕ) → list_all (λ h. is_nothing h.rects) subs ≡ true → notices db subs v n ≡ []
 none-noticed db subs v zero all = refl
 none-noticed db subs v (suc n) all =
     ap (λ cs. notice (v + 1) (map tell_of cs) ++ notices db subs (v + 1) n) (none-touch subs (changes_at db.schema db.versions (v + 1)) all) ∙ none-noticed db subs (v + 1) n all
 
 -- ---- what is due
-
-is-below : (u f : ℕ) → u < f → nat_lt u f ≡ true
-is-below u f lt = grind (arith, nat_tests, lt)
 
 is-not-below : (u f : ℕ) → f ≤ u → nat_lt u f ≡ false
 is-not-below u f le = grind (arith, nat_tests, le)
@@ -156,7 +155,7 @@ kept-due db session le =
     by false = refl
 
 -- something was dropped, but nothing is subscribed
-pub bare-due : (db : Database) (session : Session) → list_all (λ h. is_bare h.rects) session.subscription ≡ true → due db session ≡ record { sent = []; subscription = session.subscription }
+pub bare-due : (db : Database) (session : Session) → list_all (λ h. is_nothing h.rects) session.subscription ≡ true → due db session ≡ record { sent = []; subscription = session.subscription }
 bare-due db session bare =
     let none : subscribes_some session.subscription ≡ false = ap not bare in
     let not_lost : is_lost db session ≡ false = rw none refl in
@@ -164,23 +163,23 @@ bare-due db session bare =
     ∙ ap (λ ms. record { sent = ms; subscription = session.subscription }) (none-noticed db session.subscription session.upto (newest db - session.upto) bare)
 
 -- something was dropped that is due
-pub lost-due : (db : Database) (session : Session) → list_all (λ h. is_bare h.rects) session.subscription ≡ false → session.upto < floor_of db → due db session ≡ record { sent = Lapse (newest db) ∷ []; subscription = [] }
+pub lost-due : (db : Database) (session : Session) → list_all (λ h. is_nothing h.rects) session.subscription ≡ false → session.upto < floor_of db → due db session ≡ record { sent = Lapse (newest db) ∷ []; subscription = [] }
 lost-due db session some lt =
     let has : subscribes_some session.subscription ≡ true = ap not some in
-    let lost : is_lost db session ≡ true = rw (has, is-below session.upto (floor_of db) lt) refl in
+    let lost : is_lost db session ≡ true = rw (has, lt-ltb session.upto (floor_of db) lt) refl in
     ap (λ b. due_if b db session) lost
 
-pub bare-is : (subs : List Holding) (empty : Bool) → AllByRecursion FitsSome subs → (IsTrue empty ↔ ((t : ℕ) (row : Row) → has_point subs t row ≡ false)) → list_all (λ h. is_bare h.rects) subs ≡ empty
-bare-is subs empty fit is = by (list_all (λ h. is_bare h.rects) subs) empty refl refl
+pub bare-is : (subs : List Holding) (empty : Bool) → AllByRecursion FitsSome subs → (IsTrue empty ↔ ((t : ℕ) (row : Row) → has_point subs t row ≡ false)) → list_all (λ h. is_nothing h.rects) subs ≡ empty
+bare-is subs empty fit is = by (list_all (λ h. is_nothing h.rects) subs) empty refl refl
   where
-    own : IsTrue (list_all (λ h. is_bare h.rects) subs) ↔ ((t : ℕ) (row : Row) → has_point subs t row ≡ false)
-    own = empty_where_bare subs (list_all (λ h. is_bare h.rects) subs) fit refl
+    own : IsTrue (list_all (λ h. is_nothing h.rects) subs) ↔ ((t : ℕ) (row : Row) → has_point subs t row ≡ false)
+    own = empty_where_bare subs (list_all (λ h. is_nothing h.rects) subs) fit refl
 
-    by : (a b : Bool) → list_all (λ h. is_bare h.rects) subs ≡ a → empty ≡ b → a ≡ b
+    by : (a b : Bool) → list_all (λ h. is_nothing h.rects) subs ≡ a → empty ≡ b → a ≡ b
     by true true e f = refl
     by false false e f = refl
     by true false e f = let wrong : empty ≡ true = is.1 (own.0 e) in absurd (let no : false ≡ true = sym f ∙ wrong in cc)
-    by false true e f = let wrong : list_all (λ h. is_bare h.rects) subs ≡ true = own.1 (is.0 f) in absurd (let no : false ≡ true = sym e ∙ wrong in cc)
+    by false true e f = let wrong : list_all (λ h. is_nothing h.rects) subs ≡ true = own.1 (is.0 f) in absurd (let no : false ≡ true = sym e ∙ wrong in cc)
 
 pub lapse-sent : (db : Database) (held : Held) (before after : List Message) (v : ℕ) → Logs db held → before ≡ [] → after ≡ before ++ Lapse v ∷ [] → v ≡ log.newest held → after ≡ Lapse (newest db) ∷ []
 lapse-sent db held before after v keeps none is at =
@@ -258,28 +257,28 @@ none-closing db session le below =
 pub some-closing : (db : Database) (held : Held) (session : Session) → Logs db held → held.floor ≤ session.upto → session.upto < newest db
     → closing_if (is_lost db session) db session ≡ (if not (list_any (touches session.subscription) (last_changes (entries_above session.upto held))) then Notice (newest db) [] ∷ [] else [])
 some-closing db held session keeps le later =
-    let reaches : nat_lt session.upto (newest db) ≡ true = is-below session.upto (newest db) later in
+    let reaches : nat_lt session.upto (newest db) ≡ true = lt-ltb session.upto (newest db) later in
     kept-closing db session (subst (λ f. f ≤ session.upto) keeps.2 le)
     ∙ rw reaches
     (closing-any (newest db) (touches session.subscription) (changes_at db.schema db.versions (newest db))
     ∙ ap (λ cs. if not (list_any (touches session.subscription) cs) then Notice (newest db) [] ∷ [] else []) (sym (last-are db held session.upto keeps le later)))
 
 -- something was dropped, but nothing is subscribed
-pub bare-closing : (db : Database) (session : Session) → list_all (λ h. is_bare h.rects) session.subscription ≡ true → session.upto < newest db
+pub bare-closing : (db : Database) (session : Session) → list_all (λ h. is_nothing h.rects) session.subscription ≡ true → session.upto < newest db
     → closing_if (is_lost db session) db session ≡ Notice (newest db) [] ∷ []
 bare-closing db session bare later =
     let none : subscribes_some session.subscription ≡ false = ap not bare in
     let not_lost : is_lost db session ≡ false = rw none refl in
-    let reaches : nat_lt session.upto (newest db) ≡ true = is-below session.upto (newest db) later in
+    let reaches : nat_lt session.upto (newest db) ≡ true = lt-ltb session.upto (newest db) later in
     ap (λ b. closing_if b db session) not_lost
     ∙ rw reaches (ap (λ cs. closing (newest db) (map tell_of cs)) (none-touch session.subscription (changes_at db.schema db.versions (newest db)) bare))
 
 -- something was dropped that is due
-pub lost-closing : (db : Database) (session : Session) → list_all (λ h. is_bare h.rects) session.subscription ≡ false → session.upto < floor_of db
+pub lost-closing : (db : Database) (session : Session) → list_all (λ h. is_nothing h.rects) session.subscription ≡ false → session.upto < floor_of db
     → closing_if (is_lost db session) db session ≡ []
 lost-closing db session some lt =
     let has : subscribes_some session.subscription ≡ true = ap not some in
-    let lost : is_lost db session ≡ true = rw (has, is-below session.upto (floor_of db) lt) refl in
+    let lost : is_lost db session ≡ true = rw (has, lt-ltb session.upto (floor_of db) lt) refl in
     ap (λ b. closing_if b db session) lost
 
 -- ---- sessions as their fields say
@@ -290,11 +289,8 @@ session-of subscription upto = record { subscription = subscription; upto = upto
 pub made-of : (one other : List Holding) (u v : ℕ) → one ≡ other → u ≡ v → session-of one u ≡ session-of other v
 made-of one other u v subscription upto = ap (λ s. session-of s u) subscription ∙ ap (λ n. session-of other n) upto
 
-pub floor-below : (db : Database) → floor_of db ≤ newest db
-floor-below db = let within = floor-within db.log_limit (all_changes db.schema db.versions) in let count = changes-count db.schema db.versions in omega (arith, within, count)
-
 pub bare-now : (session inside : Session) (empty : Bool) → inside ≡ session → AllByRecursion FitsSome session.subscription
-    → (IsTrue empty ↔ ((t : ℕ) (row : Row) → has_point inside.subscription t row ≡ false)) → list_all (λ h. is_bare h.rects) session.subscription ≡ empty
+    → (IsTrue empty ↔ ((t : ℕ) (row : Row) → has_point inside.subscription t row ≡ false)) → list_all (λ h. is_nothing h.rects) session.subscription ≡ empty
 bare-now session inside empty same fit is =
     bare-is session.subscription empty fit (subst (λ (s : Session). IsTrue empty ↔ ((t : ℕ) (row : Row) → has_point s.subscription t row ≡ false)) same is)
 
@@ -318,7 +314,7 @@ some-closes db held session inside entries told v same keeps there at later are 
     (some-closing db held inside keeps (not-below inside.upto held.floor there) (omega (arith, later, at, newest-is db held keeps))
     ∙ ap (λ b. if not b then Notice (newest db) [] ∷ [] else []) (sym (is ∙ ap (λ es. list_any (touches inside.subscription) (last_changes es)) are)))
 
-bare-or-lost : (db : Database) (session : Session) (empty : Bool) → list_all (λ h. is_bare h.rects) session.subscription ≡ empty → session.upto < floor_of db → session.upto < newest db
+bare-or-lost : (db : Database) (session : Session) (empty : Bool) → list_all (λ h. is_nothing h.rects) session.subscription ≡ empty → session.upto < floor_of db → session.upto < newest db
     → closing_if (is_lost db session) db session ≡ (if empty then Notice (newest db) [] ∷ [] else [])
 bare-or-lost db session true bare below later = bare-closing db session bare later
 bare-or-lost db session false bare below later = lost-closing db session bare below

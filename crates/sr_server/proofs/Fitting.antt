@@ -16,7 +16,7 @@ use Rattle.sr_wire.specs.declared.bad_frame.BadFrame.{BadFrame}
 use Rattle.sr_wire.specs.declared.bad_frame.BadFrame.TheVariants.{Direction, State, Shape}
 use Rattle.sr_subs.specs.Subscription.{FitsSome}
 use Rattle.sr_session.specs.Misfits.{or_else}
-use Rattle.sr_session.specs.Sessions.{Database, Session, due, due_if, floor_of, holding_of, is_lost, newest, opened, serve, serve_ask, serve_push, serve_resume, serve_write}
+use Rattle.sr_session.specs.Sessions.{Database, Session, due, due_if, floor_of, holding_of, is_lost, newest, opened, serve, serve_ask, serve_resume, serve_write}
 use Rattle.sr_session.specs.Refusals.{are_columns, holding_suits, is_open, is_request, part_suits, server_misfit, suits_schema, suits_state, suits_table}
 use Rattle.sr_server.specs.Servers.{IsSession, IsSessionIf}
 
@@ -66,16 +66,6 @@ suits-schema schema session client m none =
     (behind-state (suits_state (is_open session) client m) (or_else (not (suits_schema schema m)) Shape None)
     (behind-direction (is_request m) (or_else (not (suits_state (is_open session) client m)) State (or_else (not (suits_schema schema m)) Shape None)) none))
 
-state-of : (suits : Bool) (later : Option BadFrame) → or_else (not suits) State later ≡ None → suits ≡ true
-state-of true later is = refl
-state-of false later is = absurd (cc)
-
--- nor against its state
-pub suits-state : (schema : List Table) (session : Option Session) (client : ℕ) (m : Message) → server_misfit schema session client m ≡ None → suits_state (is_open session) client m ≡ true
-suits-state schema session client m none =
-    state-of (suits_state (is_open session) client m) (or_else (not (suits_schema schema m)) Shape None)
-    (behind-direction (is_request m) (or_else (not (suits_state (is_open session) client m)) State (or_else (not (suits_schema schema m)) Shape None)) none)
-
 -- ---- sessions
 
 due-fits : (db : Database) (session : Session) (lost : Bool) → AllByRecursion FitsSome session.subscription → AllByRecursion FitsSome (due_if lost db session).subscription
@@ -84,9 +74,6 @@ due-fits db session false all = all
 
 reached : (db : Database) (subscription : List Holding) → AllByRecursion FitsSome subscription → IsSessionIf db (opened db subscription)
 reached db subscription all = record { upto = omega arith; points = all }
-
-pub push-fits : (db : Database) (session : Session) → IsSession db session → IsSessionIf db (serve_push db session).session
-push-fits db session is = reached db (due db session).subscription (due-fits db session (is_lost db session) is.points)
 
 pub write-fits : (db : Database) (session : Session) (number : ℕ) (fault : Option Fault) → IsSession db session → IsSessionIf db (serve_write db session number fault).session
 write-fits db session number None is = reached db (due db session).subscription (due-fits db session (is_lost db session) is.points)

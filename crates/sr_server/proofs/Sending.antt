@@ -1,10 +1,9 @@
 -- What a server sends is inside the limits of the format.
 use Rattle.std.proofs.Common.{◌≡◌, ℕ, ℤ, zero, suc, ◌+◌, ◌-◌, ◌≤◌, ◌<◌, Bool, true, false, List, [], ◌∷◌, ◌++◌, length, map, take, drop, refl, sym, ◌∙◌, ap, subst, arith, Option, Some, None, Result, Ok, Err}
-use Rattle.std.specs.Prelude.{pos, ◌&&◌, not, nat_le, nat_lt, filter, find, fold, slice_index_or, if◌then◌else◌}
+use Rattle.std.specs.Prelude.{◌&&◌, not, nat_le, nat_lt, filter, find, if◌then◌else◌}
 use Rattle.std.specs.List.{list_all, All}
 use Rattle.std.specs.Cmp.Derive.{both_true}
-use Rattle.std.proofs.lemmas.Bool.{and_parts}
-use Rattle.std.proofs.lemmas.Bool.Decides.{nat_tests}
+use Rattle.std.proofs.lemmas.Bool.{and_parts, leb-true, ltb-true}
 use Rattle.std.proofs.lemmas.List.{length-append, length-map}
 use Rattle.std.proofs.lemmas.List.Folds.{list_all-append}
 use Rattle.std.proofs.lemmas.List.Elements.{All-nil, All-cons, All-append}
@@ -17,8 +16,9 @@ use Rattle.sr_cell.specs.declared.table.Kind.{Kind}
 use Rattle.sr_cell.specs.declared.table.Kind.TheVariants.{Num as Numbers, Str as Texts}
 use Rattle.sr_cell.specs.declared.table.Table.{Table}
 use Rattle.sr_cell.specs.Attrs.{has_column, project, project_from}
-use Rattle.sr_cell.specs.Cells.{Row, cell_at, cell_eq, cell_le}
+use Rattle.sr_cell.specs.Cells.{Row, cell_at, cell_eq}
 use Rattle.sr_cell.specs.Columns.{takes_kind, takes_cell, fits_columns, table_at}
+use Rattle.sr_cell.proofs.Lists.{list_all-filter}
 use Rattle.sr_box.specs.Points.{in_any, rect_fits, constrains_only}
 use Rattle.sr_message.specs.declared.message.AskPart.{AskPart}
 use Rattle.sr_message.specs.declared.message.Holding.{Holding}
@@ -28,35 +28,25 @@ use Rattle.sr_message.specs.declared.message.Tell.{Tell}
 use Rattle.sr_message.specs.Tells.{tell_of}
 use Rattle.sr_subs.specs.Subscription.{touches}
 use Rattle.sr_bytes.specs.Spelling.{is_from_to}
-use Rattle.sr_bytes.specs.Writing.{may_write_cell, may_write_row, may_write_rows}
+use Rattle.sr_bytes.specs.Writing.{may_write_cell, may_write_row}
+use Rattle.sr_bytes.proofs.Numbers.{from-to}
 use Rattle.sr_wire.specs.Limits.{may_write_after, may_write_tell, IsSendable}
 use Rattle.sr_wire.specs.declared.bad_frame.BadFrame.TheVariants.{Direction, State, Shape}
 use Rattle.sr_wire.proofs.Sizes.{few_are_sendable}
 use Rattle.sr_model.specs.Changes.{changes, changes_at, changes_from, table_changes, all_keys, row_with, same_row, version_at}
 use Rattle.sr_model.specs.Queries.{rows_at}
-use Rattle.sr_model.specs.SortedRows.{ascend, has_key, with_row}
+use Rattle.sr_model.specs.SortedRows.{ascend}
 use Rattle.sr_model.specs.Statements.{Tables}
 use Rattle.sr_query.specs.Bound.{is_table}
 use Rattle.sr_session.specs.Misfits.{or_else}
-use Rattle.sr_session.specs.Refusals.{is_request, suits_state, is_open, suits_schema, part_suits, suits_table, are_columns, server_misfit, has_few_parts}
+use Rattle.sr_session.specs.Refusals.{part_suits, suits_table, are_columns, server_misfit, has_few_parts}
 use Rattle.sr_session.specs.Scenes.{taken}
-use Rattle.sr_session.specs.Sessions.{Database, Session, Served, all_changes, asked_rows, closing, closing_if, due, due_if, floor_of, is_lost, newest, notice, notices, pieces, pushed, reply_messages, row_messages, serve, serve_ask, serve_push, serve_resume, tables_of, told_at, with_version}
+use Rattle.sr_session.specs.Sessions.{Database, Session, Served, all_changes, asked_rows, closing, closing_if, due, due_if, floor_of, is_lost, newest, notice, notices, pieces, reply_messages, row_messages, serve_ask, serve_push, serve_resume, tables_of, told_at, with_version}
+use Rattle.sr_session.proofs.TellLemmas.{keys-all}
+use Rattle.sr_session.proofs.TableLemmas.{HasColumns, one-table}
 use Rattle.sr_tables.specs.Stored.{are_rows, are_stored}
-use Rattle.sr_server.specs.Servers.{are_few, IsSession, IsSessionIf, IsSound}
-
--- ---- numbers
-
-is-le : (a b : ℕ) → a ≤ b → nat_le a b ≡ true
-is-le a b le = grind (arith, nat_tests)
-
-at-most : (a b : ℕ) → nat_le a b ≡ true → a ≤ b
-at-most a b le = grind (arith, nat_tests)
-
-less : (a b : ℕ) → nat_lt a b ≡ true → a < b
-less a b lt = grind (arith, nat_tests)
-
-from-to : (low high n : ℕ) → low ≤ n → n ≤ high → is_from_to low high n ≡ true
-from-to low high n above below = both_true (is-le low n above) (is-le n high below)
+use Rattle.sr_tables.proofs.Keeping.{fits_columns-long}
+use Rattle.sr_server.specs.Servers.{are_few, IsSessionIf, IsSound}
 
 -- ---- rows of a table
 
@@ -74,25 +64,9 @@ cells-short (c ∷ columns) (v ∷ row) fits =
     let p = and_parts (takes_cell c v) (fits_columns columns row) fits in
     both_true (cell-short c.kind c.lo c.hi v p.0) (cells-short columns row p.1)
 
-row-length : (columns : List Column) (row : Row) → fits_columns columns row ≡ true → length row ≡ length columns
-row-length [] [] fits = refl
-row-length [] (v ∷ row) fits = absurd (cc)
-row-length (c ∷ columns) [] fits = absurd (cc)
-row-length (c ∷ columns) (v ∷ row) fits = ap (λ n. suc n) (row-length columns row (and_parts (takes_cell c v) (fits_columns columns row) fits).1)
-
-record HasColumns (table : Table) : Type 0 where
-  key : table.key < length table.columns
-  few : length table.columns ≤ 12
-
-one-table : (table : Table) → is_table table ≡ true → HasColumns table
-one-table table is =
-    let sizes = (and_parts (nat_le (length table.columns) 12 && nat_lt table.key (length table.columns)) _ is).0 in
-    let both = and_parts (nat_le (length table.columns) 12) (nat_lt table.key (length table.columns)) sizes in
-    record { key = less table.key (length table.columns) both.1; few = at-most (length table.columns) 12 both.0 }
-
 row-may : (table : Table) (row : Row) → HasColumns table → fits_columns table.columns row ≡ true → may_write_row row ≡ true
 row-may table row has fits =
-    let size = row-length table.columns row fits in
+    let size = fits_columns-long table.columns row fits in
     let key = has.key in
     let few = has.few in
     both_true (from-to 1 12 (length row) (omega (arith, size, key)) (omega (arith, size, few))) (cells-short table.columns row fits)
@@ -106,26 +80,6 @@ cell-may (v ∷ row) (suc c) all = cell-may row c (and_parts (may_write_cell v) 
 
 abbrev may_tell : Change → Bool
 may_tell c = may_write_cell c.key && may_write_after c.after
-
-all-with : (p : Row → Bool) (key : ℕ) (rows : List Row) (row : Row) → list_all p rows ≡ true → p row ≡ true → list_all p (with_row key rows row) ≡ true
-all-with p key [] row all own = both_true own refl
-all-with p key (r ∷ rows) row all own =
-    let s = and_parts (p r) (list_all p rows) all in
-    go (cell_le (cell_at r key) (cell_at row key)) s.0 s.1 (all-with p key rows row s.1 own)
-  where
-    go : (b : Bool) → p r ≡ true → list_all p rows ≡ true → list_all p (with_row key rows row) ≡ true → list_all p (if b then r ∷ with_row key rows row else row ∷ r ∷ rows) ≡ true
-    go true here rest more = both_true here more
-    go false here rest more = both_true own (both_true here rest)
-
-all-keys : (p : Row → Bool) (key : ℕ) (old new : List Row) → list_all p old ≡ true → list_all p new ≡ true → list_all p (all_keys key old new) ≡ true
-all-keys p key old [] was is = was
-all-keys p key old (row ∷ new) was is =
-    let s = and_parts (p row) (list_all p new) is in
-    all-keys p key (if has_key key (cell_at row key) old then old else with_row key old row) new (go (has_key key (cell_at row key) old) s.0) s.1
-  where
-    go : (b : Bool) → p row ≡ true → list_all p (if b then old else with_row key old row) ≡ true
-    go true own = was
-    go false own = all-with p key old row was own
 
 found-may : (test : Row → Bool) (rows : List Row) → list_all may_write_row rows ≡ true → may_write_after (find test rows) ≡ true
 found-may test [] all = refl
@@ -151,14 +105,6 @@ changed-may table t old new (row ∷ keys) all is =
     let cells = (and_parts (is_from_to 1 12 (length row)) (list_all may_write_cell row) s.0).1 in
     both_true (both_true (cell-may row table.key cells) (found-may (λ r. cell_eq (cell_at r table.key) (cell_at row table.key)) new is)) (changed-may table t old new keys s.1 is)
 
-kept : {X : Type 0} (p q : X → Bool) (xs : List X) → list_all p xs ≡ true → list_all p (filter q xs) ≡ true
-kept p q [] all = refl
-kept {X} p q (x ∷ xs) all = let s = and_parts (p x) (list_all p xs) all in go (q x) s.0 (kept p q xs s.1)
-  where
-    go : (b : Bool) → p x ≡ true → list_all p (filter q xs) ≡ true → list_all p (if b then x ∷ filter q xs else filter q xs) ≡ true
-    go true own rest = both_true own rest
-    go false own rest = rest
-
 rows-fit : (table : Table) (rows : List Row) → are_rows table rows ≡ true → list_all (fits_columns table.columns) rows ≡ true
 rows-fit table rows are = (and_parts (ascend table.key rows) (list_all (fits_columns table.columns) rows) (and_parts (ascend table.key rows && list_all (fits_columns table.columns) rows) (nat_le (length rows) 65536) are).0).1
 
@@ -173,9 +119,9 @@ changes-may t (table ∷ schema) (o ∷ old) (n ∷ new) tables was is =
     let has = one-table table ts.0 in
     let old_rows = rows-may table o has (rows-fit table o ws.0) in
     let new_rows = rows-may table n has (rows-fit table n ns.0) in
-    let keys = all-keys may_write_row table.key o n old_rows new_rows in
+    let keys = keys-all may_write_row table.key o n old_rows new_rows in
     list_all-append may_tell (table_changes table t o n) (changes_from (t + 1) schema old new)
-    ∙ both_true (kept may_tell (λ (c : Change). not (same_row c.before c.after)) (map (change_of table t o n) (all_keys table.key o n)) (changed-may table t o n (all_keys table.key o n) keys new_rows))
+    ∙ both_true (list_all-filter may_tell (λ (c : Change). not (same_row c.before c.after)) (map (change_of table t o n) (all_keys table.key o n)) (changed-may table t o n (all_keys table.key o n) keys new_rows))
     (changes-may (t + 1) schema old new ts.1 ws.1 ns.1)
 
 all-changes-may : (schema : List Table) (old new : Tables) → list_all is_table schema ≡ true → are_stored schema old ≡ true → are_stored schema new ≡ true → list_all may_tell (changes schema old new) ≡ true
@@ -223,13 +169,13 @@ notice-sent db subscription v sound below =
     let count : length (changes_at db.schema db.versions (v + 1)) ≤ 10000 =
     subst (λ w. length (changes db.schema (version_at db.versions w) (version_at db.versions (v + 1))) ≤ 10000) (sym last)
     (subst (λ w. length (changes db.schema (version_at db.versions v) (version_at db.versions w)) ≤ 10000) (sym next)
-    (at-most (length (changes db.schema (version_at db.versions v) (version_at db.versions (suc v)))) 10000 (few-at db.schema db.versions v sound.few (omega (arith, below, some))))) in
+    (leb-true (length (changes db.schema (version_at db.versions v) (version_at db.versions (suc v)))) 10000 (few-at db.schema db.versions v sound.few (omega (arith, below, some))))) in
     let told = filter (touches subscription) (changes_at db.schema db.versions (v + 1)) in
     let size = length-map (filter (touches subscription) (changes_at db.schema db.versions (v + 1))) tell_of in
     let least = fewer (touches subscription) (changes_at db.schema db.versions (v + 1)) in
     few_are_sendable (Notice (v + 1) (told_at db subscription (v + 1)))
     (both_true (from-to 0 10000 (length (told_at db subscription (v + 1))) (omega arith) (omega (arith, size, least, count)))
-    (tells-may (filter (touches subscription) (changes_at db.schema db.versions (v + 1))) (kept may_tell (touches subscription) (changes_at db.schema db.versions (v + 1)) all))) refl
+    (tells-may (filter (touches subscription) (changes_at db.schema db.versions (v + 1))) (list_all-filter may_tell (touches subscription) (changes_at db.schema db.versions (v + 1)) all))) refl
 
 notice-if : (v : ℕ) (told : List Tell) → IsSendable (Notice v told) → All IsSendable (notice v told)
 notice-if v [] one = All-nil IsSendable
@@ -284,7 +230,7 @@ projected-may : (table : Table) (attrs : ℕ) (rows : List Row) → HasColumns t
 projected-may table attrs [] has key fits = refl
 projected-may table attrs (row ∷ rows) has key fits =
     let s = and_parts (fits_columns table.columns row) (list_all (fits_columns table.columns) rows) fits in
-    let size = row-length table.columns row s.0 in
+    let size = fits_columns-long table.columns row s.0 in
     let below = has.key in
     let most = has.few in
     let few = projected-few 0 attrs row in
@@ -309,8 +255,8 @@ asked-may schema tables ask stored all suits =
     (and_parts (are_columns ask.attrs (length (table_at schema ask.table).columns) && has_column ask.attrs (table_at schema ask.table).key && list_all (rect_fits (table_at schema ask.table).columns) ask.rects)
     (list_all (constrains_only ask.attrs 0) ask.rects) two.1).0 in
     let key = (and_parts (are_columns ask.attrs (length (table_at schema ask.table).columns)) (has_column ask.attrs (table_at schema ask.table).key) own.0).1 in
-    let fits = table-fits schema tables ask.table stored all (less ask.table (length schema) two.0) in
-    projected-may (table_at schema ask.table) ask.attrs (filter (in_any ask.rects) (rows_at tables ask.table)) fits.0 key (kept (fits_columns (table_at schema ask.table).columns) (in_any ask.rects) (rows_at tables ask.table) fits.1)
+    let fits = table-fits schema tables ask.table stored all (ltb-true ask.table (length schema) two.0) in
+    projected-may (table_at schema ask.table) ask.attrs (filter (in_any ask.rects) (rows_at tables ask.table)) fits.0 key (list_all-filter (fits_columns (table_at schema ask.table).columns) (in_any ask.rects) (rows_at tables ask.table) fits.1)
 
 -- in pieces
 front-may : (n : ℕ) (rows : List Row) → list_all may_write_row rows ≡ true → list_all may_write_row (take n rows) ≡ true
@@ -372,7 +318,7 @@ resume-sent db number version holdings sound = by (nat_le version (newest db)) (
         → All IsSendable (let here : Served = if a && b then record { session = Some (record { subscription = holdings; upto = newest db }); sent = notices db holdings version (newest db - version) ++ Welcome number (newest db) true ∷ [] }
         else record { session = Some (record { subscription = []; upto = newest db }); sent = Welcome number (newest db) false ∷ [] } in here).sent
     by true true is =
-        let within = at-most version (newest db) is in
+        let within = leb-true version (newest db) is in
         All-append IsSendable (notices db holdings version (newest db - version)) (Welcome number (newest db) true ∷ []) (notices-sent db holdings version (newest db - version) sound (omega (arith, within)))
         (one-sent (Welcome number (newest db) true) (few_are_sendable (Welcome number (newest db) true) refl refl))
     by true false is = one-sent (Welcome number (newest db) false) (few_are_sendable (Welcome number (newest db) false) refl refl)
@@ -400,7 +346,7 @@ taken-sent db None client (Written number version) result sound own later fits f
 taken-sent db None client (Refused number fault) result sound own later fits few = All-nil IsSendable
 taken-sent db None client (Lapse version) result sound own later fits few = All-nil IsSendable
 taken-sent db (Some session) client (Ask number fresh parts) result sound own later fits few =
-    ask-sent db session number fresh parts sound own.upto (at-most (length parts) 4 few) (suits-schema true true (list_all (part_suits db.schema) parts) fits)
+    ask-sent db session number fresh parts sound own.upto (leb-true (length parts) 4 few) (suits-schema true true (list_all (part_suits db.schema) parts) fits)
 taken-sent db (Some session) client (Write number sql) (Ok tables) sound own later fits few =
     let before = own.upto in
     let some = sound.some in

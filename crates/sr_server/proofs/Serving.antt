@@ -2,6 +2,7 @@
 use Rattle.std.proofs.Common.{◌≡◌, ℕ, ◌-◌, ◌<◌, ◌≤◌, Bool, true, false, List, [], ◌∷◌, ◌++◌, map, refl, ◌∙◌, ap, subst, arith, Option, Some}
 use Rattle.std.specs.Prelude.{nat_le, if◌then◌else◌}
 use Rattle.std.proofs.lemmas.Bool.Decides.{nat_tests}
+use Rattle.std.proofs.lemmas.Bool.{le-leb}
 use Rattle.sr_message.specs.declared.message.AskPart.{AskPart}
 use Rattle.sr_message.specs.declared.message.Holding.{Holding}
 use Rattle.sr_message.specs.declared.message.Message.{Message}
@@ -61,9 +62,6 @@ anew-served db held number v subs before sent keeps none at empty made =
 not-yet : (v n : ℕ) → n < v → nat_le v n ≡ false
 not-yet v n later = grind (arith, nat_tests, later)
 
-reaches : (v n : ℕ) → v ≤ n → nat_le v n ≡ true
-reaches v n le = grind (arith, nat_tests, le)
-
 -- at a version that is not there yet
 pub later-resume : (db : Database) (held : Held) (number version v : ℕ) (holdings : List Holding) → Logs db held → v ≡ log.newest held → v < version
     → served-of (opened db []) (Welcome number (newest db) false ∷ []) ≡ serve_resume db number version holdings
@@ -85,7 +83,7 @@ kept-resume db held number version v holdings entries keeps at within there are 
     (ap (λ es. noticed holdings es ++ Welcome number (log.newest held) true ∷ []) are
     ∙ (ap (λ ms. ms ++ Welcome number (log.newest held) true ∷ []) (entries-noticed db held holdings version keeps le up)
     ∙ ap (λ w. notices db holdings version (newest db - version) ++ Welcome number w true ∷ []) (newest-is db held keeps)))
-    ∙ rw (reaches version (newest db) up, reaches (floor_of db) version floor) refl
+    ∙ rw (le-leb version (newest db) up, le-leb (floor_of db) version floor) refl
 
 -- ---- a write
 

@@ -1,15 +1,11 @@
 -- Sessions by the numbers of their clients.
 use Rattle.std.proofs.Common.{◌≡◌, ℕ, ◌-◌, ◌<◌, List, length, ◌∙◌, ap, subst, arith, Option, Some, None}
 use Rattle.std.specs.List.{All}
-use Rattle.std.proofs.lemmas.List.{set-get_or, set-set}
+use Rattle.std.proofs.lemmas.List.{set-set}
 use Rattle.std.proofs.lemmas.List.Elements.{All-set, All-get_or}
 use Rattle.sr_session.specs.Sessions.{Database, Session}
 use Rattle.sr_server.specs.declared.server.Server.{Server}
 use Rattle.sr_server.specs.Servers.{IsClientNumber, IsSession, IsSessionIf, session_at, with_session}
-
--- what was there, put back
-pub same-session : (sessions : List (Option Session)) (client : ℕ) → with_session sessions client (session_at sessions client) ≡ sessions
-same-session sessions client = set-get_or sessions (client - 1) None
 
 -- the last one that is put there
 pub last-session : (sessions : List (Option Session)) (client : ℕ) (one other : Option Session) → with_session (with_session sessions client one) client other ≡ with_session sessions client other

@@ -1,35 +1,32 @@
 -- A server at the first version, and after a statement.
 use Rattle.std.proofs.Common.{◌≡◌, ℕ, suc, ◌-◌, ◌<◌, ◌≤◌, true, List, [], ◌∷◌, ◌++◌, length, refl, sym, ◌∙◌, ap, subst, arith, Option, Some, None}
-use Rattle.std.specs.Prelude.{Bool, nat_le, replicate, IsTrue}
+use Rattle.std.specs.Prelude.{nat_le, replicate, IsTrue}
 use Rattle.std.specs.List.{All, list_all}
 use Rattle.std.proofs.lemmas.List.{length-append, length-replicate}
 use Rattle.std.proofs.lemmas.List.Elements.{All-weaker, All-replicate}
-use Rattle.std.proofs.lemmas.List.Folds.{list_all-append}
 use Rattle.std.proofs.lemmas.Bool.Decides.{nat_tests}
 use Rattle.sr_cell.specs.declared.change.Change.{Change}
 use Rattle.sr_cell.specs.declared.table.Table.{Table}
-use Rattle.sr_keyed.specs.Keyed.{are_values}
+use Rattle.sr_cell.specs.Columns.{are_values}
+use Rattle.sr_cell.proofs.Lists.{list_all-push}
 use Rattle.sr_log.specs.Held.{Held, KeepsNewest, IsPushed}
 use Rattle.sr_log.proofs.Again.{push_keeps_newest}
 use Rattle.sr_model.specs.Statements.{Tables}
 use Rattle.sr_model.specs.Changes.{changes, newest_of, version_at}
 use Rattle.sr_query.specs.Bound.{is_table}
 use Rattle.sr_session.specs.Sessions.{Database, Session, all_changes, newest, tables_of, with_version}
+use Rattle.sr_session.proofs.TableLemmas.{last-version}
 use Rattle.sr_tables.specs.Stored.{Stored, are_stored}
 use Rattle.sr_server.specs.declared.server.Server.{Server}
 use Rattle.sr_server.specs.Servers.{are_few, IsCarriedOut, IsServer, IsSessionIf, IsSound, Logs, first_database}
 
 -- ---- a version more
 
-at-end : (versions : List Tables) (tables : Tables) → version_at (versions ++ tables ∷ []) (length versions) ≡ tables
-at-end [] tables = refl
-at-end (old ∷ versions) tables = at-end versions tables
-
 pub newest-more : (db : Database) (tables : Tables) → newest (with_version db tables) ≡ length db.versions
 newest-more db tables = omega (arith, length-append db.versions (tables ∷ []))
 
 tables-more : (db : Database) (tables : Tables) → tables_of (with_version db tables) (newest (with_version db tables)) ≡ tables
-tables-more db tables = ap (λ v. version_at (db.versions ++ tables ∷ []) v) (newest-more db tables) ∙ at-end db.versions tables
+tables-more db tables = ap (λ v. version_at (db.versions ++ tables ∷ []) v) (newest-more db tables) ∙ last-version db.versions tables
 
 later-newest : (db : Database) (tables : Tables) → newest db ≤ newest (with_version db tables)
 later-newest db tables = let more = newest-more db tables in omega (arith, more)
@@ -63,15 +60,12 @@ sessions-stay db tables sessions all = All-weaker (IsSessionIf db) (IsSessionIf 
 
 -- ---- what is sound
 
-all-more : {X : Type 0} (test : X → Bool) (xs : List X) (x : X) → list_all test xs ≡ true → test x ≡ true → list_all test (xs ++ x ∷ []) ≡ true
-all-more test xs x all one = list_all-append test xs (x ∷ []) ∙ rw (all, one) refl
-
 few-more : (db : Database) (tables : Tables) (made : List Change) → IsSound db → made ≡ changes db.schema (tables_of db (newest db)) tables → length made ≤ 10000
     → list_all are_few (all_changes db.schema (db.versions ++ tables ∷ [])) ≡ true
 few-more db tables made sound are few =
     let last : are_few made ≡ true = by (length made) few in
     ap (list_all are_few) (changes-more db.schema db.versions tables sound.some)
-    ∙ all-more are_few (all_changes db.schema db.versions) (changes db.schema (tables_of db (newest db)) tables) sound.few (ap are_few (sym are) ∙ last)
+    ∙ list_all-push are_few (all_changes db.schema db.versions) (changes db.schema (tables_of db (newest db)) tables) sound.few (ap are_few (sym are) ∙ last)
   where
     by : (n : ℕ) → n ≤ 10000 → nat_le n 10000 ≡ true
     by n few = grind (arith, nat_tests)
@@ -81,8 +75,8 @@ sound-more : (db : Database) (tables : Tables) (made : List Change) → IsSound 
 sound-more db tables made sound stored values are few = record {
   tables = sound.tables;
   some = (let more = length-append db.versions (tables ∷ []) in omega (arith, more));
-  stored = all-more (are_stored db.schema) db.versions tables sound.stored stored;
-  values = all-more (list_all (list_all are_values)) db.versions tables sound.values values;
+  stored = list_all-push (are_stored db.schema) db.versions tables sound.stored stored;
+  values = list_all-push (list_all (list_all are_values)) db.versions tables sound.values values;
   few = few-more db tables made sound are few;
 }
 

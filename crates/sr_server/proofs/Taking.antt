@@ -14,7 +14,7 @@ use Rattle.sr_model.specs.Statements.{Tables}
 use Rattle.sr_grammar_laws.proofs.RowCounts.{fewer_rows}
 use Rattle.sr_session.specs.Scenes.{Taken, taken}
 use Rattle.sr_session.specs.Sessions.{Database, Session, newest, serve, serve_write, tables_of, with_version}
-use Rattle.sr_tables.specs.Stored.{Stored, done_by, statement_is_short}
+use Rattle.sr_tables.specs.Stored.{Stored, statement_is_short}
 use Rattle.sr_server.specs.declared.server.Server.{Server}
 use Rattle.sr_session.specs.Refusals.{suits_schema}
 use Rattle.sr_server.specs.Servers.{Executes, Gives, GivesUp, IsCarriedOut, IsClientNumber, IsServer, IsSession, IsSessionIf, IsWritten, StandsForSome, Takes, session_at, with_session}
@@ -40,12 +40,6 @@ statement-short sql (Inserts s) says = let few = fewer_rows sql s says in short 
     short n few = grind (arith, nat_tests, few)
 statement-short sql (Updates s) says = refl
 statement-short sql (Deletes s) says = refl
-
-pub executes-said : (schema : List Table) (sql : List ℕ) (rows : Tables) (s : Statement) (result : Result Tables Fault) → Says sql (Ok s) → done_by schema s rows ≡ result → Executes schema sql rows result
-executes-said schema sql rows s result says done = (Ok s, says, sym done)
-
-pub executes-fault : (schema : List Table) (sql : List ℕ) (rows : Tables) (fault : Fault) → Says sql (Err fault) → Executes schema sql rows (Err fault)
-executes-fault schema sql rows fault says = (Err fault, says, refl)
 
 -- ---- sessions
 
@@ -199,13 +193,6 @@ takes-refused db old mid after new client number sql session fault sent within i
       sessions = back-again old mid after new client (Some session) closed (ap (λ (s : Server). s.sessions) roomy) made
           ∙ ap (λ s. with_session old.sessions client (there s).served.session) (sym at);
     }
-
-pub gives-up-write : (db : Database) (old mid after new : Server) (client : ℕ) (m : Message) → IsServer old db → mid ≡ record old { sessions = with_session old.sessions client None }
-    → after ≡ record mid { log = record mid.log { room = after.log.room } } → new ≡ after → GivesUp db old client m new
-gives-up-write db old mid after new client m is closed roomy made = record {
-  stands = inl (subst (λ (s : Server). IsServer s db) (sym made) (roomy-stands db old mid after client is closed roomy));
-  sessions = ap (λ (s : Server). s.sessions) made ∙ (ap (λ (s : Server). s.sessions) roomy ∙ ap (λ (s : Server). s.sessions) closed);
-}
 
 -- ---- how many versions there are
 

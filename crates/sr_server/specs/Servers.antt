@@ -4,9 +4,10 @@ use Rattle.std.specs.List.{All, AllByRecursion, list_all}
 use Rattle.sr_cell.specs.declared.change.Change.{Change}
 use Rattle.sr_cell.specs.declared.fault.Fault.{Fault}
 use Rattle.sr_cell.specs.declared.table.Table.{Table}
+use Rattle.sr_cell.specs.Columns.{are_values}
+use Rattle.sr_cell.specs.Clients.{most_clients}
 use Rattle.sr_grammar.specs.Trees.{Statement}
 use Rattle.sr_grammar.specs.Says.{Says}
-use Rattle.sr_keyed.specs.Keyed.{are_values}
 use Rattle.sr_log.specs.Held.{Held, IsPushed, KeepsNewest}
 use Rattle.sr_message.specs.declared.message.Message.{Message}
 use Rattle.sr_message.specs.declared.message.Message.TheVariants.{Write}
@@ -21,10 +22,6 @@ use Rattle.sr_tables.specs.Stored.{Stored, are_stored, done_by}
 use Rattle.sr_server.specs.declared.server.Server.{Server}
 
 -- ---- sessions
-
--- clients are numbered from 1
-abbrev pub most_clients : ℕ
-most_clients = 64
 
 abbrev pub IsClientNumber : ℕ → Type 0
 IsClientNumber client = (1 ≤ client) × (client ≤ most_clients)

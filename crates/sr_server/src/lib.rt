@@ -7,5 +7,3 @@ mod reply;
 mod serve;
 pub mod server;
 pub mod session;
-#[cfg(test)]
-mod tests;

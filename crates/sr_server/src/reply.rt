@@ -5,13 +5,31 @@ ghost use Rattle.sr_session.specs.Sessions.{pieces, row_messages};
 
 use sr_cell::cell::{Row, Rows};
 use sr_cell::list::{NoMemory, Seq};
-use sr_message::message::{AskParts, Message, Messages};
+use sr_message::message::{AskPart, AskParts, Message, Messages};
 use sr_tables::tables::Tables;
 use std::alloc::Global;
 use std::collections::VecDeque;
 
 /// The most rows of one message.
 const PIECE: usize = 256;
+
+/// Makes indexes by which the rows of an ask are found, where memory is to be had: no row changes.
+pub(crate) fn index_asked(alloc: Global, tables: &mut Tables, message: &Message)
+    ensures { tables.new ≡ tables.old }
+{
+    match message {
+        Message::Ask { parts, .. } => index_parts(alloc, tables, parts.as_slice()),
+        _ => {}
+    }
+}
+
+fn index_parts(alloc: Global, tables: &mut Tables, parts: &[AskPart])
+    ensures { tables.new ≡ tables.old }
+{
+    for part in parts {
+        tables.index(alloc, part.table, &part.rects);
+    }
+}
 
 /// The rows that are asked, part by part, in messages of 256 rows, and the reply of that version.
 pub(crate) fn reply(

@@ -4,7 +4,7 @@ ghost use Rattle.std.specs.List.{list_all, All, AllByRecursion};
 ghost use Rattle.sr_cell.specs.declared.fault.Fault.{Fault as TheFault};
 ghost use Rattle.sr_cell.specs.declared.list.No.TheVariants.{Refused, NoMemory as Wanting};
 ghost use Rattle.sr_grammar.specs.Seen.{statement_seen};
-ghost use Rattle.sr_keyed.specs.Keyed.{are_values};
+ghost use Rattle.sr_cell.specs.Columns.{are_values};
 ghost use Rattle.sr_log.specs.Held.{newest as newest_of, IsPushed};
 ghost use Rattle.sr_message.specs.declared.message.Message.TheVariants.{Write as WriteOf, Refused as RefusedOf};
 ghost use Rattle.sr_model.specs.Statements.{executed};
@@ -20,6 +20,7 @@ ghost use Rattle.sr_server.specs.Servers.{IsCarriedOut, IsClientNumber, IsServer
 
 use crate::due::pushed;
 use crate::misfit::server_misfit;
+use crate::reply::index_asked;
 use crate::serve::{serve, serve_written};
 use crate::session::Session;
 use sr_cell::change::Changes;
@@ -208,6 +209,13 @@ impl Server {
         }
     }
 
+    /// Makes indexes by which the rows of an ask are found, where memory is to be had: no row changes.
+    fn index_asked(&mut self, alloc: Global, message: &Message)
+        ensures { self.new ≡ self.old }
+    {
+        index_asked(alloc, &mut self.tables, message);
+    }
+
     /// Takes a request that is no write.
     fn take_request(
         &mut self,
@@ -222,6 +230,7 @@ impl Server {
         ensures session { (db : Database) → IsServer self.old db → OnOk result (self.new ≡ record self.old { sessions = with_session self.old.sessions client (serve db (session_at self.old.sessions client) message.now).session }) }
         ensures closed { OnErr result (self.new ≡ record self.old { sessions = with_session self.old.sessions client None }) }
     {
+        self.index_asked(alloc, message);
         let session = self.close(client);
         let served = serve(alloc, &self.tables, &self.log, session, message)?;
         self.set(client, served.session);

@@ -12,7 +12,8 @@ use Rattle.sr_model.specs.Changes.{table_changes, same_row}
 use Rattle.sr_rows.proofs.Order.{is_first, ascend-tail, ascend-first}
 use Rattle.sr_rows.proofs.Elements.{row_eq-refl}
 use Rattle.sr_rows.specs.Keys.{without_key}
-use Rattle.sr_tables.proofs.Keys.{first-lacks, first-differs}
+use Rattle.sr_rows.proofs.Places.{first-lacks}
+use Rattle.sr_tables.proofs.Keys.{first-differs}
 use Rattle.sr_tables.proofs.Kept.{change_by, changes-kept, map-passed}
 
 module _ (p : Row → Bool) where

@@ -1,18 +1,21 @@
 -- Ends of the values that a comparison is true of.
-use Rattle.std.proofs.Common.{◌≡◌, ℕ, zero, suc, Bool, true, false, not, ◌||◌, List, [], ◌∷◌, length, refl, sym, ap, ◌∙◌, arith}
+use Rattle.std.proofs.Common.{◌≡◌, ℕ, zero, suc, ◌+◌, Bool, true, false, not, ◌||◌, List, [], ◌∷◌, length, take, get_or, refl, sym, ap, subst, ◌∙◌, arith}
 use Rattle.std.specs.Prelude.{ℤ, ◌<◌, Option, Some, None, slice_index_or, slice_get, if◌then◌else◌}
+use Rattle.std.specs.Cmp.{first_so, second_so}
 use Rattle.std.proofs.lemmas.Int.{ints}
+use Rattle.std.proofs.lemmas.List.Folds.{list_any_more}
 use Rattle.sr_cell.specs.declared.cell.Cell.{Cell}
 use Rattle.sr_cell.specs.declared.cell.Cell.TheVariants.{Num, Str}
 use Rattle.sr_cell.specs.declared.table.Kind.{Kind}
 use Rattle.sr_cell.specs.declared.table.Kind.TheVariants.{Num as Numbers, Str as Texts}
 use Rattle.sr_cell.specs.declared.table.Column.{Column}
-use Rattle.sr_cell.specs.Cells.{Row, cell_at, cell_le}
+use Rattle.sr_cell.specs.Cells.{Row, cell_at, cell_le, text_le}
+use Rattle.sr_cell.proofs.Order.{text_le-total as text_above}
 use Rattle.sr_cell.specs.Columns.{takes_kind, fits_columns}
 use Rattle.sr_box.specs.declared.span.Span.{Span}
-use Rattle.sr_box.specs.declared.span.Span.TheVariants.{Nums}
-use Rattle.sr_box.specs.Spans.{in_span}
-use Rattle.sr_box.specs.Points.{Rect, in_rect}
+use Rattle.sr_box.specs.declared.span.Span.TheVariants.{Nums, Strs}
+use Rattle.sr_box.specs.Spans.{in_span, is_below}
+use Rattle.sr_box.specs.Points.{Rect, in_rect, in_any}
 use Rattle.sr_rows.proofs.Order.{text_le-total}
 use Rattle.sr_keyed.specs.Keyed.{is_of, is_from, is_up_to, is_between}
 
@@ -66,8 +69,35 @@ pub nums-high : (lo hi : ℤ) (v : Cell) → in_span (Nums lo hi) v ≡ true →
 nums-high lo hi (Num n) h = grind arith
 nums-high lo hi (Str t) h = absurd (cc)
 
+-- and those of its texts
+
+pub texts-low : (lo : List ℕ) (hi : Option (List ℕ)) (v : Cell) → in_span (Strs lo hi) v ≡ true → cell_le (Str lo) v ≡ true
+texts-low lo hi (Num n) h = absurd (cc)
+texts-low lo hi (Str t) h = first_so (text_le lo t) (is_below t hi) h
+
+pub text-below : (hi s : List ℕ) → not (text_le hi s) ≡ true → cell_le (Str s) (Str hi) ≡ true
+text-below hi s h = go (text_le hi s) refl h
+  where
+    go : (b : Bool) → text_le hi s ≡ b → not b ≡ true → text_le s hi ≡ true
+    go true is above = absurd (cc)
+    go false is above = text_above hi s is
+
+pub texts-high : (lo : List ℕ) (hi : Option (List ℕ)) (text v : Cell) → ((s : List ℕ) → is_below s hi ≡ true → cell_le (Str s) text ≡ true) → in_span (Strs lo hi) v ≡ true
+    → cell_le v text ≡ true
+texts-high lo hi text (Num n) below h = absurd (cc)
+texts-high lo hi text (Str s) below h = below s (second_so (text_le lo s) (is_below s hi) h)
+
 pub rect-at : (rect : Rect) (row : Row) (c : ℕ) (s : Span) → slice_get rect c ≡ Some s → in_rect rect row ≡ true → in_span s (cell_at row c) ≡ true
 rect-at [] row c s is h = absurd (cc)
 rect-at (t ∷ rect) [] c s is h = absurd (cc)
 rect-at (t ∷ rect) (v ∷ row) zero s is h = let same : t ≡ s = cc in let own : in_span t v ≡ true = grind arith in ap (λ u. in_span u v) (sym same) ∙ own
 rect-at (t ∷ rect) (v ∷ row) (suc c) s is h = rect-at rect row c s is (grind arith)
+
+-- what follows for the rects so far, and for the next one
+pub of-next : (rects : List Rect) (i : ℕ) (r : Rect) (row : Row) (b : Bool) → i < length rects → r ≡ get_or rects i r → (in_any (take i rects) row ≡ true → b ≡ true)
+    → (in_rect r row ≡ true → b ≡ true) → in_any (take (i + 1) rects) row ≡ true → b ≡ true
+of-next rects i r row b within is first next h = go (in_any (take i rects) row) refl (sym (list_any_more (λ q. in_rect q row) rects i r within) ∙ h)
+  where
+    go : (a : Bool) → in_any (take i rects) row ≡ a → (a || in_rect (get_or rects i r) row) ≡ true → b ≡ true
+    go true at h = first at
+    go false at h = next (subst (λ q. in_rect q row ≡ true) (sym is) h)

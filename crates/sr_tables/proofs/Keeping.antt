@@ -46,7 +46,7 @@ key-kind t k row keyed below fits =
     let kind = keyed.kind in
     cc
 
-fits_columns-long : (columns : List Column) (row : Row) → fits_columns columns row ≡ true → length row ≡ length columns
+pub fits_columns-long : (columns : List Column) (row : Row) → fits_columns columns row ≡ true → length row ≡ length columns
 fits_columns-long [] [] h = refl
 fits_columns-long [] (v ∷ row) h = absurd (cc)
 fits_columns-long (c ∷ columns) [] h = absurd (cc)

@@ -7,8 +7,9 @@ use Rattle.sr_cell.specs.Cells.{Row, cell_at, cell_le, cell_eq}
 use Rattle.sr_cell.proofs.Order.{cell_eq-refl}
 use Rattle.sr_model.specs.SortedRows.{key_lt, ascend, has_key, row_eq}
 use Rattle.sr_model.specs.Changes.{row_with}
-use Rattle.sr_rows.proofs.Order.{key_lt-not, is_first, ascend-tail, ascend-first, first-ascend}
+use Rattle.sr_rows.proofs.Order.{key_lt-not, is_first, ascend-tail, ascend-first}
 use Rattle.sr_rows.proofs.Elements.{row_eq-refl, row_eq-sound}
+use Rattle.sr_rows.proofs.Places.{first-none}
 
 -- rows are equal just where their cells are
 
@@ -26,20 +27,6 @@ KeepsKey key g = (row other : Row) → g row ≡ Some other → cell_at other ke
 
 module _ (key : ℕ) where
   -- a row before others has none of their keys
-
-  first-none : (v : Cell) (r : Row) (rows : List Row) → cell_at r key ≡ v → is_first key r rows ≡ true → row_with key v rows ≡ None
-  first-none v r [] same f = refl
-  first-none v r (s ∷ rows) same f =
-      let ih = first-none v r rows same (grind arith) in
-      let n : cell_le (cell_at s key) v ≡ false = ap (cell_le (cell_at s key)) (sym same) ∙ key_lt-not key r s (grind arith) in
-      grind (arith, ih, n)
-
-  pub first-lacks : (v : Cell) (r : Row) (rows : List Row) → cell_at r key ≡ v → is_first key r rows ≡ true → has_key key v rows ≡ false
-  first-lacks v r [] same f = refl
-  first-lacks v r (s ∷ rows) same f =
-      let ih = first-lacks v r rows same (grind arith) in
-      let n : cell_le (cell_at s key) v ≡ false = ap (cell_le (cell_at s key)) (sym same) ∙ key_lt-not key r s (grind arith) in
-      grind (arith, ih, n)
 
   pub first-differs : (v w : Cell) (r s : Row) → cell_at r key ≡ v → cell_at s key ≡ w → key_lt key r s ≡ true → cell_eq v w ≡ false
   first-differs v w r s one two h =
@@ -106,16 +93,7 @@ module _ (key : ℕ) where
         (here (g r) refl, behind r (filter_map g rows) (g r) refl rows f (found-kept rows (ascend-tail key r rows h)))
       where
         here : (o : Option Row) → g r ≡ o → row_with key (cell_at r key) (cons_option o (filter_map g rows)) ≡ o
-        here None e = first-none (cell_at r key) r (filter_map g rows) refl (first-kept r rows (ascend-first key r rows h))
+        here None e = first-none key (cell_at r key) r (filter_map g rows) refl (first-kept r rows (ascend-first key r rows h))
         here (Some q) e =
             let one : cell_eq (cell_at q key) (cell_at r key) ≡ true = ap (λ v. cell_eq v (cell_at r key)) (keeps r q e) ∙ cell_eq-refl (cell_at r key) in
             rw one refl
-
-    -- they ascend too
-    pub ascend-kept : (rows : List Row) → ascend key rows ≡ true → ascend key (filter_map g rows) ≡ true
-    ascend-kept [] h = refl
-    ascend-kept (r ∷ rows) h = go (g r) refl (ascend-kept rows (ascend-tail key r rows h)) (first-kept r rows (ascend-first key r rows h))
-      where
-        go : (o : Option Row) → g r ≡ o → ascend key (filter_map g rows) ≡ true → is_first key r (filter_map g rows) ≡ true → ascend key (cons_option o (filter_map g rows)) ≡ true
-        go None e a f = a
-        go (Some q) e a f = first-ascend key q (filter_map g rows) (first-same r q (filter_map g rows) (sym (keeps r q e)) f) a

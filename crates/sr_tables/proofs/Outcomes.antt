@@ -1,6 +1,6 @@
 -- What UPDATE and DELETE, step by step, make of a table's rows.
 use Rattle.std.proofs.Common.{◌≡◌, ℕ, suc, Bool, true, false, cond, not, ◌&&◌, List, [], ◌∷◌, map, length, refl, sym, ap, subst, ◌∙◌, arith}
-use Rattle.std.specs.Prelude.{◌<◌, ◌≤◌, nat_lt, filter, fold, Option, None, Result, Ok, Err, if◌then◌else◌}
+use Rattle.std.specs.Prelude.{◌<◌, ◌≤◌, nat_lt, filter, fold, Option, None, Result, Ok, if◌then◌else◌}
 use Rattle.std.specs.List.{list_all, filter_map}
 use Rattle.std.proofs.lemmas.List.{length-map}
 use Rattle.std.proofs.lemmas.Bool.Decides.{nat_tests}
@@ -9,7 +9,6 @@ use Rattle.sr_cell.specs.declared.change.Change.{Change}
 use Rattle.sr_cell.specs.declared.table.Column.{Column}
 use Rattle.sr_cell.specs.declared.table.Table.{Table}
 use Rattle.sr_cell.specs.declared.fault.Fault.{Fault}
-use Rattle.sr_cell.specs.declared.fault.Why.TheVariants.{TooManyChanges}
 use Rattle.sr_cell.specs.Cells.{Row, cell_at, cell_eq}
 use Rattle.sr_cell.specs.Columns.{fits_columns}
 use Rattle.sr_cell.proofs.Order.{cell_eq-sound}
@@ -99,20 +98,12 @@ or_else-none o result none = ap (λ x. or_else x result) none
 few-rows : (n : ℕ) (rows : List Row) → n ≤ 10000 → within_changes n rows ≡ Ok rows
 few-rows n rows few = let e : nat_lt 10000 n ≡ false = grind (arith, nat_tests) in rw e refl
 
-many-rows : (n : ℕ) (rows : List Row) → nat_lt 10000 n ≡ true → within_changes n rows ≡ Err (record { why = TooManyChanges; at = n })
-many-rows n rows e = rw e refl
-
 -- ---- UPDATE
 
 module _ (t : Table) (number : ℕ) (places : List Place) (c : Option Cond) (k : Keyed) (keyed : IsKeyed t k) (below : t.key < length t.columns) (placed : are_places t places ≡ true)
     (changes : List Change) (are : changes ≡ map (update_change number t.key places c) (filter (is_changed places c) k.rows)) (none : places_fault t places ≡ None) where
   count : length changes ≡ length (filter (is_changed places c) k.rows)
   count = ap length are ∙ length-map (filter (is_changed places c) k.rows) (update_change number t.key places c)
-
-  pub updated-many : nat_lt 10000 (length changes) ≡ true → updated t places c k.rows ≡ Err (record { why = TooManyChanges; at = length changes })
-  updated-many many =
-      or_else-none (places_fault t places) (within_changes (length (filter (is_changed places c) k.rows)) (map (updated_row places c) k.rows)) none
-      ∙ ap (λ n. within_changes n (map (updated_row places c) k.rows)) (sym count) ∙ many-rows (length changes) (map (updated_row places c) k.rows) many
 
   pub updated-few : length changes ≤ 10000 → updated t places c k.rows ≡ Ok (map (updated_row places c) k.rows)
   updated-few few =
@@ -178,9 +169,6 @@ module _ (t : Table) (number : ℕ) (places : List Place) (c : Option Cond) (k :
 module _ (t : Table) (number : ℕ) (c : Option Cond) (k : Keyed) (keyed : IsKeyed t k) (changes : List Change) (are : changes ≡ map (delete_change number t.key) (filter (meets c) k.rows)) where
   gone : length changes ≡ length (filter (meets c) k.rows)
   gone = ap length are ∙ length-map (filter (meets c) k.rows) (delete_change number t.key)
-
-  pub deleted-many : nat_lt 10000 (length changes) ≡ true → deleted c k.rows ≡ Err (record { why = TooManyChanges; at = length changes })
-  deleted-many many = ap (λ n. within_changes n (filter (λ row. not (meets c row)) k.rows)) (sym gone) ∙ many-rows (length changes) (filter (λ row. not (meets c row)) k.rows) many
 
   keys-fold : (rows start : List Row) → fold (λ xs (ch : Change). without_key t.key ch.key xs) start (map (delete_change number t.key) rows) ≡ fold (λ xs row. without_key t.key (cell_at row t.key) xs) start rows
   keys-fold [] start = refl

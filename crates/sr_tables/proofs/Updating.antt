@@ -8,8 +8,9 @@ use Rattle.sr_cell.proofs.Order.{cell_eq-refl}
 use Rattle.sr_model.specs.SortedRows.{key_lt, ascend, has_key, row_eq}
 use Rattle.sr_model.specs.Changes.{table_changes}
 use Rattle.sr_rows.proofs.Order.{is_first, ascend-tail, ascend-first}
+use Rattle.sr_rows.proofs.Places.{first-lacks}
 use Rattle.sr_keyed.specs.Keyed.{with_replaced}
-use Rattle.sr_tables.proofs.Keys.{KeepsKey, key_lt-same, first-same, first-lacks, first-differs, ascend-kept}
+use Rattle.sr_tables.proofs.Keys.{KeepsKey, key_lt-same, first-same, first-differs}
 use Rattle.sr_tables.proofs.Kept.{changes-kept}
 
 map-kept : (f : Row → Row) (rows : List Row) → filter_map (λ row. Some (f row)) rows ≡ map f rows
@@ -19,10 +20,6 @@ map-kept f (row ∷ rows) = ap (λ xs. f row ∷ xs) (map-kept f rows)
 module _ (key : ℕ) (f : Row → Row) (same : (row : Row) → cell_at (f row) key ≡ cell_at row key) where
   keeps : KeepsKey key (λ row. Some (f row))
   keeps row other e = let is : f row ≡ other = cc in ap (λ r. cell_at r key) (sym is) ∙ same row
-
-  -- rows that keep their keys ascend as before
-  pub ascend-map : (rows : List Row) → ascend key rows ≡ true → ascend key (map f rows) ≡ true
-  ascend-map rows h = ap (λ xs. ascend key xs) (sym (map-kept f rows)) ∙ ascend-kept key (λ row. Some (f row)) keeps rows h
 
   first-changed : (p : Row → Bool) (r : Row) (rows : List Row) → is_first key r rows ≡ true → is_first key r (map f (filter p rows)) ≡ true
   first-changed p r [] h = refl

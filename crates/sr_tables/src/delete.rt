@@ -73,7 +73,7 @@ fn delete_changes(
     Ok(changes)
 }
 
-/// Takes the rows out whose keys are those of the changes; takes no memory.
+/// Takes the rows out whose keys are those of the changes; never fails.
 fn remove_all(rows: &mut KeyedRows, changes: &[Change])
     ensures { rows.new ≡ removed_by rows.old changes.now }
 {

@@ -4,10 +4,9 @@ ghost use Rattle.std.specs.List.{list_all, AllZip};
 ghost use Rattle.sr_cell.specs.declared.list.No.TheVariants.{Refused};
 ghost use Rattle.sr_cell.specs.declared.fault.Fault.{Fault as TheFault};
 ghost use Rattle.sr_cell.specs.Attrs.{project};
-ghost use Rattle.sr_cell.specs.Columns.{table_at};
+ghost use Rattle.sr_cell.specs.Columns.{table_at, are_values};
 ghost use Rattle.sr_box.specs.Points.{in_any};
 ghost use Rattle.sr_grammar.specs.Seen.{statement_seen};
-ghost use Rattle.sr_keyed.specs.Keyed.{are_values};
 ghost use Rattle.sr_model.specs.Queries.{rows_at};
 ghost use Rattle.sr_model.specs.Statements.{executed};
 ghost use Rattle.sr_model.specs.Changes.{changes};
@@ -17,7 +16,7 @@ ghost use Rattle.sr_query.specs.Writes.{suits};
 ghost use Rattle.sr_tables.specs.Stored.{IsKeyed, rows_in, no_rows, are_stored, is_short, statement_is_short, with_loaded, done_by};
 
 use crate::carry::{carry_out, load_into};
-use crate::select::select;
+use crate::select::{index, select};
 use sr_bind::write::bind_write;
 use sr_cell::attrs::Attrs;
 use sr_cell::cell::{Row, Rows};
@@ -132,6 +131,13 @@ impl Tables {
         }
     }
 
+    /// Makes indexes by which the rows of a table in such rects are found, where memory is to be had: no row changes.
+    pub fn index(&mut self, alloc: Global, table: u8, rects: &Rects)
+        ensures { self.new ≡ self.old }
+    {
+        index_table(alloc, &mut self.rows, table, rects);
+    }
+
     /// The rows of a table in the rects, by key, with these columns.
     pub fn select(
         &self,
@@ -146,6 +152,16 @@ impl Tables {
             None => Ok(Seq::new(alloc)),
             Some(rows) => select(alloc, rows, attrs, rects),
         }
+    }
+}
+
+/// Makes indexes for such rects in one of the tables.
+fn index_table(alloc: Global, all: &mut Vec<KeyedRows>, table: u8, rects: &Rects)
+    ensures { all.new.items ≡ all.old.items }
+{
+    match all.get_mut(table as usize) {
+        Some(rows) => index(alloc, rows, rects.as_slice()),
+        None => {}
     }
 }
 

@@ -104,7 +104,7 @@ fn update_changes(
     Ok(changes)
 }
 
-/// Puts rows in the place of those that have their keys; takes no memory.
+/// Puts rows in the place of those that have their keys; never fails.
 fn replace_all(rows: &mut KeyedRows, news: Rows)
     requires { list_all (is_known rows.old) news ≡ true }
     ensures { rows.new ≡ replaced_by rows.old news }
@@ -147,7 +147,7 @@ pub(crate) fn update(
         Ok(()) => {}
         Err(no) => return Err(no),
     }
-    // All memory is taken before the first row gives way.
+    // What can fail is done before the first row gives way.
     let news = match rows_after(alloc, changes.as_slice()) {
         Ok(news) => news,
         Err(_) => return Err(No::NoMemory),

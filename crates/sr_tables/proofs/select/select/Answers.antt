@@ -1,20 +1,12 @@
-use Rattle.std.proofs.Common.{◌≡◌, true, ap, ◌∙◌}
-use Rattle.std.specs.Option.{option_copied}
-use Rattle.sr_cell.specs.Cells.{Row, cell_at}
+use Rattle.std.proofs.Common.{◌≡◌, subst, map}
+use Rattle.std.specs.Prelude.{filter}
 use Rattle.sr_box.specs.Points.{in_any}
-use Rattle.sr_keyed.specs.Keyed.{is_from, is_up_to}
-use Rattle.sr_tables.proofs.Outcomes.{near-passed}
 use Rattle.sr_tables.proofs.select.select.Goals as goal
 
 pub returns : goal.returns
 returns c =
-    let rows = c.args.rows.now in
-    let lows : (row : Row) → in_any c.args.rects.now row ≡ true → is_from (option_copied c.as_ref.result) (cell_at row rows.key) ≡ true =
-    λ row e. let e1 : in_any c.as_slice.result.now row ≡ true = ap (λ rects. in_any rects row) c.as_slice.ensures ∙ e in let h = c.lowest-low.ensures row e1 in cc in
-    let highs : (row : Row) → in_any c.args.rects.now row ≡ true → is_up_to (option_copied c.as_ref-2.result) (cell_at row rows.key) ≡ true =
-    λ row e. let e1 : in_any c.as_slice-2.result.now row ≡ true = ap (λ rects. in_any rects row) c.as_slice-2.ensures ∙ e in let h = c.highest-high.ensures row e1 in cc in
-    let near = near-passed rows.key rows.rows (option_copied c.as_ref.result) (option_copied c.as_ref-2.result) (in_any c.args.rects.now) lows highs in
-    let value = c.as_slice-3.ensures.value in
-    let some = c.in_ok-near.ensures in
+    let near : filter (in_any c.args.rects.now) (map (λ r. r.now) c.in_ok-near.near.items) ≡ filter (in_any c.args.rects.now) c.args.rows.now.rows =
+    subst (λ rects. filter (in_any rects) (map (λ r. r.now) c.in_ok-near.near.items) ≡ filter (in_any rects) c.args.rows.now.rows) c.as_slice.ensures c.in_ok-near.ensures in
+    let value = c.as_slice-2.ensures.value in
     let out = c.in_ok-out.ensures in
     cc

@@ -1,6 +1,6 @@
-use Rattle.std.proofs.Common.{◌≡◌, drop, map}
+use Rattle.std.proofs.Common.{◌≡◌, drop}
 use Rattle.std.specs.List.{list_all}
-use Rattle.sr_keyed.specs.Keyed.{are_values}
+use Rattle.sr_cell.specs.Columns.{are_values}
 use Rattle.sr_tables.specs.Stored.{rows_in}
 use Rattle.sr_tables.proofs.tables.Tables.know_values.Given as goal
 

@@ -17,10 +17,13 @@ from world import Options, World
 
 LIMITS = Limits(10000, 64, 'recency')
 
-QUERIES = ['query 1 SELECT id, age FROM p WHERE age BETWEEN 30 AND 40', 'query 1 SELECT id, age FROM p WHERE age BETWEEN 35 AND 50',
-           'write 1 UPDATE p SET age = 38 WHERE id = 2', 'query 1 SELECT id, age FROM p WHERE age BETWEEN 36 AND 40', 'evict 1 0',
-           "query 1 SELECT id, age, name FROM p WHERE name >= 'b'"]
-RESUMED = QUERIES[:2] + ['cut 1', QUERIES[0], 'resume 1', 'write 1 UPDATE p SET age = 31 WHERE id = 300', 'cut 1', 'cut 1', 'resume 1', 'resume 1'] + QUERIES[3:]
+ASKS = ['query 1 SELECT id, age FROM p WHERE age BETWEEN 30 AND 40', 'query 1 SELECT id, age FROM p WHERE age BETWEEN 35 AND 50',
+        'write 1 UPDATE p SET age = 38 WHERE id = 2', 'query 1 SELECT id, age FROM p WHERE age BETWEEN 36 AND 40', 'evict 1 0',
+        "query 1 SELECT id, age, name FROM p WHERE name >= 'b'"]
+EXPLAIN = 'explain 1 SELECT id, age FROM p WHERE age BETWEEN 33 AND 60'
+QUERIES = [EXPLAIN] + ASKS[:2] + [EXPLAIN] + ASKS[2:5] + [EXPLAIN] + ASKS[5:] + [EXPLAIN]
+RESUMED = (ASKS[:2] + ['cut 1', EXPLAIN, ASKS[0], 'resume 1', EXPLAIN, 'write 1 UPDATE p SET age = 31 WHERE id = 300', 'cut 1', 'cut 1', 'resume 1', 'resume 1']
+           + ASKS[3:] + [EXPLAIN])
 
 
 # ---- the wanted lines
@@ -134,7 +137,7 @@ def first_fault(stream):
 
 def fault_of_turned(program, place, bits):
     """What is wrong with a run whose peer turns bits of one byte."""
-    done, peer = run(program, QUERIES[:2], [None], (place, bits))
+    done, peer = run(program, ASKS[:2], [None], (place, bits))
     wanted_error = first_fault(peer.first)
     if wanted_error is not None:
         good = (done.returncode, done.stderr.decode()) == (8, wanted_error)
@@ -146,7 +149,7 @@ def fault_of_turned(program, place, bits):
 
 def cases(program):
     """A name and what tells what is wrong, for each case."""
-    stream, first = bytes_sent(program, QUERIES), bytes_sent(program, QUERIES[:2])
+    stream, first = bytes_sent(program, QUERIES), bytes_sent(program, ASKS[:2])
     yield 'client, honest', lambda: fault_of(program, QUERIES, [None])
     yield 'client, cut and resumed', lambda: fault_of(program, RESUMED, [None, None, None])
     yield 'client, without a peer', lambda: fault_of(program, QUERIES, [])

@@ -5,3 +5,4 @@ pub mod RunLemmas
 pub mod StepLemmas
 pub mod TakeLemmas
 pub mod HonestLemmas
+pub mod ExplainLemmas

@@ -7,7 +7,8 @@ use Rattle.sr_script.specs.declared.line.TraceLine.{TraceLine}
 use Rattle.sr_session.specs.Sessions.{Database}
 use Rattle.sr_session.specs.Clients as session
 use Rattle.sr_session.specs.Rules.{Outcome, AlreadyCut, AlreadyUp, AskSent, CutDone, QueryRefused, ResumeSent, WriteSent, sent_of}
-use Rattle.sr_links.specs.Steps.{Deed, ComesIf, Does, IsFair, basis_on}
+use Rattle.sr_session.specs.Bases.{basis_of}
+use Rattle.sr_links.specs.Steps.{Deed, ComesIf, Does, IsFair}
 use Rattle.sr_talk.specs.Calls.{lines_of}
 use Rattle.sr_client.specs.Stands.{StandsFor, out_of}
 use Rattle.sr_client.specs.Steps as client
@@ -53,7 +54,7 @@ plain_link past next other plain link = (link, λ some. absurd (some refl))
 -- ---- a step
 
 module _ (old new : Client) (past : session.Client) (deed : Deed) (says : Outcome → Type 0) (If : Database → Type 0) (rule : Database → Outcome → session.Client → Type 0) (m : Moves old new past says If rule)
-    (does : (db : Database) (o : Outcome) (next : session.Client) → rule db o next → Does (basis_on db old.store.limits) deed past o next) (comes : (db : Database) → ComesIf db past deed → If db) where
+    (does : (db : Database) (o : Outcome) (next : session.Client) → rule db o next → Does (basis_of db old.store.limits) deed past o next) (comes : (db : Database) → ComesIf db past deed → If db) where
   fair : IsFair IsEnd old.store.limits old past (record { deed = deed; outcome = m.outcome; past = m.next; code = new })
   fair db sound within is come =
       let both = m.over db (record { sound = sound; schema = is.0; within = within; client = is.1 }) (comes db come) in
@@ -75,7 +76,7 @@ module _ (old new : Client) (past : session.Client) (deed : Deed) (says : Outcom
 
 -- what is refused by the client itself changes nothing
 pub refuses : (old : Client) (past : session.Client) (deed : Deed) (fault : Fault) (lines : List TraceLine) → StandsFor past old → lines ≡ lines_of old.id deed (QueryRefused fault) → KeepsLink deed [] past past
-    → ((db : Database) → Does (basis_on db old.store.limits) deed past (QueryRefused fault) past) → Makes Stands IsEnd (setting_of old) old old past deed lines []
+    → ((db : Database) → Does (basis_of db old.store.limits) deed past (QueryRefused fault) past) → Makes Stands IsEnd (setting_of old) old old past deed lines []
 refuses old past deed fault lines stands lines_are link does = record {
   outcome = QueryRefused fault;
   next = past;

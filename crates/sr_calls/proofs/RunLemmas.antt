@@ -11,11 +11,11 @@ use Rattle.sr_query.specs.Bound.{is_table}
 use Rattle.sr_reader.specs.declared.script.EventLine.{EventLine}
 use Rattle.sr_session.specs.Clients as session
 use Rattle.sr_store.specs.Told.{IsTrueOf, told_of}
-use Rattle.sr_links.specs.Steps.{Deed}
+use Rattle.sr_talk.specs.Calls.{Task}
 use Rattle.sr_client.specs.declared.client.Client.{Client}
 use Rattle.sr_client.specs.Stands.{new_client}
 use Rattle.sr_client.proofs.NewLemmas.{at_first, new-facts}
-use Rattle.sr_dial.specs.Known.{AreDeeds}
+use Rattle.sr_dial.specs.Known.{AreTasks}
 use Rattle.sr_dial.specs.Runs.{RanFairly}
 use Rattle.sr_dial.specs.declared.ending.Ending.{Ending}
 use Rattle.sr_calls.specs.ClientEnds.{IsEnd, Stands, room_of, setting_of}
@@ -24,18 +24,18 @@ use Rattle.sr_calls.specs.Runs.{RanNew, new_past}
 -- what `run` says of a client
 abbrev pub Runs : {E : Type 0} → List Table → List EventLine → Result Ending E → Linking → Linking → Writing → Writing → Client → Type 0
 Runs {E} schema lines r old new before after first =
-    (past : session.Client) (script : List (ℕ × Deed)) → Stands first past → past.cut ≡ true → past.out ≡ None → AreDeeds schema lines script
+    (past : session.Client) (script : List (ℕ × Task)) → Stands first past → past.cut ≡ true → past.out ≡ None → AreTasks schema lines script
     → IfOk r (λ ending. RanFairly Client IsEnd (setting_of first) first past script ending old new before after)
 
 pub ran_new : {E : Type 0} (id : ℕ) (schema said : List Table) (limits : Limits) (lines : List EventLine) (first : Client) (r : Result Ending E) (old new : Linking) (before after : Writing) → list_all is_table schema ≡ true
     → first ≡ new_client id schema limits → said ≡ schema → Runs said lines r old new before after first
-    → (script : List (ℕ × Deed)) → AreDeeds schema lines script → IfOk r (λ ended. RanNew id schema limits script ended old new before after)
+    → (script : List (ℕ × Task)) → AreTasks schema lines script → IfOk r (λ ended. RanNew id schema limits script ended old new before after)
 ran_new {E} id schema said limits lines first r old new before after tables is said_is runs script are =
     let here = subst (Runs said lines r old new before after) is runs in
     let facts = new-facts id schema limits tables in
     IfOk-weaker r (λ ending. RanFairly Client IsEnd (setting_of (new_client id schema limits)) (new_client id schema limits) new_past script ending old new before after) (λ ended. RanNew id schema limits script ended old new before after)
     (λ ended ran. record { begins = λ rows. (refl, record { hidden = at_first; facts = facts; same = refl; are_true = All-nil (IsTrueOf (told_of rows)) }); ran = ran })
-    (here new_past script (at_first, facts, refl) refl refl (subst (λ (s : List Table). AreDeeds s lines script) (sym said_is) are))
+    (here new_past script (at_first, facts, refl) refl refl (subst (λ (s : List Table). AreTasks s lines script) (sym said_is) are))
 
 -- a new client can draw enough numbers for all lines of a script
 pub room_for : (id : ℕ) (schema : List Table) (limits : Limits) (lines : List EventLine) → length lines < 2 ^ 32 → 2000004 * (length lines + 1) ≤ room_of (new_client id schema limits)

@@ -14,6 +14,7 @@ use Rattle.sr_session.specs.Clients as session
 use Rattle.sr_session.specs.Rules as rules
 use Rattle.sr_session.specs.Rules.{Outcome, sent_of}
 use Rattle.sr_session.specs.Texts.{long_text, most_text}
+use Rattle.sr_session.specs.Bases.{basis_of}
 use Rattle.sr_wire.specs.Limits.{IsSendable}
 use Rattle.sr_runs.specs.Lines.{cut_line, details, evict_line, query_line, resume_line, write_line}
 use Rattle.sr_links.specs.Steps.{Evicted, Queried, Resumed, WasCut, Wrote, too_long, writes}
@@ -31,7 +32,7 @@ use Rattle.sr_client.specs.declared.steps.WriteStep.{WriteStep}
 use Rattle.sr_client.specs.declared.steps.WriteStep.TheVariants as written
 use Rattle.sr_client.specs.Sends.{QuerySendsWell, ResumeSendsWell, WriteSendsWell}
 use Rattle.sr_client.specs.Stands as client
-use Rattle.sr_client.specs.Stands.{StandsFor, basis_of, out_of, past_of}
+use Rattle.sr_client.specs.Stands.{StandsFor, out_of, past_of}
 use Rattle.sr_client.specs.Steps as steps
 use Rattle.sr_client.specs.Steps.{Cuts, Evicts, Queries, Resumes, SaysCut, SaysEvict, SaysQuery, SaysResume, SaysWrite, Writes}
 use Rattle.sr_client.proofs.Results.{if_ok}

@@ -9,6 +9,7 @@ use Rattle.sr_session.specs.Clients as session
 use Rattle.sr_session.specs.Misfits.{misfit}
 use Rattle.sr_session.specs.Rules as rules
 use Rattle.sr_session.specs.Rules.{Outcome}
+use Rattle.sr_session.specs.Bases.{basis_of}
 use Rattle.sr_wire.specs.Limits.{IsSendable}
 use Rattle.sr_wire.specs.declared.bad_frame.BadFrame.{BadFrame}
 use Rattle.sr_runs.specs.Lines.{taken_line}
@@ -19,7 +20,7 @@ use Rattle.sr_client.specs.declared.steps.Took.{Took}
 use Rattle.sr_client.specs.declared.steps.Took.TheVariants as took
 use Rattle.sr_client.specs.Sends.{TookSendsWell}
 use Rattle.sr_client.specs.Stands as client
-use Rattle.sr_client.specs.Stands.{StandsFor, Truly, basis_of, out_of, past_of}
+use Rattle.sr_client.specs.Stands.{StandsFor, Truly, out_of, past_of}
 use Rattle.sr_client.specs.Steps.{SaysTook, Takes, is_bad}
 use Rattle.sr_world.specs.declared.lines.Told as world
 use Rattle.sr_world.proofs.ClientLemmas.{IsToldOf, took-each}

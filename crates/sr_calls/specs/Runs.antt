@@ -7,7 +7,7 @@ use Rattle.sr_policy.specs.declared.policy.Limits.{Limits}
 use Rattle.sr_session.specs.Clients as session
 use Rattle.sr_client.specs.Stands.{new_client}
 use Rattle.sr_client.specs.declared.client.Client.{Client}
-use Rattle.sr_links.specs.Steps.{Deed}
+use Rattle.sr_talk.specs.Calls.{Task}
 use Rattle.sr_dial.specs.Runs.{RanFairly}
 use Rattle.sr_dial.specs.declared.ending.Ending.{Ending}
 use Rattle.sr_calls.specs.ClientEnds.{IsEnd}
@@ -18,6 +18,6 @@ new_past = record { marks = []; queries = []; counted_from = 0; version = 0; nex
 
 -- A new client of that number, to which nothing has happened, and which has the rows of any tables since it holds none, ran over the lines
 -- of a script, and ended so.
-pub record RanNew (id : ℕ) (schema : List Table) (limits : Limits) (script : List (ℕ × Deed)) (ended : Ending) (old new : Linking) (before after : Writing) : Type 0 where
+pub record RanNew (id : ℕ) (schema : List Table) (limits : Limits) (script : List (ℕ × Task)) (ended : Ending) (old new : Linking) (before after : Writing) : Type 0 where
   pub begins : (tables : Tables) → IsEnd schema (new_client id schema limits) new_past tables
   pub ran : RanFairly Client IsEnd (record { number = id; schema = schema; limits = limits }) (new_client id schema limits) new_past script ended old new before after

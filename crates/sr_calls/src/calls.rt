@@ -1,5 +1,5 @@
 //! What a client does, with the lines of each step and the message that goes to the server with it.
-ghost use Rattle.std.specs.Prelude.{◌≡◌, ◌≤◌, ◌+◌, List, [], ◌∷◌, Result, Ok, option_to_list, IfOk};
+ghost use Rattle.std.specs.Prelude.{◌≡◌, ◌<◌, ◌≤◌, ◌+◌, ◌^◌, List, [], ◌∷◌, length, Result, Ok, Err, option_to_list, IfOk};
 ghost use Rattle.std.specs.List.{All};
 ghost use Rattle.sr_cell.specs.declared.fault.Fault.{Fault as TheFault};
 ghost use Rattle.sr_model.specs.Queries.{Query as TheQuery};
@@ -9,7 +9,8 @@ ghost use Rattle.sr_session.specs.Clients.{Client as Past};
 ghost use Rattle.sr_wire.specs.Limits.{IsSendable};
 ghost use Rattle.sr_links.specs.Steps.{Deed, Evicted, Queried, Resumed, WasCut, Wrote};
 ghost use Rattle.sr_client.specs.Bound.{IsMeaning};
-ghost use Rattle.sr_dial.specs.Known.{IsDeed, MaySend, TakesAs};
+ghost use Rattle.sr_explain.specs.Telling.{explain_lines};
+ghost use Rattle.sr_dial.specs.Known.{IsDeed, MaySend, TakesAs, Tells};
 ghost use Rattle.sr_calls.specs.ClientEnds.{Did, IsEnd, IsReady, Stands, room_of, setting_of};
 
 use sr_cell::fault::Fault;
@@ -17,6 +18,8 @@ use sr_cell::list::{NoMemory, Seq};
 use sr_client::client::Client;
 use sr_client::steps::Took;
 use sr_dial::parts::{Came, Told};
+use sr_explain::explanation::Explanation;
+use sr_explain::lines::lines;
 use sr_message::message::{Message, Messages};
 use sr_query::query::Query;
 use sr_reader::script::Event;
@@ -27,7 +30,7 @@ use sr_world::lines::{
 };
 use std::alloc::Global;
 
-/// Does what a line of a script asks of a client. Other events ask nothing of it.
+/// Does what a line of a script asks of a client, where that is no explanation. Other events ask nothing of it.
 pub(crate) fn act(alloc: Global, client: &mut Client, event: Event) -> Result<Told, NoMemory>
     requires ready { IsReady client.old }
     requires asks { (deed : Deed) × IsDeed client.old.schema event deed }
@@ -158,6 +161,54 @@ pub(crate) fn cut(alloc: Global, client: &mut Client) -> Result<TraceLines, NoMe
     let id = client.id;
     let step = client.cut(alloc);
     lines_of_cut(alloc, id, step)
+}
+
+/// Explains how the client would answer a query, or why its text is refused. Answers the lines.
+pub(crate) fn explain(
+    alloc: Global,
+    client: &Client,
+    query: Result<Query, Fault>,
+) -> Result<TraceLines, NoMemory>
+    requires ready { IsReady client.now }
+    requires means { (text : Result TheQuery TheFault) × Means client.now.schema query text }
+    ensures told { (c : Past) (text : Result TheQuery TheFault) → Stands client.now c → Means client.now.schema query text → IfOk result (Tells IsEnd (setting_of client.now) client.now c text) }
+{
+    match query {
+        Ok(query) => explain_query(alloc, client, &query),
+        Err(fault) => unexplained(alloc, client.id, fault),
+    }
+}
+
+/// Explains how the client would answer a query.
+fn explain_query(alloc: Global, client: &Client, query: &Query) -> Result<TraceLines, NoMemory>
+    requires ready { IsReady client.now }
+    requires meant { (meaning : TheQuery) × IsMeaning client.now.schema query.now meaning }
+    ensures told { (c : Past) (meaning : TheQuery) → Stands client.now c → IsMeaning client.now.schema query.now meaning → IfOk result (Tells IsEnd (setting_of client.now) client.now c (Ok meaning)) }
+{
+    let explanation = client.explain(alloc, query)?;
+    explained(alloc, client.id, &explanation)
+}
+
+/// The lines of an explanation: its details, and its version.
+fn explained(alloc: Global, client: u8, explanation: &Explanation) -> Result<TraceLines, NoMemory>
+    requires few { length explanation.now.victims < 2 ^ 32 }
+    ensures { IfOk result (λ told. told ≡ explain_lines client (Ok explanation.now)) }
+{
+    let mut told = lines(alloc, explanation)?;
+    told.push(TraceLine::Explained {
+        client,
+        version: explanation.version,
+    })?;
+    Ok(told)
+}
+
+/// The text of a query that should be explained is refused.
+fn unexplained(alloc: Global, client: u8, fault: Fault) -> Result<TraceLines, NoMemory>
+    ensures { IfOk result (λ told. told ≡ explain_lines client (Err fault)) }
+{
+    let mut told = Seq::new(alloc);
+    told.push(TraceLine::ExplainSql { client, fault })?;
+    Ok(told)
 }
 
 /// Takes a message of the server, or refuses it.

@@ -2,9 +2,9 @@
 ghost use Rattle.std.specs.Prelude.{◌<◌, ◌≤◌, ◌^◌, ℕ, List, length, IfOk, IsTrue};
 ghost use Rattle.std.specs.List.{list_all};
 ghost use Rattle.sr_query.specs.Bound.{is_table};
-ghost use Rattle.sr_links.specs.Steps.{Deed};
+ghost use Rattle.sr_talk.specs.Calls.{Task};
 ghost use Rattle.sr_talk.specs.Rounds.{OnlyOutput};
-ghost use Rattle.sr_dial.specs.Known.{AreDeeds};
+ghost use Rattle.sr_dial.specs.Known.{AreTasks};
 ghost use Rattle.sr_calls.specs.Runs.{RanNew};
 
 use crate::client_end::ClientEnd;
@@ -33,9 +33,9 @@ pub fn client<H: Host>(
     requires last { id ≤ 64 }
     requires tables { IsTrue (list_all is_table schema) }
     requires regions { limits.regions ≤ 1024 }
-    requires asks { (script : List (ℕ × Deed)) × AreDeeds schema lines script }
+    requires asks { (script : List (ℕ × Task)) × AreTasks schema lines script }
     requires few { length lines < 2 ^ 32 }
-    ensures ran { (script : List (ℕ × Deed)) → AreDeeds schema lines script → IfOk result (λ ended. RanNew id schema limits script ended (H.linking host.old) (H.linking host.new) (H.writing host.old) (H.writing host.new)) }
+    ensures ran { (script : List (ℕ × Task)) → AreTasks schema lines script → IfOk result (λ ended. RanNew id schema limits script ended (H.linking host.old) (H.linking host.new) (H.writing host.old) (H.writing host.new)) }
     ensures stays { OnlyOutput H H.reading H.held H.complaints H.IsSteady host.old host.new }
 {
     let own = schema.copy(alloc)?;

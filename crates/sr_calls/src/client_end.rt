@@ -5,6 +5,7 @@ ghost use Rattle.sr_query.specs.Bound.{is_table};
 ghost use Rattle.sr_client.specs.Stands.{new_client};
 
 use crate::calls;
+use sr_cell::fault::Fault;
 use sr_cell::list::NoMemory;
 use sr_cell::schema::Schema;
 use sr_client::client::Client;
@@ -12,6 +13,7 @@ use sr_dial::parts::{Asks, Came, Told};
 use sr_links::laws::Peer;
 use sr_message::message::Message;
 use sr_policy::policy::Limits;
+use sr_query::query::Query;
 use sr_reader::script::Event;
 use sr_script::line::TraceLines;
 use std::alloc::Global;
@@ -71,6 +73,10 @@ impl Asks for ClientEnd {
 
     fn act(&mut self, alloc: Global, event: Event) -> Result<Told, NoMemory> {
         calls::act(alloc, &mut self.client, event)
+    }
+
+    fn explain(&self, alloc: Global, query: Result<Query, Fault>) -> Result<TraceLines, NoMemory> {
+        calls::explain(alloc, &self.client, query)
     }
 
     fn take(&mut self, alloc: Global, message: Message) -> Result<Came, NoMemory> {

@@ -1,7 +1,7 @@
 -- A client resumes.
-use Rattle.std.proofs.Common.{◌≡◌, ℕ, ◌+◌, ◌≤◌, Bool, true, false, List, [], ◌∷◌, ◌++◌, arith, append_assoc, append-nil, length, refl, sym, ◌∙◌, ap, subst, Option, Some, None, option_map, option_to_list}
+use Rattle.std.proofs.Common.{◌≡◌, ℕ, Bool, true, false, List, [], ◌∷◌, ◌++◌, arith, append-nil, refl, sym, ◌∙◌, ap, subst, Option, Some, None, option_map, option_to_list}
 use Rattle.std.specs.Prelude.{◌≢◌, ◌||◌, IfSome, flat_map, take}
-use Rattle.std.specs.List.{list_any, All}
+use Rattle.std.specs.List.{list_any}
 use Rattle.std.proofs.lemmas.List.Elements.{All-append, All-cons, All-nil}
 use Rattle.sr_io.specs.Causes.{Rose}
 use Rattle.sr_io.specs.Pieces.{SendsPart}
@@ -11,14 +11,14 @@ use Rattle.sr_script.specs.declared.line.TraceLine.{TraceLine}
 use Rattle.sr_script.specs.TraceText.{line_text}
 use Rattle.sr_session.specs.Clients.{Client}
 use Rattle.sr_session.specs.Rules.{sent_of}
-use Rattle.sr_links.specs.Steps.{Standing, Deed, Resumed, past_after, requests_of}
-use Rattle.sr_talk.specs.Calls.{Call, Scripted, Done, all_done, calls_told, count_faults, fails, is_fault, one_if, steps_in}
+use Rattle.sr_links.specs.Steps.{Standing, Resumed, past_after, requests_of}
+use Rattle.sr_talk.specs.Calls.{Call, Scripted, Task, Do, all_done, calls_told, count_faults, fails, is_fault, one_if, steps_in}
 use Rattle.sr_talk.specs.Serving.{RoseBy, spelled}
 use Rattle.sr_dial.specs.Known.{Setting, Makes}
-use Rattle.sr_dial.specs.Runs.{IsCarried, SendsMost, SentAs, left_by}
+use Rattle.sr_dial.specs.Runs.{IsCarried, SendsMost, left_by}
 use Rattle.sr_dial.specs.Courses.{At, Broken, Course, IsThere, Rests, Start, Stepped}
 use Rattle.sr_dial.proofs.ListLemmas.{all-one, any-one, calls-one, count-one, told-one}
-use Rattle.sr_dial.proofs.CourseLemmas.{count-still, done_of, made-of, past-one, stepped-one}
+use Rattle.sr_dial.proofs.CourseLemmas.{count-still, done_of, made-of, past-one, step_of, stepped-one}
 use Rattle.sr_dial.proofs.BrokenLemmas.{most-part, one-at-most}
 
 -- what a connection that has just been made has sent and taken
@@ -29,7 +29,7 @@ told-fresh P bytes (Some (coming ∷ more)) each = each coming
 
 module _ (C : Type 0) (Stands : C → Client → Type 0) (IsOf : Standing C) (k : Setting) (s : Start C) where
   -- where the link is cut the present call is over
-  pub rests-of : (script : List (ℕ × Deed)) (line came : ℕ) (failed : Bool) (l : Linking) (P : List ℕ → Type 0) (feed : List ℕ) (code : C) (h : At C Stands IsOf k s script line came failed l P feed code)
+  pub rests-of : (script : List (ℕ × Task)) (line came : ℕ) (failed : Bool) (l : Linking) (P : List ℕ → Type 0) (feed : List ℕ) (code : C) (h : At C Stands IsOf k s script line came failed l P feed code)
       → (left_by s.past (h.course.earlier ++ h.course.call ∷ [])).cut ≡ true → Rests C Stands IsOf k s script line failed l P code
   rests-of script line came failed l P feed code h down = record {
     calls = h.course.earlier ++ h.course.call ∷ [];
@@ -44,7 +44,7 @@ module _ (C : Type 0) (Stands : C → Client → Type 0) (IsOf : Standing C) (k 
     cut = down;
   }
 
-  module _ (script : List (ℕ × Deed)) (line number : ℕ) (failed : Bool) (P Q : List ℕ → Type 0) (l : Linking) (code new : C) (lines : List TraceLine) (sent : List Message)
+  module _ (script : List (ℕ × Task)) (line number : ℕ) (failed : Bool) (P Q : List ℕ → Type 0) (l : Linking) (code new : C) (lines : List TraceLine) (sent : List Message)
       (says : (texts : List ℕ) → P texts → Q (texts ++ flat_map (line_text k.schema number) lines)) (r : Rests C Stands IsOf k s script line failed l P code)
       (m : Makes Stands IsOf k code new (left_by s.past r.calls) Resumed lines sent) (free : (left_by s.past r.calls).out ≡ None) (message : Message) (one : sent ≡ message ∷ []) where
     -- its next past is that of a link that is up
@@ -52,30 +52,30 @@ module _ (C : Type 0) (Stands : C → Client → Type 0) (IsOf : Standing C) (k 
     next-up = (subst (λ ms. Rattle.sr_dial.specs.Known.KeepsLink Resumed ms (left_by s.past r.calls) m.next) one m.link).1
 
     abbrev new_call : Bool → Option Connection → Call C
-    new_call connected told = record { first = done_of C Stands IsOf k s number Scripted m; others = []; connected = connected; told = told; left = [] }
+    new_call connected told = record { number = number; first = step_of C Stands IsOf k s m; others = []; connected = connected; told = told; left = [] }
 
-    abbrev new_course : (connected : Bool) (told : Option Connection) → IfSome told (λ t. t.taken ≡ []) → Course C Stands IsOf k s (script ++ (number, Resumed) ∷ []) number 0 Q [] new
+    abbrev new_course : (connected : Bool) (told : Option Connection) → IfSome told (λ t. t.taken ≡ []) → Course C Stands IsOf k s (script ++ (number, Do Resumed) ∷ []) number 0 Q [] new
     new_course connected told taken = record {
       earlier = r.calls;
-      call = record { first = done_of C Stands IsOf k s number Scripted m; others = []; connected = connected; told = told; left = [] };
+      call = record { number = number; first = step_of C Stands IsOf k s m; others = []; connected = connected; told = told; left = [] };
       are = r.are;
       is = record { first = refl; was_cut = r.cut; on_one = tt };
       carried = r.carried;
       left = refl;
       some = λ none. absurd (let wrong : message ∷ [] ≡ [] = sym one ∙ (m.sent_is ∙ (sym (append-nil (sent_of m.outcome)) ∙ none)) in cc);
       taken = taken;
-      steps = subst (λ ds. Stepped C Stands IsOf k s (script ++ (number, Resumed) ∷ []) number 0 ds Q new)
-          (sym (all-one r.calls (record { first = done_of C Stands IsOf k s number Scripted m; others = []; connected = connected; told = told; left = [] })))
+      steps = subst (λ ds. Stepped C Stands IsOf k s (script ++ (number, Do Resumed) ∷ []) number 0 ds Q new)
+          (sym (all-one r.calls (record { number = number; first = step_of C Stands IsOf k s m; others = []; connected = connected; told = told; left = [] })))
           (stepped-one C Stands IsOf k s script line r.came number Scripted P Q code new Resumed lines sent says (all_done r.calls) r.steps m free);
     }
 
-    sum : requests_of ((done_of C Stands IsOf k s number Scripted m).step ∷ []) ≡ sent
+    sum : requests_of (step_of C Stands IsOf k s m ∷ []) ≡ sent
     sum = append-nil (sent_of m.outcome) ∙ sym m.sent_is
 
     past-new : (connected : Bool) (told : Option Connection)
-        → left_by s.past (r.calls ++ record { first = done_of C Stands IsOf k s number Scripted m; others = []; connected = connected; told = told; left = [] } ∷ []) ≡ m.next
+        → left_by s.past (r.calls ++ record { number = number; first = step_of C Stands IsOf k s m; others = []; connected = connected; told = told; left = [] } ∷ []) ≡ m.next
     past-new connected told =
-        ap (λ ds. past_after s.past (steps_in ds)) (all-one r.calls (record { first = done_of C Stands IsOf k s number Scripted m; others = []; connected = connected; told = told; left = [] }))
+        ap (λ ds. past_after s.past (steps_in ds)) (all-one r.calls (record { number = number; first = step_of C Stands IsOf k s m; others = []; connected = connected; told = told; left = [] }))
         ∙ past-one s.past (all_done r.calls) (done_of C Stands IsOf k s number Scripted m)
 
     or-none : (b : Bool) → (b || false) ≡ b
@@ -83,12 +83,12 @@ module _ (C : Type 0) (Stands : C → Client → Type 0) (IsOf : Standing C) (k 
     or-none false = refl
 
     -- it dials, and its message is sent
-    pub begins : (new_l : Linking) → new_l ≡ sent_on (spelled sent) (connected l) → At C Stands IsOf k s (script ++ (number, Resumed) ∷ []) number 0 failed new_l Q [] new
+    pub begins : (new_l : Linking) → new_l ≡ sent_on (spelled sent) (connected l) → At C Stands IsOf k s (script ++ (number, Do Resumed) ∷ []) number 0 failed new_l Q [] new
     begins new_l is =
         let before = r.faults in
         record {
           course = new_course true (option_map (sends (spelled sent)) (next_peer l.peers)) (told-fresh (λ t. t.taken ≡ []) (spelled sent) l.peers (λ coming. refl));
-          sent = told-fresh (λ t. t.sent ≡ spelled (requests_of ((done_of C Stands IsOf k s number Scripted m).step ∷ []))) (spelled sent) l.peers (λ coming. ap spelled (sym sum));
+          sent = told-fresh (λ t. t.sent ≡ spelled (requests_of (step_of C Stands IsOf k s m ∷ []))) (spelled sent) l.peers (λ coming. ap spelled (sym sum));
           faults = subst (λ n. RoseBy s.linking.faults n new_l.faults) (sym (count-still r.calls (new_call true (option_map (sends (spelled sent)) (next_peer l.peers))) refl))
               (subst (λ (x : Linking). RoseBy s.linking.faults (count_faults r.calls) x.faults) (sym is) before);
           there = subst (λ b. IsThere b r.calls (new_call true (option_map (sends (spelled sent)) (next_peer l.peers))) s.linking new_l)
@@ -98,11 +98,11 @@ module _ (C : Type 0) (Stands : C → Client → Type 0) (IsOf : Standing C) (k 
         }
 
     not-free : (connected : Bool) (told : Option Connection)
-        → (left_by s.past (r.calls ++ record { first = done_of C Stands IsOf k s number Scripted m; others = []; connected = connected; told = told; left = [] } ∷ [])).out ≢ None
+        → (left_by s.past (r.calls ++ record { number = number; first = step_of C Stands IsOf k s m; others = []; connected = connected; told = told; left = [] } ∷ [])).out ≢ None
     not-free connected told none = m.waits (λ no. absurd (let wrong : message ∷ [] ≡ [] = sym one ∙ no in cc)) (sym (ap (λ (c : Client). c.out) (past-new connected told)) ∙ none)
 
     -- nobody could be dialled
-    pub begin-fails : (new_l : Linking) → OnlyFaults l new_l → Rose l.faults new_l.faults → Broken C Stands IsOf k s (script ++ (number, Resumed) ∷ []) number new_l Q [] new
+    pub begin-fails : (new_l : Linking) → OnlyFaults l new_l → Rose l.faults new_l.faults → Broken C Stands IsOf k s (script ++ (number, Do Resumed) ∷ []) number new_l Q [] new
     begin-fails new_l only rose =
         let before = r.faults in
         record {
@@ -117,14 +117,14 @@ module _ (C : Type 0) (Stands : C → Client → Type 0) (IsOf : Standing C) (k 
         }
 
     -- the message is cut short
-    pub begin-breaks : (new_l : Linking) → SendsPart (connected l) new_l (spelled sent) → Rose l.faults new_l.faults → Broken C Stands IsOf k s (script ++ (number, Resumed) ∷ []) number new_l Q [] new
+    pub begin-breaks : (new_l : Linking) → SendsPart (connected l) new_l (spelled sent) → Rose l.faults new_l.faults → Broken C Stands IsOf k s (script ++ (number, Do Resumed) ∷ []) number new_l Q [] new
     begin-breaks new_l part rose =
         let before = r.faults in
         let most = one-at-most (is_fault (new_call true (option_map (sends (take part.count (spelled sent))) (next_peer l.peers)))) in
         record {
           came = 0;
           course = new_course true (option_map (sends (take part.count (spelled sent))) (next_peer l.peers)) (told-fresh (λ t. t.taken ≡ []) (take part.count (spelled sent)) l.peers (λ coming. refl));
-          sent = told-fresh (λ t. SendsMost (requests_of ((done_of C Stands IsOf k s number Scripted m).step ∷ [])) t.sent) (take part.count (spelled sent)) l.peers
+          sent = told-fresh (λ t. SendsMost (requests_of (step_of C Stands IsOf k s m ∷ [])) t.sent) (take part.count (spelled sent)) l.peers
               (λ coming. subst (λ ms. SendsMost ms (take part.count (spelled sent))) (sym (sum ∙ one)) (subst (λ ms. SendsMost (message ∷ []) (take part.count (spelled ms))) (sym one) (most-part [] message part.count)));
           faults = omega (arith, before, rose, most);
           made = made-of false r.calls (new_call true (option_map (sends (take part.count (spelled sent))) (next_peer l.peers))) s.linking new_l (part.sent.present, part.sent.past ∙ r.made, refl, refl);

@@ -1,11 +1,11 @@
 -- A run whose link fails, or that ends.
-use Rattle.std.proofs.Common.{◌≡◌, ℕ, zero, suc, ◌+◌, ◌≤◌, ◌<◌, Bool, true, false, List, [], ◌∷◌, ◌++◌, arith, append_assoc, append-nil, length, inl, inr, refl, sym, ◌∙◌, ap, subst, Option, Some, None, option_map, option_to_list}
-use Rattle.std.specs.Prelude.{◌≢◌, ◌&&◌, ◌||◌, ◌⊎◌, IfSome, flat_map, take, drop, not}
-use Rattle.std.specs.List.{list_any, All}
+use Rattle.std.proofs.Common.{◌≡◌, ℕ, ◌+◌, ◌≤◌, Bool, true, false, List, [], ◌∷◌, ◌++◌, arith, append_assoc, append-nil, length, inl, inr, refl, sym, ◌∙◌, ap, subst, Option, Some, None, option_map}
+use Rattle.std.specs.Prelude.{◌≢◌, ◌&&◌, ◌||◌, ◌⊎◌, IfSome, flat_map, take, drop}
+use Rattle.std.specs.List.{list_any}
 use Rattle.std.proofs.lemmas.List.{take-append-drop}
 use Rattle.sr_io.specs.Causes.{Rose}
 use Rattle.sr_io.specs.Pieces.{SendsPart}
-use Rattle.sr_io.specs.Told.{Connection, Linking, OnlyFaults, Brings, IsOver, connections, hung_up, sends, sent_on, takes, taken_from}
+use Rattle.sr_io.specs.Told.{Connection, Linking, OnlyFaults, IsOver, connections, hung_up, sends, takes}
 use Rattle.sr_message.specs.declared.message.Message.{Message}
 use Rattle.sr_script.specs.declared.line.TraceLine.{TraceLine}
 use Rattle.sr_script.specs.TraceText.{line_text}
@@ -17,13 +17,13 @@ use Rattle.sr_wire.specs.declared.wire_fault.WireFault.TheVariants.{Short}
 use Rattle.sr_wire.specs.Spelling.{spelling}
 use Rattle.sr_links.specs.Honest.{IsPrefix}
 use Rattle.sr_links.specs.Steps.{Step, Standing, Deed, StaysOn, WasCut, given_of, past_after, requests_of, taken_by}
-use Rattle.sr_talk.specs.Calls.{Call, Cause, Failed, Done, all_done, calls_told, count_faults, done_in, fails, is_coming, is_failed, is_fault, is_short, line_of, one_if, steps_in, text_of}
+use Rattle.sr_talk.specs.Calls.{Call, Cause, Failed, Done, Task, all_done, calls_told, count_faults, done_in, fails, is_coming, is_failed, is_fault, is_short, line_of, one_if, steps_in, text_of}
 use Rattle.sr_talk.specs.Reading.{Reads}
 use Rattle.sr_talk.specs.Serving.{RoseBy, spelled}
 use Rattle.sr_talk.proofs.TalkLemmas.{spelled-append}
 use Rattle.sr_dial.specs.Known.{Setting, Makes}
-use Rattle.sr_dial.specs.Runs.{IsCarried, IsInPlace, SendsMost, SentAs, left_by, more_taken}
-use Rattle.sr_dial.specs.Courses.{At, Broken, Course, Free, IsThere, Start, Stepped}
+use Rattle.sr_dial.specs.Runs.{IsInPlace, SendsMost, SentAs, left_by, more_taken}
+use Rattle.sr_dial.specs.Courses.{At, Broken, Free, IsThere, Start, Stepped}
 use Rattle.sr_dial.proofs.ListLemmas.{all-one, any-one, count-one, fails-one, told-one}
 use Rattle.sr_dial.proofs.CourseLemmas.{course-one, done_of, made-of, map-told, weaken-told, or-no, past-step, requests-step, with_step, count-still}
 
@@ -88,12 +88,12 @@ module _ (C : Type 0) (Stands : C → Client → Type 0) (IsOf : Standing C) (k 
   -- ---- bytes that are taken
 
   -- behind what was left these bytes came
-  module _ (script : List (ℕ × Deed)) (line came : ℕ) (failed : Bool) (l new_l : Linking) (P : List ℕ → Type 0) (feed frame after : List ℕ) (code : C) (h : At C Stands IsOf k s script line came failed l P feed code)
+  module _ (script : List (ℕ × Task)) (line came : ℕ) (failed : Bool) (l new_l : Linking) (P : List ℕ → Type 0) (feed frame after : List ℕ) (code : C) (h : At C Stands IsOf k s script line came failed l P feed code)
       (up : (left_by s.past (h.course.earlier ++ h.course.call ∷ [])).cut ≡ false) (r : Reads l new_l feed frame after) where
     abbrev read_call : Call C
-    read_call = record { first = h.course.call.first; others = h.course.call.others; connected = h.course.call.connected; told = option_map (takes r.bytes) h.course.call.told; left = frame ++ after }
+    read_call = record { number = h.course.call.number; first = h.course.call.first; others = h.course.call.others; connected = h.course.call.connected; told = option_map (takes r.bytes) h.course.call.told; left = frame ++ after }
 
-    pub all-same : all_done (h.course.earlier ++ record { first = h.course.call.first; others = h.course.call.others; connected = h.course.call.connected; told = option_map (takes r.bytes) h.course.call.told; left = frame ++ after } ∷ [])
+    pub all-same : all_done (h.course.earlier ++ record { number = h.course.call.number; first = h.course.call.first; others = h.course.call.others; connected = h.course.call.connected; told = option_map (takes r.bytes) h.course.call.told; left = frame ++ after } ∷ [])
         ≡ all_done (h.course.earlier ++ h.course.call ∷ [])
     all-same = all-one h.course.earlier read_call ∙ sym (all-one h.course.earlier h.course.call)
 
@@ -131,7 +131,7 @@ module _ (C : Type 0) (Stands : C → Client → Type 0) (IsOf : Standing C) (k 
 
   -- ---- the link fails while a request is out
 
-  module _ (script : List (ℕ × Deed)) (line came : ℕ) (failed : Bool) (l : Linking) (P : List ℕ → Type 0) (feed : List ℕ) (code : C) (h : At C Stands IsOf k s script line came failed l P feed code)
+  module _ (script : List (ℕ × Task)) (line came : ℕ) (failed : Bool) (l : Linking) (P : List ℕ → Type 0) (feed : List ℕ) (code : C) (h : At C Stands IsOf k s script line came failed l P feed code)
       (up : (left_by s.past (h.course.earlier ++ h.course.call ∷ [])).cut ≡ false) (out : (left_by s.past (h.course.earlier ++ h.course.call ∷ [])).out ≢ None) where
     whole-sent : fails h.course.call ≡ false → IfSome h.course.call.told (λ t. SendsMost (requests_of (steps_in (done_in h.course.call))) t.sent)
     whole-sent none =
@@ -178,7 +178,7 @@ module _ (C : Type 0) (Stands : C → Client → Type 0) (IsOf : Standing C) (k 
           not_yet = there.2;
         }
 
-  module _ (script : List (ℕ × Deed)) (line came number : ℕ) (cause : Cause) (P Q : List ℕ → Type 0) (code new : C) (deed : Deed) (lines : List TraceLine) (sent : List Message)
+  module _ (script : List (ℕ × Task)) (line came number : ℕ) (cause : Cause) (P Q : List ℕ → Type 0) (code new : C) (deed : Deed) (lines : List TraceLine) (sent : List Message)
       (says : (texts : List ℕ) → P texts → Q (texts ++ flat_map (line_text k.schema number) lines)) where
     -- a request is cut short
     pub send-breaks : (failed : Bool) (l new_l : Linking) (feed left : List ℕ) (h : At C Stands IsOf k s script line came failed l P feed code)
@@ -230,7 +230,7 @@ module _ (C : Type 0) (Stands : C → Client → Type 0) (IsOf : Standing C) (k 
 
   -- ---- the client is cut, and the connection given up
 
-  pub fail-ends : (script : List (ℕ × Deed)) (line : ℕ) (P Q : List ℕ → Type 0) (l : Linking) (feed : List ℕ) (code new : C) (lines : List TraceLine)
+  pub fail-ends : (script : List (ℕ × Task)) (line : ℕ) (P Q : List ℕ → Type 0) (l : Linking) (feed : List ℕ) (code new : C) (lines : List TraceLine)
       → ((texts : List ℕ) → P texts → Q (texts ++ flat_map (line_text k.schema line) lines)) → (b : Broken C Stands IsOf k s script line l P feed code)
       → Makes Stands IsOf k code new (left_by s.past (b.course.earlier ++ b.course.call ∷ [])) WasCut lines []
       → Free C Stands IsOf k s (script ++ []) line true (hung_up l) Q feed new

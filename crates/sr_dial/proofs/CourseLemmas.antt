@@ -1,25 +1,22 @@
 -- A run, one step more.
 use Rattle.std.proofs.Common.{◌≡◌, ℕ, ◌+◌, ◌≤◌, Bool, true, false, List, [], ◌∷◌, ◌++◌, arith, append_assoc, append-nil, refl, sym, ◌∙◌, ap, subst, Option, Some, None, option_map, option_to_list}
-use Rattle.std.specs.Prelude.{◌≢◌, ◌&&◌, ◌||◌, IfSome, flat_map, take}
-use Rattle.std.specs.Io.KnownBytes.{Appends}
-use Rattle.std.specs.List.{list_any, All}
+use Rattle.std.specs.Prelude.{◌≢◌, ◌&&◌, ◌||◌, IfSome, flat_map}
+use Rattle.std.specs.List.{list_any}
 use Rattle.std.proofs.lemmas.Grind.{flat_map-append}
-use Rattle.sr_io.specs.Causes.{Rose}
-use Rattle.sr_io.specs.Told.{Connection, Linking, Writing, connections, sends, sent_on}
-use Rattle.sr_io.proofs.SoFar.{Appends-append}
+use Rattle.sr_io.specs.Told.{Connection, Linking, connections, sends, sent_on}
 use Rattle.sr_message.specs.declared.message.Message.{Message}
 use Rattle.sr_script.specs.declared.line.TraceLine.{TraceLine}
 use Rattle.sr_script.specs.TraceText.{line_text}
 use Rattle.sr_session.specs.Clients.{Client}
 use Rattle.sr_session.specs.Rules.{sent_of}
 use Rattle.sr_links.specs.Steps.{Step, Standing, Deed, IsFair, AreFair, OnOne, StaysOn, code_after, given_of, past_after, requests_of, taken_by}
-use Rattle.sr_talk.specs.Calls.{Call, Cause, Done, all_done, calls_told, count_faults, done_in, fails, is_failed, is_fault, line_of, lines_done, lines_of, one_if, steps_in, text_of}
+use Rattle.sr_talk.specs.Calls.{Call, Cause, Done, Made, Explained, Task, all_done, calls_told, count_faults, done_in, fails, is_failed, is_fault, line_of, lines_done, lines_of, one_if, steps_in, text_of}
 use Rattle.sr_talk.specs.Serving.{RoseBy, spelled}
 use Rattle.sr_talk.proofs.TalkLemmas.{spelled-append}
 use Rattle.sr_dial.specs.Known.{Setting, Makes}
 use Rattle.sr_dial.specs.Runs.{IsCarried, IsInPlace, SentAs, left_by, more_taken}
 use Rattle.sr_dial.specs.Courses.{At, Course, IsCall, IsThere, Start, Stepped, line_after}
-use Rattle.sr_dial.proofs.ListLemmas.{all-one, any-one, code-append, count-one, fails-one, fair-append, given-append, line-append, lines-append, on-append, past-append, place-append, requests-append, steps-append, taken-append, told-one}
+use Rattle.sr_dial.proofs.ListLemmas.{all-one, any-one, code-append, count-one, explained-append, fails-one, fair-append, given-append, line-append, lines-append, on-append, past-append, place-append, requests-append, steps-append, taken-append, told-one}
 
 -- what is so of a connection is so, changed, of what a link tells of it
 pub map-told : (f : Connection → Connection) (P Q : Connection → Type 0) (told : Option Connection) → ((t : Connection) → P t → Q (f t)) → IfSome told P → IfSome (option_map f told) Q
@@ -38,9 +35,22 @@ pub or-no : (a b : Bool) → b ≡ false → (a || b) ≡ a
 or-no true b none = refl
 or-no false b none = none
 
--- one step, with what it leaves behind it
+-- one more that was done, with what is left behind it
 abbrev pub with_step : {C : Type 0} → Call C → Done C → Option Connection → List ℕ → Call C
-with_step {C} call d told left = record { first = call.first; others = call.others ++ d ∷ []; connected = call.connected; told = told; left = left }
+with_step {C} call d told left = record { number = call.number; first = call.first; others = call.others ++ d ∷ []; connected = call.connected; told = told; left = left }
+
+-- the client behind it, and what was taken and sent with it
+abbrev pub past_by : {C : Type 0} → Client → Done C → Client
+past_by {C} c (Made number cause step) = step.past
+past_by {C} c (Explained number text result) = c
+
+abbrev pub given_by : {C : Type 0} → Done C → List Message
+given_by {C} (Made number cause step) = taken_by step.deed
+given_by {C} (Explained number text result) = []
+
+abbrev pub sent_by : {C : Type 0} → Done C → List Message
+sent_by {C} (Made number cause step) = sent_of step.outcome
+sent_by {C} (Explained number text result) = []
 
 module _ {C : Type 0} where
   pub all-step : (E : List (Call C)) (call : Call C) (d : Done C) (told : Option Connection) (left : List ℕ) → all_done (E ++ with_step call d told left ∷ []) ≡ all_done (E ++ call ∷ []) ++ d ∷ []
@@ -48,26 +58,38 @@ module _ {C : Type 0} where
       all-one E (with_step call d told left) ∙ (sym (append_assoc (all_done E) (done_in call) (d ∷ [])) ∙ ap (λ ds. ds ++ d ∷ []) (sym (all-one E call)))
 
   -- the client behind it
-  pub past-one : (c : Client) (ds : List (Done C)) (d : Done C) → past_after c (steps_in (ds ++ d ∷ [])) ≡ d.step.past
-  past-one c ds d = ap (past_after c) (steps-append ds (d ∷ [])) ∙ past-append c (steps_in ds) (d.step ∷ [])
+  pub past-one : (c : Client) (ds : List (Done C)) (d : Done C) → past_after c (steps_in (ds ++ d ∷ [])) ≡ past_by (past_after c (steps_in ds)) d
+  past-one c ds d = ap (past_after c) (steps-append ds (d ∷ [])) ∙ (past-append c (steps_in ds) (steps_in (d ∷ [])) ∙ by d)
+    where
+      by : (d : Done C) → past_after (past_after c (steps_in ds)) (steps_in (d ∷ [])) ≡ past_by (past_after c (steps_in ds)) d
+      by (Made number cause step) = refl
+      by (Explained number text result) = refl
 
-  pub past-step : (c : Client) (E : List (Call C)) (call : Call C) (d : Done C) (told : Option Connection) (left : List ℕ) → left_by c (E ++ with_step call d told left ∷ []) ≡ d.step.past
+  pub past-step : (c : Client) (E : List (Call C)) (call : Call C) (d : Done C) (told : Option Connection) (left : List ℕ) → left_by c (E ++ with_step call d told left ∷ []) ≡ past_by (left_by c (E ++ call ∷ [])) d
   past-step c E call d told left = ap (λ ds. past_after c (steps_in ds)) (all-step E call d told left) ∙ past-one c (all_done (E ++ call ∷ [])) d
 
   -- the client of the present call
-  pub past-call : (c : Client) (E : List (Call C)) (call : Call C) → left_by c (E ++ call ∷ []) ≡ past_after call.first.step.past (steps_in call.others)
+  pub past-call : (c : Client) (E : List (Call C)) (call : Call C) → left_by c (E ++ call ∷ []) ≡ past_after call.first.past (steps_in call.others)
   past-call c E call =
       ap (λ ds. past_after c (steps_in ds)) (all-one E call) ∙ (ap (past_after c) (steps-append (all_done E) (done_in call)) ∙ past-append c (steps_in (all_done E)) (steps_in (done_in call)))
 
-  pub given-step : (call : Call C) (d : Done C) (told : Option Connection) (left : List ℕ) → given_of (steps_in (done_in (with_step call d told left))) ≡ given_of (steps_in (done_in call)) ++ taken_by d.step.deed
+  pub given-step : (call : Call C) (d : Done C) (told : Option Connection) (left : List ℕ) → given_of (steps_in (done_in (with_step call d told left))) ≡ given_of (steps_in (done_in call)) ++ given_by d
   given-step call d told left =
-      ap given_of (steps-append (done_in call) (d ∷ [])) ∙ (given-append (steps_in (done_in call)) (d.step ∷ []) ∙ ap (λ ms. given_of (steps_in (done_in call)) ++ ms) (append-nil (taken_by d.step.deed)))
+      ap given_of (steps-append (done_in call) (d ∷ [])) ∙ (given-append (steps_in (done_in call)) (steps_in (d ∷ [])) ∙ ap (λ ms. given_of (steps_in (done_in call)) ++ ms) (by d))
+    where
+      by : (d : Done C) → given_of (steps_in (d ∷ [])) ≡ given_by d
+      by (Made number cause step) = append-nil (taken_by step.deed)
+      by (Explained number text result) = refl
 
   pub requests-step : (call : Call C) (d : Done C) (told : Option Connection) (left : List ℕ)
-      → requests_of (steps_in (done_in (with_step call d told left))) ≡ requests_of (steps_in (done_in call)) ++ sent_of d.step.outcome
+      → requests_of (steps_in (done_in (with_step call d told left))) ≡ requests_of (steps_in (done_in call)) ++ sent_by d
   requests-step call d told left =
       ap requests_of (steps-append (done_in call) (d ∷ []))
-      ∙ (requests-append (steps_in (done_in call)) (d.step ∷ []) ∙ ap (λ ms. requests_of (steps_in (done_in call)) ++ ms) (append-nil (sent_of d.step.outcome)))
+      ∙ (requests-append (steps_in (done_in call)) (steps_in (d ∷ [])) ∙ ap (λ ms. requests_of (steps_in (done_in call)) ++ ms) (by d))
+    where
+      by : (d : Done C) → requests_of (steps_in (d ∷ [])) ≡ sent_by d
+      by (Made number cause step) = append-nil (sent_of step.outcome)
+      by (Explained number text result) = refl
 
   -- where a call did not fail, no fault is counted of it
   pub count-still : (E : List (Call C)) (call : Call C) → fails call ≡ false → count_faults (E ++ call ∷ []) ≡ count_faults E
@@ -83,10 +105,13 @@ module _ {C : Type 0} where
 
 module _ (C : Type 0) (Stands : C → Client → Type 0) (IsOf : Standing C) (k : Setting) (s : Start C) where
   -- a step that was made
-  abbrev pub done_of : {code new : C} {c : Client} {deed : Deed} {lines : List TraceLine} {sent : List Message} → ℕ → Cause → Makes Stands IsOf k code new c deed lines sent → Done C
-  done_of {code} {new} {c} {deed} {lines} {sent} number cause m = record { number = number; cause = cause; step = record { deed = deed; outcome = m.outcome; past = m.next; code = new } }
+  abbrev pub step_of : {code new : C} {c : Client} {deed : Deed} {lines : List TraceLine} {sent : List Message} → Makes Stands IsOf k code new c deed lines sent → Step C
+  step_of {code} {new} {c} {deed} {lines} {sent} m = record { deed = deed; outcome = m.outcome; past = m.next; code = new }
 
-  module _ (script : List (ℕ × Deed)) (line came number : ℕ) (cause : Cause) (P Q : List ℕ → Type 0) (code new : C) (deed : Deed) (lines : List TraceLine) (sent : List Message)
+  abbrev pub done_of : {code new : C} {c : Client} {deed : Deed} {lines : List TraceLine} {sent : List Message} → ℕ → Cause → Makes Stands IsOf k code new c deed lines sent → Done C
+  done_of {code} {new} {c} {deed} {lines} {sent} number cause m = Made number cause (record { deed = deed; outcome = m.outcome; past = m.next; code = new })
+
+  module _ (script : List (ℕ × Task)) (line came number : ℕ) (cause : Cause) (P Q : List ℕ → Type 0) (code new : C) (deed : Deed) (lines : List TraceLine) (sent : List Message)
       (says : (texts : List ℕ) → P texts → Q (texts ++ flat_map (line_text k.schema number) lines)) where
     pub stepped-one : (ds : List (Done C)) → Stepped C Stands IsOf k s script line came ds P code → (m : Makes Stands IsOf k code new (past_after s.past (steps_in ds)) deed lines sent)
         → IsInPlace cause line number deed (past_after s.past (steps_in ds))
@@ -101,9 +126,10 @@ module _ (C : Type 0) (Stands : C → Client → Type 0) (IsOf : Standing C) (k 
           came_is = taken-append 0 ds (done_of number cause m ∷ []) ∙ ap (more_taken cause) h.came_is;
           lines = lines-append ds (done_of number cause m ∷ []) ∙ (ap (λ x. lines_done ds ++ x) (append-nil (line_of cause number deed)) ∙ ap (λ x. x ++ line_of cause number deed) h.lines);
           fair = subst (AreFair IsOf k.limits s.code s.past) (sym (steps-append ds (done_of number cause m ∷ [])))
-              (fair-append IsOf k.limits s.code s.past (steps_in ds) ((done_of number cause m).step ∷ []) h.fair
-              (subst (λ x. IsFair IsOf k.limits x (past_after s.past (steps_in ds)) (done_of number cause m).step) (sym h.code_is) m.fair, tt));
-          code_is = ap (code_after s.code) (steps-append ds (done_of number cause m ∷ [])) ∙ code-append s.code (steps_in ds) ((done_of number cause m).step ∷ []);
+              (fair-append IsOf k.limits s.code s.past (steps_in ds) (step_of m ∷ []) h.fair
+              (subst (λ x. IsFair IsOf k.limits x (past_after s.past (steps_in ds)) (step_of m)) (sym h.code_is) m.fair, tt));
+          explained = explained-append IsOf k.limits s.code s.past ds (done_of number cause m ∷ []) h.explained tt;
+          code_is = ap (code_after s.code) (steps-append ds (done_of number cause m ∷ [])) ∙ code-append s.code (steps_in ds) (step_of m ∷ []);
           stands = subst (Stands new) (sym past) m.stands;
           rests = subst (λ (p : Client). p.cut ≡ true → p.out ≡ None) (sym past) m.rests;
           writes = subst Q (sym texts) (subst (λ ls. Q (flat_map (text_of k.schema k.number) ds ++ flat_map (line_text k.schema number) ls)) m.lines_are (says (flat_map (text_of k.schema k.number) ds) h.writes));
@@ -123,8 +149,8 @@ module _ (C : Type 0) (Stands : C → Client → Type 0) (IsOf : Standing C) (k 
       is = record {
         first = h.is.first;
         was_cut = h.is.was_cut;
-        on_one = subst (OnOne h.call.first.step.past) (sym (steps-append h.call.others (done_of number cause m ∷ [])))
-            (on-append h.call.first.step.past (steps_in h.call.others) (done_of number cause m).step h.is.on_one (subst (λ c. StaysOn c deed) (past-call s.past h.earlier h.call) stays));
+        on_one = subst (OnOne h.call.first.past) (sym (steps-append h.call.others (done_of number cause m ∷ [])))
+            (on-append h.call.first.past (steps_in h.call.others) (step_of m) h.is.on_one (subst (λ c. StaysOn c deed) (past-call s.past h.earlier h.call) stays));
       };
       carried = h.carried;
       left = same;

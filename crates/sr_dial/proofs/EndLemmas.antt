@@ -1,17 +1,16 @@
 -- How a run ends.
-use Rattle.std.proofs.Common.{◌≡◌, ℕ, ◌+◌, ◌≤◌, Bool, true, false, List, [], ◌∷◌, ◌++◌, arith, append-nil, refl, sym, ◌∙◌, ap, subst, Option, Some, None}
-use Rattle.std.specs.Prelude.{◌≢◌, ◌||◌, IfSome, flat_map}
-use Rattle.std.specs.List.{list_any, All}
-use Rattle.sr_io.specs.Told.{Linking, Writing, connections, hung_up}
+use Rattle.std.proofs.Common.{◌≡◌, ℕ, Bool, true, false, List, [], ◌∷◌, ◌++◌, arith, sym, subst}
+use Rattle.std.specs.Prelude.{◌≢◌, flat_map}
+use Rattle.sr_io.specs.Told.{Linking, Writing}
 use Rattle.sr_message.specs.declared.message.Message.{Message}
 use Rattle.sr_session.specs.Clients.{Client}
 use Rattle.sr_links.specs.Honest.{IsPrefix}
-use Rattle.sr_links.specs.Steps.{Standing, Deed, Resumed, AreFair, requests_of}
-use Rattle.sr_talk.specs.Calls.{Call, all_done, calls_told, count_faults, done_in, fails, is_fault, one_if, steps_in, text_of}
+use Rattle.sr_links.specs.Steps.{Standing, Resumed, AreFair, requests_of}
+use Rattle.sr_talk.specs.Calls.{Call, Task, all_done, calls_told, count_faults, done_in, fails, is_fault, one_if, steps_in, text_of}
 use Rattle.sr_talk.specs.Serving.{RoseBy, spelled}
 use Rattle.sr_dial.specs.Known.{Setting}
 use Rattle.sr_dial.specs.Runs.{EndsBy, IsCarried, SendsMost, SentAs, WritesAs, is_unwritten, left_by}
-use Rattle.sr_dial.specs.Courses.{At, Broken, IsEarly, IsPartWritten, IsWritten, Over, Start}
+use Rattle.sr_dial.specs.Courses.{At, Broken, IsPartWritten, IsWritten, Over, Start}
 use Rattle.sr_dial.specs.declared.ending.Ending.{Ending}
 use Rattle.sr_dial.specs.declared.ending.Ending.TheVariants as ending
 use Rattle.sr_dial.proofs.ListLemmas.{calls-one}
@@ -22,7 +21,7 @@ most-of : (b : Bool) (ms : List Message) (bytes : List ℕ) → ms ≢ [] → Se
 most-of true ms bytes some sent = sent
 most-of false ms bytes some sent = subst (SendsMost ms) (sym sent) (most-all ms some)
 
-module _ (C : Type 0) (Stands : C → Client → Type 0) (IsOf : Standing C) (k : Setting) (s : Start C) (script : List (ℕ × Deed)) (line came : ℕ) (l : Linking) (feed : List ℕ) (code : C) where
+module _ (C : Type 0) (Stands : C → Client → Type 0) (IsOf : Standing C) (k : Setting) (s : Start C) (script : List (ℕ × Task)) (line came : ℕ) (l : Linking) (feed : List ℕ) (code : C) where
   -- the lines of a step are not written, all else of it was done
   pub unwritten-at : (w : Writing) (failed : Bool) → At C Stands IsOf k s script line came failed l (IsPartWritten s w) feed code → Over C Stands IsOf k s script ending.Unwritten l w
   unwritten-at w failed h = record {
@@ -32,6 +31,7 @@ module _ (C : Type 0) (Stands : C → Client → Type 0) (IsOf : Standing C) (k 
     in_place = h.course.steps.in_place;
     lines = h.course.steps.lines;
     fair = h.course.steps.fair;
+    explained = h.course.steps.explained;
     carried = h.course.carried;
     last_carried = record {
       taken = h.course.taken;
@@ -55,6 +55,7 @@ module _ (C : Type 0) (Stands : C → Client → Type 0) (IsOf : Standing C) (k 
         in_place = b.course.steps.in_place;
         lines = b.course.steps.lines;
         fair = b.course.steps.fair;
+        explained = b.course.steps.explained;
         carried = b.course.carried;
         last_carried = record { taken = b.course.taken; sent = b.sent };
         made = b.made;
@@ -65,7 +66,7 @@ module _ (C : Type 0) (Stands : C → Client → Type 0) (IsOf : Standing C) (k 
 
   -- what came next ends it
   pub over-at : (w : Writing) (failed : Bool) (ended : Ending) (h : At C Stands IsOf k s script line came failed l (IsWritten s w) feed code) → is_unwritten ended ≡ false
-      → ((whole : List (ℕ × Deed)) → EndsBy ended k.schema (h.course.earlier ++ h.course.call ∷ []) (left_by s.past (h.course.earlier ++ h.course.call ∷ [])) feed script whole)
+      → ((whole : List (ℕ × Task)) → EndsBy ended k.schema (h.course.earlier ++ h.course.call ∷ []) (left_by s.past (h.course.earlier ++ h.course.call ∷ [])) feed script whole)
       → ((texts : List ℕ) → IsWritten s w texts → WritesAs ended texts s.writing w) → Over C Stands IsOf k s script ended l w
   over-at w failed ended h written ends writes = record {
     earlier = h.course.earlier;
@@ -74,6 +75,7 @@ module _ (C : Type 0) (Stands : C → Client → Type 0) (IsOf : Standing C) (k 
     in_place = h.course.steps.in_place;
     lines = h.course.steps.lines;
     fair = h.course.steps.fair;
+    explained = h.course.steps.explained;
     carried = h.course.carried;
     last_carried = subst (λ b. IsCarried b h.course.call) (sym written) (record { taken = h.course.taken; sent = h.sent });
     made = made-of (left_by s.past (h.course.earlier ++ h.course.call ∷ [])).cut h.course.earlier h.course.call s.linking l h.there;

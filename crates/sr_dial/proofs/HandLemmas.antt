@@ -1,5 +1,5 @@
 -- What comes of a step that was carried out.
-use Rattle.std.proofs.Common.{◌≡◌, ℕ, ◌+◌, ◌≤◌, ◌<◌, Bool, true, false, List, [], ◌∷◌, ◌++◌, arith, append-nil, length, inl, inr, refl, sym, ◌∙◌, ap, subst, Option, Some, None}
+use Rattle.std.proofs.Common.{◌≡◌, ℕ, ◌≤◌, Bool, true, false, List, [], ◌∷◌, ◌++◌, arith, append-nil, inl, inr, refl, sym, ◌∙◌, ap, subst}
 use Rattle.std.specs.Prelude.{◌≢◌, ◌⊎◌, flat_map}
 use Rattle.sr_io.specs.Causes.{Rose}
 use Rattle.sr_io.specs.Told.{Linking, Writing, connections, sent_on}
@@ -10,7 +10,7 @@ use Rattle.sr_script.specs.TraceText.{line_text}
 use Rattle.sr_session.specs.Clients.{Client}
 use Rattle.sr_session.specs.Rules.{sent_of}
 use Rattle.sr_links.specs.Steps.{Standing, Deed, Queried, Wrote, Evicted, Took, WasCut, Resumed, StaysOn, taken_by}
-use Rattle.sr_talk.specs.Calls.{Cause, Scripted, is_failed, line_of}
+use Rattle.sr_talk.specs.Calls.{Cause, Scripted, Task, Do, is_failed, line_of}
 use Rattle.sr_talk.specs.Serving.{spelled}
 use Rattle.sr_talk.proofs.MoveLemmas.{nothing-sent}
 use Rattle.sr_talk.proofs.SomeLemmas.{prefix-behind}
@@ -31,7 +31,7 @@ module _ {C : Type 0} (s : Start C) (w new_w : Writing) (text : List ℕ) where
   pub half : SaysAs false w new_w text → (texts : List ℕ) → IsWritten s w texts → IsPartWritten s new_w (texts ++ text)
   half (part, rose) texts (before, faults) = (prefix-behind s.writing.written w.written new_w.written texts text before part, subst (λ n. Rose n new_w.faults) faults rose)
 
-module _ (C : Type 0) (Stands : C → Client → Type 0) (IsOf : Standing C) (k : Setting) (s : Start C) (script : List (ℕ × Deed)) (line came number : ℕ) (cause : Cause) (code new : C) (deed : Deed) (lines : List TraceLine) (sent : List Message)
+module _ (C : Type 0) (Stands : C → Client → Type 0) (IsOf : Standing C) (k : Setting) (s : Start C) (script : List (ℕ × Task)) (line came number : ℕ) (cause : Cause) (code new : C) (deed : Deed) (lines : List TraceLine) (sent : List Message)
     (failed : Bool) (l new_l : Linking) (w new_w : Writing) (feed left : List ℕ) (h : At C Stands IsOf k s script line came failed l (IsWritten s w) feed code)
     (m : Makes Stands IsOf k code new (left_by s.past (h.course.earlier ++ h.course.call ∷ [])) deed lines sent)
     (place : IsInPlace cause line number deed (left_by s.past (h.course.earlier ++ h.course.call ∷ []))) (stays : StaysOn (left_by s.past (h.course.earlier ++ h.course.call ∷ [])) deed)
@@ -110,17 +110,17 @@ down-silent {C} Stands IsOf k code new c deed lines sent m down up = by (one-sen
     by (inl none) = m.sent_is ∙ none
     by (inr (x, one)) = absurd (let no : true ≡ false = sym down ∙ up (λ none. absurd (let wrong : x ∷ [] ≡ [] = sym (m.sent_is ∙ one) ∙ none in cc)) in cc)
 
-pub plain-hands : (C : Type 0) (Stands : C → Client → Type 0) (IsOf : Standing C) (k : Setting) (s : Start C) (script : List (ℕ × Deed)) (line number : ℕ) (failed : Bool) (l new_l : Linking) (w new_w : Writing) (feed : List ℕ) (code new : C)
+pub plain-hands : (C : Type 0) (Stands : C → Client → Type 0) (IsOf : Standing C) (k : Setting) (s : Start C) (script : List (ℕ × Task)) (line number : ℕ) (failed : Bool) (l new_l : Linking) (w new_w : Writing) (feed : List ℕ) (code new : C)
     (deed : Deed) (lines : List TraceLine) (sent : List Message) (handed : Handed) (h : Free C Stands IsOf k s script line failed l (IsWritten s w) feed code) → IsPlain deed
     → Makes Stands IsOf k code new (left_by s.past (h.at.course.earlier ++ h.at.course.call ∷ [])) deed lines sent
-    → Carries handed l new_l w new_w (spelled sent) (flat_map (line_text k.schema number) lines) → Hands C Stands IsOf k handed s (script ++ (number, deed) ∷ []) number 0 failed new_l new_w feed new
+    → Carries handed l new_l w new_w (spelled sent) (flat_map (line_text k.schema number) lines) → Hands C Stands IsOf k handed s (script ++ (number, Do deed) ∷ []) number 0 failed new_l new_w feed new
 plain-hands C Stands IsOf k s script line number failed l new_l w new_w feed code new deed lines sent handed h plain m carries =
     by (left_by s.past (h.at.course.earlier ++ h.at.course.call ∷ [])).cut refl
   where
     link : (m.next.cut ≡ (left_by s.past (h.at.course.earlier ++ h.at.course.call ∷ [])).cut) × (sent ≢ [] → (left_by s.past (h.at.course.earlier ++ h.at.course.call ∷ [])).cut ≡ false)
     link = plain-link deed sent (left_by s.past (h.at.course.earlier ++ h.at.course.call ∷ [])) m.next plain m.link
 
-    by : (cut : Bool) → (left_by s.past (h.at.course.earlier ++ h.at.course.call ∷ [])).cut ≡ cut → Hands C Stands IsOf k handed s (script ++ (number, deed) ∷ []) number 0 failed new_l new_w feed new
+    by : (cut : Bool) → (left_by s.past (h.at.course.earlier ++ h.at.course.call ∷ [])).cut ≡ cut → Hands C Stands IsOf k handed s (script ++ (number, Do deed) ∷ []) number 0 failed new_l new_w feed new
     by false up =
         hands-up C Stands IsOf k s script line h.came number Scripted code new deed lines sent failed l new_l w new_w feed feed h.at m h.free (plain-stays deed (left_by s.past (h.at.course.earlier ++ h.at.course.call ∷ [])) plain) refl handed up (link.0 ∙ up)
         (ap (λ ms. spelled ms ++ feed) (sym (plain-none deed plain))) carries
@@ -130,10 +130,10 @@ plain-hands C Stands IsOf k s script line number failed l new_l w new_w feed cod
 
 -- ---- a line that cuts the link
 
-pub cut-hands : (C : Type 0) (Stands : C → Client → Type 0) (IsOf : Standing C) (k : Setting) (s : Start C) (script : List (ℕ × Deed)) (line number : ℕ) (failed : Bool) (l mid new_l : Linking) (w new_w : Writing) (feed : List ℕ) (code new : C)
+pub cut-hands : (C : Type 0) (Stands : C → Client → Type 0) (IsOf : Standing C) (k : Setting) (s : Start C) (script : List (ℕ × Task)) (line number : ℕ) (failed : Bool) (l mid new_l : Linking) (w new_w : Writing) (feed : List ℕ) (code new : C)
     (lines : List TraceLine) (sent : List Message) (handed : Handed) (h : Free C Stands IsOf k s script line failed l (IsWritten s w) feed code)
     → Makes Stands IsOf k code new (left_by s.past (h.at.course.earlier ++ h.at.course.call ∷ [])) WasCut lines sent → mid ≡ Rattle.sr_io.specs.Told.hung_up l
-    → Carries handed mid new_l w new_w (spelled sent) (flat_map (line_text k.schema number) lines) → Hands C Stands IsOf k handed s (script ++ (number, WasCut) ∷ []) number 0 failed new_l new_w feed new
+    → Carries handed mid new_l w new_w (spelled sent) (flat_map (line_text k.schema number) lines) → Hands C Stands IsOf k handed s (script ++ (number, Do WasCut) ∷ []) number 0 failed new_l new_w feed new
 cut-hands C Stands IsOf k s script line number failed l mid new_l w new_w feed code new lines sent handed h m gone carries =
     hands-down C Stands IsOf k s script line h.came number Scripted code new WasCut lines sent failed l new_l w new_w feed feed h.at m h.free tt refl handed mid m.link.0 m.link.1 refl
     (ap connections gone ∙ append-nil (connections l)) (subst (λ (x : Linking). l.faults ≤ x.faults) (sym gone) (omega arith)) carries

@@ -17,10 +17,10 @@ use Rattle.sr_wire.proofs.Staying.{answer_stays}
 use Rattle.sr_session.specs.Clients.{Client}
 use Rattle.sr_links.specs.Honest.{Server, Input, IsPrefix, AreTalks, IsHonest, sent_for, server_after, steps_of}
 use Rattle.sr_links.specs.Steps.{Step, Standing, Deed, Queried, Wrote, Evicted, Took, WasCut, Resumed, AreAwaited, AreFair, IsAwaited, code_after, given_of, past_after, taken_by}
-use Rattle.sr_talk.specs.Calls.{Call, Cause, Scripted, Delivered, Failed, Done, AreCalls, all_done, done_in, line_of, lines_done, steps_in, talk_of}
+use Rattle.sr_talk.specs.Calls.{Call, Cause, Scripted, Delivered, Failed, Done, Made, Explained, Task, Do, Explain, AreCalls, all_done, done_in, line_of, lines_done, steps_in, talk_of}
 use Rattle.sr_talk.specs.Serving.{spelled}
 use Rattle.sr_dial.specs.Honest.{AreExplained}
-use Rattle.sr_dial.specs.Known.{AreDeeds, IsDeed}
+use Rattle.sr_dial.specs.Known.{AreTasks, IsDeed, IsTask}
 use Rattle.sr_dial.specs.Runs.{AreInPlace, IsInPlace}
 use Rattle.sr_dial.proofs.ListLemmas.{steps-append}
 
@@ -69,9 +69,13 @@ abbrev pub IsAsked : Deed → Type 0
 IsAsked (Took m) = ⊥
 IsAsked other = Unit {0}
 
-abbrev pub AreAsked : List (ℕ × Deed) → Type 0
+abbrev pub IsAskedFor : Task → Type 0
+IsAskedFor (Do deed) = IsAsked deed
+IsAskedFor (Explain text) = Unit {0}
+
+abbrev pub AreAsked : List (ℕ × Task) → Type 0
 AreAsked [] = Unit {0}
-AreAsked (line ∷ lines) = IsAsked line.1 × AreAsked lines
+AreAsked (line ∷ lines) = IsAskedFor line.1 × AreAsked lines
 
 deed-asked : (schema : List Table) (event : code.Event) (deed : Deed) → IsDeed schema event deed → IsAsked deed
 deed-asked schema (read.Query n query) deed (meaning, means, is) = subst IsAsked (sym is) tt
@@ -86,18 +90,22 @@ deed-asked schema (read.ToServer n) deed is = absurd is
 deed-asked schema (read.ToClient n) deed is = absurd is
 deed-asked schema (read.Settle n) deed is = absurd is
 
-pub are-asked : (schema : List Table) (lines : List EventLine) (script : List (ℕ × Deed)) → AreDeeds schema lines script → AreAsked script
+task-asked : (schema : List Table) (event : code.Event) (task : Task) → IsTask schema event task → IsAskedFor task
+task-asked schema event (Do deed) is = deed-asked schema event deed is
+task-asked schema event (Explain text) is = tt
+
+pub are-asked : (schema : List Table) (lines : List EventLine) (script : List (ℕ × Task)) → AreTasks schema lines script → AreAsked script
 are-asked schema [] [] h = tt
 are-asked schema [] (x ∷ xs) h = absurd h
 are-asked schema (line ∷ lines) [] h = absurd h
-are-asked schema (line ∷ lines) (x ∷ xs) ((deed, is, same), more) =
-    (subst (λ (numbered : ℕ × Deed). IsAsked numbered.1) (sym same) (deed-asked schema line.event deed is), are-asked schema lines xs more)
+are-asked schema (line ∷ lines) (x ∷ xs) ((task, is, same), more) =
+    (subst (λ (numbered : ℕ × Task). IsAskedFor numbered.1) (sym same) (task-asked schema line.event task is), are-asked schema lines xs more)
 
-pub asked-front : (xs ys : List (ℕ × Deed)) → AreAsked (xs ++ ys) → AreAsked xs
+pub asked-front : (xs ys : List (ℕ × Task)) → AreAsked (xs ++ ys) → AreAsked xs
 asked-front [] ys h = tt
 asked-front (x ∷ xs) ys (one, more) = (one, asked-front xs ys more)
 
-asked-back : (xs ys : List (ℕ × Deed)) → AreAsked (xs ++ ys) → AreAsked ys
+asked-back : (xs ys : List (ℕ × Task)) → AreAsked (xs ++ ys) → AreAsked ys
 asked-back [] ys h = h
 asked-back (x ∷ xs) ys (one, more) = asked-back xs ys more
 
@@ -109,7 +117,8 @@ IsHeard other c = Unit {0}
 
 abbrev pub AreHeard : {C : Type 0} → Client → List (Done C) → Type 0
 AreHeard {C} c [] = Unit {0}
-AreHeard {C} c (d ∷ ds) = IsHeard d.step.deed c × AreHeard d.step.past ds
+AreHeard {C} c (Made number cause step ∷ ds) = IsHeard step.deed c × AreHeard step.past ds
+AreHeard {C} c (Explained number text result ∷ ds) = AreHeard c ds
 
 heard-one : (cause : Cause) (line number : ℕ) (deed : Deed) (c : Client) → IsInPlace cause line number deed c → AreAsked (line_of cause number deed) → IsHeard deed c
 heard-one cause line number (Queried query) c place asked = tt
@@ -140,30 +149,36 @@ spells-one Resumed c ms h all = all
 module _ {C : Type 0} where
   pub are-heard : (line : ℕ) (c : Client) (ds : List (Done C)) → AreInPlace line c ds → AreAsked (lines_done ds) → AreHeard c ds
   are-heard line c [] place asked = tt
-  are-heard line c (d ∷ ds) (one, more) asked = (
-    heard-one d.cause line d.number d.step.deed c one (asked-front (line_of d.cause d.number d.step.deed) (lines_done ds) asked),
-    are-heard d.number d.step.past ds more (asked-back (line_of d.cause d.number d.step.deed) (lines_done ds) asked),
+  are-heard line c (Made number cause step ∷ ds) (one, more) asked = (
+    heard-one cause line number step.deed c one (asked-front (line_of cause number step.deed) (lines_done ds) asked),
+    are-heard number step.past ds more (asked-back (line_of cause number step.deed) (lines_done ds) asked),
   )
+  are-heard line c (Explained number text result ∷ ds) (one, more) asked = are-heard number c ds more asked.1
 
   heard-front : (c : Client) (xs ys : List (Done C)) → AreHeard c (xs ++ ys) → AreHeard c xs
   heard-front c [] ys h = tt
-  heard-front c (x ∷ xs) ys (one, more) = (one, heard-front x.step.past xs ys more)
+  heard-front c (Made number cause step ∷ xs) ys (one, more) = (one, heard-front step.past xs ys more)
+  heard-front c (Explained number text result ∷ xs) ys h = heard-front c xs ys h
 
   heard-back : (c : Client) (xs ys : List (Done C)) → AreHeard c (xs ++ ys) → AreHeard (past_after c (steps_in xs)) ys
   heard-back c [] ys h = h
-  heard-back c (x ∷ xs) ys (one, more) = heard-back x.step.past xs ys more
+  heard-back c (Made number cause step ∷ xs) ys (one, more) = heard-back step.past xs ys more
+  heard-back c (Explained number text result ∷ xs) ys h = heard-back c xs ys h
 
-  pub heard-append : (c : Client) (xs : List (Done C)) (y : Done C) → AreHeard c xs → IsHeard y.step.deed (past_after c (steps_in xs)) → AreHeard c (xs ++ y ∷ [])
-  heard-append c [] y h one = (one, tt)
-  heard-append c (x ∷ xs) y (first, more) one = (first, heard-append x.step.past xs y more one)
+  pub heard-append : (c : Client) (xs ys : List (Done C)) → AreHeard c xs → AreHeard (past_after c (steps_in xs)) ys → AreHeard c (xs ++ ys)
+  heard-append c [] ys h one = one
+  heard-append c (Made number cause step ∷ xs) ys (first, more) one = (first, heard-append step.past xs ys more one)
+  heard-append c (Explained number text result ∷ xs) ys h one = heard-append c xs ys h one
 
   heard-awaited : (c : Client) (ds : List (Done C)) → AreHeard c ds → AreAwaited c (steps_in ds)
   heard-awaited c [] h = tt
-  heard-awaited c (d ∷ ds) (one, more) = (awaited-one d.step.deed c one, heard-awaited d.step.past ds more)
+  heard-awaited c (Made number cause step ∷ ds) (one, more) = (awaited-one step.deed c one, heard-awaited step.past ds more)
+  heard-awaited c (Explained number text result ∷ ds) h = heard-awaited c ds h
 
   heard-spells : (c : Client) (ds : List (Done C)) → AreHeard c ds → list_all has_spelling (given_of (steps_in ds)) ≡ true
   heard-spells c [] h = refl
-  heard-spells c (d ∷ ds) (one, more) = spells-one d.step.deed c (given_of (steps_in ds)) one (heard-spells d.step.past ds more)
+  heard-spells c (Made number cause step ∷ ds) (one, more) = spells-one step.deed c (given_of (steps_in ds)) one (heard-spells step.past ds more)
+  heard-spells c (Explained number text result ∷ ds) h = heard-spells c ds h
 
   fair-front : (IsOf : Standing C) (limits : Limits) (code : C) (c : Client) (xs ys : List (Step C)) → AreFair IsOf limits code c (xs ++ ys) → AreFair IsOf limits code c xs
   fair-front IsOf limits code c [] ys f = tt

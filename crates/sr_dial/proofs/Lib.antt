@@ -4,6 +4,7 @@ pub mod BrokenLemmas
 pub mod BeginLemmas
 pub mod EndLemmas
 pub mod HandLemmas
+pub mod ExplainLemmas
 pub mod LineLemmas
 pub mod WaitLemmas
 pub mod RunLemmas

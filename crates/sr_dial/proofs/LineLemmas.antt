@@ -1,28 +1,26 @@
 -- Lines of a script, from how they begin to how they end.
-use Rattle.std.proofs.Common.{◌≡◌, ℕ, ◌+◌, ◌≤◌, ◌<◌, Bool, true, false, cond, List, [], ◌∷◌, ◌++◌, arith, append-nil, length, inl, inr, refl, sym, ◌∙◌, ap, subst, Option, Some, None}
-use Rattle.std.specs.Prelude.{◌≢◌, ◌⊎◌, flat_map}
+use Rattle.std.proofs.Common.{◌≡◌, ℕ, Bool, true, false, cond, List, [], ◌∷◌, ◌++◌, append-nil, inl, inr, refl, sym, ◌∙◌, subst, ap, arith}
 use Rattle.std.proofs.lemmas.List.Elements.{All-nil}
+use Rattle.std.specs.Prelude.{◌⊎◌, flat_map}
 use Rattle.sr_io.specs.Causes.{Rose}
-use Rattle.sr_io.specs.Pieces.{SendsPart}
-use Rattle.sr_io.specs.Told.{Linking, OnlyFaults, Writing, connected, connections, hung_up, sent_on}
+use Rattle.sr_io.specs.Told.{Linking, OnlyFaults, Writing, connected, hung_up, connections}
 use Rattle.sr_message.specs.declared.message.Message.{Message}
 use Rattle.sr_script.specs.declared.line.TraceLine.{TraceLine}
 use Rattle.sr_script.specs.TraceText.{line_text}
 use Rattle.sr_session.specs.Clients.{Client}
 use Rattle.sr_session.specs.Rules.{sent_of}
-use Rattle.sr_links.specs.Steps.{Standing, Deed, WasCut, Resumed}
-use Rattle.sr_talk.specs.Calls.{Call, Scripted}
+use Rattle.sr_links.specs.Steps.{Standing, WasCut, Resumed}
+use Rattle.sr_talk.specs.Calls.{Call, Scripted, Task, Do}
 use Rattle.sr_talk.specs.Serving.{spelled}
 use Rattle.sr_dial.specs.Carrying.{Carries, SaysAs}
 use Rattle.sr_dial.specs.Known.{KeepsLink, Makes, Setting}
-use Rattle.sr_dial.specs.Runs.{IsCarried, left_by}
-use Rattle.sr_dial.specs.Courses.{At, Broken, FailsAs, Free, Hands, IsPartWritten, IsReady, IsWritten, Over, Rests, Start, Unbegun}
+use Rattle.sr_dial.specs.Runs.{left_by, IsCarried}
+use Rattle.sr_dial.specs.Courses.{Broken, FailsAs, Free, Hands, IsPartWritten, IsReady, IsWritten, Over, Rests, Start, Unbegun}
 use Rattle.sr_dial.specs.declared.ending.Ending.TheVariants as ending
 use Rattle.sr_dial.specs.declared.steps.Handed.{Handed}
 use Rattle.sr_dial.specs.declared.steps.Handed.TheVariants.{Whole, Broken as HandedBroken, Unwritten}
 use Rattle.sr_dial.proofs.BeginLemmas.{begins, begin-breaks, begin-fails, rests-of}
 use Rattle.sr_dial.proofs.BrokenLemmas.{fail-ends, one-sent}
-use Rattle.sr_dial.proofs.CourseLemmas.{past-step}
 use Rattle.sr_dial.proofs.EndLemmas.{unwritten-at, unwritten-broken}
 use Rattle.sr_dial.proofs.HandLemmas.{half, hands-up, wrote}
 
@@ -30,7 +28,7 @@ module _ (C : Type 0) (Stands : C → Client → Type 0) (IsOf : Standing C) (k 
   -- ---- a resume
 
   -- before anything was done the client's link is cut
-  unbegun-rests : (script : List (ℕ × Deed)) (line : ℕ) (failed : Bool) (l : Linking) (P : List ℕ → Type 0) (code : C) → Unbegun C Stands IsOf k s script line failed l P code → Rests C Stands IsOf k s script line failed l P code
+  unbegun-rests : (script : List (ℕ × Task)) (line : ℕ) (failed : Bool) (l : Linking) (P : List ℕ → Type 0) (code : C) → Unbegun C Stands IsOf k s script line failed l P code → Rests C Stands IsOf k s script line failed l P code
   unbegun-rests script line failed l P code u = record {
     calls = [];
     are = tt;
@@ -45,6 +43,7 @@ module _ (C : Type 0) (Stands : C → Client → Type 0) (IsOf : Standing C) (k 
       came_is = refl;
       lines = sym u.none;
       fair = tt;
+      explained = tt;
       code_is = sym u.code_is;
       stands = subst (λ x. Stands x s.past) (sym u.code_is) u.stands;
       rests = λ down. u.out;
@@ -53,7 +52,7 @@ module _ (C : Type 0) (Stands : C → Client → Type 0) (IsOf : Standing C) (k 
     cut = u.cut;
   }
 
-  module _ (script : List (ℕ × Deed)) (line number : ℕ) (failed : Bool) (l mid new_l : Linking) (w new_w : Writing) (code new : C) (lines : List TraceLine) (sent : List Message) where
+  module _ (script : List (ℕ × Task)) (line number : ℕ) (failed : Bool) (l mid new_l : Linking) (w new_w : Writing) (code new : C) (lines : List TraceLine) (sent : List Message) where
     abbrev text : List ℕ
     text = flat_map (line_text k.schema number) lines
 
@@ -61,37 +60,37 @@ module _ (C : Type 0) (Stands : C → Client → Type 0) (IsOf : Standing C) (k 
         (message : Message) (one : sent ≡ message ∷ []) where
       -- somebody is dialled
       pub dialled : (handed : Handed) → mid ≡ connected l → Carries handed mid new_l w new_w (spelled sent) (flat_map (line_text k.schema number) lines)
-          → Hands C Stands IsOf k handed s (script ++ (number, Resumed) ∷ []) number 0 failed new_l new_w [] new
+          → Hands C Stands IsOf k handed s (script ++ (number, Do Resumed) ∷ []) number 0 failed new_l new_w [] new
       dialled handed made carries = by handed (subst (λ x. Carries handed x new_l w new_w (spelled sent) (flat_map (line_text k.schema number) lines)) made carries)
         where
           by : (handed : Handed) → Carries handed (connected l) new_l w new_w (spelled sent) (flat_map (line_text k.schema number) lines)
-              → Hands C Stands IsOf k handed s (script ++ (number, Resumed) ∷ []) number 0 failed new_l new_w [] new
+              → Hands C Stands IsOf k handed s (script ++ (number, Do Resumed) ∷ []) number 0 failed new_l new_w [] new
           by Whole (is, says) = begins C Stands IsOf k s script line number failed (IsWritten s w) (IsWritten s new_w) l code new lines sent (wrote s w new_w text says) r m (r.steps.rests r.cut) message one new_l is
           by HandedBroken ((part, rose), says) =
               begin-breaks C Stands IsOf k s script line number failed (IsWritten s w) (IsWritten s new_w) l code new lines sent (wrote s w new_w text says) r m (r.steps.rests r.cut) message one new_l part rose
           by Unwritten (inl is, says) =
-              unwritten-at C Stands IsOf k s (script ++ (number, Resumed) ∷ []) number 0 new_l [] new new_w failed
+              unwritten-at C Stands IsOf k s (script ++ (number, Do Resumed) ∷ []) number 0 new_l [] new new_w failed
               (begins C Stands IsOf k s script line number failed (IsWritten s w) (IsPartWritten s new_w) l code new lines sent (half s w new_w text says) r m (r.steps.rests r.cut) message one new_l is)
           by Unwritten (inr (part, rose), says) =
-              unwritten-broken C Stands IsOf k s (script ++ (number, Resumed) ∷ []) number 0 new_l [] new new_w
+              unwritten-broken C Stands IsOf k s (script ++ (number, Do Resumed) ∷ []) number 0 new_l [] new new_w
               (begin-breaks C Stands IsOf k s script line number failed (IsWritten s w) (IsPartWritten s new_w) l code new lines sent (half s w new_w text says) r m (r.steps.rests r.cut) message one new_l part rose)
 
       -- nobody is
       pub not-dialled : (said : Bool) → OnlyFaults l new_l → Rose l.faults new_l.faults → SaysAs said w new_w (flat_map (line_text k.schema number) lines)
-          → Hands C Stands IsOf k (cond said HandedBroken Unwritten) s (script ++ (number, Resumed) ∷ []) number 0 failed new_l new_w [] new
+          → Hands C Stands IsOf k (cond said HandedBroken Unwritten) s (script ++ (number, Do Resumed) ∷ []) number 0 failed new_l new_w [] new
       not-dialled true only rose says = begin-fails C Stands IsOf k s script line number failed (IsWritten s w) (IsWritten s new_w) l code new lines sent (wrote s w new_w text says) r m (r.steps.rests r.cut) message one new_l only rose
       not-dialled false only rose says =
-          unwritten-broken C Stands IsOf k s (script ++ (number, Resumed) ∷ []) number 0 new_l [] new new_w
+          unwritten-broken C Stands IsOf k s (script ++ (number, Do Resumed) ∷ []) number 0 new_l [] new new_w
           (begin-fails C Stands IsOf k s script line number failed (IsWritten s w) (IsPartWritten s new_w) l code new lines sent (half s w new_w text says) r m (r.steps.rests r.cut) message one new_l only rose)
 
-  module _ (script : List (ℕ × Deed)) (line number : ℕ) (failed : Bool) (l new_l : Linking) (w new_w : Writing) (feed : List ℕ) (code new : C) (lines : List TraceLine) (sent : List Message)
+  module _ (script : List (ℕ × Task)) (line number : ℕ) (failed : Bool) (l new_l : Linking) (w new_w : Writing) (feed : List ℕ) (code new : C) (lines : List TraceLine) (sent : List Message)
       (ready : IsReady C Stands IsOf k s script line failed l (IsWritten s w) feed code) (act : (c : Client) → Stands code c → Makes Stands IsOf k code new c Resumed lines sent) where
     -- the link is up: nothing is done
     pub resumes-up : (handed : Handed) → sent ≡ [] → Carries handed l new_l w new_w (spelled sent) (flat_map (line_text k.schema number) lines)
-        → Hands C Stands IsOf k handed s (script ++ (number, Resumed) ∷ []) number 0 failed new_l new_w feed new
+        → Hands C Stands IsOf k handed s (script ++ (number, Do Resumed) ∷ []) number 0 failed new_l new_w feed new
     resumes-up handed none carries = by ready
       where
-        by : IsReady C Stands IsOf k s script line failed l (IsWritten s w) feed code → Hands C Stands IsOf k handed s (script ++ (number, Resumed) ∷ []) number 0 failed new_l new_w feed new
+        by : IsReady C Stands IsOf k s script line failed l (IsWritten s w) feed code → Hands C Stands IsOf k handed s (script ++ (number, Do Resumed) ∷ []) number 0 failed new_l new_w feed new
         by (inl f) =
             let m = act (left_by s.past (f.at.course.earlier ++ f.at.course.call ∷ [])) f.at.course.steps.stands in
             let link = subst (λ ms. KeepsLink Resumed ms (left_by s.past (f.at.course.earlier ++ f.at.course.call ∷ [])) m.next) none m.link in
@@ -117,7 +116,7 @@ module _ (C : Type 0) (Stands : C → Client → Type 0) (IsOf : Standing C) (k 
         by (inr u) = unbegun-rests script line failed l (IsWritten s w) code u
 
     pub resumes-dialled : (handed : Handed) (mid : Linking) → (sent ≡ [] → ⊥) → mid ≡ connected l → Carries handed mid new_l w new_w (spelled sent) (flat_map (line_text k.schema number) lines)
-        → Hands C Stands IsOf k handed s (script ++ (number, Resumed) ∷ []) number 0 failed new_l new_w [] new
+        → Hands C Stands IsOf k handed s (script ++ (number, Do Resumed) ∷ []) number 0 failed new_l new_w [] new
     resumes-dialled handed mid some made carries = by (one-sent m.outcome)
       where
         r : Rests C Stands IsOf k s script line failed l (IsWritten s w) code
@@ -126,12 +125,12 @@ module _ (C : Type 0) (Stands : C → Client → Type 0) (IsOf : Standing C) (k 
         m : Makes Stands IsOf k code new (left_by s.past r.calls) Resumed lines sent
         m = act (left_by s.past r.calls) r.steps.stands
 
-        by : (sent_of m.outcome ≡ []) ⊎ ((x : Message) × (sent_of m.outcome ≡ x ∷ [])) → Hands C Stands IsOf k handed s (script ++ (number, Resumed) ∷ []) number 0 failed new_l new_w [] new
+        by : (sent_of m.outcome ≡ []) ⊎ ((x : Message) × (sent_of m.outcome ≡ x ∷ [])) → Hands C Stands IsOf k handed s (script ++ (number, Do Resumed) ∷ []) number 0 failed new_l new_w [] new
         by (inl none) = absurd (some (m.sent_is ∙ none))
         by (inr (x, one)) = dialled script line number failed l mid new_l w new_w code new lines sent r m x (m.sent_is ∙ one) handed made carries
 
     pub resumes-alone : (said : Bool) → (sent ≡ [] → ⊥) → OnlyFaults l new_l → Rose l.faults new_l.faults → SaysAs said w new_w (flat_map (line_text k.schema number) lines)
-        → Hands C Stands IsOf k (cond said HandedBroken Unwritten) s (script ++ (number, Resumed) ∷ []) number 0 failed new_l new_w [] new
+        → Hands C Stands IsOf k (cond said HandedBroken Unwritten) s (script ++ (number, Do Resumed) ∷ []) number 0 failed new_l new_w [] new
     resumes-alone said some only rose says = by (one-sent m.outcome)
       where
         r : Rests C Stands IsOf k s script line failed l (IsWritten s w) code
@@ -140,13 +139,13 @@ module _ (C : Type 0) (Stands : C → Client → Type 0) (IsOf : Standing C) (k 
         m : Makes Stands IsOf k code new (left_by s.past r.calls) Resumed lines sent
         m = act (left_by s.past r.calls) r.steps.stands
 
-        by : (sent_of m.outcome ≡ []) ⊎ ((x : Message) × (sent_of m.outcome ≡ x ∷ [])) → Hands C Stands IsOf k (cond said HandedBroken Unwritten) s (script ++ (number, Resumed) ∷ []) number 0 failed new_l new_w [] new
+        by : (sent_of m.outcome ≡ []) ⊎ ((x : Message) × (sent_of m.outcome ≡ x ∷ [])) → Hands C Stands IsOf k (cond said HandedBroken Unwritten) s (script ++ (number, Do Resumed) ∷ []) number 0 failed new_l new_w [] new
         by (inl none) = absurd (some (m.sent_is ∙ none))
         by (inr (x, one)) = not-dialled script line number failed l l new_l w new_w code new lines sent r m x (m.sent_is ∙ one) said only rose says
 
   -- ---- the link failed
 
-  pub fails-as : (script : List (ℕ × Deed)) (line : ℕ) (l new_l : Linking) (w new_w : Writing) (feed : List ℕ) (code new : C) (lines : List TraceLine) (said : Bool)
+  pub fails-as : (script : List (ℕ × Task)) (line : ℕ) (l new_l : Linking) (w new_w : Writing) (feed : List ℕ) (code new : C) (lines : List TraceLine) (said : Bool)
       (b : Broken C Stands IsOf k s script line l (IsWritten s w) feed code) → ((c : Client) → Stands code c → Makes Stands IsOf k code new c WasCut lines []) → new_l ≡ hung_up l
       → SaysAs said w new_w (flat_map (line_text k.schema line) lines) → FailsAs C Stands IsOf k said s script line new_l new_w feed new
   fails-as script line l new_l w new_w feed code new lines said b cut gone says =

@@ -1,16 +1,16 @@
 -- Calls and steps, one more.
-use Rattle.std.proofs.Common.{◌≡◌, ℕ, ◌+◌, Bool, true, false, List, [], ◌∷◌, ◌++◌, map, arith, append_assoc, append-nil, refl, sym, ◌∙◌, ap, subst, Option, option_to_list}
+use Rattle.std.proofs.Common.{◌≡◌, ℕ, ◌+◌, Bool, true, false, List, [], ◌∷◌, ◌++◌, arith, append_assoc, append-nil, refl, sym, ◌∙◌, ap, subst, Option, option_to_list}
 use Rattle.std.specs.Prelude.{◌&&◌, ◌||◌, flat_map}
 use Rattle.std.specs.List.{list_any}
-use Rattle.std.proofs.lemmas.List.{map-append}
 use Rattle.std.proofs.lemmas.Grind.{flat_map-append}
 use Rattle.sr_message.specs.declared.message.Message.{Message}
 use Rattle.sr_policy.specs.declared.policy.Limits.{Limits}
 use Rattle.sr_session.specs.Clients.{Client}
 use Rattle.sr_session.specs.Rules.{sent_of}
 use Rattle.sr_links.specs.Steps.{Step, Standing, Deed, AreFair, OnOne, StaysOn, code_after, given_of, past_after, requests_of, taken_by}
-use Rattle.sr_talk.specs.Calls.{Call, Done, AreCalls, all_done, calls_told, count_faults, done_in, fails, is_failed, is_fault, line_of, lines_done, one_if, steps_in}
+use Rattle.sr_talk.specs.Calls.{Call, Done, Made, Explained, AreCalls, all_done, asked_by, calls_told, count_faults, done_in, fails, has_failed, is_fault, lines_done, number_of, one_if, steps_in}
 use Rattle.sr_dial.specs.Courses.{IsCall, line_after}
+use Rattle.sr_dial.specs.Known.{AreFairlyExplained}
 use Rattle.sr_dial.specs.Runs.{AreInPlace, left_by, more_taken, taken_after}
 
 module _ {C : Type 0} where
@@ -42,24 +42,34 @@ module _ {C : Type 0} where
   requests-append (x ∷ xs) ys = ap (λ ms. sent_of x.outcome ++ ms) (requests-append xs ys) ∙ sym (append_assoc (sent_of x.outcome) (requests_of xs) (requests_of ys))
 
   pub steps-append : (xs ys : List (Done C)) → steps_in (xs ++ ys) ≡ steps_in xs ++ steps_in ys
-  steps-append xs ys = map-append (λ (d : Done C). d.step) xs ys
+  steps-append [] ys = refl
+  steps-append (Made number cause step ∷ xs) ys = ap (λ more. step ∷ more) (steps-append xs ys)
+  steps-append (Explained number text result ∷ xs) ys = steps-append xs ys
 
   pub line-append : (line : ℕ) (xs ys : List (Done C)) → line_after line (xs ++ ys) ≡ line_after (line_after line xs) ys
   line-append line [] ys = refl
-  line-append line (x ∷ xs) ys = line-append x.number xs ys
+  line-append line (x ∷ xs) ys = line-append (number_of x) xs ys
 
   pub taken-append : (n : ℕ) (xs ys : List (Done C)) → taken_after n (xs ++ ys) ≡ taken_after (taken_after n xs) ys
   taken-append n [] ys = refl
-  taken-append n (x ∷ xs) ys = taken-append (more_taken x.cause n) xs ys
+  taken-append n (Made number cause step ∷ xs) ys = taken-append (more_taken cause n) xs ys
+  taken-append n (Explained number text result ∷ xs) ys = taken-append 0 xs ys
 
   pub place-append : (line : ℕ) (c : Client) (xs ys : List (Done C)) → AreInPlace line c xs → AreInPlace (line_after line xs) (past_after c (steps_in xs)) ys → AreInPlace line c (xs ++ ys)
   place-append line c [] ys one more = more
-  place-append line c (x ∷ xs) ys (here, one) more = (here, place-append x.number x.step.past xs ys one more)
+  place-append line c (Made number cause step ∷ xs) ys (here, one) more = (here, place-append number step.past xs ys one more)
+  place-append line c (Explained number text result ∷ xs) ys (here, one) more = (here, place-append number c xs ys one more)
+
+  pub explained-append : (IsOf : Standing C) (limits : Limits) (code : C) (c : Client) (xs ys : List (Done C)) → AreFairlyExplained IsOf limits code c xs
+      → AreFairlyExplained IsOf limits (code_after code (steps_in xs)) (past_after c (steps_in xs)) ys → AreFairlyExplained IsOf limits code c (xs ++ ys)
+  explained-append IsOf limits code c [] ys one more = more
+  explained-append IsOf limits code c (Made number cause step ∷ xs) ys one more = explained-append IsOf limits step.code step.past xs ys one more
+  explained-append IsOf limits code c (Explained number text result ∷ xs) ys (here, one) more = (here, explained-append IsOf limits code c xs ys one more)
 
   pub lines-append : (xs ys : List (Done C)) → lines_done (xs ++ ys) ≡ lines_done xs ++ lines_done ys
   lines-append [] ys = refl
   lines-append (x ∷ xs) ys =
-      ap (λ more. line_of x.cause x.number x.step.deed ++ more) (lines-append xs ys) ∙ sym (append_assoc (line_of x.cause x.number x.step.deed) (lines_done xs) (lines_done ys))
+      ap (λ more. asked_by x ++ more) (lines-append xs ys) ∙ sym (append_assoc (asked_by x) (lines_done xs) (lines_done ys))
 
   -- ---- calls
 
@@ -87,16 +97,16 @@ module _ {C : Type 0} where
       by true e = refl
       by false e = e
 
-  pub fails-one : (others : List (Done C)) (d : Done C) → list_any (λ (d : Done C). is_failed d.cause) (others ++ d ∷ []) ≡ (list_any (λ (d : Done C). is_failed d.cause) others || is_failed d.cause)
-  fails-one [] d = or-none (is_failed d.cause)
+  pub fails-one : (others : List (Done C)) (d : Done C) → list_any has_failed (others ++ d ∷ []) ≡ (list_any has_failed others || has_failed d)
+  fails-one [] d = or-none (has_failed d)
     where
       or-none : (b : Bool) → (b || false) ≡ b
       or-none true = refl
       or-none false = refl
-  fails-one (x ∷ others) d = by (is_failed x.cause) (fails-one others d)
+  fails-one (x ∷ others) d = by (has_failed x) (fails-one others d)
     where
-      by : (b : Bool) → list_any (λ (d : Done C). is_failed d.cause) (others ++ d ∷ []) ≡ (list_any (λ (d : Done C). is_failed d.cause) others || is_failed d.cause)
-          → (b || list_any (λ (d : Done C). is_failed d.cause) (others ++ d ∷ [])) ≡ ((b || list_any (λ (d : Done C). is_failed d.cause) others) || is_failed d.cause)
+      by : (b : Bool) → list_any has_failed (others ++ d ∷ []) ≡ (list_any has_failed others || has_failed d)
+          → (b || list_any has_failed (others ++ d ∷ [])) ≡ ((b || list_any has_failed others) || has_failed d)
       by true e = refl
       by false e = e
 

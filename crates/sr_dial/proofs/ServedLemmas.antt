@@ -12,6 +12,7 @@ use Rattle.sr_session.specs.Scenes.{taken}
 use Rattle.sr_session.specs.Sessions.{Database, Session, with_version}
 use Rattle.sr_links.specs.Honest.{Server, Input, Version, Frame, CutOff, IsPrefix, AreClosedBehind, IsClosedBehind, answer, cut_off, frame_of, frames_of, has_cut, is_cut_off, sent_for, server_after, server_at_last}
 use Rattle.sr_links.specs.Steps.{given_of, requests_of}
+use Rattle.sr_links.proofs.MendLemmas.{prefix-on}
 use Rattle.sr_talk.specs.Calls.{Call, done_in, fails, steps_in}
 use Rattle.sr_talk.specs.Rounds.{at_rest}
 use Rattle.sr_talk.specs.Serving.{Answers, Conversation, SentAs, spelled}
@@ -27,9 +28,6 @@ use Rattle.sr_dial.proofs.HonestLemmas.{Fronts, fronts}
 
 same-prefix : {X : Type 0} (xs : List X) → IsPrefix xs xs
 same-prefix {X} xs = record { rest = []; all = sym (append-nil xs) }
-
-prefix-on : {X : Type 0} (a b c : List X) → IsPrefix a b → IsPrefix b c → IsPrefix a c
-prefix-on {X} a b c one two = record { rest = one.rest ++ two.rest; all = two.all ∙ (ap (λ x. x ++ two.rest) one.all ∙ append_assoc a one.rest two.rest) }
 
 -- what the client sent begins its requests
 sent-begins : (short : Bool) (requests : List Message) (sent : List ℕ) → AreSent short requests sent → IsPrefix sent (spelled requests)

@@ -1,5 +1,5 @@
 -- What is true of a run over an honest link.
-use Rattle.std.proofs.Common.{◌≡◌, ℕ, ◌≤◌, true, List, [], ◌∷◌, ◌++◌, map, append_assoc, append-nil, refl, sym, ◌∙◌, ap, subst, arith, Some, None}
+use Rattle.std.proofs.Common.{◌≡◌, ℕ, ◌≤◌, true, List, [], ◌∷◌, ◌++◌, map, append_assoc, append-nil, sym, ◌∙◌, ap, subst, arith, Some, None}
 use Rattle.std.specs.Prelude.{◌≢◌, Result}
 use Rattle.std.specs.List.{list_all}
 use Rattle.sr_cell.specs.declared.fault.Fault.{Fault}
@@ -14,17 +14,18 @@ use Rattle.sr_wire.specs.declared.bad_frame.BadFrame.{BadFrame}
 use Rattle.sr_wire.specs.Spelling.{spelling}
 use Rattle.sr_session.specs.Clients.{Client}
 use Rattle.sr_session.specs.Misfits.{misfit}
-use Rattle.sr_session.specs.Rules.{Basis, Outcome, Laid, Answering, AnswerStep, Before, renewed, given_up, as_it_is, emptied, QueryStep, query_refused, query_busy, query_answered, query_down, query_asks, answering_now, answering_then, TakeStep, lays, applies, forgets, answers, asks_once_more, written, refused_write, is_welcomed, EvictStep, evict_busy, evicts_none, evicts, WriteStep, write_busy, write_down, write_sends, already_cut, cuts, already_up, resumes}
+use Rattle.sr_session.specs.Rules.{Basis, Outcome, Laid, Before, as_it_is, emptied, QueryStep, query_refused, query_busy, query_answered, query_down, query_asks, answering_now, answering_then, TakeStep, lays, applies, forgets, answers, asks_once_more, written, refused_write, is_welcomed, EvictStep, evict_busy, evicts_none, evicts, WriteStep, write_busy, write_down, write_sends, already_cut, cuts, already_up, resumes}
 use Rattle.sr_session.specs.Sessions.{Database, tables_of}
 use Rattle.sr_session.proofs.NeverLemmas.{never-refused}
+use Rattle.sr_session.specs.Bases.{basis_of}
 use Rattle.sr_links.specs.Answers.{AreTrueAnswers, AsksKeys}
 use Rattle.sr_links.specs.Honest.{Server, Input, IsPrefix, Rests, frames_of, sent_for, server_after, server_at_last}
-use Rattle.sr_links.specs.Steps.{Step, Standing, Deed, Queried, Wrote, Evicted, Took, WasCut, Resumed, too_long, writes, Does, IsFair, AreFair, OnOne, basis_on, code_after, given_of, past_after, requests_of}
-use Rattle.sr_links.proofs.AnswerLemmas.{served-answers-are-true}
+use Rattle.sr_links.specs.Steps.{Step, Standing, Deed, Queried, Wrote, Evicted, Took, WasCut, Resumed, too_long, writes, Does, IsFair, AreFair, OnOne, code_after, given_of, past_after, requests_of}
+use Rattle.sr_links.proofs.AnswerLemmas.{served-answers-are-true, answered-at}
 use Rattle.sr_links.proofs.DatabaseLemmas.{last-more, sound-before}
 use Rattle.sr_links.proofs.MendLemmas.{closed-runs}
 use Rattle.sr_links.proofs.TalkLemmas.{AreTrue, IsTrueStep}
-use Rattle.sr_talk.specs.Calls.{Call, Done, Delivered, AreCalls, all_done, done_in, steps_in, talk_of}
+use Rattle.sr_talk.specs.Calls.{Call, Done, Made, Do, Delivered, AreCalls, all_done, done_in, steps_in, talk_of}
 use Rattle.sr_talk.specs.Serving.{spelled}
 use Rattle.sr_talk.proofs.TalkLemmas.{spelled-append}
 use Rattle.sr_dial.specs.Honest.{AreExplained, HonestRunsAreTrue, IsHonest, NamesVersion, NeverFall, came_over}
@@ -37,10 +38,6 @@ use Rattle.sr_dial.proofs.HonestLemmas.{AreAsked, AreHeard, are-asked, are-heard
 use Rattle.sr_dial.proofs.ListLemmas.{fair-append, on-append, steps-append}
 
 -- ---- versions never fall
-
-answered-at : (b : Basis) (a : Answering) (c : Client) (marks : List Mark) (new : Client) → AnswerStep b a c marks new → new.version ≡ a.version
-answered-at b a c marks new (renewed ms renews) = refl
-answered-at b a c marks new (given_up ms gives) = refl
 
 -- the client is at no older version, and an answer names it
 abbrev IsLater : Client → Outcome → Client → Type 0
@@ -98,7 +95,7 @@ module _ (b : Basis) where
 never-fall : {C : Type 0} (limits : Limits) (all : Database) (c : Client) (steps : List (Step C)) → AreTrue limits all c steps → NeverFall c steps
 never-fall {C} limits all c [] trues = tt
 never-fall {C} limits all c (step ∷ steps) (one, more) =
-    let (later, names) = does-later (basis_on one.db limits) step.deed c step.outcome step.past one.does in (later, names, never-fall limits all step.past steps more)
+    let (later, names) = does-later (basis_of one.db limits) step.deed c step.outcome step.past one.does in (later, names, never-fall limits all step.past steps more)
 
 last-true : {C : Type 0} (limits : Limits) (all : Database) (c : Client) (steps : List (Step C)) (step : Step C) → AreTrue limits all c (steps ++ step ∷ []) → IsTrueStep limits all (past_after c steps) step
 last-true {C} limits all c [] step (one, more) = one
@@ -148,12 +145,15 @@ module _ {C : Type 0} (IsOf : Standing C) (keys : AsksKeys IsOf) (limits : Limit
   -- ---- a message more, which is refused
 
   module _ (m : Message) (rest : List ℕ) (now : Client) (code_now : C) where
+    abbrev took_step : Step C
+    took_step = record { deed = Took m; outcome = Laid; past = now; code = code_now }
+
     abbrev took : Done C
-    took = record { number = 0; cause = Delivered; step = record { deed = Took m; outcome = Laid; past = now; code = code_now } }
+    took = Made 0 Delivered took_step
 
     more-calls : (from : Client) (earlier : List (Call C)) (call : Call C) → AreCalls from (earlier ++ call ∷ []) → AreCalls from (earlier ++ with_step call took call.told rest ∷ [])
     more-calls from [] call (first, was_cut, on_one, more) =
-        (first, was_cut, subst (OnOne call.first.step.past) (sym (steps-append call.others (took ∷ []))) (on-append call.first.step.past (steps_in call.others) took.step on_one tt), tt)
+        (first, was_cut, subst (OnOne call.first.past) (sym (steps-append call.others (took ∷ []))) (on-append call.first.past (steps_in call.others) took_step on_one tt), tt)
     more-calls from (x ∷ earlier) call (first, was_cut, on_one, more) = (first, was_cut, on_one, more-calls (past_after from (steps_in (done_in x))) earlier call more)
 
     module _ (call : Call C) (next : call.left ≡ spelling m ++ rest) where
@@ -189,8 +189,11 @@ module _ {C : Type 0} (IsOf : Standing C) (keys : AsksKeys IsOf) (limits : Limit
     abbrev code_now : C
     code_now = code_after code before
 
+    abbrev bad_step : Step C
+    bad_step = record { deed = Took r.message; outcome = Laid; past = now; code = code_now }
+
     abbrev step : Done C
-    step = record { number = 0; cause = Delivered; step = record { deed = Took r.message; outcome = Laid; past = now; code = code_now } }
+    step = Made 0 Delivered bad_step
 
     abbrev longer : Call C
     longer = with_step call step call.told r.rest
@@ -198,25 +201,25 @@ module _ {C : Type 0} (IsOf : Standing C) (keys : AsksKeys IsOf) (limits : Limit
     not-none : (schema : List Table) → schema ≡ own → misfit schema now.out now.laid now.version r.message ≡ None → ⊥
     not-none schema same none = absurd (let wrong : Some why ≡ None = sym r.why_is ∙ (ap (λ schema. misfit schema now.out now.laid now.version r.message) (sym same) ∙ none) in cc)
 
-    step-fair : IsFair (Here own IsOf) limits code_now now step.step
+    step-fair : IsFair (Here own IsOf) limits code_now now bad_step
     step-fair db sound within is comes =
         absurd (not-none db.schema is.1 (never-refused db now comes.connection comes.session r.message comes.queue sound (subst (λ schema. list_all is_table schema ≡ true) (sym is.1) tables)
         (keys db.schema code_now now (tables_of db now.version) is.0) comes.is_open comes.first))
 
-    longer-steps : steps_in (all_done (earlier ++ longer ∷ [])) ≡ before ++ step.step ∷ []
+    longer-steps : steps_in (all_done (earlier ++ longer ∷ [])) ≡ before ++ bad_step ∷ []
     longer-steps = ap (λ ds. steps_in ds) (all-step earlier call step call.told r.rest) ∙ steps-append (all_done (earlier ++ call ∷ [])) (step ∷ [])
 
-    longer-true : AreTrue limits (server_at_last s pieces).database c (before ++ step.step ∷ [])
+    longer-true : AreTrue limits (server_at_last s pieces).database c (before ++ bad_step ∷ [])
     longer-true = subst (AreTrue limits (server_at_last s pieces).database c) longer-steps
         (are-true (earlier ++ longer ∷ [])
         (record { schema_is = h.schema_is; some = h.some; sound = h.sound; closed = h.closed; behind = h.behind; explained = more-explained r.message r.rest now code_now call r.next s pieces earlier h.explained })
         (more-calls r.message r.rest now code_now c earlier call are)
-        (subst (AreHeard c) (sym (all-step earlier call step call.told r.rest)) (heard-append c (all_done (earlier ++ call ∷ [])) step heard (r.waits, r.spells)))
-        (subst (AreFair (Here own IsOf) limits code c) (sym longer-steps) (fair-append (Here own IsOf) limits code c before (step.step ∷ []) fair (step-fair, tt))))
+        (subst (AreHeard c) (sym (all-step earlier call step call.told r.rest)) (heard-append c (all_done (earlier ++ call ∷ [])) (step ∷ []) heard ((r.waits, r.spells), tt)))
+        (subst (AreFair (Here own IsOf) limits code c) (sym longer-steps) (fair-append (Here own IsOf) limits code c before (bad_step ∷ []) fair (step-fair, tt))))
 
     pub never-bad : ⊥
     never-bad =
-        let is = last-true limits (server_at_last s pieces).database c before step.step longer-true in
+        let is = last-true limits (server_at_last s pieces).database c before bad_step longer-true in
         not-none is.db.schema (sym is.grows.schema ∙ ((last-more s pieces h.some).grows.schema ∙ h.schema_is)) is.fits
 
 -- ---- a run
@@ -236,7 +239,7 @@ honest-runs-are-true {C} IsOf k s pieces code c lines script ended old new befor
     fair : AreFair (Here k.schema IsOf) k.limits code c (steps_in (all_done (run.ran.earlier ++ run.ran.last ∷ [])))
     fair = fair-here k.schema IsOf k.limits code c (steps_in (all_done (run.ran.earlier ++ run.ran.last ∷ []))) run.fair
 
-    by : (ended : Ending) → EndsBy ended k.schema (run.ran.earlier ++ run.ran.last ∷ []) (left_by c (run.ran.earlier ++ run.ran.last ∷ [])) run.ran.last.left run.ran.lines ((0, Resumed) ∷ script) → status_of ended ≢ 8
+    by : (ended : Ending) → EndsBy ended k.schema (run.ran.earlier ++ run.ran.last ∷ []) (left_by c (run.ran.earlier ++ run.ran.last ∷ [])) run.ran.last.left run.ran.lines ((0, Do Resumed) ∷ script) → status_of ended ≢ 8
     by ending.Whole ends is = absurd (let wrong : 0 ≡ 8 = is in omega (arith, wrong))
     by ending.Faulty ends is = absurd (let wrong : 5 ≡ 8 = is in omega (arith, wrong))
     by ending.Unwritten ends is = absurd (let wrong : 4 ≡ 8 = is in omega (arith, wrong))

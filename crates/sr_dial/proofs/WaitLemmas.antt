@@ -1,38 +1,34 @@
 -- Messages that are awaited.
-use Rattle.std.proofs.Common.{◌≡◌, ℕ, ◌+◌, ◌<◌, Bool, true, false, List, [], ◌∷◌, ◌++◌, arith, append-nil, inl, inr, refl, sym, ◌∙◌, ap, subst, Option, Some, None}
+use Rattle.std.proofs.Common.{◌≡◌, ℕ, ◌+◌, Bool, true, false, List, [], ◌∷◌, ◌++◌, append-nil, refl, sym, ◌∙◌, ap, subst, Option, Some, None}
 use Rattle.std.specs.Prelude.{◌≢◌, IsTrue, flat_map}
 use Rattle.std.specs.Option.{is_some}
-use Rattle.std.specs.List.{All}
 use Rattle.sr_io.specs.Causes.{Rose}
-use Rattle.sr_io.specs.Told.{IsOver, Linking, Writing}
+use Rattle.sr_io.specs.Told.{Linking, Writing}
 use Rattle.sr_message.specs.declared.message.Message.{Message}
 use Rattle.sr_script.specs.TraceText.{line_text}
 use Rattle.sr_session.specs.Clients.{Client}
 use Rattle.sr_session.specs.Walks.{Request}
 use Rattle.sr_wire.specs.declared.bad_frame.BadFrame.{BadFrame}
 use Rattle.sr_wire.specs.declared.wire_fault.WireFault.{WireFault}
-use Rattle.sr_wire.specs.Limits.{IsSendable}
 use Rattle.sr_wire.specs.Spelling.{has_spelling, spelling}
-use Rattle.sr_links.specs.Steps.{Standing, Deed, Took}
-use Rattle.sr_talk.specs.Calls.{Delivered}
+use Rattle.sr_links.specs.Steps.{Standing, Took}
+use Rattle.sr_talk.specs.Calls.{Delivered, Task}
 use Rattle.sr_talk.specs.Reading.{Nexts, Reads}
 use Rattle.sr_talk.specs.Serving.{spelled}
 use Rattle.sr_talk.specs.declared.frames.Next.{Next}
 use Rattle.sr_talk.specs.declared.frames.Next.TheVariants.{Frame, End, Torn, Fault, Bad as NextBad}
 use Rattle.sr_dial.specs.Carrying.{Carries}
-use Rattle.sr_dial.specs.Known.{KeepsLink, Makes, Setting}
+use Rattle.sr_dial.specs.Known.{Makes, Setting}
 use Rattle.sr_dial.specs.Runs.{left_by}
 use Rattle.sr_dial.specs.Courses.{At, Broken, Free, Handles, Hands, IsWritten, Over, Start, Waits, handled_by, last_of}
 use Rattle.sr_dial.specs.declared.ending.Ending.TheVariants as ending
 use Rattle.sr_dial.specs.declared.steps.Handed.{Handed}
 use Rattle.sr_dial.specs.declared.steps.Handed.TheVariants.{Whole, Broken as HandedBroken, Unwritten}
-use Rattle.sr_dial.specs.declared.waiting.Handled.{Handled}
-use Rattle.sr_dial.specs.declared.waiting.Handled.TheVariants as handled
 use Rattle.sr_dial.proofs.BrokenLemmas.{at-read, end-breaks, fault-breaks, read-past}
 use Rattle.sr_dial.proofs.EndLemmas.{over-at}
 use Rattle.sr_dial.proofs.HandLemmas.{hands-up}
 
-module _ (C : Type 0) (Stands : C → Client → Type 0) (IsOf : Standing C) (k : Setting) (s : Start C) (script : List (ℕ × Deed)) (line came : ℕ) (failed : Bool) (l : Linking) (w : Writing) (feed : List ℕ) (code : C)
+module _ (C : Type 0) (Stands : C → Client → Type 0) (IsOf : Standing C) (k : Setting) (s : Start C) (script : List (ℕ × Task)) (line came : ℕ) (failed : Bool) (l : Linking) (w : Writing) (feed : List ℕ) (code : C)
     (h : At C Stands IsOf k s script line came failed l (IsWritten s w) feed code) where
   abbrev now : Client
   now = left_by s.past (h.course.earlier ++ h.course.call ∷ [])
@@ -122,7 +118,7 @@ module _ (C : Type 0) (Stands : C → Client → Type 0) (IsOf : Standing C) (k 
 
 -- ---- one message
 
-module _ (C : Type 0) (Stands : C → Client → Type 0) (IsOf : Standing C) (k : Setting) (s : Start C) (script : List (ℕ × Deed)) (line came : ℕ) (failed : Bool) (l new_l : Linking) (w new_w : Writing) (after : List ℕ) (code new : C) (m : Message)
+module _ (C : Type 0) (Stands : C → Client → Type 0) (IsOf : Standing C) (k : Setting) (s : Start C) (script : List (ℕ × Task)) (line came : ℕ) (failed : Bool) (l new_l : Linking) (w new_w : Writing) (after : List ℕ) (code new : C) (m : Message)
     (h : At C Stands IsOf k s script line came failed l (IsWritten s w) (spelling m ++ after) code) where
   -- it must be refused
   pub handles-bad : (why : BadFrame) → is_some (left_by s.past (h.course.earlier ++ h.course.call ∷ [])).out ≡ true → IsTrue (has_spelling m)

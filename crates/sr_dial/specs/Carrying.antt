@@ -2,8 +2,8 @@
 use Rattle.std.specs.Prelude.{◌≡◌, Bool, true, false, List, ◌⊎◌, ℕ}
 use Rattle.std.specs.Io.KnownBytes.{Appends}
 use Rattle.sr_io.specs.Causes.{Rose}
-use Rattle.sr_io.specs.Pieces.{SendsPart, WritesPrefix}
-use Rattle.sr_io.specs.Told.{Linking, Writing, sent_on}
+use Rattle.sr_io.specs.Pieces.{WritesPrefix}
+use Rattle.sr_io.specs.Told.{Linking, Writing}
 use Rattle.sr_talk.specs.Moves.{SendsAs}
 use Rattle.sr_dial.specs.declared.steps.Handed.{Handed}
 use Rattle.sr_dial.specs.declared.steps.Handed.TheVariants.{Whole, Broken, Unwritten}

@@ -1,19 +1,19 @@
 -- How far a run has come.
-use Rattle.std.specs.Prelude.{ℕ, Bool, true, false, ◌+◌, List, [], ◌∷◌, ◌++◌, length, flat_map, ◌≡◌, ◌≢◌, ◌⊎◌, None, IfSome}
+use Rattle.std.specs.Prelude.{ℕ, Bool, true, false, ◌+◌, List, [], ◌∷◌, ◌++◌, flat_map, ◌≡◌, ◌≢◌, ◌⊎◌, None, IfSome}
 use Rattle.std.specs.Io.KnownBytes.{Appends}
 use Rattle.std.specs.List.{list_any, All}
 use Rattle.sr_io.specs.Causes.{Rose}
-use Rattle.sr_io.specs.Pieces.{SendsPart, WritesPrefix}
-use Rattle.sr_io.specs.Told.{Linking, Writing, connections, sent_on}
+use Rattle.sr_io.specs.Pieces.{WritesPrefix}
+use Rattle.sr_io.specs.Told.{Linking, Writing, connections}
 use Rattle.sr_message.specs.declared.message.Message.{Message}
 use Rattle.sr_session.specs.Clients.{Client}
 use Rattle.sr_links.specs.Honest.{IsPrefix}
-use Rattle.sr_links.specs.Steps.{Standing, Deed, Resumed, AreFair, OnOne, code_after, given_of, past_after, requests_of}
-use Rattle.sr_talk.specs.Calls.{Call, Done, AreCalls, all_done, calls_told, count_faults, done_in, fails, is_fault, lines_done, one_if, steps_in, text_of}
+use Rattle.sr_links.specs.Steps.{Standing, Resumed, AreFair, OnOne, code_after, given_of, past_after, requests_of}
+use Rattle.sr_talk.specs.Calls.{Call, Done, Task, AreCalls, all_done, calls_told, count_faults, done_in, fails, is_fault, lines_done, number_of, one_if, steps_in, text_of}
 use Rattle.sr_talk.specs.Serving.{RoseBy, spelled}
 use Rattle.sr_talk.specs.declared.frames.Next.{Next}
 use Rattle.sr_talk.specs.declared.frames.Next.TheVariants.{Frame, End, Torn, Fault, Bad}
-use Rattle.sr_dial.specs.Known.{Setting}
+use Rattle.sr_dial.specs.Known.{AreFairlyExplained, Setting}
 use Rattle.sr_dial.specs.Runs.{AreInPlace, EndsBy, IsCarried, SendsMost, SentAs, WritesAs, is_unwritten, left_by, taken_after}
 use Rattle.sr_dial.specs.declared.ending.Ending.{Ending}
 use Rattle.sr_dial.specs.declared.ending.Ending.TheVariants as ending
@@ -34,16 +34,16 @@ pub record Start (C : Type 0) : Type 0 where
   pub code : C
   pub past : Client
 
--- the number of the last step
+-- the number of the last line
 abbrev pub line_after : {C : Type 0} → ℕ → List (Done C) → ℕ
 line_after {C} line [] = line
-line_after {C} line (d ∷ ds) = line_after d.number ds
+line_after {C} line (d ∷ ds) = line_after (number_of d) ds
 
 -- It begins with a resume over a cut link, and what follows is over one connection.
 pub record IsCall {C : Type 0} (c : Client) (call : Call C) : Type 0 where
-  pub first : call.first.step.deed ≡ Resumed
+  pub first : call.first.deed ≡ Resumed
   pub was_cut : c.cut ≡ true
-  pub on_one : OnOne call.first.step.past (steps_in call.others)
+  pub on_one : OnOne call.first.past (steps_in call.others)
 
 -- What the link tells where the client's is up: the connection of the present call, behind those before. Else it tells all of them.
 abbrev pub IsThere : {C : Type 0} → Bool → List (Call C) → Call C → Linking → Linking → Type 0
@@ -78,20 +78,21 @@ abbrev pub IsPartWritten : {C : Type 0} → Start C → Writing → List ℕ →
 IsPartWritten {C} s w texts = WritesPrefix s.writing.written w.written texts × Rose s.writing.faults w.faults
 
 module _ (C : Type 0) (Stands : C → Client → Type 0) (IsOf : Standing C) (k : Setting) where
-  -- Steps, each in its place and fair, with this of their lines; and the client stands for the last past.
-  pub record Stepped (s : Start C) (script : List (ℕ × Deed)) (line came : ℕ) (ds : List (Done C)) (P : List ℕ → Type 0) (code : C) : Type 0 where
+  -- Steps and explanations, each in its place and fair, with this of their lines; and the client stands for the last past.
+  pub record Stepped (s : Start C) (script : List (ℕ × Task)) (line came : ℕ) (ds : List (Done C)) (P : List ℕ → Type 0) (code : C) : Type 0 where
     pub in_place : AreInPlace 0 s.past ds
     pub line_is : line_after 0 ds ≡ line
     pub came_is : taken_after 0 ds ≡ came
     pub lines : lines_done ds ≡ script
     pub fair : AreFair IsOf k.limits s.code s.past (steps_in ds)
+    pub explained : AreFairlyExplained IsOf k.limits s.code s.past ds
     pub code_is : code_after s.code (steps_in ds) ≡ code
     pub stands : Stands code (past_after s.past (steps_in ds))
     pub rests : (past_after s.past (steps_in ds)).cut ≡ true → (past_after s.past (steps_in ds)).out ≡ None
     pub writes : P (flat_map (text_of k.schema k.number) ds)
 
   -- Calls that are over, and the present one, behind whose messages the feed has these bytes.
-  pub record Course (s : Start C) (script : List (ℕ × Deed)) (line came : ℕ) (P : List ℕ → Type 0) (feed : List ℕ) (code : C) : Type 0 where
+  pub record Course (s : Start C) (script : List (ℕ × Task)) (line came : ℕ) (P : List ℕ → Type 0) (feed : List ℕ) (code : C) : Type 0 where
     pub earlier : List (Call C)
     pub call : Call C
     pub are : AreCalls s.past earlier
@@ -103,7 +104,7 @@ module _ (C : Type 0) (Stands : C → Client → Type 0) (IsOf : Standing C) (k 
     pub steps : Stepped s script line came (all_done (earlier ++ call ∷ [])) P code
 
   -- All that had to be sent was.
-  pub record At (s : Start C) (script : List (ℕ × Deed)) (line came : ℕ) (failed : Bool) (l : Linking) (P : List ℕ → Type 0) (feed : List ℕ) (code : C) : Type 0 where
+  pub record At (s : Start C) (script : List (ℕ × Task)) (line came : ℕ) (failed : Bool) (l : Linking) (P : List ℕ → Type 0) (feed : List ℕ) (code : C) : Type 0 where
     pub course : Course s script line came P feed code
     pub sent : IfSome course.call.told (λ t. SentAs (fails course.call) (requests_of (steps_in (done_in course.call))) t.sent)
     pub faults : RoseBy s.linking.faults (count_faults (course.earlier ++ course.call ∷ [])) l.faults
@@ -111,7 +112,7 @@ module _ (C : Type 0) (Stands : C → Client → Type 0) (IsOf : Standing C) (k 
     pub failed_is : list_any fails (course.earlier ++ course.call ∷ []) ≡ failed
 
   -- The link failed while a request is out.
-  pub record Broken (s : Start C) (script : List (ℕ × Deed)) (line : ℕ) (l : Linking) (P : List ℕ → Type 0) (feed : List ℕ) (code : C) : Type 0 where
+  pub record Broken (s : Start C) (script : List (ℕ × Task)) (line : ℕ) (l : Linking) (P : List ℕ → Type 0) (feed : List ℕ) (code : C) : Type 0 where
     pub came : ℕ
     pub course : Course s script line came P feed code
     pub sent : IfSome course.call.told (λ t. SendsMost (requests_of (steps_in (done_in course.call))) t.sent)
@@ -121,7 +122,7 @@ module _ (C : Type 0) (Stands : C → Client → Type 0) (IsOf : Standing C) (k 
     pub not_yet : fails course.call ≡ false
 
   -- The client's link is cut.
-  pub record Rests (s : Start C) (script : List (ℕ × Deed)) (line : ℕ) (failed : Bool) (l : Linking) (P : List ℕ → Type 0) (code : C) : Type 0 where
+  pub record Rests (s : Start C) (script : List (ℕ × Task)) (line : ℕ) (failed : Bool) (l : Linking) (P : List ℕ → Type 0) (code : C) : Type 0 where
     pub calls : List (Call C)
     pub are : AreCalls s.past calls
     pub carried : All (IsCarried false) calls
@@ -133,28 +134,29 @@ module _ (C : Type 0) (Stands : C → Client → Type 0) (IsOf : Standing C) (k 
     pub cut : (left_by s.past calls).cut ≡ true
 
   -- The run ends before its script is done, at this line.
-  pub record Over (s : Start C) (script : List (ℕ × Deed)) (ended : Ending) (l : Linking) (w : Writing) : Type 0 where
+  pub record Over (s : Start C) (script : List (ℕ × Task)) (ended : Ending) (l : Linking) (w : Writing) : Type 0 where
     pub earlier : List (Call C)
     pub last : Call C
     pub are : AreCalls s.past (earlier ++ last ∷ [])
     pub in_place : AreInPlace 0 s.past (all_done (earlier ++ last ∷ []))
     pub lines : lines_done (all_done (earlier ++ last ∷ [])) ≡ script
     pub fair : AreFair IsOf k.limits s.code s.past (steps_in (all_done (earlier ++ last ∷ [])))
+    pub explained : AreFairlyExplained IsOf k.limits s.code s.past (all_done (earlier ++ last ∷ []))
     pub carried : All (IsCarried false) earlier
     pub last_carried : IsCarried (is_unwritten ended) last
     pub made : connections l ≡ connections s.linking ++ calls_told (earlier ++ last ∷ [])
     pub faults : RoseBy s.linking.faults (count_faults (earlier ++ last ∷ [])) l.faults
-    pub ends : (whole : List (ℕ × Deed)) → EndsBy ended k.schema (earlier ++ last ∷ []) (left_by s.past (earlier ++ last ∷ [])) last.left script whole
+    pub ends : (whole : List (ℕ × Task)) → EndsBy ended k.schema (earlier ++ last ∷ []) (left_by s.past (earlier ++ last ∷ [])) last.left script whole
     pub writes : WritesAs ended (flat_map (text_of k.schema k.number) (all_done (earlier ++ last ∷ []))) s.writing w
 
   -- nothing is out
-  pub record Free (s : Start C) (script : List (ℕ × Deed)) (line : ℕ) (failed : Bool) (l : Linking) (P : List ℕ → Type 0) (feed : List ℕ) (code : C) : Type 0 where
+  pub record Free (s : Start C) (script : List (ℕ × Task)) (line : ℕ) (failed : Bool) (l : Linking) (P : List ℕ → Type 0) (feed : List ℕ) (code : C) : Type 0 where
     pub came : ℕ
     pub at : At s script line came failed l P feed code
     pub free : (left_by s.past (at.course.earlier ++ at.course.call ∷ [])).out ≡ None
 
   -- before anything was done
-  pub record Unbegun (s : Start C) (script : List (ℕ × Deed)) (line : ℕ) (failed : Bool) (l : Linking) (P : List ℕ → Type 0) (code : C) : Type 0 where
+  pub record Unbegun (s : Start C) (script : List (ℕ × Task)) (line : ℕ) (failed : Bool) (l : Linking) (P : List ℕ → Type 0) (code : C) : Type 0 where
     pub none : script ≡ []
     pub first : line ≡ 0
     pub not_failed : failed ≡ false
@@ -166,22 +168,22 @@ module _ (C : Type 0) (Stands : C → Client → Type 0) (IsOf : Standing C) (k 
     pub out : s.past.out ≡ None
 
   -- a line may resume
-  abbrev pub IsReady : Start C → List (ℕ × Deed) → ℕ → Bool → Linking → (List ℕ → Type 0) → List ℕ → C → Type 0
+  abbrev pub IsReady : Start C → List (ℕ × Task) → ℕ → Bool → Linking → (List ℕ → Type 0) → List ℕ → C → Type 0
   IsReady s script line failed l P feed code = Free s script line failed l P feed code ⊎ Unbegun s script line failed l P code
 
   -- ---- what comes of a step, of waiting, and of a line
 
-  abbrev pub Hands : Handed → Start C → List (ℕ × Deed) → ℕ → ℕ → Bool → Linking → Writing → List ℕ → C → Type 0
+  abbrev pub Hands : Handed → Start C → List (ℕ × Task) → ℕ → ℕ → Bool → Linking → Writing → List ℕ → C → Type 0
   Hands handed.Whole s script line came failed l w feed code = At s script line came failed l (IsWritten s w) feed code
   Hands handed.Broken s script line came failed l w feed code = Broken s script line l (IsWritten s w) feed code
   Hands handed.Unwritten s script line came failed l w feed code = Over s script ending.Unwritten l w
 
-  abbrev pub EndsLine : LineEnd → Start C → List (ℕ × Deed) → ℕ → Bool → Linking → Writing → List ℕ → C → Type 0
+  abbrev pub EndsLine : LineEnd → Start C → List (ℕ × Task) → ℕ → Bool → Linking → Writing → List ℕ → C → Type 0
   EndsLine line_end.Done s script line failed l w feed code = Free s script line failed l (IsWritten s w) feed code
   EndsLine line_end.Failed s script line failed l w feed code = Free s script line true l (IsWritten s w) feed code
   EndsLine (line_end.Ends ended) s script line failed l w feed code = Over s script ended l w × (IsEarly ended)
 
-  abbrev pub Waits : Awaited → Start C → List (ℕ × Deed) → ℕ → Bool → Linking → Writing → List ℕ → C → Type 0
+  abbrev pub Waits : Awaited → Start C → List (ℕ × Task) → ℕ → Bool → Linking → Writing → List ℕ → C → Type 0
   Waits awaited.Free s script line failed l w feed code = Free s script line failed l (IsWritten s w) feed code
   Waits awaited.Failed s script line failed l w feed code = Broken s script line l (IsWritten s w) feed code
   Waits awaited.Unwritten s script line failed l w feed code = Over s script ending.Unwritten l w
@@ -190,19 +192,19 @@ module _ (C : Type 0) (Stands : C → Client → Type 0) (IsOf : Standing C) (k 
   Waits awaited.Limit s script line failed l w feed code = Over s script ending.Limit l w
 
   -- the link failed, with the lines of that
-  abbrev pub FailsAs : Bool → Start C → List (ℕ × Deed) → ℕ → Linking → Writing → List ℕ → C → Type 0
+  abbrev pub FailsAs : Bool → Start C → List (ℕ × Task) → ℕ → Linking → Writing → List ℕ → C → Type 0
   FailsAs true s script line l w feed code = Free s script line true l (IsWritten s w) feed code
   FailsAs false s script line l w feed code = Over s script ending.Unwritten l w
 
   -- a message was taken, behind which these bytes are left, or is refused
-  abbrev pub Handles : Handled → Start C → List (ℕ × Deed) → ℕ → ℕ → Bool → Message → Linking → Writing → List ℕ → C → Type 0
+  abbrev pub Handles : Handled → Start C → List (ℕ × Task) → ℕ → ℕ → Bool → Message → Linking → Writing → List ℕ → C → Type 0
   Handles handled.Whole s script line came failed m l w after code = At s script line (came + 1) failed l (IsWritten s w) after code
   Handles handled.Broken s script line came failed m l w after code = Broken s script line l (IsWritten s w) after code
   Handles handled.Unwritten s script line came failed m l w after code = Over s script ending.Unwritten l w
   Handles (handled.Refused why) s script line came failed m l w after code = Over s script (ending.Bad why) l w
 
   -- how the lines of a script end
-  abbrev pub Finishes : Ending → Start C → List (ℕ × Deed) → Linking → Writing → List ℕ → C → Type 0
+  abbrev pub Finishes : Ending → Start C → List (ℕ × Task) → Linking → Writing → List ℕ → C → Type 0
   Finishes ending.Whole s script l w feed code = (line : ℕ) × Free s script line false l (IsWritten s w) feed code
   Finishes ending.Faulty s script l w feed code = (line : ℕ) × Free s script line true l (IsWritten s w) feed code
-  Finishes ended s script l w feed code = (some : List (ℕ × Deed)) × IsPrefix some script × Over s some ended l w
+  Finishes ended s script l w feed code = (some : List (ℕ × Task)) × IsPrefix some script × Over s some ended l w

@@ -12,10 +12,10 @@ use Rattle.sr_session.specs.Rules.{Outcome, Answered}
 use Rattle.sr_session.specs.Sessions.{Database}
 use Rattle.sr_links.specs.Answers.{AreTrueAnswers, AsksKeys}
 use Rattle.sr_links.specs.Honest.{Server, Input, IsPrefix, AreClosedBehind, Rests, frames_of, sent_for, server_after, server_at_last}
-use Rattle.sr_links.specs.Steps.{Deed, Standing, Step, given_of, requests_of}
-use Rattle.sr_talk.specs.Calls.{Call, all_done, done_in, steps_in}
+use Rattle.sr_links.specs.Steps.{Standing, Step, given_of, requests_of}
+use Rattle.sr_talk.specs.Calls.{Call, Task, all_done, done_in, steps_in}
 use Rattle.sr_talk.specs.Serving.{spelled}
-use Rattle.sr_dial.specs.Known.{AreDeeds, Setting}
+use Rattle.sr_dial.specs.Known.{AreTasks, Setting}
 use Rattle.sr_dial.specs.Runs.{RanFairly}
 use Rattle.sr_dial.specs.Statuses.{status_of}
 use Rattle.sr_dial.specs.declared.ending.Ending.{Ending}
@@ -70,7 +70,7 @@ pub record IsTrue {C : Type 0} (db : Database) (c : Client) (calls : List (Call 
 
 -- So it is of a run over any number of calls, for any client whose link is cut, and that has the rows of its version on the server.
 abbrev pub HonestRunsAreTrue : {C : Type 0} → Standing C → Type 0
-HonestRunsAreTrue {C} IsOf = (k : Setting) (s : Server) (pieces : List (List Input)) (code : C) (c : Client) (lines : List EventLine) (script : List (ℕ × Deed)) (ended : Ending) (old new : Linking) (before after : Writing)
-    → AsksKeys IsOf → list_all is_table k.schema ≡ true → Rests IsOf s.database code c → AreDeeds k.schema lines script
+HonestRunsAreTrue {C} IsOf = (k : Setting) (s : Server) (pieces : List (List Input)) (code : C) (c : Client) (lines : List EventLine) (script : List (ℕ × Task)) (ended : Ending) (old new : Linking) (before after : Writing)
+    → AsksKeys IsOf → list_all is_table k.schema ≡ true → Rests IsOf s.database code c → AreTasks k.schema lines script
     → (run : RanFairly C IsOf k code c script ended old new before after) → IsHonest k.schema s pieces (run.ran.earlier ++ run.ran.last ∷ [])
     → IsTrue (server_at_last s pieces).database c (run.ran.earlier ++ run.ran.last ∷ []) ended

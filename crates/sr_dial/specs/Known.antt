@@ -1,5 +1,5 @@
 -- What is known of a client by its contract.
-use Rattle.std.specs.Prelude.{ℕ, true, false, ◌≤◌, ◌+◌, List, [], ◌∷◌, ◌≡◌, ◌≢◌, Some, None, Result}
+use Rattle.std.specs.Prelude.{ℕ, true, false, ◌≤◌, ◌+◌, List, [], ◌∷◌, ◌≡◌, ◌≢◌, Some, None, Result, Ok, Err}
 use Rattle.std.specs.List.{All, AllZip}
 use Rattle.sr_cell.specs.declared.fault.Fault.{Fault}
 use Rattle.sr_cell.specs.declared.table.Table.{Table}
@@ -11,18 +11,24 @@ use Rattle.sr_reader.specs.declared.script.Event.TheVariants as read
 use Rattle.sr_reader.specs.declared.script.EventLine.{EventLine}
 use Rattle.sr_reader.specs.Read.{Means}
 use Rattle.sr_script.specs.declared.line.TraceLine.{TraceLine}
+use Rattle.sr_session.specs.Bases.{basis_of}
 use Rattle.sr_session.specs.Clients.{Client}
+use Rattle.sr_session.specs.Laws.{IsSound}
+use Rattle.sr_session.specs.Sessions.{Database, newest, tables_of}
 use Rattle.sr_wire.specs.Limits.{IsSendable}
 use Rattle.sr_session.specs.Misfits.{misfit}
 use Rattle.sr_session.specs.Rules.{Outcome, sent_of}
+use Rattle.sr_explain.specs.declared.explanation.Explanation.{Explanation}
+use Rattle.sr_explain.specs.Explained.{Explains, count_in}
+use Rattle.sr_explain.specs.Telling.{explain_lines}
 use Rattle.sr_links.specs.Steps.{Step, Standing, Deed, Queried, Wrote, Evicted, Took, WasCut, Resumed, IsFair}
-use Rattle.sr_talk.specs.Calls.{lines_of}
+use Rattle.sr_talk.specs.Calls.{Done, Made, Explained, Task, Do, Explain, lines_of}
 use Rattle.sr_dial.specs.declared.parts.Came.{Came}
 use Rattle.sr_dial.specs.declared.parts.Came.TheVariants.{Taken, Bad}
 
 -- ---- lines of a script
 
--- What a line asks of a client. Statements, pushes and deliveries ask nothing of it.
+-- Which deed a line asks of a client. Statements, pushes and deliveries ask nothing of it, and an explanation is no deed.
 abbrev pub IsDeed : List Table → code.Event → Deed → Type 0
 IsDeed schema (read.Query n query) deed = (meaning : Result model.Query Fault) × Means schema query meaning × (deed ≡ Queried meaning)
 IsDeed schema (read.Write n sql) deed = deed ≡ Wrote sql
@@ -31,12 +37,22 @@ IsDeed schema (read.Cut n) deed = deed ≡ WasCut
 IsDeed schema (read.Resume n) deed = deed ≡ Resumed
 IsDeed schema other deed = ⊥
 
--- with the number of the line
-abbrev pub IsDeedLine : List Table → EventLine → ℕ × Deed → Type 0
-IsDeedLine schema line numbered = (deed : Deed) × IsDeed schema line.event deed × (numbered ≡ (line.number, deed))
+-- Which text it asks to explain.
+abbrev pub IsExplaining : List Table → code.Event → Result model.Query Fault → Type 0
+IsExplaining schema (read.Explain n query) text = Means schema query text
+IsExplaining schema other text = ⊥
 
-abbrev pub AreDeeds : List Table → List EventLine → List (ℕ × Deed) → Type 0
-AreDeeds schema lines script = AllZip (IsDeedLine schema) lines script
+-- one or the other
+abbrev pub IsTask : List Table → code.Event → Task → Type 0
+IsTask schema event (Do deed) = IsDeed schema event deed
+IsTask schema event (Explain text) = IsExplaining schema event text
+
+-- with the number of the line
+abbrev pub IsTaskLine : List Table → EventLine → ℕ × Task → Type 0
+IsTaskLine schema line numbered = (task : Task) × IsTask schema line.event task × (numbered ≡ (line.number, task))
+
+abbrev pub AreTasks : List Table → List EventLine → List (ℕ × Task) → Type 0
+AreTasks schema lines script = AllZip (IsTaskLine schema) lines script
 
 -- ---- steps
 
@@ -83,3 +99,26 @@ IsPlain (Queried query) = Unit {0}
 IsPlain (Wrote sql) = Unit {0}
 IsPlain (Evicted place) = Unit {0}
 IsPlain other = ⊥
+
+-- ---- explanations
+
+-- What a client explains at this past: why the text is refused; or how it would answer the query, as the rules say on all versions whose
+-- rows the client has.
+abbrev pub IsFairlyExplained : {C : Type 0} → Standing C → Limits → C → Client → Result model.Query Fault → Result Explanation Fault → Type 0
+IsFairlyExplained {C} IsOf limits code c (Err fault) result = result ≡ Err fault
+IsFairlyExplained {C} IsOf limits code c (Ok query) result =
+    (e : Explanation) × (result ≡ Ok e)
+    × ((db : Database) → IsSound db → c.version ≤ newest db → IsOf db.schema code c (tables_of db c.version)
+    → Explains (basis_of db limits) (count_in (tables_of db c.version) c.marks c.queries) c query e)
+
+-- All that was explained is, each at the past behind the steps before it.
+abbrev pub AreFairlyExplained : {C : Type 0} → Standing C → Limits → C → Client → List (Done C) → Type 0
+AreFairlyExplained {C} IsOf limits code c [] = Unit {0}
+AreFairlyExplained {C} IsOf limits code c (Made number cause step ∷ ds) = AreFairlyExplained IsOf limits step.code step.past ds
+AreFairlyExplained {C} IsOf limits code c (Explained number text result ∷ ds) = IsFairlyExplained IsOf limits code c text result × AreFairlyExplained IsOf limits code c ds
+
+-- These lines tell it.
+pub record Tells {C : Type 0} (IsOf : Standing C) (s : Setting) (code : C) (c : Client) (text : Result model.Query Fault) (lines : List TraceLine) : Type 0 where
+  pub result : Result Explanation Fault
+  pub lines_are : lines ≡ explain_lines s.number result
+  pub fair : IsFairlyExplained IsOf s.limits code c text result

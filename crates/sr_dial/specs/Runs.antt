@@ -19,9 +19,9 @@ use Rattle.sr_session.specs.Clients.{Client}
 use Rattle.sr_session.specs.Misfits.{misfit}
 use Rattle.sr_links.specs.Honest.{IsPrefix}
 use Rattle.sr_links.specs.Steps.{AreFair, Standing, Deed, Took, WasCut, Resumed, given_of, requests_of, past_after}
-use Rattle.sr_talk.specs.Calls.{Call, Cause, Scripted, Delivered, Failed, Done, AreCalls, all_done, calls_told, count_faults, done_in, fails, lines_done, steps_in, text_of}
+use Rattle.sr_talk.specs.Calls.{Call, Cause, Scripted, Delivered, Failed, Done, Made, Explained, Task, Do, AreCalls, all_done, calls_told, count_faults, done_in, fails, lines_done, steps_in, text_of}
 use Rattle.sr_talk.specs.Serving.{RoseBy, spelled}
-use Rattle.sr_dial.specs.Known.{Setting}
+use Rattle.sr_dial.specs.Known.{AreFairlyExplained, Setting}
 use Rattle.sr_dial.specs.declared.ending.Ending.{Ending}
 use Rattle.sr_dial.specs.declared.ending.Ending.TheVariants as ending
 
@@ -29,7 +29,7 @@ use Rattle.sr_dial.specs.declared.ending.Ending.TheVariants as ending
 
 -- A line of the script runs while nothing is out. Messages, which came as frames, come while a request is out, and the link fails then,
 -- which cuts it; both have the number of the line that ran. That nobody could be dialled is such a failure: the first message of the
--- session is out.
+-- session is out. A line that explains leaves the client as it is.
 abbrev pub IsInPlace : Cause → ℕ → ℕ → Deed → Client → Type 0
 IsInPlace Scripted line number deed c = c.out ≡ None
 IsInPlace Delivered line number (Took m) c = (number ≡ line) × (c.out ≢ None) × IsTrue (has_spelling m)
@@ -38,7 +38,8 @@ IsInPlace cause line number deed c = ⊥
 
 abbrev pub AreInPlace : {C : Type 0} → ℕ → Client → List (Done C) → Type 0
 AreInPlace {C} line c [] = Unit {0}
-AreInPlace {C} line c (d ∷ ds) = IsInPlace d.cause line d.number d.step.deed c × AreInPlace d.number d.step.past ds
+AreInPlace {C} line c (Made number cause step ∷ ds) = IsInPlace cause line number step.deed c × AreInPlace number step.past ds
+AreInPlace {C} line c (Explained number text result ∷ ds) = (c.out ≡ None) × AreInPlace number c ds
 
 -- ---- connections
 
@@ -68,14 +69,15 @@ pub record IsCarried {C : Type 0} (short : Bool) (call : Call C) : Type 0 where
 abbrev pub left_by : {C : Type 0} → Client → List (Call C) → Client
 left_by {C} c calls = past_after c (steps_in (all_done calls))
 
--- how many messages were taken since the last other step
+-- how many messages were taken since anything else was done
 abbrev pub more_taken : Cause → ℕ → ℕ
 more_taken Delivered n = n + 1
 more_taken cause n = 0
 
 abbrev pub taken_after : {C : Type 0} → ℕ → List (Done C) → ℕ
 taken_after {C} n [] = n
-taken_after {C} n (d ∷ ds) = taken_after (more_taken d.cause n) ds
+taken_after {C} n (Made number cause step ∷ ds) = taken_after (more_taken cause n) ds
+taken_after {C} n (Explained number text result ∷ ds) = taken_after 0 ds
 
 -- A million messages came for one request, and one more.
 pub record IsFull {C : Type 0} (done : List (Done C)) (left : List ℕ) : Type 0 where
@@ -99,13 +101,13 @@ pub record IsSpoiled (left : List ℕ) (fault : WireFault) : Type 0 where
   pub whole : fault ≢ Short
 
 -- All lines were carried out, nothing is out, and the link failed or never did.
-pub record EndsFree {C : Type 0} (c : Client) (calls : List (Call C)) (lines script : List (ℕ × Deed)) (failed : Bool) : Type 0 where
+pub record EndsFree {C : Type 0} (c : Client) (calls : List (Call C)) (lines script : List (ℕ × Task)) (failed : Bool) : Type 0 where
   pub all : lines ≡ script
   pub free : c.out ≡ None
   pub failed_is : list_any fails calls ≡ failed
 
 -- Why a run ended, with these lines of a script, the client that its steps leave, and the bytes that are left behind what was taken last.
-abbrev pub EndsBy : {C : Type 0} → Ending → List Table → List (Call C) → Client → List ℕ → List (ℕ × Deed) → List (ℕ × Deed) → Type 0
+abbrev pub EndsBy : {C : Type 0} → Ending → List Table → List (Call C) → Client → List ℕ → List (ℕ × Task) → List (ℕ × Task) → Type 0
 EndsBy {C} ending.Whole schema calls c left lines script = EndsFree c calls lines script false
 EndsBy {C} ending.Faulty schema calls c left lines script = EndsFree c calls lines script true
 EndsBy {C} ending.Unwritten schema calls c left lines script = Unit {0}
@@ -124,23 +126,24 @@ is_unwritten other = false
 
 -- A run of the client of that number, which was `c` before, over the lines of a script. Call by call it resumed, and then did what the
 -- lines ask, in order. The link tells just these connections more, and is given up.
-pub record Ran (C : Type 0) (schema : List Table) (client : ℕ) (c : Client) (script : List (ℕ × Deed)) (ended : Ending) (old new : Linking) (before after : Writing) : Type 0 where
+pub record Ran (C : Type 0) (schema : List Table) (client : ℕ) (c : Client) (script : List (ℕ × Task)) (ended : Ending) (old new : Linking) (before after : Writing) : Type 0 where
   pub earlier : List (Call C)
   pub last : Call C
-  pub lines : List (ℕ × Deed)
+  pub lines : List (ℕ × Task)
   pub are : AreCalls c (earlier ++ last ∷ [])
   pub in_place : AreInPlace 0 c (all_done (earlier ++ last ∷ []))
   pub lines_are : lines_done (all_done (earlier ++ last ∷ [])) ≡ lines
-  pub beginning : IsPrefix lines ((0, Resumed) ∷ script)
+  pub beginning : IsPrefix lines ((0, Do Resumed) ∷ script)
   pub carried : All (IsCarried false) earlier
   pub last_carried : IsCarried (is_unwritten ended) last
   pub made : connections new ≡ connections old ++ calls_told (earlier ++ last ∷ [])
   pub hung_up : new.is_up ≡ false
   pub faults : RoseBy old.faults (count_faults (earlier ++ last ∷ [])) new.faults
-  pub ends : EndsBy ended schema (earlier ++ last ∷ []) (left_by c (earlier ++ last ∷ [])) last.left lines ((0, Resumed) ∷ script)
+  pub ends : EndsBy ended schema (earlier ++ last ∷ []) (left_by c (earlier ++ last ∷ [])) last.left lines ((0, Do Resumed) ∷ script)
   pub writes : WritesAs ended (flat_map (text_of schema client) (all_done (earlier ++ last ∷ []))) before after
 
--- And each of its steps is fair, from this code on.
-pub record RanFairly (C : Type 0) (IsOf : Standing C) (k : Setting) (code : C) (c : Client) (script : List (ℕ × Deed)) (ended : Ending) (old new : Linking) (before after : Writing) : Type 0 where
+-- And each of its steps is fair, from this code on, and so is what was explained.
+pub record RanFairly (C : Type 0) (IsOf : Standing C) (k : Setting) (code : C) (c : Client) (script : List (ℕ × Task)) (ended : Ending) (old new : Linking) (before after : Writing) : Type 0 where
   pub ran : Ran C k.schema k.number c script ended old new before after
   pub fair : AreFair IsOf k.limits code c (steps_in (all_done (ran.earlier ++ ran.last ∷ [])))
+  pub explained : AreFairlyExplained IsOf k.limits code c (all_done (ran.earlier ++ ran.last ∷ []))

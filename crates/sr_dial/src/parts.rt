@@ -1,18 +1,23 @@
 //! A client by its contract.
-ghost use Rattle.std.specs.Prelude.{◌≡◌, ◌<◌, ◌≤◌, ◌+◌, ℕ, List, [], Some, IfOk, IsTrue};
+ghost use Rattle.std.specs.Prelude.{◌≡◌, ◌<◌, ◌≤◌, ◌+◌, ℕ, List, [], Some, Result, IfOk, IsTrue};
 ghost use Rattle.std.specs.List.{All};
 ghost use Rattle.std.specs.Option.{is_some};
+ghost use Rattle.sr_cell.specs.declared.fault.Fault.{Fault as TheFault};
 ghost use Rattle.sr_cell.specs.declared.table.Table.{Table as TheTable};
+ghost use Rattle.sr_model.specs.Queries.{Query as TheQuery};
 ghost use Rattle.sr_model.specs.Statements.{Tables};
+ghost use Rattle.sr_reader.specs.Read.{Means};
 ghost use Rattle.sr_session.specs.Clients.{Client as Past};
 ghost use Rattle.sr_wire.specs.Limits.{IsSendable};
 ghost use Rattle.sr_wire.specs.Spelling.{has_spelling};
 ghost use Rattle.sr_links.specs.Steps.{Deed, WasCut};
-ghost use Rattle.sr_dial.specs.Known.{IsDeed, Makes, MaySend, Setting, TakesAs};
+ghost use Rattle.sr_dial.specs.Known.{IsDeed, Makes, MaySend, Setting, TakesAs, Tells};
 
+use sr_cell::fault::Fault;
 use sr_cell::list::NoMemory;
 use sr_links::laws::Peer;
 use sr_message::message::{Message, Messages};
+use sr_query::query::Query;
 use sr_reader::script::Event;
 use sr_script::line::TraceLines;
 use sr_wire::bad_frame::BadFrame;
@@ -55,6 +60,11 @@ pub trait Asks: Peer {
         ensures sendable { IfOk result (λ told. All IsSendable told.sent) }
         ensures setting { setting self.new ≡ setting self.old }
         ensures draws { room self.old ≤ room self.new + 2 };
+
+    /// Explains how it would answer a query, or why its text is refused. Answers the lines.
+    fn explain(&self, alloc: Global, query: Result<Query, Fault>) -> Result<TraceLines, NoMemory>
+        requires means { (text : Result TheQuery TheFault) × Means (setting self.now).schema query text }
+        ensures told { (c : Past) (text : Result TheQuery TheFault) → stands self.now c → Means (setting self.now).schema query text → IfOk result (Tells Self.is_of (setting self.now) self.now c text) };
 
     /// Takes a message of the server.
     fn take(&mut self, alloc: Global, message: Message) -> Result<Came, NoMemory>

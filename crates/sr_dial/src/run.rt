@@ -1,17 +1,18 @@
 //! A run of `client`.
 ghost use Rattle.std.specs.Prelude.{◌≡◌, ◌≤◌, ◌+◌, ◌*◌, ◌++◌, ◌^◌, true, false, ℕ, Bool, List, [], ◌∷◌, None, length, IfOk, if◌then◌else◌};
 ghost use Rattle.sr_session.specs.Clients.{Client as Past};
-ghost use Rattle.sr_links.specs.Steps.{Deed, Resumed};
+ghost use Rattle.sr_links.specs.Steps.{Resumed};
+ghost use Rattle.sr_talk.specs.Calls.{Task, Do};
 ghost use Rattle.sr_talk.specs.Rounds.{OnlyOutput};
 ghost use Rattle.sr_dial.specs.Courses.{At, Broken, EndsLine, Finishes, Free, Hands, IsWritten, Start, Unbegun};
-ghost use Rattle.sr_dial.specs.Known.{AreDeeds, IsDeed, Setting};
+ghost use Rattle.sr_dial.specs.Known.{AreTasks, IsTask, Setting};
 ghost use Rattle.sr_dial.specs.Runs.{RanFairly};
 ghost use Rattle.sr_dial.specs.declared.ending.Ending.TheVariants.{Whole as EndsWhole, Faulty as EndsFaulty, Unwritten as EndsUnwritten};
 ghost use Rattle.sr_dial.specs.declared.run.LineEnd.TheVariants.{Failed as LineFailed, Ends as LineEnds};
 
 use crate::ending::Ending;
 use crate::parts::Asks;
-use crate::steps::{Handed, ask, begin, end, fail};
+use crate::steps::{Handed, ask, begin, end, fail, tell};
 use crate::waiting::{Awaited, await_answer};
 use sr_cell::list::NoMemory;
 use sr_cell::table::Table;
@@ -38,9 +39,9 @@ fn start<H: Host, C: Asks>(
     address: &str,
     line: EventLine,
 ) -> Result<Handed, NoMemory>
-    requires asks { (deed : Deed) × IsDeed (C.setting client.old).schema line.event deed }
+    requires asks { (task : Task) × IsTask (C.setting client.old).schema line.event task }
     requires room { 2 ≤ C.room client.old }
-    ensures started { (k : Setting) (s : Start C) (script : List (ℕ × Deed)) (number : ℕ) (failed : Bool) (deed : Deed) → C.setting client.old ≡ k → schema.now ≡ k.schema → Free C C.stands C.is_of k s script number failed (H.linking host.old) (IsWritten s (H.writing host.old)) feed.old client.old → IsDeed k.schema line.event deed → IfOk result (λ handed. Hands C C.stands C.is_of k handed s (script ++ (line.number, deed) ∷ []) line.number 0 failed (H.linking host.new) (H.writing host.new) feed.new client.new) }
+    ensures started { (k : Setting) (s : Start C) (script : List (ℕ × Task)) (number : ℕ) (failed : Bool) (task : Task) → C.setting client.old ≡ k → schema.now ≡ k.schema → Free C C.stands C.is_of k s script number failed (H.linking host.old) (IsWritten s (H.writing host.old)) feed.old client.old → IsTask k.schema line.event task → IfOk result (λ handed. Hands C C.stands C.is_of k handed s (script ++ (line.number, task) ∷ []) line.number 0 failed (H.linking host.new) (H.writing host.new) feed.new client.new) }
     ensures setting { C.setting client.new ≡ C.setting client.old }
     ensures draws { C.room client.old ≤ C.room client.new + 2 }
     ensures stays { OnlyOutput H H.reading H.held H.complaints H.IsSteady host.old host.new }
@@ -65,6 +66,7 @@ fn start<H: Host, C: Asks>(
             number,
             Event::Cut { client: id },
         ),
+        Event::Explain { query, .. } => tell(alloc, host, client, schema, number, query),
         event => ask(alloc, host, client, schema, number, event),
     }
 }
@@ -79,9 +81,9 @@ fn run_line<H: Host, C: Asks>(
     address: &str,
     line: EventLine,
 ) -> Result<LineEnd, NoMemory>
-    requires asks { (deed : Deed) × IsDeed (C.setting client.old).schema line.event deed }
+    requires asks { (task : Task) × IsTask (C.setting client.old).schema line.event task }
     requires room { 2000004 ≤ C.room client.old }
-    ensures ended { (k : Setting) (s : Start C) (script : List (ℕ × Deed)) (number : ℕ) (failed : Bool) (deed : Deed) → C.setting client.old ≡ k → schema.now ≡ k.schema → Free C C.stands C.is_of k s script number failed (H.linking host.old) (IsWritten s (H.writing host.old)) feed.old client.old → IsDeed k.schema line.event deed → IfOk result (λ end. EndsLine C C.stands C.is_of k end s (script ++ (line.number, deed) ∷ []) line.number failed (H.linking host.new) (H.writing host.new) feed.new client.new) }
+    ensures ended { (k : Setting) (s : Start C) (script : List (ℕ × Task)) (number : ℕ) (failed : Bool) (task : Task) → C.setting client.old ≡ k → schema.now ≡ k.schema → Free C C.stands C.is_of k s script number failed (H.linking host.old) (IsWritten s (H.writing host.old)) feed.old client.old → IsTask k.schema line.event task → IfOk result (λ end. EndsLine C C.stands C.is_of k end s (script ++ (line.number, task) ∷ []) line.number failed (H.linking host.new) (H.writing host.new) feed.new client.new) }
     ensures setting { C.setting client.new ≡ C.setting client.old }
     ensures draws { C.room client.old ≤ C.room client.new + 2000004 }
     ensures stays { OnlyOutput H H.reading H.held H.complaints H.IsSteady host.old host.new }
@@ -102,7 +104,7 @@ fn finish<H: Host, C: Asks>(
     handed: Handed,
 ) -> Result<LineEnd, NoMemory>
     requires room { 2000002 ≤ C.room client.old }
-    ensures ended { (k : Setting) (s : Start C) (script : List (ℕ × Deed)) (failed : Bool) → C.setting client.old ≡ k → schema.now ≡ k.schema → Hands C C.stands C.is_of k handed s script number 0 failed (H.linking host.old) (H.writing host.old) feed.old client.old → IfOk result (λ end. EndsLine C C.stands C.is_of k end s script number failed (H.linking host.new) (H.writing host.new) feed.new client.new) }
+    ensures ended { (k : Setting) (s : Start C) (script : List (ℕ × Task)) (failed : Bool) → C.setting client.old ≡ k → schema.now ≡ k.schema → Hands C C.stands C.is_of k handed s script number 0 failed (H.linking host.old) (H.writing host.old) feed.old client.old → IfOk result (λ end. EndsLine C C.stands C.is_of k end s script number failed (H.linking host.new) (H.writing host.new) feed.new client.new) }
     ensures setting { C.setting client.new ≡ C.setting client.old }
     ensures draws { C.room client.old ≤ C.room client.new + 2000002 }
     ensures stays { OnlyOutput H H.reading H.held H.complaints H.IsSteady host.old host.new }
@@ -124,7 +126,7 @@ fn settle<H: Host, C: Asks>(
     number: u64,
 ) -> Result<LineEnd, NoMemory>
     requires room { 2000002 ≤ C.room client.old }
-    ensures ended { (k : Setting) (s : Start C) (script : List (ℕ × Deed)) (failed : Bool) → C.setting client.old ≡ k → schema.now ≡ k.schema → At C C.stands C.is_of k s script number 0 failed (H.linking host.old) (IsWritten s (H.writing host.old)) feed.old client.old → IfOk result (λ end. EndsLine C C.stands C.is_of k end s script number failed (H.linking host.new) (H.writing host.new) feed.new client.new) }
+    ensures ended { (k : Setting) (s : Start C) (script : List (ℕ × Task)) (failed : Bool) → C.setting client.old ≡ k → schema.now ≡ k.schema → At C C.stands C.is_of k s script number 0 failed (H.linking host.old) (IsWritten s (H.writing host.old)) feed.old client.old → IfOk result (λ end. EndsLine C C.stands C.is_of k end s script number failed (H.linking host.new) (H.writing host.new) feed.new client.new) }
     ensures setting { C.setting client.new ≡ C.setting client.old }
     ensures draws { C.room client.old ≤ C.room client.new + 2000002 }
     ensures stays { OnlyOutput H H.reading H.held H.complaints H.IsSteady host.old host.new }
@@ -148,7 +150,7 @@ fn failed<H: Host, C: Asks>(
     number: u64,
 ) -> Result<LineEnd, NoMemory>
     requires room { 2 ≤ C.room client.old }
-    ensures ended { (k : Setting) (s : Start C) (script : List (ℕ × Deed)) (failed : Bool) (feed : List ℕ) → C.setting client.old ≡ k → schema.now ≡ k.schema → Broken C C.stands C.is_of k s script number (H.linking host.old) (IsWritten s (H.writing host.old)) feed client.old → IfOk result (λ end. EndsLine C C.stands C.is_of k end s script number failed (H.linking host.new) (H.writing host.new) feed client.new) }
+    ensures ended { (k : Setting) (s : Start C) (script : List (ℕ × Task)) (failed : Bool) (feed : List ℕ) → C.setting client.old ≡ k → schema.now ≡ k.schema → Broken C C.stands C.is_of k s script number (H.linking host.old) (IsWritten s (H.writing host.old)) feed client.old → IfOk result (λ end. EndsLine C C.stands C.is_of k end s script number failed (H.linking host.new) (H.writing host.new) feed client.new) }
     ensures setting { C.setting client.new ≡ C.setting client.old }
     ensures draws { C.room client.old ≤ C.room client.new + 2 }
     ensures stays { OnlyOutput H H.reading H.held H.complaints H.IsSteady host.old host.new }
@@ -178,9 +180,9 @@ fn run_lines<H: Host, C: Asks>(
     lines: EventLines,
     failed: bool,
 ) -> Result<Ending, NoMemory>
-    requires asks { (script : List (ℕ × Deed)) × AreDeeds (C.setting client.old).schema lines script }
+    requires asks { (script : List (ℕ × Task)) × AreTasks (C.setting client.old).schema lines script }
     requires room { 2000004 * length lines ≤ C.room client.old }
-    ensures ended { (k : Setting) (s : Start C) (script : List (ℕ × Deed)) (number : ℕ) (deeds : List (ℕ × Deed)) → C.setting client.old ≡ k → schema.now ≡ k.schema → Free C C.stands C.is_of k s script number failed (H.linking host.old) (IsWritten s (H.writing host.old)) feed.old client.old → AreDeeds k.schema lines deeds → IfOk result (λ ending. Finishes C C.stands C.is_of k ending s (script ++ deeds) (H.linking host.new) (H.writing host.new) feed.new client.new) }
+    ensures ended { (k : Setting) (s : Start C) (script : List (ℕ × Task)) (number : ℕ) (tasks : List (ℕ × Task)) → C.setting client.old ≡ k → schema.now ≡ k.schema → Free C C.stands C.is_of k s script number failed (H.linking host.old) (IsWritten s (H.writing host.old)) feed.old client.old → AreTasks k.schema lines tasks → IfOk result (λ ending. Finishes C C.stands C.is_of k ending s (script ++ tasks) (H.linking host.new) (H.writing host.new) feed.new client.new) }
     ensures stays { OnlyOutput H H.reading H.held H.complaints H.IsSteady host.old host.new }
 {
     let mut failed = failed;
@@ -215,7 +217,7 @@ fn first_line<H: Host, C: Asks>(
     address: &str,
 ) -> Result<LineEnd, NoMemory>
     requires room { 2000004 ≤ C.room client.old }
-    ensures ended { (k : Setting) (s : Start C) → C.setting client.old ≡ k → schema.now ≡ k.schema → Unbegun C C.stands C.is_of k s [] 0 false (H.linking host.old) (IsWritten s (H.writing host.old)) client.old → IfOk result (λ end. EndsLine C C.stands C.is_of k end s ((0, Resumed) ∷ []) 0 false (H.linking host.new) (H.writing host.new) feed.new client.new) }
+    ensures ended { (k : Setting) (s : Start C) → C.setting client.old ≡ k → schema.now ≡ k.schema → Unbegun C C.stands C.is_of k s [] 0 false (H.linking host.old) (IsWritten s (H.writing host.old)) client.old → IfOk result (λ end. EndsLine C C.stands C.is_of k end s ((0, Do Resumed) ∷ []) 0 false (H.linking host.new) (H.writing host.new) feed.new client.new) }
     ensures setting { C.setting client.new ≡ C.setting client.old }
     ensures draws { C.room client.old ≤ C.room client.new + 2000004 }
     ensures stays { OnlyOutput H H.reading H.held H.complaints H.IsSteady host.old host.new }
@@ -236,9 +238,9 @@ fn go_on<H: Host, C: Asks>(
     lines: EventLines,
     end: LineEnd,
 ) -> Result<Ending, NoMemory>
-    requires asks { (script : List (ℕ × Deed)) × AreDeeds (C.setting client.old).schema lines script }
+    requires asks { (script : List (ℕ × Task)) × AreTasks (C.setting client.old).schema lines script }
     requires room { 2000004 * length lines ≤ C.room client.old }
-    ensures ended { (k : Setting) (s : Start C) (deeds : List (ℕ × Deed)) → C.setting client.old ≡ k → schema.now ≡ k.schema → EndsLine C C.stands C.is_of k end s ((0, Resumed) ∷ []) 0 false (H.linking host.old) (H.writing host.old) feed.old client.old → AreDeeds k.schema lines deeds → IfOk result (λ ending. Finishes C C.stands C.is_of k ending s ((0, Resumed) ∷ deeds) (H.linking host.new) (H.writing host.new) feed.new client.new) }
+    ensures ended { (k : Setting) (s : Start C) (tasks : List (ℕ × Task)) → C.setting client.old ≡ k → schema.now ≡ k.schema → EndsLine C C.stands C.is_of k end s ((0, Do Resumed) ∷ []) 0 false (H.linking host.old) (H.writing host.old) feed.old client.old → AreTasks k.schema lines tasks → IfOk result (λ ending. Finishes C C.stands C.is_of k ending s ((0, Do Resumed) ∷ tasks) (H.linking host.new) (H.writing host.new) feed.new client.new) }
     ensures stays { OnlyOutput H H.reading H.held H.complaints H.IsSteady host.old host.new }
 {
     match end {
@@ -260,9 +262,9 @@ pub fn run<H: Host, C: Asks>(
     lines: EventLines,
 ) -> Result<Ending, NoMemory>
     requires schema { schema.now ≡ (C.setting client.old).schema }
-    requires asks { (script : List (ℕ × Deed)) × AreDeeds (C.setting client.old).schema lines script }
+    requires asks { (script : List (ℕ × Task)) × AreTasks (C.setting client.old).schema lines script }
     requires room { 2000004 * (length lines + 1) ≤ C.room client.old }
-    ensures ran { (c : Past) (script : List (ℕ × Deed)) → C.stands client.old c → c.cut ≡ true → c.out ≡ None → AreDeeds schema.now lines script → IfOk result (λ ending. RanFairly C C.is_of (C.setting client.old) client.old c script ending (H.linking host.old) (H.linking host.new) (H.writing host.old) (H.writing host.new)) }
+    ensures ran { (c : Past) (script : List (ℕ × Task)) → C.stands client.old c → c.cut ≡ true → c.out ≡ None → AreTasks schema.now lines script → IfOk result (λ ending. RanFairly C C.is_of (C.setting client.old) client.old c script ending (H.linking host.old) (H.linking host.new) (H.writing host.old) (H.writing host.new)) }
     ensures stays { OnlyOutput H H.reading H.held H.complaints H.IsSteady host.old host.new }
 {
     let mut feed = Feed::new(alloc);

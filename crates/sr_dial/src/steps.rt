@@ -1,10 +1,14 @@
 //! Steps of a client, carried out over a link.
-ghost use Rattle.std.specs.Prelude.{◌≡◌, ◌≤◌, ◌<◌, ◌+◌, ◌++◌, true, false, ℕ, Bool, List, [], ◌∷◌, flat_map, string_bytes, IfOk, if◌then◌else◌};
+ghost use Rattle.std.specs.Prelude.{◌≡◌, ◌≤◌, ◌<◌, ◌+◌, ◌++◌, true, false, ℕ, Bool, List, [], ◌∷◌, flat_map, string_bytes, Result, IfOk, if◌then◌else◌};
 ghost use Rattle.std.specs.List.{All};
 ghost use Rattle.sr_script.specs.TraceText.{line_text};
 ghost use Rattle.sr_session.specs.Clients.{Client as Past};
 ghost use Rattle.sr_wire.specs.Limits.{IsSendable};
+ghost use Rattle.sr_cell.specs.declared.fault.Fault.{Fault as TheFault};
+ghost use Rattle.sr_model.specs.Queries.{Query as TheQuery};
+ghost use Rattle.sr_reader.specs.Read.{Means};
 ghost use Rattle.sr_links.specs.Steps.{Deed, Resumed, WasCut};
+ghost use Rattle.sr_talk.specs.Calls.{Task, Do, Explain};
 ghost use Rattle.sr_talk.specs.Rounds.{OnlyOutput};
 ghost use Rattle.sr_talk.specs.Serving.{spelled};
 ghost use Rattle.sr_dial.specs.Carrying.{Carries, SaysAs};
@@ -13,11 +17,13 @@ ghost use Rattle.sr_dial.specs.Known.{IsDeed, IsPlain, Setting};
 ghost use Rattle.sr_dial.specs.declared.steps.Handed.TheVariants.{Whole as HandedWhole, Broken as HandedBroken, Unwritten as HandedUnwritten};
 
 use crate::parts::{Asks, Told};
+use sr_cell::fault::Fault;
 use sr_cell::list::{No, NoMemory};
 use sr_cell::table::Table;
 use sr_feed::feed::Feed;
 use sr_io::outside::{Host, Link, Sink};
 use sr_io::whole::write_all;
+use sr_query::query::Query;
 use sr_reader::script::Event;
 use sr_script::line::TraceLine;
 use sr_script::text::push_line;
@@ -93,6 +99,16 @@ fn handed_by(sent: bool) -> Handed
     if sent { Handed::Whole } else { Handed::Broken }
 }
 
+fn written_by(said: bool) -> Handed
+    ensures { result ≡ (if said then HandedWhole else HandedUnwritten) }
+{
+    if said {
+        Handed::Whole
+    } else {
+        Handed::Unwritten
+    }
+}
+
 fn broken_by(said: bool) -> Handed
     ensures { result ≡ (if said then HandedBroken else HandedUnwritten) }
 {
@@ -114,13 +130,32 @@ pub(crate) fn ask<H: Link + Sink, C: Asks>(
 ) -> Result<Handed, NoMemory>
     requires asks { (deed : Deed) × IsDeed (C.setting client.old).schema event deed }
     requires room { 2 ≤ C.room client.old }
-    ensures asked { (k : Setting) (s : Start C) (script : List (ℕ × Deed)) (line : ℕ) (failed : Bool) (feed : List ℕ) (deed : Deed) → C.setting client.old ≡ k → schema.now ≡ k.schema → Free C C.stands C.is_of k s script line failed (H.linking host.old) (IsWritten s (H.writing host.old)) feed client.old → IsDeed k.schema event deed → IsPlain deed → IfOk result (λ handed. Hands C C.stands C.is_of k handed s (script ++ (number, deed) ∷ []) number 0 failed (H.linking host.new) (H.writing host.new) feed client.new) }
+    ensures asked { (k : Setting) (s : Start C) (script : List (ℕ × Task)) (line : ℕ) (failed : Bool) (feed : List ℕ) (deed : Deed) → C.setting client.old ≡ k → schema.now ≡ k.schema → Free C C.stands C.is_of k s script line failed (H.linking host.old) (IsWritten s (H.writing host.old)) feed client.old → IsDeed k.schema event deed → IsPlain deed → IfOk result (λ handed. Hands C C.stands C.is_of k handed s (script ++ (number, Do deed) ∷ []) number 0 failed (H.linking host.new) (H.writing host.new) feed client.new) }
     ensures setting { C.setting client.new ≡ C.setting client.old }
     ensures draws { C.room client.old ≤ C.room client.new + 2 }
     ensures stays { OnlyOutput H H.reading H.held H.complaints H.IsSteady host.old host.new }
 {
     let told = client.act(alloc, event)?;
     carry(alloc, host, schema, number, &told)
+}
+
+/// The client explains how it would answer a query. Nothing is sent, and nothing changes.
+pub(crate) fn tell<K: Sink, C: Asks>(
+    alloc: Global,
+    sink: &mut K,
+    client: &C,
+    schema: &[Table],
+    number: u64,
+    query: Result<Query, Fault>,
+) -> Result<Handed, NoMemory>
+    requires means { (text : Result TheQuery TheFault) × Means (C.setting client.now).schema query text }
+    ensures told { (k : Setting) (s : Start C) (script : List (ℕ × Task)) (line : ℕ) (failed : Bool) (feed : List ℕ) (text : Result TheQuery TheFault) → C.setting client.now ≡ k → schema.now ≡ k.schema → Free C C.stands C.is_of k s script line failed (K.linking sink.old) (IsWritten s (K.writing sink.old)) feed client.now → Means k.schema query text → IfOk result (λ handed. Hands C C.stands C.is_of k handed s (script ++ (number, Explain text) ∷ []) number 0 failed (K.linking sink.new) (K.writing sink.new) feed client.now) }
+    ensures stays { OnlyOutput K K.reading K.held K.complaints K.IsSteady sink.old sink.new }
+    ensures linking_stays { K.linking sink.new ≡ K.linking sink.old }
+{
+    let lines = client.explain(alloc, query)?;
+    let said = say(alloc, sink, schema, number, lines.as_slice())?;
+    Ok(written_by(said))
 }
 
 /// The client cuts its link, which is given up.
@@ -134,7 +169,7 @@ pub(crate) fn end<H: Host, C: Asks>(
 ) -> Result<Handed, NoMemory>
     requires asks { (deed : Deed) × IsDeed (C.setting client.old).schema event deed }
     requires room { 2 ≤ C.room client.old }
-    ensures cut { (k : Setting) (s : Start C) (script : List (ℕ × Deed)) (line : ℕ) (failed : Bool) (feed : List ℕ) → C.setting client.old ≡ k → schema.now ≡ k.schema → Free C C.stands C.is_of k s script line failed (H.linking host.old) (IsWritten s (H.writing host.old)) feed client.old → IsDeed k.schema event WasCut → IfOk result (λ handed. Hands C C.stands C.is_of k handed s (script ++ (number, WasCut) ∷ []) number 0 failed (H.linking host.new) (H.writing host.new) feed client.new) }
+    ensures cut { (k : Setting) (s : Start C) (script : List (ℕ × Task)) (line : ℕ) (failed : Bool) (feed : List ℕ) → C.setting client.old ≡ k → schema.now ≡ k.schema → Free C C.stands C.is_of k s script line failed (H.linking host.old) (IsWritten s (H.writing host.old)) feed client.old → IsDeed k.schema event WasCut → IfOk result (λ handed. Hands C C.stands C.is_of k handed s (script ++ (number, Do WasCut) ∷ []) number 0 failed (H.linking host.new) (H.writing host.new) feed client.new) }
     ensures setting { C.setting client.new ≡ C.setting client.old }
     ensures draws { C.room client.old ≤ C.room client.new + 2 }
     ensures stays { OnlyOutput H H.reading H.held H.complaints H.IsSteady host.old host.new }
@@ -157,7 +192,7 @@ pub(crate) fn begin<H: Host, C: Asks>(
 ) -> Result<Handed, NoMemory>
     requires asks { (deed : Deed) × IsDeed (C.setting client.old).schema event deed }
     requires room { 2 ≤ C.room client.old }
-    ensures begun { (k : Setting) (s : Start C) (script : List (ℕ × Deed)) (line : ℕ) (failed : Bool) → C.setting client.old ≡ k → schema.now ≡ k.schema → IsReady C C.stands C.is_of k s script line failed (H.linking host.old) (IsWritten s (H.writing host.old)) feed.old client.old → IsDeed k.schema event Resumed → IfOk result (λ handed. Hands C C.stands C.is_of k handed s (script ++ (number, Resumed) ∷ []) number 0 failed (H.linking host.new) (H.writing host.new) feed.new client.new) }
+    ensures begun { (k : Setting) (s : Start C) (script : List (ℕ × Task)) (line : ℕ) (failed : Bool) → C.setting client.old ≡ k → schema.now ≡ k.schema → IsReady C C.stands C.is_of k s script line failed (H.linking host.old) (IsWritten s (H.writing host.old)) feed.old client.old → IsDeed k.schema event Resumed → IfOk result (λ handed. Hands C C.stands C.is_of k handed s (script ++ (number, Do Resumed) ∷ []) number 0 failed (H.linking host.new) (H.writing host.new) feed.new client.new) }
     ensures setting { C.setting client.new ≡ C.setting client.old }
     ensures draws { C.room client.old ≤ C.room client.new + 2 }
     ensures stays { OnlyOutput H H.reading H.held H.complaints H.IsSteady host.old host.new }
@@ -186,7 +221,7 @@ pub(crate) fn fail<H: Host, C: Asks>(
     number: u64,
 ) -> Result<bool, NoMemory>
     requires room { 2 ≤ C.room client.old }
-    ensures failed { (k : Setting) (s : Start C) (script : List (ℕ × Deed)) (feed : List ℕ) → C.setting client.old ≡ k → schema.now ≡ k.schema → Broken C C.stands C.is_of k s script number (H.linking host.old) (IsWritten s (H.writing host.old)) feed client.old → IfOk result (λ all. FailsAs C C.stands C.is_of k all s script number (H.linking host.new) (H.writing host.new) feed client.new) }
+    ensures failed { (k : Setting) (s : Start C) (script : List (ℕ × Task)) (feed : List ℕ) → C.setting client.old ≡ k → schema.now ≡ k.schema → Broken C C.stands C.is_of k s script number (H.linking host.old) (IsWritten s (H.writing host.old)) feed client.old → IfOk result (λ all. FailsAs C C.stands C.is_of k all s script number (H.linking host.new) (H.writing host.new) feed client.new) }
     ensures setting { C.setting client.new ≡ C.setting client.old }
     ensures draws { C.room client.old ≤ C.room client.new + 2 }
     ensures stays { OnlyOutput H H.reading H.held H.complaints H.IsSteady host.old host.new }

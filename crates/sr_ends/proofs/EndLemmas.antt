@@ -3,7 +3,7 @@ use Rattle.std.proofs.Common.{◌≡◌, ℕ, zero, suc, ◌-◌, ◌<◌, Bool,
 use Rattle.std.specs.Prelude.{nat_le, replicate, slice_set, slice_index_or, Result, Ok, Err, IsTrue}
 use Rattle.std.proofs.lemmas.Bool.{ne_eqb}
 use Rattle.std.proofs.lemmas.Bool.Decides.{nat_tests}
-use Rattle.sr_bytes.proofs.Steps.{left_of, right_of}
+use Rattle.std.specs.Cmp.{first_so}
 use Rattle.sr_cell.specs.declared.fault.Fault.{Fault}
 use Rattle.sr_cell.specs.declared.table.Table.{Table}
 use Rattle.sr_message.specs.declared.message.Message.{Message}
@@ -11,7 +11,7 @@ use Rattle.sr_message.specs.declared.message.Message.TheVariants.{Hello, Resume,
 use Rattle.sr_model.specs.Statements.{Tables}
 use Rattle.sr_wire.specs.declared.bad_frame.BadFrame.{BadFrame}
 use Rattle.sr_wire.specs.Spelling.{has_spelling, has_fields, body_of, is_client, is_long, most_bytes}
-use Rattle.sr_session.specs.Refusals.{server_misfit, has_few_parts}
+use Rattle.sr_session.specs.Refusals.{server_misfit}
 use Rattle.sr_session.specs.Scenes.{Taken, taken}
 use Rattle.sr_session.specs.Sessions.{Database, Session, Served}
 use Rattle.sr_links.specs.Honest.{Server}
@@ -56,14 +56,14 @@ first-number client m zero_is = ap (λ n. cond (eqb n 0) (named m) n) zero_is
 
 module _ (m : Message) (spelled : IsTrue (has_spelling m)) where
   fields : IsTrue (has_fields m)
-  fields = left_of (has_fields m) (nat_le (length (body_of m)) most_bytes) spelled
+  fields = first_so (has_fields m) (nat_le (length (body_of m)) most_bytes) spelled
 
 client-number : (client : ℕ) → IsTrue (is_client client) → IsClientNumber client
 client-number client is = grind (arith, nat_tests)
 
 pub named-number : (m : Message) → IsTrue (has_spelling m) → IsClientNumber (named m)
-named-number (Hello client number) is = client-number client (left_of (is_client client) (is_long number) (fields (Hello client number) is))
-named-number (Resume client number version holdings) is = client-number client (left_of (is_client client) _ (fields (Resume client number version holdings) is))
+named-number (Hello client number) is = client-number client (first_so (is_client client) (is_long number) (fields (Hello client number) is))
+named-number (Resume client number version holdings) is = client-number client (first_so (is_client client) _ (fields (Resume client number version holdings) is))
 named-number (Ask number fresh parts) is = (omega arith, omega arith)
 named-number (Write number sql) is = (omega arith, omega arith)
 named-number (Welcome number version kept) is = (omega arith, omega arith)
@@ -165,23 +165,6 @@ opens db (Some session) (Reply number version) result fit = record { new = sessi
 opens db (Some session) (Written number version) result fit = record { new = session; is = refl }
 opens db (Some session) (Refused number fault) result fit = record { new = session; is = refl }
 opens db (Some session) (Lapse version) result fit = record { new = session; is = refl }
-
--- an ask that has a spelling has at most four parts
-pub few-parts : (m : Message) → IsTrue (has_spelling m) → has_few_parts m ≡ true
-few-parts (Hello client number) is = refl
-few-parts (Resume client number version holdings) is = refl
-few-parts (Ask number fresh parts) is = few (length parts) (left_of _ _ (right_of (is_long number) _ (fields (Ask number fresh parts) is)))
-  where
-    few : (n : ℕ) → IsTrue (Rattle.sr_bytes.specs.Spelling.is_from_to 1 4 n) → nat_le n 4 ≡ true
-    few n is = grind (arith, nat_tests)
-few-parts (Write number sql) is = refl
-few-parts (Welcome number version kept) is = refl
-few-parts (Notice version told) is = refl
-few-parts (Rows number part rows) is = refl
-few-parts (Reply number version) is = refl
-few-parts (Written number version) is = refl
-few-parts (Refused number fault) is = refl
-few-parts (Lapse version) is = refl
 
 -- ---- a message is taken
 

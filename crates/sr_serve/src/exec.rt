@@ -1,5 +1,5 @@
 //! The statements of the exec file.
-ghost use Rattle.std.specs.Prelude.{◌≡◌, ◌+◌, ◌<◌, ◌≤◌, ◌^◌, ◌∷◌, [], codes, decimal, length, string_bytes, IfOk, OnOk};
+ghost use Rattle.std.specs.Prelude.{◌≡◌, ◌+◌, ◌<◌, ◌≤◌, ◌^◌, ◌∷◌, [], codes, decimal, length, string_bytes, true, IfOk, OnOk};
 ghost use Rattle.sr_log.specs.Held.{newest as newest_of};
 ghost use Rattle.sr_script.specs.TraceText.{ended, fault_words};
 ghost use Rattle.sr_session.specs.Sessions.{Database};
@@ -62,6 +62,7 @@ pub(crate) fn exec_all<K: Sink>(
     ensures grows { newest_of server.new.log ≤ newest_of server.old.log + length texts.now }
     ensures stays { OnlyOutput K K.reading K.held K.complaints K.IsSteady sink.old sink.new }
     ensures linking_stays { K.linking sink.new ≡ K.linking sink.old }
+    ensures steady_writes { K.IsSteady sink.old → IfOk result (λ all. all ≡ true) }
 {
     for at in 0..texts.len() {
         let line = exec_one(alloc, server, texts[at].as_str())?;

@@ -1,7 +1,8 @@
 //! A run of `serve`.
-ghost use Rattle.std.specs.Prelude.{◌<◌, ◌^◌, length, IfOk};
+ghost use Rattle.std.specs.Prelude.{◌≢◌, ◌<◌, ◌^◌, length, IfOk};
 ghost use Rattle.sr_server.specs.Servers.{first_database};
-ghost use Rattle.sr_talk.specs.Rounds.{OnlyOutput};
+ghost use Rattle.sr_talk.specs.Rounds.{HasPeers, OnlyOutput};
+ghost use Rattle.sr_talk.specs.declared.rounds.Ending.TheVariants.{Faulty, Unwritten};
 ghost use Rattle.sr_serve.specs.Runs.{Ran};
 
 use crate::exec::exec_all;
@@ -29,6 +30,8 @@ pub fn serve<H: Dock + Sink>(
     requires texts { length texts.now < 2 ^ 32 }
     ensures ran { IfOk result (λ ending. Ran (first_database tables.schema log tables.rows) texts.now count ending (H.linking host.old) (H.linking host.new) (H.writing host.old) (H.writing host.new)) }
     ensures stays { OnlyOutput H H.reading H.held H.complaints H.IsSteady host.old host.new }
+    ensures steady_writes { H.IsSteady host.old → IfOk result (λ ending. ending ≢ Unwritten) }
+    ensures steady_links { H.IsSteady host.old → HasPeers count (H.linking host.old) → IfOk result (λ ending. ending ≢ Faulty) }
 {
     match host.dock(address) {
         Ok(()) => {}

@@ -5,6 +5,7 @@ use Rattle.std.specs.List.{list_all, AllZip}
 use Rattle.std.proofs.lemmas.List.{length-append}
 use Rattle.sr_cell.specs.declared.table.Table.{Table}
 use Rattle.sr_cell.proofs.Lists.{list_all-push, AllZip-push}
+use Rattle.sr_cell.specs.Clients.{most_clients}
 use Rattle.sr_lines.specs.Events.{ScriptEvent}
 use Rattle.sr_lines.specs.Lines.{lines_of}
 use Rattle.sr_lines.specs.Script.{Words, Silent, CreateLine, EventLine as EventOf, line_of, LinePlace, LineDoes, Reads}
@@ -14,10 +15,11 @@ use Rattle.sr_reader.specs.declared.words.Words as written
 use Rattle.sr_reader.specs.declared.line.Line as code
 use Rattle.sr_reader.specs.declared.line.Line.TheVariants as read
 use Rattle.sr_reader.specs.Lined.{IsLine}
+use Rattle.sr_reader.specs.Meaning.{IsSaid}
 use Rattle.sr_reader.specs.Read.{IsEventLine}
 use Rattle.sr_reader.proofs.Stages.{few_lines}
-use Rattle.sr_setup.specs.Files.{clients, or_later, first_fault}
-use Rattle.sr_setup.specs.ClientFiles.{doer_of, second_place, words_fault, read_fault, client_fault, is_own, over, line_explains, IsOwnSaid, first_explaining, AreAsked}
+use Rattle.sr_setup.specs.Files.{or_later, first_fault}
+use Rattle.sr_setup.specs.ClientFiles.{doer_of, second_place, words_fault, read_fault, client_fault, is_own, over, AreAsked}
 
 -- ---- a line without a fault
 
@@ -38,11 +40,11 @@ doer_by id text None none = absurd cc
 doer_by id text (Some n) none = ap Some (own_by id text n (n == id) refl none)
 
 -- the words of a line without a fault are the client's own
-pub doer_is : (id : ℕ) (text : List ℕ) (words : Words) → line_of clients text ≡ Ok (EventOf words) → client_fault id text ≡ None → doer_of words ≡ Some id
+pub doer_is : (id : ℕ) (text : List ℕ) (words : Words) → line_of most_clients text ≡ Ok (EventOf words) → client_fault id text ≡ None → doer_of words ≡ Some id
 doer_is id text words is none = doer_by id text (doer_of words) (subst (λ z. read_fault id text z ≡ None) is none)
 
 -- no CREATE line is without a fault
-create_faulty : (id : ℕ) (text sql : List ℕ) → line_of clients text ≡ Ok (CreateLine sql) → client_fault id text ≡ None → ⊥
+create_faulty : (id : ℕ) (text sql : List ℕ) → line_of most_clients text ≡ Ok (CreateLine sql) → client_fault id text ≡ None → ⊥
 create_faulty id text sql is none = let none_here : read_fault id text (Ok (CreateLine sql)) ≡ None = subst (λ z. read_fault id text z ≡ None) is none in cc
 
 -- ---- the walk
@@ -54,8 +56,7 @@ pub record Walked (id : ℕ) (script : List ℕ) (tables : List Table) (number :
   pub own : list_all (λ line. is_own id line.event) events ≡ true
   pub few : length events + length rest ≤ length (lines_of script)
   pub inside : first_fault (client_fault id) number rest ≡ None
-  pub reads : (others : List (ℕ × ScriptEvent)) → Reads clients number (over tables) rest others (over tables) → Reads clients 1 (over tables) (lines_of script) (before ++ others) (over tables)
-  pub explaining : first_explaining 1 (lines_of script) ≡ first_explaining number rest
+  pub reads : (others : List (ℕ × ScriptEvent)) → Reads most_clients number (over tables) rest others (over tables) → Reads most_clients 1 (over tables) (lines_of script) (before ++ others) (over tables)
 
 pub walked_start : (id : ℕ) (script : List ℕ) (tables : List Table) → first_fault (client_fault id) 1 (lines_of script) ≡ None → Walked id script tables 1 (lines_of script) []
 walked_start id script tables inside = record {
@@ -65,7 +66,6 @@ walked_start id script tables inside = record {
   few = omega arith;
   inside = inside;
   reads = λ others reads. reads;
-  explaining = refl;
 }
 
 module _ (id : ℕ) (script : List ℕ) (tables : List Table) (number : ℕ) (rest after : List (List ℕ)) (text : List ℕ) (events : List EventLine) (walked : Walked id script tables number rest events) (cut : rest ≡ text ∷ after) where
@@ -73,57 +73,51 @@ module _ (id : ℕ) (script : List ℕ) (tables : List Table) (number : ℕ) (re
   good = first_good id number text after (subst (λ z. first_fault (client_fault id) number z ≡ None) cut walked.inside)
 
   -- the words of the line are the client's own
-  pub doer_here : (words : Words) → line_of clients text ≡ Ok (EventOf words) → doer_of words ≡ Some id
+  pub doer_here : (words : Words) → line_of most_clients text ≡ Ok (EventOf words) → doer_of words ≡ Some id
   doer_here words is = doer_is id text words is good.0
 
   -- the line does this, and the script goes on behind it
-  step : (some : List (ℕ × ScriptEvent)) (new : List EventLine) → line_explains (line_of clients text) ≡ false → LineDoes (over tables) number (line_of clients text) some (over tables) → AllZip (IsEventLine tables) new (walked.before ++ some) → length new ≤ length events + 1
+  step : (some : List (ℕ × ScriptEvent)) (new : List EventLine) → LineDoes (over tables) number (line_of most_clients text) some (over tables) → AllZip (IsEventLine tables) new (walked.before ++ some) → length new ≤ length events + 1
       → list_all (λ line. is_own id line.event) new ≡ true → Walked id script tables (number + 1) after new
-  step some new plain does are long own = record {
+  step some new does are long own = record {
     before = walked.before ++ some;
     are = are;
     own = own;
     few = let few = walked.few in let one = ap length cut in omega (arith, few, one, long);
     inside = good.1;
     reads = λ others reads.
-        let here : Reads clients number (over tables) rest (some ++ others) (over tables) =
-        subst (λ z. Reads clients number (over tables) z (some ++ others) (over tables)) (sym cut) (some, others, over tables, does, reads, refl) in
-        subst (λ z. Reads clients 1 (over tables) (lines_of script) z (over tables)) (sym (append_assoc walked.before some others)) (walked.reads (some ++ others) here);
-    explaining = walked.explaining ∙ (ap (first_explaining number) cut ∙ ap (λ b. if b then Some number else first_explaining (number + 1) after) plain);
+        let here : Reads most_clients number (over tables) rest (some ++ others) (over tables) =
+        subst (λ z. Reads most_clients number (over tables) z (some ++ others) (over tables)) (sym cut) (some, others, over tables, does, reads, refl) in
+        subst (λ z. Reads most_clients 1 (over tables) (lines_of script) z (over tables)) (sym (append_assoc walked.before some others)) (walked.reads (some ++ others) here);
   }
 
-  walked_silent : line_of clients text ≡ Ok Silent → Walked id script tables (number + 1) after events
+  walked_silent : line_of most_clients text ≡ Ok Silent → Walked id script tables (number + 1) after events
   walked_silent is =
-      let does : LineDoes (over tables) number (line_of clients text) [] (over tables) = subst (λ z. LineDoes (over tables) number z [] (over tables)) (sym is) (refl, refl) in
-      step [] events (ap line_explains is) does (subst (AllZip (IsEventLine tables) events) (sym (append-nil walked.before)) walked.are) (omega arith) walked.own
+      let does : LineDoes (over tables) number (line_of most_clients text) [] (over tables) = subst (λ z. LineDoes (over tables) number z [] (over tables)) (sym is) (refl, refl) in
+      step [] events does (subst (AllZip (IsEventLine tables) events) (sym (append-nil walked.before)) walked.are) (omega arith) walked.own
 
   -- a line that is no event
-  pub walked_quiet : (line : code.Line) → IsLine clients text line → ((words : written.Words) → line ≡ read.Event words → ⊥) → Walked id script tables (number + 1) after events
+  pub walked_quiet : (line : code.Line) → IsLine most_clients text line → ((words : written.Words) → line ≡ read.Event words → ⊥) → Walked id script tables (number + 1) after events
   walked_quiet read.Silent is other = walked_silent is
   walked_quiet (read.Create sql) is other = absurd (create_faulty id text sql.now is good.0)
   walked_quiet (read.Event words) is other = absurd (other words refl)
 
-  pub walked_event : (words : Words) (event : Event) → line_of clients text ≡ Ok (EventOf words) → IsOwnSaid tables words (Some event) → IsTrue (is_own id event)
+  pub walked_event : (words : Words) (event : Event) → line_of most_clients text ≡ Ok (EventOf words) → IsSaid tables words event → IsTrue (is_own id event)
       → Walked id script tables (number + 1) after (events ++ record { number = number; event = event } ∷ [])
-  walked_event words event is own_said own =
-      let said = own_said.1 in
+  walked_event words event is said own =
       let some = (number, said.0) ∷ [] in
-      let does : LineDoes (over tables) number (line_of clients text) some (over tables) = subst (λ z. LineDoes (over tables) number z some (over tables)) (sym is) (said.0, said.1, refl, refl) in
+      let does : LineDoes (over tables) number (line_of most_clients text) some (over tables) = subst (λ z. LineDoes (over tables) number z some (over tables)) (sym is) (said.0, said.1, refl, refl) in
       let line : EventLine = record { number = number; event = event } in
       let longer : length (events ++ line ∷ []) ≤ length events + 1 = (let e = length-append events (line ∷ []) in omega (arith, e)) in
-      step some (events ++ line ∷ []) (ap line_explains is ∙ own_said.0) does (AllZip-push (IsEventLine tables) events walked.before line (number, said.0) walked.are (said.0, said.2, refl)) longer
+      step some (events ++ line ∷ []) does (AllZip-push (IsEventLine tables) events walked.before line (number, said.0) walked.are (said.0, said.2, refl)) longer
       (list_all-push (λ l. is_own id l.event) events line walked.own own)
-
-  pub walked_explains : (words : Words) → line_of clients text ≡ Ok (EventOf words) → IsOwnSaid tables words None → first_explaining 1 (lines_of script) ≡ Some number
-  walked_explains words is explained =
-      walked.explaining ∙ (ap (first_explaining number) cut ∙ ap (λ b. if b then Some number else first_explaining (number + 1) after) (ap line_explains is ∙ explained))
 
 pub walked_all : (id : ℕ) (script : List ℕ) (tables : List Table) (number : ℕ) (rest : List (List ℕ)) (events : List EventLine) → Walked id script tables number rest events → rest ≡ [] → AreAsked id script tables events
 walked_all id script tables number rest events walked done = record {
   events = walked.before;
   are = walked.are;
-  reads = let nothing : Reads clients number (over tables) rest [] (over tables) = subst (λ z. Reads clients number (over tables) z [] (over tables)) (sym done) (refl, refl) in
-      subst (λ z. Reads clients 1 (over tables) (lines_of script) z (over tables)) (append-nil walked.before) (walked.reads [] nothing);
+  reads = let nothing : Reads most_clients number (over tables) rest [] (over tables) = subst (λ z. Reads most_clients number (over tables) z [] (over tables)) (sym done) (refl, refl) in
+      subst (λ z. Reads most_clients 1 (over tables) (lines_of script) z (over tables)) (append-nil walked.before) (walked.reads [] nothing);
   own = walked.own;
   few = let few = walked.few in let most = few_lines script in omega (arith, few, most);
 }

@@ -1,15 +1,15 @@
 -- The lines of a file, judged one after another.
-use Rattle.std.proofs.Common.{◌≡◌, ℕ, ◌+◌, ◌<◌, ◌≤◌, true, false, List, [], ◌∷◌, ◌++◌, length, refl, sym, ap, subst, ◌∙◌, arith, append_assoc, append-nil}
+use Rattle.std.proofs.Common.{◌≡◌, ℕ, ◌+◌, ◌<◌, ◌≤◌, true, false, List, [], ◌∷◌, ◌++◌, length, refl, sym, ap, subst, ◌∙◌, arith, append_assoc}
 use Rattle.std.specs.Prelude.{Option, Some, None}
 use Rattle.std.specs.List.{AllZip}
 use Rattle.std.specs.Str.{is_utf8}
 use Rattle.std.specs.Str.Lossy.{utf8_valid_len}
 use Rattle.sr_cell.proofs.Lists.{AllZip-push}
+use Rattle.sr_cell.specs.Clients.{most_clients}
 use Rattle.sr_lines.specs.Lines.{lines_of}
-use Rattle.sr_lines.specs.Script.{LinePlace}
 use Rattle.sr_reader.specs.declared.line.Line.{Line}
-use Rattle.sr_reader.specs.Lined.{IsLine, AreLines}
-use Rattle.sr_setup.specs.Files.{clients, or_later, first_fault, exec_fault}
+use Rattle.sr_reader.specs.Lined.{IsLine}
+use Rattle.sr_setup.specs.Files.{or_later, first_fault, exec_fault}
 
 -- ---- the first bad line
 
@@ -18,9 +18,6 @@ pub record Judged (fault : List ℕ → Option ℕ) (bytes : List ℕ) (number :
   pub counted : number + length rest ≤ length bytes + 1
   pub inside : length rest ≤ length bytes
   pub same : first_fault fault 1 (lines_of bytes) ≡ first_fault fault number (lines_of rest)
-
-pub judged_none : (fault : List ℕ → Option ℕ) (bytes : List ℕ) → Judged fault bytes 1 bytes
-judged_none fault bytes = record { counted = omega arith; inside = omega arith; same = refl }
 
 -- the fault of the rest, by its first line
 by_first : (fault : List ℕ → Option ℕ) (bytes rest after line : List ℕ) (number : ℕ) (at : Option ℕ) → Judged fault bytes number rest → lines_of rest ≡ line ∷ lines_of after → fault line ≡ at
@@ -36,36 +33,21 @@ judged_more fault bytes rest after line number so_far cut shorter good = record 
   same = by_first fault bytes rest after line number None so_far cut good;
 }
 
-pub judged_bad : (fault : List ℕ → Option ℕ) (bytes rest after line : List ℕ) (number place : ℕ) → Judged fault bytes number rest → lines_of rest ≡ line ∷ lines_of after → fault line ≡ Some place
-    → first_fault fault 1 (lines_of bytes) ≡ Some (record { line = number; place = place })
-judged_bad fault bytes rest after line number place so_far cut bad = by_first fault bytes rest after line number (Some place) so_far cut bad
-
-pub judged_all : (fault : List ℕ → Option ℕ) (bytes rest : List ℕ) (number : ℕ) → Judged fault bytes number rest → rest ≡ [] → first_fault fault 1 (lines_of bytes) ≡ None
-judged_all fault bytes rest number so_far none = so_far.same ∙ ap (λ (r : List ℕ). first_fault fault number (lines_of r)) none
-
 -- ---- lines that are read
 
 -- these are the lines in front of the rest
 pub record LinesBefore (bytes rest : List ℕ) (lines : List Line) : Type 0 where
   pub texts : List (List ℕ)
   pub split : lines_of bytes ≡ texts ++ lines_of rest
-  pub are : AllZip (IsLine clients) texts lines
+  pub are : AllZip (IsLine most_clients) texts lines
 
-pub no_lines : (bytes : List ℕ) (lines : List Line) → lines ≡ [] → LinesBefore bytes bytes lines
-no_lines bytes lines none = record { texts = []; split = refl; are = subst (AllZip (IsLine clients) []) (sym none) tt }
-
-pub more_lines : (bytes rest after text : List ℕ) (lines next : List Line) (line : Line) → LinesBefore bytes rest lines → lines_of rest ≡ text ∷ lines_of after → IsLine clients text line → next ≡ lines ++ line ∷ []
+pub more_lines : (bytes rest after text : List ℕ) (lines next : List Line) (line : Line) → LinesBefore bytes rest lines → lines_of rest ≡ text ∷ lines_of after → IsLine most_clients text line → next ≡ lines ++ line ∷ []
     → LinesBefore bytes after next
 more_lines bytes rest after text lines next line so_far cut is same = record {
   texts = so_far.texts ++ text ∷ [];
   split = so_far.split ∙ (ap (λ (z : List (List ℕ)). so_far.texts ++ z) cut ∙ sym (append_assoc so_far.texts (text ∷ []) (lines_of after)));
-  are = subst (AllZip (IsLine clients) (so_far.texts ++ text ∷ [])) (sym same) (AllZip-push (IsLine clients) so_far.texts lines text line so_far.are is);
+  are = subst (AllZip (IsLine most_clients) (so_far.texts ++ text ∷ [])) (sym same) (AllZip-push (IsLine most_clients) so_far.texts lines text line so_far.are is);
 }
-
-pub all_lines : (bytes rest : List ℕ) (lines : List Line) → LinesBefore bytes rest lines → rest ≡ [] → AreLines clients bytes lines
-all_lines bytes rest lines so_far none =
-    let all : lines_of bytes ≡ so_far.texts = so_far.split ∙ (ap (λ (z : List ℕ). so_far.texts ++ lines_of z) none ∙ append-nil so_far.texts) in
-    subst (λ (z : List (List ℕ)). AllZip (IsLine clients) z lines) (sym all) so_far.are
 
 -- ---- a line of an exec file
 

@@ -4,6 +4,7 @@ use Rattle.std.specs.List.{list_all, AllZip}
 use Rattle.std.specs.Option.{option_or}
 use Rattle.sr_cell.specs.declared.fault.Fault.{Fault}
 use Rattle.sr_cell.specs.declared.table.Table.{Table}
+use Rattle.sr_cell.specs.Clients.{most_clients}
 use Rattle.sr_lines.specs.Creates.{Creates}
 use Rattle.sr_lines.specs.Events.{ScriptEvent}
 use Rattle.sr_lines.specs.Lines.{lines_of}
@@ -11,9 +12,8 @@ use Rattle.sr_lines.specs.Script.{Words, QuerySql, WriteSql, ExplainSql, Evict, 
 use Rattle.sr_reader.specs.declared.script.Event as code
 use Rattle.sr_reader.specs.declared.script.Event.TheVariants as read
 use Rattle.sr_reader.specs.declared.script.EventLine as lined
-use Rattle.sr_reader.specs.Meaning.{IsSaid}
 use Rattle.sr_reader.specs.Read.{IsEventLine}
-use Rattle.sr_setup.specs.Files.{clients, first_fault, schema_fault}
+use Rattle.sr_setup.specs.Files.{first_fault, schema_fault}
 
 -- ---- a line of the script
 
@@ -43,17 +43,18 @@ read_fault id line (Ok (CreateLine sql)) = Some 0
 read_fault id line (Ok (EventLine words)) = words_fault id line (doer_of words)
 read_fault id line (Err place) = Some place
 
--- The script of a client has blank lines, comments, and queries, writes, explains, evictions, cuts and resumes of that client. Another
+-- The script of a client has blank lines, comments, and queries, writes, explanations, evictions, cuts and resumes of that client. Another
 -- line has its fault where it has one as a line of a script, and else at its start, or at the number of another client.
 abbrev pub client_fault : ℕ → List ℕ → Option ℕ
-client_fault id line = read_fault id line (line_of clients line)
+client_fault id line = read_fault id line (line_of most_clients line)
 
 -- ---- the events
 
--- a query, a write, an eviction, a cut or a resume of this client
+-- a query, a write, an explanation, an eviction, a cut or a resume of this client
 abbrev pub is_own : ℕ → code.Event → Bool
 is_own id (read.Query n query) = n == id
 is_own id (read.Write n sql) = n == id
+is_own id (read.Explain n query) = n == id
 is_own id (read.Evict n place) = n == id
 is_own id (read.Cut n) = n == id
 is_own id (read.Resume n) = n == id
@@ -67,30 +68,9 @@ over tables = record { tables = tables; stage = Running }
 pub record AreAsked (id : ℕ) (script : List ℕ) (tables : List Table) (lines : List lined.EventLine) : Type 0 where
   pub events : List (ℕ × ScriptEvent)
   pub are : AllZip (IsEventLine tables) lines events
-  pub reads : Reads clients 1 (over tables) (lines_of script) events (over tables)
+  pub reads : Reads most_clients 1 (over tables) (lines_of script) events (over tables)
   pub own : IsTrue (list_all (λ line. is_own id line.event) lines)
   pub few : length lines ≤ length script
-
--- ---- what is not built
-
--- a client over a link does not explain yet
-abbrev pub explains : Words → Bool
-explains (ExplainSql n sql) = true
-explains other = false
-
-abbrev pub line_explains : Result Line ℕ → Bool
-line_explains (Ok (EventLine words)) = explains words
-line_explains other = false
-
--- what the words of a client say to the tables, or none if they explain
-abbrev pub IsOwnSaid : List Table → Words → Option code.Event → Type 0
-IsOwnSaid tables words None = IsTrue (explains words)
-IsOwnSaid tables words (Some event) = (explains words ≡ false) × IsSaid tables words event
-
--- the first line that explains; i is the number of the first of these lines
-abbrev pub first_explaining : ℕ → List (List ℕ) → Option ℕ
-first_explaining i [] = None
-first_explaining i (line ∷ lines) = if line_explains (line_of clients line) then Some i else first_explaining (i + 1) lines
 
 -- ---- both files
 
@@ -101,18 +81,11 @@ client_outside id schema script = option_or (first_fault schema_fault 1 (lines_o
 -- no line is outside the grammar, and line n is the first CREATE line that is refused, with this fault
 pub record ClientRefuses (id : ℕ) (schema script : List ℕ) (n : ℕ) (fault : Fault) : Type 0 where
   pub inside : client_outside id schema script ≡ None
-  pub first : FirstRefused clients 1 [] (lines_of schema) n fault
-
--- no line is outside the grammar, the CREATE lines make these tables, and line n of the script is the first that explains
-pub record LeavesUnbuilt (id : ℕ) (schema script : List ℕ) (n : ℕ) : Type 0 where
-  pub inside : client_outside id schema script ≡ None
-  pub tables : List Table
-  pub created : Creates clients [] (lines_of schema) tables
-  pub first : first_explaining 1 (lines_of script) ≡ Some n
+  pub first : FirstRefused most_clients 1 [] (lines_of schema) n fault
 
 -- no line is outside the grammar, the CREATE lines make the tables, and these are the events of the script
 pub record IsAsked (id : ℕ) (schema script : List ℕ) (tables : List Table) (lines : List lined.EventLine) : Type 0 where
   pub inside : client_outside id schema script ≡ None
-  pub created : Creates clients [] (lines_of schema) tables
-  pub accepts : (n : ℕ) (fault : Fault) → ¬ FirstRefused clients 1 [] (lines_of schema) n fault
+  pub created : Creates most_clients [] (lines_of schema) tables
+  pub accepts : (n : ℕ) (fault : Fault) → ¬ FirstRefused most_clients 1 [] (lines_of schema) n fault
   pub asked : AreAsked id script tables lines

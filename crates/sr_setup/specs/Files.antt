@@ -6,6 +6,7 @@ use Rattle.std.specs.Str.{is_utf8}
 use Rattle.std.specs.Str.Lossy.{utf8_valid_len}
 use Rattle.sr_cell.specs.declared.fault.Fault.{Fault}
 use Rattle.sr_cell.specs.declared.table.Table.{Table}
+use Rattle.sr_cell.specs.Clients.{most_clients}
 use Rattle.sr_lines.specs.Creates.{Creates}
 use Rattle.sr_lines.specs.Lines.{lines_of}
 use Rattle.sr_lines.specs.Script.{Line, Silent, CreateLine, EventLine, LinePlace, line_of, is_blank, FirstRefused}
@@ -27,14 +28,10 @@ first_fault fault i (line ∷ lines) = or_later i (first_fault fault (i + 1) lin
 
 -- ---- a schema file
 
--- the lines of a script of so many clients, of whom a schema file says nothing
-abbrev pub clients : ℕ
-clients = 64
-
 -- A schema file has blank lines, comments and CREATE lines. Another line has its fault where it has one as a line of a script, and else
 -- at its start.
 abbrev pub schema_fault : List ℕ → Option ℕ
-schema_fault line = no_setup (line_of clients line)
+schema_fault line = no_setup (line_of most_clients line)
   where
     no_setup : Result Line ℕ → Option ℕ
     no_setup (Ok Silent) = None
@@ -65,20 +62,20 @@ outside schema exec = option_or (first_fault schema_fault 1 (lines_of schema)) (
 -- no line is outside the grammar, and line n is the first CREATE line that is refused, with this fault
 pub record RefusesCreate (schema exec : List ℕ) (n : ℕ) (fault : Fault) : Type 0 where
   pub inside : outside schema exec ≡ None
-  pub first : FirstRefused clients 1 [] (lines_of schema) n fault
+  pub first : FirstRefused most_clients 1 [] (lines_of schema) n fault
 
 -- No line is outside the grammar, the CREATE lines make these tables, and the file for the table of this name is the first that is
 -- refused, with this fault.
 pub record RefusesLoad (schema exec : List ℕ) (loads : List Load) (name : List ℕ) (fault : Fault) : Type 0 where
   pub inside : outside schema exec ≡ None
   pub tables : List Table
-  pub created : Creates clients [] (lines_of schema) tables
+  pub created : Creates most_clients [] (lines_of schema) tables
   pub first : filled tables loads (no_rows tables) ≡ Err (record { table = name; fault = fault })
 
 -- No line is outside the grammar, the CREATE lines make the tables, the loads give them their rows, and these are the statements.
 pub record SetsUp (schema exec : List ℕ) (loads : List Load) (tables : Stored) (statements : List (List ℕ)) : Type 0 where
   pub inside : outside schema exec ≡ None
-  pub created : Creates clients [] (lines_of schema) tables.schema
-  pub accepts : (n : ℕ) (fault : Fault) → ¬ FirstRefused clients 1 [] (lines_of schema) n fault
+  pub created : Creates most_clients [] (lines_of schema) tables.schema
+  pub accepts : (n : ℕ) (fault : Fault) → ¬ FirstRefused most_clients 1 [] (lines_of schema) n fault
   pub loaded : filled tables.schema loads (no_rows tables.schema) ≡ Ok tables.rows
   pub are : statements ≡ statements_of (lines_of exec)

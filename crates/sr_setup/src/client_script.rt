@@ -1,17 +1,17 @@
 //! The script of one client.
-ghost use Rattle.std.specs.Prelude.{◌≡◌, ℕ, ◌<◌, ◌^◌, List, length, None, Some, IsTrue, IfOk, IfErr, OnOk, IfSome, IsErrOf};
+ghost use Rattle.std.specs.Prelude.{◌≡◌, ℕ, ◌<◌, ◌^◌, List, length, None, Some, IsTrue, IfOk, IfErr, OnOk, IsErrOf};
 ghost use Rattle.std.specs.List.{list_all};
 ghost use Rattle.sr_cell.specs.declared.list.No.TheVariants.{Refused};
+ghost use Rattle.sr_cell.specs.Clients.{most_clients};
 ghost use Rattle.sr_lines.specs.Lines.{lines_of};
-ghost use Rattle.sr_lines.specs.Script.{QuerySql, WriteSql};
+ghost use Rattle.sr_lines.specs.Script.{QuerySql, WriteSql, ExplainSql};
 ghost use Rattle.sr_query.specs.Bound.{is_table};
 ghost use Rattle.sr_reader.specs.declared.script.LinePlace.{LinePlace as TheLinePlace};
 ghost use Rattle.sr_reader.specs.Lined.{IsLine, AreLines, place_seen};
 ghost use Rattle.sr_reader.specs.LineSeen.{words_seen};
 ghost use Rattle.sr_reader.specs.Meaning.{IsSaid};
-ghost use Rattle.sr_setup.specs.Files.{clients, first_fault};
-ghost use Rattle.sr_setup.specs.ClientFiles.{doer_of, second_place, client_fault, is_own, IsOwnSaid, first_explaining, AreAsked};
-ghost use Rattle.sr_setup.specs.declared.client_script.ExplainLine.{ExplainLine as TheExplainLine};
+ghost use Rattle.sr_setup.specs.Files.{first_fault};
+ghost use Rattle.sr_setup.specs.ClientFiles.{doer_of, second_place, client_fault, is_own, AreAsked};
 
 use crate::cut::cut_line;
 use crate::schema_file::CLIENTS;
@@ -24,12 +24,6 @@ use sr_reader::meaning::query_of;
 use sr_reader::script::{Event, EventLine, EventLines, LinePlace};
 use sr_reader::words::Words;
 use std::alloc::Global;
-
-/// A line that explains, which a client does not yet over a link; by its number counted from 1.
-#[derive(Clone, Copy, Debug, PartialEq, Eq)]
-pub struct ExplainLine {
-    pub number: u64,
-}
 
 /// The client that does what the words say, where a client does it by itself.
 fn doer_of(words: Words<'_>) -> Option<u8>
@@ -66,7 +60,7 @@ fn second_place(line: &[u8]) -> u32
 /// A line of the script of a client; or the place of its fault.
 fn client_line(bytes: &[u8], id: u8) -> Result<Line<'_>, u32>
     requires { length bytes.now < 2 ^ 32 }
-    ensures line { IfOk result (IsLine clients bytes.now) }
+    ensures line { IfOk result (IsLine most_clients bytes.now) }
     ensures inside { OnOk result (client_fault id bytes.now ≡ None) }
     ensures outside { IfErr result (λ place. client_fault id bytes.now ≡ Some place) }
 {
@@ -90,7 +84,7 @@ fn client_line(bytes: &[u8], id: u8) -> Result<Line<'_>, u32>
 /// The lines of the script of a client; or the first that is outside its grammar, with the place of the fault.
 pub fn client_lines(alloc: Global, id: u8, bytes: &[u8]) -> Result<Lines<'_>, No<LinePlace>>
     requires { length bytes.now < 2 ^ 32 }
-    ensures lines { IfOk result (AreLines clients bytes.now) }
+    ensures lines { IfOk result (AreLines most_clients bytes.now) }
     ensures inside { OnOk result (first_fault (client_fault id) 1 (lines_of bytes.now) ≡ None) }
     ensures outside { (fault : TheLinePlace) → IsErrOf result (Refused fault) → first_fault (client_fault id) 1 (lines_of bytes.now) ≡ Some (place_seen fault) }
 {
@@ -124,6 +118,18 @@ fn query(alloc: Global, schema: &Schema, client: u8, sql: &str) -> Result<Event,
     }
 }
 
+/// A query to be explained, or why its text is refused.
+fn explain(alloc: Global, schema: &Schema, client: u8, sql: &str) -> Result<Event, NoMemory>
+    requires tables { IsTrue (list_all is_table schema.now) }
+    ensures said { IfOk result (IsSaid schema.now (ExplainSql client sql.now)) }
+    ensures own { IfOk result (λ event. IsTrue (is_own client event)) }
+{
+    match query_of(alloc, schema, sql) {
+        Ok(query) => Ok(Event::Explain { client, query }),
+        Err(want) => Err(want),
+    }
+}
+
 /// A write, as its text.
 fn write(alloc: Global, schema: &Schema, client: u8, sql: &str) -> Result<Event, NoMemory>
     ensures said { IfOk result (IsSaid schema.now (WriteSql client sql.now)) }
@@ -135,20 +141,20 @@ fn write(alloc: Global, schema: &Schema, client: u8, sql: &str) -> Result<Event,
     }
 }
 
-/// What the words of a client say to the tables; None if they explain.
-fn event_of(alloc: Global, schema: &Schema, words: Words<'_>) -> Result<Option<Event>, NoMemory>
+/// What the words of a client say to the tables.
+fn event_of(alloc: Global, schema: &Schema, words: Words<'_>) -> Result<Event, NoMemory>
     requires tables { IsTrue (list_all is_table schema.now) }
     requires doer { (id : ℕ) × (doer_of (words_seen words) ≡ Some id) }
-    ensures said { IfOk result (IsOwnSaid schema.now (words_seen words.entry)) }
-    ensures own { (id : ℕ) → doer_of (words_seen words.entry) ≡ Some id → IfOk result (λ found. IfSome found (λ event. IsTrue (is_own id event))) }
+    ensures said { IfOk result (IsSaid schema.now (words_seen words.entry)) }
+    ensures own { (id : ℕ) → doer_of (words_seen words.entry) ≡ Some id → IfOk result (λ event. IsTrue (is_own id event)) }
 {
     match words {
-        Words::Query { client, sql } => Ok(Some(query(alloc, schema, client, sql)?)),
-        Words::Write { client, sql } => Ok(Some(write(alloc, schema, client, sql)?)),
-        Words::Explain { .. } => Ok(None),
-        Words::Evict { client, place } => Ok(Some(Event::Evict { client, place })),
-        Words::Cut { client } => Ok(Some(Event::Cut { client })),
-        Words::Resume { client } => Ok(Some(Event::Resume { client })),
+        Words::Query { client, sql } => query(alloc, schema, client, sql),
+        Words::Write { client, sql } => write(alloc, schema, client, sql),
+        Words::Explain { client, sql } => explain(alloc, schema, client, sql),
+        Words::Evict { client, place } => Ok(Event::Evict { client, place }),
+        Words::Cut { client } => Ok(Event::Cut { client }),
+        Words::Resume { client } => Ok(Event::Resume { client }),
         Words::Exec { .. }
         | Words::Push { .. }
         | Words::ToServer { .. }
@@ -157,26 +163,23 @@ fn event_of(alloc: Global, schema: &Schema, words: Words<'_>) -> Result<Option<E
     }
 }
 
-/// The events of the client's script that the lines are of, over these tables; or the first line that explains.
+/// The events of the client's script that the lines are of, over these tables.
 pub fn client_events(
     alloc: Global,
     schema: &Schema,
     id: u8,
     lines: &Lines<'_>,
-) -> Result<EventLines, No<ExplainLine>>
+) -> Result<EventLines, NoMemory>
     requires tables { IsTrue (list_all is_table schema.now) }
-    requires lines { (script : List ℕ) × AreLines clients script lines.now × (first_fault (client_fault id) 1 (lines_of script) ≡ None) }
-    ensures asked { (script : List ℕ) → AreLines clients script lines.now → first_fault (client_fault id) 1 (lines_of script) ≡ None → IfOk result (AreAsked id script schema.now) }
-    ensures explains { (script : List ℕ) → AreLines clients script lines.now → first_fault (client_fault id) 1 (lines_of script) ≡ None → (line : TheExplainLine) → IsErrOf result (Refused line) → first_explaining 1 (lines_of script) ≡ Some line.number }
+    requires lines { (script : List ℕ) × AreLines most_clients script lines.now × (first_fault (client_fault id) 1 (lines_of script) ≡ None) }
+    ensures asked { (script : List ℕ) → AreLines most_clients script lines.now → first_fault (client_fault id) 1 (lines_of script) ≡ None → IfOk result (AreAsked id script schema.now) }
 {
     let mut events = Seq::new(alloc);
     for (i, line) in lines.as_slice().iter().enumerate() {
         if let Line::Event(words) = line {
             let number = i as u64 + 1;
-            match event_of(alloc, schema, *words)? {
-                Some(event) => events.push(EventLine { number, event })?,
-                None => return Err(No::Refused(ExplainLine { number })),
-            }
+            let event = event_of(alloc, schema, *words)?;
+            events.push(EventLine { number, event })?;
         }
     }
     Ok(events)

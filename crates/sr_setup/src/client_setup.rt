@@ -3,14 +3,15 @@ ghost use Rattle.std.specs.Prelude.{◌≡◌, ℕ, ◌<◌, ◌^◌, ◌⊎◌,
 ghost use Rattle.std.specs.List.{list_all};
 ghost use Rattle.sr_cell.specs.declared.fault.Fault.{Fault as TheFault};
 ghost use Rattle.sr_cell.specs.declared.list.No.TheVariants.{Refused, NoMemory as Wanting};
+ghost use Rattle.sr_cell.specs.Clients.{most_clients};
 ghost use Rattle.sr_lines.specs.Lines.{lines_of};
 ghost use Rattle.sr_lines.specs.Script.{LinePlace as TheLinePlace};
 ghost use Rattle.sr_query.specs.Bound.{is_table};
 ghost use Rattle.sr_reader.specs.Lined.{AreLines, place_seen};
 ghost use Rattle.sr_reader.specs.declared.script.LinePlace.{LinePlace as ReadPlace};
-ghost use Rattle.sr_setup.specs.Files.{clients, first_fault};
-ghost use Rattle.sr_setup.specs.ClientFiles.{client_fault, client_outside, ClientRefuses, LeavesUnbuilt, IsAsked};
-ghost use Rattle.sr_setup.specs.declared.client_setup.ClientFault.TheVariants.{Line, Create, Unbuilt};
+ghost use Rattle.sr_setup.specs.Files.{first_fault};
+ghost use Rattle.sr_setup.specs.ClientFiles.{client_fault, client_outside, ClientRefuses, IsAsked};
+ghost use Rattle.sr_setup.specs.declared.client_setup.ClientFault.TheVariants.{Line, Create};
 
 use crate::client_script::{client_events, client_lines};
 use crate::schema_file::schema_lines;
@@ -29,8 +30,6 @@ pub enum ClientFault {
     Line { line: u64, place: u32 },
     /// The line is the first CREATE line that is refused, counted from 1, and why. No line is outside the grammar.
     Create { line: u64, fault: Fault },
-    /// The line of the script is the first that explains, which is not built over a link; counted from 1. Nothing else is refused.
-    Unbuilt { line: u64 },
 }
 
 /// The lines of both files.
@@ -49,8 +48,8 @@ fn judge<'a>(
 ) -> Result<Judged<'a>, No<LinePlace>>
     requires schema { length schema.now < 2 ^ 32 }
     requires script { length script.now < 2 ^ 32 }
-    ensures schema { IfOk result (λ judged. AreLines clients schema.now judged.schema) }
-    ensures script { IfOk result (λ judged. AreLines clients script.now judged.script) }
+    ensures schema { IfOk result (λ judged. AreLines most_clients schema.now judged.schema) }
+    ensures script { IfOk result (λ judged. AreLines most_clients script.now judged.script) }
     ensures own { OnOk result (first_fault (client_fault id) 1 (lines_of script.now) ≡ None) }
     ensures inside { OnOk result (client_outside id schema.now script.now ≡ None) }
     ensures outside { (fault : ReadPlace) → IsErrOf result (Refused fault) → client_outside id schema.now script.now ≡ Some (place_seen fault) }
@@ -80,7 +79,6 @@ pub fn set_up_client(
     ensures line { (line place : ℕ) → IsErrOf result (Refused (Line line place)) → client_outside id schema.now script.now ≡ Some (record { line = line; place = place }) }
     ensures line_first { (at : TheLinePlace) → client_outside id schema.now script.now ≡ Some at → IsErrOf result (Refused (Line at.line at.place)) ⊎ IsErrOf result Wanting }
     ensures create { (line : ℕ) (fault : TheFault) → IsErrOf result (Refused (Create line fault)) → ClientRefuses id schema.now script.now line fault }
-    ensures unbuilt { (line : ℕ) → IsErrOf result (Refused (Unbuilt line)) → LeavesUnbuilt id schema.now script.now line }
 {
     let judged = match judge(alloc, id, schema, script) {
         Ok(judged) => judged,
@@ -104,9 +102,6 @@ pub fn set_up_client(
     };
     match client_events(alloc, &schema, id, &judged.script) {
         Ok(lines) => Ok(Script { schema, lines }),
-        Err(No::Refused(explains)) => Err(No::Refused(ClientFault::Unbuilt {
-            line: explains.number,
-        })),
-        Err(No::NoMemory) => Err(No::NoMemory),
+        Err(_) => Err(No::NoMemory),
     }
 }

@@ -8,5 +8,3 @@ pub mod cut;
 pub mod exec_file;
 pub mod schema_file;
 pub mod setup;
-#[cfg(test)]
-mod tests;

@@ -4,7 +4,8 @@ ghost use Rattle.sr_cell.specs.declared.list.No.TheVariants.{Refused};
 ghost use Rattle.sr_lines.specs.Lines.{lines_of};
 ghost use Rattle.sr_reader.specs.declared.script.LinePlace.{LinePlace as TheLinePlace};
 ghost use Rattle.sr_reader.specs.Lined.{IsLine, AreLines, place_seen};
-ghost use Rattle.sr_setup.specs.Files.{clients, first_fault, schema_fault};
+ghost use Rattle.sr_cell.specs.Clients.{most_clients};
+ghost use Rattle.sr_setup.specs.Files.{first_fault, schema_fault};
 
 use crate::cut::cut_line;
 use sr_cell::list::{No, Seq};
@@ -19,7 +20,7 @@ pub(crate) const CLIENTS: u8 = 64;
 /// A line of a schema file; or the place of its fault.
 fn schema_line(bytes: &[u8]) -> Result<Line<'_>, u32>
     requires { length bytes.now < 2 ^ 32 }
-    ensures line { IfOk result (IsLine clients bytes.now) }
+    ensures line { IfOk result (IsLine most_clients bytes.now) }
     ensures inside { OnOk result (schema_fault bytes.now ≡ None) }
     ensures outside { IfErr result (λ place. schema_fault bytes.now ≡ Some place) }
 {
@@ -33,7 +34,7 @@ fn schema_line(bytes: &[u8]) -> Result<Line<'_>, u32>
 /// The lines of a schema file; or the first that is outside its grammar, with the place of the fault.
 pub fn schema_lines(alloc: Global, bytes: &[u8]) -> Result<Lines<'_>, No<LinePlace>>
     requires { length bytes.now < 2 ^ 32 }
-    ensures lines { IfOk result (AreLines clients bytes.now) }
+    ensures lines { IfOk result (AreLines most_clients bytes.now) }
     ensures inside { OnOk result (first_fault schema_fault 1 (lines_of bytes.now) ≡ None) }
     ensures outside { (fault : TheLinePlace) → IsErrOf result (Refused fault) → first_fault schema_fault 1 (lines_of bytes.now) ≡ Some (place_seen fault) }
 {

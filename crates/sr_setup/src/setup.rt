@@ -10,7 +10,8 @@ ghost use Rattle.sr_load.specs.Filling.{filled};
 ghost use Rattle.sr_reader.specs.Lined.{AreLines, place_seen};
 ghost use Rattle.sr_reader.specs.declared.script.LinePlace.{LinePlace as ReadPlace};
 ghost use Rattle.sr_setup.specs.Faults.{IsRefusal};
-ghost use Rattle.sr_setup.specs.Files.{clients, statements_of, outside, RefusesCreate, RefusesLoad, SetsUp};
+ghost use Rattle.sr_cell.specs.Clients.{most_clients};
+ghost use Rattle.sr_setup.specs.Files.{statements_of, outside, RefusesCreate, RefusesLoad, SetsUp};
 ghost use Rattle.sr_setup.specs.declared.setup.SetupFault.{SetupFault as TheSetupFault};
 ghost use Rattle.sr_setup.specs.declared.setup.SetupFault.TheVariants.{Line, Create, Load as LoadRefused};
 ghost use Rattle.sr_tables.specs.Stored.{no_rows};
@@ -58,7 +59,7 @@ struct Judged<'a> {
 fn judge<'a>(alloc: Global, schema: &'a [u8], exec: &[u8]) -> Result<Judged<'a>, No<LinePlace>>
     requires schema { length schema.now < 2 ^ 32 }
     requires exec { length exec.now < 2 ^ 32 }
-    ensures lines { IfOk result (λ judged. AreLines clients schema.now judged.lines) }
+    ensures lines { IfOk result (λ judged. AreLines most_clients schema.now judged.lines) }
     ensures statements { IfOk result (λ judged. judged.statements ≡ statements_of (lines_of exec.now)) }
     ensures few { IfOk result (λ judged. length judged.statements < 2 ^ 32) }
     ensures inside { OnOk result (outside schema.now exec.now ≡ None) }
@@ -76,12 +77,12 @@ fn judge<'a>(alloc: Global, schema: &'a [u8], exec: &[u8]) -> Result<Judged<'a>,
 
 /// The tables of the CREATE lines with the rows of the files; or the first CREATE line that is refused, or else the first file.
 fn fill_tables(alloc: Global, lines: &Lines<'_>, loads: &[Load]) -> Result<Tables, No<SetupFault>>
-    requires lines { (schema : List ℕ) × AreLines clients schema lines.now }
+    requires lines { (schema : List ℕ) × AreLines most_clients schema lines.now }
     requires loads { IsTrue (list_all (λ load. nat_lt (length load.bytes) (2 ^ 32)) loads.now) }
-    ensures created { (schema : List ℕ) → AreLines clients schema lines.now → IfOk result (λ tables. Creates clients [] (lines_of schema) tables.schema) }
-    ensures accepts { (schema : List ℕ) → AreLines clients schema lines.now → OnOk result ((line : ℕ) (fault : TheFault) → FirstRefused clients 1 [] (lines_of schema) line fault → ⊥) }
+    ensures created { (schema : List ℕ) → AreLines most_clients schema lines.now → IfOk result (λ tables. Creates most_clients [] (lines_of schema) tables.schema) }
+    ensures accepts { (schema : List ℕ) → AreLines most_clients schema lines.now → OnOk result ((line : ℕ) (fault : TheFault) → FirstRefused most_clients 1 [] (lines_of schema) line fault → ⊥) }
     ensures filled { IfOk result (λ tables. filled tables.schema loads.now (no_rows tables.schema) ≡ Ok tables.rows) }
-    ensures refused { (schema : List ℕ) → AreLines clients schema lines.now → (fault : TheSetupFault) → IsErrOf result (Refused fault) → IsRefusal schema loads.now fault }
+    ensures refused { (schema : List ℕ) → AreLines most_clients schema lines.now → (fault : TheSetupFault) → IsErrOf result (Refused fault) → IsRefusal schema loads.now fault }
 {
     let schema = match created(alloc, lines) {
         Ok(schema) => schema,

@@ -5,3 +5,4 @@ pub mod TalkLemmas
 pub mod SendLemmas
 pub mod RoundLemmas
 pub mod SomeLemmas
+pub mod PeerLemmas

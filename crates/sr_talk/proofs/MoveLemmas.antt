@@ -4,14 +4,8 @@ use Rattle.std.proofs.lemmas.List.{drop-drop, take-append-le}
 use Rattle.std.proofs.Math.Seq.{take-add, take-append-add}
 use Rattle.sr_io.specs.Pieces.{SendsPart}
 use Rattle.sr_io.specs.Told.{Reading, Writing, Linking, Connection, sends, takes, sent_on, taken_from, OnlyFaults, Brings}
+use Rattle.sr_io.proofs.SoFar.{sent_on-append}
 use Rattle.sr_talk.specs.Moves.{OnlyLinks}
-
-sends-more : (p : Option Connection) (one two : List ℕ) → option_map (sends two) (option_map (sends one) p) ≡ option_map (sends (one ++ two)) p
-sends-more None one two = refl
-sends-more (Some c) one two = rw (append_assoc c.sent one two) refl
-
-pub sent_on-more : (l : Linking) (one two : List ℕ) → sent_on two (sent_on one l) ≡ sent_on (one ++ two) l
-sent_on-more l one two = rw (sends-more l.present one two) refl
 
 takes-more : (p : Option Connection) (one two : List ℕ) → option_map (takes two) (option_map (takes one) p) ≡ option_map (takes (one ++ two)) p
 takes-more None one two = refl
@@ -20,23 +14,12 @@ takes-more (Some c) one two = rw (append_assoc c.taken one two, length-append on
 pub taken_from-more : (l : Linking) (one two : List ℕ) → taken_from two (taken_from one l) ≡ taken_from (one ++ two) l
 taken_from-more l one two = rw (takes-more l.present one two) refl
 
-takes-nothing : (p : Option Connection) → option_map (takes []) p ≡ p
-takes-nothing None = refl
-takes-nothing (Some c) = rw (append-nil c.taken) refl
-
-pub taken-nothing : (l : Linking) → taken_from [] l ≡ l
-taken-nothing l = rw (takes-nothing l.present) refl
-
 takes-behind : (p : Option Connection) (s t : List ℕ) → option_map (takes t) (option_map (sends s) p) ≡ option_map (sends s) (option_map (takes t) p)
 takes-behind None s t = refl
 takes-behind (Some c) s t = refl
 
 pub taken-behind : (l : Linking) (s t : List ℕ) → taken_from t (sent_on s l) ≡ sent_on s (taken_from t l)
 taken-behind l s t = rw (takes-behind l.present s t) refl
-
-pub brings-nothing : (p : Option Connection) → Brings p []
-brings-nothing None = tt
-brings-nothing (Some c) = refl
 
 pub brings-more : (p : Option Connection) (a b : List ℕ) → Brings p a → Brings (option_map (takes a) p) b → Brings p (a ++ b)
 brings-more None a b one more = tt
@@ -58,7 +41,7 @@ pub part-behind : (old now new : Linking) (one two : List ℕ) → now ≡ sent_
 part-behind old now new one two is part =
     let fewer = part.fewer in
     let same : sent_on (take part.count two) now ≡ sent_on (take (length one + part.count) (one ++ two)) old =
-    ap (sent_on (take part.count two)) is ∙ (sent_on-more old one (take part.count two) ∙ ap (λ bytes. sent_on bytes old) (sym (take-append-add one two part.count))) in
+    ap (sent_on (take part.count two)) is ∙ (sent_on-append old one (take part.count two) ∙ ap (λ bytes. sent_on bytes old) (sym (take-append-add one two part.count))) in
     record {
       count = length one + part.count;
       fewer = omega (arith, fewer, length-append one two);
@@ -78,9 +61,6 @@ part-front old new one two part =
 -- ---- what stays
 
 module _ (L : Type 0) (reading : L → Reading) (writing : L → Writing) (linking : L → Linking) (held : L → List ℕ → Option (List ℕ)) (complaints : L → Option (List ℕ)) (IsSteady : L → Type 0) where
-  pub stays-still : (l : L) → OnlyLinks L reading writing linking held complaints IsSteady l l
-  stays-still l = record { stays_steady = λ s. s; reading_stays = refl; writing_stays = refl; held_stays = refl; complaints_stay = refl; faults_never_fall = omega arith }
-
   pub stays-on : (a b c : L) → OnlyLinks L reading writing linking held complaints IsSteady a b → OnlyLinks L reading writing linking held complaints IsSteady b c → OnlyLinks L reading writing linking held complaints IsSteady a c
   stays-on a b c one two =
       let x = one.faults_never_fall in

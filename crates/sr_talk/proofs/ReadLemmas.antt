@@ -1,12 +1,11 @@
 -- Reading up to a frame.
-use Rattle.std.proofs.Common.{◌≡◌, ℕ, ◌+◌, ◌≤◌, List, [], ◌++◌, length, Option, arith, append_assoc, sym, ◌∙◌, ap, subst, length-append, append-nil, option_map}
-use Rattle.sr_feed.specs.Fetching.{FetchesMore, FetchesNone, FetchesFault}
-use Rattle.sr_io.specs.Causes.{Rose}
-use Rattle.sr_io.specs.Told.{Reading, Writing, Linking, takes, taken_from, Brings, IsOver}
+use Rattle.std.proofs.Common.{◌≡◌, ℕ, ◌+◌, ◌≤◌, List, [], ◌++◌, length, Option, arith, append_assoc, sym, ◌∙◌, ap, subst, length-append, option_map}
+use Rattle.sr_feed.specs.Fetching.{FetchesMore}
+use Rattle.sr_io.specs.Told.{Reading, Writing, Linking, takes, taken_from, Brings}
 use Rattle.sr_talk.specs.Moves.{OnlyLinks}
-use Rattle.sr_talk.specs.Reading.{Reads, ReadsAndFails, Pops}
+use Rattle.sr_talk.specs.Reading.{Reads, Pops}
 use Rattle.sr_talk.specs.declared.frames.Popped.TheVariants.{Nothing}
-use Rattle.sr_talk.proofs.MoveLemmas.{taken_from-more, taken-nothing, brings-nothing, brings-more, stays-on}
+use Rattle.sr_talk.proofs.MoveLemmas.{taken_from-more, brings-more, stays-on}
 use Rattle.sr_talk.proofs.ShortLemmas.{short-small}
 
 pub record ReadSoFar (L : Type 0) (reading : L → Reading) (writing : L → Writing) (linking : L → Linking) (held : L → List ℕ → Option (List ℕ)) (complaints : L → Option (List ℕ)) (IsSteady : L → Type 0) (first now : L) (fed feed : List ℕ) (index : ℕ) : Type 0 where
@@ -15,15 +14,6 @@ pub record ReadSoFar (L : Type 0) (reading : L → Reading) (writing : L → Wri
   pub few : index ≤ 134217732
   pub stays : OnlyLinks L reading writing linking held complaints IsSteady first now
   pub up : (linking now).is_up ≡ (linking first).is_up
-
-pub reads-nothing : (l : Linking) (left : List ℕ) → Reads l l left [] left
-reads-nothing l left = record { bytes = []; brings = brings-nothing l.present; is = sym (taken-nothing l); cut = append-nil left }
-
-pub reads-frame : (old now : Linking) (before between frame after : List ℕ) → Reads old now before [] between → between ≡ frame ++ after → Reads old now before frame after
-reads-frame old now before between frame after r is = record { bytes = r.bytes; brings = r.brings; is = r.is; cut = r.cut ∙ is }
-
-pub reads-same : (old now new : Linking) (before between after : List ℕ) → Reads old now before [] between → new ≡ now → after ≡ between → Reads old new before [] after
-reads-same old now new before between after r same kept = record { bytes = r.bytes; brings = r.brings; is = same ∙ r.is; cut = r.cut ∙ sym kept }
 
 pub reads-more : (old now new : Linking) (before between after bytes : List ℕ) → Reads old now before [] between → Brings now.present bytes → new ≡ taken_from bytes now → after ≡ between ++ bytes → Reads old new before [] after
 reads-more old now new before between after bytes r brings is grows =
@@ -34,21 +24,6 @@ reads-more old now new before between after bytes r brings is grows =
       is = is ∙ (ap (taken_from bytes) r.is ∙ taken_from-more old r.bytes bytes);
       cut = sym (append_assoc before r.bytes bytes) ∙ (ap (λ x. x ++ bytes) r.cut ∙ sym grows);
     }
-
--- nothing more comes
-pub reads-end : (old now new : Linking) (left : ℕ) (before between after : List ℕ) → Reads old now before [] between → FetchesNone left now new between after → Reads old new before [] after
-reads-end old now new left before between after r f = reads-same old now new before between after r f.same f.kept
-
-pub is-over : (now new : Linking) (left : ℕ) (between after : List ℕ) → FetchesNone left now new between after → IsOver new.present
-is-over now new left between after f = subst (λ (l : Linking). IsOver l.present) (sym f.same) f.over
-
-pub reads-fault : (old now new : Linking) (before between after : List ℕ) → Reads old now before [] between → FetchesFault now new between after → ReadsAndFails old new before after
-reads-fault old now new before between after r f = record {
-  linking = now;
-  reads = record { bytes = r.bytes; brings = r.brings; is = r.is; cut = r.cut ∙ sym f.kept };
-  rose = subst (λ (l : Linking). Rose l.faults new.faults) r.is f.counted;
-  only = f.unchanged;
-}
 
 module _ (L : Type 0) (reading : L → Reading) (writing : L → Writing) (linking : L → Linking) (held : L → List ℕ → Option (List ℕ)) (complaints : L → Option (List ℕ)) (IsSteady : L → Type 0) where
   -- one turn

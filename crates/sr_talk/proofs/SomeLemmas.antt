@@ -12,7 +12,7 @@ use Rattle.sr_message.specs.declared.message.Message.{Message}
 use Rattle.sr_model.specs.Statements.{Tables}
 use Rattle.sr_session.specs.Sessions.{Database}
 use Rattle.sr_links.specs.Honest.{Server}
-use Rattle.sr_talk.specs.Rounds.{OnlyOutput, at_rest, text_of, Rounds, RoundsIf, SoMany, EndsBy, EndsFaulty, EndsUnwritten}
+use Rattle.sr_talk.specs.Rounds.{HasPeers, OnlyOutput, at_rest, text_of, Rounds, RoundsIf, SoMany, EndsBy, EndsFaulty, EndsUnwritten}
 use Rattle.sr_talk.specs.Serving.{count_faults, connection_line, connection_lines, by_fault, is_fault}
 use Rattle.sr_talk.specs.declared.rounds.Ending.TheVariants.{Whole, Faulty}
 use Rattle.sr_talk.specs.declared.serve.How.{How}
@@ -64,6 +64,7 @@ module _ (Gives : Database → Message → Result Tables TheFault → Type 0) wh
     pub so_far : (db : Database) → IsOf server_first (at_rest db) → ServedSome db (linking first) (linking now) (writing first) (writing now) done faulty (IsOf server)
     pub draws : room server_first ≤ room server + 1000000 * done
     pub stays : OnlyOutput H reading held complaints IsSteady first now
+    pub links : IsSteady first → (more : ℕ) → HasPeers (done + more) (linking first) → (faulty ≡ false) × HasPeers more (linking now)
 
   -- ---- before the first
 
@@ -82,6 +83,7 @@ module _ (Gives : Database → Message → Result Tables TheFault → Type 0) wh
     so_far = λ db is. none-served db (linking host) (writing host) (IsOf server) is;
     draws = omega arith;
     stays = record { stays_steady = λ s. s; reading_stays = refl; held_stays = refl; complaints_stay = refl };
+    links = λ steady more enough. (refl, (let none : 0 + more ≡ more = omega arith in subst (λ n. HasPeers n (linking host)) none enough));
   }
 
   -- ---- one more, and its line

@@ -1,26 +1,27 @@
 -- What was said so far over a connection.
 use Rattle.std.proofs.Common.{◌≡◌, ℕ, ◌+◌, ◌<◌, ◌≤◌, List, [], ◌∷◌, ◌++◌, length, take, Option, arith, append_assoc, refl, sym, ◌∙◌, ap, subst, length-append, append-nil, option_map, inl, inr}
-use Rattle.std.specs.Prelude.{Result}
+use Rattle.std.specs.Prelude.{Result, IsTrue}
 use Rattle.std.proofs.lemmas.Grind.{flat_map-append}
 use Rattle.std.proofs.Math.Seq.{take-append-add, take-length}
 use Rattle.sr_cell.specs.declared.fault.Fault.{Fault as TheFault}
 use Rattle.sr_io.specs.Causes.{Rose}
 use Rattle.sr_io.specs.Told.{Reading, Writing, Linking, sends, takes, sent_on, taken_from, OnlyFaults, Brings}
+use Rattle.sr_io.proofs.SoFar.{sent_on-append}
 use Rattle.sr_message.specs.declared.message.Message.{Message}
 use Rattle.sr_model.specs.Statements.{Tables}
 use Rattle.sr_session.specs.Sessions.{Database}
 use Rattle.sr_wire.specs.declared.wire_fault.WireFault.{WireFault}
-use Rattle.sr_wire.specs.Spelling.{spelling}
+use Rattle.sr_wire.specs.Spelling.{has_spelling, spelling}
 use Rattle.sr_links.specs.Honest.{Server, Frame as FrameOf, answer}
 use Rattle.sr_talk.specs.Moves.{OnlyLinks}
 use Rattle.sr_talk.specs.Reading.{Reads, Nexts}
-use Rattle.sr_talk.specs.Serving.{Answers, EndsAs, spelled}
-use Rattle.sr_talk.specs.Talked.{Takes, Sends, Turns, SentOn, ClosesAs, EndsAt, Talks}
+use Rattle.sr_talk.specs.Serving.{Answers, spelled, EndsAs}
+use Rattle.sr_talk.specs.Talked.{Takes, Sends, Turns, Talks, ClosesAs, SentOn, EndsAt}
 use Rattle.sr_talk.specs.declared.frames.Next.TheVariants.{End as NextEnd, Torn as NextTorn, Fault as NextFault, Bad as NextBad}
-use Rattle.sr_talk.specs.declared.serve.How.{How}
 use Rattle.sr_talk.specs.declared.serve.How.TheVariants.{End, Torn, Fault, Bad, Limit}
 use Rattle.sr_talk.specs.declared.serve.Turn.TheVariants.{Refused, Broken}
-use Rattle.sr_talk.proofs.MoveLemmas.{taken_from-more, sent_on-more, taken-behind, taken-nothing, nothing-sent, brings-nothing, brings-more, brings-behind}
+use Rattle.sr_talk.proofs.MoveLemmas.{taken_from-more, taken-behind, brings-more, brings-behind}
+use Rattle.sr_talk.specs.declared.serve.How.{How}
 
 -- ---- lists of frames
 
@@ -76,18 +77,6 @@ module _ (Gives : Database → Message → Result Tables TheFault → Type 0) wh
         is = r.is ∙ (ap (taken_from r.bytes) h.is ∙ (taken-behind (taken_from T first) S r.bytes ∙ (ap (sent_on S) (taken_from-more first T r.bytes) ∙ ap (λ x. sent_on S (taken_from x first)) e)));
       }
 
-  pub so-far-start : (s : Server) (l : Linking) (IsNow : Server → Type 0) → IsNow s → SoFar s l l [] 0 IsNow
-  so-far-start s l IsNow stands = record {
-    frames = [];
-    sent = [];
-    after = s;
-    brings = brings-nothing l.present;
-    answers = (refl, refl);
-    is = sym (nothing-sent (taken_from [] l) ∙ taken-nothing l);
-    count_is = refl;
-    stands = stands;
-  }
-
   pub so-far-more : (s : Server) (first now mid new : Linking) (left after : List ℕ) (m : Message) (index : ℕ) (IsNow IsNew : Server → Type 0) → (h : SoFar s first now left index IsNow)
       → Reads now mid left (spelling m) after → Sends Gives h.after m mid new IsNew → SoFar s first new after (index + 1) IsNew
   so-far-more s first now mid new left after m index IsNow IsNew h r t =
@@ -100,7 +89,7 @@ module _ (Gives : Database → Message → Result Tables TheFault → Type 0) wh
         after = (answer h.after (FrameOf m t.takes.result)).server;
         brings = subst (Brings first.present) (sym (spelled-one h.frames m after)) on.brings;
         answers = answers-one s h.after h.frames h.sent m t.sent IsNew h.answers t.takes;
-        is = t.is ∙ (ap (sent_on (spelled t.sent)) on.is ∙ (sent_on-more (taken_from behind first) (spelled h.sent) (spelled t.sent)
+        is = t.is ∙ (ap (sent_on (spelled t.sent)) on.is ∙ (sent_on-append (taken_from behind first) (spelled h.sent) (spelled t.sent)
             ∙ (ap (λ x. sent_on x (taken_from behind first)) (sym (spelled-append h.sent t.sent))
             ∙ ap (λ x. sent_on (spelled (h.sent ++ t.sent)) (taken_from x first)) (sym (spelled-one h.frames m after)))));
         count_is = omega (arith, count, length-append h.frames (m ∷ []));
@@ -162,9 +151,9 @@ module _ (Gives : Database → Message → Result Tables TheFault → Type 0) wh
         }
 
   module _ (s : Server) (first now mid new : Linking) (left after : List ℕ) (m : Message) (index : ℕ) (IsNow IsNew : Server → Type 0) (h : SoFar s first now left index IsNow) (below : index < 1000000) (r : Reads now mid left (spelling m) after) where
-    pub at-refused : Turns Gives Refused h.after m mid new IsNew → Talks Gives s first new Bad index IsNew
-    at-refused (refused, same, stands) =
-        quiet-end Bad s first now new left (spelling m) after index IsNow IsNew h stands (subst (λ l. Reads now l left (spelling m) after) (sym same) r) (λ e. e) (inr (m, after, refl, refused)) tt below
+    pub at-refused : IsTrue (has_spelling m) → Turns Gives Refused h.after m mid new IsNew → Talks Gives s first new Bad index IsNew
+    at-refused spells (refused, same, stands) =
+        quiet-end Bad s first now new left (spelling m) after index IsNow IsNew h stands (subst (λ l. Reads now l left (spelling m) after) (sym same) r) (λ e. e) (inr (m, after, refl, spells, refused)) tt below
 
     pub at-broken : Turns Gives Broken h.after m mid new IsNew → Talks Gives s first new Fault (index + 1) IsNew
     at-broken t =
@@ -180,7 +169,7 @@ module _ (Gives : Database → Message → Result Tables TheFault → Type 0) wh
         let before' : Linking = taken_from (spelled (h.frames ++ m ∷ []) ++ after) first in
         let same : before' ≡ before = ap (λ x. taken_from x first) (spelled-one h.frames m after) in
         let e : sent_on (take part.count A) mid ≡ sent_on (take (length S + part.count) (spelled (h.sent ++ t.sent))) before' =
-        ap (sent_on (take part.count A)) on.is ∙ (sent_on-more before S (take part.count A)
+        ap (sent_on (take part.count A)) on.is ∙ (sent_on-append before S (take part.count A)
         ∙ (ap (sent_on (S ++ take part.count A)) (sym same) ∙ (ap (λ x. sent_on x before') (sym (take-append-add S A part.count)) ∙ ap (λ x. sent_on (take (length S + part.count) x) before') (sym both)))) in
         let faults : mid.faults ≡ first.faults = ap (λ (l : Linking). l.faults) on.is in
         record {

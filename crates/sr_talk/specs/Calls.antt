@@ -1,8 +1,10 @@
 -- What a run of `client` did.
-use Rattle.std.specs.Prelude.{ℕ, Bool, true, false, nat_lt, ◌&&◌, ◌||◌, not, ◌+◌, List, [], ◌∷◌, ◌++◌, length, map, flat_map, ◌≡◌, Option, Some, None, option_to_list}
+use Rattle.std.specs.Prelude.{ℕ, Bool, true, false, nat_lt, ◌&&◌, ◌||◌, not, ◌+◌, List, [], ◌∷◌, ◌++◌, length, flat_map, ◌≡◌, Option, Some, None, Result, option_to_list}
 use Rattle.std.specs.List.{list_any}
+use Rattle.sr_cell.specs.declared.fault.Fault.{Fault}
 use Rattle.sr_cell.specs.declared.table.Table.{Table}
 use Rattle.sr_io.specs.Told.{Connection}
+use Rattle.sr_model.specs.Queries.{Query}
 use Rattle.sr_script.specs.declared.line.TraceLine.{TraceLine}
 use Rattle.sr_script.specs.declared.line.TraceLine.TheVariants as line
 use Rattle.sr_script.specs.TraceText.{line_text}
@@ -10,6 +12,8 @@ use Rattle.sr_wire.specs.declared.wire_fault.WireFault.TheVariants.{Short}
 use Rattle.sr_wire.specs.Reading.{Decoded, Faulty, decoded}
 use Rattle.sr_session.specs.Clients.{Client}
 use Rattle.sr_session.specs.Rules.{Outcome, QueryRefused}
+use Rattle.sr_explain.specs.declared.explanation.Explanation.{Explanation}
+use Rattle.sr_explain.specs.Telling.{explain_lines}
 use Rattle.sr_runs.specs.Lines.{details, query_line, write_line, evict_line, taken_line, cut_line, resume_line}
 use Rattle.sr_links.specs.Honest.{Talk}
 use Rattle.sr_links.specs.Steps.{Step, Deed, Queried, Wrote, Evicted, Took, WasCut, Resumed, OnOne, past_after}
@@ -21,11 +25,16 @@ pub data Cause : Type 0 where
   Delivered : Cause
   Failed : Cause
 
--- with the number of the script's line
-pub record Done (C : Type 0) : Type 0 where
-  pub number : ℕ
-  pub cause : Cause
-  pub step : Step C
+-- What was done, with the number of the script's line: a step; or the client explained how it would answer a query, which is no step. Of
+-- that there is what the query's text means, and what was explained, or why the text is refused.
+pub data Done (C : Type 0) : Type 0 where
+  Made : (number : ℕ) (cause : Cause) (step : Step C) → Done C
+  Explained : (number : ℕ) (text : Result Query Fault) (result : Result Explanation Fault) → Done C
+
+-- the number of the line
+abbrev pub number_of : {C : Type 0} → Done C → ℕ
+number_of {C} (Made number cause step) = number
+number_of {C} (Explained number text result) = number
 
 -- ---- its lines
 
@@ -44,38 +53,52 @@ abbrev pub lines_of : ℕ → Deed → Outcome → List TraceLine
 lines_of client deed o = details client o ++ last_lines client deed o
 
 abbrev pub text_of : {C : Type 0} → List Table → ℕ → Done C → List ℕ
-text_of {C} schema client d = flat_map (line_text schema d.number) (lines_of client d.step.deed d.step.outcome)
+text_of {C} schema client (Made number cause step) = flat_map (line_text schema number) (lines_of client step.deed step.outcome)
+text_of {C} schema client (Explained number text result) = flat_map (line_text schema number) (explain_lines client result)
 
--- ---- its steps
+-- ---- the script's lines
 
--- the script's lines, in order
-abbrev pub line_of : Cause → ℕ → Deed → List (ℕ × Deed)
-line_of Scripted number deed = (number, deed) ∷ []
+-- what a line asks of a client: a deed; or how it would answer a query of this text
+pub data Task : Type 0 where
+  Do : (deed : Deed) → Task
+  Explain : (text : Result Query Fault) → Task
+
+abbrev pub line_of : Cause → ℕ → Deed → List (ℕ × Task)
+line_of Scripted number deed = (number, Do deed) ∷ []
 line_of other number deed = []
 
-abbrev pub lines_done : {C : Type 0} → List (Done C) → List (ℕ × Deed)
+-- the line that asked for it
+abbrev pub asked_by : {C : Type 0} → Done C → List (ℕ × Task)
+asked_by {C} (Made number cause step) = line_of cause number step.deed
+asked_by {C} (Explained number text result) = (number, Explain text) ∷ []
+
+-- the script's lines, in order
+abbrev pub lines_done : {C : Type 0} → List (Done C) → List (ℕ × Task)
 lines_done {C} [] = []
-lines_done {C} (d ∷ ds) = line_of d.cause d.number d.step.deed ++ lines_done ds
+lines_done {C} (d ∷ ds) = asked_by d ++ lines_done ds
 
 -- ---- its connections
 
--- What was done from one resume to the next; whether a connection was made, and the connection, where the link tells it; and the bytes
--- that were taken from it and belong to no message that was handed on.
+abbrev pub steps_in : {C : Type 0} → List (Done C) → List (Step C)
+steps_in {C} [] = []
+steps_in {C} (Made number cause step ∷ ds) = step ∷ steps_in ds
+steps_in {C} (Explained number text result ∷ ds) = steps_in ds
+
+-- What was done from one resume, which the line of that number asked for, to the next; whether a connection was made, and the connection,
+-- where the link tells it; and the bytes that were taken from it and belong to no message that was handed on.
 pub record Call (C : Type 0) : Type 0 where
-  pub first : Done C
+  pub number : ℕ
+  pub first : Step C
   pub others : List (Done C)
   pub connected : Bool
   pub told : Option Connection
   pub left : List ℕ
 
 abbrev pub done_in : {C : Type 0} → Call C → List (Done C)
-done_in {C} call = call.first ∷ call.others
-
-abbrev pub steps_in : {C : Type 0} → List (Done C) → List (Step C)
-steps_in {C} done = map (λ d. d.step) done
+done_in {C} call = Made call.number Scripted call.first ∷ call.others
 
 abbrev pub talk_of : {C : Type 0} → Call C → Talk C
-talk_of {C} call = record { first = call.first.step; others = steps_in call.others }
+talk_of {C} call = record { first = call.first; others = steps_in call.others }
 
 abbrev pub all_done : {C : Type 0} → List (Call C) → List (Done C)
 all_done {C} [] = []
@@ -85,7 +108,7 @@ all_done {C} (call ∷ calls) = done_in call ++ all_done calls
 abbrev pub AreCalls : {C : Type 0} → Client → List (Call C) → Type 0
 AreCalls {C} c [] = Unit {0}
 AreCalls {C} c (call ∷ calls) =
-    (call.first.step.deed ≡ Resumed) × (c.cut ≡ true) × OnOne call.first.step.past (steps_in call.others) × AreCalls (past_after c (steps_in (done_in call))) calls
+    (call.first.deed ≡ Resumed) × (c.cut ≡ true) × OnOne call.first.past (steps_in call.others) × AreCalls (past_after c (steps_in (done_in call))) calls
 
 -- ---- failures
 
@@ -93,9 +116,13 @@ abbrev pub is_failed : Cause → Bool
 is_failed Failed = true
 is_failed other = false
 
+abbrev pub has_failed : {C : Type 0} → Done C → Bool
+has_failed {C} (Made number cause step) = is_failed cause
+has_failed {C} (Explained number text result) = false
+
 -- a failure cut it
 abbrev pub fails : {C : Type 0} → Call C → Bool
-fails {C} call = list_any (λ d. is_failed d.cause) call.others
+fails {C} call = list_any has_failed call.others
 
 abbrev pub is_coming : Option Connection → Bool
 is_coming None = false

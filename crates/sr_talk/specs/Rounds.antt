@@ -1,5 +1,5 @@
 -- Connections that are served one after another, with the lines that are written.
-use Rattle.std.specs.Prelude.{◌≡◌, ◌≢◌, ℕ, ◌≤◌, List, ◌++◌, length, flat_map, Option, Some, None, Result, option_to_list}
+use Rattle.std.specs.Prelude.{◌≡◌, ◌≢◌, ℕ, ◌≤◌, List, ◌++◌, length, flat_map, Option, Some, None, Result, option_to_list, IfSome}
 use Rattle.std.specs.Io.KnownBytes.{Appends}
 use Rattle.sr_cell.specs.declared.fault.Fault.{Fault as TheFault}
 use Rattle.sr_io.specs.Causes.{Rose}
@@ -10,6 +10,7 @@ use Rattle.sr_model.specs.Statements.{Tables}
 use Rattle.sr_session.specs.Sessions.{Database}
 use Rattle.sr_links.specs.Honest.{Server}
 use Rattle.sr_talk.specs.Serving.{Conversation, IsServed, AreServed, RoseBy, all_told, count_faults, connection_lines, is_fault}
+use Rattle.sr_talk.specs.declared.serve.How.TheVariants.{Fault as ByFault}
 use Rattle.sr_talk.specs.declared.serve.Served.{Served}
 use Rattle.sr_talk.specs.declared.rounds.Ending.{Ending}
 use Rattle.sr_talk.specs.declared.rounds.Ending.TheVariants.{Whole, Faulty, Unwritten}
@@ -27,6 +28,15 @@ at_rest db = record { database = db; session = None }
 
 abbrev pub text_of : List (List ℕ) → List ℕ
 text_of lines = flat_map (λ line. line) lines
+
+-- so many peers at least are to come, where the link tells them
+abbrev pub HasPeers : ℕ → Linking → Type 0
+HasPeers count l = IfSome l.peers (λ peers. count ≤ length peers)
+
+-- A peer was there, its connection did not end by a fault, and so many are still to come.
+abbrev pub ServesPeer : Option Served → ℕ → Linking → Type 0
+ServesPeer None more new = ⊥
+ServesPeer (Some served) more new = (served.how ≢ ByFault) × HasPeers more new
 
 module _ (Gives : Database → Message → Result Tables TheFault → Type 0) where
   -- One connection was made, served and given up.

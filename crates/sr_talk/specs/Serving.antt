@@ -1,5 +1,5 @@
 -- What a run of `serve` did.
-use Rattle.std.specs.Prelude.{ℕ, Bool, true, false, ◌==◌, if◌then◌else◌, ◌+◌, ◌-◌, ◌^◌, min, ◌<◌, ◌≤◌, ◌⊎◌, List, [], ◌∷◌, ◌++◌, length, flat_map, decimal, codes, ◌≡◌, ◌≢◌, Option, None, Result, Ok, Err, IfSome, option_to_list}
+use Rattle.std.specs.Prelude.{ℕ, Bool, true, false, ◌==◌, if◌then◌else◌, ◌+◌, ◌-◌, ◌^◌, min, ◌<◌, ◌≤◌, ◌⊎◌, List, [], ◌∷◌, ◌++◌, length, flat_map, decimal, codes, ◌≡◌, ◌≢◌, Option, None, Result, Ok, Err, IfSome, IsTrue, option_to_list}
 use Rattle.sr_cell.specs.declared.fault.Fault.{Fault as TheFault}
 use Rattle.sr_io.specs.Told.{Linking, Connection, connections}
 use Rattle.sr_message.specs.declared.message.Message.{Message}
@@ -8,7 +8,7 @@ use Rattle.sr_model.specs.Statements.{Tables}
 use Rattle.sr_wire.specs.declared.wire_fault.WireFault.{WireFault}
 use Rattle.sr_wire.specs.declared.wire_fault.WireFault.TheVariants.{Short}
 use Rattle.sr_wire.specs.Reading.{decoded, Faulty}
-use Rattle.sr_wire.specs.Spelling.{spelling}
+use Rattle.sr_wire.specs.Spelling.{has_spelling, spelling}
 use Rattle.sr_script.specs.TraceText.{fault_words, ended}
 use Rattle.sr_session.specs.Sessions.{Database, newest, with_version}
 use Rattle.sr_session.specs.Refusals.{server_misfit}
@@ -52,7 +52,7 @@ abbrev pub EndsAs : How → Server → List ℕ → Type 0
 EndsAs End s left = left ≡ []
 EndsAs Torn s left = (left ≢ []) × IsShort left
 EndsAs Fault s left = Unit {0}
-EndsAs Bad s left = IsFaulty left ⊎ ((m : Message) × (rest : List ℕ) × (left ≡ spelling m ++ rest) × IsRefused s m)
+EndsAs Bad s left = IsFaulty left ⊎ ((m : Message) × (rest : List ℕ) × (left ≡ spelling m ++ rest) × IsTrue (has_spelling m) × IsRefused s m)
 EndsAs Limit s left = Unit {0}
 
 -- It ended by the limit just where so many frames were answered in full.

@@ -1,10 +1,10 @@
 //! Connections, served one after another.
-ghost use Rattle.std.specs.Prelude.{◌≡◌, ◌||◌, ◌+◌, ◌*◌, ◌≤◌, ℕ, List, IfOk, OnOk, string_bytes, if◌then◌else◌};
+ghost use Rattle.std.specs.Prelude.{◌≡◌, ◌≢◌, ◌||◌, ◌+◌, ◌*◌, ◌≤◌, ℕ, List, IfOk, OnOk, string_bytes, if◌then◌else◌};
 ghost use Rattle.sr_session.specs.Sessions.{Database};
-ghost use Rattle.sr_talk.specs.Rounds.{EndsBy, OnlyOutput, RoundsIf, at_rest};
+ghost use Rattle.sr_talk.specs.Rounds.{EndsBy, HasPeers, OnlyOutput, RoundsIf, ServesPeer, at_rest};
 ghost use Rattle.sr_talk.specs.Moves.{OnlyLinks};
 ghost use Rattle.sr_talk.specs.Serving.{by_fault, connection_line, how_text};
-ghost use Rattle.sr_talk.specs.declared.rounds.Ending.TheVariants.{Whole, Faulty};
+ghost use Rattle.sr_talk.specs.declared.rounds.Ending.TheVariants.{Whole, Faulty, Unwritten};
 
 use crate::parts::Serves;
 use crate::serve::{How, Served, serve_connection};
@@ -34,6 +34,7 @@ pub fn serve_one<D: Dock, S: Serves>(
     ensures round { (db : Database) → S.is_of server.old (at_rest db) → IfOk result (λ round. RoundsIf S.gives round db (D.linking dock.old) (D.linking dock.new) (S.is_of server.new)) }
     ensures draws { S.room server.old ≤ S.room server.new + 1000000 }
     ensures stays { OnlyLinks D D.reading D.writing D.linking D.held D.complaints D.IsSteady dock.old dock.new }
+    ensures steady { D.IsSteady dock.old → (more : ℕ) → HasPeers (more + 1) (D.linking dock.old) → IfOk result (λ round. ServesPeer round more (D.linking dock.new)) }
 {
     match dock.accept() {
         Ok(()) => {}
@@ -101,6 +102,8 @@ pub fn serve_some<H: Dock + Sink, S: Serves>(
     requires room { 1000000 * count ≤ S.room server.old }
     ensures ending { (db : Database) → S.is_of server.old (at_rest db) → IfOk result (λ ending. EndsBy S.gives ending db count (H.linking host.old) (H.linking host.new) (H.writing host.old) (H.writing host.new) (S.is_of server.new)) }
     ensures stays { OnlyOutput H H.reading H.held H.complaints H.IsSteady host.old host.new }
+    ensures steady_writes { H.IsSteady host.old → IfOk result (λ ending. ending ≢ Unwritten) }
+    ensures steady_links { H.IsSteady host.old → HasPeers count (H.linking host.old) → IfOk result (λ ending. ending ≢ Faulty) }
 {
     let mut faulty = false;
     for done in 0..count {

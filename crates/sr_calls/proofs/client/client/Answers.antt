@@ -1,10 +1,10 @@
 use Rattle.std.proofs.Common.{◌≡◌, ℕ, ◌+◌, ◌≤◌, List, length, sym, ◌∙◌, ap, subst}
 use Rattle.std.specs.Prelude.{◌*◌}
 use Rattle.sr_cell.specs.declared.table.Table.{Table}
-use Rattle.sr_links.specs.Steps.{Deed}
+use Rattle.sr_talk.specs.Calls.{Task}
 use Rattle.sr_client.specs.declared.client.Client.{Client}
 use Rattle.sr_client.specs.Stands.{new_client}
-use Rattle.sr_dial.specs.Known.{AreDeeds}
+use Rattle.sr_dial.specs.Known.{AreTasks}
 use Rattle.sr_calls.specs.ClientEnds.{room_of}
 use Rattle.sr_calls.proofs.RunLemmas.{ran_new, room_for}
 use Rattle.sr_calls.proofs.client.client.Goals as goal
@@ -17,7 +17,7 @@ run-requires-clause-schema g c =
 pub run-requires-clause-asks : goal.run-requires-clause-asks
 run-requires-clause-asks g c =
     let same : c.new-end.result ≡ new_client c.args.id c.args.schema c.args.limits = c.new-end.ensures ∙ ap (λ (s : List Table). new_client c.args.id s c.args.limits) c.in_ok-own.ensures in
-    subst (λ (x : Client). (script : List (ℕ × Deed)) × AreDeeds x.schema c.args.lines script) (sym same) c.requires.asks
+    subst (λ (x : Client). (script : List (ℕ × Task)) × AreTasks x.schema c.args.lines script) (sym same) c.requires.asks
 
 pub run-requires-clause-room : goal.run-requires-clause-room
 run-requires-clause-room g c =

@@ -1,4 +1,4 @@
-use Rattle.std.proofs.Common.{◌≡◌, sym, subst}
+use Rattle.std.proofs.Common.{sym, subst}
 use Rattle.sr_dial.specs.Courses.{EndsLine}
 use Rattle.sr_dial.proofs.SomeLemmas.{ends-failed}
 use Rattle.sr_dial.proofs.run.failed.Goals as goal

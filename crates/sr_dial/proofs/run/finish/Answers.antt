@@ -1,4 +1,4 @@
-use Rattle.std.proofs.Common.{◌≡◌, subst}
+use Rattle.std.proofs.Common.{subst}
 use Rattle.sr_dial.specs.Courses.{Hands}
 use Rattle.sr_dial.proofs.run.finish.Goals as goal
 

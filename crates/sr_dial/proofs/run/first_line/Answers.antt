@@ -1,5 +1,6 @@
-use Rattle.std.proofs.Common.{◌≡◌, ◌∙◌, false, [], ◌∷◌, inr, refl}
+use Rattle.std.proofs.Common.{◌∙◌, false, [], ◌∷◌, inr, refl}
 use Rattle.sr_links.specs.Steps.{Resumed}
+use Rattle.sr_talk.specs.Calls.{Do}
 use Rattle.sr_dial.proofs.run.first_line.Goals as goal
 
 pub begin-requires-clause-asks : goal.begin-requires-clause-asks
@@ -7,4 +8,4 @@ begin-requires-clause-asks g c = (Resumed, refl)
 
 pub returns-clause-ended : goal.returns-clause-ended
 returns-clause-ended g c k s same schema unbegun =
-    c.finish.ensures.ended k s ((0, Resumed) ∷ []) false (c.begin.ensures.setting ∙ same) schema (c.in_ok-handed.ensures.begun k s [] 0 false same schema (inr unbegun) refl)
+    c.finish.ensures.ended k s ((0, Do Resumed) ∷ []) false (c.begin.ensures.setting ∙ same) schema (c.in_ok-handed.ensures.begun k s [] 0 false same schema (inr unbegun) refl)

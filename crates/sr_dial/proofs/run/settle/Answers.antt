@@ -1,4 +1,4 @@
-use Rattle.std.proofs.Common.{◌≡◌, ◌∙◌, subst}
+use Rattle.std.proofs.Common.{◌∙◌, subst}
 use Rattle.sr_dial.specs.Courses.{Waits}
 use Rattle.sr_dial.proofs.run.settle.Goals as goal
 

@@ -1,9 +1,8 @@
-use Rattle.std.proofs.Common.{◌≡◌, [], ◌∷◌, ◌++◌, sym, subst}
+use Rattle.std.proofs.Common.{[], ◌∷◌, ◌++◌, sym, subst}
 use Rattle.std.specs.Prelude.{flat_map}
 use Rattle.sr_script.specs.TraceText.{line_text}
 use Rattle.sr_talk.specs.Serving.{spelled}
 use Rattle.sr_dial.specs.Carrying.{Carries}
-use Rattle.sr_dial.specs.Courses.{Hands}
 use Rattle.sr_dial.specs.Known.{IsDeed, Makes, Setting}
 use Rattle.sr_dial.specs.Runs.{left_by}
 use Rattle.sr_dial.proofs.HandLemmas.{plain-hands}

@@ -1,14 +1,14 @@
-use Rattle.std.proofs.Common.{rules, ◌≡◌, [], ◌∷◌, ◌++◌, ◌∙◌, ℕ, List, true, cond, sym, subst}
+use Rattle.std.proofs.Common.{rules, ◌≡◌, [], ◌∷◌, ◌++◌, true, cond, sym, subst}
 use Rattle.std.specs.Prelude.{flat_map}
 use Rattle.sr_io.specs.Causes.{Rose}
 use Rattle.sr_io.specs.Told.{OnlyFaults}
 use Rattle.sr_script.specs.TraceText.{line_text}
 use Rattle.sr_links.specs.Steps.{Resumed}
+use Rattle.sr_talk.specs.Calls.{Do}
 use Rattle.sr_talk.specs.Serving.{spelled}
 use Rattle.sr_dial.specs.Carrying.{Carries, SaysAs}
 use Rattle.sr_dial.specs.Courses.{Hands}
 use Rattle.sr_dial.specs.Known.{IsDeed, Makes, Setting}
-use Rattle.sr_dial.specs.declared.steps.Handed.{Handed}
 use Rattle.sr_dial.specs.declared.steps.Handed.TheVariants.{Broken, Unwritten}
 use Rattle.sr_dial.proofs.LineLemmas.{resumes-up, resumes-dialled, resumes-alone}
 use Rattle.sr_dial.proofs.Results.{if-ok}
@@ -33,7 +33,7 @@ returns-in-Ok-clause-begun g c k s script line failed same schema ready is =
     let told = c.in_ok-told.told in
     let some : c.in_ok-told.told.sent ≡ [] → ⊥ = λ none. absurd (let wrong = c.is_empty.ensures.1 none in let no = c.if-is_empty.false in cc) in
     if-ok _ _ c.carry-in-Ok.result (λ handed carries.
-    subst (λ feed. Hands _ g.C.Asks.stands g.C.Peer.is_of k handed s (script ++ (c.args.number, Resumed) ∷ []) c.args.number 0 failed (g.H.Outside.linking c.carry-in-Ok.new.host) (g.H.Outside.writing c.carry-in-Ok.new.host) feed c.act.new.self) (sym c.new.ensures)
+    subst (λ feed. Hands _ g.C.Asks.stands g.C.Peer.is_of k handed s (script ++ (c.args.number, Do Resumed) ∷ []) c.args.number 0 failed (g.H.Outside.linking c.carry-in-Ok.new.host) (g.H.Outside.writing c.carry-in-Ok.new.host) feed c.act.new.self) (sym c.new.ensures)
     (resumes-dialled _ g.C.Asks.stands g.C.Peer.is_of k s script line c.args.number failed _ _ _ _ c.args.feed.now _ _ told.lines told.sent ready
     (λ past st. subst (λ x. Makes g.C.Asks.stands g.C.Peer.is_of x old new past Resumed told.lines told.sent) same
     (c.in_ok-told.ensures.made past Resumed st (subst (λ (x : Setting). IsDeed x.schema c.args.event Resumed) (sym same) is))) handed (g.H.Outside.linking c.dial.new.self) some c.in-Ok.ensures.made
@@ -50,8 +50,8 @@ returns-in-Err-Refused-clause-begun g c k s script line failed same schema ready
     let said = c.in_ok-said-in-Err-Refused.said in
     let some : c.in_ok-told.told.sent ≡ [] → ⊥ = λ none. absurd (let wrong = c.is_empty.ensures.1 none in let no = c.if-is_empty.false in cc) in
     let rose : Rose (g.H.Outside.linking c.args.host.now).faults (g.H.Outside.linking c.dial.new.self).faults = search rules in
-    subst (λ handed. Hands _ g.C.Asks.stands g.C.Peer.is_of k handed s (script ++ (c.args.number, Resumed) ∷ []) c.args.number 0 failed (g.H.Outside.linking c.say.new.sink) (g.H.Outside.writing c.say.new.sink) c.new.result c.act.new.self) (sym c.broken_by.ensures)
-    (subst (λ feed. Hands _ g.C.Asks.stands g.C.Peer.is_of k (cond said Broken Unwritten) s (script ++ (c.args.number, Resumed) ∷ []) c.args.number 0 failed (g.H.Outside.linking c.say.new.sink) (g.H.Outside.writing c.say.new.sink) feed c.act.new.self) (sym c.new.ensures)
+    subst (λ handed. Hands _ g.C.Asks.stands g.C.Peer.is_of k handed s (script ++ (c.args.number, Do Resumed) ∷ []) c.args.number 0 failed (g.H.Outside.linking c.say.new.sink) (g.H.Outside.writing c.say.new.sink) c.new.result c.act.new.self) (sym c.broken_by.ensures)
+    (subst (λ feed. Hands _ g.C.Asks.stands g.C.Peer.is_of k (cond said Broken Unwritten) s (script ++ (c.args.number, Do Resumed) ∷ []) c.args.number 0 failed (g.H.Outside.linking c.say.new.sink) (g.H.Outside.writing c.say.new.sink) feed c.act.new.self) (sym c.new.ensures)
     (resumes-alone _ g.C.Asks.stands g.C.Peer.is_of k s script line c.args.number failed _ _ _ _ c.args.feed.now _ _ told.lines told.sent ready
     (λ past st. subst (λ x. Makes g.C.Asks.stands g.C.Peer.is_of x old new past Resumed told.lines told.sent) same
     (c.in_ok-told.ensures.made past Resumed st (subst (λ (x : Setting). IsDeed x.schema c.args.event Resumed) (sym same) is))) said some

@@ -1,7 +1,7 @@
-use Rattle.std.proofs.Common.{rules, ◌≡◌, ◌∙◌, ◌+◌, ◌*◌, ◌≤◌, true, false, [], ◌∷◌, ◌++◌, arith, refl, sym, subst}
+use Rattle.std.proofs.Common.{rules, ◌≡◌, ◌∙◌, true, false, [], ◌∷◌, ◌++◌, arith, refl, sym, subst}
 use Rattle.std.specs.Option.{is_some}
 use Rattle.sr_talk.specs.Reading.{Nexts}
-use Rattle.sr_dial.specs.Courses.{Broken, Handles, IsWritten, Over, Waits}
+use Rattle.sr_dial.specs.Courses.{Broken, Handles, IsWritten, Over}
 use Rattle.sr_dial.specs.Runs.{left_by}
 use Rattle.sr_dial.specs.declared.ending.Ending.TheVariants.{Spoiled}
 use Rattle.sr_dial.proofs.WaitLemmas.{is-free, awaits-end, awaits-torn, awaits-fault, awaits-spoiled, reads-on}

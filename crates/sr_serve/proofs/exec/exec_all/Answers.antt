@@ -66,3 +66,6 @@ returns-clause-done g c db is =
     let h = c.loop-at.invariant.so_far db is in
     all-executed db texts (g.K.Outside.writing c.args.sink.now) (g.K.Outside.writing c.loop-at.sink) c.loop-at.server
     (subst (λ left. ExecutedSome db texts left (g.K.Outside.writing c.args.sink.now) (g.K.Outside.writing c.loop-at.sink) c.loop-at.server) (drop_all c.loop-at.at texts (search rules)) h)
+
+pub returns-in-Err-Refused-clause-steady_writes : goal.returns-in-Err-Refused-clause-steady_writes
+returns-in-Err-Refused-clause-steady_writes g c steady = absurd (c.write_all.ensures.steady_never_fails (c.loop-at.invariant.stays.stays_steady steady) (search rules))

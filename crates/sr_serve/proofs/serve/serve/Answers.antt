@@ -1,10 +1,11 @@
-use Rattle.std.proofs.Common.{◌≡◌, ◌∙◌, true, false, sym, ap, subst, rules}
+use Rattle.std.proofs.Common.{◌≡◌, ◌∙◌, Bool, true, false, sym, ap, subst, rules}
 use Rattle.std.specs.Io.KnownBytes.{Appends}
 use Rattle.std.proofs.lemmas.Result.{IfOk-weaker}
 use Rattle.sr_io.specs.Causes.{Rose}
 use Rattle.sr_io.specs.Pieces.{WritesPrefix}
 use Rattle.sr_io.specs.Told.{Writing}
 use Rattle.sr_server.specs.Servers.{first_database}
+use Rattle.sr_talk.specs.Rounds.{HasPeers}
 use Rattle.sr_talk.specs.Serving.{listening}
 use Rattle.sr_talk.specs.declared.rounds.Ending.TheVariants.{Unwritten}
 use Rattle.sr_serve.specs.Execs.{ExecutesAs}
@@ -67,3 +68,27 @@ returns-clause-ran g c =
     (c.in-Ok-write_all.ensures.ok_keeps_faults ∙ ap (λ (w : Writing). w.faults) c.dock.ensures.writing_stays)
     done _ ending e))
     (c.serve_some.ensures.ending done.last (c.new-end.ensures.stands done.last done.stands))
+
+pub returns-in-Err-Refused-clause-steady_links : goal.returns-in-Err-Refused-clause-steady_links
+returns-in-Err-Refused-clause-steady_links g c steady enough = absurd (c.dock.ensures.steady_never_fails steady (search rules))
+
+pub returns-in-Err-Refused-write_all-clause-steady_writes : goal.returns-in-Err-Refused-write_all-clause-steady_writes
+returns-in-Err-Refused-write_all-clause-steady_writes g c steady = absurd (c.write_all.ensures.steady_never_fails (c.dock.ensures.stays_steady steady) (search rules))
+
+not_both : (all : Bool) → all ≡ false → all ≡ true → ⊥
+not_both true none every = absurd (cc)
+not_both false none every = absurd (cc)
+
+pub returns-then-not-branch-clause-steady_writes : goal.returns-then-not-branch-clause-steady_writes
+returns-then-not-branch-clause-steady_writes g c steady =
+    let none : c.in_ok-exec_all.field-0 ≡ false = search rules in
+    absurd (not_both c.in_ok-exec_all.field-0 none (c.in_ok-exec_all.ensures.steady_writes (c.write_all.ensures.stays_steady (c.dock.ensures.stays_steady steady))))
+
+pub returns-clause-steady_writes : goal.returns-clause-steady_writes
+returns-clause-steady_writes g c steady = c.serve_some.ensures.steady_writes (c.exec_all.ensures.stays.stays_steady (c.write_all.ensures.stays_steady (c.dock.ensures.stays_steady steady)))
+
+pub returns-clause-steady_links : goal.returns-clause-steady_links
+returns-clause-steady_links g c steady enough =
+    let link = c.exec_all.ensures.linking_stays ∙ (c.write_all.ensures.linking_stays
+    ∙ same-linking (g.H.Outside.linking c.args.host.now) (g.H.Outside.linking c.dock.new.self) c.dock.ensures.unchanged c.in-Ok.ensures.ok_keeps_faults) in
+    c.serve_some.ensures.steady_links (c.exec_all.ensures.stays.stays_steady (c.write_all.ensures.stays_steady (c.dock.ensures.stays_steady steady))) (subst (HasPeers c.args.count) (sym link) enough)

@@ -1,4 +1,4 @@
-use Rattle.std.proofs.Common.{◌≡◌, Err}
+use Rattle.std.proofs.Common.{Err}
 use Rattle.std.specs.Prelude.{IsErrOf}
 use Rattle.sr_setup.specs.declared.setup.SetupFault.TheVariants.{Line, Create, Load}
 use Rattle.sr_setup.proofs.setup.set_up.Goals as goal

@@ -1,11 +1,12 @@
-use Rattle.std.proofs.Common.{◌≡◌, ◌+◌, ◌∙◌, sym, ap, subst, arith, rules}
+use Rattle.std.proofs.Common.{◌≡◌, ◌+◌, ◌-◌, ◌<◌, ◌∙◌, sym, ap, subst, arith, rules}
 use Rattle.std.specs.Prelude.{◌||◌}
 use Rattle.std.specs.Io.KnownBytes.{Appends}
 use Rattle.sr_io.specs.Causes.{Rose}
 use Rattle.sr_io.specs.Pieces.{WritesPrefix}
 use Rattle.sr_io.specs.Told.{Writing}
-use Rattle.sr_talk.specs.Rounds.{EndsBy, RoundsIf}
+use Rattle.sr_talk.specs.Rounds.{EndsBy, HasPeers, RoundsIf, ServesPeer}
 use Rattle.sr_talk.specs.Serving.{by_fault, connection_line}
+use Rattle.sr_talk.proofs.PeerLemmas.{still-none}
 use Rattle.sr_talk.proofs.SomeLemmas.{ServedSome, some-start, more-served, none-more, unwritten, all-served}
 use Rattle.sr_talk.proofs.rounds.serve_some.Goals as goal
 
@@ -59,6 +60,14 @@ loop-done-preserved g c = record {
     held_stays = c.write_all.ensures.held_stays ∙ (c.serve_one.ensures.stays.held_stays ∙ c.loop-done.invariant.stays.held_stays);
     complaints_stay = c.write_all.ensures.complaints_stay ∙ (c.serve_one.ensures.stays.complaints_stay ∙ c.loop-done.invariant.stays.complaints_stay);
   };
+  links = λ steady more enough.
+      let one : (c.loop-done.done + 1) + more ≡ c.loop-done.done + (more + 1) = omega arith in
+      let before = c.loop-done.invariant.links steady (more + 1) (subst (λ n. HasPeers n (g.H.Outside.linking c.args.host.now)) one enough) in
+      let serves = subst (λ round. ServesPeer round more (g.H.Outside.linking c.serve_one.new.dock)) c.in-Some.is
+      (c.in_ok-served.ensures.steady (c.loop-done.invariant.stays.stays_steady steady) more before.1) in (
+        c.has_failed-faulty.ensures ∙ still-none c.loop-done.faulty c.in-Some.served.how before.0 serves.0,
+        subst (λ l. HasPeers more l) (sym c.write_all.ensures.linking_stays) serves.1,
+      );
 }
 
 pub returns-clause-ending : goal.returns-clause-ending
@@ -71,3 +80,22 @@ returns-clause-ending g c db is =
     (g.S.Serves.is_of c.loop-done.server)
     (subst (λ n. ServedSome g.S.Serves.gives db (g.H.Outside.linking c.args.host.now) (g.H.Outside.linking c.loop-done.host) (g.H.Outside.writing c.args.host.now) (g.H.Outside.writing c.loop-done.host) n c.loop-done.faulty
     (g.S.Serves.is_of c.loop-done.server)) all h))
+
+pub returns-in-None-clause-steady_links : goal.returns-in-None-clause-steady_links
+returns-in-None-clause-steady_links g c steady enough =
+    let below : c.loop-done.done < c.args.count = search rules in
+    let more = c.args.count - (c.loop-done.done + 1) in
+    let all : c.args.count ≡ c.loop-done.done + (more + 1) = omega (arith, below) in
+    let before = c.loop-done.invariant.links steady (more + 1) (subst (λ n. HasPeers n (g.H.Outside.linking c.args.host.now)) all enough) in
+    absurd (subst (λ round. ServesPeer round more (g.H.Outside.linking c.serve_one.new.dock)) c.in-None.is
+    (c.in_ok-served.ensures.steady (c.loop-done.invariant.stays.stays_steady steady) more before.1))
+
+pub returns-clause-steady_links : goal.returns-clause-steady_links
+returns-clause-steady_links g c steady enough =
+    let all : c.loop-done.done ≡ c.args.count = search rules in
+    let none = c.loop-done.invariant.links steady 0 (subst (λ n. HasPeers n (g.H.Outside.linking c.args.host.now)) (sym all ∙ omega arith) enough) in
+    rw (c.ending_of.ensures, none.0) (λ is. absurd (cc))
+
+pub returns-in-Err-Refused-clause-steady_writes : goal.returns-in-Err-Refused-clause-steady_writes
+returns-in-Err-Refused-clause-steady_writes g c steady =
+    absurd (c.write_all.ensures.steady_never_fails (c.serve_one.ensures.stays.stays_steady (c.loop-done.invariant.stays.stays_steady steady)) (search rules))

@@ -34,7 +34,7 @@ returns-in-Refused-clause-talked g c s is =
     let h = c.loop-frames.invariant.so_far s is in
     let next = subst (λ next. Nexts next (g.L.Outside.linking c.loop-frames.link) (g.L.Outside.linking c.next_frame.new.link) c.loop-frames.feed c.next_frame.new.feed) c.in-Frame.is c.in_ok-next_frame.ensures.next in
     at-refused g.S.Serves.gives s (g.L.Outside.linking c.args.link.now) (g.L.Outside.linking c.loop-frames.link) (g.L.Outside.linking c.next_frame.new.link) (g.L.Outside.linking c.answer_frame.new.link)
-    c.loop-frames.feed c.next_frame.new.feed c.in-Frame.message c.loop-frames.frames (g.S.Serves.is_of c.loop-frames.server) (g.S.Serves.is_of c.answer_frame.new.server) h (search rules) next.0
+    c.loop-frames.feed c.next_frame.new.feed c.in-Frame.message c.loop-frames.frames (g.S.Serves.is_of c.loop-frames.server) (g.S.Serves.is_of c.answer_frame.new.server) h (search rules) next.0 next.1
     (subst (λ turn. Turns g.S.Serves.gives turn h.after c.in-Frame.message (g.L.Outside.linking c.next_frame.new.link) (g.L.Outside.linking c.answer_frame.new.link) (g.S.Serves.is_of c.answer_frame.new.server))
     c.in-Refused.is (c.in_ok-answer_frame.ensures.turn h.after h.stands))
 

@@ -3,10 +3,9 @@ use Rattle.std.proofs.Common.{◌≡◌, ℕ, ◌⊎◌, List, Option, Some, Non
 use Rattle.sr_cell.specs.declared.fault.Fault.{Fault}
 use Rattle.sr_dial.specs.declared.ending.Ending.{Ending}
 use Rattle.sr_dial.specs.declared.ending.Ending.TheVariants.{Faulty, Unwritten}
-use Rattle.sr_io.specs.Causes.{Rose}
 use Rattle.sr_io.specs.Told.{Linking, Reading, Writing}
 use Rattle.sr_lines.specs.Script.{LinePlace}
-use Rattle.sr_setup.specs.ClientFiles.{client_outside, ClientRefuses, LeavesUnbuilt}
+use Rattle.sr_setup.specs.ClientFiles.{client_outside, ClientRefuses}
 use Rattle.sr_words.specs.declared.command.ClientWords.{ClientWords}
 use Rattle.sr_cli.specs.Files.{SomeTooLong}
 use Rattle.sr_cli.specs.Client.{AreFiles, AreHeld, AreLong, DidRun, Dialled, Ends, FitsFiles, IsEnd, NotRead, StopsOver, ending_of, files_of}
@@ -16,10 +15,6 @@ use Rattle.sr_cli.specs.declared.report.Refusal.{Refusal}
 use Rattle.sr_cli.specs.declared.report.Refusal.TheVariants as refusal
 use Rattle.sr_cli.proofs.ClientLemmas.{ends_of}
 use Rattle.sr_cli.proofs.SameFiles.{same_bytes, too_long_held}
-
--- a line that was not written is counted
-pub unwritten_rose : (held : List ℕ → Option (List ℕ)) (words : ClientWords) (old new : Linking) (before after : Writing) → Dialled held words Unwritten old new before after → Rose before.faults after.faults
-unwritten_rose held words old new before after d = d.ends.ran.ran.ran.writes.1
 
 -- ---- a run that ended
 
@@ -32,7 +27,6 @@ read_first held words from to old new before after ending (stop.Refused refusal.
 read_first held words from to old new before after ending (stop.Refused (refusal.Line line place)) is never = never
 read_first held words from to old new before after ending (stop.Refused (refusal.Setup line why)) is never = never
 read_first held words from to old new before after ending (stop.Refused (refusal.Load table why)) is never = never
-read_first held words from to old new before after ending (stop.Refused (refusal.Unbuilt line)) is never = never
 read_first held words from to old new before after ending (stop.Spoiled fault) is never = never
 read_first held words from to old new before after ending (stop.Bad why) is never = never
 read_first held words from to old new before after ending stop.Limit is never = never
@@ -82,9 +76,6 @@ Lies id schema script = (at : LinePlace) × (client_outside id schema script ≡
 abbrev pub RefusesSome : ℕ → List ℕ → List ℕ → Type 0
 RefusesSome id schema script = (line : ℕ) × (fault : Fault) × ClientRefuses id schema script line fault
 
-abbrev pub LeavesSome : ℕ → List ℕ → List ℕ → Type 0
-LeavesSome id schema script = (line : ℕ) × LeavesUnbuilt id schema script line
-
 -- nothing is refused
 pub record Accepted (id : ℕ) (schema script : List ℕ) : Type 0 where
   pub inside : client_outside id schema script ≡ None
@@ -101,21 +92,19 @@ pub record Causes (held : List ℕ → Option (List ℕ)) (left : Option (List �
   pub too_long : status ≡ 10 → SomeTooLong held left (files_of words)
   pub line : status ≡ 6 → Named held words (Lies words.id)
   pub refused : status ≡ 7 → Named held words (RefusesSome words.id)
-  pub unbuilt : status ≡ 12 → Named held words (LeavesSome words.id)
   pub ran : DidRun status → Named held words (Accepted words.id)
 
-long_status : (status : ℕ) → IsEnd status → ¬ (status ≡ 3) → ¬ (status ≡ 6) → ¬ (status ≡ 7) → ¬ (status ≡ 12) → ¬ DidRun status → (status ≡ 9) ⊎ (status ≡ 10)
-long_status status (inl is) no_3 no_6 no_7 no_12 never = absurd (never (inl is))
-long_status status (inr (inl is)) no_3 no_6 no_7 no_12 never = absurd (no_3 is)
-long_status status (inr (inr (inl is))) no_3 no_6 no_7 no_12 never = absurd (never (inr (inl is)))
-long_status status (inr (inr (inr (inl is)))) no_3 no_6 no_7 no_12 never = absurd (never (inr (inr (inl is))))
-long_status status (inr (inr (inr (inr (inl is))))) no_3 no_6 no_7 no_12 never = absurd (no_6 is)
-long_status status (inr (inr (inr (inr (inr (inl is)))))) no_3 no_6 no_7 no_12 never = absurd (no_7 is)
-long_status status (inr (inr (inr (inr (inr (inr (inl is))))))) no_3 no_6 no_7 no_12 never = absurd (never (inr (inr (inr (inl is)))))
-long_status status (inr (inr (inr (inr (inr (inr (inr (inl is)))))))) no_3 no_6 no_7 no_12 never = inl is
-long_status status (inr (inr (inr (inr (inr (inr (inr (inr (inl is))))))))) no_3 no_6 no_7 no_12 never = inr is
-long_status status (inr (inr (inr (inr (inr (inr (inr (inr (inr (inl is)))))))))) no_3 no_6 no_7 no_12 never = absurd (never (inr (inr (inr (inr is)))))
-long_status status (inr (inr (inr (inr (inr (inr (inr (inr (inr (inr is)))))))))) no_3 no_6 no_7 no_12 never = absurd (no_12 is)
+long_status : (status : ℕ) → IsEnd status → ¬ (status ≡ 3) → ¬ (status ≡ 6) → ¬ (status ≡ 7) → ¬ DidRun status → (status ≡ 9) ⊎ (status ≡ 10)
+long_status status (inl is) no_3 no_6 no_7 never = absurd (never (inl is))
+long_status status (inr (inl is)) no_3 no_6 no_7 never = absurd (no_3 is)
+long_status status (inr (inr (inl is))) no_3 no_6 no_7 never = absurd (never (inr (inl is)))
+long_status status (inr (inr (inr (inl is)))) no_3 no_6 no_7 never = absurd (never (inr (inr (inl is))))
+long_status status (inr (inr (inr (inr (inl is))))) no_3 no_6 no_7 never = absurd (no_6 is)
+long_status status (inr (inr (inr (inr (inr (inl is)))))) no_3 no_6 no_7 never = absurd (no_7 is)
+long_status status (inr (inr (inr (inr (inr (inr (inl is))))))) no_3 no_6 no_7 never = absurd (never (inr (inr (inr (inl is)))))
+long_status status (inr (inr (inr (inr (inr (inr (inr (inl is)))))))) no_3 no_6 no_7 never = inl is
+long_status status (inr (inr (inr (inr (inr (inr (inr (inr (inl is))))))))) no_3 no_6 no_7 never = inr is
+long_status status (inr (inr (inr (inr (inr (inr (inr (inr (inr is))))))))) no_3 no_6 no_7 never = absurd (never (inr (inr (inr (inr is)))))
 
 pub fits_held : (held : List ℕ → Option (List ℕ)) (left : Option (List ℕ)) (words : ClientWords) (schema script : List ℕ) (status : ℕ) → AreHeld held words schema script → Causes held left words status → FitsFiles words.id schema script status
 fits_held held left words schema script status are c =
@@ -125,12 +114,10 @@ fits_held held left words schema script status are c =
       long = λ over. long_status status c.only c.no_read_fault
           (λ is. named_short (Lies words.id) held words schema script are (c.line is) over)
           (λ is. named_short (RefusesSome words.id) held words schema script are (c.refused is) over)
-          (λ is. named_short (LeavesSome words.id) held words schema script are (c.unbuilt is) over)
           (λ did. named_short (Accepted words.id) held words schema script are (c.ran did) over);
       too_long = λ is. long_held held left words schema script are (c.too_long is);
       line = λ is. named_held (Lies words.id) held words schema script are (c.line is);
       refused = λ is. named_held (RefusesSome words.id) held words schema script are (c.refused is);
-      unbuilt = λ is. named_held (LeavesSome words.id) held words schema script are (c.unbuilt is);
       inside = λ did. (accepts did).inside;
       accepts = λ did. (accepts did).accepts;
     }
@@ -139,7 +126,7 @@ fits_held held left words schema script status are c =
 
 -- the statuses of a report
 abbrev pub Reports : ℕ → Type 0
-Reports status = (status ≡ 3) ⊎ (status ≡ 4) ⊎ (status ≡ 5) ⊎ (status ≡ 6) ⊎ (status ≡ 7) ⊎ (status ≡ 9) ⊎ (status ≡ 10) ⊎ (status ≡ 12)
+Reports status = (status ≡ 3) ⊎ (status ≡ 4) ⊎ (status ≡ 5) ⊎ (status ≡ 6) ⊎ (status ≡ 7) ⊎ (status ≡ 9) ⊎ (status ≡ 10)
 
 -- what a report says, by its status
 module _ (held : List ℕ → Option (List ℕ)) (words : ClientWords) (from to : Reading) (old new : Linking) (before after : Writing) (refused : Refusal) (status : ℕ) where
@@ -162,10 +149,6 @@ module _ (held : List ℕ → Option (List ℕ)) (words : ClientWords) (from to 
   load_of table fault (inl not) = not
   load_of table fault (inr o) = o.stops
 
-  unbuilt_of : (line : ℕ) → Why (refusal.Unbuilt line) → Named held words (LeavesSome words.id)
-  unbuilt_of line (inl not) = absurd not
-  unbuilt_of line (inr o) = record { schema = o.schema; script = o.script; files = o.files; holds = (line, o.stops.0) }
-
   write_of : Why refusal.Write → Named held words (Accepted words.id)
   write_of (inl not) = absurd not
   write_of (inr o) = record { schema = o.schema; script = o.script; files = o.files; holds = accepted o.schema o.script words Unwritten old new before after o.stops }
@@ -186,8 +169,7 @@ module _ (held : List ℕ → Option (List ℕ)) (words : ClientWords) (from to 
   is_end (inr (inr (inr (inl is)))) = inr (inr (inr (inr (inl is))))
   is_end (inr (inr (inr (inr (inl is))))) = inr (inr (inr (inr (inr (inl is)))))
   is_end (inr (inr (inr (inr (inr (inl is)))))) = inr (inr (inr (inr (inr (inr (inr (inl is)))))))
-  is_end (inr (inr (inr (inr (inr (inr (inl is))))))) = inr (inr (inr (inr (inr (inr (inr (inr (inl is))))))))
-  is_end (inr (inr (inr (inr (inr (inr (inr is))))))) = inr (inr (inr (inr (inr (inr (inr (inr (inr (inr is)))))))))
+  is_end (inr (inr (inr (inr (inr (inr is)))))) = inr (inr (inr (inr (inr (inr (inr (inr (inl is))))))))
 
   did_run : Reports status → Why refused → (status ≡ 4 → refused ≡ refusal.Write) → (status ≡ 5 → refused ≡ refusal.Link) → DidRun status → Named held words (Accepted words.id)
   did_run only why write link (inl is) = absurd (omega (arith, only, is))
@@ -196,17 +178,15 @@ module _ (held : List ℕ → Option (List ℕ)) (words : ClientWords) (from to 
   did_run only why write link (inr (inr (inr (inl is)))) = absurd (omega (arith, only, is))
   did_run only why write link (inr (inr (inr (inr is)))) = absurd (omega (arith, only, is))
 
-  pub causes_refused : (P : ℕ → ℕ → Type 0) (S : ℕ → Fault → Type 0) (L : List ℕ → Fault → Type 0) (U : ℕ → Type 0) → Why refused → Reports status → ¬ (status ≡ 3)
+  pub causes_refused : (P : ℕ → ℕ → Type 0) (S : ℕ → Fault → Type 0) (L : List ℕ → Fault → Type 0) → Why refused → Reports status → ¬ (status ≡ 3)
       → (status ≡ 4 → refused ≡ refusal.Write) → (status ≡ 5 → refused ≡ refusal.Link) → (status ≡ 10 → refused ≡ refusal.TooLong)
       → (status ≡ 6 → (line : ℕ) × (place : ℕ) × (refused ≡ refusal.Line line place) × P line place)
-      → (status ≡ 7 → ((line : ℕ) × (fault : Fault) × (refused ≡ refusal.Setup line fault) × S line fault) ⊎ ((table : List ℕ) × (fault : Fault) × (refused ≡ refusal.Load table fault) × L table fault))
-      → (status ≡ 12 → (line : ℕ) × (refused ≡ refusal.Unbuilt line) × U line) → Causes held to.left words status
-  causes_refused P S L U why only read write link too_long line refused unbuilt = record {
+      → (status ≡ 7 → ((line : ℕ) × (fault : Fault) × (refused ≡ refusal.Setup line fault) × S line fault) ⊎ ((table : List ℕ) × (fault : Fault) × (refused ≡ refusal.Load table fault) × L table fault)) → Causes held to.left words status
+  causes_refused P S L why only read write link too_long line refused = record {
     only = is_end only;
     no_read_fault = read;
     too_long = λ is. too_long_of (subst Why (too_long is) why);
     line = λ is. (let n = line is in line_of n.0 n.1 (subst Why n.2 why));
     refused = λ is. refused_of S L why (refused is);
-    unbuilt = λ is. (let n = unbuilt is in unbuilt_of n.0 (subst Why n.1 why));
     ran = λ did. did_run only why write link did;
   }

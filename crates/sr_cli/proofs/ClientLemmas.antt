@@ -1,65 +1,66 @@
 -- How a run of `client` comes to its end.
 use Rattle.std.proofs.Common.{◌≡◌, ℕ, true, List, [], ◌∷◌, refl, sym, subst}
-use Rattle.std.specs.Prelude.{Option, Some, None}
+use Rattle.std.specs.Prelude.{Option, Some}
 use Rattle.std.specs.Cmp.{first_so, second_so}
 use Rattle.std.specs.List.{list_all, AllZip}
 use Rattle.sr_calls.specs.Runs.{RanNew}
 use Rattle.sr_cell.specs.declared.table.Table.{Table}
-use Rattle.sr_dial.specs.Known.{IsDeed, IsDeedLine, AreDeeds}
+use Rattle.sr_dial.specs.Known.{IsTask, IsTaskLine, AreTasks}
 use Rattle.sr_dial.specs.declared.ending.Ending.{Ending}
 use Rattle.sr_dial.specs.declared.ending.Ending.TheVariants.{Faulty, Unwritten, Spoiled, Bad as BadMessage, Limit as TooMany}
 use Rattle.sr_io.specs.Told.{Linking, Writing}
 use Rattle.sr_lines.specs.Events.{ScriptEvent}
-use Rattle.sr_links.specs.Steps.{Deed, Queried, Wrote, Evicted, WasCut, Resumed}
+use Rattle.sr_links.specs.Steps.{Queried, Wrote, Evicted, WasCut, Resumed}
 use Rattle.sr_reader.specs.declared.script.Event.{Event}
 use Rattle.sr_reader.specs.declared.script.Event.TheVariants as read
 use Rattle.sr_reader.specs.declared.script.EventLine.{EventLine}
 use Rattle.sr_reader.specs.Read.{IsEvent, IsEventLine}
-use Rattle.sr_setup.specs.ClientFiles.{client_outside, ClientRefuses, LeavesUnbuilt, IsAsked, is_own}
+use Rattle.sr_setup.specs.ClientFiles.{client_outside, ClientRefuses, IsAsked, is_own}
 use Rattle.sr_setup.specs.declared.client_setup.ClientFault.{ClientFault}
 use Rattle.sr_setup.specs.declared.client_setup.ClientFault.TheVariants as fault
 use Rattle.sr_cell.specs.declared.fault.Fault.{Fault}
+use Rattle.sr_talk.specs.Calls.{Task, Do, Explain}
 use Rattle.sr_words.specs.declared.command.ClientWords.{ClientWords}
-use Rattle.sr_cli.specs.Client.{Ends, Untouched, Refuses, Stops, refusal_of, ending_of}
+use Rattle.sr_cli.specs.Client.{Ends, Stops, ending_of}
 use Rattle.sr_cli.specs.declared.client.Stop.{Stop}
 use Rattle.sr_cli.specs.declared.client.Stop.TheVariants as stop
 use Rattle.sr_cli.specs.declared.report.Refusal.TheVariants as refusal
 
 -- ---- what the lines ask
 
-deed_for : (id : ℕ) (tables : List Table) (event : Event) (meaning : ScriptEvent) → IsEvent tables event meaning → is_own id event ≡ true → (deed : Deed) × IsDeed tables event deed
-deed_for id tables (read.Query n query) meaning is own = (Queried is.0, (is.0, is.1, refl))
-deed_for id tables (read.Write n sql) meaning is own = (Wrote sql, refl)
-deed_for id tables (read.Evict n place) meaning is own = (Evicted place, refl)
-deed_for id tables (read.Cut n) meaning is own = (WasCut, refl)
-deed_for id tables (read.Resume n) meaning is own = (Resumed, refl)
-deed_for id tables (read.Explain n query) meaning is own = absurd cc
-deed_for id tables (read.Exec statement) meaning is own = absurd cc
-deed_for id tables (read.Push n) meaning is own = absurd cc
-deed_for id tables (read.ToServer n) meaning is own = absurd cc
-deed_for id tables (read.ToClient n) meaning is own = absurd cc
-deed_for id tables (read.Settle n) meaning is own = absurd cc
+task_for : (id : ℕ) (tables : List Table) (event : Event) (meaning : ScriptEvent) → IsEvent tables event meaning → is_own id event ≡ true → (task : Task) × IsTask tables event task
+task_for id tables (read.Query n query) meaning is own = (Do (Queried is.0), (is.0, is.1, refl))
+task_for id tables (read.Write n sql) meaning is own = (Do (Wrote sql), refl)
+task_for id tables (read.Evict n place) meaning is own = (Do (Evicted place), refl)
+task_for id tables (read.Cut n) meaning is own = (Do WasCut, refl)
+task_for id tables (read.Resume n) meaning is own = (Do Resumed, refl)
+task_for id tables (read.Explain n query) meaning is own = (Explain is.0, is.1)
+task_for id tables (read.Exec statement) meaning is own = absurd cc
+task_for id tables (read.Push n) meaning is own = absurd cc
+task_for id tables (read.ToServer n) meaning is own = absurd cc
+task_for id tables (read.ToClient n) meaning is own = absurd cc
+task_for id tables (read.Settle n) meaning is own = absurd cc
 
 -- each event of the client's own asks something of it
-pub deeds_of : (id : ℕ) (tables : List Table) (lines : List EventLine) (events : List (ℕ × ScriptEvent)) → AllZip (IsEventLine tables) lines events → list_all (λ line. is_own id line.event) lines ≡ true
-    → (deeds : List (ℕ × Deed)) × AreDeeds tables lines deeds
-deeds_of id tables [] [] are own = ([], tt)
-deeds_of id tables [] (e ∷ events) are own = absurd are
-deeds_of id tables (l ∷ lines) [] are own = absurd are
-deeds_of id tables (l ∷ lines) (e ∷ events) are own =
+pub tasks_of : (id : ℕ) (tables : List Table) (lines : List EventLine) (events : List (ℕ × ScriptEvent)) → AllZip (IsEventLine tables) lines events → list_all (λ line. is_own id line.event) lines ≡ true
+    → (tasks : List (ℕ × Task)) × AreTasks tables lines tasks
+tasks_of id tables [] [] are own = ([], tt)
+tasks_of id tables [] (e ∷ events) are own = absurd are
+tasks_of id tables (l ∷ lines) [] are own = absurd are
+tasks_of id tables (l ∷ lines) (e ∷ events) are own =
     let rest = list_all (λ line. is_own id line.event) lines in
-    let first = deed_for id tables l.event are.0.0 are.0.1 (first_so (is_own id l.event) rest own) in
-    let more = deeds_of id tables lines events are.1 (second_so (is_own id l.event) rest own) in
+    let first = task_for id tables l.event are.0.0 are.0.1 (first_so (is_own id l.event) rest own) in
+    let more = tasks_of id tables lines events are.1 (second_so (is_own id l.event) rest own) in
     ((l.number, first.0) ∷ more.0, ((first.0, first.1, refl), more.1))
 
 -- ---- why it stops
 
 -- a client that was set up ran, and ended so
 pub ends_by : (schema script : List ℕ) (words : ClientWords) (tables : List Table) (lines : List EventLine) (ending : Ending) (old new : Linking) (before after : Writing) → IsAsked words.id schema script tables lines
-    → ((deeds : List (ℕ × Deed)) → AreDeeds tables lines deeds → RanNew words.id tables words.limits deeds ending old new before after) → Ends schema script words ending old new before after
+    → ((tasks : List (ℕ × Task)) → AreTasks tables lines tasks → RanNew words.id tables words.limits tasks ending old new before after) → Ends schema script words ending old new before after
 ends_by schema script words tables lines ending old new before after asked ran =
-    let deeds = deeds_of words.id tables lines asked.asked.events asked.asked.are asked.asked.own in
-    record { tables = tables; lines = lines; deeds = deeds.0; asked = asked; are = deeds.1; ran = ran deeds.0 deeds.1 }
+    let tasks = tasks_of words.id tables lines asked.asked.events asked.asked.are asked.asked.own in
+    record { tables = tables; lines = lines; tasks = tasks.0; asked = asked; are = tasks.1; ran = ran tasks.0 tasks.1 }
 
 ends_as : (schema script : List ℕ) (words : ClientWords) (old new : Linking) (before after : Writing) (ending other : Ending) → (let some : Option Ending = Some other in some) ≡ Some ending → Ends schema script words ending old new before after
     → Ends schema script words other old new before after
@@ -77,7 +78,6 @@ stops_by schema script words old new before after ending (stop.Refused refusal.T
 stops_by schema script words old new before after ending (stop.Refused (refusal.Line line place)) is ends = absurd cc
 stops_by schema script words old new before after ending (stop.Refused (refusal.Setup line why)) is ends = absurd cc
 stops_by schema script words old new before after ending (stop.Refused (refusal.Load table why)) is ends = absurd cc
-stops_by schema script words old new before after ending (stop.Refused (refusal.Unbuilt line)) is ends = absurd cc
 stops_by schema script words old new before after ending (stop.Spoiled fault) is ends = ends_as schema script words old new before after ending (Spoiled fault) is ends
 stops_by schema script words old new before after ending (stop.Bad why) is ends = ends_as schema script words old new before after ending (BadMessage why) is ends
 stops_by schema script words old new before after ending stop.Limit is ends = ends_as schema script words old new before after ending TooMany is ends
@@ -93,17 +93,6 @@ ends_of schema script words old new before after ending (stop.Refused refusal.To
 ends_of schema script words old new before after ending (stop.Refused (refusal.Line line place)) is stops = absurd cc
 ends_of schema script words old new before after ending (stop.Refused (refusal.Setup line why)) is stops = absurd cc
 ends_of schema script words old new before after ending (stop.Refused (refusal.Load table why)) is stops = absurd stops
-ends_of schema script words old new before after ending (stop.Refused (refusal.Unbuilt line)) is stops = absurd cc
 ends_of schema script words old new before after ending (stop.Spoiled fault) is stops = ends_as schema script words old new before after (Spoiled fault) ending (sym is) stops
 ends_of schema script words old new before after ending (stop.Bad why) is stops = ends_as schema script words old new before after (BadMessage why) ending (sym is) stops
 ends_of schema script words old new before after ending stop.Limit is stops = ends_as schema script words old new before after TooMany ending (sym is) stops
-
--- what is refused of files
-pub refuses_by : (schema script : List ℕ) (words : ClientWords) (old new : Linking) (before after : Writing) (why : ClientFault) → Untouched old new before after
-    → ((line place : ℕ) → why ≡ fault.Line line place → client_outside words.id schema script ≡ Some (record { line = line; place = place }))
-    → ((line : ℕ) (f : Fault) → why ≡ fault.Create line f → ClientRefuses words.id schema script line f)
-    → ((line : ℕ) → why ≡ fault.Unbuilt line → LeavesUnbuilt words.id schema script line)
-    → Refuses schema script words old new before after (refusal_of why)
-refuses_by schema script words old new before after (fault.Line line place) same outside create unbuilt = (outside line place refl, same)
-refuses_by schema script words old new before after (fault.Create line f) same outside create unbuilt = (create line f refl, same)
-refuses_by schema script words old new before after (fault.Unbuilt line) same outside create unbuilt = (unbuilt line refl, same)

@@ -82,16 +82,15 @@ refused_named held words (inr (table, fault, r)) = record { script = r.script; l
 abbrev pub Fails : ℕ → Type 0
 Fails status = (status ≡ 3) ⊎ (status ≡ 4) ⊎ (status ≡ 6) ⊎ (status ≡ 7) ⊎ (status ≡ 9) ⊎ (status ≡ 10)
 
--- the link does nothing, and each line is built
-pub known_status : (status : ℕ) → (status ≡ 3) ⊎ (status ≡ 4) ⊎ (status ≡ 5) ⊎ (status ≡ 6) ⊎ (status ≡ 7) ⊎ (status ≡ 9) ⊎ (status ≡ 10) ⊎ (status ≡ 12) → ¬ (status ≡ 5) → ¬ (status ≡ 12) → Fails status
-known_status status (inl is) no_5 no_12 = inl is
-known_status status (inr (inl is)) no_5 no_12 = inr (inl is)
-known_status status (inr (inr (inl is))) no_5 no_12 = absurd (no_5 is)
-known_status status (inr (inr (inr (inl is)))) no_5 no_12 = inr (inr (inl is))
-known_status status (inr (inr (inr (inr (inl is))))) no_5 no_12 = inr (inr (inr (inl is)))
-known_status status (inr (inr (inr (inr (inr (inl is)))))) no_5 no_12 = inr (inr (inr (inr (inl is))))
-known_status status (inr (inr (inr (inr (inr (inr (inl is))))))) no_5 no_12 = inr (inr (inr (inr (inr is))))
-known_status status (inr (inr (inr (inr (inr (inr (inr is))))))) no_5 no_12 = absurd (no_12 is)
+-- the link does nothing
+pub known_status : (status : ℕ) → (status ≡ 3) ⊎ (status ≡ 4) ⊎ (status ≡ 5) ⊎ (status ≡ 6) ⊎ (status ≡ 7) ⊎ (status ≡ 9) ⊎ (status ≡ 10) → ¬ (status ≡ 5) → Fails status
+known_status status (inl is) no_5 = inl is
+known_status status (inr (inl is)) no_5 = inr (inl is)
+known_status status (inr (inr (inl is))) no_5 = absurd (no_5 is)
+known_status status (inr (inr (inr (inl is)))) no_5 = inr (inr (inl is))
+known_status status (inr (inr (inr (inr (inl is))))) no_5 = inr (inr (inr (inl is)))
+known_status status (inr (inr (inr (inr (inr (inl is)))))) no_5 = inr (inr (inr (inr (inl is))))
+known_status status (inr (inr (inr (inr (inr (inr is)))))) no_5 = inr (inr (inr (inr (inr is))))
 
 pub long_status : (status : ℕ) → Fails status → ¬ (status ≡ 3) → ¬ (status ≡ 4) → ¬ (status ≡ 6) → ¬ (status ≡ 7) → (status ≡ 9) ⊎ (status ≡ 10)
 long_status status (inl is) no_3 no_4 no_6 no_7 = absurd (no_3 is)

@@ -4,7 +4,7 @@ use Rattle.std.specs.Prelude.{IsErrOf, Result}
 use Rattle.sr_lines.specs.Script.{LinePlace}
 use Rattle.sr_world.specs.Replay.{outside}
 use Rattle.sr_cli.specs.declared.report.Refusal.{Refusal}
-use Rattle.sr_cli.specs.declared.report.Refusal.TheVariants.{Read, Write, Link, Memory, TooLong, Line, Setup, Load, Unbuilt}
+use Rattle.sr_cli.specs.declared.report.Refusal.TheVariants.{Read, Write, Link, Memory, TooLong, Line, Setup, Load}
 
 -- a refusal that may stand although a line is outside the grammar
 abbrev pub may_lie : Refusal → Bool
@@ -16,7 +16,6 @@ may_lie Link = false
 may_lie TooLong = false
 may_lie (Setup line fault) = false
 may_lie (Load table fault) = false
-may_lie (Unbuilt line) = false
 
 never-lies : {T : Type 0} (r : Result T Refusal) (refusal : Refusal) (at : LinePlace) → IsErrOf r refusal → may_lie refusal ≡ false
     → IsErrOf r (Line at.line at.place) ⊎ IsErrOf r Memory → ⊥

@@ -1,11 +1,12 @@
 -- What is said of a file that is refused.
 use Rattle.std.proofs.Common.{◌≡◌, ◌≢◌, ℕ, List, ◌++◌, refl, sym, ap, subst, append_assoc, ◌∙◌}
 use Rattle.std.specs.Prelude.{codes, decimal}
+use Rattle.sr_generate.specs.Script.{line_feed}
 use Rattle.sr_cell.specs.declared.fault.Fault.{Fault}
 use Rattle.sr_cell.specs.declared.fault.Why.{Why}
 use Rattle.sr_cell.specs.declared.fault.Why.TheVariants.{LongText, BadToken, Grammar, Deep, UnknownTable, UnknownColumn, Ambiguous, WrongType, OutOfDomain, NotKeyJoin, Repeated, WrongCount, Mixed, TooWide, TooManyTables, NotAWrite, NotAQuery, DuplicateKey, DomainCell, LongCell, KeyChange, TableFull, TooManyChanges, DuplicateName, TooManyColumns, NoKey, BadDomain, BadHeader, BadRecord, BadNumber, BadUtf8}
 use Rattle.sr_script.specs.TraceText.{why_text}
-use Rattle.sr_cli.specs.Errors.{line_feed, load_text}
+use Rattle.sr_cli.specs.Errors.{load_text}
 
 from_left : (a b c d : List ℕ) → a ++ b ++ c ++ d ≡ a ++ (b ++ (c ++ d))
 from_left a b c d = append_assoc (a ++ b) c d ∙ append_assoc a b (c ++ d)

@@ -6,7 +6,7 @@ use Rattle.std.proofs.lemmas.Grind.{common_steps}
 use Rattle.std.proofs.lemmas.Bool.Decides.{nat_tests}
 use Rattle.std.specs.Io.KnownBytes.{Consumes}
 use Rattle.sr_load.specs.declared.fill.Load.{Load}
-use Rattle.sr_cli.specs.Files.{IsWhatIsHeld, IsLoad, IsTooLong, SomeTooLong, IsHeldLoad, IsLong, SomeLong, names_of}
+use Rattle.sr_cli.specs.Files.{IsWhatIsHeld, IsLoad, IsTooLong, SomeTooLong, IsHeldLoad, SomeLong, names_of}
 use Rattle.sr_words.specs.declared.command.LoadWord.{LoadWord}
 
 pub same_bytes : (held : Option (List ℕ)) (bytes read : List ℕ) → held ≡ Some bytes → IsWhatIsHeld held read → read ≡ bytes

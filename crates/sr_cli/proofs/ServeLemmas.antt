@@ -1,17 +1,18 @@
 -- What is read for a server, and what a status says of the files that are held.
-use Rattle.std.proofs.Common.{◌≡◌, ℕ, ◌⊎◌, List, [], ◌∷◌, ◌++◌, length, Option, Some, None, Ok, Err, inl, inr, arith, sym, ap, subst, ◌∙◌}
+use Rattle.std.proofs.Common.{◌≡◌, ℕ, ◌⊎◌, List, [], ◌∷◌, ◌++◌, length, Option, Some, None, inl, inr, arith, sym, ap, subst, ◌∙◌}
 use Rattle.sr_cell.specs.declared.fault.Fault.{Fault}
+use Rattle.sr_cell.specs.Clients.{most_clients}
 use Rattle.sr_lines.specs.Lines.{lines_of}
 use Rattle.sr_lines.specs.Script.{LinePlace}
 use Rattle.sr_io.specs.Told.{Linking, Writing}
 use Rattle.sr_load.specs.declared.fill.Load.{Load}
 use Rattle.sr_reader.proofs.Created.{creates-once}
-use Rattle.sr_setup.specs.Files.{clients, outside, RefusesCreate, RefusesLoad, SetsUp}
+use Rattle.sr_setup.specs.Files.{outside, RefusesCreate, RefusesLoad, SetsUp}
 use Rattle.sr_tables.specs.Stored.{Stored}
 use Rattle.sr_talk.specs.declared.rounds.Ending.{Ending}
 use Rattle.sr_words.specs.declared.command.ServeWords.{ServeWords}
-use Rattle.sr_cli.specs.Files.{IsWhatIsHeld, SomeTooLong, IsLong, names_of}
-use Rattle.sr_cli.specs.Serve.{AreFiles, AreHeld, AreLong, DidRun, Ends, FitsFiles, IsExec, IsHeldExec, IsOutside, IsRefusedCreate, IsRefusedLoad, Served, exec_files, files_of}
+use Rattle.sr_cli.specs.Files.{SomeTooLong, IsLong, names_of}
+use Rattle.sr_cli.specs.Serve.{AreFiles, AreHeld, AreLong, DidRun, FitsFiles, IsExec, IsHeldExec, IsOutside, IsRefusedCreate, IsRefusedLoad, Served, exec_files, files_of}
 use Rattle.sr_cli.proofs.SameFiles.{same_bytes, same_loads, some_short, too_long_held, some_long_held}
 use Rattle.sr_cli.proofs.OneFilling.{filled_once}
 
@@ -39,12 +40,6 @@ not_long : (held : List ℕ → Option (List ℕ)) (words : ServeWords) (schema 
 not_long held words schema exec loads files (inl long) = let w = files.schema_read.within_limit in omega (arith, long, w)
 not_long held words schema exec loads files (inr (inl long)) = exec_short held words.exec exec files.exec_read long
 not_long held words schema exec loads files (inr (inr long)) = some_short held words.loads loads files.loads_read long
-
--- one of more files is too long, if one in front is
-pub front_long : (held : List ℕ → Option (List ℕ)) (left : Option (List ℕ)) (front back : List (List ℕ)) → SomeTooLong held left front → SomeTooLong held left (front ++ back)
-front_long held left [] back long = absurd long
-front_long held left (name ∷ front) back (inl long) = inl long
-front_long held left (name ∷ front) back (inr (read, what, long)) = inr (read, what, front_long held left front back long)
 
 -- or one behind the exec file
 pub behind_long : (held : List ℕ → Option (List ℕ)) (left : Option (List ℕ)) (name : Option (List ℕ)) (read : List ℕ) (back : List (List ℕ)) → IsExec held name read → SomeTooLong held left back → SomeTooLong held left (exec_files name ++ back)
@@ -123,7 +118,7 @@ accepted schema exec loads tables statements up = record {
   accepts = λ line fault r. up.accepts line fault r.first;
   accepts_loads = λ table fault r.
       filled_once r.tables tables.schema loads tables.rows (record { table = table; fault = fault })
-      (creates-once clients (lines_of schema) r.tables tables.schema r.created up.created) up.loaded r.first;
+      (creates-once most_clients (lines_of schema) r.tables tables.schema r.created up.created) up.loaded r.first;
 }
 
 -- a server ran, whatever came of it

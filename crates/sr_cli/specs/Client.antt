@@ -3,22 +3,22 @@ use Rattle.std.specs.Prelude.{◌≡◌, ℕ, ◌⊎◌, List, [], ◌∷◌, Op
 use Rattle.sr_calls.specs.Runs.{RanNew}
 use Rattle.sr_cell.specs.declared.fault.Fault.{Fault}
 use Rattle.sr_cell.specs.declared.table.Table.{Table}
-use Rattle.sr_dial.specs.Known.{AreDeeds}
+use Rattle.sr_dial.specs.Known.{AreTasks}
 use Rattle.sr_dial.specs.declared.ending.Ending.{Ending}
 use Rattle.sr_dial.specs.declared.ending.Ending.TheVariants.{Whole, Faulty, Unwritten, Spoiled, Bad as BadMessage, Limit as TooMany}
 use Rattle.sr_io.specs.Causes.{Rose}
 use Rattle.sr_io.specs.Told.{Reading, Writing, Linking, complained}
 use Rattle.sr_lines.specs.Script.{LinePlace}
-use Rattle.sr_links.specs.Steps.{Deed}
 use Rattle.sr_reader.specs.declared.script.EventLine.{EventLine}
-use Rattle.sr_setup.specs.ClientFiles.{client_outside, ClientRefuses, LeavesUnbuilt, IsAsked}
+use Rattle.sr_setup.specs.ClientFiles.{client_outside, ClientRefuses, IsAsked}
 use Rattle.sr_setup.specs.declared.client_setup.ClientFault.{ClientFault}
 use Rattle.sr_setup.specs.declared.client_setup.ClientFault.TheVariants as fault
 use Rattle.sr_wire.specs.declared.bad_frame.BadFrame.{BadFrame}
 use Rattle.sr_wire.specs.declared.wire_fault.WireFault.{WireFault}
+use Rattle.sr_talk.specs.Calls.{Task}
 use Rattle.sr_words.specs.declared.command.ClientWords.{ClientWords}
 use Rattle.sr_cli.specs.Files.{IsWhatIsHeld, SomeTooLong, IsLong}
-use Rattle.sr_cli.specs.Errors.{line_text, setup_text, unbuilt_text, spoiled_text, bad_text}
+use Rattle.sr_cli.specs.Errors.{line_text, setup_text, spoiled_text, bad_text}
 use Rattle.sr_cli.specs.declared.client.Stop.{Stop}
 use Rattle.sr_cli.specs.declared.client.Stop.TheVariants as stop
 use Rattle.sr_cli.specs.declared.report.Refusal.{Refusal}
@@ -39,10 +39,10 @@ pub record AreFiles (held : List ℕ → Option (List ℕ)) (words : ClientWords
 pub record Ends (schema script : List ℕ) (words : ClientWords) (ending : Ending) (old new : Linking) (before after : Writing) : Type 0 where
   pub tables : List Table
   pub lines : List EventLine
-  pub deeds : List (ℕ × Deed)
+  pub tasks : List (ℕ × Task)
   pub asked : IsAsked words.id schema script tables lines
-  pub are : AreDeeds tables lines deeds
-  pub ran : RanNew words.id tables words.limits deeds ending old new before after
+  pub are : AreTasks tables lines tasks
+  pub ran : RanNew words.id tables words.limits tasks ending old new before after
 
 -- the same, of files that were read
 pub record Dialled (held : List ℕ → Option (List ℕ)) (words : ClientWords) (ending : Ending) (old new : Linking) (before after : Writing) : Type 0 where
@@ -67,13 +67,6 @@ pub record IsRefusedCreate (held : List ℕ → Option (List ℕ)) (words : Clie
   pub files : AreFiles held words schema script
   pub refuses : ClientRefuses words.id schema script line fault
 
--- files were read, and the script's first line that is not built is this one
-pub record IsUnbuilt (held : List ℕ → Option (List ℕ)) (words : ClientWords) (line : ℕ) : Type 0 where
-  pub schema : List ℕ
-  pub script : List ℕ
-  pub files : AreFiles held words schema script
-  pub leaves : LeavesUnbuilt words.id schema script line
-
 -- ---- the error output
 
 -- the line that is outside the grammar was named on the error output, with the place of its fault
@@ -89,12 +82,6 @@ pub record NamedCreate (held : List ℕ → Option (List ℕ)) (words : ClientWo
   pub fault : Fault
   pub refused : IsRefusedCreate held words line fault
   pub said : new ≡ complained (setup_text line fault) old
-
--- the first unbuilt line was named on the error output
-pub record NamedUnbuilt (held : List ℕ → Option (List ℕ)) (words : ClientWords) (old new : Option (List ℕ)) : Type 0 where
-  pub line : ℕ
-  pub unbuilt : IsUnbuilt held words line
-  pub said : new ≡ complained (unbuilt_text line) old
 
 -- what came is no frame, which was said on the error output, with what stands against it
 pub record NamedSpoiled (held : List ℕ → Option (List ℕ)) (words : ClientWords) (l m : Linking) (before after : Writing) (old new : Option (List ℕ)) : Type 0 where
@@ -116,7 +103,7 @@ NamedFrame held words l m before after old new = NamedSpoiled held words l m bef
 abbrev pub IsEnd : ℕ → Type 0
 IsEnd status =
     (status ≡ 0) ⊎ (status ≡ 3) ⊎ (status ≡ 4) ⊎ (status ≡ 5) ⊎ (status ≡ 6) ⊎ (status ≡ 7) ⊎ (status ≡ 8) ⊎ (status ≡ 9) ⊎ (status ≡ 10)
-    ⊎ (status ≡ 11) ⊎ (status ≡ 12)
+    ⊎ (status ≡ 11)
 
 -- ---- a host without faults
 
@@ -140,7 +127,6 @@ pub record FitsFiles (id : ℕ) (schema script : List ℕ) (status : ℕ) : Type
   pub too_long : status ≡ 10 → AreLong schema script
   pub line : status ≡ 6 → (at : LinePlace) × (client_outside id schema script ≡ Some at)
   pub refused : status ≡ 7 → (line : ℕ) × (fault : Fault) × ClientRefuses id schema script line fault
-  pub unbuilt : status ≡ 12 → (line : ℕ) × LeavesUnbuilt id schema script line
   pub inside : DidRun status → client_outside id schema script ≡ None
   pub accepts : DidRun status → (line : ℕ) (fault : Fault) → ¬ ClientRefuses id schema script line fault
 
@@ -157,7 +143,6 @@ pub record Dials (H : Type 0) (held : H → List ℕ → Option (List ℕ)) (rea
   pub too_long : status ≡ 10 → SomeTooLong (held old) (reading new).left (files_of words)
   pub line : status ≡ 6 → NamedLine (held old) words (complaints old) (complaints new)
   pub refused : status ≡ 7 → NamedCreate (held old) words (complaints old) (complaints new)
-  pub unbuilt : status ≡ 12 → NamedUnbuilt (held old) words (complaints old) (complaints new)
   pub steady : IsSteady old → (schema script : List ℕ) → AreHeld (held old) words schema script → FitsFiles words.id schema script status
 
 -- ---- inside the crate
@@ -171,7 +156,6 @@ pub record Untouched (old new : Linking) (before after : Writing) : Type 0 where
 abbrev pub refusal_of : ClientFault → Refusal
 refusal_of (fault.Line line place) = refusal.Line line place
 refusal_of (fault.Create line why) = refusal.Setup line why
-refusal_of (fault.Unbuilt line) = refusal.Unbuilt line
 
 -- how a run ended that stopped so, if it began
 abbrev pub ending_of : Stop → Option Ending
@@ -189,7 +173,6 @@ Refuses schema script words old new before after refusal.Link = Ends schema scri
 Refuses schema script words old new before after refusal.Memory = Unit {0}
 Refuses schema script words old new before after (refusal.Line line place) = (client_outside words.id schema script ≡ Some (record { line = line; place = place })) × Untouched old new before after
 Refuses schema script words old new before after (refusal.Setup line fault) = ClientRefuses words.id schema script line fault × Untouched old new before after
-Refuses schema script words old new before after (refusal.Unbuilt line) = LeavesUnbuilt words.id schema script line × Untouched old new before after
 Refuses schema script words old new before after other = ⊥
 
 -- why it stops

@@ -7,7 +7,7 @@ use Rattle.sr_words.specs.declared.command.Command.TheVariants.{Client}
 abbrev pub IsStatus : ℕ → Type 0
 IsStatus status =
     (status ≡ 0) ⊎ (status ≡ 2) ⊎ (status ≡ 3) ⊎ (status ≡ 4) ⊎ (status ≡ 5) ⊎ (status ≡ 6) ⊎ (status ≡ 7) ⊎ (status ≡ 8) ⊎ (status ≡ 9)
-    ⊎ (status ≡ 10) ⊎ (status ≡ 11) ⊎ (status ≡ 12)
+    ⊎ (status ≡ 10) ⊎ (status ≡ 11)
 
 -- the words ask for a client
 abbrev pub AsksClient : List (List ℕ) → Type 0

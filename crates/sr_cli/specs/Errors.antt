@@ -1,5 +1,6 @@
 -- What the error output says.
 use Rattle.std.specs.Prelude.{ℕ, ◌==◌, List, [], ◌∷◌, ◌++◌, Option, Some, None, codes, decimal, if◌then◌else◌}
+use Rattle.sr_generate.specs.Script.{line_feed}
 use Rattle.sr_cell.specs.declared.fault.Fault.{Fault}
 use Rattle.sr_cell.specs.declared.fault.Why.{Why}
 use Rattle.sr_cell.specs.declared.fault.Why.TheVariants.{UnknownTable}
@@ -7,9 +8,6 @@ use Rattle.sr_dial.specs.Statuses.{fault_words, why_words}
 use Rattle.sr_script.specs.TraceText.{why_text}
 use Rattle.sr_wire.specs.declared.bad_frame.BadFrame.{BadFrame}
 use Rattle.sr_wire.specs.declared.wire_fault.WireFault.{WireFault}
-
-abbrev pub line_feed : List ℕ
-line_feed = 10 ∷ []
 
 -- what is said of a line that is outside the grammar
 abbrev pub line_text : ℕ → ℕ → List ℕ
@@ -26,10 +24,6 @@ load_text table fault = codes "load " ++ table ++ codes " " ++ reason fault.why
     reason : Why → List ℕ
     reason UnknownTable = codes "unknown" ++ line_feed
     reason why = decimal fault.at ++ codes " " ++ why_text why ++ line_feed
-
--- what is said of an unbuilt line
-abbrev pub unbuilt_text : ℕ → List ℕ
-unbuilt_text line = codes "unbuilt " ++ decimal line ++ line_feed
 
 -- a line of words, with a space between two
 abbrev pub words_text : List (List ℕ) → List ℕ

@@ -9,6 +9,7 @@ use Rattle.sr_serve.specs.Runs.{Ran}
 use Rattle.sr_server.specs.Servers.{first_database}
 use Rattle.sr_setup.specs.Files.{outside, RefusesCreate, RefusesLoad, SetsUp}
 use Rattle.sr_tables.specs.Stored.{Stored}
+use Rattle.sr_talk.specs.Rounds.{HasPeers}
 use Rattle.sr_talk.specs.declared.rounds.Ending.{Ending}
 use Rattle.sr_talk.specs.declared.rounds.Ending.TheVariants.{Whole, Faulty, Unwritten}
 use Rattle.sr_words.specs.declared.command.ServeWords.{ServeWords}
@@ -145,3 +146,5 @@ pub record Serves (H : Type 0) (held : H → List ℕ → Option (List ℕ)) (re
   pub line : status ≡ 6 → NamedLine (held old) words (complaints old) (complaints new)
   pub refused : status ≡ 7 → NamedCreate (held old) words (complaints old) (complaints new) ⊎ NamedLoad (held old) words (complaints old) (complaints new)
   pub steady : IsSteady old → (schema exec : List ℕ) (loads : List Load) → AreHeld (held old) words schema exec loads → FitsFiles schema exec loads status
+  pub steady_writes : IsSteady old → ¬ (status ≡ 4)
+  pub steady_links : IsSteady old → HasPeers words.count (linking old) → ¬ (status ≡ 5)

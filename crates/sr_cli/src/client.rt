@@ -5,7 +5,7 @@ ghost use Rattle.sr_io.specs.Told.{complained};
 ghost use Rattle.sr_dial.specs.declared.ending.Ending.TheVariants.{Whole, Faulty, Unwritten, Limit as TooMany};
 ghost use Rattle.sr_cli.specs.Files.{SomeTooLong};
 ghost use Rattle.sr_cli.specs.Errors.{error_text};
-ghost use Rattle.sr_cli.specs.Client.{AreFiles, AreHeld, Dialled, Ends, FitsFiles, IsEnd, NamedCreate, NamedFrame, NamedLine, NamedUnbuilt, NotRead, Stops, StopsOver, ending_of, files_of, refusal_of};
+ghost use Rattle.sr_cli.specs.Client.{AreFiles, AreHeld, Dialled, Ends, FitsFiles, IsEnd, NamedCreate, NamedFrame, NamedLine, NotRead, Stops, StopsOver, ending_of, files_of, refusal_of};
 ghost use Rattle.sr_cli.specs.declared.file.ReadFault.TheVariants.{Fault as ReadFailed, NoMemory as Wanting, TooLong as ReadTooLong};
 ghost use Rattle.sr_cli.specs.declared.client.Stop.TheVariants.{Refused};
 ghost use Rattle.sr_cli.specs.declared.report.Refusal.TheVariants.{Read};
@@ -59,9 +59,8 @@ pub(crate) fn run_client<H: Host>(alloc: Global, words: &ClientWords, host: &mut
     ensures too_long { result ≡ 10 → SomeTooLong (H.held host.old) (H.reading host.new).left (files_of words.now) }
     ensures line { result ≡ 6 → NamedLine (H.held host.old) words.now (H.complaints host.old) (H.complaints host.new) }
     ensures refused { result ≡ 7 → NamedCreate (H.held host.old) words.now (H.complaints host.old) (H.complaints host.new) }
-    ensures unbuilt { result ≡ 12 → NamedUnbuilt (H.held host.old) words.now (H.complaints host.old) (H.complaints host.new) }
-    ensures writes_nothing { (result ≡ 3) ⊎ (result ≡ 6) ⊎ (result ≡ 7) ⊎ (result ≡ 10) ⊎ (result ≡ 12) → H.writing host.new ≡ H.writing host.old }
-    ensures links_nothing { (result ≡ 3) ⊎ (result ≡ 6) ⊎ (result ≡ 7) ⊎ (result ≡ 10) ⊎ (result ≡ 12) → H.linking host.new ≡ H.linking host.old }
+    ensures writes_nothing { (result ≡ 3) ⊎ (result ≡ 6) ⊎ (result ≡ 7) ⊎ (result ≡ 10) → H.writing host.new ≡ H.writing host.old }
+    ensures links_nothing { (result ≡ 3) ⊎ (result ≡ 6) ⊎ (result ≡ 7) ⊎ (result ≡ 10) → H.linking host.new ≡ H.linking host.old }
     ensures reading_keeps_faults { (result ≡ 3) ⊎ ((H.reading host.new).faults ≡ (H.reading host.old).faults) }
     ensures silent { result ≡ 0 → H.complaints host.new ≡ H.complaints host.old }
     ensures complaint { IfSome (error_text result) (λ text. H.complaints host.new ≡ complained text (H.complaints host.old)) }
@@ -176,7 +175,6 @@ fn refusal_of(fault: ClientFault) -> Refusal
     match fault {
         ClientFault::Line { line, place } => Refusal::Line { line, place },
         ClientFault::Create { line, fault } => Refusal::Setup { line, fault },
-        ClientFault::Unbuilt { line } => Refusal::Unbuilt { line },
     }
 }
 

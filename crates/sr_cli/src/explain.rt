@@ -12,7 +12,7 @@ ghost use Rattle.sr_cli.specs.Errors.{error_text};
 ghost use Rattle.sr_cli.specs.Explain.{Explained, ExplainedInPart, IsOutside, IsRefusedSetup, NamedLine, NamedSetup, FitsScript};
 ghost use Rattle.sr_cli.specs.Files.{IsTooLong};
 ghost use Rattle.sr_cli.specs.Replay.{options_of};
-ghost use Rattle.sr_cli.specs.declared.report.Refusal.TheVariants.{Read, Write, Link, Memory, TooLong, Line, Setup, Load as LoadRefused, Unbuilt};
+ghost use Rattle.sr_cli.specs.declared.report.Refusal.TheVariants.{Read, Write, Link, Memory, TooLong, Line, Setup, Load as LoadRefused};
 
 use crate::file::{ReadFault, read_file};
 use crate::report::{Refusal, report};
@@ -70,7 +70,6 @@ fn explain_file<H: Host>(alloc: Global, words: &ExplainWords, host: &mut H) -> R
     ensures line_writes_nothing { (line place : ℕ) → IsErrOf result (Line line place) → H.writing host.new ≡ H.writing host.old }
     ensures setup { (line : ℕ) (fault : TheFault) → IsErrOf result (Setup line fault) → IsRefusedSetup (H.held host.old) words.now line fault }
     ensures setup_writes_nothing { (line : ℕ) (fault : TheFault) → IsErrOf result (Setup line fault) → H.writing host.new ≡ H.writing host.old }
-    ensures never_unbuilt { (line : ℕ) → ¬ IsErrOf result (Unbuilt line) }
     ensures never_loads { (table : List ℕ) (fault : TheFault) → ¬ IsErrOf result (LoadRefused table fault) }
     ensures never_links { ¬ IsErrOf result Link }
     ensures reading_keeps_faults { IsErrOf result Read ⊎ ((H.reading host.new).faults ≡ (H.reading host.old).faults) }
@@ -113,7 +112,6 @@ fn explain_read<H: Host>(
     ensures line_writes_nothing { (line place : ℕ) → IsErrOf result (Line line place) → H.writing host.new ≡ H.writing host.old }
     ensures setup { (line : ℕ) (fault : TheFault) → IsErrOf result (Setup line fault) → FirstRefused words.now.setup.clients 1 [] (lines_of script.now) line fault }
     ensures setup_writes_nothing { (line : ℕ) (fault : TheFault) → IsErrOf result (Setup line fault) → H.writing host.new ≡ H.writing host.old }
-    ensures never_unbuilt { (line : ℕ) → ¬ IsErrOf result (Unbuilt line) }
     ensures writing_keeps_faults { IsErrOf result Write ⊎ ((H.writing host.new).faults ≡ (H.writing host.old).faults) }
     ensures stays_steady { H.IsSteady host.old → H.IsSteady host.new }
     ensures steady_writes { H.IsSteady host.old → ¬ IsErrOf result Write }

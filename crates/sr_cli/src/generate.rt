@@ -11,7 +11,7 @@ ghost use Rattle.sr_lines.specs.Script.{FirstRefused};
 ghost use Rattle.sr_world.specs.Replay.{outside};
 ghost use Rattle.sr_cli.specs.Errors.{error_text};
 ghost use Rattle.sr_cli.specs.Generate.{Summarized, SummarizedInPart};
-ghost use Rattle.sr_cli.specs.declared.report.Refusal.TheVariants.{Read, Write, Link, Memory, TooLong, Line, Setup, Load as LoadRefused, Unbuilt};
+ghost use Rattle.sr_cli.specs.declared.report.Refusal.TheVariants.{Read, Write, Link, Memory, TooLong, Line, Setup, Load as LoadRefused};
 
 use crate::report::{Refusal, report};
 use sr_cell::list::No;
@@ -116,7 +116,6 @@ fn summarize<H: Host>(alloc: Global, seed: u64, events: u32, host: &mut H) -> Re
     ensures setup_writes_nothing { (line : ℕ) (fault : TheFault) → IsErrOf result (Setup line fault) → H.writing host.new ≡ H.writing host.old }
     ensures never_reads { ¬ IsErrOf result Read }
     ensures never_links { ¬ IsErrOf result Link }
-    ensures never_unbuilt { (line : ℕ) → ¬ IsErrOf result (Unbuilt line) }
     ensures never_too_long { ¬ IsErrOf result TooLong }
     ensures never_loads { (table : List ℕ) (fault : TheFault) → ¬ IsErrOf result (LoadRefused table fault) }
     ensures write_fault_is_counted { IsErrOf result Write → Rose (H.writing host.old).faults (H.writing host.new).faults }

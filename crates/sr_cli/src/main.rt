@@ -20,6 +20,8 @@ mod tests_calls;
 #[cfg(test)]
 mod tests_client;
 #[cfg(test)]
+mod tests_processes;
+#[cfg(test)]
 mod tests_programs;
 
 use run::run;

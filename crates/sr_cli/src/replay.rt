@@ -14,7 +14,7 @@ ghost use Rattle.sr_cli.specs.Files.{SomeTooLong};
 ghost use Rattle.sr_cli.specs.Errors.{error_text};
 ghost use Rattle.sr_cli.specs.Replay.{Replayed, ReplayedInPart, IsOutside, IsRefusedSetup, IsRefusedLoad, NamedLine, NamedSetup, NamedLoad, AreFiles, AreHeld, FitsFiles, files_of};
 ghost use Rattle.sr_cli.specs.declared.file.ReadFault.TheVariants.{Fault as ReadFailed, NoMemory as Wanting, TooLong as ReadTooLong};
-ghost use Rattle.sr_cli.specs.declared.report.Refusal.TheVariants.{Read, Write, Link, Memory, TooLong, Line, Setup, Load as LoadRefused, Unbuilt};
+ghost use Rattle.sr_cli.specs.declared.report.Refusal.TheVariants.{Read, Write, Link, Memory, TooLong, Line, Setup, Load as LoadRefused};
 
 use crate::file::{ReadFault, read_file};
 use crate::loads::read_loads;
@@ -82,7 +82,6 @@ fn replay_files<H: Host>(alloc: Global, words: &ReplayWords, host: &mut H) -> Re
     ensures load { (table : List ℕ) (fault : TheFault) → IsErrOf result (LoadRefused table fault) → IsRefusedLoad (H.held host.old) words.now table fault }
     ensures load_writes_nothing { (table : List ℕ) (fault : TheFault) → IsErrOf result (LoadRefused table fault) → H.writing host.new ≡ H.writing host.old }
     ensures never_links { ¬ IsErrOf result Link }
-    ensures never_unbuilt { (line : ℕ) → ¬ IsErrOf result (Unbuilt line) }
     ensures reading_keeps_faults { IsErrOf result Read ⊎ ((H.reading host.new).faults ≡ (H.reading host.old).faults) }
     ensures writing_keeps_faults { IsErrOf result Write ⊎ ((H.writing host.new).faults ≡ (H.writing host.old).faults) }
     ensures stays_steady { H.IsSteady host.old → H.IsSteady host.new }
@@ -148,7 +147,6 @@ fn replay_read<H: Host>(
     ensures replayed { OnOk result ((world : World) × Wrote (H.writing host.old).written (H.writing host.new).written options files.now.script files.now.loads world) }
     ensures never_reads { ¬ IsErrOf result Read }
     ensures never_links { ¬ IsErrOf result Link }
-    ensures never_unbuilt { (line : ℕ) → ¬ IsErrOf result (Unbuilt line) }
     ensures never_too_long { ¬ IsErrOf result TooLong }
     ensures write_fault_is_counted { IsErrOf result Write → Rose (H.writing host.old).faults (H.writing host.new).faults }
     ensures part_after_fault { IsErrOf result Write → WrotePart (H.writing host.old).written (H.writing host.new).written options files.now.script files.now.loads }

@@ -2,8 +2,8 @@
 ghost use Rattle.std.specs.Prelude.{◌≡◌, ℕ, ◌⊎◌, List, string_bytes, IfSome, IfOk};
 ghost use Rattle.sr_cell.specs.declared.fault.Fault.{Fault as TheFault};
 ghost use Rattle.sr_io.specs.Told.{complained};
-ghost use Rattle.sr_cli.specs.Errors.{line_text, setup_text, load_text, unbuilt_text, error_text};
-ghost use Rattle.sr_cli.specs.declared.report.Refusal.TheVariants.{Read, Write, Link, Memory, TooLong, Line, Setup, Load as LoadRefused, Unbuilt};
+ghost use Rattle.sr_cli.specs.Errors.{line_text, setup_text, load_text, error_text};
+ghost use Rattle.sr_cli.specs.declared.report.Refusal.TheVariants.{Read, Write, Link, Memory, TooLong, Line, Setup, Load as LoadRefused};
 
 use sr_cell::fault::{Fault, Why};
 use sr_cell::list::NoMemory;
@@ -31,21 +31,18 @@ pub enum Refusal {
     Setup { line: u64, fault: Fault },
     /// The file for the table of that name is the first that is refused, and why.
     Load { table: Text, fault: Fault },
-    /// That line is the first that is not built.
-    Unbuilt { line: u64 },
 }
 
 /// Says why on the error output, and answers the status.
 pub(crate) fn report<H: Host>(alloc: Global, refusal: Refusal, host: &mut H) -> u8
-    ensures only { (result ≡ 3) ⊎ (result ≡ 4) ⊎ (result ≡ 5) ⊎ (result ≡ 6) ⊎ (result ≡ 7) ⊎ (result ≡ 9) ⊎ (result ≡ 10) ⊎ (result ≡ 12) }
+    ensures only { (result ≡ 3) ⊎ (result ≡ 4) ⊎ (result ≡ 5) ⊎ (result ≡ 6) ⊎ (result ≡ 7) ⊎ (result ≡ 9) ⊎ (result ≡ 10) }
     ensures read { result ≡ 3 → refusal ≡ Read }
     ensures write { result ≡ 4 → refusal ≡ Write }
     ensures link { result ≡ 5 → refusal ≡ Link }
-    ensures memory { result ≡ 9 → (refusal ≡ Memory) ⊎ ((line : ℕ) × (place : ℕ) × (refusal ≡ Line line place)) ⊎ ((line : ℕ) × (fault : TheFault) × (refusal ≡ Setup line fault)) ⊎ ((table : List ℕ) × (fault : TheFault) × (refusal ≡ LoadRefused table fault)) ⊎ ((line : ℕ) × (refusal ≡ Unbuilt line)) }
+    ensures memory { result ≡ 9 → (refusal ≡ Memory) ⊎ ((line : ℕ) × (place : ℕ) × (refusal ≡ Line line place)) ⊎ ((line : ℕ) × (fault : TheFault) × (refusal ≡ Setup line fault)) ⊎ ((table : List ℕ) × (fault : TheFault) × (refusal ≡ LoadRefused table fault)) }
     ensures too_long { result ≡ 10 → refusal ≡ TooLong }
     ensures line { result ≡ 6 → (line : ℕ) × (place : ℕ) × (refusal ≡ Line line place) × (H.complaints host.new ≡ complained (line_text line place) (H.complaints host.old)) }
     ensures refused { result ≡ 7 → ((line : ℕ) × (fault : TheFault) × (refusal ≡ Setup line fault) × (H.complaints host.new ≡ complained (setup_text line fault) (H.complaints host.old))) ⊎ ((table : List ℕ) × (fault : TheFault) × (refusal ≡ LoadRefused table fault) × (H.complaints host.new ≡ complained (load_text table fault) (H.complaints host.old))) }
-    ensures unbuilt { result ≡ 12 → (line : ℕ) × (refusal ≡ Unbuilt line) × (H.complaints host.new ≡ complained (unbuilt_text line) (H.complaints host.old)) }
     ensures complaint { IfSome (error_text result) (λ text. H.complaints host.new ≡ complained text (H.complaints host.old)) }
     ensures stays_steady { H.IsSteady host.old → H.IsSteady host.new }
     ensures reading_stays { H.reading host.new ≡ H.reading host.old }
@@ -77,7 +74,6 @@ pub(crate) fn report<H: Host>(alloc: Global, refusal: Refusal, host: &mut H) -> 
         Refusal::Line { line, place } => report_line(alloc, line, place, host),
         Refusal::Setup { line, fault } => report_setup(alloc, line, fault, host),
         Refusal::Load { table, fault } => report_load(alloc, &table, fault, host),
-        Refusal::Unbuilt { line } => report_unbuilt(alloc, line, host),
     }
 }
 
@@ -160,29 +156,6 @@ fn load_line(alloc: Global, table: &str, fault: Fault) -> Result<String, NoMemor
         why => {
             let why = why_word(why);
             Ok(format!(in alloc; "load {table} {} {why}\n", fault.at)?)
-        }
-    }
-}
-
-/// Names the line on the error output, or tells that there was no memory for it.
-fn report_unbuilt<H: Host>(alloc: Global, line: u64, host: &mut H) -> u8
-    ensures only { (result ≡ 9) ⊎ (result ≡ 12) }
-    ensures named { result ≡ 12 → H.complaints host.new ≡ complained (unbuilt_text line) (H.complaints host.old) }
-    ensures memory { IfSome (error_text result) (λ text. H.complaints host.new ≡ complained text (H.complaints host.old)) }
-    ensures stays_steady { H.IsSteady host.old → H.IsSteady host.new }
-    ensures reading_stays { H.reading host.new ≡ H.reading host.old }
-    ensures writing_stays { H.writing host.new ≡ H.writing host.old }
-    ensures linking_stays { H.linking host.new ≡ H.linking host.old }
-    ensures held_stays { H.held host.new ≡ H.held host.old }
-{
-    match format!(in alloc; "unbuilt {line}\n") {
-        Ok(text) => {
-            host.complain(text.as_bytes());
-            12
-        }
-        Err(_) => {
-            host.complain(b"memory\n");
-            9
         }
     }
 }

@@ -7,12 +7,13 @@ ghost use Rattle.sr_load.specs.declared.fill.Load.{Load};
 ghost use Rattle.sr_io.specs.Causes.{Rose};
 ghost use Rattle.sr_io.specs.Told.{complained};
 ghost use Rattle.sr_setup.specs.Files.{outside, RefusesCreate, RefusesLoad};
+ghost use Rattle.sr_talk.specs.Rounds.{HasPeers};
 ghost use Rattle.sr_talk.specs.declared.rounds.Ending.TheVariants.{Whole, Faulty, Unwritten};
 ghost use Rattle.sr_cli.specs.Files.{SomeTooLong};
 ghost use Rattle.sr_cli.specs.Errors.{error_text};
 ghost use Rattle.sr_cli.specs.Serve.{AreFiles, AreHeld, FitsFiles, IsExec, IsHeldExec, IsOutside, IsRefusedCreate, IsRefusedLoad, NamedLine, NamedCreate, NamedLoad, Served, Ends, files_of, exec_files};
 ghost use Rattle.sr_cli.specs.declared.file.ReadFault.TheVariants.{Fault as ReadFailed, NoMemory as Wanting, TooLong as ReadTooLong};
-ghost use Rattle.sr_cli.specs.declared.report.Refusal.TheVariants.{Read, Write, Link, Memory, TooLong, Line, Setup as CreateRefused, Load as LoadRefused, Unbuilt};
+ghost use Rattle.sr_cli.specs.declared.report.Refusal.TheVariants.{Read, Write, Link, Memory, TooLong, Line, Setup as CreateRefused, Load as LoadRefused};
 
 use crate::file::{ReadFault, read_file};
 use crate::loads::read_loads;
@@ -51,6 +52,8 @@ pub(crate) fn run_serve<H: Host>(alloc: Global, words: &ServeWords, host: &mut H
     ensures silent { result ≡ 0 → H.complaints host.new ≡ H.complaints host.old }
     ensures complaint { IfSome (error_text result) (λ text. H.complaints host.new ≡ complained text (H.complaints host.old)) }
     ensures steady { H.IsSteady host.old → (schema exec : List ℕ) (loads : List Load) → AreHeld (H.held host.old) words.now schema exec loads → FitsFiles schema exec loads result }
+    ensures steady_writes { H.IsSteady host.old → ¬ (result ≡ 4) }
+    ensures steady_links { H.IsSteady host.old → HasPeers words.now.count (H.linking host.old) → ¬ (result ≡ 5) }
     ensures stays_steady { H.IsSteady host.old → H.IsSteady host.new }
     ensures held_stays { H.held host.new ≡ H.held host.old }
 {
@@ -80,10 +83,11 @@ fn serve_files<H: Host>(alloc: Global, words: &ServeWords, host: &mut H) -> Resu
     ensures load { (table : List ℕ) (fault : TheFault) → IsErrOf result (LoadRefused table fault) → IsRefusedLoad (H.held host.old) words.now table fault }
     ensures load_writes_nothing { (table : List ℕ) (fault : TheFault) → IsErrOf result (LoadRefused table fault) → H.writing host.new ≡ H.writing host.old }
     ensures load_links_nothing { (table : List ℕ) (fault : TheFault) → IsErrOf result (LoadRefused table fault) → H.linking host.new ≡ H.linking host.old }
-    ensures never_unbuilt { (line : ℕ) → ¬ IsErrOf result (Unbuilt line) }
     ensures reading_keeps_faults { IsErrOf result Read ⊎ ((H.reading host.new).faults ≡ (H.reading host.old).faults) }
     ensures stays_steady { H.IsSteady host.old → H.IsSteady host.new }
     ensures steady_reads { H.IsSteady host.old → IsErrOf result Read → (schema exec : List ℕ) (loads : List Load) → ¬ AreHeld (H.held host.old) words.now schema exec loads }
+    ensures steady_writes { H.IsSteady host.old → ¬ IsErrOf result Write }
+    ensures steady_links { H.IsSteady host.old → HasPeers words.now.count (H.linking host.old) → ¬ IsErrOf result Link }
     ensures held_stays { H.held host.new ≡ H.held host.old }
     ensures complaints_stay { H.complaints host.new ≡ H.complaints host.old }
 {
@@ -178,8 +182,9 @@ fn serve_read<H: Host>(
     ensures load { (table : List ℕ) (fault : TheFault) → IsErrOf result (LoadRefused table fault) → RefusesLoad files.now.schema files.now.exec files.now.loads table fault }
     ensures load_writes_nothing { (table : List ℕ) (fault : TheFault) → IsErrOf result (LoadRefused table fault) → H.writing host.new ≡ H.writing host.old }
     ensures load_links_nothing { (table : List ℕ) (fault : TheFault) → IsErrOf result (LoadRefused table fault) → H.linking host.new ≡ H.linking host.old }
-    ensures never_unbuilt { (line : ℕ) → ¬ IsErrOf result (Unbuilt line) }
     ensures stays_steady { H.IsSteady host.old → H.IsSteady host.new }
+    ensures steady_writes { H.IsSteady host.old → ¬ IsErrOf result Write }
+    ensures steady_links { H.IsSteady host.old → HasPeers words.now.count (H.linking host.old) → ¬ IsErrOf result Link }
     ensures reading_stays { H.reading host.new ≡ H.reading host.old }
     ensures held_stays { H.held host.new ≡ H.held host.old }
     ensures complaints_stay { H.complaints host.new ≡ H.complaints host.old }

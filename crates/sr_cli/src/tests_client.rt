@@ -29,6 +29,42 @@ const ANSWERED: &[u8] = b"0 resume 1 sent 0
 1 toclient 1 answered
 ";
 
+const EXPLAINS: &[u8] = b"explain 1 SELECT id, age FROM emp WHERE age BETWEEN 35 AND 50
+query 1 SELECT id, age FROM emp WHERE age BETWEEN 30 AND 40
+explain 1 SELECT id, age FROM emp WHERE age BETWEEN 35 AND 50
+explain 1 SELECT nix FROM emp
+cut 1
+explain 1 SELECT id, age FROM emp WHERE age BETWEEN 35 AND 50
+";
+
+const EXPLAINED: &[u8] = b"0 resume 1 sent 0
+0 toclient 1 welcome 2 fresh
+1 need emp (id,age)
+1 rest emp (id,age) {age 35..50}
+1 explain 1 2
+2 ask 1 1 fresh 1
+2 part emp (id,age) {age 30..40}
+2 query 1 asked 1
+2 toclient 1 laid
+2 answer 1 1 2 2
+2 row 1, 35
+2 row 3, 33
+2 held 1 emp (id,age) {age 30..40}
+2 toclient 1 answered
+3 need emp (id,age)
+3 probe emp (id,age) 1 {age 35..40}
+3 rest emp (id,age) {age 41..50}
+3 victim 1 emp (id,age) 1 2
+3 explain 1 2
+4 explain 1 sql unknown-column 7
+5 cut 1 1
+6 need emp (id,age)
+6 probe emp (id,age) 1 {age 35..40}
+6 rest emp (id,age) {age 41..50}
+6 victim 1 emp (id,age) 1 2
+6 explain 1 2
+";
+
 const WORDS: &[&str] = &["client", "--id", "1", "--schema", "schema", "a", "script"];
 
 fn bytes_of(alloc: Global, all: &[u8]) -> Result<Bytes, NoMemory> {
@@ -78,7 +114,7 @@ fn ends(
 fn clients_end(rt: HostRuntime) -> Result<(), Fail> {
     let alloc = rt.alloc();
     let resumed: &[u8] = b"0 resume 1 sent 0\n";
-    let all: [(&[&str], &[u8], &[u8], (u8, &[u8], &[u8])); 8] = [
+    let all: [(&[&str], &[u8], &[u8], (u8, &[u8], &[u8])); 7] = [
         (WORDS, SCRIPT, ANSWERS, (0, ANSWERED, b"")),
         (
             WORDS,
@@ -114,12 +150,6 @@ fn clients_end(rt: HostRuntime) -> Result<(), Fail> {
         ),
         (WORDS, b"cut 1\ncut 2", b"", (6, b"", b"line 2 4\n")),
         (
-            WORDS,
-            b"explain 1 SELECT id FROM emp",
-            b"",
-            (12, b"", b"unbuilt 1\n"),
-        ),
-        (
             &["client", "--id", "65", "--schema", "schema", "a", "script"],
             SCRIPT,
             b"",
@@ -128,6 +158,26 @@ fn clients_end(rt: HostRuntime) -> Result<(), Fail> {
     ];
     for (words, script, brings, wanted) in all {
         assert!(rt; ends(alloc, words, script, brings, wanted)?);
+    }
+    Ok(())
+}
+
+#[test]
+fn clients_explain_with_and_without_a_link(rt: HostRuntime) -> Result<(), Fail> {
+    let alloc = rt.alloc();
+    let alone: &[u8] = b"0 resume 1 sent 0
+0 fail 1 resume 0
+0 cut 1 1
+1 need emp (id)
+1 rest emp (id) {}
+1 explain 1 0
+";
+    let all: [(&[u8], &[u8], (u8, &[u8], &[u8])); 2] = [
+        (EXPLAINS, ANSWERS, (0, EXPLAINED, b"")),
+        (b"explain 1 SELECT id FROM emp", b"", (5, alone, b"link\n")),
+    ];
+    for (script, brings, wanted) in all {
+        assert!(rt; ends(alloc, WORDS, script, brings, wanted)?);
     }
     Ok(())
 }

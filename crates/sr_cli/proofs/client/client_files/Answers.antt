@@ -1,7 +1,5 @@
 use Rattle.std.proofs.Common.{inr}
 use Rattle.std.proofs.lemmas.Result.{on_ok_weaker, IfErr-weaker}
-use Rattle.std.specs.Prelude.{◌⊎◌}
-use Rattle.sr_cli.specs.Client.{NotRead, Stops, StopsOver}
 use Rattle.sr_cli.proofs.client.client_files.Goals as goal
 
 pub returns-in-Ok-clause-whole : goal.returns-in-Ok-clause-whole

@@ -3,13 +3,13 @@ use Rattle.std.proofs.lemmas.Result.{on_ok_weaker, IfErr-weaker}
 use Rattle.std.specs.Prelude.{Some}
 use Rattle.sr_dial.specs.declared.ending.Ending.{Ending}
 use Rattle.sr_cli.specs.Client.{Ends, Stops, ending_of}
-use Rattle.sr_cli.proofs.ClientLemmas.{deeds_of, ends_by, stops_by}
+use Rattle.sr_cli.proofs.ClientLemmas.{tasks_of, ends_by, stops_by}
 use Rattle.sr_cli.proofs.client.client_read.Goals as goal
 
 pub client-requires-clause-asks : goal.client-requires-clause-asks
 client-requires-clause-asks g c =
     let asked = c.in-Ok.ensures.asked.asked in
-    deeds_of c.args.words.now.id c.in-Ok.script.schema c.in-Ok.script.lines asked.events asked.are asked.own
+    tasks_of c.args.words.now.id c.in-Ok.script.schema c.in-Ok.script.lines asked.events asked.are asked.own
 
 pub returns-in-Ok-client-clause-whole : goal.returns-in-Ok-client-clause-whole
 returns-in-Ok-client-clause-whole g c =

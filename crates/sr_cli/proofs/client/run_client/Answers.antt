@@ -8,9 +8,9 @@ use Rattle.sr_cli.proofs.client.run_client.Goals as goal
 pub returns-in-Err-Refused-clause-steady : goal.returns-in-Err-Refused-clause-steady
 returns-in-Err-Refused-clause-steady g c = λ steady schema script are.
     fits_held (g.H.Outside.held c.args.host.now) (g.H.Outside.reading c.client_files.new.host).left c.args.words.now schema script c.report.result are
-    (causes_refused (g.H.Outside.held c.args.host.now) c.args.words.now (g.H.Outside.reading c.args.host.now) (g.H.Outside.reading c.client_files.new.host) (g.H.Outside.linking c.args.host.now) (g.H.Outside.linking c.client_files.new.host) (g.H.Outside.writing c.args.host.now) (g.H.Outside.writing c.client_files.new.host) c.in-Err-Refused.refusal c.report.result _ _ _ _ (rw c.in-Err-Refused.field-0-is at c.in-Err-Refused.ensures.stopped) c.report.ensures.only
+    (causes_refused (g.H.Outside.held c.args.host.now) c.args.words.now (g.H.Outside.reading c.args.host.now) (g.H.Outside.reading c.client_files.new.host) (g.H.Outside.linking c.args.host.now) (g.H.Outside.linking c.client_files.new.host) (g.H.Outside.writing c.args.host.now) (g.H.Outside.writing c.client_files.new.host) c.in-Err-Refused.refusal c.report.result _ _ _ (rw c.in-Err-Refused.field-0-is at c.in-Err-Refused.ensures.stopped) c.report.ensures.only
     (λ is. c.in-Err-Refused.ensures.steady_reads steady (ap Err (c.in-Err-Refused.field-0-is ∙ ap Refused (c.report.ensures.read is))) schema script are)
-    c.report.ensures.write c.report.ensures.link c.report.ensures.too_long c.report.ensures.line c.report.ensures.refused c.report.ensures.unbuilt)
+    c.report.ensures.write c.report.ensures.link c.report.ensures.too_long c.report.ensures.line c.report.ensures.refused)
 
 pub returns-in-Err-Refused-clause-unwritten : goal.returns-in-Err-Refused-clause-unwritten
 returns-in-Err-Refused-clause-unwritten g c = λ is.

@@ -4,13 +4,11 @@ use Rattle.sr_cli.proofs.FitsLemmas.{known_status}
 use Rattle.sr_cli.proofs.explain.run_explain.Goals as goal
 
 pub returns-in-Err-clause-only : goal.returns-in-Err-clause-only
-returns-in-Err-clause-only g c = inr (known_status c.report.result c.report.ensures.only (λ is. c.in-Err.ensures.never_links (ap Err (c.report.ensures.link is)))
-    (λ is. let u = c.report.ensures.unbuilt is in c.in-Err.ensures.never_unbuilt u.0 (ap Err u.1)))
+returns-in-Err-clause-only g c = inr (known_status c.report.result c.report.ensures.only (λ is. c.in-Err.ensures.never_links (ap Err (c.report.ensures.link is))))
 
 pub returns-in-Err-clause-steady : goal.returns-in-Err-clause-steady
 returns-in-Err-clause-steady g c = λ steady script held.
-    fits_held _ (g.H.Outside.reading c.explain_file.new.host).left c.args.words.now script _ held (known_status c.report.result c.report.ensures.only (λ is. c.in-Err.ensures.never_links (ap Err (c.report.ensures.link is)))
-    (λ is. let u = c.report.ensures.unbuilt is in c.in-Err.ensures.never_unbuilt u.0 (ap Err u.1)))
+    fits_held _ (g.H.Outside.reading c.explain_file.new.host).left c.args.words.now script _ held (known_status c.report.result c.report.ensures.only (λ is. c.in-Err.ensures.never_links (ap Err (c.report.ensures.link is))))
     (λ is. let none = c.in-Err.ensures.steady_reads steady (ap Err (c.report.ensures.read is)) in cc)
     (λ is. c.in-Err.ensures.steady_writes steady (ap Err (c.report.ensures.write is)))
     (λ is. c.in-Err.ensures.too_long (ap Err (c.report.ensures.too_long is)))

@@ -23,14 +23,12 @@ outside_of : (held : List ℕ → Option (List ℕ)) (words : ReplayWords) (refu
 outside_of held words refusal S lies (line, place, is, said) = (line, place, lies line place is)
 
 pub returns-in-Err-clause-only : goal.returns-in-Err-clause-only
-returns-in-Err-clause-only g c = inr (known_status c.report.result c.report.ensures.only (λ is. c.in-Err.ensures.never_links (ap Err (c.report.ensures.link is)))
-    (λ is. let u = c.report.ensures.unbuilt is in c.in-Err.ensures.never_unbuilt u.0 (ap Err u.1)))
+returns-in-Err-clause-only g c = inr (known_status c.report.result c.report.ensures.only (λ is. c.in-Err.ensures.never_links (ap Err (c.report.ensures.link is))))
 
 pub returns-in-Err-clause-steady : goal.returns-in-Err-clause-steady
 returns-in-Err-clause-steady g c = λ steady script loads are.
     fits_held _ (g.H.Outside.reading c.replay_files.new.host).left c.args.words.now script loads _ are
-    (known_status c.report.result c.report.ensures.only (λ is. c.in-Err.ensures.never_links (ap Err (c.report.ensures.link is)))
-    (λ is. let u = c.report.ensures.unbuilt is in c.in-Err.ensures.never_unbuilt u.0 (ap Err u.1)))
+    (known_status c.report.result c.report.ensures.only (λ is. c.in-Err.ensures.never_links (ap Err (c.report.ensures.link is))))
     (λ is. c.in-Err.ensures.steady_reads steady (ap Err (c.report.ensures.read is)) script loads are)
     (λ is. c.in-Err.ensures.steady_writes steady (ap Err (c.report.ensures.write is)))
     (λ is. c.in-Err.ensures.too_long (ap Err (c.report.ensures.too_long is)))

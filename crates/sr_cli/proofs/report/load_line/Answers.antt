@@ -1,7 +1,7 @@
 use Rattle.std.proofs.Common.{◌≡◌, ◌++◌, string_bytes, sym, rules, ◌∙◌}
 use Rattle.std.specs.Prelude.{codes, decimal}
+use Rattle.sr_generate.specs.Script.{line_feed}
 use Rattle.sr_script.specs.TraceText.{why_text}
-use Rattle.sr_cli.specs.Errors.{line_feed}
 use Rattle.sr_cli.proofs.LoadTexts.{unknown_text, reason_text}
 use Rattle.sr_cli.proofs.report.load_line.Goals as goal
 

@@ -45,7 +45,6 @@ returns-in-Ok-Client-clause-dials g c = λ w says.
       too_long = did.too_long;
       line = did.line;
       refused = did.refused;
-      unbuilt = did.unbuilt;
       steady = did.steady;
     }
 
@@ -85,6 +84,8 @@ returns-in-Ok-Serve-clause-serves g c = λ w says.
       line = did.line;
       refused = did.refused;
       steady = did.steady;
+      steady_writes = did.steady_writes;
+      steady_links = did.steady_links;
     }
 
 pub returns-in-Ok-Explain-clause-explains : goal.returns-in-Ok-Explain-clause-explains

@@ -1,4 +1,4 @@
-use Rattle.std.proofs.Common.{◌≡◌, ℕ, ◌⊎◌, List, Option, Some, Err, inl, inr, refl, sym, subst, ap, arith, ◌∙◌}
+use Rattle.std.proofs.Common.{◌≡◌, ℕ, ◌⊎◌, List, Option, Err, inl, inr, refl, ap, arith, ◌∙◌}
 use Rattle.sr_cell.specs.declared.fault.Fault.{Fault}
 use Rattle.sr_io.specs.Told.{Linking, Writing, complained}
 use Rattle.sr_talk.specs.declared.rounds.Ending.TheVariants.{Whole, Faulty, Unwritten}
@@ -36,17 +36,6 @@ outside_of : (held : List ℕ → Option (List ℕ)) (words : ServeWords) (refus
     → (line : ℕ) × (place : ℕ) × (refusal ≡ Line line place) × S line place → SomeOutside held words
 outside_of held words refusal S lies (line, place, is, said) = (line, place, lies line place is)
 
--- each line is built
-none_unbuilt : (status : ℕ) → (status ≡ 3) ⊎ (status ≡ 4) ⊎ (status ≡ 5) ⊎ (status ≡ 6) ⊎ (status ≡ 7) ⊎ (status ≡ 9) ⊎ (status ≡ 10) ⊎ (status ≡ 12) → ¬ (status ≡ 12) → Statuses status
-none_unbuilt status (inl is) never = inr (inl is)
-none_unbuilt status (inr (inl is)) never = inr (inr (inl is))
-none_unbuilt status (inr (inr (inl is))) never = inr (inr (inr (inl is)))
-none_unbuilt status (inr (inr (inr (inl is)))) never = inr (inr (inr (inr (inl is))))
-none_unbuilt status (inr (inr (inr (inr (inl is))))) never = inr (inr (inr (inr (inr (inl is)))))
-none_unbuilt status (inr (inr (inr (inr (inr (inl is)))))) never = inr (inr (inr (inr (inr (inr (inl is))))))
-none_unbuilt status (inr (inr (inr (inr (inr (inr (inl is))))))) never = inr (inr (inr (inr (inr (inr (inr is))))))
-none_unbuilt status (inr (inr (inr (inr (inr (inr (inr is))))))) never = absurd (never is)
-
 served_by : (held : List ℕ → Option (List ℕ)) (words : ServeWords) (old new : Linking) (before after : Writing) (status : ℕ) → ¬ (status ≡ 0)
     → (status ≡ 4 → Served held words Unwritten old new before after) → (status ≡ 5 → Served held words Faulty old new before after) → DidRun status → SomeServed held words old new before after
 served_by held words old new before after status failed unwritten faulty (inl is) = absurd (failed is)
@@ -54,7 +43,7 @@ served_by held words old new before after status failed unwritten faulty (inr (i
 served_by held words old new before after status failed unwritten faulty (inr (inr is)) = (Faulty, faulty is)
 
 pub returns-in-Err-clause-only : goal.returns-in-Err-clause-only
-returns-in-Err-clause-only g c = none_unbuilt c.report.result c.report.ensures.only (λ is. let u = c.report.ensures.unbuilt is in c.in-Err.ensures.never_unbuilt u.0 (ap Err u.1))
+returns-in-Err-clause-only g c = inr c.report.ensures.only
 
 pub returns-in-Err-clause-refused : goal.returns-in-Err-clause-refused
 returns-in-Err-clause-refused g c = λ is.
@@ -65,7 +54,7 @@ returns-in-Err-clause-refused g c = λ is.
 
 pub returns-in-Err-clause-steady : goal.returns-in-Err-clause-steady
 returns-in-Err-clause-steady g c = λ steady schema exec loads are.
-    let only : Statuses c.report.result = none_unbuilt c.report.result c.report.ensures.only (λ is. let u = c.report.ensures.unbuilt is in c.in-Err.ensures.never_unbuilt u.0 (ap Err u.1)) in
+    let only : Statuses c.report.result = inr c.report.ensures.only in
     let failed : c.report.result ≡ 0 → ⊥ = λ is. let o = c.report.ensures.only in omega (arith, o, is) in
     fits_held _ (g.H.Outside.reading c.serve_files.new.host).left c.args.words.now schema exec loads _ _ _ _ _ are only
     (λ is. c.in-Err.ensures.steady_reads steady (ap Err (c.report.ensures.read is)) schema exec loads are)

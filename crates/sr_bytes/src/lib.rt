@@ -5,7 +5,5 @@ pub mod cursor;
 pub mod item;
 pub mod laws;
 pub mod own;
-#[cfg(test)]
-mod tests;
 pub mod views;
 pub mod write;

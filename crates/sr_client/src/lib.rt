@@ -13,8 +13,6 @@ pub mod resume;
 pub mod settle;
 pub mod steps;
 pub mod take;
-#[cfg(test)]
-mod tests;
 mod values;
 mod victims;
 pub mod write;

@@ -3,5 +3,3 @@
 
 pub mod explanation;
 pub mod lines;
-#[cfg(test)]
-mod tests;

@@ -3,5 +3,3 @@
 
 pub mod explain;
 pub mod nowhere;
-#[cfg(test)]
-mod tests;

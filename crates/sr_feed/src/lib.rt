@@ -5,5 +5,3 @@ pub mod feed;
 pub mod fetched;
 pub mod laws;
 pub mod queue;
-#[cfg(test)]
-mod tests;

@@ -4,5 +4,3 @@
 pub mod draw;
 pub mod line;
 pub mod script;
-#[cfg(test)]
-mod tests;

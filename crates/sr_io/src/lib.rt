@@ -9,7 +9,5 @@ pub mod mem_sink;
 pub mod mem_source;
 pub mod outside;
 pub mod real_host;
-#[cfg(test)]
-mod tests;
 pub mod whole;
 pub mod wire;

@@ -5,6 +5,4 @@ mod join;
 pub mod lending;
 pub mod runs;
 pub mod shown;
-#[cfg(test)]
-mod tests;
 mod unite;

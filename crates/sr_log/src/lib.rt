@@ -4,5 +4,3 @@
 pub mod entry;
 pub mod laws;
 pub mod log;
-#[cfg(test)]
-mod tests;

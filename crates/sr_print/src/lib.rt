@@ -8,5 +8,3 @@ mod parts;
 pub mod print;
 mod printer;
 mod statements;
-#[cfg(test)]
-mod tests;

@@ -9,6 +9,4 @@ pub mod lines;
 pub mod meaning;
 mod parts;
 pub mod script;
-#[cfg(test)]
-mod tests;
 pub mod words;

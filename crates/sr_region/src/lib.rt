@@ -6,5 +6,3 @@ pub mod halves;
 pub mod inside;
 pub mod laws;
 pub mod region;
-#[cfg(test)]
-mod tests;

@@ -6,7 +6,5 @@ mod forms;
 pub mod laws;
 pub mod line;
 pub mod rects;
-#[cfg(test)]
-mod tests;
 pub mod text;
 pub mod words;

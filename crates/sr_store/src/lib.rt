@@ -14,5 +14,3 @@ mod marks;
 mod parting;
 mod restamp;
 pub mod store;
-#[cfg(test)]
-mod tests;

@@ -8,8 +8,6 @@ pub mod frame;
 pub mod kind;
 pub mod laws;
 pub mod own;
-#[cfg(test)]
-mod tests;
 pub mod views;
 pub mod why;
 pub mod wire_fault;

@@ -6,6 +6,4 @@ pub mod fault;
 mod form;
 pub mod read;
 mod said;
-#[cfg(test)]
-mod tests;
 mod value;

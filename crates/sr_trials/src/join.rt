@@ -1,0 +1,211 @@
+//! Answers from rows of several regions, at values worked out by hand.
+use sr_box::rect::Rect;
+use sr_box::span::Span;
+use sr_cell::attrs::Attrs;
+use sr_cell::cell::{Cell, Row, Rows};
+use sr_cell::list::{NoMemory, Seq};
+use sr_cell::text::Text;
+use sr_join::lending::Lending;
+use sr_query::condition::Output;
+use sr_query::query::{KeyJoin, Part, Query};
+use sr_region::inside::rows_inside;
+use sr_union::rects::Rects;
+use std::alloc::Global;
+use std::test::Fail;
+
+// Persons have a name, a number, which is their key, and an age.
+const NUMBER_AGE: Attrs = Attrs(6);
+
+const ALL: Attrs = Attrs(7);
+
+fn part(alloc: Global) -> Part {
+    Part {
+        table: 0,
+        key: 1,
+        need: NUMBER_AGE,
+        rects: Rects::new(alloc),
+        width: 0,
+    }
+}
+
+// The ages, and then the numbers.
+fn query(alloc: Global) -> Result<Query, NoMemory> {
+    let mut parts = Seq::new(alloc);
+    parts.push(part(alloc))?;
+    let mut output = Seq::new(alloc);
+    output.push(Output { part: 0, column: 2 })?;
+    output.push(Output { part: 0, column: 1 })?;
+    Ok(Query {
+        parts,
+        joins: Seq::new(alloc),
+        output,
+    })
+}
+
+fn short(alloc: Global, number: i64, age: i64) -> Result<Row, NoMemory> {
+    let mut row = Seq::new(alloc);
+    row.push(Cell::Num(number))?;
+    row.push(Cell::Num(age))?;
+    Ok(row)
+}
+
+fn long(alloc: Global, name: &str, number: i64, age: i64) -> Result<Row, NoMemory> {
+    let mut row = Seq::new(alloc);
+    row.push(Cell::Str(Text::of(alloc, name)?))?;
+    row.push(Cell::Num(number))?;
+    row.push(Cell::Num(age))?;
+    Ok(row)
+}
+
+// Each person.
+fn everyone(alloc: Global) -> Result<Rects, NoMemory> {
+    let mut rect = Rect::new(alloc);
+    rect.push(Span::Full)?;
+    rect.push(Span::Full)?;
+    rect.push(Span::Full)?;
+    let mut rects = Rects::new(alloc);
+    rects.push(rect)?;
+    Ok(rects)
+}
+
+fn is_row(row: &Row, age: i64, number: i64) -> bool {
+    match (row.get(0), row.get(1), row.len()) {
+        (Some(Cell::Num(one)), Some(Cell::Num(two)), 2) => *one == age && *two == number,
+        _ => false,
+    }
+}
+
+fn are(rows: &Rows, ages: &[i64], numbers: &[i64]) -> bool {
+    if rows.len() != ages.len() || rows.len() != numbers.len() {
+        return false;
+    }
+    for i in 0..ages.len() {
+        if !is_row(&rows.as_slice()[i], ages[i], numbers[i]) {
+            return false;
+        }
+    }
+    true
+}
+
+fn two(alloc: Global, one: Row, other: Row) -> Result<Rows, NoMemory> {
+    let mut rows = Seq::new(alloc);
+    rows.push(one)?;
+    rows.push(other)?;
+    Ok(rows)
+}
+
+// The answer of persons, from rows that are lent one list after another; of the last list just those in the rects.
+fn persons(
+    alloc: Global,
+    some: &Rows,
+    others: &Rows,
+    last: &Rows,
+    rects: &Rects,
+) -> Result<Rows, NoMemory> {
+    let everyone = everyone(alloc)?;
+    let mut lending = Lending::new(alloc);
+    lending.lend(
+        alloc,
+        0,
+        rows_inside(NUMBER_AGE, some.as_slice(), &everyone),
+    )?;
+    lending.lend(alloc, 0, rows_inside(ALL, others.as_slice(), &everyone))?;
+    lending.lend(alloc, 0, rows_inside(ALL, last.as_slice(), rects))?;
+    lending.answer(alloc, &query(alloc)?)
+}
+
+// Persons 2 and 4 of one region, 1 and 4 of another, and 3 and 5 of these rects.
+fn of_three_regions(alloc: Global, rects: &Rects) -> Result<Rows, NoMemory> {
+    let some = two(alloc, short(alloc, 2, 25)?, short(alloc, 4, 40)?)?;
+    let others = two(alloc, long(alloc, "ann", 1, 30)?, long(alloc, "cy", 4, 40)?)?;
+    let last = two(alloc, long(alloc, "bo", 3, 50)?, long(alloc, "di", 5, 60)?)?;
+    persons(alloc, &some, &others, &last, rects)
+}
+
+#[test]
+fn a_common_row_counts_once(rt: HostRuntime) -> Result<(), Fail> {
+    let alloc = rt.alloc();
+    let answer = of_three_regions(alloc, &Rects::new(alloc))?;
+    assert!(rt; are(&answer, &[30, 25, 40], &[1, 2, 4]));
+    Ok(())
+}
+
+#[test]
+fn later_rows_come_between(rt: HostRuntime) -> Result<(), Fail> {
+    let alloc = rt.alloc();
+    let answer = of_three_regions(alloc, &everyone(alloc)?)?;
+    assert!(rt; are(&answer, &[30, 25, 50, 40, 60], &[1, 2, 3, 4, 5]));
+    Ok(())
+}
+
+// ---- several tables
+
+// Ages have a number, which is their key, and a group.
+const AGE_GROUP: Attrs = Attrs(3);
+
+// The groups of the persons' ages, and the persons' numbers.
+fn groups(alloc: Global) -> Result<Query, NoMemory> {
+    let mut parts = Seq::new(alloc);
+    parts.push(part(alloc))?;
+    parts.push(Part {
+        table: 1,
+        key: 0,
+        need: AGE_GROUP,
+        rects: Rects::new(alloc),
+        width: 0,
+    })?;
+    let mut joins = Seq::new(alloc);
+    joins.push(KeyJoin {
+        left: 0,
+        column: 2,
+        right: 1,
+    })?;
+    let mut output = Seq::new(alloc);
+    output.push(Output { part: 1, column: 1 })?;
+    output.push(Output { part: 0, column: 1 })?;
+    Ok(Query {
+        parts,
+        joins,
+        output,
+    })
+}
+
+// Each age.
+fn every_age(alloc: Global) -> Result<Rects, NoMemory> {
+    let mut rect = Rect::new(alloc);
+    rect.push(Span::Full)?;
+    rect.push(Span::Full)?;
+    let mut rects = Rects::new(alloc);
+    rects.push(rect)?;
+    Ok(rects)
+}
+
+fn joined(alloc: Global, some: &Rows, others: &Rows, ages: &Rows) -> Result<Rows, NoMemory> {
+    let everyone = everyone(alloc)?;
+    let every_age = every_age(alloc)?;
+    let mut lending = Lending::new(alloc);
+    lending.lend(
+        alloc,
+        0,
+        rows_inside(NUMBER_AGE, some.as_slice(), &everyone),
+    )?;
+    lending.lend(
+        alloc,
+        1,
+        rows_inside(AGE_GROUP, ages.as_slice(), &every_age),
+    )?;
+    lending.lend(alloc, 0, rows_inside(ALL, others.as_slice(), &everyone))?;
+    lending.answer(alloc, &groups(alloc)?)
+}
+
+// Persons 2 and 4 of one region, and 1 and 4 of another; nothing is known of the age of person 1.
+#[test]
+fn tables_join_by_key(rt: HostRuntime) -> Result<(), Fail> {
+    let alloc = rt.alloc();
+    let some = two(alloc, short(alloc, 2, 25)?, short(alloc, 4, 40)?)?;
+    let others = two(alloc, long(alloc, "ann", 1, 30)?, long(alloc, "cy", 4, 40)?)?;
+    let ages = two(alloc, short(alloc, 25, 7)?, short(alloc, 40, 8)?)?;
+    let answer = joined(alloc, &some, &others, &ages)?;
+    assert!(rt; are(&answer, &[7, 8], &[2, 4]));
+    Ok(())
+}

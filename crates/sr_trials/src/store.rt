@@ -1,0 +1,348 @@
+//! A client's regions of persons by age, at answers worked out by hand.
+ghost use Rattle.std.specs.Prelude.{◌≡◌, ◌<◌, pos, true, [], ◌∷◌, length, IfOk, IfSome, OnOk, IsTrue};
+ghost use Rattle.std.specs.List.{list_all};
+ghost use Rattle.sr_box.specs.declared.span.Span.TheVariants.{Full, Nums};
+ghost use Rattle.sr_cell.specs.declared.cell.Cell.TheVariants.{Num};
+ghost use Rattle.sr_cell.specs.Columns.{is_point, table_at};
+ghost use Rattle.sr_query.specs.Bound.{is_table};
+ghost use Rattle.sr_store.specs.Stores.{IsStore};
+
+use crate::common::column;
+use sr_box::rect::Rect;
+use sr_box::span::Span;
+use sr_cell::attrs::Attrs;
+use sr_cell::cell::{Cell, Rows};
+use sr_cell::list::{NoMemory, Seq};
+use sr_cell::schema::Schema;
+use sr_cell::table::Table;
+use sr_cell::text::Text;
+use sr_message::message::Tell;
+use sr_policy::policy::{Limits, Policy};
+use sr_query::query::{Part, Parts};
+use sr_store::store::{Arrival, Arrivals, Store};
+use sr_union::rects::Rects;
+use std::alloc::Global;
+use std::test::Fail;
+
+// More than these tests keep.
+const LIMITS: Limits = Limits {
+    rows: 10000,
+    regions: 64,
+    policy: Policy::Recency,
+};
+
+// Numbers up to 9999, ages up to 150, and departments up to 99.
+fn table(alloc: Global) -> Result<Table, NoMemory>
+    ensures sound { IfOk result (λ table. is_table table ≡ true) }
+    ensures key { IfOk result (λ table. table.key ≡ 0) }
+    ensures point { IfOk result (λ table. is_point table.columns (Num (pos 1) ∷ Num (pos 31) ∷ Num (pos 5) ∷ []) ≡ true) }
+    ensures old { IfOk result (λ table. is_point table.columns (Num (pos 1) ∷ Num (pos 41) ∷ Num (pos 5) ∷ []) ≡ true) }
+{
+    let mut columns = Seq::new(alloc);
+    columns.push(column(alloc, "id", 9999)?)?;
+    columns.push(column(alloc, "age", 150)?)?;
+    columns.push(column(alloc, "dept", 99)?)?;
+    Ok(Table {
+        name: Text::of(alloc, "p")?,
+        columns,
+        key: 0,
+    })
+}
+
+fn schema_of(alloc: Global) -> Result<Schema, NoMemory>
+    ensures tables { IfOk result (λ schema. IsTrue (list_all is_table schema)) }
+    ensures there { IfOk result (λ schema. 0 < length schema) }
+    ensures key { IfOk result (λ schema. (table_at schema 0).key ≡ 0) }
+    ensures point { IfOk result (λ schema. is_point (table_at schema 0).columns (Num (pos 1) ∷ Num (pos 31) ∷ Num (pos 5) ∷ []) ≡ true) }
+    ensures old { IfOk result (λ schema. is_point (table_at schema 0).columns (Num (pos 1) ∷ Num (pos 41) ∷ Num (pos 5) ∷ []) ≡ true) }
+{
+    let mut schema = Schema::new(alloc);
+    match schema.add(alloc, table(alloc)?) {
+        Ok(()) => Ok(schema),
+        Err(_) => Err(NoMemory),
+    }
+}
+
+fn ages(alloc: Global, lo: i64, hi: i64) -> Result<Rects, NoMemory>
+    ensures { IfOk result (λ rects. rects ≡ (Full ∷ Nums lo hi ∷ Full ∷ []) ∷ []) }
+{
+    let mut rect = Rect::new(alloc);
+    rect.push(Span::Full)?;
+    rect.push(Span::Nums { lo, hi })?;
+    rect.push(Span::Full)?;
+    let mut rects = Rects::new(alloc);
+    rects.push(rect)?;
+    Ok(rects)
+}
+
+// A query for those ages, which needs the number and the age.
+fn parts_of(alloc: Global, lo: i64, hi: i64) -> Result<Parts, NoMemory>
+    ensures { IfOk result (λ parts. parts ≡ record { table = 0; key = 0; need = 3; rects = (Full ∷ Nums lo hi ∷ Full ∷ []) ∷ []; width = 1 } ∷ []) }
+{
+    let mut parts = Seq::new(alloc);
+    parts.push(Part {
+        table: 0,
+        key: 0,
+        need: Attrs(3),
+        rects: ages(alloc, lo, hi)?,
+        width: 1,
+    })?;
+    Ok(parts)
+}
+
+fn arrival_of(alloc: Global, attrs: Attrs, rects: Rects) -> Arrival
+    ensures { result ≡ record { table = 0; key = 0; attrs = attrs; rects = rects; rows = [] } }
+{
+    Arrival {
+        table: 0,
+        key: 0,
+        attrs,
+        rects,
+        rows: Seq::new(alloc),
+    }
+}
+
+// Those ages arrive, with the number and the age.
+fn narrow(alloc: Global, lo: i64, hi: i64) -> Result<Arrivals, NoMemory>
+    ensures { IfOk result (λ arrivals. arrivals ≡ record { table = 0; key = 0; attrs = 3; rects = (Full ∷ Nums lo hi ∷ Full ∷ []) ∷ []; rows = [] } ∷ []) }
+{
+    let mut arrivals = Seq::new(alloc);
+    arrivals.push(arrival_of(alloc, Attrs(3), ages(alloc, lo, hi)?))?;
+    Ok(arrivals)
+}
+
+// A store to which these ages came; none where they do not fit the table.
+fn held(alloc: Global, schema: &Schema, lo: i64, hi: i64) -> Result<Option<Store>, NoMemory>
+    requires tables { IsTrue (list_all is_table schema.now) }
+    requires there { 0 < length schema.now }
+    requires key { (table_at schema.now 0).key ≡ 0 }
+    ensures store { IfOk result (λ found. IfSome found (λ store. IsStore schema.now store.regions)) }
+{
+    if !ages(alloc, lo, hi)?.fits(&schema.as_slice()[0]) {
+        return Ok(None);
+    }
+    let parts = parts_of(alloc, lo, hi)?;
+    let mut store = Store::new(alloc, LIMITS);
+    store.answered(alloc, schema, 1, parts.as_slice(), narrow(alloc, lo, hi)?)?;
+    Ok(Some(store))
+}
+
+// A query for ages that are all held.
+fn touch(
+    alloc: Global,
+    schema: &Schema,
+    store: &mut Store,
+    lo: i64,
+    hi: i64,
+) -> Result<(), NoMemory>
+    requires tables { IsTrue (list_all is_table schema.now) }
+    requires there { 0 < length schema.now }
+    requires store { IsStore schema.now store.old.regions }
+{
+    if !ages(alloc, lo, hi)?.fits(&schema.as_slice()[0]) {
+        return Err(NoMemory);
+    }
+    let parts = parts_of(alloc, lo, hi)?;
+    store.answered(alloc, schema, 2, parts.as_slice(), Seq::new(alloc))?;
+    Ok(())
+}
+
+// How many rects the region of that number has, and its stamp.
+fn region_at(store: &Store, number: usize) -> Option<(usize, u64)> {
+    match store.regions.get(number) {
+        Some(region) => Some((region.rects.len(), region.stamp)),
+        None => None,
+    }
+}
+
+// The ages 30 to 40, of which 32 to 35 are asked again.
+fn split(alloc: Global) -> Result<Option<Store>, NoMemory> {
+    let schema = schema_of(alloc)?;
+    match held(alloc, &schema, 30, 40)? {
+        None => Ok(None),
+        Some(mut store) => {
+            touch(alloc, &schema, &mut store, 32, 35)?;
+            Ok(Some(store))
+        }
+    }
+}
+
+// How many rects are held of those ages.
+fn rects_held(alloc: Global, store: &Store, lo: i64, hi: i64) -> Result<usize, NoMemory> {
+    let parts = parts_of(alloc, lo, hi)?;
+    Ok(store.cover(alloc, &parts.as_slice()[0])?.len())
+}
+
+#[test]
+fn what_is_asked_again_has_a_new_stamp(rt: HostRuntime) -> Result<(), Fail> {
+    let alloc = rt.alloc();
+    match split(alloc)? {
+        Some(store) => {
+            assert_eq!(rt; store.regions.len(), 2);
+            assert_eq!(rt; region_at(&store, 0), Some((2, 1)));
+            assert_eq!(rt; region_at(&store, 1), Some((1, 2)));
+            assert_eq!(rt; rects_held(alloc, &store, 30, 40)?, 3);
+        }
+        None => assert!(rt; false),
+    }
+    Ok(())
+}
+
+// One row with the number 1 and that age.
+fn row_of_age(alloc: Global, age: i64) -> Result<Rows, NoMemory>
+    ensures { IfOk result (λ rows. rows ≡ (Num (pos 1) ∷ Num age ∷ []) ∷ []) }
+{
+    let mut row = Seq::new(alloc);
+    row.push(Cell::Num(1))?;
+    row.push(Cell::Num(age))?;
+    let mut rows = Seq::new(alloc);
+    rows.push(row)?;
+    Ok(rows)
+}
+
+// The ages from that one on arrive, with a row of it.
+fn arrival_with_row(alloc: Global, age: i64, hi: i64) -> Result<Arrivals, NoMemory>
+    ensures { IfOk result (λ arrivals. arrivals ≡ record { table = 0; key = 0; attrs = 3; rects = (Full ∷ Nums age hi ∷ Full ∷ []) ∷ []; rows = (Num (pos 1) ∷ Num age ∷ []) ∷ [] } ∷ []) }
+{
+    let mut arrivals = Seq::new(alloc);
+    arrivals.push(Arrival {
+        table: 0,
+        key: 0,
+        attrs: Attrs(3),
+        rects: ages(alloc, age, hi)?,
+        rows: row_of_age(alloc, age)?,
+    })?;
+    Ok(arrivals)
+}
+
+// How many marks an answer makes that brings one row, how many it makes then to meet the later limit, and how many rows are left.
+fn limit_rows(
+    alloc: Global,
+    first: u32,
+    later: u32,
+) -> Result<Option<(usize, usize, u64)>, NoMemory> {
+    let schema = schema_of(alloc)?;
+    if !ages(alloc, 31, 40)?.fits(&schema.as_slice()[0]) {
+        return Ok(None);
+    }
+    let parts = parts_of(alloc, 31, 40)?;
+    let limits = Limits {
+        rows: first,
+        regions: 64,
+        policy: Policy::Recency,
+    };
+    let mut store = Store::new(alloc, limits);
+    let marks = store.answered(
+        alloc,
+        &schema,
+        1,
+        parts.as_slice(),
+        arrival_with_row(alloc, 31, 40)?,
+    )?;
+    store.limits.rows = later;
+    let more = store.fit(alloc, &schema)?;
+    Ok(Some((marks.len(), more.len(), store.rows())))
+}
+
+#[test]
+fn rows_above_the_budget_are_dropped(rt: HostRuntime) -> Result<(), Fail> {
+    for (first, later, left) in [(0, 0, (2, 0, 0)), (1, 1, (1, 0, 1)), (1, 0, (1, 1, 0))] {
+        assert_eq!(rt; limit_rows(rt.alloc(), first, later)?, Some(left));
+    }
+    Ok(())
+}
+
+// Person 1 of department 5 has that age from now on.
+fn tell_of(alloc: Global, age: i64) -> Result<Tell, NoMemory>
+    ensures { IfOk result (λ tell. tell ≡ record { table = 0; key = Num (pos 1); after = Some (Num (pos 1) ∷ Num age ∷ Num (pos 5) ∷ []) }) }
+{
+    let mut row = Seq::new(alloc);
+    row.push(Cell::Num(1))?;
+    row.push(Cell::Num(age))?;
+    row.push(Cell::Num(5))?;
+    Ok(Tell {
+        table: 0,
+        key: Cell::Num(1),
+        after: Some(row),
+    })
+}
+
+fn tell_age(alloc: Global, schema: &Schema, store: &mut Store, age: i64) -> Result<(), NoMemory>
+    requires there { 0 < length schema.now }
+    requires key { (table_at schema.now 0).key ≡ 0 }
+    requires point { is_point (table_at schema.now 0).columns (Num (pos 1) ∷ Num age ∷ Num (pos 5) ∷ []) ≡ true }
+    requires store { IsStore schema.now store.old.regions }
+    ensures store { OnOk result (IsStore schema.now store.new.regions) }
+{
+    let mut told = Seq::new(alloc);
+    told.push(tell_of(alloc, age)?)?;
+    store.apply(alloc, told.as_slice())
+}
+
+// The age in the first row of the region of that number.
+fn age_at(store: &Store, number: usize) -> Option<i64> {
+    let region = store.regions.get(number)?;
+    let row = region.rows.get(0)?;
+    match row.get(1) {
+        Some(Cell::Num(age)) => Some(*age),
+        _ => None,
+    }
+}
+
+// A query for the ages 41 to 50 is answered, which brings person 1 with the age 41.
+fn bring_older(alloc: Global, schema: &Schema, store: &mut Store) -> Result<(), NoMemory>
+    requires tables { IsTrue (list_all is_table schema.now) }
+    requires there { 0 < length schema.now }
+    requires key { (table_at schema.now 0).key ≡ 0 }
+    requires old { is_point (table_at schema.now 0).columns (Num (pos 1) ∷ Num (pos 41) ∷ Num (pos 5) ∷ []) ≡ true }
+    requires store { IsStore schema.now store.old.regions }
+{
+    let rects = ages(alloc, 41, 50)?;
+    let parts = parts_of(alloc, 41, 50)?;
+    let cover = store.cover(alloc, &parts.as_slice()[0])?;
+    if !rects.fits(&schema.as_slice()[0]) || rects.meets(&cover) {
+        return Err(NoMemory);
+    }
+    let arrivals = arrival_with_row(alloc, 41, 50)?;
+    store.answered(alloc, schema, 2, parts.as_slice(), arrivals)?;
+    Ok(())
+}
+
+// How many rows a store has that holds person 1 with the age 31, once the age 41 is brought, and the age in its second region.
+fn brought_ages(alloc: Global) -> Result<Option<(u64, Option<i64>)>, NoMemory> {
+    let schema = schema_of(alloc)?;
+    match held(alloc, &schema, 30, 40)? {
+        None => Ok(None),
+        Some(mut store) => {
+            tell_age(alloc, &schema, &mut store, 31)?;
+            bring_older(alloc, &schema, &mut store)?;
+            Ok(Some((store.rows(), age_at(&store, 1))))
+        }
+    }
+}
+
+#[test]
+fn a_held_row_gives_way_to_the_arriving_one(rt: HostRuntime) -> Result<(), Fail> {
+    assert_eq!(rt; brought_ages(rt.alloc())?, Some((1, Some(41))));
+    Ok(())
+}
+
+// The first age in a store of the ages 30 to 40 once person 1 is 31, and once person 1 is 41.
+fn told_ages(alloc: Global) -> Result<Option<(Option<i64>, Option<i64>)>, NoMemory> {
+    let schema = schema_of(alloc)?;
+    match held(alloc, &schema, 30, 40)? {
+        None => Ok(None),
+        Some(mut store) => {
+            tell_age(alloc, &schema, &mut store, 31)?;
+            let young = age_at(&store, 0);
+            tell_age(alloc, &schema, &mut store, 41)?;
+            Ok(Some((young, age_at(&store, 0))))
+        }
+    }
+}
+
+#[test]
+fn what_is_told_moves_a_row_in_and_out(rt: HostRuntime) -> Result<(), Fail> {
+    assert_eq!(rt; told_ages(rt.alloc())?, Some((Some(31), None)));
+    Ok(())
+}

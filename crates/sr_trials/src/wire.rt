@@ -1,0 +1,130 @@
+//! Frames worked out by hand.
+ghost use Rattle.std.specs.Prelude.{◌≡◌, IfOk};
+ghost use Rattle.sr_wire.specs.Examples.{ask};
+
+use crate::common::HELLO;
+use sr_box::rect::Rect;
+use sr_box::span::Span;
+use sr_bytes::views::SpanView;
+use sr_cell::attrs::Attrs;
+use sr_cell::list::NoMemory;
+use sr_message::message::{AskPart, AskParts, Message};
+use sr_union::rects::Rects;
+use sr_wire::body::Body;
+use sr_wire::encode::encode;
+use sr_wire::frame::decode;
+use sr_wire::wire_fault::WireFault;
+use std::alloc::Global;
+use std::test::Fail;
+
+/// A reply to request 1, of version 2.
+const REPLY: [u8; 21] = [
+    0, 0, 0, 17, 0x14, 0, 0, 0, 0, 0, 0, 0, 1, 0, 0, 0, 0, 0, 0, 0, 2,
+];
+
+/// The same with a byte left over.
+const LONG_REPLY: [u8; 22] = [
+    0, 0, 0, 18, 0x14, 0, 0, 0, 0, 0, 0, 0, 1, 0, 0, 0, 0, 0, 0, 0, 2, 0,
+];
+
+/// Request 1 asks the first two columns of the rows from 30 to 40 in the second.
+const ASK: [u8; 43] = [
+    0, 0, 0, 39, 3, 0, 0, 0, 0, 0, 0, 0, 1, 1, 1, 0, 0, 3, 0, 0, 0, 1, 4, 0, 1, 0, 0, 0, 0, 0, 0,
+    0, 30, 0, 0, 0, 0, 0, 0, 0, 40, 0, 0,
+];
+
+fn ask(alloc: Global) -> Result<Message, NoMemory>
+    ensures { IfOk result (λ message. message ≡ ask) }
+{
+    let mut rect = Rect::new(alloc);
+    rect.push(Span::Full)?;
+    rect.push(Span::Nums { lo: 30, hi: 40 })?;
+    rect.push(Span::Full)?;
+    rect.push(Span::Full)?;
+    let mut rects = Rects::new(alloc);
+    rects.push(rect)?;
+    let mut parts = AskParts::new(alloc);
+    parts.push(AskPart {
+        table: 0,
+        attrs: Attrs(3),
+        rects,
+    })?;
+    Ok(Message::Ask {
+        number: 1,
+        fresh: true,
+        parts,
+    })
+}
+
+#[test]
+fn messages_are_encoded(rt: HostRuntime) -> Result<(), Fail> {
+    let alloc = rt.alloc();
+    let hello = Message::Hello {
+        client: 1,
+        number: 0,
+    };
+    let reply = Message::Reply {
+        number: 1,
+        version: 2,
+    };
+    assert_eq!(rt; encode(alloc, &hello)?.as_slice(), HELLO.as_slice());
+    assert_eq!(rt; encode(alloc, &reply)?.as_slice(), REPLY.as_slice());
+    assert_eq!(rt; encode(alloc, &ask(alloc)?)?.as_slice(), ASK.as_slice());
+    Ok(())
+}
+
+/// The numbers of a Hello, a Reply or an ask in front of the bytes.
+fn numbers(bytes: &[u8]) -> Option<(u64, u64)> {
+    let frame = decode(bytes).ok()?;
+    match frame.body() {
+        Body::Hello { client, number } => Some((number, client as u64)),
+        Body::Reply { number, version } => Some((number, version)),
+        Body::Ask { number, fresh, .. } => Some((number, fresh as u64)),
+        _ => None,
+    }
+}
+
+/// The second span of the first rect of an ask, with its table and columns.
+fn asked(bytes: &[u8]) -> Option<(u8, u16, i64, i64)> {
+    let frame = decode(bytes).ok()?;
+    match frame.body() {
+        Body::Ask { mut parts, .. } => {
+            let mut part = parts.next()?;
+            let mut rect = part.rects.next()?;
+            let _full = rect.next()?;
+            match rect.next()? {
+                SpanView::Nums { lo, hi } => Some((part.table, part.attrs.0, lo, hi)),
+                _ => None,
+            }
+        }
+        _ => None,
+    }
+}
+
+#[test]
+fn frames_are_decoded(rt: HostRuntime) {
+    assert_eq!(rt; numbers(&HELLO), Some((0, 1)));
+    assert_eq!(rt; numbers(&REPLY), Some((1, 2)));
+    assert_eq!(rt; numbers(&ASK), Some((1, 1)));
+    assert_eq!(rt; asked(&ASK), Some((0, 3, 30, 40)));
+}
+
+#[test]
+fn the_first_fault_is_named(rt: HostRuntime) {
+    for (bytes, fault) in [
+        (&HELLO[..3], WireFault::Short),
+        (b"\0\0\0\0".as_slice(), WireFault::Field { place: 0 }),
+        (
+            b"\x08\0\0\x01".as_slice(),
+            WireFault::Long {
+                length: 134_217_729,
+            },
+        ),
+        (&HELLO[..4], WireFault::Short),
+        (b"\0\0\0\x0b\x05".as_slice(), WireFault::Kind { byte: 5 }),
+        (&REPLY[..20], WireFault::Short),
+        (LONG_REPLY.as_slice(), WireFault::Field { place: 21 }),
+    ] {
+        assert_eq!(rt; decode(bytes).err(), Some(fault), "in {bytes:?}");
+    }
+}

@@ -3,16 +3,17 @@ use Rattle.std.proofs.Common.{◌≡◌, ℕ, zero, suc, ℤ, pos, negsuc, ◌^�
 use Rattle.std.specs.Prelude.{IsTrue, IsUtf8, FitsSigned, nat_le}
 use Rattle.std.specs.Str.{is_utf8}
 use Rattle.std.specs.Int.{Width, w16, w32, w64, byte_len, from_be_bytes, to_be_bytes, cast_signed, cast_unsigned}
-use Rattle.std.proofs.lemmas.Bool.{ltb-false, le-ltb, ltb-true, lt-ltb, le-leb, cases_Bool}
+use Rattle.std.proofs.lemmas.Bool.{ltb-false, le-ltb, ltb-true, lt-ltb, le-leb, cases_Bool, and_from}
 use Rattle.std.proofs.lemmas.List.{take_at, drop_at, take-append-drop, length-append, length-take}
 use Rattle.std.proofs.lemmas.Nat.{be_bytes_2, be_bytes_4, be_bytes_8, from_be_bytes-to_be_bytes_2, from_be_bytes-to_be_bytes_4, from_be_bytes-to_be_bytes_8}
 use Rattle.std.proofs.lemmas.Int.{to_z-of_z, of_z-to_z}
 use Rattle.std.proofs.lemmas.Str.{IsUtf8-from_is_utf8, is_utf8-from_IsUtf8}
 use Rattle.std.proofs.Math.Facts.{Fits-of_z, sfits_to_z}
+use Rattle.std.specs.Cmp.{first_so, second_so}
 use Rattle.sr_cell.specs.Columns.{are_bytes}
 use Rattle.sr_bytes.specs.Reading.{Got, Bad, give, passing, a_byte, a_number, bytes_that, any_bytes, a_signed, a_text}
 use Rattle.sr_bytes.specs.Spelling.{number_bytes, long_bytes, count_bytes, short_count_bytes, text_bytes, is_from_to, is_number}
-use Rattle.sr_bytes.proofs.Steps.{step_of, got_value, got_rest, passed, front_bytes, left_of, right_of, both}
+use Rattle.sr_bytes.proofs.Steps.{step_of, got_value, got_rest, passed, front_bytes}
 
 -- ---- one byte
 
@@ -32,8 +33,8 @@ byte_in_spelled test bytes b rest e =
 
 at_byte : (bytes : List ℕ) → IsTrue (are_bytes bytes) → (i : ℕ) → get_or bytes i 0 < 256
 at_byte [] fits i = omega arith
-at_byte (b ∷ bytes) fits zero = ltb-true b 256 (left_of (ltb b 256) (are_bytes bytes) fits)
-at_byte (b ∷ bytes) fits (suc i) = at_byte bytes (right_of (ltb b 256) (are_bytes bytes) fits) i
+at_byte (b ∷ bytes) fits zero = ltb-true b 256 (first_so (ltb b 256) (are_bytes bytes) fits)
+at_byte (b ∷ bytes) fits (suc i) = at_byte bytes (second_so (ltb b 256) (are_bytes bytes) fits) i
 
 record IsWide (w : Width) (limit : ℕ) : Type 0 where
   pub len : (n : ℕ) → length (to_be_bytes w n) ≡ byte_len w
@@ -139,11 +140,14 @@ signed_spelled bytes z rest fits e =
 
 -- ---- texts
 
+pub from-to : (low high n : ℕ) → low ≤ n → n ≤ high → is_from_to low high n ≡ true
+from-to low high n above below = and_from (nat_le low n) (nat_le n high) (le-leb low n above) (le-leb n high below)
+
 pub from_zero : (high n : ℕ) → IsTrue (nat_le n high) → IsTrue (is_from_to 0 high n)
-from_zero high n h = both (nat_le 0 n) (nat_le n high) (le-leb 0 n (omega arith)) h
+from_zero high n h = and_from (nat_le 0 n) (nat_le n high) (le-leb 0 n (omega arith)) h
 
 pub to_zero : (high n : ℕ) → IsTrue (is_from_to 0 high n) → IsTrue (nat_le n high)
-to_zero high n h = right_of (nat_le 0 n) (nat_le n high) h
+to_zero high n h = second_so (nat_le 0 n) (nat_le n high) h
 
 fronts : {A : Type 0} (a b : Bool) (bytes : List ℕ) (x y : A) (r rest : List ℕ) → cond a (Bad bytes) (cond b (Got x r) (Bad bytes)) ≡ Got y rest → (a ≡ false) × (b ≡ true) × (x ≡ y) × (r ≡ rest)
 fronts true b bytes x y r rest e = absurd cc

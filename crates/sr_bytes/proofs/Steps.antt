@@ -1,9 +1,11 @@
 -- Readings, step by step.
 use Rattle.std.proofs.Common.{◌≡◌, ℕ, zero, suc, Bool, true, false, cond, List, [], ◌∷◌, ◌++◌, length, refl, sym, ap, subst, ◌∙◌, append_assoc}
-use Rattle.std.specs.Prelude.{IsTrue, ◌&&◌}
+use Rattle.std.specs.Prelude.{IsTrue}
 use Rattle.std.specs.List.{list_all, flat_map}
 use Rattle.std.proofs.lemmas.List.Folds.{list_all-append}
 use Rattle.std.proofs.lemmas.List.Concat.{flat_map-cons}
+use Rattle.std.proofs.lemmas.Bool.{and_from}
+use Rattle.std.specs.Cmp.{first_so, second_so}
 use Rattle.sr_cell.specs.Columns.{are_bytes}
 use Rattle.sr_bytes.specs.Reading.{Reading, Got, Bad, Reader, read_on, ◌>>=◌, give, tested, many}
 use Rattle.sr_bytes.specs.Laws.{IsExact}
@@ -38,30 +40,19 @@ passed test bytes (Bad at) y rest e = absurd cc
 pub behind : (bytes a b left rest : List ℕ) → bytes ≡ a ++ left → left ≡ b ++ rest → bytes ≡ (a ++ b) ++ rest
 behind bytes a b left rest e f = e ∙ ap (λ (t : List ℕ). a ++ t) f ∙ sym (append_assoc a b rest)
 
-pub both : (a b : Bool) → a ≡ true → b ≡ true → (a && b) ≡ true
-both a b h g = rw (h, g) refl
-
-pub left_of : (a b : Bool) → (a && b) ≡ true → a ≡ true
-left_of true b e = refl
-left_of false b e = absurd cc
-
-pub right_of : (a b : Bool) → (a && b) ≡ true → b ≡ true
-right_of true b e = e
-right_of false b e = absurd cc
-
 -- the bytes behind a front, and those of the front
 pub rest_bytes : (bytes front rest : List ℕ) → bytes ≡ front ++ rest → IsTrue (are_bytes bytes) → IsTrue (are_bytes rest)
-rest_bytes bytes front rest e fits = right_of (are_bytes front) (are_bytes rest) (sym (list_all-append _ front rest) ∙ ap are_bytes (sym e) ∙ fits)
+rest_bytes bytes front rest e fits = second_so (are_bytes front) (are_bytes rest) (sym (list_all-append _ front rest) ∙ ap are_bytes (sym e) ∙ fits)
 
 pub front_bytes : (bytes front rest : List ℕ) → bytes ≡ front ++ rest → IsTrue (are_bytes bytes) → IsTrue (are_bytes front)
-front_bytes bytes front rest e fits = left_of (are_bytes front) (are_bytes rest) (sym (list_all-append _ front rest) ∙ ap are_bytes (sym e) ∙ fits)
+front_bytes bytes front rest e fits = first_so (are_bytes front) (are_bytes rest) (sym (list_all-append _ front rest) ∙ ap are_bytes (sym e) ∙ fits)
 
 pub many_again : {A : Type 0} (r : Reader A) (bytes_of : A → List ℕ) (has : A → Bool) → IsExact r bytes_of has
     → (xs : List A) (rest : List ℕ) → IsTrue (list_all has xs) → many r (length xs) (flat_map bytes_of xs ++ rest) ≡ Got xs rest
 many_again r bytes_of has exact [] rest h = refl
 many_again r bytes_of has exact (x ∷ xs) rest h =
-    let here = left_of (has x) (list_all has xs) h in
-    let others = right_of (has x) (list_all has xs) h in
+    let here = first_so (has x) (list_all has xs) h in
+    let others = second_so (has x) (list_all has xs) h in
     let regrouped : flat_map bytes_of (x ∷ xs) ++ rest ≡ bytes_of x ++ (flat_map bytes_of xs ++ rest) = ap (λ (t : List ℕ). t ++ rest) (flat_map-cons bytes_of x xs) ∙ append_assoc (bytes_of x) (flat_map bytes_of xs) rest in
     ap (many r (suc (length xs))) regrouped ∙ rw (exact.again x (flat_map bytes_of xs ++ rest) here, many_again r bytes_of has exact xs rest others) refl
 
@@ -83,4 +74,4 @@ many_spelled r bytes_of has exact (suc n) bytes xs rest fits e =
     let last = got_rest (one.value ∷ two.value) xs two.left rest two.second in
     let parts = behind bytes (bytes_of one.value) (flat_map bytes_of two.value) one.left rest here.0 (others.parts ∙ ap (λ (t : List ℕ). flat_map bytes_of two.value ++ t) last) in
     subst (λ ys. AreRead bytes_of has (suc n) bytes ys rest) (got_value (one.value ∷ two.value) xs two.left rest two.second)
-    (record { parts = rw flat_map-cons parts; count = ap suc others.count; all = both (has one.value) (list_all has two.value) here.1 others.all })
+    (record { parts = rw flat_map-cons parts; count = ap suc others.count; all = and_from (has one.value) (list_all has two.value) here.1 others.all })

@@ -4,7 +4,8 @@ use Rattle.std.specs.Prelude.{IsTrue, ◌&&◌, int_le, not, nat_le, nat_lt}
 use Rattle.std.specs.Int.{w16, w32}
 use Rattle.std.specs.List.{list_all, flat_map}
 use Rattle.std.specs.Str.{is_utf8}
-use Rattle.std.proofs.lemmas.Bool.{leb-true, le-leb}
+use Rattle.std.proofs.lemmas.Bool.{leb-true, le-leb, and_from}
+use Rattle.std.specs.Cmp.{first_so, second_so}
 use Rattle.sr_cell.specs.declared.cell.Cell.{Cell}
 use Rattle.sr_cell.specs.declared.cell.Cell.TheVariants.{Num, Str}
 use Rattle.sr_cell.specs.Cells.{text_le}
@@ -14,7 +15,7 @@ use Rattle.sr_box.specs.declared.span.Span.TheVariants.{Full, Nums, Strs}
 use Rattle.sr_bytes.specs.Reading.{Got, Reader, ◌>>=◌, give, passing, many, a_byte, a_number, a_signed, a_text, any_bytes, a_cell_of, a_cell, a_row, some_rows, a_span_of, a_span, a_rect, some_rects}
 use Rattle.sr_bytes.specs.Spelling.{number_bytes, count_bytes, short_count_bytes, text_bytes, cell_bytes, row_bytes, rows_bytes, span_bytes, rect_bytes, rects_bytes, is_from_to, is_number, is_bound, has_cell_bytes, has_row_bytes, have_rows_bytes, has_span_bytes, has_rect_bytes, have_rects_bytes}
 use Rattle.sr_bytes.specs.Laws.{IsExact}
-use Rattle.sr_bytes.proofs.Steps.{step_of, got_value, got_rest, passed, rest_bytes, front_bytes, left_of, right_of, both, behind, many_again, many_spelled}
+use Rattle.sr_bytes.proofs.Steps.{step_of, got_value, got_rest, passed, rest_bytes, front_bytes, behind, many_again, many_spelled}
 use Rattle.sr_bytes.proofs.Numbers.{byte_in_spelled, short_count_again, short_count_spelled, count_again, count_spelled, signed_again, signed_spelled, from_zero, to_zero, text_again, text_spelled}
 
 -- ---- lists behind a byte of their length
@@ -31,8 +32,8 @@ have_counted low high has xs = is_from_to low high (length xs) && list_all has x
 counted_again : {A : Type 0} (low high : ℕ) (r : Reader A) (bytes_of : A → List ℕ) (has : A → Bool) → IsExact r bytes_of has
     → (xs : List A) (rest : List ℕ) → IsTrue (have_counted low high has xs) → counted low high r (counted_bytes bytes_of xs ++ rest) ≡ Got xs rest
 counted_again low high r bytes_of has exact xs rest h =
-    let count = left_of (is_from_to low high (length xs)) (list_all has xs) h in
-    let all = right_of (is_from_to low high (length xs)) (list_all has xs) h in
+    let count = first_so (is_from_to low high (length xs)) (list_all has xs) h in
+    let all = second_so (is_from_to low high (length xs)) (list_all has xs) h in
     rw count (many_again r bytes_of has exact xs rest all)
 
 counted_spelled : {A : Type 0} (low high : ℕ) (r : Reader A) (bytes_of : A → List ℕ) (has : A → Bool) → IsExact r bytes_of has
@@ -43,7 +44,7 @@ counted_spelled low high r bytes_of has exact bytes xs rest fits e =
     let b = byte_in_spelled (is_from_to low high) bytes s.value s.left s.first in
     let m = many_spelled r bytes_of has exact s.value s.left xs rest (rest_bytes bytes (s.value ∷ []) s.left b.0 fits) s.second in (
       b.0 ∙ ap (λ (t : List ℕ). s.value ∷ t) m.parts ∙ ap (λ (n : ℕ). n ∷ (flat_map bytes_of xs ++ rest)) (sym m.count),
-      both (is_from_to low high (length xs)) (list_all has xs) (rw m.count b.1) m.all,
+      and_from (is_from_to low high (length xs)) (list_all has xs) (rw m.count b.1) m.all,
     )
 
 pub counted_exact : {A : Type 0} (low high : ℕ) (r : Reader A) (bytes_of : A → List ℕ) (has : A → Bool) → IsExact r bytes_of has
@@ -56,7 +57,7 @@ counted_exact low high r bytes_of has exact =
 cell_again : (c : Cell) (rest : List ℕ) → IsTrue (has_cell_bytes c) → a_cell (cell_bytes c ++ rest) ≡ Got c rest
 cell_again (Num n) rest h = rw (signed_again n rest h) refl
 cell_again (Str text) rest h =
-    rw (text_again 0 120 is_utf8 text rest (from_zero 120 (length text) (left_of (nat_le (length text) 120) (is_utf8 text) h)) (right_of (nat_le (length text) 120) (is_utf8 text) h)) refl
+    rw (text_again 0 120 is_utf8 text rest (from_zero 120 (length text) (first_so (nat_le (length text) 120) (is_utf8 text) h)) (second_so (nat_le (length text) 120) (is_utf8 text) h)) refl
 
 cell_behind : (kind : ℕ) (bytes : List ℕ) (c : Cell) (rest : List ℕ) → IsTrue (is_from_to 0 1 kind) → IsTrue (are_bytes bytes) → a_cell_of kind bytes ≡ Got c rest
     → (kind ∷ bytes ≡ cell_bytes c ++ rest) × IsTrue (has_cell_bytes c)
@@ -71,7 +72,7 @@ cell_behind (suc zero) bytes c rest k fits e =
     let t = text_spelled 0 120 is_utf8 bytes s.value s.left s.first in
     let is_rest = got_rest (Str s.value) c s.left rest s.second in
     subst (λ v. (1 ∷ bytes ≡ cell_bytes v ++ rest) × IsTrue (has_cell_bytes v)) (got_value (Str s.value) c s.left rest s.second)
-    (ap (λ (u : List ℕ). 1 ∷ u) (t.parts ∙ ap (λ (r : List ℕ). text_bytes s.value ++ r) is_rest), both (nat_le (length s.value) 120) (is_utf8 s.value) (to_zero 120 (length s.value) t.count) t.passes)
+    (ap (λ (u : List ℕ). 1 ∷ u) (t.parts ∙ ap (λ (r : List ℕ). text_bytes s.value ++ r) is_rest), and_from (nat_le (length s.value) 120) (is_utf8 s.value) (to_zero 120 (length s.value) t.count) t.passes)
 cell_behind (suc (suc kind)) bytes c rest k fits e = absurd (omega (arith, leb-true _ _ (to_zero 1 (suc (suc kind)) k)))
 
 cell_spelled : (bytes : List ℕ) (c : Cell) (rest : List ℕ) → IsTrue (are_bytes bytes) → a_cell bytes ≡ Got c rest → (bytes ≡ cell_bytes c ++ rest) × IsTrue (has_cell_bytes c)
@@ -93,37 +94,37 @@ row_exact = counted_exact 1 12 a_cell cell_bytes has_cell_bytes cell_exact
 from_one : (text : List ℕ) → IsTrue (is_bound text && not (text_le text [])) → IsTrue (is_from_to 1 121 (length text))
 from_one [] h = absurd cc
 from_one (b ∷ text) h =
-    both (nat_le 1 (length (b ∷ text))) (nat_le (length (b ∷ text)) 121) (le-leb 1 (length (b ∷ text)) (omega arith))
-    (left_of (nat_le (length (b ∷ text)) 121) (are_bytes (b ∷ text)) (left_of (is_bound (b ∷ text)) true h))
+    and_from (nat_le 1 (length (b ∷ text))) (nat_le (length (b ∷ text)) 121) (le-leb 1 (length (b ∷ text)) (omega arith))
+    (first_so (nat_le (length (b ∷ text)) 121) (are_bytes (b ∷ text)) (first_so (is_bound (b ∷ text)) true h))
 
 to_one : (text : List ℕ) → IsTrue (is_from_to 1 121 (length text)) → IsTrue (are_bytes text) → IsTrue (is_bound text && not (text_le text []))
 to_one [] h fits = absurd cc
-to_one (b ∷ text) h fits = both (is_bound (b ∷ text)) true (both (nat_le (length (b ∷ text)) 121) (are_bytes (b ∷ text)) (right_of (nat_le 1 (length (b ∷ text))) (nat_le (length (b ∷ text)) 121) h) fits) refl
+to_one (b ∷ text) h fits = and_from (is_bound (b ∷ text)) true (and_from (nat_le (length (b ∷ text)) 121) (are_bytes (b ∷ text)) (second_so (nat_le 1 (length (b ∷ text))) (nat_le (length (b ∷ text)) 121) h) fits) refl
 
 span_again : (s : Span) (rest : List ℕ) → IsTrue (has_span_bytes s) → a_span (span_bytes s ++ rest) ≡ Got s rest
 span_again Full rest h = refl
 span_again (Nums lo hi) rest h =
-    let ends = left_of (is_number lo && is_number hi) (int_le lo hi) h in
-    let above = right_of (is_number lo && is_number hi) (int_le lo hi) h in
+    let ends = first_so (is_number lo && is_number hi) (int_le lo hi) h in
+    let above = second_so (is_number lo && is_number hi) (int_le lo hi) h in
     ap (λ (t : List ℕ). a_span (1 ∷ t)) (append_assoc (number_bytes lo) (number_bytes hi) rest)
-    ∙ rw (signed_again lo (number_bytes hi ++ rest) (left_of (is_number lo) (is_number hi) ends), signed_again hi rest (right_of (is_number lo) (is_number hi) ends), above) refl
+    ∙ rw (signed_again lo (number_bytes hi ++ rest) (first_so (is_number lo) (is_number hi) ends), signed_again hi rest (second_so (is_number lo) (is_number hi) ends), above) refl
 span_again (Strs lo (Some hi)) rest h =
-    let ends = left_of (is_bound lo && is_bound hi) (not (text_le hi lo)) h in
-    let above = right_of (is_bound lo && is_bound hi) (not (text_le hi lo)) h in
+    let ends = first_so (is_bound lo && is_bound hi) (not (text_le hi lo)) h in
+    let above = second_so (is_bound lo && is_bound hi) (not (text_le hi lo)) h in
     ap (λ (t : List ℕ). a_span (2 ∷ t)) (append_assoc (text_bytes lo) (text_bytes hi) rest)
     ∙ rw (
-      text_again 0 121 any_bytes lo (text_bytes hi ++ rest) (from_zero 121 (length lo) (left_of (nat_le (length lo) 121) (are_bytes lo) (left_of (is_bound lo) (is_bound hi) ends))) refl,
-      text_again 0 121 any_bytes hi rest (from_zero 121 (length hi) (left_of (nat_le (length hi) 121) (are_bytes hi) (right_of (is_bound lo) (is_bound hi) ends))) refl,
+      text_again 0 121 any_bytes lo (text_bytes hi ++ rest) (from_zero 121 (length lo) (first_so (nat_le (length lo) 121) (are_bytes lo) (first_so (is_bound lo) (is_bound hi) ends))) refl,
+      text_again 0 121 any_bytes hi rest (from_zero 121 (length hi) (first_so (nat_le (length hi) 121) (are_bytes hi) (second_so (is_bound lo) (is_bound hi) ends))) refl,
       above,
     ) refl
 span_again (Strs lo None) rest h = rw (text_again 1 121 any_bytes lo rest (from_one lo h) refl) refl
 
 bound_is : (text : List ℕ) → IsTrue (is_from_to 0 121 (length text)) → IsTrue (are_bytes text) → IsTrue (is_bound text)
-bound_is text few fits = both (nat_le (length text) 121) (are_bytes text) (to_zero 121 (length text) few) fits
+bound_is text few fits = and_from (nat_le (length text) 121) (are_bytes text) (to_zero 121 (length text) few) fits
 
 -- the bytes of a text that stood in front
 bytes_of_text : (bytes text rest : List ℕ) → bytes ≡ text_bytes text ++ rest → IsTrue (are_bytes bytes) → IsTrue (are_bytes text)
-bytes_of_text bytes text rest e fits = right_of (nat_lt (length text) 256) (are_bytes text) (front_bytes bytes (text_bytes text) rest e fits)
+bytes_of_text bytes text rest e fits = second_so (nat_lt (length text) 256) (are_bytes text) (front_bytes bytes (text_bytes text) rest e fits)
 
 span_behind : (kind : ℕ) (bytes : List ℕ) (s : Span) (rest : List ℕ) → IsTrue (is_from_to 0 3 kind) → IsTrue (are_bytes bytes) → a_span_of kind bytes ≡ Got s rest
     → (kind ∷ bytes ≡ span_bytes s ++ rest) × IsTrue (has_span_bytes s)
@@ -141,7 +142,7 @@ span_behind (suc zero) bytes s rest k fits e =
     let is_rest = got_rest (Nums lo hi) s two.left rest two.second in
     subst (λ v. (1 ∷ bytes ≡ span_bytes v ++ rest) × IsTrue (has_span_bytes v)) (got_value (Nums lo hi) s two.left rest two.second) (
       ap (λ (t : List ℕ). 1 ∷ t) (behind bytes (number_bytes lo) (number_bytes hi) one.left rest first.0 (second.0 ∙ ap (λ (r : List ℕ). number_bytes hi ++ r) is_rest)),
-      both (is_number lo && is_number hi) (int_le lo hi) (both (is_number lo) (is_number hi) first.1 second.1) p.1,
+      and_from (is_number lo && is_number hi) (int_le lo hi) (and_from (is_number lo) (is_number hi) first.1 second.1) p.1,
     )
 span_behind (suc (suc zero)) bytes s rest k fits e =
     let one = step_of (a_text 0 121 any_bytes bytes) (λ lo. passing (λ hi. not (text_le hi lo)) (a_text 0 121 any_bytes) >>= λ hi. give (Strs lo (Some hi))) s rest e in
@@ -157,8 +158,8 @@ span_behind (suc (suc zero)) bytes s rest k fits e =
     let hi_bytes = bytes_of_text one.left hi two.left second.parts more in
     subst (λ v. (2 ∷ bytes ≡ span_bytes v ++ rest) × IsTrue (has_span_bytes v)) (got_value (Strs lo (Some hi)) s two.left rest two.second) (
       ap (λ (t : List ℕ). 2 ∷ t) (behind bytes (text_bytes lo) (text_bytes hi) one.left rest first.parts (second.parts ∙ ap (λ (r : List ℕ). text_bytes hi ++ r) is_rest)),
-      both (is_bound lo && is_bound hi) (not (text_le hi lo))
-          (both (is_bound lo) (is_bound hi) (bound_is lo first.count lo_bytes) (bound_is hi second.count hi_bytes)) p.1,
+      and_from (is_bound lo && is_bound hi) (not (text_le hi lo))
+          (and_from (is_bound lo) (is_bound hi) (bound_is lo first.count lo_bytes) (bound_is hi second.count hi_bytes)) p.1,
     )
 span_behind (suc (suc (suc zero))) bytes s rest k fits e =
     let one = step_of (a_text 1 121 any_bytes bytes) (λ lo. give (Strs lo None)) s rest e in
@@ -204,9 +205,9 @@ listed_again : {A : Type 0} (limit low high : ℕ) (count : Reader ℕ) (count_o
     → (r : Reader A) (bytes_of : A → List ℕ) (has : A → Bool) → IsExact r bytes_of has
     → (xs : List A) (rest : List ℕ) → IsTrue (have_counted low high has xs) → listed low high count r (listed_bytes count_of bytes_of xs ++ rest) ≡ Got xs rest
 listed_again limit low high count count_of counts below r bytes_of has exact xs rest h =
-    let number = left_of (is_from_to low high (length xs)) (list_all has xs) h in
-    let all = right_of (is_from_to low high (length xs)) (list_all has xs) h in
-    let few : length xs ≤ high = leb-true _ _ (right_of (nat_le low (length xs)) (nat_le (length xs) high) number) in
+    let number = first_so (is_from_to low high (length xs)) (list_all has xs) h in
+    let all = second_so (is_from_to low high (length xs)) (list_all has xs) h in
+    let few : length xs ≤ high = leb-true _ _ (second_so (nat_le low (length xs)) (nat_le (length xs) high) number) in
     ap (listed low high count r) (append_assoc (count_of (length xs)) (flat_map bytes_of xs) rest)
     ∙ rw (counts.again (length xs) (flat_map bytes_of xs ++ rest) (omega (arith, few, below)), number) (many_again r bytes_of has exact xs rest all)
 
@@ -220,7 +221,7 @@ listed_spelled limit low high count count_of counts r bytes_of has exact bytes x
     let n = counts.spelled bytes s.value s.left fits p.0 in
     let m = many_spelled r bytes_of has exact s.value s.left xs rest (rest_bytes bytes (count_of s.value) s.left n.0 fits) s.second in (
       behind bytes (count_of (length xs)) (flat_map bytes_of xs) s.left rest (n.0 ∙ ap (λ (k : ℕ). count_of k ++ s.left) (sym m.count)) m.parts,
-      both (is_from_to low high (length xs)) (list_all has xs) (rw m.count p.1) m.all,
+      and_from (is_from_to low high (length xs)) (list_all has xs) (rw m.count p.1) m.all,
     )
 
 pub listed_exact : {A : Type 0} (limit low high : ℕ) (count : Reader ℕ) (count_of : ℕ → List ℕ) → IsCount limit count count_of → high < limit

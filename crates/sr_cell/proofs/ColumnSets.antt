@@ -1,5 +1,5 @@
 -- Sets of columns, bit by bit.
-use Rattle.std.proofs.Common.{◌≡◌, ℕ, suc, ◌-◌, ◌/◌, ◌%◌, ◌^◌, sym, ap, ◌∙◌, false, arith, zero, ◌≤◌, ◌+◌, true, min, refl}
+use Rattle.std.proofs.Common.{◌≡◌, ℕ, suc, ◌/◌, ◌%◌, ◌^◌, sym, ap, ◌∙◌, false, arith, zero, ◌≤◌, ◌+◌, true, min, refl}
 use Rattle.std.specs.Prelude.{◌==◌, bit_and}
 use Rattle.std.proofs.Math.Nat.{div-div-eq-div-mul, pow-succ', div-one, zero-div}
 use Rattle.std.proofs.lemmas.Bool.Decides.{nat_tests}

@@ -2,7 +2,9 @@
 use Rattle.std.proofs.Common.{◌≡◌, ℕ, ◌<◌, suc, true, List, [], ◌∷◌, get_or, Fits, w8, refl, arith, length}
 use Rattle.std.proofs.lemmas.Bool.Decides.{nat_tests}
 use Rattle.std.specs.Prelude.{ℤ, int_le}
-use Rattle.sr_cell.specs.Columns.{are_bytes, is_point, in_kind}
+use Rattle.std.specs.Cmp.{first_so, second_so}
+use Rattle.std.proofs.lemmas.Bool.{and_from}
+use Rattle.sr_cell.specs.Columns.{are_bytes, is_point, in_kind, in_column, takes_kind, takes_cell, fits_columns, is_value, are_values}
 use Rattle.sr_cell.specs.declared.table.Column.{Column}
 use Rattle.sr_cell.specs.Cells.{Row}
 use Rattle.sr_cell.specs.declared.cell.Cell.{Cell}
@@ -34,3 +36,19 @@ in_kind-high Numbers low high (Num m) h n e = grind (arith, e)
 in_kind-high Numbers low high (Str m) h n e = absurd (cc)
 in_kind-high Texts low high (Num m) h n e = absurd (grind arith)
 in_kind-high Texts low high (Str m) h n e = absurd (cc)
+
+-- what a column of a table holds, of texts that are bytes, is a value of the column
+pub takes-in : (k : Kind) (low high : ℤ) (v : Cell) → takes_kind k low high v ≡ true → is_value v ≡ true → in_kind k low high v ≡ true
+takes-in Numbers low high (Num n) takes value = takes
+takes-in Numbers low high (Str s) takes value = absurd (cc)
+takes-in Texts low high (Num n) takes value = absurd (cc)
+takes-in Texts low high (Str s) takes value = value
+
+pub fits-point : (columns : List Column) (row : Row) → fits_columns columns row ≡ true → are_values row ≡ true → is_point columns row ≡ true
+fits-point [] [] fits values = refl
+fits-point [] (v ∷ row) fits values = absurd (cc)
+fits-point (c ∷ columns) [] fits values = absurd (cc)
+fits-point (c ∷ columns) (v ∷ row) fits values =
+    and_from (in_column c v) (is_point columns row)
+    (takes-in c.kind c.lo c.hi v (first_so (takes_cell c v) (fits_columns columns row) fits) (first_so (is_value v) (are_values row) values))
+    (fits-point columns row (second_so (takes_cell c v) (fits_columns columns row) fits) (second_so (is_value v) (are_values row) values))

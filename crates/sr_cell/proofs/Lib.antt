@@ -3,6 +3,7 @@ pub mod Fitting
 pub mod TableNames
 pub mod Booleans
 pub mod Numbers
+pub mod Digits
 pub mod Results
 pub mod Lists
 pub mod ColumnSets

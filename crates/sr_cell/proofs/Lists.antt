@@ -1,5 +1,5 @@
 -- Small facts of lists: tests of all items, filters, and one item more.
-use Rattle.std.proofs.Common.{◌≡◌, ◌-◌, Bool, true, false, cond, List, [], ◌∷◌, refl, ◌+◌, ◌++◌, map, ap, ◌||◌}
+use Rattle.std.proofs.Common.{◌≡◌, Bool, true, false, cond, List, [], ◌∷◌, refl, ◌++◌, map, ap, ◌||◌}
 use Rattle.std.specs.Prelude.{filter, ◌&&◌, find, Some, None}
 use Rattle.std.specs.List.{list_all, list_any, AllZip}
 use Rattle.std.proofs.lemmas.Bool.{and_from}

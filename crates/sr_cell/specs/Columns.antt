@@ -46,5 +46,13 @@ fits_columns [] (v ∷ row) = false
 fits_columns (c ∷ cs) [] = false
 fits_columns (c ∷ cs) (v ∷ row) = takes_cell c v && fits_columns cs row
 
+-- a number, or any bytes
+abbrev pub is_value : Cell → Bool
+is_value (Num n) = true
+is_value (Str s) = are_bytes s
+
+abbrev pub are_values : Row → Bool
+are_values row = list_all is_value row
+
 abbrev pub table_at : List Table → ℕ → Table
 table_at schema t = slice_index_or schema t (record { name = []; columns = []; key = 0 })

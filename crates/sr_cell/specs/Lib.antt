@@ -3,3 +3,4 @@ pub mod Columns
 pub mod Attrs
 pub mod Names
 pub mod Faults
+pub mod Clients

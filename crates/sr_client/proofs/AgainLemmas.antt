@@ -26,6 +26,7 @@ use Rattle.sr_session.specs.Rules as rules
 use Rattle.sr_session.specs.Walks.{AskOut}
 use Rattle.sr_session.proofs.DropLemmas.{asks-some}
 use Rattle.sr_session.proofs.TakeLemmas.{replies-are-answerable}
+use Rattle.sr_session.specs.Bases.{basis_of}
 use Rattle.sr_client.specs.Asking.{whole_asks}
 use Rattle.sr_client.specs.Cutting.{EndWith}
 use Rattle.sr_client.specs.declared.client.AskOut as code
@@ -34,7 +35,7 @@ use Rattle.sr_client.specs.declared.client.Request.TheVariants as request
 use Rattle.sr_client.specs.declared.steps.Took.TheVariants as took
 use Rattle.sr_client.specs.Laying.{asking}
 use Rattle.sr_client.specs.Sends.{IsWellSent}
-use Rattle.sr_client.specs.Stands.{Hidden, Facts, Stands, StandsOver, Truly, past_of, basis_of}
+use Rattle.sr_client.specs.Stands.{Hidden, Facts, Stands, StandsOver, Truly, past_of}
 use Rattle.sr_client.specs.Steps.{Takes}
 use Rattle.sr_client.proofs.AskLemmas.{asks-whole, whole-along}
 use Rattle.sr_client.proofs.AskedLemmas.{is-out}

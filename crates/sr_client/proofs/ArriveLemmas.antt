@@ -9,6 +9,7 @@ use Rattle.sr_message.specs.declared.message.Message.{Message}
 use Rattle.sr_message.specs.declared.message.Message.TheVariants.{Hello, Resume, Ask, Write, Welcome, Notice, Rows, Reply, Written, Refused, Lapse}
 use Rattle.sr_store.specs.declared.store.Arrival.{Arrival}
 use Rattle.sr_session.specs.Arrivals.{arrived_at}
+use Rattle.sr_session.proofs.RowLemmas.{arrived-append}
 use Rattle.sr_client.specs.Arriving.{arrival_of, unfilled, arrivals_from, arrivals_of, more_at, with_message, with_messages}
 
 -- ---- rows more of one part
@@ -50,22 +51,6 @@ messages-length [] arrivals = refl
 messages-length (m ∷ ms) arrivals = messages-length ms (with_message m arrivals) ∙ message-length m arrivals
 
 -- ---- all messages
-
--- messages that come later bring their rows behind the others
-pub arrived-append : (i : ℕ) (a b : List Message) → arrived_at i (a ++ b) ≡ arrived_at i a ++ arrived_at i b
-arrived-append i [] b = refl
-arrived-append i (Rows k part rows ∷ a) b =
-    ap (λ more. (if part == i then rows else []) ++ more) (arrived-append i a b) ∙ sym (append_assoc (if part == i then rows else []) (arrived_at i a) (arrived_at i b))
-arrived-append i (Notice w told ∷ a) b = arrived-append i a b
-arrived-append i (Lapse w ∷ a) b = arrived-append i a b
-arrived-append i (Reply k w ∷ a) b = arrived-append i a b
-arrived-append i (Written k w ∷ a) b = arrived-append i a b
-arrived-append i (Refused k fault ∷ a) b = arrived-append i a b
-arrived-append i (Welcome k w kept ∷ a) b = arrived-append i a b
-arrived-append i (Hello client number ∷ a) b = arrived-append i a b
-arrived-append i (Resume client number version holdings ∷ a) b = arrived-append i a b
-arrived-append i (Ask number fresh parts ∷ a) b = arrived-append i a b
-arrived-append i (Write number sql ∷ a) b = arrived-append i a b
 
 -- a message that brings no rows of these parts leaves them
 still : (schema : List Table) (i : ℕ) (asks : List AskPart) (pre : List Message) (m : Message) → ((k : ℕ) → i ≤ k → arrived_at k (m ∷ []) ≡ []) → arrivals_from i schema asks (pre ++ m ∷ []) ≡ arrivals_from i schema asks pre

@@ -3,13 +3,14 @@ use Rattle.std.proofs.Common.{◌≡◌, ℕ, ◌+◌, ◌<◌, ◌≤◌, Bool,
 use Rattle.std.specs.Prelude.{not, ◌&&◌, ◌||◌, ◌==◌, filter, if◌then◌else◌}
 use Rattle.std.specs.List.{list_all, list_any, All, AllZip}
 use Rattle.std.proofs.lemmas.Bool.Decides.{nat_tests}
-use Rattle.std.proofs.lemmas.Bool.{and_parts}
+use Rattle.std.proofs.lemmas.Bool.{and_parts, or_parts}
 use Rattle.std.proofs.lemmas.List.Elements.{All-nil, All-cons, All-head, All-tail, All-weaker}
 use Rattle.sr_cell.specs.declared.table.Table.{Table}
 use Rattle.sr_cell.specs.declared.cell.Cell.{Cell}
 use Rattle.sr_cell.specs.Attrs.{has_column, includes}
 use Rattle.sr_cell.specs.Cells.{Row}
 use Rattle.sr_cell.specs.Columns.{table_at, is_point}
+use Rattle.sr_cell.proofs.ColumnSets.{has_column-more}
 use Rattle.sr_box.specs.Points.{in_any, rect_fits, constrains_only}
 use Rattle.sr_message.specs.declared.message.AskPart.{AskPart}
 use Rattle.sr_message.specs.declared.message.Message.{Message}
@@ -37,8 +38,8 @@ use Rattle.sr_store.proofs.Noticing.{told-in}
 use Rattle.sr_client.specs.Answering.{is_kept, is_new, Suits, IsThere}
 use Rattle.sr_client.specs.Arriving.{arrival_of, arrivals_from}
 use Rattle.sr_client.proofs.MeantLemmas.{part-table, part-key, part-points, part-over}
-use Rattle.sr_client.proofs.PartsLemmas.{EachFrom, apart-numbers, first-differs, is_named, numbers-apart, or-left, or-right, rest-differs}
-use Rattle.sr_client.proofs.ToldLemmas.{has-more, includes-each}
+use Rattle.sr_client.proofs.PartsLemmas.{EachFrom, apart-numbers, first-differs, is_named, numbers-apart, rest-differs}
+use Rattle.sr_client.proofs.ToldLemmas.{includes-each}
 use Rattle.sr_client.proofs.Covers.{occurs-covers}
 use Rattle.sr_client.proofs.CoverLemmas.{covered-of, kept-all}
 use Rattle.sr_client.proofs.SuitLemmas.{AreRows}
@@ -124,11 +125,11 @@ there-later schema tables regions r rs fit only arrived (part ∷ parts) (m ∷ 
         ap (λ b. is_kept part regions p || (in_any part.rects p && ((b && in_any r.rects p) || list_any (λ (r : Arrival). r.table == part.table && in_any r.rects p) rs))) other
         ∙ there.0.points p point;
   },
-  there-later schema tables regions r rs fit only arrived parts meant zip.1 (or-right (m.table == r.table) (is_named r.table meant) far) there.1,
+  there-later schema tables regions r rs fit only arrived parts meant zip.1 (or_parts (m.table == r.table) (is_named r.table meant) far).1 there.1,
 )
   where
     own : (m.table == r.table) ≡ false
-    own = or-left (m.table == r.table) (is_named r.table meant) far
+    own = (or_parts (m.table == r.table) (is_named r.table meant) far).0
 
     other : (r.table == part.table) ≡ false
     other = numbers-apart r.table part.table (λ same. apart-numbers m.table r.table own (sym (same ∙ zip.0.table)))
@@ -142,7 +143,7 @@ arrival-is schema marks part m ask rows a are =
     let need = asked-need schema marks part m ask a in
     let fits = asked-fits schema marks part m ask a in
     let key : has_column ask.attrs (table_at schema ask.table).key ≡ true =
-    has-more ask.attrs part.need (table_at schema ask.table).key need (ap (λ t. has_column part.need (table_at schema t).key) table ∙ part-key schema part m a.is a.sound) in
+    has_column-more ask.attrs part.need (table_at schema ask.table).key need (ap (λ t. has_column part.need (table_at schema t).key) table ∙ part-key schema part m a.is a.sound) in
     record {
       table = subst (λ t. t < length schema) (sym table) (part-table schema part m a.is a.sound);
       key = refl;
@@ -294,10 +295,10 @@ module _ (schema : List Table) (marks : List Mark) (ms : List Message) where
   -- of a table that no part names nothing was asked
   others-differ : (i t : ℕ) (meant : List model.Part) (asks : List AskPart) → Asks schema marks meant asks → is_named t meant ≡ false → All (IsOther t) (arrivals_from i schema asks ms)
   others-differ i t meant asks nothing none = All-nil (IsOther t)
-  others-differ i t meant asks (covered m others more free rest) none = others-differ i t others more rest (or-right (m.table == t) (is_named t others) none)
+  others-differ i t meant asks (covered m others more free rest) none = others-differ i t others more rest (or_parts (m.table == t) (is_named t others) none).1
   others-differ i t meant asks (asked m others ask more is rest) none =
       All-cons (IsOther t) (arrival_of schema ask (arrived_at i ms)) (arrivals_from (i + 1) schema more ms)
-      (ap (λ n. n == t) is.table ∙ or-left (m.table == t) (is_named t others) none) (others-differ (i + 1) t others more rest (or-right (m.table == t) (is_named t others) none))
+      (ap (λ n. n == t) is.table ∙ (or_parts (m.table == t) (is_named t others) none).0) (others-differ (i + 1) t others more rest (or_parts (m.table == t) (is_named t others) none).1)
 
   -- no point arrives twice, or is held already
   pub all-apart : (i : ℕ) (stamps : Stamps) (regions : List Region) (parts : List Part) (meant : List model.Part) (asks : List AskPart) → Asks schema marks meant asks → AllZip (IsPart schema) parts meant

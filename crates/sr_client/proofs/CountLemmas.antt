@@ -16,16 +16,6 @@ counted-more from queries n few = by (from - 1) queries (omega (arith, few))
     by (suc k) [] l = absurd (omega (arith, l))
     by (suc k) (q ∷ qs) l = by k qs (omega (arith, l))
 
--- none before the first that counts does
-pub counted-none : (queries : List Numbered) (from : ℕ) → length queries + 1 ≤ from → counted from queries ≡ []
-counted-none queries from all = by (from - 1) queries (omega (arith, all))
-  where
-    by : (k : ℕ) (qs : List Numbered) → length qs ≤ k → map (λ (x : Numbered). x.query) (drop k qs) ≡ []
-    by zero [] l = refl
-    by (suc k) [] l = refl
-    by zero (q ∷ qs) l = absurd (omega (arith, l))
-    by (suc k) (q ∷ qs) l = by k qs (omega (arith, l))
-
 set-last : (earlier : List Numbered) (x y : Numbered) → x.query ≡ y.query
     → map (λ (n : Numbered). n.query) (slice_set (earlier ++ x ∷ []) (length earlier) y) ≡ map (λ (n : Numbered). n.query) (earlier ++ x ∷ [])
 set-last [] x y same = ap (λ q. q ∷ []) (sym same)

@@ -1,15 +1,15 @@
 -- What regions cover of a part.
-use Rattle.std.proofs.Common.{◌≡◌, ℕ, Bool, true, false, List, [], ◌∷◌, refl, ◌∙◌, ap, subst, arith}
-use Rattle.std.specs.Prelude.{not, ◌&&◌, ◌||◌, filter}
-use Rattle.std.specs.List.{list_all, AllZip}
-use Rattle.std.proofs.lemmas.Bool.{and_parts}
+use Rattle.std.proofs.Common.{◌≡◌, Bool, true, false, List, [], ◌∙◌, ap, subst, arith, ℕ, ◌∷◌}
+use Rattle.std.specs.Prelude.{not, ◌&&◌, ◌||◌}
 use Rattle.std.proofs.lemmas.List.Elements.{All-nil}
+use Rattle.std.specs.List.{AllZip, list_all}
+use Rattle.std.proofs.lemmas.Bool.{and_parts}
+use Rattle.sr_lines.specs.Sound.{is_sound_part}
+use Rattle.sr_message.specs.declared.message.AskPart.{AskPart}
 use Rattle.sr_cell.specs.declared.table.Table.{Table}
-use Rattle.sr_cell.specs.declared.table.Column.{Column}
 use Rattle.sr_cell.specs.Cells.{Row}
 use Rattle.sr_cell.specs.Columns.{table_at, is_point}
 use Rattle.sr_box.specs.Points.{in_any, HasNoPoint}
-use Rattle.sr_message.specs.declared.message.AskPart.{AskPart}
 use Rattle.sr_model.specs.Queries as model
 use Rattle.sr_model.specs.Queries.{points_of, rows_at}
 use Rattle.sr_model.specs.Statements.{Tables}
@@ -17,21 +17,15 @@ use Rattle.sr_query.specs.Bound.{IsPart}
 use Rattle.sr_query.specs.declared.query.Part.{Part}
 use Rattle.sr_history.specs.declared.mark.Mark.{Mark}
 use Rattle.sr_history.specs.Marks.{is_held, is_covered}
-use Rattle.sr_history.specs.Rests.{rest_of, Asks, nothing, covered, asked}
-use Rattle.sr_lines.specs.Sound.{is_sound_part}
+use Rattle.sr_history.specs.Rests.{rest_of, covered, Asks, nothing, asked}
 use Rattle.sr_region.specs.declared.region.Region.{Region}
 use Rattle.sr_store.specs.Classes.{Stamps, Keeps}
-use Rattle.sr_store.specs.Told.{told_of}
 use Rattle.sr_store.specs.Stores.{cover_of}
 use Rattle.sr_store.proofs.Covering.{cover_is}
-use Rattle.sr_client.specs.Answering.{is_kept, is_new, Suits, IsThere}
-use Rattle.sr_client.proofs.Calls.{none-arrived}
+use Rattle.sr_store.specs.Told.{told_of}
+use Rattle.sr_client.specs.Answering.{is_kept, is_new, IsThere, Suits}
 use Rattle.sr_client.proofs.MeantLemmas.{part-points, part-over}
-
--- of points, two tests that agree on them keep the same ones
-pub filter-points : (cs : List Column) (f g : Row → Bool) (rows : List Row) → list_all (is_point cs) rows ≡ true → ((p : Row) → is_point cs p ≡ true → f p ≡ g p) → filter f rows ≡ filter g rows
-filter-points cs f g [] points same = refl
-filter-points cs f g (p ∷ rows) points same = rw (same p (grind (arith, points)), filter-points cs f g rows (grind (arith, points)) same) refl
+use Rattle.sr_client.proofs.Calls.{none-arrived}
 
 -- what is covered, as the regions say it
 pub covered-of : (schema : List Table) (marks : List Mark) (stamps : Stamps) (regions : List Region) (part : Part) (m : model.Part) (p : Row) → Keeps schema (is_held marks) stamps regions → IsPart schema part m

@@ -5,6 +5,8 @@ use Rattle.std.specs.List.{list_all, All}
 use Rattle.std.proofs.lemmas.Bool.Decides.{nat_tests}
 use Rattle.std.proofs.lemmas.List.Folds.{list_all-append}
 use Rattle.std.proofs.lemmas.List.Elements.{All-head, All-tail}
+use Rattle.std.specs.Cmp.{first_so, second_so}
+use Rattle.std.proofs.lemmas.Bool.{eqb-true}
 use Rattle.sr_cell.specs.declared.table.Table.{Table}
 use Rattle.sr_cell.specs.Attrs.{includes}
 use Rattle.sr_cell.specs.Cells.{Row}
@@ -17,15 +19,6 @@ use Rattle.sr_region.specs.declared.region.Region.{Region}
 use Rattle.sr_store.specs.Classes.{is_of, occurs}
 use Rattle.sr_store.specs.Stores.{serves, cover_of, IsOfSchema}
 
-pub left-true : (x y : Bool) → (x && y) ≡ true → x ≡ true
-left-true x y e = grind arith
-
-pub right-true : (x y : Bool) → (x && y) ≡ true → y ≡ true
-right-true x y e = grind arith
-
-pub same-number : (a b : ℕ) → (a == b) ≡ true → a ≡ b
-same-number a b h = grind (arith, nat_tests)
-
 -- they fit its table
 pub cover-fits : (schema : List Table) (part : Part) (regions : List Region) → All (IsOfSchema schema) regions → list_all (rect_fits (table_at schema part.table).columns) (cover_of part regions) ≡ true
 cover-fits schema part [] each = refl
@@ -34,7 +27,7 @@ cover-fits schema part (g ∷ gs) each = go (serves part g) refl (cover-fits sch
     go : (b : Bool) → serves part g ≡ b → list_all (rect_fits (table_at schema part.table).columns) (cover_of part gs) ≡ true → list_all (rect_fits (table_at schema g.table).columns) g.rects ≡ true
         → list_all (rect_fits (table_at schema part.table).columns) (flat_map (λ g. g.rects) (cond b (g ∷ filter (serves part) gs) (filter (serves part) gs))) ≡ true
     go true is ih fit =
-        let table : g.table ≡ part.table = same-number g.table part.table (left-true (g.table == part.table) (includes g.attrs part.need) is) in
+        let table : g.table ≡ part.table = eqb-true g.table part.table (first_so (g.table == part.table) (includes g.attrs part.need) is) in
         let here = subst (λ t. list_all (rect_fits (table_at schema t).columns) g.rects ≡ true) table fit in
         list_all-append (rect_fits (table_at schema part.table).columns) g.rects (cover_of part gs) ∙ rw (here, ih) refl
     go false is ih fit = ih
@@ -69,8 +62,8 @@ occurs-covers part (g ∷ gs) u p need some = cover-first part g gs p ∙ go (is
     go : (x : Bool) → is_of g part.table u ≡ x → (i : Bool) → in_any g.rects p ≡ i → ((occurs gs part.table u p ≡ 0 → ⊥) → in_any (cover_of part gs) p ≡ true)
         → ((serves part g && i) || in_any (cover_of part gs) p) ≡ true
     go true e true f ih =
-        let attrs : g.attrs ≡ u = same-number g.attrs u (right-true (g.table == part.table) (g.attrs == u) e) in
-        let table = left-true (g.table == part.table) (g.attrs == u) e in
+        let attrs : g.attrs ≡ u = eqb-true g.attrs u (second_so (g.table == part.table) (g.attrs == u) e) in
+        let table = first_so (g.table == part.table) (g.attrs == u) e in
         let own : includes g.attrs part.need ≡ true = ap (λ a. includes a part.need) attrs ∙ need in
         rw (table, own) refl
     go true e false f ih = let more = ih (λ none. some (let x = in_any-times g.rects p in grind (arith, nat_tests, x, f, none, e))) in grind (arith, more)

@@ -1,16 +1,13 @@
 -- What a cut does.
-use Rattle.std.proofs.Common.{◌≡◌, ℕ, ◌+◌, true, false, [], refl, ap, None, arith}
-use Rattle.sr_session.specs.Sessions.{Database}
-use Rattle.sr_session.specs.Clients as session
+use Rattle.std.proofs.Common.{◌≡◌, ◌+◌, true, false, [], refl, None, arith}
 use Rattle.sr_session.specs.Rules.{CutDone, AlreadyCut, cuts, already_cut}
-use Rattle.sr_session.specs.Rules as rules
 use Rattle.sr_client.specs.declared.client.Client.{Client}
 use Rattle.sr_client.specs.declared.steps.CutStep.TheVariants.{Cut, Already}
 use Rattle.sr_client.specs.declared.steps.Ended.{Ended}
 use Rattle.sr_client.specs.Stands.{Hidden, Facts, Stands, past_of}
 use Rattle.sr_client.specs.Steps.{Cuts, ended_of}
 use Rattle.sr_client.proofs.MoveLemmas.{cuts-by}
-use Rattle.sr_client.proofs.OverLemmas.{on, IsHere, stands-over}
+use Rattle.sr_client.proofs.OverLemmas.{stands-over}
 
 pub cut-already : (c : Client) → Stands c → c.cut ≡ true → Cuts c c (Already c.cuts)
 cut-already c stands down = cuts-by c c (Already c.cuts) (λ h f. record {

@@ -1,16 +1,17 @@
 -- Rects that begin and end only where tests of some queries do.
 use Rattle.std.proofs.Common.{◌≡◌, ℕ, ◌+◌, Bool, true, false, cond, List, [], ◌∷◌, ◌++◌, refl, sym, ◌∙◌, ap, subst, arith, append-nil, append_assoc}
-use Rattle.std.specs.Prelude.{◌==◌, ◌&&◌, filter, flat_map}
+use Rattle.std.specs.Prelude.{◌==◌, filter, flat_map}
 use Rattle.std.specs.List.{All, AllZip, AllByRecursion}
 use Rattle.std.proofs.lemmas.Bool.Decides.{nat_tests}
 use Rattle.std.proofs.lemmas.Grind.{flat_map-append}
 use Rattle.std.proofs.lemmas.List.Elements.{All-nil, All-cons, All-head, All-tail, All-weaker, filter-append}
+use Rattle.std.specs.Cmp.{first_so}
+use Rattle.std.proofs.lemmas.Bool.{eqb-true}
 use Rattle.sr_cell.specs.declared.table.Column.{Column}
 use Rattle.sr_cell.specs.declared.table.Table.{Table}
 use Rattle.sr_cell.specs.Attrs.{includes}
 use Rattle.sr_cell.specs.Columns.{table_at}
 use Rattle.sr_box.specs.Points.{Rect}
-use Rattle.sr_message.specs.declared.message.AskPart.{AskPart}
 use Rattle.sr_model.specs.Conditions.{Cond}
 use Rattle.sr_model.specs.Queries.{Query}
 use Rattle.sr_model.specs.Queries as model
@@ -23,7 +24,7 @@ use Rattle.sr_region.specs.declared.region.Region.{Region}
 use Rattle.sr_store.specs.declared.store.Arrival.{Arrival}
 use Rattle.sr_store.specs.Stores.{serves, cover_of}
 use Rattle.sr_store.specs.Answered.{rects_on}
-use Rattle.sr_client.specs.Cutting.{EndWith, RegionsEnd, PartsEnd, AsksEnd}
+use Rattle.sr_client.specs.Cutting.{EndWith, RegionsEnd, PartsEnd}
 
 all-append : (P : Rect → Type 0) (xs ys : List Rect) → AllByRecursion P xs → AllByRecursion P ys → AllByRecursion P (xs ++ ys)
 all-append P [] ys a b = b
@@ -48,16 +49,10 @@ module _ {X : Type 0} (schema : List Table) (queries : List Query) (table : X �
       go true is ih one = end-append schema queries t (rects y) (flat_map rects (filter test xs)) (subst (λ u. EndWith schema queries u (rects y)) (same y is) one) ih
       go false is ih one = ih
 
-same-number : (a b : ℕ) → (a == b) ≡ true → a ≡ b
-same-number a b h = grind (arith, nat_tests)
-
-left-true : (a b : Bool) → (a && b) ≡ true → a ≡ true
-left-true a b h = grind arith
-
 pub cover-end : (schema : List Table) (queries : List Query) (part : Part) (regions : List Region) → RegionsEnd schema queries regions → EndWith schema queries part.table (cover_of part regions)
 cover-end schema queries part regions ends =
     chosen-end schema queries (λ (g : Region). g.table) (λ (g : Region). g.rects) (serves part) part.table
-    (λ g is. same-number g.table part.table (left-true (g.table == part.table) (includes g.attrs part.need) is)) regions ends
+    (λ g is. eqb-true g.table part.table (first_so (g.table == part.table) (includes g.attrs part.need) is)) regions ends
 
 -- of all rects of the table
 pub rects_on-end : (schema : List Table) (queries : List Query) (regions : List Region) (parts : List Part) (arrivals : List Arrival) (t : ℕ) → RegionsEnd schema queries regions → PartsEnd schema queries parts
@@ -65,10 +60,10 @@ pub rects_on-end : (schema : List Table) (queries : List Query) (regions : List 
 rects_on-end schema queries regions parts arrivals t a b c =
     end-append schema queries t (flat_map (λ g. g.rects) (filter (λ g. g.table == t) regions))
     (flat_map (λ part. part.rects) (filter (λ part. part.table == t) parts) ++ flat_map (λ r. r.rects) (filter (λ r. r.table == t) arrivals))
-    (chosen-end schema queries (λ (g : Region). g.table) (λ (g : Region). g.rects) (λ g. g.table == t) t (λ g is. same-number g.table t is) regions a)
+    (chosen-end schema queries (λ (g : Region). g.table) (λ (g : Region). g.rects) (λ g. g.table == t) t (λ g is. eqb-true g.table t is) regions a)
     (end-append schema queries t (flat_map (λ part. part.rects) (filter (λ part. part.table == t) parts)) (flat_map (λ r. r.rects) (filter (λ r. r.table == t) arrivals))
-    (chosen-end schema queries (λ (part : Part). part.table) (λ (part : Part). part.rects) (λ part. part.table == t) t (λ part is. same-number part.table t is) parts b)
-    (chosen-end schema queries (λ (r : Arrival). r.table) (λ (r : Arrival). r.rects) (λ r. r.table == t) t (λ r is. same-number r.table t is) arrivals c))
+    (chosen-end schema queries (λ (part : Part). part.table) (λ (part : Part). part.rects) (λ part. part.table == t) t (λ part is. eqb-true part.table t is) parts b)
+    (chosen-end schema queries (λ (r : Arrival). r.table) (λ (r : Arrival). r.rects) (λ r. r.table == t) t (λ r is. eqb-true r.table t is) arrivals c))
 
 -- ---- more queries
 
@@ -90,10 +85,6 @@ end-last schema a b t rects e =
 pub regions-more : (schema : List Table) (a b : List Query) (regions : List Region) → RegionsEnd schema a regions → RegionsEnd schema (a ++ b) regions
 regions-more schema a b regions ends =
     All-weaker (λ (g : Region). EndWith schema a g.table g.rects) (λ (g : Region). EndWith schema (a ++ b) g.table g.rects) (λ g e. end-more schema a b g.table g.rects e) regions ends
-
-pub asks-more : (schema : List Table) (a b : List Query) (asks : List AskPart) → AsksEnd schema a asks → AsksEnd schema (a ++ b) asks
-asks-more schema a b asks ends =
-    All-weaker (λ (ask : AskPart). EndWith schema a ask.table ask.rects) (λ (ask : AskPart). EndWith schema (a ++ b) ask.table ask.rects) (λ ask e. end-more schema a b ask.table ask.rects e) asks ends
 
 -- ---- the query's own parts
 

@@ -1,37 +1,36 @@
 -- What an eviction does.
-use Rattle.std.proofs.Common.{◌≡◌, ℕ, zero, suc, ◌+◌, ◌≤◌, true, List, [], ◌∷◌, length, map, refl, sym, ◌∙◌, ap, subst, arith, Option, Some, None}
+use Rattle.std.proofs.Common.{◌≡◌, ℕ, zero, suc, ◌≤◌, List, [], ◌∷◌, length, map, refl, sym, ◌∙◌, ap, subst, arith, Some, None}
 use Rattle.std.specs.Prelude.{slice_get}
 use Rattle.std.proofs.lemmas.List.{length-map}
 use Rattle.sr_cell.specs.declared.cause.Cause.TheVariants.{Asked}
-use Rattle.sr_message.specs.declared.message.AskPart.{AskPart}
 use Rattle.sr_model.specs.Queries.{Query}
-use Rattle.sr_history.specs.declared.mark.Mark.{Mark}
 use Rattle.sr_history.specs.Marks.{with_marks}
 use Rattle.sr_history.specs.Classes.{Class, stamp}
 use Rattle.sr_region.specs.declared.region.Region.{Region}
 use Rattle.sr_store.specs.Fitted.{without}
 use Rattle.sr_store.specs.Past.{class_of}
-use Rattle.sr_store.specs.Stores.{drop_of, IsOfSchema}
+use Rattle.sr_store.specs.Stores.{drop_of}
 use Rattle.sr_store.specs.Told.{told_of, IsTrueOf}
 use Rattle.sr_store.proofs.Absorbing.{drop_at}
-use Rattle.sr_store.proofs.Classing.{HasClass, are_classes, have_classes}
+use Rattle.sr_store.proofs.Classing.{are_classes, have_classes}
 use Rattle.sr_store.proofs.Dropping.{evicted_all, evicted_store}
 use Rattle.sr_store.proofs.Stepping.{evicted_marks}
-use Rattle.sr_session.specs.Sessions.{Database, tables_of}
-use Rattle.sr_session.specs.Clients as session
+use Rattle.sr_store.proofs.Fewer.{fewer_rows}
+use Rattle.sr_session.specs.Sessions.{tables_of}
 use Rattle.sr_session.specs.Walks.{Request}
 use Rattle.sr_session.specs.Rules.{Evicted, NoSuchClass, number_of, evict_busy, evicts, evicts_none, counted}
 use Rattle.sr_session.specs.Rules as rules
-use Rattle.sr_session.specs.Tidy.{IsTidy, IsTidyWith}
+use Rattle.sr_session.specs.Tidy.{IsTidyWith}
+use Rattle.sr_session.specs.Bases.{basis_of}
 use Rattle.sr_client.specs.Cutting.{EndWith}
 use Rattle.sr_client.specs.declared.client.Client.{Client}
 use Rattle.sr_client.specs.declared.client.Request as code
 use Rattle.sr_client.specs.declared.steps.EvictStep.TheVariants.{Dropped, Busy, NoSuch}
-use Rattle.sr_client.specs.Stands.{Hidden, Facts, Stands, StandsOver, past_of, out_of, request_of, basis_of, IsMeant, AreFit}
+use Rattle.sr_client.specs.Stands.{Hidden, Facts, Stands, past_of, out_of, request_of, IsMeant}
 use Rattle.sr_client.specs.Steps.{Evicts}
-use Rattle.sr_client.proofs.FitLemmas.{fewer-rows, fewer-regions}
+use Rattle.sr_client.proofs.FitLemmas.{fewer-regions}
 use Rattle.sr_client.proofs.MoveLemmas.{evicts-by}
-use Rattle.sr_client.proofs.OverLemmas.{on, IsHere, with_regions, stands-over}
+use Rattle.sr_client.proofs.OverLemmas.{on, with_regions, stands-over}
 use Rattle.sr_client.proofs.TableLemmas.{have-first}
 
 -- ---- what is left as it was
@@ -89,7 +88,7 @@ facts-without c h place g f out there = record {
   keeps = evicted_marks c.schema Asked h.marks (stamp h.queries) place c.store.regions g there f.keeps;
   queries = f.queries;
   last = f.last;
-  rows = let less = fewer-rows place c.store.regions in let at = f.rows in omega (arith, less, at);
+  rows = let less = fewer_rows place c.store.regions in let at = f.rows in omega (arith, less, at);
   few = let less = fewer-regions place c.store.regions in let at = f.few in omega (arith, less, at);
   from = f.from;
   short = f.short;

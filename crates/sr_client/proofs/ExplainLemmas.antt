@@ -4,13 +4,13 @@ use Rattle.std.specs.Prelude.{not, ◌&&◌, ◌==◌, nat_eq}
 use Rattle.std.specs.List.{list_all, All, AllZip}
 use Rattle.std.proofs.lemmas.Bool.Decides.{nat_tests}
 use Rattle.std.proofs.lemmas.List.Elements.{All-nil, All-head, All-tail}
-use Rattle.sr_cell.specs.declared.table.Column.{Column}
+use Rattle.std.specs.Cmp.{first_so}
+use Rattle.std.proofs.lemmas.Bool.{eqb-true}
 use Rattle.sr_cell.specs.declared.table.Table.{Table}
 use Rattle.sr_cell.specs.Attrs.{includes}
 use Rattle.sr_cell.specs.Cells.{Row}
 use Rattle.sr_cell.specs.Columns.{table_at, is_point}
 use Rattle.sr_box.specs.Points.{Rect, in_any, times, rect_fits, HasNoPoint}
-use Rattle.sr_union.specs.Grid.{AreCutFrom}
 use Rattle.sr_union.proofs.Low.{has_point}
 use Rattle.sr_union.proofs.Times.{in_any-times}
 use Rattle.sr_message.specs.declared.message.AskPart.{AskPart}
@@ -35,15 +35,14 @@ use Rattle.sr_explain.specs.declared.explanation.Explanation.{Explanation}
 use Rattle.sr_explain.specs.Explained.{served_by, IsProbe, ProbesOf, ExplainsPart, marks_then, count_in}
 use Rattle.sr_explain.specs.Explained as explain
 use Rattle.sr_session.specs.Sessions.{Database, tables_of}
+use Rattle.sr_session.specs.Bases.{basis_of}
 use Rattle.sr_client.specs.Asking.{AsksRest, whole_asks}
 use Rattle.sr_client.specs.Bound.{IsMeaning}
 use Rattle.sr_client.specs.Cutting.{IsOver}
 use Rattle.sr_client.specs.Explaining.{IsAway, IsProbeOf, AreProbes, nothing, away, probed, entry_for, IsRestIn, IsExplained, Fall, Explains}
 use Rattle.sr_client.specs.declared.client.Client.{Client}
-use Rattle.sr_client.specs.Stands.{Hidden, past_of, Facts, basis_of}
+use Rattle.sr_client.specs.Stands.{Hidden, past_of, Facts}
 use Rattle.sr_client.proofs.AskLemmas.{asks-whole}
-use Rattle.sr_client.proofs.Covers.{left-true, same-number}
-use Rattle.sr_client.proofs.FallLemmas.{are-victims}
 use Rattle.sr_client.proofs.Items.{take-item}
 use Rattle.sr_client.proofs.EntryLemmas.{IsFound, all-found}
 use Rattle.sr_client.proofs.MeantLemmas.{are-sound, tables-differ}
@@ -51,6 +50,7 @@ use Rattle.sr_client.proofs.OverLemmas.{on, IsHere, over}
 use Rattle.sr_client.proofs.Renewal.{HaveFirst}
 use Rattle.sr_client.proofs.SendLemmas.{load-heavy}
 use Rattle.sr_client.proofs.TableLemmas.{have-first}
+use Rattle.sr_client.proofs.FallLemmas.{are-victims}
 
 -- ---- probes
 
@@ -65,11 +65,6 @@ pub probes-more : (part : Part) (gs : List Region) (i : ℕ) (g : Region) (probe
 probes-more part gs i g probes own next within is before here all =
     subst (λ ps. AreProbes part (take (i + 1) gs) ps) (sym all)
     (subst (λ gs. AreProbes part gs (probes ++ own)) (sym (take-item gs i g within is)) (probes-append part (take i gs) (g ∷ []) probes own before here))
-
--- what is cut from rects fits the columns
-pub cut-fits : (cs : List Column) (given rects : List Rect) → AreCutFrom cs given rects → list_all (rect_fits cs) rects ≡ true
-cut-fits cs given [] h = refl
-cut-fits cs given (r ∷ rects) h = rw (h.0, cut-fits cs given rects h.2) refl
 
 both-some : (a b : ℕ) → not (nat_eq (a * b) 0) ≡ (not (nat_eq a 0) && not (nat_eq b 0))
 both-some zero b = let e : zero * b ≡ 0 = omega arith in ap (λ n. not (nat_eq n 0)) e
@@ -91,7 +86,7 @@ module _ (schema : List Table) (marks : List Mark) (queries : List Numbered) (pa
       go : (b : Bool) → (g.table == m.table && includes g.attrs m.need) ≡ b → (b && (points_of m p && in_class marks queries (class_of g) p)) ≡ (b && (in_any part.rects p && in_any g.rects p))
       go false e = refl
       go true e =
-          let table : g.table ≡ m.table = same-number g.table m.table (left-true (g.table == m.table) (includes g.attrs m.need) e) in
+          let table : g.table ≡ m.table = eqb-true g.table m.table (first_so (g.table == m.table) (includes g.attrs m.need) e) in
           let here : is_point (table_at schema g.table).columns p ≡ true = subst (λ t. is_point (table_at schema t).columns p ≡ true) (sym table) point in
           ap (λ b. b && in_class marks queries (class_of g) p) (sym (is.rects.points p point)) ∙ ap (λ b. in_any part.rects p && b) (sym (has p here))
 
@@ -108,7 +103,7 @@ module _ (schema : List Table) (marks : List Mark) (queries : List Numbered) (pa
   probe-is : (g : Region) (probe : ProbeView) → IsOfSchema schema g → HasClass schema marks queries g → IsProbeOf part g probe → IsProbe schema marks queries m (class_of g) probe
   probe-is g probe of has h =
       let served : (g.table == m.table && includes g.attrs m.need) ≡ true = sym (serves-same g) ∙ h.serves in
-      let table : g.table ≡ m.table = same-number g.table m.table (left-true (g.table == m.table) (includes g.attrs m.need) served) in
+      let table : g.table ≡ m.table = eqb-true g.table m.table (first_so (g.table == m.table) (includes g.attrs m.need) served) in
       let own_fits = subst (λ t. list_all (rect_fits (table_at schema t).columns) g.rects ≡ true) table of.1.area.fit in
       let fits = h.fits (table_at schema m.table).columns is.rects.fits own_fits in
       let some = has_point (table_at schema m.table).columns probe.rects h.some fits (first m.table) in

@@ -1,52 +1,52 @@
 -- Regions that are dropped one after another are the victims of the marks behind them.
-use Rattle.std.proofs.Common.{◌≡◌, ℕ, zero, suc, ◌+◌, ◌<◌, ◌≤◌, Bool, true, false, cond, List, [], ◌∷◌, ◌++◌, length, take, drop, map, refl, sym, ◌∙◌, ap, subst, arith, Some, append_assoc, append-nil}
-use Rattle.std.specs.Prelude.{◌&&◌, ◌==◌, filter, count_by, slice_get}
-use Rattle.std.specs.List.{list_all, All, AllZip}
-use Rattle.std.proofs.lemmas.Bool.Decides.{nat_tests}
+use Rattle.std.proofs.Common.{◌≡◌, ℕ, zero, suc, ◌+◌, ◌<◌, ◌≤◌, List, [], ◌∷◌, ◌++◌, length, take, drop, map, refl, sym, ◌∙◌, ap, subst, arith, Some, append_assoc, append-nil, true, cond, false, Bool}
+use Rattle.std.specs.Prelude.{slice_get, count_by, filter, ◌&&◌, ◌==◌}
+use Rattle.std.specs.List.{All, AllZip, list_all}
 use Rattle.std.proofs.lemmas.List.{length-map}
-use Rattle.std.proofs.lemmas.List.Elements.{All-nil, All-cons, All-head, All-tail}
-use Rattle.std.proofs.lemmas.List.Sums.{sum_by-cons}
 use Rattle.std.proofs.lemmas.Option.{slice_get_within, get_or_from_slice_get}
-use Rattle.sr_cell.specs.declared.cause.Cause.TheVariants.{Regions}
-use Rattle.sr_cell.specs.declared.table.Column.{Column}
-use Rattle.sr_cell.specs.declared.table.Table.{Table}
-use Rattle.sr_cell.specs.Attrs.{project}
-use Rattle.sr_cell.specs.Cells.{Row}
-use Rattle.sr_cell.specs.Columns.{table_at, is_point}
-use Rattle.sr_box.specs.Points.{Rect, in_any, rect_fits, constrains_only}
-use Rattle.sr_model.specs.Queries.{rows_at}
+use Rattle.std.proofs.lemmas.List.Elements.{All-nil, All-head, All-cons, All-tail}
+use Rattle.std.proofs.lemmas.List.Sums.{sum_by-cons}
+use Rattle.std.proofs.lemmas.Bool.Decides.{nat_tests}
+use Rattle.sr_box.specs.Points.{Rect, rect_fits, in_any, constrains_only}
 use Rattle.sr_model.specs.Statements.{Tables}
+use Rattle.sr_model.specs.Queries.{rows_at}
 use Rattle.sr_query.specs.Bound.{is_table}
+use Rattle.sr_cell.specs.declared.cause.Cause.TheVariants.{Regions}
+use Rattle.sr_cell.specs.declared.table.Table.{Table}
+use Rattle.sr_cell.specs.Columns.{table_at, is_point}
+use Rattle.sr_cell.specs.declared.table.Column.{Column}
+use Rattle.sr_cell.specs.Cells.{Row}
+use Rattle.sr_cell.specs.Attrs.{project}
 use Rattle.sr_policy.specs.declared.policy.Policy.{Policy}
-use Rattle.sr_policy.specs.declared.policy.Limits.{Limits}
 use Rattle.sr_policy.specs.declared.policy.ClassView.{ClassView}
 use Rattle.sr_policy.specs.declared.policy.Last.{Last}
 use Rattle.sr_policy.specs.Order.{IsVictim}
+use Rattle.sr_policy.specs.declared.policy.Limits.{Limits}
 use Rattle.sr_history.specs.declared.mark.Mark.{Mark}
-use Rattle.sr_history.specs.Marks.{is_held, with_marks, HoldsNothing}
-use Rattle.sr_history.specs.Classes.{Numbered, stamp, Class, in_class, same_class, AreClasses}
-use Rattle.sr_history.specs.Drops.{IsDropOf}
-use Rattle.sr_history.specs.Kept.{kept}
+use Rattle.sr_history.specs.Classes.{Class, stamp, Numbered, in_class, AreClasses}
+use Rattle.sr_history.specs.Budgets.{DropsForRegions, DropsForRows}
 use Rattle.sr_history.specs.Victims.{AreLast, last_parts}
-use Rattle.sr_history.specs.Victims as history
-use Rattle.sr_history.specs.Budgets.{DropsForRows, DropsForRegions, MeetsBudgets}
+use Rattle.sr_history.specs.Marks.{is_held, with_marks, HoldsNothing}
+use Rattle.sr_history.specs.Kept.{kept}
+use Rattle.sr_history.specs.Drops.{IsDropOf}
 use Rattle.sr_region.specs.declared.region.Region.{Region}
 use Rattle.sr_region.specs.Applied.{AreTables}
-use Rattle.sr_region.specs.Regions.{is_in}
 use Rattle.sr_region.proofs.Parts.{is_in-point}
-use Rattle.sr_store.specs.Classes.{Keeps}
+use Rattle.sr_region.specs.Regions.{is_in}
 use Rattle.sr_store.specs.Past.{class_of}
-use Rattle.sr_store.specs.Told.{told_of, IsTrueOf, AreTrueOf}
-use Rattle.sr_store.specs.Stores.{IsOfSchema, IsStore, drop_of}
-use Rattle.sr_store.specs.Fitted.{count_rows, without, IsViewOf, IsFirstOut, DropsWhile}
-use Rattle.sr_store.proofs.Classing.{HasClass, have_classes}
+use Rattle.sr_store.specs.Stores.{drop_of, IsStore, IsOfSchema}
+use Rattle.sr_store.specs.Fitted.{without, IsViewOf, DropsWhile, count_rows}
 use Rattle.sr_store.proofs.Dropping.{evicted_all}
-use Rattle.sr_store.proofs.Meeting.{fitted_meets_budgets}
 use Rattle.sr_store.proofs.Views.{zip_none, zip_without, victim_within}
+use Rattle.sr_store.specs.Told.{told_of, AreTrueOf, IsTrueOf}
+use Rattle.sr_store.proofs.Classing.{have_classes, HasClass}
+use Rattle.sr_store.specs.Classes.{Keeps}
+use Rattle.sr_store.proofs.Meeting.{fitted_meets_budgets}
 use Rattle.sr_explain.specs.declared.explanation.Victim.{Victim}
-use Rattle.sr_explain.specs.Explained.{AreVictims, count_in}
-use Rattle.sr_explain.specs.Explained as explain
+use Rattle.sr_explain.specs.Explained.{count_in, AreVictims}
 use Rattle.sr_client.specs.Explaining.{victim_of, Fall}
+use Rattle.sr_explain.specs.Explained as explain
+use Rattle.sr_history.specs.Victims as history
 
 -- ---- one after another
 
@@ -77,9 +77,6 @@ pub record FallsSoFar (schema : List Table) (policy : Policy) (last : List Last)
   pub whole : (more : List Victim) → Fall schema policy last mid more → Fall schema policy last regions (fallen ++ more)
 
 module _ (schema : List Table) (policy : Policy) (last : List Last) (regions : List Region) where
-  pub none-fell : (views : List ClassView) (left : List Victim) → AllZip (IsViewOf schema) regions views → left ≡ map victim_of regions → FallsSoFar schema policy last regions views left []
-  none-fell views left seen own = record { mid = regions; seen = seen; own = own; whole = λ more h. h }
-
   pub left-within : (views others : List ClassView) (left fallen : List Victim) (n : ℕ) → FallsSoFar schema policy last regions views left fallen → others ≡ views → IsVictim policy last others n → n < length left
   left-within views others left fallen n h same v =
       let below = victim_within policy last views others n same v in
@@ -155,6 +152,8 @@ count-rows columns a rects test (p ∷ rows) fits only same points =
 abbrev IsSized : (Class → ℕ) → Region → Type 0
 IsSized size g = length g.rows ≡ size (class_of g)
 
+-- ---- victims of marks
+
 one-sized : (schema : List Table) (tables : Tables) (marks : List Mark) (queries : List Numbered) (g : Region) → AreTables schema tables → IsOfSchema schema g → HasClass schema marks queries g
     → IsTrueOf (told_of tables) g → IsSized (count_in tables marks queries) g
 one-sized schema tables marks queries g are of has tells =
@@ -168,8 +167,6 @@ all-sized schema tables marks queries (g ∷ gs) are of has tells =
     All-cons (IsSized (count_in tables marks queries)) g gs
     (one-sized schema tables marks queries g are (All-head (IsOfSchema schema) g gs of) (All-head (HasClass schema marks queries) g gs has) (All-head (IsTrueOf (told_of tables)) g gs tells))
     (all-sized schema tables marks queries gs are (All-tail (IsOfSchema schema) g gs of) (All-tail (HasClass schema marks queries) g gs has) (All-tail (IsTrueOf (told_of tables)) g gs tells))
-
--- ---- victims of marks
 
 -- the region that fell, and its drop
 record FellAs (size : Class → ℕ) (v : Victim) (d : Mark) : Type 0 where

@@ -1,7 +1,5 @@
 -- Regions that are made to fit are the classes of the marks with the drops.
-use Rattle.std.proofs.Common.{◌≡◌, ℕ, ◌+◌, ◌≤◌, zero, suc, List, [], ◌∷◌, ◌++◌, length, take, drop, refl, sym, ◌∙◌, ap, subst, arith}
-use Rattle.std.specs.Prelude.{Some, slice_get}
-use Rattle.std.proofs.lemmas.List.Sums.{sum_by-cons}
+use Rattle.std.proofs.Common.{◌≡◌, ℕ, ◌+◌, ◌≤◌, zero, suc, List, [], ◌∷◌, ◌++◌, length, take, drop, sym, ◌∙◌, ap, subst, arith}
 use Rattle.sr_cell.specs.declared.cause.Cause.{Cause}
 use Rattle.sr_cell.specs.declared.cause.Cause.TheVariants.{Rows, Regions}
 use Rattle.sr_cell.specs.declared.table.Table.{Table}
@@ -10,12 +8,11 @@ use Rattle.sr_policy.specs.declared.policy.Limits.{Limits}
 use Rattle.sr_policy.specs.declared.policy.Last.{Last}
 use Rattle.sr_history.specs.declared.mark.Mark.{Mark}
 use Rattle.sr_history.specs.Marks.{is_held, with_marks}
+use Rattle.sr_history.proofs.Marking.{with_marks-append}
 use Rattle.sr_region.specs.declared.region.Region.{Region}
 use Rattle.sr_store.specs.Classes.{Stamps, Keeps}
-use Rattle.sr_store.specs.Stores.{drop_of}
 use Rattle.sr_store.specs.Fitted.{count_rows, without, DropsWhile, IsFitted}
 use Rattle.sr_store.proofs.Stepping.{evicted_marks}
-use Rattle.sr_client.proofs.Renewal.{with_marks-append}
 
 module _ (schema : List Table) (policy : Policy) (last : List Last) (cause : Cause) (size : List Region → ℕ) (limit : ℕ) (stamps : Stamps) where
   while-keeps : (marks drops : List Mark) (old new : List Region) → DropsWhile schema policy last cause size limit old new drops → Keeps schema (is_held marks) stamps old
@@ -33,22 +30,6 @@ fitted-keeps schema limits last marks stamps old new drops h k =
     subst (λ ms. Keeps schema (is_held ms) stamps new) (sym (ap (with_marks marks) h.all ∙ with_marks-append marks h.rows h.regions)) two
 
 -- ---- without one region
-
-count_rows-cons : (g : Region) (gs : List Region) → count_rows (g ∷ gs) ≡ length g.rows + count_rows gs
-count_rows-cons g gs = sum_by-cons (λ (g : Region). length g.rows) g gs
-
-less-after : (n : ℕ) (gs : List Region) → count_rows (take n gs ++ drop (suc n) gs) ≤ count_rows gs
-less-after zero [] = omega arith
-less-after (suc n) [] = omega arith
-less-after zero (g ∷ gs) = let e = count_rows-cons g gs in let le : count_rows gs ≤ length g.rows + count_rows gs = omega arith in subst (λ m. count_rows gs ≤ m) (sym e) le
-less-after (suc n) (g ∷ gs) =
-    let ih = less-after n gs in
-    let left = take n gs ++ drop (suc n) gs in
-    let le : length g.rows + count_rows left ≤ length g.rows + count_rows gs = omega (arith, ih) in
-    subst (λ m. count_rows (g ∷ left) ≤ m) (sym (count_rows-cons g gs)) (subst (λ m. m ≤ length g.rows + count_rows gs) (sym (count_rows-cons g left)) le)
-
-pub fewer-rows : (n : ℕ) (gs : List Region) → count_rows (without n gs) ≤ count_rows gs
-fewer-rows n gs = let e : suc n ≡ n + 1 = omega arith in subst (λ m. count_rows (take n gs ++ drop m gs) ≤ count_rows gs) e (less-after n gs)
 
 shorter : (n : ℕ) (gs : List Region) → length (take n gs ++ drop (suc n) gs) ≤ length gs
 shorter zero [] = omega arith

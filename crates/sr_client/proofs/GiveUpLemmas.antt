@@ -1,12 +1,11 @@
 -- A client that has given all up stands for some past.
-use Rattle.std.proofs.Common.{◌≡◌, ℕ, zero, suc, ◌+◌, ◌≤◌, false, List, [], ◌∷◌, length, refl, ap, arith, None}
+use Rattle.std.proofs.Common.{◌≡◌, ℕ, zero, suc, false, List, [], ◌∷◌, length, refl, ap, arith}
 use Rattle.std.specs.Prelude.{fold, if◌then◌else◌}
 use Rattle.std.proofs.lemmas.List.Elements.{All-nil}
 use Rattle.sr_cell.specs.declared.table.Table.{Table}
 use Rattle.sr_model.specs.Queries.{Query, Part}
 use Rattle.sr_history.specs.Classes.{Numbered, stamp}
 use Rattle.sr_history.specs.Marks.{is_held}
-use Rattle.sr_history.specs.Victims.{last_parts}
 use Rattle.sr_store.specs.Classes.{Keeps}
 use Rattle.sr_store.specs.Stores.{IsStore}
 use Rattle.sr_store.proofs.Fewer.{none_store}

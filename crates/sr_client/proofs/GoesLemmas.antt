@@ -1,15 +1,15 @@
 -- The last row that was laid by, from the back.
-use Rattle.std.proofs.Common.{◌≡◌, ℕ, ◌+◌, ◌-◌, ◌<◌, ◌≤◌, Bool, true, false, List, [], ◌∷◌, ◌++◌, length, take, refl, sym, ◌∙◌, ap, subst, arith, Option, Some, None, slice_index_or}
-use Rattle.std.specs.Prelude.{slice_get, nat_lt}
+use Rattle.std.proofs.Common.{◌≡◌, ℕ, ◌+◌, ◌-◌, ◌<◌, true, false, List, [], ◌∷◌, length, take, refl, sym, ◌∙◌, ap, subst, arith, Option, Some, None, slice_index_or}
+use Rattle.std.specs.Prelude.{slice_get}
 use Rattle.std.proofs.lemmas.Bool.Decides.{nat_tests}
 use Rattle.std.proofs.lemmas.Option.{get_or_from_slice_get}
 use Rattle.sr_cell.specs.Cells.{Row}
 use Rattle.sr_message.specs.declared.message.Message.{Message}
 use Rattle.sr_message.specs.declared.message.Message.TheVariants.{Hello, Resume, Ask, Write, Welcome, Notice, Rows, Reply, Written, Refused, Lapse}
 use Rattle.sr_session.specs.Misfits.{last_came, last_row}
+use Rattle.sr_session.proofs.ShapeLemmas.{came-append}
 use Rattle.sr_client.specs.Shapes.{brings_rows}
 use Rattle.sr_client.proofs.Items.{take-item}
-use Rattle.sr_client.proofs.SuitLemmas.{came-append}
 
 -- with one message more
 came-front : (laid : List Message) (k : ℕ) (m : Message) → k < length laid → m ≡ slice_index_or laid k m → last_came None (take (k + 1) laid) ≡ last_came (last_came None (take k laid)) (m ∷ [])

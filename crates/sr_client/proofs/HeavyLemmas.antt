@@ -1,6 +1,6 @@
 -- Where the store would have too many pieces, the load of the past is too high.
 use Rattle.std.proofs.Common.{◌≡◌, ℕ, ◌+◌, ◌*◌, ◌≤◌, ◌<◌, zero, suc, Bool, true, false, List, [], ◌∷◌, ◌++◌, map, length, refl, sym, ◌∙◌, ap, subst, arith, inl, inr}
-use Rattle.std.specs.Prelude.{IsTrue, not, ◌&&◌, ◌||◌, ◌==◌, ◌⊎◌, max, sum_by, if◌then◌else◌}
+use Rattle.std.specs.Prelude.{IsTrue, ◌&&◌, ◌||◌, ◌==◌, ◌⊎◌, max, sum_by, if◌then◌else◌}
 use Rattle.std.specs.List.{list_all, list_any, All, AllZip}
 use Rattle.std.specs.Cmp.Derive.{both_true}
 use Rattle.std.proofs.Math.Nat.{le-max_left, le-max_right, add-mul}
@@ -26,14 +26,13 @@ use Rattle.sr_query.specs.declared.query.Part.{Part}
 use Rattle.sr_lines.specs.Sound.{is_sound_part}
 use Rattle.sr_history.specs.declared.mark.Mark.{Mark}
 use Rattle.sr_history.specs.Marks.{is_held}
-use Rattle.sr_history.specs.Load.{ends_grid, parts_on, AreSets, count_of, load_from, IsHeavy}
-use Rattle.sr_history.specs.Load as load
+use Rattle.sr_history.specs.Load.{ends_grid, parts_on, AreSets, count_of, load_from, IsHeavy, are_once}
 use Rattle.sr_history.proofs.Ends.{grids_are_few}
 use Rattle.sr_region.specs.declared.region.Region.{Region}
 use Rattle.sr_store.specs.declared.store.Arrival.{Arrival}
 use Rattle.sr_store.specs.Classes.{Stamps, is_of, occurs, Keeps}
 use Rattle.sr_store.specs.Stores.{IsOfSchema, cover_of}
-use Rattle.sr_store.specs.Answered.{is_used, are_once, weight_from}
+use Rattle.sr_store.specs.Answered.{is_used, weight_from}
 use Rattle.sr_client.specs.Cutting.{EndWith, RegionsEnd, PartsEnd, IsOver, grid_with, grid_of_part}
 use Rattle.sr_client.proofs.Covers.{cover-fits}
 use Rattle.sr_client.proofs.EndLemmas.{end-append, cover-end}
@@ -42,10 +41,6 @@ use Rattle.sr_client.proofs.PartsLemmas.{is_named, first-differs, rest-differs}
 use Rattle.sr_client.proofs.Renewal.{HaveFirst}
 
 -- ---- the sets of columns
-
-once-same : (xs : List ℕ) → are_once xs ≡ load.are_once xs
-once-same [] = refl
-once-same (x ∷ xs) = ap (λ b. not (list_any (λ y. x == y) xs) && b) (once-same xs)
 
 -- what holds of all holds of one
 all-one : (f : ℕ → Bool) (xs : List ℕ) (x : ℕ) → list_all f xs ≡ true → list_any (λ a. a == x) xs ≡ true → f x ≡ true
@@ -108,7 +103,7 @@ WereAsked arrivals asks = (t a : ℕ) → list_any (λ (r : Arrival). r.table ==
 are-sets : (schema : List Table) (marks : List Mark) (stamps : Stamps) (gs : List Region) (arrivals : List Arrival) (asks : List AskPart) (t : ℕ) (sets : List ℕ) → HaveFirst schema → All (IsOfSchema schema) gs
     → Keeps schema (is_held marks) stamps gs → WereAsked arrivals asks → are_once sets ≡ true → list_all (is_used gs arrivals t) sets ≡ true → AreSets schema marks asks t sets
 are-sets schema marks stamps gs arrivals asks t sets first each keeps were once used = record {
-  once = sym (once-same sets) ∙ once;
+  once = once;
   each = λ a some. by a (list_any (λ (g : Region). g.table == t && g.attrs == a) gs) refl (all-one (is_used gs arrivals t) sets a used some);
 }
   where

@@ -20,6 +20,7 @@ use Rattle.sr_history.specs.Drops.{DropsAll}
 use Rattle.sr_history.specs.Load.{parts_on, IsHeavy}
 use Rattle.sr_history.specs.Victims.{AreLast, last_parts}
 use Rattle.sr_history.proofs.Ends.{cuts_keep_ends}
+use Rattle.sr_history.proofs.Marking.{with_marks-append}
 use Rattle.sr_region.specs.declared.region.Region.{Region}
 use Rattle.sr_region.specs.Applied.{AreTables}
 use Rattle.sr_store.specs.declared.store.Arrival.{Arrival}
@@ -29,7 +30,7 @@ use Rattle.sr_store.specs.Told.{told_of, AreTrueOf}
 use Rattle.sr_store.specs.Stores.{IsStore, drop_of}
 use Rattle.sr_store.specs.Answered.{IsArrival, AreApart, giving_way, HaveArrived, IsGivenUp, held_of, rects_on}
 use Rattle.sr_store.specs.Answered as store
-use Rattle.sr_store.specs.Fitted.{lasts_of, count_rows, IsFitted, IsAnswered}
+use Rattle.sr_store.specs.Fitted.{lasts_of, count_rows, IsAnswered}
 use Rattle.sr_store.specs.Renewing.{IsCutFrom}
 use Rattle.sr_store.proofs.Absorbing.{drops_all}
 use Rattle.sr_store.proofs.Fewer.{fitted_fit_still}
@@ -42,13 +43,13 @@ use Rattle.sr_session.specs.Sessions.{Database, tables_of}
 use Rattle.sr_session.specs.Clients as session
 use Rattle.sr_session.specs.Clients.{answered}
 use Rattle.sr_session.specs.Rules.{Answering, AnswerStep, Holds, counted, renewed, given_up}
+use Rattle.sr_session.specs.Bases.{basis_of}
 use Rattle.sr_client.specs.Cutting.{EndWith, RegionsEnd, PartsEnd}
-use Rattle.sr_client.specs.Stands.{basis_of}
 use Rattle.sr_client.proofs.Calls.{IsAfter}
 use Rattle.sr_client.proofs.EndLemmas.{rects_on-end}
 use Rattle.sr_client.proofs.FitLemmas.{fitted-keeps}
 use Rattle.sr_client.proofs.HeavyLemmas.{WereAsked, heavy-load, light}
-use Rattle.sr_client.proofs.Renewal.{HaveFirst, with_marks-append, renewal}
+use Rattle.sr_client.proofs.Renewal.{HaveFirst, renewal}
 use Rattle.sr_client.proofs.TableLemmas.{have-first, are-told}
 
 -- What is known where a query is answered, whatever came. The queries are those after the answer.

@@ -2,7 +2,7 @@
 use Rattle.std.proofs.Common.{◌≡◌, ℕ, Bool, true, false, List, [], ◌∷◌, ◌++◌, refl, sym, ◌∙◌, ap, subst, arith, Option, Some, None}
 use Rattle.std.specs.Prelude.{not, ◌==◌, ◌↔◌}
 use Rattle.std.specs.Option.{is_some}
-use Rattle.std.proofs.lemmas.Bool.Decides.{nat_tests}
+use Rattle.std.proofs.lemmas.Bool.{eqb-true}
 use Rattle.sr_cell.specs.declared.fault.Fault.{Fault}
 use Rattle.sr_cell.specs.declared.table.Table.{Table}
 use Rattle.sr_cell.specs.Cells.{Row}
@@ -10,22 +10,23 @@ use Rattle.sr_message.specs.declared.message.Message.{Message}
 use Rattle.sr_message.specs.declared.message.Message.TheVariants.{Hello, Resume, Ask, Write, Welcome, Notice, Rows, Reply, Written, Refused, Lapse}
 use Rattle.sr_model.specs.Queries.{Query}
 use Rattle.sr_wire.specs.declared.bad_frame.BadFrame.{BadFrame}
-use Rattle.sr_wire.specs.declared.bad_frame.BadFrame.TheVariants.{State, Number, Shape}
+use Rattle.sr_wire.specs.declared.bad_frame.BadFrame.TheVariants.{Number, Shape}
 use Rattle.sr_session.specs.Sessions.{Database}
 use Rattle.sr_session.specs.Laws.{OutAsksKeys}
-use Rattle.sr_session.specs.Misfits.{misfit, or_else, is_ask, rows_suit}
-use Rattle.sr_session.specs.Rules.{Laid, IsForRequest, counted, lays}
+use Rattle.sr_session.specs.Misfits.{misfit, or_else, rows_suit}
+use Rattle.sr_session.specs.Rules.{Laid, IsForRequest, lays}
 use Rattle.sr_session.specs.Rules as rules
 use Rattle.sr_session.specs.Tidy.{by_message}
 use Rattle.sr_session.specs.Walks.{Request, AskOut, WriteOut, ResumeOut, IsAskOf, IsLaid}
 use Rattle.sr_session.proofs.NeverLemmas.{never-refused}
 use Rattle.sr_session.proofs.TidyLemmas.{rules-keep-tidy}
+use Rattle.sr_session.specs.Bases.{basis_of}
 use Rattle.sr_client.specs.declared.client.Client.{Client}
 use Rattle.sr_client.specs.declared.client.Request as code
 use Rattle.sr_client.specs.declared.client.Request.TheVariants as request
 use Rattle.sr_client.specs.declared.steps.Took.{Took}
 use Rattle.sr_client.specs.declared.steps.Took.TheVariants as took
-use Rattle.sr_client.specs.Stands.{Hidden, Facts, Stands, Truly, IsFit, past_of, out_of, request_of, basis_of, given_up}
+use Rattle.sr_client.specs.Stands.{Hidden, Facts, Stands, Truly, IsFit, past_of, out_of, request_of, given_up}
 use Rattle.sr_client.specs.Steps.{Goes, SaysTook, Takes, is_bad}
 use Rattle.sr_client.proofs.AskedLemmas.{keys-asked}
 use Rattle.sr_client.proofs.GiveUpLemmas.{given-stands}
@@ -38,13 +39,10 @@ use Rattle.sr_client.proofs.SuitLemmas.{or-none, not-false, fit-more}
 abbrev pub laid : Client → Message → Client
 laid c m = record c { laid = c.laid ++ m ∷ [] }
 
-is-same : (n k : ℕ) → (n == k) ≡ true → n ≡ k
-is-same n k e = grind (arith, nat_tests, e)
-
 -- rows are for the ask that is out
 rows-for : (schema : List Table) (r : Request) (pre : List Message) (version k part : ℕ) (rows : List Row) → misfit schema (Some r) pre version (Rows k part rows) ≡ None → IsAskOf (Some r) k
 rows-for schema (AskOut number query meaning fresh parts) pre version k part rows fit =
-    is-same k number (not-false (k == number) (or-none (not (k == number)) Number (or_else (not (rows_suit schema parts pre part rows)) Shape None) fit))
+    eqb-true k number (not-false (k == number) (or-none (not (k == number)) Number (or_else (not (rows_suit schema parts pre part rows)) Shape None) fit))
 rows-for schema (WriteOut number) pre version k part rows fit = absurd (cc)
 rows-for schema (ResumeOut number) pre version k part rows fit = absurd (cc)
 
@@ -123,10 +121,6 @@ only-laid schema out pre version (Write n sql) fit reply written refused welcome
 pub may-lay : (c : Client) (m : Message) → Stands c → IsFit c m → ((k w : ℕ) → m ≡ Reply k w → ⊥) → ((k w : ℕ) → m ≡ Written k w → ⊥) → ((k : ℕ) (fault : Fault) → m ≡ Refused k fault → ⊥)
     → ((k w : ℕ) (kept : Bool) → m ≡ Welcome k w kept → ⊥) → IsLaid m
 may-lay c m stands fit reply written refused welcome = only-laid c.schema (out_of stands.0.meaning c.out) c.laid c.version m (fit stands.0.meaning) reply written refused welcome
-
--- a reply is of an ask
-pub replied-ask : (c : Client) (number version : ℕ) (meaning : Query) → IsFit c (Reply number version) → is_ask (out_of meaning c.out) ≡ true
-replied-ask c number version meaning fit = not-false (is_ask (out_of meaning c.out)) (or-none (not (is_ask (out_of meaning c.out))) State _ (fit meaning))
 
 -- ---- refused
 

@@ -6,11 +6,16 @@ use Rattle.std.proofs.lemmas.Bool.Decides.{nat_tests}
 use Rattle.std.proofs.lemmas.List.{map-append}
 use Rattle.std.proofs.lemmas.List.Elements.{All-nil, All-cons, All-head, All-tail}
 use Rattle.std.proofs.lemmas.List.Folds.{list_any-append}
+use Rattle.std.specs.Cmp.{first_so, second_so}
+use Rattle.std.proofs.lemmas.Bool.{eqb-true}
+use Rattle.std.proofs.Math.Bool.{or-false}
 use Rattle.sr_cell.specs.declared.table.Table.{Table}
 use Rattle.sr_cell.specs.Attrs.{includes, project}
 use Rattle.sr_cell.specs.Cells.{Row}
 use Rattle.sr_cell.specs.Columns.{table_at, is_point}
+use Rattle.sr_cell.proofs.Lists.{AllZip-push}
 use Rattle.sr_box.specs.Points.{Rect, in_any, rect_fits, constrains_only}
+use Rattle.sr_box.proofs.Constrained.{all-constrains_only-more}
 use Rattle.sr_model.specs.Statements.{Tables}
 use Rattle.sr_model.specs.Queries as model
 use Rattle.sr_model.specs.Queries.{rows_at, points_of}
@@ -27,8 +32,8 @@ use Rattle.sr_join.specs.declared.runs.Run.{Run}
 use Rattle.sr_join.specs.Lent.{shown_of, rows_for, AreLent, LendFrom, IsJoinable}
 use Rattle.sr_join.specs.Shown.{Shown, Shows, AreShown}
 use Rattle.sr_client.specs.Answering.{is_kept, is_new, IsPartOver, BringRows, Suits, LendsMore, IsThere}
-use Rattle.sr_client.proofs.ToldLemmas.{all-more-only, told-both}
-use Rattle.sr_client.proofs.Covers.{same-number, left-true, right-true, cover-more}
+use Rattle.sr_client.proofs.ToldLemmas.{told-both}
+use Rattle.sr_client.proofs.Covers.{cover-more}
 
 abbrev Test : Type 0
 Test = Row → Bool
@@ -43,7 +48,7 @@ each-same f g same (p ∷ all) = All-cons (λ p. f p ≡ g p) p all (same p) (ea
 points-same : (columns : Row → Bool) (f g : Test) (all : List Row) → list_all columns all ≡ true → ((p : Row) → columns p ≡ true → f p ≡ g p) → All (λ p. f p ≡ g p) all
 points-same columns f g [] points same = All-nil (λ p. f p ≡ g p)
 points-same columns f g (p ∷ all) points same =
-    All-cons (λ p. f p ≡ g p) p all (same p (left-true (columns p) (list_all columns all) points)) (points-same columns f g all (right-true (columns p) (list_all columns all) points) same)
+    All-cons (λ p. f p ≡ g p) p all (same p (first_so (columns p) (list_all columns all) points)) (points-same columns f g all (second_so (columns p) (list_all columns all) points) same)
 
 then-same : (f g h : Test) (all : List Row) → All (λ p. f p ≡ g p) all → All (λ p. g p ≡ h p) all → All (λ p. f p ≡ h p) all
 then-same f g h [] one two = All-nil (λ p. f p ≡ h p)
@@ -65,17 +70,11 @@ none-shown : (need : ℕ) (all : List Row) → AreShown need all (λ p. false) [
 none-shown need [] = tt
 none-shown need (p ∷ all) = none-shown need all
 
-zip-more : {A B : Type 0} (R : A → B → Type 0) (xs : List A) (ys : List B) (x : A) (y : B) → AllZip R xs ys → R x y → AllZip R (xs ++ x ∷ []) (ys ++ y ∷ [])
-zip-more R [] [] x y zip own = (own, tt)
-zip-more R [] (b ∷ ys) x y zip own = absurd zip
-zip-more R (a ∷ xs) [] x y zip own = absurd zip
-zip-more R (a ∷ xs) (b ∷ ys) x y zip own = (zip.0, zip-more R xs ys x y zip.1 own)
-
 lent-more : (need : ℕ) (all : List Row) (test g : Test) (lists : List (List Shown)) (shown : List Shown) → AreLent need all test lists → AreShown need all g shown
     → AreLent need all (λ p. test p || g p) (lists ++ shown ∷ [])
 lent-more need all test g lists shown lent own = record {
   tests = lent.tests ++ g ∷ [];
-  each = zip-more (λ t shown. AreShown need all t shown) lent.tests lists g shown lent.each own;
+  each = AllZip-push (λ t shown. AreShown need all t shown) lent.tests lists g shown lent.each own;
   just = or-same (λ p. list_any (λ t. t p) lent.tests) test (λ p. list_any (λ t. t p) (lent.tests ++ g ∷ [])) g all lent.just
       (λ p. list_any-append (λ (t : Test). t p) lent.tests (g ∷ []) ∙ ap (λ b. list_any (λ t. t p) lent.tests || b) (alone (g p)));
 }
@@ -90,17 +89,6 @@ shown-are need attrs [] inc = tt
 shown-are need attrs (p ∷ ps) inc = (record { columns = inc; cells = refl }, shown-are need attrs ps inc)
 
 -- ---- one run after another
-
-or-none : (b : Bool) → (b || false) ≡ b
-or-none true = refl
-or-none false = refl
-
--- no run
-pub lends-none : (number need : ℕ) (all : List Row) (more : Test) (runs : List Run) → ((p : Row) → more p ≡ false) → LendsMore number need all more runs runs
-lends-none number need all more runs none = record {
-  own = λ test lent. lent-same need all test (λ p. test p || more p) (map (rows_for number) runs) (each-same test (λ p. test p || more p) (λ p. sym (ap (λ b. test p || b) (none p) ∙ or-none (test p))) all) lent;
-  others = λ i also rows test other lent. lent;
-}
 
 -- the same rows more
 pub lends-same : (number need : ℕ) (all : List Row) (f g : Test) (old new : List Run) → ((p : Row) → f p ≡ g p) → LendsMore number need all f old new → LendsMore number need all g old new
@@ -121,7 +109,7 @@ lends-run number need all f g h first old shown are same lends = record {
       (lent-more need all (λ p. test p || f p) g (map (rows_for number) old) shown (lends.own test lent) are));
   others = λ i also rows test other lent.
       subst (AreLent also rows test) (sym (runs-other old i other))
-      (lent-same also rows (λ p. test p || false) test (map (rows_for i) old ++ [] ∷ []) (each-same (λ p. test p || false) test (λ p. or-none (test p)) rows)
+      (lent-same also rows (λ p. test p || false) test (map (rows_for i) old ++ [] ∷ []) (each-same (λ p. test p || false) test (λ p. or-false (test p)) rows)
       (lent-more also rows test (λ p. false) (map (rows_for i) old) [] (lends.others i also rows test other lent) (none-shown also rows)));
 }
   where
@@ -145,7 +133,7 @@ rows-both : (schema : List Table) (tables : Tables) (part : Part) (attrs : ℕ) 
     → list_all (rect_fits (table_at schema part.table).columns) rects ≡ true → list_all (constrains_only attrs 0) rects ≡ true
     → filter (is_in attrs part.rects) (filter (is_in attrs rects) (told_of tables part.table attrs)) ≡ map (project attrs) (filter (λ p. in_any rects p && in_any part.rects p) (rows_at tables part.table))
 rows-both schema tables part attrs rects o inc fit only =
-    told-both (table_at schema part.table).columns attrs rects part.rects (rows_at tables part.table) fit only o.fit (all-more-only attrs part.need part.rects inc o.only) o.points
+    told-both (table_at schema part.table).columns attrs rects part.rects (rows_at tables part.table) fit only o.fit (all-constrains_only-more attrs part.need part.rects inc o.only) o.points
 
 both-shown : (schema : List Table) (tables : Tables) (part : Part) (coming : Coming) (rects : List Rect) (rows : List Row) → IsPartOver schema tables part → includes coming.attrs part.need ≡ true
     → list_all (rect_fits (table_at schema part.table).columns) rects ≡ true → list_all (constrains_only coming.attrs 0) rects ≡ true
@@ -164,8 +152,8 @@ pub lent-region : (schema : List Table) (tables : Tables) (number : ℕ) (part :
     → LendsMore number part.need (rows_at tables part.table) (is_kept part gs) first old
     → LendsMore number part.need (rows_at tables part.table) (is_kept part (gs ++ region ∷ [])) first (old ++ record { part = number; rows = shown_of coming } ∷ [])
 lent-region schema tables number part gs region coming first old o each is_true serve attrs come lends =
-    let table : region.table ≡ part.table = same-number region.table part.table (left-true (region.table == part.table) (includes region.attrs part.need) serve) in
-    let inc = right-true (region.table == part.table) (includes region.attrs part.need) serve in
+    let table : region.table ≡ part.table = eqb-true region.table part.table (first_so (region.table == part.table) (includes region.attrs part.need) serve) in
+    let inc = second_so (region.table == part.table) (includes region.attrs part.need) serve in
     let fit = subst (λ t. list_all (rect_fits (table_at schema t).columns) region.rects ≡ true) table each.1.area.fit in
     let rows : region.rows ≡ filter (is_in region.attrs region.rects) (told_of tables part.table region.attrs) =
     subst (λ t. region.rows ≡ filter (is_in region.attrs region.rects) (told_of tables t region.attrs)) table is_true in
@@ -206,7 +194,7 @@ new-more : (part : Part) (rs : List Arrival) (r : Arrival) (p : Row)
     → list_any (λ (r : Arrival). r.table == part.table && in_any r.rects p) (rs ++ r ∷ []) ≡ (list_any (λ (r : Arrival). r.table == part.table && in_any r.rects p) rs || (r.table == part.table && in_any r.rects p))
 new-more part rs r p =
     list_any-append (λ (r : Arrival). r.table == part.table && in_any r.rects p) rs (r ∷ [])
-    ∙ ap (λ b. list_any (λ (r : Arrival). r.table == part.table && in_any r.rects p) rs || b) (or-none (r.table == part.table && in_any r.rects p))
+    ∙ ap (λ b. list_any (λ (r : Arrival). r.table == part.table && in_any r.rects p) rs || b) (or-false (r.table == part.table && in_any r.rects p))
 
 -- the rows that arrive of the part's table
 pub lent-arrival : (schema : List Table) (tables : Tables) (number : ℕ) (part : Part) (rs : List Arrival) (r : Arrival) (coming : Coming) (first old : List Run) → IsPartOver schema tables part
@@ -214,7 +202,7 @@ pub lent-arrival : (schema : List Table) (tables : Tables) (number : ℕ) (part 
     → coming.rows ≡ filter (is_in r.attrs part.rects) r.rows → LendsMore number part.need (rows_at tables part.table) (is_new part rs) first old
     → LendsMore number part.need (rows_at tables part.table) (is_new part (rs ++ r ∷ [])) first (old ++ record { part = number; rows = shown_of coming } ∷ [])
 lent-arrival schema tables number part rs r coming first old o suits is_true own attrs come lends =
-    let table : r.table ≡ part.table = same-number r.table part.table own in
+    let table : r.table ≡ part.table = eqb-true r.table part.table own in
     let inc = suits.need table in
     let fit = subst (λ t. list_all (rect_fits (table_at schema t).columns) r.rects ≡ true) table suits.fit in
     let rows : r.rows ≡ filter (is_in r.attrs r.rects) (told_of tables part.table r.attrs) = subst (λ t. r.rows ≡ filter (is_in r.attrs r.rects) (told_of tables t r.attrs)) table is_true in
@@ -244,12 +232,6 @@ passed-arrival schema tables number part rs r first old other lends =
 abbrev pub LentUpto : Tables → List model.Part → ℕ → List Run → Type 0
 LentUpto tables meant i runs =
     (k : ℕ) (m : model.Part) → slice_get meant k ≡ Some m → AreLent m.need (rows_at tables m.table) (λ p. nat_lt k i && points_of m p) (map (rows_for k) runs)
-
-pub lent-first : (tables : Tables) (meant : List model.Part) (runs : List Run) → runs ≡ [] → LentUpto tables meant 0 runs
-lent-first tables meant runs none k m at =
-    let before : nat_lt k 0 ≡ false = grind (arith, nat_tests) in
-    subst (λ runs. AreLent m.need (rows_at tables m.table) (λ p. nat_lt k 0 && points_of m p) (map (rows_for k) runs)) (sym none)
-    (record { tests = []; each = tt; just = each-same (λ p. false) (λ p. nat_lt k 0 && points_of m p) (λ p. sym (ap (λ b. b && points_of m p) before)) (rows_at tables m.table) })
 
 -- the items of two lists at one place
 zip-at : {A B : Type 0} (R : A → B → Type 0) (xs : List A) (ys : List B) (k : ℕ) (x : A) (y : B) → AllZip R xs ys → x ≡ get_or xs k x → slice_get ys k ≡ Some y → R x y

@@ -1,9 +1,10 @@
 -- A query as code has it, part by part, and as it is meant.
-use Rattle.std.proofs.Common.{◌≡◌, ℕ, ◌<◌, ◌≤◌, Bool, true, List, [], ◌∷◌, length, map, suc, refl, sym, ◌∙◌, ap, subst, arith}
+use Rattle.std.proofs.Common.{◌≡◌, ℕ, ◌<◌, ◌≤◌, true, List, [], ◌∷◌, length, map, suc, refl, sym, ◌∙◌, ap, subst, arith}
 use Rattle.std.specs.Prelude.{◌&&◌}
 use Rattle.std.specs.List.{list_all, All, AllZip}
 use Rattle.std.proofs.lemmas.Bool.Decides.{nat_tests}
 use Rattle.std.proofs.lemmas.List.Elements.{All-nil, All-cons}
+use Rattle.std.specs.Cmp.{first_so, second_so}
 use Rattle.sr_cell.specs.declared.table.Table.{Table}
 use Rattle.sr_cell.specs.Attrs.{has_column}
 use Rattle.sr_cell.specs.Cells.{Row}
@@ -25,21 +26,15 @@ use Rattle.sr_region.specs.declared.region.Region.{Region}
 use Rattle.sr_client.specs.Answering.{IsPartOver}
 use Rattle.sr_client.specs.Bound.{IsMeaning}
 
-left-of : (a b : Bool) → (a && b) ≡ true → a ≡ true
-left-of a b h = grind arith
-
-right-of : (a b : Bool) → (a && b) ≡ true → b ≡ true
-right-of a b h = grind arith
-
 pub are-meant : (schema : List Table) (q : Query) (m : model.Query) → IsMeaning schema q m → AreMeant schema q.parts
-are-meant schema q m is = (m.parts, is.query.parts, left-of (list_all (is_sound_part schema) m.parts) _ is.sound)
+are-meant schema q m is = (m.parts, is.query.parts, first_so (list_all (is_sound_part schema) m.parts) _ is.sound)
 
 pub are-sound : (schema : List Table) (q : Query) (m : model.Query) → IsMeaning schema q m → list_all (is_sound_part schema) m.parts ≡ true
-are-sound schema q m is = left-of (list_all (is_sound_part schema) m.parts) _ is.sound
+are-sound schema q m is = first_so (list_all (is_sound_part schema) m.parts) _ is.sound
 
 -- each part is of a table of its own
 pub tables-differ : (schema : List Table) (q : Query) (m : model.Query) → IsMeaning schema q m → are_different (map (λ (part : model.Part). part.table) m.parts) ≡ true
-tables-differ schema q m is = right-of (list_all (needs_key schema) m.parts && join_each schema m.parts 1 m.joins) (are_different (map (λ (part : model.Part). part.table) m.parts)) is.joined
+tables-differ schema q m is = second_so (list_all (needs_key schema) m.parts && join_each schema m.parts 1 m.joins) (are_different (map (λ (part : model.Part). part.table) m.parts)) is.joined
 
 -- there are as many parts as are meant
 pub zip-length : {A B : Type 0} (R : A → B → Type 0) (xs : List A) (ys : List B) → AllZip R xs ys → length xs ≡ length ys
@@ -57,8 +52,8 @@ pub each-meant : (schema : List Table) (P : Part → Type 0) → ((part : Part) 
 each-meant schema P holds [] meant zip sound = All-nil P
 each-meant schema P holds (p ∷ parts) [] zip sound = absurd zip
 each-meant schema P holds (p ∷ parts) (m ∷ meant) zip sound =
-    All-cons P p parts (holds p m zip.0 (left-of (is_sound_part schema m) (list_all (is_sound_part schema) meant) sound))
-    (each-meant schema P holds parts meant zip.1 (right-of (is_sound_part schema m) (list_all (is_sound_part schema) meant) sound))
+    All-cons P p parts (holds p m zip.0 (first_so (is_sound_part schema m) (list_all (is_sound_part schema) meant) sound))
+    (each-meant schema P holds parts meant zip.1 (second_so (is_sound_part schema m) (list_all (is_sound_part schema) meant) sound))
 
 -- holds of all parts of a query
 pub all-parts : (schema : List Table) (q : Query) (m : model.Query) (P : Part → Type 0) → IsMeaning schema q m → ((part : Part) (m : model.Part) → IsPart schema part m → is_sound_part schema m ≡ true → P part) → All P q.parts
@@ -94,7 +89,7 @@ pub is-joinable : (schema : List Table) (tables : Tables) (q : Query) (m : model
 is-joinable schema tables q m is by_key = record {
   means = is.query;
   joined = is.joined;
-  outputs = right-of (list_all (is_sound_part schema) m.parts) (list_all (is_needed m.parts) m.outputs) is.sound;
+  outputs = second_so (list_all (is_sound_part schema) m.parts) (list_all (is_needed m.parts) m.outputs) is.sound;
   by_key = by_key;
 }
 

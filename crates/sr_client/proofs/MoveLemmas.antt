@@ -1,11 +1,12 @@
 -- What is shown of a step from each past that a client stands for, over the databases of its own schema.
-use Rattle.std.proofs.Common.{◌≡◌, ℕ, ◌+◌, ◌≤◌, false, List, Ok, sym, subst}
+use Rattle.std.proofs.Common.{ℕ, ◌+◌, ◌≤◌, List, Ok, sym, subst}
 use Rattle.sr_message.specs.declared.message.Message.{Message}
 use Rattle.sr_model.specs.Queries as model
 use Rattle.sr_session.specs.Sessions.{Database}
 use Rattle.sr_session.specs.Clients as session
 use Rattle.sr_session.specs.Rules.{Outcome}
 use Rattle.sr_session.specs.Rules as rules
+use Rattle.sr_session.specs.Bases.{basis_of}
 use Rattle.sr_client.specs.declared.client.Client.{Client}
 use Rattle.sr_client.specs.declared.steps.CutStep.{CutStep}
 use Rattle.sr_client.specs.declared.steps.EvictStep.{EvictStep}
@@ -13,8 +14,8 @@ use Rattle.sr_client.specs.declared.steps.QueryStep.{QueryStep}
 use Rattle.sr_client.specs.declared.steps.ResumeStep.{ResumeStep}
 use Rattle.sr_client.specs.declared.steps.Took.{Took}
 use Rattle.sr_client.specs.declared.steps.WriteStep.{WriteStep}
-use Rattle.sr_client.specs.Stands.{Hidden, Facts, Stands, StandsFor, StandsOver, Truly, past_of, basis_of, drawn}
-use Rattle.sr_client.specs.Steps.{Goes, KeepsLink, Moves, SaysQuery, SaysTook, SaysEvict, SaysWrite, SaysResume, SaysCut, Queries, Takes, Evicts, Writes, Resumes, Cuts, is_bad}
+use Rattle.sr_client.specs.Stands.{Hidden, Facts, Stands, StandsFor, StandsOver, Truly, past_of, drawn}
+use Rattle.sr_client.specs.Steps.{Goes, KeepsLink, Moves, SaysQuery, SaysTook, SaysEvict, SaysWrite, SaysResume, SaysCut, Queries, Takes, Evicts, Writes, Resumes, Cuts}
 use Rattle.sr_client.proofs.OverLemmas.{on, IsHere, of-schema}
 
 -- one outcome and one next past, for the databases of the client's schema

@@ -4,6 +4,7 @@ use Rattle.std.specs.Prelude.{Bool, not, ◌&&◌}
 use Rattle.std.specs.List.{list_all}
 use Rattle.std.proofs.lemmas.List.{append-nil}
 use Rattle.std.proofs.lemmas.List.Folds.{list_all-append}
+use Rattle.sr_store.proofs.Nearing.{grid_near}
 use Rattle.sr_cell.specs.declared.table.Column.{Column}
 use Rattle.sr_cell.specs.Cells.{Row}
 use Rattle.sr_cell.specs.Columns.{is_point}
@@ -13,7 +14,7 @@ use Rattle.sr_union.specs.Grid.{grid, have_first, AreCutFrom}
 use Rattle.sr_union.proofs.Count.{length-grid}
 use Rattle.sr_union.proofs.Parts.{are_part}
 use Rattle.sr_union.proofs.Meets.{near-in, near-are, near-fits}
-use Rattle.sr_region.proofs.Sides.{cuts-inside, grid-mid}
+use Rattle.sr_region.proofs.Sides.{cuts-inside}
 use Rattle.sr_trim.specs.Left.{left_over}
 use Rattle.sr_client.specs.Cutting.{grid_with}
 
@@ -32,9 +33,6 @@ pub near-cuts : (cs : List Column) (rects cover rest : List Rect) → list_all (
     → AreCutFrom cs (rects ++ near rects cover) rest → AreCutFrom cs (rects ++ cover) rest
 near-cuts cs rects cover rest f g cut = cuts-inside cs rects cover (near rects cover) rest f (near-cut cs rects cover g) cut
 
-pub near-grid : (cs : List Column) (rects cover : List Rect) → list_all (rect_fits cs) rects ≡ true → list_all (rect_fits cs) cover ≡ true → grid cs (rects ++ near rects cover) ≤ grid cs (rects ++ cover)
-near-grid cs rects cover f g = grid-mid cs rects cover (near rects cover) f (near-cut cs rects cover g)
-
 -- what is left has no more rects than the grid
 pub rest-within : (cs : List Column) (rects cover rest : List Rect) → have_first cs ≡ true → list_all (rect_fits cs) rects ≡ true → list_all (rect_fits cs) cover ≡ true → AreCutFrom cs (rects ++ near rects cover) rest
     → ((p : Row) → is_point cs p ≡ true → times rest p ≤ 1) → (rects ≡ [] → rest ≡ []) → length rest ≤ grid_with cs cover rects
@@ -43,9 +41,9 @@ rest-within cs (r ∷ rects) cover rest first fit covers cut once none =
     let given : list_all (rect_fits cs) ((r ∷ rects) ++ near (r ∷ rects) cover) ≡ true =
     list_all-append (rect_fits cs) (r ∷ rects) (near (r ∷ rects) cover) ∙ rw (fit, near-fits cs (r ∷ rects) cover covers) refl in
     let long = length-grid cs ((r ∷ rects) ++ near (r ∷ rects) cover) rest 1 first given cut once in
-    let few = near-grid cs (r ∷ rects) cover fit covers in omega (arith, long, few)
+    let few = grid_near cs (r ∷ rects) cover fit covers in omega (arith, long, few)
 
 pub over-within : (cs : List Column) (rects cover : List Rect) (room : ℕ) → list_all (rect_fits cs) rects ≡ true → list_all (rect_fits cs) cover ≡ true → (rects ≡ [] → ⊥) → room < grid cs (rects ++ near rects cover)
     → room < grid_with cs cover rects
 over-within cs [] cover room fit covers some large = absurd (some refl)
-over-within cs (r ∷ rects) cover room fit covers some large = let few = near-grid cs (r ∷ rects) cover fit covers in omega (arith, large, few)
+over-within cs (r ∷ rects) cover room fit covers some large = let few = grid_near cs (r ∷ rects) cover fit covers in omega (arith, large, few)

@@ -1,5 +1,5 @@
 -- Clients before anything happens.
-use Rattle.std.proofs.Common.{◌≡◌, ℕ, ◌≤◌, true, false, List, [], ◌∷◌, refl, arith, None}
+use Rattle.std.proofs.Common.{◌≡◌, ℕ, true, List, [], refl, arith}
 use Rattle.std.specs.List.{list_all}
 use Rattle.std.proofs.lemmas.List.Elements.{All-nil}
 use Rattle.sr_cell.specs.declared.table.Table.{Table}
@@ -12,7 +12,6 @@ use Rattle.sr_store.specs.Classes.{Keeps}
 use Rattle.sr_session.specs.Sessions.{Database}
 use Rattle.sr_session.specs.Laws.{IsSound}
 use Rattle.sr_session.specs.Scenes.{new_pair}
-use Rattle.sr_client.specs.declared.client.Client.{Client}
 use Rattle.sr_client.specs.Stands.{Hidden, Facts, Stands, StandsOver, new_client, opened_client}
 use Rattle.sr_client.proofs.TableLemmas.{no-store}
 

@@ -7,7 +7,7 @@ use Rattle.sr_session.specs.Sessions.{Database, newest, tables_of}
 use Rattle.sr_session.specs.Clients as session
 use Rattle.sr_session.specs.Laws.{IsSound}
 use Rattle.sr_client.specs.declared.client.Client.{Client}
-use Rattle.sr_client.specs.Stands.{Hidden, past_of, Facts, StandsOver, Stands}
+use Rattle.sr_client.specs.Stands.{Hidden, past_of, Facts, StandsOver}
 
 abbrev pub on : Client → Database → Database
 on c db = record db { schema = c.schema }

@@ -41,14 +41,6 @@ apart-numbers a b apart same = let own : (a == b) ≡ true = grind (arith, nat_t
 pub numbers-apart : (a b : ℕ) → (a ≡ b → ⊥) → (a == b) ≡ false
 numbers-apart a b other = grind (arith, nat_tests, other)
 
--- ---- neither of two
-
-pub or-left : (a b : Bool) → (a || b) ≡ false → a ≡ false
-or-left a b h = grind arith
-
-pub or-right : (a b : Bool) → (a || b) ≡ false → b ≡ false
-or-right a b h = grind arith
-
 -- ---- tables
 
 -- one of the parts is of the table

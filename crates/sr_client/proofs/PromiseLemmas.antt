@@ -1,10 +1,8 @@
 -- What comes to a client that stands is promised.
-use Rattle.std.proofs.Common.{◌≡◌, List, [], ◌∷◌, sym, ◌∙◌}
-use Rattle.sr_message.specs.declared.message.Message.{Message}
-use Rattle.sr_session.specs.Sessions.{Database}
+use Rattle.std.proofs.Common.{◌≡◌, [], ◌∷◌, sym, ◌∙◌}
 use Rattle.sr_session.specs.Clients as session
-use Rattle.sr_session.specs.Clients.{Pair, is_open, is_down, is_resuming}
-use Rattle.sr_client.specs.Stands.{Truly, PromisesAreTrue}
+use Rattle.sr_session.specs.Clients.{is_open, is_down, is_resuming}
+use Rattle.sr_client.specs.Stands.{PromisesAreTrue}
 
 pub promises-are-true : PromisesAreTrue
 promises-are-true db pair m rest (is_open session stands) first = record { connection = pair.connection; session = session; is_open = stands; rest = rest; first = first }

@@ -3,42 +3,43 @@ use Rattle.std.proofs.Common.{◌≡◌, ℕ, ◌+◌, true, List, [], ◌∷◌
 use Rattle.std.proofs.lemmas.List.Elements.{All-nil}
 use Rattle.sr_cell.specs.Cells.{Row}
 use Rattle.sr_model.specs.Queries as model
-use Rattle.sr_model.specs.Queries.{rows_of}
 use Rattle.sr_model.specs.Statements.{Tables}
+use Rattle.sr_model.specs.Queries.{rows_of}
 use Rattle.sr_query.specs.declared.query.Query.{Query}
 use Rattle.sr_history.specs.declared.mark.Mark.{Mark}
 use Rattle.sr_history.specs.Marks.{with_marks}
 use Rattle.sr_history.specs.Classes.{Numbered, stamp}
 use Rattle.sr_history.specs.Rests.{Asks}
 use Rattle.sr_store.specs.declared.store.Store.{Store}
-use Rattle.sr_store.specs.declared.store.Arrival.{Arrival}
 use Rattle.sr_store.specs.Told.{told_of}
-use Rattle.sr_store.specs.Answered.{IsArrival}
 use Rattle.sr_store.proofs.Stamping.{stamp_more}
+use Rattle.sr_store.specs.Answered.{IsArrival}
+use Rattle.sr_store.specs.declared.store.Arrival.{Arrival}
 use Rattle.sr_session.specs.Sessions.{Database, tables_of}
 use Rattle.sr_session.specs.Clients as session
 use Rattle.sr_session.specs.Clients.{answered}
 use Rattle.sr_session.specs.Rules.{number_of, answering_now, counted, query_busy, query_answered, AnswerStep}
 use Rattle.sr_session.specs.Rules as rules
 use Rattle.sr_session.specs.Tidy.{IsTidyWith}
+use Rattle.sr_session.specs.Bases.{basis_of}
 use Rattle.sr_client.specs.Asking.{AsksRest}
 use Rattle.sr_client.specs.Bound.{IsMeaning}
-use Rattle.sr_client.specs.Cutting.{EndWith, RegionsEnd, PartsEnd}
 use Rattle.sr_client.specs.declared.client.Client.{Client}
 use Rattle.sr_client.specs.declared.client.Request as code
 use Rattle.sr_client.specs.declared.steps.QueryStep.TheVariants.{Answered, Busy}
-use Rattle.sr_client.specs.Stands.{Hidden, Facts, Stands, StandsOver, past_of, out_of, request_of, basis_of, IsMeant, AreFit}
+use Rattle.sr_client.specs.Stands.{Hidden, Facts, Stands, StandsOver, past_of, out_of, request_of, IsMeant, AreFit}
 use Rattle.sr_client.specs.Steps.{Queries}
 use Rattle.sr_client.proofs.Calls.{Answers, IsAfter, none-arrived}
-use Rattle.sr_client.proofs.CountLemmas.{counted-more}
-use Rattle.sr_client.proofs.CoverLemmas.{all-held}
-use Rattle.sr_client.proofs.EndLemmas.{regions-more, parts-end}
 use Rattle.sr_client.proofs.KeptLemmas.{IsAnswering, AreTrue, from_of, kept, kept-true, kept-last, answer-step}
-use Rattle.sr_client.proofs.LastLemmas.{last-answered}
 use Rattle.sr_client.proofs.MeantLemmas.{are-sound, is-joinable, parts-fit}
 use Rattle.sr_client.proofs.MoveLemmas.{queries-by}
 use Rattle.sr_client.proofs.OverLemmas.{on, IsHere, stands-over}
 use Rattle.sr_client.proofs.ShortLemmas.{shorts-more, meaning-short}
+use Rattle.sr_client.proofs.CoverLemmas.{all-held}
+use Rattle.sr_client.specs.Cutting.{PartsEnd, EndWith, RegionsEnd}
+use Rattle.sr_client.proofs.LastLemmas.{last-answered}
+use Rattle.sr_client.proofs.EndLemmas.{parts-end, regions-more}
+use Rattle.sr_client.proofs.CountLemmas.{counted-more}
 
 -- ---- while a request is out
 

@@ -1,8 +1,6 @@
 -- What calls leave of a store.
-use Rattle.std.proofs.Common.{◌≡◌, List, map, sym, ◌∙◌, ap, subst}
+use Rattle.std.proofs.Common.{◌≡◌, List, ◌∙◌, ap, subst}
 use Rattle.sr_cell.specs.declared.table.Table.{Table}
-use Rattle.sr_message.specs.declared.message.Tell.{Tell}
-use Rattle.sr_policy.specs.declared.policy.Last.{Last}
 use Rattle.sr_policy.specs.declared.policy.Limits.{Limits}
 use Rattle.sr_history.specs.declared.mark.Mark.{Mark}
 use Rattle.sr_region.specs.declared.region.Region.{Region}

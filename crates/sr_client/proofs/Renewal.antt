@@ -1,5 +1,5 @@
 -- What an answer makes of the marks, the stamps and the regions.
-use Rattle.std.proofs.Common.{◌≡◌, ℕ, true, List, [], ◌∷◌, ◌++◌, refl, ap, subst, map, ◌∙◌}
+use Rattle.std.proofs.Common.{◌≡◌, ℕ, true, List, ◌++◌, ap, subst, map, ◌∙◌}
 use Rattle.sr_cell.specs.declared.cause.Cause.TheVariants.{Absorbed}
 use Rattle.sr_cell.specs.declared.table.Table.{Table}
 use Rattle.sr_cell.specs.Columns.{table_at}
@@ -8,6 +8,7 @@ use Rattle.sr_history.specs.declared.mark.Mark.{Mark}
 use Rattle.sr_history.specs.Marks.{is_held, with_marks}
 use Rattle.sr_history.specs.Classes.{Numbered, stamp}
 use Rattle.sr_history.specs.Drops.{Absorbs}
+use Rattle.sr_history.proofs.Marking.{with_marks-append}
 use Rattle.sr_query.specs.declared.query.Part.{Part}
 use Rattle.sr_region.specs.declared.region.Region.{Region}
 use Rattle.sr_store.specs.declared.store.Arrival.{Arrival}
@@ -19,11 +20,6 @@ use Rattle.sr_store.proofs.Stepping.{AreStampsAfter, answered_keeps, answered_ab
 -- each table has a first point
 abbrev pub HaveFirst : List Table → Type 0
 HaveFirst schema = (t : ℕ) → have_first (table_at schema t).columns ≡ true
-
--- marks, and then more
-pub with_marks-append : (marks one more : List Mark) → with_marks marks (one ++ more) ≡ with_marks (with_marks marks one) more
-with_marks-append marks [] more = refl
-with_marks-append marks (m ∷ one) more = with_marks-append (m ∷ marks) one more
 
 -- what was asked is held, the absorbed classes are dropped, and the regions keep what is held then
 pub record IsRenewal (schema : List Table) (arrivals : List Arrival) (new : List Region) (marks before : List Mark) (queries : List Numbered) : Type 0 where

@@ -11,21 +11,22 @@ use Rattle.sr_history.specs.Classes.{Numbered, stamp}
 use Rattle.sr_store.specs.declared.store.Store.{Store}
 use Rattle.sr_session.specs.Sessions.{Database, tables_of}
 use Rattle.sr_session.specs.Clients as session
-use Rattle.sr_session.specs.Clients.{answered, asks_again, mirror_of}
+use Rattle.sr_session.specs.Clients.{answered, mirror_of}
 use Rattle.sr_session.specs.Laws.{IsAnswerable}
 use Rattle.sr_session.specs.Regions.{AreAt, after_messages}
-use Rattle.sr_session.specs.Rules.{AskSent, AnswerStep, answers, asks_once_more, answering_then, counted, with_answered, is_given_up}
+use Rattle.sr_session.specs.Rules.{AnswerStep, answers, answering_then, with_answered, is_given_up}
 use Rattle.sr_session.specs.Rules as rules
 use Rattle.sr_session.specs.Walks.{walked}
 use Rattle.sr_session.proofs.RowLemmas.{rows-are-asked}
 use Rattle.sr_session.proofs.TakeLemmas.{replies-are-answerable}
 use Rattle.sr_session.proofs.TruthLemmas.{laid-messages-keep-true}
+use Rattle.sr_session.specs.Bases.{basis_of}
 use Rattle.sr_client.specs.Arriving.{arrivals_of}
 use Rattle.sr_client.specs.declared.client.AskOut as code
 use Rattle.sr_client.specs.declared.client.Client.{Client}
 use Rattle.sr_client.specs.declared.steps.Took.TheVariants as took
 use Rattle.sr_client.specs.Laying.{asking}
-use Rattle.sr_client.specs.Stands.{Hidden, Facts, Stands, StandsOver, Truly, IsFit, past_of, basis_of}
+use Rattle.sr_client.specs.Stands.{Hidden, Facts, Stands, StandsOver, Truly, IsFit, past_of}
 use Rattle.sr_client.specs.Steps.{Takes}
 use Rattle.sr_client.specs.Values.{has_values}
 use Rattle.sr_client.proofs.AskedLemmas.{is-out, laid-keeps}

@@ -1,7 +1,7 @@
 -- What messages do that come while nothing is out.
-use Rattle.std.proofs.Common.{◌≡◌, ℕ, ◌+◌, ◌≤◌, ◌<◌, Bool, true, false, List, [], ◌∷◌, ◌++◌, map, length, refl, sym, ◌∙◌, ap, subst, arith, Option, Some, None}
+use Rattle.std.proofs.Common.{◌≡◌, ℕ, ◌≤◌, List, [], ◌∷◌, map, refl, sym, ap, subst, arith, None}
 use Rattle.std.specs.List.{All, Contains}
-use Rattle.std.proofs.lemmas.List.Elements.{All-nil, All-map, All-weaker, All-contains}
+use Rattle.std.proofs.lemmas.List.Elements.{All-nil, All-weaker, All-contains, All-map}
 use Rattle.sr_cell.specs.declared.cause.Cause.TheVariants.{Lapsed}
 use Rattle.sr_cell.specs.declared.table.Table.{Table}
 use Rattle.sr_message.specs.declared.message.Message.{Message}
@@ -24,27 +24,27 @@ use Rattle.sr_store.proofs.Noticing.{notices-classes}
 use Rattle.sr_store.proofs.Stepping.{dropped_marks}
 use Rattle.sr_store.proofs.Storing.{store-told}
 use Rattle.sr_store.proofs.Telling.{only-rows}
-use Rattle.sr_session.specs.Sessions.{Database, Session, newest, tables_of}
+use Rattle.sr_session.specs.Sessions.{Database, newest, tables_of}
 use Rattle.sr_session.specs.Places.{held}
-use Rattle.sr_session.specs.Walks.{Request, Walks, noticed, forgot}
+use Rattle.sr_session.specs.Walks.{Walks, noticed, forgot}
 use Rattle.sr_session.specs.Clients as session
-use Rattle.sr_session.specs.Clients.{Flows, IsOpen, is_idle, mirror_of}
+use Rattle.sr_session.specs.Clients.{Flows, is_idle, mirror_of}
 use Rattle.sr_session.specs.Rules.{Applied, Forgot, applies, forgets, counted}
 use Rattle.sr_session.specs.Rules as rules
-use Rattle.sr_session.specs.Tidy.{IsTidy, IsTidyWith}
+use Rattle.sr_session.specs.Tidy.{IsTidyWith}
 use Rattle.sr_session.proofs.TruthLemmas.{noted}
 use Rattle.sr_session.proofs.WalkLemmas.{walks-later}
+use Rattle.sr_session.specs.Bases.{basis_of}
 use Rattle.sr_client.specs.Cutting.{EndWith, RegionsEnd}
 use Rattle.sr_client.specs.declared.client.Client.{Client}
 use Rattle.sr_client.specs.declared.steps.Took.TheVariants as took
-use Rattle.sr_client.specs.Stands.{Hidden, Facts, Stands, StandsOver, Truly, IsFit, past_of, out_of, basis_of, IsMeant, AreFit}
+use Rattle.sr_client.specs.Stands.{Hidden, Facts, Stands, StandsOver, Truly, IsFit, past_of, out_of, AreFit}
 use Rattle.sr_client.specs.Steps.{Takes}
 use Rattle.sr_client.proofs.FitLemmas.{fitted-keeps}
 use Rattle.sr_client.proofs.MirrorLemmas.{at-mirror}
 use Rattle.sr_client.proofs.MoveLemmas.{takes-by}
-use Rattle.sr_client.proofs.OverLemmas.{on, IsHere, with_regions, stands-over}
+use Rattle.sr_client.proofs.OverLemmas.{on, IsHere, stands-over}
 use Rattle.sr_client.proofs.QueryLemmas.{none-laid}
-use Rattle.sr_client.proofs.SuitLemmas.{notice-later, lapse-later}
 use Rattle.sr_client.proofs.TableLemmas.{have-first}
 
 -- the client at a version, with these regions
@@ -194,9 +194,6 @@ module _ (c : Client) (version : ℕ) (out : c.out ≡ None) (fit : IsFit c (Lap
   }) stands
 
 -- ---- no other message
-
-is-none : {X : Type 0} → (x : X) → Some x ≡ None → ⊥
-is-none x e = cc
 
 -- each other message would have been refused
 pub rest-only : (c : Client) (m : Message) → c.out ≡ None → IsFit c m → ((version : ℕ) (told : List Tell) → m ≡ Notice version told → ⊥) → ((version : ℕ) → m ≡ Lapse version → ⊥) → (meaning : Query) → ⊥

@@ -1,14 +1,13 @@
 -- What a resume does.
 use Rattle.std.proofs.Common.{◌≡◌, ℕ, ◌+◌, ◌<◌, Bool, true, false, List, [], ◌∷◌, map, length, refl, sym, ◌∙◌, ap, subst, arith, Some, None}
-use Rattle.std.specs.Prelude.{not, ◌&&◌, ◌||◌, ◌==◌, nat_eq, nat_lt, if◌then◌else◌}
-use Rattle.std.specs.List.{list_all, list_any, All}
+use Rattle.std.specs.Prelude.{◌&&◌, ◌||◌, ◌==◌, nat_lt, if◌then◌else◌}
+use Rattle.std.specs.List.{list_all, All}
 use Rattle.std.specs.Cmp.Derive.{both_true}
 use Rattle.std.proofs.lemmas.Bool.Decides.{nat_tests}
 use Rattle.std.proofs.lemmas.List.Elements.{All-head, All-tail}
 use Rattle.sr_cell.specs.declared.table.Table.{Table}
 use Rattle.sr_cell.specs.Cells.{Row}
-use Rattle.sr_cell.specs.Columns.{table_at, is_point}
-use Rattle.sr_box.specs.Points.{in_any, times, rect_fits}
+use Rattle.sr_box.specs.Points.{in_any, times}
 use Rattle.sr_union.proofs.Times.{in_any-times}
 use Rattle.sr_message.specs.declared.message.Message.{Message}
 use Rattle.sr_subs.specs.Subscription.{has_point}
@@ -19,8 +18,6 @@ use Rattle.sr_region.specs.declared.region.Region.{Region}
 use Rattle.sr_store.specs.Classes.{Stamps, Keeps, occurs, is_of}
 use Rattle.sr_store.specs.Stores.{IsOfSchema}
 use Rattle.sr_store.proofs.Covering.{all_none}
-use Rattle.sr_session.specs.Sessions.{Database}
-use Rattle.sr_session.specs.Clients as session
 use Rattle.sr_session.specs.Clients.{IsResumeMessage}
 use Rattle.sr_session.specs.Places.{Within, held}
 use Rattle.sr_session.specs.Refusals.{holding_suits, is_request_of}
@@ -32,10 +29,10 @@ use Rattle.sr_client.specs.declared.client.Client.{Client}
 use Rattle.sr_client.specs.declared.client.Request.TheVariants as request
 use Rattle.sr_client.specs.declared.steps.ResumeStep.TheVariants.{Sent, Up}
 use Rattle.sr_client.specs.Sends.{holding_of, first_of}
-use Rattle.sr_client.specs.Stands.{Hidden, Facts, Stands, StandsOver, past_of, out_of, AreFit}
+use Rattle.sr_client.specs.Stands.{Hidden, Facts, Stands, past_of, AreFit}
 use Rattle.sr_client.specs.Steps.{Resumes}
 use Rattle.sr_client.proofs.MoveLemmas.{resumes-by}
-use Rattle.sr_client.proofs.OverLemmas.{on, IsHere, stands-over}
+use Rattle.sr_client.proofs.OverLemmas.{stands-over}
 use Rattle.sr_client.proofs.QueryLemmas.{none-laid}
 use Rattle.sr_client.proofs.TableLemmas.{have-first}
 

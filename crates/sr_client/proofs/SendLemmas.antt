@@ -34,6 +34,7 @@ use Rattle.sr_session.specs.Walks.{AskOut, AreLaid}
 use Rattle.sr_session.specs.Rules.{Before, as_it_is, emptied, counted, with_ask, query_asks, query_down}
 use Rattle.sr_session.specs.Rules as rules
 use Rattle.sr_session.specs.Tidy.{IsTidyWith}
+use Rattle.sr_session.specs.Bases.{basis_of}
 use Rattle.sr_client.specs.Asking.{AsksRest, entry_of, whole_asks}
 use Rattle.sr_client.specs.Arriving.{is_empty}
 use Rattle.sr_client.specs.Bound.{IsMeaning}
@@ -42,7 +43,7 @@ use Rattle.sr_client.specs.Sending.{next_ask, with_out, asked_step, IsSent, is_d
 use Rattle.sr_client.specs.declared.client.Client.{Client}
 use Rattle.sr_client.specs.declared.steps.QueryStep.{QueryStep}
 use Rattle.sr_client.specs.declared.steps.QueryStep.TheVariants.{Down}
-use Rattle.sr_client.specs.Stands.{Hidden, Facts, Stands, past_of, out_of, basis_of, IsMeant, AreFit}
+use Rattle.sr_client.specs.Stands.{Hidden, Facts, Stands, past_of, out_of, IsMeant, AreFit}
 use Rattle.sr_client.specs.Steps.{SaysQuery, Queries}
 use Rattle.sr_client.proofs.AskLemmas.{asks-whole, whole-along, whole-narrow}
 use Rattle.sr_client.proofs.CountLemmas.{counted-more}

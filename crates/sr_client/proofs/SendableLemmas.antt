@@ -1,26 +1,24 @@
 -- What a client sends is inside the limits of the format.
-use Rattle.std.proofs.Common.{◌≡◌, ℕ, zero, suc, ◌+◌, ◌*◌, ◌/◌, ◌^◌, ◌≤◌, ◌<◌, Bool, true, false, List, [], ◌∷◌, ◌++◌, length, map, refl, sym, ◌∙◌, ap, subst, arith}
-use Rattle.std.specs.Prelude.{◌&&◌, ◌==◌, nat_lt, nat_le, sum_by}
+use Rattle.std.proofs.Common.{◌≡◌, ℕ, zero, suc, ◌+◌, ◌*◌, ◌/◌, ◌^◌, ◌≤◌, ◌<◌, Bool, true, List, [], ◌∷◌, ◌++◌, length, map, refl, sym, ◌∙◌, ap, subst, arith}
+use Rattle.std.specs.Prelude.{◌&&◌, ◌==◌, nat_lt, nat_le}
 use Rattle.std.specs.List.{list_all, All}
 use Rattle.std.specs.Cmp.Derive.{both_true}
 use Rattle.std.proofs.Math.Nat.{lt-mul-div-succ, pow-le-pow_right}
-use Rattle.std.proofs.lemmas.Bool.{and_parts}
+use Rattle.std.proofs.lemmas.Bool.{and_parts, le-leb, leb-true, ltb-true}
 use Rattle.std.proofs.lemmas.Bool.Decides.{nat_tests}
 use Rattle.std.proofs.lemmas.List.Folds.{list_all-append}
 use Rattle.std.proofs.lemmas.List.Elements.{All-nil, All-cons, All-head, All-tail}
 use Rattle.std.proofs.lemmas.List.Sums.{sum_by-cons}
-use Rattle.sr_cell.specs.declared.table.Column.{Column}
 use Rattle.sr_cell.specs.declared.table.Table.{Table}
 use Rattle.sr_cell.specs.Attrs.{has_column}
 use Rattle.sr_cell.specs.Columns.{table_at}
 use Rattle.sr_box.specs.Points.{Rect, in_any, rect_fits, constrains_only}
 use Rattle.sr_message.specs.declared.message.AskPart.{AskPart}
 use Rattle.sr_message.specs.declared.message.Holding.{Holding}
-use Rattle.sr_message.specs.declared.message.Message.{Message}
 use Rattle.sr_message.specs.declared.message.Message.TheVariants.{Ask, Write, Hello, Resume}
 use Rattle.sr_message.specs.Sizes.{count_asked, most_rects}
-use Rattle.sr_bytes.specs.Spelling.{is_from_to}
-use Rattle.sr_bytes.specs.Writing.{may_write_rect, may_write_rects}
+use Rattle.sr_bytes.specs.Writing.{may_write_rects}
+use Rattle.sr_bytes.proofs.Numbers.{from-to}
 use Rattle.sr_wire.specs.Limits.{may_write_part, may_write_holding, count_held, IsSendable}
 use Rattle.sr_wire.proofs.Sizes.{few_are_sendable}
 use Rattle.sr_model.specs.Queries as model
@@ -32,9 +30,10 @@ use Rattle.sr_region.specs.declared.region.Region.{Region}
 use Rattle.sr_store.specs.Stores.{IsOfSchema, count_rects}
 use Rattle.sr_session.specs.Refusals.{are_columns, suits_table, part_suits}
 use Rattle.sr_session.specs.Rules.{counted}
+use Rattle.sr_session.proofs.TableLemmas.{HasColumns, one-table}
 use Rattle.sr_client.specs.Arriving.{is_empty}
 use Rattle.sr_client.specs.Bound.{IsMeaning}
-use Rattle.sr_client.specs.Cutting.{EndWith, RegionsEnd, AsksEnd}
+use Rattle.sr_client.specs.Cutting.{EndWith, AsksEnd}
 use Rattle.sr_client.specs.Sends.{IsWellSent, IsOfFormat, QuerySendsWell, holding_of, first_of}
 use Rattle.sr_client.specs.Sending.{IsSent, is_down, is_sent}
 use Rattle.sr_client.specs.Stands.{Hidden, Facts, Stands, asks_short}
@@ -43,18 +42,9 @@ use Rattle.sr_client.specs.declared.steps.QueryStep.{QueryStep}
 use Rattle.sr_client.proofs.ResumeLemmas.{first-well}
 use Rattle.sr_client.proofs.SendLemmas.{MayAsk, are-asked, ask-ends}
 use Rattle.sr_client.proofs.SendsLemmas.{ask-well}
-use Rattle.sr_client.proofs.ShortLemmas.{rects-may, from-to, counted-short, meaning-short}
+use Rattle.sr_client.proofs.ShortLemmas.{rects-may, counted-short, meaning-short}
 
 -- ---- numbers
-
-is-le : (a b : ℕ) → a ≤ b → nat_le a b ≡ true
-is-le a b le = grind (arith, nat_tests)
-
-at-most : (a b : ℕ) → nat_le a b ≡ true → a ≤ b
-at-most a b le = grind (arith, nat_tests)
-
-less : (a b : ℕ) → nat_lt a b ≡ true → a < b
-less a b lt = grind (arith, nat_tests)
 
 positive : (n : ℕ) → 0 < 2 ^ n
 positive n = let le : 2 ^ 0 ≤ 2 ^ n = pow-le-pow_right {n = 2} (omega arith) {i = 0} {j = n} (omega arith) in omega (arith, le)
@@ -75,17 +65,6 @@ some-rects [] some = absurd (some refl)
 some-rects (r ∷ rects) some = omega arith
 
 -- ---- tables
-
-record HasColumns (table : Table) : Type 0 where
-  some : 1 ≤ length table.columns
-  few : length table.columns ≤ 12
-
-one-table : (table : Table) → is_table table ≡ true → HasColumns table
-one-table table is =
-    let sizes = (and_parts (nat_le (length table.columns) 12 && nat_lt table.key (length table.columns)) _ is).0 in
-    let both = and_parts (nat_le (length table.columns) 12) (nat_lt table.key (length table.columns)) sizes in
-    let key = less table.key (length table.columns) both.1 in
-    record { some = omega (arith, key); few = at-most (length table.columns) 12 both.0 }
 
 has-columns : (schema : List Table) (t : ℕ) → list_all is_table schema ≡ true → t < length schema → HasColumns (table_at schema t)
 has-columns [] t tables there = absurd (omega (arith, there))
@@ -120,7 +99,7 @@ ask-may : (schema : List Table) (queries : List model.Query) (ask : AskPart) →
 ask-may schema queries ask tables short suits ends full few =
     let table : Table = table_at schema ask.table in
     let two = and_parts (nat_lt ask.table (length schema)) (suits_table (table_at schema ask.table) ask) suits in
-    let there = less ask.table (length schema) two.0 in
+    let there = ltb-true ask.table (length schema) two.0 in
     let fits = and_parts (are_columns ask.attrs (length (table_at schema ask.table).columns) && has_column ask.attrs (table_at schema ask.table).key) (list_all (rect_fits (table_at schema ask.table).columns) ask.rects)
     (and_parts (are_columns ask.attrs (length (table_at schema ask.table).columns) && has_column ask.attrs (table_at schema ask.table).key && list_all (rect_fits (table_at schema ask.table).columns) ask.rects)
     (list_all (constrains_only ask.attrs 0) ask.rects) two.1).0 in
@@ -153,8 +132,8 @@ ask-sent schema client number fresh marks queries q m asks tables is rest some s
     record {
       request = well;
       sendable = few_are_sendable (Ask number fresh asks)
-          (both_true (from-to 1 4 (length asks) (some-asks asks some) (at-most (length asks) 4 parts.1)) (asks-may schema queries asks tables short parts.0 ends (asks-full schema marks m.parts asks rest) few))
-          (is-le (count_asked asks) most_rects few);
+          (both_true (from-to 1 4 (length asks) (some-asks asks some) (leb-true (length asks) 4 parts.1)) (asks-may schema queries asks tables short parts.0 ends (asks-full schema marks m.parts asks rest) few))
+          (le-leb (count_asked asks) most_rects few);
     }
 
 -- what the step of a query sends
@@ -217,7 +196,7 @@ first-sendable c h f format most (g ∷ gs) same =
     (both_true (from-to 1 64 c.id format.first format.last)
     (both_true (from-to 1 1024 (length (map holding_of (g ∷ gs))) (omega arith) (omega (arith, long, regions, room)))
     (held-may c.schema (counted h.counted_from h.queries) (g ∷ gs) f.tables most (counted-short h.counted_from h.queries f.short) each ends rects)))
-    (is-le (count_held (map holding_of (g ∷ gs))) most_rects (omega (arith, count, rects)))
+    (le-leb (count_held (map holding_of (g ∷ gs))) most_rects (omega (arith, count, rects)))
 
 pub first-sent : (c : Client) → Stands c → IsOfFormat c → length c.schema ≤ 16 → IsWellSent c.schema c.id (first_of c c.store.regions)
 first-sent c stands format most = record { request = first-well c stands; sendable = first-sendable c stands.0 stands.1 format most c.store.regions refl }

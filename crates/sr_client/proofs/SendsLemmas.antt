@@ -3,8 +3,7 @@ use Rattle.std.proofs.Common.{◌≡◌, ℕ, zero, suc, ◌+◌, ◌-◌, ◌/�
 use Rattle.std.specs.Prelude.{◌&&◌, ◌==◌, nat_lt, nat_le, slice_set}
 use Rattle.std.specs.List.{list_all}
 use Rattle.std.specs.Cmp.Derive.{both_true}
-use Rattle.std.proofs.Math.Nat.{div-div-eq-div-mul, div-one, pow-succ', zero-div}
-use Rattle.std.proofs.lemmas.Nat.{pow-add}
+use Rattle.std.proofs.Math.Nat.{zero-div}
 use Rattle.std.proofs.lemmas.Bool.{and_parts, cases_lt}
 use Rattle.std.proofs.lemmas.Bool.Decides.{nat_tests}
 use Rattle.sr_cell.specs.declared.cell.Cell.{Cell}
@@ -12,50 +11,26 @@ use Rattle.sr_cell.specs.declared.table.Column.{Column}
 use Rattle.sr_cell.specs.declared.table.Table.{Table}
 use Rattle.sr_cell.specs.Attrs.{has_column}
 use Rattle.sr_cell.specs.Cells.{Row}
-use Rattle.sr_cell.specs.Columns.{table_at, is_point, in_column}
+use Rattle.sr_cell.specs.Columns.{table_at}
+use Rattle.sr_cell.proofs.ColumnSets.{no_bits, has_column-shifted}
+use Rattle.sr_cell.proofs.Columns.{point-length}
 use Rattle.sr_box.specs.Points.{Points, IsEssential}
 use Rattle.sr_message.specs.declared.message.AskPart.{AskPart}
 use Rattle.sr_message.specs.declared.message.Message.TheVariants.{Ask}
 use Rattle.sr_model.specs.Queries as model
-use Rattle.sr_query.specs.Bound.{is_table}
 use Rattle.sr_query.specs.declared.query.Query.{Query}
 use Rattle.sr_history.specs.declared.mark.Mark.{Mark}
-use Rattle.sr_history.specs.Classes.{stamp}
 use Rattle.sr_history.specs.Rests.{rest_of, IsRest, Asks, nothing, covered, asked}
 use Rattle.sr_lines.specs.Sound.{is_sound_part}
 use Rattle.sr_session.specs.Refusals.{are_columns, suits_table, part_suits, is_request_of}
-use Rattle.sr_client.specs.Asking.{whole_asks}
 use Rattle.sr_client.specs.Bound.{IsMeaning}
-use Rattle.sr_client.proofs.AskLemmas.{asks-whole}
 use Rattle.sr_client.proofs.MeantLemmas.{are-sound}
-use Rattle.sr_client.proofs.NewLemmas.{nothing-kept}
-use Rattle.sr_client.proofs.TableLemmas.{have-first}
 
 -- ---- sets of columns
 
-half-bit : (m k : ℕ) → has_column m (suc k) ≡ has_column (m / 2) k
-half-bit m k = ap (λ n. n % 2 == 1) (ap (λ d. m / d) (pow-succ' 2 k) ∙ sym (div-div-eq-div-mul m 2 (2 ^ k)))
-
-first-bit : (m : ℕ) → has_column m 0 ≡ false → m % 2 ≡ 0
-first-bit m none =
-    let e : (m % 2 == 1) ≡ false = ap (λ n. n % 2 == 1) (sym (div-one m)) ∙ none in
-    grind (arith, nat_tests, e)
-
--- a set without columns
-no-bits : (most m : ℕ) → m ≤ most → ((c : ℕ) → has_column m c ≡ false) → m ≡ 0
-no-bits zero m le none = omega (arith, le)
-no-bits (suc most) m le none =
-    let half = no-bits most (m / 2) (omega (arith, le)) (λ c. sym (half-bit m c) ∙ none (suc c)) in
-    let even = first-bit m (none 0) in
-    omega (arith, half, even)
-
--- the columns from that number on
-shifted : (attrs n k : ℕ) → has_column attrs (n + k) ≡ has_column (attrs / 2 ^ n) k
-shifted attrs n k = ap (λ x. x % 2 == 1) (ap (λ d. attrs / d) (pow-add 2 n k) ∙ sym (div-div-eq-div-mul attrs (2 ^ n) (2 ^ k)))
-
 are-own : (attrs n : ℕ) → ((c : ℕ) → n ≤ c → has_column attrs c ≡ false) → are_columns attrs n ≡ true
 are-own attrs n none =
-    let zero_is = no-bits (attrs / 2 ^ n) (attrs / 2 ^ n) (omega arith) (λ k. sym (shifted attrs n k) ∙ none (n + k) (omega arith)) in
+    let zero_is = no_bits (attrs / 2 ^ n) (attrs / 2 ^ n) (omega arith) (λ k. sym (has_column-shifted attrs n k) ∙ none (n + k) (omega arith)) in
     by (attrs / 2 ^ n) zero_is
   where
     by : (m : ℕ) → m ≡ 0 → (m == 0) ≡ true
@@ -65,7 +40,7 @@ none-beyond : (attrs n c : ℕ) → are_columns attrs n ≡ true → n ≤ c →
 none-beyond attrs n c own le =
     let zero_is : attrs / 2 ^ n ≡ 0 = by (attrs / 2 ^ n) own in
     let sum : n + (c - n) ≡ c = omega (arith, le) in
-    ap (has_column attrs) (sym sum) ∙ (shifted attrs n (c - n) ∙ (ap (λ m. has_column m (c - n)) zero_is ∙ empty (c - n)))
+    ap (has_column attrs) (sym sum) ∙ (has_column-shifted attrs n (c - n) ∙ (ap (λ m. has_column m (c - n)) zero_is ∙ empty (c - n)))
   where
     by : (m : ℕ) → (m == 0) ≡ true → m ≡ 0
     by m e = grind (arith, nat_tests, e)
@@ -74,12 +49,6 @@ none-beyond attrs n c own le =
     empty k = ap (λ x. x % 2 == 1) (zero-div (2 ^ k))
 
 -- ---- essential columns are the table's
-
-point-length : (cs : List Column) (p : Row) → is_point cs p ≡ true → length p ≡ length cs
-point-length [] [] point = refl
-point-length [] (v ∷ p) point = absurd (cc)
-point-length (c ∷ cs) [] point = absurd (cc)
-point-length (c ∷ cs) (v ∷ p) point = ap (λ n. suc n) (point-length cs p (and_parts (in_column c v) (is_point cs p) point).1)
 
 set-beyond : (p : Row) (c : ℕ) (v : Cell) → length p ≤ c → slice_set p c v ≡ p
 set-beyond [] c v le = refl
@@ -156,10 +125,3 @@ ask-well schema client number fresh marks q m asks is rest =
   where
     few : (n : ℕ) → n ≤ 4 → nat_le n 4 ≡ true
     few n le = grind (arith, nat_tests, le)
-
--- ---- all of a query
-
--- what is asked of it where nothing is held
-pub whole-asked : (schema : List Table) (q : Query) (m : model.Query) → list_all is_table schema ≡ true → IsMeaning schema q m → Asks schema [] m.parts (whole_asks q.parts)
-whole-asked schema q m tables is =
-    asks-whole schema q.parts (have-first schema tables) [] (stamp []) m.parts (nothing-kept schema) is.query.parts (are-sound schema q m is)

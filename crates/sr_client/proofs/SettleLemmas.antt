@@ -1,16 +1,15 @@
 -- What the last message of a write or a resume does.
-use Rattle.std.proofs.Common.{◌≡◌, ℕ, ◌+◌, ◌-◌, ◌<◌, ◌≤◌, Bool, true, false, List, [], ◌∷◌, ◌++◌, map, length, refl, sym, ◌∙◌, ap, subst, arith, Option, Some, None}
-use Rattle.std.specs.Prelude.{not, ◌&&◌, ◌==◌, nat_lt}
+use Rattle.std.proofs.Common.{◌≡◌, ℕ, ◌-◌, ◌≤◌, Bool, true, false, List, [], ◌∷◌, ◌++◌, map, length, refl, sym, ◌∙◌, ap, subst, arith, Option, Some, None}
+use Rattle.std.specs.Prelude.{not, ◌==◌, nat_lt}
 use Rattle.std.specs.List.{list_all, All, Contains}
-use Rattle.std.proofs.lemmas.Bool.Decides.{nat_tests}
 use Rattle.std.proofs.lemmas.List.Elements.{All-nil, All-weaker, All-contains}
+use Rattle.std.proofs.lemmas.Bool.{eqb-true, ltb-false}
 use Rattle.sr_cell.specs.declared.cause.Cause.{Cause}
 use Rattle.sr_cell.specs.declared.cause.Cause.TheVariants.{Lapsed, Fresh}
 use Rattle.sr_cell.specs.declared.fault.Fault.{Fault}
 use Rattle.sr_cell.specs.declared.table.Table.{Table}
 use Rattle.sr_message.specs.declared.message.Message.{Message}
 use Rattle.sr_message.specs.declared.message.Message.TheVariants.{Hello, Resume, Ask, Write, Welcome, Notice, Rows, Reply, Written, Refused, Lapse}
-use Rattle.sr_model.specs.Queries.{Query}
 use Rattle.sr_history.specs.declared.mark.Mark.{Mark}
 use Rattle.sr_history.specs.Marks.{is_held, with_marks}
 use Rattle.sr_history.specs.Classes.{stamp}
@@ -30,19 +29,20 @@ use Rattle.sr_session.specs.Misfits.{misfit, or_else, is_number, is_resume, is_w
 use Rattle.sr_session.specs.Regions.{AreAt, after_messages}
 use Rattle.sr_session.specs.Rules.{DropsFor, DropsWelcomed, counted, is_welcomed, refused_write, written}
 use Rattle.sr_session.specs.Rules as rules
-use Rattle.sr_session.specs.Sessions.{Database, Session, newest, tables_of}
+use Rattle.sr_session.specs.Sessions.{Database, newest, tables_of}
 use Rattle.sr_session.specs.Walks.{AskOut, Comes, Mirror, Passes, Request, ResumeOut, Walks, WriteOut, has_lapse, version_after, walked, welcomed}
 use Rattle.sr_session.proofs.TakeLemmas.{passes-later}
 use Rattle.sr_session.proofs.TakingLemmas.{IsEnding, ending, walked-version}
 use Rattle.sr_session.proofs.TruthLemmas.{passes-true, quiet-on}
 use Rattle.sr_session.proofs.WalkLemmas.{walks-later}
+use Rattle.sr_session.specs.Bases.{basis_of}
 use Rattle.sr_client.specs.Cutting.{EndWith, RegionsEnd}
 use Rattle.sr_client.specs.declared.client.Client.{Client}
 use Rattle.sr_client.specs.declared.steps.Took.{Took}
 use Rattle.sr_client.specs.declared.steps.Took.TheVariants as took
 use Rattle.sr_client.specs.Laying.{TellsRows}
 use Rattle.sr_client.specs.Settling.{settled_at, SettlesTo, WelcomesTo}
-use Rattle.sr_client.specs.Stands.{Hidden, Facts, Stands, StandsOver, Truly, IsFit, AreFit, past_of, out_of, basis_of}
+use Rattle.sr_client.specs.Stands.{Hidden, Facts, Stands, Truly, IsFit, AreFit, past_of, out_of}
 use Rattle.sr_client.specs.Steps.{KeepsLink, SaysTook, Takes}
 use Rattle.sr_client.specs.Values.{has_values}
 use Rattle.sr_client.proofs.AskedLemmas.{after-all, after-keeps, after-store}
@@ -56,11 +56,8 @@ use Rattle.sr_client.proofs.TableLemmas.{have-first}
 
 -- ---- what is not refused is of the request that is out
 
-is-same : (n k : ℕ) → (n == k) ≡ true → n ≡ k
-is-same n k e = grind (arith, nat_tests, e)
-
 own-number : (n k : ℕ) (b : Bool) → not (n == k) ≡ b → b ≡ false → n ≡ k
-own-number n k b e none = is-same n k (not-false (n == k) (e ∙ none))
+own-number n k b e none = eqb-true n k (not-false (n == k) (e ∙ none))
 
 write-out : (schema : List Table) (out : Option Request) (laid : List Message) (version k w : ℕ) → misfit schema out laid version (Written k w) ≡ None → out ≡ Some (WriteOut k)
 write-out schema None laid version k w fit = absurd (cc)
@@ -88,15 +85,12 @@ welcome-out schema (Some (ResumeOut number)) laid version k w kept fit =
 
 -- ---- versions do not fall
 
-not-below : (n k : ℕ) → nat_lt n k ≡ false → k ≤ n
-not-below n k e = grind (arith, nat_tests)
-
 pub written-later : (schema : List Table) (out : Option Request) (laid : List Message) (version k w : ℕ) → misfit schema out laid version (Written k w) ≡ None → version ≤ w
 written-later schema out laid version k w fit =
     let least = known-least version laid in
     let past_state = or-later (not (is_write out)) State (or_else (not (is_number out k)) Number (or_else (nat_lt w (known version laid)) Version None)) fit in
     let past_number = or-later (not (is_number out k)) Number (or_else (nat_lt w (known version laid)) Version None) past_state in
-    let up = not-below w (known version laid) (or-none (nat_lt w (known version laid)) Version None past_number) in
+    let up = ltb-false w (known version laid) (or-none (nat_lt w (known version laid)) Version None past_number) in
     omega (arith, least, up)
 
 pub welcome-later : (schema : List Table) (out : Option Request) (laid : List Message) (version k w : ℕ) (kept : Bool) → misfit schema out laid version (Welcome k w kept) ≡ None → version ≤ w
@@ -104,7 +98,7 @@ welcome-later schema out laid version k w kept fit =
     let least = known-least version laid in
     let past_state = or-later (not (is_resume out)) State (or_else (not (is_number out k)) Number (or_else (nat_lt w (known version laid)) Version None)) fit in
     let past_number = or-later (not (is_number out k)) Number (or_else (nat_lt w (known version laid)) Version None) past_state in
-    let up = not-below w (known version laid) (or-none (nat_lt w (known version laid)) Version None past_number) in
+    let up = ltb-false w (known version laid) (or-none (nat_lt w (known version laid)) Version None past_number) in
     omega (arith, least, up)
 
 -- nor does that of what is laid by
@@ -171,9 +165,6 @@ none-left c h cause f = record {
 }
 
 module _ (c : Client) (h : Hidden) (f : Facts c h) (values : list_all has_values c.laid ≡ true) where
-  abbrev laid_regions : List Region
-  laid_regions = after_messages c.laid c.store.regions
-
   laid-keeps : has_lapse c.laid ≡ false → Keeps c.schema (is_held h.marks) (stamp h.queries) (after_messages c.laid c.store.regions)
   laid-keeps none = after-keeps c.schema h.marks (stamp h.queries) c.laid c.store.regions (λ lapse. absurd (let wrong : true ≡ false = sym lapse ∙ none in cc)) f.keeps
 

@@ -1,39 +1,36 @@
 -- What is asked and held begins and ends at short texts.
-use Rattle.std.proofs.Common.{◌≡◌, ℕ, ℤ, zero, suc, ◌+◌, ◌≤◌, Bool, true, false, List, [], ◌∷◌, ◌++◌, length, Some, None, refl, sym, ap, subst, ◌∙◌, arith}
-use Rattle.std.specs.Prelude.{◌&&◌, ◌||◌, ◌==◌, not, nat_le, int_le, int_lt, slice_set, map, ◌-◌, flat_map, filter, drop, if◌then◌else◌}
-use Rattle.std.specs.List.{list_all, list_any, AllByRecursion}
+use Rattle.std.proofs.Common.{◌≡◌, ℕ, ℤ, zero, suc, ◌+◌, ◌≤◌, Bool, true, false, List, [], ◌∷◌, ◌++◌, length, Some, None, refl, ap, subst, ◌∙◌, arith}
+use Rattle.std.specs.Prelude.{◌&&◌, ◌||◌, ◌==◌, not, int_le, slice_set, map, ◌-◌, flat_map, filter, drop, if◌then◌else◌}
+use Rattle.std.specs.List.{list_all}
 use Rattle.std.specs.Cmp.Derive.{both_true}
 use Rattle.std.proofs.lemmas.Bool.{and_parts}
-use Rattle.std.proofs.lemmas.Bool.Decides.{nat_tests}
 use Rattle.std.proofs.lemmas.List.Folds.{list_all-append}
 use Rattle.std.proofs.lemmas.List.Concat.{flat_map-cons}
 use Rattle.sr_cell.specs.declared.cell.Cell.{Cell}
-use Rattle.sr_cell.specs.declared.cell.Cell.TheVariants.{Num, Str}
+use Rattle.sr_cell.specs.declared.cell.Cell.TheVariants.{Str}
 use Rattle.sr_cell.specs.declared.table.Column.{Column}
 use Rattle.sr_cell.specs.declared.table.Kind.{Kind}
 use Rattle.sr_cell.specs.declared.table.Kind.TheVariants.{Num as Numbers, Str as Texts}
 use Rattle.sr_cell.specs.declared.table.Table.{Table}
-use Rattle.sr_cell.specs.Cells.{text_le, cell_eq}
+use Rattle.sr_cell.specs.Cells.{cell_eq}
 use Rattle.sr_cell.specs.Columns.{are_bytes}
 use Rattle.sr_cell.proofs.Order.{cell_eq-sound, cell_eq-refl}
 use Rattle.sr_box.specs.declared.span.Span.{Span}
 use Rattle.sr_box.specs.declared.span.Span.TheVariants.{Full, Nums, Strs}
-use Rattle.sr_box.specs.Corners.{text_cut, end_cut}
 use Rattle.sr_box.specs.Points.{Rect, rect_fits}
 use Rattle.sr_box.specs.Spans.{fits_kind, is_below, is_whole, end_bytes}
 use Rattle.sr_union.specs.Grid.{is_among, has_cut}
-use Rattle.sr_bytes.specs.Spelling.{is_from_to}
 use Rattle.sr_bytes.specs.Writing.{may_write_span, may_write_rect}
-use Rattle.sr_model.specs.Conditions.{Cond}
+use Rattle.sr_bytes.proofs.Numbers.{from-to}
 use Rattle.sr_model.specs.Ends.{ends}
 use Rattle.sr_model.specs.Queries as model
 use Rattle.sr_query.specs.declared.query.Query.{Query}
 use Rattle.sr_query.specs.Joined.{is_needed}
 use Rattle.sr_history.specs.Classes.{Numbered}
-use Rattle.sr_history.specs.Ends.{CutsIn, part_ends, EndsAmong, AllEndAmong}
+use Rattle.sr_history.specs.Ends.{CutsIn, part_ends, AllEndAmong}
 use Rattle.sr_history.specs.Load.{parts_on}
 use Rattle.sr_lines.specs.Short.{is_short, has_short_texts}
-use Rattle.sr_lines.specs.Sound.{is_sound_part, columns_in}
+use Rattle.sr_lines.specs.Sound.{is_sound_part}
 use Rattle.sr_lines.proofs.Short.{ends_are_short}
 use Rattle.sr_session.specs.Rules.{counted}
 use Rattle.sr_client.specs.Bound.{IsMeaning}
@@ -157,12 +154,6 @@ fits-length [] [] fits = refl
 fits-length [] (s ∷ r) fits = absurd (cc)
 fits-length (column ∷ columns) [] fits = absurd (cc)
 fits-length (column ∷ columns) (s ∷ r) fits = ap (λ n. suc n) (fits-length columns r (and_parts (fits_kind column.kind column.lo column.hi s) (rect_fits columns r) fits).1)
-
-pub from-to : (low high n : ℕ) → low ≤ n → n ≤ high → is_from_to low high n ≡ true
-from-to low high n above below = both_true (is-le low n above) (is-le n high below)
-  where
-    is-le : (a b : ℕ) → a ≤ b → nat_le a b ≡ true
-    is-le a b le = grind (arith, nat_tests)
 
 -- rects of a table that end only where tests of these queries do
 pub rects-may : (columns : List Column) (t : ℕ) (queries : List model.Query) (rects : List Rect) → 1 ≤ length columns → length columns ≤ 12 → list_all asks_short queries ≡ true

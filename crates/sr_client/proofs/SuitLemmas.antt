@@ -1,20 +1,21 @@
 -- What is known of messages that were not refused.
-use Rattle.std.proofs.Common.{◌≡◌, ℕ, suc, ◌+◌, ◌-◌, ◌<◌, ◌≤◌, Bool, true, false, List, [], ◌∷◌, ◌++◌, length, refl, sym, ◌∙◌, ap, subst, arith, Option, Some, None, append_assoc, append-nil, slice_index_or, inl, inr}
-use Rattle.std.specs.Prelude.{ℤ, not, ◌&&◌, ◌==◌, ◌⊎◌, nat_lt, nat_le, max, slice_get, if◌then◌else◌}
+use Rattle.std.proofs.Common.{◌≡◌, ℕ, ◌+◌, ◌<◌, ◌≤◌, Bool, true, false, List, [], ◌∷◌, ◌++◌, length, refl, sym, ◌∙◌, ap, subst, arith, Option, Some, None, append_assoc, append-nil, inl, inr}
+use Rattle.std.specs.Prelude.{not, ◌&&◌, ◌==◌, ◌⊎◌, nat_lt, nat_le, max, slice_get, if◌then◌else◌}
 use Rattle.std.specs.List.{list_all, All}
 use Rattle.std.proofs.lemmas.Bool.Decides.{nat_tests}
 use Rattle.std.proofs.lemmas.List.Elements.{All-nil, All-cons, All-head, All-tail}
 use Rattle.std.proofs.lemmas.Option.{get_or_from_slice_get}
+use Rattle.std.specs.Cmp.{first_so, second_so}
+use Rattle.std.proofs.lemmas.Bool.{and_from, ltb-false}
+use Rattle.sr_rows.proofs.Order.{ascend-tail}
 use Rattle.sr_cell.specs.declared.cell.Cell.{Cell}
-use Rattle.sr_cell.specs.declared.cell.Cell.TheVariants.{Num, Str}
-use Rattle.sr_cell.specs.declared.table.Kind.{Kind}
-use Rattle.sr_cell.specs.declared.table.Kind.TheVariants.{Num as Numbers, Str as Texts}
 use Rattle.sr_cell.specs.declared.table.Column.{Column}
 use Rattle.sr_cell.specs.declared.table.Table.{Table}
 use Rattle.sr_cell.specs.Attrs.{has_column, project_from}
 use Rattle.sr_cell.specs.Cells.{Row, cell_at, cell_eq}
-use Rattle.sr_cell.specs.Columns.{table_at, is_point, in_column, in_kind, takes_cell, takes_kind, fits_columns}
+use Rattle.sr_cell.specs.Columns.{table_at, is_point, in_column, takes_cell, fits_columns, is_value, are_values}
 use Rattle.sr_cell.proofs.Order.{cell_eq-sound}
+use Rattle.sr_cell.proofs.Columns.{takes-in, fits-point}
 use Rattle.sr_box.specs.Corners.{first_value}
 use Rattle.sr_union.specs.Grid.{have_first}
 use Rattle.sr_message.specs.declared.message.AskPart.{AskPart}
@@ -31,20 +32,13 @@ use Rattle.sr_wire.specs.declared.bad_frame.BadFrame.TheVariants.{State, Number,
 use Rattle.sr_session.specs.Walks.{Request, AskOut}
 use Rattle.sr_session.specs.Misfits.{misfit, or_else, known, version_of, is_ask, is_number, cells_fit, last_row, last_came, goes_on, ask_at, fit_ask, suits, rows_suit, tell_suits, told_suits, tells_ascend}
 use Rattle.sr_session.specs.Arrivals.{arrived_at}
+use Rattle.sr_session.proofs.ShapeLemmas.{came-append, last_of, last-at}
 use Rattle.sr_client.specs.Laying.{TellsRows}
 use Rattle.sr_client.specs.Stands.{AreFit}
-use Rattle.sr_client.specs.Values.{is_value, are_values, tells_values, has_values}
+use Rattle.sr_client.specs.Values.{tells_values, has_values}
 use Rattle.sr_client.proofs.PartsLemmas.{apart-numbers}
 
 -- ---- Booleans
-
-and-left : (a b : Bool) → (a && b) ≡ true → a ≡ true
-and-left true b h = refl
-and-left false b h = h
-
-and-right : (a b : Bool) → (a && b) ≡ true → b ≡ true
-and-right true b h = h
-and-right false b h = absurd (cc)
 
 pub or-none : (b : Bool) (why : BadFrame) (later : Option BadFrame) → or_else b why later ≡ None → b ≡ false
 or-none true why later e = absurd (cc)
@@ -58,23 +52,6 @@ pub not-false : (b : Bool) → not b ≡ false → b ≡ true
 not-false true e = refl
 not-false false e = absurd (cc)
 
--- ---- cells
-
-takes-in : (k : Kind) (low high : ℤ) (v : Cell) → takes_kind k low high v ≡ true → is_value v ≡ true → in_kind k low high v ≡ true
-takes-in Numbers low high (Num n) takes value = takes
-takes-in Numbers low high (Str s) takes value = absurd (cc)
-takes-in Texts low high (Num n) takes value = absurd (cc)
-takes-in Texts low high (Str s) takes value = value
-
-fits-point : (columns : List Column) (row : Row) → fits_columns columns row ≡ true → are_values row ≡ true → is_point columns row ≡ true
-fits-point [] [] fits values = refl
-fits-point [] (v ∷ row) fits values = absurd (cc)
-fits-point (c ∷ columns) [] fits values = absurd (cc)
-fits-point (c ∷ columns) (v ∷ row) fits values =
-    let one = takes-in c.kind c.lo c.hi v (and-left (takes_cell c v) (fits_columns columns row) fits) (and-left (is_value v) (are_values row) values) in
-    let more = fits-point columns row (and-right (takes_cell c v) (fits_columns columns row) fits) (and-right (is_value v) (are_values row) values) in
-    rw (one, more) refl
-
 -- ---- what is told
 
 after-new : (table : Table) (key : Cell) (after : Option Row)
@@ -82,26 +59,26 @@ after-new : (table : Table) (key : Cell) (after : Option Row)
     → (elim after as (λ after. Bool) [ None ↦ true | Some row ↦ are_values row ]) ≡ true → IsNew table key after
 after-new table key None suits values = tt
 after-new table key (Some row) suits values = (
-  fits-point table.columns row (and-left (fits_columns table.columns row) (cell_eq (cell_at row table.key) key) suits) values,
-  cell_eq-sound (cell_at row table.key) key (and-right (fits_columns table.columns row) (cell_eq (cell_at row table.key) key) suits),
+  fits-point table.columns row (first_so (fits_columns table.columns row) (cell_eq (cell_at row table.key) key) suits) values,
+  cell_eq-sound (cell_at row table.key) key (second_so (fits_columns table.columns row) (cell_eq (cell_at row table.key) key) suits),
 )
 
 is-tell : (schema : List Table) (tell : Tell) → tell_suits schema tell ≡ true → tells_values tell ≡ true → IsTellOf schema tell
 is-tell schema tell suits values =
     let table : Table = table_at schema tell.table in
-    let within : nat_lt tell.table (length schema) ≡ true = and-left (nat_lt tell.table (length schema)) _ suits in
-    let rest = and-right (nat_lt tell.table (length schema)) _ suits in
-    (grind (arith, nat_tests, within), after-new (table_at schema tell.table) tell.key tell.after (and-right _ _ rest) values)
+    let within : nat_lt tell.table (length schema) ≡ true = first_so (nat_lt tell.table (length schema)) _ suits in
+    let rest = second_so (nat_lt tell.table (length schema)) _ suits in
+    (grind (arith, nat_tests, within), after-new (table_at schema tell.table) tell.key tell.after (second_so _ _ rest) values)
 
 all-tell : (schema : List Table) (told : List Tell) → list_all (tell_suits schema) told ≡ true → list_all tells_values told ≡ true → All (IsTellOf schema) told
 all-tell schema [] suits values = All-nil (IsTellOf schema)
 all-tell schema (tell ∷ told) suits values =
     All-cons (IsTellOf schema) tell told
-    (is-tell schema tell (and-left (tell_suits schema tell) (list_all (tell_suits schema) told) suits) (and-left (tells_values tell) (list_all tells_values told) values))
-    (all-tell schema told (and-right (tell_suits schema tell) (list_all (tell_suits schema) told) suits) (and-right (tells_values tell) (list_all tells_values told) values))
+    (is-tell schema tell (first_so (tell_suits schema tell) (list_all (tell_suits schema) told) suits) (first_so (tells_values tell) (list_all tells_values told) values))
+    (all-tell schema told (second_so (tell_suits schema tell) (list_all (tell_suits schema) told) suits) (second_so (tells_values tell) (list_all tells_values told) values))
 
 pub are-tells : (schema : List Table) (told : List Tell) → told_suits schema told ≡ true → list_all tells_values told ≡ true → All (IsTellOf schema) told
-are-tells schema told suits values = all-tell schema told (and-left (list_all (tell_suits schema) told) (tells_ascend told) suits) values
+are-tells schema told suits values = all-tell schema told (first_so (list_all (tell_suits schema) told) (tells_ascend told) suits) values
 
 -- of a notice against which nothing stands
 pub fit-tells : (schema : List Table) (out : Option Request) (laid : List Message) (version w : ℕ) (told : List Tell) → misfit schema out laid version (Notice w told) ≡ None → list_all tells_values told ≡ true
@@ -147,24 +124,18 @@ lapse-later schema out laid version w fit =
     let up = above w (known version laid) (or-none (nat_le w (known version laid)) Version None fit) in
     omega (arith, least, up)
 
-not-below : (n k : ℕ) → nat_lt n k ≡ false → k ≤ n
-not-below n k e = grind (arith, nat_tests)
-
 pub reply-later : (schema : List Table) (out : Option Request) (laid : List Message) (version k w : ℕ) → misfit schema out laid version (Reply k w) ≡ None → version ≤ w
 reply-later schema out laid version k w fit =
     let least = known-least version laid in
     let past_state = or-later (not (is_ask out)) State (or_else (not (is_number out k)) Number (or_else (nat_lt w (known version laid)) Version None)) fit in
     let past_number = or-later (not (is_number out k)) Number (or_else (nat_lt w (known version laid)) Version None) past_state in
-    let up = not-below w (known version laid) (or-none (nat_lt w (known version laid)) Version None past_number) in
+    let up = ltb-false w (known version laid) (or-none (nat_lt w (known version laid)) Version None past_number) in
     omega (arith, least, up)
 
 -- ---- rows of some columns
 
 first-in : (c : Column) (columns : List Column) → have_first (c ∷ columns) ≡ true → in_column c (first_value c.kind c.lo) ≡ true
-first-in c columns first = and-left (in_column c (first_value c.kind c.lo)) (have_first columns) first
-
-both-true : (a b : Bool) → a ≡ true → b ≡ true → (a && b) ≡ true
-both-true a b h k = grind arith
+first-in c columns first = first_so (in_column c (first_value c.kind c.lo)) (have_first columns) first
 
 -- one cell more of the point
 skip-one : (attrs c : ℕ) (v : Cell) (p row : Row) → has_column attrs c ≡ false → project_from (c + 1) attrs p ≡ row → project_from c attrs (v ∷ p) ≡ row
@@ -179,31 +150,31 @@ part-of : (attrs c : ℕ) (columns : List Column) (row : Row) → have_first col
 part-of attrs c [] [] first fit values = ([], refl, refl)
 part-of attrs c [] (v ∷ row) first fit values = absurd (cc)
 part-of attrs c (column ∷ columns) [] first fit values =
-    let lacks : not (has_column attrs c) ≡ true = and-left (not (has_column attrs c)) (cells_fit attrs (c + 1) columns []) fit in
-    let more = part-of attrs (c + 1) columns [] (and-right (in_column column (first_value column.kind column.lo)) (have_first columns) first) (and-right (not (has_column attrs c)) (cells_fit attrs (c + 1) columns []) fit) refl in
+    let lacks : not (has_column attrs c) ≡ true = first_so (not (has_column attrs c)) (cells_fit attrs (c + 1) columns []) fit in
+    let more = part-of attrs (c + 1) columns [] (second_so (in_column column (first_value column.kind column.lo)) (have_first columns) first) (second_so (not (has_column attrs c)) (cells_fit attrs (c + 1) columns []) fit) refl in
     let own = first-in column columns first in
     let none : has_column attrs c ≡ false = grind (arith, lacks) in (
       first_value column.kind column.lo ∷ more.0,
-      both-true (in_column column (first_value column.kind column.lo)) (is_point columns more.0) own more.1,
+      and_from (in_column column (first_value column.kind column.lo)) (is_point columns more.0) own more.1,
       skip-one attrs c (first_value column.kind column.lo) more.0 [] none more.2,
     )
 part-of attrs c (column ∷ columns) (v ∷ row) first fit values =
-    let rest = and-right (in_column column (first_value column.kind column.lo)) (have_first columns) first in
-    go (has_column attrs c) refl fit (λ own. part-of attrs (c + 1) columns row rest own (and-right (is_value v) (are_values row) values)) (λ own. part-of attrs (c + 1) columns (v ∷ row) rest own values)
+    let rest = second_so (in_column column (first_value column.kind column.lo)) (have_first columns) first in
+    go (has_column attrs c) refl fit (λ own. part-of attrs (c + 1) columns row rest own (second_so (is_value v) (are_values row) values)) (λ own. part-of attrs (c + 1) columns (v ∷ row) rest own values)
   where
     go : (b : Bool) → has_column attrs c ≡ b → (if b then takes_cell column v && cells_fit attrs (c + 1) columns row else cells_fit attrs (c + 1) columns (v ∷ row)) ≡ true
         → (cells_fit attrs (c + 1) columns row ≡ true → (p : Row) × (is_point columns p ≡ true) × (project_from (c + 1) attrs p ≡ row))
         → (cells_fit attrs (c + 1) columns (v ∷ row) ≡ true → (p : Row) × (is_point columns p ≡ true) × (project_from (c + 1) attrs p ≡ v ∷ row))
         → (p : Row) × (is_point (column ∷ columns) p ≡ true) × (project_from c attrs p ≡ v ∷ row)
     go true has fit with_own without =
-        let more = with_own (and-right (takes_cell column v) (cells_fit attrs (c + 1) columns row) fit) in
-        let own = takes-in column.kind column.lo column.hi v (and-left (takes_cell column v) (cells_fit attrs (c + 1) columns row) fit) (and-left (is_value v) (are_values row) values) in
-        (v ∷ more.0, both-true (in_column column v) (is_point columns more.0) own more.1, keep-one attrs c v more.0 row has more.2)
+        let more = with_own (second_so (takes_cell column v) (cells_fit attrs (c + 1) columns row) fit) in
+        let own = takes-in column.kind column.lo column.hi v (first_so (takes_cell column v) (cells_fit attrs (c + 1) columns row) fit) (first_so (is_value v) (are_values row) values) in
+        (v ∷ more.0, and_from (in_column column v) (is_point columns more.0) own more.1, keep-one attrs c v more.0 row has more.2)
     go false lacks fit with_own without =
         let more = without fit in
         let own = first-in column columns first in (
           first_value column.kind column.lo ∷ more.0,
-          both-true (in_column column (first_value column.kind column.lo)) (is_point columns more.0) own more.1,
+          and_from (in_column column (first_value column.kind column.lo)) (is_point columns more.0) own more.1,
           skip-one attrs c (first_value column.kind column.lo) more.0 (v ∷ row) lacks more.2,
         )
 
@@ -213,29 +184,18 @@ rows-in schema ask [] first fit values = All-nil (IsRowIn (table_at schema ask.t
 rows-in schema ask (row ∷ rows) first fit values =
     let cs = (table_at schema ask.table).columns in
     let one : (cells_fit ask.attrs 0 (table_at schema ask.table).columns row && is_in ask.attrs ask.rects row) ≡ true =
-    and-left (cells_fit ask.attrs 0 (table_at schema ask.table).columns row && is_in ask.attrs ask.rects row) (fit_ask schema ask rows) fit in
+    first_so (cells_fit ask.attrs 0 (table_at schema ask.table).columns row && is_in ask.attrs ask.rects row) (fit_ask schema ask rows) fit in
     All-cons (IsRowIn (table_at schema ask.table).columns ask.attrs ask.rects) row rows (
-      part-of ask.attrs 0 cs row first (and-left (cells_fit ask.attrs 0 cs row) (is_in ask.attrs ask.rects row) one) (and-left (are_values row) (list_all are_values rows) values),
-      and-right (cells_fit ask.attrs 0 cs row) (is_in ask.attrs ask.rects row) one,
+      part-of ask.attrs 0 cs row first (first_so (cells_fit ask.attrs 0 cs row) (is_in ask.attrs ask.rects row) one) (first_so (are_values row) (list_all are_values rows) values),
+      second_so (cells_fit ask.attrs 0 cs row) (is_in ask.attrs ask.rects row) one,
     )
-    (rows-in schema ask rows first (and-right (cells_fit ask.attrs 0 cs row && is_in ask.attrs ask.rects row) (fit_ask schema ask rows) fit) (and-right (are_values row) (list_all are_values rows) values))
+    (rows-in schema ask rows first (second_so (cells_fit ask.attrs 0 cs row && is_in ask.attrs ask.rects row) (fit_ask schema ask rows) fit) (second_so (are_values row) (list_all are_values rows) values))
 
 -- ---- all rows that are laid by
 
 all-append : (P : Row → Type 0) (xs ys : List Row) → All P xs → All P ys → All P (xs ++ ys)
 all-append P [] ys a b = b
 all-append P (x ∷ xs) ys a b = All-cons P x (xs ++ ys) (All-head P x xs a) (all-append P xs ys (All-tail P x xs a) b)
-
--- the last of some rows
-abbrev last_of : Row → List Row → Row
-last_of r [] = r
-last_of r (s ∷ rows) = last_of s rows
-
-last-is : (r : Row) (rows : List Row) → slice_index_or (r ∷ rows) (length (r ∷ rows) - 1) [] ≡ last_of r rows
-last-is r [] = refl
-last-is r (s ∷ rows) =
-    let less : length (r ∷ s ∷ rows) - 1 ≡ suc (length (s ∷ rows) - 1) = omega arith in
-    ap (λ n. slice_index_or (r ∷ s ∷ rows) n []) less ∙ last-is s rows
 
 last-behind : (r : Row) (rows : List Row) (s : Row) (more : List Row) → last_of r (rows ++ s ∷ more) ≡ last_of s more
 last-behind r [] s more = refl
@@ -244,23 +204,9 @@ last-behind r (x ∷ rows) s more = last-behind x rows s more
 ascend-join : (key : ℕ) (r : Row) (rows more : List Row) → ascend key (r ∷ rows) ≡ true → ascend key (last_of r rows ∷ more) ≡ true → ascend key ((r ∷ rows) ++ more) ≡ true
 ascend-join key r [] more a b = b
 ascend-join key r (s ∷ rows) more a b =
-    let one : key_lt key r s ≡ true = and-left (key_lt key r s) (ascend key (s ∷ rows)) a in
-    let rest = ascend-join key s rows more (and-right (key_lt key r s) (ascend key (s ∷ rows)) a) b in
+    let one : key_lt key r s ≡ true = first_so (key_lt key r s) (ascend key (s ∷ rows)) a in
+    let rest = ascend-join key s rows more (second_so (key_lt key r s) (ascend key (s ∷ rows)) a) b in
     rw (one, rest) refl
-
-pub came-append : (last : Option (ℕ × Row)) (xs ys : List Message) → last_came last (xs ++ ys) ≡ last_came (last_came last xs) ys
-came-append last [] ys = refl
-came-append last (Rows k part rows ∷ xs) ys = came-append (last_row last part rows) xs ys
-came-append last (Notice w told ∷ xs) ys = came-append last xs ys
-came-append last (Lapse w ∷ xs) ys = came-append last xs ys
-came-append last (Reply k w ∷ xs) ys = came-append last xs ys
-came-append last (Written k w ∷ xs) ys = came-append last xs ys
-came-append last (Refused k fault ∷ xs) ys = came-append last xs ys
-came-append last (Welcome k w kept ∷ xs) ys = came-append last xs ys
-came-append last (Hello client number ∷ xs) ys = came-append last xs ys
-came-append last (Resume client number version holdings ∷ xs) ys = came-append last xs ys
-came-append last (Ask number fresh parts ∷ xs) ys = came-append last xs ys
-came-append last (Write number sql ∷ xs) ys = came-append last xs ys
 
 -- the last row that came is the last of these, which are of part i, or of a later part
 abbrev Behind : ℕ → List Row → Option (ℕ × Row) → Type 0
@@ -268,17 +214,13 @@ Behind i [] last = Unit {0}
 Behind i (r ∷ rows) None = ⊥
 Behind i (r ∷ rows) (Some last) = ((last.0 ≡ i) × (last.1 ≡ last_of r rows)) ⊎ (i < last.0)
 
-ascend-rest : (key : ℕ) (r : Row) (rows : List Row) → ascend key (r ∷ rows) ≡ true → ascend key rows ≡ true
-ascend-rest key r [] a = refl
-ascend-rest key r (s ∷ rows) a = and-right (key_lt key r s) (ascend key (s ∷ rows)) a
-
 goes-alone : (key i : ℕ) (last : Option (ℕ × Row)) (rows : List Row) → goes_on key i last rows ≡ true → ascend key rows ≡ true
 goes-alone key i None rows goes = goes
 goes-alone key i (Some last) rows goes = go (last.0 == i) goes
   where
     go : (b : Bool) → (if b then ascend key (last.1 ∷ rows) else (nat_lt last.0 i && ascend key rows)) ≡ true → ascend key rows ≡ true
-    go true goes = ascend-rest key last.1 rows goes
-    go false goes = and-right (nat_lt last.0 i) (ascend key rows) goes
+    go true goes = ascend-tail key last.1 rows goes
+    go false goes = second_so (nat_lt last.0 i) (ascend key rows) goes
 
 -- rows of part i behind others of it
 goes-join : (key i : ℕ) (acc : List Row) (last : Option (ℕ × Row)) (rows : List Row) → Behind i acc last → ascend key acc ≡ true → goes_on key i last rows ≡ true → ascend key (acc ++ rows) ≡ true
@@ -298,8 +240,8 @@ goes-join key i (r ∷ acc) (Some last) rows (inr later) a goes = go (last.0 == 
 
 behind-more : (i : ℕ) (acc : List Row) (last : Option (ℕ × Row)) (rows : List Row) → Behind i acc last → Behind i (acc ++ rows) (last_row last i rows)
 behind-more i acc last [] behind = subst (λ (xs : List Row). Behind i xs last) (sym (append-nil acc)) behind
-behind-more i [] last (s ∷ more) behind = inl (refl, last-is s more)
-behind-more i (r ∷ acc) last (s ∷ more) behind = inl (refl, last-is s more ∙ sym (last-behind r acc s more))
+behind-more i [] last (s ∷ more) behind = inl (refl, last-at s more)
+behind-more i (r ∷ acc) last (s ∷ more) behind = inl (refl, last-at s more ∙ sym (last-behind r acc s more))
 
 -- rows of another part, which is a later one where some of part i have come
 behind-other : (key i part : ℕ) (acc : List Row) (last : Option (ℕ × Row)) (rows : List Row) → (part ≡ i → ⊥) → goes_on key part last rows ≡ true → Behind i acc last → Behind i acc (last_row last part rows)
@@ -313,11 +255,11 @@ behind-other key i part (r ∷ acc) (Some last) (s ∷ more) other goes behind =
     go true is goes (inl own) = let at : last.0 ≡ part = grind (arith, nat_tests, is) in absurd (other (sym at ∙ own.0))
     go true is goes (inr later) = let at : last.0 ≡ part = grind (arith, nat_tests, is) in omega (arith, at, later)
     go false is goes (inl own) =
-        let test = and-left (nat_lt last.0 part) (ascend key (s ∷ more)) goes in
+        let test = first_so (nat_lt last.0 part) (ascend key (s ∷ more)) goes in
         let before : last.0 < part = grind (arith, nat_tests, test) in
         let at = own.0 in omega (arith, before, at)
     go false is goes (inr later) =
-        let test = and-left (nat_lt last.0 part) (ascend key (s ∷ more)) goes in
+        let test = first_so (nat_lt last.0 part) (ascend key (s ∷ more)) goes in
         let before : last.0 < part = grind (arith, nat_tests, test) in omega (arith, before, later)
 
 -- what is known of the rows that came
@@ -341,7 +283,7 @@ module _ (schema : List Table) (asks : List AskPart) (number query version : ℕ
   rows-fit : (pre : List Message) (k part : ℕ) (rows : List Row) (last : Option (ℕ × Row)) → misfit schema out pre version (Rows k part rows) ≡ None → last_came None pre ≡ last
       → (fit_ask schema (ask_at asks part) rows && goes_on (rank (ask_at asks part).attrs (table_at schema (ask_at asks part).table).key) part last rows) ≡ true
   rows-fit pre k part rows last fit came =
-      and-right (nat_lt part (length asks)) _ (subst (λ l. suits schema asks l part rows ≡ true) came
+      second_so (nat_lt part (length asks)) _ (subst (λ l. suits schema asks l part rows ≡ true) came
       (not-false (rows_suit schema asks pre part rows) (or-none (not (rows_suit schema asks pre part rows)) Shape None
       (or-later (not (k == number)) Number (or_else (not (rows_suit schema asks pre part rows)) Shape None) fit))))
 
@@ -349,8 +291,8 @@ module _ (schema : List Table) (asks : List AskPart) (number query version : ℕ
   rows-own : (pre : List Message) (acc : List Row) (last : Option (ℕ × Row)) (k part : ℕ) (rows : List Row) → misfit schema out pre version (Rows k part rows) ≡ None → last_came None pre ≡ last
       → list_all are_values rows ≡ true → part ≡ i → Behind i acc last → AreRows schema ask acc → AreRows schema ask (acc ++ rows)
   rows-own pre acc last k part rows fit came values own behind a = record {
-    each = all-append (IsRowIn (table_at schema ask.table).columns ask.attrs ask.rects) acc rows a.each (rows-in schema ask rows first (and-left (fit_ask schema ask rows) (goes_on key i last rows) here) values);
-    ascending = goes-join key i acc last rows behind a.ascending (and-right (fit_ask schema ask rows) (goes_on key i last rows) here);
+    each = all-append (IsRowIn (table_at schema ask.table).columns ask.attrs ask.rects) acc rows a.each (rows-in schema ask rows first (first_so (fit_ask schema ask rows) (goes_on key i last rows) here) values);
+    ascending = goes-join key i acc last rows behind a.ascending (second_so (fit_ask schema ask rows) (goes_on key i last rows) here);
   }
     where
       here : (fit_ask schema ask rows && goes_on key i last rows) ≡ true
@@ -371,20 +313,20 @@ module _ (schema : List Table) (asks : List AskPart) (number query version : ℕ
       (subst (λ n. Behind i (acc ++ rows) (last_row last n rows)) (sym own) (behind-more i acc last rows behind)) (rows-own pre acc last k part rows fit.0 came own-values own behind a))
       (λ is. rows-on (pre ++ Rows k part rows ∷ []) ms acc (last_row last part rows) fit.1 (came-on pre (Rows k part rows) last came) others
       (behind-other (rank (ask_at asks part).attrs (table_at schema (ask_at asks part).table).key) i part acc last rows (apart-numbers part i is)
-      (and-right (fit_ask schema (ask_at asks part) rows) _ (rows-fit pre k part rows last fit.0 came)) behind) a)
+      (second_so (fit_ask schema (ask_at asks part) rows) _ (rows-fit pre k part rows last fit.0 came)) behind) a)
     where
       own-values : list_all are_values rows ≡ true
-      own-values = and-left (list_all are_values rows) (list_all has_values ms) values
+      own-values = first_so (list_all are_values rows) (list_all has_values ms) values
 
       others : list_all has_values ms ≡ true
-      others = and-right (list_all are_values rows) (list_all has_values ms) values
+      others = second_so (list_all are_values rows) (list_all has_values ms) values
 
       go : (b : Bool) → (part == i) ≡ b → (part ≡ i → AreRows schema ask ((acc ++ rows) ++ arrived_at i ms)) → ((part == i) ≡ false → AreRows schema ask (acc ++ arrived_at i ms))
           → AreRows schema ask (acc ++ ((if b then rows else []) ++ arrived_at i ms))
       go true is own other = subst (AreRows schema ask) (append_assoc acc rows (arrived_at i ms)) (own (grind (arith, nat_tests, is)))
       go false is own other = other is
   rows-on pre (Notice w told ∷ ms) acc last fit came values behind a =
-      rows-on (pre ++ Notice w told ∷ []) ms acc last fit.1 (came-on pre (Notice w told) last came) (and-right (list_all tells_values told) (list_all has_values ms) values) behind a
+      rows-on (pre ++ Notice w told ∷ []) ms acc last fit.1 (came-on pre (Notice w told) last came) (second_so (list_all tells_values told) (list_all has_values ms) values) behind a
   rows-on pre (Lapse w ∷ ms) acc last fit came values behind a = rows-on (pre ++ Lapse w ∷ []) ms acc last fit.1 (came-on pre (Lapse w) last came) values behind a
   rows-on pre (Reply k w ∷ ms) acc last fit came values behind a = rows-on (pre ++ Reply k w ∷ []) ms acc last fit.1 (came-on pre (Reply k w) last came) values behind a
   rows-on pre (Written k w ∷ ms) acc last fit came values behind a = rows-on (pre ++ Written k w ∷ []) ms acc last fit.1 (came-on pre (Written k w) last came) values behind a
@@ -404,10 +346,10 @@ module _ (schema : List Table) (asks : List AskPart) (number query version : ℕ
 pub laid-tells : (schema : List Table) (out : Option Request) (version : ℕ) (pre ms : List Message) → AreFit schema out version pre ms → list_all has_values ms ≡ true → All (TellsRows schema) ms
 laid-tells schema out version pre [] fit values = All-nil (TellsRows schema)
 laid-tells schema out version pre (Notice w told ∷ ms) fit values =
-    All-cons (TellsRows schema) (Notice w told) ms (fit-tells schema out pre version w told fit.0 (and-left (list_all tells_values told) (list_all has_values ms) values))
-    (laid-tells schema out version (pre ++ Notice w told ∷ []) ms fit.1 (and-right (list_all tells_values told) (list_all has_values ms) values))
+    All-cons (TellsRows schema) (Notice w told) ms (fit-tells schema out pre version w told fit.0 (first_so (list_all tells_values told) (list_all has_values ms) values))
+    (laid-tells schema out version (pre ++ Notice w told ∷ []) ms fit.1 (second_so (list_all tells_values told) (list_all has_values ms) values))
 laid-tells schema out version pre (Rows k part rows ∷ ms) fit values =
-    All-cons (TellsRows schema) (Rows k part rows) ms tt (laid-tells schema out version (pre ++ Rows k part rows ∷ []) ms fit.1 (and-right (list_all are_values rows) (list_all has_values ms) values))
+    All-cons (TellsRows schema) (Rows k part rows) ms tt (laid-tells schema out version (pre ++ Rows k part rows ∷ []) ms fit.1 (second_so (list_all are_values rows) (list_all has_values ms) values))
 laid-tells schema out version pre (Lapse w ∷ ms) fit values = All-cons (TellsRows schema) (Lapse w) ms tt (laid-tells schema out version (pre ++ Lapse w ∷ []) ms fit.1 values)
 laid-tells schema out version pre (Reply k w ∷ ms) fit values = All-cons (TellsRows schema) (Reply k w) ms tt (laid-tells schema out version (pre ++ Reply k w ∷ []) ms fit.1 values)
 laid-tells schema out version pre (Written k w ∷ ms) fit values = All-cons (TellsRows schema) (Written k w) ms tt (laid-tells schema out version (pre ++ Written k w ∷ []) ms fit.1 values)

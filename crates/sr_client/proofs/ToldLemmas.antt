@@ -1,5 +1,5 @@
 -- Rows of some columns of a table, in rects and by key.
-use Rattle.std.proofs.Common.{◌≡◌, ℕ, ◌+◌, true, false, cond, List, [], ◌∷◌, min, refl, sym, ap, ◌∙◌, arith, zero, suc}
+use Rattle.std.proofs.Common.{◌≡◌, ℕ, true, false, cond, List, [], ◌∷◌, min, refl, ap, ◌∙◌, arith, zero, suc}
 use Rattle.std.specs.Prelude.{Bool, ◌&&◌, bit_and, filter, map}
 use Rattle.std.specs.List.{list_all, All}
 use Rattle.std.specs.Int.{bit_at}
@@ -11,26 +11,16 @@ use Rattle.sr_cell.specs.declared.table.Table.{Table}
 use Rattle.sr_cell.specs.Attrs.{has_column, includes, project}
 use Rattle.sr_cell.specs.Cells.{Row}
 use Rattle.sr_cell.specs.Columns.{table_at, is_point}
-use Rattle.sr_box.specs.declared.span.Span.TheVariants.{Full, Nums, Strs}
 use Rattle.sr_box.specs.Points.{Rect, in_any, rect_fits, constrains_only}
-use Rattle.sr_model.specs.SortedRows.{ascend, key_lt}
+use Rattle.sr_model.specs.SortedRows.{ascend}
 use Rattle.sr_model.specs.Statements.{Tables}
 use Rattle.sr_model.specs.Queries.{rows_at}
-use Rattle.sr_region.specs.Regions.{rank, is_in, IsPart}
-use Rattle.sr_region.proofs.Ranks.{stand}
+use Rattle.sr_region.specs.Regions.{is_in, IsPart}
+use Rattle.sr_region.proofs.Ranks.{ascend-project}
 use Rattle.sr_store.specs.Told.{told_of, IsTold}
 use Rattle.sr_store.proofs.Noticing.{told-in}
 
 -- ---- sets of columns
-
--- a column of a set is one of each set that includes it
-pub has-more : (a b c : ℕ) → includes a b ≡ true → has_column b c ≡ true → has_column a c ≡ true
-has-more a b c inc has =
-    let e : bit_and a b ≡ b = grind (arith, nat_tests) in
-    let one : bit_at b c ≡ 1 = grind (arith, nat_tests) in
-    let both : min (bit_at a c) (bit_at b c) ≡ bit_at b c = sym (bit_at_and a b c) ∙ ap (λ n. bit_at n c) e in
-    let is : bit_at a c ≡ 1 = omega (arith, one, both, bit_at-lt a c) in
-    rw is refl
 
 -- a set that has each column of another includes it
 pub includes-each : (a b : ℕ) → ((c : ℕ) → has_column b c ≡ true → has_column a c ≡ true) → includes a b ≡ true
@@ -47,17 +37,6 @@ includes-each a b each = let same : bit_and a b ≡ b = same_from_bits (bit_and 
             let same : bit_at a c ≡ 1 = grind (arith, nat_tests, more) in
             omega (arith, same)
         by (suc (suc n)) is = absurd (omega (arith, is, bit_at-lt b c))
-
-more-only : (a b c : ℕ) (r : Rect) → includes a b ≡ true → constrains_only b c r ≡ true → constrains_only a c r ≡ true
-more-only a b c [] inc only = refl
-more-only a b c (Full ∷ r) inc only = more-only a b (c + 1) r inc only
-more-only a b c (Nums lo hi ∷ r) inc only = let ih = more-only a b (c + 1) r inc (grind arith) in let has = has-more a b c inc (grind arith) in rw (has, ih) refl
-more-only a b c (Strs lo hi ∷ r) inc only = let ih = more-only a b (c + 1) r inc (grind arith) in let has = has-more a b c inc (grind arith) in rw (has, ih) refl
-
--- rects that constrain only the columns of a set constrain only those of each set that includes it
-pub all-more-only : (a b : ℕ) (rects : List Rect) → includes a b ≡ true → list_all (constrains_only b 0) rects ≡ true → list_all (constrains_only a 0) rects ≡ true
-all-more-only a b [] inc only = refl
-all-more-only a b (r ∷ rects) inc only = let ih = all-more-only a b rects inc (grind arith) in let one = more-only a b 0 r inc (grind arith) in grind (arith, ih, one)
 
 -- ---- rows
 
@@ -93,16 +72,10 @@ are-parts : (cs : List Column) (a : ℕ) (rows : List Row) → list_all (is_poin
 are-parts cs a [] points = All-nil (IsPart cs a)
 are-parts cs a (p ∷ rows) points = All-cons (IsPart cs a) (project a p) (map (project a) rows) (p, grind arith, refl) (are-parts cs a rows (grind arith))
 
-pub ascend-told : (a key : ℕ) (rows : List Row) → has_column a key ≡ true → ascend (rank a key) (map (project a) rows) ≡ ascend key rows
-ascend-told a key [] has = refl
-ascend-told a key (r ∷ []) has = refl
-ascend-told a key (r ∷ s ∷ rows) has =
-    rw (stand a key r has, stand a key s has) (ap (λ b. key_lt key r s && b) (ascend-told a key (s ∷ rows) has))
-
 -- rows by key that are points give a telling
 pub is-told : (schema : List Table) (tables : Tables) → ((t : ℕ) → list_all (is_point (table_at schema t).columns) (rows_at tables t) ≡ true)
     → ((t : ℕ) → ascend (table_at schema t).key (rows_at tables t) ≡ true) → IsTold schema (told_of tables)
 is-told schema tables points order = record {
   rows = λ t a. are-parts (table_at schema t).columns a (rows_at tables t) (points t);
-  ascending = λ t a has. ascend-told a (table_at schema t).key (rows_at tables t) has ∙ order t;
+  ascending = λ t a has. ascend-project a (table_at schema t).key (rows_at tables t) has ∙ order t;
 }

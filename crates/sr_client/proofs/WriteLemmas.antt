@@ -3,8 +3,6 @@ use Rattle.std.proofs.Common.{◌≡◌, ℕ, ◌+◌, true, false, List, [], re
 use Rattle.sr_message.specs.declared.message.Message.{Message}
 use Rattle.sr_message.specs.declared.message.Message.TheVariants.{Write}
 use Rattle.sr_model.specs.Queries.{Query}
-use Rattle.sr_session.specs.Sessions.{Database}
-use Rattle.sr_session.specs.Clients as session
 use Rattle.sr_session.specs.Rules.{number_of, write_busy, write_down, write_sends}
 use Rattle.sr_session.specs.Rules as rules
 use Rattle.sr_session.specs.Walks.{AreLaid, Request, WriteOut}
@@ -15,7 +13,7 @@ use Rattle.sr_client.specs.declared.steps.WriteStep.TheVariants.{Sent, Busy, Dow
 use Rattle.sr_client.specs.Stands.{Hidden, Facts, Stands, past_of, out_of, request_of, AreFit}
 use Rattle.sr_client.specs.Steps.{Writes}
 use Rattle.sr_client.proofs.MoveLemmas.{writes-by}
-use Rattle.sr_client.proofs.OverLemmas.{on, IsHere, stands-over}
+use Rattle.sr_client.proofs.OverLemmas.{stands-over}
 use Rattle.sr_client.proofs.QueryLemmas.{none-laid}
 
 pub write-busy : (c : Client) (sql : List ℕ) (number : ℕ) (request : code.Request) → Stands c → c.out ≡ Some request → ((meaning : Query) → number ≡ number_of (request_of meaning request))

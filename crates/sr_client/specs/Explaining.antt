@@ -21,8 +21,9 @@ use Rattle.sr_explain.specs.Explained as explain
 use Rattle.sr_explain.specs.Explained.{count_in}
 use Rattle.sr_session.specs.Sessions.{Database, tables_of}
 use Rattle.sr_session.specs.Clients as session
+use Rattle.sr_session.specs.Bases.{basis_of}
 use Rattle.sr_client.specs.declared.client.Client.{Client}
-use Rattle.sr_client.specs.Stands.{StandsOver, basis_of}
+use Rattle.sr_client.specs.Stands.{StandsOver}
 
 -- ---- probes
 

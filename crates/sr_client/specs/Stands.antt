@@ -4,7 +4,7 @@ use Rattle.std.specs.List.{list_all}
 use Rattle.sr_cell.specs.declared.table.Table.{Table}
 use Rattle.sr_message.specs.declared.message.Message.{Message}
 use Rattle.sr_message.specs.Sizes.{most_rects, count_asked}
-use Rattle.sr_model.specs.Queries.{Query, rows_of}
+use Rattle.sr_model.specs.Queries.{Query}
 use Rattle.sr_model.specs.Statements.{Tables}
 use Rattle.sr_policy.specs.declared.policy.Limits.{Limits}
 use Rattle.sr_query.specs.Bound.{is_table}
@@ -12,7 +12,6 @@ use Rattle.sr_lines.specs.Short.{has_short_texts}
 use Rattle.sr_history.specs.declared.mark.Mark.{Mark}
 use Rattle.sr_history.specs.Marks.{is_held}
 use Rattle.sr_history.specs.Classes.{Numbered, stamp}
-use Rattle.sr_history.specs.Kept.{kept}
 use Rattle.sr_history.specs.Victims.{AreLast, last_parts}
 use Rattle.sr_store.specs.Classes.{Keeps}
 use Rattle.sr_store.specs.Told.{told_of, AreTrueOf}
@@ -22,7 +21,7 @@ use Rattle.sr_session.specs.Sessions.{Database, Session, newest, tables_of}
 use Rattle.sr_session.specs.Walks.{Request, AskOut, WriteOut, ResumeOut}
 use Rattle.sr_session.specs.Clients as session
 use Rattle.sr_session.specs.Clients.{Connection, IsOpen}
-use Rattle.sr_session.specs.Rules.{Basis, counted}
+use Rattle.sr_session.specs.Rules.{counted}
 use Rattle.sr_session.specs.Misfits.{misfit}
 use Rattle.sr_session.specs.Laws.{IsSound}
 use Rattle.sr_session.specs.Tidy.{IsTidy}
@@ -136,10 +135,6 @@ pub record Truly (db : Database) (past : session.Client) (m : Message) : Type 0 
   pub is_open : IsOpen db past connection session
   pub rest : List Message
   pub first : connection.to_client ≡ m ∷ rest
-
--- what the rules go by over a database
-abbrev pub basis_of : Database → Limits → Basis
-basis_of db limits = record { schema = db.schema; limits = limits; count = λ v marks. kept (tables_of db v) marks; rows = Some (λ v q. rows_of q (tables_of db v)) }
 
 -- ---- without anything
 

@@ -1,5 +1,5 @@
 -- What the calls of a client answer, and that it is what the rules allow.
-use Rattle.std.specs.Prelude.{ℕ, ◌+◌, ◌≤◌, Bool, true, false, ◌≡◌, ◌≢◌, List, [], ◌∷◌, ◌++◌, Option, Some, None, Ok}
+use Rattle.std.specs.Prelude.{ℕ, ◌+◌, ◌≤◌, Bool, true, false, ◌≡◌, ◌≢◌, List, [], Option, Some, None, Ok}
 use Rattle.sr_cell.specs.declared.cause.Cause.TheVariants.{Asked as AskedCause}
 use Rattle.sr_message.specs.declared.message.AskPart.{AskPart}
 use Rattle.sr_message.specs.declared.message.Message.{Message}
@@ -10,6 +10,7 @@ use Rattle.sr_session.specs.Sessions.{Database}
 use Rattle.sr_session.specs.Clients as session
 use Rattle.sr_session.specs.Rules.{Outcome, Busy, Down, Answered, AskSent, WriteSent, ResumeSent, AlreadyUp, Evicted, NoSuchClass, CutDone, AlreadyCut, Laid, Applied, Forgot, WriteDone, WriteRefused, Welcomed, next_query}
 use Rattle.sr_session.specs.Rules as rules
+use Rattle.sr_session.specs.Bases.{basis_of}
 use Rattle.sr_client.specs.declared.client.Client.{Client}
 use Rattle.sr_client.specs.declared.client.Request as code
 use Rattle.sr_client.specs.declared.client.Request.TheVariants as request
@@ -27,7 +28,7 @@ use Rattle.sr_client.specs.declared.steps.ResumeStep.{ResumeStep}
 use Rattle.sr_client.specs.declared.steps.ResumeStep.TheVariants.{Sent as ResumeIsSent, Up as ResumeUp}
 use Rattle.sr_client.specs.declared.steps.EvictStep.{EvictStep}
 use Rattle.sr_client.specs.declared.steps.EvictStep.TheVariants.{Dropped as EvictDropped, Busy as EvictBusy, NoSuch as EvictNoSuch}
-use Rattle.sr_client.specs.Stands.{StandsOver, StandsFor, Stands, Truly, basis_of, drawn}
+use Rattle.sr_client.specs.Stands.{StandsOver, StandsFor, Stands, Truly, drawn}
 
 -- ---- what an answer says
 

@@ -1,20 +1,10 @@
 -- Cells whose texts are bytes.
 use Rattle.std.specs.Prelude.{Bool, true, None, Some}
 use Rattle.std.specs.List.{list_all}
-use Rattle.sr_cell.specs.declared.cell.Cell.{Cell}
-use Rattle.sr_cell.specs.declared.cell.Cell.TheVariants.{Num, Str}
-use Rattle.sr_cell.specs.Cells.{Row}
-use Rattle.sr_cell.specs.Columns.{are_bytes}
+use Rattle.sr_cell.specs.Columns.{are_values}
 use Rattle.sr_message.specs.declared.message.Message.{Message}
 use Rattle.sr_message.specs.declared.message.Message.TheVariants.{Notice, Rows}
 use Rattle.sr_message.specs.declared.message.Tell.{Tell}
-
-abbrev pub is_value : Cell → Bool
-is_value (Num n) = true
-is_value (Str s) = are_bytes s
-
-abbrev pub are_values : Row → Bool
-are_values row = list_all is_value row
 
 abbrev pub tells_values : Tell → Bool
 tells_values tell = elim tell.after as (λ after. Bool) [ None ↦ true | Some row ↦ are_values row ]

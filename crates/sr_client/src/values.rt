@@ -1,8 +1,8 @@
 //! Facts, which do nothing: what the types of messages say of the texts in them.
 ghost use Rattle.std.specs.Prelude.{IsTrue};
 ghost use Rattle.std.specs.List.{list_all};
-ghost use Rattle.sr_cell.specs.Columns.{are_bytes};
-ghost use Rattle.sr_client.specs.Values.{is_value, are_values, tells_values, has_values};
+ghost use Rattle.sr_cell.specs.Columns.{are_bytes, is_value, are_values};
+ghost use Rattle.sr_client.specs.Values.{tells_values, has_values};
 
 use sr_cell::cell::{Cell, Row};
 use sr_message::message::{Message, Tell};

@@ -1,7 +1,7 @@
 -- The rects of AND, OR and NOT from those of their members.
 use Rattle.std.proofs.Common.{◌≡◌, ℕ, zero, suc, ◌+◌, ◌*◌, ◌<◌, ◌≤◌, true, false, List, [], ◌∷◌, ◌++◌, length, drop, slice_index_or, refl, sym, subst, arith, ◌∙◌}
 use Rattle.std.specs.Prelude.{Bool, not, ◌&&◌, ◌||◌, ◌==◌}
-use Rattle.std.specs.List.{list_all, AllByRecursion}
+use Rattle.std.specs.List.{AllByRecursion}
 use Rattle.std.proofs.lemmas.Bool.Decides.{nat_tests}
 use Rattle.std.proofs.lemmas.Nat.{mul-le}
 use Rattle.std.proofs.lemmas.List.{length-append}
@@ -15,6 +15,7 @@ use Rattle.sr_union.specs.Grid.{is_among, first_cuts, others, CutsAmong, AreCutF
 use Rattle.sr_union.specs.Pieces.{IsMeet}
 use Rattle.sr_union.proofs.Cuts.{is_among-append}
 use Rattle.sr_union.proofs.Times.{in_any-times}
+use Rattle.sr_union.proofs.Among.{AreCutFrom-fits}
 use Rattle.sr_model.specs.Conditions.{Cond, Conds, Not, none, more}
 use Rattle.sr_model.specs.Ends.{ends, all_ends}
 use Rattle.sr_query.specs.Binding.{cond_of}
@@ -74,10 +75,6 @@ cut-ends : (columns : List Column) (a : Cond) (given rects : List Rect) → AllB
 cut-ends columns a given [] h k = tt
 cut-ends columns a given (r ∷ rects) h k = (among-ends 0 columns a given r h k.1, cut-ends columns a given rects h k.2)
 
-cut-fit : (columns : List Column) (given rects : List Rect) → AreCutFrom columns given rects → list_all (rect_fits columns) rects ≡ true
-cut-fit columns given [] k = refl
-cut-fit columns given (r ∷ rects) k = let a = k.0 in let ih = cut-fit columns given rects k.2 in grind (arith, a, ih)
-
 -- ---- what all say
 
 all-says : (plain : Bool) (c : Cond) (cs : Conds) (p : Row) → (says plain c p && says plain (all_of plain cs) p) ≡ says plain (all_of plain (more c cs)) p
@@ -117,7 +114,7 @@ all-none columns plain rects is = subst (AreRects columns plain (all_of plain no
 all-more : (columns : List Column) (plain : Bool) (c : Cond) (cs : Conds) (a b both : List Rect) → AreRects columns plain c a → AreRects columns plain (all_of plain cs) b → IsMeet columns a b both
     → AreCutFrom columns (a ++ b) both → length both ≤ length a * length b → AreRects columns plain (all_of plain (more c cs)) both
 all-more columns plain c cs a b both one rest meets cuts few = record {
-  fits = cut-fit columns (a ++ b) both cuts;
+  fits = AreCutFrom-fits columns (a ++ b) both cuts;
   points = λ p h. let x = one.points p h in let y = rest.points p h in meet-in columns a b both p (meets p h) ∙ (rw (x, y) (all-says plain c cs p));
   few = let r = all-room plain c cs in let m = mul-le (length a) (length b) (room plain c) (room plain (all_of plain cs)) one.few rest.few in omega (arith, r, m, few);
   ends = cut-ends columns (all_of plain (more c cs)) (a ++ b) both
@@ -142,13 +139,6 @@ any-says false c cs p = grind arith
 any-room : (plain : Bool) (c : Cond) (cs : Conds) → room plain c + room plain (any_of plain cs) ≡ room plain (any_of plain (more c cs))
 any-room true c cs = refl
 any-room false c cs = refl
-
-any-none : (columns : List Column) (plain : Bool) (rects : List Rect) → rects ≡ [] → AreRects columns plain (any_of plain none) rects
-any-none columns plain rects is = subst (AreRects columns plain (any_of plain none)) (sym is) (record { fits = refl; points = λ p h. says-none plain p; few = omega arith; ends = tt })
-  where
-    says-none : (plain : Bool) (p : Row) → false ≡ says plain (any_of plain none) p
-    says-none true p = refl
-    says-none false p = refl
 
 any-more : (columns : List Column) (plain : Bool) (c : Cond) (cs : Conds) (a b rects : List Rect) → AreRects columns plain c a → AreRects columns plain (any_of plain cs) b → rects ≡ a ++ b
     → AreRects columns plain (any_of plain (more c cs)) rects

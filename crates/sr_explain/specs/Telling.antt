@@ -1,5 +1,5 @@
 -- The lines that tell how a query would be answered.
-use Rattle.std.specs.Prelude.{ℕ, Bool, true, false, ◌+◌, ◌≡◌, List, [], ◌∷◌, ◌++◌, map, flat_map, Option, Some, Result, Ok, Err}
+use Rattle.std.specs.Prelude.{ℕ, Bool, true, false, ◌+◌, ◌≡◌, List, [], ◌∷◌, ◌++◌, map, flat_map, Some, Result, Ok, Err}
 use Rattle.sr_cell.specs.declared.fault.Fault.{Fault}
 use Rattle.sr_box.specs.Points.{Rect}
 use Rattle.sr_model.specs.Queries.{Query}

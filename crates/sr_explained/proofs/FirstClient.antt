@@ -17,7 +17,8 @@ use Rattle.sr_explain.specs.Telling.{ExplainsTo}
 use Rattle.sr_session.specs.Sessions.{tables_of}
 use Rattle.sr_session.specs.Clients.{Pair}
 use Rattle.sr_session.specs.Scenes.{Event, Report, Scene, Runs, done, next, new_pair, pair_at}
-use Rattle.sr_client.specs.Stands.{Stands, basis_of}
+use Rattle.sr_session.specs.Bases.{basis_of}
+use Rattle.sr_client.specs.Stands.{Stands}
 use Rattle.sr_runs.specs.Runs.{numbered}
 use Rattle.sr_runs.proofs.PairLemmas.{still-there}
 use Rattle.sr_runs.proofs.StepLemmas.{runs-lead}

@@ -1,8 +1,7 @@
 -- What is written where a query is explained behind a script.
-use Rattle.std.specs.Prelude.{ℕ, ◌≡◌, ◌⊎◌, List, [], Option, Some, Result}
+use Rattle.std.specs.Prelude.{ℕ, ◌≡◌, List, [], Option, Some, Result}
 use Rattle.std.specs.Io.KnownBytes.{Appends}
 use Rattle.sr_cell.specs.declared.fault.Fault.{Fault}
-use Rattle.sr_cell.specs.declared.table.Table.{Table}
 use Rattle.sr_model.specs.Queries.{Query}
 use Rattle.sr_lines.specs.Lines.{lines_of}
 use Rattle.sr_lines.specs.Script.{AsksOf, FirstRefused}
@@ -12,11 +11,12 @@ use Rattle.sr_script.specs.TraceText.{trace_text}
 use Rattle.sr_session.specs.Scenes.{Scene}
 use Rattle.sr_session.specs.Sessions.{Database, tables_of}
 use Rattle.sr_session.specs.Clients as session
+use Rattle.sr_session.specs.Bases.{basis_of}
 use Rattle.sr_explain.specs.declared.explanation.Explanation.{Explanation}
 use Rattle.sr_explain.specs.Explained.{ExplainStep, count_in}
 use Rattle.sr_explain.specs.Telling.{ExplainsTo, explain_lines}
 use Rattle.sr_client.specs.declared.client.Client.{Client}
-use Rattle.sr_client.specs.Stands.{StandsOver, basis_of}
+use Rattle.sr_client.specs.Stands.{StandsOver}
 use Rattle.sr_runs.specs.Runs.{numbered}
 use Rattle.sr_io.specs.Pieces.{WritesPrefix}
 use Rattle.sr_world.specs.declared.world.Options.{Options}

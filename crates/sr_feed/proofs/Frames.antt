@@ -1,6 +1,6 @@
 -- What is in a queue of frames.
-use Rattle.std.proofs.Common.{◌≡◌, ℕ, zero, suc, ◌+◌, ◌≤◌, ◌<◌, Bool, true, false, List, [], ◌∷◌, ◌++◌, length, drop, Option, Some, None, refl, sym, ap, subst, ◌∙◌, arith}
-use Rattle.std.specs.Prelude.{◌&&◌, option_to_list, IsTrue, OnOk, OnErr, Result, Ok, Err}
+use Rattle.std.proofs.Common.{◌≡◌, ℕ, zero, suc, ◌+◌, ◌≤◌, ◌<◌, true, List, [], ◌∷◌, ◌++◌, length, drop, Option, Some, refl, sym, ap, subst, ◌∙◌, arith}
+use Rattle.std.specs.Prelude.{option_to_list, IsTrue, OnOk, OnErr, Result, Ok, Err}
 use Rattle.std.specs.List.{flat_map, list_all}
 use Rattle.std.specs.Cmp.Derive.{both_true}
 use Rattle.std.proofs.lemmas.Bool.{and_parts}
@@ -10,7 +10,7 @@ use Rattle.std.proofs.lemmas.List.Folds.{list_all-append}
 use Rattle.std.proofs.lemmas.Grind.{flat_map-append}
 use Rattle.std.proofs.lemmas.List.{append-nil}
 use Rattle.sr_message.specs.declared.message.Message.{Message}
-use Rattle.sr_wire.specs.Reading.{Decoded, Whole, Faulty, decoded}
+use Rattle.sr_wire.specs.Reading.{Whole, decoded}
 use Rattle.sr_wire.specs.Spelling.{spelling, has_spelling, body_of}
 use Rattle.sr_wire.proofs.Frames.{decoded_again, count_length}
 use Rattle.sr_bytes.specs.Spelling.{count_bytes}

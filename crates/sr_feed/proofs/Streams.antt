@@ -4,8 +4,8 @@ use Rattle.std.specs.Prelude.{◌≢◌, IsTrue}
 use Rattle.std.specs.List.{flat_map, list_all}
 use Rattle.std.proofs.lemmas.List.Concat.{flat_map-cons}
 use Rattle.std.proofs.lemmas.List.{drop_at}
+use Rattle.std.specs.Cmp.{first_so, second_so}
 use Rattle.sr_message.specs.declared.message.Message.{Message}
-use Rattle.sr_bytes.proofs.Steps.{left_of, right_of}
 use Rattle.sr_wire.specs.declared.wire_fault.WireFault.{WireFault}
 use Rattle.sr_wire.specs.declared.wire_fault.WireFault.TheVariants.{Short}
 use Rattle.sr_wire.specs.Spelling.{spelling, has_spelling}
@@ -29,14 +29,14 @@ once : (ms ks : List Message) (a b : List ℕ) (f g : WireFault) → IsTrue (lis
     → decoded a ≡ Faulty f → decoded b ≡ Faulty g → flat_map spelling ms ++ a ≡ flat_map spelling ks ++ b → (ms ≡ ks) × (a ≡ b)
 once [] [] a b f g hm hk ea eb e = (refl, e)
 once [] (k ∷ ks) a b f g hm hk ea eb e =
-    absurd (not_faulty k (flat_map spelling ks ++ b) a f (left_of (has_spelling k) (list_all has_spelling ks) hk) (sym (front k ks b) ∙ sym e) ea)
+    absurd (not_faulty k (flat_map spelling ks ++ b) a f (first_so (has_spelling k) (list_all has_spelling ks) hk) (sym (front k ks b) ∙ sym e) ea)
 once (m ∷ ms) [] a b f g hm hk ea eb e =
-    absurd (not_faulty m (flat_map spelling ms ++ a) b g (left_of (has_spelling m) (list_all has_spelling ms) hm) (sym (front m ms a) ∙ e) eb)
+    absurd (not_faulty m (flat_map spelling ms ++ a) b g (first_so (has_spelling m) (list_all has_spelling ms) hm) (sym (front m ms a) ∙ e) eb)
 once (m ∷ ms) (k ∷ ks) a b f g hm hk ea eb e =
     let first = one_spelling m k (flat_map spelling ms ++ a) (flat_map spelling ks ++ b)
-    (left_of (has_spelling m) (list_all has_spelling ms) hm) (left_of (has_spelling k) (list_all has_spelling ks) hk)
+    (first_so (has_spelling m) (list_all has_spelling ms) hm) (first_so (has_spelling k) (list_all has_spelling ks) hk)
     (sym (front m ms a) ∙ e ∙ front k ks b) in
-    let others = once ms ks a b f g (right_of (has_spelling m) (list_all has_spelling ms) hm) (right_of (has_spelling k) (list_all has_spelling ks) hk) ea eb first.1 in
+    let others = once ms ks a b f g (second_so (has_spelling m) (list_all has_spelling ms) hm) (second_so (has_spelling k) (list_all has_spelling ks) hk) ea eb first.1 in
     let head = first.0 in
     let tail = others.0 in
     (cc, others.1)
@@ -59,10 +59,10 @@ in_order stream m ms rest fault s =
     let more = flat_map spelling ms ++ rest in
     let parts : stream ≡ spelling m ++ more = s.whole ∙ front m ms rest in
     record {
-      first = ap decoded parts ∙ decoded_again m more (left_of (has_spelling m) (list_all has_spelling ms) s.each);
+      first = ap decoded parts ∙ decoded_again m more (first_so (has_spelling m) (list_all has_spelling ms) s.each);
       others = record {
         whole = ap (drop (length (spelling m))) parts ∙ drop_at (spelling m) more (length (spelling m)) refl;
-        each = right_of (has_spelling m) (list_all has_spelling ms) s.each;
+        each = second_so (has_spelling m) (list_all has_spelling ms) s.each;
         ends = s.ends;
       };
     }

@@ -1,5 +1,5 @@
 -- The messages whose frames stand one behind the other.
-use Rattle.std.specs.Prelude.{◌≡◌, ℕ, zero, suc, List, [], ◌∷◌, ◌++◌, length, drop, flat_map, true}
+use Rattle.std.specs.Prelude.{◌≡◌, ℕ, zero, suc, List, [], ◌∷◌, length, drop, flat_map, true}
 use Rattle.std.specs.List.{list_all}
 use Rattle.sr_message.specs.declared.message.Message.{Message}
 use Rattle.sr_wire.specs.Reading.{Decoded, Whole, Faulty, decoded}

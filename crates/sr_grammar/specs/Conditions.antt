@@ -1,5 +1,5 @@
 -- The grammar of conditions. A rule says which tokens spell which tree.
-use Rattle.std.specs.Prelude.{ℕ, zero, suc, List, [], ◌∷◌, Option, Some, None, codes}
+use Rattle.std.specs.Prelude.{ℕ, zero, suc, List, ◌∷◌, Option, Some, None, codes}
 use Rattle.sr_cell.specs.declared.cell.Cell.TheVariants.{Num}
 use Rattle.sr_grammar.specs.declared.statement.Name.{Name}
 use Rattle.sr_grammar.specs.declared.statement.Literal.{Literal}

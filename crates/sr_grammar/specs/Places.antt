@@ -1,15 +1,14 @@
 -- Statements without their places.
-use Rattle.std.specs.Prelude.{◌≡◌, ℕ, List, [], ◌∷◌, map, Option, Some, None}
+use Rattle.std.specs.Prelude.{◌≡◌, map, Option, Some, None}
 use Rattle.sr_grammar.specs.declared.statement.Name.{Name}
 use Rattle.sr_grammar.specs.declared.statement.Literal.{Literal}
 use Rattle.sr_grammar.specs.declared.statement.Atom.{Atom}
 use Rattle.sr_grammar.specs.declared.statement.Atom.TheVariants.{Cmp, Between, OneOf, Prefix, NotBetween, NotOneOf, NotPrefix}
 use Rattle.sr_grammar.specs.declared.statement.JoinOn.{JoinOn}
 use Rattle.sr_grammar.specs.declared.statement.LiteralRow.{LiteralRow}
-use Rattle.sr_grammar.specs.declared.statement.Insert.{Insert}
 use Rattle.sr_grammar.specs.declared.statement.Set.{Set}
 use Rattle.sr_grammar.specs.Tokens.{Tok}
-use Rattle.sr_grammar.specs.Trees.{Cond, Conds, Test, And, Or, Not, none, more, Select, Update, Delete, Statement, Create, Selects, Inserts, Updates, Deletes, Tree, Defines, Says}
+use Rattle.sr_grammar.specs.Trees.{Cond, Conds, Test, And, Or, Not, none, more, Select, Statement, Create, Selects, Inserts, Updates, Deletes, Tree, Defines, Says}
 
 abbrev pub bare_name : Name → Name
 bare_name n = record n { place = 0 }

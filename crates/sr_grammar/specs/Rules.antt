@@ -1,5 +1,5 @@
 -- The words of a grammar: which tokens spell which value.
-use Rattle.std.specs.Prelude.{◌≡◌, ℕ, List, [], ◌∷◌, ◌++◌, ◌⊎◌, Option, Some, None}
+use Rattle.std.specs.Prelude.{◌≡◌, List, [], ◌∷◌, ◌++◌, ◌⊎◌, Option, Some}
 use Rattle.sr_grammar.specs.Tokens.{Tok}
 
 abbrev pub Rule : Type 0 → Type 1

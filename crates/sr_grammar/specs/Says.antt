@@ -1,9 +1,9 @@
 -- What a text says: a statement, or its first fault.
-use Rattle.std.specs.Prelude.{◌≡◌, ℕ, Bool, List, [], ◌∷◌, ◌++◌, ◌⊎◌, ◌<◌, ◌≤◌, length, Result, Ok, Err}
+use Rattle.std.specs.Prelude.{◌≡◌, ℕ, List, [], ◌∷◌, ◌++◌, ◌⊎◌, ◌<◌, ◌≤◌, length, Result, Err}
 use Rattle.sr_cell.specs.declared.fault.Fault.{Fault}
 use Rattle.sr_cell.specs.declared.fault.Why.{Why}
 use Rattle.sr_cell.specs.declared.fault.Why.TheVariants.{LongText, BadToken, Grammar, Deep}
-use Rattle.sr_grammar.specs.Tokens.{Kind, Bad, Tok, tokens_of}
+use Rattle.sr_grammar.specs.Tokens.{Bad, Tok, tokens_of}
 use Rattle.sr_grammar.specs.Trees.{Statement, Tree, statement_of}
 use Rattle.sr_grammar.specs.Statements.{IsStatement}
 

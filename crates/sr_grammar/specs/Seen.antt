@@ -1,5 +1,5 @@
 -- What the code's trees stand for.
-use Rattle.std.specs.Prelude.{List, Option, Some, None}
+use Rattle.std.specs.Prelude.{Option, Some, None}
 use Rattle.sr_grammar.specs.declared.statement.Cond.{Cond}
 use Rattle.sr_grammar.specs.declared.statement.Cond.TheOpen as layers
 use Rattle.sr_grammar.specs.declared.statement.Cond.TheOpen.{Cond-F}

@@ -1,7 +1,6 @@
 -- The text of tokens, and the one printed form of a statement.
-use Rattle.std.specs.Prelude.{ℕ, ◌==◌, ◌||◌, Bool, true, false, List, [], ◌∷◌, ◌++◌, flat_map, codes, bytes_eq, if◌then◌else◌}
-use Rattle.std.specs.List.{list_any}
-use Rattle.sr_grammar.specs.Tokens.{Kind, Key, Named, Number, Quoted, Mark, Bad, Tok, is}
+use Rattle.std.specs.Prelude.{ℕ, ◌==◌, ◌||◌, Bool, true, List, [], ◌∷◌, ◌++◌, flat_map, codes, if◌then◌else◌}
+use Rattle.sr_grammar.specs.Tokens.{Kind, Quoted, Mark, Tok, is}
 use Rattle.sr_grammar.specs.Trees.{Statement}
 use Rattle.sr_grammar.specs.Printed.{printed_tokens}
 

@@ -1,12 +1,11 @@
 -- The grammar of statements.
-use Rattle.std.specs.Prelude.{ℕ, Bool, true, false, List, [], ◌∷◌, Option, Some, None, codes}
+use Rattle.std.specs.Prelude.{ℕ, Bool, true, false, List, [], Option, Some, None, codes}
 use Rattle.sr_grammar.specs.declared.statement.Name.{Name}
 use Rattle.sr_grammar.specs.declared.statement.JoinOn.{JoinOn}
 use Rattle.sr_grammar.specs.declared.statement.LiteralRow.{LiteralRow}
-use Rattle.sr_grammar.specs.declared.statement.Insert.{Insert}
 use Rattle.sr_grammar.specs.declared.statement.Set.{Set}
 use Rattle.sr_grammar.specs.Words.{Word, name_of, reference_of}
-use Rattle.sr_grammar.specs.Trees.{Cond, Select, Update, Delete, Statement, Selects, Inserts, Updates, Deletes, Tree, Says}
+use Rattle.sr_grammar.specs.Trees.{Cond, Select, Selects, Inserts, Updates, Deletes, Tree, Says}
 use Rattle.sr_grammar.specs.Rules.{Rule, One, Nothing, ◌>>=◌, ◌or◌, Many}
 use Rattle.sr_grammar.specs.Conditions.{KEY, MARK, MaybeOf, ListOf, InParens, IsLiteral, IsReference, IsCond}
 use Rattle.sr_grammar.specs.Columns.{IsCreate}

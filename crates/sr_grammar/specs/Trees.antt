@@ -1,5 +1,5 @@
 -- Statements as trees, where the code's are not plain values: conditions, and what holds them.
-use Rattle.std.specs.Prelude.{ℕ, ℤ, pos, negsuc, ◌+◌, ◌==◌, ◌||◌, ◌&&◌, not, Bool, true, false, List, [], ◌∷◌, map, filter, length, Option, Some, None, Result, Ok, Err, int_le, bytes_eq, if◌then◌else◌}
+use Rattle.std.specs.Prelude.{ℕ, ℤ, pos, negsuc, ◌+◌, ◌==◌, ◌&&◌, not, Bool, true, false, List, [], ◌∷◌, map, filter, length, Option, Result, Ok, Err, int_le, bytes_eq, if◌then◌else◌}
 use Rattle.std.specs.List.{list_any}
 use Rattle.sr_cell.specs.declared.table.Kind.{Kind}
 use Rattle.sr_cell.specs.declared.table.Kind.TheVariants as kinds

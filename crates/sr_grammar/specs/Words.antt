@@ -1,12 +1,12 @@
 -- What one token stands for.
-use Rattle.std.specs.Prelude.{ℕ, ℤ, pos, negsuc, zero, suc, ◌-◌, ◌==◌, ◌&&◌, ◌||◌, Bool, true, false, List, [], ◌∷◌, length, take, Option, Some, None, codes, bytes_eq, if◌then◌else◌}
+use Rattle.std.specs.Prelude.{ℕ, ℤ, pos, negsuc, zero, suc, ◌-◌, ◌==◌, ◌&&◌, ◌||◌, Bool, false, List, [], ◌∷◌, length, take, Option, Some, None, codes, bytes_eq, if◌then◌else◌}
 use Rattle.std.specs.Str.Parse.{digits_value}
 use Rattle.sr_cell.specs.declared.cell.Cell.TheVariants.{Num, Str}
 use Rattle.sr_grammar.specs.declared.statement.Name.{Name}
 use Rattle.sr_grammar.specs.declared.statement.Literal.{Literal}
 use Rattle.sr_grammar.specs.declared.statement.Op.{Op}
 use Rattle.sr_grammar.specs.declared.statement.Op.TheVariants.{Eq, Ne, Lt, Le, Gt, Ge}
-use Rattle.sr_grammar.specs.Tokens.{Kind, Key, Named, Number, Quoted, Mark, Tok, is, of_kind}
+use Rattle.sr_grammar.specs.Tokens.{Kind, Named, Number, Quoted, Mark, Tok, is, of_kind}
 
 -- a word or mark, which stands for its place
 abbrev pub place_of : Kind → List ℕ → Tok → Option ℕ

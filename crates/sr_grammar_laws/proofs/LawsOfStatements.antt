@@ -12,7 +12,6 @@ use Rattle.sr_grammar_laws.specs.Readers.{key, filter, listed, begins_join, join
 use Rattle.sr_grammar_laws.proofs.Good.{or_test, next_or, or_next}
 use Rattle.sr_grammar_laws.proofs.Deep.{Both, both_nothing, both_then, both_branch, both_many}
 use Rattle.sr_grammar_laws.proofs.Words.{no_more, none_more, Begins, Apart, begins_one, begins_then, begins_or, begins_wide, begins_token, is-apart, of_kind-is, is-of_kind, chosen, both_token, both_after, both_map, both_more, both_maybe, both_list, both_parens}
-use Rattle.sr_grammar_laws.proofs.Loops.{Takes, takes}
 use Rattle.sr_grammar_laws.proofs.Firsts.{begins_not, not_apart, BeginsNot, not_after, follow, not_maybe, not_made}
 use Rattle.sr_grammar_laws.proofs.LawsOfConditions.{name_one, both_literal, dot, both_reference, cond_more, both_cond, both_unit}
 
@@ -95,10 +94,6 @@ join_begins = begins_then _ _ _ (begins_or _ _ _
     or_right : (a b : Bool) → b ≡ true → (a || b) ≡ true
     or_right true b e = refl
     or_right false b e = e
-
--- a loop over joins comes to an end
-pub join_takes : Takes join
-join_takes = takes begins_join join IsJoin dot_more both_join.good join_begins
 
 -- what may go on with a statement
 abbrev pub tree_more : Tok → Bool

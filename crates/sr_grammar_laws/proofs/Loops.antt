@@ -1,8 +1,8 @@
 -- Reading one item after the other, as a loop does.
 use Rattle.std.proofs.Common.{◌≡◌, ℕ, zero, suc, ◌<◌, ◌≤◌, Bool, true, false, List, [], ◌∷◌, ◌++◌, length, Option, Some, None, refl, sym, ap, ◌∙◌, append_assoc, arith}
 use Rattle.std.specs.Prelude.{if◌then◌else◌}
-use Rattle.std.proofs.lemmas.List.{append-nil, length-append}
-use Rattle.std.proofs.lemmas.Bool.{cond-true, cond-false}
+use Rattle.std.proofs.lemmas.List.{length-append}
+use Rattle.std.proofs.lemmas.Bool.{cond-true}
 use Rattle.sr_grammar.specs.Tokens.{Kind, Tok, is}
 use Rattle.sr_grammar.specs.Words.{place_of}
 use Rattle.sr_grammar.specs.Rules.{Rule}
@@ -68,11 +68,6 @@ pub goes_on : {A : Type 0} (k : Kind) (text : List ℕ) (p : Reader A) → Shrin
 goes_on k text p s front ts mid at a rest total next e h g =
     let whole : item k text p ts ≡ Got a rest = rw e h in
     record { so_far = sym (regroup front a (many (is k text) (item k text p) rest)) ∙ ap (with_front front) (sym (many_step k text p s ts a rest next whole)) ∙ g.so_far }
-
-pub is_done : {A : Type 0} (k : Kind) (text : List ℕ) (p : Reader A) (front : List A) (ts : List Tok) (total : Reading (List A)) → next_is (is k text) ts ≡ false → Going k text p front ts total → total ≡ Got front ts
-is_done k text p front ts total next g =
-    let all : many (is k text) (item k text p) ts ≡ Got [] ts = cond-false _ _ _ next in
-    sym g.so_far ∙ rw all (ap (λ z. Got z ts) (append-nil front))
 
 -- ---- a loop that goes on by any test of the next token, and begins with nothing
 

@@ -1,5 +1,5 @@
 -- Which class is dropped first.
-use Rattle.std.specs.Prelude.{ℕ, ℤ, false, List, [], ◌∷◌, ◌≡◌, ◌⊎◌, Some, fold, if◌then◌else◌, IsTrue}
+use Rattle.std.specs.Prelude.{ℤ, false, List, [], ◌∷◌, ◌≡◌, ◌⊎◌, Some, fold, if◌then◌else◌, IsTrue}
 use Rattle.std.specs.List.{list_all}
 use Rattle.sr_cell.specs.declared.table.Column.{Column}
 use Rattle.sr_cell.specs.declared.table.Table.{Table}

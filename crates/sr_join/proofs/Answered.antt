@@ -1,8 +1,10 @@
 -- The answer of lent rows is the query's.
-use Rattle.std.proofs.Common.{◌≡◌, ℕ, zero, suc, ◌+◌, ◌<◌, ◌≤◌, Bool, true, ◌&&◌, List, [], ◌∷◌, map, length, refl, sym, ap, subst, ◌∙◌, arith}
+use Rattle.std.proofs.Common.{◌≡◌, ℕ, zero, suc, ◌+◌, ◌<◌, ◌≤◌, Bool, true, List, [], ◌∷◌, map, length, refl, sym, ap, subst, ◌∙◌, arith}
 use Rattle.std.specs.Prelude.{flat_map, slice_get, Option, Some, None, Result, Ok, Err, IfOk}
 use Rattle.std.specs.List.{list_all, AllZip}
 use Rattle.std.proofs.lemmas.Bool.Decides.{nat_tests}
+use Rattle.std.specs.Cmp.{first_so, second_so}
+use Rattle.std.proofs.lemmas.Option.{slice_get_within}
 use Rattle.sr_cell.specs.declared.table.Table.{Table}
 use Rattle.sr_cell.specs.Attrs.{has_column}
 use Rattle.sr_cell.specs.Cells.{Row}
@@ -22,12 +24,6 @@ use Rattle.sr_join.specs.Lent.{AreLent, LendFrom, IsJoinable, rows_for}
 use Rattle.sr_join.specs.Shown.{Shown, AreShown, are_by}
 use Rattle.sr_join.proofs.Chains.{ShowParts, answered, behind}
 use Rattle.sr_join.proofs.Shows.{shown-by}
-
-left : (a b : Bool) → (a && b) ≡ true → a ≡ true
-left a b h = grind arith
-
-right : (a b : Bool) → (a && b) ≡ true → b ≡ true
-right a b h = grind arith
 
 -- ---- the parts
 
@@ -100,13 +96,8 @@ lent-at n (suc i) tables (p ∷ meant) runs m lend at =
 
 needs-at : (schema : List Table) (meant : List Part) (i : ℕ) (m : Part) → list_all (needs_key schema) meant ≡ true → slice_get meant i ≡ Some m → needs_key schema m ≡ true
 needs-at schema [] i m all at = absurd (cc)
-needs-at schema (p ∷ meant) zero m all at = let same : p ≡ m = cc in subst (λ m. needs_key schema m ≡ true) same (left (needs_key schema p) (list_all (needs_key schema) meant) all)
-needs-at schema (p ∷ meant) (suc i) m all at = needs-at schema meant i m (right (needs_key schema p) (list_all (needs_key schema) meant) all) at
-
-within : {A : Type 0} (xs : List A) (i : ℕ) (x : A) → slice_get xs i ≡ Some x → i < length xs
-within [] i x at = absurd (cc)
-within (y ∷ xs) zero x at = omega arith
-within (y ∷ xs) (suc i) x at = let ih = within xs i x at in omega (arith, ih)
+needs-at schema (p ∷ meant) zero m all at = let same : p ≡ m = cc in subst (λ m. needs_key schema m ≡ true) same (first_so (needs_key schema p) (list_all (needs_key schema) meant) all)
+needs-at schema (p ∷ meant) (suc i) m all at = needs-at schema meant i m (second_so (needs_key schema p) (list_all (needs_key schema) meant) all) at
 
 past-end : {A : Type 0} (xs : List A) (i : ℕ) → slice_get xs i ≡ None → length xs ≤ i
 past-end [] i at = omega arith
@@ -135,7 +126,7 @@ module _ (schema : List Table) (tables : Tables) (query : Query) (meaning : mode
       let order : ascend (key_in (slice_get query.parts i)) (rows_at tables m.table) ≡ true = subst (λ k. ascend k (rows_at tables m.table) ≡ true) key (is.by_key m.table) in
       let zero_more : 0 + i ≡ i = omega arith in
       let lent = subst (λ k. AreLent m.need (rows_at tables m.table) (points_of m) (map (rows_for k) runs)) zero_more (lent-at 0 i tables meaning.parts runs m lend at) in
-      let shown = finds i m.need (rows_at tables m.table) (points_of m) (within query.parts i p.part p.at) order has lent in
+      let shown = finds i m.need (rows_at tables m.table) (points_of m) (slice_get_within query.parts i p.part p.at) order has lent in
       (shown, shown-by m.need (key_in (slice_get query.parts i)) (rows_at tables m.table) (points_of m) (found_at found i) has order shown)
 
   pub are-by : AreBy query.parts found

@@ -7,9 +7,10 @@ use Rattle.sr_cell.specs.Cells.{Row, cell_at, cell_le}
 use Rattle.sr_cell.proofs.Order.{cell_le-refl}
 use Rattle.sr_model.specs.SortedRows.{ascend}
 use Rattle.sr_rows.proofs.Order.{key_lt-le, key_lt-not, is_first, ascend-tail, ascend-first}
+use Rattle.sr_rows.proofs.Parts.{first-filter}
 use Rattle.sr_join.specs.Joins.{past, united, is_own_next}
 use Rattle.sr_join.specs.Shown.{Shown, Shows, AreShown, cell_of}
-use Rattle.sr_join.proofs.Shows.{shown-cell, first-filter}
+use Rattle.sr_join.proofs.Shows.{shown-cell}
 
 pub united-none : (key : ℕ) (rows : List Shown) → united key rows [] ≡ rows
 united-none key [] = refl
@@ -30,17 +31,6 @@ next-own key (r ∷ own) rest more (Some x) is e same =
     here : (more : List Shown) → is_own_next key (r ∷ own) more ≡ true → united key (r ∷ own) more ≡ r ∷ united key own (past key (r ∷ own) more)
     here [] h = ap (λ xs. r ∷ xs) (sym (united-none key own))
     here (m ∷ more) h = let le : cell_le (cell_of key r) (cell_of key m) ≡ true = h in rw le refl
-
-pub next-other : (key : ℕ) (own more rest : List Shown) (o : Option Shown) → is_own_next key own more ≡ false → more ≡ option_to_list o ++ rest → (o ≡ None → more ≡ [])
-    → united key own more ≡ option_to_list o ++ united key own rest
-next-other key own more rest None is e end = ap (united key own) e
-next-other key own more rest (Some m) is e end =
-    let P : List Shown → Type 0 = λ xs. is_own_next key own xs ≡ false → united key own xs ≡ m ∷ united key own rest in
-    subst P (sym e) (here own) is
-  where
-    here : (own : List Shown) → is_own_next key own (m ∷ rest) ≡ false → united key own (m ∷ rest) ≡ m ∷ united key own rest
-    here [] h = refl
-    here (r ∷ own) h = let le : cell_le (cell_of key r) (cell_of key m) ≡ false = h in rw le refl
 
 -- ---- rows of one table
 

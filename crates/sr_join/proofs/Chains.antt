@@ -6,8 +6,9 @@ use Rattle.std.proofs.lemmas.Bool.Decides.{nat_tests}
 use Rattle.std.proofs.lemmas.List.{append-nil}
 use Rattle.sr_cell.specs.declared.cell.Cell.{Cell}
 use Rattle.sr_cell.specs.declared.table.Table.{Table}
-use Rattle.sr_cell.specs.Cells.{Row, cell_at, cell_eq, cell_le}
-use Rattle.sr_model.specs.Queries.{Part, Join, points_of, combinations, row_at, rows_at, all_meet, joins_hold, rows_of}
+use Rattle.sr_cell.specs.Cells.{Row, cell_at, cell_eq}
+use Rattle.sr_cell.proofs.Order.{cell_eq-symm}
+use Rattle.sr_model.specs.Queries.{Part, Join, points_of, combinations, row_at, rows_at, all_meet, joins_hold}
 use Rattle.sr_model.specs.Queries as model
 use Rattle.sr_model.specs.Statements.{Tables}
 use Rattle.sr_query.specs.Bound as bound
@@ -148,12 +149,6 @@ one-more tables outputs rows part parts joins more test same =
 
 -- ---- all joins
 
-eq-sym : (v w : Cell) → cell_eq v w ≡ cell_eq w v
-eq-sym v w = swap (cell_le v w) (cell_le w v)
-  where
-    swap : (a b : Bool) → (a && b) ≡ (b && a)
-    swap a b = grind arith
-
 module _ (schema : List Table) (tables : Tables) (whole : List Part) (found : List (List Shown)) (outputs : List Output) (shown : ShowParts tables whole found)
     (needed : list_all (is_needed whole) (map bound.output_of outputs) ≡ true) where
   pub joined-rows : (joins : List Join) (parts done : List Part) (rows : List Row) (chosen : List Shown) → whole ≡ done ++ parts → join_each schema whole (length done) joins ≡ true → ShowAll done rows chosen
@@ -214,7 +209,7 @@ module _ (schema : List Table) (tables : Tables) (whole : List Part) (found : Li
               let same : cell_eq (cell_at (row_at (rows ++ p ∷ others) j.left) j.column) (cell_at (row_at (rows ++ p ∷ others) j.right) j.key) ≡ cell_eq (cell_at p j.key) (chosen_cell chosen j.left j.column) =
               ap (λ row. cell_eq (cell_at row j.column) (cell_at (row_at (rows ++ p ∷ others) j.right) j.key)) one
               ∙ (ap (λ row. cell_eq (cell_at (row_at rows j.left) j.column) (cell_at row j.key)) two
-              ∙ (eq-sym (cell_at (row_at rows j.left) j.column) (cell_at p j.key) ∙ ap (cell_eq (cell_at p j.key)) (sym cell))) in
+              ∙ (cell_eq-symm (cell_at (row_at rows j.left) j.column) (cell_at p j.key) ∙ ap (cell_eq (cell_at p j.key)) (sym cell))) in
               ap (λ b. b && joins_hold joins (rows ++ p ∷ others)) same
 
   -- the outputs of all choices that begin with rows of the first part
@@ -230,13 +225,3 @@ module _ (schema : List Table) (tables : Tables) (whole : List Part) (found : Li
       all-pass : (rows : List Row) → filter (λ p. true) rows ≡ rows
       all-pass [] = refl
       all-pass (p ∷ rows) = ap (λ all. p ∷ all) (all-pass rows)
-
--- ---- choices one by one
-
-pub choose-one : (found : List (List Shown)) (joins : List Join) (j : Join) (chosen : List Shown) (s : Shown) → s ∷ [] ≡ rows_with found j.right j.key (chosen_cell chosen j.left j.column)
-    → choices found (j ∷ joins) chosen ≡ choices found joins (chosen ++ s ∷ [])
-choose-one found joins j chosen s one = ap (flat_map (λ s. choices found joins (chosen ++ s ∷ []))) (sym one) ∙ append-nil (choices found joins (chosen ++ s ∷ []))
-
-pub choose-none : (found : List (List Shown)) (joins : List Join) (j : Join) (chosen : List Shown) → [] ≡ rows_with found j.right j.key (chosen_cell chosen j.left j.column)
-    → choices found (j ∷ joins) chosen ≡ []
-choose-none found joins j chosen none = ap (flat_map (λ s. choices found joins (chosen ++ s ∷ []))) (sym none)

@@ -1,32 +1,22 @@
 -- Rows of a table that are shown.
-use Rattle.std.proofs.Common.{◌≡◌, ℕ, true, false, Bool, cond, List, [], ◌∷◌, min, refl, sym, ap, ◌∙◌, subst, arith}
-use Rattle.std.specs.Prelude.{bit_and, filter}
-use Rattle.std.specs.Int.{bit_at}
+use Rattle.std.proofs.Common.{◌≡◌, ℕ, true, Bool, List, [], ◌∷◌, refl, ap, ◌∙◌, subst, arith}
+use Rattle.std.specs.Prelude.{filter}
 use Rattle.std.specs.List.{All, AllZip}
-use Rattle.std.proofs.lemmas.Bool.Decides.{nat_tests}
-use Rattle.std.proofs.lemmas.Nat.Bits.{bit_at_and, bit_at-lt}
 use Rattle.std.proofs.lemmas.List.Elements.{All-head, All-tail}
-use Rattle.sr_cell.specs.Attrs.{has_column, includes}
+use Rattle.sr_cell.specs.Attrs.{has_column}
 use Rattle.sr_cell.specs.Cells.{Row, cell_at}
+use Rattle.sr_cell.proofs.ColumnSets.{has_column-more}
 use Rattle.sr_model.specs.SortedRows.{ascend, key_lt}
-use Rattle.sr_rows.proofs.Order.{is_first, ascend-tail, ascend-first, first-ascend}
+use Rattle.sr_rows.proofs.Order.{ascend-tail}
+use Rattle.sr_rows.proofs.Parts.{ascend-filter}
 use Rattle.sr_region.specs.Regions.{rank}
 use Rattle.sr_region.proofs.Ranks.{stand}
 use Rattle.sr_join.specs.Shown.{Shown, Shows, AreShown, cell_of, are_by}
 
--- a column of a set is one of each set that includes it
-pub has-more : (a b c : ℕ) → includes a b ≡ true → has_column b c ≡ true → has_column a c ≡ true
-has-more a b c inc has =
-    let e : bit_and a b ≡ b = grind (arith, nat_tests) in
-    let one : bit_at b c ≡ 1 = grind (arith, nat_tests) in
-    let both : min (bit_at a c) (bit_at b c) ≡ bit_at b c = sym (bit_at_and a b c) ∙ ap (λ n. bit_at n c) e in
-    let is : bit_at a c ≡ 1 = omega (arith, one, both, bit_at-lt a c) in
-    rw is refl
-
 -- a needed cell of a row that is shown
 pub shown-cell : (need column : ℕ) (p : Row) (s : Shown) → has_column need column ≡ true → Shows need p s → cell_of column s ≡ cell_at p column
 shown-cell need column p s has shows =
-    ap (λ cells. cell_at cells (rank s.attrs column)) shows.cells ∙ stand s.attrs column p (has-more s.attrs need column shows.columns has)
+    ap (λ cells. cell_at cells (rank s.attrs column)) shows.cells ∙ stand s.attrs column p (has_column-more s.attrs need column shows.columns has)
 
 -- the rows that two tests choose which tell the same of each
 pub filter-same : (f g : Row → Bool) (all : List Row) → All (λ p. f p ≡ g p) all → filter f all ≡ filter g all
@@ -38,22 +28,6 @@ filter-same f g (p ∷ all) same =
 
 pub shown-same : (need : ℕ) (all : List Row) (f g : Row → Bool) (shown : List Shown) → All (λ p. f p ≡ g p) all → AreShown need all f shown → AreShown need all g shown
 shown-same need all f g shown same are = subst (λ rows. AllZip (Shows need) rows shown) (filter-same f g all same) are
-
-pub first-filter : (key : ℕ) (r : Row) (f : Row → Bool) (rows : List Row) → is_first key r rows ≡ true → is_first key r (filter f rows) ≡ true
-first-filter key r f [] h = refl
-first-filter key r f (s ∷ rows) h = go (f s) (first-filter key r f rows (grind arith))
-  where
-    go : (b : Bool) → is_first key r (filter f rows) ≡ true → is_first key r (cond b (s ∷ filter f rows) (filter f rows)) ≡ true
-    go true ih = grind (arith, ih)
-    go false ih = ih
-
-pub ascend-filter : (key : ℕ) (f : Row → Bool) (rows : List Row) → ascend key rows ≡ true → ascend key (filter f rows) ≡ true
-ascend-filter key f [] h = refl
-ascend-filter key f (r ∷ rows) h = go (f r) (ascend-filter key f rows (ascend-tail key r rows h)) (first-filter key r f rows (ascend-first key r rows h))
-  where
-    go : (b : Bool) → ascend key (filter f rows) ≡ true → is_first key r (filter f rows) ≡ true → ascend key (cond b (r ∷ filter f rows) (filter f rows)) ≡ true
-    go true ih first = first-ascend key r (filter f rows) first ih
-    go false ih first = ih
 
 -- what shows rows by key stands by key
 by-rows : (need key : ℕ) (rows : List Row) (shown : List Shown) → has_column need key ≡ true → ascend key rows ≡ true → AllZip (Shows need) rows shown → are_by key shown ≡ true

@@ -3,7 +3,7 @@ use Rattle.std.proofs.Common.{◌≡◌, ℕ, zero, suc, ◌+◌, ◌^◌, ◌<�
 use Rattle.std.specs.Prelude.{◌==◌, nat_le, nat_lt, slice_get, map, flat_map, Option, Some, None, Ok, if◌then◌else◌}
 use Rattle.std.specs.List.{list_any, list_all}
 use Rattle.std.specs.Cmp.Derive.{both_true}
-use Rattle.std.proofs.lemmas.Bool.{and_parts}
+use Rattle.std.proofs.lemmas.Bool.{and_parts, lt-ltb}
 use Rattle.std.proofs.lemmas.Bool.Decides.{nat_tests}
 use Rattle.sr_cell.specs.declared.fault.Why.TheVariants.{NotKeyJoin, Repeated, TooManyTables}
 use Rattle.sr_cell.specs.declared.table.Table.{Table}
@@ -147,9 +147,6 @@ joins-apart schema tables part (on ∷ ons) joins e =
 less-than : (n m k : ℕ) → nat_lt n m ≡ true → m ≤ k → nat_lt n k ≡ true
 less-than n m k below le = grind (arith, nat_tests, below)
 
-is-below : (n k : ℕ) → n < k → nat_lt n k ≡ true
-is-below n k below = grind (arith, nat_tests)
-
 -- the joined columns are of parts that there are
 joins-near : (schema : List Table) (tables : List ℕ) (part : ℕ) (joins : List Join) → AreKeyJoins schema tables part joins → part + length joins ≤ length tables
     → list_all (is_of (length tables)) (flat_map join_columns joins) ≡ true
@@ -157,7 +154,7 @@ joins-near schema tables part [] each within = refl
 joins-near schema tables part (j ∷ joins) each within =
     let ih = joins-near schema tables (part + 1) joins each.1 (omega (arith, within)) in
     let left = less-than j.left part (length tables) each.0.left (omega (arith, within)) in
-    let right = subst (λ i. nat_lt i (length tables) ≡ true) (sym each.0.right) (is-below part (length tables) (omega (arith, within))) in
+    let right = subst (λ i. nat_lt i (length tables) ≡ true) (sym each.0.right) (lt-ltb part (length tables) (omega (arith, within))) in
     both_true left (both_true right ih)
 
 -- a number is itself

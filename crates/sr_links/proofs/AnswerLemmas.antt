@@ -12,39 +12,40 @@ use Rattle.sr_session.specs.Clients.{Client}
 use Rattle.sr_session.specs.Misfits.{misfit}
 use Rattle.sr_session.specs.Rules.{Basis, Outcome, QueryRefused, Busy, Down, Answered, AskSent, WriteSent, Evicted as EvictedOne, NoSuchClass, Laid, Applied, Forgot, WriteDone, WriteRefused, Welcomed, CutDone, AlreadyCut, ResumeSent, AlreadyUp, Answering, AnswerStep, renewed, given_up, QueryStep, query_refused, query_busy, query_answered, query_down, query_asks, TakeStep, lays, applies, forgets, answers, asks_once_more, written, refused_write, is_welcomed, EvictStep, evict_busy, evicts_none, evicts, WriteStep, write_busy, write_down, write_sends, already_cut, cuts, already_up, resumes}
 use Rattle.sr_session.specs.Sessions.{Database, newest}
+use Rattle.sr_session.specs.Bases.{basis_of}
 use Rattle.sr_links.specs.Answers.{query_out, IsTrueAnswer, FitsIf, AreTrueAnswers, AnswersAreTrue, ServedAnswersAreTrue, WholeTalksEndFree}
 use Rattle.sr_links.specs.Honest.{steps_of}
-use Rattle.sr_links.specs.Steps.{Deed, Queried, Wrote, Evicted, Took, WasCut, Resumed, too_long, writes, Does, Standing, Step, basis_on}
+use Rattle.sr_links.specs.Steps.{Deed, Queried, Wrote, Evicted, Took, WasCut, Resumed, too_long, writes, Does, Standing, Step}
 use Rattle.sr_links.proofs.DatabaseLemmas.{Grows, after-more, last-more}
 use Rattle.sr_links.proofs.MendLemmas.{runs, closed-runs}
 use Rattle.sr_links.proofs.TalkLemmas.{AreTrue, one-connection}
 
 -- an answer leaves the client at its version
-answered-at : (b : Basis) (a : Answering) (c : Client) (marks : List Mark) (new : Client) → AnswerStep b a c marks new → new.version ≡ a.version
+pub answered-at : (b : Basis) (a : Answering) (c : Client) (marks : List Mark) (new : Client) → AnswerStep b a c marks new → new.version ≡ a.version
 answered-at b a c marks new (renewed ms renews) = refl
 answered-at b a c marks new (given_up ms gives) = refl
 
 module _ (limits : Limits) (db : Database) where
-  query-true : (c : Client) (text : Result Rattle.sr_model.specs.Queries.Query Fault) (o : Outcome) (new : Client) → new.version ≤ newest db → QueryStep (basis_on db limits) c text o new → IsTrueAnswer db (Queried text) c o
+  query-true : (c : Client) (text : Result Rattle.sr_model.specs.Queries.Query Fault) (o : Outcome) (new : Client) → new.version ≤ newest db → QueryStep (basis_of db limits) c text o new → IsTrueAnswer db (Queried text) c o
   query-true c text o new within (query_refused fault) = tt
   query-true c text o new within (query_busy q request out) = tt
   query-true c text o new within (query_answered q rows marks after out asks are step) =
-      let at = answered-at (basis_on db limits) _ c marks new step in (q, refl, omega (arith, within, at), are)
+      let at = answered-at (basis_of db limits) _ c marks new step in (q, refl, omega (arith, within, at), are)
   query-true c text o new within (query_down q drops old ask others out before down asks) = tt
   query-true c text o new within (query_asks q drops old ask others fresh out before up asks few mode) = tt
 
-  take-true : (c : Client) (m : Message) (o : Outcome) (new : Client) → new.version ≤ newest db → TakeStep (basis_on db limits) c m o new → IsTrueAnswer db (Took m) c o
+  take-true : (c : Client) (m : Message) (o : Outcome) (new : Client) → new.version ≤ newest db → TakeStep (basis_of db limits) c m o new → IsTrueAnswer db (Took m) c o
   take-true c m o new within (lays request x out laid for) = tt
   take-true c m o new within (applies version told drops out later meets) = tt
   take-true c m o new within (forgets version drops out later all) = tt
   take-true c m o new within (answers number query q fresh parts version rows marks after out whole later are step) =
-      let at = answered-at (basis_on db limits) _ c marks new step in (q, ap query_out out, omega (arith, within, at), are)
+      let at = answered-at (basis_of db limits) _ c marks new step in (q, ap query_out out, omega (arith, within, at), are)
   take-true c m o new within (asks_once_more number query q fresh parts version drops asked out again later all asks few) = tt
   take-true c m o new within (written number version drops out later all) = tt
   take-true c m o new within (refused_write number fault drops out later all) = tt
   take-true c m o new within (is_welcomed number version kept drops out later all) = tt
 
-  evict-true : (place : ℕ) (c : Client) (o : Outcome) (new : Client) → EvictStep (basis_on db limits) place c o new → IsTrueAnswer db (Evicted place) c o
+  evict-true : (place : ℕ) (c : Client) (o : Outcome) (new : Client) → EvictStep (basis_of db limits) place c o new → IsTrueAnswer db (Evicted place) c o
   evict-true place c o new (evict_busy request out) = tt
   evict-true place c o new (evicts_none classes out are few) = tt
   evict-true place c o new (evicts classes chosen d out are at drop) = tt
@@ -54,7 +55,7 @@ module _ (limits : Limits) (db : Database) where
   write-true sql c o new (write_down out down) = tt
   write-true sql c o new (write_sends out up) = tt
 
-  does-true : (deed : Deed) (c : Client) (o : Outcome) (new : Client) → new.version ≤ newest db → Does (basis_on db limits) deed c o new → IsTrueAnswer db deed c o
+  does-true : (deed : Deed) (c : Client) (o : Outcome) (new : Client) → new.version ≤ newest db → Does (basis_of db limits) deed c o new → IsTrueAnswer db deed c o
   does-true (Queried text) c o new within does = query-true c text o new within does
   does-true (Wrote sql) c o new within (too_long is) = tt
   does-true (Wrote sql) c o new within (writes did after short does) = write-true sql c o new does

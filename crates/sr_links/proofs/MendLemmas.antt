@@ -214,7 +214,7 @@ uncut-mend (Some old) (Frame m result ∷ inputs) = uncut-mute inputs
 prefix-nothing : {X : Type 0} (xs : List X) → IsPrefix [] xs
 prefix-nothing {X} xs = record { rest = xs; all = refl }
 
-prefix-on : {X : Type 0} (a b c : List X) → IsPrefix a b → IsPrefix b c → IsPrefix a c
+pub prefix-on : {X : Type 0} (a b c : List X) → IsPrefix a b → IsPrefix b c → IsPrefix a c
 prefix-on {X} a b c one two = record { rest = one.rest ++ two.rest; all = two.all ∙ ap (λ x. x ++ two.rest) one.all ∙ append_assoc a one.rest two.rest }
 
 prefix-behind : {X : Type 0} (x a b : List X) → IsPrefix a b → IsPrefix (x ++ a) (x ++ b)

@@ -1,7 +1,7 @@
 -- One client and its server: what each event leaves standing.
 use Rattle.std.proofs.Common.{◌≡◌, ◌+◌, ◌<◌, true, false, List, [], ◌∷◌, ◌++◌, length, refl, sym, ◌∙◌, ap, subst, Option, Some, None, append-nil, Ok}
 use Rattle.std.specs.Prelude.{Result}
-use Rattle.std.proofs.lemmas.List.Elements.{All-head, All-nil, All-cons}
+use Rattle.std.proofs.lemmas.List.Elements.{All-nil, All-cons, All-head}
 use Rattle.sr_cell.specs.declared.fault.Fault.{Fault}
 use Rattle.sr_message.specs.declared.message.Message.{Message}
 use Rattle.sr_message.specs.declared.message.Message.TheVariants.{Hello, Resume, Ask, Write, Welcome, Notice, Rows, Reply, Written, Refused, Lapse}
@@ -9,13 +9,14 @@ use Rattle.sr_model.specs.Statements.{Tables}
 use Rattle.sr_policy.specs.declared.policy.Limits.{Limits}
 use Rattle.sr_session.specs.Clients.{Client, Connection, Flows, IsDown, IsOpen, Pair, Stands, is_down, is_idle, is_open, is_resuming, is_sent, is_served, mirror_of}
 use Rattle.sr_session.specs.Rules.{Outcome, sends, TakeStep, CutStep}
-use Rattle.sr_session.specs.Scenes.{Scene, SceneStands, Event, Exec, QueryOf, WriteOf, EvictOf, CutOf, ResumeOf, ToServer, ToClient, Report, Executed, ServerTook, Did, Happens, executed, queried, wrote, evicted, cut, resumed, server_took, client_took, taken}
+use Rattle.sr_session.specs.Scenes.{Scene, Exec, QueryOf, WriteOf, EvictOf, CutOf, ResumeOf, ToServer, ToClient, Executed, ServerTook, Did, executed, queried, wrote, evicted, cut, resumed, server_took, client_took, taken, Event, SceneStands, Report, Happens}
 use Rattle.sr_session.specs.Sessions.{Database, Session, newest, with_version}
 use Rattle.sr_session.specs.Walks.{Request, Mirror, noticed, forgot, brought, Walks, AreLaid}
-use Rattle.sr_session.proofs.EventLemmas.{events-keep}
 use Rattle.sr_session.proofs.QueryLemmas.{silent}
+use Rattle.sr_session.specs.Bases.{basis_of}
+use Rattle.sr_session.proofs.EventLemmas.{events-keep}
 use Rattle.sr_links.specs.Honest.{Server}
-use Rattle.sr_links.specs.Steps.{Deed, Queried, Wrote, Evicted, Took, WasCut, Resumed, too_long, writes, Does, basis_on}
+use Rattle.sr_links.specs.Steps.{Deed, Queried, Wrote, Evicted, Took, WasCut, Resumed, too_long, writes, Does}
 
 abbrev pub pair : Client → Connection → Pair
 pair c l = record { client = c; connection = l }
@@ -48,7 +49,7 @@ module _ (limits : Limits) where
     pub version-keeps : (tables : Tables) → Stands (with_version db tables) (pair c l)
     version-keeps tables = event-keeps db (with_version db tables) c c l l (Exec (Ok tables)) (Executed (newest db + 1)) some stands (executed tables)
 
-    pub quiet-keeps : (deed : Deed) (o : Outcome) (new : Client) → IsQuiet deed → Does (basis_on db limits) deed c o new → Stands db (pair new (sends l o))
+    pub quiet-keeps : (deed : Deed) (o : Outcome) (new : Client) → IsQuiet deed → Does (basis_of db limits) deed c o new → Stands db (pair new (sends l o))
     quiet-keeps (Queried query) o new quiet does = event-keeps db db c new l (sends l o) (QueryOf 1 query) (Did o) some stands (queried 1 query (pair c l) o new refl does)
     quiet-keeps (Wrote sql) o new quiet (too_long is) = silent (λ line. Stands db (pair c line)) l o refl stands
     quiet-keeps (Wrote sql) o new quiet (writes did after short does) = event-keeps db db c new l (sends l o) (WriteOf 1 sql) (Did o) some stands (wrote 1 sql (pair c l) o new refl does)
@@ -57,7 +58,7 @@ module _ (limits : Limits) where
     quiet-keeps WasCut o new quiet does = absurd quiet
     quiet-keeps Resumed o new quiet does = event-keeps db db c new l (sends l o) (ResumeOf 1) (Did o) some stands (resumed 1 (pair c l) o new refl does)
 
-    pub take-keeps : (m : Message) (queue : List Message) (o : Outcome) (new : Client) → l.to_client ≡ m ∷ queue → TakeStep (basis_on db limits) c m o new
+    pub take-keeps : (m : Message) (queue : List Message) (o : Outcome) (new : Client) → l.to_client ≡ m ∷ queue → TakeStep (basis_of db limits) c m o new
         → Stands db (pair new (sends (record l { to_client = queue }) o))
     take-keeps m queue o new first does = event-keeps db db c new l (sends (record l { to_client = queue }) o) (ToClient 1) (Did o) some stands (client_took 1 (pair c l) m queue o new refl first does)
 

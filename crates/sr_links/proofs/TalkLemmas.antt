@@ -13,10 +13,11 @@ use Rattle.sr_session.specs.Rules.{Outcome, sends, sent_of, CutStep}
 use Rattle.sr_session.specs.Sessions.{Database, newest, tables_of, with_version}
 use Rattle.sr_session.specs.Walks.{Request}
 use Rattle.sr_session.proofs.NeverLemmas.{never-refused}
-use Rattle.sr_session.proofs.ReachLemmas.{stands-version}
+use Rattle.sr_session.proofs.ServeLemmas.{stands-version}
+use Rattle.sr_session.specs.Bases.{basis_of}
 use Rattle.sr_links.specs.Answers.{AsksKeys, FitsIf}
 use Rattle.sr_links.specs.Honest.{Server, Input, Version, Frame, CutOff, Answer, answer, server_after, sent_for, frames_of, has_cut, IsPrefix, Explains, Rests, Talk, IsTalk, steps_in}
-use Rattle.sr_links.specs.Steps.{Deed, Queried, Wrote, Evicted, Took, WasCut, Resumed, Does, Standing, Step, basis_on, ComesIf, AreFair, AreAwaited, OnOne, taken_by, given_of, requests_of, past_after, code_after}
+use Rattle.sr_links.specs.Steps.{Deed, Queried, Wrote, Evicted, Took, WasCut, Resumed, Does, Standing, Step, ComesIf, AreFair, AreAwaited, OnOne, taken_by, given_of, requests_of, past_after, code_after}
 use Rattle.sr_links.proofs.DatabaseLemmas.{Grows, More, grows-still, grows-on, answer-more, after-more, sound-before}
 use Rattle.sr_links.proofs.PairLemmas.{pair, at, nothing, IsQuiet, version-keeps, quiet-keeps, take-keeps, cut-keeps, server-keeps, never-idle, opens, is-down}
 use Rattle.sr_links.proofs.RuleLemmas.{StaysMute, mute-step}
@@ -25,7 +26,7 @@ use Rattle.sr_links.proofs.RuleLemmas.{StaysMute, mute-step}
 pub record IsTrueStep {C : Type 0} (limits : Limits) (all : Database) (c : Client) (step : Step C) : Type 0 where
   pub db : Database
   pub grows : Grows db all
-  pub does : Does (basis_on db limits) step.deed c step.outcome step.past
+  pub does : Does (basis_of db limits) step.deed c step.outcome step.past
   pub fits : FitsIf db c step.deed
   pub within : step.past.version ≤ newest db
 
@@ -187,11 +188,11 @@ module _ {C : Type 0} (IsOf : Standing C) (keys : AsksKeys IsOf) (limits : Limit
   -- one step, whose new client is down again
   down-by : (deed : Deed) (o : Outcome) (new : Client) (new_code : C) (steps : List (Step C)) → Downs steps
       → ((db : Database) (c : Client) → ComesIf db c deed) → ((db : Database) (c : Client) → FitsIf db c deed)
-      → ((db : Database) (c : Client) (l : Connection) → 0 < length db.versions → Stands db (pair c l) → IsDown db c l → Does (basis_on db limits) deed c o new → Stands db (pair new (sends l o)))
+      → ((db : Database) (c : Client) (l : Connection) → 0 < length db.versions → Stands db (pair c l) → IsDown db c l → Does (basis_of db limits) deed c o new → Stands db (pair new (sends l o)))
       → Downs (record { deed = deed; outcome = o; past = new; code = new_code } ∷ steps)
   down-by deed o new new_code steps go comes fits keeps fr gr db c l code some grows down is fair awaited one =
       let (does, new_is) = fair.0 db (sound-at db some grows) down.version is (comes db c) in
-      let mute : StaysMute o new = mute-step (basis_on db limits) deed c o new (record { cut = down.down; out = down.out }) awaited.0 one.0 does in
+      let mute : StaysMute o new = mute-step (basis_of db limits) deed c o new (record { cut = down.down; out = down.out }) awaited.0 one.0 does in
       let after : IsDown db new (sends l o) = is-down db new (sends l o) mute.mute.cut (keeps db c l some (is_down down) down does) in
       let others = go fr gr db new (sends l o) new_code some grows after new_is fair.1 awaited.1 one.1 in
       record { trues = (record { db = db; grows = grows; does = does; fits = fits db c; within = after.version }, others.trues); ends = others.ends; free = others.free }
@@ -201,7 +202,7 @@ module _ {C : Type 0} (IsOf : Standing C) (keys : AsksKeys IsOf) (limits : Limit
   cut-again db c l some stands down o new does = subst (λ line. Stands db (pair new line)) same (cut-keeps limits db c l some stands o new does)
     where
       silent : sent_of o ≡ []
-      silent = (mute-step (basis_on db limits) WasCut c o new (record { cut = down.down; out = down.out }) tt tt does).silent
+      silent = (mute-step (basis_of db limits) WasCut c o new (record { cut = down.down; out = down.out }) tt tt does).silent
 
       same : nothing ≡ sends l o
       same =

@@ -1,17 +1,17 @@
 -- What a client did, step by step.
-use Rattle.std.specs.Prelude.{ℕ, false, ◌<◌, ◌≤◌, List, [], ◌∷◌, ◌++◌, length, ◌≡◌, Some, None, Result}
+use Rattle.std.specs.Prelude.{ℕ, false, ◌<◌, ◌≤◌, List, [], ◌∷◌, ◌++◌, length, ◌≡◌, None, Result}
 use Rattle.sr_cell.specs.declared.fault.Fault.{Fault}
 use Rattle.sr_cell.specs.declared.table.Table.{Table}
 use Rattle.sr_message.specs.declared.message.Message.{Message}
-use Rattle.sr_model.specs.Queries.{Query, rows_of}
+use Rattle.sr_model.specs.Queries.{Query}
 use Rattle.sr_model.specs.Statements.{Tables}
 use Rattle.sr_policy.specs.declared.policy.Limits.{Limits}
-use Rattle.sr_history.specs.Kept.{kept}
 use Rattle.sr_session.specs.Sessions.{Database, Session, newest, tables_of}
 use Rattle.sr_session.specs.Clients.{Client, Connection, IsOpen}
 use Rattle.sr_session.specs.Laws.{IsSound}
 use Rattle.sr_session.specs.Rules.{Basis, Outcome, QueryRefused, sent_of, QueryStep, TakeStep, EvictStep, WriteStep, CutStep, ResumeStep}
 use Rattle.sr_session.specs.Texts.{most_text, long_text}
+use Rattle.sr_session.specs.Bases.{basis_of}
 
 -- Of a query a deed has what its text means, or why it means nothing.
 pub data Deed : Type 0 where
@@ -94,10 +94,6 @@ requests_of {C} (step ∷ steps) = sent_of step.outcome ++ requests_of steps
 
 -- ---- what the contracts of a client say of its steps
 
--- Answers are the rows on these versions.
-abbrev pub basis_on : Database → Limits → Basis
-basis_on db limits = record { schema = db.schema; limits = limits; count = λ v marks. kept (tables_of db v) marks; rows = Some (λ v q. rows_of q (tables_of db v)) }
-
 -- The message is the first of those that are on their way to a client for which all stands.
 pub record ComesTruly (db : Database) (c : Client) (m : Message) : Type 0 where
   pub connection : Connection
@@ -119,7 +115,7 @@ Standing C = List Table → C → Client → Tables → Type 0
 abbrev pub IsFair : {C : Type 0} → Standing C → Limits → C → Client → Step C → Type 0
 IsFair {C} IsOf limits code c step =
     (db : Database) → IsSound db → c.version ≤ newest db → IsOf db.schema code c (tables_of db c.version) → ComesIf db c step.deed
-    → Does (basis_on db limits) step.deed c step.outcome step.past × IsOf db.schema step.code step.past (tables_of db step.past.version)
+    → Does (basis_of db limits) step.deed c step.outcome step.past × IsOf db.schema step.code step.past (tables_of db step.past.version)
 
 abbrev pub AreFair : {C : Type 0} → Standing C → Limits → C → Client → List (Step C) → Type 0
 AreFair {C} IsOf limits code c [] = Unit {0}

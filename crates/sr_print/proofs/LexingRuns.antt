@@ -6,7 +6,8 @@ use Rattle.std.specs.List.{list_all}
 use Rattle.std.proofs.lemmas.Bool.{and_parts, cond-true, cond-false}
 use Rattle.std.proofs.lemmas.Bool.Decides.{nat_tests}
 use Rattle.sr_token.specs.declared.token.TokenKind.TheVariants as kinds
-use Rattle.sr_token.specs.Tokens.{begins_word, goes_on_word, run, quoted_length, longer, at_most, quoted_token, first_token}
+use Rattle.sr_token.specs.Tokens.{begins_word, goes_on_word, run, quoted_length, at_most, quoted_token, first_token}
+use Rattle.sr_token.proofs.Quotes.{quoted_length-plain}
 use Rattle.sr_grammar.specs.Spaced.{doubled}
 
 -- a blank, or a mark before which no blank stands
@@ -60,10 +61,6 @@ quote_ends : (rest : List ℕ) → ends_token rest ≡ true → quoted_length (3
 quote_ends [] e = refl
 quote_ends (b ∷ rest) e = rw (no_quote b e) refl
 
-plain_step : (b : ℕ) (bytes : List ℕ) → (b == 39) ≡ false → quoted_length (b ∷ bytes) ≡ longer 1 (quoted_length bytes)
-plain_step b [] e = rw e refl
-plain_step b (c ∷ bytes) e = rw e refl
-
 quoted_ends : (text rest : List ℕ) → ends_token rest ≡ true → quoted_length (doubled text ++ 39 ∷ rest) ≡ Some (length (doubled text) + 1)
 quoted_ends [] rest e = quote_ends rest e
 quoted_ends (b ∷ text) rest e = go (b == 39) refl (quoted_ends text rest e)
@@ -71,7 +68,7 @@ quoted_ends (b ∷ text) rest e = go (b == 39) refl (quoted_ends text rest e)
     go : (x : Bool) → (b == 39) ≡ x → quoted_length (doubled text ++ 39 ∷ rest) ≡ Some (length (doubled text) + 1)
         → quoted_length (((if x then 39 ∷ 39 ∷ [] else b ∷ []) ++ doubled text) ++ 39 ∷ rest) ≡ Some (length ((if x then 39 ∷ 39 ∷ [] else b ∷ []) ++ doubled text) + 1)
     go true was next = rw next (ap (λ z. Some z) (omega arith))
-    go false was next = plain_step b (doubled text ++ 39 ∷ rest) was ∙ rw next (ap (λ z. Some z) (omega arith))
+    go false was next = quoted_length-plain b (doubled text ++ 39 ∷ rest) was ∙ rw next (ap (λ z. Some z) (omega arith))
 
 pub quoted_again : (text rest : List ℕ) → ends_token rest ≡ true
     → first_token ((codes "'" ++ (doubled text ++ codes "'")) ++ rest) ≡ Some (kinds.Quoted, length (codes "'" ++ (doubled text ++ codes "'")))

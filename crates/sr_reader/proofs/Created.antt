@@ -3,11 +3,8 @@ use Rattle.std.proofs.Common.{◌≡◌, ℕ, ◌+◌, List, [], ◌∷◌, ◌+
 use Rattle.sr_cell.specs.declared.table.Table.{Table}
 use Rattle.std.specs.Prelude.{Result, Ok, Err}
 use Rattle.sr_lines.specs.Events.{ScriptEvent}
-use Rattle.sr_lines.specs.Lines.{lines_of}
 use Rattle.sr_lines.specs.Script.{Line, Silent, CreateLine, EventLine, line_of, Creating, Running, Phase, start_phase, LineDoes, Reads}
 use Rattle.sr_lines.specs.Creates.{CreatesFrom, Creates}
-use Rattle.sr_reader.specs.declared.script.Script.{Script}
-use Rattle.sr_reader.specs.Read.{IsRead}
 use Rattle.sr_reader.proofs.OneDoing.{one_create}
 
 -- ---- behind the CREATE lines the tables stay
@@ -79,8 +76,3 @@ one_from clients tables (line ∷ lines) one other a b = by (line_of clients lin
 
 pub creates-once : (clients : ℕ) (lines : List (List ℕ)) (one other : List Table) → Creates clients [] lines one → Creates clients [] lines other → one ≡ other
 creates-once clients lines one other a b = one_from clients [] lines one other a b
-
--- ---- a script that is read
-
-pub read_creates : (clients : ℕ) (bytes : List ℕ) (s : Script) → IsRead clients bytes s → (schema : List Table) → Creates clients [] (lines_of bytes) schema → schema ≡ s.schema
-read_creates clients bytes s read schema creates = created-tables clients (lines_of bytes) read.events read.end schema read.reads creates ∙ read.tables

@@ -1,8 +1,6 @@
 -- The first line of some bytes.
 use Rattle.std.proofs.Common.{◌≡◌, ℕ, suc, ◌+◌, ◌<◌, ◌≤◌, Bool, true, false, List, [], ◌∷◌, ◌++◌, length, take, drop, refl, sym, ap, ◌∙◌, arith, add-one}
-use Rattle.std.specs.Prelude.{◌==◌, if◌then◌else◌, Option, Some, None, Result, Ok, Err, MatchOption, MatchResult, is_ok, ◌≢◌}
-use Rattle.std.specs.Str.{IsUtf8, is_utf8}
-use Rattle.std.proofs.lemmas.Str.{IsUtf8-from_is_utf8, is_utf8-from_IsUtf8}
+use Rattle.std.specs.Prelude.{◌==◌, if◌then◌else◌, Option, Some, None, MatchOption, ◌≢◌}
 use denote.Ref.{Bor}
 use Rattle.std.proofs.lemmas.Grind.{common_steps}
 use Rattle.std.proofs.lemmas.Bool.Decides.{nat_tests}
@@ -85,11 +83,3 @@ without_other (b ∷ d ∷ s) none = ap (λ t. b ∷ t) (without_other (d ∷ s)
 pub without_by : (s : List ℕ) (r : Option (Bor (List ℕ))) → MatchOption r ((front : List ℕ) → s ≢ front ++ 13 ∷ []) (λ x. s ≡ x.now ++ 13 ∷ []) → MatchOption r (s ≡ without_return s) (λ x. x.now ≡ without_return s)
 without_by s None other = without_other s other
 without_by s (Some x) is = rw is (sym (without_push x.now))
-
-pub ok_utf8 : {T E : Type 0} (r : Result T E) (s : List ℕ) (P : T → Type 0) (Q : E → Type 0) → MatchResult r (λ x. P x × IsUtf8 s) (λ e. ¬ (IsUtf8 s) × Q e) → is_ok r ≡ is_utf8 s
-ok_utf8 (Ok x) s P Q h = sym (is_utf8-from_IsUtf8 s h.1)
-ok_utf8 (Err e) s P Q h = by_test (is_utf8 s) refl
-  where
-    by_test : (b : Bool) → is_utf8 s ≡ b → false ≡ is_utf8 s
-    by_test true is = absurd (h.0 (IsUtf8-from_is_utf8 s is))
-    by_test false is = sym is

@@ -1,6 +1,6 @@
 -- The tables of the CREATE lines in front of all others.
-use Rattle.std.proofs.Common.{◌≡◌, ℕ, ◌+◌, Bool, true, false, List, [], ◌∷◌, ◌++◌, length, refl, sym, subst, inl, inr, ◌<◌, arith}
-use Rattle.std.specs.Prelude.{Option, Some, None, Result, Ok, Err, OnOk, ◌==◌, ◌||◌, not, nat_eq, codes, if◌then◌else◌}
+use Rattle.std.proofs.Common.{◌≡◌, ℕ, ◌+◌, Bool, true, false, List, [], ◌∷◌, ◌++◌, refl, sym, subst, inl, inr}
+use Rattle.std.specs.Prelude.{Option, Some, None, Result, Ok, Err, OnOk, ◌||◌, not, nat_eq, codes, if◌then◌else◌}
 use Rattle.std.specs.Str.{is_utf8}
 use Rattle.std.specs.Str.Lossy.{utf8_valid_len}
 use Rattle.std.specs.List.{list_all, starts_with}
@@ -113,13 +113,6 @@ pub record Fronted (clients : ℕ) (lines : List (List ℕ)) (number : ℕ) (res
   pub found : (n : ℕ) (fault : Fault) → FirstRefused clients number tables rest n fault → FirstRefused clients 1 [] lines n fault
   pub only : (n : ℕ) (fault : Fault) → FirstRefused clients 1 [] lines n fault → FirstRefused clients number tables rest n fault
 
-pub fronted_start : (clients : ℕ) (lines : List (List ℕ)) → Fronted clients lines 1 lines []
-fronted_start clients lines = record {
-  creates = λ all creates. creates;
-  found = λ n fault first. first;
-  only = λ n fault first. first;
-}
-
 module _ (clients number : ℕ) (lines rest after : List (List ℕ)) (text : List ℕ) (tables : List Table) (front : Fronted clients lines number rest tables) (cut : rest ≡ text ∷ after) where
   abbrev Behind : ℕ → Fault → List Table → Type 0
   Behind n fault known = FirstRefused clients (number + 1) known after n fault
@@ -179,13 +172,3 @@ none_left clients number lines rest tables front done n fault first = subst (λ 
 
 pub table_grows : (tables : List Table) (sql : List ℕ) (t : Table) → list_all is_table tables ≡ true → AddsTable tables sql t → list_all is_table (tables ++ t ∷ []) ≡ true
 table_grows tables sql t sound adds = tables_grow tables t sound (faultless_fits tables t adds.1)
-
--- ---- nothing left
-
-pub empty_is : (s : List ℕ) → (length s == 0) ≡ true → s ≡ []
-empty_is [] is = refl
-empty_is (b ∷ s) is = grind arith
-
-pub not_empty : (s : List ℕ) → (length s == 0) ≡ false → 0 < length s
-not_empty [] is = absurd (let e : true ≡ false = is in cc)
-not_empty (b ∷ s) is = omega arith

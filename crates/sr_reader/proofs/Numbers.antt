@@ -122,9 +122,6 @@ client_none clients part n same is =
     of true false c is = refl
     of false b c is = refl
 
-pub no_number : (clients : ℕ) (part : List ℕ) → are_digits 3 part ≡ false → None ≡ client_number clients part
-no_number clients part are = rw are refl
-
 pub place_read : {E : Type 0} (part : List ℕ) (r : Result ℕ E) → are_digits 9 part ≡ true → ParsesUnsigned 32 10 part r → result_ok r ≡ place_number part
 place_read {E} part (Ok n) are parses = rw are (ap (λ z. Some z) (parsed {E = E} 32 9 part (Ok n) parses are).1)
 place_read {E} part (Err e) are parses = absurd (parsed 32 9 part (Err e) parses are (long_enough 9 part are, let h = is_small 9 part are in omega (arith, h)))

@@ -1,6 +1,6 @@
 -- Reading the events of a script, one line after another.
 use Rattle.std.proofs.Common.{◌≡◌, ℕ, ◌+◌, ◌≤◌, true, List, [], ◌∷◌, ◌++◌, length, refl, sym, ap, subst, ◌∙◌, arith, append_assoc, append-nil}
-use Rattle.std.specs.Prelude.{Option, Some, None, Result, Ok, IsTrue}
+use Rattle.std.specs.Prelude.{Option, Some, None, Result, Ok}
 use Rattle.std.specs.List.{list_all, AllZip}
 use Rattle.std.proofs.lemmas.List.{length-append}
 use Rattle.sr_cell.specs.declared.table.Table.{Table}
@@ -10,7 +10,6 @@ use Rattle.sr_lines.specs.Lines.{lines_of}
 use Rattle.sr_lines.specs.Script.{Words, Line, Silent, CreateLine, EventLine as EventOf, line_of, Stage, Creating, Running, LinePlace, outside_from, first_outside, Phase, start_phase, Means, LineDoes, Reads}
 use Rattle.sr_lines.specs.Creates.{CreatesFrom, Creates}
 use Rattle.sr_lines.proofs.Parts.{events_name_clients}
-use Rattle.sr_query.specs.Bound.{is_table}
 use Rattle.sr_reader.specs.declared.script.Event.{Event}
 use Rattle.sr_reader.specs.declared.script.EventLine.{EventLine}
 use Rattle.sr_reader.specs.declared.words.Words as written
@@ -18,7 +17,7 @@ use Rattle.sr_reader.specs.declared.line.Line as code
 use Rattle.sr_reader.specs.declared.line.Line.TheVariants as read
 use Rattle.sr_reader.specs.Lined.{IsLine, AreOf}
 use Rattle.sr_reader.specs.Meaning.{IsSaid}
-use Rattle.sr_reader.specs.Read.{IsEventLine, Fits, IsRead, event_fits}
+use Rattle.sr_reader.specs.Read.{IsEventLine, IsRead, event_fits}
 use Rattle.sr_reader.proofs.Fronts.{event_of_line}
 use Rattle.sr_reader.proofs.Stages.{few_lines}
 
@@ -171,7 +170,3 @@ walked_read clients bytes schema number rest events walked done = record {
   tables = end_tables clients schema walked.tables walked.stage (subst (Waits clients schema walked.tables walked.stage) done walked.waits);
   few = let few = walked.few in let most = few_lines bytes in omega (arith, few, most);
 }
-
-pub walked_fits : (clients : ℕ) (bytes : List ℕ) (schema : List Table) (number : ℕ) (rest : List (List ℕ)) (events : List EventLine) → Walked clients bytes schema number rest events → IsTrue (list_all is_table schema)
-    → Fits clients (record { schema = schema; lines = events })
-walked_fits clients bytes schema number rest events walked sound = record { tables = sound; events = walked.fits }

@@ -1,20 +1,19 @@
 -- What is found among rows by its key.
-use Rattle.std.proofs.Common.{◌≡◌, ℕ, Bool, true, false, cond, not, ◌&&◌, List, [], ◌∷◌, map, refl, sym, ap, subst, ◌∙◌, arith}
+use Rattle.std.proofs.Common.{◌≡◌, ℕ, Bool, true, false, cond, not, List, [], ◌∷◌, map, refl, sym, ap, subst, ◌∙◌, arith}
 use Rattle.std.specs.Prelude.{filter, find, Option, Some, None, if◌then◌else◌}
 use Rattle.std.specs.List.{list_all}
 use Rattle.sr_cell.specs.declared.cell.Cell.{Cell}
 use Rattle.sr_cell.specs.Attrs.{project}
 use Rattle.sr_cell.specs.Cells.{Row, cell_at, cell_le, cell_eq}
-use Rattle.sr_cell.proofs.Lists.{find-none}
-use Rattle.sr_cell.proofs.Order.{cell_eq-sound, cell_eq-refl}
+use Rattle.sr_cell.proofs.Order.{cell_eq-sound, cell_eq-refl, cell_eq-symm}
 use Rattle.sr_model.specs.SortedRows.{key_lt, ascend, with_row}
 use Rattle.sr_model.specs.Changes.{row_with, same_row}
 use Rattle.sr_box.specs.Points.{Rect, in_any}
 use Rattle.sr_rows.proofs.Order.{key_lt-not, is_first, ascend-tail, ascend-first, first-ascend}
 use Rattle.sr_rows.proofs.Elements.{row_eq-sound}
 use Rattle.sr_rows.specs.Keys.{without_key}
+use Rattle.sr_rows.proofs.Places.{first-none}
 use Rattle.sr_region.specs.Entering.{part_in, with_part}
-use Rattle.sr_region.proofs.Places.{lacks-behind}
 
 pub find-passes : {X : Type 0} (p : X → Bool) (xs : List X) (x : X) → find p xs ≡ Some x → p x ≡ true
 find-passes p [] x h = absurd (cc)
@@ -41,10 +40,6 @@ same_row-sound (Some p) None h = absurd (cc)
 same_row-sound (Some p) (Some q) h = ap Some (row_eq-sound p q h)
 
 module _ (key : ℕ) where
-  -- a row before others has none of their keys
-  first-none : (v : Cell) (r : Row) (rows : List Row) → cell_at r key ≡ v → is_first key r rows ≡ true → row_with key v rows ≡ None
-  first-none v r rows same f = find-none (λ row. cell_eq (cell_at row key) v) rows (lacks-behind key v r rows same f)
-
   -- ---- two ascending lists where the same is found are one
 
   -- a row of other key than the first is found behind it
@@ -54,12 +49,6 @@ module _ (key : ℕ) where
 
   found-own : (x : Row) (xs : List Row) → row_with key (cell_at x key) (x ∷ xs) ≡ Some x
   found-own x xs = rw (cell_eq-refl (cell_at x key)) refl
-
-  eq-sym : (v w : Cell) → cell_eq v w ≡ cell_eq w v
-  eq-sym v w = go (cell_le v w) (cell_le w v)
-    where
-      go : (a b : Bool) → (a && b) ≡ (b && a)
-      go a b = grind arith
 
   same-first : (x y : Row) (xs ys : List Row) → ascend key (x ∷ xs) ≡ true → ascend key (y ∷ ys) ≡ true
       → ((v : Cell) → row_with key v (x ∷ xs) ≡ row_with key v (y ∷ ys)) → x ≡ y
@@ -75,7 +64,7 @@ module _ (key : ℕ) where
       go true e = let found = rw e at is_x in cc
       go false e =
           let less = found-behind x y ys k e is_x in
-          let more = found-behind y x xs h (eq-sym (cell_at x key) (cell_at y key) ∙ e) is_y in
+          let more = found-behind y x xs h (cell_eq-symm (cell_at x key) (cell_at y key) ∙ e) is_y in
           let n = key_lt-not key y x less in
           absurd (grind (arith, more, n))
 
@@ -86,7 +75,7 @@ module _ (key : ℕ) where
       go : (b : Bool) → cell_eq (cell_at x key) v ≡ b → cond b (Some x) (row_with key v xs) ≡ cond b (Some x) (row_with key v ys) → row_with key v xs ≡ row_with key v ys
       go true e both =
           let own = cell_eq-sound (cell_at x key) v e in
-          first-none v x xs own (ascend-first key x xs h) ∙ sym (first-none v x ys own (ascend-first key x ys k))
+          first-none key v x xs own (ascend-first key x xs h) ∙ sym (first-none key v x ys own (ascend-first key x ys k))
       go false e both = both
 
   pub same-rows : (xs ys : List Row) → ascend key xs ≡ true → ascend key ys ≡ true → ((v : Cell) → row_with key v xs ≡ row_with key v ys) → xs ≡ ys

@@ -8,7 +8,7 @@ use Rattle.sr_cell.proofs.Order.{cell_le-trans, cell_eq-sound}
 use Rattle.sr_model.specs.SortedRows.{ascend, has_key, with_row}
 use Rattle.sr_rows.specs.Places.{place_at}
 use Rattle.sr_rows.proofs.Order.{key_lt-le, key_lt-not, is_first, ascend-tail, ascend-first}
-use Rattle.sr_rows.proofs.Places.{has_key-place, with_row-place}
+use Rattle.sr_rows.proofs.Places.{has_key-place, with_row-place, first-lacks}
 use Rattle.sr_rows.specs.Keys.{without_key}
 
 module _ (key : ℕ) where
@@ -20,14 +20,6 @@ module _ (key : ℕ) where
       let other : cell_eq (cell_at r key) v ≡ false = grind arith in
       let ih = without-none v rows (grind arith) in
       rw (other, ih) refl
-
-  -- rows behind the one with the key do not have it, and are above it
-  pub lacks-behind : (v : Cell) (r : Row) (rows : List Row) → cell_at r key ≡ v → is_first key r rows ≡ true → has_key key v rows ≡ false
-  lacks-behind v r [] same f = refl
-  lacks-behind v r (s ∷ rows) same f =
-      let ih = lacks-behind v r rows same (grind arith) in
-      let above : cell_le (cell_at s key) v ≡ false = ap (cell_le (cell_at s key)) (sym same) ∙ key_lt-not key r s (grind arith) in
-      grind (arith, ih, above)
 
   none-behind : (v : Cell) (r : Row) (rows : List Row) → cell_at r key ≡ v → is_first key r rows ≡ true → place_at key v rows ≡ 0
   none-behind v r [] same f = refl
@@ -63,7 +55,7 @@ module _ (key : ℕ) where
           let same = cell_eq-sound (cell_at r key) v (grind arith) in
           let none = none-behind v r rows same (ascend-first key r rows h) in
           let here : at ≡ 0 = omega arith in
-          rw here (without-none v rows (lacks-behind v r rows same (ascend-first key r rows h)))
+          rw here (without-none v rows (first-lacks key v r rows same (ascend-first key r rows h)))
 
   -- ---- a row in the place of another
 

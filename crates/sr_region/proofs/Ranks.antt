@@ -1,5 +1,5 @@
 -- The place of a column among those of a set.
-use Rattle.std.proofs.Common.{◌≡◌, ℕ, zero, suc, ◌+◌, [], ◌∷◌, refl, sym, ap, ◌∙◌, arith, ◌-◌, List, map}
+use Rattle.std.proofs.Common.{◌≡◌, ℕ, zero, suc, ◌+◌, [], ◌∷◌, refl, sym, ap, ◌∙◌, arith, List, map}
 use Rattle.std.specs.Prelude.{Bool, true, false, if◌then◌else◌, ◌&&◌}
 use Rattle.sr_cell.specs.Attrs.{has_column, project, project_from}
 use Rattle.sr_cell.specs.Cells.{Row, cell_at}

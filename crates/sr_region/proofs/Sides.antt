@@ -19,11 +19,11 @@ use Rattle.sr_box.specs.Points.{Rect, Points, in_any, times, rect_fits, constrai
 use Rattle.sr_box.specs.Corners.{cuts_of}
 use Rattle.sr_rows.proofs.Parts.{ascend-filter}
 use Rattle.sr_union.specs.Pieces.{IsMinus}
-use Rattle.sr_union.specs.Grid.{is_among, has_cut, first_cuts, others, grid, CutsAmong, AreCutFrom, have_first}
+use Rattle.sr_union.specs.Grid.{is_among, has_cut, first_cuts, others, CutsAmong, AreCutFrom, have_first}
 use Rattle.sr_union.proofs.Times.{in_any-times}
 use Rattle.sr_union.proofs.Parts.{are_part, are_fit}
 use Rattle.sr_union.proofs.Among.{AreCutFrom-append}
-use Rattle.sr_union.proofs.Once.{grid_among, are_trans}
+use Rattle.sr_union.proofs.Once.{are_trans}
 use Rattle.sr_union.proofs.Low.{has_point}
 use Rattle.sr_union.proofs.SpanCuts.{numbers_cut, texts_cut}
 use Rattle.sr_region.specs.declared.region.Region.{Region}
@@ -84,9 +84,6 @@ cuts-only cs given (r ∷ rects) attrs h only =
 
 pub cuts-mid : (cs : List Column) (own cut outside : List Rect) → list_all (rect_fits cs) own ≡ true → AreCutFrom cs (own ++ cut) outside → AreCutFrom cs (own ++ cut) (own ++ outside)
 cuts-mid cs own cut outside f h = AreCutFrom-append cs (own ++ cut) own outside (are_part cs [] own cut f) h
-
-pub grid-mid : (cs : List Column) (own cut outside : List Rect) → list_all (rect_fits cs) own ≡ true → AreCutFrom cs (own ++ cut) outside → grid cs (own ++ outside) ≤ grid cs (own ++ cut)
-grid-mid cs own cut outside f h = grid_among cs (own ++ cut) (own ++ outside) (cuts-mid cs own cut outside f h)
 
 pub cuts-inside : (cs : List Column) (own cut outside inside : List Rect) → list_all (rect_fits cs) own ≡ true → AreCutFrom cs (own ++ cut) outside → AreCutFrom cs (own ++ outside) inside → AreCutFrom cs (own ++ cut) inside
 cuts-inside cs own cut outside inside f h k = are_trans cs (own ++ cut) (own ++ outside) inside (cuts-mid cs own cut outside f h) k

@@ -1,5 +1,5 @@
 -- Rows put among others, and parts of rows put together.
-use Rattle.std.proofs.Common.{◌≡◌, ℕ, ◌+◌, Bool, true, false, cond, not, ◌&&◌, ◌||◌, List, [], ◌∷◌, ◌++◌, refl, sym, ap, subst, ◌∙◌, arith}
+use Rattle.std.proofs.Common.{◌≡◌, ℕ, Bool, true, false, cond, not, ◌&&◌, ◌||◌, List, [], ◌∷◌, ◌++◌, refl, sym, ap, subst, ◌∙◌, arith}
 use Rattle.std.specs.Prelude.{filter, Option, Some, None, option_to_list}
 use Rattle.std.specs.List.{list_all}
 use Rattle.sr_cell.specs.declared.cell.Cell.{Cell}

@@ -1,14 +1,17 @@
 -- Places of rows by key.
-use Rattle.std.proofs.Common.{◌≡◌, ℕ, zero, suc, ◌+◌, ◌-◌, ◌<◌, ◌≤◌, Bool, true, false, cond, ◌&&◌, ◌||◌, List, [], ◌∷◌, ◌++◌, length, take, drop, refl, sym, ap, arith, one-add}
-use Rattle.std.specs.Prelude.{if◌then◌else◌, nat_lt, slice_index_or}
+use Rattle.std.proofs.Common.{◌≡◌, ℕ, zero, suc, ◌+◌, ◌-◌, ◌<◌, ◌≤◌, Bool, true, false, cond, ◌&&◌, ◌||◌, List, [], ◌∷◌, ◌++◌, length, take, drop, refl, sym, ap, arith, one-add, ◌∙◌}
+use Rattle.std.specs.Prelude.{if◌then◌else◌, nat_lt, slice_index_or, None}
 use Rattle.std.specs.List.{prefix_len}
 use Rattle.std.specs.List.Sorted.{IsPartitionedBy, IsPartitionPoint}
 use Rattle.std.proofs.lemmas.List.Sums.{prefix_len_is}
 use Rattle.std.proofs.lemmas.Bool.Decides.{nat_tests}
+use Rattle.std.proofs.Math.Bool.{or-false}
 use Rattle.sr_cell.specs.declared.cell.Cell.{Cell}
-use Rattle.sr_cell.specs.Cells.{Row, cell_at, cell_le}
+use Rattle.sr_cell.specs.Cells.{Row, cell_at, cell_le, cell_eq}
 use Rattle.sr_cell.proofs.Order.{cell_le-trans}
+use Rattle.sr_cell.proofs.Lists.{find-none}
 use Rattle.sr_model.specs.SortedRows.{key_lt, ascend, has_key, with_row}
+use Rattle.sr_model.specs.Changes.{row_with}
 use Rattle.sr_rows.specs.Places.{place_at, is_apart}
 use Rattle.sr_rows.proofs.Order.{key_lt-le, key_lt-not, is_first, ascend-tail, ascend-first, first-ascend}
 
@@ -42,6 +45,17 @@ with_row-place key (r ∷ rows) row = go (cell_le (cell_at r key) (cell_at row k
     go true ih = rw one-add (ap (λ xs. r ∷ xs) ih)
     go false ih = refl
 
+-- a row before others has none of their keys
+pub first-lacks : (key : ℕ) (v : Cell) (r : Row) (rows : List Row) → cell_at r key ≡ v → is_first key r rows ≡ true → has_key key v rows ≡ false
+first-lacks key v r [] same f = refl
+first-lacks key v r (s ∷ rows) same f =
+    let ih = first-lacks key v r rows same (grind arith) in
+    let above : cell_le (cell_at s key) v ≡ false = ap (cell_le (cell_at s key)) (sym same) ∙ key_lt-not key r s (grind arith) in
+    grind (arith, ih, above)
+
+pub first-none : (key : ℕ) (v : Cell) (r : Row) (rows : List Row) → cell_at r key ≡ v → is_first key r rows ≡ true → row_with key v rows ≡ None
+first-none key v r rows same f = find-none (λ row. cell_eq (cell_at row key) v) rows (first-lacks key v r rows same f)
+
 -- no row from one on that stands behind the cell has it as key
 none_behind : (key : ℕ) (v : Cell) (r : Row) (rows : List Row) → is_first key r rows ≡ true → cell_le (cell_at r key) v ≡ false → has_key key v rows ≡ false
 none_behind key v r [] f n = refl
@@ -53,10 +67,6 @@ none_behind key v r (s ∷ rows) f n =
 -- the cell is the key of the last row before its place
 abbrev pub ends_with : ℕ → Cell → List Row → Bool
 ends_with key v rows = nat_lt 0 (place_at key v rows) && cell_le v (cell_at (slice_index_or rows (place_at key v rows - 1) []) key)
-
-or_false : (b : Bool) → (b || false) ≡ b
-or_false true = refl
-or_false false = refl
 
 -- a row before one whose key is at most the cell does not have it as key
 first_not : (key : ℕ) (v : Cell) (r : Row) (rows : List Row) (m : ℕ) → is_first key r rows ≡ true → place_at key v rows ≡ suc m → cell_le v (cell_at r key) ≡ false
@@ -77,7 +87,7 @@ has_key-place key v (r ∷ rows) h =
         → ((b && cell_le v (cell_at r key)) || has_key key v rows)
         ≡ (nat_lt 0 (cond b (1 + n) 0) && cell_le v (cell_at (slice_index_or (r ∷ rows) (cond b (1 + n) 0 - 1) []) key))
     go false e n p ih none = none e
-    go true e zero p ih none = rw ih (or_false (cell_le v (cell_at r key)))
+    go true e zero p ih none = rw ih (or-false (cell_le v (cell_at r key)))
     go true e (suc m) p ih none =
         let not = first_not key v r rows m (ascend-first key r rows h) p in
         let one : suc m - 1 ≡ m = omega arith in

@@ -4,7 +4,7 @@ use Rattle.std.specs.Prelude.{ℤ, ◌&&◌, int_le, codes, bytes_eq}
 use Rattle.std.specs.List.{list_all, list_any, AllByRecursion}
 use Rattle.std.proofs.lemmas.Int.{ints}
 use Rattle.std.specs.Cmp.{first_so, second_so}
-use Rattle.std.proofs.lemmas.Bool.{not-true}
+use Rattle.std.proofs.lemmas.Bool.{not-true, or_parts}
 use Rattle.sr_cell.specs.declared.table.Kind.{Kind}
 use Rattle.sr_cell.specs.declared.table.Kind.TheVariants.{Num as Numbers, Str as Texts}
 use Rattle.sr_cell.specs.declared.table.Column.{Column}
@@ -18,7 +18,7 @@ use Rattle.sr_script.specs.Printable.{is_name, are_different, is_signed, has_sig
 use Rattle.sr_script.proofs.Plain.{is_stop, first_is, others_are, number_cut, number_numeral}
 use Rattle.sr_script.proofs.Quoted.{text_cut, no_text}
 use Rattle.sr_script.proofs.Listed.{IsCut, list_cut}
-use Rattle.sr_script.proofs.Named.{no_same, name_cut, name_begins, or_left, or_right}
+use Rattle.sr_script.proofs.Named.{no_same, name_cut, name_begins}
 
 pub data Entry : Type 0 where
   entry : List ℕ → Span → Entry
@@ -155,7 +155,7 @@ foreign : (columns : List Column) (r : Rect) (name : List ℕ) (t : Span) (rest 
 foreign [] r name t rest none e = cc
 foreign (c ∷ columns) [] name t rest none e = cc
 foreign (c ∷ columns) (s ∷ r) name t rest none e =
-    foreign_first c.name name s t (entries columns r) rest (or_left _ _ none) (foreign columns r name t rest (or_right (bytes_eq name c.name) _ none)) e
+    foreign_first c.name name s t (entries columns r) rest (or_parts _ _ none).0 (foreign columns r name t rest (or_parts (bytes_eq name c.name) _ none).1) e
 
 one_span : (name : List ℕ) (s t : Span) (one other : List Entry) → ((u : Span) (rest : List Entry) → one ≡ entry name u ∷ rest → ⊥) → ((u : Span) (rest : List Entry) → other ≡ entry name u ∷ rest → ⊥)
     → of_span name s one ≡ of_span name t other → (s ≡ t) × (one ≡ other)

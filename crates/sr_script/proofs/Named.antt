@@ -1,9 +1,9 @@
 -- Names of tables, and sets of columns: different names tell the table and the columns.
 use Rattle.std.proofs.Common.{◌≡◌, ℕ, zero, suc, ◌+◌, ◌^◌, ◌<◌, ◌≤◌, Bool, true, false, cond, List, [], ◌∷◌, ◌++◌, length, map, refl, sym, ap, subst, ◌∙◌, append_assoc, inl, inr, arith}
-use Rattle.std.specs.Prelude.{◌||◌, ◌==◌, codes, bytes_eq}
+use Rattle.std.specs.Prelude.{◌==◌, codes, bytes_eq}
 use Rattle.std.specs.List.{list_all, list_any, AllByRecursion}
 use Rattle.std.specs.Int.{bit_at}
-use Rattle.std.proofs.lemmas.Bool.{cases_lt, not-true, both_ways}
+use Rattle.std.proofs.lemmas.Bool.{cases_lt, not-true, both_ways, or_parts}
 use Rattle.std.proofs.lemmas.Bool.Decides.{nat_tests}
 use Rattle.std.proofs.lemmas.Nat.Bits.{same_from_bits_below}
 use Rattle.std.proofs.lemmas.Slice.Eq.{bytes_eq-Decides}
@@ -17,14 +17,6 @@ use Rattle.sr_script.specs.TraceText.{name_of, names_from, attrs_text}
 use Rattle.sr_script.specs.Printable.{is_name, are_different, has_named_columns}
 use Rattle.sr_script.proofs.Plain.{is_stop, others_are, cut, name_plain, no_stop}
 use Rattle.sr_script.proofs.Listed.{IsCut, list_cut}
-
-pub or_left : (a b : Bool) → (a || b) ≡ false → a ≡ false
-or_left true b e = absurd cc
-or_left false b e = refl
-
-pub or_right : (a b : Bool) → (a || b) ≡ false → b ≡ false
-or_right true b e = absurd cc
-or_right false b e = e
 
 -- a name that differs from others is none of them
 pub no_same : (name other : List ℕ) → bytes_eq name other ≡ false → name ≡ other → ⊥
@@ -72,8 +64,8 @@ foreign : (columns : List Column) (name : List ℕ) (c attrs : ℕ) (rest : List
     → names_from c attrs columns ≡ name ∷ rest → ⊥
 foreign [] name c attrs rest none e = cc
 foreign (column ∷ columns) name c attrs rest none e =
-    foreign_first (has_column attrs c) column.name name (names_from (c + 1) attrs columns) rest (or_left _ _ none)
-    (foreign columns name (c + 1) attrs rest (or_right (bytes_eq name column.name) _ none)) e
+    foreign_first (has_column attrs c) column.name name (names_from (c + 1) attrs columns) rest (or_parts _ _ none).0
+    (foreign columns name (c + 1) attrs rest (or_parts (bytes_eq name column.name) _ none).1) e
 
 -- a column's choice, where its name is no later one's
 one_choice : (name : List ℕ) (one other : List (List ℕ)) (k l : Bool) → ((rest : List (List ℕ)) → one ≡ name ∷ rest → ⊥) → ((rest : List (List ℕ)) → other ≡ name ∷ rest → ⊥)
@@ -129,8 +121,8 @@ table_columns (table ∷ schema) (suc t) within h = table_columns schema t (omeg
 
 no_later : (schema : List Table) (name : List ℕ) (t : ℕ) → t < length schema → list_any (bytes_eq name) (map (λ (t : Table). t.name) schema) ≡ false → name ≡ name_of schema t → ⊥
 no_later [] name t within none e = omega arith
-no_later (table ∷ schema) name zero within none e = no_same name table.name (or_left _ _ none) e
-no_later (table ∷ schema) name (suc t) within none e = no_later schema name t (omega arith) (or_right (bytes_eq name table.name) _ none) e
+no_later (table ∷ schema) name zero within none e = no_same name table.name (or_parts _ _ none).0 e
+no_later (table ∷ schema) name (suc t) within none e = no_later schema name t (omega arith) (or_parts (bytes_eq name table.name) _ none).1 e
 
 pub same_table : (schema : List Table) (t u : ℕ) → are_different (map (λ (t : Table). t.name) schema) ≡ true → t < length schema → u < length schema → name_of schema t ≡ name_of schema u → t ≡ u
 same_table [] t u apart f g e = absurd (omega arith)

@@ -1,5 +1,5 @@
 -- A version more changes nothing of what is promised.
-use Rattle.std.proofs.Common.{◌≡◌, ℕ, ◌+◌, ◌-◌, ◌<◌, Bool, true, false, List, [], ◌∷◌, ◌++◌, map, filter, length, sym, ◌∙◌, ap, arith, Option, Some, None, length-append}
+use Rattle.std.proofs.Common.{◌≡◌, ℕ, ◌+◌, ◌-◌, ◌<◌, true, false, List, [], ◌∷◌, ◌++◌, map, filter, length, sym, ◌∙◌, ap, arith, Option, Some, None, length-append}
 use Rattle.std.proofs.lemmas.List.{get_or_append_left}
 use Rattle.sr_cell.specs.declared.table.Table.{Table}
 use Rattle.sr_message.specs.declared.message.AskPart.{AskPart}
@@ -11,7 +11,7 @@ use Rattle.sr_message.specs.declared.message.Message.{Message}
 use Rattle.sr_message.specs.declared.message.Message.TheVariants.{Hello, Resume, Ask, Write, Welcome, Notice, Rows, Reply, Written, Refused, Lapse}
 use Rattle.sr_session.specs.Sessions.{Database, Session, newest, row_messages, tables_of, with_version}
 use Rattle.sr_session.specs.Places.{Places}
-use Rattle.sr_session.specs.Walks.{AskOut, Comes, Mirror, Notes, Quiet, Request, ResumeOut, Tells, Walks, Welcomes, WriteOut, brought, forgot, noticed, replied, welcomed}
+use Rattle.sr_session.specs.Walks.{AskOut, Comes, Mirror, Notes, Quiet, Request, ResumeOut, Tells, Walks, WriteOut, brought, forgot, noticed, replied, welcomed}
 use Rattle.sr_session.specs.Clients.{Client, Connection, Flows, is_idle, is_sent, is_served, mirror_of, pending}
 use Rattle.sr_session.specs.Laws.{ExecKeeps}
 use Rattle.sr_session.proofs.WalkLemmas.{walks-later}
@@ -43,10 +43,6 @@ module _ (db : Database) (tables : Tables) where
 
   notes-still : (m : Mirror) (w : ℕ) (told : List Tell) → w < length db.versions → Notes db m w told → Notes (with_version db tables) m w told
   notes-still m w told within h = (h.0, λ u above below. tells-still m.places u [] (omega (arith, below, within)) (h.1 u above below), tells-still m.places w told within h.2)
-
-  welcomes-still : (kept : Bool) (m : Mirror) (w : ℕ) → w < length db.versions → Welcomes db kept m w → Welcomes (with_version db tables) kept m w
-  welcomes-still true m w within h = comes-still m w within h
-  welcomes-still false m w within h = h
 
   rows-still : (number : ℕ) (parts : List AskPart) (w : ℕ) → w < length db.versions → row_messages (tables_of (with_version db tables) w) number 0 parts ≡ row_messages (tables_of db w) number 0 parts
   rows-still number parts w within = ap (λ ts. row_messages ts number 0 parts) (version-stays db.versions tables w within)

@@ -1,13 +1,12 @@
 -- Scenes of runs, and clients that stand.
-use Rattle.std.proofs.Common.{◌≡◌, ℕ, zero, suc, ◌+◌, ◌≤◌, List, [], ◌∷◌, ◌++◌, length, refl, sym, ◌∙◌, ap, subst, arith, Option, Some, None}
+use Rattle.std.proofs.Common.{◌≡◌, ℕ, zero, suc, ◌+◌, List, [], ◌∷◌, ◌++◌, length, refl, sym, ◌∙◌, ap, subst, arith, Option, Some, None}
 use Rattle.std.specs.Prelude.{slice_get, slice_set}
-use Rattle.sr_session.specs.Sessions.{Database, newest}
+use Rattle.sr_session.specs.Sessions.{Database}
 use Rattle.sr_session.specs.Walks.{AreLaid, Request, ResumeOut}
-use Rattle.sr_session.specs.Clients.{Client, Flows, Pair, Stands, is_down, is_idle, is_open, is_resuming, is_sent, is_served, mirror_of, pending}
+use Rattle.sr_session.specs.Clients.{Client, Flows, Pair, Stands, is_down, is_idle, is_open, is_resuming, is_sent, is_served}
 use Rattle.sr_session.specs.Tidy.{IsTidy, IsTidyWith}
 use Rattle.sr_session.specs.Scenes.{Scene, SceneStands, pair_at, with_pair}
 use Rattle.sr_session.specs.Headline.{IsReached, query_at}
-use Rattle.sr_session.proofs.WalkLemmas.{walks-later}
 use Rattle.sr_session.proofs.EventLemmas.{runs-stand}
 
 pub reached-stands : (s : Scene) → IsReached s → SceneStands s
@@ -43,16 +42,6 @@ get-first {X} (y ∷ xs) ys zero x is = is
 get-first {X} (y ∷ xs) ys (suc i) x is = get-first xs ys i x is
 
 -- ---- what stands
-
-pub stands-version : (db : Database) (pair : Pair) → Stands db pair → pair.client.version ≤ newest db
-stands-version db pair (is_open session h) = by pair.client.out h.flows
-  where
-    by : (out : Option Request) → Flows db pair.client pair.connection session out → pair.client.version ≤ newest db
-    by out (is_idle empty none walks) = omega (arith, h.upto, walks-later db None (mirror_of pair.client) pair.connection.to_client session walks)
-    by out (is_sent request o all f) = omega (arith, h.upto, walks-later db None (mirror_of pair.client) (pending pair.client pair.connection) session f.walks)
-    by out (is_served request o all f) = omega (arith, h.upto, walks-later db (Some request) (mirror_of pair.client) (pending pair.client pair.connection) session f.walks)
-stands-version db pair (is_down h) = h.version
-stands-version db pair (is_resuming h) = h.version
 
 pub stands-tidy : (db : Database) (pair : Pair) → Stands db pair → IsTidy db.schema pair.client
 stands-tidy db pair (is_open session h) = by pair.client.out h.flows

@@ -13,7 +13,7 @@ use Rattle.sr_session.specs.Arrivals.{arrived_at}
 use Rattle.sr_session.specs.Clients.{mirror_of}
 use Rattle.sr_session.specs.Laws.{RowsAreAsked}
 
-arrived-append : (i : ℕ) (xs ys : List Message) → arrived_at i (xs ++ ys) ≡ arrived_at i xs ++ arrived_at i ys
+pub arrived-append : (i : ℕ) (xs ys : List Message) → arrived_at i (xs ++ ys) ≡ arrived_at i xs ++ arrived_at i ys
 arrived-append i [] ys = refl
 arrived-append i (Rows k part rows ∷ xs) ys = ap (λ r. (if part == i then rows else []) ++ r) (arrived-append i xs ys) ∙ sym (append_assoc (if part == i then rows else []) (arrived_at i xs) (arrived_at i ys))
 arrived-append i (Notice w told ∷ xs) ys = arrived-append i xs ys

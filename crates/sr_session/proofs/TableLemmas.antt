@@ -1,9 +1,11 @@
 -- The tables of all versions stay tables of the schema.
 use Rattle.std.proofs.Common.{◌≡◌, ℕ, ◌+◌, ◌<◌, ◌≤◌, List, [], ◌∷◌, ◌++◌, length, refl, sym, ◌∙◌, ap, subst, arith, Option, Some, None}
-use Rattle.std.specs.Prelude.{Result, Ok, Err, nat_lt, Bool, true, false}
+use Rattle.std.specs.Prelude.{Result, Ok, Err, nat_lt, Bool, true, false, nat_le, ◌&&◌}
 use Rattle.std.specs.List.{All}
 use Rattle.std.proofs.lemmas.Bool.Decides.{nat_tests}
 use Rattle.std.proofs.lemmas.List.Elements.{All-head, All-tail}
+use Rattle.std.proofs.lemmas.Bool.{and_parts, ltb-true, leb-true}
+use Rattle.sr_query.specs.Bound.{is_table}
 use Rattle.sr_cell.specs.declared.fault.Fault.{Fault}
 use Rattle.sr_cell.specs.declared.table.Table.{Table}
 use Rattle.sr_message.specs.declared.message.Message.{Message}
@@ -93,3 +95,17 @@ tables-stay-of-the-schema limits schema log_limit tables clients events reports 
   where
     begins : HasTables (first_scene limits schema log_limit tables clients).database
     begins v below = let zero : v ≡ 0 = omega (arith, below) in subst (λ n. AreTables schema (version_at (tables ∷ []) n)) (sym zero) own
+
+-- ---- the columns of one table
+
+pub record HasColumns (table : Table) : Type 0 where
+  pub some : 1 ≤ length table.columns
+  pub key : table.key < length table.columns
+  pub few : length table.columns ≤ 12
+
+pub one-table : (table : Table) → is_table table ≡ true → HasColumns table
+one-table table is =
+    let sizes = (and_parts (nat_le (length table.columns) 12 && nat_lt table.key (length table.columns)) _ is).0 in
+    let both = and_parts (nat_le (length table.columns) 12) (nat_lt table.key (length table.columns)) sizes in
+    let below = ltb-true table.key (length table.columns) both.1 in
+    record { some = omega (arith, below); key = below; few = leb-true (length table.columns) 12 both.0 }

@@ -38,7 +38,7 @@ use Rattle.sr_session.proofs.TakeLemmas.{walks-split}
 
 -- ---- the keys of both lists
 
-keys-all : (P : Row → Bool) (key : ℕ) (rows others : List Row) → list_all P rows ≡ true → list_all P others ≡ true → list_all P (all_keys key rows others) ≡ true
+pub keys-all : (P : Row → Bool) (key : ℕ) (rows others : List Row) → list_all P rows ≡ true → list_all P others ≡ true → list_all P (all_keys key rows others) ≡ true
 keys-all P key rows [] all more = all
 keys-all P key rows (x ∷ others) all more = keys-all P key (if has_key key (cell_at x key) rows then rows else with_row key rows x) others (go (has_key key (cell_at x key) rows)) (second_so (P x) (list_all P others) more)
   where

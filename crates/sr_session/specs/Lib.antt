@@ -8,6 +8,7 @@ pub mod Refusals
 pub mod Texts
 pub mod Laws
 pub mod Rules
+pub mod Bases
 pub mod Tidy
 pub mod Scenes
 pub mod Regions

@@ -1,6 +1,7 @@
 -- What a server sends.
 use Rattle.std.specs.Prelude.{ℕ, Bool, true, false, not, ◌&&◌, nat_lt, nat_le, List, [], ◌∷◌, ◌++◌, ◌+◌, ◌-◌, suc, zero, map, filter, take, drop, length, Option, Some, None, if◌then◌else◌}
 use Rattle.std.specs.List.{list_all}
+use Rattle.sr_union.specs.Search.{is_nothing}
 use Rattle.sr_cell.specs.declared.change.Change.{Change}
 use Rattle.sr_cell.specs.declared.fault.Fault.{Fault}
 use Rattle.sr_cell.specs.declared.table.Table.{Table}
@@ -13,7 +14,7 @@ use Rattle.sr_message.specs.declared.message.Message.{Message}
 use Rattle.sr_message.specs.declared.message.Message.TheVariants.{Hello, Resume, Ask, Welcome, Notice, Rows, Reply, Written, Refused, Lapse}
 use Rattle.sr_message.specs.declared.message.Tell.{Tell}
 use Rattle.sr_message.specs.Tells.{tell_of}
-use Rattle.sr_subs.specs.Subscription.{touches, is_bare}
+use Rattle.sr_subs.specs.Subscription.{touches}
 use Rattle.sr_log.specs.Kept.{floor}
 use Rattle.sr_model.specs.Queries.{rows_at}
 use Rattle.sr_model.specs.Statements.{Tables}
@@ -53,7 +54,7 @@ abbrev pub floor_of : Database → ℕ
 floor_of db = floor db.log_limit (all_changes db.schema db.versions)
 
 abbrev pub subscribes_some : List Holding → Bool
-subscribes_some subscription = not (list_all (λ h. is_bare h.rects) subscription)
+subscribes_some subscription = not (list_all (λ h. is_nothing h.rects) subscription)
 
 -- The log has dropped a version of which the session would have to be told.
 abbrev pub is_lost : Database → Session → Bool

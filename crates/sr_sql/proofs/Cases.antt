@@ -2,7 +2,6 @@
 use Rattle.std.proofs.Common.{◌≡◌, ℕ, Bool, true, false, List, refl, sym, ◌∙◌, ◌↔◌}
 use Rattle.std.specs.Prelude.{IsTrue, bytes_eq}
 use Rattle.std.proofs.lemmas.Slice.Eq.{bytes_eq-Decides}
-use Rattle.sr_token.specs.declared.token.TokenKind.TheVariants as code
 use Rattle.sr_grammar.specs.Tokens.{upper, lower}
 use Rattle.sr_grammar.proofs.Cases.{ups, downs}
 

@@ -1,5 +1,4 @@
 mod Cases
-mod Digits
 mod Quotes
 mod Shrinking
 mod Trees

@@ -4,7 +4,7 @@ use Rattle.std.specs.Prelude.{codes}
 use Rattle.std.proofs.lemmas.List.{append-nil}
 use Rattle.sr_grammar.specs.declared.statement.ColumnRule.{ColumnRule}
 use Rattle.sr_grammar.specs.declared.statement.ColumnRule.TheVariants.{PrimaryKey, NotNull, Check as Checks}
-use Rattle.sr_grammar.specs.Tokens.{Tok, is}
+use Rattle.sr_grammar.specs.Tokens.{Tok}
 use Rattle.sr_grammar.specs.Columns.{Left, all_left}
 use Rattle.sr_grammar_laws.specs.Reading.{Reading, Got, Fails, Reader, ◌>>=◌, and_then, nothing, next_is}
 use Rattle.sr_grammar_laws.specs.Readers.{key, in_parens, check, may, rules}

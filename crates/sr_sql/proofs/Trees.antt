@@ -1,7 +1,6 @@
 -- What trees stand for.
-use Rattle.std.proofs.Common.{◌≡◌, ℕ, zero, suc, true, false, ◌-◌, List, map, refl, ◌∙◌, arith, Vec, Global}
+use Rattle.std.proofs.Common.{◌≡◌, ℕ, zero, suc, true, false, ◌-◌, List, refl, ◌∙◌, arith}
 use Rattle.sr_grammar.specs.Trees as model
-use Rattle.sr_grammar.specs.Trees.{conds_of}
 use Rattle.sr_grammar.specs.Tokens.{Key, Tok}
 use Rattle.sr_grammar_laws.specs.Reading.{Got, Fails, Reader}
 use Rattle.sr_grammar_laws.specs.Readers.{cond_of, unit, comparison}
@@ -9,23 +8,12 @@ use Rattle.std.specs.Prelude.{codes, Bool}
 use Rattle.sr_grammar.specs.Tokens.{is, Mark}
 use Rattle.sr_grammar.specs.Words.{place_of}
 use Rattle.sr_grammar_laws.specs.Reading.{one, next_is}
-use Rattle.sr_grammar.specs.Seen.{cond_seen, layer}
+use Rattle.sr_grammar.specs.Seen.{cond_seen}
 use Rattle.sr_sql.specs.Views.{Reads}
 use Rattle.std.proofs.Common.{Result, Ok, Err}
 use Rattle.sr_sql.specs.declared.stop.Stop.{Stop}
 use Rattle.sr_sql.specs.declared.stop.Stop.TheVariants as stop
 use Rattle.sr_grammar.specs.declared.statement.Cond.{Cond}
-use Rattle.sr_grammar.specs.declared.statement.Cond.TheViews.{And, Or, roll-Cond}
-use Rattle.sr_grammar.specs.declared.statement.Cond.TheOpen as open_layer
-use Rattle.sr_grammar.specs.declared.statement.Cond.TheFolds.{fold-roll-Cond}
-
-pub seen_and : (all : Vec Cond Global) → cond_seen (And all) ≡ model.And (conds_of (map cond_seen all.items))
-unfolding roll-Cond denote.Hole.Carrier.roll
-seen_and all = fold-roll-Cond model.Cond layer (open_layer.And all)
-
-pub seen_or : (all : Vec Cond Global) → cond_seen (Or all) ≡ model.Or (conds_of (map cond_seen all.items))
-unfolding roll-Cond denote.Hole.Carrier.roll
-seen_or all = fold-roll-Cond model.Cond layer (open_layer.Or all)
 
 -- ---- a unit in parentheses, below the limit
 

@@ -1,7 +1,7 @@
 -- Rows in rects of tables, of regions or of what arrives: such rows are those of some telling just where no key stands twice.
 use Rattle.std.proofs.Common.{◌≡◌, ℕ, ◌+◌, ◌≤◌, Bool, true, false, cond, not, ◌&&◌, ◌||◌, List, [], ◌∷◌, refl, sym, ap, subst, ◌∙◌, arith}
 use Rattle.std.specs.Prelude.{filter, nat_eq, if◌then◌else◌}
-use Rattle.std.specs.List.{list_all, list_any, All}
+use Rattle.std.specs.List.{list_all, All}
 use Rattle.std.proofs.lemmas.Bool.Decides.{nat_tests}
 use Rattle.std.proofs.lemmas.List.Elements.{All-nil, All-cons, All-head, All-tail, All-weaker}
 use Rattle.std.proofs.lemmas.Bool.{or_right}
@@ -11,18 +11,18 @@ use Rattle.sr_cell.specs.Attrs.{has_column, project}
 use Rattle.sr_cell.specs.Cells.{Row, cell_at, cell_eq}
 use Rattle.sr_cell.specs.Columns.{table_at, is_point}
 use Rattle.sr_cell.proofs.Order.{cell_eq-sound, cell_eq-refl}
-use Rattle.sr_model.specs.SortedRows.{key_lt, ascend, has_key, with_row, with_rows}
+use Rattle.sr_model.specs.SortedRows.{ascend, has_key, with_row, with_rows}
 use Rattle.sr_box.specs.Points.{in_any, times, rect_fits, constrains_only}
 use Rattle.sr_rows.specs.Places.{is_apart}
 use Rattle.sr_rows.proofs.Order.{ascend-tail, ascend-first}
-use Rattle.sr_rows.proofs.Places.{with_row-ascend}
+use Rattle.sr_rows.proofs.Places.{with_row-ascend, first-lacks}
 use Rattle.sr_rows.proofs.Parts.{ascend-filter, first-filter, with_rows-none}
 use Rattle.sr_union.proofs.Times.{in_any-times}
 use Rattle.sr_rows.proofs.Elements.{list_any-with_rows, apart-next}
 use Rattle.sr_region.specs.declared.region.Region.{Region}
 use Rattle.sr_region.specs.Regions.{rank, is_in, IsPart, IsRowIn}
 use Rattle.sr_region.proofs.Ranks.{stand}
-use Rattle.sr_region.proofs.Places.{without-none, lacks-behind}
+use Rattle.sr_region.proofs.Places.{without-none}
 use Rattle.sr_region.proofs.Ordered.{All-with_rows, with_rows-ascend}
 use Rattle.sr_region.proofs.Applied.{rows-apart}
 use Rattle.sr_store.specs.Classes.{is_of, occurs, key_occurs}
@@ -129,7 +129,7 @@ hit P key k (r ∷ rows) all holds = go (cell_eq (cell_at r key) k) refl (hit P 
   where
     here : (f : Row → Bool) → ascend key (r ∷ rows) ≡ true → cell_at r key ≡ k → (b : Bool) → f r ≡ b → has_key key k (cond b (r ∷ filter f rows) (filter f rows)) ≡ true → f r ≡ true
     here f h e true d has = d
-    here f h e false d has = let fails = lacks-behind key k r (filter f rows) e (first-filter key r f rows (ascend-first key r rows h)) in absurd (grind (arith, fails, has))
+    here f h e false d has = let fails = first-lacks key k r (filter f rows) e (first-filter key r f rows (ascend-first key r rows h)) in absurd (grind (arith, fails, has))
 
     past : (f : Row → Bool) → cell_eq (cell_at r key) k ≡ false → (b : Bool) → has_key key k (cond b (r ∷ filter f rows) (filter f rows)) ≡ true → has_key key k (filter f rows) ≡ true
     past f e true has = subst (λ b. (b || has_key key k (filter f rows)) ≡ true) e has

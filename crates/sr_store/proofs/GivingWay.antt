@@ -64,10 +64,6 @@ have-arrived told (r ∷ rs) h =
 -- ---- only rows change
 
 module _ (arrivals : List Arrival) where
-  way-lies : (gs : List Region) (t a : ℕ) (p : Row) → lies (giving_way arrivals gs) t a p ≡ lies gs t a p
-  way-lies [] t a p = refl
-  way-lies (g ∷ gs) t a p = ap (λ n. (if is_of g t a && in_any g.rects p then 1 else 0) + n) (way-lies gs t a p)
-
   pub way-occurs : (gs : List Region) (t a : ℕ) (p : Row) → occurs (giving_way arrivals gs) t a p ≡ occurs gs t a p
   way-occurs [] t a p = refl
   way-occurs (g ∷ gs) t a p = ap (λ n. (if is_of g t a then times g.rects p else 0) + n) (way-occurs gs t a p)

@@ -4,6 +4,7 @@ use Rattle.std.specs.Prelude.{Bool, not, ◌&&◌, ◌||◌, ◌==◌, if◌then
 use Rattle.std.specs.List.{list_all, list_any, All}
 use Rattle.std.proofs.lemmas.Bool.Decides.{nat_tests}
 use Rattle.std.proofs.lemmas.List.Elements.{All-head, All-tail}
+use Rattle.sr_history.specs.Load.{are_once}
 use Rattle.sr_cell.specs.declared.table.Table.{Table}
 use Rattle.sr_cell.specs.Columns.{table_at}
 use Rattle.sr_cell.proofs.Numbers.{eqb_same}
@@ -16,7 +17,7 @@ use Rattle.sr_query.specs.Bound.{is_table}
 use Rattle.sr_region.specs.declared.region.Region.{Region}
 use Rattle.sr_store.specs.declared.store.Arrival.{Arrival}
 use Rattle.sr_store.specs.Stores.{IsOfSchema, count_rects, wider}
-use Rattle.sr_store.specs.Answered.{IsArrival, are_once, is_used, rects_on, weight_from, IsHeavy}
+use Rattle.sr_store.specs.Answered.{IsArrival, is_used, rects_on, weight_from, IsHeavy}
 use Rattle.sr_store.specs.Renewing.{touching, IsCutFrom, IsRenewal}
 use Rattle.sr_store.specs.Making.{wider_both}
 use Rattle.sr_store.proofs.Tables.{tables_first}

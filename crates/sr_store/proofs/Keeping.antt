@@ -9,7 +9,6 @@ use Rattle.sr_cell.specs.declared.table.Table.{Table}
 use Rattle.sr_cell.specs.Cells.{Row}
 use Rattle.sr_cell.specs.Columns.{table_at, is_point}
 use Rattle.sr_box.specs.Points.{Rect, in_any}
-use Rattle.sr_union.specs.Grid.{have_first}
 use Rattle.sr_query.specs.declared.query.Part.{Part}
 use Rattle.sr_region.specs.declared.region.Region.{Region}
 use Rattle.sr_store.specs.declared.store.Arrival.{Arrival}
@@ -98,11 +97,8 @@ held_sum n x y false true e f d le = grind (arith, nat_tests, e, f, d, le)
 held_sum n x y false false e f d le = grind (arith, nat_tests, e, f, d, le)
 
 module _ (schema : List Table) (number : ℕ) (parts : List Part) (arrivals : List Arrival) (old pieces arrived : List Region) (h : AreReady schema number parts arrivals old pieces arrived) where
-  all-first : (t : ℕ) → have_first (table_at schema t).columns ≡ true
-  all-first t = tables_first schema t h.tables
-
   ready-each : All (IsOfSchema schema) (pieces ++ arrived)
-  ready-each = All-append (IsOfSchema schema) pieces arrived h.restamped.each (all_of schema number parts arrivals arrived all-first h.are_arrivals h.are_arrived)
+  ready-each = All-append (IsOfSchema schema) pieces arrived h.restamped.each (all_of schema number parts arrivals arrived (λ t. tables_first schema t h.tables) h.are_arrivals h.are_arrived)
 
   ready-true : (told : Told) → IsTold schema told → AreTrueOf told old → HaveArrived told arrivals → AreTrueOf told (pieces ++ arrived)
   ready-true told is_told old_true rows =

@@ -10,7 +10,6 @@ pub mod Dropping
 pub mod Making
 pub mod Joining
 pub mod Untouched
-pub mod Overlaps
 pub mod Fits
 pub mod Answering
 pub mod Covering
@@ -22,8 +21,6 @@ pub mod Given
 pub mod Counting
 pub mod Heavy
 pub mod Refusals
-pub mod Trials
-pub mod Capped
 pub mod Views
 pub mod Fewer
 pub mod Lasts

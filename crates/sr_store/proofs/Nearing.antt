@@ -1,5 +1,5 @@
 -- The rects that meet others: of the cover, and of regions with more columns.
-use Rattle.std.proofs.Common.{◌≡◌, ◌≤◌, ◌<◌, ◌+◌, length, slice_index_or, cond, true, false, List, [], ◌∷◌, ◌++◌, refl, ◌∙◌, ◌↔◌, sym, ap, subst}
+use Rattle.std.proofs.Common.{◌≡◌, ◌≤◌, ◌<◌, length, slice_index_or, cond, true, false, List, [], ◌∷◌, ◌++◌, refl, ◌∙◌, ◌↔◌, sym, ap, subst}
 use Rattle.std.specs.Prelude.{ℕ, Bool, not, ◌&&◌, ◌==◌, filter}
 use Rattle.std.specs.List.{flat_map, list_all}
 use Rattle.std.proofs.lemmas.List.{append-nil}
@@ -11,7 +11,7 @@ use Rattle.sr_region.specs.declared.region.Region.{Region}
 use Rattle.sr_union.specs.Pieces.{near, IsWithin, HasOutside}
 use Rattle.sr_union.specs.Grid.{AreCutFrom, grid}
 use Rattle.sr_union.proofs.Among.{AreCutFrom-append}
-use Rattle.sr_union.proofs.Meets.{near-append, near-in, near-are}
+use Rattle.sr_union.proofs.Meets.{near_append, near-in, near-are}
 use Rattle.sr_union.proofs.Once.{grid_among, are_at}
 use Rattle.sr_union.proofs.Parts.{are_part}
 use Rattle.sr_store.specs.Stores.{serves, cover_of, wider}
@@ -21,7 +21,7 @@ near_cover part g gs = go (serves part g)
   where
     go : (b : Bool) → near part.rects (flat_map (λ (g : Region). g.rects) (cond b (g ∷ filter (serves part) gs) (filter (serves part) gs)))
         ≡ near part.rects (flat_map (λ (g : Region). g.rects) (cond b (g ∷ []) [])) ++ near part.rects (cover_of part gs)
-    go true = near-append part.rects g.rects (cover_of part gs) ∙ ap (λ rects. near part.rects rects ++ near part.rects (cover_of part gs)) (sym (append-nil g.rects))
+    go true = near_append part.rects g.rects (cover_of part gs) ∙ ap (λ rects. near part.rects rects ++ near part.rects (cover_of part gs)) (sym (append-nil g.rects))
     go false = refl
 
 pub near_wider : (rects : List Rect) (g : Region) (gs : List Region) (t a : ℕ) → near rects (wider (g ∷ gs) t a) ≡ near rects (wider (g ∷ []) t a) ++ near rects (wider gs t a)
@@ -31,11 +31,8 @@ near_wider rects g gs t a = go (g.table == t && (includes g.attrs a && not (g.at
     F = filter (λ g. g.table == t && (includes g.attrs a && not (g.attrs == a))) gs
 
     go : (b : Bool) → near rects (flat_map (λ (g : Region). g.rects) (cond b (g ∷ F) F)) ≡ near rects (flat_map (λ (g : Region). g.rects) (cond b (g ∷ []) [])) ++ near rects (wider gs t a)
-    go true = near-append rects g.rects (wider gs t a) ∙ ap (λ own. near rects own ++ near rects (wider gs t a)) (sym (append-nil g.rects))
+    go true = near_append rects g.rects (wider gs t a) ∙ ap (λ own. near rects own ++ near rects (wider gs t a)) (sym (append-nil g.rects))
     go false = refl
-
-pub near_both : (rects a b : List Rect) → near rects (a ++ b) ≡ near rects a ++ near rects b
-near_both rects a b = near-append rects a b
 
 -- rects lie within others where they lie within those that they meet
 pub within_near : (cs : List Column) (rects others : List Rect) → IsWithin cs rects (near rects others) ↔ IsWithin cs rects others

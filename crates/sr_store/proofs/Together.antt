@@ -1,5 +1,5 @@
 -- The regions that an answer leaves as they are, and those that it makes, put together.
-use Rattle.std.proofs.Common.{◌≡◌, ℕ, ◌+◌, ◌≤◌, Bool, true, false, List, [], ◌∷◌, get_or, refl, sym, ap, subst, ◌∙◌, arith}
+use Rattle.std.proofs.Common.{◌≡◌, ℕ, ◌+◌, ◌≤◌, Bool, true, false, List, [], ◌∷◌, refl, sym, ap, subst, ◌∙◌, arith, get_or}
 use Rattle.std.specs.Prelude.{not, ◌&&◌, ◌||◌, ◌==◌, nat_eq, if◌then◌else◌}
 use Rattle.std.specs.List.{list_all, All, AllZip}
 use Rattle.std.proofs.lemmas.Bool.Decides.{nat_tests}

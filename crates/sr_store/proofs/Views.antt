@@ -15,7 +15,7 @@ use Rattle.sr_history.specs.declared.mark.Mark.{Mark}
 use Rattle.sr_region.specs.declared.region.Region.{Region}
 use Rattle.sr_store.specs.declared.fit.Fitting.{Fitting}
 use Rattle.sr_store.specs.Stores.{drop_of}
-use Rattle.sr_store.specs.Fitted.{IsViewOf, without, DropsWhile}
+use Rattle.sr_store.specs.Fitted.{IsViewOf, DropsWhile}
 use Rattle.sr_store.specs.Fitting.{DropsFirst, DropsTill}
 
 -- ---- two lists in step
@@ -55,9 +55,6 @@ pub record DropsSoFar (schema : List Table) (policy : Policy) (last : List Last)
       → DropsWhile schema policy last cause size limit old.regions new (drops ++ more)
 
 module _ (schema : List Table) (policy : Policy) (last : List Last) (cause : Cause) (size : List Region → ℕ) (limit : ℕ) where
-  pub none_so_far : (old : Fitting) → AllZip (IsViewOf schema) old.regions old.views → DropsSoFar schema policy last cause size limit old old
-  none_so_far old seen = record { seen = seen; drops = []; marks = sym (append-nil old.marks); whole = λ new more h. h }
-
   pub one_so_far : (old mid next : Fitting) → DropsSoFar schema policy last cause size limit old mid → limit < size mid.regions → DropsFirst schema policy last cause mid next
       → DropsSoFar schema policy last cause size limit old next
   one_so_far old mid next h much d = record {

@@ -13,6 +13,7 @@ use Rattle.sr_union.specs.Grid.{grid}
 use Rattle.sr_query.specs.declared.query.Part.{Part}
 use Rattle.sr_history.specs.declared.mark.Mark.{Mark}
 use Rattle.sr_history.specs.declared.mark.Mark.TheVariants.{Held as HeldMark}
+use Rattle.sr_history.specs.Load.{are_once}
 use Rattle.sr_region.specs.declared.region.Region.{Region}
 use Rattle.sr_region.specs.Regions.{rank, is_in, IsRowIn}
 use Rattle.sr_store.specs.declared.store.Arrival.{Arrival}
@@ -110,11 +111,6 @@ pub record IsRenewed (schema : List Table) (number : ℕ) (parts : List Part) (a
   pub marks_are : marks ≡ map held_of arrivals ++ map (drop_of Absorbed) (flagged true flags all)
 
 -- ---- too many pieces
-
--- each number once
-abbrev pub are_once : List ℕ → Bool
-are_once [] = true
-are_once (x ∷ xs) = not (list_any (λ y. x == y) xs) && are_once xs
 
 -- a region or an arrival of the table has exactly these columns
 abbrev pub is_used : List Region → List Arrival → ℕ → ℕ → Bool

@@ -69,7 +69,7 @@ fn wider_near(
 }
 
 /// The same of two lists of regions.
-#[tactic(auto, using(crate::proofs::Nearing::near_both))]
+#[tactic(auto, using(sr_union::proofs::Meets::near_append))]
 fn wider_near_both(
     alloc: Global,
     still: &[Region],

@@ -4,6 +4,7 @@ use Rattle.std.specs.Prelude.{ℤ, pos, IsTrue, ◌&&◌, ◌==◌}
 use Rattle.std.specs.List.{list_all, AllByRecursion}
 use Rattle.std.proofs.lemmas.Bool.{and_parts, or_right}
 use Rattle.std.proofs.lemmas.Int.{ints}
+use Rattle.sr_union.specs.Search.{is_nothing}
 use Rattle.sr_cell.specs.declared.cell.Cell.{Cell}
 use Rattle.sr_cell.specs.declared.cell.Cell.TheVariants.{Num, Str}
 use Rattle.sr_cell.specs.declared.table.Kind.{Kind}
@@ -17,7 +18,7 @@ use Rattle.sr_box.specs.declared.span.Span.TheVariants.{Full, Nums, Strs}
 use Rattle.sr_box.specs.Spans.{in_span, fits_kind}
 use Rattle.sr_box.specs.Points.{Rect, in_rect, in_any, rect_fits}
 use Rattle.sr_message.specs.declared.message.Holding.{Holding}
-use Rattle.sr_subs.specs.Subscription.{has_point, FitsSome, is_bare}
+use Rattle.sr_subs.specs.Subscription.{has_point, FitsSome}
 
 -- the least value of a span
 abbrev least : Span → Cell
@@ -44,13 +45,13 @@ corner_in (c ∷ columns) (s ∷ r) fit =
     rw (least_in c.kind c.lo c.hi s both.0, corner_in columns r both.1) refl
 
 -- a subscription with a rect has a point
-some_point : (holdings : List Holding) → AllByRecursion FitsSome holdings → list_all (λ h. is_bare h.rects) holdings ≡ false → (t : ℕ) × (row : Row) × (has_point holdings t row ≡ true)
+some_point : (holdings : List Holding) → AllByRecursion FitsSome holdings → list_all (λ h. is_nothing h.rects) holdings ≡ false → (t : ℕ) × (row : Row) × (has_point holdings t row ≡ true)
 some_point [] fit some = absurd cc
 some_point (h ∷ holdings) fit some = go h.rects refl fit.0.1 (some_point holdings fit.1) some
   where
     go : (rects : List Rect) → h.rects ≡ rects → list_all (rect_fits fit.0.0) rects ≡ true
-        → (list_all (λ h. is_bare h.rects) holdings ≡ false → (t : ℕ) × (row : Row) × (has_point holdings t row ≡ true))
-        → (is_bare rects && list_all (λ h. is_bare h.rects) holdings) ≡ false → (t : ℕ) × (row : Row) × (has_point (h ∷ holdings) t row ≡ true)
+        → (list_all (λ h. is_nothing h.rects) holdings ≡ false → (t : ℕ) × (row : Row) × (has_point holdings t row ≡ true))
+        → (is_nothing rects && list_all (λ h. is_nothing h.rects) holdings) ≡ false → (t : ℕ) × (row : Row) × (has_point (h ∷ holdings) t row ≡ true)
     go [] is fits others some =
         let later = others some in
         (later.0, later.1, or_right (h.table == later.0 && in_any h.rects later.1) (has_point holdings later.0 later.1) later.2)
@@ -58,7 +59,7 @@ some_point (h ∷ holdings) fit some = go h.rects refl fit.0.1 (some_point holdi
         let here = corner_in fit.0.0 r (and_parts (rect_fits fit.0.0 r) (list_all (rect_fits fit.0.0) rects) fits).0 in
         (h.table, corner r, rw (eqb_same h.table, is, here) refl)
 
-no_point : (holdings : List Holding) → list_all (λ h. is_bare h.rects) holdings ≡ true → (t : ℕ) (row : Row) → has_point holdings t row ≡ false
+no_point : (holdings : List Holding) → list_all (λ h. is_nothing h.rects) holdings ≡ true → (t : ℕ) (row : Row) → has_point holdings t row ≡ false
 no_point [] bare t row = refl
 no_point (h ∷ holdings) bare t row = go h.rects refl bare (λ all. no_point holdings all t row)
   where
@@ -66,12 +67,12 @@ no_point (h ∷ holdings) bare t row = go h.rects refl bare (λ all. no_point ho
     none true = refl
     none false = refl
 
-    go : (rects : List Rect) → h.rects ≡ rects → (is_bare rects && list_all (λ h. is_bare h.rects) holdings) ≡ true
-        → (list_all (λ h. is_bare h.rects) holdings ≡ true → has_point holdings t row ≡ false) → has_point (h ∷ holdings) t row ≡ false
+    go : (rects : List Rect) → h.rects ≡ rects → (is_nothing rects && list_all (λ h. is_nothing h.rects) holdings) ≡ true
+        → (list_all (λ h. is_nothing h.rects) holdings ≡ true → has_point holdings t row ≡ false) → has_point (h ∷ holdings) t row ≡ false
     go [] is all others = rw (is, none (h.table == t), others all) refl
     go (r ∷ rects) is all others = absurd cc
 
-pub empty_where_bare : (holdings : List Holding) (result : Bool) → AllByRecursion FitsSome holdings → result ≡ list_all (λ h. is_bare h.rects) holdings
+pub empty_where_bare : (holdings : List Holding) (result : Bool) → AllByRecursion FitsSome holdings → result ≡ list_all (λ h. is_nothing h.rects) holdings
     → (IsTrue result ↔ ((t : ℕ) (row : Row) → has_point holdings t row ≡ false))
 empty_where_bare holdings true fit told = (λ yes_empty. no_point holdings (sym told), λ none. refl)
 empty_where_bare holdings false fit told =

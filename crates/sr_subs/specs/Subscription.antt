@@ -1,10 +1,10 @@
 -- Subscriptions: points of tables, as lists of rects, and the changes that touch them.
-use Rattle.std.specs.Prelude.{ℕ, Bool, true, false, ◌&&◌, ◌||◌, ◌==◌, List, [], ◌∷◌, IsTrue}
+use Rattle.std.specs.Prelude.{ℕ, Bool, ◌&&◌, ◌||◌, ◌==◌, List, IsTrue}
 use Rattle.std.specs.List.{list_all, list_any}
 use Rattle.sr_cell.specs.declared.change.Change.{Change}
 use Rattle.sr_cell.specs.declared.table.Column.{Column}
 use Rattle.sr_cell.specs.Cells.{Row}
-use Rattle.sr_box.specs.Points.{Rect, in_any, rect_fits}
+use Rattle.sr_box.specs.Points.{in_any, rect_fits}
 use Rattle.sr_box.specs.Rows.{has_row}
 use Rattle.sr_message.specs.declared.message.Holding.{Holding}
 
@@ -19,7 +19,3 @@ touches subscription c = list_any (λ h. h.table == c.table && (has_row h.rects 
 -- its rects fit the columns of some table, so each has a point
 abbrev pub FitsSome : Holding → Type 0
 FitsSome h = (columns : List Column) × IsTrue (list_all (rect_fits columns) h.rects)
-
-abbrev pub is_bare : List Rect → Bool
-is_bare [] = true
-is_bare (r ∷ rects) = false

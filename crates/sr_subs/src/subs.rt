@@ -2,7 +2,8 @@
 ghost use Rattle.std.specs.Prelude.{◌≡◌, ℕ, false, ◌∷◌, ◌++◌, ◌↔◌, [], ◌&&◌, ◌||◌, ◌==◌, OnOk, OnErr, IsTrue};
 ghost use Rattle.std.specs.List.{list_all, AllByRecursion};
 ghost use Rattle.sr_cell.specs.Cells.{Row as TheRow};
-ghost use Rattle.sr_subs.specs.Subscription.{has_point, touches, FitsSome, is_bare};
+ghost use Rattle.sr_subs.specs.Subscription.{has_point, touches, FitsSome};
+ghost use Rattle.sr_union.specs.Search.{is_nothing};
 ghost use Rattle.sr_box.specs.Rows.{has_row};
 
 use sr_cell::cell::Row;
@@ -74,7 +75,7 @@ impl Subs {
 }
 
 fn are_bare(holdings: &[Holding]) -> bool
-    ensures { result ≡ list_all (λ h. is_bare h.rects) holdings.now }
+    ensures { result ≡ list_all (λ h. is_nothing h.rects) holdings.now }
 {
     for holding in holdings {
         if !is_bare(&holding.rects) {
@@ -85,7 +86,7 @@ fn are_bare(holdings: &[Holding]) -> bool
 }
 
 fn is_bare(rects: &Rects) -> bool
-    ensures { result ≡ is_bare rects.now }
+    ensures { result ≡ is_nothing rects.now }
 {
     rects.is_empty()
 }

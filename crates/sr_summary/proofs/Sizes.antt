@@ -1,9 +1,9 @@
 -- How long a script is.
-use Rattle.std.proofs.Common.{◌≡◌, ℕ, zero, suc, ◌+◌, ◌*◌, ◌/◌, ◌%◌, ◌<◌, ◌≤◌, ◌^◌, Bool, true, false, List, [], ◌∷◌, ◌++◌, length, refl, arith, length-append, lit<, lit≤}
-use Rattle.std.specs.Prelude.{codes, decimal, nat_lt, ◌==◌, if◌then◌else◌}
+use Rattle.std.proofs.Common.{◌≡◌, ℕ, zero, suc, ◌+◌, ◌*◌, ◌<◌, ◌≤◌, ◌^◌, Bool, true, false, length, refl, arith, length-append, lit<, lit≤}
+use Rattle.std.specs.Prelude.{decimal, nat_lt, ◌==◌, if◌then◌else◌}
 use Rattle.std.proofs.lemmas.Fmt.{length-decimal-le}
 use Rattle.std.proofs.lemmas.Bool.Decides.{nat_tests}
-use Rattle.sr_generate.specs.Script.{after, drawn, Made, create_line, insert_line, insert, range_line, range_query, point_line, point_query, update_line, update, push_line, push, of_kind, event, line_at, lines_from, script}
+use Rattle.sr_generate.specs.Script.{after, drawn, create_line, insert_line, insert, range_line, range_query, point_line, point_query, update_line, update, push, of_kind, event, line_at, lines_from, script}
 
 -- a number below 1,000 has at most three digits
 few_digits : (n : ℕ) → n < 1000 → length (decimal n) ≤ 3

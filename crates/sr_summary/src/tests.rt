@@ -1,6 +1,5 @@
-//! Summaries, by value.
+//! Lines that are counted, by value.
 use crate::count::{count_lines, count_second};
-use crate::summary::summary_of;
 use std::test::Fail;
 
 #[test]
@@ -9,18 +8,5 @@ fn lines_are_counted(rt: HostRuntime) -> Result<(), Fail> {
     assert_eq!(rt; count_lines(text), 6);
     assert_eq!(rt; count_second(b"row", text), 2);
     assert_eq!(rt; count_second(b"query", text), 1);
-    Ok(())
-}
-
-/// 200 rows are 200 versions, and the one event of seed 0 is a query.
-#[test]
-fn a_summary_has_seven_lines(rt: HostRuntime) -> Result<(), Fail> {
-    match summary_of(rt.alloc(), 0, 1) {
-        Ok(text) => {
-            assert_eq!(rt; text.as_str().lines().count(), 7);
-            assert!(rt; text.as_str().ends_with("\nversion 200\n"));
-        }
-        Err(_) => assert!(rt; false),
-    }
     Ok(())
 }

@@ -1,4 +1,4 @@
-mod Quotes
+pub mod Quotes
 mod Ascii
 mod Cuts
 mod Streams

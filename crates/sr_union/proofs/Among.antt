@@ -1,16 +1,21 @@
 -- The cuts of what is left of rects are among those of the rects, and it fits the columns.
-use Rattle.std.proofs.Common.{◌≡◌, true, false, List, [], ◌∷◌, ◌++◌, arith}
+use Rattle.std.proofs.Common.{◌≡◌, true, false, List, [], ◌∷◌, ◌++◌, refl, arith}
 use Rattle.std.specs.Prelude.{Bool, Option, Some, None, if◌then◌else◌}
+use Rattle.std.specs.List.{list_all}
 use Rattle.sr_cell.specs.declared.cell.Cell.{Cell}
 use Rattle.sr_cell.specs.declared.table.Column.{Column}
 use Rattle.sr_box.specs.declared.span.Span.{Span}
 use Rattle.sr_box.specs.Spans.{span_fits}
-use Rattle.sr_box.specs.Points.{rect_fits}
+use Rattle.sr_box.specs.Points.{rect_fits, Rect}
 use Rattle.sr_box.specs.Cut.{meet, under, over}
 use Rattle.sr_box.proofs.Fits.{maybe_fits, meet-fits, under-fits, over-fits}
 use Rattle.sr_union.specs.Pieces.{with_front, with_fronts, rect_minus, meets, minus_one, minus_each, minus_all}
 use Rattle.sr_union.specs.Grid.{is_among, first_cuts, others, CutsAmong, AreCutFrom}
 use Rattle.sr_union.proofs.Cuts.{maybe_cut, meet-cut, under-cut, over-cut}
+
+pub AreCutFrom-fits : (cs : List Column) (given rects : List Rect) → AreCutFrom cs given rects → list_all (rect_fits cs) rects ≡ true
+AreCutFrom-fits cs given [] h = refl
+AreCutFrom-fits cs given (r ∷ rects) h = rw (h.0, AreCutFrom-fits cs given rects h.2) refl
 
 pub AreCutFrom-append : (cs : List Column) (given a b : List (List Span)) → AreCutFrom cs given a → AreCutFrom cs given b → AreCutFrom cs given (a ++ b)
 AreCutFrom-append cs given [] b h k = k

@@ -101,11 +101,11 @@ apart_all [] qs p h = grind arith
 apart_all (r ∷ rs) qs p h =
     let ih = apart_all rs qs p (grind (arith, h)) in let one = apart_one r qs p (grind (arith, h)) in grind (arith, ih, one)
 
-pub near-append : (others a b : List Rect) → near others (a ++ b) ≡ near others a ++ near others b
-near-append others a b = filter-append (λ r. list_any (λ q. is_some (rect_meet r q)) others) a b
+pub near_append : (others a b : List Rect) → near others (a ++ b) ≡ near others a ++ near others b
+near_append others a b = filter-append (λ r. list_any (λ q. is_some (rect_meet r q)) others) a b
 
 pub near_cons : (others : List Rect) (r : Rect) (rects : List Rect) → near others (r ∷ rects) ≡ near others (r ∷ []) ++ near others rects
-near_cons others r rects = near-append others (r ∷ []) rects
+near_cons others r rects = near_append others (r ∷ []) rects
 
 -- the near rects have what the rects and the others have in common
 pub near-in : (others rects : List Rect) (p : Row) → in_any others p ≡ true → in_any (near others rects) p ≡ in_any rects p

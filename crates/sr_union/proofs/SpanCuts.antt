@@ -1,5 +1,5 @@
 -- A span that fits its column has a cut, but for the full one.
-use Rattle.std.proofs.Common.{◌≡◌, false, refl, ◌+◌, Bool, true, ◌++◌, arith, ℕ, List, [], ◌∷◌}
+use Rattle.std.proofs.Common.{◌≡◌, false, refl, Bool, true, ◌++◌, arith, ℕ, List, [], ◌∷◌}
 use Rattle.std.specs.Prelude.{ℤ, pos, ◌+ℤ◌, int_lt, Option, Some, None}
 use Rattle.sr_cell.specs.declared.cell.Cell.{Cell}
 use Rattle.sr_cell.specs.declared.table.Kind.{Kind}

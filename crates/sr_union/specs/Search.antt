@@ -1,6 +1,6 @@
 -- The search for a point of rects that others do not have.
-use Rattle.std.specs.Prelude.{ℕ, Bool, true, false, List, [], ◌∷◌, ◌+◌, drop, map, if◌then◌else◌}
-use Rattle.std.specs.List.{list_all, sum_by}
+use Rattle.std.specs.Prelude.{ℕ, Bool, true, false, List, [], ◌∷◌, ◌+◌, drop, if◌then◌else◌}
+use Rattle.std.specs.List.{sum_by}
 use Rattle.sr_cell.specs.declared.table.Column.{Column}
 use Rattle.sr_box.specs.Points.{Rect}
 use Rattle.sr_union.specs.Pieces.{meets, rect_minus, minus_all}

@@ -1,16 +1,15 @@
 -- What the calls that decode answer.
-use Rattle.std.proofs.Common.{◌≡◌, ℕ, ◌+◌, ◌≤◌, List, [], ◌∷◌, ◌++◌, length, take, drop, get_or, refl, sym, ap, ◌∙◌}
+use Rattle.std.proofs.Common.{◌≡◌, ℕ, ◌+◌, ◌≤◌, List, ◌++◌, length, take, drop, get_or, sym, ap, ◌∙◌}
 use Rattle.std.specs.Prelude.{IsTrue, Result, Ok, Err, IfOk, IsOkAnd}
 use Rattle.std.proofs.lemmas.List.{take-append-drop}
 use Rattle.sr_cell.specs.Columns.{are_bytes}
 use Rattle.sr_message.specs.declared.message.Message.{Message}
-use Rattle.sr_bytes.specs.Reading.{Reading, Got, Bad}
 use Rattle.sr_wire.specs.declared.kind.FrameKind.{FrameKind}
 use Rattle.sr_wire.specs.declared.wire_fault.WireFault.{WireFault}
 use Rattle.sr_wire.specs.Spelling.{spelling, has_spelling}
 use Rattle.sr_wire.specs.Kinds.{kind_at}
 use Rattle.sr_wire.specs.Bodies.{Answers}
-use Rattle.sr_wire.specs.Reading.{Whole, Faulty, decoded, nothing_left, finished, in_frame, length_at, kind_in}
+use Rattle.sr_wire.specs.Reading.{Whole, Faulty, decoded, in_frame, length_at, kind_in}
 use Rattle.sr_wire.proofs.Frames.{decoded_spelled, decoded_again, frame_is, length_is, kind_is, kind_of_option, IsFrame}
 
 pub first_of : (bytes : List ℕ) (r : Result Message WireFault) → IsTrue (are_bytes bytes) → Answers r (decoded bytes) → IfOk r (λ m. (rest : List ℕ) × (bytes ≡ spelling m ++ rest))
@@ -35,9 +34,3 @@ pub cut_is : (bytes : List ℕ) (n : ℕ) (kind : FrameKind) (m : Message) (size
 cut_is bytes n kind m size fits is_length is_kind whole e =
     frame_is bytes n kind m size fits (length_is bytes n is_length)
     (kind_is (get_or bytes 4 0) kind (kind_of_option (get_or bytes 4 0) (kind_at (get_or bytes 4 0)) kind is_kind)) whole e
-
--- what is left behind the fields
-pub left_over : (size : ℕ) (m : Message) (reading : Reading Message) (left : List ℕ) → reading ≡ Got m left → (left ≡ [] → ⊥)
-    → finished size (nothing_left reading) ≡ finished size (Bad left)
-left_over size m reading [] e some = absurd (some refl)
-left_over size m reading (b ∷ left) e some = rw e refl

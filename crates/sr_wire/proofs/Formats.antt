@@ -3,8 +3,9 @@ use Rattle.std.proofs.Common.{◌≡◌, ℕ, zero, suc, ◌^◌, ◌<◌, ◌�
 use Rattle.std.specs.Prelude.{IsTrue, ◌&&◌, ◌==◌, ◌-◌, nat_le, nat_lt, slice_index_or}
 use Rattle.std.specs.Int.{w16, w32}
 use Rattle.std.specs.Str.{is_utf8}
-use Rattle.std.proofs.lemmas.Bool.{ltb-true, lt-ltb, leb-true, le-ltb, eqb-true}
+use Rattle.std.proofs.lemmas.Bool.{ltb-true, lt-ltb, leb-true, le-ltb, eqb-true, and_from}
 use Rattle.std.proofs.lemmas.List.{take_at, drop_at, length-append}
+use Rattle.std.specs.Cmp.{first_so, second_so}
 use Rattle.sr_cell.specs.declared.fault.Why.{Why}
 use Rattle.sr_cell.specs.declared.fault.Why.TheVariants.{LongText, BadToken, Grammar, Deep, UnknownTable, UnknownColumn, Ambiguous, WrongType, OutOfDomain, NotKeyJoin, Repeated, WrongCount, Mixed, TooWide, TooManyTables, NotAWrite, NotAQuery, DuplicateKey, DomainCell, LongCell, KeyChange, TableFull, TooManyChanges, DuplicateName, TooManyColumns, NoKey, BadDomain, BadHeader, BadRecord, BadNumber, BadUtf8}
 use Rattle.sr_cell.specs.declared.fault.Fault.{Fault}
@@ -18,7 +19,7 @@ use Rattle.sr_message.specs.declared.message.Tell.{Tell}
 use Rattle.sr_bytes.specs.Reading.{Got, passing, a_byte, a_number, bytes_that, a_cell, a_row, some_rows, some_rects}
 use Rattle.sr_bytes.specs.Spelling.{long_bytes, count_bytes, short_count_bytes, cell_bytes, row_bytes, rows_bytes, rects_bytes, is_from_to, has_cell_bytes, has_row_bytes, have_rows_bytes, have_rects_bytes}
 use Rattle.sr_bytes.specs.Laws.{IsExact}
-use Rattle.sr_bytes.proofs.Steps.{step_of, got_value, got_rest, passed, front_bytes, behind, both, left_of, right_of}
+use Rattle.sr_bytes.proofs.Steps.{step_of, got_value, got_rest, passed, front_bytes, behind}
 use Rattle.sr_bytes.proofs.Numbers.{byte_spelled, byte_in_spelled, byte_in_again, short_count_again, short_count_spelled, count_again, count_spelled, long_again, long_spelled, front_spelled}
 use Rattle.sr_bytes.proofs.Values.{cell_exact, row_exact, rows_exact, rects_exact, counted_exact, listed_exact, counts, counted_bytes, have_counted, listed_bytes}
 use Rattle.sr_wire.specs.Kinds.{why_byte, reasons}
@@ -54,7 +55,7 @@ table_exact = record {
   again = λ n rest h. refl;
   spelled = λ bytes n rest fits e.
       let p = byte_spelled bytes n rest e in
-      (p, left_of (is_table n) true (front_bytes bytes (n ∷ []) rest p fits));
+      (p, first_so (is_table n) true (front_bytes bytes (n ∷ []) rest p fits));
 }
 
 abbrev pub table : Format ℕ
@@ -75,7 +76,7 @@ count = record { reader = a_number w32; bytes_of = count_bytes; has = fits_count
 pub attrs_exact : IsExact some_attrs short_count_bytes (is_from_to 0 4095)
 attrs_exact = record {
   again = λ n rest h.
-      let few : n ≤ 4095 = leb-true n 4095 (right_of (nat_le 0 n) (nat_le n 4095) h) in
+      let few : n ≤ 4095 = leb-true n 4095 (second_so (nat_le 0 n) (nat_le n 4095) h) in
       rw (short_count_again n rest (omega (arith, few)), h) refl;
   spelled = λ bytes n rest fits e.
       let p = passed (is_from_to 0 4095) bytes (a_number w16 bytes) n rest e in
@@ -93,7 +94,7 @@ any_flag b = true
 flag_at : (n : ℕ) (b : Bool) → IsTrue (is_from_to 0 1 n) → (n == 1) ≡ b → n ∷ [] ≡ flag_bytes b
 flag_at zero b h e = ap flag_bytes e
 flag_at (suc zero) b h e = ap flag_bytes e
-flag_at (suc (suc n)) b h e = absurd (omega (arith, leb-true _ _ (right_of (nat_le 0 (suc (suc n))) (nat_le (suc (suc n)) 1) h)))
+flag_at (suc (suc n)) b h e = absurd (omega (arith, leb-true _ _ (second_so (nat_le 0 (suc (suc n))) (nat_le (suc (suc n)) 1) h)))
 
 pub flag_again : (b : Bool) (rest : List ℕ) → IsTrue (any_flag b) → a_flag (flag_bytes b ++ rest) ≡ Got b rest
 flag_again false rest h = refl
@@ -115,16 +116,16 @@ are_numbered from (w ∷ ws) = (why_byte w == from) && are_numbered (suc from) w
 numbered_at : (from : ℕ) (ws : List Why) (i : ℕ) (d : Why) → IsTrue (are_numbered from ws) → i < length ws → why_byte (slice_index_or ws i d) ≡ from + i
 numbered_at from [] i d h lt = absurd (omega arith)
 numbered_at from (w ∷ ws) zero d h lt =
-    let here : why_byte w ≡ from = eqb-true (why_byte w) from (left_of (why_byte w == from) (are_numbered (suc from) ws) h) in
+    let here : why_byte w ≡ from = eqb-true (why_byte w) from (first_so (why_byte w == from) (are_numbered (suc from) ws) h) in
     omega (arith, here)
 numbered_at from (w ∷ ws) (suc i) d h lt =
-    let more = numbered_at (suc from) ws i d (right_of (why_byte w == from) (are_numbered (suc from) ws) h) (omega arith) in
+    let more = numbered_at (suc from) ws i d (second_so (why_byte w == from) (are_numbered (suc from) ws) h) (omega arith) in
     more ∙ omega arith
 
 why_at : (n : ℕ) (w : Why) → IsTrue (is_from_to 1 31 n) → slice_index_or reasons (n - 1) LongText ≡ w → why_byte w ≡ n
 why_at n w h e =
-    let low : 1 ≤ n = leb-true 1 n (left_of (nat_le 1 n) (nat_le n 31) h) in
-    let high : n ≤ 31 = leb-true n 31 (right_of (nat_le 1 n) (nat_le n 31) h) in
+    let low : 1 ≤ n = leb-true 1 n (first_so (nat_le 1 n) (nat_le n 31) h) in
+    let high : n ≤ 31 = leb-true n 31 (second_so (nat_le 1 n) (nat_le n 31) h) in
     let few : n - 1 < 31 = omega arith in
     let back : 1 + (n - 1) ≡ n = omega arith in
     ap why_byte (sym e) ∙ numbered_at 1 reasons (n - 1) LongText refl few ∙ back
@@ -204,8 +205,8 @@ the_client version client = client
 pub client_spelled : (bytes : List ℕ) (c : ℕ) (rest : List ℕ) → IsTrue (are_bytes bytes) → a_client bytes ≡ Got c rest → (bytes ≡ client_bytes c ++ rest) × IsTrue (is_client c)
 client_spelled bytes c rest fits e =
     let t = two_spelled (byte_in wire wire) (byte_in 1 64) the_client bytes c rest fits e in
-    let low : wire ≤ t.first = leb-true wire t.first (left_of (nat_le wire t.first) (nat_le t.first wire) t.has_first) in
-    let high : t.first ≤ wire = leb-true t.first wire (right_of (nat_le wire t.first) (nat_le t.first wire) t.has_first) in
+    let low : wire ≤ t.first = leb-true wire t.first (first_so (nat_le wire t.first) (nat_le t.first wire) t.has_first) in
+    let high : t.first ≤ wire = leb-true t.first wire (second_so (nat_le wire t.first) (nat_le t.first wire) t.has_first) in
     let same : t.first ≡ wire = omega arith in
     (t.parts ∙ ap (λ (n : ℕ). n ∷ (t.second ∷ rest)) same ∙ ap (λ (n : ℕ). wire ∷ (n ∷ rest)) t.is, subst (λ n. IsTrue (is_client n)) t.is t.has_second)
 
@@ -225,9 +226,9 @@ has_statement_bytes sql = is_from_to 0 65536 (length sql) && is_utf8 sql
 
 pub statement_again : (sql rest : List ℕ) → IsTrue (has_statement_bytes sql) → a_statement (statement_bytes sql ++ rest) ≡ Got sql rest
 statement_again sql rest h =
-    let few = left_of (is_from_to 0 65536 (length sql)) (is_utf8 sql) h in
-    let text = right_of (is_from_to 0 65536 (length sql)) (is_utf8 sql) h in
-    let high : length sql ≤ 65536 = leb-true (length sql) 65536 (right_of (nat_le 0 (length sql)) (nat_le (length sql) 65536) few) in
+    let few = first_so (is_from_to 0 65536 (length sql)) (is_utf8 sql) h in
+    let text = second_so (is_from_to 0 65536 (length sql)) (is_utf8 sql) h in
+    let high : length sql ≤ 65536 = leb-true (length sql) 65536 (second_so (nat_le 0 (length sql)) (nat_le (length sql) 65536) few) in
     let long : ltb (length (sql ++ rest)) (length sql) ≡ false = le-ltb _ _ (omega (arith, length-append sql rest)) in
     ap a_statement (append_assoc (count_bytes (length sql)) sql rest)
     ∙ rw (count_again (length sql) (sql ++ rest) (omega (arith, high)), few, long, take_at sql rest (length sql) refl, drop_at sql rest (length sql) refl, text) refl
@@ -239,7 +240,7 @@ statement_spelled bytes sql rest fits e =
     let n = count_spelled bytes s.value s.left fits p.0 in
     let f = front_spelled is_utf8 s.value s.left sql rest s.second in (
       behind bytes (count_bytes (length sql)) sql s.left rest (n.0 ∙ ap (λ (k : ℕ). count_bytes k ++ s.left) (sym f.count)) f.parts,
-      both (is_from_to 0 65536 (length sql)) (is_utf8 sql) (rw f.count p.1) f.passes,
+      and_from (is_from_to 0 65536 (length sql)) (is_utf8 sql) (rw f.count p.1) f.passes,
     )
 
 abbrev pub statement : Format (List ℕ)
@@ -265,13 +266,13 @@ make_holding table rects = record { table = table; rects = rects }
 holding_again : (h : Holding) (rest : List ℕ) → IsTrue (has_holding_bytes h) → a_holding (holding_bytes h ++ rest) ≡ Got h rest
 holding_again h rest has =
     two_again (byte_in 0 15) rects make_holding h.table h.rects rest
-    (left_of (is_from_to 0 15 h.table) (have_rects_bytes h.rects) has) (right_of (is_from_to 0 15 h.table) (have_rects_bytes h.rects) has)
+    (first_so (is_from_to 0 15 h.table) (have_rects_bytes h.rects) has) (second_so (is_from_to 0 15 h.table) (have_rects_bytes h.rects) has)
 
 holding_spelled : (bytes : List ℕ) (h : Holding) (rest : List ℕ) → IsTrue (are_bytes bytes) → a_holding bytes ≡ Got h rest → (bytes ≡ holding_bytes h ++ rest) × IsTrue (has_holding_bytes h)
 holding_spelled bytes h rest fits e =
     let t = two_spelled (byte_in 0 15) rects make_holding bytes h rest fits e in
     subst (λ v. (bytes ≡ holding_bytes v ++ rest) × IsTrue (has_holding_bytes v)) t.is
-    (t.parts, both (is_from_to 0 15 t.first) (have_rects_bytes t.second) t.has_first t.has_second)
+    (t.parts, and_from (is_from_to 0 15 t.first) (have_rects_bytes t.second) t.has_first t.has_second)
 
 pub holding_exact : IsExact a_holding holding_bytes has_holding_bytes
 holding_exact = record { again = holding_again; spelled = holding_spelled }
@@ -295,19 +296,19 @@ make_part table attrs rects = record { table = table; attrs = attrs; rects = rec
 
 part_again : (p : AskPart) (rest : List ℕ) → IsTrue (has_part_bytes p) → a_part (part_bytes p ++ rest) ≡ Got p rest
 part_again p rest has =
-    let more = right_of (is_table p.table) (is_from_to 0 4095 p.attrs && have_rects_bytes p.rects) has in
+    let more = second_so (is_table p.table) (is_from_to 0 4095 p.attrs && have_rects_bytes p.rects) has in
     three_again table attrs rects make_part p.table p.attrs p.rects rest
-    (left_of (is_table p.table) (is_from_to 0 4095 p.attrs && have_rects_bytes p.rects) has)
-    (left_of (is_from_to 0 4095 p.attrs) (have_rects_bytes p.rects) more)
-    (right_of (is_from_to 0 4095 p.attrs) (have_rects_bytes p.rects) more)
+    (first_so (is_table p.table) (is_from_to 0 4095 p.attrs && have_rects_bytes p.rects) has)
+    (first_so (is_from_to 0 4095 p.attrs) (have_rects_bytes p.rects) more)
+    (second_so (is_from_to 0 4095 p.attrs) (have_rects_bytes p.rects) more)
 
 part_spelled : (bytes : List ℕ) (p : AskPart) (rest : List ℕ) → IsTrue (are_bytes bytes) → a_part bytes ≡ Got p rest → (bytes ≡ part_bytes p ++ rest) × IsTrue (has_part_bytes p)
 part_spelled bytes p rest fits e =
     let t = three_spelled table attrs rects make_part bytes p rest fits e in
     subst (λ v. (bytes ≡ part_bytes v ++ rest) × IsTrue (has_part_bytes v)) t.is (
       t.parts,
-      both (is_table t.first) (is_from_to 0 4095 t.second && have_rects_bytes t.third) t.has_first
-          (both (is_from_to 0 4095 t.second) (have_rects_bytes t.third) t.has_second t.has_third),
+      and_from (is_table t.first) (is_from_to 0 4095 t.second && have_rects_bytes t.third) t.has_first
+          (and_from (is_from_to 0 4095 t.second) (have_rects_bytes t.third) t.has_second t.has_third),
     )
 
 pub part_exact : IsExact a_part part_bytes has_part_bytes
@@ -349,19 +350,19 @@ make_tell table key after = record { table = table; key = key; after = after }
 
 tell_again : (t : Tell) (rest : List ℕ) → IsTrue (has_tell_bytes t) → a_tell (tell_bytes t ++ rest) ≡ Got t rest
 tell_again t rest has =
-    let more = right_of (is_table t.table) (has_cell_bytes t.key && has_after_bytes t.after) has in
+    let more = second_so (is_table t.table) (has_cell_bytes t.key && has_after_bytes t.after) has in
     three_again table cell after make_tell t.table t.key t.after rest
-    (left_of (is_table t.table) (has_cell_bytes t.key && has_after_bytes t.after) has)
-    (left_of (has_cell_bytes t.key) (has_after_bytes t.after) more)
-    (right_of (has_cell_bytes t.key) (has_after_bytes t.after) more)
+    (first_so (is_table t.table) (has_cell_bytes t.key && has_after_bytes t.after) has)
+    (first_so (has_cell_bytes t.key) (has_after_bytes t.after) more)
+    (second_so (has_cell_bytes t.key) (has_after_bytes t.after) more)
 
 tell_spelled : (bytes : List ℕ) (t : Tell) (rest : List ℕ) → IsTrue (are_bytes bytes) → a_tell bytes ≡ Got t rest → (bytes ≡ tell_bytes t ++ rest) × IsTrue (has_tell_bytes t)
 tell_spelled bytes v rest fits e =
     let t = three_spelled table cell after make_tell bytes v rest fits e in
     subst (λ v. (bytes ≡ tell_bytes v ++ rest) × IsTrue (has_tell_bytes v)) t.is (
       t.parts,
-      both (is_table t.first) (has_cell_bytes t.second && has_after_bytes t.third) t.has_first
-          (both (has_cell_bytes t.second) (has_after_bytes t.third) t.has_second t.has_third),
+      and_from (is_table t.first) (has_cell_bytes t.second && has_after_bytes t.third) t.has_first
+          (and_from (has_cell_bytes t.second) (has_after_bytes t.third) t.has_second t.has_third),
     )
 
 pub tell_exact : IsExact a_tell tell_bytes has_tell_bytes

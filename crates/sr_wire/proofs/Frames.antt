@@ -2,15 +2,16 @@
 use Rattle.std.proofs.Common.{◌≡◌, ℕ, ◌+◌, ◌^◌, ◌<◌, ◌≤◌, Bool, true, false, cond, ltb, eqb, List, [], ◌∷◌, ◌++◌, length, get_or, take, drop, Option, Some, None, refl, sym, ap, subst, ◌∙◌, append_assoc, arith}
 use Rattle.std.specs.Prelude.{IsTrue, Result, Ok, Err, nat_le, ◌==◌}
 use Rattle.std.specs.Int.{w32, from_be_bytes}
-use Rattle.std.proofs.lemmas.Bool.{ltb-false, leb-true, le-leb, le-ltb, eqb-true, eqb-false, ne_eqb}
+use Rattle.std.proofs.lemmas.Bool.{ltb-false, leb-true, le-leb, le-ltb, eqb-true, eqb-false, ne_eqb, and_from}
 use Rattle.std.proofs.lemmas.List.{take_at, drop_at, take-append-drop, length-append, length-take-le, length-drop, take-take, append-nil, get_or_at, get_or-take, append_cancel_left}
 use Rattle.std.proofs.Math.Seq.{drop-cons}
 use Rattle.std.proofs.lemmas.Nat.{from_be_bytes-to_be_bytes_4}
+use Rattle.std.specs.Cmp.{first_so, second_so}
 use Rattle.sr_cell.specs.Columns.{are_bytes}
 use Rattle.sr_message.specs.declared.message.Message.{Message}
 use Rattle.sr_bytes.specs.Reading.{Reading, Got, Bad, a_number}
 use Rattle.sr_bytes.specs.Spelling.{count_bytes}
-use Rattle.sr_bytes.proofs.Steps.{both, left_of, right_of, front_bytes, rest_bytes}
+use Rattle.sr_bytes.proofs.Steps.{front_bytes, rest_bytes}
 use Rattle.sr_bytes.proofs.Numbers.{count_spelled}
 use Rattle.sr_wire.specs.declared.kind.FrameKind.{FrameKind}
 use Rattle.sr_wire.specs.declared.kind.FrameKind.TheVariants as kinds
@@ -81,8 +82,8 @@ pub decoded_again : (m : Message) (rest : List ℕ) → IsTrue (has_spelling m) 
 decoded_again m rest h =
     let n = length (body_of m) in
     let bytes = spelling m ++ rest in
-    let fields = left_of (has_fields m) (nat_le n most_bytes) h in
-    let most : n ≤ most_bytes = leb-true n most_bytes (right_of (has_fields m) (nat_le n most_bytes) h) in
+    let fields = first_so (has_fields m) (nat_le n most_bytes) h in
+    let most : n ≤ most_bytes = leb-true n most_bytes (second_so (has_fields m) (nat_le n most_bytes) h) in
     let four = count_length n in
     let size : length (spelling m) ≡ 4 + n = omega (arith, four, length-append (count_bytes n) (body_of m)) in
     let all : length bytes ≡ (4 + n) + length rest = omega (arith, size, length-append (spelling m) rest) in
@@ -181,7 +182,7 @@ frame_is bytes n kind m size fits l is_kind whole e =
     let short : IsTrue (nat_le (length (body_of m)) most_bytes) = le-leb (length (body_of m)) most_bytes (omega (arith, few, count)) in
     record {
       is = parts ∙ ap (λ (k : ℕ). count_bytes k ++ body_of m) count;
-      has = both (has_fields m) (nat_le (length (body_of m)) most_bytes) g.has short;
+      has = and_from (has_fields m) (nat_le (length (body_of m)) most_bytes) g.has short;
       size_is = f.1;
     }
 

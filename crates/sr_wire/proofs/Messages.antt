@@ -1,12 +1,13 @@
 -- The fields of each kind: what is spelled is read again, and what is read was spelled.
 use Rattle.std.proofs.Common.{◌≡◌, ℕ, List, ◌++◌, refl, subst}
 use Rattle.std.specs.Prelude.{IsTrue, ◌&&◌}
+use Rattle.std.proofs.lemmas.Bool.{and_from}
+use Rattle.std.specs.Cmp.{first_so, second_so}
 use Rattle.sr_cell.specs.Columns.{are_bytes}
 use Rattle.sr_message.specs.declared.message.Message.{Message}
 use Rattle.sr_message.specs.declared.message.Message.TheVariants.{Hello, Resume, Ask, Write, Welcome, Notice, Rows, Reply, Written, Refused, Lapse}
 use Rattle.sr_bytes.specs.Reading.{Got}
 use Rattle.sr_bytes.specs.Spelling.{is_from_to, have_rows_bytes}
-use Rattle.sr_bytes.proofs.Steps.{both, left_of, right_of}
 use Rattle.sr_wire.specs.declared.kind.FrameKind.{FrameKind}
 use Rattle.sr_wire.specs.declared.kind.FrameKind.TheVariants as kinds
 use Rattle.sr_wire.specs.Spelling.{kind_of, fields_of, has_fields, is_long, is_client}
@@ -15,33 +16,33 @@ use Rattle.sr_wire.proofs.Fields.{one_spelled, one_again, two_spelled, two_again
 use Rattle.sr_wire.proofs.Formats.{long, byte_in, flag, client, statement, fault, rows, holdings, parts, told, has_statement_bytes, has_fault_bytes, have_holdings_bytes, have_parts_bytes, have_told_bytes}
 
 pub fields_again : (m : Message) (rest : List ℕ) → IsTrue (has_fields m) → fields_at (kind_of m) (fields_of m ++ rest) ≡ Got m rest
-fields_again (Hello c n) rest h = two_again client long Hello c n rest (left_of (is_client c) (is_long n) h) (right_of (is_client c) (is_long n) h)
+fields_again (Hello c n) rest h = two_again client long Hello c n rest (first_so (is_client c) (is_long n) h) (second_so (is_client c) (is_long n) h)
 fields_again (Resume c n v hs) rest h =
-    let one = right_of (is_client c) (is_long n && (is_long v && have_holdings_bytes hs)) h in
-    let two = right_of (is_long n) (is_long v && have_holdings_bytes hs) one in
+    let one = second_so (is_client c) (is_long n && (is_long v && have_holdings_bytes hs)) h in
+    let two = second_so (is_long n) (is_long v && have_holdings_bytes hs) one in
     four_again client long long holdings Resume c n v hs rest
-    (left_of (is_client c) (is_long n && (is_long v && have_holdings_bytes hs)) h)
-    (left_of (is_long n) (is_long v && have_holdings_bytes hs) one)
-    (left_of (is_long v) (have_holdings_bytes hs) two)
-    (right_of (is_long v) (have_holdings_bytes hs) two)
+    (first_so (is_client c) (is_long n && (is_long v && have_holdings_bytes hs)) h)
+    (first_so (is_long n) (is_long v && have_holdings_bytes hs) one)
+    (first_so (is_long v) (have_holdings_bytes hs) two)
+    (second_so (is_long v) (have_holdings_bytes hs) two)
 fields_again (Ask n f ps) rest h =
-    three_again long flag parts Ask n f ps rest (left_of (is_long n) (have_parts_bytes ps) h) refl (right_of (is_long n) (have_parts_bytes ps) h)
+    three_again long flag parts Ask n f ps rest (first_so (is_long n) (have_parts_bytes ps) h) refl (second_so (is_long n) (have_parts_bytes ps) h)
 fields_again (Write n sql) rest h =
-    two_again long statement Write n sql rest (left_of (is_long n) (has_statement_bytes sql) h) (right_of (is_long n) (has_statement_bytes sql) h)
+    two_again long statement Write n sql rest (first_so (is_long n) (has_statement_bytes sql) h) (second_so (is_long n) (has_statement_bytes sql) h)
 fields_again (Welcome n v k) rest h =
-    three_again long long flag Welcome n v k rest (left_of (is_long n) (is_long v) h) (right_of (is_long n) (is_long v) h) refl
+    three_again long long flag Welcome n v k rest (first_so (is_long n) (is_long v) h) (second_so (is_long n) (is_long v) h) refl
 fields_again (Notice v ts) rest h =
-    two_again long told Notice v ts rest (left_of (is_long v) (have_told_bytes ts) h) (right_of (is_long v) (have_told_bytes ts) h)
+    two_again long told Notice v ts rest (first_so (is_long v) (have_told_bytes ts) h) (second_so (is_long v) (have_told_bytes ts) h)
 fields_again (Rows n p rs) rest h =
-    let more = right_of (is_long n) (is_from_to 0 3 p && have_rows_bytes rs) h in
+    let more = second_so (is_long n) (is_from_to 0 3 p && have_rows_bytes rs) h in
     three_again long (byte_in 0 3) rows Rows n p rs rest
-    (left_of (is_long n) (is_from_to 0 3 p && have_rows_bytes rs) h)
-    (left_of (is_from_to 0 3 p) (have_rows_bytes rs) more)
-    (right_of (is_from_to 0 3 p) (have_rows_bytes rs) more)
-fields_again (Reply n v) rest h = two_again long long Reply n v rest (left_of (is_long n) (is_long v) h) (right_of (is_long n) (is_long v) h)
-fields_again (Written n v) rest h = two_again long long Written n v rest (left_of (is_long n) (is_long v) h) (right_of (is_long n) (is_long v) h)
+    (first_so (is_long n) (is_from_to 0 3 p && have_rows_bytes rs) h)
+    (first_so (is_from_to 0 3 p) (have_rows_bytes rs) more)
+    (second_so (is_from_to 0 3 p) (have_rows_bytes rs) more)
+fields_again (Reply n v) rest h = two_again long long Reply n v rest (first_so (is_long n) (is_long v) h) (second_so (is_long n) (is_long v) h)
+fields_again (Written n v) rest h = two_again long long Written n v rest (first_so (is_long n) (is_long v) h) (second_so (is_long n) (is_long v) h)
 fields_again (Refused n f) rest h =
-    two_again long fault Refused n f rest (left_of (is_long n) (has_fault_bytes f) h) (right_of (is_long n) (has_fault_bytes f) h)
+    two_again long fault Refused n f rest (first_so (is_long n) (has_fault_bytes f) h) (second_so (is_long n) (has_fault_bytes f) h)
 fields_again (Lapse v) rest h = one_again long Lapse v rest h
 
 -- fields that were read as those of a kind
@@ -54,54 +55,54 @@ pub fields_spelled : (kind : FrameKind) (bytes : List ℕ) (m : Message) (rest :
 fields_spelled kinds.Hello bytes m rest fits e =
     let t = two_spelled client long Hello bytes m rest fits e in
     subst (λ v. AreFields kinds.Hello bytes v rest) t.is
-    (record { kind_is = refl; parts = t.parts; has = both (is_client t.first) (is_long t.second) t.has_first t.has_second })
+    (record { kind_is = refl; parts = t.parts; has = and_from (is_client t.first) (is_long t.second) t.has_first t.has_second })
 fields_spelled kinds.Resume bytes m rest fits e =
     let t = four_spelled client long long holdings Resume bytes m rest fits e in
     subst (λ v. AreFields kinds.Resume bytes v rest) t.is
     (record {
       kind_is = refl;
       parts = t.parts;
-      has = both (is_client t.first) (is_long t.second && (is_long t.third && have_holdings_bytes t.fourth)) t.has_first
-          (both (is_long t.second) (is_long t.third && have_holdings_bytes t.fourth) t.has_second
-          (both (is_long t.third) (have_holdings_bytes t.fourth) t.has_third t.has_fourth));
+      has = and_from (is_client t.first) (is_long t.second && (is_long t.third && have_holdings_bytes t.fourth)) t.has_first
+          (and_from (is_long t.second) (is_long t.third && have_holdings_bytes t.fourth) t.has_second
+          (and_from (is_long t.third) (have_holdings_bytes t.fourth) t.has_third t.has_fourth));
     })
 fields_spelled kinds.Ask bytes m rest fits e =
     let t = three_spelled long flag parts Ask bytes m rest fits e in
     subst (λ v. AreFields kinds.Ask bytes v rest) t.is
-    (record { kind_is = refl; parts = t.parts; has = both (is_long t.first) (have_parts_bytes t.third) t.has_first t.has_third })
+    (record { kind_is = refl; parts = t.parts; has = and_from (is_long t.first) (have_parts_bytes t.third) t.has_first t.has_third })
 fields_spelled kinds.Write bytes m rest fits e =
     let t = two_spelled long statement Write bytes m rest fits e in
     subst (λ v. AreFields kinds.Write bytes v rest) t.is
-    (record { kind_is = refl; parts = t.parts; has = both (is_long t.first) (has_statement_bytes t.second) t.has_first t.has_second })
+    (record { kind_is = refl; parts = t.parts; has = and_from (is_long t.first) (has_statement_bytes t.second) t.has_first t.has_second })
 fields_spelled kinds.Welcome bytes m rest fits e =
     let t = three_spelled long long flag Welcome bytes m rest fits e in
     subst (λ v. AreFields kinds.Welcome bytes v rest) t.is
-    (record { kind_is = refl; parts = t.parts; has = both (is_long t.first) (is_long t.second) t.has_first t.has_second })
+    (record { kind_is = refl; parts = t.parts; has = and_from (is_long t.first) (is_long t.second) t.has_first t.has_second })
 fields_spelled kinds.Notice bytes m rest fits e =
     let t = two_spelled long told Notice bytes m rest fits e in
     subst (λ v. AreFields kinds.Notice bytes v rest) t.is
-    (record { kind_is = refl; parts = t.parts; has = both (is_long t.first) (have_told_bytes t.second) t.has_first t.has_second })
+    (record { kind_is = refl; parts = t.parts; has = and_from (is_long t.first) (have_told_bytes t.second) t.has_first t.has_second })
 fields_spelled kinds.Rows bytes m rest fits e =
     let t = three_spelled long (byte_in 0 3) rows Rows bytes m rest fits e in
     subst (λ v. AreFields kinds.Rows bytes v rest) t.is
     (record {
       kind_is = refl;
       parts = t.parts;
-      has = both (is_long t.first) (is_from_to 0 3 t.second && have_rows_bytes t.third) t.has_first
-          (both (is_from_to 0 3 t.second) (have_rows_bytes t.third) t.has_second t.has_third);
+      has = and_from (is_long t.first) (is_from_to 0 3 t.second && have_rows_bytes t.third) t.has_first
+          (and_from (is_from_to 0 3 t.second) (have_rows_bytes t.third) t.has_second t.has_third);
     })
 fields_spelled kinds.Reply bytes m rest fits e =
     let t = two_spelled long long Reply bytes m rest fits e in
     subst (λ v. AreFields kinds.Reply bytes v rest) t.is
-    (record { kind_is = refl; parts = t.parts; has = both (is_long t.first) (is_long t.second) t.has_first t.has_second })
+    (record { kind_is = refl; parts = t.parts; has = and_from (is_long t.first) (is_long t.second) t.has_first t.has_second })
 fields_spelled kinds.Written bytes m rest fits e =
     let t = two_spelled long long Written bytes m rest fits e in
     subst (λ v. AreFields kinds.Written bytes v rest) t.is
-    (record { kind_is = refl; parts = t.parts; has = both (is_long t.first) (is_long t.second) t.has_first t.has_second })
+    (record { kind_is = refl; parts = t.parts; has = and_from (is_long t.first) (is_long t.second) t.has_first t.has_second })
 fields_spelled kinds.Refused bytes m rest fits e =
     let t = two_spelled long fault Refused bytes m rest fits e in
     subst (λ v. AreFields kinds.Refused bytes v rest) t.is
-    (record { kind_is = refl; parts = t.parts; has = both (is_long t.first) (has_fault_bytes t.second) t.has_first t.has_second })
+    (record { kind_is = refl; parts = t.parts; has = and_from (is_long t.first) (has_fault_bytes t.second) t.has_first t.has_second })
 fields_spelled kinds.Lapse bytes m rest fits e =
     let t = one_spelled long Lapse bytes m rest fits e in
     subst (λ v. AreFields kinds.Lapse bytes v rest) t.is (record { kind_is = refl; parts = t.parts; has = t.has_first })

@@ -3,8 +3,7 @@ use Rattle.std.proofs.Common.{◌≡◌, ℕ, ℤ, ◌+◌, ◌*◌, ◌≤◌, 
 use Rattle.std.specs.Prelude.{◌&&◌, nat_le}
 use Rattle.std.specs.List.{flat_map, list_all, sum_by}
 use Rattle.std.proofs.Math.Nat.{suc-mul, add-mul}
-use Rattle.std.proofs.lemmas.Bool.{and_parts}
-use Rattle.std.proofs.lemmas.Bool.Decides.{nat_tests}
+use Rattle.std.proofs.lemmas.Bool.{and_parts, leb-true}
 use Rattle.std.proofs.lemmas.List.{length-append}
 use Rattle.std.proofs.lemmas.List.Concat.{flat_map-cons}
 use Rattle.std.proofs.lemmas.List.Sums.{sum_by-cons}
@@ -39,11 +38,8 @@ short_length : (n : ℕ) → length (short_count_bytes n) ≡ 2
 unfolding short_count_bytes
 short_length n = refl
 
-at_most : (a b : ℕ) → nat_le a b ≡ true → a ≤ b
-at_most a b h = grind (arith, nat_tests)
-
 up_to : (low high n : ℕ) → is_from_to low high n ≡ true → n ≤ high
-up_to low high n h = at_most n high (and_parts (nat_le low n) (nat_le n high) h).1
+up_to low high n h = leb-true n high (and_parts (nat_le low n) (nat_le n high) h).1
 
 -- ---- lists
 
@@ -76,7 +72,7 @@ long f p k few (x ∷ xs) h =
 
 cell_length : (cell : Cell) → may_write_cell cell ≡ true → length (cell_bytes cell) ≤ 122
 cell_length (Num n) h = omega (arith, number_length n)
-cell_length (Str text) h = omega (arith, at_most (length text) 120 h)
+cell_length (Str text) h = omega (arith, leb-true (length text) 120 h)
 
 row_length : (row : Row) → may_write_row row ≡ true → length (row_bytes row) ≤ 1465
 row_length row h =
@@ -101,8 +97,8 @@ span_length (Nums lo hi) h = omega (arith, number_length lo, number_length hi, l
 span_length (Strs lo (Some hi)) h =
     let parts = and_parts (nat_le (length lo) 121 && nat_le (length hi) 121) _ h in
     let both = and_parts (nat_le (length lo) 121) (nat_le (length hi) 121) parts.0 in
-    omega (arith, at_most (length lo) 121 both.0, at_most (length hi) 121 both.1, length-append (text_bytes lo) (text_bytes hi))
-span_length (Strs lo None) h = omega (arith, at_most (length lo) 121 (and_parts (nat_le (length lo) 121) _ h).0)
+    omega (arith, leb-true (length lo) 121 both.0, leb-true (length hi) 121 both.1, length-append (text_bytes lo) (text_bytes hi))
+span_length (Strs lo None) h = omega (arith, leb-true (length lo) 121 (and_parts (nat_le (length lo) 121) _ h).0)
 
 rect_length : (rect : Rect) → may_write_rect rect ≡ true → length (rect_bytes rect) ≤ 2941
 rect_length rect h =
@@ -152,7 +148,7 @@ size (Hello client number) may few = omega (arith, long_length number)
 size (Resume client number version holdings) may few =
     let list = and_parts (is_from_to 1 1024 (length holdings)) (list_all may_write_holding holdings) (and_parts _ (is_from_to 1 1024 (length holdings) && list_all may_write_holding holdings) may).1 in
     let count = up_to 1 1024 (length holdings) list.0 in
-    let rects = at_most (count_held holdings) 16384 few in
+    let rects = leb-true (count_held holdings) 16384 few in
     let bytes = longer holding_bytes may_write_holding (λ h. length h.rects) 5 2941 holding_length holdings list.1 in
     let behind = flat_map holding_bytes holdings in
     omega (
@@ -170,7 +166,7 @@ size (Resume client number version holdings) may few =
 size (Ask number fresh parts) may few =
     let list = and_parts (is_from_to 1 4 (length parts)) (list_all may_write_part parts) may in
     let count = up_to 1 4 (length parts) list.0 in
-    let rects = at_most (sum_by (λ (p : AskPart). length p.rects) parts) 16384 few in
+    let rects = leb-true (sum_by (λ (p : AskPart). length p.rects) parts) 16384 few in
     let bytes = longer part_bytes may_write_part (λ p. length p.rects) 7 2941 part_length parts list.1 in
     let behind = length parts ∷ flat_map part_bytes parts in
     omega (arith, count, rects, bytes, long_length number, flag_length fresh, length-append (long_bytes number) (flag_bytes fresh ++ behind), length-append (flag_bytes fresh) behind)

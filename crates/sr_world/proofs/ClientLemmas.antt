@@ -15,10 +15,10 @@ use Rattle.sr_model.specs.Queries.{Query}
 use Rattle.sr_policy.specs.declared.policy.Limits.{Limits}
 use Rattle.sr_session.specs.Sessions.{Database}
 use Rattle.sr_session.specs.Clients as session
-use Rattle.sr_session.specs.Clients.{Connection, Pair}
-use Rattle.sr_session.specs.Refusals.{has_few_parts, is_request_of}
+use Rattle.sr_session.specs.Clients.{Connection}
+use Rattle.sr_session.specs.Refusals.{is_request_of}
 use Rattle.sr_session.specs.Rules as rules
-use Rattle.sr_session.specs.Rules.{Basis, Outcome, sent_of, AlreadyCut, CutDone}
+use Rattle.sr_session.specs.Rules.{Basis, Outcome, sent_of}
 use Rattle.sr_session.specs.Scenes.{ClientIdle, CutOf, Did, Event, EvictOf, Happens, QueryOf, ResumeOf, Scene, ToClient, WriteOf, acted, client_idle, client_took, cut, cut_off, evicted, queried, resumed, with_pair, wrote}
 use Rattle.sr_client.specs.declared.client.Client.{Client}
 use Rattle.sr_client.specs.declared.steps.CutStep.{CutStep}
@@ -32,24 +32,23 @@ use Rattle.sr_client.specs.declared.steps.WriteStep.{WriteStep}
 use Rattle.sr_client.specs.declared.steps.WriteStep.TheVariants as writes
 use Rattle.sr_client.specs.declared.steps.Took.{Took}
 use Rattle.sr_client.specs.declared.steps.Took.TheVariants as took
-use Rattle.sr_client.specs.Stands.{StandsOver, Stays, basis_of, drawn, out_of}
+use Rattle.sr_client.specs.Stands.{StandsOver, Stays, drawn, out_of}
 use Rattle.sr_client.specs.Steps.{Cuts, Evicts, Goes, Queries, Resumes, SaysCut, SaysEvict, SaysQuery, SaysResume, SaysTook, SaysWrite, Takes, Writes}
 use Rattle.sr_wire.specs.Limits.{IsSendable}
-use Rattle.sr_client.specs.Sends.{IsOfFormat, IsWellSent, QuerySendsWell, ResumeSendsWell, TookSendsWell, WriteSendsWell}
+use Rattle.sr_client.specs.Sends.{IsOfFormat, QuerySendsWell, ResumeSendsWell, TookSendsWell, WriteSendsWell}
 use Rattle.sr_server.specs.declared.server.Server.{Server}
 use Rattle.sr_server.specs.Servers.{IsServer, with_session}
 use Rattle.sr_runs.specs.Lines.{cut_line, details, evict_line, lines_of, query_line, resume_line, taken_line, write_line}
 use Rattle.sr_session.specs.Texts.{long_text, most_text}
+use Rattle.sr_session.specs.Bases.{basis_of}
 use Rattle.sr_runs.specs.Runs.{Acts, acts, too_long}
 use Rattle.sr_runs.specs.Scripts.{Is, is_cut, is_evict, is_query, is_resume, is_to_client, is_write_of}
 use Rattle.sr_world.specs.declared.lines.Told.{Told}
 use Rattle.sr_world.specs.declared.seat.Seat.{Seat}
 use Rattle.sr_world.specs.Seats.{IsSomeSeat, SeatGoes, SeatLeads, SeatStands}
-use Rattle.sr_world.specs.Told.{QueryAsksFew, TookAsksFew}
 use Rattle.sr_world.specs.Worlds.{drawn_by, rank, weight}
-use Rattle.sr_world.proofs.Numbers.{cut-draws, drawn-is, evict-draws, past_drawn, query-draws, rank-is, resume-draws, take-draws, write-draws}
+use Rattle.sr_world.proofs.Numbers.{cut-draws, drawn-is, past_drawn, query-draws, rank-is, resume-draws, take-draws, write-draws}
 use Rattle.sr_world.proofs.Over.{grows-none}
-use Rattle.sr_world.proofs.Requests.{request-parts}
 use Rattle.sr_world.proofs.SeatLemmas.{client-leads, pair-stands, promises-are-true, seat-leads, seat-stays}
 
 -- An outcome is told by its details and the last line of its kind, and what it sends goes out.
@@ -65,9 +64,6 @@ by-limits Rule s n seat server h rule = subst (λ (l : Limits). Rule (basis_of s
 sends-one : (schema : List Table) (n : ℕ) (m : Message) → is_request_of schema n m ≡ true → list_all (is_request_of schema n) (m ∷ []) ≡ true
 sends-one schema n m is = rw is refl
 
-few-parts : (schema : List Table) (n : ℕ) (m : Message) → is_request_of schema n m ≡ true → has_few_parts m ≡ true
-few-parts schema n m is = (request-parts schema n m is).parts
-
 -- ---- what is sent
 
 -- what a step tells to be sent is what its outcome sends, which may be sent
@@ -82,12 +78,6 @@ none-sent : (m : Message) → [] ≡ m ∷ [] → IsSendable m
 none-sent m is = absurd (cc)
 
 -- ---- queries
-
-pub query-few : (schema : List Table) (n : ℕ) (step : QueryStep) → QuerySendsWell schema n step → QueryAsksFew step
-query-few schema n (query.Answered q version rows marks) sends = tt
-query-few schema n (query.Asked q request message marks) sends = few-parts schema n message sends.request
-query-few schema n (query.Busy request) sends = tt
-query-few schema n (query.Down number marks) sends = tt
 
 query-sends : (schema : List Table) (n : ℕ) (past : session.Client) (step : QueryStep) (o : Outcome) → QuerySendsWell schema n step → SaysQuery past step o → list_all (is_request_of schema n) (sent_of o) ≡ true
 query-sends schema n past (query.Answered q version rows marks) o sends says = rw says refl
@@ -184,15 +174,6 @@ evict-goes {E} old new server place step (Ok lines) does kept rest tells = goes
         (evicted n place h.pair g.outcome g.next h.there (by-limits (λ b. rules.EvictStep b place past g.outcome g.next) s n old server h g.allowed))
         (tells g.outcome g.is ∙ ap (λ k. details k g.outcome ++ evict_line k g.outcome) (stays.id ∙ h.seat.number))
 
-pub evict-numbers : (old : Seat) (new : Client) (place : ℕ) (step : EvictStep) → (server : Server) × IsSomeSeat old server → Evicts old.client place new step
-    → drawn new + new.cuts ≤ drawn_by old + 2
-evict-numbers old new place step some does =
-    let h = some.1.2 in
-    let db = some.1.0.database in
-    let past = h.pair.client in
-    let g = does.by_rules db past h.seat.client in
-    few-numbers db past g.next old.client new h.seat.client g.stands (evict-draws (basis_of db old.client.store.limits) place past g.outcome g.next g.allowed)
-
 -- ---- a cut
 
 pub cut-goes : {E : Type 0} (old new : Seat) (server after : Server) (step : CutStep) (r : Result (List TraceLine) E)
@@ -233,17 +214,6 @@ cut-numbers old new step server some does =
     few-numbers db past g.next old.client new h.seat.client g.stands (cut-draws past g.outcome g.next g.allowed)
 
 -- ---- a message
-
-pub took-few : (schema : List Table) (n : ℕ) (step : Took) → TookSendsWell schema n step → TookAsksFew step
-took-few schema n took.Laid sends = tt
-took-few schema n (took.Applied version marks) sends = tt
-took-few schema n (took.Forgot version marks) sends = tt
-took-few schema n (took.Answered q version rows marks) sends = tt
-took-few schema n (took.Asked request message marks) sends = few-parts schema n message sends.request
-took-few schema n (took.Written request version marks) sends = tt
-took-few schema n (took.Refused request fault marks) sends = tt
-took-few schema n (took.Welcomed version kept marks) sends = tt
-took-few schema n (took.Bad why) sends = tt
 
 took-sends : (schema : List Table) (n : ℕ) (step : Took) (o : Outcome) → TookSendsWell schema n step → SaysTook step o → list_all (is_request_of schema n) (sent_of o) ≡ true
 took-sends schema n took.Laid o sends says = rw says refl

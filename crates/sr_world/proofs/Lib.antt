@@ -17,6 +17,5 @@ mod SettleLemmas
 mod Sound
 mod StepLemmas
 mod Sums
-mod Tests
 mod Texts
 mod WorldLemmas

@@ -1,9 +1,9 @@
 -- A world before anything happens.
 use Rattle.std.proofs.Common.{◌≡◌, ℕ, zero, suc, ◌+◌, ◌-◌, ◌<◌, ◌≤◌, true, false, List, [], ◌∷◌, ◌++◌, length, refl, sym, ◌∙◌, ap, subst, arith, inl, inr, Option, Some, None}
-use Rattle.std.specs.Prelude.{◌⊎◌, ◌==◌, replicate, slice_get, slice_index_or, slice_set}
-use Rattle.std.proofs.lemmas.Bool.Decides.{nat_tests}
+use Rattle.std.specs.Prelude.{◌⊎◌, replicate, slice_get, slice_index_or, slice_set}
 use Rattle.std.proofs.lemmas.List.{get_or-set_same, get_or-set_other, length-append, length-replicate}
 use Rattle.sr_cell.specs.declared.table.Table.{Table}
+use Rattle.sr_cell.proofs.Numbers.{eqb_same}
 use Rattle.sr_log.specs.Held.{newest as newest_of}
 use Rattle.sr_message.specs.declared.message.Message.TheVariants.{Hello}
 use Rattle.sr_model.specs.Statements.{Tables}
@@ -29,11 +29,8 @@ use Rattle.sr_world.proofs.WorldLemmas.{same-or}
 
 -- ---- the first message
 
-begins-itself : (n : ℕ) → (n == n) ≡ true
-begins-itself n = grind (arith, nat_tests)
-
 hello-by : (schema : List Table) (session : Option Session) (n : ℕ) → session ≡ None → server_misfit schema session n (Hello n 0) ≡ None
-hello-by schema None n is = rw (begins-itself n) refl
+hello-by schema None n is = rw (eqb_same n) refl
 hello-by schema (Some s) n is = absurd (cc)
 
 pub hello-fits : (schema : List Table) (sessions : List (Option Session)) (n : ℕ) → session_at sessions n ≡ None → server_misfit schema (session_at sessions n) n (Hello n 0) ≡ None

@@ -9,7 +9,7 @@ use Rattle.sr_history.specs.declared.mark.Mark.{Mark}
 use Rattle.sr_session.specs.Sessions.{Database}
 use Rattle.sr_session.specs.Walks.{Request, AskOut, WriteOut, ResumeOut, has_lapse}
 use Rattle.sr_session.specs.Clients.{Client, Pair, Stands, Flows, is_down, is_idle, is_open, is_resuming, is_sent, is_served}
-use Rattle.sr_session.specs.Rules.{Answering, AnswerStep, Basis, Before, CutStep, EvictStep, Outcome, QueryStep, ResumeStep, TakeStep, WriteStep, already_cut, already_up, answering_now, answering_then, answers, applies, as_it_is, asks_once_more, cuts, emptied, evict_busy, evicts, evicts_none, forgets, given_up, is_welcomed, lays, query_answered, query_asks, query_busy, query_down, query_refused, refused_write, renewed, resumes, sent_of, with_answered, with_query, write_busy, write_down, write_sends, written}
+use Rattle.sr_session.specs.Rules.{Answering, AnswerStep, Basis, Before, CutStep, Outcome, QueryStep, ResumeStep, TakeStep, WriteStep, already_cut, already_up, answering_now, answering_then, answers, applies, as_it_is, asks_once_more, cuts, emptied, forgets, given_up, is_welcomed, lays, query_answered, query_asks, query_busy, query_down, query_refused, refused_write, renewed, resumes, sent_of, with_answered, with_query, write_busy, write_down, write_sends, written}
 use Rattle.sr_client.specs.declared.client.Client as code
 use Rattle.sr_client.specs.declared.client.Request as request
 use Rattle.sr_client.specs.declared.client.Request.TheVariants.{Ask, Write, Resume}
@@ -75,11 +75,6 @@ query-draws b c text o new (query_answered q rows marks n out asks right step) =
 query-draws b c text o new (query_down q drops old ask others out before cut asks) = omega (arith, before-draws b q c drops new before)
 query-draws b c text o new (query_asks q drops old ask others fresh out before cut asks few where_fresh) =
     omega (arith, before-draws b q c drops old before, one-more q false old)
-
-pub evict-draws : (b : Basis) (place : ℕ) (c : Client) (o : Outcome) (new : Client) → EvictStep b place c o new → past_drawn new ≤ past_drawn c + 2
-evict-draws b place c o new (evict_busy request out) = omega arith
-evict-draws b place c o new (evicts_none classes out are few) = omega arith
-evict-draws b place c o new (evicts classes chosen d out are there drop) = omega arith
 
 pub write-draws : (sql : List ℕ) (c : Client) (o : Outcome) (new : Client) → WriteStep sql c o new → past_drawn new ≤ past_drawn c + 2
 write-draws sql c o new (write_busy request out) = omega arith

@@ -11,7 +11,7 @@ use Rattle.sr_runs.specs.Runs.{Runs, Steps, ends, goes_on, numbered}
 use Rattle.sr_io.specs.Pieces.{WritesPrefix}
 use Rattle.sr_io.proofs.SoFar.{Appends-append}
 use Rattle.sr_world.specs.declared.world.World.{World}
-use Rattle.sr_world.specs.Worlds.{Goes, Represents}
+use Rattle.sr_world.specs.Worlds.{Goes}
 use Rattle.sr_world.specs.Ran.{Ran, RanWhole, RanPart}
 
 pub trace_text-append : (schema : List Table) (a b : List (ℕ × TraceLine)) → trace_text schema (a ++ b) ≡ trace_text schema a ++ trace_text schema b

@@ -1,8 +1,9 @@
 -- What the server does for a client is an event of the scene.
 use Rattle.std.proofs.Common.{◌≡◌, ℕ, true, false, List, [], ◌∷◌, ◌++◌, length, refl, sym, ◌∙◌, ap, subst, Option, Some, None, Result, Ok, Err}
-use Rattle.std.specs.Prelude.{◌↔◌, IfOk, OnOk, IsNone}
+use Rattle.std.specs.Prelude.{◌↔◌, OnOk, IsNone}
 use Rattle.std.specs.Option.{is_some}
 use Rattle.std.specs.List.{list_all}
+use Rattle.std.specs.Cmp.{first_so, second_so}
 use Rattle.sr_cell.specs.declared.fault.Fault.{Fault}
 use Rattle.sr_message.specs.declared.message.Message.{Message}
 use Rattle.sr_script.specs.declared.line.TraceLine.TheVariants as line
@@ -10,7 +11,7 @@ use Rattle.sr_lines.specs.Events.{DoPush, DoToServer}
 use Rattle.sr_model.specs.Statements.{Tables}
 use Rattle.sr_session.specs.Sessions.{Database, Session, newest, serve_push, tables_of}
 use Rattle.sr_session.specs.Clients.{Pair}
-use Rattle.sr_session.specs.Refusals.{has_few_parts, is_request_of, server_misfit}
+use Rattle.sr_session.specs.Refusals.{is_request_of, server_misfit}
 use Rattle.sr_session.specs.Scenes.{PushClosed, PushTo, Pushed, Scene, ServerIdle, ServerTook, Taken, ToServer, given, push_closed, pushed, server_idle, server_took, taken}
 use Rattle.sr_server.specs.declared.server.Server.{Server}
 use Rattle.sr_server.specs.Servers.{IsServer, Takes, session_at, with_session}
@@ -22,10 +23,9 @@ use Rattle.sr_world.specs.Worlds.{IsSeat}
 use Rattle.sr_wire.specs.declared.bad_frame.BadFrame.{BadFrame}
 use Rattle.sr_world.specs.Seats.{IsSomeSeat, SeatGoes, SeatStands}
 use Rattle.sr_world.proofs.Over.{Grows, grows-none, grows-taken}
-use Rattle.sr_world.proofs.Requests.{no-misfit, request-parts}
+use Rattle.sr_world.proofs.Requests.{no-misfit}
 use Rattle.sr_world.proofs.SeatLemmas.{pair-stands, seat-leads, seat-stays}
 use Rattle.sr_world.proofs.Sound.{sound-of}
-use Rattle.sr_world.proofs.Tests.{and_left, and_right}
 use Rattle.sr_world.proofs.Texts.{is-given}
 
 -- ---- a push
@@ -85,13 +85,9 @@ is-oldest s n old server m queue h first =
     let all : list_all (is_request_of s.database.schema n) (m ∷ queue) ≡ true = subst (λ ms. list_all (is_request_of s.database.schema n) ms ≡ true) first h.seat.requests in
     record {
       first = sym h.seat.to_server ∙ first;
-      is = and_left (is_request_of s.database.schema n m) (list_all (is_request_of s.database.schema n) queue) all;
-      others = and_right (is_request_of s.database.schema n m) (list_all (is_request_of s.database.schema n) queue) all;
+      is = first_so (is_request_of s.database.schema n m) (list_all (is_request_of s.database.schema n) queue) all;
+      others = second_so (is_request_of s.database.schema n m) (list_all (is_request_of s.database.schema n) queue) all;
     }
-
--- so it has few parts
-pub oldest-parts : (old : Seat) (server : Server) (m : Message) (queue : List Message) (s : Scene) (n : ℕ) → SeatStands s n old server → old.to_server ≡ m ∷ queue → has_few_parts m ≡ true
-oldest-parts old server m queue s n h first = let o = is-oldest s n old server m queue h first in (request-parts s.database.schema n m o.is).parts
 
 -- and nothing stands against it
 pub oldest-fits : (old : Seat) (server : Server) (m : Message) (queue : List Message) (s : Scene) (n : ℕ) → SeatStands s n old server → old.to_server ≡ m ∷ queue
@@ -135,10 +131,6 @@ serve-goes old new server after m queue sent first takes made = λ s n h.
     }))
 
 -- ---- what was answered
-
-pub each-ok : {T E : Type 0} (P : T → Type 0) (r : Result T E) (value : T) → IfOk r (λ x. x ≡ value) → P value → IfOk r P
-each-ok P (Ok x) value is p = subst P (sym is) p
-each-ok P (Err e) value is p = tt
 
 pub always-ok : {T E : Type 0} (P : Type 0) (r : Result T E) → P → OnOk r P
 always-ok P (Ok x) p = p

@@ -1,5 +1,5 @@
 -- Deliveries one after another.
-use Rattle.std.proofs.Common.{◌≡◌, ℕ, suc, ◌+◌, ◌≤◌, true, false, List, [], ◌∷◌, ◌++◌, length, refl, sym, ◌∙◌, subst, arith, append_assoc, append-nil, Some, None}
+use Rattle.std.proofs.Common.{◌≡◌, ℕ, suc, ◌+◌, false, List, [], ◌∷◌, ◌++◌, refl, sym, ◌∙◌, subst, arith, append_assoc, append-nil, Some, None}
 use Rattle.sr_message.specs.declared.message.Message.{Message}
 use Rattle.sr_script.specs.declared.line.TraceLine.{TraceLine}
 use Rattle.sr_lines.specs.Events.{DoToClient, DoToServer, ScriptEvent}
@@ -7,7 +7,7 @@ use Rattle.sr_session.specs.Scenes.{Scene}
 use Rattle.sr_server.specs.declared.server.Server.{Server}
 use Rattle.sr_runs.specs.Runs.{Acts, Settles, delivers, is_quiet, next_delivery, next_of}
 use Rattle.sr_world.specs.declared.seat.Seat.{Seat}
-use Rattle.sr_world.specs.Seats.{Delivers, IsSomeSeat, LeavesOthers, SeatGoes, has_mail, mail}
+use Rattle.sr_world.specs.Seats.{Delivers, IsSomeSeat, LeavesOthers, SeatGoes, has_mail}
 
 -- ---- one after another
 
@@ -106,14 +106,3 @@ settles-all k one two a b lines none goes = λ s n h.
       stands = x.stands;
       others = x.others;
     }
-
--- ---- mail
-
-pub some-mail : (to_server to_client : List Message) → has_mail to_server to_client ≡ true → mail to_server to_client ≡ 1
-some-mail to_server to_client is = rw is refl
-
--- once the loop has ended: something was sent, or nothing is left
-pub mail-left : (to_server to_client : List Message) → ((to_server ≡ []) × ((to_client ≡ []) → ⊥) → ⊥) → mail to_server to_client ≤ length to_server
-mail-left [] [] ended = omega arith
-mail-left [] (m ∷ to_client) ended = absurd (ended (refl, λ none. absurd (cc)))
-mail-left (m ∷ to_server) to_client ended = omega arith

@@ -1,13 +1,12 @@
 -- Steps of a world: an event of a script, and the deliveries behind it.
 use Rattle.std.proofs.Common.{append-nil, ◌≡◌, ℕ, suc, ◌+◌, ◌-◌, ◌≤◌, Bool, true, false, List, [], ◌∷◌, ◌++◌, length, refl, sym, ◌∙◌, ap, subst, arith, inl, inr, Some, Result, Ok, Err}
-use Rattle.std.specs.Prelude.{IfOk, IsTrue, OnOk, nat_le}
-use Rattle.std.proofs.lemmas.Bool.Decides.{nat_tests}
+use Rattle.std.specs.Prelude.{IfOk, OnOk}
 use Rattle.sr_cell.specs.declared.fault.Fault.{Fault}
 use Rattle.sr_cell.specs.declared.table.Table.{Table}
 use Rattle.sr_model.specs.Queries as model
 use Rattle.sr_query.specs.declared.query.Query.{Query}
 use Rattle.sr_query.specs.declared.write.Write.{Write}
-use Rattle.sr_reader.specs.Read.{Means, is_client, statement_of}
+use Rattle.sr_reader.specs.Read.{Means, statement_of}
 use Rattle.sr_script.specs.declared.line.TraceLine.{TraceLine}
 use Rattle.sr_script.specs.declared.line.TraceLine.TheVariants as line
 use Rattle.sr_lines.specs.Events.{DoExec, DoExplain, DoQuery, DoSettle, ScriptEvent}
@@ -21,19 +20,9 @@ use Rattle.sr_runs.specs.Scripts.{is_exec, is_query}
 use Rattle.sr_world.specs.declared.world.World.{World}
 use Rattle.sr_world.specs.Worlds.{Goes, IsNumber, IsWorld, Represents, StandsForSome, drawn, potential}
 use Rattle.sr_world.proofs.SeatLemmas.{put-same}
-use Rattle.sr_world.proofs.Tests.{and_left, and_right}
 use Rattle.sr_world.proofs.WorldLemmas.{potential-within, there-is}
 
 -- ---- numbers
-
-pub number-of : (w : World) (n : ℕ) → IsTrue (is_client (length w.seats.items) n) → IsNumber w n
-number-of w n is =
-    let low = and_left (nat_le 1 n) (nat_le n (length w.seats.items)) is in
-    let high = and_right (nat_le 1 n) (nat_le n (length w.seats.items)) is in
-    (grind (arith, nat_tests, low), grind (arith, nat_tests, high))
-
-pub settle-room : (w : World) (s : Scene) → Represents w s → potential w ≤ drawn w + 192
-settle-room w s r = potential-within w s r
 
 -- after an event that draws at most two numbers
 pub potential-after : {E : Type 0} (Leads : Scene → List TraceLine → Scene → Type 0) (old new : World) (r : Result (List TraceLine) E) → StandsForSome old → IfOk r (Goes Leads old new) → OnOk r (drawn new ≤ drawn old + 2)
@@ -58,9 +47,6 @@ acts-does {E} old new what real (Ok lines) is goes = λ s r.
     let x = goes s r in
     (x.0, subst (λ e. Does s e lines x.0) (sym is) (does real lines x.0 x.1), x.2)
 acts-does {E} old new what real (Err e) is goes = tt
-
-pub same-does : {E : Type 0} (old new : World) (what real : ScriptEvent) (r : Result (List TraceLine) E) → what ≡ real → IfOk r (Goes (λ s. Does s real) old new) → IfOk r (Goes (λ s. Does s what) old new)
-same-does {E} old new what real r is goes = subst (λ e. IfOk r (Goes (λ s. Does s e) old new)) (sym is) goes
 
 pub exec-text : (w : World) (fault : Fault) → Goes (λ s. Acts s (DoExec (Err fault))) w w (line.ExecRefused fault ∷ [])
 exec-text w fault = λ s r. (s, acts (DoExec (Err fault)) (Exec (Err fault)) (NotExecuted fault) s (is_exec (Err fault)) (not_executed fault), r)
@@ -126,10 +112,6 @@ pub refuses-exec : {E : Type 0} (w : World) (statement : Result Write Fault) (fa
 refuses-exec {E} w statement fault (Err e) is told = tt
 refuses-exec {E} w statement fault (Ok lines) is told =
     subst (λ x. Goes (λ s. Acts s (DoExec (statement_of x))) w w lines) (sym is) (subst (Goes (λ s. Acts s (DoExec (Err fault))) w w) (sym told) (exec-text w fault))
-
-pub carries-out : {E : Type 0} (old new : World) (statement : Result Write Fault) (write : Write) (r : Result (List TraceLine) E) → statement ≡ Ok write
-    → IfOk r (Goes (λ s. Acts s (DoExec (statement_of (let here : Result Write Fault = Ok write in here)))) old new) → IfOk r (Goes (λ s. Acts s (DoExec (statement_of statement))) old new)
-carries-out {E} old new statement write r is goes = subst (λ x. IfOk r (Goes (λ s. Acts s (DoExec (statement_of x))) old new)) (sym is) goes
 
 -- ---- a settle
 

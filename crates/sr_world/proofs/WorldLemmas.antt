@@ -1,7 +1,7 @@
 -- What happens to one seat of a world happens to the world.
 use Rattle.std.proofs.Common.{◌≡◌, ℕ, zero, suc, ◌+◌, ◌<◌, ◌≤◌, List, [], ◌∷◌, length, refl, sym, ◌∙◌, ap, subst, arith, inl, inr, Some}
 use Rattle.std.specs.Prelude.{◌⊎◌, slice_get, slice_index_or, slice_set, sum_by}
-use Rattle.std.proofs.lemmas.Option.{slice_get_read}
+use Rattle.std.proofs.lemmas.Option.{slice_get_read, slice_get_within}
 use Rattle.std.proofs.lemmas.List.{length-set}
 use Rattle.sr_log.specs.Held.{newest as newest_of}
 use Rattle.sr_script.specs.declared.line.TraceLine.{TraceLine}
@@ -18,7 +18,7 @@ use Rattle.sr_world.specs.Seats.{LeavesOthers, SeatGoes, SeatStands}
 use Rattle.sr_world.specs.Lent.{IsLent}
 use Rattle.sr_world.proofs.LentLemmas.{is-lent}
 use Rattle.sr_world.proofs.Numbers.{few-sent, low-rank}
-use Rattle.sr_world.proofs.Sums.{sum-below, sum-set, sum-under, sum-within}
+use Rattle.sr_world.proofs.Sums.{sum-below, sum-under, sum-within}
 
 -- ---- places
 
@@ -26,11 +26,6 @@ pub there-is : {X : Type 0} (xs : List X) (i : ℕ) → i < length xs → (x : X
 there-is {X} [] i within = absurd (omega (arith, within))
 there-is {X} (x ∷ xs) zero within = (x, refl)
 there-is {X} (x ∷ xs) (suc i) within = there-is xs i (omega (arith, within))
-
-pub is-within : {X : Type 0} (xs : List X) (i : ℕ) (x : X) → slice_get xs i ≡ Some x → i < length xs
-is-within {X} [] i x is = absurd (cc)
-is-within {X} (y ∷ xs) zero x is = omega arith
-is-within {X} (y ∷ xs) (suc i) x is = omega (arith, is-within xs i x is)
 
 pub same-or : (a b : ℕ) → (a ≡ b) ⊎ (a ≡ b → ⊥)
 same-or zero zero = inl refl
@@ -47,11 +42,11 @@ same-or (suc a) (suc b) = by (same-or a b)
 -- the number of a pair is that of a client
 pair-number : (s : Scene) (k : ℕ) (pair : Pair) → length s.pairs ≤ 64 → pair_at s k ≡ Some pair → IsClientNumber k
 pair-number s zero pair few is = absurd (cc)
-pair-number s (suc k) pair few is = (omega arith, omega (arith, few, is-within s.pairs k pair is))
+pair-number s (suc k) pair few is = (omega arith, omega (arith, few, slice_get_within s.pairs k pair is))
 
 pub seat-stands : (w : World) (s : Scene) (place : ℕ) (seat : Seat) → Represents w s → slice_get w.seats.items place ≡ Some seat → SeatStands s (suc place) seat w.server
 seat-stands w s place seat r is =
-    let found = there-is s.pairs place (let count = r.count in omega (arith, count, is-within w.seats.items place seat is)) in
+    let found = there-is s.pairs place (let count = r.count in omega (arith, count, slice_get_within w.seats.items place seat is)) in
     record {
       number = pair-number s (suc place) found.0 r.few found.1;
       pair = found.0;
@@ -131,15 +126,6 @@ one-seat Leads old new n place seat after lines number there made spent goes = �
     (l.next, subst (λ k. Leads k s lines l.next) (sym number) l.leads, represents-after old new s l.next place seat after r there made l.stands l.others spent)
 
 -- ---- numbers
-
--- of one seat and of all
-pub world-draws : (f : Seat → ℕ) (old new : World) (place k : ℕ) (seat after : Seat) → slice_get old.seats.items place ≡ Some seat → new.seats.items ≡ slice_set old.seats.items place after
-    → newest_of new.server.log + f after ≤ (newest_of old.server.log + f seat) + k
-    → newest_of new.server.log + sum_by f new.seats.items ≤ (newest_of old.server.log + sum_by f old.seats.items) + k
-world-draws f old new place k seat after there made own =
-    let sum : sum_by f (slice_set old.seats.items place after) + f seat ≡ sum_by f old.seats.items + f after = sum-set f old.seats.items place seat after there in
-    let same : sum_by f new.seats.items ≡ sum_by f (slice_set old.seats.items place after) = ap (sum_by f) made in
-    omega (arith, own, sum, same)
 
 pub seat-within : (f : Seat → ℕ) (w : World) (place : ℕ) (seat : Seat) → slice_get w.seats.items place ≡ Some seat → newest_of w.server.log + f seat ≤ newest_of w.server.log + sum_by f w.seats.items
 seat-within f w place seat there = omega (arith, sum-within f w.seats.items place seat there)

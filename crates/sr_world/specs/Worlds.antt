@@ -1,6 +1,7 @@
 -- Which scenes a world stands for.
 use Rattle.std.specs.Prelude.{ℕ, zero, suc, true, false, ◌+◌, ◌≤◌, ◌≡◌, ◌⊎◌, List, length, slice_get, sum_by, if◌then◌else◌, Option, Some, None}
 use Rattle.std.specs.List.{list_all}
+use Rattle.sr_cell.specs.Clients.{most_clients}
 use Rattle.sr_log.specs.Held.{newest as newest_of}
 use Rattle.sr_policy.specs.declared.policy.Limits.{Limits}
 use Rattle.sr_script.specs.declared.line.TraceLine.{TraceLine}
@@ -12,7 +13,7 @@ use Rattle.sr_client.specs.declared.client.Request as code
 use Rattle.sr_client.specs.declared.client.Request.TheVariants.{Ask, Write, Resume}
 use Rattle.sr_client.specs.Stands.{StandsOver}
 use Rattle.sr_client.specs.Stands as client
-use Rattle.sr_server.specs.Servers.{IsServer, most_clients, session_at}
+use Rattle.sr_server.specs.Servers.{IsServer, session_at}
 use Rattle.sr_world.specs.declared.seat.Seat.{Seat}
 use Rattle.sr_world.specs.declared.world.World.{World}
 

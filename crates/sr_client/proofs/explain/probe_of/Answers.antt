@@ -1,8 +1,8 @@
 use Rattle.std.proofs.Common.{◌≡◌, ◌∷◌, [], ◌++◌, true, false, refl, sym, ◌∙◌, ap, subst, arith, inl, inr}
 use Rattle.sr_union.specs.Pieces.{IsMeet}
+use Rattle.sr_union.proofs.Among.{AreCutFrom-fits}
 use Rattle.sr_explain.specs.declared.explanation.ProbeView.{ProbeView}
 use Rattle.sr_client.specs.Explaining.{AreProbes, nothing, away, probed}
-use Rattle.sr_client.proofs.ExplainLemmas.{cut-fits}
 use Rattle.sr_client.proofs.explain.probe_of.Goals as goal
 
 pub returns-then-not-serves : goal.returns-then-not-serves
@@ -36,5 +36,5 @@ returns c =
       stamp = refl;
       some = λ none. absurd (let wrong : true ≡ false = sym (c.is_empty.ensures.1 none) ∙ c.if-is_empty.false in cc);
       common = c.in_ok-rects.ensures.points;
-      fits = λ columns one other. cut-fits columns (part.rects ++ region.rects) rects (c.in_ok-rects.ensures.cuts columns one other);
+      fits = λ columns one other. AreCutFrom-fits columns (part.rects ++ region.rects) rects (c.in_ok-rects.ensures.cuts columns one other);
     }) nothing)

@@ -1,4 +1,4 @@
-use Rattle.std.proofs.Common.{rules, ◌≡◌, ◌∷◌, [], ◌++◌, refl, sym, subst, arith, take}
+use Rattle.std.proofs.Common.{rules, [], sym, subst}
 use Rattle.sr_client.specs.Explaining.{AreProbes, nothing}
 use Rattle.sr_client.proofs.ExplainLemmas.{probes-more}
 use Rattle.sr_client.proofs.explain.probes_of.Goals as goal

@@ -1,5 +1,5 @@
-use Rattle.std.proofs.Common.{rules, ◌≡◌, ◌∷◌, [], ◌∙◌, sym, ap, None}
-use Rattle.sr_session.specs.Misfits.{goes_on, last_came}
+use Rattle.std.proofs.Common.{rules, ◌∙◌, sym, ap}
+use Rattle.sr_session.specs.Misfits.{goes_on}
 use Rattle.sr_client.proofs.GoesLemmas.{back-own, back-other}
 use Rattle.sr_client.proofs.misfit.goes_on.Goals as goal
 

@@ -1,4 +1,4 @@
-use Rattle.std.proofs.Common.{◌≡◌, ◌-◌, ◌≤◌, take, length, None}
+use Rattle.std.proofs.Common.{◌≡◌, ◌-◌, take, length, None}
 use Rattle.sr_session.specs.Misfits.{last_came}
 use Rattle.sr_client.proofs.misfit.goes_on.Given as goal
 

@@ -1,5 +1,5 @@
 use Rattle.std.proofs.Common.{◌≡◌, drop}
-use Rattle.sr_client.specs.Values.{are_values}
+use Rattle.sr_cell.specs.Columns.{are_values}
 use Rattle.sr_client.proofs.values.know_row.Given as goal
 
 abbrev pub invariant-loop-cell : goal.invariant-loop-cell

@@ -1,6 +1,6 @@
 use Rattle.std.proofs.Common.{◌≡◌, drop}
 use Rattle.std.specs.List.{list_all}
-use Rattle.sr_client.specs.Values.{are_values}
+use Rattle.sr_cell.specs.Columns.{are_values}
 use Rattle.sr_client.proofs.values.know_rows.Given as goal
 
 abbrev pub invariant-loop-row : goal.invariant-loop-row

@@ -1,4 +1,4 @@
-use Rattle.std.proofs.Common.{◌≡◌, ℕ, ◌<◌, ◌∷◌, ◌++◌, ◌+◌, [], length, take, drop, refl, sym, subst, Option, Some, None}
+use Rattle.std.proofs.Common.{◌≡◌, ℕ, [], refl, sym, subst, Option, Some, None}
 use Rattle.std.specs.Prelude.{IsNone}
 use Rattle.sr_policy.specs.Order.{IsVictim}
 use Rattle.sr_store.proofs.Views.{victim_within}

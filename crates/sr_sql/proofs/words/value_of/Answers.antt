@@ -1,13 +1,13 @@
 use Rattle.std.proofs.Common.{arith}
 use Rattle.std.proofs.lemmas.Grind.{common_steps}
-use Rattle.sr_sql.proofs.Digits.{power_le, power_le_more, value_more, digit_at}
+use Rattle.sr_cell.proofs.Digits.{power_le, value_more, digit_at}
 use Rattle.sr_sql.proofs.words.value_of.Goals as goal
 
 pub overflow_mul-value : goal.overflow_mul-value
-overflow_mul-value c = let few = c.requires.0 in grind (arith, few, power_le c.loop-digit.digit-index)
+overflow_mul-value c = let few = c.requires.0 in grind (arith, few, power_le 17 c.loop-digit.digit-index)
 
 pub overflow_add-value : goal.overflow_add-value
-overflow_add-value c = let few = c.requires.0 in grind (arith, few, power_le c.loop-digit.digit-index)
+overflow_add-value c = let few = c.requires.0 in grind (arith, few, power_le 17 c.loop-digit.digit-index)
 
 pub loop-digit-preserved : goal.loop-digit-preserved
 loop-digit-preserved c =
@@ -19,4 +19,4 @@ loop-digit-preserved c =
     }
 
 pub returns-clause-short : goal.returns-clause-short
-returns-clause-short c = let few = c.requires.0 in grind (arith, few, power_le_more c.loop-digit.digit-index)
+returns-clause-short c = let few = c.requires.0 in grind (arith, few, power_le 18 c.loop-digit.digit-index)

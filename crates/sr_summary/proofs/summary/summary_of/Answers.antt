@@ -1,6 +1,5 @@
 use Rattle.std.proofs.Common.{◌≡◌, ℕ, ◌<◌, ◌^◌, List, [], length, Err, sym, ap, subst, ◌∙◌}
 use Rattle.std.specs.Prelude.{IsErrOf}
-use Rattle.sr_generate.specs.Script.{script}
 use Rattle.sr_lines.specs.Lines.{lines_of}
 use Rattle.sr_lines.specs.Script.{FirstRefused}
 use Rattle.sr_summary.specs.Summary.{Traces, counts_of, summary_text}

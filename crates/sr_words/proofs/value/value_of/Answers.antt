@@ -1,13 +1,14 @@
 use Rattle.std.proofs.Common.{arith}
 use Rattle.std.proofs.lemmas.Grind.{common_steps}
-use Rattle.sr_words.proofs.Numbers.{power_le, value_more, digit_at, few_digits, each_digit}
+use Rattle.sr_cell.proofs.Digits.{power_le, value_more, digit_at}
+use Rattle.sr_words.proofs.Numbers.{few_digits, each_digit}
 use Rattle.sr_words.proofs.value.value_of.Goals as goal
 
 pub overflow_mul-value : goal.overflow_mul-value
-overflow_mul-value c = let few = few_digits c.args.digits.now c.requires in grind (arith, few, power_le c.loop-digit.digit-index)
+overflow_mul-value c = let few = few_digits c.args.digits.now c.requires in grind (arith, few, power_le 19 c.loop-digit.digit-index)
 
 pub overflow_add-value : goal.overflow_add-value
-overflow_add-value c = let few = few_digits c.args.digits.now c.requires in grind (arith, few, power_le c.loop-digit.digit-index)
+overflow_add-value c = let few = few_digits c.args.digits.now c.requires in grind (arith, few, power_le 19 c.loop-digit.digit-index)
 
 pub loop-digit-preserved : goal.loop-digit-preserved
 loop-digit-preserved c =

@@ -2,7 +2,7 @@ use Rattle.std.proofs.Common.{◌≡◌, ◌∙◌, ◌+◌, ◌*◌, ◌≤◌,
 use Rattle.std.proofs.lemmas.Grind.{common_steps}
 use Rattle.std.specs.List.{list_all}
 use Rattle.std.specs.Vec.Iter.{into_iter_items}
-use Rattle.sr_reader.specs.Read.{IsEventLine, event_fits}
+use Rattle.sr_reader.specs.Read.{event_fits}
 use Rattle.sr_world.specs.Worlds.{drawn, most_drawn}
 use Rattle.sr_world.proofs.ReplayLemmas.{RanSome-none, RanSome-all, RanSome-part, RanSome-more, RanSome-next, next-said, next-fits, rest-fits, room-now, room-then, ran-there, fits-there}
 use Rattle.sr_world.proofs.replay.run_events.Goals as goal

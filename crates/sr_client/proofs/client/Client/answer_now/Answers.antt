@@ -1,4 +1,4 @@
-use Rattle.std.proofs.Common.{[], ◌∷◌, sym, subst, refl, ◌+◌}
+use Rattle.std.proofs.Common.{[], sym, subst, refl, ◌+◌}
 use Rattle.std.specs.List.{All}
 use Rattle.sr_client.proofs.Calls.{Answers, IsAfter, after-of, answers-of}
 use Rattle.sr_client.proofs.QueryLemmas.{answered-now}

@@ -3,7 +3,6 @@ use Rattle.std.specs.List.{list_all, All}
 use Rattle.sr_store.specs.declared.store.Store.{Store}
 use Rattle.sr_store.specs.Noticed.{IsTellOf, told_to}
 use Rattle.sr_message.specs.declared.message.Message.TheVariants.{Notice}
-use Rattle.sr_client.specs.declared.client.Client.{Client}
 use Rattle.sr_client.specs.declared.steps.Took.TheVariants as took
 use Rattle.sr_client.specs.Stands.{out_of}
 use Rattle.sr_client.specs.Steps.{Takes}

@@ -1,4 +1,4 @@
-use Rattle.std.proofs.Common.{[], true, ◌≡◌, ◌∙◌, ap, sym, subst}
+use Rattle.std.proofs.Common.{true, ◌∙◌, ap, sym, subst}
 use Rattle.sr_message.specs.declared.message.Message.TheVariants.{Ask}
 use Rattle.sr_client.specs.Asking.{whole_asks}
 use Rattle.sr_client.specs.Laying.{asking}

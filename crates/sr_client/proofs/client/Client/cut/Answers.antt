@@ -1,4 +1,4 @@
-use Rattle.std.proofs.Common.{rules, ◌≡◌, ◌+◌, [], List, sym, subst, false}
+use Rattle.std.proofs.Common.{rules, ◌+◌, List, sym, subst}
 use Rattle.sr_message.specs.declared.message.Message.{Message}
 use Rattle.sr_client.specs.declared.steps.CutStep.TheVariants.{Cut}
 use Rattle.sr_client.specs.Steps.{Cuts}

@@ -1,4 +1,4 @@
-use Rattle.std.proofs.Common.{[], ◌≡◌, ◌∙◌, ap, sym, subst}
+use Rattle.std.proofs.Common.{[], ◌∙◌, ap, subst}
 use Rattle.sr_store.specs.declared.store.Store.{Store}
 use Rattle.sr_client.specs.Asking.{whole_asks}
 use Rattle.sr_client.specs.Sending.{IsSent}

@@ -1,4 +1,4 @@
-use Rattle.std.proofs.Common.{rules, ◌≡◌, length, sym, ◌∙◌, ap, subst, Some, None}
+use Rattle.std.proofs.Common.{rules, sym, subst}
 use Rattle.sr_client.specs.declared.client.Client.{Client}
 use Rattle.sr_client.specs.declared.steps.EvictStep.TheVariants.{Dropped, NoSuch}
 use Rattle.sr_client.specs.Steps.{Evicts}

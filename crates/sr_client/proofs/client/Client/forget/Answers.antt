@@ -1,8 +1,5 @@
-use Rattle.std.proofs.Common.{◌≡◌, arith, List, [], map, sym, subst}
-use Rattle.sr_cell.specs.declared.cause.Cause.TheVariants.{Lapsed}
-use Rattle.sr_history.specs.declared.mark.Mark.{Mark}
+use Rattle.std.proofs.Common.{arith, [], sym, subst}
 use Rattle.sr_store.specs.declared.store.Store.{Store}
-use Rattle.sr_store.specs.Stores.{drop_of}
 use Rattle.sr_message.specs.declared.message.Message.TheVariants.{Lapse}
 use Rattle.sr_client.specs.declared.steps.Took.TheVariants as took
 use Rattle.sr_client.specs.Stands.{out_of}

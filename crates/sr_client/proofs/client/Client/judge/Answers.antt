@@ -1,11 +1,11 @@
-use Rattle.std.proofs.Common.{rules, [], ◌≡◌, ◌≤◌, ◌∙◌, subst, sym, ap, arith, length, true, false, None, refl}
+use Rattle.std.proofs.Common.{rules, [], ◌≡◌, ◌≤◌, subst, true, false, None, refl}
 use Rattle.sr_message.specs.Sizes.{most_rects, count_asked}
 use Rattle.sr_client.specs.Asking.{AsksRest}
-use Rattle.sr_client.specs.Cutting.{AreCutAlong, IsOver}
+use Rattle.sr_client.specs.Cutting.{AreCutAlong}
 use Rattle.sr_client.specs.Sending.{IsSent}
 use Rattle.sr_client.specs.Sends.{QuerySendsWell}
 use Rattle.sr_client.specs.Steps.{Queries}
-use Rattle.sr_client.proofs.MeantLemmas.{asks-of, are-meant}
+use Rattle.sr_client.proofs.MeantLemmas.{asks-of}
 use Rattle.sr_client.proofs.QueryLemmas.{query-busy}
 use Rattle.sr_client.proofs.Results.{if_each, of_ok}
 use Rattle.sr_client.proofs.SendLemmas.{query-asks}

@@ -1,5 +1,4 @@
-use Rattle.std.proofs.Common.{◌≡◌, List, sym, subst}
-use Rattle.sr_message.specs.declared.message.Message.{Message}
+use Rattle.std.proofs.Common.{sym, subst}
 use Rattle.sr_client.specs.declared.steps.Took.TheVariants as took
 use Rattle.sr_client.specs.Steps.{Takes}
 use Rattle.sr_client.proofs.LayLemmas.{takes-laid, some-of}

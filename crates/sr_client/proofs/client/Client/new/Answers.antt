@@ -1,5 +1,3 @@
-use Rattle.std.proofs.Common.{sym, subst, List}
-use Rattle.sr_client.specs.Stands.{Stands}
 use Rattle.sr_client.proofs.NewLemmas.{new_stands}
 use Rattle.sr_client.proofs.client.Client.new.Goals as goal
 

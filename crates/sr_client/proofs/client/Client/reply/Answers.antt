@@ -1,12 +1,10 @@
-use Rattle.std.proofs.Common.{rules, ◌≡◌, ◌∙◌, true, false, sym, ap, subst, Option, Some, None}
-use Rattle.std.specs.Prelude.{IfOk}
+use Rattle.std.proofs.Common.{rules, ◌≡◌, ◌∙◌, sym, ap, subst, Option, Some}
 use Rattle.sr_message.specs.declared.message.Message.TheVariants.{Reply}
 use Rattle.sr_session.specs.Rules.{is_given_up}
 use Rattle.sr_client.specs.declared.client.Client.{Client}
 use Rattle.sr_client.specs.declared.client.Request.{Request}
 use Rattle.sr_client.specs.declared.client.Request.TheVariants.{Ask}
 use Rattle.sr_client.specs.Stands.{Stands, IsFit}
-use Rattle.sr_client.specs.Steps.{Takes}
 use Rattle.sr_client.proofs.client.Client.reply.Goals as goal
 
 abbrev with_out : Client → Option Request → Client

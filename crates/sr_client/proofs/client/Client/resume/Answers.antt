@@ -1,4 +1,4 @@
-use Rattle.std.proofs.Common.{rules, ◌≡◌, true, false, sym, subst}
+use Rattle.std.proofs.Common.{rules, sym, subst}
 use Rattle.sr_client.specs.Sends.{IsWellSent}
 use Rattle.sr_client.proofs.SendableLemmas.{first-sent}
 use Rattle.sr_client.proofs.ResumeLemmas.{resume-up, resume-sent}

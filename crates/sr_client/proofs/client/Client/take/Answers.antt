@@ -1,7 +1,4 @@
-use Rattle.std.proofs.Common.{rules, ◌≡◌, ◌∙◌, true, false, sym, ap, subst, refl, List, Some, None}
-use Rattle.std.specs.Prelude.{◌↔◌, IfOk}
-use Rattle.sr_message.specs.declared.message.Message.{Message}
-use Rattle.sr_cell.specs.declared.table.Table.{Table}
+use Rattle.std.proofs.Common.{◌≡◌, ◌∙◌, true, false, sym, subst, refl}
 use Rattle.sr_session.specs.Misfits.{misfit}
 use Rattle.sr_client.specs.declared.client.Client.{Client}
 use Rattle.sr_client.specs.declared.steps.Took.TheVariants.{Bad}

@@ -1,4 +1,4 @@
-use Rattle.std.proofs.Common.{rules, ◌≡◌, ◌≤◌, length, true, false, None, sym, subst, arith}
+use Rattle.std.proofs.Common.{rules, ◌≤◌, length, sym, subst, arith}
 use Rattle.sr_message.specs.declared.message.Message.TheVariants.{Write}
 use Rattle.sr_client.specs.Sends.{IsWellSent}
 use Rattle.sr_client.proofs.SendableLemmas.{write-sent-well}

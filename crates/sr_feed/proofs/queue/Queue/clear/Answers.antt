@@ -1,4 +1,4 @@
-use Rattle.std.proofs.Common.{◌≡◌, [], List, ℕ, length, drop, sym, ap, ◌∙◌, subst}
+use Rattle.std.proofs.Common.{sym, ap, ◌∙◌, subst}
 use Rattle.sr_feed.specs.Frames.{messages_in, AreFramesOf}
 use Rattle.sr_feed.proofs.Frames.{none_in, no_frames, all_passed}
 use Rattle.sr_feed.proofs.queue.Queue.clear.Goals as goal

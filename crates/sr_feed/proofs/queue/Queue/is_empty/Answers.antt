@@ -1,4 +1,4 @@
-use Rattle.std.proofs.Common.{◌≡◌, [], ℕ, length, sym, ◌∙◌, true, nat_eq, arith}
+use Rattle.std.proofs.Common.{◌≡◌, ℕ, sym, ◌∙◌, true, nat_eq, arith}
 use Rattle.std.proofs.lemmas.Bool.Decides.{nat_tests}
 use Rattle.sr_feed.proofs.Frames.{no_bytes, no_messages}
 use Rattle.sr_feed.proofs.queue.Queue.is_empty.Goals as goal

@@ -1,4 +1,4 @@
-use Rattle.std.proofs.Common.{◌≡◌, sym, ◌∙◌, ap, subst}
+use Rattle.std.proofs.Common.{sym, ◌∙◌, subst}
 use Rattle.std.specs.Prelude.{Some, None}
 use Rattle.sr_feed.specs.Taken.{IsInFront}
 use Rattle.sr_feed.proofs.Frames.{none_in_front, passed_frames, passed_message}

@@ -1,5 +1,6 @@
 use Rattle.std.proofs.Common.{rules, refl, subst, ◌∷◌, [], ◌≡◌, List}
 use Rattle.std.proofs.lemmas.Result.{on_ok_weaker}
+use Rattle.sr_client.proofs.Results.{if_ok}
 use Rattle.sr_message.specs.declared.message.Message.{Message}
 use Rattle.sr_script.specs.declared.line.TraceLine.TheVariants as line
 use Rattle.sr_lines.specs.Events.{DoToClient}
@@ -7,7 +8,6 @@ use Rattle.sr_runs.specs.Runs.{Acts}
 use Rattle.sr_world.specs.Seats.{SeatGoes}
 use Rattle.sr_world.proofs.ClientLemmas.{receive-goes, receive-idles, receive-lightens, took-sendable}
 use Rattle.sr_feed.proofs.Frames.{first}
-use Rattle.sr_world.proofs.ServeLemmas.{each-ok}
 use Rattle.sr_world.proofs.seat.Seat.receive.Goals as goal
 
 pub returns-in_default-clause-goes : goal.returns-in_default-clause-goes
@@ -15,7 +15,7 @@ returns-in_default-clause-goes c = λ server.
     let old = c.args.self.now in
     let none : old.to_client ≡ [] = search rules in
     let same : old.to_client ≡ c.pop.new.self = search rules in
-    each-ok (SeatGoes (λ n s. Acts s (DoToClient n)) old server (record old { to_client = c.pop.new.self }) server) c.one_line.result (line.ClientEmpty old.client.id ∷ []) c.one_line.ensures
+    if_ok (SeatGoes (λ n s. Acts s (DoToClient n)) old server (record old { to_client = c.pop.new.self }) server) c.one_line.result (line.ClientEmpty old.client.id ∷ []) c.one_line.ensures
     (subst (λ (ms : List Message). SeatGoes (λ n s. Acts s (DoToClient n)) old server (record old { to_client = ms }) server (line.ClientEmpty old.client.id ∷ [])) same (receive-idles old server none))
 
 pub returns-clause-goes : goal.returns-clause-goes

@@ -1,5 +1,6 @@
 use Rattle.std.proofs.Common.{rules, ap, ◌∙◌, refl, subst, Err, ◌∷◌, [], ◌≡◌, List, length}
 use Rattle.std.specs.Prelude.{IfOk}
+use Rattle.sr_client.proofs.Results.{if_ok}
 use Rattle.sr_message.specs.declared.message.Message.{Message}
 use Rattle.sr_script.specs.declared.line.TraceLine.TheVariants as line
 use Rattle.sr_lines.specs.Events.{DoToServer}
@@ -8,7 +9,7 @@ use Rattle.sr_runs.specs.Runs.{Acts}
 use Rattle.sr_world.specs.declared.seat.Seat.{Seat}
 use Rattle.sr_world.specs.Seats.{SeatGoes}
 use Rattle.sr_feed.proofs.Frames.{first}
-use Rattle.sr_world.proofs.ServeLemmas.{each-ok, not-refused, serve-goes, serve-idles, serve-schema}
+use Rattle.sr_world.proofs.ServeLemmas.{not-refused, serve-goes, serve-idles, serve-schema}
 use Rattle.sr_world.proofs.seat.Seat.serve.Goals as goal
 
 pub returns-in_default-clause-goes : goal.returns-in_default-clause-goes
@@ -17,7 +18,7 @@ returns-in_default-clause-goes c =
     let server = c.args.server.now in
     let none : old.to_server ≡ [] = search rules in
     let same : old.to_server ≡ c.pop.new.self = search rules in
-    each-ok (SeatGoes (λ n s. Acts s (DoToServer n)) old server (record old { to_server = c.pop.new.self }) server) c.one_line.result (line.ServerEmpty old.client.id ∷ []) c.one_line.ensures
+    if_ok (SeatGoes (λ n s. Acts s (DoToServer n)) old server (record old { to_server = c.pop.new.self }) server) c.one_line.result (line.ServerEmpty old.client.id ∷ []) c.one_line.ensures
     (subst (λ (ms : List Message). SeatGoes (λ n s. Acts s (DoToServer n)) old server (record old { to_server = ms }) server (line.ServerEmpty old.client.id ∷ [])) same (serve-idles old server none))
 
 pub returns-in_err-append-in-Ok-clause-schema : goal.returns-in_err-append-in-Ok-clause-schema
@@ -34,7 +35,7 @@ pub returns-in-Ok-clause-goes : goal.returns-in-Ok-clause-goes
 returns-in-Ok-clause-goes c =
     let old = c.args.self.now in
     let new : Seat = record old { to_server = c.pop.new.self; to_client = c.append.new.self } in
-    each-ok (SeatGoes (λ n s. Acts s (DoToServer n)) old c.args.server.now new c.take.new.self) c.served_line.result (served_line old.client.id (length c.in-Ok.sent) c.in-Some.message)
+    if_ok (SeatGoes (λ n s. Acts s (DoToServer n)) old c.args.server.now new c.take.new.self) c.served_line.result (served_line old.client.id (length c.in-Ok.sent) c.in-Some.message)
     (subst (λ k. IfOk c.served_line.result (λ lines. lines ≡ served_line old.client.id k c.in-Some.message)) c.len-frames.ensures c.served_line.ensures)
     (serve-goes old new c.args.server.now c.take.new.self c.in-Some.message c.pop.new.self c.in-Ok.sent (first c.in_ok-oldest.oldest c.in-Some.message c.args.self.now.to_server c.pop.new.self c.in-Some.is c.in_ok-oldest.ensures.taken) c.in-Ok.ensures.taken (rw c.in_ok-append-in-Ok.ensures.appended refl))
 

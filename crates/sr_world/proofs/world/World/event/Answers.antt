@@ -2,12 +2,13 @@ use Rattle.std.proofs.Common.{ℕ, arith, subst, sym, ap, ◌∙◌, List}
 use Rattle.sr_lines.specs.Events.{DoCut, DoEvict, DoExec, DoExplain, DoPush, DoQuery, DoResume, DoToClient, DoToServer, DoWrite}
 use Rattle.sr_reader.specs.Read.{IsEvent, statement_of}
 use Rattle.sr_runs.specs.Runs.{Acts}
-use Rattle.sr_world.proofs.StepLemmas.{acts-does, looked-draws, potential-after, potential-light, settle-room}
+use Rattle.sr_world.proofs.StepLemmas.{acts-does, looked-draws, potential-after, potential-light}
 use Rattle.sr_world.proofs.world.World.event.Goals as goal
+use Rattle.sr_world.proofs.WorldLemmas.{potential-within}
 
 pub settle-requires-clause-room : goal.settle-requires-clause-room
 settle-requires-clause-room c =
-    let within = settle-room c.args.self.now c.requires.world.0 c.requires.world.1 in
+    let within = potential-within c.args.self.now c.requires.world.0 c.requires.world.1 in
     let room = c.requires.room in
     omega (arith, within, room)
 

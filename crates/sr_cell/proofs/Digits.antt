@@ -9,11 +9,8 @@ use Rattle.std.proofs.lemmas.Str.{digit_value_digit}
 use Rattle.std.proofs.lemmas.List.Folds.{list_all_at}
 use Rattle.std.proofs.Math.Nat.{pow-le-pow_right}
 
-pub power_le : (k : ℕ) → k ≤ 17 → 10 ^ k ≤ 10 ^ 17
-power_le k h = pow-le-pow_right (lit< tt) h
-
-pub power_le_more : (k : ℕ) → k ≤ 18 → 10 ^ k ≤ 10 ^ 18
-power_le_more k h = pow-le-pow_right (lit< tt) h
+pub power_le : (most k : ℕ) → k ≤ most → 10 ^ k ≤ 10 ^ most
+power_le most k h = pow-le-pow_right (lit< tt) h
 
 pub digit_at : (ds : List ℕ) (i : ℕ) → list_all is_ascii_digit ds ≡ true → i < length ds → get_or ds i 0 - 48 < 10
 digit_at ds i all h =

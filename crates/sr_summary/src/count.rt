@@ -39,7 +39,7 @@ fn has_second(word: &[u8], line: &[u8]) -> bool
 }
 
 /// How many lines there are.
-pub(crate) fn count_lines(text: &[u8]) -> u64
+pub fn count_lines(text: &[u8]) -> u64
     ensures { result ≡ length (lines_of text.now) }
 {
     let mut count: u64 = 0;
@@ -52,7 +52,7 @@ pub(crate) fn count_lines(text: &[u8]) -> u64
 }
 
 /// How many lines have this second word.
-pub(crate) fn count_second(word: &[u8], text: &[u8]) -> u64
+pub fn count_second(word: &[u8], text: &[u8]) -> u64
     ensures { result ≡ count_of word.now text.now }
 {
     let mut count: u64 = 0;

@@ -1,7 +1,5 @@
 //! What the replay of a script that is made from a number comes to.
 #![tactic(auto)]
 
-mod count;
+pub mod count;
 pub mod summary;
-#[cfg(test)]
-mod tests;

@@ -1,4 +1,5 @@
 //! Summaries, by value.
+use sr_summary::count::{count_lines, count_second};
 use sr_summary::summary::summary_of;
 use std::test::Fail;
 
@@ -12,5 +13,14 @@ fn a_summary_has_seven_lines(rt: HostRuntime) -> Result<(), Fail> {
         }
         Err(_) => assert!(rt; false),
     }
+    Ok(())
+}
+
+#[test]
+fn lines_are_counted(rt: HostRuntime) -> Result<(), Fail> {
+    let text = b"2 row 1, 35\n3 query 1 asked 1\n4 row\n5 drop 1 row\n6 rows row\nrow\n";
+    assert_eq!(rt; count_lines(text), 6);
+    assert_eq!(rt; count_second(b"row", text), 2);
+    assert_eq!(rt; count_second(b"query", text), 1);
     Ok(())
 }

@@ -3,23 +3,16 @@ use Rattle.std.proofs.Common.{◌≡◌, ℕ, zero, suc, ◌+◌, ◌-◌, ◌<�
 use Rattle.std.specs.Prelude.{slice_set, if◌then◌else◌}
 use Rattle.std.proofs.lemmas.Bool.Decides.{nat_tests}
 use Rattle.sr_cell.specs.declared.cell.Cell.{Cell}
-use Rattle.sr_cell.specs.Cells.{Row, cell_at, cell_le, cell_eq}
+use Rattle.sr_cell.specs.Cells.{Row, cell_at, cell_le}
 use Rattle.sr_cell.proofs.Order.{cell_le-trans, cell_eq-sound}
 use Rattle.sr_model.specs.SortedRows.{ascend, has_key, with_row}
 use Rattle.sr_rows.specs.Places.{place_at}
 use Rattle.sr_rows.proofs.Order.{key_lt-le, key_lt-not, is_first, ascend-tail, ascend-first}
-use Rattle.sr_rows.proofs.Places.{has_key-place, with_row-place, first-lacks}
+use Rattle.sr_rows.proofs.Places.{has_key-place, with_row-place, first-lacks, without-none}
 use Rattle.sr_rows.specs.Keys.{without_key}
 
 module _ (key : ℕ) where
   -- ---- the row of a key
-
-  pub without-none : (v : Cell) (rows : List Row) → has_key key v rows ≡ false → without_key key v rows ≡ rows
-  without-none v [] h = refl
-  without-none v (r ∷ rows) h =
-      let other : cell_eq (cell_at r key) v ≡ false = grind arith in
-      let ih = without-none v rows (grind arith) in
-      rw (other, ih) refl
 
   none-behind : (v : Cell) (r : Row) (rows : List Row) → cell_at r key ≡ v → is_first key r rows ≡ true → place_at key v rows ≡ 0
   none-behind v r [] same f = refl
@@ -55,7 +48,7 @@ module _ (key : ℕ) where
           let same = cell_eq-sound (cell_at r key) v (grind arith) in
           let none = none-behind v r rows same (ascend-first key r rows h) in
           let here : at ≡ 0 = omega arith in
-          rw here (without-none v rows (first-lacks key v r rows same (ascend-first key r rows h)))
+          rw here (without-none key v rows (first-lacks key v r rows same (ascend-first key r rows h)))
 
   -- ---- a row in the place of another
 

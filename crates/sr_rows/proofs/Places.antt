@@ -12,6 +12,7 @@ use Rattle.sr_cell.proofs.Order.{cell_le-trans}
 use Rattle.sr_cell.proofs.Lists.{find-none}
 use Rattle.sr_model.specs.SortedRows.{key_lt, ascend, has_key, with_row}
 use Rattle.sr_model.specs.Changes.{row_with}
+use Rattle.sr_rows.specs.Keys.{without_key}
 use Rattle.sr_rows.specs.Places.{place_at, is_apart}
 use Rattle.sr_rows.proofs.Order.{key_lt-le, key_lt-not, is_first, ascend-tail, ascend-first, first-ascend}
 
@@ -114,3 +115,11 @@ with_row-ascend key (r ∷ rows) row h apart =
         → ascend key (if b then r ∷ with_row key rows row else row ∷ r ∷ rows) ≡ true
     go true e a f = first-ascend key r (with_row key rows row) (f (grind (arith, e, apart))) a
     go false e a f = grind (arith, e, h, apart)
+
+-- rows that have no row of the key stay as they are without it
+pub without-none : (key : ℕ) (v : Cell) (rows : List Row) → has_key key v rows ≡ false → without_key key v rows ≡ rows
+without-none key v [] h = refl
+without-none key v (r ∷ rows) h =
+    let other : cell_eq (cell_at r key) v ≡ false = grind arith in
+    let ih = without-none key v rows (grind arith) in
+    rw (other, ih) refl

@@ -3,16 +3,15 @@ use Rattle.std.proofs.Common.{◌≡◌, ℕ, Bool, true, false, cond, not, List
 use Rattle.std.specs.Prelude.{filter, fold, Option, Some, None, if◌then◌else◌}
 use Rattle.std.specs.List.{filter_map, cons_option}
 use Rattle.std.proofs.lemmas.List.Elements.{filter_agree}
-use Rattle.sr_cell.specs.declared.cell.Cell.{Cell}
 use Rattle.sr_cell.specs.declared.table.Table.{Table}
 use Rattle.sr_cell.specs.Cells.{Row, cell_at, cell_eq}
 use Rattle.sr_cell.proofs.Order.{cell_eq-refl}
-use Rattle.sr_model.specs.SortedRows.{ascend, has_key}
+use Rattle.sr_model.specs.SortedRows.{ascend}
 use Rattle.sr_model.specs.Changes.{table_changes, same_row}
 use Rattle.sr_rows.proofs.Order.{is_first, ascend-tail, ascend-first}
 use Rattle.sr_rows.proofs.Elements.{row_eq-refl}
 use Rattle.sr_rows.specs.Keys.{without_key}
-use Rattle.sr_rows.proofs.Places.{first-lacks}
+use Rattle.sr_rows.proofs.Places.{first-lacks, without-none}
 use Rattle.sr_tables.proofs.Keys.{first-differs}
 use Rattle.sr_tables.proofs.Kept.{change_by, changes-kept, map-passed}
 
@@ -63,12 +62,6 @@ module _ (p : Row → Bool) where
         go true ih = grind (arith, ih)
         go false ih = ih
 
-    without-none : (v : Cell) (rows : List Row) → has_key key v rows ≡ false → without_key key v rows ≡ rows
-    without-none v [] h = refl
-    without-none v (r ∷ rows) h =
-        let n : cell_eq (cell_at r key) v ≡ false = grind arith in
-        rw n (ap (λ xs. r ∷ xs) (without-none v rows (grind arith)))
-
     without-behind : (r : Row) (rows gone : List Row) → is_first key r gone ≡ true
         → fold (λ xs row. without_key key (cell_at row key) xs) (r ∷ rows) gone ≡ r ∷ fold (λ xs row. without_key key (cell_at row key) xs) rows gone
     without-behind r rows [] h = refl
@@ -87,7 +80,7 @@ module _ (p : Row → Bool) where
             ≡ cond (not b) (r ∷ filter (λ row. not (p row)) rows) (filter (λ row. not (p row)) rows)
         go true ih =
             let one = cell_eq-refl (cell_at r key) in
-            let none = without-none (cell_at r key) rows (first-lacks key (cell_at r key) r rows refl (ascend-first key r rows h)) in
+            let none = without-none key (cell_at r key) rows (first-lacks key (cell_at r key) r rows refl (ascend-first key r rows h)) in
             let step : without_key key (cell_at r key) (r ∷ rows) ≡ rows = rw one none in
             ap (λ xs. fold (λ ys row. without_key key (cell_at row key) ys) xs (filter p rows)) step ∙ ih
         go false ih = without-behind r rows (filter p rows) (first-passed r rows (ascend-first key r rows h)) ∙ ap (λ xs. r ∷ xs) ih

@@ -1,5 +1,6 @@
 use Rattle.std.proofs.Common.{sym, ◌∙◌, arith}
-use Rattle.sr_region.proofs.Places.{without-none, without-at, place-there}
+use Rattle.sr_rows.proofs.Places.{without-none}
+use Rattle.sr_region.proofs.Places.{without-at, place-there}
 use Rattle.sr_region.proofs.apply.find_key.Goals as goal
 
 pub overflow_sub-result : goal.overflow_sub-result

@@ -6,13 +6,12 @@ ghost use Rattle.sr_cell.specs.Attrs.{has_column};
 ghost use Rattle.sr_cell.specs.Cells.{Row};
 ghost use Rattle.sr_cell.specs.Columns.{is_point};
 ghost use Rattle.sr_box.specs.Points.{times, in_any, rect_fits, constrains_only, AreSame, HasPoint, HasNoPoint, IsEssential};
-ghost use Rattle.sr_union.specs.Pieces.{IsWithin};
 ghost use Rattle.sr_union.specs.Grid.{AreCutFrom, grid};
 ghost use Rattle.sr_query.specs.Bound.{is_table};
 ghost use Rattle.sr_trim.specs.Left.{left_over, is_constrained, AreLeft};
 
 use sr_cell::attrs::Attrs;
-use sr_cell::list::{No, NoMemory};
+use sr_cell::list::No;
 use sr_cell::table::Table;
 use sr_query::query::Part;
 use sr_union::minus::Over;
@@ -79,26 +78,6 @@ fn rest_of(
     }
 }
 
-/// Whether the cover has each point of the rects; false too where that is not known within the limit.
-fn has_all(
-    alloc: Global,
-    cover: &Rects,
-    rects: &Rects,
-    table: &Table,
-    limit: u32,
-) -> Result<bool, NoMemory>
-    requires table { IsTrue (is_table table.now) }
-    requires rects_fit { list_all (rect_fits table.now.columns) rects.now ≡ true }
-    requires cover_fits { list_all (rect_fits table.now.columns) cover.now ≡ true }
-    ensures { IfOk result (λ yes. yes ≡ true → IsWithin table.now.columns rects.now cover.now) }
-{
-    match rects.within(alloc, cover, table, limit) {
-        Ok(yes) => Ok(yes),
-        Err(No::Refused(_)) => Ok(false),
-        Err(No::NoMemory) => Err(NoMemory),
-    }
-}
-
 /// What is left of a part, which is cut only where the cover lacks some of it.
 fn rest_if_any(
     alloc: Global,
@@ -116,7 +95,7 @@ fn rest_if_any(
     ensures some { IsErrOf result (Refused (record {})) → part.now.rects ≢ [] }
     ensures over { IsErrOf result (Refused (record {})) → limit < grid table.now.columns (part.now.rects ++ cover.now) }
 {
-    if has_all(alloc, cover, &part.rects, table, limit)? {
+    if part.rects.within(alloc, cover, table)? {
         return Ok(Rects::new(alloc));
     }
     rest_of(alloc, part, table, cover, limit)

@@ -12,7 +12,7 @@ ghost use Rattle.sr_union.specs.Centre.{first_bytes, high_text, low_of, high_of,
 use crate::rects::Rects;
 use sr_box::rect::Rect;
 use sr_box::span::Span;
-use sr_cell::list::{Bytes, Copied, NoMemory, Seq};
+use sr_cell::list::{Bytes, NoMemory, Seq};
 use sr_cell::table::{Column, Kind, Table};
 use std::alloc::Global;
 use std::marker::Model;
@@ -188,13 +188,5 @@ impl Rects {
                 others,
             )?)),
         }
-    }
-}
-
-impl Copied for Centre {
-    fn copy(&self, alloc: Global) -> Result<Centre, NoMemory> {
-        let mut sums = Seq::new(alloc);
-        sums.extend(self.sums.as_slice())?;
-        Ok(Centre { sums })
     }
 }

@@ -268,21 +268,13 @@ impl Rects {
     }
 
     /// Whether each point of the rects is one of the others.
-    pub fn within(
-        &self,
-        alloc: Global,
-        other: &Rects,
-        table: &Table,
-        limit: u32,
-    ) -> Result<bool, No<Over>>
+    pub fn within(&self, alloc: Global, other: &Rects, table: &Table) -> Result<bool, NoMemory>
         requires self_fits { list_all (rect_fits table.now.columns) self.now ≡ true }
         requires other_fits { list_all (rect_fits table.now.columns) other.now ≡ true }
         requires inner { all_inner table.now.columns ≡ true }
         requires first { have_first table.now.columns ≡ true }
         ensures within { IfOk result (λ yes. IsTrue yes ↔ IsWithin table.now.columns self.now other.now) }
         ensures outside { IfOk result (λ yes. yes ≡ false → HasOutside table.now.columns self.now other.now) }
-        ensures over { (m : ℕ) → IsErrOf result (Refused (record {})) → ((p : Row) → IsTrue (is_point table.now.columns p) → times self.now p ≤ m)
-            → limit < m * grid table.now.columns (self.now ++ other.now) }
     {
         let columns = table.columns.as_slice();
         Ok(all_inside(alloc, columns, self, other.as_slice())?)

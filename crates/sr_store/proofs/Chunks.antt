@@ -15,14 +15,13 @@ use Rattle.sr_model.specs.SortedRows.{ascend, has_key, with_row, with_rows}
 use Rattle.sr_box.specs.Points.{in_any, times, rect_fits, constrains_only}
 use Rattle.sr_rows.specs.Places.{is_apart}
 use Rattle.sr_rows.proofs.Order.{ascend-tail, ascend-first}
-use Rattle.sr_rows.proofs.Places.{with_row-ascend, first-lacks}
+use Rattle.sr_rows.proofs.Places.{with_row-ascend, first-lacks, without-none}
 use Rattle.sr_rows.proofs.Parts.{ascend-filter, first-filter, with_rows-none}
 use Rattle.sr_union.proofs.Times.{in_any-times}
 use Rattle.sr_rows.proofs.Elements.{list_any-with_rows, apart-next}
 use Rattle.sr_region.specs.declared.region.Region.{Region}
 use Rattle.sr_region.specs.Regions.{rank, is_in, IsPart, IsRowIn}
 use Rattle.sr_region.proofs.Ranks.{stand}
-use Rattle.sr_region.proofs.Places.{without-none}
 use Rattle.sr_region.proofs.Ordered.{All-with_rows, with_rows-ascend}
 use Rattle.sr_region.proofs.Applied.{rows-apart}
 use Rattle.sr_store.specs.Classes.{is_of, occurs, key_occurs}

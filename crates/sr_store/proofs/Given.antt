@@ -133,17 +133,3 @@ module _ (schema : List Table) (regions : List Region) (parts : List Part) (arri
       list_all-append (rect_fits (table_at schema t).columns) (flat_map (λ g. g.rects) (filter (λ g. g.table == t) regions))
       (flat_map (λ part. part.rects) (filter (λ part. part.table == t) parts) ++ flat_map (λ r. r.rects) (filter (λ r. r.table == t) arrivals))
       ∙ rw (a, rest, b, c) refl
-
--- the rects of regions with more columns are cut from what theirs are cut from
-pub wider_cut : (schema : List Table) (given : ℕ → List Rect) (gs : List Region) (t a : ℕ) → All (IsCutFrom schema given) gs → AreCutFrom (table_at schema t).columns (given t) (wider gs t a)
-wider_cut schema given [] t a cut = tt
-wider_cut schema given (g ∷ gs) t a cut = go (g.table == t) (includes g.attrs a && not (g.attrs == a)) refl (wider_cut schema given gs t a (All-tail (IsCutFrom schema given) g gs cut)) (All-head (IsCutFrom schema given) g gs cut)
-  where
-    go : (b c : Bool) → (g.table == t) ≡ b → AreCutFrom (table_at schema t).columns (given t) (wider gs t a) → IsCutFrom schema given g
-        → AreCutFrom (table_at schema t).columns (given t)
-        (flat_map (λ g. g.rects) (cond (b && c) (g ∷ filter (λ g. g.table == t && (includes g.attrs a && not (g.attrs == a))) gs) (filter (λ g. g.table == t && (includes g.attrs a && not (g.attrs == a))) gs)))
-    go true true is ih one =
-        let same : g.table ≡ t = grind (arith, nat_tests) in
-        AreCutFrom-append (table_at schema t).columns (given t) g.rects (wider gs t a) (subst (λ u. AreCutFrom (table_at schema u).columns (given u) g.rects) same one) ih
-    go true false is ih one = ih
-    go false c is ih one = ih

@@ -9,7 +9,7 @@ use Rattle.sr_cell.specs.declared.cell.Cell.{Cell}
 use Rattle.sr_cell.specs.declared.table.Table.{Table}
 use Rattle.sr_cell.specs.Cells.{Row, cell_at, cell_eq}
 use Rattle.sr_cell.specs.Columns.{table_at}
-use Rattle.sr_model.specs.SortedRows.{has_key}
+use Rattle.sr_model.specs.SortedRows.{ascend, has_key}
 use Rattle.sr_box.specs.Points.{in_any, times}
 use Rattle.sr_cell.proofs.Order.{cell_eq-sound, cell_eq-refl}
 use Rattle.sr_rows.proofs.Parts.{ascend-filter}
@@ -26,6 +26,7 @@ use Rattle.sr_store.specs.Stores.{IsOfSchema, IsStore, drop_of, IsAbsorbedIn}
 use Rattle.sr_store.specs.Answered.{arrivals_at, keys_at, brings, gives_way, giving_way, IsArrival, AreApart, HaveArrived, rects_on, is_used, weight_from, IsRenewed, IsHeavy, IsGivenUp}
 use Rattle.sr_store.specs.Fitted.{lasts_of, IsFitted, IsAnswered}
 use Rattle.sr_store.specs.Renewing.{IsCutFrom}
+use Rattle.sr_store.specs.Making.{LiesBy}
 use Rattle.sr_store.specs.Laws.{SomeTellingFits, NothingGivesWay}
 use Rattle.sr_store.proofs.Chunks.{IsChunk, region-chunk, lies, lies-occurs, HaveOwnPoints, lacks-filter, some-telling, keys-once, of-parts, of-self}
 use Rattle.sr_store.proofs.Restamping.{All-left, All-right}
@@ -38,6 +39,21 @@ as_region r = record { table = r.table; key = r.key; attrs = r.attrs; stamp = 0;
 
 arrival-chunk : (schema : List Table) (parts : List Part) (r : Arrival) → IsArrival schema parts r → IsChunk schema (as_region r)
 arrival-chunk schema parts r h = record { key = h.key; has_key = h.has_key; fit = h.fit; only = h.only; rows = h.rows; ascending = h.ascending }
+
+same-place : (schema : List Table) (g : Region) → IsChunk schema g → (r : Arrival) → (r.table == g.table && r.attrs == g.attrs) ≡ true → IsChunk schema (as_region r)
+    → rank r.attrs r.key ≡ rank g.attrs g.key
+same-place schema g h r e is =
+    let s = of-parts (as_region r) g.table g.attrs e in
+    ap (λ a. rank a r.key) s.1 ∙ ap (rank g.attrs) (is.key ∙ ap (λ t. (table_at schema t).key) s.0 ∙ sym h.key)
+
+pub all-lie : (schema : List Table) (parts : List Part) (regions : List Region) (arrivals : List Arrival) → All (IsOfSchema schema) regions → All (IsArrival schema parts) arrivals
+    → All (λ g. All (LiesBy g) arrivals) regions
+all-lie schema parts regions arrivals each are =
+    All-weaker (IsOfSchema schema) (λ g. All (LiesBy g) arrivals) (λ g h. All-weaker (IsArrival schema parts) (LiesBy g) (lies g h) arrivals are) regions each
+  where
+    lies : (g : Region) → IsOfSchema schema g → (r : Arrival) → IsArrival schema parts r → LiesBy g r
+    lies g h r is e =
+        ap (λ n. ascend n r.rows) (sym (same-place schema g (region-chunk schema g h) r e (arrival-chunk schema parts r is))) ∙ is.ascending
 
 arrivals-lie : (rs : List Arrival) (t a : ℕ) (p : Row) → lies (map as_region rs) t a p ≡ arrivals_at rs t a p
 arrivals-lie [] t a p = refl
@@ -182,11 +198,6 @@ module _ (arrivals : List Arrival) where
       go false e ih = other (cell_eq (cell_at r key) k) refl e ih
 
   module _ (schema : List Table) (g : Region) (h : IsChunk schema g) (k : Cell) where
-    same-place : (r : Arrival) → (r.table == g.table && r.attrs == g.attrs) ≡ true → IsChunk schema (as_region r) → rank r.attrs r.key ≡ rank g.attrs g.key
-    same-place r e is =
-        let s = of-parts (as_region r) g.table g.attrs e in
-        ap (λ a. rank a r.key) s.1 ∙ ap (rank g.attrs) (is.key ∙ ap (λ t. (table_at schema t).key) s.0 ∙ sym h.key)
-
     brings-is : (rs : List Arrival) → All (λ r. IsChunk schema (as_region r)) rs → brings rs g k ≡ not (nat_eq (keys_at rs g.table g.attrs k) 0)
     brings-is [] each = refl
     brings-is (r ∷ rs) each =
@@ -203,7 +214,7 @@ module _ (arrivals : List Arrival) where
             → ((b && has_key (rank g.attrs g.key) k r.rows) || brings rs g k) ≡ not (nat_eq ((if b && has_key (rank r.attrs r.key) k r.rows then 1 else 0) + keys_at rs g.table g.attrs k) 0)
         go true e ih =
             both (has_key (rank g.attrs g.key) k r.rows) (has_key (rank r.attrs r.key) k r.rows)
-            (ap (λ n. has_key n k r.rows) (sym (same-place r e (All-head (λ r. IsChunk schema (as_region r)) r rs each)))) ih
+            (ap (λ n. has_key n k r.rows) (sym (same-place schema g h r e (All-head (λ r. IsChunk schema (as_region r)) r rs each)))) ih
         go false e ih = both false false refl ih
 
   module _ (schema : List Table) (came : All (λ r. IsChunk schema (as_region r)) arrivals) (t a : ℕ) (k : Cell) where

@@ -16,15 +16,14 @@ use Rattle.sr_query.specs.declared.query.Part.{Part}
 use Rattle.sr_query.specs.Bound.{is_table}
 use Rattle.sr_region.specs.declared.region.Region.{Region}
 use Rattle.sr_store.specs.declared.store.Arrival.{Arrival}
-use Rattle.sr_store.specs.Stores.{IsOfSchema, count_rects, wider}
+use Rattle.sr_store.specs.Stores.{IsOfSchema, count_rects}
 use Rattle.sr_store.specs.Answered.{IsArrival, is_used, rects_on, weight_from, IsHeavy}
 use Rattle.sr_store.specs.Renewing.{touching, IsCutFrom, IsRenewal}
-use Rattle.sr_store.specs.Making.{wider_both}
 use Rattle.sr_store.proofs.Tables.{tables_first}
 use Rattle.sr_store.proofs.Dropping.{count_rects-cons}
 use Rattle.sr_store.proofs.Keeping.{old_used, arrivals_used}
 use Rattle.sr_store.proofs.Counting.{pieces, has_sets, pieces_few}
-use Rattle.sr_store.proofs.Given.{FitsPart, regions_cut, parts_cut, arrivals_cut, given_fit, wider_cut}
+use Rattle.sr_store.proofs.Given.{FitsPart, regions_cut, parts_cut, arrivals_cut, given_fit}
 use Rattle.sr_store.proofs.Touching.{touching_cut}
 
 -- ---- one grid that is too large
@@ -95,20 +94,6 @@ heavy_touched schema regions parts arrivals g h used cut fit large =
     heavy_one schema regions parts arrivals g.table g.attrs (g.rects ++ touching parts g.table g.attrs) h.0 used
     (AreCutFrom-append (table_at schema g.table).columns (rects_on regions parts arrivals g.table) g.rects (touching parts g.table g.attrs) cut
     (touching_cut schema (rects_on regions parts arrivals) parts g.table g.attrs (parts_cut schema regions parts arrivals fit)))
-    large
-
--- a region, and those of two lists that have more columns
-pub heavy_wider : (schema : List Table) (regions : List Region) (parts : List Part) (arrivals : List Arrival) (still news : List Region) (g : Region) → IsOfSchema schema g
-    → is_used regions arrivals g.table g.attrs ≡ true → IsCutFrom schema (rects_on regions parts arrivals) g
-    → All (IsCutFrom schema (rects_on regions parts arrivals)) still → All (IsCutFrom schema (rects_on regions parts arrivals)) news
-    → 16384 < grid (table_at schema g.table).columns (g.rects ++ wider_both still news g) → IsHeavy schema regions parts arrivals
-heavy_wider schema regions parts arrivals still news g h used cut still_cut news_cut large =
-    let cs = (table_at schema g.table).columns in
-    let given = rects_on regions parts arrivals g.table in
-    heavy_one schema regions parts arrivals g.table g.attrs (g.rects ++ wider_both still news g) h.0 used
-    (AreCutFrom-append cs given g.rects (wider_both still news g) cut
-    (AreCutFrom-append cs given (wider still g.table g.attrs) (wider news g.table g.attrs)
-    (wider_cut schema (rects_on regions parts arrivals) still g.table g.attrs still_cut) (wider_cut schema (rects_on regions parts arrivals) news g.table g.attrs news_cut)))
     large
 
 -- ---- too many rects

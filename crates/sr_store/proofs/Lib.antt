@@ -34,6 +34,7 @@ pub mod Chunks
 pub mod Storing
 pub mod GivingWay
 pub mod Removing
+pub mod Sharing
 pub mod Settled
 pub mod Merging
 pub mod Together

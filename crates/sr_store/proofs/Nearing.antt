@@ -1,5 +1,5 @@
 -- The rects that meet others: of the cover, and of regions with more columns.
-use Rattle.std.proofs.Common.{◌≡◌, ◌≤◌, ◌<◌, length, slice_index_or, cond, true, false, List, [], ◌∷◌, ◌++◌, refl, ◌∙◌, ◌↔◌, sym, ap, subst}
+use Rattle.std.proofs.Common.{◌≡◌, ◌≤◌, cond, true, false, List, [], ◌∷◌, ◌++◌, refl, ◌∙◌, ◌↔◌, sym, ap, subst}
 use Rattle.std.specs.Prelude.{ℕ, Bool, not, ◌&&◌, ◌==◌, filter}
 use Rattle.std.specs.List.{flat_map, list_all}
 use Rattle.std.proofs.lemmas.List.{append-nil}
@@ -12,7 +12,7 @@ use Rattle.sr_union.specs.Pieces.{near, IsWithin, HasOutside}
 use Rattle.sr_union.specs.Grid.{AreCutFrom, grid}
 use Rattle.sr_union.proofs.Among.{AreCutFrom-append}
 use Rattle.sr_union.proofs.Meets.{near_append, near-in, near-are}
-use Rattle.sr_union.proofs.Once.{grid_among, are_at}
+use Rattle.sr_union.proofs.Once.{grid_among}
 use Rattle.sr_union.proofs.Parts.{are_part}
 use Rattle.sr_store.specs.Stores.{serves, cover_of, wider}
 
@@ -56,12 +56,3 @@ outside_near cs rects others (p, point, inside, outside) = (p, point, inside, sy
 
 pub fit_one : (cs : List Column) (r : Rect) → rect_fits cs r ≡ true → list_all (rect_fits cs) (r ∷ []) ≡ true
 fit_one cs r f = rw f refl
-
--- one of the rects makes no greater grid with others than all
-pub grid_one : (cs : List Column) (rects others : List Rect) (i : ℕ) (r : Rect) → list_all (rect_fits cs) rects ≡ true → list_all (rect_fits cs) others ≡ true
-    → i < length rects → r ≡ slice_index_or rects i r → grid cs (r ∷ others) ≤ grid cs (rects ++ others)
-grid_one cs rects others i r fit other_fit below is =
-    let own = are_part cs [] rects others fit in
-    let one = subst (λ q. AreCutFrom cs (rects ++ others) (q ∷ [])) (sym is) (are_at cs (rects ++ others) rects i r own below) in
-    let other = subst (λ rs. AreCutFrom cs (rects ++ rs) others) (append-nil others) (are_part cs rects others [] other_fit) in
-    grid_among cs (rects ++ others) (r ∷ others) (AreCutFrom-append cs (rects ++ others) (r ∷ []) others one other)

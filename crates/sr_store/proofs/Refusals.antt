@@ -13,11 +13,11 @@ use Rattle.sr_store.specs.declared.store.Arrival.{Arrival}
 use Rattle.sr_store.specs.Stores.{IsOfSchema}
 use Rattle.sr_store.specs.Answered.{IsArrival, is_used, rects_on, IsHeavy, flagged}
 use Rattle.sr_store.specs.Renewing.{touching, IsCutFrom, IsArrivalCutFrom, IsRenewal}
-use Rattle.sr_store.specs.Making.{FitsSchema, ComesFrom, wider_both}
+use Rattle.sr_store.specs.Making.{FitsSchema, ComesFrom}
 use Rattle.sr_store.proofs.Keeping.{old_used, arrivals_used}
 use Rattle.sr_store.proofs.Dropping.{flagged_all}
 use Rattle.sr_store.proofs.Given.{FitsPart, regions_cut, parts_cut, arrivals_cut, fits_cut}
-use Rattle.sr_store.proofs.Heavy.{heavy_one, heavy_touched, heavy_wider}
+use Rattle.sr_store.proofs.Heavy.{heavy_one, heavy_touched}
 
 -- an arrival of a table of the schema, of which the columns are used and the rects are among those of the table
 abbrev pub IsCome : List Table → List Region → List Part → List Arrival → Arrival → Type 0
@@ -51,15 +51,6 @@ heavy_first schema old parts arrivals g left rest first each all fit large =
     let one = All-head (IsOfSchema schema) g left (subst (All (IsOfSchema schema)) first each) in
     let come = All-head (ComesFrom schema old parts arrivals) g left (subst (All (ComesFrom schema old parts arrivals)) first all) in
     heavy_touched schema old parts arrivals g one come.0 come.1 fit large
-
--- a region that those of two lists with more columns may absorb
-pub heavy_absorbed : (schema : List Table) (old : List Region) (parts : List Part) (arrivals : List Arrival) (still news : List Region) (g : Region) → IsOfSchema schema g
-    → ComesFrom schema old parts arrivals g → All (ComesFrom schema old parts arrivals) still → All (ComesFrom schema old parts arrivals) news
-    → 16384 < grid (table_at schema g.table).columns (g.rects ++ wider_both still news g) → IsHeavy schema old parts arrivals
-heavy_absorbed schema old parts arrivals still news g one come still_come news_come large =
-    let cuts = λ (gs : List Region) (all : All (ComesFrom schema old parts arrivals) gs).
-    All-weaker (ComesFrom schema old parts arrivals) (IsCutFrom schema (rects_on old parts arrivals)) (λ h is. is.1) gs all in
-    heavy_wider schema old parts arrivals still news g one come.0 come.1 (cuts still still_come) (cuts news news_come) large
 
 -- the regions of an answer
 module _ (schema : List Table) (number : ℕ) (parts : List Part) (arrivals : List Arrival) (old all : List Region) (each : All (IsOfSchema schema) old) (fit : All (FitsPart schema) parts)

@@ -1,6 +1,7 @@
 -- Rows are taken out key by key, and for one arrival after another.
 use Rattle.std.proofs.Common.{◌≡◌, ℕ, ◌+◌, ◌<◌, Bool, true, false, not, ◌&&◌, ◌||◌, List, [], ◌∷◌, length, drop, refl, sym, ap, subst, ◌∙◌, arith}
 use Rattle.std.specs.Prelude.{◌==◌, filter, slice_index_or}
+use Rattle.std.specs.List.{All}
 use Rattle.std.proofs.lemmas.List.{at_drop_more}
 use Rattle.std.proofs.lemmas.List.Elements.{filter_agree}
 use Rattle.sr_cell.specs.declared.cell.Cell.{Cell}
@@ -14,7 +15,7 @@ use Rattle.sr_region.specs.Regions.{rank}
 use Rattle.sr_rows.specs.Keys.{without_key}
 use Rattle.sr_store.specs.declared.store.Arrival.{Arrival}
 use Rattle.sr_store.specs.Answered.{brings, gives_way}
-use Rattle.sr_store.specs.Making.{without_keys, IsByKey}
+use Rattle.sr_store.specs.Making.{without_keys, IsByKey, LiesBy}
 
 keep-all : (f : Row → Bool) → ((row : Row) → f row ≡ true) → (rows : List Row) → filter f rows ≡ rows
 keep-all f all [] = refl
@@ -80,3 +81,7 @@ ways-last rs g left none own = sym (ap (λ xs. gives_way xs g) none ∙ ap (λ r
 pub ways-by-key : (r : Arrival) (g next : Region) → next ≡ gives_way (r ∷ []) g → IsByKey g → IsByKey next
 ways-by-key r g next is h =
     subst IsByKey (sym is) (ascend-filter (rank g.attrs g.key) (λ row. not (brings (r ∷ []) g (cell_at row (rank g.attrs g.key)))) g.rows h)
+
+-- an arrival changes neither table nor columns nor key of the region
+pub ways-lie : (rs : List Arrival) (r : Arrival) (g next : Region) → next ≡ gives_way (r ∷ []) g → All (LiesBy g) rs → All (LiesBy next) rs
+ways-lie rs r g next is h = subst (λ x. All (LiesBy x) rs) (sym is) h

@@ -1,6 +1,6 @@
 -- Steps on the way to the new regions.
 use Rattle.std.specs.Prelude.{ℕ, Bool, true, false, not, ◌&&◌, ◌==◌, ◌+◌, ◌≤◌, map, filter, flat_map, IsTrue, List, [], ◌∷◌, ◌++◌, ◌≡◌, Option, length, ◌<◌}
-use Rattle.std.specs.List.{list_all, All, prefix_len}
+use Rattle.std.specs.List.{list_all, list_any, All, prefix_len}
 use Rattle.sr_cell.specs.declared.cause.Cause.TheVariants.{Pieces}
 use Rattle.sr_cell.specs.declared.table.Column.{Column}
 use Rattle.sr_cell.specs.declared.table.Table.{Table}
@@ -71,6 +71,14 @@ IsByKey g = ascend (rank g.attrs g.key) g.rows ≡ true
 -- the rows whose keys the others do not have
 abbrev pub without_keys : ℕ → List Row → List Row → List Row
 without_keys key others rows = filter (λ row. not (has_key key (cell_at row key) others)) rows
+
+-- a row has a key of the others
+abbrev pub shares_key : ℕ → List Row → List Row → Bool
+shares_key key others rows = list_any (λ row. has_key key (cell_at row key) others) rows
+
+-- where the arrival is of the region's table, with exactly its columns, its rows lie by the region's key
+abbrev pub LiesBy : Region → Arrival → Type 0
+LiesBy g r = (r.table == g.table && r.attrs == g.attrs) ≡ true → ascend (rank g.attrs g.key) r.rows ≡ true
 
 -- rects of a table of the schema
 abbrev pub FitsSchema : List Table → Arrival → Type 0

@@ -1,31 +1,24 @@
 //! Regions whose points are all held under more columns.
-ghost use Rattle.std.specs.Prelude.{◌≡◌, ◌==◌, ◌<◌, ◌&&◌, ◌↔◌, not, true, false, List, [], ◌∷◌, ◌++◌, length, IfOk, OnOk, IsErrOf, IsTrue};
+ghost use Rattle.std.specs.Prelude.{◌≡◌, ◌==◌, ◌<◌, ◌&&◌, ◌↔◌, not, true, false, [], ◌∷◌, ◌++◌, length, IfOk, OnOk, IsTrue};
 ghost use Rattle.std.specs.List.{list_all, All, AllZip};
-ghost use Rattle.sr_cell.specs.declared.list.No.TheVariants.{Refused};
 ghost use Rattle.sr_cell.specs.declared.table.Column.{Column};
 ghost use Rattle.sr_cell.specs.Columns.{table_at};
 ghost use Rattle.sr_cell.specs.Attrs.{includes};
 ghost use Rattle.sr_box.specs.Points.{rect_fits};
 ghost use Rattle.sr_union.specs.Pieces.{near, IsWithin, HasOutside};
-ghost use Rattle.sr_union.specs.Grid.{grid};
 ghost use Rattle.sr_query.specs.Bound.{is_table};
-ghost use Rattle.sr_query.specs.declared.query.Part.{Part as ThePart};
-ghost use Rattle.sr_region.specs.declared.region.Region.{Region as TheRegion};
-ghost use Rattle.sr_store.specs.declared.store.Arrival.{Arrival as TheArrival};
 ghost use Rattle.sr_store.specs.Stores.{IsOfSchema, wider};
-ghost use Rattle.sr_store.specs.Answered.{AreFlags, IsHeavy};
-ghost use Rattle.sr_store.specs.Making.{ComesFrom, IsAbsorbedBy, IsKeptOr, IsUnmet, IsUnmetOr, wider_both};
+ghost use Rattle.sr_store.specs.Answered.{AreFlags};
+ghost use Rattle.sr_store.specs.Making.{IsAbsorbedBy, IsKeptOr, IsUnmet, IsUnmetOr, wider_both};
 
 use crate::lookup::table_at;
-use crate::restamp::{MOST_RECTS, may_meet};
+use crate::restamp::may_meet;
 use crate::store::Arrival;
 use sr_box::rect::Rect;
 use sr_cell::attrs::Attrs;
-use sr_cell::list::{Copied, No, NoMemory, Seq};
+use sr_cell::list::{Copied, NoMemory, Seq};
 use sr_cell::schema::Schema;
-use sr_query::query::Part;
 use sr_region::region::Region;
-use sr_union::minus::Over;
 use sr_union::rects::Rects;
 use std::alloc::Global;
 
@@ -100,7 +93,7 @@ fn is_covered(
     news: &[Region],
     region: &Region,
     rect: &Rect,
-) -> Result<bool, No<Over>>
+) -> Result<bool, NoMemory>
     requires tables { IsTrue (list_all is_table schema.now) }
     requires still { All (IsOfSchema schema.now) still.now }
     requires news { All (IsOfSchema schema.now) news.now }
@@ -108,15 +101,12 @@ fn is_covered(
     requires fits { rect_fits (table_at schema.now region.now.table).columns rect.now ≡ true }
     ensures within { IfOk result (λ yes. yes ≡ true → IsWithin (table_at schema.now region.now.table).columns (rect.now ∷ []) (wider_both still.now news.now region.now)) }
     ensures outside { IfOk result (λ yes. yes ≡ false → HasOutside (table_at schema.now region.now.table).columns (rect.now ∷ []) (wider_both still.now news.now region.now)) }
-    ensures over { IsErrOf result (Refused (record {})) → 16384 < grid (table_at schema.now region.now.table).columns (rect.now ∷ wider_both still.now news.now region.now) }
 {
     let table = table_at(schema, region.table);
     let one = single(alloc, rect)?;
     let found = wider_near_both(alloc, still, news, region, &one)?;
-    match one.within(alloc, &found, table, MOST_RECTS) {
-        Ok(yes) => Ok(yes),
-        Err(no) => Err(no),
-    }
+    let yes = one.within(alloc, &found, table)?;
+    Ok(yes)
 }
 
 /// The same of each of some rects; the first that is not covered decides.
@@ -127,7 +117,7 @@ fn are_covered(
     news: &[Region],
     region: &Region,
     rects: &[Rect],
-) -> Result<bool, No<Over>>
+) -> Result<bool, NoMemory>
     requires tables { IsTrue (list_all is_table schema.now) }
     requires still { All (IsOfSchema schema.now) still.now }
     requires news { All (IsOfSchema schema.now) news.now }
@@ -135,16 +125,10 @@ fn are_covered(
     requires fit { list_all (rect_fits (table_at schema.now region.now.table).columns) rects.now ≡ true }
     ensures within { IfOk result (λ yes. yes ≡ true → IsWithin (table_at schema.now region.now.table).columns rects.now (wider_both still.now news.now region.now)) }
     ensures outside { IfOk result (λ yes. yes ≡ false → HasOutside (table_at schema.now region.now.table).columns rects.now (wider_both still.now news.now region.now)) }
-    ensures over { IsErrOf result (Refused (record {})) → 16384 < grid (table_at schema.now region.now.table).columns (rects.now ++ wider_both still.now news.now region.now) }
 {
     for rect in rects {
-        match is_covered(alloc, schema, still, news, region, rect) {
-            Ok(yes) => {
-                if !yes {
-                    return Ok(false);
-                }
-            }
-            Err(no) => return Err(no),
+        if !is_covered(alloc, schema, still, news, region, rect)? {
+            return Ok(false);
         }
     }
     Ok(true)
@@ -157,18 +141,15 @@ fn is_absorbed(
     still: &[Region],
     news: &[Region],
     region: &Region,
-) -> Result<bool, No<Over>>
+) -> Result<bool, NoMemory>
     requires tables { IsTrue (list_all is_table schema.now) }
     requires still { All (IsOfSchema schema.now) still.now }
     requires news { All (IsOfSchema schema.now) news.now }
     requires region { IsOfSchema schema.now region.now }
     ensures absorbed { IfOk result (λ yes. IsTrue yes ↔ IsAbsorbedBy schema.now still.now news.now region.now) }
-    ensures over { IsErrOf result (Refused (record {})) → 16384 < grid (table_at schema.now region.now.table).columns (region.now.rects ++ wider_both still.now news.now region.now) }
 {
-    match are_covered(alloc, schema, still, news, region, region.rects.as_slice()) {
-        Ok(yes) => Ok(yes),
-        Err(no) => Err(no),
-    }
+    let yes = are_covered(alloc, schema, still, news, region, region.rects.as_slice())?;
+    Ok(yes)
 }
 
 /// Whether some arrival with strictly more columns may have points of the region.
@@ -213,20 +194,15 @@ pub(crate) fn absorbed(
     schema: &Schema,
     still: &[Region],
     news: &[Region],
-) -> Result<Seq<bool>, No<Over>>
+) -> Result<Seq<bool>, NoMemory>
     requires tables { IsTrue (list_all is_table schema.now) }
     requires still { All (IsOfSchema schema.now) still.now }
     requires news { All (IsOfSchema schema.now) news.now }
     ensures flags { IfOk result (λ flags. AreFlags (IsAbsorbedBy schema.now still.now news.now) flags news.now) }
-    ensures over { (old : List TheRegion) (parts : List ThePart) (arrivals : List TheArrival) → All (ComesFrom schema.now old parts arrivals) still.now
-        → All (ComesFrom schema.now old parts arrivals) news.now → IsErrOf result (Refused (record {})) → IsHeavy schema.now old parts arrivals }
 {
     let mut flags = Seq::new(alloc);
     for region in news {
-        match is_absorbed(alloc, schema, still, news, region) {
-            Ok(yes) => flags.push(yes)?,
-            Err(no) => return Err(no),
-        }
+        flags.push(is_absorbed(alloc, schema, still, news, region)?)?;
     }
     Ok(flags)
 }
@@ -239,14 +215,13 @@ fn is_absorbed_if_met(
     news: &[Region],
     region: &Region,
     met: bool,
-) -> Result<bool, No<Over>>
+) -> Result<bool, NoMemory>
     requires tables { IsTrue (list_all is_table schema.now) }
     requires still { All (IsOfSchema schema.now) still.now }
     requires news { All (IsOfSchema schema.now) news.now }
     requires region { IsOfSchema schema.now region.now }
     requires other { IsKeptOr schema.now still.now news.now met region.now }
     ensures absorbed { IfOk result (λ yes. IsTrue yes ↔ IsAbsorbedBy schema.now still.now news.now region.now) }
-    ensures over { IsErrOf result (Refused (record {})) → 16384 < grid (table_at schema.now region.now.table).columns (region.now.rects ++ wider_both still.now news.now region.now) }
 {
     if met {
         is_absorbed(alloc, schema, still, news, region)
@@ -262,21 +237,17 @@ pub(crate) fn still_absorbed(
     still: &[Region],
     news: &[Region],
     met: &[bool],
-) -> Result<Seq<bool>, No<Over>>
+) -> Result<Seq<bool>, NoMemory>
     requires tables { IsTrue (list_all is_table schema.now) }
     requires still { All (IsOfSchema schema.now) still.now }
     requires news { All (IsOfSchema schema.now) news.now }
     requires others { AllZip (IsKeptOr schema.now still.now news.now) met.now still.now }
     ensures flags { IfOk result (λ flags. AreFlags (IsAbsorbedBy schema.now still.now news.now) flags still.now) }
-    ensures over { (old : List TheRegion) (parts : List ThePart) (arrivals : List TheArrival) → All (ComesFrom schema.now old parts arrivals) still.now
-        → All (ComesFrom schema.now old parts arrivals) news.now → IsErrOf result (Refused (record {})) → IsHeavy schema.now old parts arrivals }
 {
     let mut flags = Seq::new(alloc);
     for i in 0..still.len() {
-        match is_absorbed_if_met(alloc, schema, still, news, &still[i], met[i]) {
-            Ok(yes) => flags.push(yes)?,
-            Err(no) => return Err(no),
-        }
+        let yes = is_absorbed_if_met(alloc, schema, still, news, &still[i], met[i])?;
+        flags.push(yes)?;
     }
     Ok(flags)
 }

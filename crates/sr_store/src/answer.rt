@@ -148,20 +148,8 @@ fn news_of(
         Ok(regions) => regions,
         Err(no) => return Err(no),
     };
-    let absorbed = match absorbed(alloc, schema, still, regions.as_slice()) {
-        Ok(flags) => flags,
-        Err(no) => return Err(no),
-    };
-    let still_absorbed = match still_absorbed(
-        alloc,
-        schema,
-        still,
-        regions.as_slice(),
-        met.as_slice(),
-    ) {
-        Ok(flags) => flags,
-        Err(no) => return Err(no),
-    };
+    let absorbed = absorbed(alloc, schema, still, regions.as_slice())?;
+    let still_absorbed = still_absorbed(alloc, schema, still, regions.as_slice(), met.as_slice())?;
     let news = News {
         regions,
         absorbed,

@@ -1,16 +1,12 @@
-use Rattle.std.proofs.Common.{◌≡◌, ◌<◌, ◌≤◌, ◌*◌, ◌++◌, ◌∷◌, [], ◌∙◌, true, arith, ap, sym, subst}
-use Rattle.std.specs.Prelude.{IsTrue}
+use Rattle.std.proofs.Common.{◌≡◌, ◌∷◌, [], ◌∙◌, true, ap, sym, subst}
 use Rattle.std.specs.List.{list_all}
-use Rattle.sr_cell.specs.Cells.{Row}
-use Rattle.sr_cell.specs.Columns.{table_at, is_point}
-use Rattle.sr_box.specs.Points.{rect_fits, times}
+use Rattle.sr_cell.specs.Columns.{table_at}
+use Rattle.sr_box.specs.Points.{rect_fits}
 use Rattle.sr_union.specs.Pieces.{near, IsWithin, HasOutside}
-use Rattle.sr_union.specs.Grid.{grid}
 use Rattle.sr_union.proofs.Meets.{near-fits}
-use Rattle.sr_union.proofs.Once.{err_same, one_le}
 use Rattle.sr_store.specs.Making.{wider_both}
 use Rattle.sr_store.proofs.Fits.{both_fit}
-use Rattle.sr_store.proofs.Nearing.{within_near, outside_near, grid_near, fit_one}
+use Rattle.sr_store.proofs.Nearing.{within_near, outside_near, fit_one}
 use Rattle.sr_store.proofs.absorb.is_covered.Goals as goal
 
 pub within-requires-clause-self_fits : goal.within-requires-clause-self_fits
@@ -27,36 +23,22 @@ within-requires-clause-other_fits c =
     subst (λ t. list_all (rect_fits t.columns) c.in_ok-found.found ≡ true) (sym c.table_at-table.ensures.found)
     (subst (λ rects. list_all (rect_fits cs) rects ≡ true) (sym c.in_ok-found.ensures) fits)
 
-pub returns-in-Ok-clause-within : goal.returns-in-Ok-clause-within
-returns-in-Ok-clause-within c = λ e.
+pub returns-clause-within : goal.returns-clause-within
+returns-clause-within c = λ e.
     let cs = (table_at c.args.schema.now c.args.region.now.table).columns in
     let r = c.args.rect.now in
     let all = wider_both c.args.still.now c.args.news.now c.args.region.now in
     let found = c.in_ok-found.ensures ∙ ap (λ rects. near rects all) c.in_ok-one.ensures in
-    let one = subst (λ t. IsWithin t.columns c.in_ok-one.one c.in_ok-found.found) c.table_at-table.ensures.found (c.in-Ok.ensures.within.0 e) in
+    let one = subst (λ t. IsWithin t.columns c.in_ok-one.one c.in_ok-found.found) c.table_at-table.ensures.found (c.in_ok-yes.ensures.within.0 e) in
     let two = subst (λ rects. IsWithin cs rects c.in_ok-found.found) c.in_ok-one.ensures one in
     (within_near cs (r ∷ []) all).0 (subst (IsWithin cs (r ∷ [])) found two)
 
-pub returns-in-Ok-clause-outside : goal.returns-in-Ok-clause-outside
-returns-in-Ok-clause-outside c = λ e.
+pub returns-clause-outside : goal.returns-clause-outside
+returns-clause-outside c = λ e.
     let cs = (table_at c.args.schema.now c.args.region.now.table).columns in
     let r = c.args.rect.now in
     let all = wider_both c.args.still.now c.args.news.now c.args.region.now in
     let found = c.in_ok-found.ensures ∙ ap (λ rects. near rects all) c.in_ok-one.ensures in
-    let one = subst (λ t. HasOutside t.columns c.in_ok-one.one c.in_ok-found.found) c.table_at-table.ensures.found (c.in-Ok.ensures.outside e) in
+    let one = subst (λ t. HasOutside t.columns c.in_ok-one.one c.in_ok-found.found) c.table_at-table.ensures.found (c.in_ok-yes.ensures.outside e) in
     let two = subst (λ rects. HasOutside cs rects c.in_ok-found.found) c.in_ok-one.ensures one in
     outside_near cs (r ∷ []) all (subst (HasOutside cs (r ∷ [])) found two)
-
-pub returns-clause-over : goal.returns-clause-over
-returns-clause-over c = λ e.
-    let cs = (table_at c.args.schema.now c.args.region.now.table).columns in
-    let r = c.args.rect.now in
-    let all = wider_both c.args.still.now c.args.news.now c.args.region.now in
-    let found = c.in_ok-found.ensures ∙ ap (λ rects. near rects all) c.in_ok-one.ensures in
-    let fits = both_fit c.args.schema.now c.args.still.now c.args.news.now c.args.region.now c.requires.still c.requires.news in
-    let once = λ (p : Row) (point : IsTrue (is_point c.table_at-table.result.now.columns p)). subst (λ rects. times rects p ≤ 1) (sym c.in_ok-one.ensures) (one_le r p) in
-    let many = subst (λ t. 16384 < 1 * grid t.columns (c.in_ok-one.one ++ c.in_ok-found.found)) c.table_at-table.ensures.found (c.in-Err.ensures.over 1 (err_same c.in-Err.no _ e) once) in
-    let more = subst (λ rects. 16384 < 1 * grid cs (rects ++ c.in_ok-found.found)) c.in_ok-one.ensures many in
-    let large = subst (λ rects. 16384 < 1 * grid cs ((r ∷ []) ++ rects)) found more in
-    let less = grid_near cs (r ∷ []) all (fit_one cs r c.requires.fits) fits in
-    omega (arith, large, less)

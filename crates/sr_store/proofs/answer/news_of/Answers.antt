@@ -1,11 +1,11 @@
 use Rattle.std.proofs.Common.{sym, subst}
-use Rattle.std.specs.List.{All, AllZip}
+use Rattle.std.specs.List.{AllZip}
 use Rattle.sr_union.proofs.Once.{err_same}
 use Rattle.sr_store.specs.Told.{IsTrueOf}
 use Rattle.sr_store.specs.Stores.{IsOfSchema}
 use Rattle.sr_store.specs.Answered.{AreFlags}
 use Rattle.sr_store.specs.Making.{ComesFrom, IsUnmetOr, IsKeptOr, IsAbsorbedBy}
-use Rattle.sr_store.proofs.Answering.{news_come, news_heavy}
+use Rattle.sr_store.proofs.Answering.{news_heavy}
 use Rattle.sr_store.proofs.Dropping.{AreFlags_length}
 use Rattle.sr_store.proofs.Refusals.{old_come}
 use Rattle.sr_store.proofs.Together.{still_all, changed_all, changed_apart, others_kept}
@@ -44,18 +44,6 @@ absorbed-requires-clause-still c =
     let p = c.requires.parted.1 in
     still_all c.args.schema.now c.args.number c.args.parts.now c.args.arrivals c.requires.parted.0 c.args.still.now c.args.changed p (IsOfSchema c.args.schema.now) p.each
 
-pub returns-in-Err-absorbed-clause-over : goal.returns-in-Err-absorbed-clause-over
-returns-in-Err-absorbed-clause-over c = λ old p e.
-    let schema = c.args.schema.now in
-    let number = c.args.number in
-    let parts = c.args.parts.now in
-    let arrivals = c.args.arrivals in
-    let still = c.args.still.now in
-    let changed = c.args.changed in
-    let still_come = still_all schema number parts arrivals old still changed p (ComesFrom schema old parts arrivals) (old_come schema old parts arrivals p.each) in
-    let come = news_come schema number parts arrivals old still changed c.in-Ok.regions c.requires.fit c.requires.arrivals p c.in-Ok.ensures.renewal in
-    c.in-Err-absorbed.ensures.over old parts arrivals still_come (subst (All (ComesFrom schema old parts arrivals)) (sym c.as_slice-2.ensures) come) (err_same c.in-Err-absorbed.no _ e)
-
 pub still_absorbed-requires-clause-still : goal.still_absorbed-requires-clause-still
 still_absorbed-requires-clause-still c =
     let p = c.requires.parted.1 in
@@ -74,25 +62,13 @@ still_absorbed-requires-clause-others c =
     subst (λ gs. AllZip (IsKeptOr schema still gs) c.as_slice-4.result.now still) (sym c.as_slice-3.ensures)
     (subst (λ fs. AllZip (IsKeptOr schema still c.in-Ok.regions) fs still) (sym c.as_slice-4.ensures) kept)
 
-pub returns-in-Err-still_absorbed-clause-over : goal.returns-in-Err-still_absorbed-clause-over
-returns-in-Err-still_absorbed-clause-over c = λ old p e.
-    let schema = c.args.schema.now in
-    let number = c.args.number in
-    let parts = c.args.parts.now in
-    let arrivals = c.args.arrivals in
-    let still = c.args.still.now in
-    let changed = c.args.changed in
-    let still_come = still_all schema number parts arrivals old still changed p (ComesFrom schema old parts arrivals) (old_come schema old parts arrivals p.each) in
-    let come = news_come schema number parts arrivals old still changed c.in-Ok.regions c.requires.fit c.requires.arrivals p c.in-Ok.ensures.renewal in
-    c.in-Err-still_absorbed.ensures.over old parts arrivals still_come (subst (All (ComesFrom schema old parts arrivals)) (sym c.as_slice-3.ensures) come) (err_same c.in-Err-still_absorbed.no _ e)
-
 pub have_few-requires-clause-still : goal.have_few-requires-clause-still
-have_few-requires-clause-still c = AreFlags_length (IsAbsorbedBy c.args.schema.now c.args.still.now c.as_slice-3.result.now) c.in-Ok-still_absorbed.flags c.args.still.now c.in-Ok-still_absorbed.ensures.flags
+have_few-requires-clause-still c = AreFlags_length (IsAbsorbedBy c.args.schema.now c.args.still.now c.as_slice-3.result.now) c.in_ok-still_absorbed.still_absorbed c.args.still.now c.in_ok-still_absorbed.ensures.flags
 
 pub have_few-requires-clause-news : goal.have_few-requires-clause-news
 have_few-requires-clause-news c =
-    let flags = subst (λ gs. AreFlags (IsAbsorbedBy c.args.schema.now c.args.still.now gs) c.in-Ok-absorbed.flags gs) c.as_slice-2.ensures c.in-Ok-absorbed.ensures.flags in
-    AreFlags_length (IsAbsorbedBy c.args.schema.now c.args.still.now c.in-Ok.regions) c.in-Ok-absorbed.flags c.in-Ok.regions flags
+    let flags = subst (λ gs. AreFlags (IsAbsorbedBy c.args.schema.now c.args.still.now gs) c.in_ok-absorbed.absorbed gs) c.as_slice-2.ensures c.in_ok-absorbed.ensures.flags in
+    AreFlags_length (IsAbsorbedBy c.args.schema.now c.args.still.now c.in-Ok.regions) c.in_ok-absorbed.absorbed c.in-Ok.regions flags
 
 pub returns-then-not-have_few-clause-over : goal.returns-then-not-have_few-clause-over
 returns-then-not-have_few-clause-over c = λ old p e.
@@ -102,7 +78,7 @@ returns-then-not-have_few-clause-over c = λ old p e.
     let arrivals = c.args.arrivals in
     let still = c.args.still.now in
     let changed = c.args.changed in
-    news_heavy schema number parts arrivals old still changed c.in-Ok.regions c.in-Ok-still_absorbed.flags c.in-Ok-absorbed.flags c.requires.tables c.requires.fit c.requires.arrivals p
+    news_heavy schema number parts arrivals old still changed c.in-Ok.regions c.in_ok-still_absorbed.still_absorbed c.in_ok-absorbed.absorbed c.requires.tables c.requires.fit c.requires.arrivals p
     c.in-Ok.ensures.renewal (λ few. absurd (cc (c.have_few.ensures.1 few, c.if-not-have_few.true)))
 
 pub returns-clause-news : goal.returns-clause-news
@@ -116,7 +92,7 @@ returns-clause-news c =
     let news = c.in-Ok.regions in
     record {
       renewal = c.in-Ok.ensures.renewal;
-      still_absorbed = subst (λ gs. AreFlags (IsAbsorbedBy schema still gs) c.in-Ok-still_absorbed.flags still) c.as_slice-3.ensures c.in-Ok-still_absorbed.ensures.flags;
-      absorbed = subst (λ gs. AreFlags (IsAbsorbedBy schema still gs) c.in-Ok-absorbed.flags gs) c.as_slice-2.ensures c.in-Ok-absorbed.ensures.flags;
+      still_absorbed = subst (λ gs. AreFlags (IsAbsorbedBy schema still gs) c.in_ok-still_absorbed.still_absorbed still) c.as_slice-3.ensures c.in_ok-still_absorbed.ensures.flags;
+      absorbed = subst (λ gs. AreFlags (IsAbsorbedBy schema still gs) c.in_ok-absorbed.absorbed gs) c.as_slice-2.ensures c.in_ok-absorbed.ensures.flags;
       few = c.have_few.ensures.0 c.if-not-have_few.false;
     }

@@ -1,5 +1,6 @@
 use Rattle.std.proofs.Common.{◌∙◌, sym, arith}
-use Rattle.sr_region.proofs.Places.{without-none, without-at, place-there}
+use Rattle.sr_rows.proofs.Places.{without-none}
+use Rattle.sr_region.proofs.Places.{without-at, place-there}
 use Rattle.sr_store.proofs.give_way.remove_key.Goals as goal
 
 pub overflow_sub-behind : goal.overflow_sub-behind

@@ -1,16 +1,23 @@
 use Rattle.std.proofs.Common.{inr, ◌∙◌, sym, ap, subst}
 use Rattle.std.specs.List.{All}
 use Rattle.std.proofs.lemmas.List.Elements.{All-nil}
+use Rattle.sr_region.specs.declared.region.Region.{Region}
 use Rattle.sr_store.specs.Classes.{ascends}
 use Rattle.sr_store.specs.Told.{Told, IsTold, IsTrueOf, AreTrueOf}
 use Rattle.sr_store.specs.Stores.{IsOfSchema, IsStore, IsAbsorbedIn}
 use Rattle.sr_store.specs.Answered.{rects_on, AreApart, HaveArrived, IsRenewed}
 use Rattle.sr_store.specs.Renewing.{IsCutFrom}
-use Rattle.sr_store.specs.Making.{IsOutcome}
+use Rattle.sr_store.specs.Making.{IsOutcome, LiesBy}
 use Rattle.sr_store.proofs.Dropping.{evicted_all, evicted_store}
 use Rattle.sr_store.proofs.Fewer.{kept_left, none_store}
-use Rattle.sr_store.proofs.GivingWay.{old-is, way-each, way-order, way-settled, way-apart, way-cuts, some-fits, keeps-answer, given-up}
+use Rattle.sr_store.proofs.GivingWay.{old-is, all-lie, way-each, way-order, way-settled, way-apart, way-cuts, some-fits, keeps-answer, given-up}
 use Rattle.sr_store.proofs.store.Store.answered.Goals as goal
+
+pub given_way-old-requires-clause-lie : goal.given_way-old-requires-clause-lie
+given_way-old-requires-clause-lie c =
+    let arrivals = c.args.arrivals in
+    let lie = all-lie c.args.schema.now c.args.parts.now c.args.self.now.regions arrivals c.requires.store.each c.requires.arrivals in
+    subst (λ rs. All (λ (g : Region). All (LiesBy g) rs) c.replace-held.result) (sym c.as_slice.ensures) (subst (All (λ (g : Region). All (LiesBy g) arrivals)) (sym c.replace-held.ensures.value) lie)
 
 pub answer_of-requires-clause-each : goal.answer_of-requires-clause-each
 answer_of-requires-clause-each c =

@@ -1,7 +1,7 @@
 use Rattle.std.proofs.Common.{◌≡◌, true, drop}
 use Rattle.sr_model.specs.SortedRows.{ascend}
 use Rattle.sr_store.specs.Making.{without_keys}
-use Rattle.sr_store.proofs.give_way.remove_keys.Given as goal
+use Rattle.sr_store.proofs.give_way.remove_each_key.Given as goal
 
 abbrev pub invariant-loop-row : goal.invariant-loop-row
 invariant-loop-row l = record {

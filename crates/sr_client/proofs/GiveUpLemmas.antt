@@ -1,5 +1,5 @@
 -- A client that has given all up stands for some past.
-use Rattle.std.proofs.Common.{◌≡◌, ℕ, zero, suc, false, List, [], ◌∷◌, length, refl, ap, arith}
+use Rattle.std.proofs.Common.{◌≡◌, ℕ, zero, suc, false, List, [], ◌∷◌, length, refl, ap, arith, ◌∙◌}
 use Rattle.std.specs.Prelude.{fold, if◌then◌else◌}
 use Rattle.std.proofs.lemmas.List.Elements.{All-nil}
 use Rattle.sr_cell.specs.declared.table.Table.{Table}
@@ -10,7 +10,7 @@ use Rattle.sr_store.specs.Classes.{Keeps}
 use Rattle.sr_store.specs.Stores.{IsStore}
 use Rattle.sr_store.proofs.Fewer.{none_store}
 use Rattle.sr_client.specs.declared.client.Client.{Client}
-use Rattle.sr_client.specs.Stands.{Hidden, Facts, Stands, given_up, asks_short}
+use Rattle.sr_client.specs.Stands.{Hidden, Facts, Stands, Stays, KeepsNumbers, given_up, cuts_down, asks_short}
 use Rattle.std.specs.List.{list_all}
 use Rattle.sr_query.specs.Bound.{is_table}
 use Rattle.std.proofs.Common.{true, subst, sym}
@@ -63,3 +63,11 @@ given-facts old h c cuts f same = record {
 -- after a call that failed, of a client of the same schema
 pub given-stands : (old c : Client) (cuts : ℕ) → Stands old → c.schema ≡ old.schema → Stands (given_up c cuts)
 given-stands old c cuts stands same = (nothing_known c.queries, given-facts old stands.0 c cuts stands.1 same)
+
+-- after a call that failed all that is left is what would have been left before it
+pub given-same : (old c new : Client) → new ≡ given_up c new.cuts → new.cuts ≡ cuts_down c → Stays old c → KeepsNumbers old c → c.cuts ≡ old.cuts
+    → new ≡ given_up old (cuts_down old)
+given-same old c new given counted stays numbers cuts =
+    let same : given_up c (cuts_down c) ≡ given_up old (cuts_down old) =
+    rw (stays.id, stays.schema, stays.limits, numbers.version, numbers.queries, numbers.next_request, numbers.cut, cuts) refl in
+    given ∙ (ap (given_up c) counted ∙ same)

@@ -1,5 +1,5 @@
 -- Which pasts a client stands for.
-use Rattle.std.specs.Prelude.{ℕ, Bool, true, false, ◌+◌, ◌≤◌, ◌≡◌, List, [], ◌∷◌, ◌++◌, length, Option, Some, None}
+use Rattle.std.specs.Prelude.{ℕ, Bool, true, false, ◌+◌, ◌-◌, ◌^◌, nat_lt, ◌≤◌, ◌≡◌, List, [], ◌∷◌, ◌++◌, length, Option, Some, None, if◌then◌else◌}
 use Rattle.std.specs.List.{list_all}
 use Rattle.sr_cell.specs.declared.table.Table.{Table}
 use Rattle.sr_message.specs.declared.message.Message.{Message}
@@ -142,6 +142,10 @@ pub record Truly (db : Database) (past : session.Client) (m : Message) : Type 0 
 abbrev pub given_up : Client → ℕ → Client
 given_up c cuts = record c { store = record c.store { regions = []; last = [] }; out = None; laid = []; cut = true; cuts = cuts }
 
+-- how often its link was cut, once it is down; at the greatest number of the type it stays
+abbrev pub cuts_down : Client → ℕ
+cuts_down c = if c.cut then c.cuts else (if nat_lt c.cuts (2 ^ 64 - 1) then c.cuts + 1 else c.cuts)
+
 -- the client before anything happens: its link is down
 abbrev pub new_client : ℕ → List Table → Limits → Client
 new_client id schema limits = record {
@@ -169,12 +173,12 @@ pub record Stays (old new : Client) : Type 0 where
   pub schema : new.schema ≡ old.schema
   pub limits : new.store.limits ≡ old.store.limits
 
--- The client holds nothing, and is cut.
-pub record HoldsNothing (c : Client) : Type 0 where
-  pub regions : c.store.regions ≡ []
-  pub out : c.out ≡ None
-  pub laid : c.laid ≡ []
-  pub cut : c.cut ≡ true
+-- Its version, its numbers and whether its link is cut are as they were.
+pub record KeepsNumbers (old new : Client) : Type 0 where
+  pub version : new.version ≡ old.version
+  pub queries : new.queries ≡ old.queries
+  pub next_request : new.next_request ≡ old.next_request
+  pub cut : new.cut ≡ old.cut
 
 -- Nothing stands against the message.
 abbrev pub IsFit : Client → Message → Type 0

@@ -9,7 +9,7 @@ ghost use Rattle.sr_session.specs.Sessions.{Database};
 ghost use Rattle.sr_session.specs.Rules.{number_of};
 ghost use Rattle.sr_session.specs.Scenes.{new_pair};
 ghost use Rattle.sr_session.specs.Laws.{IsSound};
-ghost use Rattle.sr_client.specs.Stands.{Stands, StandsOver, request_of, given_up, new_client, opened_client};
+ghost use Rattle.sr_client.specs.Stands.{Stands, StandsOver, request_of, given_up, cuts_down, new_client, opened_client};
 ghost use Rattle.sr_client.specs.Steps.{Evicts};
 
 use crate::steps::EvictStep;
@@ -154,6 +154,7 @@ impl Client {
     /// Forgets all, as if the link had been cut; takes no memory.
     pub(crate) fn give_up(&mut self, alloc: Global)
         ensures given { self.new ≡ given_up self.old self.new.cuts }
+        ensures counted { self.new.cuts ≡ cuts_down self.old }
         ensures once { self.new.cuts ≤ self.old.cuts + 1 }
     {
         self.store = Store::new(alloc, self.store.limits);

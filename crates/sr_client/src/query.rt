@@ -8,7 +8,7 @@ ghost use Rattle.sr_client.specs.Bound.{IsMeaning};
 ghost use Rattle.sr_client.specs.Cutting.{AreCutAlong, IsOver};
 ghost use Rattle.sr_client.specs.Sending.{next_ask, IsSent};
 ghost use Rattle.sr_client.specs.Sends.{QuerySendsWell};
-ghost use Rattle.sr_client.specs.Stands.{Stands, Stays, HoldsNothing, drawn};
+ghost use Rattle.sr_client.specs.Stands.{Stands, Stays, KeepsNumbers, cuts_down, drawn, given_up};
 ghost use Rattle.sr_client.specs.Steps.{Queries};
 
 use crate::answer::answer;
@@ -25,7 +25,7 @@ use std::alloc::Global;
 impl Client {
     /// Judges a query. It is answered at once where its points are held under the columns that its parts need; else what is
     /// left of it is asked, unless the link is cut. Nothing is done while a request is out. After want of memory the client holds
-    /// nothing, and is cut.
+    /// nothing, and is cut; nothing else has changed.
     pub fn query(&mut self, alloc: Global, query: Query) -> Result<QueryStep, NoMemory>
         requires stands { Stands self.old }
         requires meant { (meaning : TheQuery) × IsMeaning self.old.schema query meaning }
@@ -34,7 +34,7 @@ impl Client {
         ensures stands { Stands self.new }
         ensures sends { IfOk result (QuerySendsWell self.old.schema self.old.id) }
         ensures version { self.new.version ≡ self.old.version }
-        ensures nothing_left { OnErr result (HoldsNothing self.new) }
+        ensures nothing_left { OnErr result (self.new ≡ given_up self.old (cuts_down self.old)) }
         ensures stays { Stays self.old self.new }
         ensures drawn { drawn self.new ≤ drawn self.old + 2 }
         ensures once { self.new.cuts ≤ self.old.cuts + 1 }
@@ -58,6 +58,7 @@ impl Client {
         ensures stays { Stays self.old self.new }
         ensures drawn { drawn self.new ≤ drawn self.old + 2 }
         ensures cuts { self.new.cuts ≡ self.old.cuts }
+        ensures numbers_left { OnErr result (KeepsNumbers self.old self.new) }
     {
         if let Some(request) = &self.out {
             return Ok(QueryStep::Busy {
@@ -90,6 +91,7 @@ impl Client {
         ensures stays { Stays self.old self.new }
         ensures drawn { drawn self.new ≤ drawn self.old + 2 }
         ensures cuts { self.new.cuts ≡ self.old.cuts }
+        ensures numbers_left { OnErr result (KeepsNumbers self.old self.new) }
     {
         let number = self.queries + 1;
         let rows = answer(alloc, query, self.store.regions.as_slice(), &[])?;
@@ -122,6 +124,7 @@ impl Client {
         ensures stays { Stays self.old self.new }
         ensures drawn { drawn self.new ≤ drawn self.old + 2 }
         ensures cuts { self.new.cuts ≡ self.old.cuts }
+        ensures numbers_left { OnErr result (KeepsNumbers self.old self.new) }
     {
         let asks = whole_asks(alloc, query.parts.as_slice())?;
         let drops = self.store.drop_all(alloc, Cause::Pieces)?;
@@ -142,6 +145,7 @@ impl Client {
         ensures stays { Stays self.old self.new }
         ensures drawn { drawn self.new ≤ drawn self.old + 2 }
         ensures cuts { self.new.cuts ≡ self.old.cuts }
+        ensures numbers_left { OnErr result (KeepsNumbers self.old self.new) }
     {
         if self.cut {
             return Ok(QueryStep::Down {

@@ -9,7 +9,7 @@ ghost use Rattle.sr_session.specs.Regions.{after_messages};
 ghost use Rattle.sr_session.specs.Walks.{has_lapse, version_after};
 ghost use Rattle.sr_client.specs.Sends.{TookSendsWell};
 ghost use Rattle.sr_client.specs.Settling.{settled_at, SettlesTo, WelcomesTo};
-ghost use Rattle.sr_client.specs.Stands.{Stands, Stays, IsFit, drawn};
+ghost use Rattle.sr_client.specs.Stands.{Stands, Stays, KeepsNumbers, IsFit, drawn};
 ghost use Rattle.sr_client.specs.Steps.{Takes, is_bad};
 ghost use Rattle.sr_client.specs.Values.{has_values};
 
@@ -42,6 +42,7 @@ impl Client {
         ensures stays { Stays self.old self.new }
         ensures drawn { drawn self.new ≡ drawn self.old }
         ensures cuts { self.new.cuts ≡ self.old.cuts }
+        ensures numbers_left { OnErr result (KeepsNumbers self.old self.new) }
     {
         know_messages(self.laid.as_slice());
         let marks = self.settle(alloc, version)?;
@@ -68,6 +69,7 @@ impl Client {
         ensures stays { Stays self.old self.new }
         ensures drawn { drawn self.new ≡ drawn self.old }
         ensures cuts { self.new.cuts ≡ self.old.cuts }
+        ensures numbers_left { OnErr result (KeepsNumbers self.old self.new) }
     {
         know_messages(self.laid.as_slice());
         let version = version_after(self.version, self.laid.as_slice());
@@ -96,6 +98,7 @@ impl Client {
         ensures stays { Stays self.old self.new }
         ensures drawn { drawn self.new ≡ drawn self.old }
         ensures cuts { self.new.cuts ≡ self.old.cuts }
+        ensures numbers_left { OnErr result (KeepsNumbers self.old self.new) }
     {
         know_messages(self.laid.as_slice());
         let marks = self.settle_welcomed(alloc, version, kept)?;
@@ -117,10 +120,10 @@ impl Client {
         requires values { IsTrue (list_all has_values self.old.laid) }
         ensures welcomes { IfOk result (λ marks. WelcomesTo kept self.old marks self.new.store.regions) }
         ensures now { OnOk result (self.new ≡ settled_at self.old version self.new.store.regions) }
-        ensures version_left { OnErr result (self.new.version ≡ self.old.version) }
         ensures stays { Stays self.old self.new }
         ensures drawn { drawn self.new ≡ drawn self.old }
         ensures cuts { self.new.cuts ≡ self.old.cuts }
+        ensures numbers_left { OnErr result (KeepsNumbers self.old self.new) }
     {
         if kept {
             self.settle(alloc, version)
@@ -135,10 +138,10 @@ impl Client {
         requires values { IsTrue (list_all has_values self.old.laid) }
         ensures settles { IfOk result (λ marks. SettlesTo (has_lapse self.old.laid) self.old marks self.new.store.regions) }
         ensures now { OnOk result (self.new ≡ settled_at self.old version self.new.store.regions) }
-        ensures version_left { OnErr result (self.new.version ≡ self.old.version) }
         ensures stays { Stays self.old self.new }
         ensures drawn { drawn self.new ≡ drawn self.old }
         ensures cuts { self.new.cuts ≡ self.old.cuts }
+        ensures numbers_left { OnErr result (KeepsNumbers self.old self.new) }
     {
         if has_lapse(self.laid.as_slice()) {
             self.settle_empty(alloc, Cause::Lapsed, version)
@@ -151,10 +154,10 @@ impl Client {
     fn settle_empty(&mut self, alloc: Global, cause: Cause, version: u64) -> Result<Marks, NoMemory>
         ensures marks { IfOk result (λ marks. marks ≡ map (drop_of cause) self.old.store.regions) }
         ensures now { OnOk result (self.new ≡ settled_at self.old version []) }
-        ensures version_left { OnErr result (self.new.version ≡ self.old.version) }
         ensures stays { Stays self.old self.new }
         ensures drawn { drawn self.new ≡ drawn self.old }
         ensures cuts { self.new.cuts ≡ self.old.cuts }
+        ensures numbers_left { OnErr result (KeepsNumbers self.old self.new) }
     {
         let marks = self.store.drop_all(alloc, cause)?;
         self.laid = Seq::new(alloc);
@@ -169,10 +172,10 @@ impl Client {
         requires values { IsTrue (list_all has_values self.old.laid) }
         ensures fitted { IfOk result (λ marks. IsFitted self.old.schema self.old.store.limits self.old.store.last (after_messages self.old.laid self.old.store.regions) self.new.store.regions marks) }
         ensures now { OnOk result (self.new ≡ settled_at self.old version self.new.store.regions) }
-        ensures version_left { OnErr result (self.new.version ≡ self.old.version) }
         ensures stays { Stays self.old self.new }
         ensures drawn { drawn self.new ≡ drawn self.old }
         ensures cuts { self.new.cuts ≡ self.old.cuts }
+        ensures numbers_left { OnErr result (KeepsNumbers self.old self.new) }
     {
         let laid = mem::replace(&mut self.laid, Seq::new(alloc));
         self.apply_laid(alloc, &mut [], laid)?;

@@ -16,7 +16,7 @@ ghost use Rattle.sr_client.specs.declared.steps.Took.TheVariants.{Bad};
 ghost use Rattle.sr_client.specs.Arriving.{arrivals_of, more_at, unfilled, with_message, with_messages};
 ghost use Rattle.sr_client.specs.Laying.{TellsRows, asking, with_brought};
 ghost use Rattle.sr_client.specs.Sends.{TookSendsWell};
-ghost use Rattle.sr_client.specs.Stands.{Stands, Stays, HoldsNothing, IsFit, drawn, out_of};
+ghost use Rattle.sr_client.specs.Stands.{Stands, Stays, KeepsNumbers, IsFit, cuts_down, drawn, given_up, out_of};
 ghost use Rattle.sr_client.specs.Steps.{Takes, is_bad};
 
 use crate::answer::answer;
@@ -37,7 +37,7 @@ use std::mem;
 
 impl Client {
     /// Takes a message of the server. It is refused just where it does not fit what was asked, what was laid by, the client's
-    /// version or the schema. After that, and after want of memory, the client holds nothing, and is cut.
+    /// version or the schema. After that, and after want of memory, the client holds nothing, and is cut; nothing else has changed.
     pub fn take(&mut self, alloc: Global, message: Message) -> Result<Took, NoMemory>
         requires stands { Stands self.old }
         requires room { drawn self.old + 2 < 2 ^ 63 }
@@ -46,8 +46,8 @@ impl Client {
         ensures stands { Stands self.new }
         ensures version { self.old.version ≤ self.new.version }
         ensures sends { IfOk result (TookSendsWell self.old.schema self.old.id) }
-        ensures nothing_left { OnErr result (HoldsNothing self.new) }
-        ensures bad_left { IfOk result (λ took. is_bad took ≡ true → HoldsNothing self.new) }
+        ensures nothing_left { OnErr result (self.new ≡ given_up self.old (cuts_down self.old)) }
+        ensures bad_left { IfOk result (λ took. is_bad took ≡ true → self.new ≡ given_up self.old (cuts_down self.old)) }
         ensures stays { Stays self.old self.new }
         ensures drawn { drawn self.new ≤ drawn self.old + 2 }
         ensures once { self.new.cuts ≤ self.old.cuts + 1 }
@@ -78,7 +78,7 @@ impl Client {
         ensures stands { Stands self.new }
         ensures version { self.old.version ≤ self.new.version }
         ensures sends { IfOk result (TookSendsWell self.old.schema self.old.id) }
-        ensures nothing_left { OnErr result (HoldsNothing self.new) }
+        ensures nothing_left { OnErr result (self.new ≡ given_up self.old (cuts_down self.old)) }
         ensures stays { Stays self.old self.new }
         ensures drawn { drawn self.new ≤ drawn self.old + 2 }
         ensures once { self.new.cuts ≤ self.old.cuts + 1 }
@@ -103,6 +103,7 @@ impl Client {
         ensures stays { Stays self.old self.new }
         ensures drawn { drawn self.new ≤ drawn self.old + 2 }
         ensures cuts { self.new.cuts ≡ self.old.cuts }
+        ensures numbers_left { OnErr result (KeepsNumbers self.old self.new) }
     {
         if self.out.is_some() {
             self.take_while_out(alloc, message)
@@ -125,6 +126,7 @@ impl Client {
         ensures stays { Stays self.old self.new }
         ensures drawn { drawn self.new ≡ drawn self.old }
         ensures cuts { self.new.cuts ≡ self.old.cuts }
+        ensures numbers_left { OnErr result (KeepsNumbers self.old self.new) }
     {
         match message {
             Message::Notice { version, told } => self.apply(alloc, version, told),
@@ -145,6 +147,7 @@ impl Client {
         ensures stays { Stays self.old self.new }
         ensures drawn { drawn self.new ≡ drawn self.old }
         ensures cuts { self.new.cuts ≡ self.old.cuts }
+        ensures numbers_left { OnErr result (KeepsNumbers self.old self.new) }
     {
         know_told(told.as_slice());
         self.store.apply(alloc, told.as_slice())?;
@@ -165,6 +168,7 @@ impl Client {
         ensures stays { Stays self.old self.new }
         ensures drawn { drawn self.new ≡ drawn self.old }
         ensures cuts { self.new.cuts ≡ self.old.cuts }
+        ensures numbers_left { OnErr result (KeepsNumbers self.old self.new) }
     {
         let marks = self.store.drop_all(alloc, Cause::Lapsed)?;
         self.version = version;
@@ -186,6 +190,7 @@ impl Client {
         ensures stays { Stays self.old self.new }
         ensures drawn { drawn self.new ≤ drawn self.old + 2 }
         ensures cuts { self.new.cuts ≡ self.old.cuts }
+        ensures numbers_left { OnErr result (KeepsNumbers self.old self.new) }
     {
         match message {
             Message::Reply { number, version } => self.reply(alloc, number, version),
@@ -212,6 +217,7 @@ impl Client {
         ensures stays { Stays self.old self.new }
         ensures drawn { drawn self.new ≡ drawn self.old }
         ensures cuts { self.new.cuts ≡ self.old.cuts }
+        ensures numbers_left { OnErr result (KeepsNumbers self.old self.new) }
     {
         self.laid.push(message)?;
         Ok(Took::Laid)
@@ -231,6 +237,7 @@ impl Client {
         ensures stays { Stays self.old self.new }
         ensures drawn { drawn self.new ≤ drawn self.old + 2 }
         ensures cuts { self.new.cuts ≡ self.old.cuts }
+        ensures numbers_left { OnErr result (KeepsNumbers self.old self.new) }
     {
         match self.out.take() {
             Some(Request::Ask(out)) => {
@@ -263,6 +270,7 @@ impl Client {
         ensures stays { Stays self.old self.new }
         ensures drawn { drawn self.new ≡ drawn self.old }
         ensures cuts { self.new.cuts ≡ self.old.cuts }
+        ensures numbers_left { OnErr result (KeepsNumbers self.old self.new) }
     {
         know_messages(self.laid.as_slice());
         let arrivals = self.bring(alloc, out)?;
@@ -296,6 +304,7 @@ impl Client {
         ensures brought { OnOk result (self.new ≡ with_brought self.old) }
         ensures arrivals { IfOk result (λ arrivals. arrivals ≡ arrivals_of self.old.schema out.now.parts self.old.laid) }
         ensures version { self.new.version ≡ self.old.version }
+        ensures numbers { KeepsNumbers self.old self.new }
         ensures stays { Stays self.old self.new }
         ensures drawn { drawn self.new ≡ drawn self.old }
         ensures cuts { self.new.cuts ≡ self.old.cuts }
@@ -368,6 +377,7 @@ impl Client {
         ensures stays { Stays self.old self.new }
         ensures drawn { drawn self.new ≤ drawn self.old + 2 }
         ensures cuts { self.new.cuts ≡ self.old.cuts }
+        ensures numbers_left { OnErr result (KeepsNumbers self.old self.new) }
     {
         let parts = whole_asks(alloc, out.query.parts.as_slice())?;
         let marks = self.store.drop_all(alloc, Cause::Lapsed)?;

@@ -24,8 +24,8 @@ asks-keys schema c past tables (same, is) =
     subst (λ own. OutAsksKeys own past.out) (sym same) (subst (OutAsksKeys c.schema) (sym (ap (λ (p : session.Client). p.out) is.same)) (out-keys c is.hidden is.facts))
 
 pub new-honest-runs-are-true : NewHonestRunsAreTrue
-new-honest-runs-are-true id schema limits s pieces lines script ended old new before after deeds run h =
-    honest-runs-are-true IsEnd (record { number = id; schema = schema; limits = limits }) s pieces (new_client id schema limits) new_past lines script ended old new before after asks-keys (run.begins []).1.facts.tables rests deeds run.ran h
+new-honest-runs-are-true id address schema limits s pieces lines script ended old new before after deeds run h =
+    honest-runs-are-true IsEnd (record { number = id; schema = schema; limits = limits }) s pieces (new_client id schema limits) new_past address lines script ended old new before after asks-keys (run.begins []).1.facts.tables rests deeds run.ran h
   where
     rests : Rests IsEnd s.database (new_client id schema limits) new_past
     rests = record {
@@ -37,8 +37,8 @@ new-honest-runs-are-true id schema limits s pieces lines script ended old new be
     }
 
 pub served-runs-are-true : ServedRunsAreTrue
-served-runs-are-true id schema limits db last talks lines script ended old new before after deeds run same some sound served =
+served-runs-are-true id address schema limits db last talks lines script ended old new before after deeds run same some sound served =
     let i : HaveInputs Client Gives db (run.ran.ran.earlier ++ run.ran.ran.last ∷ []) last = served-calls-are-explained Client Gives db last (run.ran.ran.earlier ++ run.ran.ran.last ∷ []) talks served in
     subst (λ (s : Server). IsTrue s.database new_past (run.ran.ran.earlier ++ run.ran.ran.last ∷ []) ended) i.after
-    (new-honest-runs-are-true id schema limits (at_rest db) i.pieces lines script ended old new before after deeds run
+    (new-honest-runs-are-true id address schema limits (at_rest db) i.pieces lines script ended old new before after deeds run
     (record { schema_is = same; some = some; sound = subst (λ (s : Server). IsSound s.database) (sym i.after) sound; closed = refl; behind = i.behind; explained = i.explained }))

@@ -22,18 +22,18 @@ use Rattle.sr_calls.specs.ClientEnds.{IsEnd, Stands, room_of, setting_of}
 use Rattle.sr_calls.specs.Runs.{RanNew, new_past}
 
 -- what `run` says of a client
-abbrev pub Runs : {E : Type 0} → List Table → List EventLine → Result Ending E → Linking → Linking → Writing → Writing → Client → Type 0
-Runs {E} schema lines r old new before after first =
+abbrev pub Runs : {E : Type 0} → List Table → List EventLine → Result Ending E → Linking → Linking → Writing → Writing → List ℕ → Client → Type 0
+Runs {E} schema lines r old new before after address first =
     (past : session.Client) (script : List (ℕ × Task)) → Stands first past → past.cut ≡ true → past.out ≡ None → AreTasks schema lines script
-    → IfOk r (λ ending. RanFairly Client IsEnd (setting_of first) first past script ending old new before after)
+    → IfOk r (λ ending. RanFairly Client IsEnd (setting_of first) first past address script ending old new before after)
 
-pub ran_new : {E : Type 0} (id : ℕ) (schema said : List Table) (limits : Limits) (lines : List EventLine) (first : Client) (r : Result Ending E) (old new : Linking) (before after : Writing) → list_all is_table schema ≡ true
-    → first ≡ new_client id schema limits → said ≡ schema → Runs said lines r old new before after first
-    → (script : List (ℕ × Task)) → AreTasks schema lines script → IfOk r (λ ended. RanNew id schema limits script ended old new before after)
-ran_new {E} id schema said limits lines first r old new before after tables is said_is runs script are =
-    let here = subst (Runs said lines r old new before after) is runs in
+pub ran_new : {E : Type 0} (id : ℕ) (address : List ℕ) (schema said : List Table) (limits : Limits) (lines : List EventLine) (first : Client) (r : Result Ending E) (old new : Linking) (before after : Writing) → list_all is_table schema ≡ true
+    → first ≡ new_client id schema limits → said ≡ schema → Runs said lines r old new before after address first
+    → (script : List (ℕ × Task)) → AreTasks schema lines script → IfOk r (λ ended. RanNew id address schema limits script ended old new before after)
+ran_new {E} id address schema said limits lines first r old new before after tables is said_is runs script are =
+    let here = subst (Runs said lines r old new before after address) is runs in
     let facts = new-facts id schema limits tables in
-    IfOk-weaker r (λ ending. RanFairly Client IsEnd (setting_of (new_client id schema limits)) (new_client id schema limits) new_past script ending old new before after) (λ ended. RanNew id schema limits script ended old new before after)
+    IfOk-weaker r (λ ending. RanFairly Client IsEnd (setting_of (new_client id schema limits)) (new_client id schema limits) new_past address script ending old new before after) (λ ended. RanNew id address schema limits script ended old new before after)
     (λ ended ran. record { begins = λ rows. (refl, record { hidden = at_first; facts = facts; same = refl; are_true = All-nil (IsTrueOf (told_of rows)) }); ran = ran })
     (here new_past script (at_first, facts, refl) refl refl (subst (λ (s : List Table). AreTasks s lines script) (sym said_is) are))
 

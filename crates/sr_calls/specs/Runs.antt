@@ -17,7 +17,7 @@ abbrev pub new_past : session.Client
 new_past = record { marks = []; queries = []; counted_from = 0; version = 0; next_request = 0; out = None; laid = []; cut = true; cuts = 0 }
 
 -- A new client of that number, to which nothing has happened, and which has the rows of any tables since it holds none, ran over the lines
--- of a script, and ended so.
-pub record RanNew (id : ℕ) (schema : List Table) (limits : Limits) (script : List (ℕ × Task)) (ended : Ending) (old new : Linking) (before after : Writing) : Type 0 where
+-- of a script, dialled this address, and ended so.
+pub record RanNew (id : ℕ) (address : List ℕ) (schema : List Table) (limits : Limits) (script : List (ℕ × Task)) (ended : Ending) (old new : Linking) (before after : Writing) : Type 0 where
   pub begins : (tables : Tables) → IsEnd schema (new_client id schema limits) new_past tables
-  pub ran : RanFairly Client IsEnd (record { number = id; schema = schema; limits = limits }) (new_client id schema limits) new_past script ended old new before after
+  pub ran : RanFairly Client IsEnd (record { number = id; schema = schema; limits = limits }) (new_client id schema limits) new_past address script ended old new before after

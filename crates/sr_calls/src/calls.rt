@@ -18,15 +18,13 @@ use sr_cell::list::{NoMemory, Seq};
 use sr_client::client::Client;
 use sr_client::steps::Took;
 use sr_dial::parts::{Came, Told};
-use sr_explain::explanation::Explanation;
-use sr_explain::lines::lines;
 use sr_message::message::{Message, Messages};
 use sr_query::query::Query;
 use sr_reader::script::Event;
 use sr_script::line::{TraceLine, TraceLines};
 use sr_world::lines::{
-    Told as Lines, lines_of_cut, lines_of_evict, told_of_query, told_of_resume, told_of_took,
-    told_of_write,
+    Told as Lines, lines_of_cut, lines_of_evict, lines_of_explain, told_of_query, told_of_resume,
+    told_of_took, told_of_write,
 };
 use std::alloc::Global;
 
@@ -186,20 +184,7 @@ fn explain_query(alloc: Global, client: &Client, query: &Query) -> Result<TraceL
     ensures told { (c : Past) (meaning : TheQuery) → Stands client.now c → IsMeaning client.now.schema query.now meaning → IfOk result (Tells IsEnd (setting_of client.now) client.now c (Ok meaning)) }
 {
     let explanation = client.explain(alloc, query)?;
-    explained(alloc, client.id, &explanation)
-}
-
-/// The lines of an explanation: its details, and its version.
-fn explained(alloc: Global, client: u8, explanation: &Explanation) -> Result<TraceLines, NoMemory>
-    requires few { length explanation.now.victims < 2 ^ 32 }
-    ensures { IfOk result (λ told. told ≡ explain_lines client (Ok explanation.now)) }
-{
-    let mut told = lines(alloc, explanation)?;
-    told.push(TraceLine::Explained {
-        client,
-        version: explanation.version,
-    })?;
-    Ok(told)
+    lines_of_explain(alloc, client.id, &explanation)
 }
 
 /// The text of a query that should be explained is refused.

@@ -35,7 +35,7 @@ pub fn client<H: Host>(
     requires regions { limits.regions ≤ 1024 }
     requires asks { (script : List (ℕ × Task)) × AreTasks schema lines script }
     requires few { length lines < 2 ^ 32 }
-    ensures ran { (script : List (ℕ × Task)) → AreTasks schema lines script → IfOk result (λ ended. RanNew id schema limits script ended (H.linking host.old) (H.linking host.new) (H.writing host.old) (H.writing host.new)) }
+    ensures ran { (script : List (ℕ × Task)) → AreTasks schema lines script → IfOk result (λ ended. RanNew id address.now schema limits script ended (H.linking host.old) (H.linking host.new) (H.writing host.old) (H.writing host.new)) }
     ensures stays { OnlyOutput H H.reading H.held H.complaints H.IsSteady host.old host.new }
 {
     let own = schema.copy(alloc)?;

@@ -57,7 +57,7 @@ tasks_of id tables (l ∷ lines) (e ∷ events) are own =
 
 -- a client that was set up ran, and ended so
 pub ends_by : (schema script : List ℕ) (words : ClientWords) (tables : List Table) (lines : List EventLine) (ending : Ending) (old new : Linking) (before after : Writing) → IsAsked words.id schema script tables lines
-    → ((tasks : List (ℕ × Task)) → AreTasks tables lines tasks → RanNew words.id tables words.limits tasks ending old new before after) → Ends schema script words ending old new before after
+    → ((tasks : List (ℕ × Task)) → AreTasks tables lines tasks → RanNew words.id words.address tables words.limits tasks ending old new before after) → Ends schema script words ending old new before after
 ends_by schema script words tables lines ending old new before after asked ran =
     let tasks = tasks_of words.id tables lines asked.asked.events asked.asked.are asked.asked.own in
     record { tables = tables; lines = lines; tasks = tasks.0; asked = asked; are = tasks.1; ran = ran tasks.0 tasks.1 }

@@ -35,14 +35,15 @@ pub record AreFiles (held : List ℕ → Option (List ℕ)) (words : ClientWords
   pub schema_read : IsWhatIsHeld (held words.schema) schema
   pub script_read : IsWhatIsHeld (held words.script) script
 
--- Files are judged and read, and the client of this number ran over a link: it resumed, did what the lines of the script ask, and ended so.
+-- Files are judged and read, and the client of this number ran over a link: it resumed, did what the lines of the script ask, dialled
+-- nothing but the address in its words, and ended so.
 pub record Ends (schema script : List ℕ) (words : ClientWords) (ending : Ending) (old new : Linking) (before after : Writing) : Type 0 where
   pub tables : List Table
   pub lines : List EventLine
   pub tasks : List (ℕ × Task)
   pub asked : IsAsked words.id schema script tables lines
   pub are : AreTasks tables lines tasks
-  pub ran : RanNew words.id tables words.limits tasks ending old new before after
+  pub ran : RanNew words.id words.address tables words.limits tasks ending old new before after
 
 -- the same, of files that were read
 pub record Dialled (held : List ℕ → Option (List ℕ)) (words : ClientWords) (ending : Ending) (old new : Linking) (before after : Writing) : Type 0 where

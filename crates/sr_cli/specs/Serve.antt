@@ -37,13 +37,13 @@ pub record AreFiles (held : List ℕ → Option (List ℕ)) (words : ServeWords)
   pub exec_read : IsExec held words.exec exec
   pub loads_read : AllZip (IsLoad held) words.loads loads
 
--- Files are set up, and a server of their tables ran: it carried out the statements of the exec file, served so many connections, and
--- ended so.
+-- Files are set up, and a server of their tables ran: it carried out the statements of the exec file, served so many connections, which
+-- came at the address in its words, and ended so.
 pub record Ends (schema exec : List ℕ) (loads : List Load) (words : ServeWords) (ending : Ending) (old new : Linking) (before after : Writing) : Type 0 where
   pub tables : Stored
   pub statements : List (List ℕ)
   pub sets_up : SetsUp schema exec loads tables statements
-  pub ran : Ran (first_database tables.schema words.log tables.rows) statements words.count ending old new before after
+  pub ran : Ran (first_database tables.schema words.log tables.rows) statements words.address words.count ending old new before after
 
 -- the same, of files that were read
 pub record Served (held : List ℕ → Option (List ℕ)) (words : ServeWords) (ending : Ending) (old new : Linking) (before after : Writing) : Type 0 where

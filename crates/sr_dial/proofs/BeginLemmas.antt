@@ -5,7 +5,7 @@ use Rattle.std.specs.List.{list_any}
 use Rattle.std.proofs.lemmas.List.Elements.{All-append, All-cons, All-nil}
 use Rattle.sr_io.specs.Causes.{Rose}
 use Rattle.sr_io.specs.Pieces.{SendsPart}
-use Rattle.sr_io.specs.Told.{Connection, Linking, OnlyFaults, connected, connections, next_peer, sends, sent_on}
+use Rattle.sr_io.specs.Told.{Connection, Linking, OnlyFaults, connected_at, connections, next_peer, sends, sent_on}
 use Rattle.sr_message.specs.declared.message.Message.{Message}
 use Rattle.sr_script.specs.declared.line.TraceLine.{TraceLine}
 use Rattle.sr_script.specs.TraceText.{line_text}
@@ -17,15 +17,16 @@ use Rattle.sr_talk.specs.Serving.{RoseBy, spelled}
 use Rattle.sr_dial.specs.Known.{Setting, Makes}
 use Rattle.sr_dial.specs.Runs.{IsCarried, SendsMost, left_by}
 use Rattle.sr_dial.specs.Courses.{At, Broken, Course, IsThere, Rests, Start, Stepped}
-use Rattle.sr_dial.proofs.ListLemmas.{all-one, any-one, calls-one, count-one, told-one}
+use Rattle.sr_dial.proofs.ListLemmas.{all-one, any-one, calls-one, count-one, dialled-one, told-one}
 use Rattle.sr_dial.proofs.CourseLemmas.{count-still, done_of, made-of, past-one, step_of, stepped-one}
 use Rattle.sr_dial.proofs.BrokenLemmas.{most-part, one-at-most}
 
 -- what a connection that has just been made has sent and taken
-told-fresh : (P : Connection → Type 0) (bytes : List ℕ) (peers : Option (List (List ℕ))) → ((coming : List ℕ) → P (record { sent = bytes; taken = []; coming = coming })) → IfSome (option_map (sends bytes) (next_peer peers)) P
-told-fresh P bytes None each = tt
-told-fresh P bytes (Some []) each = tt
-told-fresh P bytes (Some (coming ∷ more)) each = each coming
+told-fresh : (P : Connection → Type 0) (address bytes : List ℕ) (peers : Option (List (List ℕ))) → ((coming : List ℕ) → P (record { address = address; sent = bytes; taken = []; coming = coming }))
+    → IfSome (option_map (sends bytes) (next_peer (Some address) peers)) P
+told-fresh P address bytes None each = tt
+told-fresh P address bytes (Some []) each = tt
+told-fresh P address bytes (Some (coming ∷ more)) each = each coming
 
 module _ (C : Type 0) (Stands : C → Client → Type 0) (IsOf : Standing C) (k : Setting) (s : Start C) where
   -- where the link is cut the present call is over
@@ -36,6 +37,7 @@ module _ (C : Type 0) (Stands : C → Client → Type 0) (IsOf : Standing C) (k 
     are = calls-one s.past h.course.earlier h.course.call h.course.are h.course.is;
     carried = All-append (IsCarried false) h.course.earlier (h.course.call ∷ []) h.course.carried
         (All-cons (IsCarried false) h.course.call [] (record { taken = h.course.taken; sent = h.sent }) (All-nil (IsCarried false)));
+    dialled = dialled-one s.address h.course.earlier h.course.call h.course.before_dialled h.course.dialled;
     made = made-of (left_by s.past (h.course.earlier ++ h.course.call ∷ [])).cut h.course.earlier h.course.call s.linking l h.there;
     faults = h.faults;
     failed_is = h.failed_is;
@@ -54,13 +56,15 @@ module _ (C : Type 0) (Stands : C → Client → Type 0) (IsOf : Standing C) (k 
     abbrev new_call : Bool → Option Connection → Call C
     new_call connected told = record { number = number; first = step_of C Stands IsOf k s m; others = []; connected = connected; told = told; left = [] }
 
-    abbrev new_course : (connected : Bool) (told : Option Connection) → IfSome told (λ t. t.taken ≡ []) → Course C Stands IsOf k s (script ++ (number, Do Resumed) ∷ []) number 0 Q [] new
-    new_course connected told taken = record {
+    abbrev new_course : (connected : Bool) (told : Option Connection) → IfSome told (λ t. t.taken ≡ []) → IfSome told (λ t. t.address ≡ s.address) → Course C Stands IsOf k s (script ++ (number, Do Resumed) ∷ []) number 0 Q [] new
+    new_course connected told taken dialled = record {
       earlier = r.calls;
       call = record { number = number; first = step_of C Stands IsOf k s m; others = []; connected = connected; told = told; left = [] };
       are = r.are;
       is = record { first = refl; was_cut = r.cut; on_one = tt };
       carried = r.carried;
+      before_dialled = r.dialled;
+      dialled = dialled;
       left = refl;
       some = λ none. absurd (let wrong : message ∷ [] ≡ [] = sym one ∙ (m.sent_is ∙ (sym (append-nil (sent_of m.outcome)) ∙ none)) in cc);
       taken = taken;
@@ -83,18 +87,19 @@ module _ (C : Type 0) (Stands : C → Client → Type 0) (IsOf : Standing C) (k 
     or-none false = refl
 
     -- it dials, and its message is sent
-    pub begins : (new_l : Linking) → new_l ≡ sent_on (spelled sent) (connected l) → At C Stands IsOf k s (script ++ (number, Do Resumed) ∷ []) number 0 failed new_l Q [] new
+    pub begins : (new_l : Linking) → new_l ≡ sent_on (spelled sent) (connected_at (Some s.address) l) → At C Stands IsOf k s (script ++ (number, Do Resumed) ∷ []) number 0 failed new_l Q [] new
     begins new_l is =
         let before = r.faults in
         record {
-          course = new_course true (option_map (sends (spelled sent)) (next_peer l.peers)) (told-fresh (λ t. t.taken ≡ []) (spelled sent) l.peers (λ coming. refl));
-          sent = told-fresh (λ t. t.sent ≡ spelled (requests_of (step_of C Stands IsOf k s m ∷ []))) (spelled sent) l.peers (λ coming. ap spelled (sym sum));
-          faults = subst (λ n. RoseBy s.linking.faults n new_l.faults) (sym (count-still r.calls (new_call true (option_map (sends (spelled sent)) (next_peer l.peers))) refl))
+          course = new_course true (option_map (sends (spelled sent)) (next_peer (Some s.address) l.peers)) (told-fresh (λ t. t.taken ≡ []) s.address (spelled sent) l.peers (λ coming. refl))
+              (told-fresh (λ t. t.address ≡ s.address) s.address (spelled sent) l.peers (λ coming. refl));
+          sent = told-fresh (λ t. t.sent ≡ spelled (requests_of (step_of C Stands IsOf k s m ∷ []))) s.address (spelled sent) l.peers (λ coming. ap spelled (sym sum));
+          faults = subst (λ n. RoseBy s.linking.faults n new_l.faults) (sym (count-still r.calls (new_call true (option_map (sends (spelled sent)) (next_peer (Some s.address) l.peers))) refl))
               (subst (λ (x : Linking). RoseBy s.linking.faults (count_faults r.calls) x.faults) (sym is) before);
-          there = subst (λ b. IsThere b r.calls (new_call true (option_map (sends (spelled sent)) (next_peer l.peers))) s.linking new_l)
-              (sym (ap (λ (c : Client). c.cut) (past-new true (option_map (sends (spelled sent)) (next_peer l.peers))) ∙ next-up))
+          there = subst (λ b. IsThere b r.calls (new_call true (option_map (sends (spelled sent)) (next_peer (Some s.address) l.peers))) s.linking new_l)
+              (sym (ap (λ (c : Client). c.cut) (past-new true (option_map (sends (spelled sent)) (next_peer (Some s.address) l.peers))) ∙ next-up))
               (ap (λ (x : Linking). x.present) is, ap (λ (x : Linking). x.past) is ∙ r.made, refl, refl);
-          failed_is = any-one r.calls (new_call true (option_map (sends (spelled sent)) (next_peer l.peers))) ∙ (or-none (list_any fails r.calls) ∙ r.failed_is);
+          failed_is = any-one r.calls (new_call true (option_map (sends (spelled sent)) (next_peer (Some s.address) l.peers))) ∙ (or-none (list_any fails r.calls) ∙ r.failed_is);
         }
 
     not-free : (connected : Bool) (told : Option Connection)
@@ -107,7 +112,7 @@ module _ (C : Type 0) (Stands : C → Client → Type 0) (IsOf : Standing C) (k 
         let before = r.faults in
         record {
           came = 0;
-          course = new_course false None tt;
+          course = new_course false None tt tt;
           sent = tt;
           faults = omega (arith, before, rose);
           made = ap (λ p. new_l.past ++ option_to_list p) only.present ∙ (ap (λ x. x ++ option_to_list l.present) only.past
@@ -117,17 +122,18 @@ module _ (C : Type 0) (Stands : C → Client → Type 0) (IsOf : Standing C) (k 
         }
 
     -- the message is cut short
-    pub begin-breaks : (new_l : Linking) → SendsPart (connected l) new_l (spelled sent) → Rose l.faults new_l.faults → Broken C Stands IsOf k s (script ++ (number, Do Resumed) ∷ []) number new_l Q [] new
+    pub begin-breaks : (new_l : Linking) → SendsPart (connected_at (Some s.address) l) new_l (spelled sent) → Rose l.faults new_l.faults → Broken C Stands IsOf k s (script ++ (number, Do Resumed) ∷ []) number new_l Q [] new
     begin-breaks new_l part rose =
         let before = r.faults in
-        let most = one-at-most (is_fault (new_call true (option_map (sends (take part.count (spelled sent))) (next_peer l.peers)))) in
+        let most = one-at-most (is_fault (new_call true (option_map (sends (take part.count (spelled sent))) (next_peer (Some s.address) l.peers)))) in
         record {
           came = 0;
-          course = new_course true (option_map (sends (take part.count (spelled sent))) (next_peer l.peers)) (told-fresh (λ t. t.taken ≡ []) (take part.count (spelled sent)) l.peers (λ coming. refl));
-          sent = told-fresh (λ t. SendsMost (requests_of (step_of C Stands IsOf k s m ∷ [])) t.sent) (take part.count (spelled sent)) l.peers
+          course = new_course true (option_map (sends (take part.count (spelled sent))) (next_peer (Some s.address) l.peers)) (told-fresh (λ t. t.taken ≡ []) s.address (take part.count (spelled sent)) l.peers (λ coming. refl))
+              (told-fresh (λ t. t.address ≡ s.address) s.address (take part.count (spelled sent)) l.peers (λ coming. refl));
+          sent = told-fresh (λ t. SendsMost (requests_of (step_of C Stands IsOf k s m ∷ [])) t.sent) s.address (take part.count (spelled sent)) l.peers
               (λ coming. subst (λ ms. SendsMost ms (take part.count (spelled sent))) (sym (sum ∙ one)) (subst (λ ms. SendsMost (message ∷ []) (take part.count (spelled ms))) (sym one) (most-part [] message part.count)));
           faults = omega (arith, before, rose, most);
-          made = made-of false r.calls (new_call true (option_map (sends (take part.count (spelled sent))) (next_peer l.peers))) s.linking new_l (part.sent.present, part.sent.past ∙ r.made, refl, refl);
-          out = not-free true (option_map (sends (take part.count (spelled sent))) (next_peer l.peers));
+          made = made-of false r.calls (new_call true (option_map (sends (take part.count (spelled sent))) (next_peer (Some s.address) l.peers))) s.linking new_l (part.sent.present, part.sent.past ∙ r.made, refl, refl);
+          out = not-free true (option_map (sends (take part.count (spelled sent))) (next_peer (Some s.address) l.peers));
           not_yet = refl;
         }

@@ -108,6 +108,8 @@ module _ (C : Type 0) (Stands : C → Client → Type 0) (IsOf : Standing C) (k 
             are = h.course.are;
             is = record { first = h.course.is.first; was_cut = h.course.is.was_cut; on_one = h.course.is.on_one };
             carried = h.course.carried;
+            before_dialled = h.course.before_dialled;
+            dialled = map-told (takes r.bytes) (λ t. t.address ≡ s.address) (λ t. t.address ≡ s.address) h.course.call.told (λ t e. e) h.course.dialled;
             left = refl;
             some = h.course.some;
             taken = map-told (takes r.bytes) (λ t. t.taken ≡ spelled (given_of (steps_in (done_in h.course.call))) ++ h.course.call.left)
@@ -211,7 +213,8 @@ module _ (C : Type 0) (Stands : C → Client → Type 0) (IsOf : Standing C) (k 
                   (λ t. t.taken ≡ spelled (given_of (steps_in (done_in h.course.call)) ++ taken_by deed) ++ left) h.course.call.told
                   (λ t e. e ∙ (ap (λ x. spelled (given_of (steps_in (done_in h.course.call))) ++ x) (h.course.left ∙ fed)
                   ∙ (sym (append_assoc (spelled (given_of (steps_in (done_in h.course.call)))) (spelled (taken_by deed)) left)
-                  ∙ ap (λ x. x ++ left) (sym (spelled-append (given_of (steps_in (done_in h.course.call))) (taken_by deed)))))) h.course.taken);
+                  ∙ ap (λ x. x ++ left) (sym (spelled-append (given_of (steps_in (done_in h.course.call))) (taken_by deed)))))) h.course.taken)
+                  (map-told (sends (take part.count (spelled sent))) (λ t. t.address ≡ s.address) (λ t. t.address ≡ s.address) h.course.call.told (λ t e. e) h.course.dialled);
               sent = map-told (sends (take part.count (spelled sent))) (λ t. SentAs (fails h.course.call) (requests_of (steps_in (done_in h.course.call))) t.sent)
                   (λ t. SendsMost (requests_of (steps_in (done_in (with_step h.course.call (done_of C Stands IsOf k s number cause m) (option_map (sends (take part.count (spelled sent))) h.course.call.told) left)))) t.sent)
                   h.course.call.told
@@ -251,7 +254,8 @@ module _ (C : Type 0) (Stands : C → Client → Type 0) (IsOf : Standing C) (k 
           course = course-one C Stands IsOf k s script line b.came line Failed P Q code new WasCut lines [] says feed b.course.call.left feed b.course.left b.course.call.told b.course m (refl, b.out) tt
               (weaken-told (λ t. t.taken ≡ spelled (given_of (steps_in (done_in b.course.call))) ++ b.course.call.left)
               (λ t. t.taken ≡ spelled (given_of (steps_in (done_in b.course.call)) ++ []) ++ b.course.call.left) b.course.call.told
-              (λ t e. e ∙ ap (λ ms. spelled ms ++ b.course.call.left) (sym (append-nil (given_of (steps_in (done_in b.course.call)))))) b.course.taken);
+              (λ t e. e ∙ ap (λ ms. spelled ms ++ b.course.call.left) (sym (append-nil (given_of (steps_in (done_in b.course.call)))))) b.course.taken)
+              b.course.dialled;
           sent = weaken-told (λ t. SendsMost (requests_of (steps_in (done_in b.course.call))) t.sent)
               (λ t. SentAs (fails (with_step b.course.call (done_of C Stands IsOf k s line Failed m) b.course.call.told b.course.call.left))
               (requests_of (steps_in (done_in (with_step b.course.call (done_of C Stands IsOf k s line Failed m) b.course.call.told b.course.call.left)))) t.sent) b.course.call.told

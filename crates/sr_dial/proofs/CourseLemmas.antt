@@ -140,9 +140,9 @@ module _ (C : Type 0) (Stands : C → Client → Type 0) (IsOf : Standing C) (k 
     -- with what the link tells then
     abbrev pub course-one : (feed left new_feed : List ℕ) (same : left ≡ new_feed) (told : Option Connection) (h : Course C Stands IsOf k s script line came P feed code) (m : Makes Stands IsOf k code new (left_by s.past (h.earlier ++ h.call ∷ [])) deed lines sent)
         → IsInPlace cause line number deed (left_by s.past (h.earlier ++ h.call ∷ [])) → StaysOn (left_by s.past (h.earlier ++ h.call ∷ [])) deed
-        → IfSome told (λ t. t.taken ≡ spelled (given_of (steps_in (done_in h.call)) ++ taken_by deed) ++ left)
+        → IfSome told (λ t. t.taken ≡ spelled (given_of (steps_in (done_in h.call)) ++ taken_by deed) ++ left) → IfSome told (λ t. t.address ≡ s.address)
         → Course C Stands IsOf k s (script ++ line_of cause number deed) number (more_taken cause came) Q new_feed new
-    course-one feed left new_feed same told h m place stays taken = record {
+    course-one feed left new_feed same told h m place stays taken dialled = record {
       earlier = h.earlier;
       call = with_step h.call (done_of number cause m) told left;
       are = h.are;
@@ -153,6 +153,8 @@ module _ (C : Type 0) (Stands : C → Client → Type 0) (IsOf : Standing C) (k 
             (on-append h.call.first.past (steps_in h.call.others) (step_of m) h.is.on_one (subst (λ c. StaysOn c deed) (past-call s.past h.earlier h.call) stays));
       };
       carried = h.carried;
+      before_dialled = h.before_dialled;
+      dialled = dialled;
       left = same;
       some = λ none. append-some (requests_of (steps_in (done_in h.call))) (sent_of m.outcome) h.some (sym (requests-step h.call (done_of number cause m) told left) ∙ none);
       taken = subst (λ ms. IfSome told (λ t. t.taken ≡ spelled ms ++ left)) (sym (given-step h.call (done_of number cause m) told left)) taken;
@@ -181,7 +183,8 @@ module _ (C : Type 0) (Stands : C → Client → Type 0) (IsOf : Standing C) (k 
                 (λ t. t.taken ≡ spelled (given_of (steps_in (done_in h.course.call)) ++ taken_by deed) ++ left) h.course.call.told
                 (λ t e. e ∙ (ap (λ x. spelled (given_of (steps_in (done_in h.course.call))) ++ x) (h.course.left ∙ fed)
                 ∙ (sym (append_assoc (spelled (given_of (steps_in (done_in h.course.call)))) (spelled (taken_by deed)) left)
-                ∙ ap (λ x. x ++ left) (sym (spelled-append (given_of (steps_in (done_in h.course.call))) (taken_by deed)))))) h.course.taken);
+                ∙ ap (λ x. x ++ left) (sym (spelled-append (given_of (steps_in (done_in h.course.call))) (taken_by deed)))))) h.course.taken)
+                (map-told (sends (spelled sent)) (λ t. t.address ≡ s.address) (λ t. t.address ≡ s.address) h.course.call.told (λ t e. e) h.course.dialled);
             sent = map-told (sends (spelled sent)) (λ t. SentAs (fails h.course.call) (requests_of (steps_in (done_in h.course.call))) t.sent)
                 (λ t. SentAs (fails (with_step h.course.call (done_of number cause m) (option_map (sends (spelled sent)) h.course.call.told) left))
                 (requests_of (steps_in (done_in (with_step h.course.call (done_of number cause m) (option_map (sends (spelled sent)) h.course.call.told) left)))) t.sent) h.course.call.told
@@ -216,7 +219,8 @@ module _ (C : Type 0) (Stands : C → Client → Type 0) (IsOf : Standing C) (k 
             course = course-one feed h.course.call.left feed h.course.left h.course.call.told h.course m place stays
                 (weaken-told (λ t. t.taken ≡ spelled (given_of (steps_in (done_in h.course.call))) ++ h.course.call.left)
                 (λ t. t.taken ≡ spelled (given_of (steps_in (done_in h.course.call)) ++ taken_by deed) ++ h.course.call.left) h.course.call.told
-                (λ t e. e ∙ ap (λ ms. spelled ms ++ h.course.call.left) (sym (ap (λ ms. given_of (steps_in (done_in h.course.call)) ++ ms) took ∙ append-nil (given_of (steps_in (done_in h.course.call)))))) h.course.taken);
+                (λ t e. e ∙ ap (λ ms. spelled ms ++ h.course.call.left) (sym (ap (λ ms. given_of (steps_in (done_in h.course.call)) ++ ms) took ∙ append-nil (given_of (steps_in (done_in h.course.call)))))) h.course.taken)
+                h.course.dialled;
             sent = weaken-told (λ t. SentAs (fails h.course.call) (requests_of (steps_in (done_in h.course.call))) t.sent)
                 (λ t. SentAs (fails (with_step h.course.call (done_of number cause m) h.course.call.told h.course.call.left))
                 (requests_of (steps_in (done_in (with_step h.course.call (done_of number cause m) h.course.call.told h.course.call.left)))) t.sent) h.course.call.told

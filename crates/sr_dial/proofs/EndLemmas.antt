@@ -13,7 +13,7 @@ use Rattle.sr_dial.specs.Runs.{EndsBy, IsCarried, SendsMost, SentAs, WritesAs, i
 use Rattle.sr_dial.specs.Courses.{At, Broken, IsPartWritten, IsWritten, Over, Start}
 use Rattle.sr_dial.specs.declared.ending.Ending.{Ending}
 use Rattle.sr_dial.specs.declared.ending.Ending.TheVariants as ending
-use Rattle.sr_dial.proofs.ListLemmas.{calls-one}
+use Rattle.sr_dial.proofs.ListLemmas.{calls-one, dialled-one}
 use Rattle.sr_dial.proofs.CourseLemmas.{count-still, made-of, weaken-told}
 use Rattle.sr_dial.proofs.BrokenLemmas.{most-all}
 
@@ -38,6 +38,7 @@ module _ (C : Type 0) (Stands : C → Client → Type 0) (IsOf : Standing C) (k 
       sent = weaken-told (λ t. SentAs (fails h.course.call) (requests_of (steps_in (done_in h.course.call))) t.sent) (λ t. SendsMost (requests_of (steps_in (done_in h.course.call))) t.sent) h.course.call.told
           (λ t. most-of (fails h.course.call) (requests_of (steps_in (done_in h.course.call))) t.sent h.course.some) h.sent;
     };
+    dialled = dialled-one s.address h.course.earlier h.course.call h.course.before_dialled h.course.dialled;
     made = made-of (left_by s.past (h.course.earlier ++ h.course.call ∷ [])).cut h.course.earlier h.course.call s.linking l h.there;
     faults = h.faults;
     ends = λ whole. tt;
@@ -58,6 +59,7 @@ module _ (C : Type 0) (Stands : C → Client → Type 0) (IsOf : Standing C) (k 
         explained = b.course.steps.explained;
         carried = b.course.carried;
         last_carried = record { taken = b.course.taken; sent = b.sent };
+        dialled = dialled-one s.address b.course.earlier b.course.call b.course.before_dialled b.course.dialled;
         made = b.made;
         faults = omega (arith, before, none);
         ends = λ whole. tt;
@@ -78,6 +80,7 @@ module _ (C : Type 0) (Stands : C → Client → Type 0) (IsOf : Standing C) (k 
     explained = h.course.steps.explained;
     carried = h.course.carried;
     last_carried = subst (λ b. IsCarried b h.course.call) (sym written) (record { taken = h.course.taken; sent = h.sent });
+    dialled = dialled-one s.address h.course.earlier h.course.call h.course.before_dialled h.course.dialled;
     made = made-of (left_by s.past (h.course.earlier ++ h.course.call ∷ [])).cut h.course.earlier h.course.call s.linking l h.there;
     faults = h.faults;
     ends = λ whole. subst (λ x. EndsBy ended k.schema (h.course.earlier ++ h.course.call ∷ []) (left_by s.past (h.course.earlier ++ h.course.call ∷ [])) x script whole) (sym h.course.left) (ends whole);

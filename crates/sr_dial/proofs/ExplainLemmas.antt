@@ -80,6 +80,8 @@ module _ (C : Type 0) (Stands : C → Client → Type 0) (IsOf : Standing C) (k 
           on_one = subst (OnOne h.course.call.first.past) (sym (steps-append h.course.call.others (Explained number text result ∷ []) ∙ append-nil (steps_in h.course.call.others))) h.course.is.on_one;
         };
         carried = h.course.carried;
+        before_dialled = h.course.before_dialled;
+        dialled = h.course.dialled;
         left = h.course.left;
         some = λ none. h.course.some (sym requests-same ∙ none);
         taken = subst (λ ms. IfSome h.course.call.told (λ t. t.taken ≡ spelled ms ++ h.course.call.left)) (sym given-same) h.course.taken;

@@ -1,9 +1,9 @@
 -- Lines of a script, from how they begin to how they end.
-use Rattle.std.proofs.Common.{◌≡◌, ℕ, Bool, true, false, cond, List, [], ◌∷◌, ◌++◌, append-nil, inl, inr, refl, sym, ◌∙◌, subst, ap, arith}
+use Rattle.std.proofs.Common.{◌≡◌, ℕ, Bool, true, false, cond, List, [], ◌∷◌, ◌++◌, append-nil, inl, inr, refl, sym, ◌∙◌, subst, ap, arith, Some}
 use Rattle.std.proofs.lemmas.List.Elements.{All-nil}
 use Rattle.std.specs.Prelude.{◌⊎◌, flat_map}
 use Rattle.sr_io.specs.Causes.{Rose}
-use Rattle.sr_io.specs.Told.{Linking, OnlyFaults, Writing, connected, hung_up, connections}
+use Rattle.sr_io.specs.Told.{Connection, Linking, OnlyFaults, Writing, connected_at, hung_up, connections}
 use Rattle.sr_message.specs.declared.message.Message.{Message}
 use Rattle.sr_script.specs.declared.line.TraceLine.{TraceLine}
 use Rattle.sr_script.specs.TraceText.{line_text}
@@ -33,6 +33,7 @@ module _ (C : Type 0) (Stands : C → Client → Type 0) (IsOf : Standing C) (k 
     calls = [];
     are = tt;
     carried = All-nil (IsCarried false);
+    dialled = All-nil (λ (t : Connection). t.address ≡ s.address);
     made = ap connections u.links ∙ sym (append-nil (connections s.linking));
     faults = subst (λ (x : Linking). Rattle.sr_talk.specs.Serving.RoseBy s.linking.faults 0 x.faults) (sym u.links) (omega arith);
     failed_is = sym u.not_failed;
@@ -59,11 +60,11 @@ module _ (C : Type 0) (Stands : C → Client → Type 0) (IsOf : Standing C) (k 
     module _ (r : Rests C Stands IsOf k s script line failed l (IsWritten s w) code) (m : Makes Stands IsOf k code new (left_by s.past r.calls) Resumed lines sent)
         (message : Message) (one : sent ≡ message ∷ []) where
       -- somebody is dialled
-      pub dialled : (handed : Handed) → mid ≡ connected l → Carries handed mid new_l w new_w (spelled sent) (flat_map (line_text k.schema number) lines)
+      pub dialled : (handed : Handed) → mid ≡ connected_at (Some s.address) l → Carries handed mid new_l w new_w (spelled sent) (flat_map (line_text k.schema number) lines)
           → Hands C Stands IsOf k handed s (script ++ (number, Do Resumed) ∷ []) number 0 failed new_l new_w [] new
       dialled handed made carries = by handed (subst (λ x. Carries handed x new_l w new_w (spelled sent) (flat_map (line_text k.schema number) lines)) made carries)
         where
-          by : (handed : Handed) → Carries handed (connected l) new_l w new_w (spelled sent) (flat_map (line_text k.schema number) lines)
+          by : (handed : Handed) → Carries handed (connected_at (Some s.address) l) new_l w new_w (spelled sent) (flat_map (line_text k.schema number) lines)
               → Hands C Stands IsOf k handed s (script ++ (number, Do Resumed) ∷ []) number 0 failed new_l new_w [] new
           by Whole (is, says) = begins C Stands IsOf k s script line number failed (IsWritten s w) (IsWritten s new_w) l code new lines sent (wrote s w new_w text says) r m (r.steps.rests r.cut) message one new_l is
           by HandedBroken ((part, rose), says) =
@@ -115,7 +116,7 @@ module _ (C : Type 0) (Stands : C → Client → Type 0) (IsOf : Standing C) (k 
             (down (left_by s.past (f.at.course.earlier ++ f.at.course.call ∷ [])) (act (left_by s.past (f.at.course.earlier ++ f.at.course.call ∷ [])) f.at.course.steps.stands) sent refl)
         by (inr u) = unbegun-rests script line failed l (IsWritten s w) code u
 
-    pub resumes-dialled : (handed : Handed) (mid : Linking) → (sent ≡ [] → ⊥) → mid ≡ connected l → Carries handed mid new_l w new_w (spelled sent) (flat_map (line_text k.schema number) lines)
+    pub resumes-dialled : (handed : Handed) (mid : Linking) → (sent ≡ [] → ⊥) → mid ≡ connected_at (Some s.address) l → Carries handed mid new_l w new_w (spelled sent) (flat_map (line_text k.schema number) lines)
         → Hands C Stands IsOf k handed s (script ++ (number, Do Resumed) ∷ []) number 0 failed new_l new_w [] new
     resumes-dialled handed mid some made carries = by (one-sent m.outcome)
       where

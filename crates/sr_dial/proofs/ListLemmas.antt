@@ -1,8 +1,10 @@
 -- Calls and steps, one more.
-use Rattle.std.proofs.Common.{◌≡◌, ℕ, ◌+◌, Bool, true, false, List, [], ◌∷◌, ◌++◌, arith, append_assoc, append-nil, refl, sym, ◌∙◌, ap, subst, Option, option_to_list}
-use Rattle.std.specs.Prelude.{◌&&◌, ◌||◌, flat_map}
+use Rattle.std.proofs.Common.{◌≡◌, ℕ, ◌+◌, Bool, true, false, List, [], ◌∷◌, ◌++◌, arith, append_assoc, append-nil, refl, sym, ◌∙◌, ap, subst, Option, Some, None, option_to_list}
+use Rattle.std.specs.Prelude.{◌&&◌, ◌||◌, IfSome, flat_map}
 use Rattle.std.specs.List.{list_any}
 use Rattle.std.proofs.lemmas.Grind.{flat_map-append}
+use Rattle.std.proofs.lemmas.List.Elements.{All-append, All-cons, All-nil}
+use Rattle.sr_io.specs.Told.{AreAt, Connection}
 use Rattle.sr_message.specs.declared.message.Message.{Message}
 use Rattle.sr_policy.specs.declared.policy.Limits.{Limits}
 use Rattle.sr_session.specs.Clients.{Client}
@@ -80,6 +82,15 @@ module _ {C : Type 0} where
   pub told-one : (cs : List (Call C)) (x : Call C) → calls_told (cs ++ x ∷ []) ≡ calls_told cs ++ option_to_list x.told
   told-one [] x = append-nil (option_to_list x.told)
   told-one (c ∷ cs) x = ap (λ more. option_to_list c.told ++ more) (told-one cs x) ∙ sym (append_assoc (option_to_list c.told) (calls_told cs) (option_to_list x.told))
+
+  -- all were made where those before were, and the last one
+  pub dialled-one : (address : List ℕ) (cs : List (Call C)) (x : Call C) → AreAt address (calls_told cs) → IfSome x.told (λ t. t.address ≡ address) → AreAt address (calls_told (cs ++ x ∷ []))
+  dialled-one address cs x before last =
+      subst (AreAt address) (sym (told-one cs x)) (All-append (λ t. t.address ≡ address) (calls_told cs) (option_to_list x.told) before (by x.told last))
+    where
+      by : (told : Option Connection) → IfSome told (λ t. t.address ≡ address) → AreAt address (option_to_list told)
+      by None last = All-nil (λ t. t.address ≡ address)
+      by (Some t) last = All-cons (λ t. t.address ≡ address) t [] last (All-nil (λ t. t.address ≡ address))
 
   pub count-one : (cs : List (Call C)) (x : Call C) → count_faults (cs ++ x ∷ []) ≡ count_faults cs + one_if (fails x && is_fault x)
   count-one [] x = omega arith

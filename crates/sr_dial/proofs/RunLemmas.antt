@@ -11,7 +11,7 @@ use Rattle.sr_dial.specs.Runs.{EndsBy, IsCarried, RanFairly, WritesAs, is_unwrit
 use Rattle.sr_dial.specs.Courses.{Finishes, Free, IsWritten, Over, Start}
 use Rattle.sr_dial.specs.declared.ending.Ending.{Ending}
 use Rattle.sr_dial.specs.declared.ending.Ending.TheVariants as ending
-use Rattle.sr_dial.proofs.ListLemmas.{calls-one}
+use Rattle.sr_dial.proofs.ListLemmas.{calls-one, dialled-one}
 use Rattle.sr_dial.proofs.CourseLemmas.{made-of}
 
 module _ (C : Type 0) (Stands : C → Client → Type 0) (IsOf : Standing C) (k : Setting) (s : Start C) (script : List (ℕ × Task)) (l new_l : Linking) (w : Writing) (feed : List ℕ) (code : C) (gone : new_l ≡ hung_up l) where
@@ -20,7 +20,7 @@ module _ (C : Type 0) (Stands : C → Client → Type 0) (IsOf : Standing C) (k 
 
   free-ran : (ended : Ending) (failed : Bool) (line : ℕ) → Free C Stands IsOf k s ((0, Do Resumed) ∷ script) line failed l (IsWritten s w) feed code → is_unwritten ended ≡ false
       → ((calls : List (Call C)) (c : Client) (left : List ℕ) → c.out ≡ None → Rattle.std.specs.List.list_any Rattle.sr_talk.specs.Calls.fails calls ≡ failed → EndsBy ended k.schema calls c left ((0, Do Resumed) ∷ script) ((0, Do Resumed) ∷ script))
-      → ((texts : List ℕ) → IsWritten s w texts → WritesAs ended texts s.writing w) → RanFairly C IsOf k s.code s.past script ended s.linking new_l s.writing w
+      → ((texts : List ℕ) → IsWritten s w texts → WritesAs ended texts s.writing w) → RanFairly C IsOf k s.code s.past s.address script ended s.linking new_l s.writing w
   free-ran ended failed line f written ends writes =
       let h = f.at in
       record {
@@ -34,6 +34,7 @@ module _ (C : Type 0) (Stands : C → Client → Type 0) (IsOf : Standing C) (k 
           beginning = record { rest = []; all = sym (append-nil ((0, Do Resumed) ∷ script)) };
           carried = h.course.carried;
           last_carried = subst (λ b. IsCarried b h.course.call) (sym written) (record { taken = h.course.taken; sent = h.sent });
+          dialled = dialled-one s.address h.course.earlier h.course.call h.course.before_dialled h.course.dialled;
           made = made-still (made-of (left_by s.past (h.course.earlier ++ h.course.call ∷ [])).cut h.course.earlier h.course.call s.linking l h.there);
           hung_up = ap (λ (x : Linking). x.is_up) gone;
           faults = subst (λ (x : Linking). Rattle.sr_talk.specs.Serving.RoseBy s.linking.faults (Rattle.sr_talk.specs.Calls.count_faults (h.course.earlier ++ h.course.call ∷ [])) x.faults) (sym gone) h.faults;
@@ -44,7 +45,7 @@ module _ (C : Type 0) (Stands : C → Client → Type 0) (IsOf : Standing C) (k 
         explained = h.course.steps.explained;
       }
 
-  over-ran : (ended : Ending) (some : List (ℕ × Task)) → IsPrefix some ((0, Do Resumed) ∷ script) → Over C Stands IsOf k s some ended l w → RanFairly C IsOf k s.code s.past script ended s.linking new_l s.writing w
+  over-ran : (ended : Ending) (some : List (ℕ × Task)) → IsPrefix some ((0, Do Resumed) ∷ script) → Over C Stands IsOf k s some ended l w → RanFairly C IsOf k s.code s.past s.address script ended s.linking new_l s.writing w
   over-ran ended some beginning o = record {
     ran = record {
       earlier = o.earlier;
@@ -56,6 +57,7 @@ module _ (C : Type 0) (Stands : C → Client → Type 0) (IsOf : Standing C) (k 
       beginning = beginning;
       carried = o.carried;
       last_carried = o.last_carried;
+      dialled = o.dialled;
       made = made-still o.made;
       hung_up = ap (λ (x : Linking). x.is_up) gone;
       faults = subst (λ (x : Linking). Rattle.sr_talk.specs.Serving.RoseBy s.linking.faults (Rattle.sr_talk.specs.Calls.count_faults (o.earlier ++ o.last ∷ [])) x.faults) (sym gone) o.faults;
@@ -66,7 +68,7 @@ module _ (C : Type 0) (Stands : C → Client → Type 0) (IsOf : Standing C) (k 
     explained = o.explained;
   }
 
-  pub finishes-ran : (ended : Ending) → Finishes C Stands IsOf k ended s ((0, Do Resumed) ∷ script) l w feed code → RanFairly C IsOf k s.code s.past script ended s.linking new_l s.writing w
+  pub finishes-ran : (ended : Ending) → Finishes C Stands IsOf k ended s ((0, Do Resumed) ∷ script) l w feed code → RanFairly C IsOf k s.code s.past s.address script ended s.linking new_l s.writing w
   finishes-ran ending.Whole (line, f) = free-ran ending.Whole false line f refl (λ calls c left free failed. record { all = refl; free = free; failed_is = failed }) (λ texts is. is)
   finishes-ran ending.Faulty (line, f) = free-ran ending.Faulty true line f refl (λ calls c left free failed. record { all = refl; free = free; failed_is = failed }) (λ texts is. is)
   finishes-ran ending.Unwritten (some, beginning, o) = over-ran ending.Unwritten some beginning o

@@ -33,8 +33,8 @@ pub record Going (C : Type 0) (Stands : C → Client → Type 0) (IsOf : Standin
   pub free : Free C Stands IsOf k s done number failed l (IsWritten s w) feed code
 
 pub record RunSoFar (H C : Type 0) (reading : H → Reading) (writing : H → Writing) (linking : H → Linking) (held : H → List ℕ → Option (List ℕ)) (complaints : H → Option (List ℕ)) (IsSteady : H → Type 0)
-    (Stands : C → Client → Type 0) (IsOf : Standing C) (setting : C → Setting) (room : C → ℕ) (schema : List Table) (lines left : List EventLine) (failed_first failed : Bool) (first now : H) (fed feed : List ℕ) (code_first code : C) : Type 0 where
-  pub so_far : (k : Setting) (s : Start C) (script : List (ℕ × Task)) (number : ℕ) (tasks : List (ℕ × Task)) → setting code_first ≡ k → schema ≡ k.schema
+    (Stands : C → Client → Type 0) (IsOf : Standing C) (setting : C → Setting) (room : C → ℕ) (schema : List Table) (address : List ℕ) (lines left : List EventLine) (failed_first failed : Bool) (first now : H) (fed feed : List ℕ) (code_first code : C) : Type 0 where
+  pub so_far : (k : Setting) (s : Start C) (script : List (ℕ × Task)) (number : ℕ) (tasks : List (ℕ × Task)) → s.address ≡ address → setting code_first ≡ k → schema ≡ k.schema
       → Free C Stands IsOf k s script number failed_first (linking first) (IsWritten s (writing first)) fed code_first → AreTasks k.schema lines tasks
       → Going C Stands IsOf k s (script ++ tasks) left failed (linking now) (writing now) feed code
   pub same : setting code ≡ setting code_first

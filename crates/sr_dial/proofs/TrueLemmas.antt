@@ -225,7 +225,7 @@ module _ {C : Type 0} (IsOf : Standing C) (keys : AsksKeys IsOf) (limits : Limit
 -- ---- a run
 
 pub honest-runs-are-true : {C : Type 0} (IsOf : Standing C) → HonestRunsAreTrue IsOf
-honest-runs-are-true {C} IsOf k s pieces code c lines script ended old new before after keys tables rests deeds run h = record {
+honest-runs-are-true {C} IsOf k s pieces code c address lines script ended old new before after keys tables rests deeds run h = record {
   answers = true-answers IsOf keys k.limits k.schema tables s pieces code c rests (run.ran.earlier ++ run.ran.last ∷ []) h run.ran.are heard fair;
   versions = never-fall k.limits (server_at_last s pieces).database c (steps_in (all_done (run.ran.earlier ++ run.ran.last ∷ []))) (are-true IsOf keys k.limits k.schema tables s pieces code c rests (run.ran.earlier ++ run.ran.last ∷ []) h run.ran.are heard fair);
   accepted = by ended run.ran.ends;

@@ -4,7 +4,7 @@ use Rattle.std.specs.Io.KnownBytes.{Appends}
 use Rattle.std.specs.List.{list_any, All}
 use Rattle.sr_io.specs.Causes.{Rose}
 use Rattle.sr_io.specs.Pieces.{WritesPrefix}
-use Rattle.sr_io.specs.Told.{Linking, Writing, connections}
+use Rattle.sr_io.specs.Told.{Linking, Writing, AreAt, connections}
 use Rattle.sr_message.specs.declared.message.Message.{Message}
 use Rattle.sr_session.specs.Clients.{Client}
 use Rattle.sr_links.specs.Honest.{IsPrefix}
@@ -26,13 +26,14 @@ use Rattle.sr_dial.specs.declared.waiting.Handled.TheVariants as handled
 use Rattle.sr_dial.specs.declared.waiting.Awaited.{Awaited}
 use Rattle.sr_dial.specs.declared.waiting.Awaited.TheVariants as awaited
 
--- ---- where it began
+-- ---- where it began, and the address that it dials
 
 pub record Start (C : Type 0) : Type 0 where
   pub linking : Linking
   pub writing : Writing
   pub code : C
   pub past : Client
+  pub address : List ℕ
 
 -- the number of the last line
 abbrev pub line_after : {C : Type 0} → ℕ → List (Done C) → ℕ
@@ -98,6 +99,8 @@ module _ (C : Type 0) (Stands : C → Client → Type 0) (IsOf : Standing C) (k 
     pub are : AreCalls s.past earlier
     pub is : IsCall (left_by s.past earlier) call
     pub carried : All (IsCarried false) earlier
+    pub before_dialled : AreAt s.address (calls_told earlier)
+    pub dialled : IfSome call.told (λ t. t.address ≡ s.address)
     pub left : call.left ≡ feed
     pub some : requests_of (steps_in (done_in call)) ≢ []
     pub taken : IfSome call.told (λ t. t.taken ≡ spelled (given_of (steps_in (done_in call))) ++ call.left)
@@ -126,6 +129,7 @@ module _ (C : Type 0) (Stands : C → Client → Type 0) (IsOf : Standing C) (k 
     pub calls : List (Call C)
     pub are : AreCalls s.past calls
     pub carried : All (IsCarried false) calls
+    pub dialled : AreAt s.address (calls_told calls)
     pub made : connections l ≡ connections s.linking ++ calls_told calls
     pub faults : RoseBy s.linking.faults (count_faults calls) l.faults
     pub failed_is : list_any fails calls ≡ failed
@@ -144,6 +148,7 @@ module _ (C : Type 0) (Stands : C → Client → Type 0) (IsOf : Standing C) (k 
     pub explained : AreFairlyExplained IsOf k.limits s.code s.past (all_done (earlier ++ last ∷ []))
     pub carried : All (IsCarried false) earlier
     pub last_carried : IsCarried (is_unwritten ended) last
+    pub dialled : AreAt s.address (calls_told (earlier ++ last ∷ []))
     pub made : connections l ≡ connections s.linking ++ calls_told (earlier ++ last ∷ [])
     pub faults : RoseBy s.linking.faults (count_faults (earlier ++ last ∷ [])) l.faults
     pub ends : (whole : List (ℕ × Task)) → EndsBy ended k.schema (earlier ++ last ∷ []) (left_by s.past (earlier ++ last ∷ [])) last.left script whole

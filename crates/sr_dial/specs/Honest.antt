@@ -70,7 +70,7 @@ pub record IsTrue {C : Type 0} (db : Database) (c : Client) (calls : List (Call 
 
 -- So it is of a run over any number of calls, for any client whose link is cut, and that has the rows of its version on the server.
 abbrev pub HonestRunsAreTrue : {C : Type 0} → Standing C → Type 0
-HonestRunsAreTrue {C} IsOf = (k : Setting) (s : Server) (pieces : List (List Input)) (code : C) (c : Client) (lines : List EventLine) (script : List (ℕ × Task)) (ended : Ending) (old new : Linking) (before after : Writing)
+HonestRunsAreTrue {C} IsOf = (k : Setting) (s : Server) (pieces : List (List Input)) (code : C) (c : Client) (address : List ℕ) (lines : List EventLine) (script : List (ℕ × Task)) (ended : Ending) (old new : Linking) (before after : Writing)
     → AsksKeys IsOf → list_all is_table k.schema ≡ true → Rests IsOf s.database code c → AreTasks k.schema lines script
-    → (run : RanFairly C IsOf k code c script ended old new before after) → IsHonest k.schema s pieces (run.ran.earlier ++ run.ran.last ∷ [])
+    → (run : RanFairly C IsOf k code c address script ended old new before after) → IsHonest k.schema s pieces (run.ran.earlier ++ run.ran.last ∷ [])
     → IsTrue (server_at_last s pieces).database c (run.ran.earlier ++ run.ran.last ∷ []) ended

@@ -8,7 +8,7 @@ use Rattle.std.specs.List.{list_any, All}
 use Rattle.sr_cell.specs.declared.table.Table.{Table}
 use Rattle.sr_io.specs.Causes.{Rose}
 use Rattle.sr_io.specs.Pieces.{WritesPrefix}
-use Rattle.sr_io.specs.Told.{Linking, Writing, connections}
+use Rattle.sr_io.specs.Told.{Linking, Writing, AreAt, connections}
 use Rattle.sr_message.specs.declared.message.Message.{Message}
 use Rattle.sr_wire.specs.declared.bad_frame.BadFrame.{BadFrame}
 use Rattle.sr_wire.specs.declared.wire_fault.WireFault.{WireFault}
@@ -125,8 +125,8 @@ is_unwritten ending.Unwritten = true
 is_unwritten other = false
 
 -- A run of the client of that number, which was `c` before, over the lines of a script. Call by call it resumed, and then did what the
--- lines ask, in order. The link tells just these connections more, and is given up.
-pub record Ran (C : Type 0) (schema : List Table) (client : ℕ) (c : Client) (script : List (ℕ × Task)) (ended : Ending) (old new : Linking) (before after : Writing) : Type 0 where
+-- lines ask, in order. The link tells just these connections more, each made at this address, and is given up.
+pub record Ran (C : Type 0) (schema : List Table) (client : ℕ) (c : Client) (address : List ℕ) (script : List (ℕ × Task)) (ended : Ending) (old new : Linking) (before after : Writing) : Type 0 where
   pub earlier : List (Call C)
   pub last : Call C
   pub lines : List (ℕ × Task)
@@ -137,13 +137,14 @@ pub record Ran (C : Type 0) (schema : List Table) (client : ℕ) (c : Client) (s
   pub carried : All (IsCarried false) earlier
   pub last_carried : IsCarried (is_unwritten ended) last
   pub made : connections new ≡ connections old ++ calls_told (earlier ++ last ∷ [])
+  pub dialled : AreAt address (calls_told (earlier ++ last ∷ []))
   pub hung_up : new.is_up ≡ false
   pub faults : RoseBy old.faults (count_faults (earlier ++ last ∷ [])) new.faults
   pub ends : EndsBy ended schema (earlier ++ last ∷ []) (left_by c (earlier ++ last ∷ [])) last.left lines ((0, Do Resumed) ∷ script)
   pub writes : WritesAs ended (flat_map (text_of schema client) (all_done (earlier ++ last ∷ []))) before after
 
 -- And each of its steps is fair, from this code on, and so is what was explained.
-pub record RanFairly (C : Type 0) (IsOf : Standing C) (k : Setting) (code : C) (c : Client) (script : List (ℕ × Task)) (ended : Ending) (old new : Linking) (before after : Writing) : Type 0 where
-  pub ran : Ran C k.schema k.number c script ended old new before after
+pub record RanFairly (C : Type 0) (IsOf : Standing C) (k : Setting) (code : C) (c : Client) (address : List ℕ) (script : List (ℕ × Task)) (ended : Ending) (old new : Linking) (before after : Writing) : Type 0 where
+  pub ran : Ran C k.schema k.number c address script ended old new before after
   pub fair : AreFair IsOf k.limits code c (steps_in (all_done (ran.earlier ++ ran.last ∷ [])))
   pub explained : AreFairlyExplained IsOf k.limits code c (all_done (ran.earlier ++ ran.last ∷ []))

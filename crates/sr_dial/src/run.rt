@@ -41,7 +41,7 @@ fn start<H: Host, C: Asks>(
 ) -> Result<Handed, NoMemory>
     requires asks { (task : Task) × IsTask (C.setting client.old).schema line.event task }
     requires room { 2 ≤ C.room client.old }
-    ensures started { (k : Setting) (s : Start C) (script : List (ℕ × Task)) (number : ℕ) (failed : Bool) (task : Task) → C.setting client.old ≡ k → schema.now ≡ k.schema → Free C C.stands C.is_of k s script number failed (H.linking host.old) (IsWritten s (H.writing host.old)) feed.old client.old → IsTask k.schema line.event task → IfOk result (λ handed. Hands C C.stands C.is_of k handed s (script ++ (line.number, task) ∷ []) line.number 0 failed (H.linking host.new) (H.writing host.new) feed.new client.new) }
+    ensures started { (k : Setting) (s : Start C) (script : List (ℕ × Task)) (number : ℕ) (failed : Bool) (task : Task) → s.address ≡ address.now → C.setting client.old ≡ k → schema.now ≡ k.schema → Free C C.stands C.is_of k s script number failed (H.linking host.old) (IsWritten s (H.writing host.old)) feed.old client.old → IsTask k.schema line.event task → IfOk result (λ handed. Hands C C.stands C.is_of k handed s (script ++ (line.number, task) ∷ []) line.number 0 failed (H.linking host.new) (H.writing host.new) feed.new client.new) }
     ensures setting { C.setting client.new ≡ C.setting client.old }
     ensures draws { C.room client.old ≤ C.room client.new + 2 }
     ensures stays { OnlyOutput H H.reading H.held H.complaints H.IsSteady host.old host.new }
@@ -83,7 +83,7 @@ fn run_line<H: Host, C: Asks>(
 ) -> Result<LineEnd, NoMemory>
     requires asks { (task : Task) × IsTask (C.setting client.old).schema line.event task }
     requires room { 2000004 ≤ C.room client.old }
-    ensures ended { (k : Setting) (s : Start C) (script : List (ℕ × Task)) (number : ℕ) (failed : Bool) (task : Task) → C.setting client.old ≡ k → schema.now ≡ k.schema → Free C C.stands C.is_of k s script number failed (H.linking host.old) (IsWritten s (H.writing host.old)) feed.old client.old → IsTask k.schema line.event task → IfOk result (λ end. EndsLine C C.stands C.is_of k end s (script ++ (line.number, task) ∷ []) line.number failed (H.linking host.new) (H.writing host.new) feed.new client.new) }
+    ensures ended { (k : Setting) (s : Start C) (script : List (ℕ × Task)) (number : ℕ) (failed : Bool) (task : Task) → s.address ≡ address.now → C.setting client.old ≡ k → schema.now ≡ k.schema → Free C C.stands C.is_of k s script number failed (H.linking host.old) (IsWritten s (H.writing host.old)) feed.old client.old → IsTask k.schema line.event task → IfOk result (λ end. EndsLine C C.stands C.is_of k end s (script ++ (line.number, task) ∷ []) line.number failed (H.linking host.new) (H.writing host.new) feed.new client.new) }
     ensures setting { C.setting client.new ≡ C.setting client.old }
     ensures draws { C.room client.old ≤ C.room client.new + 2000004 }
     ensures stays { OnlyOutput H H.reading H.held H.complaints H.IsSteady host.old host.new }
@@ -182,7 +182,7 @@ fn run_lines<H: Host, C: Asks>(
 ) -> Result<Ending, NoMemory>
     requires asks { (script : List (ℕ × Task)) × AreTasks (C.setting client.old).schema lines script }
     requires room { 2000004 * length lines ≤ C.room client.old }
-    ensures ended { (k : Setting) (s : Start C) (script : List (ℕ × Task)) (number : ℕ) (tasks : List (ℕ × Task)) → C.setting client.old ≡ k → schema.now ≡ k.schema → Free C C.stands C.is_of k s script number failed (H.linking host.old) (IsWritten s (H.writing host.old)) feed.old client.old → AreTasks k.schema lines tasks → IfOk result (λ ending. Finishes C C.stands C.is_of k ending s (script ++ tasks) (H.linking host.new) (H.writing host.new) feed.new client.new) }
+    ensures ended { (k : Setting) (s : Start C) (script : List (ℕ × Task)) (number : ℕ) (tasks : List (ℕ × Task)) → s.address ≡ address.now → C.setting client.old ≡ k → schema.now ≡ k.schema → Free C C.stands C.is_of k s script number failed (H.linking host.old) (IsWritten s (H.writing host.old)) feed.old client.old → AreTasks k.schema lines tasks → IfOk result (λ ending. Finishes C C.stands C.is_of k ending s (script ++ tasks) (H.linking host.new) (H.writing host.new) feed.new client.new) }
     ensures stays { OnlyOutput H H.reading H.held H.complaints H.IsSteady host.old host.new }
 {
     let mut failed = failed;
@@ -217,7 +217,7 @@ fn first_line<H: Host, C: Asks>(
     address: &str,
 ) -> Result<LineEnd, NoMemory>
     requires room { 2000004 ≤ C.room client.old }
-    ensures ended { (k : Setting) (s : Start C) → C.setting client.old ≡ k → schema.now ≡ k.schema → Unbegun C C.stands C.is_of k s [] 0 false (H.linking host.old) (IsWritten s (H.writing host.old)) client.old → IfOk result (λ end. EndsLine C C.stands C.is_of k end s ((0, Do Resumed) ∷ []) 0 false (H.linking host.new) (H.writing host.new) feed.new client.new) }
+    ensures ended { (k : Setting) (s : Start C) → s.address ≡ address.now → C.setting client.old ≡ k → schema.now ≡ k.schema → Unbegun C C.stands C.is_of k s [] 0 false (H.linking host.old) (IsWritten s (H.writing host.old)) client.old → IfOk result (λ end. EndsLine C C.stands C.is_of k end s ((0, Do Resumed) ∷ []) 0 false (H.linking host.new) (H.writing host.new) feed.new client.new) }
     ensures setting { C.setting client.new ≡ C.setting client.old }
     ensures draws { C.room client.old ≤ C.room client.new + 2000004 }
     ensures stays { OnlyOutput H H.reading H.held H.complaints H.IsSteady host.old host.new }
@@ -240,7 +240,7 @@ fn go_on<H: Host, C: Asks>(
 ) -> Result<Ending, NoMemory>
     requires asks { (script : List (ℕ × Task)) × AreTasks (C.setting client.old).schema lines script }
     requires room { 2000004 * length lines ≤ C.room client.old }
-    ensures ended { (k : Setting) (s : Start C) (tasks : List (ℕ × Task)) → C.setting client.old ≡ k → schema.now ≡ k.schema → EndsLine C C.stands C.is_of k end s ((0, Do Resumed) ∷ []) 0 false (H.linking host.old) (H.writing host.old) feed.old client.old → AreTasks k.schema lines tasks → IfOk result (λ ending. Finishes C C.stands C.is_of k ending s ((0, Do Resumed) ∷ tasks) (H.linking host.new) (H.writing host.new) feed.new client.new) }
+    ensures ended { (k : Setting) (s : Start C) (tasks : List (ℕ × Task)) → s.address ≡ address.now → C.setting client.old ≡ k → schema.now ≡ k.schema → EndsLine C C.stands C.is_of k end s ((0, Do Resumed) ∷ []) 0 false (H.linking host.old) (H.writing host.old) feed.old client.old → AreTasks k.schema lines tasks → IfOk result (λ ending. Finishes C C.stands C.is_of k ending s ((0, Do Resumed) ∷ tasks) (H.linking host.new) (H.writing host.new) feed.new client.new) }
     ensures stays { OnlyOutput H H.reading H.held H.complaints H.IsSteady host.old host.new }
 {
     match end {
@@ -264,7 +264,7 @@ pub fn run<H: Host, C: Asks>(
     requires schema { schema.now ≡ (C.setting client.old).schema }
     requires asks { (script : List (ℕ × Task)) × AreTasks (C.setting client.old).schema lines script }
     requires room { 2000004 * (length lines + 1) ≤ C.room client.old }
-    ensures ran { (c : Past) (script : List (ℕ × Task)) → C.stands client.old c → c.cut ≡ true → c.out ≡ None → AreTasks schema.now lines script → IfOk result (λ ending. RanFairly C C.is_of (C.setting client.old) client.old c script ending (H.linking host.old) (H.linking host.new) (H.writing host.old) (H.writing host.new)) }
+    ensures ran { (c : Past) (script : List (ℕ × Task)) → C.stands client.old c → c.cut ≡ true → c.out ≡ None → AreTasks schema.now lines script → IfOk result (λ ending. RanFairly C C.is_of (C.setting client.old) client.old c address.now script ending (H.linking host.old) (H.linking host.new) (H.writing host.old) (H.writing host.new)) }
     ensures stays { OnlyOutput H H.reading H.held H.complaints H.IsSteady host.old host.new }
 {
     let mut feed = Feed::new(alloc);

@@ -192,7 +192,7 @@ pub(crate) fn begin<H: Host, C: Asks>(
 ) -> Result<Handed, NoMemory>
     requires asks { (deed : Deed) × IsDeed (C.setting client.old).schema event deed }
     requires room { 2 ≤ C.room client.old }
-    ensures begun { (k : Setting) (s : Start C) (script : List (ℕ × Task)) (line : ℕ) (failed : Bool) → C.setting client.old ≡ k → schema.now ≡ k.schema → IsReady C C.stands C.is_of k s script line failed (H.linking host.old) (IsWritten s (H.writing host.old)) feed.old client.old → IsDeed k.schema event Resumed → IfOk result (λ handed. Hands C C.stands C.is_of k handed s (script ++ (number, Do Resumed) ∷ []) number 0 failed (H.linking host.new) (H.writing host.new) feed.new client.new) }
+    ensures begun { (k : Setting) (s : Start C) (script : List (ℕ × Task)) (line : ℕ) (failed : Bool) → s.address ≡ address.now → C.setting client.old ≡ k → schema.now ≡ k.schema → IsReady C C.stands C.is_of k s script line failed (H.linking host.old) (IsWritten s (H.writing host.old)) feed.old client.old → IsDeed k.schema event Resumed → IfOk result (λ handed. Hands C C.stands C.is_of k handed s (script ++ (number, Do Resumed) ∷ []) number 0 failed (H.linking host.new) (H.writing host.new) feed.new client.new) }
     ensures setting { C.setting client.new ≡ C.setting client.old }
     ensures draws { C.room client.old ≤ C.room client.new + 2 }
     ensures stays { OnlyOutput H H.reading H.held H.complaints H.IsSteady host.old host.new }

@@ -86,13 +86,13 @@ read_from all room copied at n fits is =
     rw (take_at copied (drop n room) n len, is) (chunk-drop at n all)
 
 -- a connection in memory that has given the first bytes of all that it brings
-abbrev pub wire_at : List ℕ → List ℕ → ℕ → Connection
-wire_at sent all at = record { sent = sent; taken = take at all; coming = drop at all }
+abbrev pub wire_at : List ℕ → List ℕ → List ℕ → ℕ → Connection
+wire_at address sent all at = record { address = address; sent = sent; taken = take at all; coming = drop at all }
 
 -- the connection after a piece of its bytes was taken
-pub wire_taken : (sent all room copied : List ℕ) (at n : ℕ) → at + n ≤ length all → copied ≡ take n (drop at all)
-    → wire_at sent all (at + n) ≡ takes (take n (copied ++ drop n room)) (wire_at sent all at)
-wire_taken sent all room copied at n fits is =
+pub wire_taken : (address sent all room copied : List ℕ) (at n : ℕ) → at + n ≤ length all → copied ≡ take n (drop at all)
+    → wire_at address sent all (at + n) ≡ takes (take n (copied ++ drop n room)) (wire_at address sent all at)
+wire_taken address sent all room copied at n fits is =
     let len : length copied ≡ n = rw is (simp (length-take, length-drop) (omega arith)) in
     let piece : take n (copied ++ drop n room) ≡ copied = take_at copied (drop n room) n len in
     let more : take at all ++ copied ≡ take (at + n) all = grind (arith, common_steps, take-add at n all) in

@@ -1,5 +1,5 @@
 //! A host in memory.
-ghost use Rattle.std.specs.Prelude.{◌≡◌, ◌↔◌, ◌<◌, ◌≤◌, ◌⊎◌, [], length, drop, take, true, false, Some, None, vec_len, vec_capacity, IfOk, OnOk, OnErr, IsOk, IsErrOf, IsSome, slice_get, MatchOption};
+ghost use Rattle.std.specs.Prelude.{◌≡◌, ℕ, List, Ok, ◌↔◌, ◌<◌, ◌≤◌, ◌⊎◌, [], length, drop, take, true, false, Some, None, vec_len, vec_capacity, IfOk, OnOk, OnErr, IsOk, IsErrOf, IsSome, slice_get, MatchOption};
 ghost use Rattle.std.specs.Io.{ReadsAtMost};
 ghost use Rattle.std.specs.Io.KnownBytes.{ReadConsumes, WriteAppends};
 ghost use Rattle.std.specs.Option.{option_copied, is_some};
@@ -7,13 +7,14 @@ ghost use Rattle.sr_cell.specs.declared.list.No.TheVariants.{Refused, NoMemory a
 ghost use Rattle.sr_io.specs.Causes.{Rose};
 ghost use Rattle.sr_io.specs.Fails.{NoneAbove, planned, counted, fails_next};
 ghost use Rattle.sr_io.specs.Files.{held_of};
-ghost use Rattle.sr_io.specs.Told.{OnlyFaults, Brings, IsOver, sent_on, taken_from, connections, connected, hung_up, complained};
+ghost use Rattle.sr_io.specs.Told.{OnlyFaults, Brings, IsOver, sent_on, taken_from, connections, connected_at, docked_at, hung_up, complained};
 
 use crate::fails::{Failing, Fails, Planned};
 use crate::file::FileList;
 use crate::outside::{Dock, Failed, Host, Link, Outside, Sink, Source};
 use crate::wire::Wire;
 use sr_cell::list::{Bytes, Copied, No, NoMemory, Seq};
+use sr_cell::text::Text;
 use std::alloc::Global;
 
 /// What each further connection will bring.
@@ -31,6 +32,7 @@ pub struct MemHost {
     past: Vec<Wire>,
     present: Option<Wire>,
     peers: Peers,
+    docked: Text,
     piece: usize,
     failing: Failing,
     read_faults: u64,
@@ -59,7 +61,7 @@ impl MemHost {
         ensures held { IfOk result (λ host. ⟦<MemHost as Outside>⟧.held host ≡ held_of files) }
         ensures reading { IfOk result (λ host. ⟦<MemHost as Outside>⟧.reading host ≡ record { left = Some []; faults = 0 }) }
         ensures writing { IfOk result (λ host. ⟦<MemHost as Outside>⟧.writing host ≡ record { written = Some []; faults = 0 }) }
-        ensures linking { IfOk result (λ host. ⟦<MemHost as Outside>⟧.linking host ≡ record { past = []; present = None; peers = Some peers; is_up = false; faults = 0 }) }
+        ensures linking { IfOk result (λ host. ⟦<MemHost as Outside>⟧.linking host ≡ record { past = []; present = None; peers = Some peers; docked = Some []; is_up = false; faults = 0 }) }
         ensures complaints { IfOk result (λ host. ⟦<MemHost as Outside>⟧.complaints host ≡ Some []) }
         ensures plan { IfOk result (λ host. ⟦<MemHost as Planned>⟧.plan host ≡ planned fails piece) }
         ensures steady { IfOk result (λ host. NoneAbove fails 0 ↔ ⟦<MemHost as Outside>⟧.IsSteady host) }
@@ -74,6 +76,7 @@ impl MemHost {
             past: Vec::new(alloc),
             present: None,
             peers,
+            docked: Text::from_string(String::new(alloc)),
             piece,
             failing: Failing::new(fails),
             read_faults: 0,
@@ -111,11 +114,11 @@ impl MemHost {
         }
     }
 
-    /// Makes the connection of the next peer.
-    fn join(&mut self) -> Result<(), No<Failed>>
+    /// Makes the connection of the next peer at this address, if there was memory for the address.
+    fn join(&mut self, address: Result<Text, NoMemory>) -> Result<(), No<Failed>>
         ensures fails_as_listed { IsErrOf result (Refused record {}) ↔ (fails_next (⟦<MemHost as Planned>⟧.plan self.old) ≡ true ⊎ (⟦<MemHost as Outside>⟧.linking self.old).peers ≡ Some []) }
         ensures call_is_counted { ⟦<MemHost as Planned>⟧.plan self.new ≡ counted (⟦<MemHost as Planned>⟧.plan self.old) }
-        ensures made { OnOk result (⟦<MemHost as Outside>⟧.linking self.new ≡ connected (⟦<MemHost as Outside>⟧.linking self.old)) }
+        ensures made { OnOk result ((bytes : List ℕ) × (address ≡ Ok bytes) × (⟦<MemHost as Outside>⟧.linking self.new ≡ connected_at (Some bytes) (⟦<MemHost as Outside>⟧.linking self.old))) }
         ensures none_past_the_last { (⟦<MemHost as Outside>⟧.linking self.old).peers ≡ Some [] → ¬ IsOk result }
         ensures unchanged { OnErr result (OnlyFaults (⟦<MemHost as Outside>⟧.linking self.old) (⟦<MemHost as Outside>⟧.linking self.new)) }
         ensures faults_never_fall { (⟦<MemHost as Outside>⟧.linking self.old).faults ≤ (⟦<MemHost as Outside>⟧.linking self.new).faults }
@@ -132,6 +135,7 @@ impl MemHost {
             self.link_faults = self.link_faults.saturating_add(1);
             return Err(No::Refused(Failed));
         }
+        let address = address?;
         // for the present connection now, and for the new one once it is given up
         if self.past.reserve(2).is_err() {
             return Err(No::NoMemory);
@@ -139,7 +143,7 @@ impl MemHost {
         if let Some(wire) = self.present.take() {
             let _ = self.past.push(wire);
         }
-        self.present = Some(Wire::new(self.alloc, self.peers.remove(0)));
+        self.present = Some(Wire::new(self.alloc, address, self.peers.remove(0)));
         Ok(())
     }
 }
@@ -149,7 +153,7 @@ impl Outside for MemHost {
 
     ghost writing = { λ s. record { written = Some s.written; faults = s.write_faults } };
 
-    ghost linking = { λ s. record { past = s.past.items; present = s.present; peers = Some s.peers; is_up = is_some s.present; faults = s.link_faults } };
+    ghost linking = { λ s. record { past = s.past.items; present = s.present; peers = Some s.peers; docked = Some s.docked; is_up = is_some s.present; faults = s.link_faults } };
 
     ghost held = { λ s. held_of s.files };
 
@@ -304,12 +308,12 @@ impl Link for MemHost {
 
 impl Dock for MemHost {
     /// Every address will do.
-    fn dock(&mut self, _address: &str) -> Result<(), No<Failed>>
+    fn dock(&mut self, address: &str) -> Result<(), No<Failed>>
         ensures fails_as_listed { IsErrOf result (Refused record {}) ↔ fails_next (⟦<MemHost as Planned>⟧.plan self.old) ≡ true }
         ensures call_is_counted { ⟦<MemHost as Planned>⟧.plan self.new ≡ counted (⟦<MemHost as Planned>⟧.plan self.old) }
-        ensures unchanged { OnlyFaults (⟦<MemHost as Outside>⟧.linking self.old) (⟦<MemHost as Outside>⟧.linking self.new) }
+        ensures docked { OnOk result (⟦<MemHost as Outside>⟧.linking self.new ≡ docked_at address.now (⟦<MemHost as Outside>⟧.linking self.old)) }
+        ensures unchanged { OnErr result (OnlyFaults (⟦<MemHost as Outside>⟧.linking self.old) (⟦<MemHost as Outside>⟧.linking self.new)) }
         ensures faults_never_fall { (⟦<MemHost as Outside>⟧.linking self.old).faults ≤ (⟦<MemHost as Outside>⟧.linking self.new).faults }
-        ensures ok_keeps_faults { OnOk result ((⟦<MemHost as Outside>⟧.linking self.new).faults ≡ (⟦<MemHost as Outside>⟧.linking self.old).faults) }
         ensures want_keeps_faults { IsErrOf result Wanting → (⟦<MemHost as Outside>⟧.linking self.new).faults ≡ (⟦<MemHost as Outside>⟧.linking self.old).faults }
         ensures failed_is_counted { IsErrOf result (Refused record {}) → Rose (⟦<MemHost as Outside>⟧.linking self.old).faults (⟦<MemHost as Outside>⟧.linking self.new).faults }
         ensures stays_steady { ⟦<MemHost as Outside>⟧.IsSteady self.old → ⟦<MemHost as Outside>⟧.IsSteady self.new }
@@ -323,13 +327,14 @@ impl Dock for MemHost {
             self.link_faults = self.link_faults.saturating_add(1);
             return Err(No::Refused(Failed));
         }
+        self.docked = Text::of(self.alloc, address)?;
         Ok(())
     }
 
     fn accept(&mut self) -> Result<(), No<Failed>>
         ensures fails_as_listed { IsErrOf result (Refused record {}) ↔ (fails_next (⟦<MemHost as Planned>⟧.plan self.old) ≡ true ⊎ (⟦<MemHost as Outside>⟧.linking self.old).peers ≡ Some []) }
         ensures call_is_counted { ⟦<MemHost as Planned>⟧.plan self.new ≡ counted (⟦<MemHost as Planned>⟧.plan self.old) }
-        ensures made { OnOk result (⟦<MemHost as Outside>⟧.linking self.new ≡ connected (⟦<MemHost as Outside>⟧.linking self.old)) }
+        ensures made { OnOk result (⟦<MemHost as Outside>⟧.linking self.new ≡ connected_at (⟦<MemHost as Outside>⟧.linking self.old).docked (⟦<MemHost as Outside>⟧.linking self.old)) }
         ensures none_past_the_last { (⟦<MemHost as Outside>⟧.linking self.old).peers ≡ Some [] → ¬ IsOk result }
         ensures unchanged { OnErr result (OnlyFaults (⟦<MemHost as Outside>⟧.linking self.old) (⟦<MemHost as Outside>⟧.linking self.new)) }
         ensures faults_never_fall { (⟦<MemHost as Outside>⟧.linking self.old).faults ≤ (⟦<MemHost as Outside>⟧.linking self.new).faults }
@@ -342,7 +347,8 @@ impl Dock for MemHost {
         ensures held_stays { ⟦<MemHost as Outside>⟧.held self.new ≡ ⟦<MemHost as Outside>⟧.held self.old }
         ensures complaints_stay { ⟦<MemHost as Outside>⟧.complaints self.new ≡ ⟦<MemHost as Outside>⟧.complaints self.old }
     {
-        self.join()
+        let address = self.docked.copy(self.alloc);
+        self.join(address)
     }
 
     fn hang_up(&mut self)
@@ -396,10 +402,10 @@ impl Host for MemHost {
     }
 
     /// Every address will do.
-    fn dial(&mut self, _address: &str) -> Result<(), No<Failed>>
+    fn dial(&mut self, address: &str) -> Result<(), No<Failed>>
         ensures fails_as_listed { IsErrOf result (Refused record {}) ↔ (fails_next (⟦<MemHost as Planned>⟧.plan self.old) ≡ true ⊎ (⟦<MemHost as Outside>⟧.linking self.old).peers ≡ Some []) }
         ensures call_is_counted { ⟦<MemHost as Planned>⟧.plan self.new ≡ counted (⟦<MemHost as Planned>⟧.plan self.old) }
-        ensures made { OnOk result (⟦<MemHost as Outside>⟧.linking self.new ≡ connected (⟦<MemHost as Outside>⟧.linking self.old)) }
+        ensures made { OnOk result (⟦<MemHost as Outside>⟧.linking self.new ≡ connected_at (Some address.now) (⟦<MemHost as Outside>⟧.linking self.old)) }
         ensures none_past_the_last { (⟦<MemHost as Outside>⟧.linking self.old).peers ≡ Some [] → ¬ IsOk result }
         ensures unchanged { OnErr result (OnlyFaults (⟦<MemHost as Outside>⟧.linking self.old) (⟦<MemHost as Outside>⟧.linking self.new)) }
         ensures faults_never_fall { (⟦<MemHost as Outside>⟧.linking self.old).faults ≤ (⟦<MemHost as Outside>⟧.linking self.new).faults }
@@ -412,7 +418,8 @@ impl Host for MemHost {
         ensures held_stays { ⟦<MemHost as Outside>⟧.held self.new ≡ ⟦<MemHost as Outside>⟧.held self.old }
         ensures complaints_stay { ⟦<MemHost as Outside>⟧.complaints self.new ≡ ⟦<MemHost as Outside>⟧.complaints self.old }
     {
-        self.join()
+        let address = Text::of(self.alloc, address);
+        self.join(address)
     }
 
     fn complain(&mut self, bytes: &[u8])

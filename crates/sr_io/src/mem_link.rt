@@ -10,9 +10,10 @@ use crate::fails::{Failing, Fails, Planned};
 use crate::outside::{Failed, Link, Outside};
 use crate::wire::Wire;
 use sr_cell::list::{Bytes, No, NoMemory};
+use sr_cell::text::Text;
 use std::alloc::Global;
 
-/// One connection, over which bytes go in pieces.
+/// One connection, made at no address, over which bytes go in pieces.
 #[derive(Drop)]
 pub struct MemLink {
     wire: Wire,
@@ -26,12 +27,12 @@ impl MemLink {
     /// receives are counted together.
     pub fn new(alloc: Global, brings: Bytes, fails: Fails, piece: usize) -> MemLink
         requires { 0 < piece }
-        ensures linking { ⟦<MemLink as Outside>⟧.linking result ≡ record { past = []; present = Some (fresh brings); peers = Some []; is_up = true; faults = 0 } }
+        ensures linking { ⟦<MemLink as Outside>⟧.linking result ≡ record { past = []; present = Some (fresh [] brings); peers = Some []; docked = None; is_up = true; faults = 0 } }
         ensures plan { ⟦<MemLink as Planned>⟧.plan result ≡ planned fails piece }
         ensures steady { NoneAbove fails 0 ↔ ⟦<MemLink as Outside>⟧.IsSteady result }
     {
         MemLink {
-            wire: Wire::new(alloc, brings),
+            wire: Wire::new(alloc, Text::from_string(String::new(alloc)), brings),
             piece,
             failing: Failing::new(fails),
         }
@@ -50,7 +51,7 @@ impl Outside for MemLink {
 
     ghost writing = { λ _. no_writing };
 
-    ghost linking = { λ s. record { past = []; present = Some s.wire; peers = Some []; is_up = true; faults = s.failing.2 } };
+    ghost linking = { λ s. record { past = []; present = Some s.wire; peers = Some []; docked = None; is_up = true; faults = s.failing.2 } };
 
     ghost held = { λ _ _. None };
 

@@ -4,7 +4,7 @@ ghost use Rattle.std.specs.Io.{ReadsAtMost};
 ghost use Rattle.std.specs.Io.KnownBytes.{ReadConsumes, WriteAppends};
 ghost use Rattle.sr_cell.specs.declared.list.No.TheVariants.{Refused, NoMemory as Wanting};
 ghost use Rattle.sr_io.specs.Causes.{Rose};
-ghost use Rattle.sr_io.specs.Told.{Reading, Writing, Linking, OnlyFaults, Brings, IsOver, sent_on, taken_from, connected, hung_up, complained};
+ghost use Rattle.sr_io.specs.Told.{Reading, Writing, Linking, OnlyFaults, Brings, IsOver, sent_on, taken_from, connected_at, docked_at, hung_up, complained};
 
 use sr_cell::list::No;
 
@@ -127,9 +127,9 @@ pub trait Link: Outside {
 pub trait Dock: Link {
     /// From now on peers may connect to this address.
     fn dock(&mut self, address: &str) -> Result<(), No<Failed>>
-        ensures unchanged { OnlyFaults (Self.linking self.old) (Self.linking self.new) }
+        ensures docked { OnOk result (Self.linking self.new ≡ docked_at address.now (Self.linking self.old)) }
+        ensures unchanged { OnErr result (OnlyFaults (Self.linking self.old) (Self.linking self.new)) }
         ensures faults_never_fall { (Self.linking self.old).faults ≤ (Self.linking self.new).faults }
-        ensures ok_keeps_faults { OnOk result ((Self.linking self.new).faults ≡ (Self.linking self.old).faults) }
         ensures want_keeps_faults { IsErrOf result Wanting → (Self.linking self.new).faults ≡ (Self.linking self.old).faults }
         ensures failed_is_counted { IsErrOf result (Refused record {}) → Rose (Self.linking self.old).faults (Self.linking self.new).faults }
         ensures stays_steady { Self.IsSteady self.old → Self.IsSteady self.new }
@@ -139,9 +139,9 @@ pub trait Dock: Link {
         ensures held_stays { Self.held self.new ≡ Self.held self.old }
         ensures complaints_stay { Self.complaints self.new ≡ Self.complaints self.old };
 
-    /// Waits for the next peer; from now on its connection is used. Fails past the last peer.
+    /// Waits for the next peer at the docked address; from now on its connection is used. Fails past the last peer.
     fn accept(&mut self) -> Result<(), No<Failed>>
-        ensures made { OnOk result (Self.linking self.new ≡ connected (Self.linking self.old)) }
+        ensures made { OnOk result (Self.linking self.new ≡ connected_at (Self.linking self.old).docked (Self.linking self.old)) }
         ensures none_past_the_last { (Self.linking self.old).peers ≡ Some [] → ¬ IsOk result }
         ensures unchanged { OnErr result (OnlyFaults (Self.linking self.old) (Self.linking self.new)) }
         ensures faults_never_fall { (Self.linking self.old).faults ≤ (Self.linking self.new).faults }
@@ -184,7 +184,7 @@ pub trait Host: Source + Sink + Dock {
 
     /// Connects to this address; from now on that connection is used. It counts as a call of `Dock`; fails past the last peer.
     fn dial(&mut self, address: &str) -> Result<(), No<Failed>>
-        ensures made { OnOk result (Self.linking self.new ≡ connected (Self.linking self.old)) }
+        ensures made { OnOk result (Self.linking self.new ≡ connected_at (Some address.now) (Self.linking self.old)) }
         ensures none_past_the_last { (Self.linking self.old).peers ≡ Some [] → ¬ IsOk result }
         ensures unchanged { OnErr result (OnlyFaults (Self.linking self.old) (Self.linking self.new)) }
         ensures faults_never_fall { (Self.linking self.old).faults ≤ (Self.linking self.new).faults }

@@ -100,7 +100,7 @@ impl<R: Files + Input + Print + Eprint + Net + Drop> Outside for RealHost<R> {
 
     ghost writing = { λ s. record { written = None; faults = s.write_faults } };
 
-    ghost linking = { λ s. record { past = []; present = None; peers = None; is_up = is_some s.stream; faults = s.link_faults } };
+    ghost linking = { λ s. record { past = []; present = None; peers = None; docked = None; is_up = is_some s.stream; faults = s.link_faults } };
 
     ghost held = { λ _ _. None };
 

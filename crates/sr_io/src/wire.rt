@@ -3,12 +3,15 @@ ghost use Rattle.std.specs.Prelude.{◌≡◌, length, min, take, IfOk, OnErr};
 ghost use Rattle.sr_io.specs.Told.{Connection, fresh, sends, takes};
 
 use sr_cell::list::{Bytes, Copied, NoMemory, Seq};
+use sr_cell::text::Text;
 use std::alloc::Global;
 use std::marker::Model;
 
-/// The bytes that it brings, how many of them were taken, and the bytes that were sent. Contracts see a connection.
+/// The address at which it was made, the bytes that it brings, how many of them were taken, and the bytes that were sent. Contracts see a
+/// connection.
 #[derive(Drop)]
 pub struct Wire {
+    address: Text,
     brings: Bytes,
     at: usize,
     sent: Bytes,
@@ -20,17 +23,18 @@ impl Model for Wire {
 
     ghost Value = { Connection };
 
-    ghost view = { λ w. record { sent = w.sent; taken = take w.at w.brings; coming = drop w.at w.brings } };
+    ghost view = { λ w. record { address = w.address; sent = w.sent; taken = take w.at w.brings; coming = drop w.at w.brings } };
 
     ghost invariant = { λ w. w.at ≤ length w.brings };
 }
 
 impl Wire {
     /// Nothing was sent or taken yet.
-    pub fn new(alloc: Global, brings: Bytes) -> Wire
-        ensures { result ≡ fresh brings }
+    pub fn new(alloc: Global, address: Text, brings: Bytes) -> Wire
+        ensures { result ≡ fresh address brings }
     {
         Wire {
+            address,
             brings,
             at: 0,
             sent: Seq::new(alloc),

@@ -1,19 +1,21 @@
 -- Runs, by what ended them.
-use Rattle.std.proofs.Common.{◌≡◌, ℕ, ◌+◌, Bool, true, false, eqb, List, [], ◌∷◌, ◌++◌, take, drop, arith, append-nil, refl, sym, ◌∙◌, ap, subst}
+use Rattle.std.proofs.Common.{◌≡◌, ℕ, ◌+◌, Bool, true, false, eqb, List, [], ◌∷◌, ◌++◌, take, drop, Option, Some, None, option_map, arith, append-nil, refl, sym, ◌∙◌, ap, subst}
 use Rattle.std.specs.Prelude.{◌≢◌}
 use Rattle.std.specs.Io.KnownBytes.{Appends}
+use Rattle.std.specs.List.{All}
 use Rattle.std.proofs.lemmas.Bool.Decides.{nat_tests}
 use Rattle.std.proofs.lemmas.Grind.{flat_map-append}
 use Rattle.std.proofs.lemmas.List.{take-append-drop}
+use Rattle.std.proofs.lemmas.List.Elements.{All-nil, All-weaker}
 use Rattle.sr_io.specs.Causes.{Rose}
 use Rattle.sr_io.specs.Pieces.{WritesPrefix}
-use Rattle.sr_io.specs.Told.{Linking, Writing, connections, OnlyFaults}
+use Rattle.sr_io.specs.Told.{Linking, Writing, Connection, AreAt, connections, docked_at, OnlyFaults}
 use Rattle.sr_io.proofs.SoFar.{Appends-append}
 use Rattle.sr_links.specs.Honest.{Server}
 use Rattle.sr_session.specs.Sessions.{Database}
 use Rattle.sr_server.specs.Servers.{Gives}
 use Rattle.sr_talk.specs.Rounds.{EndsBy, EndsWhole, EndsFaulty, EndsUnwritten, text_of}
-use Rattle.sr_talk.specs.Serving.{AreExecuted, Conversation, RoseBy, Writes, connection_lines, count_faults, listening, missing}
+use Rattle.sr_talk.specs.Serving.{AreExecuted, Conversation, RoseBy, Writes, all_told, connection_lines, count_faults, listening, missing}
 use Rattle.sr_talk.specs.declared.rounds.Ending.{Ending}
 use Rattle.sr_talk.specs.declared.rounds.Ending.TheVariants.{Whole, Faulty, Unwritten}
 use Rattle.sr_talk.proofs.SomeLemmas.{appends-nothing, prefix-behind}
@@ -61,13 +63,16 @@ part-written lines count = record {
 
 -- ---- the link
 
-pub same-linking : (old new : Linking) → OnlyFaults old new → new.faults ≡ old.faults → new ≡ old
-same-linking old new only faults =
-    ap (λ x. record { past = x; present = new.present; peers = new.peers; is_up = new.is_up; faults = new.faults }) only.past
-    ∙ (ap (λ x. record { past = old.past; present = x; peers = new.peers; is_up = new.is_up; faults = new.faults }) only.present
-    ∙ (ap (λ x. record { past = old.past; present = old.present; peers = x; is_up = new.is_up; faults = new.faults }) only.peers
-    ∙ (ap (λ x. record { past = old.past; present = old.present; peers = old.peers; is_up = x; faults = new.faults }) only.is_up
-    ∙ ap (λ x. record { past = old.past; present = old.present; peers = old.peers; is_up = old.is_up; faults = x }) faults)))
+-- after docking, what was made at the docked address was made at this one
+at-address : (address : List ℕ) (old : Linking) (made : List Connection) → All (λ t. (docked_at address old).docked ≡ Some t.address) made → AreAt address made
+at-address address old made at = All-weaker (λ t. (docked_at address old).docked ≡ Some t.address) (λ t. t.address ≡ address) (λ t. by old.docked t) made at
+  where
+    by : (docked : Option (List ℕ)) (t : Connection) → option_map (λ before. address) docked ≡ Some t.address → t.address ≡ address
+    by None t is = absurd (cc)
+    by (Some before) t is = cc
+
+none-at : (address : List ℕ) → AreAt address []
+none-at address = All-nil (λ t. t.address ≡ address)
 
 same-connections : (old new : Linking) → OnlyFaults old new → connections new ≡ connections old
 same-connections old new only =
@@ -75,9 +80,9 @@ same-connections old new only =
 
 -- ---- how it ends
 
-module _ (db : Database) (texts : List (List ℕ)) (count : ℕ) where
+module _ (db : Database) (texts : List (List ℕ)) (address : List ℕ) (count : ℕ) where
   -- nothing can dock
-  pub undocked : (old new : Linking) (before after : Writing) → OnlyFaults old new → Rose old.faults new.faults → after ≡ before → Ran db texts count Faulty old new before after
+  pub undocked : (old new : Linking) (before after : Writing) → OnlyFaults old new → Rose old.faults new.faults → after ≡ before → Ran db texts address count Faulty old new before after
   undocked old new before after only rose same =
       let way = some-way db texts in
       record {
@@ -91,6 +96,7 @@ module _ (db : Database) (texts : List (List ℕ)) (count : ℕ) where
           executed = way.executed;
           served = refl;
           made = same-connections old new only ∙ sym (append-nil (connections old));
+          came_at = none-at address;
           writes = none-written (lines_of way.lines []);
           few = omega arith;
           all = λ is. absurd (omega (arith, is));
@@ -103,7 +109,7 @@ module _ (db : Database) (texts : List (List ℕ)) (count : ℕ) where
 
   -- a line is not written: `listening`, or one of the exec file
   stopped : (old : Linking) (before after : Writing) (lines : List (List ℕ)) (last : Database) → AreExecuted Gives db texts lines last
-      → WritesPrefix before.written after.written (text_of (lines_of lines [])) → Rose before.faults after.faults → Ran db texts count Unwritten old old before after
+      → WritesPrefix before.written after.written (text_of (lines_of lines [])) → Rose before.faults after.faults → Ran db texts address count Unwritten old (docked_at address old) before after
   stopped old before after lines last executed written rose = record {
     written = take written.count (text_of (lines_of lines []));
     appended = written.appended;
@@ -115,6 +121,7 @@ module _ (db : Database) (texts : List (List ℕ)) (count : ℕ) where
       executed = executed;
       served = refl;
       made = sym (append-nil (connections old));
+      came_at = none-at address;
       writes = part-written (lines_of lines []) written.count;
       few = omega arith;
       all = λ is. absurd (omega (arith, is));
@@ -125,12 +132,12 @@ module _ (db : Database) (texts : List (List ℕ)) (count : ℕ) where
     writing_keeps_faults = λ other. absurd (other refl);
   }
 
-  pub unheard : (old : Linking) (before after : Writing) → WritesPrefix before.written after.written listening → Rose before.faults after.faults → Ran db texts count Unwritten old old before after
+  pub unheard : (old : Linking) (before after : Writing) → WritesPrefix before.written after.written listening → Rose before.faults after.faults → Ran db texts address count Unwritten old (docked_at address old) before after
   unheard old before after written rose =
       let way = some-way db texts in
       stopped old before after way.lines way.last way.executed (prefix-of-more before.written after.written listening (text_of (way.lines ++ [])) written) rose
 
-  pub unexecuted : (old : Linking) (before mid after : Writing) → Appends before.written mid.written listening → mid.faults ≡ before.faults → PartExecuted db texts mid after → Ran db texts count Unwritten old old before after
+  pub unexecuted : (old : Linking) (before mid after : Writing) → Appends before.written mid.written listening → mid.faults ≡ before.faults → PartExecuted db texts mid after → Ran db texts address count Unwritten old (docked_at address old) before after
   unexecuted old before mid after heard same part =
       stopped old before after part.lines part.last part.executed
       (subst (λ lines. WritesPrefix before.written after.written (listening ++ text_of lines)) (sym (append-nil part.lines)) (prefix-behind before.written mid.written after.written listening (text_of part.lines) heard part.written))
@@ -150,7 +157,7 @@ module _ (db : Database) (texts : List (List ℕ)) (count : ℕ) where
         subst (WritesPrefix before.written after.written) (sym (text-is executed.lines cs))
         (prefix-behind before.written mid.written after.written listening _ heard (prefix-behind mid.written late.written after.written _ _ executed.written written))
 
-    ended-whole : EndsWhole Gives executed.last count old new late after IsNew → Ran db texts count Whole old new before after
+    ended-whole : EndsWhole Gives executed.last count (docked_at address old) new late after IsNew → Ran db texts address count Whole old new before after
     ended-whole e =
         let number = e.all.number in
         let faults = e.all.faults in
@@ -165,6 +172,7 @@ module _ (db : Database) (texts : List (List ℕ)) (count : ℕ) where
             executed = executed.executed;
             served = e.all.served;
             made = e.all.made;
+            came_at = at-address address old (all_told e.all.conversations) e.all.came_at;
             writes = all-written 0 (lines_of executed.lines e.all.conversations);
             few = omega (arith, number);
             all = λ is. (number, e.none);
@@ -180,7 +188,7 @@ module _ (db : Database) (texts : List (List ℕ)) (count : ℕ) where
       pub counted : RoseBy old.faults (faults + missing 5 done count) new.faults
       pub rose : Rose old.faults new.faults
 
-    why : (e : EndsFaulty Gives executed.last count old new late after IsNew) (b : Bool) → eqb e.done count ≡ b → Why e.done (count_faults e.some.conversations)
+    why : (e : EndsFaulty Gives executed.last count (docked_at address old) new late after IsNew) (b : Bool) → eqb e.done count ≡ b → Why e.done (count_faults e.some.conversations)
     why e true is =
         let all : e.done ≡ count = grind (arith, nat_tests, is) in
         let cause = e.cause all in
@@ -195,7 +203,7 @@ module _ (db : Database) (texts : List (List ℕ)) (count : ℕ) where
         let before_it = e.some.faults in
         record { counted = omega (arith, few, before_it, rose); rose = omega (arith, before_it, rose) }
 
-    ended-faulty : EndsFaulty Gives executed.last count old new late after IsNew → Ran db texts count Faulty old new before after
+    ended-faulty : EndsFaulty Gives executed.last count (docked_at address old) new late after IsNew → Ran db texts address count Faulty old new before after
     ended-faulty e =
         let number = e.some.number in
         let few = e.few in
@@ -211,6 +219,7 @@ module _ (db : Database) (texts : List (List ℕ)) (count : ℕ) where
             executed = executed.executed;
             served = e.some.served;
             made = same-connections e.linking new e.only ∙ e.some.made;
+            came_at = at-address address old (all_told e.some.conversations) e.some.came_at;
             writes = all-written 5 (lines_of executed.lines e.some.conversations);
             few = omega (arith, number, few);
             all = λ is. absurd (omega (arith, is));
@@ -221,7 +230,7 @@ module _ (db : Database) (texts : List (List ℕ)) (count : ℕ) where
           writing_keeps_faults = λ is. e.write_faults ∙ (executed.faults_stay ∙ same);
         }
 
-    ended-unwritten : EndsUnwritten Gives executed.last count old new late after IsNew → Ran db texts count Unwritten old new before after
+    ended-unwritten : EndsUnwritten Gives executed.last count (docked_at address old) new late after IsNew → Ran db texts address count Unwritten old new before after
     ended-unwritten e =
         let number = e.some.number in
         let few = e.few in
@@ -238,6 +247,7 @@ module _ (db : Database) (texts : List (List ℕ)) (count : ℕ) where
             executed = executed.executed;
             served = e.some.served;
             made = e.some.made;
+            came_at = at-address address old (all_told e.some.conversations) e.some.came_at;
             writes = part-written (lines_of executed.lines e.some.conversations) p.count;
             few = omega (arith, number, few);
             all = λ is. absurd (omega (arith, is));
@@ -248,7 +258,7 @@ module _ (db : Database) (texts : List (List ℕ)) (count : ℕ) where
           writing_keeps_faults = λ other. absurd (other refl);
         }
 
-    pub ended-by : (ending : Ending) → EndsBy Gives ending executed.last count old new late after IsNew → Ran db texts count ending old new before after
+    pub ended-by : (ending : Ending) → EndsBy Gives ending executed.last count (docked_at address old) new late after IsNew → Ran db texts address count ending old new before after
     ended-by Whole e = ended-whole e
     ended-by Faulty e = ended-faulty e
     ended-by Unwritten e = ended-unwritten e

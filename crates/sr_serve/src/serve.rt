@@ -28,7 +28,7 @@ pub fn serve<H: Dock + Sink>(
     count: u32,
 ) -> Result<Ending, NoMemory>
     requires texts { length texts.now < 2 ^ 32 }
-    ensures ran { IfOk result (λ ending. Ran (first_database tables.schema log tables.rows) texts.now count ending (H.linking host.old) (H.linking host.new) (H.writing host.old) (H.writing host.new)) }
+    ensures ran { IfOk result (λ ending. Ran (first_database tables.schema log tables.rows) texts.now address.now count ending (H.linking host.old) (H.linking host.new) (H.writing host.old) (H.writing host.new)) }
     ensures stays { OnlyOutput H H.reading H.held H.complaints H.IsSteady host.old host.new }
     ensures steady_writes { H.IsSteady host.old → IfOk result (λ ending. ending ≢ Unwritten) }
     ensures steady_links { H.IsSteady host.old → HasPeers count (H.linking host.old) → IfOk result (λ ending. ending ≢ Faulty) }

@@ -1,7 +1,7 @@
 -- The peers that are still to come.
 use Rattle.std.proofs.Common.{◌≡◌, ℕ, ◌+◌, ◌≤◌, Bool, true, false, List, [], ◌∷◌, length, Option, Some, None, arith, refl, sym, ◌∙◌, ap, subst}
 use Rattle.std.specs.Prelude.{◌≢◌, ◌||◌, IfSome}
-use Rattle.sr_io.specs.Told.{Linking, connected, hung_up, taken_from, other_peers}
+use Rattle.sr_io.specs.Told.{Linking, connected_at, hung_up, taken_from, other_peers}
 use Rattle.sr_talk.specs.Rounds.{HasPeers}
 use Rattle.sr_talk.specs.Serving.{by_fault}
 use Rattle.sr_talk.specs.Talked.{SentOn}
@@ -22,7 +22,7 @@ behind more (Some []) enough = absurd (omega (arith, enough))
 behind more (Some (first ∷ others)) enough = omega (arith, enough)
 
 -- one less, behind a connection
-pub one-less : (how : How) (n : ℕ) (bytes taken : List ℕ) (l made talked new : Linking) (more : ℕ) → made ≡ connected l → SentOn how n bytes (taken_from taken made) talked → new ≡ hung_up talked
+pub one-less : (how : How) (n : ℕ) (bytes taken : List ℕ) (l made talked new : Linking) (more : ℕ) → made ≡ connected_at l.docked l → SentOn how n bytes (taken_from taken made) talked → new ≡ hung_up talked
     → HasPeers (more + 1) l → HasPeers more new
 one-less how n bytes taken l made talked new more is said gone enough =
     subst (λ peers. IfSome peers (λ ps. more ≤ length ps))

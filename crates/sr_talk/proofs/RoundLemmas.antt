@@ -1,11 +1,13 @@
 -- One connection more.
 use Rattle.std.proofs.Common.{◌≡◌, ℕ, ◌+◌, ◌≤◌, List, [], ◌∷◌, ◌++◌, length, take, drop, Option, Some, None, arith, append_assoc, append-nil, refl, sym, ◌∙◌, ap, subst, length-append, option_map, option_to_list}
 use Rattle.std.specs.Prelude.{IfSome, Result}
+use Rattle.std.specs.List.{All}
 use Rattle.std.proofs.lemmas.Grind.{flat_map-append}
 use Rattle.std.proofs.lemmas.List.{take-append-drop, length-take}
+use Rattle.std.proofs.lemmas.List.Elements.{All-append, All-cons, All-nil}
 use Rattle.sr_cell.specs.declared.fault.Fault.{Fault as TheFault}
 use Rattle.sr_io.specs.Causes.{Rose}
-use Rattle.sr_io.specs.Told.{Linking, Connection, sends, takes, taken_from, connections, connected, hung_up, next_peer, IsOver}
+use Rattle.sr_io.specs.Told.{Linking, Connection, sends, takes, taken_from, connections, connected_at, hung_up, next_peer, IsOver}
 use Rattle.sr_message.specs.declared.message.Message.{Message}
 use Rattle.sr_model.specs.Statements.{Tables}
 use Rattle.sr_session.specs.Sessions.{Database}
@@ -19,23 +21,24 @@ use Rattle.sr_talk.specs.declared.serve.Served.{Served}
 
 -- ---- the connection that was made
 
--- what a link tells of a connection that took these bytes, and sent those
-abbrev after : Option (List (List ℕ)) → List ℕ → List ℕ → Option Connection
-after peers T S = option_map (sends S) (option_map (takes T) (next_peer peers))
+-- what a link tells of a connection that was made there, took these bytes, and sent those
+abbrev after : Option (List ℕ) → Option (List (List ℕ)) → List ℕ → List ℕ → Option Connection
+after docked peers T S = option_map (sends S) (option_map (takes T) (next_peer docked peers))
 
 -- the bytes that were sent, whatever the end
 record Sent (how : How) (n : ℕ) (all : List ℕ) (l talked : Linking) (T : List ℕ) : Type 0 where
   pub bytes : List ℕ
   pub past : talked.past ≡ connections l
-  pub present : talked.present ≡ after l.peers T bytes
+  pub present : talked.present ≡ after l.docked l.peers T bytes
+  pub docked : talked.docked ≡ l.docked
   pub are : SentAs how bytes all
   pub counts : (frames : ℕ) → n ≡ frames → EndsAt how n → CountsAs how frames (length bytes) (length all)
 
-sent : (how : How) (n : ℕ) (all : List ℕ) (l talked : Linking) (T : List ℕ) → SentOn how n all (taken_from T (connected l)) talked → Sent how n all l talked T
-sent End n all l talked T is = record { bytes = all; past = ap (λ (l : Linking). l.past) is; present = ap (λ (l : Linking). l.present) is; are = refl; counts = λ frames same below. omega (arith, same, below) }
-sent Torn n all l talked T is = record { bytes = all; past = ap (λ (l : Linking). l.past) is; present = ap (λ (l : Linking). l.present) is; are = refl; counts = λ frames same below. omega (arith, same, below) }
-sent Bad n all l talked T is = record { bytes = all; past = ap (λ (l : Linking). l.past) is; present = ap (λ (l : Linking). l.present) is; are = refl; counts = λ frames same below. omega (arith, same, below) }
-sent Limit n all l talked T is = record { bytes = all; past = ap (λ (l : Linking). l.past) is; present = ap (λ (l : Linking). l.present) is; are = refl; counts = λ frames same reached. sym same ∙ reached }
+sent : (how : How) (n : ℕ) (all : List ℕ) (l talked : Linking) (T : List ℕ) → SentOn how n all (taken_from T (connected_at l.docked l)) talked → Sent how n all l talked T
+sent End n all l talked T is = record { bytes = all; past = ap (λ (l : Linking). l.past) is; present = ap (λ (l : Linking). l.present) is; docked = ap (λ (l : Linking). l.docked) is; are = refl; counts = λ frames same below. omega (arith, same, below) }
+sent Torn n all l talked T is = record { bytes = all; past = ap (λ (l : Linking). l.past) is; present = ap (λ (l : Linking). l.present) is; docked = ap (λ (l : Linking). l.docked) is; are = refl; counts = λ frames same below. omega (arith, same, below) }
+sent Bad n all l talked T is = record { bytes = all; past = ap (λ (l : Linking). l.past) is; present = ap (λ (l : Linking). l.present) is; docked = ap (λ (l : Linking). l.docked) is; are = refl; counts = λ frames same below. omega (arith, same, below) }
+sent Limit n all l talked T is = record { bytes = all; past = ap (λ (l : Linking). l.past) is; present = ap (λ (l : Linking). l.present) is; docked = ap (λ (l : Linking). l.docked) is; are = refl; counts = λ frames same reached. sym same ∙ reached }
 sent Fault n all l talked T s =
     let within = s.within in
     let size : length (take s.count all) ≡ s.count = length-take s.count all ∙ omega (arith, within) in
@@ -43,19 +46,18 @@ sent Fault n all l talked T s =
       bytes = take s.count all;
       past = s.only.past;
       present = s.only.present;
+      docked = s.only.docked;
       are = record { rest = drop s.count all; all = sym (take-append-drop s.count all) };
       counts = λ frames same below. (omega (arith, same, below), λ reached. (let fewer = s.fewer (same ∙ reached) in omega (arith, size, fewer)));
     }
 
-told-taken : (peers : Option (List (List ℕ))) (T S : List ℕ) → IfSome (after peers T S) (λ t. t.taken ≡ T)
-told-taken None T S = tt
-told-taken (Some []) T S = tt
-told-taken (Some (bytes ∷ more)) T S = refl
-
-told-sent : (P : List ℕ → Type 0) (peers : Option (List (List ℕ))) (T S : List ℕ) → P S → IfSome (after peers T S) (λ t. P t.sent)
-told-sent P None T S h = tt
-told-sent P (Some []) T S h = tt
-told-sent P (Some (bytes ∷ more)) T S h = h
+-- what is so of that connection, whatever is to come
+told-after : (P : Connection → Type 0) (docked : Option (List ℕ)) (peers : Option (List (List ℕ))) (T S : List ℕ)
+    → ((address coming : List ℕ) → docked ≡ Some address → P (record { address = address; sent = S; taken = T; coming = coming })) → IfSome (after docked peers T S) P
+told-after P None peers T S each = tt
+told-after P (Some address) None T S each = tt
+told-after P (Some address) (Some []) T S each = tt
+told-after P (Some address) (Some (bytes ∷ more)) T S each = each address (drop (length T) bytes) refl
 
 told-over : (present : Option Connection) → IsOver present → IfSome present (λ t. t.coming ≡ [])
 told-over None over = tt
@@ -83,7 +85,7 @@ rose-by Limit before old new same up closes = omega (arith, up)
 
 module _ (Gives : Database → Message → Result Tables TheFault → Type 0) where
   -- what was said over the connection is a conversation
-  pub round : (db : Database) (l made talked new : Linking) (served : Served) (IsAfter IsNew : Server → Type 0) → made ≡ connected l
+  pub round : (db : Database) (l made talked new : Linking) (served : Served) (IsAfter IsNew : Server → Type 0) → made ≡ connected_at l.docked l
       → Talks Gives (at_rest db) made talked served.how served.frames IsAfter → ((s : Server) → IsAfter s → IsNew (at_rest s.database)) → new ≡ hung_up talked → l.faults ≤ talked.faults
       → Rounds Gives db l new served IsNew
   round db l made talked new served IsAfter IsNew made_is talks stands gone up =
@@ -100,13 +102,17 @@ module _ (Gives : Database → Message → Result Tables TheFault → Type 0) wh
           left = talks.left;
           answers = talks.answers;
           ends = talks.ends;
-          taken = subst (λ p. IfSome p (λ t. t.taken ≡ T)) (sym s.present) (told-taken l.peers T s.bytes);
-          bytes = subst (λ p. IfSome p (λ t. SentAs served.how t.sent (spelled talks.sent))) (sym s.present) (told-sent (λ b. SentAs served.how b (spelled talks.sent)) l.peers T s.bytes s.are);
+          taken = subst (λ p. IfSome p (λ t. t.taken ≡ T)) (sym s.present) (told-after (λ t. t.taken ≡ T) l.docked l.peers T s.bytes (λ address coming is. refl));
+          bytes = subst (λ p. IfSome p (λ t. SentAs served.how t.sent (spelled talks.sent))) (sym s.present)
+              (told-after (λ t. SentAs served.how t.sent (spelled talks.sent)) l.docked l.peers T s.bytes (λ address coming is. s.are));
           whole = told-whole served.how made talked talks.closes;
           counts = subst (λ p. IfSome p (λ t. CountsAs served.how (length talks.frames) (length t.sent) (length (spelled talks.sent)))) (sym s.present)
-              (told-sent (λ b. CountsAs served.how (length talks.frames) (length b) (length (spelled talks.sent))) l.peers T s.bytes (s.counts (length talks.frames) talks.count_is talks.counts));
+              (told-after (λ t. CountsAs served.how (length talks.frames) (length t.sent) (length (spelled talks.sent))) l.docked l.peers T s.bytes
+              (λ address coming is. s.counts (length talks.frames) talks.count_is talks.counts));
         };
         made = ap connections gone ∙ (append-nil (connections talked) ∙ ap (λ x. x ++ option_to_list talked.present) s.past);
+        came_at = subst (λ p. IfSome p (λ t. l.docked ≡ Some t.address)) (sym s.present) (told-after (λ t. l.docked ≡ Some t.address) l.docked l.peers T s.bytes (λ address coming is. is));
+        docked = ap (λ (l : Linking). l.docked) gone ∙ s.docked;
         faults = rose-by served.how l.faults made new (ap (λ (l : Linking). l.faults) made_is) (subst (λ (t : Linking). l.faults ≤ t.faults) (sym gone) up) (closes-on served.how made talked new talks.closes gone);
         stands = stands talks.after talks.stands;
       }
@@ -145,7 +151,16 @@ module _ (Gives : Database → Message → Result Tables TheFault → Type 0) wh
       ∙ ap (λ x. text_of (connection_lines 1 cs) ++ x) (append-nil (connection_line (length cs + 1) c.how (length c.frames))))
 
   abbrev pub none-so-far : (db : Database) (l : Linking) (IsNow : Server → Type 0) → IsNow (at_rest db) → SoMany Gives db l l 0 IsNow
-  none-so-far db l IsNow stands = record { conversations = []; last = db; served = refl; made = sym (append-nil (connections l)); number = refl; faults = omega arith; stands = stands }
+  none-so-far db l IsNow stands = record { conversations = []; last = db; served = refl; made = sym (append-nil (connections l)); came_at = All-nil (λ t. l.docked ≡ Some t.address); docked = refl; number = refl; faults = omega arith; stands = stands }
+
+  pub all-at : (docked now : Option (List ℕ)) (cs : List Conversation) (c : Conversation) → now ≡ docked → All (λ t. docked ≡ Some t.address) (all_told cs) → IfSome c.told (λ t. now ≡ Some t.address)
+      → All (λ t. docked ≡ Some t.address) (all_told (cs ++ c ∷ []))
+  all-at docked now cs c same before here =
+      subst (All (λ t. docked ≡ Some t.address)) (sym (told-one cs c)) (All-append (λ t. docked ≡ Some t.address) (all_told cs) (option_to_list c.told) before (by c.told here))
+    where
+      by : (told : Option Connection) → IfSome told (λ t. now ≡ Some t.address) → All (λ t. docked ≡ Some t.address) (option_to_list told)
+      by None here = All-nil (λ t. docked ≡ Some t.address)
+      by (Some t) here = All-cons (λ t. docked ≡ Some t.address) t [] (sym same ∙ here) (All-nil (λ t. docked ≡ Some t.address))
 
   abbrev pub one-more : (db : Database) (old now new : Linking) (count : ℕ) (served : Served) (IsNow IsNew : Server → Type 0) → (h : SoMany Gives db old now count IsNow) → Rounds Gives h.last now new served IsNew
       → SoMany Gives db old new (count + 1) IsNew
@@ -160,6 +175,8 @@ module _ (Gives : Database → Message → Result Tables TheFault → Type 0) wh
         served = served-one db h.last h.conversations r.conversation r.after h.served r.is;
         made = r.made ∙ (ap (λ x. x ++ option_to_list r.conversation.told) h.made
             ∙ (append_assoc (connections old) (all_told h.conversations) (option_to_list r.conversation.told) ∙ ap (λ x. connections old ++ x) (sym (told-one h.conversations r.conversation))));
+        came_at = all-at old.docked now.docked h.conversations r.conversation h.docked h.came_at r.came_at;
+        docked = r.docked ∙ h.docked;
         number = omega (arith, number, length-append h.conversations (r.conversation ∷ []));
         faults = omega (arith, before, here, sum);
         stands = r.stands;

@@ -146,7 +146,7 @@ module _ (Gives : Database → Message → Result Tables TheFault → Type 0) wh
   none-more db count old now new before mid after done faulty IsNow IsNew below h (rose, only, stands) same = record {
     done = done;
     linking = now;
-    some = record { conversations = h.many.conversations; last = h.many.last; served = h.many.served; made = h.many.made; number = h.many.number; faults = h.many.faults; stands = stands };
+    some = record { conversations = h.many.conversations; last = h.many.last; served = h.many.served; made = h.many.made; came_at = h.many.came_at; docked = h.many.docked; number = h.many.number; faults = h.many.faults; stands = stands };
     few = omega (arith, below);
     only = only;
     fewer = λ other. rose;
@@ -156,7 +156,7 @@ module _ (Gives : Database → Message → Result Tables TheFault → Type 0) wh
   }
 
   same-link : (l : Linking) → OnlyFaults l l
-  same-link l = record { past = refl; present = refl; peers = refl; is_up = refl }
+  same-link l = record { past = refl; present = refl; peers = refl; docked = refl; is_up = refl }
 
   pub all-served : (db : Database) (count : ℕ) (old new : Linking) (before after : Writing) (faulty : Bool) (IsNow : Server → Type 0) → ServedSome db old new before after count faulty IsNow
       → EndsBy Gives (if faulty then Faulty else Whole) db count old new before after IsNow

@@ -1,6 +1,7 @@
 -- Connections that are served one after another, with the lines that are written.
 use Rattle.std.specs.Prelude.{◌≡◌, ◌≢◌, ℕ, ◌≤◌, List, ◌++◌, length, flat_map, Option, Some, None, Result, option_to_list, IfSome}
 use Rattle.std.specs.Io.KnownBytes.{Appends}
+use Rattle.std.specs.List.{All}
 use Rattle.sr_cell.specs.declared.fault.Fault.{Fault as TheFault}
 use Rattle.sr_io.specs.Causes.{Rose}
 use Rattle.sr_io.specs.Pieces.{WritesPrefix}
@@ -39,7 +40,7 @@ ServesPeer None more new = ⊥
 ServesPeer (Some served) more new = (served.how ≢ ByFault) × HasPeers more new
 
 module _ (Gives : Database → Message → Result Tables TheFault → Type 0) where
-  -- One connection was made, served and given up.
+  -- One connection was made at the docked address, served and given up.
   pub record Rounds (db : Database) (old new : Linking) (served : Served) (IsNew : Server → Type 0) : Type 0 where
     pub conversation : Conversation
     pub after : Server
@@ -47,6 +48,8 @@ module _ (Gives : Database → Message → Result Tables TheFault → Type 0) wh
     pub count_is : served.frames ≡ length conversation.frames
     pub is : IsServed Gives db conversation after
     pub made : connections new ≡ connections old ++ option_to_list conversation.told
+    pub came_at : IfSome conversation.told (λ t. old.docked ≡ Some t.address)
+    pub docked : new.docked ≡ old.docked
     pub faults : RoseBy old.faults (is_fault served.how) new.faults
     pub stands : IsNew (at_rest after.database)
 
@@ -55,12 +58,14 @@ module _ (Gives : Database → Message → Result Tables TheFault → Type 0) wh
   RoundsIf None db old new IsNew = Rose old.faults new.faults × OnlyFaults old new × IsNew (at_rest db)
   RoundsIf (Some served) db old new IsNew = Rounds db old new served IsNew
 
-  -- So many connections were served, and the link has just these more.
+  -- So many connections were served, all made at the docked address, and the link has just these more.
   pub record SoMany (db : Database) (old new : Linking) (count : ℕ) (IsNew : Server → Type 0) : Type 0 where
     pub conversations : List Conversation
     pub last : Database
     pub served : AreServed Gives db conversations last
     pub made : connections new ≡ connections old ++ all_told conversations
+    pub came_at : All (λ t. old.docked ≡ Some t.address) (all_told conversations)
+    pub docked : new.docked ≡ old.docked
     pub number : length conversations ≡ count
     pub faults : RoseBy old.faults (count_faults conversations) new.faults
     pub stands : IsNew (at_rest last)

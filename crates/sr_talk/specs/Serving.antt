@@ -1,7 +1,7 @@
 -- What a run of `serve` did.
 use Rattle.std.specs.Prelude.{ℕ, Bool, true, false, ◌==◌, if◌then◌else◌, ◌+◌, ◌-◌, ◌^◌, min, ◌<◌, ◌≤◌, ◌⊎◌, List, [], ◌∷◌, ◌++◌, length, flat_map, decimal, codes, ◌≡◌, ◌≢◌, Option, None, Result, Ok, Err, IfSome, IsTrue, option_to_list}
 use Rattle.sr_cell.specs.declared.fault.Fault.{Fault as TheFault}
-use Rattle.sr_io.specs.Told.{Linking, Connection, connections}
+use Rattle.sr_io.specs.Told.{Linking, Connection, AreAt, connections}
 use Rattle.sr_message.specs.declared.message.Message.{Message}
 use Rattle.sr_message.specs.declared.message.Message.TheVariants.{Hello, Resume, Write}
 use Rattle.sr_model.specs.Statements.{Tables}
@@ -175,9 +175,9 @@ module _ (Gives : Database → Message → Result Tables TheFault → Type 0) wh
   AreExecuted db (text ∷ texts) lines last =
       (result : Result Tables TheFault) × (more : List (List ℕ)) × Gives db (Write 0 text) result × (lines ≡ exec_line db result ∷ more) × AreExecuted (grown db result) texts more last
 
-  -- A run: from the loaded tables, over the texts of the exec file, for so many connections. It ended with this status, wrote these
-  -- bytes, and left the link so.
-  pub record Served (db : Database) (texts : List (List ℕ)) (count status : ℕ) (old new : Linking) (written : List ℕ) : Type 0 where
+  -- A run: from the loaded tables, over the texts of the exec file, for so many connections, which came at this address. It ended with
+  -- this status, wrote these bytes, and left the link so.
+  pub record Served (db : Database) (texts : List (List ℕ)) (address : List ℕ) (count status : ℕ) (old new : Linking) (written : List ℕ) : Type 0 where
     pub exec_lines : List (List ℕ)
     pub first : Database
     pub conversations : List Conversation
@@ -185,6 +185,7 @@ module _ (Gives : Database → Message → Result Tables TheFault → Type 0) wh
     pub executed : AreExecuted db texts exec_lines first
     pub served : AreServed first conversations last
     pub made : connections new ≡ connections old ++ all_told conversations
+    pub came_at : AreAt address (all_told conversations)
     pub writes : Writes status (listening ∷ exec_lines ++ connection_lines 1 conversations) written
     pub few : length conversations ≤ count
     pub all : status ≡ 0 → (length conversations ≡ count) × (count_faults conversations ≡ 0)

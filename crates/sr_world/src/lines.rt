@@ -247,7 +247,7 @@ pub fn lines_of_cut(alloc: Global, client: u8, step: CutStep) -> Result<TraceLin
 }
 
 /// The lines of an explanation of that client: its details, and its version.
-pub(crate) fn lines_of_explain(
+pub fn lines_of_explain(
     alloc: Global,
     client: u8,
     explanation: &Explanation,

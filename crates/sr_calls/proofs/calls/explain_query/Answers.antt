@@ -7,14 +7,14 @@ use Rattle.sr_calls.specs.ClientEnds.{IsEnd, setting_of}
 use Rattle.sr_calls.proofs.ExplainLemmas.{few_victims, tells_how}
 use Rattle.sr_calls.proofs.calls.explain_query.Goals as goal
 
-pub explained-requires : goal.explained-requires
-explained-requires c = record { few = few_victims c.args.client.now c.in_ok-explanation.explanation c.requires.ready c.in_ok-explanation.ensures.victims }
+pub lines_of_explain-requires : goal.lines_of_explain-requires
+lines_of_explain-requires c = record { few = few_victims c.args.client.now c.in_ok-explanation.explanation c.requires.ready c.in_ok-explanation.ensures.victims }
 
 pub returns : goal.returns
 returns c = record {
   told = λ past meaning stands means.
       let old = c.args.client.now in
       let e = c.in_ok-explanation.explanation in
-      IfOk-weaker c.explained.result (λ (lines : List TraceLine). lines ≡ explain_lines old.id (Ok e)) (Tells IsEnd (setting_of old) old past (Ok meaning))
-      (λ lines are. tells_how old past meaning e lines (c.in_ok-explanation.ensures.explains meaning means) are) c.explained.ensures;
+      IfOk-weaker c.lines_of_explain.result (λ (lines : List TraceLine). lines ≡ explain_lines old.id (Ok e)) (Tells IsEnd (setting_of old) old past (Ok meaning))
+      (λ lines are. tells_how old past meaning e lines (c.in_ok-explanation.ensures.explains meaning means) are) c.lines_of_explain.ensures;
 }

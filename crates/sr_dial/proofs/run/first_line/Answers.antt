@@ -7,5 +7,5 @@ pub begin-requires-clause-asks : goal.begin-requires-clause-asks
 begin-requires-clause-asks g c = (Resumed, refl)
 
 pub returns-clause-ended : goal.returns-clause-ended
-returns-clause-ended g c k s same schema unbegun =
-    c.finish.ensures.ended k s ((0, Do Resumed) ∷ []) false (c.begin.ensures.setting ∙ same) schema (c.in_ok-handed.ensures.begun k s [] 0 false same schema (inr unbegun) refl)
+returns-clause-ended g c k s at same schema unbegun =
+    c.finish.ensures.ended k s ((0, Do Resumed) ∷ []) false (c.begin.ensures.setting ∙ same) schema (c.in_ok-handed.ensures.begun k s [] 0 false at same schema (inr unbegun) refl)

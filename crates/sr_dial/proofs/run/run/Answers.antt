@@ -9,8 +9,8 @@ use Rattle.sr_dial.proofs.run.run.Goals as goal
 pub returns-clause-ran : goal.returns-clause-ran
 returns-clause-ran g c past script stands cut out are =
     let k = g.C.Asks.setting c.args.client.now in
-    let s : Start _ = record { linking = g.H.Outside.linking c.args.host.now; writing = g.H.Outside.writing c.args.host.now; code = c.args.client.now; past = past } in
-    let first = c.in_ok-end.ensures.ended k s refl c.requires.schema (unbegun _ g.C.Asks.stands g.C.Peer.is_of k s stands cut out) in
-    let rest = c.in_ok-ending.ensures.ended k s script c.first_line.ensures.setting c.requires.schema first (subst (λ x. AreTasks x c.args.lines script) c.requires.schema are) in
-    subst (λ w. RanFairly _ g.C.Peer.is_of k c.args.client.now past script c.in_ok-ending.ending (g.H.Outside.linking c.args.host.now) (g.H.Outside.linking c.hang_up.new.self) (g.H.Outside.writing c.args.host.now) w) (sym c.hang_up.ensures.writing_stays)
+    let s : Start _ = record { linking = g.H.Outside.linking c.args.host.now; writing = g.H.Outside.writing c.args.host.now; code = c.args.client.now; past = past; address = c.args.address.now } in
+    let first = c.in_ok-end.ensures.ended k s refl refl c.requires.schema (unbegun _ g.C.Asks.stands g.C.Peer.is_of k s stands cut out) in
+    let rest = c.in_ok-ending.ensures.ended k s script refl c.first_line.ensures.setting c.requires.schema first (subst (λ x. AreTasks x c.args.lines script) c.requires.schema are) in
+    subst (λ w. RanFairly _ g.C.Peer.is_of k c.args.client.now past c.args.address.now script c.in_ok-ending.ending (g.H.Outside.linking c.args.host.now) (g.H.Outside.linking c.hang_up.new.self) (g.H.Outside.writing c.args.host.now) w) (sym c.hang_up.ensures.writing_stays)
     (finishes-ran _ g.C.Asks.stands g.C.Peer.is_of k s script _ (g.H.Outside.linking c.hang_up.new.self) _ _ _ c.hang_up.ensures.over c.in_ok-ending.ending rest)

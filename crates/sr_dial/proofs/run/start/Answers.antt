@@ -20,25 +20,25 @@ pub ask-requires-clause-asks : goal.ask-requires-clause-asks
 ask-requires-clause-asks g c = asked-deed (g.C.Asks.setting c.args.client.now).schema c.args.line.event c.in_default.not-Resume c.in_default.not-Cut c.in_default.not-Explain c.requires.asks
 
 pub returns-in-Resume-clause-started : goal.returns-in-Resume-clause-started
-returns-in-Resume-clause-started g c k s script number failed task same schema free is =
+returns-in-Resume-clause-started g c k s script number failed task at same schema free is =
     let resumed : task ≡ Do Resumed = resumes-task k.schema c.args.line.event _ task c.in-Resume.is is in
     if-ok _ _ c.begin.result (λ handed hands. subst (λ d. Hands _ g.C.Asks.stands g.C.Peer.is_of k handed s (script ++ (c.args.line.number, d) ∷ []) c.args.line.number 0 failed (g.H.Outside.linking c.begin.new.host) (g.H.Outside.writing c.begin.new.host) c.begin.new.feed c.begin.new.client) (sym resumed) hands)
-    (c.begin.ensures.begun k s script number failed same schema (inl free) refl)
+    (c.begin.ensures.begun k s script number failed at same schema (inl free) refl)
 
 pub returns-in-Cut-clause-started : goal.returns-in-Cut-clause-started
-returns-in-Cut-clause-started g c k s script number failed task same schema free is =
+returns-in-Cut-clause-started g c k s script number failed task at same schema free is =
     let cut : task ≡ Do WasCut = cuts-task k.schema c.args.line.event _ task c.in-Cut.is is in
     if-ok _ _ c.end.result (λ handed hands. subst (λ d. Hands _ g.C.Asks.stands g.C.Peer.is_of k handed s (script ++ (c.args.line.number, d) ∷ []) c.args.line.number 0 failed (g.H.Outside.linking c.end.new.host) (g.H.Outside.writing c.end.new.host) c.args.feed.now c.end.new.client) (sym cut) hands)
     (c.end.ensures.cut k s script number failed c.args.feed.now same schema free refl)
 
 pub returns-in-Explain-clause-started : goal.returns-in-Explain-clause-started
-returns-in-Explain-clause-started g c k s script number failed task same schema free is =
+returns-in-Explain-clause-started g c k s script number failed task at same schema free is =
     explains-text k.schema c.args.line.event _ c.in-Explain.query task
     (λ task. IfOk c.tell.result (λ handed. Hands _ g.C.Asks.stands g.C.Peer.is_of k handed s (script ++ (c.args.line.number, task) ∷ []) c.args.line.number 0 failed (g.H.Outside.linking c.tell.new.sink) (g.H.Outside.writing c.tell.new.sink) c.args.feed.now c.args.client.now))
     c.in-Explain.is is (λ text means. c.tell.ensures.told k s script number failed c.args.feed.now text same schema free means)
 
 pub returns-in_default-clause-started : goal.returns-in_default-clause-started
-returns-in_default-clause-started g c k s script number failed task same schema free is =
+returns-in_default-clause-started g c k s script number failed task at same schema free is =
     does-deed k.schema c.args.line.event task
     (λ task. IfOk c.ask.result (λ handed. Hands _ g.C.Asks.stands g.C.Peer.is_of k handed s (script ++ (c.args.line.number, task) ∷ []) c.args.line.number 0 failed (g.H.Outside.linking c.ask.new.host) (g.H.Outside.writing c.ask.new.host) c.args.feed.now c.ask.new.client))
     is c.in_default.not-Resume c.in_default.not-Cut c.in_default.not-Explain (λ deed is plain. c.ask.ensures.asked k s script number failed c.args.feed.now deed same schema free is plain)

@@ -1,7 +1,7 @@
-use Rattle.std.proofs.Common.{rules, ◌≡◌, [], ◌∷◌, ◌++◌, true, cond, sym, subst}
+use Rattle.std.proofs.Common.{rules, ◌≡◌, [], ◌∷◌, ◌++◌, true, cond, Some, sym, subst}
 use Rattle.std.specs.Prelude.{flat_map}
 use Rattle.sr_io.specs.Causes.{Rose}
-use Rattle.sr_io.specs.Told.{OnlyFaults}
+use Rattle.sr_io.specs.Told.{OnlyFaults, connected_at}
 use Rattle.sr_script.specs.TraceText.{line_text}
 use Rattle.sr_links.specs.Steps.{Resumed}
 use Rattle.sr_talk.specs.Calls.{Do}
@@ -15,7 +15,7 @@ use Rattle.sr_dial.proofs.Results.{if-ok}
 use Rattle.sr_dial.proofs.steps.begin.Goals as goal
 
 pub returns-then-is_empty-clause-begun : goal.returns-then-is_empty-clause-begun
-returns-then-is_empty-clause-begun g c k s script line failed same schema ready is =
+returns-then-is_empty-clause-begun g c k s script line failed at same schema ready is =
     let old = c.args.client.now in
     let new = c.act.new.self in
     let told = c.in_ok-told.told in
@@ -27,7 +27,7 @@ returns-then-is_empty-clause-begun g c k s script line failed same schema ready 
     (flat_map (line_text x c.args.number) told.lines)) schema carries)) c.carry.ensures.carried
 
 pub returns-in-Ok-clause-begun : goal.returns-in-Ok-clause-begun
-returns-in-Ok-clause-begun g c k s script line failed same schema ready is =
+returns-in-Ok-clause-begun g c k s script line failed at same schema ready is =
     let old = c.args.client.now in
     let new = c.act.new.self in
     let told = c.in_ok-told.told in
@@ -36,14 +36,15 @@ returns-in-Ok-clause-begun g c k s script line failed same schema ready is =
     subst (λ feed. Hands _ g.C.Asks.stands g.C.Peer.is_of k handed s (script ++ (c.args.number, Do Resumed) ∷ []) c.args.number 0 failed (g.H.Outside.linking c.carry-in-Ok.new.host) (g.H.Outside.writing c.carry-in-Ok.new.host) feed c.act.new.self) (sym c.new.ensures)
     (resumes-dialled _ g.C.Asks.stands g.C.Peer.is_of k s script line c.args.number failed _ _ _ _ c.args.feed.now _ _ told.lines told.sent ready
     (λ past st. subst (λ x. Makes g.C.Asks.stands g.C.Peer.is_of x old new past Resumed told.lines told.sent) same
-    (c.in_ok-told.ensures.made past Resumed st (subst (λ (x : Setting). IsDeed x.schema c.args.event Resumed) (sym same) is))) handed (g.H.Outside.linking c.dial.new.self) some c.in-Ok.ensures.made
+    (c.in_ok-told.ensures.made past Resumed st (subst (λ (x : Setting). IsDeed x.schema c.args.event Resumed) (sym same) is))) handed (g.H.Outside.linking c.dial.new.self) some
+    (subst (λ a. g.H.Outside.linking c.dial.new.self ≡ connected_at (Some a) (g.H.Outside.linking c.args.host.now)) (sym at) c.in-Ok.ensures.made)
     (subst (λ x. Carries handed (g.H.Outside.linking c.dial.new.self) (g.H.Outside.linking c.carry-in-Ok.new.host) (g.H.Outside.writing c.args.host.now) (g.H.Outside.writing c.carry-in-Ok.new.host) (spelled told.sent)
     (flat_map (line_text x c.args.number) told.lines)) schema
     (subst (λ w. Carries handed (g.H.Outside.linking c.dial.new.self) (g.H.Outside.linking c.carry-in-Ok.new.host) w (g.H.Outside.writing c.carry-in-Ok.new.host) (spelled told.sent)
     (flat_map (line_text c.args.schema.now c.args.number) told.lines)) c.dial.ensures.writing_stays carries)))) c.carry-in-Ok.ensures.carried
 
 pub returns-in-Err-Refused-clause-begun : goal.returns-in-Err-Refused-clause-begun
-returns-in-Err-Refused-clause-begun g c k s script line failed same schema ready is =
+returns-in-Err-Refused-clause-begun g c k s script line failed at same schema ready is =
     let old = c.args.client.now in
     let new = c.act.new.self in
     let told = c.in_ok-told.told in

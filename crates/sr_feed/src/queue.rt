@@ -1,5 +1,5 @@
 //! A queue of messages, as the bytes of their frames.
-ghost use Rattle.std.specs.Prelude.{◌≡◌, ◌≤◌, ◌++◌, [], ◌∷◌, ◌↔◌, length, option_to_list, IsTrue, IfNone, IfOk, OnOk, OnErr};
+ghost use Rattle.std.specs.Prelude.{◌≡◌, ℕ, ◌≤◌, ◌++◌, take, [], ◌∷◌, ◌↔◌, length, option_to_list, IsTrue, IfNone, IfOk, OnOk, OnErr};
 ghost use Rattle.std.specs.List.{All};
 ghost use Rattle.sr_wire.specs.Limits.{IsSendable};
 ghost use Rattle.sr_feed.specs.Taken.{IsInFront};
@@ -64,10 +64,11 @@ impl Queue {
         self.frames.feed(frame.as_slice())
     }
 
-    /// These messages behind the others.
+    /// These messages behind the others; in want of memory only the first few of them.
     pub fn append(&mut self, alloc: Global, messages: &Messages) -> Result<(), NoMemory>
         requires sendable { All IsSendable messages.now }
         ensures appended { OnOk result (self.new ≡ self.old ++ messages.now) }
+        ensures some { OnErr result ((count : ℕ) × (self.new ≡ self.old ++ take count messages.now)) }
     {
         for message in messages.as_slice() {
             self.push(alloc, message)?;

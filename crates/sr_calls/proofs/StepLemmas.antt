@@ -63,7 +63,7 @@ query_plain : (past : session.Client) (step : QueryStep) (o : Outcome) → SaysQ
 query_plain past (query.Answered q version rows marks) o says = subst IsPlainOutcome (sym says) tt
 query_plain past (query.Asked q request message marks) o says = subst IsPlainOutcome (sym says.4) tt
 query_plain past (query.Busy request) o says = subst IsPlainOutcome (sym says) tt
-query_plain past (query.Down number marks) o says = subst IsPlainOutcome (sym says) tt
+query_plain past (query.Down number) o says = subst IsPlainOutcome (sym says) tt
 
 module _ {E : Type 0} (old new : Client) (meaning : Query) (step : QueryStep) (told : world.Told) (r : Result Told E) (does : Queries old meaning new step)
     (tells : (past : session.Client) (o : Outcome) → SaysQuery past step o → IsToldOf old.id query_line o told) (is : IfOk r (λ t. t ≡ list_of told)) where

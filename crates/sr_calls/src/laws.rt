@@ -2,7 +2,8 @@
 ghost use Rattle.sr_calls.specs.Honest.{NewHonestRunsAreTrue, ServedRunsAreTrue};
 
 /// Over an honest link each answer that a run of `client` writes has the rows of its query on the server's tables at the version that it
-/// names, versions never fall, and no message is refused, so that status 8 never comes.
+/// names, each ask asks just what is not covered, a covered query sends nothing, the client keeps to its budgets, versions never fall, and
+/// no message is refused, so that status 8 never comes.
 pub fn honest_runs_are_true()
     ensures { NewHonestRunsAreTrue }
 {}

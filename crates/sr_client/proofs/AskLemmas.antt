@@ -35,10 +35,11 @@ use Rattle.sr_lines.specs.Short.{has_short_texts}
 use Rattle.sr_lines.specs.Sound.{columns_in, is_sound_part}
 use Rattle.sr_lines.proofs.Constrained.{rects_constrain_needed}
 use Rattle.sr_region.specs.declared.region.Region.{Region}
+use Rattle.sr_session.proofs.PointLemmas.{some-left}
 use Rattle.sr_store.specs.Classes.{Stamps, Keeps}
 use Rattle.sr_store.specs.Stores.{cover_of}
 use Rattle.sr_store.proofs.Covering.{cover_is}
-use Rattle.sr_client.specs.Asking.{AsksRest, AreMeant, entry_of, whole_asks}
+use Rattle.sr_client.specs.Asking.{AsksRest, LeavesRest, AreMeant, entry_of, whole_asks}
 use Rattle.sr_client.specs.Cutting.{EndWith, AsksEnd, AreCutAlong, IsOver, grid_of_part}
 use Rattle.sr_client.proofs.EndLemmas.{end-append, cover-end}
 use Rattle.sr_client.proofs.Items.{take-item}
@@ -107,6 +108,19 @@ asks-rest schema regions part attrs rest t marks stamps (m ∷ []) keeps zip sou
     let is = zip.0 in
     let now = trimmed-same (table_at schema part.table).columns part.need (left_over part.rects (cover_of part regions)) (rest_of marks m) attrs rest (left-rest schema marks stamps regions part m keeps is) t in
     entry-asks schema marks m part.table part.need attrs rest is.table is.need (subst (λ u. IsTrimmed (table_at schema u).columns part.need (rest_of marks m) attrs rest) is.table now)
+
+-- where some point of a part is left, something is left to ask
+pub leaves-one : (schema : List Table) (regions : List Region) (part : Part) → (HasNoPoint (table_at schema part.table).columns (left_over part.rects (cover_of part regions)) → ⊥)
+    → LeavesRest schema regions (part ∷ [])
+leaves-one schema regions part some marks stamps [] keeps zip sound none = absurd zip
+leaves-one schema regions part some marks stamps (m ∷ n ∷ meant) keeps zip sound none = absurd zip.1
+leaves-one schema regions part some marks stamps (m ∷ []) keeps zip sound (covered own others asks free none) =
+    let is = zip.0 in
+    some (λ p point. left-rest schema marks stamps regions part m keeps is p point ∙ free p (subst (λ t. is_point (table_at schema t).columns p ≡ true) is.table point))
+
+-- where something is asked, something is left to ask
+pub leaves-asked : (schema : List Table) (regions : List Region) (parts : List Part) (asks : List AskPart) → AsksRest schema regions parts asks → (asks ≡ [] → ⊥) → LeavesRest schema regions parts
+leaves-asked schema regions parts asks rest some marks stamps meant keeps zip sound = some-left schema marks meant asks (rest marks stamps meant keeps zip sound) some
 
 -- a column that is not needed is not essential to a part
 only-needed : (attrs n c : ℕ) (r : Rect) → constrains_only attrs n r ≡ true → has_column attrs (n + c) ≡ false → constrains (span_at c r) ≡ false
@@ -324,6 +338,19 @@ meant-at schema parts i d within (meant, zip, sound) = by parts i meant within z
     by (p ∷ parts) i [] within zip sound = absurd zip
     by (p ∷ parts) zero (m ∷ meant) within zip sound = (m ∷ [], (zip.0, tt), grind arith)
     by (p ∷ parts) (suc i) (m ∷ meant) within zip sound = by parts i meant (omega (arith, within)) zip.1 (grind arith)
+
+-- what is left of one part is left of all
+pub leaves-at : (schema : List Table) (regions : List Region) (parts : List Part) (i : ℕ) (part : Part) → i < length parts → part ≡ get_or parts i part → LeavesRest schema regions (part ∷ [])
+    → LeavesRest schema regions parts
+leaves-at schema regions parts i part within is left marks stamps meant keeps zip sound none = by parts i meant within is zip sound none
+  where
+    by : (parts : List Part) (i : ℕ) (meant : List model.Part) → i < length parts → part ≡ get_or parts i part → AllZip (IsPart schema) parts meant → list_all (is_sound_part schema) meant ≡ true
+        → Asks schema marks meant [] → ⊥
+    by [] i meant within is zip sound none = omega (arith, within)
+    by (p ∷ parts) i [] within is zip sound none = absurd zip
+    by (p ∷ parts) zero (m ∷ meant) within is zip sound (covered own others asks free none) =
+        left marks stamps (m ∷ []) keeps (subst (λ (p : Part). IsPart schema p m) (sym is) zip.0, tt) (grind arith) (covered m [] [] free nothing)
+    by (p ∷ parts) (suc i) (m ∷ meant) within is zip sound (covered own others asks free none) = by parts i meant (omega (arith, within)) is zip.1 (grind arith) none
 
 -- a part that is meant is of a table of the schema, and its rects fit it
 pub record IsSound (schema : List Table) (part : Part) : Type 0 where

@@ -17,7 +17,6 @@ use Rattle.sr_store.proofs.Dropping.{evicted_all, evicted_store}
 use Rattle.sr_store.proofs.Stepping.{evicted_marks}
 use Rattle.sr_store.proofs.Fewer.{fewer_rows}
 use Rattle.sr_session.specs.Sessions.{tables_of}
-use Rattle.sr_session.specs.Walks.{Request}
 use Rattle.sr_session.specs.Rules.{Evicted, NoSuchClass, number_of, evict_busy, evicts, evicts_none, counted}
 use Rattle.sr_session.specs.Rules as rules
 use Rattle.sr_session.specs.Tidy.{IsTidyWith}

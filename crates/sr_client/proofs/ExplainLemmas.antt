@@ -36,7 +36,7 @@ use Rattle.sr_explain.specs.Explained.{served_by, IsProbe, ProbesOf, ExplainsPar
 use Rattle.sr_explain.specs.Explained as explain
 use Rattle.sr_session.specs.Sessions.{Database, tables_of}
 use Rattle.sr_session.specs.Bases.{basis_of}
-use Rattle.sr_client.specs.Asking.{AsksRest, whole_asks}
+use Rattle.sr_client.specs.Asking.{AsksRest, LeavesRest, whole_asks}
 use Rattle.sr_client.specs.Bound.{IsMeaning}
 use Rattle.sr_client.specs.Cutting.{IsOver}
 use Rattle.sr_client.specs.Explaining.{IsAway, IsProbeOf, AreProbes, nothing, away, probed, entry_for, IsRestIn, IsExplained, Fall, Explains}
@@ -47,6 +47,7 @@ use Rattle.sr_client.proofs.Items.{take-item}
 use Rattle.sr_client.proofs.EntryLemmas.{IsFound, all-found}
 use Rattle.sr_client.proofs.MeantLemmas.{are-sound, tables-differ}
 use Rattle.sr_client.proofs.OverLemmas.{on, IsHere, over}
+use Rattle.sr_client.proofs.QueryLemmas.{left-here}
 use Rattle.sr_client.proofs.Renewal.{HaveFirst}
 use Rattle.sr_client.proofs.SendLemmas.{load-heavy}
 use Rattle.sr_client.proofs.TableLemmas.{have-first}
@@ -221,7 +222,7 @@ module _ (c : Client) (q : Query) (m : model.Query) (e : Explanation) (means : I
     explains-trimmed =
         over c (λ db past. explain.Explains (basis_of db c.store.limits) (count_in (tables_of db past.version) past.marks past.queries) past m e) trimmed-here
 
-  module _ (large : IsOver c.schema c.store.regions q.parts) (parts : AllZip (IsExplained [] (whole_asks q.parts)) q.parts e.parts)
+  module _ (large : IsOver c.schema c.store.regions q.parts) (left : LeavesRest c.schema c.store.regions q.parts) (parts : AllZip (IsExplained [] (whole_asks q.parts)) q.parts e.parts)
       (some : e.pieces ≡ true → c.store.regions ≡ [] → ⊥) (none : e.pieces ≡ false → c.store.regions ≡ []) where
     from-nothing : (marks : List Mark) (queries : List Numbered) → HaveFirst c.schema → Keeps c.schema (is_held marks) (stamp queries) [] → AllZip (ExplainsPart c.schema marks queries) m.parts e.parts
     from-nothing marks queries first keeps = each-part marks queries [] (whole_asks q.parts) first (All-nil (IsOfSchema c.schema)) refl keeps (asks-whole c.schema q.parts first) parts
@@ -233,6 +234,7 @@ module _ (c : Client) (q : Query) (m : model.Query) (e : Explanation) (means : I
       pieces = λ heavy. record {
         some = some-held c.schema h.marks h.queries c.store.regions (all_solid c.schema c.store.regions (have-first c.schema f.tables) f.store.each)
             (have_classes c.schema h.marks h.queries c.store.regions f.store.order f.keeps) (some heavy);
+        left = left-here c q m h means f left;
         heavy = load-heavy c h q m means f large;
       };
       parts = by e.pieces refl;

@@ -1,6 +1,5 @@
 -- What comes to a client that stands is promised.
 use Rattle.std.proofs.Common.{◌≡◌, [], ◌∷◌, sym, ◌∙◌}
-use Rattle.sr_session.specs.Clients as session
 use Rattle.sr_session.specs.Clients.{is_open, is_down, is_resuming}
 use Rattle.sr_client.specs.Stands.{PromisesAreTrue}
 

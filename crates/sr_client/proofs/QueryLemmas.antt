@@ -1,4 +1,4 @@
--- What a query does that is answered at once, or that comes while a request is out.
+-- What a query does that is answered at once, or that comes while a request is out or over a cut link.
 use Rattle.std.proofs.Common.{◌≡◌, ℕ, ◌+◌, true, List, [], ◌∷◌, ◌++◌, length, refl, sym, ◌∙◌, ap, subst, arith, Some, None, Ok, length-append}
 use Rattle.std.proofs.lemmas.List.Elements.{All-nil}
 use Rattle.sr_cell.specs.Cells.{Row}
@@ -18,15 +18,15 @@ use Rattle.sr_store.specs.declared.store.Arrival.{Arrival}
 use Rattle.sr_session.specs.Sessions.{Database, tables_of}
 use Rattle.sr_session.specs.Clients as session
 use Rattle.sr_session.specs.Clients.{answered}
-use Rattle.sr_session.specs.Rules.{number_of, answering_now, counted, query_busy, query_answered, AnswerStep}
+use Rattle.sr_session.specs.Rules.{number_of, answering_now, counted, query_busy, query_answered, query_down, AnswerStep}
 use Rattle.sr_session.specs.Rules as rules
 use Rattle.sr_session.specs.Tidy.{IsTidyWith}
 use Rattle.sr_session.specs.Bases.{basis_of}
-use Rattle.sr_client.specs.Asking.{AsksRest}
+use Rattle.sr_client.specs.Asking.{AsksRest, LeavesRest}
 use Rattle.sr_client.specs.Bound.{IsMeaning}
 use Rattle.sr_client.specs.declared.client.Client.{Client}
 use Rattle.sr_client.specs.declared.client.Request as code
-use Rattle.sr_client.specs.declared.steps.QueryStep.TheVariants.{Answered, Busy}
+use Rattle.sr_client.specs.declared.steps.QueryStep.TheVariants.{Answered, Busy, Down}
 use Rattle.sr_client.specs.Stands.{Hidden, Facts, Stands, StandsOver, past_of, out_of, request_of, IsMeant, AreFit}
 use Rattle.sr_client.specs.Steps.{Queries}
 use Rattle.sr_client.proofs.Calls.{Answers, IsAfter, none-arrived}
@@ -57,6 +57,23 @@ query-busy c m number request stands out number_is = queries-by c c m (Busy numb
         (query_busy m (request_of h.meaning request) (ap (out_of h.meaning) out)),
     stands-over c h db f here,
   );
+}) stands
+
+-- ---- over a cut link
+
+-- what is left of a query is left by each past
+pub left-here : (c : Client) (q : Query) (m : model.Query) (h : Hidden) → IsMeaning c.schema q m → Facts c h → LeavesRest c.schema c.store.regions q.parts → Asks c.schema h.marks m.parts [] → ⊥
+left-here c q m h is f left = left h.marks (stamp h.queries) m.parts f.keeps is.query.parts (are-sound c.schema q m is)
+
+pub query-over-cut : (c : Client) (q : Query) (m : model.Query) → Stands c → c.out ≡ None → c.cut ≡ true → IsMeaning c.schema q m → LeavesRest c.schema c.store.regions q.parts → Queries c m c (Down c.cuts)
+query-over-cut c q m stands out down is left = queries-by c c m (Down c.cuts) (λ h f. record {
+  outcome = rules.Down c.cuts;
+  next = past_of c h;
+  is = refl;
+  link = refl;
+  draws = omega arith;
+  stands = (h, f, refl);
+  over = λ db here it. (query_down m (ap (out_of h.meaning) out) down (left-here c q m h is f left), stands-over c h db f here);
 }) stands
 
 -- ---- at once

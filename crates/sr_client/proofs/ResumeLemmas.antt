@@ -14,6 +14,7 @@ use Rattle.sr_subs.specs.Subscription.{has_point}
 use Rattle.sr_history.specs.declared.mark.Mark.{Mark}
 use Rattle.sr_history.specs.Marks.{is_held}
 use Rattle.sr_history.specs.Classes.{stamp}
+use Rattle.sr_history.proofs.Marking.{some-attrs}
 use Rattle.sr_region.specs.declared.region.Region.{Region}
 use Rattle.sr_store.specs.Classes.{Stamps, Keeps, occurs, is_of}
 use Rattle.sr_store.specs.Stores.{IsOfSchema}
@@ -47,7 +48,7 @@ resume-up c stands up = resumes-by c c Up (λ h f. record {
   over = λ db here it. (already_up up, stands-over c h db f here);
 }) stands
 
--- ---- the first message has all points that are held
+-- ---- the first message has just the points that are held
 
 -- a point that occurs in regions is one of their points
 occurs-there : (gs : List Region) (t a : ℕ) (p : Row) → (occurs gs t a p ≡ 0 → ⊥) → has_point (map holding_of gs) t p ≡ true
@@ -75,12 +76,43 @@ all-there schema marks stamps gs keeps t p point is =
     let count : occurs gs t some.0 p ≡ 1 = keeps.points t some.0 p point ∙ ap (λ b. if b then 1 else 0) some.1 in
     occurs-there gs t some.0 p (λ zero_is. absurd (omega (arith, count, zero_is)))
 
+-- a point of regions occurs in them, under the columns of one
+there-occurs : (gs : List Region) (t : ℕ) (p : Row) → has_point (map holding_of gs) t p ≡ true → (a : ℕ) × (occurs gs t a p ≡ 0 → ⊥)
+there-occurs [] t p is = absurd (cc)
+there-occurs (g ∷ gs) t p is = by (g.table == t && in_any g.rects p) refl is (there-occurs gs t p)
+  where
+    own : (g.table == t && in_any g.rects p) ≡ true → is_of g t g.attrs ≡ true
+    own here = grind (arith, nat_tests, here)
+
+    some : (g.table == t && in_any g.rects p) ≡ true → times g.rects p ≡ 0 → ⊥
+    some here none = let x = in_any-times g.rects p in grind (arith, nat_tests, x, here, none)
+
+    counts : (of : Bool) → of ≡ true → (times g.rects p ≡ 0 → ⊥) → (if of then times g.rects p else 0) + occurs gs t g.attrs p ≡ 0 → ⊥
+    counts true e some none = some (omega (arith, none))
+    counts false e some none = absurd (cc)
+
+    by : (here : Bool) → (g.table == t && in_any g.rects p) ≡ here → (here || has_point (map holding_of gs) t p) ≡ true
+        → (has_point (map holding_of gs) t p ≡ true → (a : ℕ) × (occurs gs t a p ≡ 0 → ⊥)) → (a : ℕ) × (occurs (g ∷ gs) t a p ≡ 0 → ⊥)
+    by true here is more = (g.attrs, λ none. counts (is_of g t g.attrs) (own here) (some here) none)
+    by false here is more = let later = more is in (later.0, λ none. later.1 (omega (arith, none)))
+
+none-else : (schema : List Table) (marks : List Mark) (stamps : Stamps) (gs : List Region) → Keeps schema (is_held marks) stamps gs → Within schema (has_point (map holding_of gs)) (held marks)
+none-else schema marks stamps gs keeps t p point is =
+    let found = there-occurs gs t p is in
+    by found.0 found.1 (is_held marks t found.0 p) refl
+  where
+    by : (a : ℕ) → (occurs gs t a p ≡ 0 → ⊥) → (b : Bool) → is_held marks t a p ≡ b → held marks t p ≡ true
+    by a some true e = some-attrs (λ a. is_held marks t a p) marks t a p e e
+    by a some false e = absurd (some (keeps.points t a p point ∙ ap (λ b. if b then 1 else 0) e))
+
 first-is : (c : Client) (h : Hidden) → Facts c h → IsResumeMessage c.schema (past_of c h) c.next_request (first_of c c.store.regions)
 first-is c h f = by c.store.regions refl
   where
     by : (gs : List Region) → c.store.regions ≡ gs → IsResumeMessage c.schema (past_of c h) c.next_request (first_of c gs)
     by [] e = (refl, (all_none c.schema h.marks (stamp h.queries) c.store.regions (have-first c.schema f.tables) f.store.each f.keeps).0 e)
-    by (g ∷ gs) e = (refl, refl, all-there c.schema h.marks (stamp h.queries) (g ∷ gs) (subst (Keeps c.schema (is_held h.marks) (stamp h.queries)) e f.keeps))
+    by (g ∷ gs) e =
+        let keeps = subst (Keeps c.schema (is_held h.marks) (stamp h.queries)) e f.keeps in
+        (refl, refl, all-there c.schema h.marks (stamp h.queries) (g ∷ gs) keeps, none-else c.schema h.marks (stamp h.queries) (g ∷ gs) keeps)
 
 -- ---- it suits the schema
 

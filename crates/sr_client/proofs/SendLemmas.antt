@@ -1,28 +1,28 @@
 -- What a query does that asks something.
 use Rattle.std.proofs.Common.{◌≡◌, ℕ, ◌+◌, ◌≤◌, ◌<◌, Bool, true, false, List, [], ◌∷◌, ◌++◌, map, length, refl, sym, ◌∙◌, ap, subst, arith, Some, None, Ok, length-append}
-use Rattle.std.specs.Prelude.{IsTrue, ◌↔◌, sum_by}
-use Rattle.std.specs.List.{All}
+use Rattle.std.specs.Prelude.{IsTrue, not, ◌&&◌, ◌↔◌}
+use Rattle.std.specs.List.{All, AllZip}
 use Rattle.std.proofs.lemmas.List.Elements.{All-nil}
-use Rattle.std.proofs.lemmas.List.Sums.{sum_by-cons, sum_by-le}
+use Rattle.std.proofs.lemmas.List.Sums.{sum_by-le}
 use Rattle.sr_cell.specs.declared.cause.Cause.TheVariants.{Pieces}
 use Rattle.sr_cell.specs.declared.table.Table.{Table}
-use Rattle.sr_cell.specs.Columns.{table_at}
-use Rattle.sr_box.specs.Points.{Rect}
+use Rattle.sr_box.specs.Points.{Rect, in_any}
 use Rattle.sr_message.specs.declared.message.AskPart.{AskPart}
 use Rattle.sr_message.specs.Sizes.{most_rects, count_asked}
 use Rattle.sr_model.specs.Queries as model
+use Rattle.sr_query.specs.Bound.{IsPart}
 use Rattle.sr_query.specs.declared.query.Part.{Part}
 use Rattle.sr_query.specs.declared.query.Query.{Query}
 use Rattle.sr_history.specs.declared.mark.Mark.{Mark}
-use Rattle.sr_history.specs.Marks.{is_held, HoldsNothing, with_marks}
+use Rattle.sr_history.specs.Marks.{is_held, is_covered, HoldsNothing, with_marks}
 use Rattle.sr_history.specs.Classes.{stamp}
 use Rattle.sr_history.specs.Load.{IsHeavy}
-use Rattle.sr_history.specs.Rests.{Asks}
+use Rattle.sr_history.specs.Rests.{Asks, nothing, covered}
 use Rattle.sr_history.specs.Victims.{AreLast}
 use Rattle.sr_region.specs.declared.region.Region.{Region}
 use Rattle.sr_store.specs.Classes.{Stamps, Keeps}
 use Rattle.sr_store.specs.Told.{told_of, IsTrueOf}
-use Rattle.sr_store.specs.Stores.{cover_of, drop_of, IsOfSchema}
+use Rattle.sr_store.specs.Stores.{drop_of, IsOfSchema}
 use Rattle.sr_store.proofs.Absorbing.{drops_all}
 use Rattle.sr_store.proofs.Covering.{all_none, keeps_same}
 use Rattle.sr_store.proofs.Fewer.{none_store}
@@ -31,18 +31,17 @@ use Rattle.sr_store.proofs.Stepping.{dropped_marks}
 use Rattle.sr_session.specs.Sessions.{Database, tables_of}
 use Rattle.sr_session.specs.Clients as session
 use Rattle.sr_session.specs.Walks.{AskOut, AreLaid}
-use Rattle.sr_session.specs.Rules.{Before, as_it_is, emptied, counted, with_ask, query_asks, query_down}
+use Rattle.sr_session.specs.Rules.{Before, as_it_is, emptied, counted, with_ask, query_asks}
 use Rattle.sr_session.specs.Rules as rules
 use Rattle.sr_session.specs.Tidy.{IsTidyWith}
 use Rattle.sr_session.specs.Bases.{basis_of}
-use Rattle.sr_client.specs.Asking.{AsksRest, entry_of, whole_asks}
+use Rattle.sr_client.specs.Asking.{AsksRest, LeavesRest, entry_of, whole_asks}
 use Rattle.sr_client.specs.Arriving.{is_empty}
 use Rattle.sr_client.specs.Bound.{IsMeaning}
-use Rattle.sr_client.specs.Cutting.{EndWith, RegionsEnd, PartsEnd, AsksEnd, AreCutAlong, IsOver, grid_with, grid_of_part}
-use Rattle.sr_client.specs.Sending.{next_ask, with_out, asked_step, IsSent, is_down, is_sent}
+use Rattle.sr_client.specs.Cutting.{EndWith, RegionsEnd, PartsEnd, AsksEnd, AreCutAlong, IsOver}
+use Rattle.sr_client.specs.Sending.{next_ask, with_out, asked_step, IsSent}
 use Rattle.sr_client.specs.declared.client.Client.{Client}
 use Rattle.sr_client.specs.declared.steps.QueryStep.{QueryStep}
-use Rattle.sr_client.specs.declared.steps.QueryStep.TheVariants.{Down}
 use Rattle.sr_client.specs.Stands.{Hidden, Facts, Stands, past_of, out_of, IsMeant, AreFit}
 use Rattle.sr_client.specs.Steps.{SaysQuery, Queries}
 use Rattle.sr_client.proofs.AskLemmas.{asks-whole, whole-along, whole-narrow}
@@ -52,8 +51,8 @@ use Rattle.sr_client.proofs.HeavyLemmas.{heavy-parts}
 use Rattle.sr_client.proofs.LastLemmas.{last-asked}
 use Rattle.sr_client.proofs.MeantLemmas.{are-meant, are-sound, tables-differ, parts-few}
 use Rattle.sr_client.proofs.MoveLemmas.{MovesHere, queries-by}
-use Rattle.sr_client.proofs.OverLemmas.{on, IsHere, with_regions, stands-over}
-use Rattle.sr_client.proofs.QueryLemmas.{none-laid}
+use Rattle.sr_client.proofs.OverLemmas.{on, IsHere, with_regions}
+use Rattle.sr_client.proofs.QueryLemmas.{none-laid, left-here}
 use Rattle.sr_client.proofs.Renewal.{HaveFirst}
 use Rattle.sr_client.proofs.ShortLemmas.{shorts-more, meaning-short}
 use Rattle.sr_client.proofs.TableLemmas.{have-first}
@@ -101,11 +100,6 @@ asks-some : (b : rules.Basis) (past old : session.Client) (m : model.Query) (dro
     → rules.QueryStep b past (Ok m) (rules.AskSent drops old.next_request fresh asks) (with_ask old m fresh asks)
 asks-some b past old m drops [] fresh out before up some asks few mode = absurd (some refl)
 asks-some b past old m drops (ask ∷ others) fresh out before up some asks few mode = query_asks m drops old ask others fresh out before up asks few mode
-
-down-some : (b : rules.Basis) (past old : session.Client) (m : model.Query) (drops : List Mark) (asks : List AskPart) → past.out ≡ None → Before b m past drops old → old.cut ≡ true → (asks ≡ [] → ⊥)
-    → Asks b.schema old.marks m.parts asks → rules.QueryStep b past (Ok m) (rules.Down old.cuts drops) old
-down-some b past old m drops [] out before down some asks = absurd (some refl)
-down-some b past old m drops (ask ∷ others) out before down some asks = query_down m drops old ask others out before down asks
 
 module _ (c : Client) (q : Query) (m : model.Query) (asks : List AskPart) (may : MayAsk c q m asks) (h : Hidden) (f : Facts c h) where
   abbrev fresh : Bool
@@ -177,23 +171,6 @@ module _ (c : Client) (q : Query) (m : model.Query) (asks : List AskPart) (drops
   abbrev gone : Client
   gone = with_out (with_regions c gs) (next_ask (with_regions c gs) q asks)
 
-  down-goes : (h : Hidden) → IsReady c m h drops gs → c.cut ≡ true
-      → MovesHere c (with_regions c gs) (past_of c h) (SaysQuery (past_of c h) (Down c.cuts drops)) (λ db. Unit {0}) (λ db. rules.QueryStep (basis_of db c.store.limits) (past_of c h) (Ok m))
-  down-goes h r down = record {
-    outcome = rules.Down c.cuts drops;
-    next = past_of (with_regions c gs) r.hidden;
-    is = refl;
-    link = refl;
-    draws = omega arith;
-    stands = (r.hidden, r.facts, refl);
-    over = λ db here it.
-        let o = r.over db here in (
-          down-some (basis_of (on c db) c.store.limits) (past_of c h) (past_of (with_regions c gs) r.hidden) m drops asks (ap (out_of h.meaning) may.out) o.0 down may.some
-              (are-asked (with_regions c gs) q m asks may r.hidden r.facts),
-          stands-over (with_regions c gs) r.hidden db r.facts o.1,
-        );
-  }
-
   sent-goes : (h : Hidden) → Facts c h → IsReady c m h drops gs → c.cut ≡ false
       → MovesHere c (with_out (with_regions c gs) (next_ask (with_regions c gs) q asks)) (past_of c h) (SaysQuery (past_of c h) (asked_step (next_ask (with_regions c gs) q asks) drops)) (λ db. Unit {0})
       (λ db. rules.QueryStep (basis_of db c.store.limits) (past_of c h) (Ok m))
@@ -228,33 +205,28 @@ module _ (c : Client) (q : Query) (m : model.Query) (asks : List AskPart) (drops
       }
 
   -- for every past that the client stood for
-  pub query-sent : (new : Client) (step : QueryStep) → ((h : Hidden) → Facts c h → IsReady c m h drops gs) → IsSent (with_regions c gs) q asks drops new step → Stands c → Queries c m new step
-  query-sent new step each (is_down down) stands = queries-by c (with_regions c gs) m (Down c.cuts drops) (λ h f. down-goes h (each h f) down) stands
-  query-sent new step each (is_sent up) stands = queries-by c gone m (asked_step (next_ask (with_regions c gs) q asks) drops) (λ h f. sent-goes h f (each h f) up) stands
+  pub query-sent : (new : Client) (step : QueryStep) → ((h : Hidden) → Facts c h → IsReady c m h drops gs) → c.cut ≡ false → IsSent (with_regions c gs) q asks drops new step → Stands c → Queries c m new step
+  query-sent new step each up sent stands =
+      let asked : Queries c m gone (asked_step (next_ask (with_regions c gs) q asks) drops) = queries-by c gone m (asked_step (next_ask (with_regions c gs) q asks) drops) (λ h f. sent-goes h f (each h f) up) stands in
+      subst (λ n. Queries c m n step) (sym sent.out) (subst (Queries c m gone) (sym sent.told) asked)
 
 -- the rest of a query is asked
-pub query-asks : (c : Client) (q : Query) (m : model.Query) (asks : List AskPart) (new : Client) (step : QueryStep) → MayAsk c q m asks → IsSent c q asks [] new step → Stands c → Queries c m new step
-query-asks c q m asks new step may sent stands = query-sent c q m asks [] c.store.regions may new step (ready-still c m) sent stands
+pub query-asks : (c : Client) (q : Query) (m : model.Query) (asks : List AskPart) (new : Client) (step : QueryStep) → MayAsk c q m asks → c.cut ≡ false → IsSent c q asks [] new step → Stands c → Queries c m new step
+query-asks c q m asks new step may up sent stands = query-sent c q m asks [] c.store.regions may new step (ready-still c m) up sent stands
 
 -- ---- all is dropped first
 
--- parts of which nothing would be asked have no grids
-no-grids : (schema : List Table) (regions : List Region) (parts : List Part) → whole_asks parts ≡ [] → sum_by (grid_of_part schema regions) parts ≡ 0
-no-grids schema regions [] none = refl
-no-grids schema regions (p ∷ parts) none =
-    sum_by-cons (grid_of_part schema regions) p parts ∙ by p.rects none (no-grids schema regions parts)
+-- of parts without rects nothing is left
+none-whole : (schema : List Table) (marks : List Mark) (parts : List Part) (meant : List model.Part) → AllZip (IsPart schema) parts meant → whole_asks parts ≡ [] → Asks schema marks meant []
+none-whole schema marks [] [] zip none = nothing
+none-whole schema marks [] (m ∷ meant) zip none = absurd zip
+none-whole schema marks (p ∷ parts) [] zip none = absurd zip
+none-whole schema marks (p ∷ parts) (m ∷ meant) zip none = by p.rects refl none (none-whole schema marks parts meant zip.1)
   where
-    still : (n : ℕ) → n ≡ 0 → 0 + n ≡ 0
-    still n e = omega (arith, e)
-
-    by : (rects : List Rect) → entry_of p.table p.need rects ++ whole_asks parts ≡ [] → (whole_asks parts ≡ [] → sum_by (grid_of_part schema regions) parts ≡ 0)
-        → grid_with (table_at schema p.table).columns (cover_of p regions) rects + sum_by (grid_of_part schema regions) parts ≡ 0
-    by [] none rest = still (sum_by (grid_of_part schema regions) parts) (rest none)
-    by (r ∷ rects) none rest = absurd (cc)
-
--- where the grids are too large something is asked
-pub some-asked : (schema : List Table) (regions : List Region) (parts : List Part) → IsOver schema regions parts → whole_asks parts ≡ [] → ⊥
-some-asked schema regions parts over none = let grids = no-grids schema regions parts none in absurd (omega (arith, over, grids))
+    by : (rects : List Rect) → p.rects ≡ rects → entry_of p.table p.need rects ++ whole_asks parts ≡ [] → (whole_asks parts ≡ [] → Asks schema marks meant []) → Asks schema marks (m ∷ meant) []
+    by [] e none rest =
+        covered m meant [] (λ x point. ap (λ b. b && not (is_covered marks m.table m.need x)) (sym (zip.0.rects.points x point) ∙ ap (λ rects. in_any rects x) e)) (rest none)
+    by (r ∷ rects) e none rest = absurd (cc)
 
 -- the load is too high
 pub load-heavy : (c : Client) (h : Hidden) (q : Query) (m : model.Query) → IsMeaning c.schema q m → Facts c h → IsOver c.schema c.store.regions q.parts
@@ -292,9 +264,9 @@ facts-dropped c h f out =
     }
 
 -- all is dropped; where nothing was held the client stays as it is
-ready-dropped : (c : Client) (q : Query) (m : model.Query) → IsMeaning c.schema q m → c.out ≡ None → IsOver c.schema c.store.regions q.parts → (h : Hidden) → Facts c h
+ready-dropped : (c : Client) (q : Query) (m : model.Query) → IsMeaning c.schema q m → c.out ≡ None → LeavesRest c.schema c.store.regions q.parts → IsOver c.schema c.store.regions q.parts → (h : Hidden) → Facts c h
     → IsReady c m h (map (drop_of Pieces) c.store.regions) []
-ready-dropped c q m is out over h f = by c.store.regions refl
+ready-dropped c q m is out left over h f = by c.store.regions refl
   where
     by : (gs : List Region) → c.store.regions ≡ gs → IsReady c m h (map (drop_of Pieces) c.store.regions) []
     by [] none =
@@ -305,6 +277,7 @@ ready-dropped c q m is out over h f = by c.store.regions refl
       facts = facts-dropped c h f out;
       over = λ db here. (
         emptied (map (drop_of Pieces) c.store.regions) (record {
+          left = left-here c q m h is f left;
           heavy = load-heavy c h q m is f over;
           all = drops_all c.schema h.marks h.queries Pieces c.store.regions (have-first c.schema f.tables) f.store.each f.store.order f.keeps;
           some = subst (λ rs. 0 < length (map (drop_of Pieces) rs)) (sym some) (omega arith);
@@ -332,19 +305,19 @@ whole-rects schema q m is =
     omega (arith, entries, few, sum)
 
 -- all of a query, once all is dropped
-pub may-ask-whole : (c : Client) (q : Query) (m : model.Query) → c.out ≡ None → IsMeaning c.schema q m → IsOver c.schema c.store.regions q.parts → Stands c → MayAsk (with_regions c []) q m (whole_asks q.parts)
-may-ask-whole c q m out is over stands = record {
+pub may-ask-whole : (c : Client) (q : Query) (m : model.Query) → c.out ≡ None → IsMeaning c.schema q m → LeavesRest c.schema c.store.regions q.parts → Stands c → MayAsk (with_regions c []) q m (whole_asks q.parts)
+may-ask-whole c q m out is left stands = record {
   out = out;
   is = is;
   rest = asks-whole c.schema q.parts (have-first c.schema stands.1.tables);
   along = whole-along c.schema q.parts;
-  some = some-asked c.schema c.store.regions q.parts over;
+  some = λ none. left-here c q m stands.0 is stands.1 left (none-whole c.schema stands.0.marks q.parts m.parts is.query.parts none);
   few = whole-rects c.schema q m is;
 }
 
-pub query-drops : (c : Client) (q : Query) (m : model.Query) (drops : List Mark) (new : Client) (step : QueryStep) → c.out ≡ None → IsMeaning c.schema q m → IsOver c.schema c.store.regions q.parts
-    → drops ≡ map (drop_of Pieces) c.store.regions → IsSent (with_regions c []) q (whole_asks q.parts) drops new step → Stands c → Queries c m new step
-query-drops c q m drops new step out is over drops_are sent stands =
-    let may = may-ask-whole c q m out is over stands in
-    query-sent c q m (whole_asks q.parts) (map (drop_of Pieces) c.store.regions) [] may new step (ready-dropped c q m is out over)
+pub query-drops : (c : Client) (q : Query) (m : model.Query) (drops : List Mark) (new : Client) (step : QueryStep) → c.out ≡ None → c.cut ≡ false → IsMeaning c.schema q m → LeavesRest c.schema c.store.regions q.parts
+    → IsOver c.schema c.store.regions q.parts → drops ≡ map (drop_of Pieces) c.store.regions → IsSent (with_regions c []) q (whole_asks q.parts) drops new step → Stands c → Queries c m new step
+query-drops c q m drops new step out up is left over drops_are sent stands =
+    let may = may-ask-whole c q m out is left stands in
+    query-sent c q m (whole_asks q.parts) (map (drop_of Pieces) c.store.regions) [] may new step (ready-dropped c q m is out left over) up
     (subst (λ ms. IsSent (with_regions c []) q (whole_asks q.parts) ms new step) drops_are sent) stands

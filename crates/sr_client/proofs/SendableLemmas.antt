@@ -35,7 +35,7 @@ use Rattle.sr_client.specs.Arriving.{is_empty}
 use Rattle.sr_client.specs.Bound.{IsMeaning}
 use Rattle.sr_client.specs.Cutting.{EndWith, AsksEnd}
 use Rattle.sr_client.specs.Sends.{IsWellSent, IsOfFormat, QuerySendsWell, holding_of, first_of}
-use Rattle.sr_client.specs.Sending.{IsSent, is_down, is_sent}
+use Rattle.sr_client.specs.Sending.{IsSent}
 use Rattle.sr_client.specs.Stands.{Hidden, Facts, Stands, asks_short}
 use Rattle.sr_client.specs.declared.client.Client.{Client}
 use Rattle.sr_client.specs.declared.steps.QueryStep.{QueryStep}
@@ -139,11 +139,11 @@ ask-sent schema client number fresh marks queries q m asks tables is rest some s
 -- what the step of a query sends
 pub sent-well : (c : Client) (q : Query) (m : model.Query) (asks : List AskPart) (drops : List Mark) (h : Hidden) (new : Client) (step : QueryStep) → MayAsk c q m asks → Facts c h → IsSent c q asks drops new step
     → QuerySendsWell c.schema c.id step
-sent-well c q m asks drops h new step may f (is_down down) = tt
-sent-well c q m asks drops h new step may f (is_sent up) =
-    ask-sent c.schema c.id c.next_request (is_empty c.store.regions) h.marks (counted h.counted_from h.queries ++ m ∷ []) q m asks f.tables may.is (are-asked c q m asks may h f) may.some
+sent-well c q m asks drops h new step may f sent =
+    subst (QuerySendsWell c.schema c.id) (sym sent.told)
+    (ask-sent c.schema c.id c.next_request (is_empty c.store.regions) h.marks (counted h.counted_from h.queries ++ m ∷ []) q m asks f.tables may.is (are-asked c q m asks may h f) may.some
     (list_all-append asks_short (counted h.counted_from h.queries) (m ∷ []) ∙ both_true (counted-short h.counted_from h.queries f.short) (both_true (meaning-short c.schema q m may.is) refl))
-    (ask-ends c q m asks may h f) may.few
+    (ask-ends c q m asks may h f) may.few)
 
 -- ---- writes
 

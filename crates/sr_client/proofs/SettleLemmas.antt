@@ -5,7 +5,7 @@ use Rattle.std.specs.List.{list_all, All, Contains}
 use Rattle.std.proofs.lemmas.List.Elements.{All-nil, All-weaker, All-contains}
 use Rattle.std.proofs.lemmas.Bool.{eqb-true, ltb-false}
 use Rattle.sr_cell.specs.declared.cause.Cause.{Cause}
-use Rattle.sr_cell.specs.declared.cause.Cause.TheVariants.{Lapsed, Fresh}
+use Rattle.sr_cell.specs.declared.cause.Cause.TheVariants.{Lapsed}
 use Rattle.sr_cell.specs.declared.fault.Fault.{Fault}
 use Rattle.sr_cell.specs.declared.table.Table.{Table}
 use Rattle.sr_message.specs.declared.message.Message.{Message}
@@ -27,7 +27,7 @@ use Rattle.sr_session.specs.Clients as session
 use Rattle.sr_session.specs.Clients.{mirror_of, settled}
 use Rattle.sr_session.specs.Misfits.{misfit, or_else, is_number, is_resume, is_write, known}
 use Rattle.sr_session.specs.Regions.{AreAt, after_messages}
-use Rattle.sr_session.specs.Rules.{DropsFor, DropsWelcomed, counted, is_welcomed, refused_write, written}
+use Rattle.sr_session.specs.Rules.{DropsFor, DropsWelcomed, cause_afresh, counted, is_welcomed, refused_write, written}
 use Rattle.sr_session.specs.Rules as rules
 use Rattle.sr_session.specs.Sessions.{Database, newest, tables_of}
 use Rattle.sr_session.specs.Walks.{AskOut, Comes, Mirror, Passes, Request, ResumeOut, Walks, WriteOut, has_lapse, version_after, walked, welcomed}
@@ -328,7 +328,7 @@ module _ (c : Client) (number version : ℕ) (kept : Bool) (marks : List Mark) (
       where
         by : (kept : Bool) → WelcomesTo kept c marks gs → IsLeft c h marks gs
         by true s = settles-left c h f values (has_lapse c.laid) marks gs refl s
-        by false (none, are) = subst (λ gs. IsLeft c h marks gs) (sym none) (subst (λ ms. IsLeft c h ms []) (sym are) (none-left c h Fresh f))
+        by false (none, are) = subst (λ gs. IsLeft c h marks gs) (sym none) (subst (λ ms. IsLeft c h ms []) (sym are) (none-left c h (cause_afresh (has_lapse c.laid)) f))
 
     module _ (db : Database) (here : IsHere db c) (t : Truly (on c db) (past_of c h) (Welcome number version kept)) where
       out : out_of h.meaning c.out ≡ Some (ResumeOut number)
@@ -361,7 +361,7 @@ module _ (c : Client) (number version : ℕ) (kept : Bool) (marks : List Mark) (
               )
           by false (none, are) walks = (
             subst (λ ms. DropsWelcomed false (basis_of (on c db) c.store.limits) version (past_of c h) ms) (sym are)
-                (drops_all c.schema h.marks h.queries Fresh c.store.regions (have-first c.schema f.tables) f.store.each f.store.order f.keeps),
+                (drops_all c.schema h.marks h.queries (cause_afresh (has_lapse c.laid)) c.store.regions (have-first c.schema f.tables) f.store.each f.store.order f.keeps),
             subst (AreTrueOf (told_of (tables_of db version))) (sym none) (All-nil (IsTrueOf (told_of (tables_of db version)))),
           )
 

@@ -5,7 +5,7 @@ use Rattle.sr_message.specs.declared.message.Message.TheVariants.{Write}
 use Rattle.sr_model.specs.Queries.{Query}
 use Rattle.sr_session.specs.Rules.{number_of, write_busy, write_down, write_sends}
 use Rattle.sr_session.specs.Rules as rules
-use Rattle.sr_session.specs.Walks.{AreLaid, Request, WriteOut}
+use Rattle.sr_session.specs.Walks.{AreLaid, WriteOut}
 use Rattle.sr_client.specs.declared.client.Client.{Client}
 use Rattle.sr_client.specs.declared.client.Request as code
 use Rattle.sr_client.specs.declared.client.Request.TheVariants as request
@@ -33,7 +33,7 @@ write-busy c sql number request stands out number_is = writes-by c c sql (Busy n
 
 pub write-over-cut : (c : Client) (sql : List ℕ) → Stands c → c.out ≡ None → c.cut ≡ true → Writes c sql c (Down c.cuts)
 write-over-cut c sql stands out down = writes-by c c sql (Down c.cuts) (λ h f. record {
-  outcome = rules.Down c.cuts [];
+  outcome = rules.Down c.cuts;
   next = past_of c h;
   is = refl;
   link = refl;

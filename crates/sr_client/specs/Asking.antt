@@ -20,6 +20,12 @@ AsksRest schema regions parts asks =
     (marks : List Mark) (stamps : Stamps) (meant : List model.Part) → Keeps schema (is_held marks) stamps regions
     → AllZip (IsPart schema) parts meant → IsTrue (list_all (is_sound_part schema) meant) → Asks schema marks meant asks
 
+-- for all of them something is left to ask
+abbrev pub LeavesRest : List Table → List Region → List Part → Type 0
+LeavesRest schema regions parts =
+    (marks : List Mark) (stamps : Stamps) (meant : List model.Part) → Keeps schema (is_held marks) stamps regions
+    → AllZip (IsPart schema) parts meant → IsTrue (list_all (is_sound_part schema) meant) → Asks schema marks meant [] → ⊥
+
 -- the parts stand for sound ones
 abbrev pub AreMeant : List Table → List Part → Type 0
 AreMeant schema parts = (meant : List model.Part) × AllZip (IsPart schema) parts meant × IsTrue (list_all (is_sound_part schema) meant)

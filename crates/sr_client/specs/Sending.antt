@@ -1,5 +1,5 @@
 -- An ask that is sent.
-use Rattle.std.specs.Prelude.{◌≡◌, ◌+◌, true, false, List, Some}
+use Rattle.std.specs.Prelude.{◌≡◌, ◌+◌, List, Some}
 use Rattle.sr_message.specs.declared.message.AskPart.{AskPart}
 use Rattle.sr_message.specs.declared.message.Message.TheVariants.{Ask}
 use Rattle.sr_query.specs.declared.query.Query.{Query}
@@ -9,7 +9,7 @@ use Rattle.sr_client.specs.declared.client.AskOut.{AskOut}
 use Rattle.sr_client.specs.declared.client.Client.{Client}
 use Rattle.sr_client.specs.declared.client.Request.TheVariants as request
 use Rattle.sr_client.specs.declared.steps.QueryStep.{QueryStep}
-use Rattle.sr_client.specs.declared.steps.QueryStep.TheVariants.{Asked, Down}
+use Rattle.sr_client.specs.declared.steps.QueryStep.TheVariants.{Asked}
 
 -- the ask of these parts of a query, with the client's next numbers
 abbrev pub next_ask : Client → Query → List AskPart → AskOut
@@ -23,7 +23,7 @@ with_out c out = record c { queries = out.query_number; next_request = out.numbe
 abbrev pub asked_step : AskOut → List Mark → QueryStep
 asked_step out drops = Asked out.query_number out.number (Ask out.number out.fresh out.parts) drops
 
--- The ask of these parts is out, unless the link is cut.
-pub data IsSent (c : Client) (q : Query) (asks : List AskPart) (drops : List Mark) : Client → QueryStep → Type 0 where
-  is_down : c.cut ≡ true → IsSent c q asks drops c (Down c.cuts drops)
-  is_sent : c.cut ≡ false → IsSent c q asks drops (with_out c (next_ask c q asks)) (asked_step (next_ask c q asks) drops)
+-- The ask of these parts is out.
+pub record IsSent (c : Client) (q : Query) (asks : List AskPart) (drops : List Mark) (new : Client) (step : QueryStep) : Type 0 where
+  pub out : new ≡ with_out c (next_ask c q asks)
+  pub told : step ≡ asked_step (next_ask c q asks) drops

@@ -1,5 +1,5 @@
 -- What the calls of a client answer, and that it is what the rules allow.
-use Rattle.std.specs.Prelude.{ℕ, ◌+◌, ◌≤◌, Bool, true, false, ◌≡◌, ◌≢◌, List, [], Option, Some, None, Ok}
+use Rattle.std.specs.Prelude.{ℕ, ◌+◌, ◌≤◌, Bool, true, false, ◌≡◌, ◌≢◌, List, Option, Some, None, Ok}
 use Rattle.sr_cell.specs.declared.cause.Cause.TheVariants.{Asked as AskedCause}
 use Rattle.sr_message.specs.declared.message.AskPart.{AskPart}
 use Rattle.sr_message.specs.declared.message.Message.{Message}
@@ -38,7 +38,7 @@ SaysQuery past (QueryAnswered query version rows marks) o = o ≡ Answered query
 SaysQuery past (QueryAsked query request message marks) o =
     (query ≡ next_query past) × (fresh : Bool) × (parts : List AskPart) × (message ≡ Ask request fresh parts) × (o ≡ AskSent marks request fresh parts)
 SaysQuery past (QueryBusy request) o = o ≡ Busy request
-SaysQuery past (QueryDown cut marks) o = o ≡ Down cut marks
+SaysQuery past (QueryDown cut) o = o ≡ Down cut
 
 -- which outcome it is that a message was taken so
 abbrev pub SaysTook : Took → Outcome → Type 0
@@ -57,7 +57,7 @@ abbrev pub SaysWrite : List ℕ → WriteStep → Outcome → Type 0
 SaysWrite sql (WriteIsSent request message) o = (message ≡ Write request sql) × (o ≡ WriteSent request sql)
 SaysWrite sql (WriteSql fault) o = ⊥
 SaysWrite sql (WriteBusy request) o = o ≡ Busy request
-SaysWrite sql (WriteDown cut) o = o ≡ Down cut []
+SaysWrite sql (WriteDown cut) o = o ≡ Down cut
 
 -- which outcome the step of a resume of that past is
 abbrev pub SaysResume : session.Client → ResumeStep → Outcome → Type 0

@@ -7,7 +7,7 @@ ghost use Rattle.sr_message.specs.declared.message.AskPart.{AskPart as TheAskPar
 ghost use Rattle.sr_message.specs.Sizes.{most_rects, count_asked};
 ghost use Rattle.sr_query.specs.Bound.{is_table};
 ghost use Rattle.sr_store.specs.Stores.{IsStore};
-ghost use Rattle.sr_client.specs.Asking.{AsksRest, AreMeant, entry_of, whole_asks};
+ghost use Rattle.sr_client.specs.Asking.{AsksRest, LeavesRest, AreMeant, entry_of, whole_asks};
 ghost use Rattle.sr_client.specs.Cutting.{AreCutAlong, IsOver, grid_of_part};
 
 use sr_cell::list::{Copied, No, NoMemory, Seq};
@@ -23,7 +23,7 @@ use std::alloc::Global;
 const MOST_RECTS: u32 = 16_384;
 
 /// An entry for each part of which some points are not covered by the regions. Refused where there could be more rects than an
-/// ask may have.
+/// ask may have; some point is not covered then.
 pub fn asks_of(
     alloc: Global,
     schema: &Schema,
@@ -38,6 +38,7 @@ pub fn asks_of(
     ensures rects { IfOk result (λ asks. count_asked asks ≤ most_rects) }
     ensures cuts { IfOk result (AreCutAlong schema.now store.now.regions parts.now) }
     ensures over { IsErrOf result (Refused (record {})) → IsOver schema.now store.now.regions parts.now }
+    ensures over_left { IsErrOf result (Refused (record {})) → LeavesRest schema.now store.now.regions parts.now }
 {
     let mut asks = Seq::new(alloc);
     let mut room = MOST_RECTS;
@@ -82,6 +83,7 @@ fn rest_of(
     ensures grid { IfOk result (λ asks. count_asked asks ≤ grid_of_part schema.now store.now.regions part.now) }
     ensures cuts { IfOk result (AreCutAlong schema.now store.now.regions (part.now ∷ [])) }
     ensures over { IsErrOf result (Refused (record {})) → room < grid_of_part schema.now store.now.regions part.now }
+    ensures over_left { IsErrOf result (Refused (record {})) → LeavesRest schema.now store.now.regions (part.now ∷ []) }
 {
     let table = &schema.as_slice()[part.table as usize];
     let cover = store.cover_near(alloc, part)?;

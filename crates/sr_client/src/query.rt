@@ -1,9 +1,9 @@
 //! What a client does with a query.
-ghost use Rattle.std.specs.Prelude.{◌≡◌, ℕ, ◌+◌, ◌<◌, ◌≤◌, ◌^◌, [], length, None, IfOk, OnErr, IsTrue};
+ghost use Rattle.std.specs.Prelude.{◌≡◌, ℕ, ◌+◌, ◌<◌, ◌≤◌, ◌^◌, false, [], length, None, IfOk, OnErr, IsTrue};
 ghost use Rattle.sr_message.specs.declared.message.Message.TheVariants.{Ask as AskMessage};
 ghost use Rattle.sr_message.specs.Sizes.{most_rects, count_asked};
 ghost use Rattle.sr_model.specs.Queries.{Query as TheQuery};
-ghost use Rattle.sr_client.specs.Asking.{AsksRest};
+ghost use Rattle.sr_client.specs.Asking.{AsksRest, LeavesRest};
 ghost use Rattle.sr_client.specs.Bound.{IsMeaning};
 ghost use Rattle.sr_client.specs.Cutting.{AreCutAlong, IsOver};
 ghost use Rattle.sr_client.specs.Sending.{next_ask, IsSent};
@@ -69,12 +69,20 @@ impl Client {
             Ok(asks) => {
                 if asks.is_empty() {
                     self.answer_now(alloc, &query)
+                } else if self.cut {
+                    Ok(QueryStep::Down { cut: self.cuts })
                 } else {
                     self.send_ask(alloc, query, asks, Seq::new(alloc))
                 }
             }
-            Err(No::Refused(_)) => self.drop_and_ask(alloc, query),
             Err(No::NoMemory) => Err(NoMemory),
+            Err(No::Refused(_)) => {
+                if self.cut {
+                    Ok(QueryStep::Down { cut: self.cuts })
+                } else {
+                    self.drop_and_ask(alloc, query)
+                }
+            }
         }
     }
 
@@ -116,7 +124,9 @@ impl Client {
         requires stands { Stands self.old }
         requires idle { self.old.out ≡ None }
         requires meant { (meaning : TheQuery) × IsMeaning self.old.schema query meaning }
+        requires up { self.old.cut ≡ false }
         requires over { IsOver self.old.schema self.old.store.regions query.parts }
+        requires left { LeavesRest self.old.schema self.old.store.regions query.parts }
         requires room { drawn self.old + 2 < 2 ^ 63 }
         ensures queries { (meaning : TheQuery) → IsMeaning self.old.schema query meaning → IfOk result (Queries self.old meaning self.new) }
         ensures sends { IfOk result (QuerySendsWell self.old.schema self.old.id) }
@@ -131,7 +141,7 @@ impl Client {
         self.send_ask(alloc, query, asks, drops)
     }
 
-    /// Sends the ask of these parts of a query, with the next numbers, unless the link is cut. It is fresh where nothing is held.
+    /// Sends the ask of these parts of a query, with the next numbers. It is fresh where nothing is held.
     fn send_ask(
         &mut self,
         alloc: Global,
@@ -147,12 +157,6 @@ impl Client {
         ensures cuts { self.new.cuts ≡ self.old.cuts }
         ensures numbers_left { OnErr result (KeepsNumbers self.old self.new) }
     {
-        if self.cut {
-            return Ok(QueryStep::Down {
-                cut: self.cuts,
-                marks: drops,
-            });
-        }
         let out = ask_out(self, query, asks);
         let message = message_of(alloc, &out)?;
         let query_number = out.query_number;

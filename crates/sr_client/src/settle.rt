@@ -7,6 +7,7 @@ ghost use Rattle.sr_store.specs.Stores.{drop_of};
 ghost use Rattle.sr_store.specs.Fitted.{IsFitted};
 ghost use Rattle.sr_session.specs.Regions.{after_messages};
 ghost use Rattle.sr_session.specs.Walks.{has_lapse, version_after};
+ghost use Rattle.sr_session.specs.Rules.{cause_afresh};
 ghost use Rattle.sr_client.specs.Sends.{TookSendsWell};
 ghost use Rattle.sr_client.specs.Settling.{settled_at, SettlesTo, WelcomesTo};
 ghost use Rattle.sr_client.specs.Stands.{Stands, Stays, KeepsNumbers, IsFit, drawn};
@@ -128,7 +129,8 @@ impl Client {
         if kept {
             self.settle(alloc, version)
         } else {
-            self.settle_empty(alloc, Cause::Fresh, version)
+            let cause = cause_afresh(self.laid.as_slice());
+            self.settle_empty(alloc, cause, version)
         }
     }
 
@@ -183,6 +185,17 @@ impl Client {
         self.out = None;
         self.version = version;
         Ok(marks)
+    }
+}
+
+/// Why all is dropped where a session begins afresh: a Lapse that was laid by is applied first.
+fn cause_afresh(laid: &[Message]) -> Cause
+    ensures { result ≡ cause_afresh (has_lapse laid.now) }
+{
+    if has_lapse(laid) {
+        Cause::Lapsed
+    } else {
+        Cause::Fresh
     }
 }
 

@@ -27,7 +27,6 @@ pub enum QueryStep {
     },
     Down {
         cut: u64,
-        marks: Marks,
     },
 }
 

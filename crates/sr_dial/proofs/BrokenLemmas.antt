@@ -59,7 +59,7 @@ most-part ms m count = record {
 pub one-sent : (o : Outcome) → (sent_of o ≡ []) ⊎ ((m : Message) × (sent_of o ≡ m ∷ []))
 one-sent (QueryRefused fault) = inl refl
 one-sent (Busy request) = inl refl
-one-sent (Down cut drops) = inl refl
+one-sent (Down cut) = inl refl
 one-sent (Answered query version rows marks) = inl refl
 one-sent (Evicted drop) = inl refl
 one-sent (NoSuchClass count) = inl refl

@@ -13,18 +13,19 @@ use Rattle.sr_query.specs.Bound.{is_table}
 use Rattle.sr_wire.specs.declared.bad_frame.BadFrame.{BadFrame}
 use Rattle.sr_wire.specs.Spelling.{spelling}
 use Rattle.sr_session.specs.Clients.{Client}
+use Rattle.sr_session.specs.Headline.{KeepsToBudgets}
 use Rattle.sr_session.specs.Misfits.{misfit}
 use Rattle.sr_session.specs.Rules.{Basis, Outcome, Laid, Before, as_it_is, emptied, QueryStep, query_refused, query_busy, query_answered, query_down, query_asks, answering_now, answering_then, TakeStep, lays, applies, forgets, answers, asks_once_more, written, refused_write, is_welcomed, EvictStep, evict_busy, evicts_none, evicts, WriteStep, write_busy, write_down, write_sends, already_cut, cuts, already_up, resumes}
 use Rattle.sr_session.specs.Sessions.{Database, tables_of}
 use Rattle.sr_session.proofs.NeverLemmas.{never-refused}
 use Rattle.sr_session.specs.Bases.{basis_of}
-use Rattle.sr_links.specs.Answers.{AreTrueAnswers, AsksKeys}
+use Rattle.sr_links.specs.Answers.{AreTrueSteps, AsksKeys}
 use Rattle.sr_links.specs.Honest.{Server, Input, IsPrefix, Rests, frames_of, sent_for, server_after, server_at_last}
 use Rattle.sr_links.specs.Steps.{Step, Standing, Deed, Queried, Wrote, Evicted, Took, WasCut, Resumed, too_long, writes, Does, IsFair, AreFair, OnOne, code_after, given_of, past_after, requests_of}
 use Rattle.sr_links.proofs.AnswerLemmas.{served-answers-are-true, answered-at}
 use Rattle.sr_links.proofs.DatabaseLemmas.{last-more, sound-before}
 use Rattle.sr_links.proofs.MendLemmas.{closed-runs}
-use Rattle.sr_links.proofs.TalkLemmas.{AreTrue, IsTrueStep}
+use Rattle.sr_links.proofs.TalkLemmas.{AreLawful, IsLawful}
 use Rattle.sr_talk.specs.Calls.{Call, Done, Made, Do, Delivered, AreCalls, all_done, done_in, steps_in, talk_of}
 use Rattle.sr_talk.specs.Serving.{spelled}
 use Rattle.sr_talk.proofs.TalkLemmas.{spelled-append}
@@ -49,11 +50,7 @@ module _ (b : Basis) where
   query-later text c o new (query_busy q request out) = (omega arith, tt)
   query-later text c o new (query_answered q rows marks after out asks are step) =
       let at = answered-at b (answering_now c q) c marks after step in (omega (arith, at), sym at)
-  query-later text c o new (query_down q drops old ask others out before down asks) = by drops old before
-    where
-      by : (drops : List Mark) (old : Client) → Before b q c drops old → (c.version ≤ old.version) × Unit {0}
-      by drops old as_it_is = (omega arith, tt)
-      by drops old (emptied ds first) = (omega arith, tt)
+  query-later text c o new (query_down q out down left) = (omega arith, tt)
   query-later text c o new (query_asks q drops old ask others fresh out before up asks few mode) = by drops old before
     where
       by : (drops : List Mark) (old : Client) → Before b q c drops old → (c.version ≤ old.version) × Unit {0}
@@ -92,14 +89,14 @@ module _ (b : Basis) where
   does-later Resumed c o new (already_up up) = (omega arith, tt)
   does-later Resumed c o new (resumes m down is) = (omega arith, tt)
 
-never-fall : {C : Type 0} (limits : Limits) (all : Database) (c : Client) (steps : List (Step C)) → AreTrue limits all c steps → NeverFall c steps
-never-fall {C} limits all c [] trues = tt
+never-fall : {C : Type 0} (limits : Limits) (all : Database) (c : Client) (steps : List (Step C)) → AreLawful limits all c steps → NeverFall c steps
+never-fall {C} limits all c [] lawful = tt
 never-fall {C} limits all c (step ∷ steps) (one, more) =
     let (later, names) = does-later (basis_of one.db limits) step.deed c step.outcome step.past one.does in (later, names, never-fall limits all step.past steps more)
 
-last-true : {C : Type 0} (limits : Limits) (all : Database) (c : Client) (steps : List (Step C)) (step : Step C) → AreTrue limits all c (steps ++ step ∷ []) → IsTrueStep limits all (past_after c steps) step
-last-true {C} limits all c [] step (one, more) = one
-last-true {C} limits all c (x ∷ steps) step (one, more) = last-true limits all x.past steps step more
+last-lawful : {C : Type 0} (limits : Limits) (all : Database) (c : Client) (steps : List (Step C)) (step : Step C) → AreLawful limits all c (steps ++ step ∷ []) → IsLawful limits all (past_after c steps) step
+last-lawful {C} limits all c [] step (one, more) = one
+last-lawful {C} limits all c (x ∷ steps) step (one, more) = last-lawful limits all x.past steps step more
 
 -- ---- over tables of one schema
 
@@ -131,15 +128,15 @@ module _ {C : Type 0} (IsOf : Standing C) (keys : AsksKeys IsOf) (limits : Limit
     keys-here schema e past rows is = keys schema e past rows is.0
 
     module _ (are : AreCalls c calls) (heard : AreHeard c (all_done calls)) (fair : AreFair (Here own IsOf) limits code c (steps_in (all_done calls))) where
-      pub are-true : AreTrue limits (server_at_last s pieces).database c (steps_in (all_done calls))
-      are-true = subst (AreTrue limits (server_at_last s pieces).database c) (talk-steps calls)
+      pub are-lawful : AreLawful limits (server_at_last s pieces).database c (steps_in (all_done calls))
+      are-lawful = subst (AreLawful limits (server_at_last s pieces).database c) (talk-steps calls)
           (closed-runs (Here own IsOf) keys-here limits (map talk_of calls) pieces s code c h.closed h.behind h.some h.sound last-tables rests-here
           (are-talks (Here own IsOf) limits code c calls are heard fair) (are-honest s c pieces calls heard h.explained))
 
-      pub true-answers : AreTrueAnswers (server_at_last s pieces).database c (steps_in (all_done calls))
-      true-answers = subst (AreTrueAnswers (server_at_last s pieces).database c) (talk-steps calls)
+      pub true-steps : KeepsToBudgets (basis_of s.database limits) c → AreTrueSteps (server_at_last s pieces).database limits c (steps_in (all_done calls))
+      true-steps keeps = subst (AreTrueSteps (server_at_last s pieces).database limits c) (talk-steps calls)
           (served-answers-are-true (Here own IsOf) limits s code c (map talk_of calls) pieces keys-here h.closed h.behind
-          (sound-before s.database (server_at_last s pieces).database h.some (last-more s pieces h.some).grows h.sound) (subst (λ schema. list_all is_table schema ≡ true) (sym h.schema_is) tables) h.sound rests-here
+          (sound-before s.database (server_at_last s pieces).database h.some (last-more s pieces h.some).grows h.sound) (subst (λ schema. list_all is_table schema ≡ true) (sym h.schema_is) tables) h.sound rests-here keeps
           (are-talks (Here own IsOf) limits code c calls are heard fair) (are-honest s c pieces calls heard h.explained))
 
   -- ---- a message more, which is refused
@@ -209,9 +206,9 @@ module _ {C : Type 0} (IsOf : Standing C) (keys : AsksKeys IsOf) (limits : Limit
     longer-steps : steps_in (all_done (earlier ++ longer ∷ [])) ≡ before ++ bad_step ∷ []
     longer-steps = ap (λ ds. steps_in ds) (all-step earlier call step call.told r.rest) ∙ steps-append (all_done (earlier ++ call ∷ [])) (step ∷ [])
 
-    longer-true : AreTrue limits (server_at_last s pieces).database c (before ++ bad_step ∷ [])
-    longer-true = subst (AreTrue limits (server_at_last s pieces).database c) longer-steps
-        (are-true (earlier ++ longer ∷ [])
+    longer-lawful : AreLawful limits (server_at_last s pieces).database c (before ++ bad_step ∷ [])
+    longer-lawful = subst (AreLawful limits (server_at_last s pieces).database c) longer-steps
+        (are-lawful (earlier ++ longer ∷ [])
         (record { schema_is = h.schema_is; some = h.some; sound = h.sound; closed = h.closed; behind = h.behind; explained = more-explained r.message r.rest now code_now call r.next s pieces earlier h.explained })
         (more-calls r.message r.rest now code_now c earlier call are)
         (subst (AreHeard c) (sym (all-step earlier call step call.told r.rest)) (heard-append c (all_done (earlier ++ call ∷ [])) (step ∷ []) heard ((r.waits, r.spells), tt)))
@@ -219,15 +216,15 @@ module _ {C : Type 0} (IsOf : Standing C) (keys : AsksKeys IsOf) (limits : Limit
 
     pub never-bad : ⊥
     never-bad =
-        let is = last-true limits (server_at_last s pieces).database c before bad_step longer-true in
+        let is = last-lawful limits (server_at_last s pieces).database c before bad_step longer-lawful in
         not-none is.db.schema (sym is.grows.schema ∙ ((last-more s pieces h.some).grows.schema ∙ h.schema_is)) is.fits
 
 -- ---- a run
 
 pub honest-runs-are-true : {C : Type 0} (IsOf : Standing C) → HonestRunsAreTrue IsOf
-honest-runs-are-true {C} IsOf k s pieces code c address lines script ended old new before after keys tables rests deeds run h = record {
-  answers = true-answers IsOf keys k.limits k.schema tables s pieces code c rests (run.ran.earlier ++ run.ran.last ∷ []) h run.ran.are heard fair;
-  versions = never-fall k.limits (server_at_last s pieces).database c (steps_in (all_done (run.ran.earlier ++ run.ran.last ∷ []))) (are-true IsOf keys k.limits k.schema tables s pieces code c rests (run.ran.earlier ++ run.ran.last ∷ []) h run.ran.are heard fair);
+honest-runs-are-true {C} IsOf k s pieces code c address lines script ended old new before after keys tables rests keeps deeds run h = record {
+  steps = true-steps IsOf keys k.limits k.schema tables s pieces code c rests (run.ran.earlier ++ run.ran.last ∷ []) h run.ran.are heard fair keeps;
+  versions = never-fall k.limits (server_at_last s pieces).database c (steps_in (all_done (run.ran.earlier ++ run.ran.last ∷ []))) (are-lawful IsOf keys k.limits k.schema tables s pieces code c rests (run.ran.earlier ++ run.ran.last ∷ []) h run.ran.are heard fair);
   accepted = by ended run.ran.ends;
 }
   where

@@ -3,14 +3,17 @@ use Rattle.std.specs.Prelude.{ℕ, true, ◌<◌, ◌≤◌, List, [], ◌∷◌
 use Rattle.std.specs.List.{list_all}
 use Rattle.sr_cell.specs.declared.table.Table.{Table}
 use Rattle.sr_io.specs.Told.{Linking, Writing}
+use Rattle.sr_policy.specs.declared.policy.Limits.{Limits}
 use Rattle.sr_query.specs.Bound.{is_table}
 use Rattle.sr_reader.specs.declared.script.EventLine.{EventLine}
 use Rattle.sr_wire.specs.Spelling.{has_spelling}
+use Rattle.sr_session.specs.Bases.{basis_of}
 use Rattle.sr_session.specs.Clients.{Client}
+use Rattle.sr_session.specs.Headline.{KeepsToBudgets}
 use Rattle.sr_session.specs.Laws.{IsSound}
 use Rattle.sr_session.specs.Rules.{Outcome, Answered}
 use Rattle.sr_session.specs.Sessions.{Database}
-use Rattle.sr_links.specs.Answers.{AreTrueAnswers, AsksKeys}
+use Rattle.sr_links.specs.Answers.{AreTrueSteps, AsksKeys}
 use Rattle.sr_links.specs.Honest.{Server, Input, IsPrefix, AreClosedBehind, Rests, frames_of, sent_for, server_after, server_at_last}
 use Rattle.sr_links.specs.Steps.{Standing, Step, given_of, requests_of}
 use Rattle.sr_talk.specs.Calls.{Call, Task, all_done, done_in, steps_in}
@@ -61,16 +64,17 @@ abbrev pub NeverFall : {C : Type 0} → Client → List (Step C) → Type 0
 NeverFall {C} c [] = Unit {0}
 NeverFall {C} c (step ∷ steps) = (c.version ≤ step.past.version) × NamesVersion step.outcome step.past × NeverFall step.past steps
 
--- Each answer has the rows of its query on the tables of the version that it names, versions never fall, and nothing that came is
--- refused.
-pub record IsTrue {C : Type 0} (db : Database) (c : Client) (calls : List (Call C)) (ended : Ending) : Type 0 where
-  pub answers : AreTrueAnswers db c (steps_in (all_done calls))
+-- Each step is true: an answer has the rows of its query on the tables of the version that it names, an ask asks just what is not covered,
+-- a covered query sends nothing, and the client keeps to its budgets. Versions never fall, and nothing that came is refused.
+pub record IsTrue {C : Type 0} (db : Database) (limits : Limits) (c : Client) (calls : List (Call C)) (ended : Ending) : Type 0 where
+  pub steps : AreTrueSteps db limits c (steps_in (all_done calls))
   pub versions : NeverFall c (steps_in (all_done calls))
   pub accepted : status_of ended ≢ 8
 
--- So it is of a run over any number of calls, for any client whose link is cut, and that has the rows of its version on the server.
+-- So it is of a run over any number of calls, for any client whose link is cut, and that has the rows of its version on the server, within
+-- its budgets.
 abbrev pub HonestRunsAreTrue : {C : Type 0} → Standing C → Type 0
 HonestRunsAreTrue {C} IsOf = (k : Setting) (s : Server) (pieces : List (List Input)) (code : C) (c : Client) (address : List ℕ) (lines : List EventLine) (script : List (ℕ × Task)) (ended : Ending) (old new : Linking) (before after : Writing)
-    → AsksKeys IsOf → list_all is_table k.schema ≡ true → Rests IsOf s.database code c → AreTasks k.schema lines script
+    → AsksKeys IsOf → list_all is_table k.schema ≡ true → Rests IsOf s.database code c → KeepsToBudgets (basis_of s.database k.limits) c → AreTasks k.schema lines script
     → (run : RanFairly C IsOf k code c address script ended old new before after) → IsHonest k.schema s pieces (run.ran.earlier ++ run.ran.last ∷ [])
-    → IsTrue (server_at_last s pieces).database c (run.ran.earlier ++ run.ran.last ∷ []) ended
+    → IsTrue (server_at_last s pieces).database k.limits c (run.ran.earlier ++ run.ran.last ∷ []) ended

@@ -6,8 +6,8 @@ use sr_links::laws::Peer;
 use sr_talk::parts::Serves;
 
 /// Over an honest link each answer that a run of `client` writes has the rows of its query on the server's tables at the version that it
-/// names, versions never fall, and nothing that comes is refused: over any number of connections in turn, and whatever versions the
-/// server makes meanwhile.
+/// names, each ask asks just what is not covered, a covered query sends nothing, the client keeps to its budgets, versions never fall, and
+/// nothing that comes is refused: over any number of connections in turn, and whatever versions the server makes meanwhile.
 pub fn honest_runs_are_true<C: Peer>()
     ensures { HonestRunsAreTrue C.is_of }
 {}

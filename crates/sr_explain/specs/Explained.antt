@@ -85,9 +85,10 @@ count_in tables marks queries k = count_by (in_class marks queries k) (rows_at t
 
 -- ---- a query
 
--- Something is held, and with this query the load is too high: all may be dropped before the query asks.
+-- Something is held, something of the query is left to ask, and with it the load is too high: all may be dropped before the query asks.
 pub record MayDropFirst (schema : List Table) (c : Client) (q : Query) : Type 0 where
   pub some : HoldsNothing schema c.marks → ⊥
+  pub left : Asks schema c.marks q.parts [] → ⊥
   pub heavy : IsHeavy schema c.marks [] q (counted c.counted_from (with_query q false c))
 
 -- the marks by which a query asks: none, once all is dropped

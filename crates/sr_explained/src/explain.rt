@@ -25,7 +25,6 @@ use sr_cell::fault::Fault;
 use sr_cell::list::{No, NoMemory, Seq};
 use sr_cell::table::Table;
 use sr_client::client::Client;
-use sr_explain::lines::lines;
 use sr_io::outside::Sink;
 use sr_io::whole::write_all;
 use sr_load::fill::Load;
@@ -33,6 +32,7 @@ use sr_query::query::Query;
 use sr_reader::meaning::query_of;
 use sr_script::line::{TraceLine, TraceLines};
 use sr_script::text::push_line;
+use sr_world::lines::lines_of_explain;
 use sr_world::replay::{RunFault, replay};
 use sr_world::world::{Options, World};
 use std::alloc::Global;
@@ -168,10 +168,5 @@ fn explained_lines(alloc: Global, client: &Client, query: &Query) -> Result<Trac
     ensures { (meaning : TheQuery) → IsMeaning client.now.schema query.now meaning → IfOk result (AreLinesFor client.now (Ok meaning)) }
 {
     let explanation = client.explain(alloc, query)?;
-    let mut lines = lines(alloc, &explanation)?;
-    lines.push(TraceLine::Explained {
-        client: 1,
-        version: explanation.version,
-    })?;
-    Ok(lines)
+    lines_of_explain(alloc, 1, &explanation)
 }

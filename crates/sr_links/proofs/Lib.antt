@@ -3,4 +3,5 @@ pub mod PairLemmas
 pub mod RuleLemmas
 pub mod TalkLemmas
 pub mod MendLemmas
+mod BudgetLemmas
 pub mod AnswerLemmas

@@ -22,7 +22,7 @@ use Rattle.sr_links.specs.Honest.{Server, Input, Version, Frame, CutOff, Answer,
 use Rattle.sr_links.specs.Steps.{Deed, Queried, Wrote, Evicted, Took, WasCut, Resumed, Does, Standing, Step, AreRuled, AreAwaited, OnOne, taken_by, given_of, requests_of, past_after, code_after}
 use Rattle.sr_links.proofs.DatabaseLemmas.{More, Grows, grows-on, after-more, last-more, sound-before}
 use Rattle.sr_links.proofs.RuleLemmas.{IsGreeting, IsOther, AreOthers, AreNoWelcome, plain, IsMute, StaysMute, mute-step, IsResumed, StaysUnheard, HeardIf, unheard-step}
-use Rattle.sr_links.proofs.TalkLemmas.{AreTrue, Ended, one-connection}
+use Rattle.sr_links.proofs.TalkLemmas.{AreLawful, Ended, one-connection}
 
 -- ---- kinds of messages
 
@@ -359,27 +359,27 @@ module _ {C : Type 0} (IsOf : Standing C) (keys : AsksKeys IsOf) (limits : Limit
         database = m.database;
       }
 
-  trues-on : (few many : Database) → Grows few many → (c : Client) (steps : List (Step C)) → AreTrue limits few c steps → AreTrue limits many c steps
-  trues-on few many grows c [] trues = tt
-  trues-on few many grows c (step ∷ steps) (one, others) =
-      (record { db = one.db; grows = grows-on one.db few many one.grows grows; does = one.does; fits = one.fits; within = one.within }, trues-on few many grows step.past steps others)
+  lawful-on : (few many : Database) → Grows few many → (c : Client) (steps : List (Step C)) → AreLawful limits few c steps → AreLawful limits many c steps
+  lawful-on few many grows c [] lawful = tt
+  lawful-on few many grows c (step ∷ steps) (one, others) =
+      (record { db = one.db; sound = one.sound; grows = grows-on one.db few many one.grows grows; before = one.before; does = one.does; fits = one.fits; within = one.within }, lawful-on few many grows step.past steps others)
 
-  trues-append : (all : Database) (c : Client) (steps more : List (Step C)) → AreTrue limits all c steps → AreTrue limits all (past_after c steps) more → AreTrue limits all c (steps ++ more)
-  trues-append all c [] more trues then_more = then_more
-  trues-append all c (step ∷ steps) more (one, others) then_more = (one, trues-append all step.past steps more others then_more)
+  lawful-append : (all : Database) (c : Client) (steps more : List (Step C)) → AreLawful limits all c steps → AreLawful limits all (past_after c steps) more → AreLawful limits all c (steps ++ more)
+  lawful-append all c [] more lawful then_more = then_more
+  lawful-append all c (step ∷ steps) more (one, others) then_more = (one, lawful-append all step.past steps more others then_more)
 
-  record AreTrueThen (db : Database) (code : C) (c : Client) (steps : List (Step C)) : Type 0 where
-    pub trues : AreTrue limits db c steps
+  record AreLawfulThen (db : Database) (code : C) (c : Client) (steps : List (Step C)) : Type 0 where
+    pub lawful : AreLawful limits db c steps
     pub ends : (past_after c steps).cut ≡ true → Rests IsOf db (code_after code steps) (past_after c steps)
 
   pub runs : (talks : List (Talk C)) (pieces : List (List Input)) (s : Server) (code : C) (c : Client) → 0 < length s.database.versions → IsSound (server_at_last s pieces).database
       → list_all is_table (server_at_last s pieces).database.schema ≡ true
-      → Rests IsOf s.database code c → AreTalks IsOf limits code c talks → AreRuled c (steps_of talks) → IsHonest s pieces talks → AreTrue limits (server_at_last s pieces).database c (steps_of talks)
+      → Rests IsOf s.database code c → AreTalks IsOf limits code c talks → AreRuled c (steps_of talks) → IsHonest s pieces talks → AreLawful limits (server_at_last s pieces).database c (steps_of talks)
   runs [] [] s code c some sound tables rest are ruled honest = tt
   runs [] (piece ∷ pieces) s code c some sound tables rest are ruled honest = absurd honest
   runs (talk ∷ talks) [] s code c some sound tables rest are ruled honest = absurd honest
   runs (talk ∷ talks) (piece ∷ pieces) s code c some sound tables rest (is, ends, others) ruled (explains, honest) =
-      trues-append all c (steps_in talk) (steps_of talks) (trues-on here.database all rests_of.grows c (steps_in talk) one.trues)
+      lawful-append all c (steps_in talk) (steps_of talks) (lawful-on here.database all rests_of.grows c (steps_in talk) one.lawful)
       (later (λ is_rest. runs talks pieces here (code_after code (steps_in talk)) (past_after c (steps_in talk)) come.some sound tables is_rest others (ruled-back c (steps_in talk) (steps_of talks) ruled) honest) ends)
     where
       here : Server
@@ -409,16 +409,16 @@ module _ {C : Type 0} (IsOf : Standing C) (keys : AsksKeys IsOf) (limits : Limit
       own : Ended IsOf keys limits mended mended_sound mended_tables e.explains.frames.rest e.explains.given.rest code c (steps_in talk)
       own = one-connection IsOf keys limits (cut_off s) code c talk (mend s.session piece) mended_sound mended_tables refl (uncut-mend s.session piece) some rest is e.explains
 
-      one : AreTrueThen here.database code c (steps_in talk)
+      one : AreLawfulThen here.database code c (steps_in talk)
       one = record {
-        trues = subst (λ db. AreTrue limits db c (steps_in talk)) (sym e.database) own.trues;
+        lawful = subst (λ db. AreLawful limits db c (steps_in talk)) (sym e.database) own.lawful;
         ends = λ cut. subst (λ db. Rests IsOf db (code_after code (steps_in talk)) (past_after c (steps_in talk))) (sym e.database) (own.ends cut);
       }
 
-      later : (Rests IsOf here.database (code_after code (steps_in talk)) (past_after c (steps_in talk)) → AreTrue limits all (past_after c (steps_in talk)) (steps_of talks))
-          → (past_after c (steps_in talk)).cut ≡ true ⊎ (talks ≡ []) → AreTrue limits all (past_after c (steps_in talk)) (steps_of talks)
+      later : (Rests IsOf here.database (code_after code (steps_in talk)) (past_after c (steps_in talk)) → AreLawful limits all (past_after c (steps_in talk)) (steps_of talks))
+          → (past_after c (steps_in talk)).cut ≡ true ⊎ (talks ≡ []) → AreLawful limits all (past_after c (steps_in talk)) (steps_of talks)
       later go_on (inl is_cut) = go_on (one.ends is_cut)
-      later go_on (inr none) = subst (λ ts. AreTrue limits all (past_after c (steps_in talk)) (steps_of ts)) (sym none) tt
+      later go_on (inr none) = subst (λ ts. AreLawful limits all (past_after c (steps_in talk)) (steps_of ts)) (sym none) tt
 
   -- ---- where the session is closed behind each connection
 
@@ -456,12 +456,12 @@ module _ {C : Type 0} (IsOf : Standing C) (keys : AsksKeys IsOf) (limits : Limit
 
   pub closed-runs : (talks : List (Talk C)) (pieces : List (List Input)) (s : Server) (code : C) (c : Client) → s.session ≡ None → AreClosedBehind pieces → 0 < length s.database.versions
       → IsSound (server_at_last s pieces).database → list_all is_table (server_at_last s pieces).database.schema ≡ true
-      → Rests IsOf s.database code c → AreTalks IsOf limits code c talks → IsHonest s pieces talks → AreTrue limits (server_at_last s pieces).database c (steps_of talks)
+      → Rests IsOf s.database code c → AreTalks IsOf limits code c talks → IsHonest s pieces talks → AreLawful limits (server_at_last s pieces).database c (steps_of talks)
   closed-runs [] [] s code c closed behind_each some sound tables rest are honest = tt
   closed-runs [] (piece ∷ pieces) s code c closed behind_each some sound tables rest are honest = absurd honest
   closed-runs (talk ∷ talks) [] s code c closed behind_each some sound tables rest are honest = absurd honest
   closed-runs (talk ∷ talks) (piece ∷ pieces) s code c closed (closes, closes_each) some sound tables rest (is, ends, others) (explains, honest) =
-      trues-append all c (steps_in talk) (steps_of talks) (trues-on here.database all rests_of.grows c (steps_in talk) one.trues)
+      lawful-append all c (steps_in talk) (steps_of talks) (lawful-on here.database all rests_of.grows c (steps_in talk) one.lawful)
       (later (λ is_rest. closed-runs talks pieces here (code_after code (steps_in talk)) (past_after c (steps_in talk)) (ap (λ (s : Server). s.session) b.after) closes_each come.some sound tables is_rest others honest) ends)
     where
       here : Server
@@ -494,13 +494,13 @@ module _ {C : Type 0} (IsOf : Standing C) (keys : AsksKeys IsOf) (limits : Limit
       own : Ended IsOf keys limits last last_sound last_tables b.explains.frames.rest b.explains.given.rest code c (steps_in talk)
       own = one-connection IsOf keys limits s code c talk b.inputs last_sound last_tables closed b.uncut some rest is b.explains
 
-      one : AreTrueThen here.database code c (steps_in talk)
+      one : AreLawfulThen here.database code c (steps_in talk)
       one = record {
-        trues = subst (λ db. AreTrue limits db c (steps_in talk)) (sym same) own.trues;
+        lawful = subst (λ db. AreLawful limits db c (steps_in talk)) (sym same) own.lawful;
         ends = λ cut. subst (λ db. Rests IsOf db (code_after code (steps_in talk)) (past_after c (steps_in talk))) (sym same) (own.ends cut);
       }
 
-      later : (Rests IsOf here.database (code_after code (steps_in talk)) (past_after c (steps_in talk)) → AreTrue limits all (past_after c (steps_in talk)) (steps_of talks))
-          → (past_after c (steps_in talk)).cut ≡ true ⊎ (talks ≡ []) → AreTrue limits all (past_after c (steps_in talk)) (steps_of talks)
+      later : (Rests IsOf here.database (code_after code (steps_in talk)) (past_after c (steps_in talk)) → AreLawful limits all (past_after c (steps_in talk)) (steps_of talks))
+          → (past_after c (steps_in talk)).cut ≡ true ⊎ (talks ≡ []) → AreLawful limits all (past_after c (steps_in talk)) (steps_of talks)
       later go_on (inl is_cut) = go_on (one.ends is_cut)
-      later go_on (inr none) = subst (λ ts. AreTrue limits all (past_after c (steps_in talk)) (steps_of ts)) (sym none) tt
+      later go_on (inr none) = subst (λ ts. AreLawful limits all (past_after c (steps_in talk)) (steps_of ts)) (sym none) tt

@@ -42,7 +42,7 @@ plain-query : (b : Basis) (c : Client) (text : Result Query Fault) (o : Outcome)
 plain-query b c text o new (query_refused fault) = tt
 plain-query b c text o new (query_busy q request out) = tt
 plain-query b c text o new (query_answered q rows marks after out asks are step) = tt
-plain-query b c text o new (query_down q drops old ask others out before down asks) = tt
+plain-query b c text o new (query_down q out down left) = tt
 plain-query b c text o new (query_asks q drops old ask others fresh out before up asks few mode) = (tt, tt)
 
 plain-take : (b : Basis) (c : Client) (m : Message) (o : Outcome) (new : Client) → TakeStep b c m o new → AreOthers (sent_of o)
@@ -101,7 +101,7 @@ mute-query : (b : Basis) (c : Client) (text : Result Query Fault) (o : Outcome) 
 mute-query b c text o new h (query_refused fault) = still-mute o new refl h.cut h.out
 mute-query b c text o new h (query_busy q request out) = still-mute o new refl h.cut h.out
 mute-query b c text o new h (query_answered q rows marks after out asks are step) = mute-answer b _ c o marks new refl h.cut step
-mute-query b c text o new h (query_down q drops old ask others out before down asks) = record { silent = refl; mute = mute-before b q c drops old before h }
+mute-query b c text o new h (query_down q out down left) = still-mute o new refl h.cut h.out
 mute-query b c text o new h (query_asks q drops old ask others fresh out before up asks few mode) =
     let m : IsMute old = mute-before b q c drops old before h in absurd (let wrong : true ≡ false = sym m.cut ∙ up in cc)
 
@@ -146,7 +146,7 @@ unheard-query : (b : Basis) (c : Client) (text : Result Query Fault) (o : Outcom
 unheard-query b c text o new h (query_refused fault) = same-out o c new h refl refl
 unheard-query b c text o new h (query_busy q request out) = same-out o c new h refl refl
 unheard-query b c text o new h (query_answered q rows marks after out asks are step) = absurd (is-busy c h out)
-unheard-query b c text o new h (query_down q drops old ask others out before down asks) = absurd (is-busy c h out)
+unheard-query b c text o new h (query_down q out down left) = absurd (is-busy c h out)
 unheard-query b c text o new h (query_asks q drops old ask others fresh out before up asks few mode) = absurd (is-busy c h out)
 
 unheard-take : (b : Basis) (c : Client) (m : Message) (o : Outcome) (new : Client) → IsResumed c → IsNoWelcome m → TakeStep b c m o new → StaysUnheard o new

@@ -23,16 +23,18 @@ use Rattle.sr_links.proofs.PairLemmas.{pair, at, nothing, IsQuiet, version-keeps
 use Rattle.sr_links.proofs.RuleLemmas.{StaysMute, mute-step}
 
 -- The step went by the rules on the versions up to some moment, and a message that was taken is none that must be refused.
-pub record IsTrueStep {C : Type 0} (limits : Limits) (all : Database) (c : Client) (step : Step C) : Type 0 where
+pub record IsLawful {C : Type 0} (limits : Limits) (all : Database) (c : Client) (step : Step C) : Type 0 where
   pub db : Database
+  pub sound : IsSound db
   pub grows : Grows db all
+  pub before : c.version ≤ newest db
   pub does : Does (basis_of db limits) step.deed c step.outcome step.past
   pub fits : FitsIf db c step.deed
   pub within : step.past.version ≤ newest db
 
-abbrev pub AreTrue : {C : Type 0} → Limits → Database → Client → List (Step C) → Type 0
-AreTrue {C} limits all c [] = Unit {0}
-AreTrue {C} limits all c (step ∷ steps) = IsTrueStep limits all c step × AreTrue limits all step.past steps
+abbrev pub AreLawful : {C : Type 0} → Limits → Database → Client → List (Step C) → Type 0
+AreLawful {C} limits all c [] = Unit {0}
+AreLawful {C} limits all c (step ∷ steps) = IsLawful limits all c step × AreLawful limits all step.past steps
 
 cons-head : {X : Type 0} (x y : X) (xs ys : List X) → x ∷ xs ≡ y ∷ ys → x ≡ y
 cons-head {X} x y xs ys e = cc
@@ -136,7 +138,7 @@ module _ (limits : Limits) (c : Client) (out : c.out ≡ None → ⊥) (requests
 module _ {C : Type 0} (IsOf : Standing C) (keys : AsksKeys IsOf) (limits : Limits) (all : Database) (sound : IsSound all) (tables : list_all is_table all.schema ≡ true) where
   -- what is true of the steps, and what is then, where these requests were not taken, and these messages not given
   pub record Ended (fr gr : List Message) (code : C) (c : Client) (steps : List (Step C)) : Type 0 where
-    pub trues : AreTrue limits all c steps
+    pub lawful : AreLawful limits all c steps
     pub ends : (past_after c steps).cut ≡ true → Rests IsOf all (code_after code steps) (past_after c steps)
     pub free : fr ≡ [] → gr ≡ [] → (past_after c steps).out ≡ None
 
@@ -191,11 +193,12 @@ module _ {C : Type 0} (IsOf : Standing C) (keys : AsksKeys IsOf) (limits : Limit
       → ((db : Database) (c : Client) (l : Connection) → 0 < length db.versions → Stands db (pair c l) → IsDown db c l → Does (basis_of db limits) deed c o new → Stands db (pair new (sends l o)))
       → Downs (record { deed = deed; outcome = o; past = new; code = new_code } ∷ steps)
   down-by deed o new new_code steps go comes fits keeps fr gr db c l code some grows down is fair awaited one =
-      let (does, new_is) = fair.0 db (sound-at db some grows) down.version is (comes db c) in
+      let sound' : IsSound db = sound-at db some grows in
+      let (does, new_is) = fair.0 db sound' down.version is (comes db c) in
       let mute : StaysMute o new = mute-step (basis_of db limits) deed c o new (record { cut = down.down; out = down.out }) awaited.0 one.0 does in
       let after : IsDown db new (sends l o) = is-down db new (sends l o) mute.mute.cut (keeps db c l some (is_down down) down does) in
       let others = go fr gr db new (sends l o) new_code some grows after new_is fair.1 awaited.1 one.1 in
-      record { trues = (record { db = db; grows = grows; does = does; fits = fits db c; within = after.version }, others.trues); ends = others.ends; free = others.free }
+      record { lawful = (record { db = db; sound = sound'; grows = grows; before = down.version; does = does; fits = fits db c; within = after.version }, others.lawful); ends = others.ends; free = others.free }
 
   -- a cut of a link that is cut leaves all as it was
   cut-again : (db : Database) (c : Client) (l : Connection) → 0 < length db.versions → Stands db (pair c l) → IsDown db c l → (o : Outcome) (new : Client) → CutStep c o new → Stands db (pair new (sends l o))
@@ -223,7 +226,7 @@ module _ {C : Type 0} (IsOf : Standing C) (keys : AsksKeys IsOf) (limits : Limit
   down-step Resumed o new new_code steps go = down-quiet Resumed o new new_code steps tt go
 
   down : (steps : List (Step C)) → Downs steps
-  down [] fr gr db c l code some grows d is fair awaited one = record { trues = tt; ends = λ is_cut. rests db c l code grows d is; free = λ no_frame no_message. d.out }
+  down [] fr gr db c l code some grows d is fair awaited one = record { lawful = tt; ends = λ is_cut. rests db c l code grows d is; free = λ no_frame no_message. d.out }
   down (step ∷ steps) fr gr db c l code some grows d is fair awaited one =
       down-step step.deed step.outcome step.past step.code steps (down steps) fr gr db c l code some grows d is fair awaited one
 
@@ -264,13 +267,18 @@ module _ {C : Type 0} (IsOf : Standing C) (keys : AsksKeys IsOf) (limits : Limit
       → (server_after (at db l) inputs).database ≡ all → frames.rest ≡ fr → given.rest ≡ gr → Ended fr gr code c (record { deed = deed; outcome = o; past = new; code = new_code } ∷ steps)
   act deed o new new_code steps go quiet fr gr db c l code inputs some stands is uncut fair awaited one frames given last frames_is given_is =
       let grows : Grows db all = grows-to db l inputs some last in
-      let (does, new_is) = fair.0 db (sound-at db some grows) (stands-version db (pair c l) stands) is (quiet-comes deed quiet db c) in
+      let sound' : IsSound db = sound-at db some grows in
+      let before = stands-version db (pair c l) stands in
+      let (does, new_is) = fair.0 db sound' before is (quiet-comes deed quiet db c) in
       let after : Stands db (pair new (sends l o)) = quiet-keeps limits db c l some stands deed o new quiet does in
       let others = go fr gr db new (sends l o) new_code inputs some after new_is uncut fair.1 awaited.1 one
       (record { rest = frames.rest; all = append_assoc l.to_server (sent_of o) (requests_of steps) ∙ frames.all })
       (record { rest = given.rest; all = given.all ∙ ap (λ t. (t ++ given_of steps) ++ given.rest) (quiet-takes deed quiet) }) last frames_is given_is in
       record {
-        trues = (record { db = db; grows = grows; does = does; fits = quiet-fits deed quiet db c; within = stands-version db (pair new (sends l o)) after }, others.trues);
+        lawful = (
+          record { db = db; sound = sound'; grows = grows; before = before; does = does; fits = quiet-fits deed quiet db c; within = stands-version db (pair new (sends l o)) after },
+          others.lawful,
+        );
         ends = others.ends;
         free = others.free;
       }
@@ -285,7 +293,8 @@ module _ {C : Type 0} (IsOf : Standing C) (keys : AsksKeys IsOf) (limits : Limit
       let sound' : IsSound r.database = sound-at r.database r.more.some grows in
       let open-now = opens r.database c r.line m r.queue r.stands r.first in
       let is' : IsOf r.database.schema code c (tables_of r.database c.version) = still-is db r.database c code r.more.grows (stands-version db (pair c l) stands) is in
-      let (does, new_is) = fair.0 r.database sound' (stands-version r.database (pair c r.line) r.stands) is'
+      let before = stands-version r.database (pair c r.line) r.stands in
+      let (does, new_is) = fair.0 r.database sound' before is'
       (record { connection = r.line; session = open-now.session; queue = r.queue; is_open = open-now.stands; first = r.first }) in
       let next : Connection = sends (record r.line { to_client = r.queue }) o in
       let after : Stands r.database (pair new next) = take-keeps limits r.database c r.line r.more.some r.stands m r.queue o new r.first does in
@@ -295,15 +304,17 @@ module _ {C : Type 0} (IsOf : Standing C) (keys : AsksKeys IsOf) (limits : Limit
       (record { rest = r.rest.rest; all = cons-tail m m (r.queue ++ sent_for (at r.database r.line) r.left) (given_of steps ++ r.rest.rest) e }) last' (r.frames_rest ∙ frames_is) (r.given_rest ∙ given_is) in
       let are : list_all is_table r.database.schema ≡ true = subst (λ schema. list_all is_table schema ≡ true) grows.schema tables in
       record {
-        trues = (
+        lawful = (
           record {
             db = r.database;
+            sound = sound';
             grows = grows;
+            before = before;
             does = does;
             fits = never-refused r.database c r.line open-now.session m r.queue sound' are (keys r.database.schema code c (tables_of r.database c.version) is') open-now.stands r.first;
             within = stands-version r.database (pair new next) after;
           },
-          others.trues,
+          others.lawful,
         );
         ends = others.ends;
         free = others.free;
@@ -313,11 +324,13 @@ module _ {C : Type 0} (IsOf : Standing C) (keys : AsksKeys IsOf) (limits : Limit
   cuts-off : (o : Outcome) (new : Client) (new_code : C) (steps : List (Step C)) → Goes (record { deed = WasCut; outcome = o; past = new; code = new_code } ∷ steps)
   cuts-off o new new_code steps fr gr db c l code inputs some stands is uncut fair awaited one frames given last frames_is given_is =
       let grows : Grows db all = grows-to db l inputs some last in
-      let (does, new_is) = fair.0 db (sound-at db some grows) (stands-version db (pair c l) stands) is tt in
+      let sound' : IsSound db = sound-at db some grows in
+      let before = stands-version db (pair c l) stands in
+      let (does, new_is) = fair.0 db sound' before is tt in
       let after : Stands db (pair new nothing) = cut-keeps limits db c l some stands o new does in
       let d : IsDown db new nothing = is-down db new nothing (is-cut c o new does) after in
       let others = down steps fr gr db new nothing new_code some grows d new_is fair.1 awaited.1 one.1 in
-      record { trues = (record { db = db; grows = grows; does = does; fits = tt; within = d.version }, others.trues); ends = others.ends; free = others.free }
+      record { lawful = (record { db = db; sound = sound'; grows = grows; before = before; does = does; fits = tt; within = d.version }, others.lawful); ends = others.ends; free = others.free }
     where
       is-cut : (c : Client) (o : Outcome) (new : Client) → CutStep c o new → new.cut ≡ true
       is-cut c o new (Rattle.sr_session.specs.Rules.already_cut cut) = cut
@@ -337,7 +350,7 @@ module _ {C : Type 0} (IsOf : Standing C) (keys : AsksKeys IsOf) (limits : Limit
 
   go : (steps : List (Step C)) → Goes steps
   go [] fr gr db c l code inputs some stands is uncut fair awaited one frames given last frames_is given_is = record {
-    trues = tt;
+    lawful = tt;
     ends = λ cut. rests db c l code (grows-to db l inputs some last) (is-down db c l cut stands) is;
     free = λ no_frame no_message. drains inputs db c l some stands uncut
         (sym (append-nil (frames_of inputs)) ∙ sym (ap (λ r. frames_of inputs ++ r) (frames_is ∙ no_frame)) ∙ sym frames.all ∙ append-nil l.to_server)

@@ -10,9 +10,10 @@ pub trait Peer {
     ghost is_of: { List Table → Self → Client → Tables → Type 0 };
 }
 
-/// Over an honest link each answer has the rows of its query at the version that it names, and no message is refused: over any number
-/// of connections, whatever the server did meanwhile, and wherever it closed the session, or never did. The client keeps to its rules
-/// over any link.
+/// Over an honest link each step is true: an answer has the rows of its query at the version that it names, an ask asks just what is not
+/// covered, a covered query sends nothing, the client keeps to its budgets, and no message is refused. So it is over any number of
+/// connections, whatever the server did meanwhile, and wherever it closed the session, or never did. The client keeps to its rules over
+/// any link.
 pub fn answers_are_true<C: Peer>()
     ensures { AnswersAreTrue C.is_of }
 {}

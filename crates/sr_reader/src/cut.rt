@@ -1,13 +1,13 @@
-//! The lines of a script, cut off one by one.
-ghost use Rattle.std.specs.Prelude.{◌≡◌, ◌<◌, ◌≤◌, ◌∷◌, length};
+//! The lines of a file, cut off one by one.
+ghost use Rattle.std.specs.Prelude.{◌≡◌, ◌+◌, ◌<◌, ◌≤◌, ◌∷◌, length, drop};
 ghost use Rattle.sr_lines.specs.Lines.{lines_of};
 ghost use Rattle.sr_reader.specs.Cutting.{first_end, without_return};
 
-/// The first line, without its end, and the lines behind it.
+/// The first line, without its end, and the bytes of the lines behind it.
 #[derive(Clone, Copy)]
-pub(crate) struct Cut<'a> {
-    pub(crate) line: &'a [u8],
-    pub(crate) rest: &'a [u8],
+pub struct Cut<'a> {
+    pub line: &'a [u8],
+    pub rest: &'a [u8],
 }
 
 fn line_end(bytes: &[u8]) -> usize
@@ -33,9 +33,10 @@ fn without_return(line: &[u8]) -> &[u8]
 }
 
 /// Cuts the first line off.
-pub(crate) fn cut_line(bytes: &[u8]) -> Cut<'_>
+pub fn cut_line(bytes: &[u8]) -> Cut<'_>
     requires { 0 < length bytes.now }
     ensures lines { lines_of bytes.now ≡ result.line.now ∷ lines_of result.rest.now }
+    ensures rest { result.rest.now ≡ drop (first_end bytes.now + 1) bytes.now }
     ensures within { length result.line.now ≤ length bytes.now }
     ensures shorter { length result.rest.now < length bytes.now }
 {

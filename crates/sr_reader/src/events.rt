@@ -1,5 +1,5 @@
 //! The events of a script.
-ghost use Rattle.std.specs.Prelude.{◌≡◌, ℕ, List, IsTrue, IfOk};
+ghost use Rattle.std.specs.Prelude.{ℕ, List, IsTrue, IfOk};
 ghost use Rattle.std.specs.List.{list_all};
 ghost use Rattle.sr_lines.specs.Script.{ExecSql, QuerySql, WriteSql, ExplainSql};
 ghost use Rattle.sr_query.specs.Bound.{is_table};
@@ -62,7 +62,7 @@ fn write(alloc: Global, schema: &Schema, client: u8, sql: &str) -> Result<Event,
 }
 
 /// What the words of an event say to the schema.
-fn event_of(alloc: Global, schema: &Schema, words: Words<'_>) -> Result<Event, NoMemory>
+pub fn event_of(alloc: Global, schema: &Schema, words: Words<'_>) -> Result<Event, NoMemory>
     requires tables { IsTrue (list_all is_table schema.now) }
     ensures { IfOk result (IsSaid schema.now (words_seen words.entry)) }
 {

@@ -1,7 +1,7 @@
 //! Reading of scripts: CREATE lines of any tables, then the events of any clients.
 #![tactic(auto)]
 
-mod cut;
+pub mod cut;
 pub mod events;
 pub mod head;
 pub mod line;

@@ -1,5 +1,5 @@
 //! What a line is.
-ghost use Rattle.std.specs.Prelude.{◌≡◌, ◌<◌, ◌^◌, length, nat_eq, codes};
+ghost use Rattle.std.specs.Prelude.{◌≡◌, ◌<◌, ◌^◌, ◌||◌, length, nat_eq, codes};
 ghost use Rattle.std.specs.List.{starts_with};
 ghost use Rattle.sr_grammar.specs.Tokens.{Key, is, seen, tokens_of};
 ghost use Rattle.sr_lines.specs.Script.{is_blank, begins_create, event_line, line_of};
@@ -28,6 +28,13 @@ fn is_comment(line: &str) -> bool
     ensures { result ≡ starts_with nat_eq line.now (codes "#") }
 {
     line.starts_with("#")
+}
+
+/// Whether a line is blank or a comment.
+pub fn is_silent(line: &str) -> bool
+    ensures { result ≡ (is_blank line.now || starts_with nat_eq line.now (codes "#")) }
+{
+    is_blank(line) || is_comment(line)
 }
 
 fn is_create(token: Token<'_>) -> bool
@@ -68,7 +75,7 @@ pub fn read_line(line: &[u8], clients: u8) -> Result<Line<'_>, u32>
         Ok(text) => text,
         Err(fault) => return Err(fault.valid_up_to() as u32),
     };
-    if is_blank(text) || is_comment(text) {
+    if is_silent(text) {
         return Ok(Line::Silent);
     }
     if begins_create(text) {

@@ -1,23 +1,12 @@
 //! Two lists of rows by key as one, in time of their lengths.
 ghost use Rattle.std.specs.Prelude.{◌≡◌, ℕ, ◌+◌, ◌≤◌, true, List, [], ◌++◌, length, option_to_list, None, vec_len, vec_capacity};
 ghost use Rattle.std.specs.VecDeque.{deque_len};
-ghost use Rattle.sr_cell.specs.Cells.{cell_at, cell_le};
 ghost use Rattle.sr_model.specs.SortedRows.{ascend, with_rows};
 ghost use Rattle.sr_rows.specs.Places.{is_own_next};
 
-use crate::rows::is_key_at_most;
-use sr_cell::cell::{Cell, Row};
+use crate::rows::is_row_at_most;
+use sr_cell::cell::Row;
 use std::collections::VecDeque;
-
-#[tactic(auto, using(crate::proofs::Order::cell_at_absent))]
-fn is_row_at_most(row: &Row, other: &Row, key: usize) -> bool
-    ensures { result ≡ cell_le (cell_at row.now key) (cell_at other.now key) }
-{
-    match other.get(key) {
-        Some(cell) => is_key_at_most(row, key, cell),
-        None => is_key_at_most(row, key, &Cell::Num(0)),
-    }
-}
 
 fn is_own_next(own: &VecDeque<Row>, more: &VecDeque<Row>, key: usize) -> bool
     ensures { result ≡ is_own_next key own.now.items more.now.items }

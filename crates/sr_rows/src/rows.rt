@@ -12,7 +12,7 @@ use std::collections::VecDeque;
 use std::mem;
 
 #[tactic(auto, using(crate::proofs::Order::cell_at_absent))]
-pub(crate) fn is_key_at_most(row: &Row, key: usize, cell: &Cell) -> bool
+fn is_key_at_most(row: &Row, key: usize, cell: &Cell) -> bool
     ensures { result ≡ cell_le (cell_at row.now key) cell.now }
 {
     match row.get(key) {
@@ -22,12 +22,24 @@ pub(crate) fn is_key_at_most(row: &Row, key: usize, cell: &Cell) -> bool
 }
 
 #[tactic(auto, using(crate::proofs::Order::cell_at_absent))]
-pub(crate) fn is_key_at_least(row: &Row, key: usize, cell: &Cell) -> bool
+fn is_key_at_least(row: &Row, key: usize, cell: &Cell) -> bool
     ensures { result ≡ cell_le cell.now (cell_at row.now key) }
 {
     match row.get(key) {
         Some(own) => cell.is_at_most(own),
         None => cell.is_at_most(&Cell::Num(0)),
+    }
+}
+
+/// Whether the row's key is of the other's kind and not above it. Numbers are compared here, since calls take longer than that.
+#[tactic(auto, using(crate::proofs::Order::cell_at_absent))]
+pub fn is_row_at_most(row: &Row, other: &Row, key: usize) -> bool
+    ensures { result ≡ cell_le (cell_at row.now key) (cell_at other.now key) }
+{
+    match (row.get(key), other.get(key)) {
+        (Some(Cell::Num(own)), Some(Cell::Num(cell))) => *own <= *cell,
+        (_, Some(cell)) => is_key_at_most(row, key, cell),
+        (_, None) => is_key_at_most(row, key, &Cell::Num(0)),
     }
 }
 
@@ -56,6 +68,18 @@ pub fn has_key_of(rows: &Rows, key: usize, cell: &Cell) -> bool
 {
     let place = place_of(rows, key, cell);
     place > 0 && is_key_at_least(&rows.as_slice()[place - 1], key, cell)
+}
+
+/// Whether a row has the other's key.
+#[tactic(auto, using(crate::proofs::Order::cell_at_absent))]
+pub fn has_key_of_row(rows: &Rows, key: usize, row: &Row) -> bool
+    requires { ascend key rows.now ≡ true }
+    ensures { result ≡ has_key key (cell_at row.now key) rows.now }
+{
+    match row.get(key) {
+        Some(cell) => has_key_of(rows, key, cell),
+        None => has_key_of(rows, key, &Cell::Num(0)),
+    }
 }
 
 /// How many rows of a slice have a key that is at most the row's: they are the first.

@@ -84,7 +84,7 @@ module _ (b : Basis) (n : ℕ) where
   query-blocks text c o new (query_answered q rows marks after out asks are step) =
       an_answer (next_query c) c.version rows marks (line.QueryAnswered n (next_query c) ∷ []) refl
       (append_assoc (answer_lines n (next_query c) c.version rows) (mark_lines n marks) (line.QueryAnswered n (next_query c) ∷ []))
-  query-blocks text c o new (query_down q drops old ask others out before down asks) = plain _ drops (line.QueryDown n old.cuts ∷ []) refl refl
+  query-blocks text c o new (query_down q out down left) = plain _ [] (line.QueryDown n c.cuts ∷ []) refl refl
   query-blocks text c o new (query_asks q drops old ask others fresh out before up asks few mode) =
       an_ask drops old.next_request fresh (ask ∷ others) (line.QueryAsked n old.next_request ∷ []) refl
       (append_assoc (mark_lines n drops) (ask_lines n old.next_request fresh (ask ∷ others)) (line.QueryAsked n old.next_request ∷ []))

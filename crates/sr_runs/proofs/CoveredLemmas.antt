@@ -12,7 +12,7 @@ use Rattle.sr_session.specs.Sessions.{tables_of}
 use Rattle.sr_session.specs.Clients.{Client, Pair}
 use Rattle.sr_session.specs.Rules.{Answered, AskSent, Basis, Outcome, QueryStep, answering_now, next_query, query_answered, query_asks, query_busy, query_down, query_refused}
 use Rattle.sr_session.specs.Scenes.{Did, Event, Happens, QueryOf, Report, Scene, acted, basis_of, client_idle, client_took, cut, evicted, executed, not_executed, pair_at, push_closed, pushed, queried, resumed, server_idle, server_took, wrote}
-use Rattle.sr_session.specs.Headline.{IsCovered, IsTooHeavy}
+use Rattle.sr_session.specs.Headline.{IsCovered}
 use Rattle.sr_session.proofs.MarkLemmas.{kept}
 use Rattle.sr_session.proofs.PointLemmas.{a-covered-query-is-answered}
 use Rattle.sr_session.proofs.ReachLemmas.{at-set}
@@ -45,7 +45,7 @@ answered-free b c text o new (query_refused fault) number version rows marks is 
 answered-free b c text o new (query_busy q request out) number version rows marks is = absurd (cc)
 answered-free b c text o new (query_answered q given made after out asks are step) number version rows marks is =
     ap (λ x. x.out) (kept b (answering_now c q) c made after step).is
-answered-free b c text o new (query_down q drops old ask others out before down asks) number version rows marks is = absurd (cc)
+answered-free b c text o new (query_down q out down left) number version rows marks is = absurd (cc)
 answered-free b c text o new (query_asks q drops old ask others fresh out before up asks few mode) number version rows marks is = absurd (cc)
 
 -- the event of a query has an outcome, and leaves its client free where it is answered
@@ -77,8 +77,7 @@ is-queried s new event report n q (server_took m result own x queue there first)
 is-queried s new event report n q (client_idle m own there empty) is = absurd (cc)
 is-queried s new event report n q (client_took m own x queue o c there first step) is = absurd (cc)
 
-module _ (s : Scene) (n : ℕ) (q : Query) (old : Pair) (is : pair_at s n ≡ Some old) (covered : IsCovered s.database.schema old.client.marks q) (out : old.client.out ≡ None)
-    (light : IsTooHeavy s.database.schema old.client q → ⊥) where
+module _ (s : Scene) (n : ℕ) (q : Query) (old : Pair) (is : pair_at s n ≡ Some old) (covered : IsCovered s.database.schema old.client.marks q) (out : old.client.out ≡ None) where
   abbrev number : ℕ
   number = next_query old.client
 
@@ -99,7 +98,7 @@ module _ (s : Scene) (n : ℕ) (q : Query) (old : Pair) (is : pair_at s n ≡ So
   event-block new report happens =
       let had = is-queried s new (QueryOf n (Ok q)) report n q happens refl in
       let told : Happens s (QueryOf n (Ok q)) (Did had.outcome) new = subst (λ r. Happens s (QueryOf n (Ok q)) r new) had.report_is happens in
-      let answer = a-covered-query-is-answered s new n q had.outcome old told is covered out light in
+      let answer = a-covered-query-is-answered s new n q had.outcome old told is covered out in
       let report_is : report ≡ Did (Answered number old.client.version rows answer.0) = had.report_is ∙ ap Did answer.1 in
       record {
         marks = answer.0;
@@ -137,4 +136,4 @@ module _ (s : Scene) (n : ℕ) (q : Query) (old : Pair) (is : pair_at s n ≡ So
       answered-at-once (first ++ rest) first rest mid h refl (all-settle-free n 1 _ mid rest new settle h.free).1
 
 pub a-covered-query-asks-nothing : ACoveredQueryAsksNothing
-a-covered-query-asks-nothing eager s new n q lines old step is covered out light = step-block s n q old is covered out light eager new (DoQuery n (Ok q)) lines refl step
+a-covered-query-asks-nothing eager s new n q lines old step is covered out = step-block s n q old is covered out eager new (DoQuery n (Ok q)) lines refl step

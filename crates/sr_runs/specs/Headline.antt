@@ -12,7 +12,7 @@ use Rattle.sr_script.specs.declared.line.TraceLine.TheVariants as line
 use Rattle.sr_session.specs.Sessions.{newest, tables_of}
 use Rattle.sr_session.specs.Clients.{Pair}
 use Rattle.sr_session.specs.Rules.{AskSent, next_query}
-use Rattle.sr_session.specs.Headline.{AsksTheUncovered, IsCovered, IsReached, IsTooHeavy, query_at}
+use Rattle.sr_session.specs.Headline.{AsksTheUncovered, IsCovered, IsReached, query_at}
 use Rattle.sr_session.specs.Scenes.{Did, Event, Happens, Report, Scene, SceneStands, client_of, first_scene, pair_at}
 use Rattle.sr_session.specs.Scenes.{Runs as EventsRun}
 use Rattle.sr_explain.specs.Telling.{ExplainsTo}
@@ -152,10 +152,9 @@ pub record IsAnsweredAtOnce (s : Scene) (old : Pair) (n : ℕ) (q : Query) (line
   pub asks_nothing : (front : List TraceLine) (request : ℕ) (fresh : Bool) (count : ℕ) (behind : List TraceLine)
       → lines ≡ front ++ line.Ask n request fresh count ∷ behind → ⊥
 
--- A query of which each point is covered, of a client with no request out and a load that is not too high, is answered in its own step,
--- and no line of the step is that of an ask of the client.
+-- A query of which each point is covered, of a client with no request out, is answered in its own step, and no line of the step is that of
+-- an ask of the client.
 abbrev pub ACoveredQueryAsksNothing : Type 0
 ACoveredQueryAsksNothing = (eager : Bool) (s new : Scene) (n : ℕ) (q : Query) (lines : List TraceLine) (old : Pair)
     → Steps eager s (DoQuery n (Ok q)) lines new → pair_at s n ≡ Some old → IsCovered s.database.schema old.client.marks q
-    → old.client.out ≡ None
-    → (IsTooHeavy s.database.schema old.client q → ⊥) → IsAnsweredAtOnce s old n q lines
+    → old.client.out ≡ None → IsAnsweredAtOnce s old n q lines

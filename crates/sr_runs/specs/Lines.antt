@@ -46,7 +46,6 @@ fail_lines n (Some (ResumeOut number)) = line.Fail n fail.Resume number ∷ []
 abbrev pub details : ℕ → Outcome → List TraceLine
 details n (Answered query version rows marks) = answer_lines n query version rows ++ mark_lines n marks
 details n (AskSent drops request fresh parts) = mark_lines n drops ++ ask_lines n request fresh parts
-details n (Down cut drops) = mark_lines n drops
 details n (Evicted drop) = mark_lines n (drop ∷ [])
 details n (Applied version drops) = mark_lines n drops
 details n (Forgot version drops) = mark_lines n drops
@@ -61,14 +60,14 @@ details n other = []
 abbrev pub query_line : ℕ → Outcome → List TraceLine
 query_line n (QueryRefused fault) = line.QuerySql n fault ∷ []
 query_line n (Busy request) = line.QueryBusy n request ∷ []
-query_line n (Down cut drops) = line.QueryDown n cut ∷ []
+query_line n (Down cut) = line.QueryDown n cut ∷ []
 query_line n (Answered query version rows marks) = line.QueryAnswered n query ∷ []
 query_line n (AskSent drops request fresh parts) = line.QueryAsked n request ∷ []
 query_line n other = []
 
 abbrev pub write_line : ℕ → Outcome → List TraceLine
 write_line n (Busy request) = line.WriteBusy n request ∷ []
-write_line n (Down cut drops) = line.WriteDown n cut ∷ []
+write_line n (Down cut) = line.WriteDown n cut ∷ []
 write_line n (WriteSent request sql) = line.WriteSent n request ∷ []
 write_line n other = []
 

@@ -37,8 +37,8 @@ pub fn ask_lines_are_right()
     ensures parts { AskLinesAreRight }
 {}
 
-/// A query of which each point is covered, of a client with no request out and a load that is not too high, is answered in its own step,
-/// and no line of the step, deliveries included, is that of an ask of the client.
+/// A query of which each point is covered, of a client with no request out, is answered in its own step, and no line of the step,
+/// deliveries included, is that of an ask of the client.
 pub fn a_covered_query_asks_nothing()
     ensures answered { ACoveredQueryAsksNothing }
 {}

@@ -11,9 +11,11 @@ use Rattle.sr_io.specs.Causes.{Rose}
 use Rattle.sr_io.specs.Pieces.{WritesPrefix}
 use Rattle.sr_io.specs.Told.{Linking, Writing, Connection, AreAt, connections, docked_at, OnlyFaults}
 use Rattle.sr_io.proofs.SoFar.{Appends-append}
-use Rattle.sr_links.specs.Honest.{Server}
+use Rattle.sr_ends.specs.ServerEnds.{IsEnd}
+use Rattle.sr_ends.specs.declared.server_end.ServerEnd.{ServerEnd}
 use Rattle.sr_session.specs.Sessions.{Database}
 use Rattle.sr_server.specs.Servers.{Gives}
+use Rattle.sr_server.specs.declared.server.Server.{Server}
 use Rattle.sr_talk.specs.Rounds.{EndsBy, EndsWhole, EndsFaulty, EndsUnwritten, text_of}
 use Rattle.sr_talk.specs.Serving.{AreExecuted, Conversation, RoseBy, Writes, all_told, connection_lines, count_faults, listening, missing}
 use Rattle.sr_talk.specs.declared.rounds.Ending.{Ending}
@@ -102,6 +104,7 @@ module _ (db : Database) (texts : List (List ℕ)) (address : List ℕ) (count :
           all = λ is. absurd (omega (arith, is));
           counted = omega (arith, rose);
         };
+        sound = λ some. absurd (some refl);
         link_fault_is_counted = λ is. rose;
         write_fault_is_counted = λ wrong. absurd (cc);
         writing_keeps_faults = λ is. ap (λ (w : Writing). w.faults) same;
@@ -127,6 +130,7 @@ module _ (db : Database) (texts : List (List ℕ)) (address : List ℕ) (count :
       all = λ is. absurd (omega (arith, is));
       counted = omega arith;
     };
+    sound = λ some. absurd (some refl);
     link_fault_is_counted = λ wrong. absurd (cc);
     write_fault_is_counted = λ is. rose;
     writing_keeps_faults = λ other. absurd (other refl);
@@ -145,8 +149,8 @@ module _ (db : Database) (texts : List (List ℕ)) (address : List ℕ) (count :
 
   -- ---- connections were served
 
-  module _ (old new : Linking) (before mid late after : Writing) (server : Rattle.sr_server.specs.declared.server.Server.Server) (heard : Appends before.written mid.written listening) (same : mid.faults ≡ before.faults)
-      (executed : AllExecuted db texts mid late server) (IsNew : Server → Type 0) where
+  module _ (old new : Linking) (before mid late after : Writing) (server : Server) (heard : Appends before.written mid.written listening) (same : mid.faults ≡ before.faults)
+      (executed : AllExecuted db texts mid late server) (end : ServerEnd) where
     behind : (cs : List Conversation) → Appends late.written after.written (text_of (connection_lines 1 cs)) → Appends before.written after.written (text_of (lines_of executed.lines cs))
     behind cs written =
         subst (Appends before.written after.written) (sym (text-is executed.lines cs))
@@ -157,7 +161,7 @@ module _ (db : Database) (texts : List (List ℕ)) (address : List ℕ) (count :
         subst (WritesPrefix before.written after.written) (sym (text-is executed.lines cs))
         (prefix-behind before.written mid.written after.written listening _ heard (prefix-behind mid.written late.written after.written _ _ executed.written written))
 
-    ended-whole : EndsWhole Gives executed.last count (docked_at address old) new late after IsNew → Ran db texts address count Whole old new before after
+    ended-whole : EndsWhole Gives executed.last count (docked_at address old) new late after (IsEnd end) → Ran db texts address count Whole old new before after
     ended-whole e =
         let number = e.all.number in
         let faults = e.all.faults in
@@ -178,6 +182,7 @@ module _ (db : Database) (texts : List (List ℕ)) (address : List ℕ) (count :
             all = λ is. (number, e.none);
             counted = omega (arith, faults);
           };
+          sound = λ some. e.all.stands.server.sound;
           link_fault_is_counted = λ wrong. absurd (cc);
           write_fault_is_counted = λ wrong. absurd (cc);
           writing_keeps_faults = λ is. e.write_faults ∙ (executed.faults_stay ∙ same);
@@ -188,7 +193,7 @@ module _ (db : Database) (texts : List (List ℕ)) (address : List ℕ) (count :
       pub counted : RoseBy old.faults (faults + missing 5 done count) new.faults
       pub rose : Rose old.faults new.faults
 
-    why : (e : EndsFaulty Gives executed.last count (docked_at address old) new late after IsNew) (b : Bool) → eqb e.done count ≡ b → Why e.done (count_faults e.some.conversations)
+    why : (e : EndsFaulty Gives executed.last count (docked_at address old) new late after (IsEnd end)) (b : Bool) → eqb e.done count ≡ b → Why e.done (count_faults e.some.conversations)
     why e true is =
         let all : e.done ≡ count = grind (arith, nat_tests, is) in
         let cause = e.cause all in
@@ -203,7 +208,7 @@ module _ (db : Database) (texts : List (List ℕ)) (address : List ℕ) (count :
         let before_it = e.some.faults in
         record { counted = omega (arith, few, before_it, rose); rose = omega (arith, before_it, rose) }
 
-    ended-faulty : EndsFaulty Gives executed.last count (docked_at address old) new late after IsNew → Ran db texts address count Faulty old new before after
+    ended-faulty : EndsFaulty Gives executed.last count (docked_at address old) new late after (IsEnd end) → Ran db texts address count Faulty old new before after
     ended-faulty e =
         let number = e.some.number in
         let few = e.few in
@@ -225,12 +230,13 @@ module _ (db : Database) (texts : List (List ℕ)) (address : List ℕ) (count :
             all = λ is. absurd (omega (arith, is));
             counted = subst (λ n. RoseBy old.faults (count_faults e.some.conversations + missing 5 n count) new.faults) (sym number) w.counted;
           };
+          sound = λ some. e.some.stands.server.sound;
           link_fault_is_counted = λ is. w.rose;
           write_fault_is_counted = λ wrong. absurd (cc);
           writing_keeps_faults = λ is. e.write_faults ∙ (executed.faults_stay ∙ same);
         }
 
-    ended-unwritten : EndsUnwritten Gives executed.last count (docked_at address old) new late after IsNew → Ran db texts address count Unwritten old new before after
+    ended-unwritten : EndsUnwritten Gives executed.last count (docked_at address old) new late after (IsEnd end) → Ran db texts address count Unwritten old new before after
     ended-unwritten e =
         let number = e.some.number in
         let few = e.few in
@@ -253,12 +259,13 @@ module _ (db : Database) (texts : List (List ℕ)) (address : List ℕ) (count :
             all = λ is. absurd (omega (arith, is));
             counted = omega (arith, faults);
           };
+          sound = λ some. e.some.stands.server.sound;
           link_fault_is_counted = λ wrong. absurd (cc);
           write_fault_is_counted = λ is. subst (λ n. Rose n after.faults) (executed.faults_stay ∙ same) e.cause;
           writing_keeps_faults = λ other. absurd (other refl);
         }
 
-    pub ended-by : (ending : Ending) → EndsBy Gives ending executed.last count (docked_at address old) new late after IsNew → Ran db texts address count ending old new before after
+    pub ended-by : (ending : Ending) → EndsBy Gives ending executed.last count (docked_at address old) new late after (IsEnd end) → Ran db texts address count ending old new before after
     ended-by Whole e = ended-whole e
     ended-by Faulty e = ended-faulty e
     ended-by Unwritten e = ended-unwritten e

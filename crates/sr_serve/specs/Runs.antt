@@ -1,10 +1,10 @@
 -- What a run of `serve` did, how it ended, and why.
-use Rattle.std.specs.Prelude.{◌≡◌, ◌≢◌, ℕ, List}
+use Rattle.std.specs.Prelude.{◌≡◌, ◌≢◌, ℕ, List, []}
 use Rattle.std.specs.Io.KnownBytes.{Appends}
 use Rattle.sr_io.specs.Causes.{Rose}
 use Rattle.sr_io.specs.Told.{Linking, Writing}
 use Rattle.sr_session.specs.Sessions.{Database}
-use Rattle.sr_server.specs.Servers.{Gives}
+use Rattle.sr_server.specs.Servers.{Gives, IsSound}
 use Rattle.sr_talk.specs.Serving.{Served}
 use Rattle.sr_talk.specs.declared.rounds.Ending.{Ending}
 use Rattle.sr_talk.specs.declared.rounds.Ending.TheVariants.{Whole, Faulty, Unwritten}
@@ -15,12 +15,14 @@ status_of Whole = 0
 status_of Faulty = 5
 status_of Unwritten = 4
 
--- What was written meanwhile, and what was done over the link, from the loaded tables on: each connection came at this address. It ends
--- as faulty only where a fault of the link is counted, and as unwritten just where one of the sink is.
+-- What was written meanwhile, and what was done over the link, from the loaded tables on: each connection came at this address, and
+-- where any came the versions are sound in the end. It ends as faulty only where a fault of the link is counted, and as unwritten just
+-- where one of the sink is.
 pub record Ran (db : Database) (texts : List (List ℕ)) (address : List ℕ) (count : ℕ) (ending : Ending) (old new : Linking) (before after : Writing) : Type 0 where
   pub written : List ℕ
   pub appended : Appends before.written after.written written
   pub served : Served Gives db texts address count (status_of ending) old new written
+  pub sound : served.conversations ≢ [] → IsSound served.last
   pub link_fault_is_counted : ending ≡ Faulty → Rose old.faults new.faults
   pub write_fault_is_counted : ending ≡ Unwritten → Rose before.faults after.faults
   pub writing_keeps_faults : ending ≢ Unwritten → after.faults ≡ before.faults

@@ -72,7 +72,7 @@ module _ (b : Basis) (n : ℕ) where
         rows_are = are;
         version_is = sym (ap (λ x. x.version) k.is);
       }
-  query-says text c l o new idle (query_down q drops old ask others out before down asks) = tt
+  query-says text c l o new idle (query_down q out down left) = tt
   query-says text c l o new idle (query_asks q drops old ask others fresh out before up asks few mode) = by drops old before asks
     where
       by : (drops : List Mark) (old : Client) → Before b q c drops old → Asks b.schema old.marks q.parts (ask ∷ others)

@@ -6,7 +6,7 @@ use Rattle.std.proofs.lemmas.List.Elements.{All-set, All-replicate}
 use Rattle.std.proofs.lemmas.List.Sums.{fold-append}
 use Rattle.sr_cell.specs.declared.fault.Fault.{Fault}
 use Rattle.sr_cell.specs.declared.table.Table.{Table}
-use Rattle.sr_cell.specs.declared.cause.Cause.TheVariants.{Asked, Fresh, Lapsed, Pieces}
+use Rattle.sr_cell.specs.declared.cause.Cause.TheVariants.{Asked, Lapsed, Pieces}
 use Rattle.sr_message.specs.declared.message.Message.{Message}
 use Rattle.sr_message.specs.declared.message.Message.TheVariants.{Hello, Resume, Ask, Write, Welcome, Notice, Rows, Reply, Written, Refused, Lapse}
 use Rattle.sr_model.specs.Queries.{Query}
@@ -21,7 +21,7 @@ use Rattle.sr_region.specs.Applied.{AreTables}
 use Rattle.sr_session.specs.Sessions.{Database, Session, newest, serve_push, tables_of, with_version}
 use Rattle.sr_session.specs.Walks.{has_lapse, version_after}
 use Rattle.sr_session.specs.Clients.{Client, Pair, answered}
-use Rattle.sr_session.specs.Rules.{AnswerStep, Answering, Basis, Before, CutStep, DropsFor, DropsWelcomed, EvictStep, Outcome, QueryStep, ResumeStep, TakeStep, WriteStep, already_cut, already_up, answering_now, answering_then, answers, applies, as_it_is, asks_once_more, cuts, emptied, evict_busy, evicts, evicts_none, forgets, given_up, is_welcomed, lays, query_answered, query_asks, query_busy, query_down, query_refused, refused_write, renewed, resumes, with_ask, with_query, write_busy, write_down, write_sends, written}
+use Rattle.sr_session.specs.Rules.{AnswerStep, Answering, Basis, Before, CutStep, DropsFor, DropsWelcomed, EvictStep, Outcome, QueryStep, ResumeStep, TakeStep, WriteStep, already_cut, already_up, answering_now, answering_then, answers, applies, as_it_is, asks_once_more, cause_afresh, cuts, emptied, evict_busy, evicts, evicts_none, forgets, given_up, is_welcomed, lays, query_answered, query_asks, query_busy, query_down, query_refused, refused_write, renewed, resumes, with_ask, with_query, write_busy, write_down, write_sends, written}
 use Rattle.sr_session.specs.Laws.{HasTables}
 use Rattle.sr_session.specs.Scenes.{Event, Happens, Report, Runs, Scene, SceneStands, Taken, acted, basis_of, client_idle, client_took, cut, cut_off, done, evicted, executed, first_scene, given, new_pair, next, not_executed, pair_at, push_closed, pushed, queried, resumed, server_idle, server_took, taken, with_pair, wrote}
 use Rattle.sr_session.specs.Headline.{CachesKeepToTheirBudgets, KeepsToBudgets}
@@ -79,7 +79,7 @@ module _ (b : Basis) (last : ℕ) (counts : IsCount b last) where
   within c h = record { rows = h.rows; classes = h.classes; are = h.are; few = h.few }
 
   -- nothing is held any more
-  nothing-held : (c : Client) → c.version ≤ last → HoldsNothing b.schema c.marks → KeepsToBudgets b c
+  pub nothing-held : (c : Client) → c.version ≤ last → HoldsNothing b.schema c.marks → KeepsToBudgets b c
   nothing-held c below none =
       let zero = counts.none c.version c.marks below none in
       record { rows = omega (arith, zero); classes = []; are = no-classes b.schema c.marks c.queries none; few = omega arith }
@@ -119,11 +119,11 @@ module _ (b : Basis) (last : ℕ) (counts : IsCount b last) where
   before-keeps q c drops old below h as_it_is = h
   before-keeps q c drops old below h (emptied ds first) = nothing-held old below (all-dropped b.schema c.marks c.queries Pieces ds first.all)
 
-  query-keeps : (text : Result Query Fault) (c : Client) (o : Outcome) (new : Client) → c.version ≤ last → KeepsToBudgets b c → QueryStep b c text o new → KeepsToBudgets b new
+  pub query-keeps : (text : Result Query Fault) (c : Client) (o : Outcome) (new : Client) → c.version ≤ last → KeepsToBudgets b c → QueryStep b c text o new → KeepsToBudgets b new
   query-keeps text c o new below h (query_refused fault) = h
   query-keeps text c o new below h (query_busy q request out) = h
   query-keeps text c o new below h (query_answered q rows marks after out asks are step) = answer-keeps (answering_now c q) c marks after below step
-  query-keeps text c o new below h (query_down q drops old ask others out before down asks) = before-keeps q c drops old below h before
+  query-keeps text c o new below h (query_down q out down left) = h
   query-keeps text c o new below h (query_asks q drops old ask others fresh out before up asks few mode) =
       asking old (with_ask old q fresh (ask ∷ others)) q refl refl refl (before-keeps q c drops old below h before)
 
@@ -138,9 +138,9 @@ module _ (b : Basis) (last : ℕ) (counts : IsCount b last) where
   welcome-keeps : (keeps : Bool) (v : ℕ) (c new : Client) (drops : List Mark) → new.marks ≡ with_marks c.marks drops → new.version ≡ v → new.queries ≡ c.queries → v ≤ last → DropsWelcomed keeps b v c drops → KeepsToBudgets b new
   welcome-keeps true v c new drops marks version queries below d = drops-keep (has_lapse c.laid) v c new drops marks version queries below d
   welcome-keeps false v c new drops marks version queries below d =
-      nothing-held new (omega (arith, version, below)) (subst (HoldsNothing b.schema) (sym marks) (all-dropped b.schema c.marks c.queries Fresh drops d))
+      nothing-held new (omega (arith, version, below)) (subst (HoldsNothing b.schema) (sym marks) (all-dropped b.schema c.marks c.queries (cause_afresh (has_lapse c.laid)) drops d))
 
-  take-keeps : (m : Message) (c : Client) (o : Outcome) (new : Client) → new.version ≤ last → KeepsToBudgets b c → TakeStep b c m o new → KeepsToBudgets b new
+  pub take-keeps : (m : Message) (c : Client) (o : Outcome) (new : Client) → new.version ≤ last → KeepsToBudgets b c → TakeStep b c m o new → KeepsToBudgets b new
   take-keeps m c o new below h (lays request x out laid own) = still c new refl refl refl h
   take-keeps m c o new below h (applies w told drops out later d) = within new (meets c w c.queries c.marks drops d)
   take-keeps m c o new below h (forgets w drops out later all) = nothing-held new below (all-dropped b.schema c.marks c.queries Lapsed drops all)
@@ -156,7 +156,7 @@ module _ (b : Basis) (last : ℕ) (counts : IsCount b last) where
   take-keeps m c o new below h (refused_write number fault drops out later d) = drops-keep (has_lapse c.laid) (version_after c.version c.laid) c new drops refl refl refl below d
   take-keeps m c o new below h (is_welcomed number w keeps drops out later d) = welcome-keeps keeps w c new drops refl refl refl below d
 
-  evict-keeps : (place : ℕ) (c : Client) (o : Outcome) (new : Client) → KeepsToBudgets b c → EvictStep b place c o new → KeepsToBudgets b new
+  pub evict-keeps : (place : ℕ) (c : Client) (o : Outcome) (new : Client) → KeepsToBudgets b c → EvictStep b place c o new → KeepsToBudgets b new
   evict-keeps place c o new h (evict_busy request out) = h
   evict-keeps place c o new h (evicts_none classes out are few) = h
   evict-keeps place c o new h (evicts classes chosen d out are at drop) =
@@ -171,16 +171,16 @@ module _ (b : Basis) (last : ℕ) (counts : IsCount b last) where
         few = omega (arith, few, fewer);
       }
 
-  write-keeps : (sql : List ℕ) (c : Client) (o : Outcome) (new : Client) → KeepsToBudgets b c → WriteStep sql c o new → KeepsToBudgets b new
+  pub write-keeps : (sql : List ℕ) (c : Client) (o : Outcome) (new : Client) → KeepsToBudgets b c → WriteStep sql c o new → KeepsToBudgets b new
   write-keeps sql c o new h (write_busy request out) = h
   write-keeps sql c o new h (write_down out down) = h
   write-keeps sql c o new h (write_sends out up) = still c new refl refl refl h
 
-  cut-keeps : (c : Client) (o : Outcome) (new : Client) → KeepsToBudgets b c → CutStep c o new → KeepsToBudgets b new
+  pub cut-keeps : (c : Client) (o : Outcome) (new : Client) → KeepsToBudgets b c → CutStep c o new → KeepsToBudgets b new
   cut-keeps c o new h (already_cut down) = h
   cut-keeps c o new h (cuts up) = still c new refl refl refl h
 
-  resume-keeps : (c : Client) (o : Outcome) (new : Client) → KeepsToBudgets b c → ResumeStep b.schema c o new → KeepsToBudgets b new
+  pub resume-keeps : (c : Client) (o : Outcome) (new : Client) → KeepsToBudgets b c → ResumeStep b.schema c o new → KeepsToBudgets b new
   resume-keeps c o new h (already_up up) = h
   resume-keeps c o new h (resumes m down is) = still c new refl refl refl h
 
@@ -189,7 +189,7 @@ module _ (b : Basis) (last : ℕ) (counts : IsCount b last) where
 abbrev AllKeep : Scene → Type 0
 AllKeep s = All (λ pair. KeepsToBudgets (basis_of s) pair.client) s.pairs
 
-is-count : (s : Scene) → HasTables s.database → IsCount (basis_of s) (newest s.database)
+pub is-count : (s : Scene) → HasTables s.database → IsCount (basis_of s) (newest s.database)
 is-count s tables = record {
   falls = λ v d marks drop. kept-less (tables_of s.database v) d marks drop;
   none = λ v marks below none. kept-none s.database.schema marks (tables_of s.database v) none (tables v below).points;

@@ -61,11 +61,7 @@ module _ (b : Basis) where
       let k = kept b (answering_now c q) c marks after step in
       let version = ap (λ x. x.version) k.is in
       record { version = omega (arith, version); numbers = more-queries c after (record { query = q; answered = true }) (ap (λ x. x.queries) k.is) }
-  query-later text c o new (query_down q drops old ask others out before down asks) = by drops old before
-    where
-      by : (drops : List Mark) (old : Client) → Before b q c drops old → IsLater c old
-      by drops old as_it_is = still c c refl refl
-      by drops old (emptied ds first) = still c old refl refl
+  query-later text c o new (query_down q out down left) = still c new refl refl
   query-later text c o new (query_asks q drops old ask others fresh out before up asks few mode) = by drops old before
     where
       by : (drops : List Mark) (old : Client) → Before b q c drops old → IsLater c (with_ask old q fresh (ask ∷ others))

@@ -3,7 +3,7 @@ use Rattle.std.proofs.Common.{◌≡◌, ℕ, zero, suc, Bool, true, false, List
 use Rattle.std.specs.Prelude.{◌&&◌, ◌==◌, ◌⊎◌, not, slice_get, Result, Ok}
 use Rattle.std.specs.List.{All}
 use Rattle.std.proofs.lemmas.Bool.Decides.{nat_tests}
-use Rattle.std.proofs.lemmas.List.Elements.{All-head, All-tail}
+use Rattle.std.proofs.lemmas.List.Elements.{All-nil, All-cons, All-head, All-tail}
 use Rattle.sr_cell.specs.declared.fault.Fault.{Fault}
 use Rattle.sr_cell.specs.declared.table.Table.{Table}
 use Rattle.sr_cell.specs.Attrs.{includes}
@@ -19,9 +19,9 @@ use Rattle.sr_history.specs.Classes.{Numbered, stamp}
 use Rattle.sr_history.proofs.Marking.{some-attrs, any-attrs}
 use Rattle.sr_session.specs.Sessions.{tables_of}
 use Rattle.sr_session.specs.Clients.{Client, Pair}
-use Rattle.sr_session.specs.Rules.{Answered, Before, DropsFirst, Outcome, QueryStep, as_it_is, emptied, next_query, query_answered, query_asks, query_busy, query_down, query_refused, sent_of}
+use Rattle.sr_session.specs.Rules.{Answered, Basis, Before, LeavesSome, Outcome, QueryStep, as_it_is, emptied, next_query, query_answered, query_asks, query_busy, query_down, query_refused, sent_of}
 use Rattle.sr_session.specs.Scenes.{Scene, acted, basis_of, pair_at, queried, with_pair}
-use Rattle.sr_session.specs.Headline.{ACoveredQueryIsAnswered, ACoveredQuerySendsNothing, AreAskedFor, AsksByPoints, HasClassFor, IsAskedJust, IsCovered, IsDroppedFirst, IsOfSomePart, IsSilent, IsTooHeavy, IsUncovered}
+use Rattle.sr_session.specs.Headline.{ACoveredQueryIsAnswered, ACoveredQuerySendsNothing, AreAskedFor, AsksByPoints, HasClassFor, IsAskedJust, IsCovered, IsOfSomePart, IsSilent, IsUncovered}
 use Rattle.sr_session.proofs.QueryLemmas.{silent-line}
 use Rattle.sr_session.proofs.ReachLemmas.{at-set}
 
@@ -117,52 +117,60 @@ none-to-ask schema marks parts asks all (asked part others ask more own rest) =
     let p = own.some.0 in
     absurd (let no = free p own.some.1 in let wrong : true ≡ false = sym own.some.2 ∙ no in cc)
 
-module _ (s : Scene) (n : ℕ) (q : Query) (old : Pair) (is_covered_all : IsCovered s.database.schema old.client.marks q) where
-  -- either all was dropped first, or nothing is asked
-  asks-after : (drops : List Mark) (mid : Client) (ask : AskPart) (others : List AskPart) → Before (basis_of s) q old.client drops mid → Asks s.database.schema mid.marks q.parts (ask ∷ others)
-      → DropsFirst (basis_of s) q old.client drops
-  asks-after drops mid ask others as_it_is asks = absurd (let none = none-to-ask s.database.schema old.client.marks q.parts (ask ∷ others) is_covered_all asks in cc)
-  asks-after drops mid ask others (emptied ds first) asks = first
+-- where nothing is asked, each point is covered; and conversely
+pub none-left : (schema : List Table) (marks : List Mark) (parts : List Part) → Asks schema marks parts [] → All (λ part. HasNoPoint (table_at schema part.table).columns (rest_of marks part)) parts
+none-left schema marks [] nothing = All-nil (λ part. HasNoPoint (table_at schema part.table).columns (rest_of marks part))
+none-left schema marks (part ∷ parts) (covered own others asks free rest) =
+    All-cons (λ part. HasNoPoint (table_at schema part.table).columns (rest_of marks part)) part parts free (none-left schema marks parts rest)
 
-  silent-so : (o : Outcome) (new : Client) → pair_at s n ≡ Some old → sent_of o ≡ [] → IsSilent (with_pair s n (acted new old.connection o)) n old o
-  silent-so o new is none = record {
-    sends = none;
-    after = acted new old.connection o;
-    after_is = at-set s n old (acted new old.connection o) is;
-    connection = silent-line old.connection o none;
-  }
+pub nothing-left : (schema : List Table) (marks : List Mark) (parts : List Part) → All (λ part. HasNoPoint (table_at schema part.table).columns (rest_of marks part)) parts → Asks schema marks parts []
+nothing-left schema marks [] all = nothing
+nothing-left schema marks (part ∷ parts) all =
+    covered part parts [] (All-head (λ part. HasNoPoint (table_at schema part.table).columns (rest_of marks part)) part parts all)
+    (nothing-left schema marks parts (All-tail (λ part. HasNoPoint (table_at schema part.table).columns (rest_of marks part)) part parts all))
 
-  query-silent : (text : Result Query Fault) (o : Outcome) (new : Client) → text ≡ Ok q → pair_at s n ≡ Some old → QueryStep (basis_of s) old.client text o new
-      → IsSilent (with_pair s n (acted new old.connection o)) n old o ⊎ IsDroppedFirst s old.client q o
-  query-silent text o new says is (query_refused fault) = inl (silent-so o new is refl)
-  query-silent text o new says is (query_busy x request out) = inl (silent-so o new is refl)
-  query-silent text o new says is (query_answered x rows marks after out asks are step) = inl (silent-so o new is refl)
-  query-silent text o new says is (query_down x drops mid ask others out before down asks) = inl (silent-so o new is refl)
-  query-silent text o new says is (query_asks x drops mid ask others fresh out before up asks few mode) =
+-- where something is asked, something is left to ask
+pub some-left : (schema : List Table) (marks : List Mark) (parts : List Part) (asks : List AskPart) → Asks schema marks parts asks → (asks ≡ [] → ⊥) → Asks schema marks parts [] → ⊥
+some-left schema marks parts asks rest some none = some (none-to-ask schema marks parts asks (none-left schema marks parts none) rest)
+
+module _ (b : Basis) (q : Query) (c : Client) (is_covered_all : IsCovered b.schema c.marks q) where
+  -- something is left of no covered query
+  never-left : LeavesSome b q c → ⊥
+  never-left left = left (nothing-left b.schema c.marks q.parts is_covered_all)
+
+  pub asks-never : (drops : List Mark) (mid : Client) (ask : AskPart) (others : List AskPart) → Before b q c drops mid → Asks b.schema mid.marks q.parts (ask ∷ others) → ⊥
+  asks-never drops mid ask others as_it_is asks = let none = none-to-ask b.schema c.marks q.parts (ask ∷ others) is_covered_all asks in cc
+  asks-never drops mid ask others (emptied ds first) asks = never-left first.left
+
+  -- nothing is sent
+  pub query-silent : (text : Result Query Fault) (o : Outcome) (new : Client) → text ≡ Ok q → QueryStep b c text o new → sent_of o ≡ []
+  query-silent text o new says (query_refused fault) = refl
+  query-silent text o new says (query_busy x request out) = refl
+  query-silent text o new says (query_answered x rows marks after out asks are step) = refl
+  query-silent text o new says (query_down x out down left) = refl
+  query-silent text o new says (query_asks x drops mid ask others fresh out before up asks few mode) =
       let same : x ≡ q = cc in
-      inr (record {
-        drops = drops;
-        request = mid.next_request;
-        fresh = fresh;
-        parts = ask ∷ others;
-        outcome = refl;
-        first = asks-after drops mid ask others (subst (λ y. Before (basis_of s) y old.client drops mid) same before) (subst (λ y. Asks s.database.schema mid.marks y.parts (ask ∷ others)) same asks);
-      })
+      absurd (asks-never drops mid ask others (subst (λ y. Before b y c drops mid) same before) (subst (λ y. Asks b.schema mid.marks y.parts (ask ∷ others)) same asks))
+
+silent-so : (s : Scene) (n : ℕ) (old : Pair) (o : Outcome) (new : Client) → pair_at s n ≡ Some old → sent_of o ≡ [] → IsSilent (with_pair s n (acted new old.connection o)) n old o
+silent-so s n old o new is none = record {
+  sends = none;
+  after = acted new old.connection o;
+  after_is = at-set s n old (acted new old.connection o) is;
+  connection = silent-line old.connection o none;
+}
 
 pub a-covered-query-sends-nothing : ACoveredQuerySendsNothing
 a-covered-query-sends-nothing s new n q o old (queried m text own x c there step) before covered_all =
     let e : Some own ≡ Some old = sym there ∙ before in
     let same : own ≡ old = cc in
-    subst (λ pair. IsSilent (with_pair s n (acted c pair.connection o)) n old o ⊎ IsDroppedFirst s old.client q o) (sym same)
-    (query-silent s n q old covered_all (Ok q) o c refl before (subst (λ pair. QueryStep (basis_of s) pair.client (Ok q) o c) same step))
+    subst (λ pair. IsSilent (with_pair s n (acted c pair.connection o)) n old o) (sym same)
+    (silent-so s n old o c before
+    (query-silent (basis_of s) q old.client covered_all (Ok q) o c refl (subst (λ pair. QueryStep (basis_of s) pair.client (Ok q) o c) same step)))
 
-module _ (s : Scene) (q : Query) (c : Client) (is_covered_all : IsCovered s.database.schema c.marks q) (free : c.out ≡ None) (light : IsTooHeavy s.database.schema c q → ⊥) where
+module _ (s : Scene) (q : Query) (c : Client) (is_covered_all : IsCovered s.database.schema c.marks q) (free : c.out ≡ None) where
   abbrev IsAnswered : Outcome → Type 0
   IsAnswered o = (marks : List Mark) × (o ≡ Answered (next_query c) c.version (rows_of q (tables_of s.database c.version)) marks)
-
-  asks-never : (drops : List Mark) (mid : Client) (ask : AskPart) (others : List AskPart) → Before (basis_of s) q c drops mid → Asks s.database.schema mid.marks q.parts (ask ∷ others) → ⊥
-  asks-never drops mid ask others as_it_is asks = let none = none-to-ask s.database.schema c.marks q.parts (ask ∷ others) is_covered_all asks in cc
-  asks-never drops mid ask others (emptied ds first) asks = light first.heavy
 
   query-answers : (text : Result Query Fault) (o : Outcome) (new : Client) → text ≡ Ok q → QueryStep (basis_of s) c text o new → IsAnswered o
   query-answers text o new says (query_refused fault) = absurd (cc)
@@ -171,15 +179,16 @@ module _ (s : Scene) (q : Query) (c : Client) (is_covered_all : IsCovered s.data
       let same : x ≡ q = cc in
       let right : rows ≡ rows_of q (tables_of s.database c.version) = are ∙ ap (λ y. rows_of y (tables_of s.database c.version)) same in
       (marks, ap (λ r. Answered (next_query c) c.version r marks) right)
-  query-answers text o new says (query_down x drops mid ask others out before down asks) =
+  query-answers text o new says (query_down x out down left) =
       let same : x ≡ q = cc in
-      absurd (asks-never drops mid ask others (subst (λ y. Before (basis_of s) y c drops mid) same before) (subst (λ y. Asks s.database.schema mid.marks y.parts (ask ∷ others)) same asks))
+      absurd (never-left (basis_of s) q c is_covered_all (subst (λ y. LeavesSome (basis_of s) y c) same left))
   query-answers text o new says (query_asks x drops mid ask others fresh out before up asks few mode) =
       let same : x ≡ q = cc in
-      absurd (asks-never drops mid ask others (subst (λ y. Before (basis_of s) y c drops mid) same before) (subst (λ y. Asks s.database.schema mid.marks y.parts (ask ∷ others)) same asks))
+      absurd (asks-never (basis_of s) q c is_covered_all drops mid ask others (subst (λ y. Before (basis_of s) y c drops mid) same before)
+      (subst (λ y. Asks s.database.schema mid.marks y.parts (ask ∷ others)) same asks))
 
 pub a-covered-query-is-answered : ACoveredQueryIsAnswered
-a-covered-query-is-answered s new n q o old (queried m text own x c there step) before covered_all free light =
+a-covered-query-is-answered s new n q o old (queried m text own x c there step) before covered_all free =
     let e : Some own ≡ Some old = sym there ∙ before in
     let same : own ≡ old = cc in
-    query-answers s q old.client covered_all free light (Ok q) o c refl (subst (λ pair. QueryStep (basis_of s) pair.client (Ok q) o c) same step)
+    query-answers s q old.client covered_all free (Ok q) o c refl (subst (λ pair. QueryStep (basis_of s) pair.client (Ok q) o c) same step)

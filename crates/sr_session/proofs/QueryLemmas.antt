@@ -115,8 +115,7 @@ module _ (s : Scene) where
       let k = kept (basis_of s) (answering_now c q) c marks after step in
       silent (λ l. IsOpen s.database after l session) l o refl
       (subst (λ x. IsOpen s.database x l session) (sym k.is) (answers-now s.database c l session h out (with_query q true c) k.from marks k.within))
-  open-query c l session text o new h (query_down q drops old ask others out before down asks) =
-      let up : old.cut ≡ false = (before-open s q c l session drops old before out h).up in absurd (let wrong : true ≡ false = sym down ∙ up in cc)
+  open-query c l session text o new h (query_down q out down left) = absurd (let wrong : true ≡ false = sym down ∙ h.up in cc)
   open-query c l session text o new h (query_asks q drops old ask others fresh out before up asks few mode) =
       sends-ask s.database old l session (before-open s q c l session drops old before out h) (before-out s q c drops old before out) q fresh (ask ∷ others) asks (λ none. absurd (cc)) mode
 
@@ -127,7 +126,7 @@ module _ (s : Scene) where
       let k = kept (basis_of s) (answering_now c q) c marks after step in
       silent (IsDown s.database after) l o refl (subst (λ x. IsDown s.database x l) (sym k.is)
       (record { down = h.down; out = refl; laid = refl; to_server = h.to_server; to_client = h.to_client; session_is = h.session_is; version = h.version }))
-  down-query c l text o new h (query_down q drops old ask others out before down asks) = silent (IsDown s.database old) l o refl (before-down s q c l drops old before h)
+  down-query c l text o new h (query_down q out down left) = silent (IsDown s.database c) l o refl h
   down-query c l text o new h (query_asks q drops old ask others fresh out before up asks few mode) =
       let down : old.cut ≡ true = (before-down s q c l drops old before h).down in absurd (let wrong : true ≡ false = sym down ∙ up in cc)
 
@@ -135,7 +134,7 @@ module _ (s : Scene) where
   resuming-query c l text o new h (query_refused fault) = silent (IsResuming s.database c) l o refl h
   resuming-query c l text o new h (query_busy q request out) = silent (IsResuming s.database c) l o refl h
   resuming-query c l text o new h (query_answered q rows marks after out asks are step) = absurd (let wrong : None ≡ Some (ResumeOut h.number) = sym out ∙ h.out in cc)
-  resuming-query c l text o new h (query_down q drops old ask others out before down asks) = absurd (let wrong : None ≡ Some (ResumeOut h.number) = sym out ∙ h.out in cc)
+  resuming-query c l text o new h (query_down q out down left) = absurd (let wrong : None ≡ Some (ResumeOut h.number) = sym out ∙ h.out in cc)
   resuming-query c l text o new h (query_asks q drops old ask others fresh out before up asks few mode) = absurd (let wrong : None ≡ Some (ResumeOut h.number) = sym out ∙ h.out in cc)
 
   pub queries-stand : (old : Pair) (text : Result Query Fault) (o : Outcome) (new : Client) → Stands s.database old → QueryStep (basis_of s) old.client text o new → Stands s.database (acted new old.connection o)

@@ -2,7 +2,7 @@
 use Rattle.std.proofs.Common.{◌≡◌, ℕ, Bool, true, false, List, [], ◌∷◌, ◌++◌, refl, sym, ◌∙◌, subst, Some, None}
 use Rattle.std.specs.Prelude.{◌||◌}
 use Rattle.sr_cell.specs.declared.fault.Fault.{Fault}
-use Rattle.sr_cell.specs.declared.cause.Cause.TheVariants.{Lapsed, Fresh}
+use Rattle.sr_cell.specs.declared.cause.Cause.TheVariants.{Lapsed}
 use Rattle.sr_cell.specs.Cells.{Row}
 use Rattle.sr_message.specs.declared.message.AskPart.{AskPart}
 use Rattle.sr_message.specs.declared.message.Message.{Message}
@@ -16,7 +16,7 @@ use Rattle.sr_session.specs.Sessions.{Database, Session}
 use Rattle.sr_session.specs.Places.{Within, asked, both, held, nowhere}
 use Rattle.sr_session.specs.Walks.{AreLaid, AskOut, Mirror, Passes, Request, ResumeOut, Walks, WriteOut, brought, forgot, has_lapse, noticed, places_after, version_after, walked, welcomed}
 use Rattle.sr_session.specs.Clients.{Client, Connection, Flows, IsOpen, asks_again, is_idle, is_sent, is_served, mirror_of, settled}
-use Rattle.sr_session.specs.Rules.{AskSent, DropsFor, DropsWelcomed, Outcome, TakeStep, answering_then, answers, applies, asks_once_more, forgets, is_given_up, is_welcomed, lays, refused_write, sends, with_answered, written}
+use Rattle.sr_session.specs.Rules.{AskSent, DropsFor, DropsWelcomed, Outcome, TakeStep, answering_then, answers, applies, asks_once_more, cause_afresh, forgets, is_given_up, is_welcomed, lays, refused_write, sends, with_answered, written}
 use Rattle.sr_session.specs.Scenes.{Scene, basis_of}
 use Rattle.sr_session.proofs.WalkLemmas.{walks-fewer}
 use Rattle.sr_session.proofs.AskLemmas.{held-nowhere}
@@ -188,7 +188,7 @@ module _ (s : Scene) (c : Client) (l : Connection) (session : Session) (h : IsOp
       (walks-fewer s.database None (welcomed true (walked (mirror_of c) c.laid) w) (held (with_marks c.marks drops)) queue session (drops-for w drops e.all (has_lapse c.laid) refl d) e.walks.1)
   welcomed-open number w false drops out first d =
       let e = ending s.database c l session (ResumeOut number) (Welcome number w false) queue h out first (λ x walks. absurd walks.0.0) in
-      let none : HoldsNothing s.database.schema (with_marks c.marks drops) = all-dropped s.database.schema c.marks c.queries Fresh drops d in
+      let none : HoldsNothing s.database.schema (with_marks c.marks drops) = all-dropped s.database.schema c.marks c.queries (cause_afresh (has_lapse c.laid)) drops d in
       settles (ResumeOut number) (Welcome number w false) w drops e
       (walks-fewer s.database None (welcomed false (walked (mirror_of c) c.laid) w) (held (with_marks c.marks drops)) queue session (held-nowhere s.database.schema (with_marks c.marks drops) none) e.walks.1)
 

@@ -36,8 +36,7 @@ module _ (b : Basis) where
   query-tidy text c o new h (query_busy q request out) = h
   query-tidy text c o new h (query_answered q rows marks after out asks are step) =
       let k = kept b (answering_now c q) c marks after step in after-answer c after (with_query q true c) k.from c.version marks k.is
-  query-tidy text c o new h (query_down q drops old ask others out before down asks) =
-      let same = before-tidy q c drops old before in at-rest c old h out same.0 same.1
+  query-tidy text c o new h (query_down q out down left) = h
   query-tidy text c o new h (query_asks q drops old ask others fresh out before up asks few mode) =
       let same = before-tidy q c drops old before in (
         (

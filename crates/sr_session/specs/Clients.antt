@@ -107,11 +107,10 @@ pub record IsDown (db : Database) (c : Client) (l : Connection) : Type 0 where
   pub session_is : l.session ≡ None
   pub version : c.version ≤ newest db
 
--- The first message of a session: a Hello where nothing is held, or a Resume of the client's version, with points among which are all
--- that it holds.
+-- The first message of a session: a Hello where nothing is held, or a Resume of the client's version with just the points that it holds.
 abbrev pub IsResumeMessage : List Table → Client → ℕ → Message → Type 0
 IsResumeMessage schema c number (Hello client k) = (k ≡ number) × HoldsNothing schema c.marks
-IsResumeMessage schema c number (Resume client k version holdings) = (k ≡ number) × (version ≡ c.version) × Within schema (held c.marks) (has_point holdings)
+IsResumeMessage schema c number (Resume client k version holdings) = (k ≡ number) × (version ≡ c.version) × Within schema (held c.marks) (has_point holdings) × Within schema (has_point holdings) (held c.marks)
 IsResumeMessage schema c number m = ⊥
 
 -- The link is up, and the server has not taken the first message of the session yet.

@@ -16,12 +16,11 @@ use Rattle.sr_history.specs.declared.mark.Mark.{Mark}
 use Rattle.sr_history.specs.Marks.{with_marks}
 use Rattle.sr_history.specs.Rests.{Asks, rest_of}
 use Rattle.sr_history.specs.Classes.{Numbered, Class, AreClasses, in_class}
-use Rattle.sr_history.specs.Load.{IsHeavy}
 use Rattle.sr_region.specs.Applied.{AreTables}
 use Rattle.sr_session.specs.Sessions.{newest, tables_of}
 use Rattle.sr_session.specs.Walks.{AskOut}
 use Rattle.sr_session.specs.Clients.{Client, Pair}
-use Rattle.sr_session.specs.Rules.{Answered, AskSent, Basis, DropsFirst, Outcome, counted, next_query, sent_of, with_query}
+use Rattle.sr_session.specs.Rules.{Answered, AskSent, Basis, Outcome, next_query, sent_of}
 use Rattle.sr_session.specs.Laws.{HasTables}
 use Rattle.sr_session.specs.Scenes.{Did, Event, Exec, Happens, QueryOf, Report, Runs, Scene, ToServer, basis_of, client_of, first_scene, pair_at}
 
@@ -162,19 +161,6 @@ AsksByPoints = (schema : List Table) (marks : List Mark) (queries : List Numbere
 abbrev pub IsCovered : List Table → List Mark → Query → Type 0
 IsCovered schema marks q = All (λ part. HasNoPoint (table_at schema part.table).columns (rest_of marks part)) q.parts
 
--- the load of the query and of those before it is too high
-abbrev pub IsTooHeavy : List Table → Client → Query → Type 0
-IsTooHeavy schema c q = IsHeavy schema c.marks [] q (counted c.counted_from (with_query q false c))
-
--- The one exception: the load is too high, all was dropped first, of which there was some, and so something was asked.
-pub record IsDroppedFirst (s : Scene) (c : Client) (q : Query) (o : Outcome) : Type 0 where
-  pub drops : List Mark
-  pub request : ℕ
-  pub fresh : Bool
-  pub parts : List AskPart
-  pub outcome : o ≡ AskSent drops request fresh parts
-  pub first : DropsFirst (basis_of s) q c drops
-
 -- no message is sent, and both queues are as they were
 pub record IsSilent (new : Scene) (n : ℕ) (old : Pair) (o : Outcome) : Type 0 where
   pub sends : sent_of o ≡ []
@@ -182,17 +168,17 @@ pub record IsSilent (new : Scene) (n : ℕ) (old : Pair) (o : Outcome) : Type 0 
   pub after_is : pair_at new n ≡ Some after
   pub connection : after.connection ≡ old.connection
 
--- A query of which each point is covered sends nothing, unless the load is too high and all was dropped first.
+-- A query of which each point is covered sends nothing.
 abbrev pub ACoveredQuerySendsNothing : Type 0
 ACoveredQuerySendsNothing = (s new : Scene) (n : ℕ) (q : Query) (o : Outcome) (old : Pair)
     → Happens s (QueryOf n (Ok q)) (Did o) new → pair_at s n ≡ Some old → IsCovered s.database.schema old.client.marks q
-    → IsSilent new n old o ⊎ IsDroppedFirst s old.client q o
+    → IsSilent new n old o
 
--- Where no request is out and the load is not too high, such a query is answered at once, at the client's version.
+-- Where no request is out, such a query is answered at once, at the client's version.
 abbrev pub ACoveredQueryIsAnswered : Type 0
 ACoveredQueryIsAnswered = (s new : Scene) (n : ℕ) (q : Query) (o : Outcome) (old : Pair)
     → Happens s (QueryOf n (Ok q)) (Did o) new → pair_at s n ≡ Some old → IsCovered s.database.schema old.client.marks q
-    → old.client.out ≡ None → (IsTooHeavy s.database.schema old.client q → ⊥)
+    → old.client.out ≡ None
     → (marks : List Mark)
     × (o ≡ Answered (next_query old.client) old.client.version (rows_of q (tables_of s.database old.client.version)) marks)
 

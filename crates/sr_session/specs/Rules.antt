@@ -1,6 +1,7 @@
 -- What a client may do, by itself: the same rules for a world of many clients and for one client on any link.
 use Rattle.std.specs.Prelude.{ℕ, Bool, true, false, ◌&&◌, not, ◌+◌, ◌-◌, ◌<◌, ◌≤◌, ◌↔◌, List, [], ◌∷◌, ◌++◌, length, map, drop, slice_get, slice_set, ◌≡◌, Option, Some, None, Result, Ok, Err, IsTrue, IfSome}
 use Rattle.std.specs.List.{list_all, AllZip}
+use Rattle.sr_cell.specs.declared.cause.Cause.{Cause}
 use Rattle.sr_cell.specs.declared.cause.Cause.TheVariants.{Pieces, Lapsed, Fresh, Asked}
 use Rattle.sr_cell.specs.declared.fault.Fault.{Fault}
 use Rattle.sr_cell.specs.declared.table.Table.{Table}
@@ -43,7 +44,7 @@ pub data Outcome : Type 0 where
   -- of a query, a write or an eviction
   QueryRefused : (fault : Fault) → Outcome
   Busy : (request : ℕ) → Outcome
-  Down : (cut : ℕ) → (drops : List Mark) → Outcome
+  Down : (cut : ℕ) → Outcome
   Answered : (query : ℕ) → (version : ℕ) → (rows : List Row) → (marks : List Mark) → Outcome
   AskSent : (drops : List Mark) → (request : ℕ) → (fresh : Bool) → (parts : List AskPart) → Outcome
   WriteSent : (request : ℕ) → (sql : List ℕ) → Outcome
@@ -133,8 +134,13 @@ with_query q done c = c.queries ++ record { query = q; answered = done } ∷ []
 abbrev pub answering_now : Client → Query → Answering
 answering_now c q = record { number = next_query c; query = q; version = c.version; asked = []; queries = with_query q true c }
 
--- Where the load is too high all classes may be dropped before a query that then asks something; the load counts from it on.
+-- something of the query is left to ask
+abbrev pub LeavesSome : Basis → Query → Client → Type 0
+LeavesSome b q c = Asks b.schema c.marks q.parts [] → ⊥
+
+-- Where the load is too high, and something is left to ask, all classes may be dropped before the query; the load counts from it on.
 pub record DropsFirst (b : Basis) (q : Query) (c : Client) (drops : List Mark) : Type 0 where
+  pub left : LeavesSome b q c
   pub heavy : IsHeavy b.schema c.marks [] q (counted c.counted_from (with_query q false c))
   pub all : DropsAll b.schema c.marks c.queries Pieces drops
   pub some : 0 < length drops
@@ -162,10 +168,8 @@ pub data QueryStep (b : Basis) (c : Client) : Result Query Fault → Outcome →
   query_answered : (q : Query) (rows : List Row) (marks : List Mark) (new : Client) → c.out ≡ None → Asks b.schema c.marks q.parts []
       → AnswersWith b c.version q rows → AnswerStep b (answering_now c q) c marks new
       → QueryStep b c (Ok q) (Answered (next_query c) c.version rows marks) new
-  -- Something has to be asked, and the link is cut.
-  query_down : (q : Query) (drops : List Mark) (old : Client) (ask : AskPart) (others : List AskPart) → c.out ≡ None → Before b q c drops old
-      → old.cut ≡ true → Asks b.schema old.marks q.parts (ask ∷ others)
-      → QueryStep b c (Ok q) (Down old.cuts drops) old
+  -- Something has to be asked, and the link is cut: nothing is done.
+  query_down : (q : Query) → c.out ≡ None → c.cut ≡ true → LeavesSome b q c → QueryStep b c (Ok q) (Down c.cuts) c
   -- Something has to be asked, and is, in rects of which there are not too many; the ask is fresh just where nothing is held.
   query_asks : (q : Query) (drops : List Mark) (old : Client) (ask : AskPart) (others : List AskPart) (fresh : Bool) → c.out ≡ None → Before b q c drops old
       → old.cut ≡ false → Asks b.schema old.marks q.parts (ask ∷ others) → count_asked (ask ∷ others) ≤ most_rects
@@ -196,10 +200,15 @@ abbrev pub DropsFor : Bool → Basis → ℕ → Client → List Mark → Type 0
 DropsFor true b version c drops = DropsAll b.schema c.marks c.queries Lapsed drops
 DropsFor false b version c drops = MeetsBudgets b.schema b.limits (b.count version) c.queries c.marks drops
 
+-- why all is dropped where a session begins afresh: a Lapse that was laid by is applied first
+abbrev pub cause_afresh : Bool → Cause
+cause_afresh true = Lapsed
+cause_afresh false = Fresh
+
 -- A client that is welcomed keeps what it holds, or drops it all.
 abbrev pub DropsWelcomed : Bool → Basis → ℕ → Client → List Mark → Type 0
 DropsWelcomed true b version c drops = DropsFor (has_lapse c.laid) b version c drops
-DropsWelcomed false b version c drops = DropsAll b.schema c.marks c.queries Fresh drops
+DropsWelcomed false b version c drops = DropsAll b.schema c.marks c.queries (cause_afresh (has_lapse c.laid)) drops
 
 -- What a message from the server does to a client. What is not listed does not come.
 pub data TakeStep (b : Basis) (c : Client) : Message → Outcome → Client → Type 0 where
@@ -252,7 +261,7 @@ pub data EvictStep (b : Basis) (place : ℕ) (c : Client) : Outcome → Client �
 -- What a write does: it is sent as it is, and judged by the server.
 pub data WriteStep (sql : List ℕ) (c : Client) : Outcome → Client → Type 0 where
   write_busy : (request : Request) → c.out ≡ Some request → WriteStep sql c (Busy (number_of request)) c
-  write_down : c.out ≡ None → c.cut ≡ true → WriteStep sql c (Down c.cuts []) c
+  write_down : c.out ≡ None → c.cut ≡ true → WriteStep sql c (Down c.cuts) c
   write_sends : c.out ≡ None → c.cut ≡ false
       → WriteStep sql c (WriteSent c.next_request sql) (record c { next_request = c.next_request + 1; out = Some (WriteOut c.next_request) })
 

@@ -34,8 +34,7 @@ pub fn asks_by_points()
     ensures points { AsksByPoints }
 {}
 
-/// A query of which each point is covered sends nothing, unless the load is too high and all was dropped first; and where no request
-/// is out and the load is not too high, it is answered at once.
+/// A query of which each point is covered sends nothing; and where no request is out, it is answered at once.
 pub fn a_covered_query_sends_nothing()
     ensures silent { ACoveredQuerySendsNothing }
     ensures answered { ACoveredQueryIsAnswered }

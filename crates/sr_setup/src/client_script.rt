@@ -4,24 +4,21 @@ ghost use Rattle.std.specs.List.{list_all};
 ghost use Rattle.sr_cell.specs.declared.list.No.TheVariants.{Refused};
 ghost use Rattle.sr_cell.specs.Clients.{most_clients};
 ghost use Rattle.sr_lines.specs.Lines.{lines_of};
-ghost use Rattle.sr_lines.specs.Script.{QuerySql, WriteSql, ExplainSql};
 ghost use Rattle.sr_query.specs.Bound.{is_table};
 ghost use Rattle.sr_reader.specs.declared.script.LinePlace.{LinePlace as TheLinePlace};
 ghost use Rattle.sr_reader.specs.Lined.{IsLine, AreLines, place_seen};
 ghost use Rattle.sr_reader.specs.LineSeen.{words_seen};
-ghost use Rattle.sr_reader.specs.Meaning.{IsSaid};
 ghost use Rattle.sr_setup.specs.Files.{first_fault};
-ghost use Rattle.sr_setup.specs.ClientFiles.{doer_of, second_place, client_fault, is_own, AreAsked};
+ghost use Rattle.sr_setup.specs.ClientFiles.{doer_of, second_place, client_fault, AreAsked};
 
-use crate::cut::cut_line;
 use crate::schema_file::CLIENTS;
 use sr_cell::list::{No, NoMemory, Seq};
 use sr_cell::schema::Schema;
-use sr_cell::text::Text;
+use sr_reader::cut::cut_line;
+use sr_reader::events::event_of;
 use sr_reader::line::{Line, read_line};
 use sr_reader::lines::Lines;
-use sr_reader::meaning::query_of;
-use sr_reader::script::{Event, EventLine, EventLines, LinePlace};
+use sr_reader::script::{EventLine, EventLines, LinePlace};
 use sr_reader::words::Words;
 use std::alloc::Global;
 
@@ -104,63 +101,6 @@ pub fn client_lines(alloc: Global, id: u8, bytes: &[u8]) -> Result<Lines<'_>, No
         number += 1;
     }
     Ok(lines)
-}
-
-/// A query, or why its text is refused.
-fn query(alloc: Global, schema: &Schema, client: u8, sql: &str) -> Result<Event, NoMemory>
-    requires tables { IsTrue (list_all is_table schema.now) }
-    ensures said { IfOk result (IsSaid schema.now (QuerySql client sql.now)) }
-    ensures own { IfOk result (λ event. IsTrue (is_own client event)) }
-{
-    match query_of(alloc, schema, sql) {
-        Ok(query) => Ok(Event::Query { client, query }),
-        Err(want) => Err(want),
-    }
-}
-
-/// A query to be explained, or why its text is refused.
-fn explain(alloc: Global, schema: &Schema, client: u8, sql: &str) -> Result<Event, NoMemory>
-    requires tables { IsTrue (list_all is_table schema.now) }
-    ensures said { IfOk result (IsSaid schema.now (ExplainSql client sql.now)) }
-    ensures own { IfOk result (λ event. IsTrue (is_own client event)) }
-{
-    match query_of(alloc, schema, sql) {
-        Ok(query) => Ok(Event::Explain { client, query }),
-        Err(want) => Err(want),
-    }
-}
-
-/// A write, as its text.
-fn write(alloc: Global, schema: &Schema, client: u8, sql: &str) -> Result<Event, NoMemory>
-    ensures said { IfOk result (IsSaid schema.now (WriteSql client sql.now)) }
-    ensures own { IfOk result (λ event. IsTrue (is_own client event)) }
-{
-    match Text::of(alloc, sql) {
-        Ok(sql) => Ok(Event::Write { client, sql }),
-        Err(want) => Err(want),
-    }
-}
-
-/// What the words of a client say to the tables.
-fn event_of(alloc: Global, schema: &Schema, words: Words<'_>) -> Result<Event, NoMemory>
-    requires tables { IsTrue (list_all is_table schema.now) }
-    requires doer { (id : ℕ) × (doer_of (words_seen words) ≡ Some id) }
-    ensures said { IfOk result (IsSaid schema.now (words_seen words.entry)) }
-    ensures own { (id : ℕ) → doer_of (words_seen words.entry) ≡ Some id → IfOk result (λ event. IsTrue (is_own id event)) }
-{
-    match words {
-        Words::Query { client, sql } => query(alloc, schema, client, sql),
-        Words::Write { client, sql } => write(alloc, schema, client, sql),
-        Words::Explain { client, sql } => explain(alloc, schema, client, sql),
-        Words::Evict { client, place } => Ok(Event::Evict { client, place }),
-        Words::Cut { client } => Ok(Event::Cut { client }),
-        Words::Resume { client } => Ok(Event::Resume { client }),
-        Words::Exec { .. }
-        | Words::Push { .. }
-        | Words::ToServer { .. }
-        | Words::ToClient { .. }
-        | Words::Settle { .. } => unreachable!(),
-    }
 }
 
 /// The events of the client's script that the lines are of, over these tables.

@@ -1,40 +1,21 @@
 //! An exec file.
-ghost use Rattle.std.specs.Prelude.{◌≡◌, ◌<◌, ◌≤◌, ◌^◌, ◌++◌, ◌||◌, not, filter, length, nat_eq, codes, [], ◌∷◌, None, Some, IfOk, IfErr, OnOk, IsErrOf};
-ghost use Rattle.std.specs.List.{starts_with};
+ghost use Rattle.std.specs.Prelude.{◌≡◌, ◌<◌, ◌≤◌, ◌^◌, ◌++◌, length, [], ◌∷◌, None, Some, IfOk, IfErr, OnOk, IsErrOf};
 ghost use Rattle.sr_cell.specs.declared.list.No.TheVariants.{Refused};
 ghost use Rattle.sr_lines.specs.Lines.{lines_of};
-ghost use Rattle.sr_lines.specs.Script.{is_blank};
 ghost use Rattle.sr_reader.specs.declared.script.LinePlace.{LinePlace as TheLinePlace};
 ghost use Rattle.sr_reader.specs.Lined.{place_seen};
-ghost use Rattle.sr_setup.specs.Files.{first_fault, exec_fault, is_silent, statements_of};
+ghost use Rattle.sr_setup.specs.Files.{first_fault, exec_fault, statements_of};
 
-use crate::cut::cut_line;
 use sr_cell::list::{No, NoMemory, Seq};
 use sr_cell::text::Text;
+use sr_reader::cut::cut_line;
+use sr_reader::line::is_silent;
 use sr_reader::script::LinePlace;
 use std::alloc::Global;
 use std::str;
 
 /// Texts of statements, in their order.
 pub type Statements = Seq<Text>;
-
-fn is_blank(line: &str) -> bool
-    ensures { result ≡ is_blank line.now }
-{
-    line.as_bytes().iter().all(|b| *b == b' ')
-}
-
-fn is_comment(line: &str) -> bool
-    ensures { result ≡ starts_with nat_eq line.now (codes "#") }
-{
-    line.starts_with("#")
-}
-
-fn is_silent(line: &str) -> bool
-    ensures { result ≡ is_silent line.now }
-{
-    is_blank(line) || is_comment(line)
-}
 
 /// A line of an exec file as a text; or the place of its first byte that is none.
 fn exec_line(bytes: &[u8]) -> Result<&str, u32>

@@ -4,7 +4,6 @@
 
 pub mod client_script;
 pub mod client_setup;
-pub mod cut;
 pub mod exec_file;
 pub mod schema_file;
 pub mod setup;

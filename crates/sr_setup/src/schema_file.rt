@@ -7,8 +7,8 @@ ghost use Rattle.sr_reader.specs.Lined.{IsLine, AreLines, place_seen};
 ghost use Rattle.sr_cell.specs.Clients.{most_clients};
 ghost use Rattle.sr_setup.specs.Files.{first_fault, schema_fault};
 
-use crate::cut::cut_line;
 use sr_cell::list::{No, Seq};
+use sr_reader::cut::cut_line;
 use sr_reader::line::{Line, read_line};
 use sr_reader::lines::Lines;
 use sr_reader::script::LinePlace;

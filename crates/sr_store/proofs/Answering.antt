@@ -2,7 +2,6 @@
 use Rattle.std.proofs.Common.{◌≡◌, ℕ, ◌+◌, ◌<◌, ◌≤◌, Bool, true, false, List, [], ◌++◌, map, length, refl, sym, ap, subst, ◌∙◌, arith}
 use Rattle.std.specs.List.{list_all, All}
 use Rattle.std.proofs.lemmas.List.Elements.{All-nil, All-weaker, All-map}
-use Rattle.std.proofs.lemmas.List.Sums.{AllPass-from_list_all, list_all-from_AllPass}
 use Rattle.sr_cell.specs.declared.cause.Cause.TheVariants.{Absorbed, Pieces}
 use Rattle.sr_cell.specs.declared.table.Table.{Table}
 use Rattle.sr_cell.specs.Columns.{table_at}
@@ -15,18 +14,17 @@ use Rattle.sr_store.specs.declared.store.Arrival.{Arrival}
 use Rattle.sr_store.specs.Classes.{ascends}
 use Rattle.sr_store.specs.Told.{Told, IsTold, IsTrueOf, AreTrueOf}
 use Rattle.sr_store.specs.Stores.{IsOfSchema, IsStore, count_rects, drop_of, IsAbsorbedIn}
-use Rattle.sr_store.specs.Answered.{IsArrival, AreApart, HaveArrived, held_of, AreFlags, flagged, is_used, rects_on, IsHeavy}
+use Rattle.sr_store.specs.Answered.{IsArrival, AreApart, HaveArrived, held_of, AreFlags, flagged, IsHeavy}
 use Rattle.sr_store.specs.Renewing.{IsRenewal, with_regions}
-use Rattle.sr_store.specs.Making.{IsKeyed, HasKey, CanJoin, without_rows, AreParted, IsStill, AreNews, ComesFrom, IsAbsorbedBy, IsAnswerOf}
+use Rattle.sr_store.specs.Making.{IsKeyed, HasKey, CanJoin, without_rows, AreParted, IsStill, AreNews, IsAbsorbedBy, IsAnswerOf}
 use Rattle.sr_store.proofs.Chunks.{regions-keys}
 use Rattle.sr_store.proofs.Dropping.{flagged_all, flagged_ascends, flagged_fewer, flagged_fewer_keys, flagged_few}
-use Rattle.sr_store.proofs.Given.{FitsPart, parts_cut, arrivals_cut}
+use Rattle.sr_store.proofs.Given.{FitsPart}
 use Rattle.sr_store.proofs.Heavy.{heavy_many}
-use Rattle.sr_store.proofs.Keeping.{arrivals_used}
 use Rattle.sr_store.proofs.Merging.{flags_both, count_both, drops_sifted}
-use Rattle.sr_store.proofs.Refusals.{old_come, left_cut}
+use Rattle.sr_store.proofs.Refusals.{left_cut}
 use Rattle.sr_store.proofs.Settled.{settled_less, flags_none, flags_same, absorbed_both}
-use Rattle.sr_store.proofs.Together.{changed_all, still_order, together, news_classes}
+use Rattle.sr_store.proofs.Together.{still_order, together, news_classes}
 
 has-key : (schema : List Table) (gs : List Region) → All (IsOfSchema schema) gs → All (HasKey (λ t. (table_at schema t).key)) gs
 has-key schema gs all = All-weaker (IsOfSchema schema) (HasKey (λ t. (table_at schema t).key)) (λ g is. is.1.area.key) gs all
@@ -140,17 +138,6 @@ module _ (schema : List Table) (number : ℕ) (parts : List Part) (arrivals : Li
         true_still = λ told is_told old_true rows. subst (AreTrueOf told) (sym is) (left-true told is_told old_true rows);
         cuts = left_cut schema number parts arrivals old all p.each fit are renewal answer.regions flags.0 is;
       }
-
--- what the new regions come from
-pub news_come : (schema : List Table) (number : ℕ) (parts : List Part) (arrivals : List Arrival) (old still changed news : List Region) → All (FitsPart schema) parts
-    → All (IsArrival schema parts) arrivals → AreParted schema number parts arrivals old still changed → IsRenewal schema number parts arrivals changed news → All (ComesFrom schema old parts arrivals) news
-news_come schema number parts arrivals old still changed news fit are p r =
-    let come = old_come schema old parts arrivals p.each in
-    let changed_come = changed_all schema number parts arrivals old still changed p (ComesFrom schema old parts arrivals) come in
-    let used = AllPass-from_list_all (λ (g : Region). is_used old arrivals g.table g.attrs) news
-    (r.used (is_used old arrivals) (list_all-from_AllPass (λ (g : Region). is_used old arrivals g.table g.attrs) changed (λ k d l. (changed_come k d l).0)) (arrivals_used old arrivals)) in
-    let cut = r.cuts (rects_on old parts arrivals) (λ k d l. (changed_come k d l).1) (parts_cut schema old parts arrivals fit) (arrivals_cut schema old parts arrivals are) in
-    λ k d l. (used k d l, cut k d l)
 
 -- too many rects
 pub news_heavy : (schema : List Table) (number : ℕ) (parts : List Part) (arrivals : List Arrival) (old still changed news : List Region) (fs es : List Bool) → list_all is_table schema ≡ true

@@ -29,10 +29,6 @@ use Rattle.sr_store.specs.Renewing.{touching, pieces_of, IsRestamped, IsCutFrom,
 abbrev pub HaveNoCommon : List Column → List Rect → List Rect → Type 0
 HaveNoCommon columns rects others = (p : Row) → IsTrue (is_point columns p) → (in_any rects p && in_any others p) ≡ false
 
--- these have just the points of the rects that the others have too
-abbrev pub HaveCommon : List Column → List Rect → List Rect → List Rect → Type 0
-HaveCommon columns rects others both = (p : Row) → IsTrue (is_point columns p) → in_any both p ≡ (in_any rects p && in_any others p)
-
 -- the halves of a region along the rects at the end, the inner one with a new stamp
 abbrev pub AddsHalves : Table → ℕ → Region → List Rect → List Region → List Region → Type 0
 AddsHalves t number g rects old new =

@@ -1,8 +1,8 @@
 //! Rows that give way to those that arrive: of one key and the same columns only the arriving row stays.
 ghost use Rattle.std.specs.Prelude.{◌≡◌, ◌==◌, ◌&&◌, true, false, [], ◌∷◌};
 ghost use Rattle.std.specs.List.{All};
-ghost use Rattle.sr_cell.specs.Cells.{cell_at, cell_le};
-ghost use Rattle.sr_model.specs.SortedRows.{ascend, has_key};
+ghost use Rattle.sr_cell.specs.Cells.{cell_at};
+ghost use Rattle.sr_model.specs.SortedRows.{ascend};
 ghost use Rattle.sr_region.specs.Regions.{rank};
 ghost use Rattle.sr_region.specs.declared.region.Region.{Region as TheRegion};
 ghost use Rattle.sr_store.specs.Answered.{gives_way, giving_way};
@@ -13,7 +13,7 @@ use crate::store::Arrival;
 use sr_cell::cell::{Cell, Row, Rows};
 use sr_cell::list::Seq;
 use sr_region::region::{Region, rank_of};
-use sr_rows::rows::{has_key_of, place_of};
+use sr_rows::rows::{has_key_of, has_key_of_row, is_row_at_most, place_of};
 
 /// The row of that key gone, where there is one.
 fn remove_key(rows: &mut Rows, place: usize, key: &Cell)
@@ -48,37 +48,6 @@ fn remove_each_key(rows: &mut Rows, place: usize, others: &[Row])
     }
 }
 
-#[tactic(auto, using(sr_rows::proofs::Order::cell_at_absent))]
-fn is_key_at_most(row: &Row, place: usize, cell: &Cell) -> bool
-    ensures { result ≡ cell_le (cell_at row.now place) cell.now }
-{
-    match row.get(place) {
-        Some(key) => key.is_at_most(cell),
-        None => Cell::Num(0).is_at_most(cell),
-    }
-}
-
-#[tactic(auto, using(sr_rows::proofs::Order::cell_at_absent))]
-fn is_any_at_most(row: &Row, other: &Row, place: usize) -> bool
-    ensures { result ≡ cell_le (cell_at row.now place) (cell_at other.now place) }
-{
-    match other.get(place) {
-        Some(cell) => is_key_at_most(row, place, cell),
-        None => is_key_at_most(row, place, &Cell::Num(0)),
-    }
-}
-
-/// Whether the row's key is of the other's kind and not above it. Numbers are compared here, since calls take longer than that.
-#[tactic(auto, using(sr_rows::proofs::Order::cell_at_absent))]
-fn is_at_most(row: &Row, other: &Row, place: usize) -> bool
-    ensures { result ≡ cell_le (cell_at row.now place) (cell_at other.now place) }
-{
-    match (row.get(place), other.get(place)) {
-        (Some(Cell::Num(one)), Some(Cell::Num(two))) => *one <= *two,
-        _ => is_any_at_most(row, other, place),
-    }
-}
-
 /// Whether the rows have a key in common with the others, by a walk along both.
 fn share_near(rows: &[Row], others: &[Row], place: usize) -> bool
     requires rows { ascend place rows.now ≡ true }
@@ -91,26 +60,15 @@ fn share_near(rows: &[Row], others: &[Row], place: usize) -> bool
         let Some((other, after)) = others.split_first() else {
             return false;
         };
-        if !is_at_most(other, row, place) {
+        if !is_row_at_most(other, row, place) {
             rows = behind;
-        } else if !is_at_most(row, other, place) {
+        } else if !is_row_at_most(row, other, place) {
             others = after;
         } else {
             return true;
         }
     }
     false
-}
-
-#[tactic(auto, using(sr_rows::proofs::Order::cell_at_absent))]
-fn has_key_of_row(rows: &Rows, place: usize, row: &Row) -> bool
-    requires { ascend place rows.now ≡ true }
-    ensures { result ≡ has_key place (cell_at row.now place) rows.now }
-{
-    match row.get(place) {
-        Some(key) => has_key_of(rows, place, key),
-        None => has_key_of(rows, place, &Cell::Num(0)),
-    }
 }
 
 /// Whether the rows have a key in common with the others, by looking for each.
@@ -133,7 +91,7 @@ fn is_below(rows: &[Row], others: &[Row], place: usize) -> bool
     ensures { result ≡ true → shares_key place others.now rows.now ≡ false }
 {
     match (rows.last(), others.first()) {
-        (Some(last), Some(first)) => !is_at_most(first, last, place),
+        (Some(last), Some(first)) => !is_row_at_most(first, last, place),
         _ => false,
     }
 }

@@ -5,7 +5,7 @@ ghost use Rattle.sr_lines.specs.Lines.{lines_of};
 ghost use Rattle.sr_lines.specs.Script.{part_of, behind};
 ghost use Rattle.sr_summary.specs.Summary.{count_of, has_second};
 
-use sr_setup::cut::cut_line;
+use sr_reader::cut::cut_line;
 
 /// What stands behind the first space.
 fn behind(line: &[u8]) -> &[u8]

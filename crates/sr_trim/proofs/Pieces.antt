@@ -1,5 +1,5 @@
 -- What is left of rects, from what was cut and tidied.
-use Rattle.std.proofs.Common.{◌≡◌, ◌≢◌, ℕ, ◌<◌, ◌≤◌, ◌*◌, ◌⊎◌, ◌↔◌, inl, inr, Bool, true, false, List, [], ◌∷◌, ◌++◌, length, refl, arith, ◌∙◌, sym, ap, subst}
+use Rattle.std.proofs.Common.{◌≡◌, ℕ, ◌<◌, ◌≤◌, ◌⊎◌, ◌↔◌, inl, inr, Bool, true, false, List, [], ◌∷◌, ◌++◌, length, refl, arith, ◌∙◌, sym, ap, subst}
 use Rattle.std.specs.Prelude.{not, ◌&&◌, nat_eq, nat_le, if◌then◌else◌}
 use Rattle.std.specs.List.{list_all, AllByRecursion}
 use Rattle.std.proofs.lemmas.Bool.Decides.{nat_tests}
@@ -91,16 +91,6 @@ once_over cs rects cover limit fit h = let few = grid_among cs (rects ++ cover) 
 
 pub cut_over : (cs : List Column) (given left : List Rect) (limit : ℕ) → AreCutFrom cs given left → limit < grid cs left → limit < grid cs given
 cut_over cs given left limit cut h = let few = grid_among cs given left cut in omega (arith, h, few)
-
--- where one is passed there are rects
-pub once_some : (cs : List Column) (rects once : List Rect) (limit size : ℕ) → IsOnce cs rects once → (((p : Row) → is_point cs p ≡ true → times once p ≤ 0) → limit < 0 * size) → rects ≢ []
-once_some cs [] once limit size is passed none = let few = passed (λ p e. omega (arith, is p e)) in absurd (omega (arith, few))
-once_some cs (r ∷ rects) once limit size is passed none = absurd (cc)
-
-pub left_over_some : (cs : List Column) (rects cover left : List Rect) → have_first cs ≡ true → list_all (rect_fits cs) left ≡ true → ((p : Row) → is_point cs p ≡ true → in_any left p ≡ left_over rects cover p)
-    → left ≢ [] → rects ≢ []
-left_over_some cs [] cover left first fit same some none = some ((left_empty cs (left_over [] cover) left first fit same).1 (λ p e. refl))
-left_over_some cs (r ∷ rects) cover left first fit same some none = absurd (cc)
 
 -- rects of a table are not wide
 pub all_narrow : (cs : List Column) (rects : List Rect) → length cs ≤ 12 → list_all (rect_fits cs) rects ≡ true → list_all (λ rect. nat_le (length rect) 16) rects ≡ true

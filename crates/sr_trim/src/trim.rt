@@ -1,5 +1,5 @@
 //! Parts of queries without the points that a client holds.
-ghost use Rattle.std.specs.Prelude.{◌≡◌, ◌≢◌, ℕ, ◌<◌, ◌≤◌, ◌||◌, nat_le, true, List, [], ◌++◌, ◌⊎◌, ◌↔◌, length, IfOk, IsErrOf, IsTrue};
+ghost use Rattle.std.specs.Prelude.{◌≡◌, ℕ, ◌<◌, ◌≤◌, ◌||◌, nat_le, true, List, [], ◌++◌, ◌⊎◌, ◌↔◌, length, IfOk, IsErrOf, IsTrue};
 ghost use Rattle.std.specs.List.{list_all};
 ghost use Rattle.sr_cell.specs.declared.list.No.TheVariants.{Refused};
 ghost use Rattle.sr_cell.specs.Attrs.{has_column};
@@ -39,7 +39,6 @@ fn left_of(
     requires cover_fits { list_all (rect_fits table.now.columns) cover.now ≡ true }
     ensures points { IfOk result (λ left. AreSame table.now.columns (in_any left) (left_over rects.now cover.now)) }
     ensures cuts { IfOk result (λ left. AreCutFrom table.now.columns (rects.now ++ cover.now) left) }
-    ensures some { IsErrOf result (Refused (record {})) → rects.now ≢ [] }
     ensures over { IsErrOf result (Refused (record {})) → limit < grid table.now.columns (rects.now ++ cover.now) }
 {
     let once = match rects.disjoint(alloc, table, limit) {
@@ -65,7 +64,6 @@ fn rest_of(
     ensures left { IfOk result (λ rest. AreLeft table.now.columns part.now.need (left_over part.now.rects cover.now) rest) }
     ensures cuts { IfOk result (λ rest. AreCutFrom table.now.columns (part.now.rects ++ cover.now) rest) }
     ensures few { IfOk result (λ rest. length rest ≤ limit) }
-    ensures some { IsErrOf result (Refused (record {})) → part.now.rects ≢ [] }
     ensures over { IsErrOf result (Refused (record {})) → limit < grid table.now.columns (part.now.rects ++ cover.now) }
 {
     let left = match left_of(alloc, &part.rects, table, cover, limit) {
@@ -92,7 +90,7 @@ fn rest_if_any(
     ensures left { IfOk result (λ rest. AreLeft table.now.columns part.now.need (left_over part.now.rects cover.now) rest) }
     ensures cuts { IfOk result (λ rest. AreCutFrom table.now.columns (part.now.rects ++ cover.now) rest) }
     ensures few { IfOk result (λ rest. length rest ≤ limit) }
-    ensures some { IsErrOf result (Refused (record {})) → part.now.rects ≢ [] }
+    ensures over_left { IsErrOf result (Refused (record {})) → HasNoPoint table.now.columns (left_over part.now.rects cover.now) → ⊥ }
     ensures over { IsErrOf result (Refused (record {})) → limit < grid table.now.columns (part.now.rects ++ cover.now) }
 {
     if part.rects.within(alloc, cover, table)? {
@@ -139,7 +137,7 @@ pub fn trim(
     ensures some { IfOk result (λ t. (t.rest ≡ [] → ⊥) → HasPoint table.now.columns (left_over part.now.rects cover.now)) }
     ensures cuts { IfOk result (λ t. AreCutFrom table.now.columns (part.now.rects ++ cover.now) t.rest) }
     ensures few { IfOk result (λ t. length t.rest ≤ limit) }
-    ensures over_some { IsErrOf result (Refused (record {})) → part.now.rects ≢ [] }
+    ensures over_left { IsErrOf result (Refused (record {})) → HasNoPoint table.now.columns (left_over part.now.rects cover.now) → ⊥ }
     ensures over { IsErrOf result (Refused (record {})) → limit < grid table.now.columns (part.now.rects ++ cover.now) }
 {
     let rest = match rest_if_any(alloc, part, table, cover, limit) {

@@ -16,7 +16,7 @@ use Rattle.sr_words.specs.declared.command.ServeWords.{ServeWords}
 use Rattle.sr_words.specs.declared.command.ExplainWords.{ExplainWords}
 use Rattle.sr_words.specs.declared.command.GenerateWords.{GenerateWords}
 use Rattle.sr_words.specs.Forms.{rows_in, replay_form, client_form, serve_form, explain_form, generate_form}
-use Rattle.sr_words.specs.Words.{are_digits, number_of, number_or, number_in, text_of, text_or_none, policy_of, loads_of, limits_of, log_of, setup_of, replay_of, client_of, serve_of, explain_of, generate_of, replay_words, client_words, serve_words, explain_words, generate_words, command_by, command_of}
+use Rattle.sr_words.specs.Words.{are_digits, number_of, number_or, number_in, policy_of, loads_of, limits_of, log_of, setup_of, replay_of, client_of, serve_of, explain_of, generate_of, replay_words, client_words, serve_words, explain_words, generate_words, command_by, command_of}
 use Rattle.sr_words.specs.Ranges.{AreLimits, IsSetup, IsInRange}
 use Rattle.sr_words.specs.Reads.{Reads}
 use Rattle.sr_words.specs.declared.fault.WordsFault.{WordsFault}
@@ -80,7 +80,7 @@ setup found said is =
 replay : (found : List Row) (said : ReplayWords) → replay_of found ≡ Some said → IsInRange (Replay said)
 replay found said is =
     let how = step _ (setup_of found) said is in
-    let script = step _ (text_of (first_of (codes "file") found)) said how.2 in
+    let script = step _ (first_of (codes "file") found) said how.2 in
     let loads = step _ (loads_of found) said script.2 in
     subst (λ w. IsInRange (Replay w)) (same _ said loads.2) (setup found how.0 how.1)
 
@@ -88,18 +88,17 @@ client : (found : List Row) (said : ClientWords) → client_of found ≡ Some sa
 client found said is =
     let kept = step _ (limits_of found) said is in
     let id = step _ (number_in 1 64 (first_of (codes "id") found)) said kept.2 in
-    let schema = step _ (text_of (first_of (codes "schema") found)) said id.2 in
-    let address = step _ (text_of (first_of (codes "address") found)) said schema.2 in
-    let script = step _ (text_of (first_of (codes "file") found)) said address.2 in
+    let schema = step _ (first_of (codes "schema") found) said id.2 in
+    let address = step _ (first_of (codes "address") found) said schema.2 in
+    let script = step _ (first_of (codes "file") found) said address.2 in
     let range = within_in 1 64 (first_of (codes "id") found) id.0 id.1 in
     subst (λ w. IsInRange (Client w)) (same _ said script.2) (limits found kept.0 kept.1, range.0, range.1)
 
 serve : (found : List Row) (said : ServeWords) → serve_of found ≡ Some said → IsInRange (Serve said)
 serve found said is =
     let log = step _ (log_of found) said is in
-    let exec = step _ (text_or_none (first_of (codes "exec") found)) said log.2 in
-    let schema = step _ (text_of (first_of (codes "schema") found)) said exec.2 in
-    let address = step _ (text_of (first_of (codes "address") found)) said schema.2 in
+    let schema = step _ (first_of (codes "schema") found) said log.2 in
+    let address = step _ (first_of (codes "address") found) said schema.2 in
     let count = step _ (number_in 1 1000000 (first_of (codes "count") found)) said address.2 in
     let loads = step _ (loads_of found) said count.2 in
     let range = within_in 1 1000000 (first_of (codes "count") found) count.0 count.1 in
@@ -109,8 +108,8 @@ serve found said is =
 explain : (found : List Row) (said : ExplainWords) → explain_of found ≡ Some said → IsInRange (Explain said)
 explain found said is =
     let how = step _ (setup_of found) said is in
-    let script = step _ (text_of (first_of (codes "file") found)) said how.2 in
-    let sql = step _ (text_of (first_of (codes "sql") found)) said script.2 in
+    let script = step _ (first_of (codes "file") found) said how.2 in
+    let sql = step _ (first_of (codes "sql") found) said script.2 in
     subst (λ w. IsInRange (Explain w)) (same _ said sql.2) (setup found how.0 how.1)
 
 generate : (found : List Row) (said : GenerateWords) → generate_of found ≡ Some said → IsInRange (Generate said)

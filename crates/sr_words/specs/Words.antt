@@ -56,16 +56,6 @@ abbrev pub is_said : Option (List ℕ) → Bool
 is_said None = false
 is_said (Some word) = bytes_eq word (codes "true")
 
--- a word that has to be there and is not empty: a name, an address or a statement
-abbrev pub text_of : Option (List ℕ) → Option (List ℕ)
-text_of None = None
-text_of (Some word) = if length word == 0 then None else Some word
-
--- the name that an option says, if it does
-abbrev pub text_or_none : Option (List ℕ) → Option (Option (List ℕ))
-text_or_none None = Some None
-text_or_none (Some word) = if length word == 0 then None else Some (Some word)
-
 -- the word cut at this place, where the `=` stands
 abbrev pub cut_at : List ℕ → Option ℕ → Option LoadWord
 cut_at word None = None
@@ -114,7 +104,7 @@ loads_of found = load_words (unwrap_or (all_of (codes "loads") found) [])
 abbrev pub replay_of : List Row → Option ReplayWords
 replay_of found = do
   setup ← setup_of found
-  script ← text_of (first_of (codes "file") found)
+  script ← first_of (codes "file") found
   loads ← loads_of found
   Some (record { setup = setup; script = script; loads = loads })
 
@@ -122,26 +112,25 @@ abbrev pub client_of : List Row → Option ClientWords
 client_of found = do
   limits ← limits_of found
   id ← number_in 1 64 (first_of (codes "id") found)
-  schema ← text_of (first_of (codes "schema") found)
-  address ← text_of (first_of (codes "address") found)
-  script ← text_of (first_of (codes "file") found)
+  schema ← first_of (codes "schema") found
+  address ← first_of (codes "address") found
+  script ← first_of (codes "file") found
   Some (record { limits = limits; id = id; schema = schema; address = address; script = script })
 
 abbrev pub serve_of : List Row → Option ServeWords
 serve_of found = do
   log ← log_of found
-  exec ← text_or_none (first_of (codes "exec") found)
-  schema ← text_of (first_of (codes "schema") found)
-  address ← text_of (first_of (codes "address") found)
+  schema ← first_of (codes "schema") found
+  address ← first_of (codes "address") found
   count ← number_in 1 1000000 (first_of (codes "count") found)
   loads ← loads_of found
-  Some (record { log = log; exec = exec; schema = schema; address = address; count = count; loads = loads })
+  Some (record { log = log; exec = first_of (codes "exec") found; schema = schema; address = address; count = count; loads = loads })
 
 abbrev pub explain_of : List Row → Option ExplainWords
 explain_of found = do
   setup ← setup_of found
-  script ← text_of (first_of (codes "file") found)
-  sql ← text_of (first_of (codes "sql") found)
+  script ← first_of (codes "file") found
+  sql ← first_of (codes "sql") found
   Some (record { setup = setup; script = script; sql = sql })
 
 abbrev pub generate_of : List Row → Option GenerateWords

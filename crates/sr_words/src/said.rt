@@ -63,109 +63,62 @@ const EVENTS: Range = Range {
 pub fn replay_of(alloc: Global, found: &ArgMatches<'_>) -> Result<ReplayWords, WordsFault>
     ensures { Reads (replay_of (rows_of (found_of found.now))) result }
 {
-    let setup = match setup_of(found) {
-        Some(setup) => setup,
-        None => return Err(WordsFault::NotInForm),
-    };
-    let script = match text_of(alloc, value(found, "file")) {
-        Ok(script) => script,
-        Err(fault) => return Err(fault),
-    };
-    match loads_of(alloc, found) {
-        Ok(loads) => Ok(ReplayWords {
-            setup,
-            script,
-            loads,
-        }),
-        Err(fault) => Err(fault),
-    }
+    let setup = setup_of(found).ok_or(WordsFault::NotInForm)?;
+    let script = text_of(alloc, value(found, "file"))?;
+    let loads = loads_of(alloc, found)?;
+    Ok(ReplayWords {
+        setup,
+        script,
+        loads,
+    })
 }
 
 /// What the words say to `client`.
 pub fn client_of(alloc: Global, found: &ArgMatches<'_>) -> Result<ClientWords, WordsFault>
     ensures { Reads (client_of (rows_of (found_of found.now))) result }
 {
-    let limits = match limits_of(found) {
-        Some(limits) => limits,
-        None => return Err(WordsFault::NotInForm),
-    };
-    let id = match number_in(ID, value(found, "id")) {
-        Some(id) => id as u8,
-        None => return Err(WordsFault::NotInForm),
-    };
-    let schema = match text_of(alloc, value(found, "schema")) {
-        Ok(schema) => schema,
-        Err(fault) => return Err(fault),
-    };
-    let address = match text_of(alloc, value(found, "address")) {
-        Ok(address) => address,
-        Err(fault) => return Err(fault),
-    };
-    match text_of(alloc, value(found, "file")) {
-        Ok(script) => Ok(ClientWords {
-            limits,
-            id,
-            schema,
-            address,
-            script,
-        }),
-        Err(fault) => Err(fault),
-    }
+    let limits = limits_of(found).ok_or(WordsFault::NotInForm)?;
+    let id = number_in(ID, value(found, "id")).ok_or(WordsFault::NotInForm)? as u8;
+    let schema = text_of(alloc, value(found, "schema"))?;
+    let address = text_of(alloc, value(found, "address"))?;
+    let script = text_of(alloc, value(found, "file"))?;
+    Ok(ClientWords {
+        limits,
+        id,
+        schema,
+        address,
+        script,
+    })
 }
 
 /// What the words say to `serve`.
 pub fn serve_of(alloc: Global, found: &ArgMatches<'_>) -> Result<ServeWords, WordsFault>
     ensures { Reads (serve_of (rows_of (found_of found.now))) result }
 {
-    let log = match log_of(found) {
-        Some(log) => log,
-        None => return Err(WordsFault::NotInForm),
-    };
-    let exec = match text_or_none(alloc, value(found, "exec")) {
-        Ok(exec) => exec,
-        Err(fault) => return Err(fault),
-    };
-    let schema = match text_of(alloc, value(found, "schema")) {
-        Ok(schema) => schema,
-        Err(fault) => return Err(fault),
-    };
-    let address = match text_of(alloc, value(found, "address")) {
-        Ok(address) => address,
-        Err(fault) => return Err(fault),
-    };
-    let count = match number_in(COUNT, value(found, "count")) {
-        Some(count) => count as u32,
-        None => return Err(WordsFault::NotInForm),
-    };
-    match loads_of(alloc, found) {
-        Ok(loads) => Ok(ServeWords {
-            log,
-            exec,
-            schema,
-            address,
-            count,
-            loads,
-        }),
-        Err(fault) => Err(fault),
-    }
+    let log = log_of(found).ok_or(WordsFault::NotInForm)?;
+    let exec = text_or_none(alloc, value(found, "exec"))?;
+    let schema = text_of(alloc, value(found, "schema"))?;
+    let address = text_of(alloc, value(found, "address"))?;
+    let count = number_in(COUNT, value(found, "count")).ok_or(WordsFault::NotInForm)? as u32;
+    let loads = loads_of(alloc, found)?;
+    Ok(ServeWords {
+        log,
+        exec,
+        schema,
+        address,
+        count,
+        loads,
+    })
 }
 
 /// What the words say to `explain`.
 pub fn explain_of(alloc: Global, found: &ArgMatches<'_>) -> Result<ExplainWords, WordsFault>
     ensures { Reads (explain_of (rows_of (found_of found.now))) result }
 {
-    let setup = match setup_of(found) {
-        Some(setup) => setup,
-        None => return Err(WordsFault::NotInForm),
-    };
-    let script = match text_of(alloc, value(found, "file")) {
-        Ok(script) => script,
-        Err(fault) => return Err(fault),
-    };
-    match text_of(alloc, value(found, "sql")) {
-        Ok(sql) => Ok(ExplainWords { setup, script, sql }),
-        Err(fault) => Err(fault),
-    }
+    let setup = setup_of(found).ok_or(WordsFault::NotInForm)?;
+    let script = text_of(alloc, value(found, "file"))?;
+    let sql = text_of(alloc, value(found, "sql"))?;
+    Ok(ExplainWords { setup, script, sql })
 }
 
 /// What the words say to `generate`.

@@ -1,9 +1,9 @@
 //! What the values of the words say.
-ghost use Rattle.std.specs.Prelude.{◌≡◌, ◌≤◌, ℕ, true, map, option_map, IfSome};
+ghost use Rattle.std.specs.Prelude.{◌≡◌, ◌≤◌, ℕ, true, map, option_map, Some, IfSome};
 ghost use Rattle.std.specs.List.{list_all};
 ghost use Rattle.std.specs.Char.{is_ascii_digit};
 ghost use Rattle.std.specs.Str.Parse.{digits_value};
-ghost use Rattle.sr_words.specs.Words.{are_digits, number_of, number_or, number_in, policy_of, is_said, text_of, text_or_none, cut_word, load_words};
+ghost use Rattle.sr_words.specs.Words.{are_digits, number_of, number_or, number_in, policy_of, is_said, cut_word, load_words};
 ghost use Rattle.sr_words.specs.Seen.{load_of};
 ghost use Rattle.sr_words.specs.Reads.{Reads};
 
@@ -113,34 +113,26 @@ pub fn is_said(word: Option<&str>) -> bool
     }
 }
 
-/// A word that has to be there and is not empty.
+/// A word that has to be there.
 pub fn text_of(alloc: Global, word: Option<&str>) -> Result<Text, WordsFault>
-    ensures { Reads (text_of (option_map (λ w. w.now) word.entry)) result }
+    ensures { Reads (option_map (λ w. w.now) word.entry) result }
 {
     match word {
         None => Err(WordsFault::NotInForm),
-        Some(word) => {
-            if word.is_empty() {
-                return Err(WordsFault::NotInForm);
-            }
-            match Text::of(alloc, word) {
-                Ok(text) => Ok(text),
-                Err(_) => Err(WordsFault::NoMemory),
-            }
-        }
+        Some(word) => match Text::of(alloc, word) {
+            Ok(text) => Ok(text),
+            Err(_) => Err(WordsFault::NoMemory),
+        },
     }
 }
 
-/// The name that an option says, if it does.
+/// A word that need not be there.
 pub fn text_or_none(alloc: Global, word: Option<&str>) -> Result<Option<Text>, WordsFault>
-    ensures { Reads (text_or_none (option_map (λ w. w.now) word.entry)) result }
+    ensures { Reads (Some (option_map (λ w. w.now) word.entry)) result }
 {
     match word {
         None => Ok(None),
-        Some(word) => match text_of(alloc, Some(word)) {
-            Ok(text) => Ok(Some(text)),
-            Err(no) => Err(no),
-        },
+        Some(_) => Ok(Some(text_of(alloc, word)?)),
     }
 }
 

@@ -85,7 +85,7 @@ query-sends schema n past (query.Asked q request message marks) o sends says =
     let one : is_request_of schema n (kinds.Ask request says.1 says.2) ≡ true = subst (λ m. is_request_of schema n m ≡ true) says.3 sends.request in
     rw says.4 (sends-one schema n (kinds.Ask request says.1 says.2) one)
 query-sends schema n past (query.Busy request) o sends says = rw says refl
-query-sends schema n past (query.Down number marks) o sends says = rw says refl
+query-sends schema n past (query.Down number) o sends says = rw says refl
 
 -- ---- what a client does, and what it sends
 
@@ -427,7 +427,7 @@ query-each schema n past (query.Asked q request message marks) o sends says = λ
     let here : kinds.Ask request says.1 says.2 ∷ [] ≡ m ∷ [] = ap sent_of (sym says.4) ∙ is in
     subst IsSendable (says.3 ∙ only (kinds.Ask request says.1 says.2) m here) sends.sendable
 query-each schema n past (query.Busy request) o sends says = rw says none-sent
-query-each schema n past (query.Down number marks) o sends says = rw says none-sent
+query-each schema n past (query.Down number) o sends says = rw says none-sent
 
 pub query-sendable : (old : Seat) (mid : Client) (meaning : Query) (step : QueryStep) (sent : Option Message) → (server : Server) × IsSomeSeat old server → Queries old.client meaning mid step
     → ((past : session.Client) (o : Outcome) → SaysQuery past step o → option_to_list sent ≡ sent_of o) → QuerySendsWell old.client.schema old.client.id step → IfSome sent IsSendable

@@ -72,7 +72,7 @@ query-draws b c text o new (query_busy q request out) = omega arith
 query-draws b c text o new (query_answered q rows marks n out asks right step) =
     let drawn = answer-draws b (answering_now c q) c marks new step in
     omega (arith, drawn, one-more q true c)
-query-draws b c text o new (query_down q drops old ask others out before cut asks) = omega (arith, before-draws b q c drops new before)
+query-draws b c text o new (query_down q out down left) = omega arith
 query-draws b c text o new (query_asks q drops old ask others fresh out before cut asks few where_fresh) =
     omega (arith, before-draws b q c drops old before, one-more q false old)
 

@@ -62,9 +62,8 @@ pub fn told_of_query(alloc: Global, client: u8, step: QueryStep) -> Result<Told,
             let last = TraceLine::QueryBusy { client, request };
             told_with(Seq::new(alloc), last, None)
         }
-        QueryStep::Down { cut, marks } => {
-            let lines = mark_lines(alloc, client, marks)?;
-            told_with(lines, TraceLine::QueryDown { client, cut }, None)
+        QueryStep::Down { cut } => {
+            told_with(Seq::new(alloc), TraceLine::QueryDown { client, cut }, None)
         }
     }
 }

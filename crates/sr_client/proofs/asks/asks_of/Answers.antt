@@ -5,7 +5,7 @@ use Rattle.sr_union.proofs.Once.{err_same}
 use Rattle.sr_client.specs.Asking.{AsksRest, AreMeant}
 use Rattle.sr_client.specs.Cutting.{AreCutAlong}
 use Rattle.sr_client.proofs.Items.{take-item, take-end}
-use Rattle.sr_client.proofs.AskLemmas.{IsAskedOf, asked-none, asked-more, over-at, meant-at}
+use Rattle.sr_client.proofs.AskLemmas.{IsAskedOf, asked-none, asked-more, over-at, meant-at, leaves-at}
 use Rattle.sr_client.proofs.asks.asks_of.Goals as goal
 
 pub loop-part-init : goal.loop-part-init
@@ -34,6 +34,10 @@ loop-part-preserved c =
 pub returns-in-Err-clause-over : goal.returns-in-Err-clause-over
 returns-in-Err-clause-over c = λ e.
     over-at c.args.schema.now c.args.store.now.regions c.args.parts.now c.loop-part.part-index c.part-item.result c.loop-part.room c.loop-part.asks (search rules) c.part-item.is c.loop-part.invariant (c.in-Err.ensures.over (err_same c.in-Err.no _ e))
+
+pub returns-in-Err-clause-over_left : goal.returns-in-Err-clause-over_left
+returns-in-Err-clause-over_left c = λ e.
+    leaves-at c.args.schema.now c.args.store.now.regions c.args.parts.now c.loop-part.part-index c.part-item.result (search rules) c.part-item.is (c.in-Err.ensures.over_left (err_same c.in-Err.no _ e))
 
 pub returns-clause-asks : goal.returns-clause-asks
 returns-clause-asks c = subst (λ ps. AsksRest c.args.schema.now c.args.store.now.regions ps c.loop-part.asks) (take-end c.args.parts.now c.loop-part.part-index (search rules)) c.loop-part.invariant.rest

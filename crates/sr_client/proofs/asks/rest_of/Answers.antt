@@ -1,6 +1,6 @@
-use Rattle.std.proofs.Common.{◌≡◌, ◌<◌, ◌≤◌, ◌∷◌, [], ◌++◌, sym, subst, ap, true, get_or, arith}
+use Rattle.std.proofs.Common.{◌≡◌, ◌<◌, ◌≤◌, ◌∷◌, [], ◌++◌, ◌∙◌, sym, subst, ap, true, get_or, arith}
 use Rattle.std.specs.List.{list_all}
-use Rattle.sr_box.specs.Points.{rect_fits, times}
+use Rattle.sr_box.specs.Points.{rect_fits, times, HasNoPoint}
 use Rattle.sr_cell.specs.declared.table.Table.{Table}
 use Rattle.sr_cell.specs.Cells.{Row}
 use Rattle.sr_cell.specs.Columns.{table_at, is_point}
@@ -15,7 +15,7 @@ use Rattle.sr_client.specs.Asking.{AsksRest}
 use Rattle.sr_client.specs.Cutting.{AreCutAlong, grid_of_part}
 use Rattle.sr_client.proofs.Items.{table-read}
 use Rattle.sr_client.proofs.Covers.{cover-fits}
-use Rattle.sr_client.proofs.AskLemmas.{IsTrimmed, trimmed-same, asks-rest, rest-along, entry-count, sound-one}
+use Rattle.sr_client.proofs.AskLemmas.{IsTrimmed, trimmed-same, asks-rest, rest-along, entry-count, sound-one, leaves-one}
 use Rattle.sr_client.proofs.Nearing.{near-left, near-cuts, rest-within, over-within}
 use Rattle.sr_client.proofs.TableLemmas.{have-first}
 use Rattle.sr_client.proofs.asks.rest_of.Goals as goal
@@ -88,4 +88,16 @@ returns-clause-over c = λ e.
     let refused = err_same c.in-Err.no _ e in
     let of_table = subst (λ (t : Table). c.args.room < grid t.columns (part.rects ++ c.in_ok-cover.cover)) table (c.in-Err.ensures.over refused) in
     let of_cover = subst (λ rects. c.args.room < grid (table_at s part.table).columns (part.rects ++ rects)) c.in_ok-cover.ensures of_table in
-    over-within (table_at s part.table).columns part.rects (cover_of part gs) c.args.room sound.fits (cover-fits s part gs c.requires.store.each) (c.in-Err.ensures.over_some refused) of_cover
+    over-within (table_at s part.table).columns part.rects (cover_of part gs) c.args.room sound.fits (cover-fits s part gs c.requires.store.each)
+    (λ none. c.in-Err.ensures.over_left refused (λ p point. ap (λ rects. left_over rects c.in_ok-cover.cover p) none)) of_cover
+
+pub returns-clause-over_left : goal.returns-clause-over_left
+returns-clause-over_left c = λ e.
+    let s = c.args.schema.now in
+    let gs = c.args.store.now.regions in
+    let part = c.args.part.now in
+    let sound = sound-one s part c.requires.meant in
+    let table = table-read s part.table c.index-as_slice-part.result sound.within (subst (λ xs. c.index-as_slice-part.result ≡ get_or xs part.table c.index-as_slice-part.result) c.as_slice.ensures c.index-as_slice-part.is) in
+    let of_table = subst (λ (t : Table). HasNoPoint t.columns (left_over part.rects c.in_ok-cover.cover) → ⊥) table (c.in-Err.ensures.over_left (err_same c.in-Err.no _ e)) in
+    let of_cover = subst (λ rects. HasNoPoint (table_at s part.table).columns (left_over part.rects rects) → ⊥) c.in_ok-cover.ensures of_table in
+    leaves-one s gs part (λ none. of_cover (λ p point. near-left part.rects (cover_of part gs) p ∙ none p point))

@@ -64,7 +64,7 @@ returns-clause-ran g c =
     (g.H.Outside.writing c.exec_all.new.sink) (g.H.Outside.writing c.serve_some.new.host) c.exec_all.new.server
     (subst (λ (w : Writing). Appends w.written (g.H.Outside.writing c.write_all.new.sink).written listening) c.dock.ensures.writing_stays c.in-Ok-write_all.ensures.whole)
     (c.in-Ok-write_all.ensures.ok_keeps_faults ∙ ap (λ (w : Writing). w.faults) c.dock.ensures.writing_stays)
-    done (IsEnd c.serve_some.new.server) ending (subst (λ l. EndsBy Gives ending done.last c.args.count l (g.H.Outside.linking c.serve_some.new.host) (g.H.Outside.writing c.exec_all.new.sink)
+    done c.serve_some.new.server ending (subst (λ l. EndsBy Gives ending done.last c.args.count l (g.H.Outside.linking c.serve_some.new.host) (g.H.Outside.writing c.exec_all.new.sink)
     (g.H.Outside.writing c.serve_some.new.host) (IsEnd c.serve_some.new.server)) link e))
     (c.serve_some.ensures.ending done.last (c.new-end.ensures.stands done.last done.stands))
 

@@ -6,8 +6,8 @@ use Rattle.sr_store.proofs.give_way.share_near.Goals as goal
 pub returns-in_default-split_first : goal.returns-in_default-split_first
 returns-in_default-split_first c = walk-ends c.args.place c.loop-row.rows.now c.loop-row.others.now _ (search rules) c.loop-row.invariant.left
 
-pub loop-row-preserved-then-not-is_at_most : goal.loop-row-preserved-then-not-is_at_most
-loop-row-preserved-then-not-is_at_most c =
+pub loop-row-preserved-then-not-is_row_at_most : goal.loop-row-preserved-then-not-is_row_at_most
+loop-row-preserved-then-not-is_row_at_most c =
     let row = c.in-Some.row.now in
     let rows : c.loop-row.rows.now ≡ row ∷ c.in-Some.behind.now = search rules in
     let others : c.loop-row.others.now ≡ c.in-Some-split_first.other.now ∷ c.in-Some-split_first.after.now = search rules in

@@ -2,7 +2,7 @@ use Rattle.std.proofs.Common.{◌++◌, arith}
 use Rattle.sr_union.proofs.Parts.{are_fit}
 use Rattle.sr_union.proofs.Once.{are_trans, err_same, once_le}
 use Rattle.sr_trim.proofs.Tables.{table_inner, table_first}
-use Rattle.sr_trim.proofs.Pieces.{once_left, once_cut, once_over, once_some, cut_over}
+use Rattle.sr_trim.proofs.Pieces.{once_left, once_cut, once_over, cut_over}
 use Rattle.sr_trim.proofs.trim.left_of.Goals as goal
 
 pub disjoint-requires-clause-inner : goal.disjoint-requires-clause-inner
@@ -38,10 +38,3 @@ returns-clause-over c = λ e.
     let passed = c.in-Err-minus.ensures.over 1 (err_same c.in-Err-minus.no _ e) (once_le c.args.table.now.columns c.args.rects.now c.in-Ok.once c.in-Ok.ensures.points) in
     cut_over c.args.table.now.columns (c.args.rects.now ++ c.args.cover.now) (c.in-Ok.once ++ c.args.cover.now) c.args.limit
     (once_cut c.args.table.now.columns c.args.rects.now c.in-Ok.once c.args.cover.now c.requires.rects_fit c.requires.cover_fits c.in-Ok.ensures.cuts) (omega (arith, passed))
-
-pub returns-clause-some : goal.returns-clause-some
-returns-clause-some c = λ e.
-    once_some c.args.table.now.columns c.args.rects.now c.in-Ok.once c.args.limit _ c.in-Ok.ensures.points (λ few. c.in-Err-minus.ensures.over 0 (err_same c.in-Err-minus.no _ e) few)
-
-pub returns-in-Err-clause-some : goal.returns-in-Err-clause-some
-returns-in-Err-clause-some c = λ e. c.in-Err.ensures.some (err_same c.in-Err.no _ e)

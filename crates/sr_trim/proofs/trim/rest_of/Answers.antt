@@ -3,7 +3,7 @@ use Rattle.sr_union.proofs.Parts.{are_fit}
 use Rattle.sr_union.proofs.Once.{are_trans, err_same}
 use Rattle.sr_trim.specs.Left.{left_over}
 use Rattle.sr_trim.proofs.Tables.{table_inner, table_first}
-use Rattle.sr_trim.proofs.Pieces.{tidy_left, cut_over, left_over_some}
+use Rattle.sr_trim.proofs.Pieces.{tidy_left, cut_over}
 use Rattle.sr_trim.proofs.trim.rest_of.Goals as goal
 
 pub tidy-requires-clause-self_fits : goal.tidy-requires-clause-self_fits
@@ -29,11 +29,3 @@ returns-in-Ok-tidy-clause-cuts c =
 pub returns-clause-over : goal.returns-clause-over
 returns-clause-over c = λ e.
     cut_over c.args.table.now.columns (c.args.part.now.rects ++ c.args.cover.now) c.in-Ok.left c.args.limit c.in-Ok.ensures.cuts (c.in-Err-tidy.ensures.over (err_same c.in-Err-tidy.no _ e))
-
-pub returns-in-Err-clause-some : goal.returns-in-Err-clause-some
-returns-in-Err-clause-some c = λ e. c.in-Err.ensures.some (err_same c.in-Err.no _ e)
-
-pub returns-clause-some : goal.returns-clause-some
-returns-clause-some c = λ e.
-    left_over_some c.args.table.now.columns c.args.part.now.rects c.args.cover.now c.in-Ok.left (table_first c.args.table.now c.requires.table)
-    (are_fit c.args.table.now.columns (c.args.part.now.rects ++ c.args.cover.now) c.in-Ok.left c.in-Ok.ensures.cuts) c.in-Ok.ensures.points (c.in-Err-tidy.ensures.some (err_same c.in-Err-tidy.no _ e))

@@ -44,5 +44,5 @@ returns-clause-some c =
 pub returns-in-Err-clause-over : goal.returns-in-Err-clause-over
 returns-in-Err-clause-over c = λ e. c.in-Err.ensures.over (err_same c.in-Err.no _ e)
 
-pub returns-in-Err-clause-over_some : goal.returns-in-Err-clause-over_some
-returns-in-Err-clause-over_some c = λ e. c.in-Err.ensures.some (err_same c.in-Err.no _ e)
+pub returns-in-Err-clause-over_left : goal.returns-in-Err-clause-over_left
+returns-in-Err-clause-over_left c = λ e. c.in-Err.ensures.over_left (err_same c.in-Err.no _ e)

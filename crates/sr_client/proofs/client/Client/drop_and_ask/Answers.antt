@@ -24,7 +24,7 @@ returns-clause-queries c = λ meaning is.
     let sent = of_ok (IsSent (with_store old c.drop_all.new.self) q c.in_ok-asks.asks drops new) c.send_ask.result step e c.send_ask.ensures.sent in
     let emptied = subst (λ (s : Store). IsSent (with_store old s) q c.in_ok-asks.asks drops new step) c.drop_all.ensures.nothing_left sent in
     let whole = subst (λ asks. IsSent (with_regions old []) q asks drops new step) (c.in_ok-asks.ensures.is ∙ ap whole_asks c.as_slice.ensures) emptied in
-    query-drops old q meaning drops new step c.requires.idle is c.requires.over c.in_ok-drops.ensures.marks whole c.requires.stands)
+    query-drops old q meaning drops new step c.requires.idle c.requires.up is c.requires.left c.requires.over c.in_ok-drops.ensures.marks whole c.requires.stands)
 
 pub returns-clause-sends : goal.returns-clause-sends
 returns-clause-sends c =
@@ -40,4 +40,4 @@ returns-clause-sends c =
     let sent = of_ok (IsSent (with_store old c.drop_all.new.self) q c.in_ok-asks.asks drops new) c.send_ask.result step e c.send_ask.ensures.sent in
     let emptied = subst (λ (s : Store). IsSent (with_store old s) q c.in_ok-asks.asks drops new step) c.drop_all.ensures.nothing_left sent in
     let whole = subst (λ asks. IsSent (with_regions old []) q asks drops new step) (c.in_ok-asks.ensures.is ∙ ap whole_asks c.as_slice.ensures) emptied in
-    sent-well (with_regions old []) q meaning (whole_asks q.parts) drops _ new step (may-ask-whole old q meaning c.requires.idle is c.requires.over c.requires.stands) f whole)
+    sent-well (with_regions old []) q meaning (whole_asks q.parts) drops _ new step (may-ask-whole old q meaning c.requires.idle is c.requires.left c.requires.stands) f whole)

@@ -1,6 +1,6 @@
 use Rattle.std.proofs.Common.{◌≡◌, [], true, refl, sym, ap, subst, arith, Err}
 use Rattle.std.specs.List.{AllZip}
-use Rattle.sr_client.specs.Asking.{AreMeant, AsksRest, whole_asks}
+use Rattle.sr_client.specs.Asking.{AreMeant, AsksRest, LeavesRest, whole_asks}
 use Rattle.sr_client.specs.Cutting.{IsOver}
 use Rattle.sr_client.specs.Explaining.{IsExplained}
 use Rattle.sr_client.proofs.ExplainLemmas.{explains-trimmed, explains-whole}
@@ -33,8 +33,9 @@ returns-in_ok-explained_whole-in-Err-Refused-clause-explains c = λ meaning is.
     let old = c.args.self.now in
     let q = c.args.query.now in
     let large = subst (IsOver old.schema old.store.regions) c.as_slice-parts.ensures (c.in-Err-Refused.ensures.over (ap Err c.in-Err-Refused.field-0-is)) in
+    let left = subst (LeavesRest old.schema old.store.regions) c.as_slice-parts.ensures (c.in-Err-Refused.ensures.over_left (ap Err c.in-Err-Refused.field-0-is)) in
     let parts = subst (λ ps. AllZip (IsExplained [] (whole_asks ps)) ps c.in_ok-explained_whole-in-Err-Refused.field-0) c.as_slice-parts.ensures c.in_ok-explained_whole-in-Err-Refused.ensures in
-    explains-whole old q meaning _ is refl c.in_ok-victims.ensures large parts
+    explains-whole old q meaning _ is refl c.in_ok-victims.ensures large left parts
     (λ heavy none. let e : c.is_empty.result ≡ true = c.is_empty.ensures.1 none in absurd (grind (arith, heavy, e)))
     (λ light. c.is_empty.ensures.0 (grind (arith, light)))
 

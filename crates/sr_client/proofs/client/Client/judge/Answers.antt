@@ -1,15 +1,17 @@
-use Rattle.std.proofs.Common.{rules, [], ◌≡◌, ◌≤◌, subst, true, false, None, refl}
-use Rattle.sr_message.specs.Sizes.{most_rects, count_asked}
-use Rattle.sr_client.specs.Asking.{AsksRest}
+use Rattle.std.proofs.Common.{rules, [], ◌≡◌, subst, ap, true, false, Err, refl}
+use Rattle.sr_client.specs.Asking.{AsksRest, LeavesRest}
+use Rattle.sr_client.specs.Bound.{IsMeaning}
 use Rattle.sr_client.specs.Cutting.{AreCutAlong}
 use Rattle.sr_client.specs.Sending.{IsSent}
 use Rattle.sr_client.specs.Sends.{QuerySendsWell}
 use Rattle.sr_client.specs.Steps.{Queries}
+use Rattle.sr_client.proofs.AskLemmas.{leaves-asked}
 use Rattle.sr_client.proofs.MeantLemmas.{asks-of}
-use Rattle.sr_client.proofs.QueryLemmas.{query-busy}
+use Rattle.sr_client.proofs.QueryLemmas.{query-busy, query-over-cut}
 use Rattle.sr_client.proofs.Results.{if_each, of_ok}
-use Rattle.sr_client.proofs.SendLemmas.{query-asks}
+use Rattle.sr_client.proofs.SendLemmas.{MayAsk, query-asks}
 use Rattle.sr_client.proofs.SendableLemmas.{sent-well}
+use Rattle.sr_model.specs.Queries as model
 use Rattle.sr_client.proofs.client.Client.judge.Goals as goal
 
 pub returns-in-Some-clause-queries : goal.returns-in-Some-clause-queries
@@ -21,36 +23,54 @@ answer_now-requires-clause-nothing c =
     subst (AsksRest old.schema old.store.regions c.args.query.parts) (c.if-is_empty.ensures.0 refl)
     (asks-of old.schema old.schema old.store.regions c.args.query.parts c.as_slice.result.now c.in-Ok.asks refl c.as_slice.ensures c.in-Ok.ensures.asks)
 
-pub returns-else-is_empty-clause-queries : goal.returns-else-is_empty-clause-queries
-returns-else-is_empty-clause-queries c = λ meaning is.
+pub returns-then-self-clause-queries : goal.returns-then-self-clause-queries
+returns-then-self-clause-queries c = λ meaning is.
+    let old = c.args.self.now in
+    let some : c.in-Ok.asks ≡ [] → ⊥ = λ none. absurd (let wrong : false ≡ true = c.if-is_empty.ensures.1 none in cc) in
+    let left = leaves-asked old.schema old.store.regions c.as_slice.result.now c.in-Ok.asks c.in-Ok.ensures.asks some in
+    query-over-cut old c.args.query meaning c.requires.stands c.in_default.is c.if-self.true is (subst (LeavesRest old.schema old.store.regions) c.as_slice.ensures left)
+
+-- what is asked
+may-ask : (c : goal.After-send_ask) (meaning : model.Query) → IsMeaning c.args.self.now.schema c.args.query meaning → MayAsk c.args.self.now c.args.query meaning c.in-Ok.asks
+may-ask c meaning is =
+    let old = c.args.self.now in
+    let asks = c.in-Ok.asks in
+    record {
+      out = c.in_default.is;
+      is = is;
+      rest = asks-of old.schema old.schema old.store.regions c.args.query.parts c.as_slice.result.now asks refl c.as_slice.ensures c.in-Ok.ensures.asks;
+      along = subst (λ ps. AreCutAlong old.schema old.store.regions ps asks) c.as_slice.ensures c.in-Ok.ensures.cuts;
+      some = λ none. absurd (let wrong : false ≡ true = c.if-is_empty.ensures.1 none in cc);
+      few = c.in-Ok.ensures.rects;
+    }
+
+pub returns-else-self-clause-queries : goal.returns-else-self-clause-queries
+returns-else-self-clause-queries c = λ meaning is.
     let old = c.args.self.now in
     let q = c.args.query in
     let asks = c.in-Ok.asks in
     let new = c.send_ask.new.self in
-    let idle : old.out ≡ None = search rules in
-    let some : asks ≡ [] → ⊥ = λ none. absurd (let wrong : false ≡ true = c.if-is_empty.ensures.1 none in cc) in
-    let rest = asks-of old.schema old.schema old.store.regions q.parts c.as_slice.result.now asks refl c.as_slice.ensures c.in-Ok.ensures.asks in
-    let along = subst (λ ps. AreCutAlong old.schema old.store.regions ps asks) c.as_slice.ensures c.in-Ok.ensures.cuts in
-    let few : count_asked asks ≤ most_rects = c.in-Ok.ensures.rects in
     if_each (Queries old meaning new) c.send_ask.result (λ step e.
-    query-asks old q meaning asks new step (record { out = idle; is = is; rest = rest; along = along; some = some; few = few })
+    query-asks old q meaning asks new step (may-ask c meaning is) c.if-self.false
     (subst (λ drops. IsSent old q asks drops new step) c.new.ensures (of_ok (IsSent old q asks c.new.result new) c.send_ask.result step e c.send_ask.ensures.sent)) c.requires.stands)
 
-pub returns-else-is_empty-clause-sends : goal.returns-else-is_empty-clause-sends
-returns-else-is_empty-clause-sends c =
+pub returns-else-self-clause-sends : goal.returns-else-self-clause-sends
+returns-else-self-clause-sends c =
     let old = c.args.self.now in
     let q = c.args.query in
     let asks = c.in-Ok.asks in
     let new = c.send_ask.new.self in
-    let h = c.requires.stands.0 in
-    let f = c.requires.stands.1 in
     let meaning = c.requires.meant.0 in
-    let is = c.requires.meant.1 in
-    let idle : old.out ≡ None = search rules in
-    let some : asks ≡ [] → ⊥ = λ none. absurd (let wrong : false ≡ true = c.if-is_empty.ensures.1 none in cc) in
-    let rest = asks-of old.schema old.schema old.store.regions q.parts c.as_slice.result.now asks refl c.as_slice.ensures c.in-Ok.ensures.asks in
-    let along = subst (λ ps. AreCutAlong old.schema old.store.regions ps asks) c.as_slice.ensures c.in-Ok.ensures.cuts in
-    let few : count_asked asks ≤ most_rects = c.in-Ok.ensures.rects in
     if_each (QuerySendsWell old.schema old.id) c.send_ask.result (λ step e.
-    sent-well old q meaning asks c.new.result h new step (record { out = idle; is = is; rest = rest; along = along; some = some; few = few }) f
+    sent-well old q meaning asks c.new.result c.requires.stands.0 new step (may-ask c meaning c.requires.meant.1) c.requires.stands.1
     (of_ok (IsSent old q asks c.new.result new) c.send_ask.result step e c.send_ask.ensures.sent))
+
+pub returns-then-self-2-clause-queries : goal.returns-then-self-2-clause-queries
+returns-then-self-2-clause-queries c = λ meaning is.
+    let old = c.args.self.now in
+    let left = subst (LeavesRest old.schema old.store.regions) c.as_slice.ensures (c.in-Err-Refused.ensures.over_left (ap Err c.in-Err-Refused.field-0-is)) in
+    query-over-cut old c.args.query meaning c.requires.stands c.in_default.is c.if-self-2.true is left
+
+pub drop_and_ask-requires-clause-left : goal.drop_and_ask-requires-clause-left
+drop_and_ask-requires-clause-left c =
+    subst (LeavesRest c.args.self.now.schema c.args.self.now.store.regions) c.as_slice.ensures (c.in-Err-Refused.ensures.over_left (ap Err c.in-Err-Refused.field-0-is))

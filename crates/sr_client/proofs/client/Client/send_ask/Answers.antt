@@ -1,13 +1,10 @@
-use Rattle.std.proofs.Common.{rules, ◌≡◌, ◌∙◌, ap, sym, subst, false}
+use Rattle.std.proofs.Common.{◌≡◌, ◌∙◌, ap, sym, subst, refl}
 use Rattle.sr_message.specs.declared.message.Message.{Message}
 use Rattle.sr_message.specs.declared.message.Message.TheVariants.{Ask}
 use Rattle.sr_client.specs.declared.client.AskOut.{AskOut}
 use Rattle.sr_client.specs.declared.steps.QueryStep.TheVariants.{Asked}
-use Rattle.sr_client.specs.Sending.{next_ask, with_out, IsSent, is_down, is_sent}
+use Rattle.sr_client.specs.Sending.{next_ask, with_out, IsSent}
 use Rattle.sr_client.proofs.client.Client.send_ask.Goals as goal
-
-pub returns-then-self-clause-sent : goal.returns-then-self-clause-sent
-returns-then-self-clause-sent c = is_down (search rules)
 
 pub returns-clause-sent : goal.returns-clause-sent
 returns-clause-sent c =
@@ -15,8 +12,7 @@ returns-clause-sent c =
     let q = c.args.query in
     let asks = c.args.asks in
     let drops = c.args.drops in
-    let up : old.cut ≡ false = search rules in
     let out_is : c.ask_out-out.result ≡ next_ask old q asks = c.ask_out-out.ensures in
     let told : c.in_ok-message.message ≡ Ask (next_ask old q asks).number (next_ask old q asks).fresh (next_ask old q asks).parts = c.in_ok-message.ensures ∙ ap (λ (o : AskOut). Ask o.number o.fresh o.parts) out_is in
     subst (λ (o : AskOut). IsSent old q asks drops (with_out old o) (Asked o.query_number o.number c.in_ok-message.message drops)) (sym out_is)
-    (subst (λ (m : Message). IsSent old q asks drops (with_out old (next_ask old q asks)) (Asked (next_ask old q asks).query_number (next_ask old q asks).number m drops)) (sym told) (is_sent up))
+    (record { out = refl; told = ap (λ (m : Message). Asked (next_ask old q asks).query_number (next_ask old q asks).number m drops) told })

@@ -90,6 +90,9 @@ def fields(message):
 
 
 def frame(message):
+    """The frame of a message; bytes stay as they are."""
+    if isinstance(message, bytes):
+        return message
     kind = next(byte for byte, kind in KINDS.items() if kind is type(message))
     body = number(kind, 1) + fields(message)
     return number(len(body), 4) + body
@@ -130,11 +133,12 @@ class Fields:
     def signed(self):
         return int.from_bytes(self.take(8), 'big', signed=True)
 
-    def text(self, most):
-        size = self.number(1, 0, most)
-        return self.take(size)
+    def text(self, least=0):
+        """A bound of texts."""
+        return self.take(self.number(1, least, 121))
 
-    def utf8(self, place, value):
+    def utf8(self, size):
+        place, value = self.at, self.take(size)
         try:
             value.decode('utf-8')
         except UnicodeDecodeError:
@@ -145,11 +149,15 @@ class Fields:
         return [item() for _ in range(self.number(size, least, most))]
 
     def span(self):
-        place, kind = self.at, self.number(1, 0, 3)
+        """Of two ends the second is at fault where it does not lie behind the first."""
+        kind = self.number(1, 0, 3)
         if kind == 0:
             return None
-        lo, hi = (self.signed(), self.signed()) if kind == 1 else (self.text(121), self.text(121) if kind == 2 else None)
-        if (kind == 1 and lo > hi) or (kind == 2 and lo >= hi) or (kind == 3 and not lo):
+        if kind == 3:
+            return self.text(1), None
+        end = self.signed if kind == 1 else self.text
+        lo, place, hi = end(), self.at, end()
+        if lo > hi or (kind == 2 and lo == hi):
             raise Fault('field %d' % place)
         return lo, hi
 
@@ -160,10 +168,7 @@ class Fields:
         return self.many(4, 1, 16384, self.rect)
 
     def cell(self):
-        if self.number(1, 0, 1) == 0:
-            return self.signed()
-        place = self.at
-        return self.utf8(place, self.text(120))
+        return self.signed() if self.number(1, 0, 1) == 0 else self.utf8(self.number(1, 0, 120))
 
     def row(self):
         return tuple(self.many(1, 1, 12, self.cell))
@@ -172,11 +177,11 @@ class Fields:
         return Holding(self.number(1, 0, 15), self.rects())
 
     def part(self):
-        table, columns = self.number(1, 0, 15), self.number(2, 0, 4095)
+        table, columns = self.number(1), self.number(2, 0, 4095)
         return Part(table, [column for column in range(12) if columns >> column & 1], self.rects())
 
     def tell(self):
-        table, key = self.number(1, 0, 15), self.cell()
+        table, key = self.number(1), self.cell()
         return Tell(table, key, self.row() if self.number(1, 0, 1) else None)
 
     def message(self, kind):
@@ -189,8 +194,7 @@ class Fields:
         if kind is Ask:
             return Ask(self.number(8), self.number(1, 0, 1) == 1, self.many(1, 1, 4, self.part))
         if kind is Write:
-            request, size, place = self.number(8), self.number(4, 0, 65536), self.at
-            return Write(request, self.utf8(place, self.take(size)))
+            return Write(self.number(8), self.utf8(self.number(4, 0, 65536)))
         if kind is Welcome:
             return Welcome(self.number(8), self.number(8), self.number(1, 0, 1) == 1)
         if kind is Notice:

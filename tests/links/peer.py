@@ -7,8 +7,9 @@ from collections import namedtuple
 from frames import Short, frame, read
 
 SECONDS = 20
-# How long it waits for a request behind a turned bit: the client may wait for the rest of a longer frame, which never comes.
-PATIENCE = 3
+# How long it waits for a request behind a turned bit: the client may wait for the rest of a longer frame, which never comes. What it
+# sent until then tells what must come of it, so a client that is slow is not wrong.
+PATIENCE = 1
 
 # Peers that run side by side have addresses of their own, so that nobody dials another once a peer is gone.
 NUMBERS = itertools.count()
@@ -35,6 +36,10 @@ class Peer:
         return self
 
     def __exit__(self, *_):
+        try:
+            self.docked.shutdown(socket.SHUT_RDWR)  # it waits for no connection any more
+        except OSError:
+            pass  # it has closed by itself
         self.docked.close()
         self.thread.join(SECONDS)
 

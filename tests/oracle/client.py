@@ -5,7 +5,7 @@ import copy
 from cache import Cache, includes
 from messages import Ask, AskPart, Hello, Lapse, Notice, Resume, Rows, Write, name_of
 
-# where the load is above it, all classes may be dropped
+# where the load is above it, all classes may be dropped, before an ask or at an answer
 MOST_PIECES = 16384
 # the bytes of a text that a client sends
 MOST_TEXT = 65536
@@ -63,6 +63,11 @@ class Client:
     # ---- queries
 
     def query(self, query):
+        """Answers a query, asks for it, or says why not.
+
+        A covered query is answered before anything else, and over a cut link no other changes anything. So a program that drops classes
+        before one of these is wrong, however high the load is: what it tells is taken over only before a query that it asks.
+        """
         if query.fault():
             return self.say('query', 'sql ' + query.fault())
         if self.out:
@@ -72,11 +77,11 @@ class Client:
             self.number_query(query)
             self.answer(self.queries, query, [])
             return self.say('query', 'answered %d' % self.queries)
+        if self.is_cut:
+            return self.say('query', 'down %d' % self.cuts)
         if self.gives_up_before(query):
             self.drop_all('pieces')
             self.counted, rests = [], self.rests(query)
-        if self.is_cut:
-            return self.say('query', 'down %d' % self.cuts)
         self.number_query(query)
         self.ask(self.queries, query, rests)
         return self.say('query', 'asked %d' % self.out.number)
@@ -143,8 +148,12 @@ class Client:
 
     # ---- where the load is too high, all classes may be dropped: then what the program told is taken over
 
+    def is_heavy(self, query):
+        """Whether the load is too high before this query, with its own tests."""
+        return self.cache.load(query, self.counted + [query], []) > MOST_PIECES
+
     def gives_up_before(self, query):
-        return self.is_told('drop') and self.cache.load(query, self.counted + [query], []) > MOST_PIECES
+        return self.is_told('drop') and self.is_heavy(query)
 
     def gives_up_at(self, query, arrived):
         gives_up = self.is_told('drop') or bool(arrived) and not self.is_told('held')
@@ -201,7 +210,8 @@ class Client:
         self.say('toclient', 'refused %d %s' % (refused.number, refused.fault))
 
     def take_welcome(self, welcome):
-        if not welcome.kept:
+        """A Lapse that was laid by drops all first, so that nothing is left to drop where the session keeps nothing."""
+        if not welcome.kept and not self.has_lapsed():
             self.drop_all('fresh')
         self.settle(welcome.version)
         self.say('toclient', 'welcome %d %s' % (welcome.version, 'kept' if welcome.kept else 'fresh'))
@@ -231,9 +241,10 @@ class Client:
         return self.say('explain', self.version)
 
     def would_give_up(self, query):
-        """Whether the program told so, where it may."""
-        is_heavy = self.cache.load(query, self.counted + [query], []) > MOST_PIECES
-        return is_heavy and not self.cache.is_empty() and self.trace.next_told() == 'pieces'
+        """Whether the program told so, where it may. docs/RULES.md let it say so of a covered query too; but it says so only where
+        something is left to ask, and nothing else is taken over here."""
+        is_told = self.trace.next_told() == 'pieces' and not self.cache.is_empty()
+        return is_told and bool(self.rests(query)) and self.is_heavy(query)
 
     def explain_part(self, part, held):
         self.trace.say('need ' + self.tables[part.table].called(part.need))

@@ -87,7 +87,8 @@ def told_of(lines):
 
 
 def trace_of(world, events, lines=()):
-    """What the trace of these events must be, each with its number. Lines are those of the program, which may drop all classes at times."""
+    """What the trace of these events must be, each with its number. Lines are those of the program, which may drop all classes at times:
+    only where world.py says so are they looked at."""
     told = told_of(lines)
     return [numbered(number, wanted) for number, event in events for wanted in world.lines_of(event, told.get(str(number), []))]
 

@@ -11,7 +11,8 @@ CREATE = re.compile(rb'[ \t\r\n]*create(?![a-z0-9_])', re.IGNORECASE)
 
 def split(script):
     """The lines of a script."""
-    return script.replace(b'\r\n', b'\n').removesuffix(b'\n').split(b'\n')
+    lines = script.replace(b'\r\n', b'\n').split(b'\n')
+    return lines if lines[-1] else lines[:-1]
 
 
 def bad_utf8(line):

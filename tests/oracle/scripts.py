@@ -11,10 +11,12 @@ from tables import Column, Table
 from world import Options
 
 TEXTS = ['', 'a', 'ab', 'abc', 'b', "b'c", 'd']
+# these differ in their fourth byte, or behind it
+WORDS = ['abca', 'abcma', 'abcmk', 'abcmz', 'abcz']
 
 
 def text_values():
-    literals = [text.encode() for text in TEXTS]
+    literals = [text.encode() for text in TEXTS + WORDS]
     ends = {b''} | set(literals) | {text + b'\0' for text in literals} | {after_prefix(text) for text in literals if text}
     return sorted(ends)
 
@@ -121,10 +123,16 @@ class Maker:
     def lists(self):
         """Four queries of 64 values of y each, and one of 64 of x among them or behind, no two values side by side: they cut the board into
         more than 16,384 rects."""
+        lists = [one_of(1, 'y', values) for values in self.values_of_y()]
+        lists.insert(self.random.choice([1, 4]), self.list_of_x(64))
+        return [Asks(1, board_query(one)) for one in lists]
+
+    def values_of_y(self):
         rows = self.random.sample(range(2, 558, 2), 256)
-        lists = [one_of(1, 'y', rows[64 * n:64 * n + 64]) for n in range(4)]
-        lists.insert(self.random.choice([1, 4]), one_of(0, 'x', self.random.sample(range(0, 140, 2), 64)))
-        return [Asks(1, query_of(TABLES, BOARD, [0, 1], one)) for one in lists]
+        return [rows[64 * n:64 * n + 64] for n in range(4)]
+
+    def list_of_x(self, count):
+        return one_of(0, 'x', self.random.sample(range(0, 140, 2), count))
 
     def board_event(self):
         kind = self.random.random()
@@ -141,3 +149,37 @@ class Maker:
         events = [event for query in self.lists() for event in [self.board_event(), query]]
         limits = Limits(10000, 64, self.random.choice(['recency', 'distance']))
         return Script(Options(1, MUCH_LOG, limits, True), events + [self.board_event() for _ in range(3)] + self.lists()[:1])
+
+    def crowded_script(self):
+        """A script in which covered queries come while the load is too high, and one that is not covered while the link is cut.
+
+        The lists of y take few rects. The query inside of one is covered by it, and with its values of x the load is too high. The long
+        list of x takes too many rects beside what is held. Over the cut link it is not asked, and nothing is dropped for it; behind the
+        resume it is asked, and all may be dropped first.
+        """
+        values = self.values_of_y()
+        asked = [board_query(one_of(1, 'y', some)) for some in values]
+        inside = board_query(Both('AND', self.list_of_x(17), compares(1, 'y', '=', values[0][0])))
+        beside = board_query(self.list_of_x(64))
+        events = [event for query in asked for event in (Exec(self.insert(BOARD)), Asks(1, query))]
+        for one in [inside, self.random.choice(asked), 'cut', beside, self.random.choice(asked), 'resume', beside, beside]:
+            events += [Plain(one, 1)] if isinstance(one, str) else [Explains(1, one), Asks(1, one)]
+        limits = Limits(10000, 64, self.random.choice(['recency', 'distance']))
+        return Script(Options(1, MUCH_LOG, limits, True), events)
+
+    def worded_script(self):
+        """A script of queries by words that only their fourth bytes tell apart, or those behind, under a limit by distance."""
+        titles = [self.random.choice(WORDS).encode() for _ in range(10, 16)]
+        events = [Exec(Insert(TABLES, LABEL, [(title, no)])) for no, title in enumerate(titles, 10)]
+        events += [Asks(1, query_of(TABLES, LABEL, [0], self.word_condition())) for _ in range(40)]
+        return Script(Options(1, MUCH_LOG, Limits(10000, self.random.choice([2, 3]), 'distance'), True), events)
+
+    def word_condition(self):
+        """A word, or the words between two; at times some of them alone."""
+        one, two = sorted(word.encode() for word in self.random.sample(WORDS, 2))
+        test = self.random.choice([compares(0, 'title', '=', one), compares(0, 'title', '=', two), between(0, 'title', one, two)])
+        return Both('AND', test, self.test(LABEL)) if self.random.random() < 0.3 else test
+
+
+def board_query(condition):
+    return query_of(TABLES, BOARD, [0, 1], condition)

@@ -9,13 +9,11 @@ import itertools
 import math
 
 
-def number_of(text):
-    """The number of a text's first four bytes."""
-    return int.from_bytes(text[:4].ljust(4, b'\0'), 'big')
-
-
 class Column:
     """A column with its values, ascending. A column of numbers has a highest one, a column of texts none."""
+
+    # how many bytes of a text tell where it lies
+    bytes_told = 4
 
     def __init__(self, name, values, highest=None):
         self.name, self.values, self.highest = name, values, highest
@@ -30,15 +28,19 @@ class Column:
         place = bisect.bisect_right(self.values, value)
         return self.values[place] if place < len(self.values) else None
 
+    def number_of(self, text):
+        """The number of a text's first bytes."""
+        return int.from_bytes(text[:self.bytes_told].ljust(self.bytes_told, b'\0'), 'big')
+
     def first(self, value):
         """The lower end of what the value stands for, as a number."""
-        return number_of(value) if self.is_text else value
+        return self.number_of(value) if self.is_text else value
 
     def last(self, value):
         """The upper end of what the value stands for, as a number."""
         above = self.above(value)
         if self.is_text:
-            return 2 ** 32 if above is None else number_of(above)
+            return 256 ** self.bytes_told if above is None else self.number_of(above)
         return self.highest if above is None else above - 1
 
     def has(self, cell):

@@ -11,7 +11,8 @@ Options = collections.namedtuple('Options', 'clients log limits eager')
 class World:
     """A run of a script.
 
-    Where the load is too high a client may drop all classes, or not. There the world does what the program has told.
+    Where the load is too high a client may drop all classes, or not, before a query that it asks and at an answer. There the world does
+    what the program has told. Nowhere else it does: before a covered query, and over a cut link, it demands that nothing is dropped.
     """
 
     def __init__(self, tables, options, server=Server, client=Client):

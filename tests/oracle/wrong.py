@@ -1,4 +1,6 @@
 """Wrong rules, one changed each: what a program may take for right. The random scripts must tell each of them from the rules."""
+import copy
+
 from client import Client
 from messages import Hello, Lapse, Notice, Welcome
 from server import Server
@@ -239,6 +241,55 @@ class NumbersDownQueries(Client):
         self.queries += any(isinstance(line, str) and ' down ' in line for line in self.trace.lines[before:])
 
 
+class DropsThoughCovered(Client):
+    """A covered query drops all first, where the load is too high, and is asked then."""
+
+    def query(self, query):
+        if not query.fault() and not self.out and not self.rests(query) and self.is_heavy(query):
+            self.drop_all('pieces')
+        super().query(query)
+
+
+class DropsThoughDown(Client):
+    """A client whose link is cut drops all before a query that it cannot ask, where the load is too high."""
+
+    def query(self, query):
+        if not query.fault() and self.is_cut and self.rests(query) and self.is_heavy(query):
+            self.drop_all('pieces')
+        super().query(query)
+
+
+class ExplainsDropsThoughCovered(Client):
+    """An explanation of a covered query says that all would be dropped first, where the load is too high."""
+
+    def would_give_up(self, query):
+        return not self.rests(query) and not self.cache.is_empty() and self.is_heavy(query)
+
+
+def telling(table, count):
+    """The table, whose texts lie where their first bytes tell, so many of them."""
+    told = copy.copy(table)
+    told.columns = [copy.copy(column) for column in table.columns]
+    for column in told.columns:
+        column.bytes_told = count
+    return told
+
+
+class TellsThreeBytes(Client):
+    """The distance of texts is that of their first three bytes."""
+
+    bytes_told = 3
+
+    def __init__(self, number, tables, limits, versions):
+        super().__init__(number, [telling(table, self.bytes_told) for table in tables], limits, versions)
+
+
+class TellsFiveBytes(TellsThreeBytes):
+    """The distance of texts is that of their first five bytes."""
+
+    bytes_told = 5
+
+
 class SaysHello(Client):
     """A resume always begins with nothing."""
 
@@ -278,14 +329,21 @@ CLIENTS = {'second_ask_asks_the_old_rest': AsksTheOldRest, 'notice_applied_at_on
            'down_though_covered': DownThoughCovered, 'asks_covered_parts': AsksCoveredParts,
            'explain_stamps': ExplainStamps, 'explain_draws_a_number': ExplainNumbers,
            'victims_counted_at_the_newest': ExplainCountsAtNewest,
-           'numbers_down_queries': NumbersDownQueries, 'says_hello': SaysHello}
+           'numbers_down_queries': NumbersDownQueries, 'says_hello': SaysHello,
+           'drops_though_covered': DropsThoughCovered, 'drops_though_down': DropsThoughDown,
+           'explains_drops_though_covered': ExplainsDropsThoughCovered, 'distance_of_three_bytes': TellsThreeBytes,
+           'distance_of_five_bytes': TellsFiveBytes}
 WORLDS = {'delivers_to_the_client_first': DeliversToClientFirst, 'settles_all': SettlesAll}
 
 RULES = [*SERVERS, *CLIENTS, *WORLDS]
 
-# those that show only where scripts have writes, cuts and resumes; or queries of several tables
-OF_SESSIONS = {'welcomes_all', 'refused_write_stays', 'cut_forgets', 'down_though_covered', 'numbers_down_queries', 'says_hello'}
-OF_JOINS = {'asks_covered_parts'}
+# the kinds of scripts that tell some of them; those of several clients tell the others
+KINDS = {
+    'sessions': {'welcomes_all', 'refused_write_stays', 'cut_forgets', 'down_though_covered', 'numbers_down_queries', 'says_hello'},
+    'joins': {'asks_covered_parts'},
+    'crowded': {'drops_though_covered', 'drops_though_down', 'explains_drops_though_covered'},
+    'worded': {'distance_of_three_bytes', 'distance_of_five_bytes'},
+}
 
 
 def world_of(tables, options, rule=None):

@@ -38,6 +38,10 @@ mod store;
 #[cfg(test)]
 mod summary;
 #[cfg(test)]
+mod tokens;
+#[cfg(test)]
+mod union;
+#[cfg(test)]
 mod wire;
 #[cfg(test)]
 mod words;

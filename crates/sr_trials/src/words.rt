@@ -8,7 +8,9 @@ use sr_words::read::command_of;
 use std::alloc::Global;
 use std::test::Fail;
 
+// Two of these lines end with a blank: a name may be empty.
 const IN_FORM: &str = "replay f
+replay 
 replay -
 replay --eager --rows 0 --regions 0 --policy recency --log 0 --clients 8 f t=g u=h
 replay f --eager t=g --rows=00000000000000200000 u=h --policy distance
@@ -17,21 +19,24 @@ replay -- --eager -t=g
 replay f t==
 client --id 1 --schema s a f
 client a --id=64 --schema=- -
+client --id 1 --schema= a f
+client --id 1 --schema s  f
 client --rows 1 --regions 2 --policy distance --id 3 --schema s 127.0.0.1:4711 f
 serve --schema s a 1
 serve --log 5 --exec e --schema s a 1000000 t=g u=h
+serve --schema s --exec= a 1
 explain f SELECT
+explain f 
 explain --eager --clients 2 f SELECT
 generate 0 1
 generate --script 18446744073709551615 100000
 generate 7 --script 00000000000000005000";
 
-// The first of these lines is empty, and two end with a blank.
+// The first of these lines is empty.
 const IN_NO_FORM: &str = "
 f
 Replay f
 replay
-replay 
 replay --eager
 replay --help
 replay -h f
@@ -67,19 +72,15 @@ client --id=65 --schema s a f
 client --id 1 a f
 client --id 1 --schema s a
 client --id 1 --schema s a f g
-client --id 1 --schema= a f
 client --id 1 --schema -s a f
 client --id 1 --schema s --log 1 a f
-client --id 1 --schema s  f
 serve a 1
 serve --schema s a
 serve --schema s a 0
 serve --schema s a 1000001
-serve --schema s --exec= a 1
 serve --schema s --rows 1 a 1
 serve --schema s a 1 t
 explain f
-explain f 
 explain f SELECT x
 generate 1
 generate 1 0

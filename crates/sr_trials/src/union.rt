@@ -1,0 +1,257 @@
+//! Lists of rects of employees, at values worked out by hand.
+ghost use Rattle.std.specs.Prelude.{◌≡◌, true, IfOk, IfSome};
+ghost use Rattle.std.specs.List.{list_all};
+ghost use Rattle.sr_box.specs.Points.{rect_fits};
+ghost use Rattle.sr_union.specs.Grid.{all_inner, have_first};
+
+use crate::common::column;
+use sr_box::prefix::next_prefix;
+use sr_box::rect::Rect;
+use sr_box::span::Span;
+use sr_cell::attrs::Attrs;
+use sr_cell::cell::{Cell, Row};
+use sr_cell::list::{NoMemory, Seq};
+use sr_cell::table::{Column, Kind, Table};
+use sr_cell::text::Text;
+use sr_union::rects::Rects;
+use std::alloc::Global;
+use std::test::Fail;
+
+// Numbers up to 9999, a name, ages up to 150, and departments up to 99.
+fn employees(alloc: Global) -> Result<Table, NoMemory>
+    ensures inner { IfOk result (λ table. all_inner table.columns ≡ true) }
+    ensures first { IfOk result (λ table. have_first table.columns ≡ true) }
+{
+    let mut columns = Seq::new(alloc);
+    columns.push(column(alloc, "id", 9999)?)?;
+    columns.push(Column {
+        name: Text::of(alloc, "name")?,
+        kind: Kind::Str,
+        lo: 0,
+        hi: 0,
+    })?;
+    columns.push(column(alloc, "age", 150)?)?;
+    columns.push(column(alloc, "dept", 99)?)?;
+    Ok(Table {
+        name: Text::of(alloc, "emp")?,
+        columns,
+        key: 0,
+    })
+}
+
+fn rect_of(alloc: Global, age: Span, dept: Span) -> Result<Rect, NoMemory> {
+    let mut rect = Rect::new(alloc);
+    rect.push(Span::Full)?;
+    rect.push(Span::Full)?;
+    rect.push(age)?;
+    rect.push(dept)?;
+    Ok(rect)
+}
+
+// A rect for each range of ages.
+fn aged(alloc: Global, ranges: &[(i64, i64)]) -> Result<Rects, NoMemory> {
+    let mut rects = Rects::new(alloc);
+    for (lo, hi) in ranges {
+        rects.push(rect_of(alloc, Span::Nums { lo: *lo, hi: *hi }, Span::Full)?)?;
+    }
+    Ok(rects)
+}
+
+fn row_of(alloc: Global, age: i64) -> Result<Row, NoMemory> {
+    let mut row: Row = Seq::new(alloc);
+    row.push(Cell::Num(7))?;
+    row.push(Cell::Str(Text::of(alloc, "ann")?))?;
+    row.push(Cell::Num(age))?;
+    row.push(Cell::Num(5))?;
+    Ok(row)
+}
+
+fn is_in(age: i64, ranges: &[(i64, i64)]) -> bool {
+    ranges.iter().any(|(lo, hi)| *lo <= age && age <= *hi)
+}
+
+// Whether the rects have just the ages of the ranges.
+fn have(alloc: Global, rects: &Rects, ranges: &[(i64, i64)]) -> Result<bool, NoMemory> {
+    for age in 0..151 {
+        if rects.has(&row_of(alloc, age)?) != is_in(age, ranges) {
+            return Ok(false);
+        }
+    }
+    Ok(true)
+}
+
+// Whether just one of the rects has that age.
+fn is_once(alloc: Global, rects: &Rects, age: i64) -> Result<bool, NoMemory> {
+    let row = row_of(alloc, age)?;
+    let mut found = false;
+    for rect in rects.as_slice() {
+        if rect.has(&row) {
+            if found {
+                return Ok(false);
+            }
+            found = true;
+        }
+    }
+    Ok(found)
+}
+
+// The ages of the one without those of the other.
+fn minus(
+    alloc: Global,
+    one: &[(i64, i64)],
+    other: &[(i64, i64)],
+) -> Result<Option<Rects>, NoMemory> {
+    let table = employees(alloc)?;
+    let one = aged(alloc, one)?;
+    let other = aged(alloc, other)?;
+    if !one.fits(&table) || !other.fits(&table) {
+        return Ok(None);
+    }
+    Ok(one.minus(alloc, &other, &table, 100).ok())
+}
+
+#[test]
+fn ages_without_others_are_left(rt: HostRuntime) -> Result<(), Fail> {
+    let alloc = rt.alloc();
+    match minus(alloc, &[(0, 50)], &[(10, 20), (50, 60)])? {
+        Some(left) => assert!(rt; have(alloc, &left, &[(0, 9), (21, 49)])?),
+        None => assert!(rt; false, "refused"),
+    }
+    Ok(())
+}
+
+fn within(
+    alloc: Global,
+    one: &[(i64, i64)],
+    other: &[(i64, i64)],
+) -> Result<Option<bool>, NoMemory> {
+    let table = employees(alloc)?;
+    let one = aged(alloc, one)?;
+    let other = aged(alloc, other)?;
+    if !one.fits(&table) || !other.fits(&table) {
+        return Ok(None);
+    }
+    Ok(Some(one.within(alloc, &other, &table)?))
+}
+
+#[test]
+fn ages_may_lie_within_two_ranges(rt: HostRuntime) -> Result<(), Fail> {
+    let alloc = rt.alloc();
+    assert!(rt; within(alloc, &[(10, 20)], &[(0, 15), (16, 30)])? == Some(true));
+    assert!(rt; within(alloc, &[(10, 20)], &[(0, 15)])? == Some(false));
+    Ok(())
+}
+
+// The ages from 30 to 40, cut between two departments.
+fn cut_between(alloc: Global) -> Result<Rects, NoMemory> {
+    let mut rects = Rects::new(alloc);
+    rects.push(rect_of(
+        alloc,
+        Span::Nums { lo: 30, hi: 40 },
+        Span::Nums { lo: 0, hi: 2 },
+    )?)?;
+    rects.push(rect_of(
+        alloc,
+        Span::Nums { lo: 30, hi: 40 },
+        Span::Nums { lo: 3, hi: 99 },
+    )?)?;
+    Ok(rects)
+}
+
+fn tidied(alloc: Global, keep: Attrs) -> Result<Option<Rects>, NoMemory> {
+    let table = employees(alloc)?;
+    let rects = cut_between(alloc)?;
+    if !rects.fits(&table) {
+        return Ok(None);
+    }
+    Ok(rects.tidy(alloc, keep, &table, 100).ok())
+}
+
+// the place of the ages
+const AGE: Attrs = Attrs(4);
+
+fn constrain_no_department(rects: &Rects) -> bool {
+    for rect in rects.as_slice() {
+        match rect.get(3) {
+            Some(Span::Full) => {}
+            _ => return false,
+        }
+    }
+    true
+}
+
+#[test]
+fn a_cut_that_is_not_needed_goes(rt: HostRuntime) -> Result<(), Fail> {
+    let alloc = rt.alloc();
+    match tidied(alloc, AGE)? {
+        Some(tidy) => {
+            assert!(rt; have(alloc, &tidy, &[(30, 40)])?);
+            assert!(rt; constrain_no_department(&tidy));
+        }
+        None => assert!(rt; false, "refused"),
+    }
+    Ok(())
+}
+
+fn disjoint(alloc: Global, ranges: &[(i64, i64)]) -> Result<Option<Rects>, NoMemory> {
+    let table = employees(alloc)?;
+    let rects = aged(alloc, ranges)?;
+    if !rects.fits(&table) {
+        return Ok(None);
+    }
+    Ok(rects.disjoint(alloc, &table, 100).ok())
+}
+
+#[test]
+fn no_age_is_in_two_rects(rt: HostRuntime) -> Result<(), Fail> {
+    let alloc = rt.alloc();
+    match disjoint(alloc, &[(0, 20), (10, 30)])? {
+        Some(rects) => {
+            assert!(rt; have(alloc, &rects, &[(0, 30)])?);
+            for age in 0..31 {
+                assert!(rt; is_once(alloc, &rects, age)?, "{age}");
+            }
+        }
+        None => assert!(rt; false, "refused"),
+    }
+    Ok(())
+}
+
+#[test]
+fn ranges_side_by_side_do_not_meet(rt: HostRuntime) -> Result<(), Fail> {
+    let alloc = rt.alloc();
+    let one = rect_of(alloc, Span::Nums { lo: 0, hi: 20 }, Span::Full)?;
+    let other = rect_of(alloc, Span::Nums { lo: 21, hi: 30 }, Span::Full)?;
+    assert!(rt; one.meet(alloc, &other)?.is_none());
+    Ok(())
+}
+
+#[test]
+fn the_last_byte_that_can_grows(rt: HostRuntime) -> Result<(), Fail> {
+    let alloc = rt.alloc();
+    match next_prefix(alloc, &[0x61, 0xff])? {
+        Some(next) => assert!(rt; next.as_slice() == [0x62].as_slice()),
+        None => assert!(rt; false, "none"),
+    }
+    assert!(rt; next_prefix(alloc, &[0xff])?.is_none());
+    Ok(())
+}
+
+fn is_centre(alloc: Global, ranges: &[(i64, i64)], sums: &[i64]) -> Result<bool, NoMemory> {
+    let table = employees(alloc)?;
+    let rects = aged(alloc, ranges)?;
+    if !rects.fits(&table) {
+        return Ok(false);
+    }
+    match rects.centre(alloc, &table)? {
+        Some(centre) => Ok(centre.as_slice() == sums),
+        None => Ok(false),
+    }
+}
+
+#[test]
+fn a_centre_has_both_ends_of_each_column(rt: HostRuntime) -> Result<(), Fail> {
+    let alloc = rt.alloc();
+    assert!(rt; is_centre(alloc, &[(30, 34), (40, 44)], &[9999, 4294967296, 74, 99])?);
+    Ok(())
+}

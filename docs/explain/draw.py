@@ -12,25 +12,45 @@ from html import escape
 
 LEFT, TOP, WIDE, HIGH = 76, 96, 600, 480
 LEGEND = LEFT + WIDE + 40
+MOST_LINES = 12
 PROBE, REST, HELD, OTHER, INK = "#8fcf9f", "#f6b26b", "#dfe7f2", "#ececec", "#22303c"
 
 
 def columns_of(script):
-    """The columns of the CREATE line: of each its name, and its domain, if it is one of numbers with a CHECK."""
-    inside = re.match(r"CREATE TABLE \w+ \((.*)\)\s*$", script.splitlines()[0]).group(1)
+    """The columns of the first CREATE line: of each its name, and its domain, if it is one of numbers with a CHECK."""
+    inside = re.search(r"^\s*create\s+table\s+\w+\s*\((.*)\)\s*;?\s*$", script, re.IGNORECASE | re.MULTILINE)
+    if not inside:
+        sys.exit("the script has no CREATE line")
     found = {}
-    for text in re.split(r",\s*(?=\w+ (?:INT|INTEGER|TEXT)\b)", inside):
-        domain = re.search(r"BETWEEN (-?\d+) AND (-?\d+)", text)
-        found[text.split()[0]] = tuple(map(int, domain.groups())) if domain else None
+    for text in re.split(r",\s*(?=\w+\s+(?:int|integer|text)\b)", inside.group(1), flags=re.IGNORECASE):
+        domain = re.search(r"between\s+(-?\d+)\s+and\s+(-?\d+)", text, re.IGNORECASE)
+        found[text.split()[0].lower()] = tuple(map(int, domain.groups())) if domain else None
     return found
 
 
-def rows_of(script, names):
-    """The rows of the INSERT lines, each as what its columns hold."""
+def axis_of(columns, name):
+    """The name of an axis, and its domain."""
+    if name not in columns:
+        sys.exit(f"the table has no column {name}")
+    if columns[name] is None:
+        sys.exit(f"column {name} is no axis: it has no CHECK, which would say where the axis begins and ends")
+    return name, columns[name]
+
+
+def rows_of(script, names, key):
+    """The rows of the INSERT lines, each as what its columns hold. A line that says a key again is refused."""
+    found = {}
     for line in script.splitlines():
-        if line.startswith("exec INSERT"):
-            for row in re.findall(r"\(([^()]*)\)", line.split("VALUES", 1)[1]):
-                yield dict(zip(names, (cell.strip() for cell in row.split(","))))
+        if re.match("exec insert", line, re.IGNORECASE):
+            rows = [dict(zip(names, (cell.strip() for cell in row.split(",")))) for row in re.findall(r"\(([^()]*)\)", values_of(line))]
+            keys = [row[key] for row in rows]
+            if len({*found, *keys}) == len(found) + len(keys):
+                found.update(zip(keys, rows))
+    return found.values()
+
+
+def values_of(line):
+    return re.split("values", line, maxsplit=1, flags=re.IGNORECASE)[-1]
 
 
 def boxes_of(text, domains):
@@ -125,19 +145,33 @@ class Picture:
             )
 
 
+def grid_of(low, high):
+    """Where the lines of a grid stand: at the multiples of the least power of ten of which there are at most twelve. And the power of a
+    thousand in which they are named."""
+    step = 1
+    while high // step + -low // step >= MOST_LINES:
+        step *= 10
+    return range(-(-low // step) * step, high + 1, step), 1000 ** ((len(str(step)) - 1) // 3)
+
+
+def axis_name(name, unit):
+    return name if unit == 1 else f"{name}, in units of {unit}"
+
+
 def draw_axes(picture):
-    (x_name, (x_low, x_high)), (y_name, (y_low, y_high)) = picture.domains
-    for value in range(-(-x_low // 10) * 10, x_high + 1, 10):
+    (x_name, x_domain), (y_name, y_domain) = picture.domains
+    (x_lines, x_unit), (y_lines, y_unit) = grid_of(*x_domain), grid_of(*y_domain)
+    for value in x_lines:
         x = picture.x(value)
         picture.add(f'<line x1="{x:.1f}" y1="{TOP}" x2="{x:.1f}" y2="{TOP + HIGH + 5}" stroke="#d5d9de" stroke-width="0.7"/>')
-        picture.text(x, TOP + HIGH + 20, str(value), 12, "middle")
-    for value in range(-(-y_low // 10) * 10, y_high + 1, 10):
+        picture.text(x, TOP + HIGH + 20, str(value // x_unit), 12, "middle")
+    for value in y_lines:
         y = picture.y(value)
         picture.add(f'<line x1="{LEFT - 5}" y1="{y:.1f}" x2="{LEFT + WIDE}" y2="{y:.1f}" stroke="#d5d9de" stroke-width="0.7"/>')
-        picture.text(LEFT - 9, y + 4, str(value), 12, "end")
-    picture.text(LEFT + WIDE / 2, TOP + HIGH + 44, x_name, 15, "middle", "bold")
+        picture.text(LEFT - 9, y + 4, str(value // y_unit), 12, "end")
+    picture.text(LEFT + WIDE / 2, TOP + HIGH + 44, axis_name(x_name, x_unit), 15, "middle", "bold")
     middle = TOP + HIGH / 2
-    picture.text(LEFT - 46, middle, y_name, 15, "middle", "bold", f' transform="rotate(-90 {LEFT - 46} {middle})"')
+    picture.text(LEFT - 46, middle, axis_name(y_name, y_unit), 15, "middle", "bold", f' transform="rotate(-90 {LEFT - 46} {middle})"')
 
 
 def draw_rows(picture, rows, names):
@@ -173,7 +207,7 @@ def victims_of(explained):
 
 def draw(script, everything, query, sql, names):
     columns = columns_of(script)
-    domains = [(name, columns[name]) for name in names]
+    domains = [axis_of(columns, name) for name in names]
     picture = Picture(domains)
     need = next(line.split(" ")[3] for line in query if line.split(" ")[1] == "need")
     held = list(probes_of(everything, domains))
@@ -196,7 +230,7 @@ def draw(script, everything, query, sql, names):
     part = rests + [box for _, _, boxes in probes for box in boxes]
     picture.outline(part, INK, 2.4, ' stroke-dasharray="7 5"')
     picture.add(f'<rect x="{LEFT}" y="{TOP}" width="{WIDE}" height="{HIGH}" fill="none" stroke="{INK}" stroke-width="1"/>')
-    draw_rows(picture, rows_of(script, list(columns)), names + [key])
+    draw_rows(picture, rows_of(script, list(columns), key), names + [key])
     for attrs, stamp, boxes in held:
         left, top = picture.x(boxes[0][0][0]), picture.y(boxes[0][1][1])
         picture.text(left + 6, top + 17, f"stamp {stamp}", 12.5, weight="bold", halo=True)
@@ -219,6 +253,8 @@ def draw(script, everything, query, sql, names):
 
 
 def main():
+    if len(sys.argv) != 6:
+        sys.exit(__doc__)
     script, everything, query = (open(name, encoding="utf-8").read() for name in sys.argv[1:4])
     sql, query = query.split("\n", 1)
     parts = draw(script, everything.splitlines()[1:], query.splitlines(), sql, sys.argv[4:6])

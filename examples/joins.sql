@@ -1,4 +1,4 @@
-# A client that joins two tables. Each line of the trace begins with the number of the line here that it belongs to.
+# A client that joins two tables; replay it with `--eager`. Each line of the trace begins with the number of the line here that it belongs to.
 # A join goes by the key of the table that it names last: FROM emp JOIN dept ON emp.dept = dept.id. Line 24 has it the other way round.
 CREATE TABLE dept (id INT PRIMARY KEY CHECK (id BETWEEN 1 AND 99), title TEXT)
 CREATE TABLE emp (id INT PRIMARY KEY CHECK (id BETWEEN 1 AND 9999), name TEXT, age INT CHECK (age BETWEEN 0 AND 150), dept INT CHECK (dept BETWEEN 1 AND 99))

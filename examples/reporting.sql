@@ -1,4 +1,4 @@
-# A reporting client over one table. Each line of the trace begins with the number of the line here that it belongs to.
+# A reporting client over one table; replay it with `--eager`. Each line of the trace begins with the number of the line here that it belongs to.
 # Line 11 asks the server for its whole range. Line 12 overlaps it: its part line asks the rest of its range alone.
 # Line 13 lies inside what the client holds by then, and line 14 says line 11 again: no ask line, nothing is sent.
 CREATE TABLE sale (id INT PRIMARY KEY CHECK (id BETWEEN 1 AND 99999), amount INT CHECK (amount BETWEEN 0 AND 1000000))

@@ -6,7 +6,7 @@ use Rattle.sr_talk.specs.Rounds.{HasPeers}
 use Rattle.sr_talk.specs.Serving.{by_fault}
 use Rattle.sr_talk.specs.Talked.{SentOn}
 use Rattle.sr_talk.specs.declared.serve.How.{How}
-use Rattle.sr_talk.specs.declared.serve.How.TheVariants.{End, Torn, Fault, Bad, Limit}
+use Rattle.sr_talk.specs.declared.serve.How.TheVariants.{End, Torn, Fault, Bad, Refused, Limit}
 
 -- what is said over a connection leaves them
 stay : (how : How) (n : ℕ) (bytes taken : List ℕ) (made talked : Linking) → SentOn how n bytes (taken_from taken made) talked → talked.peers ≡ made.peers
@@ -14,6 +14,7 @@ stay End n bytes taken made talked is = ap (λ (l : Linking). l.peers) is
 stay Torn n bytes taken made talked is = ap (λ (l : Linking). l.peers) is
 stay Fault n bytes taken made talked some = some.only.peers
 stay Bad n bytes taken made talked is = ap (λ (l : Linking). l.peers) is
+stay Refused n bytes taken made talked is = ap (λ (l : Linking). l.peers) is
 stay Limit n bytes taken made talked is = ap (λ (l : Linking). l.peers) is
 
 behind : (more : ℕ) (peers : Option (List (List ℕ))) → IfSome peers (λ ps. more + 1 ≤ length ps) → IfSome (other_peers peers) (λ ps. more ≤ length ps)
@@ -39,4 +40,5 @@ still-none false End none other = refl
 still-none false Torn none other = refl
 still-none false Fault none other = absurd (other refl)
 still-none false Bad none other = refl
+still-none false Refused none other = refl
 still-none false Limit none other = refl

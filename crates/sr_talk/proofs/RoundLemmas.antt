@@ -12,11 +12,11 @@ use Rattle.sr_message.specs.declared.message.Message.{Message}
 use Rattle.sr_model.specs.Statements.{Tables}
 use Rattle.sr_session.specs.Sessions.{Database}
 use Rattle.sr_links.specs.Honest.{Server}
-use Rattle.sr_talk.specs.Serving.{SentAs, IsWholeAs, CountsAs, Conversation, IsServed, AreServed, RoseBy, all_told, count_faults, connection_line, connection_lines, is_fault, spelled}
+use Rattle.sr_talk.specs.Serving.{SentAs, IsWholeAs, CountsAs, Conversation, IsServed, AreServed, RoseBy, all_told, count_faults, connection_line, connection_lines, frames_read, is_fault, spelled}
 use Rattle.sr_talk.specs.Talked.{SentOn, ClosesAs, EndsAt, Talks}
 use Rattle.sr_talk.specs.Rounds.{at_rest, text_of, Rounds, SoMany}
 use Rattle.sr_talk.specs.declared.serve.How.{How}
-use Rattle.sr_talk.specs.declared.serve.How.TheVariants.{End, Torn, Fault, Bad, Limit}
+use Rattle.sr_talk.specs.declared.serve.How.TheVariants.{End, Torn, Fault, Bad, Refused, Limit}
 use Rattle.sr_talk.specs.declared.serve.Served.{Served}
 
 -- ---- the connection that was made
@@ -32,12 +32,13 @@ record Sent (how : How) (n : ℕ) (all : List ℕ) (l talked : Linking) (T : Lis
   pub present : talked.present ≡ after l.docked l.peers T bytes
   pub docked : talked.docked ≡ l.docked
   pub are : SentAs how bytes all
-  pub counts : (frames : ℕ) → n ≡ frames → EndsAt how n → CountsAs how frames (length bytes) (length all)
+  pub counts : (frames : ℕ) → n ≡ frames_read how frames → EndsAt how n → CountsAs how frames (length bytes) (length all)
 
 sent : (how : How) (n : ℕ) (all : List ℕ) (l talked : Linking) (T : List ℕ) → SentOn how n all (taken_from T (connected_at l.docked l)) talked → Sent how n all l talked T
 sent End n all l talked T is = record { bytes = all; past = ap (λ (l : Linking). l.past) is; present = ap (λ (l : Linking). l.present) is; docked = ap (λ (l : Linking). l.docked) is; are = refl; counts = λ frames same below. omega (arith, same, below) }
 sent Torn n all l talked T is = record { bytes = all; past = ap (λ (l : Linking). l.past) is; present = ap (λ (l : Linking). l.present) is; docked = ap (λ (l : Linking). l.docked) is; are = refl; counts = λ frames same below. omega (arith, same, below) }
 sent Bad n all l talked T is = record { bytes = all; past = ap (λ (l : Linking). l.past) is; present = ap (λ (l : Linking). l.present) is; docked = ap (λ (l : Linking). l.docked) is; are = refl; counts = λ frames same below. omega (arith, same, below) }
+sent Refused n all l talked T is = record { bytes = all; past = ap (λ (l : Linking). l.past) is; present = ap (λ (l : Linking). l.present) is; docked = ap (λ (l : Linking). l.docked) is; are = refl; counts = λ frames same within. omega (arith, same, within) }
 sent Limit n all l talked T is = record { bytes = all; past = ap (λ (l : Linking). l.past) is; present = ap (λ (l : Linking). l.present) is; docked = ap (λ (l : Linking). l.docked) is; are = refl; counts = λ frames same reached. sym same ∙ reached }
 sent Fault n all l talked T s =
     let within = s.within in
@@ -72,6 +73,7 @@ told-whole End old new over = told-over new.present over
 told-whole Torn old new over = told-over new.present over
 told-whole Fault old new rose = told-any new.present
 told-whole Bad old new none = told-any new.present
+told-whole Refused old new none = told-any new.present
 told-whole Limit old new none = told-any new.present
 
 -- ---- its faults
@@ -81,7 +83,14 @@ rose-by End before old new same up closes = omega (arith, up)
 rose-by Torn before old new same up closes = omega (arith, up)
 rose-by Fault before old new same up closes = subst (λ n. Rose n new.faults) same closes
 rose-by Bad before old new same up closes = omega (arith, up)
+rose-by Refused before old new same up closes = omega (arith, up)
 rose-by Limit before old new same up closes = omega (arith, up)
+
+-- ---- its line
+
+-- how many whole frames were read
+abbrev read : Conversation → ℕ
+read c = frames_read c.how (length c.frames)
 
 module _ (Gives : Database → Message → Result Tables TheFault → Type 0) where
   -- what was said over the connection is a conversation
@@ -122,6 +131,7 @@ module _ (Gives : Database → Message → Result Tables TheFault → Type 0) wh
       closes-on Torn old talked new closes gone = subst (λ (l : Linking). IsOver l.present) (sym gone) tt
       closes-on Fault old talked new closes gone = subst (λ (l : Linking). Rose old.faults l.faults) (sym gone) closes
       closes-on Bad old talked new closes gone = tt
+      closes-on Refused old talked new closes gone = tt
       closes-on Limit old talked new closes gone = tt
 
   -- ---- several
@@ -138,17 +148,17 @@ module _ (Gives : Database → Message → Result Tables TheFault → Type 0) wh
   faults-one [] c = omega arith
   faults-one (first ∷ cs) c = let more = faults-one cs c in omega (arith, more)
 
-  lines-one : (i : ℕ) (cs : List Conversation) (c : Conversation) → connection_lines i (cs ++ c ∷ []) ≡ connection_lines i cs ++ connection_line (i + length cs) c.how (length c.frames) ∷ []
-  lines-one i [] c = ap (λ k. connection_line k c.how (length c.frames) ∷ []) (omega arith)
+  lines-one : (i : ℕ) (cs : List Conversation) (c : Conversation) → connection_lines i (cs ++ c ∷ []) ≡ connection_lines i cs ++ connection_line (i + length cs) c.how (read c) ∷ []
+  lines-one i [] c = ap (λ k. connection_line k c.how (read c) ∷ []) (omega arith)
   lines-one i (first ∷ cs) c =
-      ap (λ x. connection_line i first.how (length first.frames) ∷ x)
-      (lines-one (i + 1) cs c ∙ ap (λ k. connection_lines (i + 1) cs ++ connection_line k c.how (length c.frames) ∷ []) (omega arith))
+      ap (λ x. connection_line i first.how (read first) ∷ x)
+      (lines-one (i + 1) cs c ∙ ap (λ k. connection_lines (i + 1) cs ++ connection_line k c.how (read c) ∷ []) (omega arith))
 
-  pub texts-one : (cs : List Conversation) (c : Conversation) → text_of (connection_lines 1 (cs ++ c ∷ [])) ≡ text_of (connection_lines 1 cs) ++ connection_line (length cs + 1) c.how (length c.frames)
+  pub texts-one : (cs : List Conversation) (c : Conversation) → text_of (connection_lines 1 (cs ++ c ∷ [])) ≡ text_of (connection_lines 1 cs) ++ connection_line (length cs + 1) c.how (read c)
   texts-one cs c =
-      ap text_of (lines-one 1 cs c ∙ ap (λ k. connection_lines 1 cs ++ connection_line k c.how (length c.frames) ∷ []) (omega arith))
-      ∙ (flat_map-append (λ line. line) (connection_lines 1 cs) (connection_line (length cs + 1) c.how (length c.frames) ∷ [])
-      ∙ ap (λ x. text_of (connection_lines 1 cs) ++ x) (append-nil (connection_line (length cs + 1) c.how (length c.frames))))
+      ap text_of (lines-one 1 cs c ∙ ap (λ k. connection_lines 1 cs ++ connection_line k c.how (read c) ∷ []) (omega arith))
+      ∙ (flat_map-append (λ line. line) (connection_lines 1 cs) (connection_line (length cs + 1) c.how (read c) ∷ [])
+      ∙ ap (λ x. text_of (connection_lines 1 cs) ++ x) (append-nil (connection_line (length cs + 1) c.how (read c))))
 
   abbrev pub none-so-far : (db : Database) (l : Linking) (IsNow : Server → Type 0) → IsNow (at_rest db) → SoMany Gives db l l 0 IsNow
   none-so-far db l IsNow stands = record { conversations = []; last = db; served = refl; made = sym (append-nil (connections l)); came_at = All-nil (λ t. l.docked ≡ Some t.address); docked = refl; number = refl; faults = omega arith; stands = stands }
@@ -183,5 +193,6 @@ module _ (Gives : Database → Message → Result Tables TheFault → Type 0) wh
       }
 
   pub same-line : (db : Database) (now new : Linking) (served : Served) (number : ℕ) (IsNew : Server → Type 0) (r : Rounds Gives db now new served IsNew)
-      → connection_line number served.how served.frames ≡ connection_line number r.conversation.how (length r.conversation.frames)
-  same-line db now new served number IsNew r = ap (λ how. connection_line number how served.frames) (sym r.how_is) ∙ ap (λ n. connection_line number r.conversation.how n) r.count_is
+      → connection_line number served.how served.frames ≡ connection_line number r.conversation.how (read r.conversation)
+  same-line db now new served number IsNew r =
+      ap (λ n. connection_line number served.how n) r.count_is ∙ ap (λ how. connection_line number how (frames_read how (length r.conversation.frames))) (sym r.how_is)

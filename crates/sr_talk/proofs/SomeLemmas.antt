@@ -13,10 +13,10 @@ use Rattle.sr_model.specs.Statements.{Tables}
 use Rattle.sr_session.specs.Sessions.{Database}
 use Rattle.sr_links.specs.Honest.{Server}
 use Rattle.sr_talk.specs.Rounds.{HasPeers, OnlyOutput, at_rest, text_of, Rounds, RoundsIf, SoMany, EndsBy, EndsFaulty, EndsUnwritten}
-use Rattle.sr_talk.specs.Serving.{count_faults, connection_line, connection_lines, by_fault, is_fault}
+use Rattle.sr_talk.specs.Serving.{count_faults, connection_line, connection_lines, by_fault, frames_read, is_fault}
 use Rattle.sr_talk.specs.declared.rounds.Ending.TheVariants.{Whole, Faulty}
 use Rattle.sr_talk.specs.declared.serve.How.{How}
-use Rattle.sr_talk.specs.declared.serve.How.TheVariants.{End, Torn, Fault, Bad, Limit}
+use Rattle.sr_talk.specs.declared.serve.How.TheVariants.{End, Torn, Fault, Bad, Refused, Limit}
 use Rattle.sr_talk.specs.declared.serve.Served.{Served}
 use Rattle.sr_talk.proofs.RoundLemmas.{faults-one, texts-one, one-more, none-so-far, same-line}
 
@@ -42,6 +42,7 @@ one-fault End is = absurd (cc)
 one-fault Torn is = absurd (cc)
 one-fault Fault is = refl
 one-fault Bad is = absurd (cc)
+one-fault Refused is = absurd (cc)
 one-fault Limit is = absurd (cc)
 
 no-fault : (how : How) → by_fault how ≡ false → is_fault how ≡ 0
@@ -49,6 +50,7 @@ no-fault End is = refl
 no-fault Torn is = refl
 no-fault Fault is = absurd (cc)
 no-fault Bad is = refl
+no-fault Refused is = refl
 no-fault Limit is = refl
 
 module _ (Gives : Database → Message → Result Tables TheFault → Type 0) where
@@ -94,7 +96,7 @@ module _ (Gives : Database → Message → Result Tables TheFault → Type 0) wh
     line-is h r =
         texts-one Gives h.conversations r.conversation
         ∙ ap (λ x. text_of (connection_lines 1 h.conversations) ++ x)
-        (ap (λ n. connection_line (n + 1) r.conversation.how (length r.conversation.frames)) h.number ∙ sym (same-line Gives h.last now new served (done + 1) IsNew r))
+        (ap (λ n. connection_line (n + 1) r.conversation.how (frames_read r.conversation.how (length r.conversation.frames))) h.number ∙ sym (same-line Gives h.last now new served (done + 1) IsNew r))
 
     faults-are : (h : SoMany Gives db old now done IsNow) (r : Rounds Gives h.last now new served IsNew)
         → count_faults (h.conversations ++ r.conversation ∷ []) ≡ count_faults h.conversations + is_fault served.how

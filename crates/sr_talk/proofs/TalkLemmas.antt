@@ -1,5 +1,5 @@
 -- What was said so far over a connection.
-use Rattle.std.proofs.Common.{◌≡◌, ℕ, ◌+◌, ◌<◌, ◌≤◌, List, [], ◌∷◌, ◌++◌, length, take, Option, arith, append_assoc, refl, sym, ◌∙◌, ap, subst, length-append, append-nil, option_map, inl, inr}
+use Rattle.std.proofs.Common.{◌≡◌, ℕ, ◌+◌, ◌<◌, ◌≤◌, List, [], ◌∷◌, ◌++◌, length, take, Option, arith, append_assoc, refl, sym, ◌∙◌, ap, subst, length-append, append-nil, option_map}
 use Rattle.std.specs.Prelude.{Result, IsTrue}
 use Rattle.std.proofs.lemmas.Grind.{flat_map-append}
 use Rattle.std.proofs.Math.Seq.{take-append-add, take-length}
@@ -15,10 +15,10 @@ use Rattle.sr_wire.specs.Spelling.{has_spelling, spelling}
 use Rattle.sr_links.specs.Honest.{Server, Frame as FrameOf, answer}
 use Rattle.sr_talk.specs.Moves.{OnlyLinks}
 use Rattle.sr_talk.specs.Reading.{Reads, Nexts}
-use Rattle.sr_talk.specs.Serving.{Answers, spelled, EndsAs}
+use Rattle.sr_talk.specs.Serving.{Answers, spelled, EndsAs, frames_read}
 use Rattle.sr_talk.specs.Talked.{Takes, Sends, Turns, Talks, ClosesAs, SentOn, EndsAt}
 use Rattle.sr_talk.specs.declared.frames.Next.TheVariants.{End as NextEnd, Torn as NextTorn, Fault as NextFault, Bad as NextBad}
-use Rattle.sr_talk.specs.declared.serve.How.TheVariants.{End, Torn, Fault, Bad, Limit}
+use Rattle.sr_talk.specs.declared.serve.How.TheVariants.{End, Torn, Fault, Bad, Refused as ByRefusal, Limit}
 use Rattle.sr_talk.specs.declared.serve.Turn.TheVariants.{Refused, Broken}
 use Rattle.sr_talk.proofs.MoveLemmas.{taken_from-more, taken-behind, brings-more, brings-behind}
 use Rattle.sr_talk.specs.declared.serve.How.{How}
@@ -99,10 +99,11 @@ module _ (Gives : Database → Message → Result Tables TheFault → Type 0) wh
   -- ---- the end
 
   -- at which all that was answered was sent
-  quiet-end : (how : How) (s : Server) (first now new : Linking) (left frame after : List ℕ) (index : ℕ) (IsNow IsNew : Server → Type 0) → (h : SoFar s first now left index IsNow) → IsNew h.after → Reads now new left frame after
-      → (new ≡ sent_on (spelled h.sent) (taken_from (spelled h.frames ++ (frame ++ after)) first) → SentOn how index (spelled h.sent) (taken_from (spelled h.frames ++ (frame ++ after)) first) new)
-      → EndsAs how h.after (frame ++ after) → ClosesAs how first new → EndsAt how index → Talks Gives s first new how index IsNew
-  quiet-end how s first now new left frame after index IsNow IsNew h stands r sent ends closes counts =
+  quiet-end : (how : How) (s : Server) (first now new : Linking) (left frame after : List ℕ) (index count : ℕ) (IsNow IsNew : Server → Type 0) → (h : SoFar s first now left index IsNow) → IsNew h.after → Reads now new left frame after
+      → (new ≡ sent_on (spelled h.sent) (taken_from (spelled h.frames ++ (frame ++ after)) first) → SentOn how count (spelled h.sent) (taken_from (spelled h.frames ++ (frame ++ after)) first) new)
+      → EndsAs how h.after (frame ++ after) → ClosesAs how first new → count ≡ frames_read how index → EndsAt how count
+      → Talks Gives s first new how count IsNew
+  quiet-end how s first now new left frame after index count IsNow IsNew h stands r sent ends closes reads counts =
       let on = read-on s first now new left frame after index IsNow h r in
       record {
         frames = h.frames;
@@ -114,20 +115,20 @@ module _ (Gives : Database → Message → Result Tables TheFault → Type 0) wh
         is = sent on.is;
         ends = ends;
         closes = closes;
-        count_is = h.count_is;
+        count_is = reads ∙ ap (frames_read how) h.count_is;
         counts = counts;
         stands = stands;
       }
 
   module _ (s : Server) (first now new : Linking) (left after : List ℕ) (index : ℕ) (IsNow : Server → Type 0) (h : SoFar s first now left index IsNow) (below : index < 1000000) where
     pub at-end : Nexts NextEnd now new left after → Talks Gives s first new End index IsNow
-    at-end (r, none, over) = quiet-end End s first now new left [] after index IsNow IsNow h h.stands r (λ e. e) none over below
+    at-end (r, none, over) = quiet-end End s first now new left [] after index index IsNow IsNow h h.stands r (λ e. e) none over refl below
 
     pub at-torn : Nexts NextTorn now new left after → Talks Gives s first new Torn index IsNow
-    at-torn (r, some, short, over) = quiet-end Torn s first now new left [] after index IsNow IsNow h h.stands r (λ e. e) (some, short) over below
+    at-torn (r, some, short, over) = quiet-end Torn s first now new left [] after index index IsNow IsNow h h.stands r (λ e. e) (some, short) over refl below
 
     pub at-bad : (fault : WireFault) → Nexts (NextBad fault) now new left after → Talks Gives s first new Bad index IsNow
-    at-bad fault (r, faulty, other) = quiet-end Bad s first now new left [] after index IsNow IsNow h h.stands r (λ e. e) (inl (fault, faulty, other)) tt below
+    at-bad fault (r, faulty, other) = quiet-end Bad s first now new left [] after index index IsNow IsNow h h.stands r (λ e. e) (fault, faulty, other) tt refl below
 
     pub at-fault : Nexts NextFault now new left after → Talks Gives s first new Fault index IsNow
     at-fault all =
@@ -151,9 +152,10 @@ module _ (Gives : Database → Message → Result Tables TheFault → Type 0) wh
         }
 
   module _ (s : Server) (first now mid new : Linking) (left after : List ℕ) (m : Message) (index : ℕ) (IsNow IsNew : Server → Type 0) (h : SoFar s first now left index IsNow) (below : index < 1000000) (r : Reads now mid left (spelling m) after) where
-    pub at-refused : IsTrue (has_spelling m) → Turns Gives Refused h.after m mid new IsNew → Talks Gives s first new Bad index IsNew
+    pub at-refused : IsTrue (has_spelling m) → Turns Gives Refused h.after m mid new IsNew → Talks Gives s first new ByRefusal (index + 1) IsNew
     at-refused spells (refused, same, stands) =
-        quiet-end Bad s first now new left (spelling m) after index IsNow IsNew h stands (subst (λ l. Reads now l left (spelling m) after) (sym same) r) (λ e. e) (inr (m, after, refl, spells, refused)) tt below
+        quiet-end ByRefusal s first now new left (spelling m) after index (index + 1) IsNow IsNew h stands (subst (λ l. Reads now l left (spelling m) after) (sym same) r) (λ e. e) (m, after, refl, spells, refused) tt refl
+        (omega (arith, below))
 
     pub at-broken : Turns Gives Broken h.after m mid new IsNew → Talks Gives s first new Fault (index + 1) IsNew
     at-broken t =

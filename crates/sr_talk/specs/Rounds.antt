@@ -10,7 +10,7 @@ use Rattle.sr_message.specs.declared.message.Message.{Message}
 use Rattle.sr_model.specs.Statements.{Tables}
 use Rattle.sr_session.specs.Sessions.{Database}
 use Rattle.sr_links.specs.Honest.{Server}
-use Rattle.sr_talk.specs.Serving.{Conversation, IsServed, AreServed, RoseBy, all_told, count_faults, connection_lines, is_fault}
+use Rattle.sr_talk.specs.Serving.{Conversation, IsServed, AreServed, RoseBy, all_told, count_faults, connection_lines, frames_read, is_fault}
 use Rattle.sr_talk.specs.declared.serve.How.TheVariants.{Fault as ByFault}
 use Rattle.sr_talk.specs.declared.serve.Served.{Served}
 use Rattle.sr_talk.specs.declared.rounds.Ending.{Ending}
@@ -45,7 +45,7 @@ module _ (Gives : Database → Message → Result Tables TheFault → Type 0) wh
     pub conversation : Conversation
     pub after : Server
     pub how_is : conversation.how ≡ served.how
-    pub count_is : served.frames ≡ length conversation.frames
+    pub count_is : served.frames ≡ frames_read served.how (length conversation.frames)
     pub is : IsServed Gives db conversation after
     pub made : connections new ≡ connections old ++ option_to_list conversation.told
     pub came_at : IfSome conversation.told (λ t. old.docked ≡ Some t.address)

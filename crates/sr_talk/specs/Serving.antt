@@ -1,5 +1,5 @@
 -- What a run of `serve` did.
-use Rattle.std.specs.Prelude.{ℕ, Bool, true, false, ◌==◌, if◌then◌else◌, ◌+◌, ◌-◌, ◌^◌, min, ◌<◌, ◌≤◌, ◌⊎◌, List, [], ◌∷◌, ◌++◌, length, flat_map, decimal, codes, ◌≡◌, ◌≢◌, Option, None, Result, Ok, Err, IfSome, IsTrue, option_to_list}
+use Rattle.std.specs.Prelude.{ℕ, Bool, true, false, ◌==◌, if◌then◌else◌, ◌+◌, ◌-◌, ◌^◌, min, ◌<◌, ◌≤◌, List, [], ◌∷◌, ◌++◌, length, flat_map, decimal, codes, ◌≡◌, ◌≢◌, Option, None, Result, Ok, Err, IfSome, IsTrue, option_to_list}
 use Rattle.sr_cell.specs.declared.fault.Fault.{Fault as TheFault}
 use Rattle.sr_io.specs.Told.{Linking, Connection, AreAt, connections}
 use Rattle.sr_message.specs.declared.message.Message.{Message}
@@ -14,7 +14,7 @@ use Rattle.sr_session.specs.Sessions.{Database, newest, with_version}
 use Rattle.sr_session.specs.Refusals.{server_misfit}
 use Rattle.sr_links.specs.Honest.{Server, Frame, answer, IsPrefix}
 use Rattle.sr_talk.specs.declared.serve.How.{How}
-use Rattle.sr_talk.specs.declared.serve.How.TheVariants.{End, Torn, Fault, Bad, Limit}
+use Rattle.sr_talk.specs.declared.serve.How.TheVariants.{End, Torn, Fault, Bad, Refused, Limit}
 
 -- ---- bytes
 
@@ -47,12 +47,13 @@ IsRefused s m = server_misfit s.database.schema s.session (named m) m ≢ None
 abbrev pub IsAccepted : Server → Message → Type 0
 IsAccepted s m = server_misfit s.database.schema s.session (named m) m ≡ None
 
--- what stands behind the frames that were read, where the connection ended so
+-- what stands behind the frames that were answered, where the connection ended so
 abbrev pub EndsAs : How → Server → List ℕ → Type 0
 EndsAs End s left = left ≡ []
 EndsAs Torn s left = (left ≢ []) × IsShort left
 EndsAs Fault s left = Unit {0}
-EndsAs Bad s left = IsFaulty left ⊎ ((m : Message) × (rest : List ℕ) × (left ≡ spelling m ++ rest) × IsTrue (has_spelling m) × IsRefused s m)
+EndsAs Bad s left = IsFaulty left
+EndsAs Refused s left = (m : Message) × (rest : List ℕ) × (left ≡ spelling m ++ rest) × IsTrue (has_spelling m) × IsRefused s m
 EndsAs Limit s left = Unit {0}
 
 -- It ended by the limit just where so many frames were answered in full.
@@ -72,7 +73,8 @@ IsWholeAs End coming = coming ≡ []
 IsWholeAs Torn coming = coming ≡ []
 IsWholeAs how coming = Unit {0}
 
--- One connection: the whole frames that were read, how it ended, and the connection, where the link tells it.
+-- One connection: the frames that were answered, how it ended, and the connection, where the link tells it. A frame that was refused is
+-- not among them.
 pub record Conversation : Type 0 where
   pub frames : List Message
   pub how : How
@@ -102,7 +104,13 @@ how_text End = codes "end"
 how_text Torn = codes "torn"
 how_text Fault = codes "fault"
 how_text Bad = codes "bad"
+how_text Refused = codes "bad"
 how_text Limit = codes "limit"
+
+-- how many whole frames were read: those that were answered, and the one that was refused
+abbrev pub frames_read : How → ℕ → ℕ
+frames_read Refused answered = answered + 1
+frames_read how answered = answered
 
 -- a line for each connection, which are counted from 1
 abbrev pub connection_line : ℕ → How → ℕ → List ℕ
@@ -110,7 +118,7 @@ connection_line i how frames = ended (codes "connection" ∷ decimal i ∷ how_t
 
 abbrev pub connection_lines : ℕ → List Conversation → List (List ℕ)
 connection_lines i [] = []
-connection_lines i (c ∷ cs) = connection_line i c.how (length c.frames) ∷ connection_lines (i + 1) cs
+connection_lines i (c ∷ cs) = connection_line i c.how (frames_read c.how (length c.frames)) ∷ connection_lines (i + 1) cs
 
 -- a line for each statement of the exec file, with the versions before it
 abbrev pub exec_line : Database → Result Tables TheFault → List ℕ

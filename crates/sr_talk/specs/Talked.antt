@@ -8,9 +8,9 @@ use Rattle.sr_message.specs.declared.message.Message.{Message}
 use Rattle.sr_model.specs.Statements.{Tables}
 use Rattle.sr_session.specs.Sessions.{Database}
 use Rattle.sr_links.specs.Honest.{Server, Frame, answer}
-use Rattle.sr_talk.specs.Serving.{Answers, EndsAs, IsAccepted, IsRefused, spelled}
+use Rattle.sr_talk.specs.Serving.{Answers, EndsAs, IsAccepted, IsRefused, frames_read, spelled}
 use Rattle.sr_talk.specs.declared.serve.How.{How}
-use Rattle.sr_talk.specs.declared.serve.How.TheVariants.{End, Torn, Fault, Limit}
+use Rattle.sr_talk.specs.declared.serve.How.TheVariants.{End, Torn, Fault, Refused as ByRefusal, Limit}
 use Rattle.sr_talk.specs.declared.serve.Turn.{Turn}
 use Rattle.sr_talk.specs.declared.serve.Turn.TheVariants.{Whole, Refused, Broken}
 
@@ -32,9 +32,11 @@ ClosesAs Torn old new = IsOver new.present
 ClosesAs Fault old new = Rose old.faults new.faults
 ClosesAs how old new = Unit {0}
 
+-- after how many whole frames it may end so
 abbrev pub EndsAt : How → ℕ → Type 0
 EndsAt Limit frames = frames ≡ 1000000
 EndsAt Fault frames = frames ≤ 1000000
+EndsAt ByRefusal frames = frames ≤ 1000000
 EndsAt how frames = frames < 1000000
 
 module _ (Gives : Database → Message → Result Tables TheFault → Type 0) where
@@ -63,7 +65,8 @@ module _ (Gives : Database → Message → Result Tables TheFault → Type 0) wh
   Turns Refused s m old new IsNew = IsRefused s m × (new ≡ old) × IsNew s
   Turns Broken s m old new IsNew = Breaks s m old new IsNew
 
-  -- From this state of the server to that one: the frames that were read and answered, and what was left behind them.
+  -- From this state of the server to that one: the frames that were read and answered, and what was left behind them. The count is of those
+  -- that were read.
   pub record Talks (s : Server) (old new : Linking) (how : How) (count : ℕ) (IsNew : Server → Type 0) : Type 0 where
     pub frames : List Message
     pub sent : List Message
@@ -74,6 +77,6 @@ module _ (Gives : Database → Message → Result Tables TheFault → Type 0) wh
     pub is : SentOn how count (spelled sent) (taken_from (spelled frames ++ left) old) new
     pub ends : EndsAs how after left
     pub closes : ClosesAs how old new
-    pub count_is : count ≡ length frames
+    pub count_is : count ≡ frames_read how (length frames)
     pub counts : EndsAt how count
     pub stands : IsNew after

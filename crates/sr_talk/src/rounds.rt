@@ -55,6 +55,7 @@ fn word_of(how: How) -> &'static str
         How::Torn => "torn",
         How::Fault => "fault",
         How::Bad => "bad",
+        How::Refused => "bad",
         How::Limit => "limit",
     }
 }

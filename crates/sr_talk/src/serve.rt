@@ -23,18 +23,19 @@ use std::alloc::Global;
 /// The most frames that are read on one connection.
 const MOST_FRAMES: u32 = 1_000_000;
 
-/// How a connection ended: the peer said no more; it said no more inside of a frame; the link failed; what came next was no frame, or one
-/// that must be refused; or the peer had all its frames.
+/// How a connection ended: the peer said no more; it said no more inside of a frame; the link failed; what came next begins no frame; a
+/// frame came that must be refused; or the peer had all its frames.
 #[derive(Clone, Copy, Debug, PartialEq, Eq)]
 pub enum How {
     End,
     Torn,
     Fault,
     Bad,
+    Refused,
     Limit,
 }
 
-/// A connection that is over: how it ended, and how many frames were read.
+/// A connection that is over: how it ended, and how many whole frames were read. One that was refused is among them.
 #[derive(Clone, Copy, Debug, PartialEq, Eq)]
 pub struct Served {
     pub how: How,
@@ -162,8 +163,8 @@ pub fn serve_connection<L: Link, S: Serves>(
             Turn::Whole => {}
             Turn::Refused => {
                 return Ok(Served {
-                    how: How::Bad,
-                    frames,
+                    how: How::Refused,
+                    frames: frames + 1, // it was read whole
                 });
             }
             Turn::Broken => {

@@ -17,7 +17,7 @@ use Rattle.sr_talk.specs.Calls.{Call, done_in, fails, steps_in}
 use Rattle.sr_talk.specs.Rounds.{at_rest}
 use Rattle.sr_talk.specs.Serving.{Answers, Conversation, SentAs, spelled}
 use Rattle.sr_talk.specs.declared.serve.How.{How}
-use Rattle.sr_talk.specs.declared.serve.How.TheVariants.{End, Torn, Fault as HowFault, Bad, Limit}
+use Rattle.sr_talk.specs.declared.serve.How.TheVariants.{End, Torn, Fault as HowFault, Bad, Refused as HowRefused, Limit}
 use Rattle.sr_talk.proofs.TalkLemmas.{spelled-append}
 use Rattle.sr_dial.specs.Honest.{AreExplained, IsExplained, came_over}
 use Rattle.sr_dial.specs.Runs.{SentAs as AreSent}
@@ -48,6 +48,7 @@ answers-begin End sent all is = subst (λ bytes. IsPrefix bytes all) (sym is) (s
 answers-begin Torn sent all is = subst (λ bytes. IsPrefix bytes all) (sym is) (same-prefix all)
 answers-begin HowFault sent all is = is
 answers-begin Bad sent all is = subst (λ bytes. IsPrefix bytes all) (sym is) (same-prefix all)
+answers-begin HowRefused sent all is = subst (λ bytes. IsPrefix bytes all) (sym is) (same-prefix all)
 answers-begin Limit sent all is = subst (λ bytes. IsPrefix bytes all) (sym is) (same-prefix all)
 
 told-one : (P : Connection → Type 0) (told : Option Connection) (t : Connection) → told ≡ Some t → IfSome told P → P t

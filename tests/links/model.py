@@ -139,7 +139,7 @@ class Model:
         return session, sent
 
     def serve(self, stream):
-        """What is sent on a connection that brings these bytes, how it ends, and after how many frames."""
+        """What is sent on a connection that brings these bytes, how it ends, and how many whole frames were read."""
         session, sent, frames = None, [], 0
         while stream:
             try:
@@ -149,7 +149,7 @@ class Model:
             except Fault:
                 return spelled(sent), 'bad', frames
             if self.misfit(session, message):
-                return spelled(sent), 'bad', frames
+                return spelled(sent), 'bad', frames + 1
             session, more = self.take(session, message)
             sent, stream, frames = sent + more, stream[size:], frames + 1
         return spelled(sent), 'end', frames

@@ -1,6 +1,6 @@
 -- Runs, by what ended them.
 use Rattle.std.proofs.Common.{◌≡◌, ℕ, ◌+◌, Bool, true, false, eqb, List, [], ◌∷◌, ◌++◌, take, drop, Option, Some, None, option_map, arith, append-nil, refl, sym, ◌∙◌, ap, subst}
-use Rattle.std.specs.Prelude.{◌≢◌}
+use Rattle.std.specs.Prelude.{◌≢◌, IfSome}
 use Rattle.std.specs.Io.KnownBytes.{Appends}
 use Rattle.std.specs.List.{All}
 use Rattle.std.proofs.lemmas.Bool.Decides.{nat_tests}
@@ -17,9 +17,10 @@ use Rattle.sr_session.specs.Sessions.{Database}
 use Rattle.sr_server.specs.Servers.{Gives}
 use Rattle.sr_server.specs.declared.server.Server.{Server}
 use Rattle.sr_talk.specs.Rounds.{EndsBy, EndsWhole, EndsFaulty, EndsUnwritten, text_of}
-use Rattle.sr_talk.specs.Serving.{AreExecuted, Conversation, RoseBy, Writes, all_told, connection_lines, count_faults, listening, missing}
+use Rattle.sr_talk.specs.Serving.{AreExecuted, AreTold, Conversation, RoseBy, Writes, all_told, connection_lines, count_faults, listening, missing}
 use Rattle.sr_talk.specs.declared.rounds.Ending.{Ending}
 use Rattle.sr_talk.specs.declared.rounds.Ending.TheVariants.{Whole, Faulty, Unwritten}
+use Rattle.sr_talk.proofs.RoundLemmas.{none-told}
 use Rattle.sr_talk.proofs.SomeLemmas.{appends-nothing, prefix-behind}
 use Rattle.sr_serve.specs.Execs.{AllExecuted, PartExecuted}
 use Rattle.sr_serve.specs.Runs.{Ran}
@@ -76,6 +77,15 @@ at-address address old made at = All-weaker (λ t. (docked_at address old).docke
 none-at : (address : List ℕ) → AreAt address []
 none-at address = All-nil (λ t. t.address ≡ address)
 
+-- docking keeps the peers, and tells the address just where one was told before
+told-before : (address : List ℕ) (old : Linking) (cs : List Conversation) → AreTold (docked_at address old) cs → AreTold old cs
+told-before address old cs told = by old.docked told
+  where
+    by : (docked : Option (List ℕ)) → IfSome (option_map (λ before. address) docked) (λ at. IfSome old.peers (λ peers. All (λ (c : Conversation). c.told ≢ None) cs))
+        → IfSome docked (λ at. IfSome old.peers (λ peers. All (λ (c : Conversation). c.told ≢ None) cs))
+    by None told = tt
+    by (Some before) told = told
+
 same-connections : (old new : Linking) → OnlyFaults old new → connections new ≡ connections old
 same-connections old new only =
     ap (λ past. past ++ Rattle.std.specs.Prelude.option_to_list new.present) only.past ∙ ap (λ present. old.past ++ Rattle.std.specs.Prelude.option_to_list present) only.present
@@ -99,6 +109,7 @@ module _ (db : Database) (texts : List (List ℕ)) (address : List ℕ) (count :
           served = refl;
           made = same-connections old new only ∙ sym (append-nil (connections old));
           came_at = none-at address;
+          each_told = none-told old;
           writes = none-written (lines_of way.lines []);
           few = omega arith;
           all = λ is. absurd (omega (arith, is));
@@ -125,6 +136,7 @@ module _ (db : Database) (texts : List (List ℕ)) (address : List ℕ) (count :
       served = refl;
       made = sym (append-nil (connections old));
       came_at = none-at address;
+      each_told = none-told old;
       writes = part-written (lines_of lines []) written.count;
       few = omega arith;
       all = λ is. absurd (omega (arith, is));
@@ -177,6 +189,7 @@ module _ (db : Database) (texts : List (List ℕ)) (address : List ℕ) (count :
             served = e.all.served;
             made = e.all.made;
             came_at = at-address address old (all_told e.all.conversations) e.all.came_at;
+            each_told = told-before address old e.all.conversations e.all.each_told;
             writes = all-written 0 (lines_of executed.lines e.all.conversations);
             few = omega (arith, number);
             all = λ is. (number, e.none);
@@ -225,6 +238,7 @@ module _ (db : Database) (texts : List (List ℕ)) (address : List ℕ) (count :
             served = e.some.served;
             made = same-connections e.linking new e.only ∙ e.some.made;
             came_at = at-address address old (all_told e.some.conversations) e.some.came_at;
+            each_told = told-before address old e.some.conversations e.some.each_told;
             writes = all-written 5 (lines_of executed.lines e.some.conversations);
             few = omega (arith, number, few);
             all = λ is. absurd (omega (arith, is));
@@ -254,6 +268,7 @@ module _ (db : Database) (texts : List (List ℕ)) (address : List ℕ) (count :
             served = e.some.served;
             made = e.some.made;
             came_at = at-address address old (all_told e.some.conversations) e.some.came_at;
+            each_told = told-before address old e.some.conversations e.some.each_told;
             writes = part-written (lines_of executed.lines e.some.conversations) p.count;
             few = omega (arith, number, few);
             all = λ is. absurd (omega (arith, is));

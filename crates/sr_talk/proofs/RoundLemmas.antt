@@ -1,6 +1,6 @@
 -- One connection more.
 use Rattle.std.proofs.Common.{◌≡◌, ℕ, ◌+◌, ◌≤◌, List, [], ◌∷◌, ◌++◌, length, take, drop, Option, Some, None, arith, append_assoc, append-nil, refl, sym, ◌∙◌, ap, subst, length-append, option_map, option_to_list}
-use Rattle.std.specs.Prelude.{IfSome, Result}
+use Rattle.std.specs.Prelude.{◌≢◌, IfSome, Result}
 use Rattle.std.specs.List.{All}
 use Rattle.std.proofs.lemmas.Grind.{flat_map-append}
 use Rattle.std.proofs.lemmas.List.{take-append-drop, length-take}
@@ -12,12 +12,13 @@ use Rattle.sr_message.specs.declared.message.Message.{Message}
 use Rattle.sr_model.specs.Statements.{Tables}
 use Rattle.sr_session.specs.Sessions.{Database}
 use Rattle.sr_links.specs.Honest.{Server}
-use Rattle.sr_talk.specs.Serving.{SentAs, IsWholeAs, CountsAs, Conversation, IsServed, AreServed, RoseBy, all_told, count_faults, connection_line, connection_lines, frames_read, is_fault, spelled}
+use Rattle.sr_talk.specs.Serving.{SentAs, IsWholeAs, CountsAs, Conversation, IsServed, AreServed, AreTold, RoseBy, all_told, count_faults, connection_line, connection_lines, frames_read, is_fault, spelled}
 use Rattle.sr_talk.specs.Talked.{SentOn, ClosesAs, EndsAt, Talks}
-use Rattle.sr_talk.specs.Rounds.{at_rest, text_of, Rounds, SoMany}
+use Rattle.sr_talk.specs.Rounds.{KeepsPeers, at_rest, text_of, Rounds, SoMany}
 use Rattle.sr_talk.specs.declared.serve.How.{How}
 use Rattle.sr_talk.specs.declared.serve.How.TheVariants.{End, Torn, Fault, Bad, Refused, Limit}
 use Rattle.sr_talk.specs.declared.serve.Served.{Served}
+use Rattle.sr_talk.proofs.PeerLemmas.{keeps-peers}
 
 -- ---- the connection that was made
 
@@ -76,6 +77,45 @@ told-whole Bad old new none = told-any new.present
 told-whole Refused old new none = told-any new.present
 told-whole Limit old new none = told-any new.present
 
+-- ---- which connections are told
+
+-- these are told, where the address and the peers are
+abbrev told-where : Option (List ℕ) → Option (List (List ℕ)) → List Conversation → Type 0
+told-where docked peers cs = IfSome docked (λ address. IfSome peers (λ ps. All (λ (c : Conversation). c.told ≢ None) cs))
+
+-- one that was made with a peer
+one-told : (docked : Option (List ℕ)) (peers : Option (List (List ℕ))) (T S : List ℕ) (c : Conversation) → peers ≢ Some [] → c.told ≡ after docked peers T S → told-where docked peers (c ∷ [])
+one-told None peers T S c some is = tt
+one-told (Some address) None T S c some is = tt
+one-told (Some address) (Some []) T S c some is = absurd (some refl)
+one-told (Some address) (Some (bytes ∷ more)) T S c some is = All-cons (λ (c : Conversation). c.told ≢ None) c [] (λ none. absurd (cc)) (All-nil (λ (c : Conversation). c.told ≢ None))
+
+none-told-where : (docked : Option (List ℕ)) (peers : Option (List (List ℕ))) → told-where docked peers []
+none-told-where None peers = tt
+none-told-where (Some address) None = tt
+none-told-where (Some address) (Some ps) = All-nil (λ (c : Conversation). c.told ≢ None)
+
+pub none-told : (l : Linking) → AreTold l []
+none-told l = none-told-where l.docked l.peers
+
+-- behind these, one more at a later link
+pub more-told : (docked docked_now : Option (List ℕ)) (peers peers_now : Option (List (List ℕ))) (cs : List Conversation) (c : Conversation) → docked_now ≡ docked → IfSome peers (λ ps. peers_now ≢ None)
+    → told-where docked peers cs → told-where docked_now peers_now (c ∷ []) → told-where docked peers (cs ++ c ∷ [])
+more-told None docked_now peers peers_now cs c same stay before here = tt
+more-told (Some address) docked_now None peers_now cs c same stay before here = tt
+more-told (Some address) None (Some ps) peers_now cs c same stay before here = absurd (cc)
+more-told (Some address) (Some now) (Some ps) None cs c same stay before here = absurd (stay refl)
+more-told (Some address) (Some now) (Some ps) (Some others) cs c same stay before here = All-append (λ (c : Conversation). c.told ≢ None) cs (c ∷ []) before here
+
+pub same-peers : (peers : Option (List (List ℕ))) → IfSome peers (λ ps. peers ≢ None)
+same-peers None = tt
+same-peers (Some ps) = λ none. absurd (cc)
+
+pub peers-on : (one two three : Option (List (List ℕ))) → IfSome one (λ ps. two ≢ None) → IfSome two (λ ps. three ≢ None) → IfSome one (λ ps. three ≢ None)
+peers-on None two three first then = tt
+peers-on (Some ps) None three first then = absurd (first refl)
+peers-on (Some ps) (Some others) three first then = then
+
 -- ---- its faults
 
 rose-by : (how : How) (before : ℕ) (old new : Linking) → old.faults ≡ before → before ≤ new.faults → ClosesAs how old new → RoseBy before (is_fault how) new.faults
@@ -94,15 +134,16 @@ read c = frames_read c.how (length c.frames)
 
 module _ (Gives : Database → Message → Result Tables TheFault → Type 0) where
   -- what was said over the connection is a conversation
-  pub round : (db : Database) (l made talked new : Linking) (served : Served) (IsAfter IsNew : Server → Type 0) → made ≡ connected_at l.docked l
+  pub round : (db : Database) (l made talked new : Linking) (served : Served) (IsAfter IsNew : Server → Type 0) → l.peers ≢ Some [] → made ≡ connected_at l.docked l
       → Talks Gives (at_rest db) made talked served.how served.frames IsAfter → ((s : Server) → IsAfter s → IsNew (at_rest s.database)) → new ≡ hung_up talked → l.faults ≤ talked.faults
       → Rounds Gives db l new served IsNew
-  round db l made talked new served IsAfter IsNew made_is talks stands gone up =
+  round db l made talked new served IsAfter IsNew some_peer made_is talks stands gone up =
       let T : List ℕ = spelled talks.frames ++ talks.left in
       let s : Sent served.how served.frames (spelled talks.sent) l talked T =
       sent served.how served.frames (spelled talks.sent) l talked T (subst (λ m. SentOn served.how served.frames (spelled talks.sent) (taken_from T m) talked) made_is talks.is) in
+      let conversation : Conversation = record { frames = talks.frames; how = served.how; told = talked.present } in
       record {
-        conversation = record { frames = talks.frames; how = served.how; told = talked.present };
+        conversation = conversation;
         after = talks.after;
         how_is = refl;
         count_is = talks.count_is;
@@ -121,7 +162,9 @@ module _ (Gives : Database → Message → Result Tables TheFault → Type 0) wh
         };
         made = ap connections gone ∙ (append-nil (connections talked) ∙ ap (λ x. x ++ option_to_list talked.present) s.past);
         came_at = subst (λ p. IfSome p (λ t. l.docked ≡ Some t.address)) (sym s.present) (told-after (λ t. l.docked ≡ Some t.address) l.docked l.peers T s.bytes (λ address coming is. is));
+        is_told = one-told l.docked l.peers T s.bytes conversation some_peer s.present;
         docked = ap (λ (l : Linking). l.docked) gone ∙ s.docked;
+        peers_stay = keeps-peers served.how served.frames (spelled talks.sent) T l made talked new made_is talks.is gone;
         faults = rose-by served.how l.faults made new (ap (λ (l : Linking). l.faults) made_is) (subst (λ (t : Linking). l.faults ≤ t.faults) (sym gone) up) (closes-on served.how made talked new talks.closes gone);
         stands = stands talks.after talks.stands;
       }
@@ -161,7 +204,7 @@ module _ (Gives : Database → Message → Result Tables TheFault → Type 0) wh
       ∙ ap (λ x. text_of (connection_lines 1 cs) ++ x) (append-nil (connection_line (length cs + 1) c.how (read c))))
 
   abbrev pub none-so-far : (db : Database) (l : Linking) (IsNow : Server → Type 0) → IsNow (at_rest db) → SoMany Gives db l l 0 IsNow
-  none-so-far db l IsNow stands = record { conversations = []; last = db; served = refl; made = sym (append-nil (connections l)); came_at = All-nil (λ t. l.docked ≡ Some t.address); docked = refl; number = refl; faults = omega arith; stands = stands }
+  none-so-far db l IsNow stands = record { conversations = []; last = db; served = refl; made = sym (append-nil (connections l)); came_at = All-nil (λ t. l.docked ≡ Some t.address); each_told = none-told l; docked = refl; peers_stay = same-peers l.peers; number = refl; faults = omega arith; stands = stands }
 
   pub all-at : (docked now : Option (List ℕ)) (cs : List Conversation) (c : Conversation) → now ≡ docked → All (λ t. docked ≡ Some t.address) (all_told cs) → IfSome c.told (λ t. now ≡ Some t.address)
       → All (λ t. docked ≡ Some t.address) (all_told (cs ++ c ∷ []))
@@ -186,7 +229,9 @@ module _ (Gives : Database → Message → Result Tables TheFault → Type 0) wh
         made = r.made ∙ (ap (λ x. x ++ option_to_list r.conversation.told) h.made
             ∙ (append_assoc (connections old) (all_told h.conversations) (option_to_list r.conversation.told) ∙ ap (λ x. connections old ++ x) (sym (told-one h.conversations r.conversation))));
         came_at = all-at old.docked now.docked h.conversations r.conversation h.docked h.came_at r.came_at;
+        each_told = more-told old.docked now.docked old.peers now.peers h.conversations r.conversation h.docked h.peers_stay h.each_told r.is_told;
         docked = r.docked ∙ h.docked;
+        peers_stay = peers-on old.peers now.peers new.peers h.peers_stay r.peers_stay;
         number = omega (arith, number, length-append h.conversations (r.conversation ∷ []));
         faults = omega (arith, before, here, sum);
         stands = r.stands;

@@ -1,5 +1,5 @@
 -- Connections that are served one after another, with the lines that are written.
-use Rattle.std.specs.Prelude.{◌≡◌, ◌≢◌, ℕ, ◌≤◌, List, ◌++◌, length, flat_map, Option, Some, None, Result, option_to_list, IfSome}
+use Rattle.std.specs.Prelude.{◌≡◌, ◌≢◌, ℕ, ◌≤◌, List, [], ◌∷◌, ◌++◌, length, flat_map, Option, Some, None, Result, option_to_list, IfSome}
 use Rattle.std.specs.Io.KnownBytes.{Appends}
 use Rattle.std.specs.List.{All}
 use Rattle.sr_cell.specs.declared.fault.Fault.{Fault as TheFault}
@@ -10,7 +10,7 @@ use Rattle.sr_message.specs.declared.message.Message.{Message}
 use Rattle.sr_model.specs.Statements.{Tables}
 use Rattle.sr_session.specs.Sessions.{Database}
 use Rattle.sr_links.specs.Honest.{Server}
-use Rattle.sr_talk.specs.Serving.{Conversation, IsServed, AreServed, RoseBy, all_told, count_faults, connection_lines, frames_read, is_fault}
+use Rattle.sr_talk.specs.Serving.{Conversation, IsServed, AreServed, AreTold, RoseBy, all_told, count_faults, connection_lines, frames_read, is_fault}
 use Rattle.sr_talk.specs.declared.serve.How.TheVariants.{Fault as ByFault}
 use Rattle.sr_talk.specs.declared.serve.Served.{Served}
 use Rattle.sr_talk.specs.declared.rounds.Ending.{Ending}
@@ -34,6 +34,10 @@ text_of lines = flat_map (λ line. line) lines
 abbrev pub HasPeers : ℕ → Linking → Type 0
 HasPeers count l = IfSome l.peers (λ peers. count ≤ length peers)
 
+-- a link that tells its peers goes on to tell them
+abbrev pub KeepsPeers : Linking → Linking → Type 0
+KeepsPeers old new = IfSome old.peers (λ peers. new.peers ≢ None)
+
 -- A peer was there, its connection did not end by a fault, and so many are still to come.
 abbrev pub ServesPeer : Option Served → ℕ → Linking → Type 0
 ServesPeer None more new = ⊥
@@ -49,7 +53,9 @@ module _ (Gives : Database → Message → Result Tables TheFault → Type 0) wh
     pub is : IsServed Gives db conversation after
     pub made : connections new ≡ connections old ++ option_to_list conversation.told
     pub came_at : IfSome conversation.told (λ t. old.docked ≡ Some t.address)
+    pub is_told : AreTold old (conversation ∷ [])
     pub docked : new.docked ≡ old.docked
+    pub peers_stay : KeepsPeers old new
     pub faults : RoseBy old.faults (is_fault served.how) new.faults
     pub stands : IsNew (at_rest after.database)
 
@@ -65,7 +71,9 @@ module _ (Gives : Database → Message → Result Tables TheFault → Type 0) wh
     pub served : AreServed Gives db conversations last
     pub made : connections new ≡ connections old ++ all_told conversations
     pub came_at : All (λ t. old.docked ≡ Some t.address) (all_told conversations)
+    pub each_told : AreTold old conversations
     pub docked : new.docked ≡ old.docked
+    pub peers_stay : KeepsPeers old new
     pub number : length conversations ≡ count
     pub faults : RoseBy old.faults (count_faults conversations) new.faults
     pub stands : IsNew (at_rest last)

@@ -1,5 +1,6 @@
 -- What a run of `serve` did.
 use Rattle.std.specs.Prelude.{ℕ, Bool, true, false, ◌==◌, if◌then◌else◌, ◌+◌, ◌-◌, ◌^◌, min, ◌<◌, ◌≤◌, List, [], ◌∷◌, ◌++◌, length, flat_map, decimal, codes, ◌≡◌, ◌≢◌, Option, None, Result, Ok, Err, IfSome, IsTrue, option_to_list}
+use Rattle.std.specs.List.{All}
 use Rattle.sr_cell.specs.declared.fault.Fault.{Fault as TheFault}
 use Rattle.sr_io.specs.Told.{Linking, Connection, AreAt, connections}
 use Rattle.sr_message.specs.declared.message.Message.{Message}
@@ -84,6 +85,10 @@ pub record Conversation : Type 0 where
 abbrev pub all_told : List Conversation → List Connection
 all_told [] = []
 all_told (c ∷ cs) = option_to_list c.told ++ all_told cs
+
+-- A link that tells the address at which its peers connect, and the peers, tells each of these connections: none is made up.
+abbrev pub AreTold : Linking → List Conversation → Type 0
+AreTold l conversations = IfSome l.docked (λ address. IfSome l.peers (λ peers. All (λ (c : Conversation). c.told ≢ None) conversations))
 
 abbrev pub by_fault : How → Bool
 by_fault Fault = true
@@ -183,8 +188,8 @@ module _ (Gives : Database → Message → Result Tables TheFault → Type 0) wh
   AreExecuted db (text ∷ texts) lines last =
       (result : Result Tables TheFault) × (more : List (List ℕ)) × Gives db (Write 0 text) result × (lines ≡ exec_line db result ∷ more) × AreExecuted (grown db result) texts more last
 
-  -- A run: from the loaded tables, over the texts of the exec file, for so many connections, which came at this address. It ended with
-  -- this status, wrote these bytes, and left the link so.
+  -- A run: from the loaded tables, over the texts of the exec file, for so many connections, which came at this address, and each of
+  -- which the link tells, where it tells its peers. It ended with this status, wrote these bytes, and left the link so.
   pub record Served (db : Database) (texts : List (List ℕ)) (address : List ℕ) (count status : ℕ) (old new : Linking) (written : List ℕ) : Type 0 where
     pub exec_lines : List (List ℕ)
     pub first : Database
@@ -194,6 +199,7 @@ module _ (Gives : Database → Message → Result Tables TheFault → Type 0) wh
     pub served : AreServed first conversations last
     pub made : connections new ≡ connections old ++ all_told conversations
     pub came_at : AreAt address (all_told conversations)
+    pub each_told : AreTold old conversations
     pub writes : Writes status (listening ∷ exec_lines ++ connection_lines 1 conversations) written
     pub few : length conversations ≤ count
     pub all : status ≡ 0 → (length conversations ≡ count) × (count_faults conversations ≡ 0)

@@ -15,11 +15,12 @@ use Rattle.sr_links.specs.Steps.{Standing, Resumed, past_after, requests_of}
 use Rattle.sr_talk.specs.Calls.{Call, Scripted, Task, Do, all_done, calls_told, count_faults, fails, is_fault, one_if, steps_in}
 use Rattle.sr_talk.specs.Serving.{RoseBy, spelled}
 use Rattle.sr_dial.specs.Known.{Setting, Makes}
-use Rattle.sr_dial.specs.Runs.{IsCarried, SendsMost, left_by}
+use Rattle.sr_dial.specs.Runs.{IsCarried, IsToldIf, SendsMost, left_by}
 use Rattle.sr_dial.specs.Courses.{At, Broken, Course, IsThere, Rests, Start, Stepped}
 use Rattle.sr_dial.proofs.ListLemmas.{all-one, any-one, calls-one, count-one, dialled-one, told-one}
 use Rattle.sr_dial.proofs.CourseLemmas.{count-still, done_of, made-of, past-one, step_of, stepped-one}
 use Rattle.sr_dial.proofs.BrokenLemmas.{most-part, one-at-most}
+use Rattle.sr_dial.proofs.ToldLemmas.{still-other, still-same, told-first, told-more, told-none}
 
 -- what a connection that has just been made has sent and taken
 told-fresh : (P : Connection → Type 0) (address bytes : List ℕ) (peers : Option (List (List ℕ))) → ((coming : List ℕ) → P (record { address = address; sent = bytes; taken = []; coming = coming }))
@@ -38,6 +39,8 @@ module _ (C : Type 0) (Stands : C → Client → Type 0) (IsOf : Standing C) (k 
     carried = All-append (IsCarried false) h.course.earlier (h.course.call ∷ []) h.course.carried
         (All-cons (IsCarried false) h.course.call [] (record { taken = h.course.taken; sent = h.sent }) (All-nil (IsCarried false)));
     dialled = dialled-one s.address h.course.earlier h.course.call h.course.before_dialled h.course.dialled;
+    each_told = told-more s.linking.peers h.course.earlier h.course.call h.course.before_told h.course.is_told;
+    peers_stay = h.peers_stay;
     made = made-of (left_by s.past (h.course.earlier ++ h.course.call ∷ [])).cut h.course.earlier h.course.call s.linking l h.there;
     faults = h.faults;
     failed_is = h.failed_is;
@@ -56,8 +59,8 @@ module _ (C : Type 0) (Stands : C → Client → Type 0) (IsOf : Standing C) (k 
     abbrev new_call : Bool → Option Connection → Call C
     new_call connected told = record { number = number; first = step_of C Stands IsOf k s m; others = []; connected = connected; told = told; left = [] }
 
-    abbrev new_course : (connected : Bool) (told : Option Connection) → IfSome told (λ t. t.taken ≡ []) → IfSome told (λ t. t.address ≡ s.address) → Course C Stands IsOf k s (script ++ (number, Do Resumed) ∷ []) number 0 Q [] new
-    new_course connected told taken dialled = record {
+    abbrev new_course : (connected : Bool) (told : Option Connection) → IfSome told (λ t. t.taken ≡ []) → IfSome told (λ t. t.address ≡ s.address) → IsToldIf s.linking.peers (new_call connected told) → Course C Stands IsOf k s (script ++ (number, Do Resumed) ∷ []) number 0 Q [] new
+    new_course connected told taken dialled is_told = record {
       earlier = r.calls;
       call = record { number = number; first = step_of C Stands IsOf k s m; others = []; connected = connected; told = told; left = [] };
       are = r.are;
@@ -65,6 +68,8 @@ module _ (C : Type 0) (Stands : C → Client → Type 0) (IsOf : Standing C) (k 
       carried = r.carried;
       before_dialled = r.dialled;
       dialled = dialled;
+      before_told = r.each_told;
+      is_told = is_told;
       left = refl;
       some = λ none. absurd (let wrong : message ∷ [] ≡ [] = sym one ∙ (m.sent_is ∙ (sym (append-nil (sent_of m.outcome)) ∙ none)) in cc);
       taken = taken;
@@ -87,12 +92,13 @@ module _ (C : Type 0) (Stands : C → Client → Type 0) (IsOf : Standing C) (k 
     or-none false = refl
 
     -- it dials, and its message is sent
-    pub begins : (new_l : Linking) → new_l ≡ sent_on (spelled sent) (connected_at (Some s.address) l) → At C Stands IsOf k s (script ++ (number, Do Resumed) ∷ []) number 0 failed new_l Q [] new
-    begins new_l is =
+    pub begins : (new_l : Linking) → (l.peers ≡ Some [] → ⊥) → new_l ≡ sent_on (spelled sent) (connected_at (Some s.address) l) → At C Stands IsOf k s (script ++ (number, Do Resumed) ∷ []) number 0 failed new_l Q [] new
+    begins new_l more is =
         let before = r.faults in
         record {
           course = new_course true (option_map (sends (spelled sent)) (next_peer (Some s.address) l.peers)) (told-fresh (λ t. t.taken ≡ []) s.address (spelled sent) l.peers (λ coming. refl))
-              (told-fresh (λ t. t.address ≡ s.address) s.address (spelled sent) l.peers (λ coming. refl));
+              (told-fresh (λ t. t.address ≡ s.address) s.address (spelled sent) l.peers (λ coming. refl))
+              (told-first s.linking l s.address (sends (spelled sent)) (new_call true (option_map (sends (spelled sent)) (next_peer (Some s.address) l.peers))) refl refl more r.peers_stay);
           sent = told-fresh (λ t. t.sent ≡ spelled (requests_of (step_of C Stands IsOf k s m ∷ []))) s.address (spelled sent) l.peers (λ coming. ap spelled (sym sum));
           faults = subst (λ n. RoseBy s.linking.faults n new_l.faults) (sym (count-still r.calls (new_call true (option_map (sends (spelled sent)) (next_peer (Some s.address) l.peers))) refl))
               (subst (λ (x : Linking). RoseBy s.linking.faults (count_faults r.calls) x.faults) (sym is) before);
@@ -100,6 +106,7 @@ module _ (C : Type 0) (Stands : C → Client → Type 0) (IsOf : Standing C) (k 
               (sym (ap (λ (c : Client). c.cut) (past-new true (option_map (sends (spelled sent)) (next_peer (Some s.address) l.peers))) ∙ next-up))
               (ap (λ (x : Linking). x.present) is, ap (λ (x : Linking). x.past) is ∙ r.made, refl, refl);
           failed_is = any-one r.calls (new_call true (option_map (sends (spelled sent)) (next_peer (Some s.address) l.peers))) ∙ (or-none (list_any fails r.calls) ∙ r.failed_is);
+          peers_stay = still-other s.linking l new_l (ap (λ (x : Linking). x.peers) is) r.peers_stay;
         }
 
     not-free : (connected : Bool) (told : Option Connection)
@@ -112,28 +119,31 @@ module _ (C : Type 0) (Stands : C → Client → Type 0) (IsOf : Standing C) (k 
         let before = r.faults in
         record {
           came = 0;
-          course = new_course false None tt tt;
+          course = new_course false None tt tt (told-none s.linking.peers (new_call false None) refl refl refl refl);
           sent = tt;
           faults = omega (arith, before, rose);
           made = ap (λ p. new_l.past ++ option_to_list p) only.present ∙ (ap (λ x. x ++ option_to_list l.present) only.past
               ∙ (r.made ∙ ap (λ x. connections s.linking ++ x) (sym (append-nil (calls_told r.calls)) ∙ sym (told-one r.calls (new_call false None)))));
           out = not-free false None;
           not_yet = refl;
+          peers_stay = still-same s.linking l new_l only.peers r.peers_stay;
         }
 
     -- the message is cut short
-    pub begin-breaks : (new_l : Linking) → SendsPart (connected_at (Some s.address) l) new_l (spelled sent) → Rose l.faults new_l.faults → Broken C Stands IsOf k s (script ++ (number, Do Resumed) ∷ []) number new_l Q [] new
-    begin-breaks new_l part rose =
+    pub begin-breaks : (new_l : Linking) → (l.peers ≡ Some [] → ⊥) → SendsPart (connected_at (Some s.address) l) new_l (spelled sent) → Rose l.faults new_l.faults → Broken C Stands IsOf k s (script ++ (number, Do Resumed) ∷ []) number new_l Q [] new
+    begin-breaks new_l more part rose =
         let before = r.faults in
         let most = one-at-most (is_fault (new_call true (option_map (sends (take part.count (spelled sent))) (next_peer (Some s.address) l.peers)))) in
         record {
           came = 0;
           course = new_course true (option_map (sends (take part.count (spelled sent))) (next_peer (Some s.address) l.peers)) (told-fresh (λ t. t.taken ≡ []) s.address (take part.count (spelled sent)) l.peers (λ coming. refl))
-              (told-fresh (λ t. t.address ≡ s.address) s.address (take part.count (spelled sent)) l.peers (λ coming. refl));
+              (told-fresh (λ t. t.address ≡ s.address) s.address (take part.count (spelled sent)) l.peers (λ coming. refl))
+              (told-first s.linking l s.address (sends (take part.count (spelled sent))) (new_call true (option_map (sends (take part.count (spelled sent))) (next_peer (Some s.address) l.peers))) refl refl more r.peers_stay);
           sent = told-fresh (λ t. SendsMost (requests_of (step_of C Stands IsOf k s m ∷ [])) t.sent) s.address (take part.count (spelled sent)) l.peers
               (λ coming. subst (λ ms. SendsMost ms (take part.count (spelled sent))) (sym (sum ∙ one)) (subst (λ ms. SendsMost (message ∷ []) (take part.count (spelled ms))) (sym one) (most-part [] message part.count)));
           faults = omega (arith, before, rose, most);
           made = made-of false r.calls (new_call true (option_map (sends (take part.count (spelled sent))) (next_peer (Some s.address) l.peers))) s.linking new_l (part.sent.present, part.sent.past ∙ r.made, refl, refl);
           out = not-free true (option_map (sends (take part.count (spelled sent))) (next_peer (Some s.address) l.peers));
           not_yet = refl;
+          peers_stay = still-other s.linking l new_l part.sent.peers r.peers_stay;
         }

@@ -25,7 +25,8 @@ use Rattle.sr_dial.specs.Known.{Setting, Makes}
 use Rattle.sr_dial.specs.Runs.{IsInPlace, SendsMost, SentAs, left_by, more_taken}
 use Rattle.sr_dial.specs.Courses.{At, Broken, Free, IsThere, Start, Stepped}
 use Rattle.sr_dial.proofs.ListLemmas.{all-one, any-one, count-one, fails-one, told-one}
-use Rattle.sr_dial.proofs.CourseLemmas.{course-one, done_of, made-of, map-told, weaken-told, or-no, past-step, requests-step, with_step, count-still}
+use Rattle.sr_dial.proofs.CourseLemmas.{course-one, done_of, given-step, made-of, map-told, weaken-told, or-no, past-step, requests-step, with_step, count-still}
+use Rattle.sr_dial.proofs.ToldLemmas.{still-same, told-on, told-same}
 
 -- ---- messages that are sent
 
@@ -110,6 +111,8 @@ module _ (C : Type 0) (Stands : C → Client → Type 0) (IsOf : Standing C) (k 
             carried = h.course.carried;
             before_dialled = h.course.before_dialled;
             dialled = map-told (takes r.bytes) (λ t. t.address ≡ s.address) (λ t. t.address ≡ s.address) h.course.call.told (λ t e. e) h.course.dialled;
+            before_told = h.course.before_told;
+            is_told = told-on s.linking.peers h.course.call read_call (takes r.bytes) there.3 refl refl h.course.is_told;
             left = refl;
             some = h.course.some;
             taken = map-told (takes r.bytes) (λ t. t.taken ≡ spelled (given_of (steps_in (done_in h.course.call))) ++ h.course.call.left)
@@ -125,6 +128,7 @@ module _ (C : Type 0) (Stands : C → Client → Type 0) (IsOf : Standing C) (k 
           there = subst (λ b. IsThere b h.course.earlier read_call s.linking new_l) (sym (ap (λ ds. (past_after s.past (steps_in ds)).cut) all-same ∙ up))
               (ap (λ (x : Linking). x.present) r.is ∙ ap (option_map (takes r.bytes)) there.0, ap (λ (x : Linking). x.past) r.is ∙ there.1, there.2, there.3);
           failed_is = any-one h.course.earlier read_call ∙ (sym (any-one h.course.earlier h.course.call) ∙ h.failed_is);
+          peers_stay = still-same s.linking l new_l (ap (λ (x : Linking). x.peers) r.is) h.peers_stay;
         }
 
     -- the client is the one before
@@ -156,6 +160,7 @@ module _ (C : Type 0) (Stands : C → Client → Type 0) (IsOf : Standing C) (k 
           made = made-of false h.course.earlier h.course.call s.linking new_l (only.present ∙ there.0, only.past ∙ there.1, there.2, there.3);
           out = out;
           not_yet = there.2;
+          peers_stay = still-same s.linking l new_l only.peers h.peers_stay;
         }
 
     not-coming : (told : Option Connection) → IsOver told → is_coming told ≡ false
@@ -178,6 +183,7 @@ module _ (C : Type 0) (Stands : C → Client → Type 0) (IsOf : Standing C) (k 
           made = made-of false h.course.earlier h.course.call s.linking l there;
           out = out;
           not_yet = there.2;
+          peers_stay = h.peers_stay;
         }
 
   module _ (script : List (ℕ × Task)) (line came number : ℕ) (cause : Cause) (P Q : List ℕ → Type 0) (code new : C) (deed : Deed) (lines : List TraceLine) (sent : List Message)
@@ -214,7 +220,8 @@ module _ (C : Type 0) (Stands : C → Client → Type 0) (IsOf : Standing C) (k 
                   (λ t e. e ∙ (ap (λ x. spelled (given_of (steps_in (done_in h.course.call))) ++ x) (h.course.left ∙ fed)
                   ∙ (sym (append_assoc (spelled (given_of (steps_in (done_in h.course.call)))) (spelled (taken_by deed)) left)
                   ∙ ap (λ x. x ++ left) (sym (spelled-append (given_of (steps_in (done_in h.course.call))) (taken_by deed)))))) h.course.taken)
-                  (map-told (sends (take part.count (spelled sent))) (λ t. t.address ≡ s.address) (λ t. t.address ≡ s.address) h.course.call.told (λ t e. e) h.course.dialled);
+                  (map-told (sends (take part.count (spelled sent))) (λ t. t.address ≡ s.address) (λ t. t.address ≡ s.address) h.course.call.told (λ t e. e) h.course.dialled)
+                  (told-on s.linking.peers h.course.call (with_step h.course.call (done_of C Stands IsOf k s number cause m) (option_map (sends (take part.count (spelled sent))) h.course.call.told) left) (sends (take part.count (spelled sent))) there.3 refl refl h.course.is_told);
               sent = map-told (sends (take part.count (spelled sent))) (λ t. SentAs (fails h.course.call) (requests_of (steps_in (done_in h.course.call))) t.sent)
                   (λ t. SendsMost (requests_of (steps_in (done_in (with_step h.course.call (done_of C Stands IsOf k s number cause m) (option_map (sends (take part.count (spelled sent))) h.course.call.told) left)))) t.sent)
                   h.course.call.told
@@ -229,6 +236,7 @@ module _ (C : Type 0) (Stands : C → Client → Type 0) (IsOf : Standing C) (k 
               out = λ none_out. m.waits (λ no. absurd (let wrong : x ∷ [] ≡ [] = sym same ∙ no in cc))
                   (sym (ap (λ (c : Client). c.out) (past-step s.past h.course.earlier h.course.call (done_of C Stands IsOf k s number cause m) (option_map (sends (take part.count (spelled sent))) h.course.call.told) left)) ∙ none_out);
               not_yet = fails-no;
+              peers_stay = still-same s.linking l new_l part.sent.peers h.peers_stay;
             }
 
   -- ---- the client is cut, and the connection given up
@@ -255,7 +263,9 @@ module _ (C : Type 0) (Stands : C → Client → Type 0) (IsOf : Standing C) (k 
               (weaken-told (λ t. t.taken ≡ spelled (given_of (steps_in (done_in b.course.call))) ++ b.course.call.left)
               (λ t. t.taken ≡ spelled (given_of (steps_in (done_in b.course.call)) ++ []) ++ b.course.call.left) b.course.call.told
               (λ t e. e ∙ ap (λ ms. spelled ms ++ b.course.call.left) (sym (append-nil (given_of (steps_in (done_in b.course.call)))))) b.course.taken)
-              b.course.dialled;
+              b.course.dialled
+              (told-same s.linking.peers b.course.call (with_step b.course.call (done_of C Stands IsOf k s line Failed m) b.course.call.told b.course.call.left) refl
+              (given-step b.course.call (done_of C Stands IsOf k s line Failed m) b.course.call.told b.course.call.left ∙ append-nil (given_of (steps_in (done_in b.course.call)))) refl refl b.course.is_told);
           sent = weaken-told (λ t. SendsMost (requests_of (steps_in (done_in b.course.call))) t.sent)
               (λ t. SentAs (fails (with_step b.course.call (done_of C Stands IsOf k s line Failed m) b.course.call.told b.course.call.left))
               (requests_of (steps_in (done_in (with_step b.course.call (done_of C Stands IsOf k s line Failed m) b.course.call.told b.course.call.left)))) t.sent) b.course.call.told
@@ -268,6 +278,7 @@ module _ (C : Type 0) (Stands : C → Client → Type 0) (IsOf : Standing C) (k 
               ∙ ap (λ x. connections s.linking ++ x) (told-one b.course.earlier b.course.call ∙ sym (told-one b.course.earlier (with_step b.course.call (done_of C Stands IsOf k s line Failed m) b.course.call.told b.course.call.left)))));
           failed_is = any-one b.course.earlier (with_step b.course.call (done_of C Stands IsOf k s line Failed m) b.course.call.told b.course.call.left)
               ∙ (ap (λ y. list_any fails b.course.earlier || y) fails-yes ∙ or-yes (list_any fails b.course.earlier));
+          peers_stay = b.peers_stay;
         };
         free = ap (λ (c : Client). c.out) (past-step s.past b.course.earlier b.course.call (done_of C Stands IsOf k s line Failed m) b.course.call.told b.course.call.left) ∙ m.rests m.link.0;
       }

@@ -14,9 +14,10 @@ use Rattle.sr_talk.specs.Calls.{Call, Cause, Done, Made, Explained, Task, all_do
 use Rattle.sr_talk.specs.Serving.{RoseBy, spelled}
 use Rattle.sr_talk.proofs.TalkLemmas.{spelled-append}
 use Rattle.sr_dial.specs.Known.{Setting, Makes}
-use Rattle.sr_dial.specs.Runs.{IsCarried, IsInPlace, SentAs, left_by, more_taken}
+use Rattle.sr_dial.specs.Runs.{IsCarried, IsInPlace, IsToldIf, SentAs, left_by, more_taken}
 use Rattle.sr_dial.specs.Courses.{At, Course, IsCall, IsThere, Start, Stepped, line_after}
 use Rattle.sr_dial.proofs.ListLemmas.{all-one, any-one, code-append, count-one, explained-append, fails-one, fair-append, given-append, line-append, lines-append, on-append, past-append, place-append, requests-append, steps-append, taken-append, told-one}
+use Rattle.sr_dial.proofs.ToldLemmas.{still-same, told-on, told-same}
 
 -- what is so of a connection is so, changed, of what a link tells of it
 pub map-told : (f : Connection → Connection) (P Q : Connection → Type 0) (told : Option Connection) → ((t : Connection) → P t → Q (f t)) → IfSome told P → IfSome (option_map f told) Q
@@ -141,8 +142,9 @@ module _ (C : Type 0) (Stands : C → Client → Type 0) (IsOf : Standing C) (k 
     abbrev pub course-one : (feed left new_feed : List ℕ) (same : left ≡ new_feed) (told : Option Connection) (h : Course C Stands IsOf k s script line came P feed code) (m : Makes Stands IsOf k code new (left_by s.past (h.earlier ++ h.call ∷ [])) deed lines sent)
         → IsInPlace cause line number deed (left_by s.past (h.earlier ++ h.call ∷ [])) → StaysOn (left_by s.past (h.earlier ++ h.call ∷ [])) deed
         → IfSome told (λ t. t.taken ≡ spelled (given_of (steps_in (done_in h.call)) ++ taken_by deed) ++ left) → IfSome told (λ t. t.address ≡ s.address)
+        → IsToldIf s.linking.peers (with_step h.call (done_of number cause m) told left)
         → Course C Stands IsOf k s (script ++ line_of cause number deed) number (more_taken cause came) Q new_feed new
-    course-one feed left new_feed same told h m place stays taken dialled = record {
+    course-one feed left new_feed same told h m place stays taken dialled is_told = record {
       earlier = h.earlier;
       call = with_step h.call (done_of number cause m) told left;
       are = h.are;
@@ -155,6 +157,8 @@ module _ (C : Type 0) (Stands : C → Client → Type 0) (IsOf : Standing C) (k 
       carried = h.carried;
       before_dialled = h.before_dialled;
       dialled = dialled;
+      before_told = h.before_told;
+      is_told = is_told;
       left = same;
       some = λ none. append-some (requests_of (steps_in (done_in h.call))) (sent_of m.outcome) h.some (sym (requests-step h.call (done_of number cause m) told left) ∙ none);
       taken = subst (λ ms. IfSome told (λ t. t.taken ≡ spelled ms ++ left)) (sym (given-step h.call (done_of number cause m) told left)) taken;
@@ -184,7 +188,8 @@ module _ (C : Type 0) (Stands : C → Client → Type 0) (IsOf : Standing C) (k 
                 (λ t e. e ∙ (ap (λ x. spelled (given_of (steps_in (done_in h.course.call))) ++ x) (h.course.left ∙ fed)
                 ∙ (sym (append_assoc (spelled (given_of (steps_in (done_in h.course.call)))) (spelled (taken_by deed)) left)
                 ∙ ap (λ x. x ++ left) (sym (spelled-append (given_of (steps_in (done_in h.course.call))) (taken_by deed)))))) h.course.taken)
-                (map-told (sends (spelled sent)) (λ t. t.address ≡ s.address) (λ t. t.address ≡ s.address) h.course.call.told (λ t e. e) h.course.dialled);
+                (map-told (sends (spelled sent)) (λ t. t.address ≡ s.address) (λ t. t.address ≡ s.address) h.course.call.told (λ t e. e) h.course.dialled)
+                (told-on s.linking.peers h.course.call (with_step h.course.call (done_of number cause m) (option_map (sends (spelled sent)) h.course.call.told) left) (sends (spelled sent)) there.3 refl refl h.course.is_told);
             sent = map-told (sends (spelled sent)) (λ t. SentAs (fails h.course.call) (requests_of (steps_in (done_in h.course.call))) t.sent)
                 (λ t. SentAs (fails (with_step h.course.call (done_of number cause m) (option_map (sends (spelled sent)) h.course.call.told) left))
                 (requests_of (steps_in (done_in (with_step h.course.call (done_of number cause m) (option_map (sends (spelled sent)) h.course.call.told) left)))) t.sent) h.course.call.told
@@ -200,12 +205,13 @@ module _ (C : Type 0) (Stands : C → Client → Type 0) (IsOf : Standing C) (k 
                 (ap (λ (x : Linking). x.present) is ∙ ap (option_map (sends (spelled sent))) there.0, ap (λ (x : Linking). x.past) is ∙ there.1, fails-no, there.3);
             failed_is = any-one h.course.earlier (with_step h.course.call (done_of number cause m) (option_map (sends (spelled sent)) h.course.call.told) left)
                 ∙ (ap (λ b. list_any fails h.course.earlier || b) same ∙ (sym (any-one h.course.earlier h.course.call) ∙ h.failed_is));
+            peers_stay = still-same s.linking l new_l (ap (λ (x : Linking). x.peers) is) h.peers_stay;
           }
 
       -- nothing went over the link, which is down then
-      pub at-down : m.next.cut ≡ true → sent ≡ [] → taken_by deed ≡ [] → connections new_l ≡ connections l → l.faults ≤ new_l.faults
+      pub at-down : m.next.cut ≡ true → sent ≡ [] → taken_by deed ≡ [] → connections new_l ≡ connections l → new_l.peers ≡ l.peers → l.faults ≤ new_l.faults
           → At C Stands IsOf k s (script ++ line_of cause number deed) number (more_taken cause came) failed new_l Q feed new
-      at-down down none took same_links more =
+      at-down down none took same_links same_peers more =
           let fails-same : fails (with_step h.course.call (done_of number cause m) h.course.call.told h.course.call.left) ≡ fails h.course.call =
           fails-one h.course.call.others (done_of number cause m) ∙ or-no (fails h.course.call) (is_failed cause) not_failed in
           let sum : requests_of (steps_in (done_in (with_step h.course.call (done_of number cause m) h.course.call.told h.course.call.left))) ≡ requests_of (steps_in (done_in h.course.call)) =
@@ -220,7 +226,10 @@ module _ (C : Type 0) (Stands : C → Client → Type 0) (IsOf : Standing C) (k 
                 (weaken-told (λ t. t.taken ≡ spelled (given_of (steps_in (done_in h.course.call))) ++ h.course.call.left)
                 (λ t. t.taken ≡ spelled (given_of (steps_in (done_in h.course.call)) ++ taken_by deed) ++ h.course.call.left) h.course.call.told
                 (λ t e. e ∙ ap (λ ms. spelled ms ++ h.course.call.left) (sym (ap (λ ms. given_of (steps_in (done_in h.course.call)) ++ ms) took ∙ append-nil (given_of (steps_in (done_in h.course.call)))))) h.course.taken)
-                h.course.dialled;
+                h.course.dialled
+                (told-same s.linking.peers h.course.call (with_step h.course.call (done_of number cause m) h.course.call.told h.course.call.left) refl
+                (given-step h.course.call (done_of number cause m) h.course.call.told h.course.call.left
+                ∙ (ap (λ ms. given_of (steps_in (done_in h.course.call)) ++ ms) took ∙ append-nil (given_of (steps_in (done_in h.course.call))))) refl refl h.course.is_told);
             sent = weaken-told (λ t. SentAs (fails h.course.call) (requests_of (steps_in (done_in h.course.call))) t.sent)
                 (λ t. SentAs (fails (with_step h.course.call (done_of number cause m) h.course.call.told h.course.call.left))
                 (requests_of (steps_in (done_in (with_step h.course.call (done_of number cause m) h.course.call.told h.course.call.left)))) t.sent) h.course.call.told
@@ -233,4 +242,5 @@ module _ (C : Type 0) (Stands : C → Client → Type 0) (IsOf : Standing C) (k 
                 ∙ ap (λ x. connections s.linking ++ x) (told-one h.course.earlier h.course.call ∙ sym (told-one h.course.earlier (with_step h.course.call (done_of number cause m) h.course.call.told h.course.call.left)))));
             failed_is = any-one h.course.earlier (with_step h.course.call (done_of number cause m) h.course.call.told h.course.call.left)
                 ∙ (ap (λ b. list_any fails h.course.earlier || b) fails-same ∙ (sym (any-one h.course.earlier h.course.call) ∙ h.failed_is));
+            peers_stay = still-same s.linking l new_l same_peers h.peers_stay;
           }

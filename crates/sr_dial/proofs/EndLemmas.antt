@@ -16,6 +16,7 @@ use Rattle.sr_dial.specs.declared.ending.Ending.TheVariants as ending
 use Rattle.sr_dial.proofs.ListLemmas.{calls-one, dialled-one}
 use Rattle.sr_dial.proofs.CourseLemmas.{count-still, made-of, weaken-told}
 use Rattle.sr_dial.proofs.BrokenLemmas.{most-all}
+use Rattle.sr_dial.proofs.ToldLemmas.{told-more}
 
 most-of : (b : Bool) (ms : List Message) (bytes : List ℕ) → ms ≢ [] → SentAs b ms bytes → SendsMost ms bytes
 most-of true ms bytes some sent = sent
@@ -39,6 +40,7 @@ module _ (C : Type 0) (Stands : C → Client → Type 0) (IsOf : Standing C) (k 
           (λ t. most-of (fails h.course.call) (requests_of (steps_in (done_in h.course.call))) t.sent h.course.some) h.sent;
     };
     dialled = dialled-one s.address h.course.earlier h.course.call h.course.before_dialled h.course.dialled;
+    each_told = told-more s.linking.peers h.course.earlier h.course.call h.course.before_told h.course.is_told;
     made = made-of (left_by s.past (h.course.earlier ++ h.course.call ∷ [])).cut h.course.earlier h.course.call s.linking l h.there;
     faults = h.faults;
     ends = λ whole. tt;
@@ -60,6 +62,7 @@ module _ (C : Type 0) (Stands : C → Client → Type 0) (IsOf : Standing C) (k 
         carried = b.course.carried;
         last_carried = record { taken = b.course.taken; sent = b.sent };
         dialled = dialled-one s.address b.course.earlier b.course.call b.course.before_dialled b.course.dialled;
+        each_told = told-more s.linking.peers b.course.earlier b.course.call b.course.before_told b.course.is_told;
         made = b.made;
         faults = omega (arith, before, none);
         ends = λ whole. tt;
@@ -81,6 +84,7 @@ module _ (C : Type 0) (Stands : C → Client → Type 0) (IsOf : Standing C) (k 
     carried = h.course.carried;
     last_carried = subst (λ b. IsCarried b h.course.call) (sym written) (record { taken = h.course.taken; sent = h.sent });
     dialled = dialled-one s.address h.course.earlier h.course.call h.course.before_dialled h.course.dialled;
+    each_told = told-more s.linking.peers h.course.earlier h.course.call h.course.before_told h.course.is_told;
     made = made-of (left_by s.past (h.course.earlier ++ h.course.call ∷ [])).cut h.course.earlier h.course.call s.linking l h.there;
     faults = h.faults;
     ends = λ whole. subst (λ x. EndsBy ended k.schema (h.course.earlier ++ h.course.call ∷ []) (left_by s.past (h.course.earlier ++ h.course.call ∷ [])) x script whole) (sym h.course.left) (ends whole);

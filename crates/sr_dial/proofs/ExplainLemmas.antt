@@ -24,6 +24,7 @@ use Rattle.sr_dial.proofs.ListLemmas.{any-one, count-one, explained-append, fail
 use Rattle.sr_dial.proofs.CourseLemmas.{all-step, given-step, or-no, past-step, requests-step, with_step}
 use Rattle.sr_dial.proofs.EndLemmas.{unwritten-at}
 use Rattle.sr_dial.proofs.HandLemmas.{half, wrote}
+use Rattle.sr_dial.proofs.ToldLemmas.{told-same}
 
 module _ (C : Type 0) (Stands : C → Client → Type 0) (IsOf : Standing C) (k : Setting) (s : Start C) (script : List (ℕ × Task)) (line came number : ℕ) (P Q : List ℕ → Type 0) (code : C) (text : Result Query Fault) (result : Result Explanation Fault)
     (says : (texts : List ℕ) → P texts → Q (texts ++ flat_map (line_text k.schema number) (explain_lines k.number result))) where
@@ -82,6 +83,8 @@ module _ (C : Type 0) (Stands : C → Client → Type 0) (IsOf : Standing C) (k 
         carried = h.course.carried;
         before_dialled = h.course.before_dialled;
         dialled = h.course.dialled;
+        before_told = h.course.before_told;
+        is_told = told-same s.linking.peers h.course.call longer refl given-same refl refl h.course.is_told;
         left = h.course.left;
         some = λ none. h.course.some (sym requests-same ∙ none);
         taken = subst (λ ms. IfSome h.course.call.told (λ t. t.taken ≡ spelled ms ++ h.course.call.left)) (sym given-same) h.course.taken;
@@ -96,6 +99,7 @@ module _ (C : Type 0) (Stands : C → Client → Type 0) (IsOf : Standing C) (k 
       there = subst (λ b. IsThere b h.course.earlier longer s.linking l) (sym (ap (λ (c : Client). c.cut) past-same))
           (there-same (left_by s.past (h.course.earlier ++ h.course.call ∷ [])).cut h.there);
       failed_is = any-one h.course.earlier longer ∙ (ap (λ b. list_any fails h.course.earlier || b) fails-same ∙ (sym (any-one h.course.earlier h.course.call) ∙ h.failed_is));
+      peers_stay = h.peers_stay;
     }
 
 -- its lines are written, or not

@@ -54,12 +54,15 @@ module _ (C : Type 0) (Stands : C → Client → Type 0) (IsOf : Standing C) (k 
       (send-breaks C Stands IsOf k s script line came number cause (IsWritten s w) (IsPartWritten s new_w) code new deed lines sent (half s w new_w text says) failed l new_l feed left h m place stays not_failed up fed part rose)
 
   -- where it is down then
-  pub hands-down : (handed : Handed) (mid : Linking) → m.next.cut ≡ true → sent ≡ [] → taken_by deed ≡ [] → connections mid ≡ connections l → l.faults ≤ mid.faults
+  pub hands-down : (handed : Handed) (mid : Linking) → m.next.cut ≡ true → sent ≡ [] → taken_by deed ≡ [] → connections mid ≡ connections l → mid.peers ≡ l.peers → l.faults ≤ mid.faults
       → Carries handed mid new_l w new_w (spelled sent) (flat_map (line_text k.schema number) lines) → Hands C Stands IsOf k handed s (script ++ line_of cause number deed) number (more_taken cause came) failed new_l new_w feed new
-  hands-down handed mid down none took same more carries = by handed (subst (λ ms. Carries handed mid new_l w new_w (spelled ms) (flat_map (line_text k.schema number) lines)) none carries)
+  hands-down handed mid down none took same peers more carries = by handed (subst (λ ms. Carries handed mid new_l w new_w (spelled ms) (flat_map (line_text k.schema number) lines)) none carries)
     where
       same-links : new_l ≡ sent_on [] mid → connections new_l ≡ connections l
       same-links is = ap connections (is ∙ nothing-sent mid) ∙ same
+
+      same-peers : new_l ≡ sent_on [] mid → new_l.peers ≡ l.peers
+      same-peers is = ap (λ (x : Linking). x.peers) is ∙ peers
 
       more-faults : new_l ≡ sent_on [] mid → l.faults ≤ new_l.faults
       more-faults is = subst (λ (x : Linking). l.faults ≤ x.faults) (sym is) more
@@ -67,12 +70,12 @@ module _ (C : Type 0) (Stands : C → Client → Type 0) (IsOf : Standing C) (k 
       by : (handed : Handed) → Carries handed mid new_l w new_w [] (flat_map (line_text k.schema number) lines) → Hands C Stands IsOf k handed s (script ++ line_of cause number deed) number (more_taken cause came) failed new_l new_w feed new
       by Whole (is, says) =
           at-down C Stands IsOf k s script line came number cause (IsWritten s w) (IsWritten s new_w) code new deed lines sent (wrote s w new_w text says) failed l new_l feed left h m place stays not_failed down none took
-          (same-links is) (more-faults is)
+          (same-links is) (same-peers is) (more-faults is)
       by Broken ((part, rose), says) = absurd (let fewer = part.fewer in omega (arith, fewer))
       by Unwritten (inl is, says) =
           unwritten-at C Stands IsOf k s (script ++ line_of cause number deed) number (more_taken cause came) new_l feed new new_w failed
           (at-down C Stands IsOf k s script line came number cause (IsWritten s w) (IsPartWritten s new_w) code new deed lines sent (half s w new_w text says) failed l new_l feed left h m place stays not_failed down none took
-          (same-links is) (more-faults is))
+          (same-links is) (same-peers is) (more-faults is))
       by Unwritten (inr (part, rose), says) = absurd (let fewer = part.fewer in omega (arith, fewer))
 
 -- ---- a line that leaves the link as it is
@@ -126,7 +129,7 @@ plain-hands C Stands IsOf k s script line number failed l new_l w new_w feed cod
         (ap (λ ms. spelled ms ++ feed) (sym (plain-none deed plain))) carries
     by true down =
         hands-down C Stands IsOf k s script line h.came number Scripted code new deed lines sent failed l new_l w new_w feed feed h.at m h.free (plain-stays deed (left_by s.past (h.at.course.earlier ++ h.at.course.call ∷ [])) plain) refl handed l (link.0 ∙ down)
-        (down-silent Stands IsOf k code new (left_by s.past (h.at.course.earlier ++ h.at.course.call ∷ [])) deed lines sent m down link.1) (plain-none deed plain) refl (omega arith) carries
+        (down-silent Stands IsOf k code new (left_by s.past (h.at.course.earlier ++ h.at.course.call ∷ [])) deed lines sent m down link.1) (plain-none deed plain) refl refl (omega arith) carries
 
 -- ---- a line that cuts the link
 
@@ -136,4 +139,4 @@ pub cut-hands : (C : Type 0) (Stands : C → Client → Type 0) (IsOf : Standing
     → Carries handed mid new_l w new_w (spelled sent) (flat_map (line_text k.schema number) lines) → Hands C Stands IsOf k handed s (script ++ (number, Do WasCut) ∷ []) number 0 failed new_l new_w feed new
 cut-hands C Stands IsOf k s script line number failed l mid new_l w new_w feed code new lines sent handed h m gone carries =
     hands-down C Stands IsOf k s script line h.came number Scripted code new WasCut lines sent failed l new_l w new_w feed feed h.at m h.free tt refl handed mid m.link.0 m.link.1 refl
-    (ap connections gone ∙ append-nil (connections l)) (subst (λ (x : Linking). l.faults ≤ x.faults) (sym gone) (omega arith)) carries
+    (ap connections gone ∙ append-nil (connections l)) (ap (λ (x : Linking). x.peers) gone) (subst (λ (x : Linking). l.faults ≤ x.faults) (sym gone) (omega arith)) carries

@@ -1,4 +1,5 @@
 pub mod ListLemmas
+pub mod ToldLemmas
 pub mod CourseLemmas
 pub mod BrokenLemmas
 pub mod BeginLemmas

@@ -14,8 +14,8 @@ use Rattle.sr_talk.specs.Calls.{Call, Scripted, Task, Do}
 use Rattle.sr_talk.specs.Serving.{spelled}
 use Rattle.sr_dial.specs.Carrying.{Carries, SaysAs}
 use Rattle.sr_dial.specs.Known.{KeepsLink, Makes, Setting}
-use Rattle.sr_dial.specs.Runs.{left_by, IsCarried}
-use Rattle.sr_dial.specs.Courses.{Broken, FailsAs, Free, Hands, IsPartWritten, IsReady, IsWritten, Over, Rests, Start, Unbegun}
+use Rattle.sr_dial.specs.Runs.{left_by, IsCarried, IsToldIf}
+use Rattle.sr_dial.specs.Courses.{Broken, FailsAs, Free, Hands, IsPartWritten, IsReady, IsWritten, Over, Rests, Start, TellsStill, Unbegun}
 use Rattle.sr_dial.specs.declared.ending.Ending.TheVariants as ending
 use Rattle.sr_dial.specs.declared.steps.Handed.{Handed}
 use Rattle.sr_dial.specs.declared.steps.Handed.TheVariants.{Whole, Broken as HandedBroken, Unwritten}
@@ -23,6 +23,7 @@ use Rattle.sr_dial.proofs.BeginLemmas.{begins, begin-breaks, begin-fails, rests-
 use Rattle.sr_dial.proofs.BrokenLemmas.{fail-ends, one-sent}
 use Rattle.sr_dial.proofs.EndLemmas.{unwritten-at, unwritten-broken}
 use Rattle.sr_dial.proofs.HandLemmas.{half, hands-up, wrote}
+use Rattle.sr_dial.proofs.ToldLemmas.{still-self}
 
 module _ (C : Type 0) (Stands : C → Client → Type 0) (IsOf : Standing C) (k : Setting) (s : Start C) where
   -- ---- a resume
@@ -34,6 +35,8 @@ module _ (C : Type 0) (Stands : C → Client → Type 0) (IsOf : Standing C) (k 
     are = tt;
     carried = All-nil (IsCarried false);
     dialled = All-nil (λ (t : Connection). t.address ≡ s.address);
+    each_told = All-nil (IsToldIf s.linking.peers);
+    peers_stay = subst (TellsStill s.linking) (sym u.links) (still-self s.linking);
     made = ap connections u.links ∙ sym (append-nil (connections s.linking));
     faults = subst (λ (x : Linking). Rattle.sr_talk.specs.Serving.RoseBy s.linking.faults 0 x.faults) (sym u.links) (omega arith);
     failed_is = sym u.not_failed;
@@ -60,21 +63,21 @@ module _ (C : Type 0) (Stands : C → Client → Type 0) (IsOf : Standing C) (k 
     module _ (r : Rests C Stands IsOf k s script line failed l (IsWritten s w) code) (m : Makes Stands IsOf k code new (left_by s.past r.calls) Resumed lines sent)
         (message : Message) (one : sent ≡ message ∷ []) where
       -- somebody is dialled
-      pub dialled : (handed : Handed) → mid ≡ connected_at (Some s.address) l → Carries handed mid new_l w new_w (spelled sent) (flat_map (line_text k.schema number) lines)
+      pub dialled : (handed : Handed) → (l.peers ≡ Some [] → ⊥) → mid ≡ connected_at (Some s.address) l → Carries handed mid new_l w new_w (spelled sent) (flat_map (line_text k.schema number) lines)
           → Hands C Stands IsOf k handed s (script ++ (number, Do Resumed) ∷ []) number 0 failed new_l new_w [] new
-      dialled handed made carries = by handed (subst (λ x. Carries handed x new_l w new_w (spelled sent) (flat_map (line_text k.schema number) lines)) made carries)
+      dialled handed more made carries = by handed (subst (λ x. Carries handed x new_l w new_w (spelled sent) (flat_map (line_text k.schema number) lines)) made carries)
         where
           by : (handed : Handed) → Carries handed (connected_at (Some s.address) l) new_l w new_w (spelled sent) (flat_map (line_text k.schema number) lines)
               → Hands C Stands IsOf k handed s (script ++ (number, Do Resumed) ∷ []) number 0 failed new_l new_w [] new
-          by Whole (is, says) = begins C Stands IsOf k s script line number failed (IsWritten s w) (IsWritten s new_w) l code new lines sent (wrote s w new_w text says) r m (r.steps.rests r.cut) message one new_l is
+          by Whole (is, says) = begins C Stands IsOf k s script line number failed (IsWritten s w) (IsWritten s new_w) l code new lines sent (wrote s w new_w text says) r m (r.steps.rests r.cut) message one new_l more is
           by HandedBroken ((part, rose), says) =
-              begin-breaks C Stands IsOf k s script line number failed (IsWritten s w) (IsWritten s new_w) l code new lines sent (wrote s w new_w text says) r m (r.steps.rests r.cut) message one new_l part rose
+              begin-breaks C Stands IsOf k s script line number failed (IsWritten s w) (IsWritten s new_w) l code new lines sent (wrote s w new_w text says) r m (r.steps.rests r.cut) message one new_l more part rose
           by Unwritten (inl is, says) =
               unwritten-at C Stands IsOf k s (script ++ (number, Do Resumed) ∷ []) number 0 new_l [] new new_w failed
-              (begins C Stands IsOf k s script line number failed (IsWritten s w) (IsPartWritten s new_w) l code new lines sent (half s w new_w text says) r m (r.steps.rests r.cut) message one new_l is)
+              (begins C Stands IsOf k s script line number failed (IsWritten s w) (IsPartWritten s new_w) l code new lines sent (half s w new_w text says) r m (r.steps.rests r.cut) message one new_l more is)
           by Unwritten (inr (part, rose), says) =
               unwritten-broken C Stands IsOf k s (script ++ (number, Do Resumed) ∷ []) number 0 new_l [] new new_w
-              (begin-breaks C Stands IsOf k s script line number failed (IsWritten s w) (IsPartWritten s new_w) l code new lines sent (half s w new_w text says) r m (r.steps.rests r.cut) message one new_l part rose)
+              (begin-breaks C Stands IsOf k s script line number failed (IsWritten s w) (IsPartWritten s new_w) l code new lines sent (half s w new_w text says) r m (r.steps.rests r.cut) message one new_l more part rose)
 
       -- nobody is
       pub not-dialled : (said : Bool) → OnlyFaults l new_l → Rose l.faults new_l.faults → SaysAs said w new_w (flat_map (line_text k.schema number) lines)
@@ -116,9 +119,9 @@ module _ (C : Type 0) (Stands : C → Client → Type 0) (IsOf : Standing C) (k 
             (down (left_by s.past (f.at.course.earlier ++ f.at.course.call ∷ [])) (act (left_by s.past (f.at.course.earlier ++ f.at.course.call ∷ [])) f.at.course.steps.stands) sent refl)
         by (inr u) = unbegun-rests script line failed l (IsWritten s w) code u
 
-    pub resumes-dialled : (handed : Handed) (mid : Linking) → (sent ≡ [] → ⊥) → mid ≡ connected_at (Some s.address) l → Carries handed mid new_l w new_w (spelled sent) (flat_map (line_text k.schema number) lines)
+    pub resumes-dialled : (handed : Handed) (mid : Linking) → (sent ≡ [] → ⊥) → (l.peers ≡ Some [] → ⊥) → mid ≡ connected_at (Some s.address) l → Carries handed mid new_l w new_w (spelled sent) (flat_map (line_text k.schema number) lines)
         → Hands C Stands IsOf k handed s (script ++ (number, Do Resumed) ∷ []) number 0 failed new_l new_w [] new
-    resumes-dialled handed mid some made carries = by (one-sent m.outcome)
+    resumes-dialled handed mid some more made carries = by (one-sent m.outcome)
       where
         r : Rests C Stands IsOf k s script line failed l (IsWritten s w) code
         r = resting some
@@ -128,7 +131,7 @@ module _ (C : Type 0) (Stands : C → Client → Type 0) (IsOf : Standing C) (k 
 
         by : (sent_of m.outcome ≡ []) ⊎ ((x : Message) × (sent_of m.outcome ≡ x ∷ [])) → Hands C Stands IsOf k handed s (script ++ (number, Do Resumed) ∷ []) number 0 failed new_l new_w [] new
         by (inl none) = absurd (some (m.sent_is ∙ none))
-        by (inr (x, one)) = dialled script line number failed l mid new_l w new_w code new lines sent r m x (m.sent_is ∙ one) handed made carries
+        by (inr (x, one)) = dialled script line number failed l mid new_l w new_w code new lines sent r m x (m.sent_is ∙ one) handed more made carries
 
     pub resumes-alone : (said : Bool) → (sent ≡ [] → ⊥) → OnlyFaults l new_l → Rose l.faults new_l.faults → SaysAs said w new_w (flat_map (line_text k.schema number) lines)
         → Hands C Stands IsOf k (cond said HandedBroken Unwritten) s (script ++ (number, Do Resumed) ∷ []) number 0 failed new_l new_w [] new

@@ -13,6 +13,7 @@ use Rattle.sr_dial.specs.declared.ending.Ending.{Ending}
 use Rattle.sr_dial.specs.declared.ending.Ending.TheVariants as ending
 use Rattle.sr_dial.proofs.ListLemmas.{calls-one, dialled-one}
 use Rattle.sr_dial.proofs.CourseLemmas.{made-of}
+use Rattle.sr_dial.proofs.ToldLemmas.{told-more}
 
 module _ (C : Type 0) (Stands : C → Client → Type 0) (IsOf : Standing C) (k : Setting) (s : Start C) (script : List (ℕ × Task)) (l new_l : Linking) (w : Writing) (feed : List ℕ) (code : C) (gone : new_l ≡ hung_up l) where
   made-still : {made : List Rattle.sr_io.specs.Told.Connection} → connections l ≡ made → connections new_l ≡ made
@@ -35,6 +36,7 @@ module _ (C : Type 0) (Stands : C → Client → Type 0) (IsOf : Standing C) (k 
           carried = h.course.carried;
           last_carried = subst (λ b. IsCarried b h.course.call) (sym written) (record { taken = h.course.taken; sent = h.sent });
           dialled = dialled-one s.address h.course.earlier h.course.call h.course.before_dialled h.course.dialled;
+          each_told = told-more s.linking.peers h.course.earlier h.course.call h.course.before_told h.course.is_told;
           made = made-still (made-of (left_by s.past (h.course.earlier ++ h.course.call ∷ [])).cut h.course.earlier h.course.call s.linking l h.there);
           hung_up = ap (λ (x : Linking). x.is_up) gone;
           faults = subst (λ (x : Linking). Rattle.sr_talk.specs.Serving.RoseBy s.linking.faults (Rattle.sr_talk.specs.Calls.count_faults (h.course.earlier ++ h.course.call ∷ [])) x.faults) (sym gone) h.faults;
@@ -58,6 +60,7 @@ module _ (C : Type 0) (Stands : C → Client → Type 0) (IsOf : Standing C) (k 
       carried = o.carried;
       last_carried = o.last_carried;
       dialled = o.dialled;
+      each_told = o.each_told;
       made = made-still o.made;
       hung_up = ap (λ (x : Linking). x.is_up) gone;
       faults = subst (λ (x : Linking). Rattle.sr_talk.specs.Serving.RoseBy s.linking.faults (Rattle.sr_talk.specs.Calls.count_faults (o.earlier ++ o.last ∷ [])) x.faults) (sym gone) o.faults;

@@ -14,7 +14,7 @@ use Rattle.sr_talk.specs.Serving.{RoseBy, spelled}
 use Rattle.sr_talk.specs.declared.frames.Next.{Next}
 use Rattle.sr_talk.specs.declared.frames.Next.TheVariants.{Frame, End, Torn, Fault, Bad}
 use Rattle.sr_dial.specs.Known.{AreFairlyExplained, Setting}
-use Rattle.sr_dial.specs.Runs.{AreInPlace, EndsBy, IsCarried, SendsMost, SentAs, WritesAs, is_unwritten, left_by, taken_after}
+use Rattle.sr_dial.specs.Runs.{AreInPlace, EndsBy, IsCarried, IsToldIf, SendsMost, SentAs, WritesAs, is_unwritten, left_by, taken_after}
 use Rattle.sr_dial.specs.declared.ending.Ending.{Ending}
 use Rattle.sr_dial.specs.declared.ending.Ending.TheVariants as ending
 use Rattle.sr_dial.specs.declared.run.LineEnd.{LineEnd}
@@ -50,6 +50,10 @@ pub record IsCall {C : Type 0} (c : Client) (call : Call C) : Type 0 where
 abbrev pub IsThere : {C : Type 0} → Bool → List (Call C) → Call C → Linking → Linking → Type 0
 IsThere {C} true earlier call old l = connections l ≡ connections old ++ calls_told (earlier ++ call ∷ [])
 IsThere {C} false earlier call old l = (l.present ≡ call.told) × (l.past ≡ connections old ++ calls_told earlier) × (fails call ≡ false) × (call.connected ≡ true)
+
+-- a link that told its peers still does
+abbrev pub TellsStill : Linking → Linking → Type 0
+TellsStill old l = IfSome old.peers (λ peers. l.peers ≢ None)
 
 -- how a message is handled whose step came out so
 abbrev pub handled_by : Handed → Handled
@@ -101,6 +105,8 @@ module _ (C : Type 0) (Stands : C → Client → Type 0) (IsOf : Standing C) (k 
     pub carried : All (IsCarried false) earlier
     pub before_dialled : AreAt s.address (calls_told earlier)
     pub dialled : IfSome call.told (λ t. t.address ≡ s.address)
+    pub before_told : All (IsToldIf s.linking.peers) earlier
+    pub is_told : IsToldIf s.linking.peers call
     pub left : call.left ≡ feed
     pub some : requests_of (steps_in (done_in call)) ≢ []
     pub taken : IfSome call.told (λ t. t.taken ≡ spelled (given_of (steps_in (done_in call))) ++ call.left)
@@ -113,6 +119,7 @@ module _ (C : Type 0) (Stands : C → Client → Type 0) (IsOf : Standing C) (k 
     pub faults : RoseBy s.linking.faults (count_faults (course.earlier ++ course.call ∷ [])) l.faults
     pub there : IsThere (left_by s.past (course.earlier ++ course.call ∷ [])).cut course.earlier course.call s.linking l
     pub failed_is : list_any fails (course.earlier ++ course.call ∷ []) ≡ failed
+    pub peers_stay : TellsStill s.linking l
 
   -- The link failed while a request is out.
   pub record Broken (s : Start C) (script : List (ℕ × Task)) (line : ℕ) (l : Linking) (P : List ℕ → Type 0) (feed : List ℕ) (code : C) : Type 0 where
@@ -123,6 +130,7 @@ module _ (C : Type 0) (Stands : C → Client → Type 0) (IsOf : Standing C) (k 
     pub made : connections l ≡ connections s.linking ++ calls_told (course.earlier ++ course.call ∷ [])
     pub out : (left_by s.past (course.earlier ++ course.call ∷ [])).out ≢ None
     pub not_yet : fails course.call ≡ false
+    pub peers_stay : TellsStill s.linking l
 
   -- The client's link is cut.
   pub record Rests (s : Start C) (script : List (ℕ × Task)) (line : ℕ) (failed : Bool) (l : Linking) (P : List ℕ → Type 0) (code : C) : Type 0 where
@@ -130,6 +138,8 @@ module _ (C : Type 0) (Stands : C → Client → Type 0) (IsOf : Standing C) (k 
     pub are : AreCalls s.past calls
     pub carried : All (IsCarried false) calls
     pub dialled : AreAt s.address (calls_told calls)
+    pub each_told : All (IsToldIf s.linking.peers) calls
+    pub peers_stay : TellsStill s.linking l
     pub made : connections l ≡ connections s.linking ++ calls_told calls
     pub faults : RoseBy s.linking.faults (count_faults calls) l.faults
     pub failed_is : list_any fails calls ≡ failed
@@ -149,6 +159,7 @@ module _ (C : Type 0) (Stands : C → Client → Type 0) (IsOf : Standing C) (k 
     pub carried : All (IsCarried false) earlier
     pub last_carried : IsCarried (is_unwritten ended) last
     pub dialled : AreAt s.address (calls_told (earlier ++ last ∷ []))
+    pub each_told : All (IsToldIf s.linking.peers) (earlier ++ last ∷ [])
     pub made : connections l ≡ connections s.linking ++ calls_told (earlier ++ last ∷ [])
     pub faults : RoseBy s.linking.faults (count_faults (earlier ++ last ∷ [])) l.faults
     pub ends : (whole : List (ℕ × Task)) → EndsBy ended k.schema (earlier ++ last ∷ []) (left_by s.past (earlier ++ last ∷ [])) last.left script whole

@@ -2,7 +2,7 @@
 --
 -- It is not said here that each outcome goes by the rules over a link that lies: only that it does over every database whose rows the
 -- client has, and where what comes is truly promised.
-use Rattle.std.specs.Prelude.{ℕ, Bool, true, false, List, [], ◌∷◌, ◌++◌, ◌||◌, ◌+◌, flat_map, ◌≡◌, ◌≢◌, Some, None, IfSome, IsTrue}
+use Rattle.std.specs.Prelude.{ℕ, Bool, true, false, List, [], ◌∷◌, ◌++◌, ◌||◌, ◌+◌, flat_map, ◌≡◌, ◌≢◌, Option, Some, None, IfSome, IsTrue}
 use Rattle.std.specs.Io.KnownBytes.{Appends}
 use Rattle.std.specs.List.{list_any, All}
 use Rattle.sr_cell.specs.declared.table.Table.{Table}
@@ -62,6 +62,11 @@ SentAs false requests sent = sent ≡ spelled requests
 pub record IsCarried {C : Type 0} (short : Bool) (call : Call C) : Type 0 where
   pub taken : IfSome call.told (λ t. t.taken ≡ spelled (given_of (steps_in (done_in call))) ++ call.left)
   pub sent : IfSome call.told (λ t. SentAs (short || fails call) (requests_of (steps_in (done_in call))) t.sent)
+
+-- Where no connection was made nothing came; and a link that told its peers tells each that was.
+pub record IsToldIf {C : Type 0} (peers : Option (List (List ℕ))) (call : Call C) : Type 0 where
+  pub nothing : call.connected ≡ false → (given_of (steps_in (done_in call)) ≡ []) × (call.left ≡ []) × (call.told ≡ None)
+  pub told : IfSome peers (λ more. call.connected ≡ true → call.told ≢ None)
 
 -- ---- a run
 
@@ -125,7 +130,8 @@ is_unwritten ending.Unwritten = true
 is_unwritten other = false
 
 -- A run of the client of that number, which was `c` before, over the lines of a script. Call by call it resumed, and then did what the
--- lines ask, in order. The link tells just these connections more, each made at this address, and is given up.
+-- lines ask, in order. The link tells just these connections more, each made at this address; where it told its peers, it tells each that
+-- was made. It is given up.
 pub record Ran (C : Type 0) (schema : List Table) (client : ℕ) (c : Client) (address : List ℕ) (script : List (ℕ × Task)) (ended : Ending) (old new : Linking) (before after : Writing) : Type 0 where
   pub earlier : List (Call C)
   pub last : Call C
@@ -138,6 +144,7 @@ pub record Ran (C : Type 0) (schema : List Table) (client : ℕ) (c : Client) (a
   pub last_carried : IsCarried (is_unwritten ended) last
   pub made : connections new ≡ connections old ++ calls_told (earlier ++ last ∷ [])
   pub dialled : AreAt address (calls_told (earlier ++ last ∷ []))
+  pub each_told : All (IsToldIf old.peers) (earlier ++ last ∷ [])
   pub hung_up : new.is_up ≡ false
   pub faults : RoseBy old.faults (count_faults (earlier ++ last ∷ [])) new.faults
   pub ends : EndsBy ended schema (earlier ++ last ∷ []) (left_by c (earlier ++ last ∷ [])) last.left lines ((0, Do Resumed) ∷ script)

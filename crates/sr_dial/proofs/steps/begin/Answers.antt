@@ -1,4 +1,4 @@
-use Rattle.std.proofs.Common.{rules, ◌≡◌, [], ◌∷◌, ◌++◌, true, cond, Some, sym, subst}
+use Rattle.std.proofs.Common.{rules, ◌≡◌, [], ◌∷◌, ◌++◌, true, cond, Some, refl, sym, subst}
 use Rattle.std.specs.Prelude.{flat_map}
 use Rattle.sr_io.specs.Causes.{Rose}
 use Rattle.sr_io.specs.Told.{OnlyFaults, connected_at}
@@ -37,6 +37,7 @@ returns-in-Ok-clause-begun g c k s script line failed at same schema ready is =
     (resumes-dialled _ g.C.Asks.stands g.C.Peer.is_of k s script line c.args.number failed _ _ _ _ c.args.feed.now _ _ told.lines told.sent ready
     (λ past st. subst (λ x. Makes g.C.Asks.stands g.C.Peer.is_of x old new past Resumed told.lines told.sent) same
     (c.in_ok-told.ensures.made past Resumed st (subst (λ (x : Setting). IsDeed x.schema c.args.event Resumed) (sym same) is))) handed (g.H.Outside.linking c.dial.new.self) some
+    (λ last. c.in-Ok.ensures.none_past_the_last last refl)
     (subst (λ a. g.H.Outside.linking c.dial.new.self ≡ connected_at (Some a) (g.H.Outside.linking c.args.host.now)) (sym at) c.in-Ok.ensures.made)
     (subst (λ x. Carries handed (g.H.Outside.linking c.dial.new.self) (g.H.Outside.linking c.carry-in-Ok.new.host) (g.H.Outside.writing c.args.host.now) (g.H.Outside.writing c.carry-in-Ok.new.host) (spelled told.sent)
     (flat_map (line_text x c.args.number) told.lines)) schema

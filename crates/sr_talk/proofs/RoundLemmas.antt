@@ -14,7 +14,7 @@ use Rattle.sr_session.specs.Sessions.{Database}
 use Rattle.sr_links.specs.Honest.{Server}
 use Rattle.sr_talk.specs.Serving.{SentAs, IsWholeAs, CountsAs, Conversation, IsServed, AreServed, AreTold, RoseBy, all_told, count_faults, connection_line, connection_lines, frames_read, is_fault, spelled}
 use Rattle.sr_talk.specs.Talked.{SentOn, ClosesAs, EndsAt, Talks}
-use Rattle.sr_talk.specs.Rounds.{KeepsPeers, at_rest, text_of, Rounds, SoMany}
+use Rattle.sr_talk.specs.Rounds.{at_rest, text_of, Rounds, SoMany}
 use Rattle.sr_talk.specs.declared.serve.How.{How}
 use Rattle.sr_talk.specs.declared.serve.How.TheVariants.{End, Torn, Fault, Bad, Refused, Limit}
 use Rattle.sr_talk.specs.declared.serve.Served.{Served}

@@ -115,6 +115,13 @@ fn answer_frame<L: Link, S: Serves>(
     }
 }
 
+/// A connection that ended so, after so many whole frames.
+fn ended(how: How, frames: u32) -> Served
+    ensures { result ≡ record { how = how; frames = frames } }
+{
+    Served { how, frames }
+}
+
 /// Serves one connection to its end: each frame is answered, however the input is cut, until no frame comes, one must be refused, the
 /// link fails, or a million were read.
 pub fn serve_connection<L: Link, S: Serves>(
@@ -133,50 +140,18 @@ pub fn serve_connection<L: Link, S: Serves>(
     let mut feed = Feed::new(alloc);
     for frames in 0..MOST_FRAMES {
         let message = match next_frame(alloc, link, &mut feed)? {
-            Next::End => {
-                return Ok(Served {
-                    how: How::End,
-                    frames,
-                });
-            }
-            Next::Torn => {
-                return Ok(Served {
-                    how: How::Torn,
-                    frames,
-                });
-            }
-            Next::Fault => {
-                return Ok(Served {
-                    how: How::Fault,
-                    frames,
-                });
-            }
-            Next::Bad(_) => {
-                return Ok(Served {
-                    how: How::Bad,
-                    frames,
-                });
-            }
+            Next::End => return Ok(ended(How::End, frames)),
+            Next::Torn => return Ok(ended(How::Torn, frames)),
+            Next::Fault => return Ok(ended(How::Fault, frames)),
+            Next::Bad(_) => return Ok(ended(How::Bad, frames)),
             Next::Frame(message) => message,
         };
         match answer_frame(alloc, link, server, &message)? {
             Turn::Whole => {}
-            Turn::Refused => {
-                return Ok(Served {
-                    how: How::Refused,
-                    frames: frames + 1, // it was read whole
-                });
-            }
-            Turn::Broken => {
-                return Ok(Served {
-                    how: How::Fault,
-                    frames: frames + 1,
-                });
-            }
+            // it was read whole
+            Turn::Refused => return Ok(ended(How::Refused, frames + 1)),
+            Turn::Broken => return Ok(ended(How::Fault, frames + 1)),
         }
     }
-    Ok(Served {
-        how: How::Limit,
-        frames: MOST_FRAMES,
-    })
+    Ok(ended(How::Limit, MOST_FRAMES))
 }

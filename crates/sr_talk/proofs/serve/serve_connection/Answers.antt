@@ -7,45 +7,51 @@ use Rattle.sr_talk.proofs.serve.serve_connection.Goals as goal
 
 pub returns-in-End-clause-talked : goal.returns-in-End-clause-talked
 returns-in-End-clause-talked g c s is =
-    at-end g.S.Serves.gives s (g.L.Outside.linking c.args.link.now) (g.L.Outside.linking c.loop-frames.link) (g.L.Outside.linking c.next_frame.new.link) c.loop-frames.feed c.next_frame.new.feed c.loop-frames.frames
+    rw (c.ended.ensures)
+    (at-end g.S.Serves.gives s (g.L.Outside.linking c.args.link.now) (g.L.Outside.linking c.loop-frames.link) (g.L.Outside.linking c.next_frame.new.link) c.loop-frames.feed c.next_frame.new.feed c.loop-frames.frames
     (g.S.Serves.is_of c.loop-frames.server) (c.loop-frames.invariant.so_far s is) (search rules)
-    (subst (λ next. Nexts next (g.L.Outside.linking c.loop-frames.link) (g.L.Outside.linking c.next_frame.new.link) c.loop-frames.feed c.next_frame.new.feed) c.in-End.is c.in_ok-next_frame.ensures.next)
+    (subst (λ next. Nexts next (g.L.Outside.linking c.loop-frames.link) (g.L.Outside.linking c.next_frame.new.link) c.loop-frames.feed c.next_frame.new.feed) c.in-End.is c.in_ok-next_frame.ensures.next))
 
 pub returns-in-Torn-clause-talked : goal.returns-in-Torn-clause-talked
 returns-in-Torn-clause-talked g c s is =
-    at-torn g.S.Serves.gives s (g.L.Outside.linking c.args.link.now) (g.L.Outside.linking c.loop-frames.link) (g.L.Outside.linking c.next_frame.new.link) c.loop-frames.feed c.next_frame.new.feed c.loop-frames.frames
+    rw (c.ended-in-Torn.ensures)
+    (at-torn g.S.Serves.gives s (g.L.Outside.linking c.args.link.now) (g.L.Outside.linking c.loop-frames.link) (g.L.Outside.linking c.next_frame.new.link) c.loop-frames.feed c.next_frame.new.feed c.loop-frames.frames
     (g.S.Serves.is_of c.loop-frames.server) (c.loop-frames.invariant.so_far s is) (search rules)
-    (subst (λ next. Nexts next (g.L.Outside.linking c.loop-frames.link) (g.L.Outside.linking c.next_frame.new.link) c.loop-frames.feed c.next_frame.new.feed) c.in-Torn.is c.in_ok-next_frame.ensures.next)
+    (subst (λ next. Nexts next (g.L.Outside.linking c.loop-frames.link) (g.L.Outside.linking c.next_frame.new.link) c.loop-frames.feed c.next_frame.new.feed) c.in-Torn.is c.in_ok-next_frame.ensures.next))
 
 pub returns-in-Fault-clause-talked : goal.returns-in-Fault-clause-talked
 returns-in-Fault-clause-talked g c s is =
-    at-fault g.S.Serves.gives s (g.L.Outside.linking c.args.link.now) (g.L.Outside.linking c.loop-frames.link) (g.L.Outside.linking c.next_frame.new.link) c.loop-frames.feed c.next_frame.new.feed c.loop-frames.frames
+    rw (c.ended-in-Fault.ensures)
+    (at-fault g.S.Serves.gives s (g.L.Outside.linking c.args.link.now) (g.L.Outside.linking c.loop-frames.link) (g.L.Outside.linking c.next_frame.new.link) c.loop-frames.feed c.next_frame.new.feed c.loop-frames.frames
     (g.S.Serves.is_of c.loop-frames.server) (c.loop-frames.invariant.so_far s is) (search rules)
-    (subst (λ next. Nexts next (g.L.Outside.linking c.loop-frames.link) (g.L.Outside.linking c.next_frame.new.link) c.loop-frames.feed c.next_frame.new.feed) c.in-Fault.is c.in_ok-next_frame.ensures.next)
+    (subst (λ next. Nexts next (g.L.Outside.linking c.loop-frames.link) (g.L.Outside.linking c.next_frame.new.link) c.loop-frames.feed c.next_frame.new.feed) c.in-Fault.is c.in_ok-next_frame.ensures.next))
 
 pub returns-in-Bad-clause-talked : goal.returns-in-Bad-clause-talked
 returns-in-Bad-clause-talked g c s is =
-    at-bad g.S.Serves.gives s (g.L.Outside.linking c.args.link.now) (g.L.Outside.linking c.loop-frames.link) (g.L.Outside.linking c.next_frame.new.link) c.loop-frames.feed c.next_frame.new.feed c.loop-frames.frames
+    rw (c.ended-in-Bad.ensures)
+    (at-bad g.S.Serves.gives s (g.L.Outside.linking c.args.link.now) (g.L.Outside.linking c.loop-frames.link) (g.L.Outside.linking c.next_frame.new.link) c.loop-frames.feed c.next_frame.new.feed c.loop-frames.frames
     (g.S.Serves.is_of c.loop-frames.server) (c.loop-frames.invariant.so_far s is) (search rules) c.in-Bad.field-0
-    (subst (λ next. Nexts next (g.L.Outside.linking c.loop-frames.link) (g.L.Outside.linking c.next_frame.new.link) c.loop-frames.feed c.next_frame.new.feed) c.in-Bad.is c.in_ok-next_frame.ensures.next)
+    (subst (λ next. Nexts next (g.L.Outside.linking c.loop-frames.link) (g.L.Outside.linking c.next_frame.new.link) c.loop-frames.feed c.next_frame.new.feed) c.in-Bad.is c.in_ok-next_frame.ensures.next))
 
 pub returns-in-Refused-clause-talked : goal.returns-in-Refused-clause-talked
 returns-in-Refused-clause-talked g c s is =
     let h = c.loop-frames.invariant.so_far s is in
     let next = subst (λ next. Nexts next (g.L.Outside.linking c.loop-frames.link) (g.L.Outside.linking c.next_frame.new.link) c.loop-frames.feed c.next_frame.new.feed) c.in-Frame.is c.in_ok-next_frame.ensures.next in
-    at-refused g.S.Serves.gives s (g.L.Outside.linking c.args.link.now) (g.L.Outside.linking c.loop-frames.link) (g.L.Outside.linking c.next_frame.new.link) (g.L.Outside.linking c.answer_frame.new.link)
+    rw (c.ended-in-Refused.ensures)
+    (at-refused g.S.Serves.gives s (g.L.Outside.linking c.args.link.now) (g.L.Outside.linking c.loop-frames.link) (g.L.Outside.linking c.next_frame.new.link) (g.L.Outside.linking c.answer_frame.new.link)
     c.loop-frames.feed c.next_frame.new.feed c.in-Frame.message c.loop-frames.frames (g.S.Serves.is_of c.loop-frames.server) (g.S.Serves.is_of c.answer_frame.new.server) h (search rules) next.0 next.1
     (subst (λ turn. Turns g.S.Serves.gives turn h.after c.in-Frame.message (g.L.Outside.linking c.next_frame.new.link) (g.L.Outside.linking c.answer_frame.new.link) (g.S.Serves.is_of c.answer_frame.new.server))
-    c.in-Refused.is (c.in_ok-answer_frame.ensures.turn h.after h.stands))
+    c.in-Refused.is (c.in_ok-answer_frame.ensures.turn h.after h.stands)))
 
 pub returns-in-Broken-clause-talked : goal.returns-in-Broken-clause-talked
 returns-in-Broken-clause-talked g c s is =
     let h = c.loop-frames.invariant.so_far s is in
     let next = subst (λ next. Nexts next (g.L.Outside.linking c.loop-frames.link) (g.L.Outside.linking c.next_frame.new.link) c.loop-frames.feed c.next_frame.new.feed) c.in-Frame.is c.in_ok-next_frame.ensures.next in
-    at-broken g.S.Serves.gives s (g.L.Outside.linking c.args.link.now) (g.L.Outside.linking c.loop-frames.link) (g.L.Outside.linking c.next_frame.new.link) (g.L.Outside.linking c.answer_frame.new.link)
+    rw (c.ended-in-Broken.ensures)
+    (at-broken g.S.Serves.gives s (g.L.Outside.linking c.args.link.now) (g.L.Outside.linking c.loop-frames.link) (g.L.Outside.linking c.next_frame.new.link) (g.L.Outside.linking c.answer_frame.new.link)
     c.loop-frames.feed c.next_frame.new.feed c.in-Frame.message c.loop-frames.frames (g.S.Serves.is_of c.loop-frames.server) (g.S.Serves.is_of c.answer_frame.new.server) h (search rules) next.0
     (subst (λ turn. Turns g.S.Serves.gives turn h.after c.in-Frame.message (g.L.Outside.linking c.next_frame.new.link) (g.L.Outside.linking c.answer_frame.new.link) (g.S.Serves.is_of c.answer_frame.new.server))
-    c.in-Broken.is (c.in_ok-answer_frame.ensures.turn h.after h.stands))
+    c.in-Broken.is (c.in_ok-answer_frame.ensures.turn h.after h.stands)))
 
 pub loop-frames-preserved : goal.loop-frames-preserved
 loop-frames-preserved g c = record {
@@ -65,5 +71,6 @@ loop-frames-preserved g c = record {
 
 pub returns-clause-talked : goal.returns-clause-talked
 returns-clause-talked g c s is =
-    at-limit g.S.Serves.gives s (g.L.Outside.linking c.args.link.now) (g.L.Outside.linking c.loop-frames.link) c.loop-frames.feed c.loop-frames.frames (g.S.Serves.is_of c.loop-frames.server)
-    (c.loop-frames.invariant.so_far s is) (search rules)
+    rw (c.ended-2.ensures)
+    (at-limit g.S.Serves.gives s (g.L.Outside.linking c.args.link.now) (g.L.Outside.linking c.loop-frames.link) c.loop-frames.feed c.loop-frames.frames (g.S.Serves.is_of c.loop-frames.server)
+    (c.loop-frames.invariant.so_far s is) (search rules))

@@ -4,6 +4,7 @@ pub mod BlockLemmas
 pub mod ExplainLemmas
 pub mod MomentLemmas
 pub mod PairLemmas
+pub mod AskedLemmas
 pub mod LineLemmas
 pub mod FreeLemmas
 pub mod CoveredLemmas

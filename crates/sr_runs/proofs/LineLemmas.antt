@@ -1,18 +1,21 @@
 -- Lines of answers and asks are right, in the trace of each script.
-use Rattle.std.proofs.Common.{◌≡◌, ℕ, ◌<◌, ◌≤◌, Bool, true, false, List, ◌++◌, length, refl, sym, ◌∙◌, ap, subst, arith, Some, inl, inr}
-use Rattle.std.specs.Prelude.{map, ◌⊎◌, IsTrue}
+use Rattle.std.proofs.Common.{◌≡◌, ℕ, suc, ◌<◌, ◌≤◌, Bool, true, false, List, [], ◌∷◌, ◌++◌, length, length-append, refl, sym, ◌∙◌, ap, subst, arith, Some, inl, inr}
+use Rattle.std.specs.Prelude.{map, slice_get, ◌⊎◌, IsTrue}
 use Rattle.std.proofs.lemmas.List.{append_assoc, map-append}
+use Rattle.sr_message.specs.declared.message.AskPart.{AskPart}
 use Rattle.sr_model.specs.Queries.{Query, rows_of}
 use Rattle.sr_script.specs.declared.line.TraceLine.{TraceLine}
 use Rattle.sr_script.specs.declared.line.TraceLine.TheVariants as line
 use Rattle.sr_session.specs.Sessions.{Database, newest, tables_of}
+use Rattle.sr_session.specs.Walks.{AskOut}
 use Rattle.sr_session.specs.Clients.{Pair}
+use Rattle.sr_session.specs.Tidy.{IsTidyWith}
 use Rattle.sr_session.specs.Rules.{Answered, AskSent}
 use Rattle.sr_session.specs.Scenes.{Did, Event, Happens, Report, Scene, SceneStands, client_of, done, first_scene, next, pair_at}
 use Rattle.sr_session.specs.Scenes.{Runs as EventsRun}
 use Rattle.sr_session.specs.Headline.{IsReached, query_at}
-use Rattle.sr_session.proofs.EventLemmas.{events-keep}
-use Rattle.sr_session.proofs.ReachLemmas.{reached-stands}
+use Rattle.sr_session.proofs.EventLemmas.{at, events-keep}
+use Rattle.sr_session.proofs.ReachLemmas.{get-last, reached-stands, stands-tidy}
 use Rattle.sr_session.proofs.ExecLemmas.{newest-more, version-stays}
 use Rattle.sr_session.proofs.GrowLemmas.{answers-never-fall, is-later}
 use Rattle.sr_session.proofs.AnswerLemmas.{an-ask-asks-the-uncovered, answers-are-right}
@@ -20,6 +23,7 @@ use Rattle.sr_session.proofs.BudgetLemmas.{Grows, grows, more, same}
 use Rattle.sr_runs.specs.Lines.{part_line}
 use Rattle.sr_runs.specs.Runs.{numbered}
 use Rattle.sr_runs.specs.Headline.{AnswerLinesAreRight, AskLinesAreRight, IsExplained, IsMoment, IsRightAnswerLine, IsRightAskLine, IsScripted, IsTold}
+use Rattle.sr_runs.proofs.AskedLemmas.{IsThere, queries-are-asked}
 use Rattle.sr_runs.proofs.BlockLemmas.{HeadsAnswer, HeadsAsk, blocks, heads}
 use Rattle.sr_runs.proofs.ExplainLemmas.{no-head}
 use Rattle.sr_runs.proofs.MomentLemmas.{lines-are-told}
@@ -87,7 +91,7 @@ behind-block number block others own behind rest own_is is =
 
 right-answer : (last : Scene) (script : IsScripted last) (number n query version rows : ℕ) (behind : List (ℕ × TraceLine))
     → (t : IsTold (start_of last script) last number (line.Answer n query version rows) behind)
-    → HeadsAnswer t.event t.report (line.Answer n query version rows) t.own → IsRightAnswerLine last number n query version rows behind
+    → HeadsAnswer t.event t.report (line.Answer n query version rows) t.own → IsRightAnswerLine last script number n query version rows behind
 right-answer last script number n query version rows behind t h =
     let m = same-report (start_of last script) last t.event t.report (Did (Answered h.query h.version h.rows h.marks)) h.report_is t.moment in
     let reached = moment-reached last script t.event (Did (Answered h.query h.version h.rows h.marks)) m in
@@ -108,6 +112,8 @@ right-answer last script number n query version rows behind t h =
       meaning = right.query;
       done = on.done;
       query_is = ap (query_at on.pair.client) (sym of_query) ∙ on.query_is;
+      asked = queries-are-asked last script n query right.query
+          (record { pair = on.pair; done = on.done; pair_is = ap (pair_at last) (sym of_n) ∙ on.pair_is; query_is = ap (query_at on.pair.client) (sym of_query) ∙ on.query_is });
       there = subst (λ v. v ≤ newest last.database) of_version on.there;
       count = sym of_rows ∙ ap length rows_are;
       rest = numbered number h.more ++ t.rest;
@@ -122,17 +128,27 @@ answer-lines-are-right last script front number n query version rows behind ther
   where
     by : (t : IsTold (start_of last script) last number (line.Answer n query version rows) behind)
         → HeadsAnswer t.event t.report (line.Answer n query version rows) t.own ⊎ HeadsAsk t.event t.report (line.Answer n query version rows) t.own
-        → IsRightAnswerLine last number n query version rows behind
+        → IsRightAnswerLine last script number n query version rows behind
     by t (inl h) = right-answer last script number n query version rows behind t h
     by t (inr h) = absurd (let wrong : line.Ask (client_of t.event) h.request h.fresh (length h.parts) ≡ line.Answer n query version rows = h.line_is in cc)
 
     go : IsTold (start_of last script) last number (line.Answer n query version rows) behind ⊎ (IsExplained (start_of last script) last number (line.Answer n query version rows) behind ⊎ IsTrue false)
-        → IsRightAnswerLine last number n query version rows behind
+        → IsRightAnswerLine last script number n query version rows behind
     go (inl t) = by t (heads t.event t.report (blocks t.moment.before t.moment.after t.event t.report t.moment.happens) t.front (line.Answer n query version rows) t.own refl t.lines)
     go (inr (inl h)) = absurd (no-head h.there h.client h.text h.front (line.Answer n query version rows) h.own refl h.explains)
     go (inr (inr wrong)) = absurd (cc)
 
 -- ---- asks
+
+-- the query whose ask is out is the client's newest
+out-is-numbered : (s : Scene) (n : ℕ) (pair : Pair) (request number : ℕ) (q : Query) (fresh : Bool) (parts : List AskPart) → SceneStands s → pair_at s n ≡ Some pair
+    → pair.client.out ≡ Some (AskOut request number q fresh parts) → query_at pair.client number ≡ Some (record { query = q; answered = false })
+out-is-numbered s n pair request number q fresh parts h is out =
+    let tidy : IsTidyWith s.database.schema pair.client (Some (AskOut request number q fresh parts)) =
+    subst (IsTidyWith s.database.schema pair.client) out (stands-tidy s.database pair (at s n pair h is)) in
+    let i = length tidy.0.1.earlier in
+    let e : number ≡ suc i = omega (arith, tidy.0.1.query_is ∙ (ap length tidy.0.1.newest ∙ length-append tidy.0.1.earlier (record { query = q; answered = false } ∷ []))) in
+    ap (query_at pair.client) e ∙ (ap (λ all. slice_get all i) tidy.0.1.newest ∙ get-last tidy.0.1.earlier (record { query = q; answered = false }))
 
 right-ask : (last : Scene) (script : IsScripted last) (number n request : ℕ) (fresh : Bool) (count : ℕ) (behind : List (ℕ × TraceLine))
     → (t : IsTold (start_of last script) last number (line.Ask n request fresh count) behind)
@@ -147,13 +163,19 @@ right-ask last script number n request fresh count behind t h =
     h.report_is ∙ (ap (λ r. Did (AskSent h.drops r h.fresh h.parts)) of_request ∙ ap (λ f. Did (AskSent h.drops request f h.parts)) of_fresh) in
     let m = same-report (start_of last script) last t.event t.report (Did (AskSent h.drops request fresh h.parts)) told t.moment in
     let reached = moment-reached last script t.event (Did (AskSent h.drops request fresh h.parts)) m in
+    let u = an-ask-asks-the-uncovered m.before m.after t.event h.drops request fresh h.parts reached m.happens in
+    let stands = events-keep m.before m.after t.event (Did (AskSent h.drops request fresh h.parts)) (reached-stands m.before reached) m.happens in
+    let on = stays m.after m.follows.0 m.follows.1 last (client_of t.event) u.number 0 u.query false u.after stands m.follows.2 u.after_is
+    (out-is-numbered m.after (client_of t.event) u.after request u.number u.query fresh h.parts stands u.after_is u.out) (omega arith) in
     record {
       event = t.event;
       drops = h.drops;
       parts = h.parts;
       moment = m;
       of_client = of_n;
-      uncovered = an-ask-asks-the-uncovered m.before m.after t.event h.drops request fresh h.parts reached m.happens;
+      uncovered = u;
+      asked = queries-are-asked last script n u.number u.query
+          (record { pair = on.pair; done = on.done; pair_is = ap (pair_at last) (sym of_n) ∙ on.pair_is; query_is = on.query_is });
       count_is = sym of_count;
       rest = numbered number h.more ++ t.rest;
       behind_is = behind-block number (map part_line h.parts) h.more t.own behind t.rest h.own_is t.behind_is;

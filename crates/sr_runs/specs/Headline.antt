@@ -100,13 +100,22 @@ LinesAreTold = (eager : Bool) (s new : Scene) (events : List (ℕ × ScriptEvent
 
 -- ---- answers
 
--- Behind the line of an answer stand just the rows of the client's query of that number on the tables of the version that it names.
-pub record IsRightAnswerLine (last : Scene) (number n query version rows : ℕ) (behind : List (ℕ × TraceLine)) : Type 0 where
+-- A line of the script asks this query of that client.
+pub record IsAsked (events : List (ℕ × ScriptEvent)) (n : ℕ) (q : Query) : Type 0 where
+  pub front : List (ℕ × ScriptEvent)
+  pub number : ℕ
+  pub behind : List (ℕ × ScriptEvent)
+  pub events_are : events ≡ front ++ (number, DoQuery n (Ok q)) ∷ behind
+
+-- Behind the line of an answer stand just the rows of the client's query of that number, which the script asks of it, on the tables of the
+-- version that it names.
+pub record IsRightAnswerLine (last : Scene) (script : IsScripted last) (number n query version rows : ℕ) (behind : List (ℕ × TraceLine)) : Type 0 where
   pub pair : Pair
   pub pair_is : pair_at last n ≡ Some pair
   pub meaning : Query
   pub done : Bool
   pub query_is : query_at pair.client query ≡ Some (record { query = meaning; answered = done })
+  pub asked : IsAsked script.events n meaning
   pub there : version ≤ newest last.database
   pub count : rows ≡ length (rows_of meaning (tables_of last.database version))
   pub rest : List (ℕ × TraceLine)
@@ -116,11 +125,12 @@ pub record IsRightAnswerLine (last : Scene) (number n query version rows : ℕ) 
 abbrev pub AnswerLinesAreRight : Type 0
 AnswerLinesAreRight = (last : Scene) (script : IsScripted last) (front : List (ℕ × TraceLine)) (number n query version rows : ℕ)
     (behind : List (ℕ × TraceLine)) → script.lines ≡ front ++ (number, line.Answer n query version rows) ∷ behind
-    → IsRightAnswerLine last number n query version rows behind
+    → IsRightAnswerLine last script number n query version rows behind
 
 -- ---- asks
 
--- Behind the line of an ask stand its parts, and they ask just what was uncovered at that moment of the query that it is for.
+-- Behind the line of an ask stand its parts, and they ask just what was uncovered at that moment of the query that it is for, which the
+-- script asks of the client.
 pub record IsRightAskLine (last : Scene) (script : IsScripted last) (number n request : ℕ) (fresh : Bool) (count : ℕ)
     (behind : List (ℕ × TraceLine)) : Type 0 where
   pub event : Event
@@ -130,6 +140,7 @@ pub record IsRightAskLine (last : Scene) (script : IsScripted last) (number n re
       (Did (AskSent drops request fresh parts))
   pub of_client : client_of event ≡ n
   pub uncovered : AsksTheUncovered moment.before moment.after event drops request fresh parts
+  pub asked : IsAsked script.events n uncovered.query
   pub count_is : count ≡ length parts
   pub rest : List (ℕ × TraceLine)
   pub behind_is : behind ≡ numbered number (map part_line parts) ++ rest

@@ -26,13 +26,13 @@ pub fn lines_are_told()
 {}
 
 /// Wherever the trace of a script has the line of an answer, just the rows of the client's query of that number stand behind it, on the
-/// tables of the version that it names.
+/// tables of the version that it names; and a line of the script asks that query of the client.
 pub fn answer_lines_are_right()
     ensures rows { AnswerLinesAreRight }
 {}
 
 /// Wherever the trace of a script has the line of an ask, its parts stand behind it, and they ask just what was uncovered at that moment
-/// of the query that it is for.
+/// of the query that it is for, which a line of the script asks of the client.
 pub fn ask_lines_are_right()
     ensures parts { AskLinesAreRight }
 {}

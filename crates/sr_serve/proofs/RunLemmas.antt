@@ -110,6 +110,7 @@ module _ (db : Database) (texts : List (List ℕ)) (address : List ℕ) (count :
           made = same-connections old new only ∙ sym (append-nil (connections old));
           came_at = none-at address;
           each_told = none-told old;
+          hung_up = λ some. absurd (some refl);
           writes = none-written (lines_of way.lines []);
           few = omega arith;
           all = λ is. absurd (omega (arith, is));
@@ -137,6 +138,7 @@ module _ (db : Database) (texts : List (List ℕ)) (address : List ℕ) (count :
       made = sym (append-nil (connections old));
       came_at = none-at address;
       each_told = none-told old;
+      hung_up = λ some. absurd (some refl);
       writes = part-written (lines_of lines []) written.count;
       few = omega arith;
       all = λ is. absurd (omega (arith, is));
@@ -190,6 +192,7 @@ module _ (db : Database) (texts : List (List ℕ)) (address : List ℕ) (count :
             made = e.all.made;
             came_at = at-address address old (all_told e.all.conversations) e.all.came_at;
             each_told = told-before address old e.all.conversations e.all.each_told;
+            hung_up = e.all.hung_up;
             writes = all-written 0 (lines_of executed.lines e.all.conversations);
             few = omega (arith, number);
             all = λ is. (number, e.none);
@@ -239,6 +242,7 @@ module _ (db : Database) (texts : List (List ℕ)) (address : List ℕ) (count :
             made = same-connections e.linking new e.only ∙ e.some.made;
             came_at = at-address address old (all_told e.some.conversations) e.some.came_at;
             each_told = told-before address old e.some.conversations e.some.each_told;
+            hung_up = λ some. e.only.is_up ∙ e.some.hung_up some;
             writes = all-written 5 (lines_of executed.lines e.some.conversations);
             few = omega (arith, number, few);
             all = λ is. absurd (omega (arith, is));
@@ -269,6 +273,7 @@ module _ (db : Database) (texts : List (List ℕ)) (address : List ℕ) (count :
             made = e.some.made;
             came_at = at-address address old (all_told e.some.conversations) e.some.came_at;
             each_told = told-before address old e.some.conversations e.some.each_told;
+            hung_up = e.some.hung_up;
             writes = part-written (lines_of executed.lines e.some.conversations) p.count;
             few = omega (arith, number, few);
             all = λ is. absurd (omega (arith, is));

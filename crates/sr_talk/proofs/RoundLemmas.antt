@@ -162,6 +162,7 @@ module _ (Gives : Database → Message → Result Tables TheFault → Type 0) wh
         };
         made = ap connections gone ∙ (append-nil (connections talked) ∙ ap (λ x. x ++ option_to_list talked.present) s.past);
         came_at = subst (λ p. IfSome p (λ t. l.docked ≡ Some t.address)) (sym s.present) (told-after (λ t. l.docked ≡ Some t.address) l.docked l.peers T s.bytes (λ address coming is. is));
+        hung_up = ap (λ (l : Linking). l.is_up) gone;
         is_told = one-told l.docked l.peers T s.bytes conversation some_peer s.present;
         docked = ap (λ (l : Linking). l.docked) gone ∙ s.docked;
         peers_stay = keeps-peers served.how served.frames (spelled talks.sent) T l made talked new made_is talks.is gone;
@@ -204,7 +205,7 @@ module _ (Gives : Database → Message → Result Tables TheFault → Type 0) wh
       ∙ ap (λ x. text_of (connection_lines 1 cs) ++ x) (append-nil (connection_line (length cs + 1) c.how (read c))))
 
   abbrev pub none-so-far : (db : Database) (l : Linking) (IsNow : Server → Type 0) → IsNow (at_rest db) → SoMany Gives db l l 0 IsNow
-  none-so-far db l IsNow stands = record { conversations = []; last = db; served = refl; made = sym (append-nil (connections l)); came_at = All-nil (λ t. l.docked ≡ Some t.address); each_told = none-told l; docked = refl; peers_stay = same-peers l.peers; number = refl; faults = omega arith; stands = stands }
+  none-so-far db l IsNow stands = record { conversations = []; last = db; served = refl; made = sym (append-nil (connections l)); came_at = All-nil (λ t. l.docked ≡ Some t.address); each_told = none-told l; hung_up = λ some. absurd (some refl); docked = refl; peers_stay = same-peers l.peers; number = refl; faults = omega arith; stands = stands }
 
   pub all-at : (docked now : Option (List ℕ)) (cs : List Conversation) (c : Conversation) → now ≡ docked → All (λ t. docked ≡ Some t.address) (all_told cs) → IfSome c.told (λ t. now ≡ Some t.address)
       → All (λ t. docked ≡ Some t.address) (all_told (cs ++ c ∷ []))
@@ -230,6 +231,7 @@ module _ (Gives : Database → Message → Result Tables TheFault → Type 0) wh
             ∙ (append_assoc (connections old) (all_told h.conversations) (option_to_list r.conversation.told) ∙ ap (λ x. connections old ++ x) (sym (told-one h.conversations r.conversation))));
         came_at = all-at old.docked now.docked h.conversations r.conversation h.docked h.came_at r.came_at;
         each_told = more-told old.docked now.docked old.peers now.peers h.conversations r.conversation h.docked h.peers_stay h.each_told r.is_told;
+        hung_up = λ some. r.hung_up;
         docked = r.docked ∙ h.docked;
         peers_stay = peers-on old.peers now.peers new.peers h.peers_stay r.peers_stay;
         number = omega (arith, number, length-append h.conversations (r.conversation ∷ []));

@@ -50,13 +50,13 @@ module _ (Gives : Database → Message → Result Tables TheFault → Type 0) wh
     pub stays : OnlyLinks L reading writing linking held complaints IsSteady first now
     pub up : (linking now).is_up ≡ (linking first).is_up
 
-  answers-one : (s mid : Server) (frames sent : List Message) (m : Message) (one : List Message) (IsNew : Server → Type 0) → Answers Gives s frames sent mid → (t : Takes Gives mid m one IsNew)
-      → Answers Gives s (frames ++ m ∷ []) (sent ++ one) (answer mid (FrameOf m t.result)).server
-  answers-one s mid [] sent m one IsNew (none, same) t =
+  answers-one : (s mid : Server) (frames sent : List Message) (m : Message) (one : List Message) (IsNew : Server → Type 0) → Answers Gives s frames sent mid → IsTrue (has_spelling m)
+      → (t : Takes Gives mid m one IsNew) → Answers Gives s (frames ++ m ∷ []) (sent ++ one) (answer mid (FrameOf m t.result)).server
+  answers-one s mid [] sent m one IsNew (none, same) spells t =
       subst (λ x. Answers Gives x (m ∷ []) (sent ++ one) (answer mid (FrameOf m t.result)).server) same
-      (t.result, [], t.accepted, t.gives, ap (λ x. x ++ one) none ∙ (t.sends ∙ sym (append-nil (answer mid (FrameOf m t.result)).sent)), (refl, refl))
-  answers-one s mid (first ∷ frames) sent m one IsNew (result, more, accepted, gives, all, others) t =
-      (result, more ++ one, accepted, gives, ap (λ x. x ++ one) all ∙ append_assoc (answer s (FrameOf first result)).sent more one, answers-one (answer s (FrameOf first result)).server mid frames more m one IsNew others t)
+      (t.result, [], spells, t.accepted, t.gives, ap (λ x. x ++ one) none ∙ (t.sends ∙ sym (append-nil (answer mid (FrameOf m t.result)).sent)), (refl, refl))
+  answers-one s mid (first ∷ frames) sent m one IsNew (result, more, spells_first, accepted, gives, all, others) spells t =
+      (result, more ++ one, spells_first, accepted, gives, ap (λ x. x ++ one) all ∙ append_assoc (answer s (FrameOf first result)).sent more one, answers-one (answer s (FrameOf first result)).server mid frames more m one IsNew others spells t)
 
   -- ---- one frame more
 
@@ -78,8 +78,8 @@ module _ (Gives : Database → Message → Result Tables TheFault → Type 0) wh
       }
 
   pub so-far-more : (s : Server) (first now mid new : Linking) (left after : List ℕ) (m : Message) (index : ℕ) (IsNow IsNew : Server → Type 0) → (h : SoFar s first now left index IsNow)
-      → Reads now mid left (spelling m) after → Sends Gives h.after m mid new IsNew → SoFar s first new after (index + 1) IsNew
-  so-far-more s first now mid new left after m index IsNow IsNew h r t =
+      → Reads now mid left (spelling m) after → IsTrue (has_spelling m) → Sends Gives h.after m mid new IsNew → SoFar s first new after (index + 1) IsNew
+  so-far-more s first now mid new left after m index IsNow IsNew h r spells t =
       let on = read-on s first now mid left (spelling m) after index IsNow h r in
       let count = h.count_is in
       let behind : List ℕ = spelled h.frames ++ (spelling m ++ after) in
@@ -88,7 +88,7 @@ module _ (Gives : Database → Message → Result Tables TheFault → Type 0) wh
         sent = h.sent ++ t.sent;
         after = (answer h.after (FrameOf m t.takes.result)).server;
         brings = subst (Brings first.present) (sym (spelled-one h.frames m after)) on.brings;
-        answers = answers-one s h.after h.frames h.sent m t.sent IsNew h.answers t.takes;
+        answers = answers-one s h.after h.frames h.sent m t.sent IsNew h.answers spells t.takes;
         is = t.is ∙ (ap (sent_on (spelled t.sent)) on.is ∙ (sent_on-append (taken_from behind first) (spelled h.sent) (spelled t.sent)
             ∙ (ap (λ x. sent_on x (taken_from behind first)) (sym (spelled-append h.sent t.sent))
             ∙ ap (λ x. sent_on (spelled (h.sent ++ t.sent)) (taken_from x first)) (sym (spelled-one h.frames m after)))));
@@ -157,8 +157,8 @@ module _ (Gives : Database → Message → Result Tables TheFault → Type 0) wh
         quiet-end ByRefusal s first now new left (spelling m) after index (index + 1) IsNow IsNew h stands (subst (λ l. Reads now l left (spelling m) after) (sym same) r) (λ e. e) (m, after, refl, spells, refused) tt refl
         (omega (arith, below))
 
-    pub at-broken : Turns Gives Broken h.after m mid new IsNew → Talks Gives s first new Fault (index + 1) IsNew
-    at-broken t =
+    pub at-broken : IsTrue (has_spelling m) → Turns Gives Broken h.after m mid new IsNew → Talks Gives s first new Fault (index + 1) IsNew
+    at-broken spells t =
         let on = read-on s first now mid left (spelling m) after index IsNow h r in
         let S : List ℕ = spelled h.sent in
         let A : List ℕ = spelled t.sent in
@@ -180,7 +180,7 @@ module _ (Gives : Database → Message → Result Tables TheFault → Type 0) wh
           left = after;
           after = (answer h.after (FrameOf m t.takes.result)).server;
           brings = subst (Brings first.present) (sym (spelled-one h.frames m after)) on.brings;
-          answers = answers-one s h.after h.frames h.sent m t.sent IsNew h.answers t.takes;
+          answers = answers-one s h.after h.frames h.sent m t.sent IsNew h.answers spells t.takes;
           is = record {
             count = length S + part.count;
             within = omega (arith, sizes, fewer);

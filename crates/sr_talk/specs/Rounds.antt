@@ -1,5 +1,5 @@
 -- Connections that are served one after another, with the lines that are written.
-use Rattle.std.specs.Prelude.{◌≡◌, ◌≢◌, ℕ, ◌≤◌, List, [], ◌∷◌, ◌++◌, length, flat_map, Option, Some, None, Result, option_to_list, IfSome}
+use Rattle.std.specs.Prelude.{◌≡◌, ◌≢◌, ℕ, false, ◌≤◌, List, [], ◌∷◌, ◌++◌, length, flat_map, Option, Some, None, Result, option_to_list, IfSome}
 use Rattle.std.specs.Io.KnownBytes.{Appends}
 use Rattle.std.specs.List.{All}
 use Rattle.sr_cell.specs.declared.fault.Fault.{Fault as TheFault}
@@ -54,6 +54,7 @@ module _ (Gives : Database → Message → Result Tables TheFault → Type 0) wh
     pub made : connections new ≡ connections old ++ option_to_list conversation.told
     pub came_at : IfSome conversation.told (λ t. old.docked ≡ Some t.address)
     pub is_told : AreTold old (conversation ∷ [])
+    pub hung_up : new.is_up ≡ false
     pub docked : new.docked ≡ old.docked
     pub peers_stay : KeepsPeers old new
     pub faults : RoseBy old.faults (is_fault served.how) new.faults
@@ -64,7 +65,7 @@ module _ (Gives : Database → Message → Result Tables TheFault → Type 0) wh
   RoundsIf None db old new IsNew = Rose old.faults new.faults × OnlyFaults old new × IsNew (at_rest db)
   RoundsIf (Some served) db old new IsNew = Rounds db old new served IsNew
 
-  -- So many connections were served, all made at the docked address, and the link has just these more.
+  -- So many connections were served, all made at the docked address, and the link has just these more. The last one was given up too.
   pub record SoMany (db : Database) (old new : Linking) (count : ℕ) (IsNew : Server → Type 0) : Type 0 where
     pub conversations : List Conversation
     pub last : Database
@@ -72,6 +73,7 @@ module _ (Gives : Database → Message → Result Tables TheFault → Type 0) wh
     pub made : connections new ≡ connections old ++ all_told conversations
     pub came_at : All (λ t. old.docked ≡ Some t.address) (all_told conversations)
     pub each_told : AreTold old conversations
+    pub hung_up : conversations ≢ [] → new.is_up ≡ false
     pub docked : new.docked ≡ old.docked
     pub peers_stay : KeepsPeers old new
     pub number : length conversations ≡ count

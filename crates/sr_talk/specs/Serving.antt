@@ -158,11 +158,11 @@ missing status conversations count = if status == 5 then min 1 (count - conversa
 
 -- The parameter: what the text of a message gives on the newest tables, if it is a write.
 module _ (Gives : Database → Message → Result Tables TheFault → Type 0) where
-  -- Each frame is accepted, and answered by all that the rules give.
+  -- Each frame is one of the format, is accepted, and is answered by all that the rules give.
   abbrev pub Answers : Server → List Message → List Message → Server → Type 0
   Answers s [] sent last = (sent ≡ []) × (last ≡ s)
   Answers s (m ∷ frames) sent last =
-      (result : Result Tables TheFault) × (more : List Message) × IsAccepted s m × Gives s.database m result
+      (result : Result Tables TheFault) × (more : List Message) × IsTrue (has_spelling m) × IsAccepted s m × Gives s.database m result
       × (sent ≡ (answer s (Frame m result)).sent ++ more) × Answers (answer s (Frame m result)).server frames more last
 
   -- With the versions before it, and the server after it. The bytes that were taken are the frames and those left behind them; the
@@ -189,7 +189,8 @@ module _ (Gives : Database → Message → Result Tables TheFault → Type 0) wh
       (result : Result Tables TheFault) × (more : List (List ℕ)) × Gives db (Write 0 text) result × (lines ≡ exec_line db result ∷ more) × AreExecuted (grown db result) texts more last
 
   -- A run: from the loaded tables, over the texts of the exec file, for so many connections, which came at this address, and each of
-  -- which the link tells, where it tells its peers. It ended with this status, wrote these bytes, and left the link so.
+  -- which the link tells, where it tells its peers. It ended with this status, wrote these bytes, and left the link so: down, where any
+  -- connection came.
   pub record Served (db : Database) (texts : List (List ℕ)) (address : List ℕ) (count status : ℕ) (old new : Linking) (written : List ℕ) : Type 0 where
     pub exec_lines : List (List ℕ)
     pub first : Database
@@ -200,6 +201,7 @@ module _ (Gives : Database → Message → Result Tables TheFault → Type 0) wh
     pub made : connections new ≡ connections old ++ all_told conversations
     pub came_at : AreAt address (all_told conversations)
     pub each_told : AreTold old conversations
+    pub hung_up : conversations ≢ [] → new.is_up ≡ false
     pub writes : Writes status (listening ∷ exec_lines ++ connection_lines 1 conversations) written
     pub few : length conversations ≤ count
     pub all : status ≡ 0 → (length conversations ≡ count) × (count_faults conversations ≡ 0)

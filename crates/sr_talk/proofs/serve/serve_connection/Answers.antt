@@ -49,7 +49,7 @@ returns-in-Broken-clause-talked g c s is =
     let next = subst (λ next. Nexts next (g.L.Outside.linking c.loop-frames.link) (g.L.Outside.linking c.next_frame.new.link) c.loop-frames.feed c.next_frame.new.feed) c.in-Frame.is c.in_ok-next_frame.ensures.next in
     rw (c.ended-in-Broken.ensures)
     (at-broken g.S.Serves.gives s (g.L.Outside.linking c.args.link.now) (g.L.Outside.linking c.loop-frames.link) (g.L.Outside.linking c.next_frame.new.link) (g.L.Outside.linking c.answer_frame.new.link)
-    c.loop-frames.feed c.next_frame.new.feed c.in-Frame.message c.loop-frames.frames (g.S.Serves.is_of c.loop-frames.server) (g.S.Serves.is_of c.answer_frame.new.server) h (search rules) next.0
+    c.loop-frames.feed c.next_frame.new.feed c.in-Frame.message c.loop-frames.frames (g.S.Serves.is_of c.loop-frames.server) (g.S.Serves.is_of c.answer_frame.new.server) h (search rules) next.0 next.1
     (subst (λ turn. Turns g.S.Serves.gives turn h.after c.in-Frame.message (g.L.Outside.linking c.next_frame.new.link) (g.L.Outside.linking c.answer_frame.new.link) (g.S.Serves.is_of c.answer_frame.new.server))
     c.in-Broken.is (c.in_ok-answer_frame.ensures.turn h.after h.stands)))
 
@@ -59,7 +59,7 @@ loop-frames-preserved g c = record {
       let h = c.loop-frames.invariant.so_far s is in
       let next = subst (λ next. Nexts next (g.L.Outside.linking c.loop-frames.link) (g.L.Outside.linking c.next_frame.new.link) c.loop-frames.feed c.next_frame.new.feed) c.in-Frame.is c.in_ok-next_frame.ensures.next in
       so-far-more g.S.Serves.gives s (g.L.Outside.linking c.args.link.now) (g.L.Outside.linking c.loop-frames.link) (g.L.Outside.linking c.next_frame.new.link) (g.L.Outside.linking c.answer_frame.new.link)
-      c.loop-frames.feed c.next_frame.new.feed c.in-Frame.message c.loop-frames.frames (g.S.Serves.is_of c.loop-frames.server) (g.S.Serves.is_of c.answer_frame.new.server) h next.0
+      c.loop-frames.feed c.next_frame.new.feed c.in-Frame.message c.loop-frames.frames (g.S.Serves.is_of c.loop-frames.server) (g.S.Serves.is_of c.answer_frame.new.server) h next.0 next.1
       (subst (λ turn. Turns g.S.Serves.gives turn h.after c.in-Frame.message (g.L.Outside.linking c.next_frame.new.link) (g.L.Outside.linking c.answer_frame.new.link) (g.S.Serves.is_of c.answer_frame.new.server))
       c.in-Whole.is (c.in_ok-answer_frame.ensures.turn h.after h.stands));
   draws = (let before = c.loop-frames.invariant.draws in let one = c.answer_frame.ensures.draws in omega (arith, before, one));

@@ -1,8 +1,11 @@
 -- A step of the code is what the rules allow, from any past that it stands for.
-use Rattle.std.proofs.Common.{◌≡◌, true, false, List, [], refl, sym, ◌∙◌, ap, subst, None}
+use Rattle.std.proofs.Common.{◌≡◌, ℕ, true, false, List, [], refl, sym, ◌∙◌, ap, subst, None}
 use Rattle.std.specs.Prelude.{◌≢◌}
+use Rattle.std.specs.List.{All}
+use Rattle.std.proofs.lemmas.List.Elements.{All-cons, All-nil}
 use Rattle.sr_cell.specs.declared.fault.Fault.{Fault}
 use Rattle.sr_message.specs.declared.message.Message.{Message}
+use Rattle.sr_message.specs.declared.message.Message.TheVariants.{Ask, Write}
 use Rattle.sr_script.specs.declared.line.TraceLine.{TraceLine}
 use Rattle.sr_session.specs.Sessions.{Database}
 use Rattle.sr_session.specs.Clients as session
@@ -14,7 +17,7 @@ use Rattle.sr_client.specs.Stands.{StandsFor, out_of}
 use Rattle.sr_client.specs.Steps as client
 use Rattle.sr_client.specs.Steps.{Moves}
 use Rattle.sr_client.specs.declared.client.Client.{Client}
-use Rattle.sr_dial.specs.Known.{KeepsLink, Makes}
+use Rattle.sr_dial.specs.Known.{IsFrom, KeepsLink, Makes}
 use Rattle.sr_calls.specs.ClientEnds.{IsEnd, Stands, setting_of}
 
 -- over a cut link nothing is out
@@ -51,10 +54,17 @@ plain_link past next (CutDone cut ended) plain link = absurd plain
 plain_link past next (AlreadyCut cut) plain link = absurd plain
 plain_link past next other plain link = (link, λ some. absurd (some refl))
 
+-- what names nobody is from any client
+pub plain_from : (id : ℕ) (o : Outcome) → IsPlainOutcome o → All (IsFrom id) (sent_of o)
+plain_from id (AskSent drops request fresh parts) plain = All-cons (IsFrom id) (Ask request fresh parts) [] refl (All-nil (IsFrom id))
+plain_from id (WriteSent request sql) plain = All-cons (IsFrom id) (Write request sql) [] refl (All-nil (IsFrom id))
+plain_from id (ResumeSent message) plain = absurd plain
+plain_from id other plain = All-nil (IsFrom id)
+
 -- ---- a step
 
 module _ (old new : Client) (past : session.Client) (deed : Deed) (says : Outcome → Type 0) (If : Database → Type 0) (rule : Database → Outcome → session.Client → Type 0) (m : Moves old new past says If rule)
-    (does : (db : Database) (o : Outcome) (next : session.Client) → rule db o next → Does (basis_of db old.store.limits) deed past o next) (comes : (db : Database) → ComesIf db past deed → If db) where
+    (from : All (IsFrom old.id) (sent_of m.outcome)) (does : (db : Database) (o : Outcome) (next : session.Client) → rule db o next → Does (basis_of db old.store.limits) deed past o next) (comes : (db : Database) → ComesIf db past deed → If db) where
   fair : IsFair IsEnd old.store.limits old past (record { deed = deed; outcome = m.outcome; past = m.next; code = new })
   fair db sound within is come =
       let both = m.over db (record { sound = sound; schema = is.0; within = within; client = is.1 }) (comes db come) in
@@ -67,6 +77,7 @@ module _ (old new : Client) (past : session.Client) (deed : Deed) (says : Outcom
     next = m.next;
     lines_are = lines_are;
     sent_is = sent_is;
+    from = subst (All (IsFrom old.id)) (sym sent_is) from;
     link = subst (λ ms. KeepsLink deed ms past m.next) (sym sent_is) link;
     waits = λ some. waits past m.next m.outcome m.link (λ none. some (sent_is ∙ none));
     rests = rests m.next new m.stands;
@@ -82,6 +93,7 @@ refuses old past deed fault lines stands lines_are link does = record {
   next = past;
   lines_are = lines_are;
   sent_is = refl;
+  from = All-nil (IsFrom old.id);
   link = link;
   waits = λ some. absurd (some refl);
   rests = rests past old stands;

@@ -6,12 +6,15 @@ use Rattle.std.proofs.lemmas.Bool.Decides.{nat_tests}
 use Rattle.std.proofs.lemmas.List.Elements.{All-cons, All-nil}
 use Rattle.std.proofs.lemmas.Result.{IfOk-weaker}
 use Rattle.sr_cell.specs.declared.fault.Fault.{Fault}
+use Rattle.sr_cell.specs.declared.table.Table.{Table}
 use Rattle.sr_message.specs.declared.message.Message.{Message}
+use Rattle.sr_message.specs.declared.message.Message.TheVariants as kinds
 use Rattle.sr_model.specs.Queries.{Query}
 use Rattle.sr_script.specs.declared.line.TraceLine.{TraceLine}
 use Rattle.sr_script.specs.declared.line.TraceLine.TheVariants as line
 use Rattle.sr_session.specs.Clients as session
 use Rattle.sr_session.specs.Rules as rules
+use Rattle.sr_session.specs.Refusals.{is_request_of}
 use Rattle.sr_session.specs.Rules.{Outcome, sent_of}
 use Rattle.sr_session.specs.Texts.{long_text, most_text}
 use Rattle.sr_session.specs.Bases.{basis_of}
@@ -38,10 +41,10 @@ use Rattle.sr_client.specs.Steps.{Cuts, Evicts, Queries, Resumes, SaysCut, SaysE
 use Rattle.sr_client.proofs.Results.{if_ok}
 use Rattle.sr_world.specs.declared.lines.Told as world
 use Rattle.sr_world.proofs.ClientLemmas.{IsToldOf, evict-nothing, query-each, resume-each, write-each}
-use Rattle.sr_dial.specs.Known.{KeepsLink}
+use Rattle.sr_dial.specs.Known.{IsFrom, KeepsLink}
 use Rattle.sr_dial.specs.declared.parts.Told.{Told}
 use Rattle.sr_calls.specs.ClientEnds.{Did}
-use Rattle.sr_calls.proofs.Makes.{IsPlainOutcome, makes, plain_link, refuses}
+use Rattle.sr_calls.proofs.Makes.{IsPlainOutcome, makes, plain_from, plain_link, refuses}
 
 -- what was told, with what is sent as a list
 abbrev pub list_of : world.Told → Told
@@ -72,7 +75,8 @@ module _ {E : Type 0} (old new : Client) (meaning : Query) (step : QueryStep) (t
       let m = does.moves past stands in
       let t = tells past m.outcome m.is in
       if_ok (Did old new past (Queried (Ok meaning))) r (list_of told) is
-      (makes old new past (Queried (Ok meaning)) (SaysQuery past step) (λ db. Unit {0}) (λ db. rules.QueryStep (basis_of db old.store.limits) past (Ok meaning)) m (λ db o next rule. rule) (λ db come. tt)
+      (makes old new past (Queried (Ok meaning)) (SaysQuery past step) (λ db. Unit {0}) (λ db. rules.QueryStep (basis_of db old.store.limits) past (Ok meaning)) m
+      (plain_from old.id m.outcome (query_plain past step m.outcome m.is)) (λ db o next rule. rule) (λ db come. tt)
       told.lines (option_to_list told.sent) t.lines t.sent (plain_link past m.next m.outcome (query_plain past step m.outcome m.is) m.link))
 
   pub query_sendable : client.Stands old → QuerySendsWell old.schema old.id step → IfOk r (λ t. All IsSendable t.sent)
@@ -105,7 +109,7 @@ module _ {E : Type 0} (old new : Client) (sql : List ℕ) (step : WriteStep) (to
       let m = (does short).moves past stands in
       let t = tells m.outcome m.is in
       if_ok (Did old new past (Wrote sql)) r (list_of told) is
-      (makes old new past (Wrote sql) (SaysWrite sql step) (λ db. Unit {0}) (λ db. rules.WriteStep sql past) m (λ db o next rule. writes o next short rule) (λ db come. tt)
+      (makes old new past (Wrote sql) (SaysWrite sql step) (λ db. Unit {0}) (λ db. rules.WriteStep sql past) m (plain_from old.id m.outcome (write_plain sql step m.outcome m.is)) (λ db o next rule. writes o next short rule) (λ db come. tt)
       told.lines (option_to_list told.sent) (t.lines ∙ ap (λ ls. details old.id m.outcome ++ ls) (write_last old.id sql step m.outcome m.is)) t.sent (plain_link past m.next m.outcome (write_plain sql step m.outcome m.is) m.link))
 
   long_makes : (past : session.Client) → StandsFor past old → most_text < length sql → IfOk r (Did old new past (Wrote sql))
@@ -148,10 +152,30 @@ pub evict_makes : (old new : Client) (place : ℕ) (step : EvictStep) (lines : L
 evict_makes old new place step lines told does tells is past stands =
     let m = does.moves past stands in
     subst (Did old new past (Evicted place)) (sym is)
-    (makes old new past (Evicted place) (SaysEvict step) (λ db. Unit {0}) (λ db. rules.EvictStep (basis_of db old.store.limits) place past) m (λ db o next rule. rule) (λ db come. tt)
+    (makes old new past (Evicted place) (SaysEvict step) (λ db. Unit {0}) (λ db. rules.EvictStep (basis_of db old.store.limits) place past) m
+    (plain_from old.id m.outcome (evict_plain step m.outcome m.is)) (λ db o next rule. rule) (λ db come. tt)
     lines [] (tells m.outcome m.is) (sym (evict-nothing step m.outcome m.is)) (plain_link past m.next m.outcome (evict_plain step m.outcome m.is) m.link))
 
 -- ---- a resume
+
+-- a request that names a client names its own
+named_by : (schema : List Table) (id : ℕ) (m : Message) → is_request_of schema id m ≡ true → IsFrom id m
+named_by schema id (kinds.Hello named number) is = grind (arith, is)
+named_by schema id (kinds.Resume named number version holdings) is = grind (arith, is)
+named_by schema id (kinds.Ask number fresh parts) is = refl
+named_by schema id (kinds.Write number sql) is = refl
+named_by schema id (kinds.Welcome number version kept) is = refl
+named_by schema id (kinds.Notice version told) is = refl
+named_by schema id (kinds.Rows number part rows) is = refl
+named_by schema id (kinds.Reply number version) is = refl
+named_by schema id (kinds.Written number version) is = refl
+named_by schema id (kinds.Refused number fault) is = refl
+named_by schema id (kinds.Lapse version) is = refl
+
+resume_from : (schema : List Table) (id : ℕ) (past : session.Client) (step : ResumeStep) (o : Outcome) → ResumeSendsWell schema id step → SaysResume past step o → All (IsFrom id) (sent_of o)
+resume_from schema id past (resumes.Sent request message) o sends says =
+    subst (λ o. All (IsFrom id) (sent_of o)) (sym says.1) (All-cons (IsFrom id) message [] (named_by schema id message sends.request) (All-nil (IsFrom id)))
+resume_from schema id past resumes.Up o sends says = subst (λ o. All (IsFrom id) (sent_of o)) (sym says) (All-nil (IsFrom id))
 
 resume_link : (past next : session.Client) (step : ResumeStep) (o : Outcome) → SaysResume past step o → steps.KeepsLink past o next → KeepsLink Resumed (sent_of o) past next
 resume_link past next (resumes.Sent request message) o says link =
@@ -160,12 +184,13 @@ resume_link past next resumes.Up o says link = subst (λ o. steps.KeepsLink past
 
 module _ {E : Type 0} (old new : Client) (step : ResumeStep) (told : world.Told) (r : Result Told E) (does : Resumes old new step)
     (tells : (past : session.Client) (o : Outcome) → SaysResume past step o → IsToldOf old.id resume_line o told) (is : IfOk r (λ t. t ≡ list_of told)) where
-  pub resume_makes : (past : session.Client) → StandsFor past old → IfOk r (Did old new past Resumed)
-  resume_makes past stands =
+  pub resume_makes : ResumeSendsWell old.schema old.id step → (past : session.Client) → StandsFor past old → IfOk r (Did old new past Resumed)
+  resume_makes sends past stands =
       let m = does.moves past stands in
       let t = tells past m.outcome m.is in
       if_ok (Did old new past Resumed) r (list_of told) is
-      (makes old new past Resumed (SaysResume past step) (λ db. Unit {0}) (λ db. rules.ResumeStep db.schema past) m (λ db o next rule. rule) (λ db come. tt)
+      (makes old new past Resumed (SaysResume past step) (λ db. Unit {0}) (λ db. rules.ResumeStep db.schema past) m
+      (resume_from old.schema old.id past step m.outcome sends m.is) (λ db o next rule. rule) (λ db come. tt)
       told.lines (option_to_list told.sent) t.lines t.sent (resume_link past m.next step m.outcome m.is m.link))
 
   pub resume_sendable : client.Stands old → ResumeSendsWell old.schema old.id step → IfOk r (λ t. All IsSendable t.sent)
@@ -189,5 +214,6 @@ cut_makes {E} old new step r does tells past stands =
     let m = does.moves past stands in
     let link = cut_link past m.next old step m.outcome m.is m.link in
     IfOk-weaker r (λ lines. lines ≡ details old.id m.outcome ++ cut_line old.id m.outcome) (λ lines. Did old new past WasCut (record { lines = lines; sent = [] }))
-    (λ lines is. makes old new past WasCut (SaysCut past old step) (λ db. Unit {0}) (λ db. rules.CutStep past) m (λ db o next rule. rule) (λ db come. tt) lines [] is (sym link.1) link)
+    (λ lines is. makes old new past WasCut (SaysCut past old step) (λ db. Unit {0}) (λ db. rules.CutStep past) m
+    (subst (All (IsFrom old.id)) (sym link.1) (All-nil (IsFrom old.id))) (λ db o next rule. rule) (λ db come. tt) lines [] is (sym link.1) link)
     (tells past old m.outcome stands.0.meaning (ap (λ (p : session.Client). p.out) stands.2) m.is)

@@ -1,5 +1,5 @@
 -- What a client does with a message.
-use Rattle.std.proofs.Common.{◌≡◌, false, refl, sym, ◌∙◌, subst, Some}
+use Rattle.std.proofs.Common.{◌≡◌, false, refl, sym, ◌∙◌, subst, Option, Some, None}
 use Rattle.std.specs.Prelude.{option_to_list}
 use Rattle.std.specs.List.{All}
 use Rattle.sr_message.specs.declared.message.Message.{Message}
@@ -26,7 +26,7 @@ use Rattle.sr_world.specs.declared.lines.Told as world
 use Rattle.sr_world.proofs.ClientLemmas.{IsToldOf, took-each}
 use Rattle.sr_dial.specs.declared.parts.Told.{Told}
 use Rattle.sr_calls.specs.ClientEnds.{Did}
-use Rattle.sr_calls.proofs.Makes.{IsPlainOutcome, makes, plain_link}
+use Rattle.sr_calls.proofs.Makes.{IsPlainOutcome, makes, plain_from, plain_link}
 use Rattle.sr_calls.proofs.StepLemmas.{list_of, told_sendable}
 
 -- what was not refused
@@ -63,7 +63,8 @@ module _ (old new : Client) (message : Message) (step : Took) (told : world.Told
       let m = does.moves past stands good in
       let said = tells m.outcome m.is in
       subst (Did old new past (links.Took message)) (sym is)
-      (makes old new past (links.Took message) (SaysTook step) (λ db. Truly db past message) (λ db. rules.TakeStep (basis_of db old.store.limits) past message) m (λ db o next rule. rule) (λ db come. truly db past message come)
+      (makes old new past (links.Took message) (SaysTook step) (λ db. Truly db past message) (λ db. rules.TakeStep (basis_of db old.store.limits) past message) m
+      (plain_from old.id m.outcome (took_plain step m.outcome m.is)) (λ db o next rule. rule) (λ db come. truly db past message come)
       told.lines (option_to_list told.sent) said.lines said.sent (plain_link past m.next m.outcome (took_plain step m.outcome m.is) m.link))
 
   pub take_sendable : client.Stands old → TookSendsWell old.schema old.id step → All IsSendable t.sent
@@ -72,6 +73,17 @@ module _ (old new : Client) (message : Message) (step : Took) (told : world.Told
       let said = tells m.outcome m.is in
       subst (λ (t : Told). All IsSendable t.sent) (sym is)
       (told_sendable told.sent (λ one is_one. took-each old.schema old.id step m.outcome sends m.is one (sym said.sent ∙ is_one)))
+
+-- one that was taken need not be refused, whatever the past
+pub fits_message : (old : Client) (m : Message) (step : Took)
+    → ((why : BadFrame) (meaning : Query) → misfit old.schema (out_of meaning old.out) old.laid old.version m ≡ Some why → step ≡ took.Bad why) → ((why : BadFrame) → step ≡ took.Bad why → ⊥)
+    → (past : session.Client) → StandsFor past old → misfit old.schema past.out past.laid past.version m ≡ None
+fits_message old m step bad good past stands =
+    subst (λ (p : session.Client). misfit old.schema p.out p.laid p.version m ≡ None) (sym stands.2) (by (misfit old.schema (out_of stands.0.meaning old.out) old.laid old.version m) refl)
+  where
+    by : (o : Option BadFrame) → misfit old.schema (out_of stands.0.meaning old.out) old.laid old.version m ≡ o → o ≡ None
+    by None is = refl
+    by (Some why) is = absurd (good why (bad why stands.0.meaning is))
 
 -- a message that is refused is refused whatever the past
 pub refuses_message : (old : Client) (m : Message) (why : BadFrame) → ((meaning : Query) → misfit old.schema (out_of meaning old.out) old.laid old.version m ≡ Some why)

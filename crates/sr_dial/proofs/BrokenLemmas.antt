@@ -191,7 +191,7 @@ module _ (C : Type 0) (Stands : C → Client → Type 0) (IsOf : Standing C) (k 
     -- a request is cut short
     pub send-breaks : (failed : Bool) (l new_l : Linking) (feed left : List ℕ) (h : At C Stands IsOf k s script line came failed l P feed code)
         (m : Makes Stands IsOf k code new (left_by s.past (h.course.earlier ++ h.course.call ∷ [])) deed lines sent)
-        → IsInPlace cause line number deed (left_by s.past (h.course.earlier ++ h.course.call ∷ [])) → StaysOn (left_by s.past (h.course.earlier ++ h.course.call ∷ [])) deed
+        → IsInPlace k.schema cause line number deed (left_by s.past (h.course.earlier ++ h.course.call ∷ [])) → StaysOn (left_by s.past (h.course.earlier ++ h.course.call ∷ [])) deed
         → is_failed cause ≡ false → (left_by s.past (h.course.earlier ++ h.course.call ∷ [])).cut ≡ false → feed ≡ spelled (taken_by deed) ++ left
         → SendsPart l new_l (spelled sent) → Rose l.faults new_l.faults → Broken C Stands IsOf k s (script ++ line_of cause number deed) number new_l Q left new
     send-breaks failed l new_l feed left h m place stays not_failed up fed part rose = by (one-sent m.outcome)

@@ -1,8 +1,9 @@
 -- A run, one step more.
 use Rattle.std.proofs.Common.{◌≡◌, ℕ, ◌+◌, ◌≤◌, Bool, true, false, List, [], ◌∷◌, ◌++◌, arith, append_assoc, append-nil, refl, sym, ◌∙◌, ap, subst, Option, Some, None, option_map, option_to_list}
 use Rattle.std.specs.Prelude.{◌≢◌, ◌&&◌, ◌||◌, IfSome, flat_map}
-use Rattle.std.specs.List.{list_any}
+use Rattle.std.specs.List.{list_any, All}
 use Rattle.std.proofs.lemmas.Grind.{flat_map-append}
+use Rattle.std.proofs.lemmas.List.Elements.{All-append}
 use Rattle.sr_io.specs.Told.{Connection, Linking, connections, sends, sent_on}
 use Rattle.sr_message.specs.declared.message.Message.{Message}
 use Rattle.sr_script.specs.declared.line.TraceLine.{TraceLine}
@@ -13,7 +14,7 @@ use Rattle.sr_links.specs.Steps.{Step, Standing, Deed, IsFair, AreFair, OnOne, S
 use Rattle.sr_talk.specs.Calls.{Call, Cause, Done, Made, Explained, Task, all_done, calls_told, count_faults, done_in, fails, is_failed, is_fault, line_of, lines_done, lines_of, one_if, steps_in, text_of}
 use Rattle.sr_talk.specs.Serving.{RoseBy, spelled}
 use Rattle.sr_talk.proofs.TalkLemmas.{spelled-append}
-use Rattle.sr_dial.specs.Known.{Setting, Makes}
+use Rattle.sr_dial.specs.Known.{IsFrom, Setting, Makes}
 use Rattle.sr_dial.specs.Runs.{IsCarried, IsInPlace, IsToldIf, SentAs, left_by, more_taken}
 use Rattle.sr_dial.specs.Courses.{At, Course, IsCall, IsThere, Start, Stepped, line_after}
 use Rattle.sr_dial.proofs.ListLemmas.{all-one, any-one, code-append, count-one, explained-append, fails-one, fair-append, given-append, line-append, lines-append, on-append, past-append, place-append, requests-append, steps-append, taken-append, told-one}
@@ -115,17 +116,20 @@ module _ (C : Type 0) (Stands : C → Client → Type 0) (IsOf : Standing C) (k 
   module _ (script : List (ℕ × Task)) (line came number : ℕ) (cause : Cause) (P Q : List ℕ → Type 0) (code new : C) (deed : Deed) (lines : List TraceLine) (sent : List Message)
       (says : (texts : List ℕ) → P texts → Q (texts ++ flat_map (line_text k.schema number) lines)) where
     pub stepped-one : (ds : List (Done C)) → Stepped C Stands IsOf k s script line came ds P code → (m : Makes Stands IsOf k code new (past_after s.past (steps_in ds)) deed lines sent)
-        → IsInPlace cause line number deed (past_after s.past (steps_in ds))
+        → IsInPlace k.schema cause line number deed (past_after s.past (steps_in ds))
         → Stepped C Stands IsOf k s (script ++ line_of cause number deed) number (more_taken cause came) (ds ++ done_of number cause m ∷ []) Q new
     stepped-one ds h m place =
         let past : past_after s.past (steps_in (ds ++ done_of number cause m ∷ [])) ≡ m.next = past-one s.past ds (done_of number cause m) in
         let texts : flat_map (text_of k.schema k.number) (ds ++ done_of number cause m ∷ []) ≡ flat_map (text_of k.schema k.number) ds ++ flat_map (line_text k.schema number) (lines_of k.number deed m.outcome) =
         flat_map-append (text_of k.schema k.number) ds (done_of number cause m ∷ []) ∙ ap (λ x. flat_map (text_of k.schema k.number) ds ++ x) (append-nil (flat_map (line_text k.schema number) (lines_of k.number deed m.outcome))) in
         record {
-          in_place = place-append 0 s.past ds (done_of number cause m ∷ []) h.in_place (subst (λ n. IsInPlace cause n number deed (past_after s.past (steps_in ds))) (sym h.line_is) place, tt);
+          in_place = place-append k.schema 0 s.past ds (done_of number cause m ∷ []) h.in_place (subst (λ n. IsInPlace k.schema cause n number deed (past_after s.past (steps_in ds))) (sym h.line_is) place, tt);
           line_is = line-append 0 ds (done_of number cause m ∷ []);
           came_is = taken-append 0 ds (done_of number cause m ∷ []) ∙ ap (more_taken cause) h.came_is;
           lines = lines-append ds (done_of number cause m ∷ []) ∙ (ap (λ x. lines_done ds ++ x) (append-nil (line_of cause number deed)) ∙ ap (λ x. x ++ line_of cause number deed) h.lines);
+          from = subst (All (IsFrom k.number)) (sym (ap requests_of (steps-append ds (done_of number cause m ∷ [])) ∙ requests-append (steps_in ds) (step_of m ∷ [])))
+              (All-append (IsFrom k.number) (requests_of (steps_in ds)) (requests_of (step_of m ∷ [])) h.from
+              (subst (All (IsFrom k.number)) (m.sent_is ∙ sym (append-nil (sent_of m.outcome))) m.from));
           fair = subst (AreFair IsOf k.limits s.code s.past) (sym (steps-append ds (done_of number cause m ∷ [])))
               (fair-append IsOf k.limits s.code s.past (steps_in ds) (step_of m ∷ []) h.fair
               (subst (λ x. IsFair IsOf k.limits x (past_after s.past (steps_in ds)) (step_of m)) (sym h.code_is) m.fair, tt));
@@ -140,7 +144,7 @@ module _ (C : Type 0) (Stands : C → Client → Type 0) (IsOf : Standing C) (k 
 
     -- with what the link tells then
     abbrev pub course-one : (feed left new_feed : List ℕ) (same : left ≡ new_feed) (told : Option Connection) (h : Course C Stands IsOf k s script line came P feed code) (m : Makes Stands IsOf k code new (left_by s.past (h.earlier ++ h.call ∷ [])) deed lines sent)
-        → IsInPlace cause line number deed (left_by s.past (h.earlier ++ h.call ∷ [])) → StaysOn (left_by s.past (h.earlier ++ h.call ∷ [])) deed
+        → IsInPlace k.schema cause line number deed (left_by s.past (h.earlier ++ h.call ∷ [])) → StaysOn (left_by s.past (h.earlier ++ h.call ∷ [])) deed
         → IfSome told (λ t. t.taken ≡ spelled (given_of (steps_in (done_in h.call)) ++ taken_by deed) ++ left) → IfSome told (λ t. t.address ≡ s.address)
         → IsToldIf s.linking.peers (with_step h.call (done_of number cause m) told left)
         → Course C Stands IsOf k s (script ++ line_of cause number deed) number (more_taken cause came) Q new_feed new
@@ -168,7 +172,7 @@ module _ (C : Type 0) (Stands : C → Client → Type 0) (IsOf : Standing C) (k 
 
     module _ (failed : Bool) (l new_l : Linking) (feed left : List ℕ) (h : At C Stands IsOf k s script line came failed l P feed code)
         (m : Makes Stands IsOf k code new (left_by s.past (h.course.earlier ++ h.course.call ∷ [])) deed lines sent)
-        (place : IsInPlace cause line number deed (left_by s.past (h.course.earlier ++ h.course.call ∷ []))) (stays : StaysOn (left_by s.past (h.course.earlier ++ h.course.call ∷ [])) deed)
+        (place : IsInPlace k.schema cause line number deed (left_by s.past (h.course.earlier ++ h.course.call ∷ []))) (stays : StaysOn (left_by s.past (h.course.earlier ++ h.course.call ∷ [])) deed)
         (not_failed : is_failed cause ≡ false) where
       -- all behind it went over the link, which is up
       pub at-up : (left_by s.past (h.course.earlier ++ h.course.call ∷ [])).cut ≡ false → m.next.cut ≡ false → feed ≡ spelled (taken_by deed) ++ left → new_l ≡ sent_on (spelled sent) l

@@ -30,6 +30,7 @@ module _ (C : Type 0) (Stands : C → Client → Type 0) (IsOf : Standing C) (k 
     last = h.course.call;
     are = calls-one s.past h.course.earlier h.course.call h.course.are h.course.is;
     in_place = h.course.steps.in_place;
+    from = h.course.steps.from;
     lines = h.course.steps.lines;
     fair = h.course.steps.fair;
     explained = h.course.steps.explained;
@@ -56,6 +57,7 @@ module _ (C : Type 0) (Stands : C → Client → Type 0) (IsOf : Standing C) (k 
         last = b.course.call;
         are = calls-one s.past b.course.earlier b.course.call b.course.are b.course.is;
         in_place = b.course.steps.in_place;
+        from = b.course.steps.from;
         lines = b.course.steps.lines;
         fair = b.course.steps.fair;
         explained = b.course.steps.explained;
@@ -78,6 +80,7 @@ module _ (C : Type 0) (Stands : C → Client → Type 0) (IsOf : Standing C) (k 
     last = h.course.call;
     are = calls-one s.past h.course.earlier h.course.call h.course.are h.course.is;
     in_place = h.course.steps.in_place;
+    from = h.course.steps.from;
     lines = h.course.steps.lines;
     fair = h.course.steps.fair;
     explained = h.course.steps.explained;

@@ -1,7 +1,7 @@
 -- A run in which a client explains once more: all else stays as it is.
 use Rattle.std.proofs.Common.{◌≡◌, ℕ, ◌+◌, Bool, true, false, cond, List, [], ◌∷◌, ◌++◌, append-nil, refl, sym, ◌∙◌, ap, subst, None}
 use Rattle.std.specs.Prelude.{◌&&◌, ◌||◌, IfSome, Result, flat_map}
-use Rattle.std.specs.List.{list_any}
+use Rattle.std.specs.List.{list_any, All}
 use Rattle.std.proofs.lemmas.Grind.{flat_map-append}
 use Rattle.sr_cell.specs.declared.fault.Fault.{Fault}
 use Rattle.sr_io.specs.Told.{Linking, Writing, connections}
@@ -16,7 +16,7 @@ use Rattle.sr_links.specs.Steps.{Step, Standing, AreFair, OnOne, code_after, giv
 use Rattle.sr_talk.specs.Calls.{Call, Done, Explained, Task, Explain, all_done, calls_told, count_faults, done_in, fails, is_fault, lines_done, one_if, steps_in, text_of}
 use Rattle.sr_talk.specs.Serving.{RoseBy, spelled}
 use Rattle.sr_dial.specs.Carrying.{SaysAs}
-use Rattle.sr_dial.specs.Known.{IsFairlyExplained, Setting, Tells}
+use Rattle.sr_dial.specs.Known.{IsFairlyExplained, IsFrom, Setting, Tells}
 use Rattle.sr_dial.specs.Runs.{SentAs, left_by}
 use Rattle.sr_dial.specs.Courses.{At, Free, Hands, IsPartWritten, IsThere, IsWritten, Start, Stepped}
 use Rattle.sr_dial.specs.declared.steps.Handed.TheVariants.{Whole, Unwritten}
@@ -35,10 +35,11 @@ module _ (C : Type 0) (Stands : C → Client → Type 0) (IsOf : Standing C) (k 
       let texts : flat_map (text_of k.schema k.number) (ds ++ Explained number text result ∷ []) ≡ flat_map (text_of k.schema k.number) ds ++ flat_map (line_text k.schema number) (explain_lines k.number result) =
       flat_map-append (text_of k.schema k.number) ds (Explained number text result ∷ []) ∙ ap (λ x. flat_map (text_of k.schema k.number) ds ++ x) (append-nil (flat_map (line_text k.schema number) (explain_lines k.number result))) in
       record {
-        in_place = place-append 0 s.past ds (Explained number text result ∷ []) h.in_place (free, tt);
+        in_place = place-append k.schema 0 s.past ds (Explained number text result ∷ []) h.in_place (free, tt);
         line_is = line-append 0 ds (Explained number text result ∷ []);
         came_is = taken-append 0 ds (Explained number text result ∷ []);
         lines = lines-append ds (Explained number text result ∷ []) ∙ ap (λ x. x ++ (number, Explain text) ∷ []) h.lines;
+        from = subst (λ steps. All (IsFrom k.number) (requests_of steps)) (sym same) h.from;
         fair = subst (AreFair IsOf k.limits s.code s.past) (sym same) h.fair;
         explained = explained-append IsOf k.limits s.code s.past ds (Explained number text result ∷ []) h.explained
             (subst (λ x. IsFairlyExplained IsOf k.limits x (past_after s.past (steps_in ds)) text result) (sym h.code_is) fair, tt);

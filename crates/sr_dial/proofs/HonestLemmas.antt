@@ -120,15 +120,15 @@ AreHeard {C} c [] = Unit {0}
 AreHeard {C} c (Made number cause step ∷ ds) = IsHeard step.deed c × AreHeard step.past ds
 AreHeard {C} c (Explained number text result ∷ ds) = AreHeard c ds
 
-heard-one : (cause : Cause) (line number : ℕ) (deed : Deed) (c : Client) → IsInPlace cause line number deed c → AreAsked (line_of cause number deed) → IsHeard deed c
-heard-one cause line number (Queried query) c place asked = tt
-heard-one cause line number (Wrote sql) c place asked = tt
-heard-one cause line number (Evicted at) c place asked = tt
-heard-one cause line number WasCut c place asked = tt
-heard-one cause line number Resumed c place asked = tt
-heard-one Scripted line number (Took m) c place asked = absurd asked.0
-heard-one Delivered line number (Took m) c (same, waits, is) asked = (waits, is)
-heard-one Failed line number (Took m) c place asked = absurd place
+heard-one : (schema : List Table) (cause : Cause) (line number : ℕ) (deed : Deed) (c : Client) → IsInPlace schema cause line number deed c → AreAsked (line_of cause number deed) → IsHeard deed c
+heard-one schema cause line number (Queried query) c place asked = tt
+heard-one schema cause line number (Wrote sql) c place asked = tt
+heard-one schema cause line number (Evicted at) c place asked = tt
+heard-one schema cause line number WasCut c place asked = tt
+heard-one schema cause line number Resumed c place asked = tt
+heard-one schema Scripted line number (Took m) c place asked = absurd asked.0
+heard-one schema Delivered line number (Took m) c (same, waits, is, fits) asked = (waits, is)
+heard-one schema Failed line number (Took m) c place asked = absurd place
 
 awaited-one : (deed : Deed) (c : Client) → IsHeard deed c → IsAwaited c deed
 awaited-one (Queried query) c h = tt
@@ -147,13 +147,13 @@ spells-one WasCut c ms h all = all
 spells-one Resumed c ms h all = all
 
 module _ {C : Type 0} where
-  pub are-heard : (line : ℕ) (c : Client) (ds : List (Done C)) → AreInPlace line c ds → AreAsked (lines_done ds) → AreHeard c ds
-  are-heard line c [] place asked = tt
-  are-heard line c (Made number cause step ∷ ds) (one, more) asked = (
-    heard-one cause line number step.deed c one (asked-front (line_of cause number step.deed) (lines_done ds) asked),
-    are-heard number step.past ds more (asked-back (line_of cause number step.deed) (lines_done ds) asked),
+  pub are-heard : (schema : List Table) (line : ℕ) (c : Client) (ds : List (Done C)) → AreInPlace schema line c ds → AreAsked (lines_done ds) → AreHeard c ds
+  are-heard schema line c [] place asked = tt
+  are-heard schema line c (Made number cause step ∷ ds) (one, more) asked = (
+    heard-one schema cause line number step.deed c one (asked-front (line_of cause number step.deed) (lines_done ds) asked),
+    are-heard schema number step.past ds more (asked-back (line_of cause number step.deed) (lines_done ds) asked),
   )
-  are-heard line c (Explained number text result ∷ ds) (one, more) asked = are-heard number c ds more asked.1
+  are-heard schema line c (Explained number text result ∷ ds) (one, more) asked = are-heard schema number c ds more asked.1
 
   heard-front : (c : Client) (xs ys : List (Done C)) → AreHeard c (xs ++ ys) → AreHeard c xs
   heard-front c [] ys h = tt

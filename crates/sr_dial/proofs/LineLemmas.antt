@@ -13,7 +13,7 @@ use Rattle.sr_links.specs.Steps.{Standing, WasCut, Resumed}
 use Rattle.sr_talk.specs.Calls.{Call, Scripted, Task, Do}
 use Rattle.sr_talk.specs.Serving.{spelled}
 use Rattle.sr_dial.specs.Carrying.{Carries, SaysAs}
-use Rattle.sr_dial.specs.Known.{KeepsLink, Makes, Setting}
+use Rattle.sr_dial.specs.Known.{IsFrom, KeepsLink, Makes, Setting}
 use Rattle.sr_dial.specs.Runs.{left_by, IsCarried, IsToldIf}
 use Rattle.sr_dial.specs.Courses.{Broken, FailsAs, Free, Hands, IsPartWritten, IsReady, IsWritten, Over, Rests, Start, TellsStill, Unbegun}
 use Rattle.sr_dial.specs.declared.ending.Ending.TheVariants as ending
@@ -46,6 +46,7 @@ module _ (C : Type 0) (Stands : C → Client → Type 0) (IsOf : Standing C) (k 
       line_is = sym u.first;
       came_is = refl;
       lines = sym u.none;
+      from = All-nil (IsFrom k.number);
       fair = tt;
       explained = tt;
       code_is = sym u.code_is;

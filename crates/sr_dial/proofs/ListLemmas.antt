@@ -4,6 +4,7 @@ use Rattle.std.specs.Prelude.{◌&&◌, ◌||◌, IfSome, flat_map}
 use Rattle.std.specs.List.{list_any}
 use Rattle.std.proofs.lemmas.Grind.{flat_map-append}
 use Rattle.std.proofs.lemmas.List.Elements.{All-append, All-cons, All-nil}
+use Rattle.sr_cell.specs.declared.table.Table.{Table}
 use Rattle.sr_io.specs.Told.{AreAt, Connection}
 use Rattle.sr_message.specs.declared.message.Message.{Message}
 use Rattle.sr_policy.specs.declared.policy.Limits.{Limits}
@@ -57,10 +58,11 @@ module _ {C : Type 0} where
   taken-append n (Made number cause step ∷ xs) ys = taken-append (more_taken cause n) xs ys
   taken-append n (Explained number text result ∷ xs) ys = taken-append 0 xs ys
 
-  pub place-append : (line : ℕ) (c : Client) (xs ys : List (Done C)) → AreInPlace line c xs → AreInPlace (line_after line xs) (past_after c (steps_in xs)) ys → AreInPlace line c (xs ++ ys)
-  place-append line c [] ys one more = more
-  place-append line c (Made number cause step ∷ xs) ys (here, one) more = (here, place-append number step.past xs ys one more)
-  place-append line c (Explained number text result ∷ xs) ys (here, one) more = (here, place-append number c xs ys one more)
+  pub place-append : (schema : List Table) (line : ℕ) (c : Client) (xs ys : List (Done C)) → AreInPlace schema line c xs → AreInPlace schema (line_after line xs) (past_after c (steps_in xs)) ys
+      → AreInPlace schema line c (xs ++ ys)
+  place-append schema line c [] ys one more = more
+  place-append schema line c (Made number cause step ∷ xs) ys (here, one) more = (here, place-append schema number step.past xs ys one more)
+  place-append schema line c (Explained number text result ∷ xs) ys (here, one) more = (here, place-append schema number c xs ys one more)
 
   pub explained-append : (IsOf : Standing C) (limits : Limits) (code : C) (c : Client) (xs ys : List (Done C)) → AreFairlyExplained IsOf limits code c xs
       → AreFairlyExplained IsOf limits (code_after code (steps_in xs)) (past_after c (steps_in xs)) ys → AreFairlyExplained IsOf limits code c (xs ++ ys)

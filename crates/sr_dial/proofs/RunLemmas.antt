@@ -31,6 +31,7 @@ module _ (C : Type 0) (Stands : C → Client → Type 0) (IsOf : Standing C) (k 
           lines = (0, Do Resumed) ∷ script;
           are = calls-one s.past h.course.earlier h.course.call h.course.are h.course.is;
           in_place = h.course.steps.in_place;
+          from = h.course.steps.from;
           lines_are = h.course.steps.lines;
           beginning = record { rest = []; all = sym (append-nil ((0, Do Resumed) ∷ script)) };
           carried = h.course.carried;
@@ -55,6 +56,7 @@ module _ (C : Type 0) (Stands : C → Client → Type 0) (IsOf : Standing C) (k 
       lines = some;
       are = o.are;
       in_place = o.in_place;
+      from = o.from;
       lines_are = o.lines;
       beginning = beginning;
       carried = o.carried;

@@ -1,6 +1,6 @@
 -- Calls to a server that serves are explained by what it took.
 use Rattle.std.proofs.Common.{◌≡◌, ℕ, Bool, true, false, List, [], ◌∷◌, ◌++◌, append_assoc, append-nil, refl, sym, ◌∙◌, ap, subst, Option, Some, None}
-use Rattle.std.specs.Prelude.{◌||◌, IfSome, Result, Ok, Err}
+use Rattle.std.specs.Prelude.{◌&&◌, ◌||◌, IfSome, Result, Ok, Err}
 use Rattle.std.specs.List.{list_all}
 use Rattle.sr_cell.specs.declared.fault.Fault.{Fault}
 use Rattle.sr_io.specs.Told.{Connection}
@@ -68,7 +68,7 @@ module _ (C : Type 0) (Gives : Database → Message → Result Tables Fault → 
 
   are-inputs : (s : Server) (frames sent : List Message) (last : Server) → Answers Gives s frames sent last → AreInputs s frames sent last
   are-inputs s [] sent last (none, same) = record { inputs = []; uncut = refl; frames_are = refl; sent_is = sym none; after = ap cut_off (sym same) }
-  are-inputs s (m ∷ frames) sent last (result, more, accepted, gives, is, others) =
+  are-inputs s (m ∷ frames) sent last (result, more, spells, accepted, gives, is, others) =
       let r : AreInputs (answer s (Frame m result)).server frames more last = are-inputs (answer s (Frame m result)).server frames more last others in
       record {
         inputs = Frame m result ∷ r.inputs;
@@ -77,6 +77,12 @@ module _ (C : Type 0) (Gives : Database → Message → Result Tables Fault → 
         sent_is = ap (λ ms. (answer s (Frame m result)).sent ++ ms) r.sent_is ∙ sym is;
         after = r.after;
       }
+
+  -- the frames that were answered are of the format
+  frames-spell : (s : Server) (frames sent : List Message) (last : Server) → Answers Gives s frames sent last → list_all has_spelling frames ≡ true
+  frames-spell s [] sent last now = refl
+  frames-spell s (m ∷ frames) sent last (result, more, spells, accepted, gives, is, others) =
+      ap (λ b. b && list_all has_spelling frames) spells ∙ frames-spell (answer s (Frame m result)).server frames more last others
 
   record IsInput (db : Database) (call : Call C) (after : Server) : Type 0 where
     pub piece : List Input
@@ -101,7 +107,7 @@ module _ (C : Type 0) (Gives : Database → Message → Result Tables Fault → 
       let came : IsPrefix (came_over call) (spelled h.served.sent) =
       prefix-on (came_over call) h.server.sent (spelled h.served.sent) (subst (λ bytes. IsPrefix bytes h.server.sent) client_took h.ends.answered) server_sent in
       let f : Fronts talk.frames (requests_of (steps_in (done_in call))) h.served.left =
-      fronts talk.frames (requests_of (steps_in (done_in call))) h.served.left asked.rest h.frames h.requests asked.all in
+      fronts talk.frames (requests_of (steps_in (done_in call))) h.served.left asked.rest (frames-spell (at_rest db) talk.frames h.served.sent after h.served.answers) h.requests asked.all in
       record {
         piece = i.inputs ++ CutOff ∷ [];
         behind = (i.inputs, refl, i.uncut);
@@ -176,7 +182,7 @@ module _ (C : Type 0) (Gives : Database → Message → Result Tables Fault → 
 
   answers-versions : (s : Server) (frames sent : List Message) (last : Server) → Answers Gives s frames sent last → AreVersions s.database last.database
   answers-versions s [] sent last (none, same) = subst (λ (t : Server). AreVersions s.database t.database) (sym same) (same-version s.database)
-  answers-versions s (m ∷ frames) sent last (result, more, accepted, gives, is, others) =
+  answers-versions s (m ∷ frames) sent last (result, more, spells, accepted, gives, is, others) =
       versions-on s.database (answer s (Frame m result)).server.database last.database (frame-version s.database s.session m result) (answers-versions (answer s (Frame m result)).server frames more last others)
 
   -- the next call comes behind them

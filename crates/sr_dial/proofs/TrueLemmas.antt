@@ -229,7 +229,7 @@ honest-runs-are-true {C} IsOf k s pieces code c address lines script ended old n
 }
   where
     heard : AreHeard c (all_done (run.ran.earlier ++ run.ran.last ∷ []))
-    heard = are-heard 0 c (all_done (run.ran.earlier ++ run.ran.last ∷ [])) run.ran.in_place
+    heard = are-heard k.schema 0 c (all_done (run.ran.earlier ++ run.ran.last ∷ [])) run.ran.in_place
         (subst AreAsked (sym run.ran.lines_are)
         (asked-front run.ran.lines run.ran.beginning.rest (subst AreAsked run.ran.beginning.all (tt, are-asked k.schema lines script deeds))))
 

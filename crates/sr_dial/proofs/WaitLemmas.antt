@@ -86,13 +86,14 @@ module _ (C : Type 0) (Stands : C → Client → Type 0) (IsOf : Standing C) (k 
 
     pub awaits-spoiled : (new_l : Linking) (after : List ℕ) (fault : WireFault) → Nexts (NextBad fault) l new_l feed after → Over C Stands IsOf k s script (ending.Spoiled fault) new_l w
     awaits-spoiled new_l after fault (r, faulty, other) =
-        over-at C Stands IsOf k s script line came new_l after code w failed (ending.Spoiled fault) (read new_l [] after r) refl (λ whole. record { fault_is = faulty; whole = other }) (λ texts is. is)
+        over-at C Stands IsOf k s script line came new_l after code w failed (ending.Spoiled fault) (read new_l [] after r) refl
+        (λ whole. record { fault_is = faulty; whole = other; waits = read-out new_l [] after r }) (λ texts is. is)
 
     -- as many as may be came for one request
     pub awaits-no-more : (new_l : Linking) (after : List ℕ) (m : Message) → came ≡ 1000000 → Nexts (Frame m) l new_l feed after → Over C Stands IsOf k s script ending.Limit new_l w
     awaits-no-more new_l after m many (r, is) =
         over-at C Stands IsOf k s script line came new_l (spelling m ++ after) code w failed ending.Limit (read new_l (spelling m) after r) refl
-        (λ whole. record { message = m; rest = after; many = (read new_l (spelling m) after r).course.steps.came_is ∙ many; next = refl }) (λ texts is. is)
+        (λ whole. record { message = m; rest = after; many = (read new_l (spelling m) after r).course.steps.came_is ∙ many; next = refl; spells = is }) (λ texts is. is)
 
     -- a message came, and is not taken yet
     pub record IsRead (new_l : Linking) (new_w : Writing) (m : Message) (after : List ℕ) : Type 0 where
@@ -129,11 +130,13 @@ module _ (C : Type 0) (Stands : C → Client → Type 0) (IsOf : Standing C) (k 
 
   -- it is taken
   pub handles : (lines : List Rattle.sr_script.specs.declared.line.TraceLine.TraceLine) (sent : List Message) (handed : Handed) → is_some (left_by s.past (h.course.earlier ++ h.course.call ∷ [])).out ≡ true → IsTrue (has_spelling m)
+      → Rattle.sr_session.specs.Misfits.misfit k.schema (left_by s.past (h.course.earlier ++ h.course.call ∷ [])).out (left_by s.past (h.course.earlier ++ h.course.call ∷ [])).laid
+      (left_by s.past (h.course.earlier ++ h.course.call ∷ [])).version m ≡ None
       → Makes Stands IsOf k code new (left_by s.past (h.course.earlier ++ h.course.call ∷ [])) (Took m) lines sent
       → Carries handed l new_l w new_w (spelled sent) (flat_map (line_text k.schema line) lines) → Handles C Stands IsOf k (handled_by handed) s script line came failed m new_l new_w after new
-  handles lines sent handed some is made carries =
+  handles lines sent handed some is fits made carries =
       by handed (subst (λ x. Hands C Stands IsOf k handed s x line (came + 1) failed new_l new_w after new) (append-nil script)
-      (hands-up C Stands IsOf k s script line came line Delivered code new (Took m) lines sent failed l new_l w new_w (spelling m ++ after) after h made (refl, some-out C Stands IsOf k s script line came failed l w (spelling m ++ after) code h some, is) tt refl
+      (hands-up C Stands IsOf k s script line came line Delivered code new (Took m) lines sent failed l new_l w new_w (spelling m ++ after) after h made (refl, some-out C Stands IsOf k s script line came failed l w (spelling m ++ after) code h some, is, fits) tt refl
       handed (is-up C Stands IsOf k s script line came failed l w (spelling m ++ after) code h some)
       (made.link.0 ∙ is-up C Stands IsOf k s script line came failed l w (spelling m ++ after) code h some) (ap (λ x. x ++ after) (sym (append-nil (spelling m)))) carries))
     where

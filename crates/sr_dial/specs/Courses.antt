@@ -13,7 +13,7 @@ use Rattle.sr_talk.specs.Calls.{Call, Done, Task, AreCalls, all_done, calls_told
 use Rattle.sr_talk.specs.Serving.{RoseBy, spelled}
 use Rattle.sr_talk.specs.declared.frames.Next.{Next}
 use Rattle.sr_talk.specs.declared.frames.Next.TheVariants.{Frame, End, Torn, Fault, Bad}
-use Rattle.sr_dial.specs.Known.{AreFairlyExplained, Setting}
+use Rattle.sr_dial.specs.Known.{AreFairlyExplained, IsFrom, Setting}
 use Rattle.sr_dial.specs.Runs.{AreInPlace, EndsBy, IsCarried, IsToldIf, SendsMost, SentAs, WritesAs, is_unwritten, left_by, taken_after}
 use Rattle.sr_dial.specs.declared.ending.Ending.{Ending}
 use Rattle.sr_dial.specs.declared.ending.Ending.TheVariants as ending
@@ -85,10 +85,11 @@ IsPartWritten {C} s w texts = WritesPrefix s.writing.written w.written texts × 
 module _ (C : Type 0) (Stands : C → Client → Type 0) (IsOf : Standing C) (k : Setting) where
   -- Steps and explanations, each in its place and fair, with this of their lines; and the client stands for the last past.
   pub record Stepped (s : Start C) (script : List (ℕ × Task)) (line came : ℕ) (ds : List (Done C)) (P : List ℕ → Type 0) (code : C) : Type 0 where
-    pub in_place : AreInPlace 0 s.past ds
+    pub in_place : AreInPlace k.schema 0 s.past ds
     pub line_is : line_after 0 ds ≡ line
     pub came_is : taken_after 0 ds ≡ came
     pub lines : lines_done ds ≡ script
+    pub from : All (IsFrom k.number) (requests_of (steps_in ds))
     pub fair : AreFair IsOf k.limits s.code s.past (steps_in ds)
     pub explained : AreFairlyExplained IsOf k.limits s.code s.past ds
     pub code_is : code_after s.code (steps_in ds) ≡ code
@@ -152,8 +153,9 @@ module _ (C : Type 0) (Stands : C → Client → Type 0) (IsOf : Standing C) (k 
     pub earlier : List (Call C)
     pub last : Call C
     pub are : AreCalls s.past (earlier ++ last ∷ [])
-    pub in_place : AreInPlace 0 s.past (all_done (earlier ++ last ∷ []))
+    pub in_place : AreInPlace k.schema 0 s.past (all_done (earlier ++ last ∷ []))
     pub lines : lines_done (all_done (earlier ++ last ∷ [])) ≡ script
+    pub from : All (IsFrom k.number) (requests_of (steps_in (all_done (earlier ++ last ∷ []))))
     pub fair : AreFair IsOf k.limits s.code s.past (steps_in (all_done (earlier ++ last ∷ [])))
     pub explained : AreFairlyExplained IsOf k.limits s.code s.past (all_done (earlier ++ last ∷ []))
     pub carried : All (IsCarried false) earlier

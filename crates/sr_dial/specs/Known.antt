@@ -17,6 +17,7 @@ use Rattle.sr_session.specs.Laws.{IsSound}
 use Rattle.sr_session.specs.Sessions.{Database, newest, tables_of}
 use Rattle.sr_wire.specs.Limits.{IsSendable}
 use Rattle.sr_session.specs.Misfits.{misfit}
+use Rattle.sr_session.specs.Refusals.{names_client}
 use Rattle.sr_session.specs.Rules.{Outcome, sent_of}
 use Rattle.sr_explain.specs.declared.explanation.Explanation.{Explanation}
 use Rattle.sr_explain.specs.Explained.{Explains, count_in}
@@ -70,13 +71,18 @@ KeepsLink Resumed (m ∷ sent) c next = (c.cut ≡ true) × (next.cut ≡ false)
 KeepsLink WasCut sent c next = (next.cut ≡ true) × (sent ≡ [])
 KeepsLink deed sent c next = (next.cut ≡ c.cut) × (sent ≢ [] → c.cut ≡ false)
 
+-- a request that names a client names that of this number
+abbrev pub IsFrom : ℕ → Message → Type 0
+IsFrom number m = names_client number m ≡ true
+
 -- What a client did, from this past: it has an outcome, by which are its lines and what it sends, and a next past, for which it stands
--- then. What is sent is out, and over a cut link nothing is. And it is fair.
+-- then. What is sent is from it, and is out, and over a cut link nothing is. And it is fair.
 pub record Makes {C : Type 0} (Stands : C → Client → Type 0) (IsOf : Standing C) (s : Setting) (old new : C) (c : Client) (deed : Deed) (lines : List TraceLine) (sent : List Message) : Type 0 where
   pub outcome : Outcome
   pub next : Client
   pub lines_are : lines ≡ lines_of s.number deed outcome
   pub sent_is : sent ≡ sent_of outcome
+  pub from : All (IsFrom s.number) sent
   pub link : KeepsLink deed sent c next
   pub waits : sent ≢ [] → next.out ≢ None
   pub rests : next.cut ≡ true → next.out ≡ None
@@ -88,9 +94,9 @@ abbrev pub MaySend : Came → Type 0
 MaySend (Taken told) = All IsSendable told.sent
 MaySend (Bad why) = Unit {0}
 
--- A message was taken; or it is refused.
+-- A message was taken, which need not be refused; or it is refused.
 abbrev pub TakesAs : {C : Type 0} → Came → (C → Client → Type 0) → Standing C → Setting → C → C → Client → Message → Type 0
-TakesAs {C} (Taken told) Stands IsOf s old new c m = Makes Stands IsOf s old new c (Took m) told.lines told.sent
+TakesAs {C} (Taken told) Stands IsOf s old new c m = Makes Stands IsOf s old new c (Took m) told.lines told.sent × (misfit s.schema c.out c.laid c.version m ≡ None)
 TakesAs {C} (Bad why) Stands IsOf s old new c m = misfit s.schema c.out c.laid c.version m ≡ Some why
 
 -- It leaves the link as it is.

@@ -21,25 +21,25 @@ use Rattle.sr_links.specs.Honest.{IsPrefix}
 use Rattle.sr_links.specs.Steps.{AreFair, Standing, Deed, Took, WasCut, Resumed, given_of, requests_of, past_after}
 use Rattle.sr_talk.specs.Calls.{Call, Cause, Scripted, Delivered, Failed, Done, Made, Explained, Task, Do, AreCalls, all_done, calls_told, count_faults, done_in, fails, lines_done, steps_in, text_of}
 use Rattle.sr_talk.specs.Serving.{RoseBy, spelled}
-use Rattle.sr_dial.specs.Known.{AreFairlyExplained, Setting}
+use Rattle.sr_dial.specs.Known.{AreFairlyExplained, IsFrom, Setting}
 use Rattle.sr_dial.specs.declared.ending.Ending.{Ending}
 use Rattle.sr_dial.specs.declared.ending.Ending.TheVariants as ending
 
 -- ---- steps
 
--- A line of the script runs while nothing is out. Messages, which came as frames, come while a request is out, and the link fails then,
--- which cuts it; both have the number of the line that ran. That nobody could be dialled is such a failure: the first message of the
--- session is out. A line that explains leaves the client as it is.
-abbrev pub IsInPlace : Cause → ℕ → ℕ → Deed → Client → Type 0
-IsInPlace Scripted line number deed c = c.out ≡ None
-IsInPlace Delivered line number (Took m) c = (number ≡ line) × (c.out ≢ None) × IsTrue (has_spelling m)
-IsInPlace Failed line number WasCut c = (number ≡ line) × (c.out ≢ None)
-IsInPlace cause line number deed c = ⊥
+-- A line of the script runs while nothing is out. Messages, which came as frames and need not be refused, are taken while a request is out,
+-- and the link fails then, which cuts it; both have the number of the line that ran. That nobody could be dialled is such a failure: the
+-- first message of the session is out. A line that explains leaves the client as it is.
+abbrev pub IsInPlace : List Table → Cause → ℕ → ℕ → Deed → Client → Type 0
+IsInPlace schema Scripted line number deed c = c.out ≡ None
+IsInPlace schema Delivered line number (Took m) c = (number ≡ line) × (c.out ≢ None) × IsTrue (has_spelling m) × (misfit schema c.out c.laid c.version m ≡ None)
+IsInPlace schema Failed line number WasCut c = (number ≡ line) × (c.out ≢ None)
+IsInPlace schema cause line number deed c = ⊥
 
-abbrev pub AreInPlace : {C : Type 0} → ℕ → Client → List (Done C) → Type 0
-AreInPlace {C} line c [] = Unit {0}
-AreInPlace {C} line c (Made number cause step ∷ ds) = IsInPlace cause line number step.deed c × AreInPlace number step.past ds
-AreInPlace {C} line c (Explained number text result ∷ ds) = (c.out ≡ None) × AreInPlace number c ds
+abbrev pub AreInPlace : {C : Type 0} → List Table → ℕ → Client → List (Done C) → Type 0
+AreInPlace {C} schema line c [] = Unit {0}
+AreInPlace {C} schema line c (Made number cause step ∷ ds) = IsInPlace schema cause line number step.deed c × AreInPlace schema number step.past ds
+AreInPlace {C} schema line c (Explained number text result ∷ ds) = (c.out ≡ None) × AreInPlace schema number c ds
 
 -- ---- connections
 
@@ -84,12 +84,13 @@ taken_after {C} n [] = n
 taken_after {C} n (Made number cause step ∷ ds) = taken_after (more_taken cause n) ds
 taken_after {C} n (Explained number text result ∷ ds) = taken_after 0 ds
 
--- A million messages came for one request, and one more.
+-- A million messages were taken for one request, and one more came.
 pub record IsFull {C : Type 0} (done : List (Done C)) (left : List ℕ) : Type 0 where
   pub message : Message
   pub rest : List ℕ
   pub many : taken_after 0 done ≡ 1000000
   pub next : left ≡ spelling message ++ rest
+  pub spells : IsTrue (has_spelling message)
 
 -- A request is out, and the message that came next is refused for this reason.
 pub record IsRefused (schema : List Table) (c : Client) (left : List ℕ) (why : BadFrame) : Type 0 where
@@ -100,10 +101,11 @@ pub record IsRefused (schema : List Table) (c : Client) (left : List ℕ) (why :
   pub waits : c.out ≢ None
   pub why_is : misfit schema c.out c.laid c.version message ≡ Some why
 
--- What came next is no frame, for this reason.
-pub record IsSpoiled (left : List ℕ) (fault : WireFault) : Type 0 where
+-- A request is out, and what came next is no frame, for this reason.
+pub record IsSpoiled (c : Client) (left : List ℕ) (fault : WireFault) : Type 0 where
   pub fault_is : decoded left ≡ Faulty fault
   pub whole : fault ≢ Short
+  pub waits : c.out ≢ None
 
 -- All lines were carried out, nothing is out, and the link failed or never did.
 pub record EndsFree {C : Type 0} (c : Client) (calls : List (Call C)) (lines script : List (ℕ × Task)) (failed : Bool) : Type 0 where
@@ -116,7 +118,7 @@ abbrev pub EndsBy : {C : Type 0} → Ending → List Table → List (Call C) →
 EndsBy {C} ending.Whole schema calls c left lines script = EndsFree c calls lines script false
 EndsBy {C} ending.Faulty schema calls c left lines script = EndsFree c calls lines script true
 EndsBy {C} ending.Unwritten schema calls c left lines script = Unit {0}
-EndsBy {C} (ending.Spoiled fault) schema calls c left lines script = IsSpoiled left fault
+EndsBy {C} (ending.Spoiled fault) schema calls c left lines script = IsSpoiled c left fault
 EndsBy {C} (ending.Bad why) schema calls c left lines script = IsRefused schema c left why
 EndsBy {C} ending.Limit schema calls c left lines script = IsFull (all_done calls) left
 
@@ -131,13 +133,14 @@ is_unwritten other = false
 
 -- A run of the client of that number, which was `c` before, over the lines of a script. Call by call it resumed, and then did what the
 -- lines ask, in order. The link tells just these connections more, each made at this address; where it told its peers, it tells each that
--- was made. It is given up.
+-- was made. It is given up. Each request is from that client.
 pub record Ran (C : Type 0) (schema : List Table) (client : ℕ) (c : Client) (address : List ℕ) (script : List (ℕ × Task)) (ended : Ending) (old new : Linking) (before after : Writing) : Type 0 where
   pub earlier : List (Call C)
   pub last : Call C
   pub lines : List (ℕ × Task)
   pub are : AreCalls c (earlier ++ last ∷ [])
-  pub in_place : AreInPlace 0 c (all_done (earlier ++ last ∷ []))
+  pub in_place : AreInPlace schema 0 c (all_done (earlier ++ last ∷ []))
+  pub from : All (IsFrom client) (requests_of (steps_in (all_done (earlier ++ last ∷ []))))
   pub lines_are : lines_done (all_done (earlier ++ last ∷ [])) ≡ lines
   pub beginning : IsPrefix lines ((0, Do Resumed) ∷ script)
   pub carried : All (IsCarried false) earlier

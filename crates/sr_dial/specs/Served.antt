@@ -22,7 +22,7 @@ pub record AreEnds (client server : Connection) : Type 0 where
 
 -- The parameter: what the text of a message gives on the newest tables, if it is a write.
 module _ (C : Type 0) (Gives : Database → Message → Result Tables Fault → Type 0) where
-  -- A call and a conversation of a server are the ends of one connection, and all that was said has a spelling.
+  -- A call and a conversation of a server are the ends of one connection, and all that was sent has a spelling.
   pub record IsServedCall (db : Database) (call : Call C) (talk : Conversation) (after : Server) : Type 0 where
     pub served : IsServed Gives db talk after
     pub short : Bool
@@ -33,7 +33,6 @@ module _ (C : Type 0) (Gives : Database → Message → Result Tables Fault → 
     pub server_is : talk.told ≡ Some server
     pub ends : AreEnds client server
     pub requests : list_all has_spelling (requests_of (steps_in (done_in call))) ≡ true
-    pub frames : list_all has_spelling talk.frames ≡ true
     pub answers : list_all has_spelling served.sent ≡ true
 
   -- Calls, and conversations of a server one after another up to that with the last of them. A call over which nothing came may have

@@ -2,9 +2,9 @@ use Rattle.sr_calls.proofs.StepLemmas.{resume_makes, resume_sendable}
 use Rattle.sr_calls.proofs.calls.resume.Goals as goal
 
 pub returns-clause-made : goal.returns-clause-made
-returns-clause-made c =
+returns-clause-made c = λ past stands.
     resume_makes c.args.client.now c.resume.new.self c.in_ok-step.step c.in_ok-lines.lines c.told.result c.in_ok-step.ensures.resumes
-    (λ p o says. record { lines = c.in_ok-lines.ensures.lines p o says; sent = c.in_ok-lines.ensures.sent p o says }) c.told.ensures
+    (λ p o says. record { lines = c.in_ok-lines.ensures.lines p o says; sent = c.in_ok-lines.ensures.sent p o says }) c.told.ensures (c.in_ok-step.ensures.sends c.requires.ready.1) past stands
 
 pub returns-clause-sendable : goal.returns-clause-sendable
 returns-clause-sendable c =

@@ -1,4 +1,4 @@
-use Rattle.std.proofs.Common.{◌≡◌, [], ◌∷◌, ◌++◌, Some, sym, subst}
+use Rattle.std.proofs.Common.{◌≡◌, [], ◌∷◌, ◌++◌, Some, None, sym, subst}
 use Rattle.std.specs.Prelude.{flat_map}
 use Rattle.sr_script.specs.TraceText.{line_text}
 use Rattle.sr_session.specs.Misfits.{misfit}
@@ -29,10 +29,11 @@ returns-in_ok-handed-in-Taken-clause-handled g c k s script taken failed after s
     let told = c.in-Taken.told in
     let past = left_by s.past (h.course.earlier ++ h.course.call ∷ []) in
     let took = subst (λ came. TakesAs came g.C.Asks.stands g.C.Peer.is_of (g.C.Asks.setting old) old new past c.args.message) c.in-Taken.is (c.in_ok-why.ensures.taken past h.course.steps.stands) in
-    let made = subst (λ x. Makes g.C.Asks.stands g.C.Peer.is_of x old new past (Took c.args.message) told.lines told.sent) same took in
+    let made = subst (λ x. Makes g.C.Asks.stands g.C.Peer.is_of x old new past (Took c.args.message) told.lines told.sent) same took.0 in
+    let fits = subst (λ (x : Setting). misfit x.schema past.out past.laid past.version c.args.message ≡ None) same took.1 in
     let handed = c.in_ok-handed-in-Taken.handed in
     subst (λ x. Handles _ g.C.Asks.stands g.C.Peer.is_of k x s script c.args.number taken failed c.args.message (g.H.Outside.linking c.carry.new.host) (g.H.Outside.writing c.carry.new.host) after c.take.new.self) (sym c.handled_by.ensures)
     (handles _ g.C.Asks.stands g.C.Peer.is_of k s script c.args.number taken failed (g.H.Outside.linking c.args.host.now) (g.H.Outside.linking c.carry.new.host) (g.H.Outside.writing c.args.host.now) (g.H.Outside.writing c.carry.new.host) after
-    old c.take.new.self c.args.message h told.lines told.sent handed some is made
+    old c.take.new.self c.args.message h told.lines told.sent handed some is fits made
     (subst (λ x. Carries handed (g.H.Outside.linking c.args.host.now) (g.H.Outside.linking c.carry.new.host) (g.H.Outside.writing c.args.host.now) (g.H.Outside.writing c.carry.new.host) (spelled told.sent)
     (flat_map (line_text x c.args.number) told.lines)) schema c.in_ok-handed-in-Taken.ensures.carried))

@@ -1,5 +1,5 @@
 -- How a run of `client` comes to its end.
-use Rattle.std.proofs.Common.{◌≡◌, ℕ, true, List, [], ◌∷◌, refl, sym, subst}
+use Rattle.std.proofs.Common.{◌≡◌, ℕ, true, List, [], ◌∷◌, refl, sym, ◌∙◌, ap, subst}
 use Rattle.std.specs.Prelude.{Option, Some}
 use Rattle.std.specs.Cmp.{first_so, second_so}
 use Rattle.std.specs.List.{list_all, AllZip}
@@ -21,20 +21,21 @@ use Rattle.sr_setup.specs.declared.client_setup.ClientFault.TheVariants as fault
 use Rattle.sr_cell.specs.declared.fault.Fault.{Fault}
 use Rattle.sr_talk.specs.Calls.{Task, Do, Explain}
 use Rattle.sr_words.specs.declared.command.ClientWords.{ClientWords}
-use Rattle.sr_cli.specs.Client.{Ends, Stops, ending_of}
+use Rattle.sr_cli.specs.Client.{Ends, IsTaskOf, Stops, ending_of, task_of}
 use Rattle.sr_cli.specs.declared.client.Stop.{Stop}
 use Rattle.sr_cli.specs.declared.client.Stop.TheVariants as stop
 use Rattle.sr_cli.specs.declared.report.Refusal.TheVariants as refusal
 
 -- ---- what the lines ask
 
-task_for : (id : ℕ) (tables : List Table) (event : Event) (meaning : ScriptEvent) → IsEvent tables event meaning → is_own id event ≡ true → (task : Task) × IsTask tables event task
-task_for id tables (read.Query n query) meaning is own = (Do (Queried is.0), (is.0, is.1, refl))
-task_for id tables (read.Write n sql) meaning is own = (Do (Wrote sql), refl)
-task_for id tables (read.Evict n place) meaning is own = (Do (Evicted place), refl)
-task_for id tables (read.Cut n) meaning is own = (Do WasCut, refl)
-task_for id tables (read.Resume n) meaning is own = (Do Resumed, refl)
-task_for id tables (read.Explain n query) meaning is own = (Explain is.0, is.1)
+task_for : (id : ℕ) (tables : List Table) (event : Event) (meaning : ScriptEvent) → IsEvent tables event meaning → is_own id event ≡ true
+    → (task : Task) × IsTask tables event task × (task_of meaning ≡ Some task)
+task_for id tables (read.Query n query) meaning is own = (Do (Queried is.0), (is.0, is.1, refl), ap task_of is.2)
+task_for id tables (read.Write n sql) meaning is own = (Do (Wrote sql), refl, ap task_of is)
+task_for id tables (read.Evict n place) meaning is own = (Do (Evicted place), refl, ap task_of is)
+task_for id tables (read.Cut n) meaning is own = (Do WasCut, refl, ap task_of is)
+task_for id tables (read.Resume n) meaning is own = (Do Resumed, refl, ap task_of is)
+task_for id tables (read.Explain n query) meaning is own = (Explain is.0, is.1, ap task_of is.2)
 task_for id tables (read.Exec statement) meaning is own = absurd cc
 task_for id tables (read.Push n) meaning is own = absurd cc
 task_for id tables (read.ToServer n) meaning is own = absurd cc
@@ -43,15 +44,18 @@ task_for id tables (read.Settle n) meaning is own = absurd cc
 
 -- each event of the client's own asks something of it
 pub tasks_of : (id : ℕ) (tables : List Table) (lines : List EventLine) (events : List (ℕ × ScriptEvent)) → AllZip (IsEventLine tables) lines events → list_all (λ line. is_own id line.event) lines ≡ true
-    → (tasks : List (ℕ × Task)) × AreTasks tables lines tasks
-tasks_of id tables [] [] are own = ([], tt)
+    → (tasks : List (ℕ × Task)) × AreTasks tables lines tasks × AllZip IsTaskOf events tasks
+tasks_of id tables [] [] are own = ([], tt, tt)
 tasks_of id tables [] (e ∷ events) are own = absurd are
 tasks_of id tables (l ∷ lines) [] are own = absurd are
 tasks_of id tables (l ∷ lines) (e ∷ events) are own =
     let rest = list_all (λ line. is_own id line.event) lines in
     let first = task_for id tables l.event are.0.0 are.0.1 (first_so (is_own id l.event) rest own) in
     let more = tasks_of id tables lines events are.1 (second_so (is_own id l.event) rest own) in
-    ((l.number, first.0) ∷ more.0, ((first.0, first.1, refl), more.1))
+    let same : e ≡ (l.number, are.0.0) = are.0.2 in
+    let asked : task_of e.1 ≡ Some first.0 = ap (λ (p : ℕ × ScriptEvent). task_of p.1) same ∙ first.2 in
+    let at : ◌≡◌ {A = ℕ × Task} (l.number, first.0) (e.0, first.0) = ap (λ (number : ℕ). (number, first.0)) (sym (ap (λ (p : ℕ × ScriptEvent). p.0) same)) in
+    ((l.number, first.0) ∷ more.0, ((first.0, first.1, refl), more.1), ((first.0, asked, at), more.2))
 
 -- ---- why it stops
 
@@ -60,7 +64,7 @@ pub ends_by : (schema script : List ℕ) (words : ClientWords) (tables : List Ta
     → ((tasks : List (ℕ × Task)) → AreTasks tables lines tasks → RanNew words.id words.address tables words.limits tasks ending old new before after) → Ends schema script words ending old new before after
 ends_by schema script words tables lines ending old new before after asked ran =
     let tasks = tasks_of words.id tables lines asked.asked.events asked.asked.are asked.asked.own in
-    record { tables = tables; lines = lines; tasks = tasks.0; asked = asked; are = tasks.1; ran = ran tasks.0 tasks.1 }
+    record { tables = tables; lines = lines; tasks = tasks.0; asked = asked; are = tasks.1; follow = tasks.2; ran = ran tasks.0 tasks.1 }
 
 ends_as : (schema script : List ℕ) (words : ClientWords) (old new : Linking) (before after : Writing) (ending other : Ending) → (let some : Option Ending = Some other in some) ≡ Some ending → Ends schema script words ending old new before after
     → Ends schema script words other old new before after

@@ -1,5 +1,6 @@
 -- What `client` does, and why it ends with each status.
 use Rattle.std.specs.Prelude.{◌≡◌, ℕ, ◌⊎◌, List, [], ◌∷◌, Option, Some, None}
+use Rattle.std.specs.List.{AllZip}
 use Rattle.sr_calls.specs.Runs.{RanNew}
 use Rattle.sr_cell.specs.declared.fault.Fault.{Fault}
 use Rattle.sr_cell.specs.declared.table.Table.{Table}
@@ -8,14 +9,16 @@ use Rattle.sr_dial.specs.declared.ending.Ending.{Ending}
 use Rattle.sr_dial.specs.declared.ending.Ending.TheVariants.{Whole, Faulty, Unwritten, Spoiled, Bad as BadMessage, Limit as TooMany}
 use Rattle.sr_io.specs.Causes.{Rose}
 use Rattle.sr_io.specs.Told.{Reading, Writing, Linking, complained}
+use Rattle.sr_lines.specs.Events.{ScriptEvent, DoQuery, DoWrite, DoExplain, DoEvict, DoCut, DoResume}
 use Rattle.sr_lines.specs.Script.{LinePlace}
+use Rattle.sr_links.specs.Steps.{Queried, Wrote, Evicted, WasCut, Resumed}
 use Rattle.sr_reader.specs.declared.script.EventLine.{EventLine}
 use Rattle.sr_setup.specs.ClientFiles.{client_outside, ClientRefuses, IsAsked}
 use Rattle.sr_setup.specs.declared.client_setup.ClientFault.{ClientFault}
 use Rattle.sr_setup.specs.declared.client_setup.ClientFault.TheVariants as fault
 use Rattle.sr_wire.specs.declared.bad_frame.BadFrame.{BadFrame}
 use Rattle.sr_wire.specs.declared.wire_fault.WireFault.{WireFault}
-use Rattle.sr_talk.specs.Calls.{Task}
+use Rattle.sr_talk.specs.Calls.{Task, Do, Explain}
 use Rattle.sr_words.specs.declared.command.ClientWords.{ClientWords}
 use Rattle.sr_cli.specs.Files.{IsWhatIsHeld, SomeTooLong, IsLong}
 use Rattle.sr_cli.specs.Errors.{line_text, setup_text, spoiled_text, bad_text}
@@ -35,7 +38,23 @@ pub record AreFiles (held : List ℕ → Option (List ℕ)) (words : ClientWords
   pub schema_read : IsWhatIsHeld (held words.schema) schema
   pub script_read : IsWhatIsHeld (held words.script) script
 
--- Files are judged and read, and the client of this number ran over a link: it resumed, did what the lines of the script ask, dialled
+-- ---- the run
+
+-- what an event of a script asks of its client; statements, pushes and deliveries ask nothing of it
+abbrev pub task_of : ScriptEvent → Option Task
+task_of (DoQuery n query) = Some (Do (Queried query))
+task_of (DoWrite n sql) = Some (Do (Wrote sql))
+task_of (DoExplain n query) = Some (Explain query)
+task_of (DoEvict n place) = Some (Do (Evicted place))
+task_of (DoCut n) = Some (Do WasCut)
+task_of (DoResume n) = Some (Do Resumed)
+task_of other = None
+
+-- with the number of its line
+abbrev pub IsTaskOf : ℕ × ScriptEvent → ℕ × Task → Type 0
+IsTaskOf event numbered = (task : Task) × (task_of event.1 ≡ Some task) × (numbered ≡ (event.0, task))
+
+-- Files are judged and read, and the client of this number ran over a link: it resumed, did what the events of the script ask, dialled
 -- nothing but the address in its words, and ended so.
 pub record Ends (schema script : List ℕ) (words : ClientWords) (ending : Ending) (old new : Linking) (before after : Writing) : Type 0 where
   pub tables : List Table
@@ -43,6 +62,7 @@ pub record Ends (schema script : List ℕ) (words : ClientWords) (ending : Endin
   pub tasks : List (ℕ × Task)
   pub asked : IsAsked words.id schema script tables lines
   pub are : AreTasks tables lines tasks
+  pub follow : AllZip IsTaskOf asked.asked.events tasks
   pub ran : RanNew words.id words.address tables words.limits tasks ending old new before after
 
 -- the same, of files that were read

@@ -34,7 +34,7 @@ pub fn run<H: Host>(alloc: Global, words: &[Text], host: &mut H) -> u8
     ensures only { IsStatus result }
     ensures words { result ≡ 2 → command_said words.now ≡ None }
     ensures other_words { command_said words.now ≡ None → (result ≡ 2) ⊎ (result ≡ 9) }
-    ensures words_alone { result ≡ 2 → H.reading host.new ≡ H.reading host.old }
+    ensures words_alone { command_said words.now ≡ None → (H.reading host.new ≡ H.reading host.old) × (H.writing host.new ≡ H.writing host.old) × (H.linking host.new ≡ H.linking host.old) }
     ensures replays { (w : ReplayWords) → command_said words.now ≡ Some (Replay w) → Replays H H.held H.reading H.writing H.linking H.complaints H.IsSteady host.old host.new w result }
     ensures dials { (w : ClientWords) → command_said words.now ≡ Some (Client w) → Dials H H.held H.reading H.writing H.linking H.complaints H.IsSteady host.old host.new w result }
     ensures serves { (w : ServeWords) → command_said words.now ≡ Some (Serve w) → Serves H H.held H.reading H.writing H.linking H.complaints H.IsSteady host.old host.new w result }

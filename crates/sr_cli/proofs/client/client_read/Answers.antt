@@ -9,7 +9,8 @@ use Rattle.sr_cli.proofs.client.client_read.Goals as goal
 pub client-requires-clause-asks : goal.client-requires-clause-asks
 client-requires-clause-asks g c =
     let asked = c.in-Ok.ensures.asked.asked in
-    tasks_of c.args.words.now.id c.in-Ok.script.schema c.in-Ok.script.lines asked.events asked.are asked.own
+    let tasks = tasks_of c.args.words.now.id c.in-Ok.script.schema c.in-Ok.script.lines asked.events asked.are asked.own in
+    (tasks.0, tasks.1)
 
 pub returns-in-Ok-client-clause-whole : goal.returns-in-Ok-client-clause-whole
 returns-in-Ok-client-clause-whole g c =

@@ -13,7 +13,6 @@ use Rattle.sr_links.specs.Answers.{AsksKeys}
 use Rattle.sr_links.specs.Honest.{Rests, Server, server_at_last}
 use Rattle.sr_links.proofs.DatabaseLemmas.{last-more, sound-before}
 use Rattle.sr_server.specs.Servers.{Gives}
-use Rattle.sr_world.proofs.Sound.{sound-of}
 use Rattle.sr_talk.specs.Rounds.{at_rest}
 use Rattle.sr_dial.specs.Honest.{IsTrue}
 use Rattle.sr_dial.specs.Served.{HaveInputs}
@@ -52,4 +51,4 @@ served-runs-are-true id address schema limits db last talks lines script ended o
     let i : HaveInputs Client Gives db (run.ran.ran.earlier ++ run.ran.ran.last ∷ []) last = served-calls-are-explained Client Gives db last (run.ran.ran.earlier ++ run.ran.ran.last ∷ []) talks served in
     subst (λ (s : Server). IsTrue s.database limits new_past (run.ran.ran.earlier ++ run.ran.ran.last ∷ []) ended) i.after
     (new-honest-runs-are-true id address schema limits (at_rest db) i.pieces lines script ended old new before after deeds run
-    (record { schema_is = same; some = some; sound = subst (λ (s : Server). IsSound s.database) (sym i.after) (sound-of last sound); closed = refl; behind = i.behind; explained = i.explained }))
+    (record { schema_is = same; some = some; sound = subst (λ (s : Server). IsSound s.database) (sym i.after) sound; closed = refl; behind = i.behind; explained = i.explained }))

@@ -4,9 +4,10 @@ use Rattle.sr_cell.specs.declared.table.Table.{Table}
 use Rattle.sr_io.specs.Told.{Linking, Writing}
 use Rattle.sr_policy.specs.declared.policy.Limits.{Limits}
 use Rattle.sr_reader.specs.declared.script.EventLine.{EventLine}
+use Rattle.sr_session.specs.Laws.{IsSound}
 use Rattle.sr_session.specs.Sessions.{Database}
 use Rattle.sr_client.specs.declared.client.Client.{Client}
-use Rattle.sr_server.specs.Servers.{Gives, IsSound}
+use Rattle.sr_server.specs.Servers.{Gives}
 use Rattle.sr_links.specs.Honest.{Server, Input, server_at_last}
 use Rattle.sr_talk.specs.Calls.{Task}
 use Rattle.sr_talk.specs.Serving.{Conversation}
@@ -24,7 +25,7 @@ NewHonestRunsAreTrue = (id : ℕ) (address : List ℕ) (schema : List Table) (li
     → AreTasks schema lines script → (run : RanNew id address schema limits script ended old new before after) → IsHonest schema s pieces (run.ran.ran.earlier ++ run.ran.ran.last ∷ [])
     → IsTrue (server_at_last s pieces).database limits new_past (run.ran.ran.earlier ++ run.ran.ran.last ∷ []) ended
 
--- So it is of calls to a server that serves tables of this schema, at the versions that it has in the end, which are sound.
+-- So it is of calls to a server that serves tables of this schema, at the versions that it has in the end.
 abbrev pub ServedRunsAreTrue : Type 0
 ServedRunsAreTrue = (id : ℕ) (address : List ℕ) (schema : List Table) (limits : Limits) (db last : Database) (talks : List Conversation) (lines : List EventLine) (script : List (ℕ × Task)) (ended : Ending) (old new : Linking) (before after : Writing)
     → AreTasks schema lines script → (run : RanNew id address schema limits script ended old new before after) → db.schema ≡ schema → 0 < length db.versions → IsSound last

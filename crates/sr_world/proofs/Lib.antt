@@ -14,7 +14,7 @@ mod SeatLemmas
 mod ServeLemmas
 mod Sessions
 mod SettleLemmas
-pub mod Sound
+mod Sound
 mod StepLemmas
 mod Sums
 mod Texts

@@ -5,8 +5,8 @@ import subprocess
 import sys
 import time
 
-CRATE = pathlib.Path(__file__).resolve().parent.parent / 'crates' / 'sr_cli'
-PROGRAM = CRATE / 'out' / 'sr_cli'
+CRATE = pathlib.Path(__file__).resolve().parent.parent / 'crates' / 'sr_main'
+PROGRAM = CRATE / 'out' / 'sr_main'
 # time so short that it says nothing of growth
 SHORT = 0.02
 

@@ -1,9 +1,6 @@
-//! Runs over a host in memory, from the bytes in to the bytes out.
-use crate::run::run;
-use sr_cell::list::{Bytes, NoMemory, Seq};
-use sr_cell::text::Text;
-use sr_io::file::File;
-use sr_io::mem_host::MemHost;
+//! Runs of `replay` and `explain`.
+use crate::common::{Given, Outcome, run_given};
+use sr_cell::list::NoMemory;
 use std::alloc::Global;
 use std::test::Fail;
 
@@ -198,77 +195,28 @@ const ROW_TWICE: &str = "age,id
 40,7
 ";
 
-fn bytes_of(alloc: Global, text: &str) -> Result<Bytes, NoMemory> {
-    let mut bytes = Seq::new(alloc);
-    bytes.extend(text.as_bytes())?;
-    Ok(bytes)
-}
-
-fn words_of(alloc: Global, all: &[&str]) -> Result<Seq<Text>, NoMemory> {
-    let mut words = Seq::new(alloc);
-    for word in all {
-        words.push(Text::of(alloc, word)?)?;
-    }
-    Ok(words)
-}
-
-fn file_of(alloc: Global, name: &str, text: &str) -> Result<File, NoMemory> {
-    Ok(File {
-        name: Text::of(alloc, name)?,
-        bytes: bytes_of(alloc, text)?,
-    })
-}
-
-/// What the host holds, and the number of the call that fails: 1 is the pick of the script, 2 and 3 are its reads.
-#[derive(Clone, Copy)]
-struct Given<'a> {
-    script: &'a str,
-    csv: &'a str,
-    fails: u64,
-}
-
-/// Holds the script under the name `script`, and the other text under the name `p.csv`.
-fn host_of(alloc: Global, given: Given<'_>) -> Result<MemHost, NoMemory> {
-    let mut files = Seq::new(alloc);
-    files.push(file_of(alloc, "script", given.script)?)?;
-    files.push(file_of(alloc, "p.csv", given.csv)?)?;
-    let mut numbers = Seq::new(alloc);
-    numbers.push(given.fails)?;
-    MemHost::new(alloc, files, Seq::new(alloc), numbers, 4096)
-}
-
 const IN_FORM: &[&str] = &["replay", "--eager", "script"];
 
 const WITH_LOAD: &[&str] = &["replay", "--eager", "script", "p=p.csv"];
 
-/// How a run came out.
-#[derive(Drop)]
-struct Outcome {
-    status: u8,
-    trace: Bytes,
-    error: Bytes,
-}
-
-fn run_given(alloc: Global, words: &[&str], given: Given<'_>) -> Result<Outcome, NoMemory> {
-    let words = words_of(alloc, words)?;
-    let mut host = host_of(alloc, given)?;
-    Ok(Outcome {
-        status: run(alloc, words.as_slice(), &mut host),
-        trace: host.written(alloc)?,
-        error: host.complained(alloc)?,
-    })
+/// Runs the words over a script, and a file of rows.
+fn run_with(
+    alloc: Global,
+    words: &[&str],
+    script: &str,
+    rows: &str,
+    fails: u64,
+) -> Result<Outcome, NoMemory> {
+    let given = Given {
+        files: &[("script", script.as_bytes()), ("p.csv", rows.as_bytes())],
+        peers: &[],
+        fails,
+    };
+    run_given(alloc, words, given)
 }
 
 fn run_over(alloc: Global, words: &[&str], script: &str, fails: u64) -> Result<Outcome, NoMemory> {
-    run_given(
-        alloc,
-        words,
-        Given {
-            script,
-            csv: ONE_ROW,
-            fails,
-        },
-    )
+    run_with(alloc, words, script, ONE_ROW, fails)
 }
 
 #[test]
@@ -285,7 +233,7 @@ fn other_words_are_refused(rt: HostRuntime) -> Result<(), Fail> {
     for words in all {
         let got = run_over(alloc, words, CREATE_ALONE, 0)?;
         assert_eq!(rt; got.error.as_slice(), b"words\n".as_slice());
-        assert_eq!(rt; got.trace.as_slice(), b"".as_slice());
+        assert_eq!(rt; got.output.as_slice(), b"".as_slice());
         assert_eq!(rt; got.status, 2);
     }
     Ok(())
@@ -347,7 +295,7 @@ fn scripts_are_replayed(rt: HostRuntime) -> Result<(), Fail> {
     for (words, script, trace) in all {
         let got = run_over(alloc, words, script, 0)?;
         assert_eq!(rt; got.error.as_slice(), b"".as_slice());
-        assert_eq!(rt; got.trace.as_slice(), trace.as_bytes());
+        assert_eq!(rt; got.output.as_slice(), trace.as_bytes());
         assert_eq!(rt; got.status, 0);
     }
     Ok(())
@@ -390,7 +338,7 @@ fn queries_are_explained(rt: HostRuntime) -> Result<(), Fail> {
     ];
     for (words, lines) in all {
         let got = run_over(alloc, words, TWO_QUERIES, 0)?;
-        assert_eq!(rt; got.trace.as_slice(), lines.as_bytes());
+        assert_eq!(rt; got.output.as_slice(), lines.as_bytes());
         assert_eq!(rt; got.error.as_slice(), b"".as_slice());
         assert_eq!(rt; got.status, 0);
     }
@@ -435,7 +383,7 @@ fn options_are_obeyed(rt: HostRuntime) -> Result<(), Fail> {
     ] {
         let words = ["replay", "--eager", option, value, "script"];
         let got = run_over(alloc, words.as_slice(), TWO_RANGES, 0)?;
-        assert_eq!(rt; has_lines(got.trace.as_slice(), line.as_bytes()), true);
+        assert_eq!(rt; has_lines(got.output.as_slice(), line.as_bytes()), true);
         assert_eq!(rt; got.status, 0);
     }
     Ok(())
@@ -443,7 +391,7 @@ fn options_are_obeyed(rt: HostRuntime) -> Result<(), Fail> {
 
 /// Whether the run writes no trace, and ends with this status and this line.
 fn is_refused(got: &Outcome, status: u8, error: &str) -> bool {
-    got.status == status && got.error.as_slice() == error.as_bytes() && got.trace.is_empty()
+    got.status == status && got.error.as_slice() == error.as_bytes() && got.output.is_empty()
 }
 
 #[test]
@@ -551,12 +499,7 @@ fn files_are_refused(rt: HostRuntime) -> Result<(), Fail> {
         (WITH_LOAD, "id,age\n 3,1\n", 7, "load p 1 bad-number\n"),
     ];
     for (words, csv, status, error) in all {
-        let given = Given {
-            script: OVER_LOADS,
-            csv,
-            fails: 0,
-        };
-        let got = run_given(alloc, words, given)?;
+        let got = run_with(alloc, words, OVER_LOADS, csv, 0)?;
         assert!(rt; is_refused(&got, status, error), "{csv:?}");
     }
     Ok(())

@@ -3,30 +3,9 @@
 
 ghost use Rattle.std.specs.Prelude.{◌≡◌, map, drop, string_bytes, IfOk};
 
-mod client;
-mod explain;
-mod file;
-mod frames;
-mod generate;
-mod loads;
-mod replay;
-mod report;
-mod run;
-mod serve;
-#[cfg(test)]
-mod tests;
-#[cfg(test)]
-mod tests_calls;
-#[cfg(test)]
-mod tests_client;
-#[cfg(test)]
-mod tests_processes;
-#[cfg(test)]
-mod tests_programs;
-
-use run::run;
 use sr_cell::list::{No, NoMemory, Seq};
 use sr_cell::text::Text;
+use sr_cli::run::run;
 use sr_io::outside::Host;
 use sr_io::real_host::RealHost;
 use std::alloc::Global;

@@ -1,9 +1,6 @@
-//! Runs of `client` over a host in memory.
-use crate::run::run;
-use sr_cell::list::{Bytes, NoMemory, Seq};
-use sr_cell::text::Text;
-use sr_io::file::File;
-use sr_io::mem_host::MemHost;
+//! Runs of `client`.
+use crate::common::{Given, ends, run_given};
+use sr_cell::list::NoMemory;
 use std::alloc::Global;
 use std::test::Fail;
 
@@ -67,47 +64,21 @@ const EXPLAINED: &[u8] = b"0 resume 1 sent 0
 
 const WORDS: &[&str] = &["client", "--id", "1", "--schema", "schema", "a", "script"];
 
-fn bytes_of(alloc: Global, all: &[u8]) -> Result<Bytes, NoMemory> {
-    let mut bytes = Seq::new(alloc);
-    bytes.extend(all)?;
-    Ok(bytes)
-}
-
-fn file_of(alloc: Global, name: &str, bytes: &[u8]) -> Result<File, NoMemory> {
-    Ok(File {
-        name: Text::of(alloc, name)?,
-        bytes: bytes_of(alloc, bytes)?,
-    })
-}
-
-/// Its one peer says this.
-fn host_of(alloc: Global, script: &[u8], brings: &[u8]) -> Result<MemHost, NoMemory> {
-    let mut files = Seq::new(alloc);
-    files.push(file_of(alloc, "schema", SCHEMA)?)?;
-    files.push(file_of(alloc, "script", script)?)?;
-    let mut peers = Seq::new(alloc);
-    peers.push(bytes_of(alloc, brings)?)?;
-    MemHost::new(alloc, files, peers, Seq::new(alloc), 4096)
-}
-
-/// Whether a run ends with this status, this output and this line on the error output.
-fn ends(
+/// Whether the run of a script whose one peer says this ends with this status, this output and this line on the error output.
+fn ends_with(
     alloc: Global,
     words: &[&str],
     script: &[u8],
-    brings: &[u8],
+    says: &[u8],
     wanted: (u8, &[u8], &[u8]),
 ) -> Result<bool, NoMemory> {
-    let mut all = Seq::new(alloc);
-    for word in words {
-        all.push(Text::of(alloc, word)?)?;
-    }
-    let mut host = host_of(alloc, script, brings)?;
-    let status = run(alloc, all.as_slice(), &mut host);
-    let output = host.written(alloc)?;
-    let error = host.complained(alloc)?;
-    let (said, written, complained) = wanted;
-    Ok(status == said && output.as_slice() == written && error.as_slice() == complained)
+    let given = Given {
+        files: &[("schema", SCHEMA), ("script", script)],
+        peers: &[says],
+        fails: 0,
+    };
+    let (status, output, error) = wanted;
+    Ok(ends(&run_given(alloc, words, given)?, status, output, error))
 }
 
 #[test]
@@ -156,8 +127,8 @@ fn clients_end(rt: HostRuntime) -> Result<(), Fail> {
             (2, b"", b"words\n"),
         ),
     ];
-    for (words, script, brings, wanted) in all {
-        assert!(rt; ends(alloc, words, script, brings, wanted)?);
+    for (words, script, says, wanted) in all {
+        assert!(rt; ends_with(alloc, words, script, says, wanted)?);
     }
     Ok(())
 }
@@ -176,8 +147,8 @@ fn clients_explain_with_and_without_a_link(rt: HostRuntime) -> Result<(), Fail> 
         (EXPLAINS, ANSWERS, (0, EXPLAINED, b"")),
         (b"explain 1 SELECT id FROM emp", b"", (5, alone, b"link\n")),
     ];
-    for (script, brings, wanted) in all {
-        assert!(rt; ends(alloc, WORDS, script, brings, wanted)?);
+    for (script, says, wanted) in all {
+        assert!(rt; ends_with(alloc, WORDS, script, says, wanted)?);
     }
     Ok(())
 }
@@ -187,9 +158,9 @@ fn a_welcome_that_is_not_whole_is_a_cut(rt: HostRuntime) -> Result<(), Fail> {
     let alloc = rt.alloc();
     let cut: &[u8] = b"0 resume 1 sent 0\n0 fail 1 resume 0\n0 cut 1 1\n";
     for length in 0..22usize {
-        let brings = &ANSWERS[..length];
+        let says = &ANSWERS[..length];
         assert!(rt;
-            ends(alloc, WORDS, b"", brings, (5, cut, b"link\n"))?,
+            ends_with(alloc, WORDS, b"", says, (5, cut, b"link\n"))?,
             "{length}"
         );
     }

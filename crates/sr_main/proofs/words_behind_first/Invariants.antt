@@ -1,5 +1,5 @@
 use Rattle.std.proofs.Common.{◌≡◌, map, take, string_bytes}
-use Rattle.sr_cli.proofs.words_behind_first.Given as goal
+use Rattle.sr_main.proofs.words_behind_first.Given as goal
 
 abbrev pub invariant-loop-word : goal.invariant-loop-word
 invariant-loop-word l = l.words ≡ map string_bytes (take l.word-index l.rest)

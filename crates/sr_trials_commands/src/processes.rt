@@ -1,8 +1,9 @@
 //! The program in two processes: a server, and a client that dials it.
-use crate::run::run;
-use crate::words_of;
+use sr_cell::list::{NoMemory, Seq};
 use sr_cell::text::Text;
+use sr_cli::run::run;
 use sr_io::real_host::RealHost;
+use std::alloc::Global;
 use std::io::{ErrorKind, Read};
 use std::net::TcpListener;
 use std::path::PathBuf;
@@ -53,26 +54,31 @@ test result: ok
 /// The program: does what the words behind this test's name ask for, and ends well just where their status is 0. Without such words there
 /// is nothing to do.
 #[test]
-fn is_the_program(rt: HostRuntime) -> ExitCode {
-    match words_of(&rt) {
-        Ok(words) => ExitCode::from(status_of(&rt, words.as_slice())),
-        Err(_) => ExitCode::FAILURE,
+fn is_the_program(rt: HostRuntime) -> Result<ExitCode, Fail> {
+    let alloc = rt.alloc();
+    let all: Vec<String> = env::args(&rt)?.collect(alloc)?;
+    match all.as_slice() {
+        [] | [_] | [_, _] => Ok(ExitCode::SUCCESS),
+        [_, _, all @ ..] => {
+            let words = words_of(alloc, all)?;
+            Ok(ExitCode::from(run(alloc, words.as_slice(), &mut RealHost::new(rt))))
+        }
     }
 }
 
-/// The status of the words behind the first, 0 where there are none.
-fn status_of(rt: &HostRuntime, words: &[Text]) -> u8 {
-    match words {
-        [] | [_] => 0,
-        [_, words @ ..] => run(rt.alloc(), words, &mut RealHost::new(rt)),
+fn words_of(alloc: Global, all: &[String]) -> Result<Seq<Text>, NoMemory> {
+    let mut words = Seq::new(alloc);
+    for word in all {
+        words.push(Text::of(alloc, word.as_str())?)?;
     }
+    Ok(words)
 }
 
 /// The program, to be started with these words.
 fn program(rt: &HostRuntime, words: &[&str]) -> io::Result<Command> {
     let name = env::args(rt)?.next();
     let mut program = Command::new(rt.alloc(), name.as_ref().map_or("", |it| it.as_str()))?;
-    program.arg("tests_processes::is_the_program")?;
+    program.arg("processes::is_the_program")?;
     for word in words {
         program.arg(*word)?;
     }

@@ -1,0 +1,77 @@
+//! A run over a host in memory, and how it came out.
+use sr_cell::list::{Bytes, NoMemory, Seq};
+use sr_cell::text::Text;
+use sr_cli::run::run;
+use sr_io::file::File;
+use sr_io::mem_host::MemHost;
+use std::alloc::Global;
+
+/// What the host holds: the files with their names, what each peer says, and the number of the call that fails, 0 for none.
+#[derive(Clone, Copy)]
+pub struct Given<'a> {
+    pub files: &'a [(&'a str, &'a [u8])],
+    pub peers: &'a [&'a [u8]],
+    pub fails: u64,
+}
+
+/// How a run came out, with what was sent to the first peer.
+#[derive(Drop)]
+pub struct Outcome {
+    pub status: u8,
+    pub output: Bytes,
+    pub error: Bytes,
+    pub sent: Bytes,
+}
+
+/// Whether the run ended with this status, this output and this line on the error output.
+pub fn ends(got: &Outcome, status: u8, output: &[u8], error: &[u8]) -> bool {
+    got.status == status && got.output.as_slice() == output && got.error.as_slice() == error
+}
+
+fn bytes_of(alloc: Global, all: &[u8]) -> Result<Bytes, NoMemory> {
+    let mut bytes = Seq::new(alloc);
+    bytes.extend(all)?;
+    Ok(bytes)
+}
+
+fn words_of(alloc: Global, all: &[&str]) -> Result<Seq<Text>, NoMemory> {
+    let mut words = Seq::new(alloc);
+    for word in all {
+        words.push(Text::of(alloc, word)?)?;
+    }
+    Ok(words)
+}
+
+fn files_of(alloc: Global, all: &[(&str, &[u8])]) -> Result<Seq<File>, NoMemory> {
+    let mut files = Seq::new(alloc);
+    for (name, bytes) in all {
+        files.push(File {
+            name: Text::of(alloc, name)?,
+            bytes: bytes_of(alloc, bytes)?,
+        })?;
+    }
+    Ok(files)
+}
+
+fn host_of(alloc: Global, given: Given<'_>) -> Result<MemHost, NoMemory> {
+    let files = files_of(alloc, given.files)?;
+    let mut peers = Seq::new(alloc);
+    for says in given.peers {
+        peers.push(bytes_of(alloc, says)?)?;
+    }
+    let mut numbers = Seq::new(alloc);
+    numbers.push(given.fails)?;
+    MemHost::new(alloc, files, peers, numbers, 4096)
+}
+
+/// Runs the words over a host that holds what is given.
+pub fn run_given(alloc: Global, words: &[&str], given: Given<'_>) -> Result<Outcome, NoMemory> {
+    let words = words_of(alloc, words)?;
+    let mut host = host_of(alloc, given)?;
+    Ok(Outcome {
+        status: run(alloc, words.as_slice(), &mut host),
+        output: host.written(alloc)?,
+        error: host.complained(alloc)?,
+        sent: host.sent(alloc, 0)?,
+    })
+}

@@ -1,6 +1,6 @@
 -- What a resume does.
 use Rattle.std.proofs.Common.{◌≡◌, ℕ, ◌+◌, ◌<◌, Bool, true, false, List, [], ◌∷◌, map, length, refl, sym, ◌∙◌, ap, subst, arith, Some, None}
-use Rattle.std.specs.Prelude.{◌&&◌, ◌||◌, ◌==◌, nat_lt, if◌then◌else◌}
+use Rattle.std.specs.Prelude.{◌&&◌, ◌||◌, ◌==◌, ◌↔◌, nat_lt, if◌then◌else◌}
 use Rattle.std.specs.List.{list_all, All}
 use Rattle.std.specs.Cmp.Derive.{both_true}
 use Rattle.std.proofs.lemmas.Bool.Decides.{nat_tests}
@@ -12,7 +12,7 @@ use Rattle.sr_union.proofs.Times.{in_any-times}
 use Rattle.sr_message.specs.declared.message.Message.{Message}
 use Rattle.sr_subs.specs.Subscription.{has_point}
 use Rattle.sr_history.specs.declared.mark.Mark.{Mark}
-use Rattle.sr_history.specs.Marks.{is_held}
+use Rattle.sr_history.specs.Marks.{HoldsNothing, is_held}
 use Rattle.sr_history.specs.Classes.{stamp}
 use Rattle.sr_history.proofs.Marking.{some-attrs}
 use Rattle.sr_region.specs.declared.region.Region.{Region}
@@ -105,15 +105,6 @@ none-else schema marks stamps gs keeps t p point is =
     by a some true e = some-attrs (λ a. is_held marks t a p) marks t a p e e
     by a some false e = absurd (some (keeps.points t a p point ∙ ap (λ b. if b then 1 else 0) e))
 
-first-is : (c : Client) (h : Hidden) → Facts c h → IsResumeMessage c.schema (past_of c h) c.next_request (first_of c c.store.regions)
-first-is c h f = by c.store.regions refl
-  where
-    by : (gs : List Region) → c.store.regions ≡ gs → IsResumeMessage c.schema (past_of c h) c.next_request (first_of c gs)
-    by [] e = (refl, (all_none c.schema h.marks (stamp h.queries) c.store.regions (have-first c.schema f.tables) f.store.each f.keeps).0 e)
-    by (g ∷ gs) e =
-        let keeps = subst (Keeps c.schema (is_held h.marks) (stamp h.queries)) e f.keeps in
-        (refl, refl, all-there c.schema h.marks (stamp h.queries) (g ∷ gs) keeps, none-else c.schema h.marks (stamp h.queries) (g ∷ gs) keeps)
-
 -- ---- it suits the schema
 
 holding-suits : (schema : List Table) (g : Region) → IsOfSchema schema g → holding_suits schema (holding_of g) ≡ true
@@ -125,6 +116,22 @@ holding-suits schema g is = both_true (below g.table (length schema) is.0) is.1.
 holdings-suit : (schema : List Table) (gs : List Region) → All (IsOfSchema schema) gs → list_all (holding_suits schema) (map holding_of gs) ≡ true
 holdings-suit schema [] all = refl
 holdings-suit schema (g ∷ gs) all = both_true (holding-suits schema g (All-head (IsOfSchema schema) g gs all)) (holdings-suit schema gs (All-tail (IsOfSchema schema) g gs all))
+
+-- ---- what it is
+
+first-is : (c : Client) (h : Hidden) → Facts c h → IsResumeMessage c.schema (past_of c h) c.next_request (first_of c c.store.regions)
+first-is c h f = by c.store.regions refl
+  where
+    none : (c.store.regions ≡ []) ↔ HoldsNothing c.schema h.marks
+    none = all_none c.schema h.marks (stamp h.queries) c.store.regions (have-first c.schema f.tables) f.store.each f.keeps
+
+    by : (gs : List Region) → c.store.regions ≡ gs → IsResumeMessage c.schema (past_of c h) c.next_request (first_of c gs)
+    by [] e = (refl, none.0 e)
+    by (g ∷ gs) e =
+        let keeps = subst (Keeps c.schema (is_held h.marks) (stamp h.queries)) e f.keeps in
+        (refl, refl, all-there c.schema h.marks (stamp h.queries) (g ∷ gs) keeps, none-else c.schema h.marks (stamp h.queries) (g ∷ gs) keeps,
+        (λ nothing. let empty = none.1 nothing in let wrong : g ∷ gs ≡ [] = sym e ∙ empty in absurd (cc)),
+        holdings-suit c.schema (g ∷ gs) (subst (All (IsOfSchema c.schema)) e f.store.each))
 
 pub first-well : (c : Client) → Stands c → is_request_of c.schema c.id (first_of c c.store.regions) ≡ true
 first-well c stands = by c.store.regions stands.1.store.each

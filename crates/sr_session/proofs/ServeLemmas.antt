@@ -135,7 +135,7 @@ cuts-stand db old o new (is_resuming h) (already_cut down) = absurd (let wrong :
 
 resume-message-still : (schema : List Table) (c new : Client) (number : ℕ) (m : Message) → new.marks ≡ c.marks → new.version ≡ c.version → IsResumeMessage schema c number m → IsResumeMessage schema new number m
 resume-message-still schema c new number (Hello client k) marks version ok = (ok.0, subst (HoldsNothing schema) (sym marks) ok.1)
-resume-message-still schema c new number (Resume client k at holdings) marks version ok = (ok.0, ok.1 ∙ sym version, subst (λ ms. Within schema (held ms) (has_point holdings)) (sym marks) ok.2, subst (λ ms. Within schema (has_point holdings) (held ms)) (sym marks) ok.3)
+resume-message-still schema c new number (Resume client k at holdings) marks version ok = (ok.0, ok.1 ∙ sym version, subst (λ ms. Within schema (held ms) (has_point holdings)) (sym marks) ok.2, subst (λ ms. Within schema (has_point holdings) (held ms)) (sym marks) ok.3, (λ none. ok.4 (subst (HoldsNothing schema) marks none)), ok.5)
 resume-message-still schema c new number (Ask k fresh parts) marks version ok = ok
 resume-message-still schema c new number (Write k sql) marks version ok = ok
 resume-message-still schema c new number (Welcome k at kept) marks version ok = ok

@@ -1,5 +1,6 @@
 -- A client's past, its connection to the server, and when these stand.
 use Rattle.std.specs.Prelude.{ℕ, Bool, true, false, ◌+◌, ◌≤◌, ◌↔◌, List, [], ◌∷◌, ◌++◌, length, ◌≡◌, Option, Some, None, IsTrue}
+use Rattle.std.specs.List.{list_all}
 use Rattle.sr_cell.specs.declared.table.Table.{Table}
 use Rattle.sr_message.specs.declared.message.AskPart.{AskPart}
 use Rattle.sr_message.specs.declared.message.Message.{Message}
@@ -12,6 +13,7 @@ use Rattle.sr_history.specs.Classes.{Numbered}
 use Rattle.sr_history.specs.Rests.{Asks}
 use Rattle.sr_session.specs.Sessions.{Database, Session, newest}
 use Rattle.sr_session.specs.Places.{held, Within}
+use Rattle.sr_session.specs.Refusals.{holding_suits}
 use Rattle.sr_session.specs.Walks.{Request, AskOut, WriteOut, ResumeOut, Mirror, Walks, AreLaid}
 
 -- The past of a client, by itself.
@@ -107,10 +109,10 @@ pub record IsDown (db : Database) (c : Client) (l : Connection) : Type 0 where
   pub session_is : l.session ≡ None
   pub version : c.version ≤ newest db
 
--- The first message of a session: a Hello where nothing is held, or a Resume of the client's version with just the points that it holds.
+-- The first message of a session: a Hello where nothing is held, else a Resume of the client's version with just the points that it holds.
 abbrev pub IsResumeMessage : List Table → Client → ℕ → Message → Type 0
 IsResumeMessage schema c number (Hello client k) = (k ≡ number) × HoldsNothing schema c.marks
-IsResumeMessage schema c number (Resume client k version holdings) = (k ≡ number) × (version ≡ c.version) × Within schema (held c.marks) (has_point holdings) × Within schema (has_point holdings) (held c.marks)
+IsResumeMessage schema c number (Resume client k version holdings) = (k ≡ number) × (version ≡ c.version) × Within schema (held c.marks) (has_point holdings) × Within schema (has_point holdings) (held c.marks) × (HoldsNothing schema c.marks → ⊥) × (list_all (holding_suits schema) holdings ≡ true)
 IsResumeMessage schema c number m = ⊥
 
 -- The link is up, and the server has not taken the first message of the session yet.

@@ -6,6 +6,7 @@ pub mod MomentLemmas
 pub mod PairLemmas
 pub mod AskedLemmas
 pub mod LineLemmas
+pub mod VersionLemmas
 pub mod FreeLemmas
 pub mod CoveredLemmas
 pub mod ExampleTexts

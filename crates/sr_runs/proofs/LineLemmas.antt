@@ -1,7 +1,7 @@
 -- Lines of answers and asks are right, in the trace of each script.
 use Rattle.std.proofs.Common.{◌≡◌, ℕ, suc, ◌<◌, ◌≤◌, Bool, true, false, List, [], ◌∷◌, ◌++◌, length, length-append, refl, sym, ◌∙◌, ap, subst, arith, Some, inl, inr}
 use Rattle.std.specs.Prelude.{map, slice_get, ◌⊎◌, IsTrue}
-use Rattle.std.proofs.lemmas.List.{append_assoc, map-append}
+use Rattle.std.proofs.lemmas.List.{append-nil, append_assoc, map-append}
 use Rattle.sr_message.specs.declared.message.AskPart.{AskPart}
 use Rattle.sr_model.specs.Queries.{Query, rows_of}
 use Rattle.sr_script.specs.declared.line.TraceLine.{TraceLine}
@@ -11,7 +11,7 @@ use Rattle.sr_session.specs.Walks.{AskOut}
 use Rattle.sr_session.specs.Clients.{Pair}
 use Rattle.sr_session.specs.Tidy.{IsTidyWith}
 use Rattle.sr_session.specs.Rules.{Answered, AskSent}
-use Rattle.sr_session.specs.Scenes.{Did, Event, Happens, Report, Scene, SceneStands, client_of, done, first_scene, next, pair_at}
+use Rattle.sr_session.specs.Scenes.{Did, Event, Happens, Report, Scene, SceneStands, client_of, done, next, pair_at}
 use Rattle.sr_session.specs.Scenes.{Runs as EventsRun}
 use Rattle.sr_session.specs.Headline.{IsReached, query_at}
 use Rattle.sr_session.proofs.EventLemmas.{at, events-keep}
@@ -22,12 +22,13 @@ use Rattle.sr_session.proofs.AnswerLemmas.{an-ask-asks-the-uncovered, answers-ar
 use Rattle.sr_session.proofs.BudgetLemmas.{Grows, grows, more, same}
 use Rattle.sr_runs.specs.Lines.{part_line}
 use Rattle.sr_runs.specs.Runs.{numbered}
-use Rattle.sr_runs.specs.Headline.{AnswerLinesAreRight, AskLinesAreRight, IsExplained, IsMoment, IsRightAnswerLine, IsRightAskLine, IsScripted, IsTold}
-use Rattle.sr_runs.proofs.AskedLemmas.{IsThere, queries-are-asked}
+use Rattle.sr_runs.specs.Headline.{AnswerLinesAreRight, AskLinesAreRight, IsExplained, IsMoment, IsRightAnswerLine, IsRightAskLine, IsScripted, IsStep, IsTold, start_of}
+use Rattle.sr_runs.proofs.AskedLemmas.{queries-are-asked}
 use Rattle.sr_runs.proofs.BlockLemmas.{HeadsAnswer, HeadsAsk, blocks, heads}
 use Rattle.sr_runs.proofs.ExplainLemmas.{no-head}
-use Rattle.sr_runs.proofs.MomentLemmas.{lines-are-told}
+use Rattle.sr_runs.proofs.MomentLemmas.{farther, lines-are-told, wider}
 use Rattle.sr_runs.proofs.PairLemmas.{still-there}
+use Rattle.sr_runs.proofs.StepLemmas.{runs-lead}
 
 -- ---- what stays until the last scene
 
@@ -62,9 +63,6 @@ stays s events reports last n number version q answered pair h (next a event rep
 
 -- ---- moments of a script
 
-abbrev pub start_of : (last : Scene) → IsScripted last → Scene
-start_of last script = first_scene script.limits script.schema script.log_limit script.tables script.clients
-
 moment-reached : (last : Scene) (script : IsScripted last) (event : Event) (report : Report) (m : IsMoment (start_of last script) last event report) → IsReached m.before
 moment-reached last script event report m = record {
   limits = script.limits;
@@ -77,7 +75,7 @@ moment-reached last script event report m = record {
   runs = m.leads.2;
 }
 
-same-report : (s new : Scene) (event : Event) (report other : Report) → report ≡ other → IsMoment s new event report → IsMoment s new event other
+abbrev same-report : (s new : Scene) (event : Event) (report other : Report) → report ≡ other → IsMoment s new event report → IsMoment s new event other
 same-report s new event report other is m = record { before = m.before; after = m.after; leads = m.leads; happens = subst (λ r. Happens m.before event r m.after) is m.happens; follows = m.follows }
 
 -- what stands behind a line of an event, with its number
@@ -124,8 +122,16 @@ right-answer last script number n query version rows behind t h =
 
 pub answer-lines-are-right : AnswerLinesAreRight
 answer-lines-are-right last script front number n query version rows behind there =
-    go (lines-are-told script.eager (start_of last script) last script.events script.lines script.runs front number (line.Answer n query version rows) behind there)
+    go (farther start told.0.there told.0.next last number (line.Answer n query version rows) behind [] behind (runs-lead script.eager start told.0.earlier told.0.lines told.0.there told.0.runs)
+    (runs-lead script.eager told.0.next told.0.later told.0.rest last told.0.ends) (sym (append-nil behind)) told.1)
   where
+    start : Scene
+    start = start_of last script
+
+    told : (step : IsStep script.eager start last script.events number front)
+        × (IsTold step.there step.next number (line.Answer n query version rows) behind ⊎ (IsExplained step.there step.next number (line.Answer n query version rows) behind ⊎ IsTrue false))
+    told = lines-are-told script.eager start last script.events script.lines script.runs front number (line.Answer n query version rows) behind there
+
     by : (t : IsTold (start_of last script) last number (line.Answer n query version rows) behind)
         → HeadsAnswer t.event t.report (line.Answer n query version rows) t.own ⊎ HeadsAsk t.event t.report (line.Answer n query version rows) t.own
         → IsRightAnswerLine last script number n query version rows behind
@@ -150,10 +156,10 @@ out-is-numbered s n pair request number q fresh parts h is out =
     let e : number ≡ suc i = omega (arith, tidy.0.1.query_is ∙ (ap length tidy.0.1.newest ∙ length-append tidy.0.1.earlier (record { query = q; answered = false } ∷ []))) in
     ap (query_at pair.client) e ∙ (ap (λ all. slice_get all i) tidy.0.1.newest ∙ get-last tidy.0.1.earlier (record { query = q; answered = false }))
 
-right-ask : (last : Scene) (script : IsScripted last) (number n request : ℕ) (fresh : Bool) (count : ℕ) (behind : List (ℕ × TraceLine))
-    → (t : IsTold (start_of last script) last number (line.Ask n request fresh count) behind)
-    → HeadsAsk t.event t.report (line.Ask n request fresh count) t.own → IsRightAskLine last script number n request fresh count behind
-right-ask last script number n request fresh count behind t h =
+right-ask : (last : Scene) (script : IsScripted last) (front : List (ℕ × TraceLine)) (number n request : ℕ) (fresh : Bool) (count : ℕ) (behind : List (ℕ × TraceLine))
+    → (step : IsStep script.eager (start_of last script) last script.events number front) → (t : IsTold step.there step.next number (line.Ask n request fresh count) behind)
+    → HeadsAsk t.event t.report (line.Ask n request fresh count) t.own → IsRightAskLine last script front number n request fresh count behind
+right-ask last script front number n request fresh count behind step t h =
     let line_is : line.Ask (client_of t.event) h.request h.fresh (length h.parts) ≡ line.Ask n request fresh count = h.line_is in
     let of_n : client_of t.event ≡ n = cc in
     let of_request : h.request ≡ request = cc in
@@ -161,13 +167,16 @@ right-ask last script number n request fresh count behind t h =
     let of_count : length h.parts ≡ count = cc in
     let told : t.report ≡ Did (AskSent h.drops request fresh h.parts) =
     h.report_is ∙ (ap (λ r. Did (AskSent h.drops r h.fresh h.parts)) of_request ∙ ap (λ f. Did (AskSent h.drops request f h.parts)) of_fresh) in
-    let m = same-report (start_of last script) last t.event t.report (Did (AskSent h.drops request fresh h.parts)) told t.moment in
-    let reached = moment-reached last script t.event (Did (AskSent h.drops request fresh h.parts)) m in
+    let m = same-report step.there step.next t.event t.report (Did (AskSent h.drops request fresh h.parts)) told t.moment in
+    let wide = wider (start_of last script) step.there step.next last t.event (Did (AskSent h.drops request fresh h.parts))
+    (runs-lead script.eager (start_of last script) step.earlier step.lines step.there step.runs) (runs-lead script.eager step.next step.later step.rest last step.ends) m in
+    let reached = moment-reached last script t.event (Did (AskSent h.drops request fresh h.parts)) wide in
     let u = an-ask-asks-the-uncovered m.before m.after t.event h.drops request fresh h.parts reached m.happens in
     let stands = events-keep m.before m.after t.event (Did (AskSent h.drops request fresh h.parts)) (reached-stands m.before reached) m.happens in
-    let on = stays m.after m.follows.0 m.follows.1 last (client_of t.event) u.number 0 u.query false u.after stands m.follows.2 u.after_is
+    let on = stays m.after wide.follows.0 wide.follows.1 last (client_of t.event) u.number 0 u.query false u.after stands wide.follows.2 u.after_is
     (out-is-numbered m.after (client_of t.event) u.after request u.number u.query fresh h.parts stands u.after_is u.out) (omega arith) in
     record {
+      step = step;
       event = t.event;
       drops = h.drops;
       parts = h.parts;
@@ -182,17 +191,23 @@ right-ask last script number n request fresh count behind t h =
     }
 
 pub ask-lines-are-right : AskLinesAreRight
-ask-lines-are-right last script front number n request fresh count behind there =
-    go (lines-are-told script.eager (start_of last script) last script.events script.lines script.runs front number (line.Ask n request fresh count) behind there)
+ask-lines-are-right last script front number n request fresh count behind there = go told.1
   where
-    by : (t : IsTold (start_of last script) last number (line.Ask n request fresh count) behind)
-        → HeadsAnswer t.event t.report (line.Ask n request fresh count) t.own ⊎ HeadsAsk t.event t.report (line.Ask n request fresh count) t.own
-        → IsRightAskLine last script number n request fresh count behind
-    by t (inl h) = absurd (let wrong : line.Answer (client_of t.event) h.query h.version (length h.rows) ≡ line.Ask n request fresh count = h.line_is in cc)
-    by t (inr h) = right-ask last script number n request fresh count behind t h
+    start : Scene
+    start = start_of last script
 
-    go : IsTold (start_of last script) last number (line.Ask n request fresh count) behind ⊎ (IsExplained (start_of last script) last number (line.Ask n request fresh count) behind ⊎ IsTrue false)
-        → IsRightAskLine last script number n request fresh count behind
+    told : (step : IsStep script.eager start last script.events number front)
+        × (IsTold step.there step.next number (line.Ask n request fresh count) behind ⊎ (IsExplained step.there step.next number (line.Ask n request fresh count) behind ⊎ IsTrue false))
+    told = lines-are-told script.eager start last script.events script.lines script.runs front number (line.Ask n request fresh count) behind there
+
+    by : (t : IsTold told.0.there told.0.next number (line.Ask n request fresh count) behind)
+        → HeadsAnswer t.event t.report (line.Ask n request fresh count) t.own ⊎ HeadsAsk t.event t.report (line.Ask n request fresh count) t.own
+        → IsRightAskLine last script front number n request fresh count behind
+    by t (inl h) = absurd (let wrong : line.Answer (client_of t.event) h.query h.version (length h.rows) ≡ line.Ask n request fresh count = h.line_is in cc)
+    by t (inr h) = right-ask last script front number n request fresh count behind told.0 t h
+
+    go : IsTold told.0.there told.0.next number (line.Ask n request fresh count) behind ⊎ (IsExplained told.0.there told.0.next number (line.Ask n request fresh count) behind ⊎ IsTrue false)
+        → IsRightAskLine last script front number n request fresh count behind
     go (inl t) = by t (heads t.event t.report (blocks t.moment.before t.moment.after t.event t.report t.moment.happens) t.front (line.Ask n request fresh count) t.own refl t.lines)
     go (inr (inl h)) = absurd (no-head h.there h.client h.text h.front (line.Ask n request fresh count) h.own refl h.explains)
     go (inr (inr wrong)) = absurd (cc)

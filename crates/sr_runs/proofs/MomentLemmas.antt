@@ -12,9 +12,9 @@ use Rattle.sr_explain.specs.Telling.{ExplainsTo}
 use Rattle.sr_runs.specs.Lines.{lines_of}
 use Rattle.sr_lines.specs.Events.{ScriptEvent}
 use Rattle.sr_runs.specs.Runs.{Acts, AllSettle, Does, Settles, Steps, acts, alone, delivers, does, does_settle, eagerly, ends, explains, goes_on, is_quiet, no_client, numbered, one_more, too_long}
-use Rattle.sr_runs.specs.Headline.{IsExplained, IsMoment, IsTold, Leads, LinesAreTold, is_of_no_event}
+use Rattle.sr_runs.specs.Headline.{IsExplained, IsMoment, IsStep, IsTold, Leads, LinesAreTold, is_of_no_event}
 use Rattle.sr_runs.proofs.Splits.{Side, in_left, in_right, none-there, only-one, split}
-use Rattle.sr_runs.proofs.StepLemmas.{acts-lead, all-settle-lead, both, does-lead, nothing, runs-lead, settles-lead, steps-are-events}
+use Rattle.sr_runs.proofs.StepLemmas.{acts-lead, all-settle-lead, both, does-lead, nothing, settles-lead}
 
 -- ---- lines of a step
 
@@ -48,7 +48,7 @@ Told s new l behind = ToldHere s new l behind ⊎ (ExplainedHere s new l behind 
 abbrev pub AllTold : Scene → Scene → List TraceLine → Type 0
 AllTold s new lines = (front : List TraceLine) (l : TraceLine) (behind : List TraceLine) → lines ≡ front ++ l ∷ behind → Told s new l behind
 
-pub wider : (s mid after new : Scene) (event : Event) (report : Report) → Leads s mid → Leads after new → IsMoment mid after event report → IsMoment s new event report
+abbrev pub wider : (s mid after new : Scene) (event : Event) (report : Report) → Leads s mid → Leads after new → IsMoment mid after event report → IsMoment s new event report
 wider s mid after new event report first last m = record {
   before = m.before;
   after = m.after;
@@ -149,30 +149,40 @@ steps-told eager s new what lines (eagerly a b first mid rest d one settle) fron
 -- ---- lines of a run
 
 -- a line with its number stands among numbered lines
-record AmongNumbered (number : ℕ) (lines : List TraceLine) (k : ℕ) (l : TraceLine) (behind : List (ℕ × TraceLine)) : Type 0 where
-  front : List TraceLine
-  own : List TraceLine
-  lines_are : lines ≡ front ++ l ∷ own
-  behind_is : behind ≡ numbered k own
+pub record AmongNumbered (number : ℕ) (lines : List TraceLine) (before : List (ℕ × TraceLine)) (k : ℕ) (l : TraceLine) (behind : List (ℕ × TraceLine)) : Type 0 where
+  pub front : List TraceLine
+  pub own : List TraceLine
+  pub lines_are : lines ≡ front ++ l ∷ own
+  pub number_is : number ≡ k
+  pub before_is : before ≡ numbered k front
+  pub behind_is : behind ≡ numbered k own
 
-among : (number : ℕ) (lines : List TraceLine) (front : List (ℕ × TraceLine)) (k : ℕ) (l : TraceLine) (behind : List (ℕ × TraceLine))
-    → numbered number lines ≡ front ++ (k, l) ∷ behind → AmongNumbered number lines k l behind
+pub among : (number : ℕ) (lines : List TraceLine) (front : List (ℕ × TraceLine)) (k : ℕ) (l : TraceLine) (behind : List (ℕ × TraceLine))
+    → numbered number lines ≡ front ++ (k, l) ∷ behind → AmongNumbered number lines front k l behind
 among number [] front k l behind is = absurd (none-there front (k, l) behind is)
 among number (x ∷ lines) [] k l behind is =
     let one : ◌≡◌ {A = ℕ × TraceLine} (number, x) (k, l) = cc in
     let rest : numbered number lines ≡ behind = cc in
     let here : number ≡ k = ap (λ (p : ℕ × TraceLine). p.0) one in
     let same : x ≡ l = ap (λ (p : ℕ × TraceLine). p.1) one in
-    record { front = []; own = lines; lines_are = ap (λ y. y ∷ lines) same; behind_is = sym rest ∙ ap (λ m. numbered m lines) here }
+    record { front = []; own = lines; lines_are = ap (λ y. y ∷ lines) same; number_is = here; before_is = refl; behind_is = sym rest ∙ ap (λ m. numbered m lines) here }
 among number (x ∷ lines) (y ∷ front) k l behind is =
     let rest : numbered number lines ≡ front ++ (k, l) ∷ behind = cc in
+    let one : ◌≡◌ {A = ℕ × TraceLine} (number, x) y = cc in
     let h = among number lines front k l behind rest in
-    record { front = x ∷ h.front; own = h.own; lines_are = ap (λ z. x ∷ z) h.lines_are; behind_is = h.behind_is }
+    record {
+      front = x ∷ h.front;
+      own = h.own;
+      lines_are = ap (λ z. x ∷ z) h.lines_are;
+      number_is = h.number_is;
+      before_is = ap (λ p. p ∷ front) (sym one) ∙ (ap (λ ys. (number, x) ∷ ys) h.before_is ∙ ap (λ m. (m, x) ∷ numbered k h.front) h.number_is);
+      behind_is = h.behind_is;
+    }
 
 abbrev Numbered : Scene → Scene → ℕ → TraceLine → List (ℕ × TraceLine) → Type 0
 Numbered s new number l behind = IsTold s new number l behind ⊎ (IsExplained s new number l behind ⊎ IsTrue (is_of_no_event l))
 
-farther : (s mid after new : Scene) (number : ℕ) (l : TraceLine) (behind rest all : List (ℕ × TraceLine)) → Leads s mid → Leads after new → all ≡ behind ++ rest
+pub farther : (s mid after new : Scene) (number : ℕ) (l : TraceLine) (behind rest all : List (ℕ × TraceLine)) → Leads s mid → Leads after new → all ≡ behind ++ rest
     → Numbered mid after number l behind → Numbered s new number l all
 farther s mid after new number l behind rest all first last are (inl h) = inl (record {
   event = h.event;
@@ -223,23 +233,51 @@ with-number s new number l behind (inr (inl h)) = inr (inl (record {
 }))
 with-number s new number l behind (inr (inr h)) = inr (inr h)
 
-abbrev RunTold : Scene → Scene → List (ℕ × TraceLine) → Type 0
-RunTold s new lines = (front : List (ℕ × TraceLine)) (number : ℕ) (l : TraceLine) (behind : List (ℕ × TraceLine)) → lines ≡ front ++ (number, l) ∷ behind
-    → Numbered s new number l behind
-
-goes-told : (s mid new : Scene) (k : ℕ) (first : List TraceLine) (rest : List (ℕ × TraceLine)) → Leads s mid → Leads mid new → AllTold s mid first → RunTold mid new rest
-    → RunTold s new (numbered k first ++ rest)
-goes-told s mid new k first rest one last told more front number l behind there = go (split (numbered k first) rest front (number, l) behind there)
-  where
-    go : Side (numbered k first) rest front (number, l) behind → Numbered s new number l behind
-    go (in_left middle e f) =
-        let h = among k first front number l middle e in
-        farther s s mid new number l (numbered number h.own) rest behind (nothing s) last (f ∙ ap (λ b. b ++ rest) h.behind_is)
-        (with-number s mid number l h.own (told h.front l h.own h.lines_are))
-    go (in_right middle e f) = farther s mid new new number l behind [] behind one (nothing new) (sym (append-nil behind)) (more middle number l behind f)
-
 pub lines-are-told : LinesAreTold
 lines-are-told eager s new events lines (ends a) front number l behind there = absurd (none-there front (number, l) behind there)
 lines-are-told eager s new events lines (goes_on a k what first mid left rest last step more) front number l behind there =
-    goes-told s mid new k first rest (steps-are-events eager s mid what first step) (runs-lead eager mid left rest new more) (steps-told eager s mid what first step)
-    (lines-are-told eager mid new left rest more) front number l behind there
+    go (λ middle f. lines-are-told eager mid new left rest more middle number l behind f) (split (numbered k first) rest front (number, l) behind there)
+  where
+    go : ((middle : List (ℕ × TraceLine)) → rest ≡ middle ++ (number, l) ∷ behind → (at : IsStep eager mid new left number middle) × Numbered at.there at.next number l behind)
+        → Side (numbered k first) rest front (number, l) behind → (at : IsStep eager s new ((k, what) ∷ left) number front) × Numbered at.there at.next number l behind
+    go on (in_left middle e f) =
+        let h = among k first front number l middle e in (
+          record {
+            earlier = [];
+            what = what;
+            later = left;
+            events_are = ap (λ m. (m, what) ∷ left) h.number_is;
+            there = s;
+            lines = [];
+            runs = ends s;
+            next = mid;
+            own = first;
+            steps = step;
+            written = h.front;
+            front_is = h.before_is;
+            rest = rest;
+            ends = more;
+          },
+          farther s s mid mid number l (numbered number h.own) rest behind (nothing s) (nothing mid) (f ∙ ap (λ b. b ++ rest) h.behind_is)
+              (with-number s mid number l h.own (steps-told eager s mid what first step h.front l h.own h.lines_are)),
+        )
+    go on (in_right middle e f) =
+        let h = on middle f in (
+          record {
+            earlier = (k, what) ∷ h.0.earlier;
+            what = h.0.what;
+            later = h.0.later;
+            events_are = ap (λ es. (k, what) ∷ es) h.0.events_are;
+            there = h.0.there;
+            lines = numbered k first ++ h.0.lines;
+            runs = goes_on s k what first mid h.0.earlier h.0.lines h.0.there step h.0.runs;
+            next = h.0.next;
+            own = h.0.own;
+            steps = h.0.steps;
+            written = h.0.written;
+            front_is = e ∙ (ap (λ m. numbered k first ++ m) h.0.front_is ∙ sym (append_assoc (numbered k first) h.0.lines (numbered number h.0.written)));
+            rest = h.0.rest;
+            ends = h.0.ends;
+          },
+          h.1,
+        )

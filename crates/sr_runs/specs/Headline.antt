@@ -42,6 +42,9 @@ pub record IsScripted (s : Scene) : Type 0 where
   pub lines : List (ℕ × TraceLine)
   pub runs : Runs eager (first_scene limits schema log_limit tables clients) events lines s
 
+abbrev pub start_of : (last : Scene) → IsScripted last → Scene
+start_of last script = first_scene script.limits script.schema script.log_limit script.tables script.clients
+
 -- Each scene of a script is one of a run, so that all that holds of those holds of it.
 abbrev pub ScriptsReach : Type 0
 ScriptsReach = (s : Scene) → IsScripted s → IsReached s
@@ -91,12 +94,31 @@ is_of_no_event (line.Settled n frames) = true
 is_of_no_event (line.WriteSql n fault) = true
 is_of_no_event other = false
 
--- Each line of a trace is one of an event or of an explanation at its moment, but for those of no event.
+-- The step of a run, of the event with this number, in which the line behind the front is written: the events before and behind it with
+-- their lines, and the scenes before and after it.
+pub record IsStep (eager : Bool) (s new : Scene) (events : List (ℕ × ScriptEvent)) (number : ℕ) (front : List (ℕ × TraceLine)) : Type 0 where
+  pub earlier : List (ℕ × ScriptEvent)
+  pub what : ScriptEvent
+  pub later : List (ℕ × ScriptEvent)
+  pub events_are : events ≡ earlier ++ (number, what) ∷ later
+  pub there : Scene
+  pub lines : List (ℕ × TraceLine)
+  pub runs : Runs eager s earlier lines there
+  pub next : Scene
+  pub own : List TraceLine
+  pub steps : Steps eager there what own next
+  pub written : List TraceLine  -- its first lines
+  pub front_is : front ≡ lines ++ numbered number written
+  pub rest : List (ℕ × TraceLine)
+  pub ends : Runs eager next later rest new
+
+-- Each line of a trace is one of an event or of an explanation, at its moment in the step that has its number; but for those of no event.
 abbrev pub LinesAreTold : Type 0
 LinesAreTold = (eager : Bool) (s new : Scene) (events : List (ℕ × ScriptEvent)) (lines : List (ℕ × TraceLine))
     → Runs eager s events lines new → (front : List (ℕ × TraceLine)) (number : ℕ) (l : TraceLine) (behind : List (ℕ × TraceLine))
     → lines ≡ front ++ (number, l) ∷ behind
-    → IsTold s new number l behind ⊎ (IsExplained s new number l behind ⊎ IsTrue (is_of_no_event l))
+    → (step : IsStep eager s new events number front)
+    × (IsTold step.there step.next number l behind ⊎ (IsExplained step.there step.next number l behind ⊎ IsTrue (is_of_no_event l)))
 
 -- ---- answers
 
@@ -127,17 +149,24 @@ AnswerLinesAreRight = (last : Scene) (script : IsScripted last) (front : List (�
     (behind : List (ℕ × TraceLine)) → script.lines ≡ front ++ (number, line.Answer n query version rows) ∷ behind
     → IsRightAnswerLine last script number n query version rows behind
 
+-- ---- versions
+
+-- Of two answers to one client, the later one in a trace names no lower version.
+abbrev pub AnswerVersionsNeverFall : Type 0
+AnswerVersionsNeverFall = (last : Scene) (script : IsScripted last) (front between behind : List (ℕ × TraceLine)) (a b n first later v w rows more : ℕ)
+    → script.lines ≡ front ++ (a, line.Answer n first v rows) ∷ (between ++ (b, line.Answer n later w more) ∷ behind) → v ≤ w
+
 -- ---- asks
 
--- Behind the line of an ask stand its parts, and they ask just what was uncovered at that moment of the query that it is for, which the
--- script asks of the client.
-pub record IsRightAskLine (last : Scene) (script : IsScripted last) (number n request : ℕ) (fresh : Bool) (count : ℕ)
-    (behind : List (ℕ × TraceLine)) : Type 0 where
+-- Behind the line of an ask stand its parts, and they ask just what was uncovered, at that moment in the step that has the line's number,
+-- of the query that it is for, which the script asks of the client.
+pub record IsRightAskLine (last : Scene) (script : IsScripted last) (front : List (ℕ × TraceLine)) (number n request : ℕ) (fresh : Bool)
+    (count : ℕ) (behind : List (ℕ × TraceLine)) : Type 0 where
+  pub step : IsStep script.eager (start_of last script) last script.events number front
   pub event : Event
   pub drops : List Mark
   pub parts : List AskPart
-  pub moment : IsMoment (first_scene script.limits script.schema script.log_limit script.tables script.clients) last event
-      (Did (AskSent drops request fresh parts))
+  pub moment : IsMoment step.there step.next event (Did (AskSent drops request fresh parts))
   pub of_client : client_of event ≡ n
   pub uncovered : AsksTheUncovered moment.before moment.after event drops request fresh parts
   pub asked : IsAsked script.events n uncovered.query
@@ -149,7 +178,7 @@ pub record IsRightAskLine (last : Scene) (script : IsScripted last) (number n re
 abbrev pub AskLinesAreRight : Type 0
 AskLinesAreRight = (last : Scene) (script : IsScripted last) (front : List (ℕ × TraceLine)) (number n request : ℕ) (fresh : Bool)
     (count : ℕ) (behind : List (ℕ × TraceLine)) → script.lines ≡ front ++ (number, line.Ask n request fresh count) ∷ behind
-    → IsRightAskLine last script number n request fresh count behind
+    → IsRightAskLine last script front number n request fresh count behind
 
 -- ---- covered queries
 

@@ -5,7 +5,7 @@ ghost use Rattle.sr_session.specs.Scenes.{Scene};
 ghost use Rattle.sr_runs.specs.Example.{events, lines, schema, start, trace};
 ghost use Rattle.sr_runs.specs.EvictedClass.{evicting_events, evicting_lines, evicting_start, evicting_trace};
 ghost use Rattle.sr_runs.specs.Runs.{Runs};
-ghost use Rattle.sr_runs.specs.Headline.{ACoveredQueryAsksNothing, AnswerLinesAreRight, AskLinesAreRight, LinesAreTold, ScriptsReach, ScriptsStand, StepsAreEvents};
+ghost use Rattle.sr_runs.specs.Headline.{ACoveredQueryAsksNothing, AnswerLinesAreRight, AnswerVersionsNeverFall, AskLinesAreRight, LinesAreTold, ScriptsReach, ScriptsStand, StepsAreEvents};
 
 /// Each step of a script is events of the scene, one after another: deliveries too, of a settle or where delivery is eager.
 pub fn steps_are_events()
@@ -19,8 +19,8 @@ pub fn scripts_reach()
     ensures stand { ScriptsStand }
 {}
 
-/// Each line of a trace is one of the lines of an event at its moment, which stand together; but for the line that ends a settle, and
-/// that of a write whose text is too long.
+/// Each line of a trace is one of the lines of an event or of an explanation, which stand together, at its moment in the step of the
+/// script's event that has its number; but for the line that ends a settle, and that of a write whose text is too long.
 pub fn lines_are_told()
     ensures told { LinesAreTold }
 {}
@@ -31,8 +31,13 @@ pub fn answer_lines_are_right()
     ensures rows { AnswerLinesAreRight }
 {}
 
-/// Wherever the trace of a script has the line of an ask, its parts stand behind it, and they ask just what was uncovered at that moment
-/// of the query that it is for, which a line of the script asks of the client.
+/// Of two answers to one client, the later one in the trace of a script names no lower version.
+pub fn answer_versions_never_fall()
+    ensures versions { AnswerVersionsNeverFall }
+{}
+
+/// Wherever the trace of a script has the line of an ask, its parts stand behind it, and they ask just what was uncovered, at that moment
+/// in the step that has the line's number, of the query that it is for, which a line of the script asks of the client.
 pub fn ask_lines_are_right()
     ensures parts { AskLinesAreRight }
 {}

@@ -1,7 +1,8 @@
 //! Reading one statement.
-ghost use Rattle.std.specs.Prelude.{◌≡◌, ◌<◌, ◌≤◌, ◌^◌, length, Ok, Err, IfOk, IsErrOf};
+ghost use Rattle.std.specs.Prelude.{◌≡◌, ◌<◌, ◌≤◌, ◌^◌, codes, length, Ok, Err, IfOk, IsErrOf};
 ghost use Rattle.sr_cell.specs.declared.fault.Fault.{Fault as TheFault};
 ghost use Rattle.sr_cell.specs.declared.list.No.TheVariants.{Refused};
+ghost use Rattle.sr_grammar.specs.Tokens.{Mark, is};
 ghost use Rattle.sr_grammar.specs.Trees.{statement_of};
 ghost use Rattle.sr_grammar.specs.Says.{most_levels, SaysShort, Says};
 ghost use Rattle.sr_grammar.specs.Seen.{statement_seen};
@@ -49,15 +50,33 @@ fn tree(alloc: Global, cursor: &mut Cursor) -> Result<Parsed, Stop>
     Ok(Parsed::Statement(Statement::Delete(delete(alloc, cursor)?)))
 }
 
+/// Reads a semicolon, if one comes next: its place.
+fn semicolon(cursor: &mut Cursor) -> Result<Option<u32>, Stop>
+    ensures { Reads (λ at. at) (grammar.maybe (is Mark (codes ";")) (grammar.mark (codes ";"))) cursor.old result cursor.new }
+{
+    if !cursor.is_mark(";") {
+        return Ok(None);
+    }
+    let place = cursor.mark(";")?;
+    Ok(Some(place))
+}
+
 #[tactic(auto, unfolding(sr_grammar_laws::specs::Readers::statement))]
 fn statement(alloc: Global, cursor: &mut Cursor) -> Result<Parsed, Stop>
     ensures { Reads tree_seen (grammar.statement most_levels) cursor.old result cursor.new }
 {
     let tree = tree(alloc, cursor)?;
-    if cursor.is_mark(";") {
-        cursor.mark(";")?;
+    semicolon(cursor).and(Ok(tree))
+}
+
+/// Whether nothing more comes.
+fn end(cursor: &Cursor) -> Result<(), Stop>
+    ensures { Reads (λ over. over) (grammar.end tt) cursor.now result cursor.now }
+{
+    if cursor.is_end() {
+        return Ok(());
     }
-    Ok(tree)
+    Err(Stop::Grammar)
 }
 
 #[tactic(auto, unfolding(sr_grammar_laws::specs::Readers::whole))]
@@ -65,10 +84,7 @@ fn whole(alloc: Global, cursor: &mut Cursor) -> Result<Parsed, Stop>
     ensures { Reads tree_seen (grammar.whole most_levels) cursor.old result cursor.new }
 {
     let tree = statement(alloc, cursor)?;
-    if !cursor.is_end() {
-        return Err(Stop::Grammar);
-    }
-    Ok(tree)
+    end(cursor).and(Ok(tree))
 }
 
 /// The fault of a text where reading stops at the cursor; where no token begins there, that is the fault.

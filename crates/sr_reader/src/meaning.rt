@@ -37,13 +37,17 @@ fn said(alloc: Global, sql: &str) -> Result<Result<Statement, Fault>, NoMemory>
 pub(crate) fn table_of(alloc: Global, sql: &str) -> Result<Option<Table>, NoMemory>
     ensures { IfOk result (IsCreated sql.now) }
 {
-    let Ok(statement) = said(alloc, sql)? else {
-        return Ok(None);
+    let statement = match said(alloc, sql)? {
+        Ok(statement) => statement,
+        Err(_) => return Ok(None),
     };
-    let Statement::Create(table) = statement else {
-        return Ok(None);
-    };
-    Ok(Some(table))
+    match statement {
+        Statement::Create(table) => Ok(Some(table)),
+        other => {
+            drop(other);
+            Ok(None)
+        }
+    }
 }
 
 /// What a statement writes, or why it writes nothing.
@@ -71,7 +75,9 @@ fn write_said(
     requires tables { IsTrue (list_all is_table schema.now) }
     ensures { IfOk result (λ w. bound_write schema.now (statement_seen statement) ≡ statement_of w) }
 {
-    bound_write(alloc, schema, &statement)
+    let written = bound_write(alloc, schema, &statement);
+    drop(statement);
+    written
 }
 
 /// What a text writes to the tables, or why it is refused.
@@ -116,7 +122,9 @@ fn query_said(
     requires tables { IsTrue (list_all is_table schema.now) }
     ensures { IfOk result (IsBound schema.now (statement_seen statement)) }
 {
-    bound_query(alloc, schema, &statement)
+    let asked = bound_query(alloc, schema, &statement);
+    drop(statement);
+    asked
 }
 
 /// What a text asks, or why it is refused.

@@ -1,4 +1,5 @@
 //! Prints how fast frames are written and read, and what decoding answers to frames that were changed.
+ghost use Rattle.std.specs.Prelude.{IfOk};
 ghost use Rattle.sr_wire.specs.Limits.{IsSendable};
 
 use crate::messages::{answer, ask, hello, notice, write};
@@ -44,11 +45,11 @@ pub fn frames(rt: &HostRuntime) -> io::Result<()> {
         width: 3000,
     };
     match answer(alloc, &mut random, 256) {
-        Ok(message) => print_times(rt, "256 rows", &message)?,
+        Ok(message) => print_message(rt, "256 rows", message)?,
         Err(NoMemory) => return println!(rt; "no memory"),
     }
     match ask(alloc, &mut random, 1000) {
-        Ok(message) => print_times(rt, "1000 rects", &message)?,
+        Ok(message) => print_message(rt, "1000 rects", message)?,
         Err(NoMemory) => return println!(rt; "no memory"),
     }
     let start = Instant::now(rt)?;
@@ -56,6 +57,15 @@ pub fn frames(rt: &HostRuntime) -> io::Result<()> {
         Ok(answers) => print_answers(rt, answers, start.elapsed(rt)?.as_millis()),
         Err(NoMemory) => println!(rt; "no memory"),
     }
+}
+
+/// As `print_times`, of a message that nothing needs any more.
+fn print_message(rt: &HostRuntime, name: &str, message: Message) -> io::Result<()>
+    requires { IsSendable message }
+{
+    let printed = print_times(rt, name, &message);
+    drop(message);
+    printed
 }
 
 /// Measures a message's frame, and prints the speeds.
@@ -113,22 +123,32 @@ fn print_speed(
 fn measure(rt: &HostRuntime, message: &Message) -> io::Result<Option<Times>>
     requires { IsSendable message.now }
 {
+    match side_by_side(rt.alloc(), message) {
+        Ok(frames) => measure_frames(rt, message, &frames),
+        Err(NoMemory) => Ok(None),
+    }
+}
+
+/// Measures a message's frame, of which some stand side by side.
+fn measure_frames(
+    rt: &HostRuntime,
+    message: &Message,
+    frames: &Seq<Bytes>,
+) -> io::Result<Option<Times>>
+    requires { IsSendable message.now }
+{
     let alloc = rt.alloc();
-    let frames = match side_by_side(alloc, message) {
-        Ok(frames) => frames,
-        Err(NoMemory) => return Ok(None),
-    };
     let start = Instant::now(rt)?;
-    let copy = copy_often(alloc, &frames, TIMES);
+    let copy = copy_often(alloc, frames, TIMES);
     let copied = start.elapsed(rt)?.as_micros();
     let start = Instant::now(rt)?;
     let encode = encode_often(alloc, message, FRAMES * TIMES);
     let encoded = start.elapsed(rt)?.as_micros();
     let start = Instant::now(rt)?;
-    let decode = decode_often(&frames, TIMES);
+    let decode = decode_often(frames, TIMES);
     let decoded = start.elapsed(rt)?.as_micros();
     let start = Instant::now(rt)?;
-    let seen = read_often(&frames, TIMES);
+    let seen = read_often(frames, TIMES);
     let read = start.elapsed(rt)?.as_micros();
     match (copy, encode) {
         (Ok(copy), Ok(encode)) => Ok(Some(Times {
@@ -160,12 +180,39 @@ fn side_by_side(alloc: Global, message: &Message) -> Result<Seq<Bytes>, NoMemory
 /// The answers to five frames of several kinds, each of which is changed so many times.
 fn changed(alloc: Global, random: &mut Random) -> Result<Answers, NoMemory> {
     let mut frames = Seq::new(alloc);
-    frames.push(encode(alloc, &answer(alloc, random, 4)?)?)?;
-    frames.push(encode(alloc, &ask(alloc, random, 6)?)?)?;
-    frames.push(encode(alloc, &notice(alloc, random)?)?)?;
-    frames.push(encode(alloc, &hello())?)?;
-    frames.push(encode(alloc, &write(alloc)?)?)?;
+    push_frames(alloc, &mut frames, random)?;
     mutate(alloc, &frames, random, CHANGES)
+}
+
+/// Five frames of several kinds more.
+fn push_frames(
+    alloc: Global,
+    frames: &mut Seq<Bytes>,
+    random: &mut Random,
+) -> Result<(), NoMemory> {
+    push_frame(alloc, frames, answer(alloc, random, 4))?;
+    push_frame(alloc, frames, ask(alloc, random, 6))?;
+    push_frame(alloc, frames, notice(alloc, random))?;
+    push_frame(alloc, frames, Ok(hello()))?;
+    push_frame(alloc, frames, write(alloc))
+}
+
+/// The frame of one message more, if there is memory for it.
+fn push_frame(
+    alloc: Global,
+    frames: &mut Seq<Bytes>,
+    message: Result<Message, NoMemory>,
+) -> Result<(), NoMemory>
+    requires { IfOk message (λ message. IsSendable message) }
+{
+    match message {
+        Ok(message) => {
+            let frame = encode(alloc, &message);
+            drop(message);
+            frames.push(frame?)
+        }
+        Err(want) => Err(want),
+    }
 }
 
 fn print_answers(rt: &HostRuntime, answers: Answers, millis: u128) -> io::Result<()> {

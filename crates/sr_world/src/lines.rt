@@ -99,12 +99,20 @@ pub fn told_of_took(alloc: Global, client: u8, took: Took) -> Result<Told, NoMem
         }),
         Took::Laid => told_with(Seq::new(alloc), TraceLine::ClientLaid { client }, None),
         Took::Applied { version, marks } => {
-            let last = TraceLine::ClientApplied { client, version };
-            told_with(mark_lines(alloc, client, marks)?, last, None)
+            told_marked(
+                alloc,
+                client,
+                marks,
+                TraceLine::ClientApplied { client, version },
+            )
         }
         Took::Forgot { version, marks } => {
-            let last = TraceLine::ClientForgot { client, version };
-            told_with(mark_lines(alloc, client, marks)?, last, None)
+            told_marked(
+                alloc,
+                client,
+                marks,
+                TraceLine::ClientForgot { client, version },
+            )
         }
         Took::Written {
             request,
@@ -116,7 +124,7 @@ pub fn told_of_took(alloc: Global, client: u8, took: Took) -> Result<Told, NoMem
                 request,
                 version,
             };
-            told_with(mark_lines(alloc, client, marks)?, last, None)
+            told_marked(alloc, client, marks, last)
         }
         Took::Refused {
             request,
@@ -128,7 +136,7 @@ pub fn told_of_took(alloc: Global, client: u8, took: Took) -> Result<Told, NoMem
                 request,
                 fault,
             };
-            told_with(mark_lines(alloc, client, marks)?, last, None)
+            told_marked(alloc, client, marks, last)
         }
         Took::Welcomed {
             version,
@@ -140,7 +148,7 @@ pub fn told_of_took(alloc: Global, client: u8, took: Took) -> Result<Told, NoMem
                 version,
                 kept,
             };
-            told_with(mark_lines(alloc, client, marks)?, last, None)
+            told_marked(alloc, client, marks, last)
         }
     }
 }
@@ -305,6 +313,14 @@ fn told_with(lines: TraceLines, last: TraceLine, sent: Option<Message>) -> Resul
     let mut lines = lines;
     lines.push(last)?;
     Ok(Told { lines, sent })
+}
+
+/// The lines of marks with the last one of their step; nothing is sent.
+fn told_marked(alloc: Global, client: u8, marks: Marks, last: TraceLine) -> Result<Told, NoMemory>
+    ensures lines { IfOk result (λ told. told.lines ≡ mark_lines client marks ++ last ∷ []) }
+    ensures sent { IfOk result (λ told. told.sent ≡ None) }
+{
+    told_with(mark_lines(alloc, client, marks)?, last, None)
 }
 
 /// The answer of a query, its rows, and the marks.

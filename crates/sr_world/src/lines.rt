@@ -1,5 +1,6 @@
 //! The lines of what a call answered.
 ghost use Rattle.std.specs.Prelude.{◌≡◌, ◌<◌, ◌^◌, ℕ, true, List, [], ◌∷◌, ◌++◌, length, map, option_to_list, None, Ok, IfOk, OnOk};
+ghost use Rattle.sr_cell.specs.declared.cause.Cause.TheVariants.{Asked as AskedCause};
 ghost use Rattle.sr_cell.specs.declared.fault.Fault.{Fault as TheFault};
 ghost use Rattle.sr_model.specs.Queries.{Query as TheQuery};
 ghost use Rattle.sr_script.specs.declared.line.TraceLine.TheVariants.{WriteSql};
@@ -11,6 +12,7 @@ ghost use Rattle.sr_client.specs.declared.steps.WriteStep.TheVariants.{Sql};
 ghost use Rattle.sr_client.specs.Stands.{out_of};
 ghost use Rattle.sr_client.specs.Steps.{SaysCut, SaysEvict, SaysQuery, SaysResume, SaysTook, SaysWrite};
 ghost use Rattle.sr_explain.specs.Telling.{explain_lines};
+ghost use Rattle.sr_store.specs.Stores.{drop_of};
 ghost use Rattle.sr_runs.specs.Lines.{answer_lines, cut_line, details, evict_line, mark_line, mark_lines, part_line, query_line, resume_line, served_line, taken_line, write_line};
 ghost use Rattle.sr_world.specs.Told.{QueryAsksFew, TookAsksFew, asked_lines, ended_lines};
 
@@ -22,6 +24,7 @@ use sr_explain::explanation::Explanation;
 use sr_explain::lines::lines;
 use sr_history::mark::{Mark, Marks};
 use sr_message::message::{AskPart, Message};
+use sr_region::region::Region;
 use sr_script::line::{FailKind, RequestKind, TraceLine, TraceLines};
 use std::alloc::Global;
 
@@ -210,14 +213,7 @@ pub fn lines_of_evict(alloc: Global, client: u8, step: EvictStep) -> Result<Trac
     match step {
         EvictStep::Dropped(region) => {
             let mut lines = Seq::with_room(alloc, 2)?;
-            lines.push(TraceLine::Drop {
-                client,
-                cause: Cause::Asked,
-                table: region.table,
-                attrs: region.attrs,
-                stamp: region.stamp,
-                rects: region.rects,
-            })?;
+            lines.push(drop_line(client, region))?;
             lines.push(TraceLine::EvictDropped { client })?;
             Ok(lines)
         }
@@ -226,6 +222,20 @@ pub fn lines_of_evict(alloc: Global, client: u8, step: EvictStep) -> Result<Trac
             let count = count as u64;
             one_line(alloc, TraceLine::EvictNone { client, count })
         }
+    }
+}
+
+/// The line of a region that was dropped since that was asked for.
+fn drop_line(client: u8, region: Region) -> TraceLine
+    ensures { result ≡ mark_line client (drop_of AskedCause region) }
+{
+    TraceLine::Drop {
+        client,
+        cause: Cause::Asked,
+        table: region.table,
+        attrs: region.attrs,
+        stamp: region.stamp,
+        rects: region.rects,
     }
 }
 

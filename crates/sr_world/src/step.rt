@@ -34,6 +34,7 @@ impl World {
         ensures stays { SameSetting self.old self.new }
     {
         if self.spent {
+            drop(event);
             return Err(NoMemory);
         }
         match self.happen(alloc, event) {

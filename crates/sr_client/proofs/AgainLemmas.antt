@@ -160,10 +160,10 @@ module _ (c : Client) (o : code.AskOut) (number version : ℕ) (again : is_given
   }) stands
 
 -- the same, of what calls gave
-pub again-of : (c : Client) (o : code.AskOut) (number version : ℕ) → is_given_up o.fresh c.laid ≡ true → (parts : List AskPart) (drops : List Mark) (store : Store) (laid : List Message) (message : Message)
-    → parts ≡ whole_asks o.query.parts → drops ≡ map (drop_of Lapsed) c.store.regions → store ≡ record c.store { regions = [] } → laid ≡ [] → message ≡ Ask c.next_request true parts → Stands (asking c o)
-    → Takes (asking c o) (Reply number version)
-    (record c { version = version; next_request = c.next_request + 1; out = Some (request.Ask (record { number = c.next_request; query_number = o.query_number; query = o.query; fresh = true; parts = parts })); laid = laid; store = store })
-    (took.Asked c.next_request message drops)
-again-of c o number version again parts drops store laid message parts_are drops_are store_is laid_is told stands =
-    rw (told, laid_is, store_is, drops_are, parts_are) (takes-again c o number version again stands)
+pub again-of : (c : Client) (o : code.AskOut) (number version : ℕ) → is_given_up o.fresh c.laid ≡ true
+    → (drops : List Mark) (store : Store) (laid : List Message) (next : code.AskOut) (message : Message) (after : Client)
+    → drops ≡ map (drop_of Lapsed) c.store.regions → store ≡ record c.store { regions = [] } → laid ≡ [] → next ≡ second c o → message ≡ Ask next.number next.fresh next.parts
+    → after ≡ record c { next_request = next.number + 1; out = Some (request.Ask next); store = store } → Stands (asking c o)
+    → Takes (asking c o) (Reply number version) (record after { version = version; laid = laid }) (took.Asked c.next_request message drops)
+again-of c o number version again drops store laid next message after drops_are store_is laid_is next_is told after_is stands =
+    rw (told, after_is, laid_is, store_is, drops_are, next_is) (takes-again c o number version again stands)

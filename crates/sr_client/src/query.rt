@@ -1,8 +1,9 @@
 //! What a client does with a query.
-ghost use Rattle.std.specs.Prelude.{◌≡◌, ℕ, ◌+◌, ◌<◌, ◌≤◌, ◌^◌, false, [], length, None, IfOk, OnErr, IsTrue};
+ghost use Rattle.std.specs.Prelude.{◌≡◌, ℕ, ◌+◌, ◌<◌, ◌≤◌, ◌^◌, false, [], length, Some, None, IfOk, OnOk, OnErr, IsTrue};
 ghost use Rattle.sr_message.specs.declared.message.Message.TheVariants.{Ask as AskMessage};
 ghost use Rattle.sr_message.specs.Sizes.{most_rects, count_asked};
 ghost use Rattle.sr_model.specs.Queries.{Query as TheQuery};
+ghost use Rattle.sr_client.specs.declared.client.Request.TheVariants.{Ask as AskRequest};
 ghost use Rattle.sr_client.specs.Asking.{AsksRest, LeavesRest};
 ghost use Rattle.sr_client.specs.Bound.{IsMeaning};
 ghost use Rattle.sr_client.specs.Cutting.{AreCutAlong, IsOver};
@@ -158,18 +159,29 @@ impl Client {
         ensures numbers_left { OnErr result (KeepsNumbers self.old self.new) }
     {
         let out = ask_out(self, query, asks);
-        let message = message_of(alloc, &out)?;
         let query_number = out.query_number;
         let request = out.number;
+        let message = self.put_out(alloc, out)?;
         self.queries = query_number;
-        self.next_request = request + 1;
-        self.out = Some(Request::Ask(out));
         Ok(QueryStep::Asked {
             query: query_number,
             request,
             message,
             marks: drops,
         })
+    }
+
+    /// Puts an ask out, and answers its message.
+    pub(crate) fn put_out(&mut self, alloc: Global, out: AskOut) -> Result<Message, NoMemory>
+        requires room { out.number < 2 ^ 63 }
+        ensures message { IfOk result (λ message. message ≡ AskMessage out.number out.fresh out.parts) }
+        ensures out { OnOk result (self.new ≡ record self.old { next_request = out.number + 1; out = Some (AskRequest out) }) }
+        ensures unchanged { OnErr result (self.new ≡ self.old) }
+    {
+        let message = message_of(alloc, &out)?;
+        self.next_request = out.number + 1;
+        self.out = Some(Request::Ask(out));
+        Ok(message)
     }
 }
 
@@ -188,7 +200,7 @@ fn ask_out(client: &Client, query: Query, asks: AskParts) -> AskOut
 }
 
 /// The message of an ask.
-pub(crate) fn message_of(alloc: Global, out: &AskOut) -> Result<Message, NoMemory>
+fn message_of(alloc: Global, out: &AskOut) -> Result<Message, NoMemory>
     ensures { IfOk result (λ message. message ≡ AskMessage out.now.number out.now.fresh out.now.parts) }
 {
     Ok(Message::Ask {

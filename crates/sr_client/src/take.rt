@@ -13,6 +13,7 @@ ghost use Rattle.sr_session.specs.Regions.{after_message, after_messages};
 ghost use Rattle.sr_session.specs.Rules.{is_given_up};
 ghost use Rattle.sr_session.specs.Walks.{IsLaid, has_lapse, is_lapse};
 ghost use Rattle.sr_client.specs.declared.steps.Took.TheVariants.{Bad};
+ghost use Rattle.sr_client.specs.Asking.{whole_asks};
 ghost use Rattle.sr_client.specs.Arriving.{arrivals_of, more_at, unfilled, with_message, with_messages};
 ghost use Rattle.sr_client.specs.Laying.{TellsRows, asking, with_brought};
 ghost use Rattle.sr_client.specs.Sends.{TookSendsWell};
@@ -23,7 +24,6 @@ use crate::answer::answer;
 use crate::asks::whole_asks;
 use crate::client::{AskOut, Client, Request};
 use crate::misfit::misfit;
-use crate::query::message_of;
 use crate::steps::Took;
 use crate::values::{know_messages, know_told};
 use sr_cell::cause::Cause;
@@ -379,27 +379,32 @@ impl Client {
         ensures cuts { self.new.cuts ≡ self.old.cuts }
         ensures numbers_left { OnErr result (KeepsNumbers self.old self.new) }
     {
-        let parts = whole_asks(alloc, out.query.parts.as_slice())?;
-        let marks = self.store.drop_all(alloc, Cause::Lapsed)?;
         let request = self.next_request;
-        let second = AskOut {
-            number: request,
-            query_number: out.query_number,
-            query: out.query,
-            fresh: true,
-            parts,
-        };
-        let message = message_of(alloc, &second)?;
+        let second = second_ask(alloc, out, request)?;
+        let marks = self.store.drop_all(alloc, Cause::Lapsed)?;
+        let message = self.put_out(alloc, second)?;
         self.version = version;
-        self.next_request = request + 1;
         self.laid = Seq::new(alloc);
-        self.out = Some(Request::Ask(second));
         Ok(Took::Asked {
             request,
             message,
             marks,
         })
     }
+}
+
+/// The ask of the whole of the same query, with that number. It is fresh, since nothing is held then.
+fn second_ask(alloc: Global, out: AskOut, number: u64) -> Result<AskOut, NoMemory>
+    ensures { IfOk result (λ second. second ≡ record { number = number; query_number = out.query_number; query = out.query; fresh = true; parts = whole_asks out.query.parts }) }
+{
+    let parts = whole_asks(alloc, out.query.parts.as_slice())?;
+    Ok(AskOut {
+        number,
+        query_number: out.query_number,
+        query: out.query,
+        fresh: true,
+        parts,
+    })
 }
 
 /// Whether the rows that came are given up: a Lapse was laid by, under an ask that is not fresh.

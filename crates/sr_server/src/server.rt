@@ -92,7 +92,10 @@ impl Server {
         // the log has room before the tables change, so that nothing can fail behind them
         match self.log.reserve() {
             Ok(()) => {}
-            Err(_) => return Err(No::NoMemory),
+            Err(_) => {
+                drop(write);
+                return Err(No::NoMemory);
+            }
         }
         match self.tables.write(alloc, write) {
             Ok(changes) => Ok(self.add_version(changes)),
@@ -285,7 +288,9 @@ impl Server {
         ensures refused { (fault : TheFault) → IsErrOf result (Refused fault) → done_by self.old.tables.schema (statement_seen statement) self.old.tables.rows ≡ Err fault }
         ensures unchanged { OnErr result (self.new ≡ record self.old { log = record self.old.log { room = self.new.log.room } }) }
     {
-        self.run(alloc, &statement)
+        let done = self.run(alloc, &statement);
+        drop(statement);
+        done
     }
 
     /// Carries out a statement that is not bound yet, or refuses it.

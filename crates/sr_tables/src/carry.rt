@@ -50,8 +50,16 @@ pub(crate) fn carry_out(
             table,
             sets,
             filter,
-        } => update_in(alloc, schema, all, table, &sets, &filter),
-        Write::Delete { table, filter } => delete_from(alloc, schema, all, table, &filter),
+        } => {
+            let changes = update_in(alloc, schema, all, table, &sets, &filter);
+            drop(filter);
+            changes
+        }
+        Write::Delete { table, filter } => {
+            let changes = delete_from(alloc, schema, all, table, &filter);
+            drop(filter);
+            changes
+        }
     }
 }
 

@@ -1,4 +1,4 @@
-//! Tests of the commands: `run` over a host in memory, and the program in two processes.
+//! Tests of the commands: their words, `run` over a host in memory, the real host, and the program in two processes.
 #![tactic(auto)]
 
 #[cfg(test)]
@@ -6,8 +6,12 @@ mod clients;
 #[cfg(test)]
 mod common;
 #[cfg(test)]
+mod hosts;
+#[cfg(test)]
 mod processes;
 #[cfg(test)]
 mod programs;
 #[cfg(test)]
 mod replays;
+#[cfg(test)]
+mod words;

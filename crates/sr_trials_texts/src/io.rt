@@ -1,4 +1,6 @@
-//! Runs over the forms in memory, with each call failing in turn, and over the real host: a file is read, and it links itself.
+//! Runs over the forms in memory, with each call failing in turn.
+ghost use Rattle.std.specs.Prelude.{◌<◌};
+
 use sr_cell::list::{Bytes, No, NoMemory, Seq};
 use sr_cell::text::Text;
 use sr_io::fails::Fails;
@@ -8,7 +10,6 @@ use sr_io::mem_link::MemLink;
 use sr_io::mem_sink::MemSink;
 use sr_io::mem_source::MemSource;
 use sr_io::outside::{Dock, Failed, Host, Link, Sink, Source};
-use sr_io::real_host::RealHost;
 use sr_io::whole::{ReadAll, read_all, send_all, write_all};
 use std::alloc::Global;
 use std::test::Fail;
@@ -43,196 +44,258 @@ fn dock(alloc: Global, fails: &[u64]) -> Result<MemHost, NoMemory> {
     MemHost::new(alloc, Seq::new(alloc), peers, numbers(alloc, fails)?, 3)
 }
 
-#[test]
-fn reads_no_more_than_the_limit(rt: HostRuntime) -> Result<(), Fail> {
-    let alloc = rt.alloc();
-    for (limit, fits) in [(4, false), (5, true), (6, true)] {
-        let mut source = MemSource::new(list(alloc, b"hello")?, Seq::new(alloc), 2);
-        match read_all(alloc, &mut source, limit) {
-            Ok(bytes) => {
-                assert!(rt; fits, "at {limit}");
-                assert_eq!(rt; bytes.as_slice(), b"hello".as_slice());
-            }
-            Err(no) => {
-                assert!(rt; !fits, "at {limit}");
-                assert_eq!(rt; no, No::Refused(ReadAll::TooLong));
-            }
-        }
+/// Whether the call failed.
+fn fails<T: Drop>(came: Result<T, No<Failed>>) -> bool {
+    matches!(came, Err(No::Refused(Failed)))
+}
+
+/// Whether there are just these bytes.
+fn are(came: Option<Bytes>, wanted: &[u8]) -> bool {
+    match came {
+        Some(bytes) => bytes.as_slice() == wanted,
+        None => false,
     }
-    Ok(())
+}
+
+/// What is read of `hello`, two bytes at a time.
+fn read_up_to(alloc: Global, limit: usize) -> Result<Bytes, No<ReadAll>> {
+    let mut source = MemSource::new(list(alloc, b"hello")?, Seq::new(alloc), 2);
+    read_all(alloc, &mut source, limit)
+}
+
+fn is_too_long(came: Result<Bytes, No<ReadAll>>) -> bool {
+    matches!(came, Err(No::Refused(ReadAll::TooLong)))
 }
 
 #[test]
-fn writes_all(rt: HostRuntime) -> Result<(), Fail> {
+fn reads_no_more_than_the_limit(rt: HostRuntime) {
     let alloc = rt.alloc();
-    for piece in [1, 2, 3] {
-        let mut sink = MemSink::new(alloc, Seq::new(alloc), piece);
-        write_all(&mut sink, b"ab")?;
-        assert_eq!(rt;
-            sink.written(alloc)?.as_slice(),
-            b"ab".as_slice(),
-            "at {piece}"
-        );
-    }
-    Ok(())
+    assert!(rt; is_too_long(read_up_to(alloc, 4)));
+    assert!(rt; are(read_up_to(alloc, 5).ok(), b"hello"));
+    assert!(rt; are(read_up_to(alloc, 6).ok(), b"hello"));
+}
+
+/// What a sink has of `ab` that takes so many bytes at a time.
+fn written_by(alloc: Global, piece: usize) -> Option<Bytes>
+    requires { 0 < piece }
+{
+    let mut sink = MemSink::new(alloc, Seq::new(alloc), piece);
+    let _ = write_all(&mut sink, b"ab");
+    sink.written(alloc).ok()
 }
 
 #[test]
-fn a_host_reads_writes_and_complains(rt: HostRuntime) -> Result<(), Fail> {
+fn writes_all(rt: HostRuntime) {
     let alloc = rt.alloc();
-    let mut host = host(alloc, &[])?;
-    host.pick("greeting")?;
-    assert_eq!(rt;
-        read_all(alloc, &mut host, 5)?.as_slice(),
-        b"hello".as_slice()
-    );
-    write_all(&mut host, b"ab")?;
+    assert!(rt; are(written_by(alloc, 1), b"ab"));
+    assert!(rt; are(written_by(alloc, 2), b"ab"));
+    assert!(rt; are(written_by(alloc, 3), b"ab"));
+}
+
+/// What a host reads under the name that it has picked.
+fn picked(alloc: Global) -> Option<Bytes> {
+    let mut host = host(alloc, &[]).ok()?;
+    let _ = host.pick("greeting");
+    read_all(alloc, &mut host, 5).ok()
+}
+
+fn written(alloc: Global) -> Option<Bytes> {
+    let mut host = host(alloc, &[]).ok()?;
+    let _ = write_all(&mut host, b"ab");
+    host.written(alloc).ok()
+}
+
+fn complained(alloc: Global) -> Option<Bytes> {
+    let mut host = host(alloc, &[]).ok()?;
     host.complain(b"no such");
     host.complain(b" file");
-    assert_eq!(rt; host.pick("gone"), Err(No::Refused(Failed)));
-    assert_eq!(rt; (host.read_faults(), host.write_faults()), (1, 0));
-    assert_eq!(rt; host.written(alloc)?.as_slice(), b"ab".as_slice());
-    assert_eq!(rt;
-        host.complained(alloc)?.as_slice(),
-        b"no such file".as_slice()
-    );
+    host.complained(alloc).ok()
+}
+
+#[test]
+fn a_host_reads_writes_and_complains(rt: HostRuntime) {
+    let alloc = rt.alloc();
+    assert!(rt; are(picked(alloc), b"hello"));
+    assert!(rt; are(written(alloc), b"ab"));
+    assert!(rt; are(complained(alloc), b"no such file"));
+}
+
+/// Whether a name is not found, and how many calls of reading and of writing have failed then.
+fn missed(alloc: Global) -> Result<(bool, u64, u64), NoMemory> {
+    let mut host = host(alloc, &[])?;
+    let is_missed = fails(host.pick("gone"));
+    Ok((is_missed, host.read_faults(), host.write_faults()))
+}
+
+#[test]
+fn a_name_that_is_not_held_is_a_fault_of_reading(rt: HostRuntime) -> Result<(), Fail> {
+    assert!(rt; missed(rt.alloc())? == (true, 1, 0));
     Ok(())
+}
+
+// The number of the call that is to fail, and which of four calls fail then.
+static CALLS: [(u64, [bool; 4]); 5] = [
+    (1, [true, false, false, false]),
+    (2, [false, true, false, false]),
+    (3, [false, false, true, false]),
+    (4, [false, false, false, true]),
+    (5, [false, false, false, false]),
+];
+
+fn failed_calls(alloc: Global, number: u64) -> Result<[bool; 4], NoMemory> {
+    let mut room = [0u8; 2];
+    let mut host = host(alloc, &[number])?;
+    Ok([
+        fails(host.pick("greeting")),
+        fails(host.read(&mut room)),
+        fails(host.write(b"ab")),
+        fails(host.read(&mut room)),
+    ])
 }
 
 #[test]
 fn each_call_fails_at_its_number(rt: HostRuntime) -> Result<(), Fail> {
-    let alloc = rt.alloc();
-    let mut room = [0u8; 2];
-    for (number, fails) in [
-        (1, [true, false, false, false]),
-        (2, [false, true, false, false]),
-        (3, [false, false, true, false]),
-        (4, [false, false, false, true]),
-        (5, [false, false, false, false]),
-    ] {
-        let mut host = host(alloc, &[number])?;
-        let failed = [
-            host.pick("greeting") == Err(No::Refused(Failed)),
-            host.read(&mut room) == Err(No::Refused(Failed)),
-            host.write(b"ab") == Err(No::Refused(Failed)),
-            host.read(&mut room) == Err(No::Refused(Failed)),
-        ];
-        assert_eq!(rt; failed, fails, "at {number}");
+    for (number, wanted) in CALLS {
+        assert!(rt; failed_calls(rt.alloc(), number)? == wanted, "at {number}");
     }
     Ok(())
+}
+
+// What the first and the third of four calls to fail comes to.
+const TWO_OF_FOUR: [bool; 4] = [true, false, true, false];
+
+fn failed_reads(alloc: Global) -> Result<([bool; 4], u64), NoMemory> {
+    let mut room = [0u8; 2];
+    let mut source = MemSource::new(list(alloc, b"hello")?, numbers(alloc, &[1, 3])?, 2);
+    let failed = [
+        fails(source.read(&mut room)),
+        fails(source.read(&mut room)),
+        fails(source.read(&mut room)),
+        fails(source.read(&mut room)),
+    ];
+    Ok((failed, source.read_faults()))
+}
+
+fn failed_writes(alloc: Global) -> Result<([bool; 4], u64), NoMemory> {
+    let mut sink = MemSink::new(alloc, numbers(alloc, &[1, 3])?, 2);
+    let failed = [
+        fails(sink.write(b"ab")),
+        fails(sink.write(b"ab")),
+        fails(sink.write(b"ab")),
+        fails(sink.write(b"ab")),
+    ];
+    Ok((failed, sink.write_faults()))
 }
 
 #[test]
 fn a_source_and_a_sink_fail_at_their_numbers(rt: HostRuntime) -> Result<(), Fail> {
     let alloc = rt.alloc();
-    let mut room = [0u8; 2];
-    let mut source = MemSource::new(list(alloc, b"hello")?, numbers(alloc, &[1, 3])?, 2);
-    let mut sink = MemSink::new(alloc, numbers(alloc, &[1, 3])?, 2);
-    for fails in [true, false, true, false] {
-        assert_eq!(rt; source.read(&mut room) == Err(No::Refused(Failed)), fails);
-        assert_eq!(rt; sink.write(b"ab") == Err(No::Refused(Failed)), fails);
-    }
-    assert_eq!(rt; (source.read_faults(), sink.write_faults()), (2, 2));
+    assert!(rt; failed_reads(alloc)? == (TWO_OF_FOUR, 2));
+    assert!(rt; failed_writes(alloc)? == (TWO_OF_FOUR, 2));
     Ok(())
 }
 
-#[test]
-fn a_host_links_its_peers_in_turn(rt: HostRuntime) -> Result<(), Fail> {
-    let alloc = rt.alloc();
-    let mut host = dock(alloc, &[])?;
+/// How much the first peer brings, before it is sent `abcd`.
+fn speaks<D: Dock>(dock: &mut D, room: &mut [u8; 4]) -> Option<usize> {
+    dock.accept().ok()?;
+    let count = dock.recv(room).ok()?;
+    send_all(dock, b"abcd").ok()?;
+    Some(count)
+}
+
+/// How much the first peer brings, whether that is `hel`, and what it is sent.
+fn first_peer(alloc: Global) -> Option<(Option<usize>, bool, Option<Bytes>)> {
+    let mut host = dock(alloc, &[]).ok()?;
     let mut room = [0u8; 4];
-    host.accept()?;
-    assert_eq!(rt; host.recv(&mut room), Ok(3));
-    send_all(&mut host, b"abcd")?;
+    let count = speaks(&mut host, &mut room);
+    let is_well = room == [b'h', b'e', b'l', 0];
+    Some((count, is_well, host.sent(alloc, 0).ok()))
+}
+
+fn brings_and_takes(came: Option<(Option<usize>, bool, Option<Bytes>)>) -> bool {
+    match came {
+        Some((Some(3), is_well, sent)) => is_well && are(sent, b"abcd"),
+        _ => false,
+    }
+}
+
+/// Whether nothing is sent once the first peer is gone, how much the second brings, and whether there is no third.
+fn outlasts<H: Host>(host: &mut H) -> Option<(bool, usize, bool)> {
+    let mut room = [0u8; 4];
+    host.accept().ok()?;
     host.hang_up();
-    assert_eq!(rt; host.send(b"e"), Err(No::Refused(Failed)));
-    host.dial("there")?;
-    assert_eq!(rt; host.recv(&mut room), Ok(0));
-    assert_eq!(rt; host.accept(), Err(No::Refused(Failed)));
-    assert_eq!(rt; host.link_faults(), 2);
-    assert_eq!(rt; room.as_slice(), b"hel\0".as_slice());
-    assert_eq!(rt; host.sent(alloc, 0)?.as_slice(), b"abcd".as_slice());
-    Ok(())
+    let is_gone = fails(host.send(b"e"));
+    host.dial("there").ok()?;
+    let count = host.recv(&mut room).ok()?;
+    Some((is_gone, count, fails(host.accept())))
+}
+
+/// What comes of further peers, and how many calls have failed then.
+fn further_peers(alloc: Global) -> Option<(Option<(bool, usize, bool)>, u64)> {
+    let mut host = dock(alloc, &[]).ok()?;
+    let came = outlasts(&mut host);
+    Some((came, host.link_faults()))
+}
+
+#[test]
+fn a_host_links_its_peers_in_turn(rt: HostRuntime) {
+    let alloc = rt.alloc();
+    assert!(rt; brings_and_takes(first_peer(alloc)));
+    assert!(rt; further_peers(alloc) == Some((Some((true, 0, true)), 2)));
+}
+
+// As `CALLS`, for calls of links: where no peer is accepted, nothing is sent or received.
+static CALLS_OF_A_DOCK: [(u64, [bool; 4]); 5] = [
+    (1, [true, false, false, false]),
+    (2, [false, true, true, true]),
+    (3, [false, false, true, false]),
+    (4, [false, false, false, true]),
+    (5, [false, false, false, false]),
+];
+
+fn failed_calls_of_a_dock(alloc: Global, number: u64) -> Result<[bool; 4], NoMemory> {
+    let mut room = [0u8; 2];
+    let mut host = dock(alloc, &[number])?;
+    Ok([
+        fails(host.dock("here")),
+        fails(host.accept()),
+        fails(host.send(b"ab")),
+        fails(host.recv(&mut room)),
+    ])
 }
 
 #[test]
 fn each_call_of_a_dock_fails_at_its_number(rt: HostRuntime) -> Result<(), Fail> {
-    let alloc = rt.alloc();
-    let mut room = [0u8; 2];
-    for (number, fails) in [
-        (1, [true, false, false, false]),
-        (2, [false, true, true, true]),
-        (3, [false, false, true, false]),
-        (4, [false, false, false, true]),
-        (5, [false, false, false, false]),
-    ] {
-        let mut host = dock(alloc, &[number])?;
-        let failed = [
-            host.dock("here") == Err(No::Refused(Failed)),
-            host.accept() == Err(No::Refused(Failed)),
-            host.send(b"ab") == Err(No::Refused(Failed)),
-            host.recv(&mut room) == Err(No::Refused(Failed)),
-        ];
-        assert_eq!(rt; failed, fails, "at {number}");
+    for (number, wanted) in CALLS_OF_A_DOCK {
+        assert!(rt;
+            failed_calls_of_a_dock(rt.alloc(), number)? == wanted,
+            "at {number}"
+        );
     }
     Ok(())
 }
 
-#[test]
-fn a_link_fails_at_its_numbers(rt: HostRuntime) -> Result<(), Fail> {
-    let alloc = rt.alloc();
-    let mut link = MemLink::new(alloc, Seq::new(alloc), numbers(alloc, &[1, 3])?, 1);
-    for fails in [true, false, true, false] {
-        assert_eq!(rt; link.send(b"ab") == Err(No::Refused(Failed)), fails);
+/// Whether the first and the third of four sends fail, how many faults are counted, and what was sent.
+fn sends(alloc: Global) -> Option<(bool, u64, Option<Bytes>)> {
+    let mut link = MemLink::new(alloc, Seq::new(alloc), numbers(alloc, &[1, 3]).ok()?, 1);
+    let failed = [
+        fails(link.send(b"ab")),
+        fails(link.send(b"ab")),
+        fails(link.send(b"ab")),
+        fails(link.send(b"ab")),
+    ];
+    let is_well = failed == TWO_OF_FOUR;
+    Some((is_well, link.link_faults(), link.sent(alloc).ok()))
+}
+
+fn are_two(came: Option<(bool, u64, Option<Bytes>)>) -> bool {
+    match came {
+        Some((is_well, 2, sent)) => is_well && are(sent, b"aa"),
+        _ => false,
     }
-    assert_eq!(rt; link.link_faults(), 2);
-    assert_eq!(rt; link.sent(alloc)?.as_slice(), b"aa".as_slice());
-    Ok(())
-}
-
-/// Docks at the first of these ports of this machine that is free.
-fn dock_somewhere<H: Host>(host: &mut H) -> Option<&'static str> {
-    for address in [
-        "127.0.0.1:47321",
-        "127.0.0.1:47322",
-        "127.0.0.1:47323",
-        "127.0.0.1:47324",
-    ] {
-        if host.dock(address).is_ok() {
-            return Some(address);
-        }
-    }
-    None
 }
 
 #[test]
-fn the_real_host_links_another(rt: HostRuntime) -> Result<(), Fail> {
-    let mut server = RealHost::new(&rt);
-    let mut client = RealHost::new(&rt);
-    let mut room = [0u8; 4];
-    let address = dock_somewhere(&mut server);
-    assert_eq!(rt; client.recv(&mut room), Err(No::Refused(Failed)));
-    client.dial(address.unwrap_or(""))?;
-    server.accept()?;
-    send_all(&mut client, b"ab")?;
-    assert_eq!(rt; server.recv(&mut room), Ok(2));
-    client.hang_up();
-    assert_eq!(rt; server.recv(&mut room[2..]), Ok(0));
-    assert_eq!(rt; room.as_slice(), b"ab\0\0".as_slice());
-    assert_eq!(rt; client.link_faults(), 1);
-    Ok(())
-}
-
-/// The file is the program of this test, which begins as each program of Linux does.
-#[test]
-fn the_real_host_reads_a_file(rt: HostRuntime) -> Result<(), Fail> {
-    let mut host = RealHost::new(&rt);
-    let mut room = [0u8; 4];
-    assert_eq!(rt; host.read(&mut room), Ok(0));
-    assert_eq!(rt; host.pick("/no/such/file"), Err(No::Refused(Failed)));
-    host.pick("/proc/self/exe")?;
-    assert_eq!(rt; host.read(&mut room), Ok(4));
-    assert_eq!(rt; room.as_slice(), b"\x7fELF".as_slice());
-    assert_eq!(rt; host.read_faults(), 1);
-    Ok(())
+fn a_link_fails_at_its_numbers(rt: HostRuntime) {
+    assert!(rt; are_two(sends(rt.alloc())));
 }

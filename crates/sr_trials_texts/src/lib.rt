@@ -1,8 +1,6 @@
-//! Tests of what is read and written: files and links, words, scripts and statements.
+//! Tests of what is read and written: files and links, scripts and statements.
 #![tactic(auto)]
 
-#[cfg(test)]
-mod generate;
 #[cfg(test)]
 mod io;
 #[cfg(test)]
@@ -13,5 +11,3 @@ mod reader;
 mod setup;
 #[cfg(test)]
 mod tokens;
-#[cfg(test)]
-mod words;

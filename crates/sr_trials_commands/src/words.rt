@@ -1,12 +1,11 @@
 //! Words of each command, in its form and outside it.
 use sr_cell::list::Seq;
 use sr_cell::text::Text;
-use sr_policy::policy::Policy;
-use sr_words::command::{Command, ReplayWords};
+use sr_policy::policy::{Limits, Policy};
+use sr_words::command::{Command, LoadWord, Setup};
 use sr_words::fault::WordsFault;
 use sr_words::read::command_of;
 use std::alloc::Global;
-use std::test::Fail;
 
 // Two of these lines end with a blank: a name may be empty.
 const IN_FORM: &str = "replay f
@@ -99,49 +98,71 @@ fn asked(alloc: Global, line: &str) -> Result<Command, WordsFault> {
     command_of(alloc, words.as_slice())
 }
 
-#[test]
-fn words_in_a_form_are_taken(rt: HostRuntime) -> Result<(), Fail> {
-    let alloc = rt.alloc();
-    for line in IN_FORM.split('\n') {
-        assert!(rt; asked(alloc, line).is_ok(), "{line}");
+/// Whether the words are taken, or nothing where memory is wanting.
+fn is_taken(alloc: Global, line: &str) -> Option<bool> {
+    match asked(alloc, line) {
+        Ok(_) => Some(true),
+        Err(WordsFault::NotInForm) => Some(false),
+        Err(_) => None,
     }
-    Ok(())
+}
+
+/// The first line whose words are not taken, or of which words are.
+fn other_line<'a>(alloc: Global, lines: &'a str, wanted: bool) -> Option<&'a str> {
+    for line in lines.split('\n') {
+        if is_taken(alloc, line) != Some(wanted) {
+            return Some(line);
+        }
+    }
+    None
 }
 
 #[test]
-fn other_words_are_refused(rt: HostRuntime) -> Result<(), Fail> {
-    let alloc = rt.alloc();
-    for line in IN_NO_FORM.split('\n') {
-        assert!(rt;
-            matches!(asked(alloc, line), Err(WordsFault::NotInForm)),
-            "{line}"
-        );
-    }
-    Ok(())
+fn words_in_a_form_are_taken(rt: HostRuntime) {
+    assert_eq!(rt; other_line(rt.alloc(), IN_FORM, true), None);
 }
 
-/// What `replay` is asked for, if it is.
-fn replay(command: Command) -> Option<ReplayWords> {
+#[test]
+fn other_words_are_refused(rt: HostRuntime) {
+    assert_eq!(rt; other_line(rt.alloc(), IN_NO_FORM, false), None);
+}
+
+const SETUP: Setup = Setup {
+    eager: true,
+    limits: Limits {
+        rows: 10_000,
+        regions: 64,
+        policy: Policy::Distance,
+    },
+    log: 100_000,
+    clients: 3,
+};
+
+fn is_load(load: &LoadWord, table: &str, file: &str) -> bool {
+    load.table.as_str() == table && load.file.as_str() == file
+}
+
+/// Whether `replay` is asked for, with these rules, this script and two loads.
+fn are_read(command: Command) -> bool {
     match command {
-        Command::Replay(words) => Some(words),
-        _ => None,
+        Command::Replay(words) => match words.loads.as_slice() {
+            [one, other] => {
+                words.setup == SETUP
+                    && words.script.as_str() == "f"
+                    && is_load(one, "t", "g=h")
+                    && is_load(other, "u", "i")
+            }
+            _ => false,
+        },
+        _ => false,
     }
 }
 
 #[test]
-fn values_are_read(rt: HostRuntime) -> Result<(), Fail> {
-    let alloc = rt.alloc();
+fn values_are_read(rt: HostRuntime) {
     let line = "replay f t=g=h --policy=distance --eager u=i --clients 3";
-    let words = replay(asked(alloc, line)?).ok_or("replay")?;
-    assert!(rt; words.setup.eager);
-    assert!(rt; words.setup.limits.policy == Policy::Distance);
-    assert_eq!(rt; words.setup.limits.rows, 10_000);
-    assert_eq!(rt; words.setup.limits.regions, 64);
-    assert_eq!(rt; words.setup.log, 100_000);
-    assert_eq!(rt; words.setup.clients, 3);
-    assert!(rt; words.script.as_str() == "f");
-    let load = words.loads.get(0).ok_or("a load")?;
-    assert!(rt; load.table.as_str() == "t" && load.file.as_str() == "g=h");
-    assert_eq!(rt; words.loads.len(), 2);
-    Ok(())
+    match asked(rt.alloc(), line) {
+        Ok(command) => assert!(rt; are_read(command)),
+        Err(_) => assert!(rt; false),
+    }
 }

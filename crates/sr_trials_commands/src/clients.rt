@@ -1,4 +1,6 @@
 //! Runs of `client`.
+ghost use Rattle.std.specs.Prelude.{◌<◌};
+
 use crate::common::{Given, ends, run_given};
 use sr_cell::list::NoMemory;
 use std::alloc::Global;
@@ -81,88 +83,94 @@ fn ends_with(
     Ok(ends(&run_given(alloc, words, given)?, status, output, error))
 }
 
+const RESUMED: &[u8] = b"0 resume 1 sent 0\n";
+
+/// Words, a script, what the peer says, and how the run ends.
+static RUNS: [(&[&str], &[u8], &[u8], (u8, &[u8], &[u8])); 7] = [
+    (WORDS, SCRIPT, ANSWERS, (0, ANSWERED, b"")),
+    (
+        WORDS,
+        SCRIPT,
+        b"\x08\x00\x00\x01",
+        (8, RESUMED, b"frame long 134217729\n"),
+    ),
+    (
+        WORDS,
+        b"",
+        b"\x00\x00\x00\x12\x11\0\0\0\0\0\0\0\x01\0\0\0\0\0\0\0\x02\0",
+        (8, RESUMED, b"frame number\n"),
+    ),
+    (
+        WORDS,
+        b"",
+        b"",
+        (
+            5,
+            b"0 resume 1 sent 0\n0 fail 1 resume 0\n0 cut 1 1\n",
+            b"link\n",
+        ),
+    ),
+    (
+        WORDS,
+        SCRIPT,
+        b"\x00\x00\x00\x12\x11\0\0\0\0\0\0\0\0",
+        (
+            5,
+            b"0 resume 1 sent 0\n0 fail 1 resume 0\n0 cut 1 1\n1 query 1 down 1\n",
+            b"link\n",
+        ),
+    ),
+    (WORDS, b"cut 1\ncut 2", b"", (6, b"", b"line 2 4\n")),
+    (
+        &["client", "--id", "65", "--schema", "schema", "a", "script"],
+        SCRIPT,
+        b"",
+        (2, b"", b"words\n"),
+    ),
+];
+
 #[test]
 fn clients_end(rt: HostRuntime) -> Result<(), Fail> {
-    let alloc = rt.alloc();
-    let resumed: &[u8] = b"0 resume 1 sent 0\n";
-    let all: [(&[&str], &[u8], &[u8], (u8, &[u8], &[u8])); 7] = [
-        (WORDS, SCRIPT, ANSWERS, (0, ANSWERED, b"")),
-        (
-            WORDS,
-            SCRIPT,
-            b"\x08\x00\x00\x01",
-            (8, resumed, b"frame long 134217729\n"),
-        ),
-        (
-            WORDS,
-            b"",
-            b"\x00\x00\x00\x12\x11\0\0\0\0\0\0\0\x01\0\0\0\0\0\0\0\x02\0",
-            (8, resumed, b"frame number\n"),
-        ),
-        (
-            WORDS,
-            b"",
-            b"",
-            (
-                5,
-                b"0 resume 1 sent 0\n0 fail 1 resume 0\n0 cut 1 1\n",
-                b"link\n",
-            ),
-        ),
-        (
-            WORDS,
-            SCRIPT,
-            b"\x00\x00\x00\x12\x11\0\0\0\0\0\0\0\0",
-            (
-                5,
-                b"0 resume 1 sent 0\n0 fail 1 resume 0\n0 cut 1 1\n1 query 1 down 1\n",
-                b"link\n",
-            ),
-        ),
-        (WORDS, b"cut 1\ncut 2", b"", (6, b"", b"line 2 4\n")),
-        (
-            &["client", "--id", "65", "--schema", "schema", "a", "script"],
-            SCRIPT,
-            b"",
-            (2, b"", b"words\n"),
-        ),
-    ];
-    for (words, script, says, wanted) in all {
-        assert!(rt; ends_with(alloc, words, script, says, wanted)?);
+    for (words, script, says, wanted) in RUNS {
+        assert!(rt; ends_with(rt.alloc(), words, script, says, wanted)?);
     }
     Ok(())
 }
 
-#[test]
-fn clients_explain_with_and_without_a_link(rt: HostRuntime) -> Result<(), Fail> {
-    let alloc = rt.alloc();
-    let alone: &[u8] = b"0 resume 1 sent 0
+const EXPLAINED_ALONE: &[u8] = b"0 resume 1 sent 0
 0 fail 1 resume 0
 0 cut 1 1
 1 need emp (id)
 1 rest emp (id) {}
 1 explain 1 0
 ";
-    let all: [(&[u8], &[u8], (u8, &[u8], &[u8])); 2] = [
-        (EXPLAINS, ANSWERS, (0, EXPLAINED, b"")),
-        (b"explain 1 SELECT id FROM emp", b"", (5, alone, b"link\n")),
-    ];
-    for (script, says, wanted) in all {
-        assert!(rt; ends_with(alloc, WORDS, script, says, wanted)?);
-    }
+
+#[test]
+fn clients_explain_with_a_link(rt: HostRuntime) -> Result<(), Fail> {
+    assert!(rt; ends_with(rt.alloc(), WORDS, EXPLAINS, ANSWERS, (0, EXPLAINED, b""))?);
     Ok(())
 }
 
 #[test]
-fn a_welcome_that_is_not_whole_is_a_cut(rt: HostRuntime) -> Result<(), Fail> {
-    let alloc = rt.alloc();
+fn clients_explain_without_a_link(rt: HostRuntime) -> Result<(), Fail> {
+    let script = b"explain 1 SELECT id FROM emp";
+    let wanted: (u8, &[u8], &[u8]) = (5, EXPLAINED_ALONE, b"link\n");
+    assert!(rt; ends_with(rt.alloc(), WORDS, script, b"", wanted)?);
+    Ok(())
+}
+
+/// Whether a link that ends behind so many bytes of a welcome is cut.
+fn is_cut_behind(alloc: Global, length: usize) -> Result<bool, NoMemory>
+    requires { length < 22 }
+{
     let cut: &[u8] = b"0 resume 1 sent 0\n0 fail 1 resume 0\n0 cut 1 1\n";
+    ends_with(alloc, WORDS, b"", &ANSWERS[..length], (5, cut, b"link\n"))
+}
+
+#[test]
+fn a_welcome_that_is_not_whole_is_a_cut(rt: HostRuntime) -> Result<(), Fail> {
     for length in 0..22usize {
-        let says = &ANSWERS[..length];
-        assert!(rt;
-            ends_with(alloc, WORDS, b"", says, (5, cut, b"link\n"))?,
-            "{length}"
-        );
+        assert!(rt; is_cut_behind(rt.alloc(), length)?, "{length}");
     }
     Ok(())
 }

@@ -64,14 +64,19 @@ fn host_of(alloc: Global, given: Given<'_>) -> Result<MemHost, NoMemory> {
     MemHost::new(alloc, files, peers, numbers, 4096)
 }
 
-/// Runs the words over a host that holds what is given.
-pub fn run_given(alloc: Global, words: &[&str], given: Given<'_>) -> Result<Outcome, NoMemory> {
-    let words = words_of(alloc, words)?;
-    let mut host = host_of(alloc, given)?;
+fn outcome_of(alloc: Global, status: u8, host: &MemHost) -> Result<Outcome, NoMemory> {
     Ok(Outcome {
-        status: run(alloc, words.as_slice(), &mut host),
+        status,
         output: host.written(alloc)?,
         error: host.complained(alloc)?,
         sent: host.sent(alloc, 0)?,
     })
+}
+
+/// Runs the words over a host that holds what is given.
+pub fn run_given(alloc: Global, words: &[&str], given: Given<'_>) -> Result<Outcome, NoMemory> {
+    let words = words_of(alloc, words)?;
+    let mut host = host_of(alloc, given)?;
+    let status = run(alloc, words.as_slice(), &mut host);
+    outcome_of(alloc, status, &host)
 }

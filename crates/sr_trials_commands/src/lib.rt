@@ -6,6 +6,8 @@ mod clients;
 #[cfg(test)]
 mod common;
 #[cfg(test)]
+mod explained;
+#[cfg(test)]
 mod hosts;
 #[cfg(test)]
 mod processes;

@@ -1,5 +1,5 @@
 //! Runs of `replay` and `explain`.
-use crate::common::{Given, Outcome, run_given};
+use crate::common::{Given, Outcome, ends, run_given};
 use sr_cell::list::NoMemory;
 use std::alloc::Global;
 use std::test::Fail;
@@ -219,22 +219,141 @@ fn run_over(alloc: Global, words: &[&str], script: &str, fails: u64) -> Result<O
     run_with(alloc, words, script, ONE_ROW, fails)
 }
 
+/// Whether the run writes this trace and nothing on the error output, and ends well.
+fn writes(alloc: Global, words: &[&str], script: &str, trace: &str) -> Result<bool, NoMemory> {
+    let got = run_over(alloc, words, script, 0)?;
+    Ok(ends(&got, 0, trace.as_bytes(), b""))
+}
+
+/// Whether the run writes no trace, and ends with this status and this line.
+fn is_refused(got: &Outcome, status: u8, error: &str) -> bool {
+    ends(got, status, b"", error.as_bytes())
+}
+
+static OTHER_WORDS: [&[&str]; 6] = [
+    &[],
+    &["replay"],
+    &["replay", "--eager", "--eager", "script"],
+    &["replay", "--rows", "", "script"],
+    &["client", "--id", "65", "--schema", "script", "a", "script"],
+    &["explain", "script"],
+];
+
 #[test]
 fn other_words_are_refused(rt: HostRuntime) -> Result<(), Fail> {
-    let alloc = rt.alloc();
-    let all: [&[&str]; 6] = [
-        &[],
-        &["replay"],
-        &["replay", "--eager", "--eager", "script"],
-        &["replay", "--rows", "", "script"],
-        &["client", "--id", "65", "--schema", "script", "a", "script"],
-        &["explain", "script"],
-    ];
-    for words in all {
-        let got = run_over(alloc, words, CREATE_ALONE, 0)?;
-        assert_eq!(rt; got.error.as_slice(), b"words\n".as_slice());
-        assert_eq!(rt; got.output.as_slice(), b"".as_slice());
-        assert_eq!(rt; got.status, 2);
+    for words in OTHER_WORDS {
+        let got = run_over(rt.alloc(), words, CREATE_ALONE, 0)?;
+        assert!(rt; is_refused(&got, 2, "words\n"));
+    }
+    Ok(())
+}
+
+/// Words, a script, and its trace.
+static REPLAYED: [(&[&str], &str, &str); 8] = [
+    (IN_FORM, "", ""),
+    (&["replay", "--clients", "2", "script"], CUT, CUT_TRACE),
+    (IN_FORM, TWO_QUERIES, TWO_QUERIES_TRACE),
+    (IN_FORM, PUSHED, PUSHED_TRACE),
+    (&["replay", "script"], EXPLAINED, EXPLAINED_TRACE),
+    (WITH_LOAD, OVER_LOADS, OVER_LOADS_TRACE),
+    (
+        &[
+            "replay",
+            "--eager",
+            "--rows",
+            "00000000000000200000",
+            "--policy",
+            "distance",
+            "script",
+        ],
+        CREATE_ALONE,
+        "",
+    ),
+    (
+        &[
+            "replay",
+            "--rows",
+            "5",
+            "--regions",
+            "1024",
+            "--policy",
+            "recency",
+            "--log",
+            "0",
+            "--clients",
+            "8",
+            "script",
+            "p=p.csv",
+        ],
+        CREATE_ALONE,
+        "",
+    ),
+];
+
+#[test]
+fn scripts_are_replayed(rt: HostRuntime) -> Result<(), Fail> {
+    for (words, script, trace) in REPLAYED {
+        assert!(rt; writes(rt.alloc(), words, script, trace)?);
+    }
+    Ok(())
+}
+
+/// Words, and the lines of the explanation behind two queries.
+static EXPLANATIONS: [(&[&str], &str); 3] = [
+    (
+        &[
+            "explain",
+            "--eager",
+            "script",
+            "SELECT id, age FROM p WHERE age BETWEEN 45 AND 60",
+        ],
+        "0 need p (id,age)
+0 probe p (id,age) 2 {age 45..50}
+0 rest p (id,age) {age 51..60}
+0 victim 1 p (id,age) 1 1
+0 victim 2 p (id,age) 2 2
+0 explain 1 2
+",
+    ),
+    (
+        &[
+            "explain",
+            "script",
+            "SELECT id, age FROM p WHERE age BETWEEN 45 AND 60",
+        ],
+        "0 need p (id,age)
+0 rest p (id,age) {age 45..60}
+0 explain 1 0
+",
+    ),
+    (
+        &["explain", "script", "SELECT id FROM q"],
+        "0 explain 1 sql unknown-table 15\n",
+    ),
+];
+
+#[test]
+fn queries_are_explained(rt: HostRuntime) -> Result<(), Fail> {
+    for (words, lines) in EXPLANATIONS {
+        assert!(rt; writes(rt.alloc(), words, TWO_QUERIES, lines)?);
+    }
+    Ok(())
+}
+
+/// A script, the call that fails, and then the status and the line on the error output.
+static NOT_EXPLAINED: [(&str, u64, u8, &str); 4] = [
+    (TWO_QUERIES, 1, 3, "read\n"),
+    (TWO_QUERIES, 4, 4, "write\n"),
+    ("push 1\npush", 0, 6, "line 2 4\n"),
+    ("CREATE", 0, 7, "schema 1 grammar 6\n"),
+];
+
+#[test]
+fn nothing_is_explained_behind_what_is_refused(rt: HostRuntime) -> Result<(), Fail> {
+    for (script, fails, status, error) in NOT_EXPLAINED {
+        let words = &["explain", "script", "SELECT id FROM p"];
+        let got = run_over(rt.alloc(), words, script, fails)?;
+        assert!(rt; is_refused(&got, status, error), "{script:?}");
     }
     Ok(())
 }
@@ -249,278 +368,171 @@ fn has_lines(trace: &[u8], lines: &[u8]) -> bool {
     false
 }
 
-#[test]
-fn scripts_are_replayed(rt: HostRuntime) -> Result<(), Fail> {
-    let alloc = rt.alloc();
-    let all: [(&[&str], &str, &str); 8] = [
-        (IN_FORM, "", ""),
-        (&["replay", "--clients", "2", "script"], CUT, CUT_TRACE),
-        (IN_FORM, TWO_QUERIES, TWO_QUERIES_TRACE),
-        (IN_FORM, PUSHED, PUSHED_TRACE),
-        (&["replay", "script"], EXPLAINED, EXPLAINED_TRACE),
-        (WITH_LOAD, OVER_LOADS, OVER_LOADS_TRACE),
-        (
-            &[
-                "replay",
-                "--eager",
-                "--rows",
-                "00000000000000200000",
-                "--policy",
-                "distance",
-                "script",
-            ],
-            CREATE_ALONE,
-            "",
-        ),
-        (
-            &[
-                "replay",
-                "--rows",
-                "5",
-                "--regions",
-                "1024",
-                "--policy",
-                "recency",
-                "--log",
-                "0",
-                "--clients",
-                "8",
-                "script",
-                "p=p.csv",
-            ],
-            CREATE_ALONE,
-            "",
-        ),
-    ];
-    for (words, script, trace) in all {
-        let got = run_over(alloc, words, script, 0)?;
-        assert_eq!(rt; got.error.as_slice(), b"".as_slice());
-        assert_eq!(rt; got.output.as_slice(), trace.as_bytes());
-        assert_eq!(rt; got.status, 0);
-    }
-    Ok(())
+/// Whether the line stands in the trace of a run with that option.
+fn obeys(alloc: Global, option: &str, value: &str, line: &str) -> Result<bool, NoMemory> {
+    let words = ["replay", "--eager", option, value, "script"];
+    let got = run_over(alloc, words.as_slice(), TWO_RANGES, 0)?;
+    Ok(got.status == 0 && has_lines(got.output.as_slice(), line.as_bytes()))
 }
 
-#[test]
-fn queries_are_explained(rt: HostRuntime) -> Result<(), Fail> {
-    let alloc = rt.alloc();
-    let all: [(&[&str], &str); 3] = [
-        (
-            &[
-                "explain",
-                "--eager",
-                "script",
-                "SELECT id, age FROM p WHERE age BETWEEN 45 AND 60",
-            ],
-            "0 need p (id,age)
-0 probe p (id,age) 2 {age 45..50}
-0 rest p (id,age) {age 51..60}
-0 victim 1 p (id,age) 1 1
-0 victim 2 p (id,age) 2 2
-0 explain 1 2
-",
-        ),
-        (
-            &[
-                "explain",
-                "script",
-                "SELECT id, age FROM p WHERE age BETWEEN 45 AND 60",
-            ],
-            "0 need p (id,age)
-0 rest p (id,age) {age 45..60}
-0 explain 1 0
-",
-        ),
-        (
-            &["explain", "script", "SELECT id FROM q"],
-            "0 explain 1 sql unknown-table 15\n",
-        ),
-    ];
-    for (words, lines) in all {
-        let got = run_over(alloc, words, TWO_QUERIES, 0)?;
-        assert_eq!(rt; got.output.as_slice(), lines.as_bytes());
-        assert_eq!(rt; got.error.as_slice(), b"".as_slice());
-        assert_eq!(rt; got.status, 0);
-    }
-    Ok(())
-}
-
-#[test]
-fn nothing_is_explained_behind_what_is_refused(rt: HostRuntime) -> Result<(), Fail> {
-    let alloc = rt.alloc();
-    let words: &[&str] = &["explain", "script", "SELECT id FROM p"];
-    for (script, fails, status, error) in [
-        (TWO_QUERIES, 1, 3, "read\n"),
-        (TWO_QUERIES, 4, 4, "write\n"),
-        ("push 1\npush", 0, 6, "line 2 4\n"),
-        ("CREATE", 0, 7, "schema 1 grammar 6\n"),
-    ] {
-        let got = run_over(alloc, words, script, fails)?;
-        assert!(rt; is_refused(&got, status, error), "{script:?}");
-    }
-    Ok(())
-}
+static OPTIONS: [(&str, &str, &str); 3] = [
+    (
+        "--rows",
+        "0",
+        "\n4 drop 1 rows p (id,age) 2 {age 100..110}\n",
+    ),
+    (
+        "--regions",
+        "0",
+        "\n3 drop 1 regions p (id,age) 1 {age 30..34}\n",
+    ),
+    (
+        "--regions",
+        "2",
+        "\n5 drop 1 regions p (id,age) 1 {age 30..34}\n",
+    ),
+];
 
 #[test]
 fn options_are_obeyed(rt: HostRuntime) -> Result<(), Fail> {
-    let alloc = rt.alloc();
-    for (option, value, line) in [
-        (
-            "--rows",
-            "0",
-            "\n4 drop 1 rows p (id,age) 2 {age 100..110}\n",
-        ),
-        (
-            "--regions",
-            "0",
-            "\n3 drop 1 regions p (id,age) 1 {age 30..34}\n",
-        ),
-        (
-            "--regions",
-            "2",
-            "\n5 drop 1 regions p (id,age) 1 {age 30..34}\n",
-        ),
-    ] {
-        let words = ["replay", "--eager", option, value, "script"];
-        let got = run_over(alloc, words.as_slice(), TWO_RANGES, 0)?;
-        assert_eq!(rt; has_lines(got.output.as_slice(), line.as_bytes()), true);
-        assert_eq!(rt; got.status, 0);
+    for (option, value, line) in OPTIONS {
+        assert!(rt; obeys(rt.alloc(), option, value, line)?, "{line}");
     }
     Ok(())
 }
 
-/// Whether the run writes no trace, and ends with this status and this line.
-fn is_refused(got: &Outcome, status: u8, error: &str) -> bool {
-    got.status == status && got.error.as_slice() == error.as_bytes() && got.output.is_empty()
-}
+/// A script, and then the status and the line on the error output.
+static REFUSED_SCRIPTS: [(&str, u8, &str); 17] = [
+    ("CREATE", 7, "schema 1 grammar 6\n"),
+    ("create\x0btable", 7, "schema 1 bad-token 6\n"),
+    (
+        "# first\nCREATE TABLE t (a INT, b INT)",
+        7,
+        "schema 2 no-key 0\n",
+    ),
+    (
+        "CREATE TABLE t (a INT PRIMARY KEY CHECK (a BETWEEN 2 AND 1), b INT)",
+        7,
+        "schema 1 bad-domain 0\n",
+    ),
+    (
+        "CREATE TABLE t (a INT PRIMARY KEY, A INT)\nCREATE",
+        7,
+        "schema 1 duplicate-name 1\n",
+    ),
+    (
+        "CREATE TABLE t (a TEXT PRIMARY KEY, b INT)\nCREATE TABLE T (a INT PRIMARY KEY)",
+        7,
+        "schema 2 duplicate-name 0\n",
+    ),
+    ("CREATE\npush", 6, "line 2 4\n"),
+    ("exec x\nCREATE TABLE t (a INT)", 6, "line 2 0\n"),
+    ("\t", 6, "line 1 0\n"),
+    ("exec ", 6, "line 1 5\n"),
+    ("query 2 SELECT * FROM p", 6, "line 1 6\n"),
+    ("push 1 ", 6, "line 1 7\n"),
+    ("push", 6, "line 1 4\n"),
+    ("push  1", 6, "line 1 5\n"),
+    (" push 1", 6, "line 1 0\n"),
+    ("PUSH 1", 6, "line 1 0\n"),
+    ("evict 1 x", 6, "line 1 8\n"),
+];
 
 #[test]
 fn scripts_are_refused(rt: HostRuntime) -> Result<(), Fail> {
-    let alloc = rt.alloc();
-    for (script, status, error) in [
-        ("CREATE", 7, "schema 1 grammar 6\n"),
-        ("create\x0btable", 7, "schema 1 bad-token 6\n"),
-        (
-            "# first\nCREATE TABLE t (a INT, b INT)",
-            7,
-            "schema 2 no-key 0\n",
-        ),
-        (
-            "CREATE TABLE t (a INT PRIMARY KEY CHECK (a BETWEEN 2 AND 1), b INT)",
-            7,
-            "schema 1 bad-domain 0\n",
-        ),
-        (
-            "CREATE TABLE t (a INT PRIMARY KEY, A INT)\nCREATE",
-            7,
-            "schema 1 duplicate-name 1\n",
-        ),
-        (
-            "CREATE TABLE t (a TEXT PRIMARY KEY, b INT)\nCREATE TABLE T (a INT PRIMARY KEY)",
-            7,
-            "schema 2 duplicate-name 0\n",
-        ),
-        ("CREATE\npush", 6, "line 2 4\n"),
-        ("exec x\nCREATE TABLE t (a INT)", 6, "line 2 0\n"),
-        ("\t", 6, "line 1 0\n"),
-        ("exec ", 6, "line 1 5\n"),
-        ("query 2 SELECT * FROM p", 6, "line 1 6\n"),
-        ("push 1 ", 6, "line 1 7\n"),
-        ("push", 6, "line 1 4\n"),
-        ("push  1", 6, "line 1 5\n"),
-        (" push 1", 6, "line 1 0\n"),
-        ("PUSH 1", 6, "line 1 0\n"),
-        ("evict 1 x", 6, "line 1 8\n"),
-    ] {
-        let got = run_over(alloc, IN_FORM, script, 0)?;
+    for (script, status, error) in REFUSED_SCRIPTS {
+        let got = run_over(rt.alloc(), IN_FORM, script, 0)?;
         assert!(rt; is_refused(&got, status, error), "{script:?}");
     }
     Ok(())
 }
 
+/// Words, a file of rows, and then the status and the line on the error output.
+static REFUSED_FILES: [(&[&str], &str, u8, &str); 20] = [
+    (&["replay", "--eager", "-"], ONE_ROW, 3, "read\n"),
+    (
+        &["replay", "--eager", "script", "p=q.csv"],
+        ONE_ROW,
+        3,
+        "read\n",
+    ),
+    (
+        &["replay", "--eager", "script", "p=p.csv", "p=p=p.csv"],
+        ONE_ROW,
+        3,
+        "read\n",
+    ),
+    (
+        &["replay", "--eager", "script", "q=p.csv", "p=p.csv"],
+        ROW_TWICE,
+        7,
+        "load q unknown\n",
+    ),
+    (
+        &["replay", "--eager", "script", "p=p.csv", "p=p.csv"],
+        ONE_ROW,
+        7,
+        "load p 1 duplicate-key\n",
+    ),
+    (WITH_LOAD, ROW_TWICE, 7, "load p 2 duplicate-key\n"),
+    (
+        WITH_LOAD,
+        "id,age\n3,200\n3,1\n",
+        7,
+        "load p 1 domain-cell\n",
+    ),
+    (WITH_LOAD, "", 7, "load p 0 bad-header\n"),
+    (WITH_LOAD, "id\n3\n", 7, "load p 0 bad-header\n"),
+    (WITH_LOAD, "id,id\n", 7, "load p 0 bad-header\n"),
+    (WITH_LOAD, "id,name\n", 7, "load p 0 bad-header\n"),
+    (WITH_LOAD, "id,age\n3\n", 7, "load p 1 bad-record\n"),
+    (
+        WITH_LOAD,
+        "id,age\n3,1\n4,2,3\n",
+        7,
+        "load p 2 bad-record\n",
+    ),
+    (WITH_LOAD, "id,age\nx\n", 7, "load p 1 bad-record\n"),
+    (WITH_LOAD, "id,age\nx,1\n4\n", 7, "load p 1 bad-number\n"),
+    (
+        WITH_LOAD,
+        "id,age\n1234567890123456789,1\n",
+        7,
+        "load p 1 bad-number\n",
+    ),
+    (WITH_LOAD, "id,age\n-,1\n", 7, "load p 1 bad-number\n"),
+    (WITH_LOAD, "id,age\n,1\n", 7, "load p 1 bad-number\n"),
+    (WITH_LOAD, "id,age\n+3,1\n", 7, "load p 1 bad-number\n"),
+    (WITH_LOAD, "id,age\n 3,1\n", 7, "load p 1 bad-number\n"),
+];
+
 #[test]
 fn files_are_refused(rt: HostRuntime) -> Result<(), Fail> {
-    let alloc = rt.alloc();
-    let all: [(&[&str], &str, u8, &str); 20] = [
-        (&["replay", "--eager", "-"], ONE_ROW, 3, "read\n"),
-        (
-            &["replay", "--eager", "script", "p=q.csv"],
-            ONE_ROW,
-            3,
-            "read\n",
-        ),
-        (
-            &["replay", "--eager", "script", "p=p.csv", "p=p=p.csv"],
-            ONE_ROW,
-            3,
-            "read\n",
-        ),
-        (
-            &["replay", "--eager", "script", "q=p.csv", "p=p.csv"],
-            ROW_TWICE,
-            7,
-            "load q unknown\n",
-        ),
-        (
-            &["replay", "--eager", "script", "p=p.csv", "p=p.csv"],
-            ONE_ROW,
-            7,
-            "load p 1 duplicate-key\n",
-        ),
-        (WITH_LOAD, ROW_TWICE, 7, "load p 2 duplicate-key\n"),
-        (
-            WITH_LOAD,
-            "id,age\n3,200\n3,1\n",
-            7,
-            "load p 1 domain-cell\n",
-        ),
-        (WITH_LOAD, "", 7, "load p 0 bad-header\n"),
-        (WITH_LOAD, "id\n3\n", 7, "load p 0 bad-header\n"),
-        (WITH_LOAD, "id,id\n", 7, "load p 0 bad-header\n"),
-        (WITH_LOAD, "id,name\n", 7, "load p 0 bad-header\n"),
-        (WITH_LOAD, "id,age\n3\n", 7, "load p 1 bad-record\n"),
-        (
-            WITH_LOAD,
-            "id,age\n3,1\n4,2,3\n",
-            7,
-            "load p 2 bad-record\n",
-        ),
-        (WITH_LOAD, "id,age\nx\n", 7, "load p 1 bad-record\n"),
-        (WITH_LOAD, "id,age\nx,1\n4\n", 7, "load p 1 bad-number\n"),
-        (
-            WITH_LOAD,
-            "id,age\n1234567890123456789,1\n",
-            7,
-            "load p 1 bad-number\n",
-        ),
-        (WITH_LOAD, "id,age\n-,1\n", 7, "load p 1 bad-number\n"),
-        (WITH_LOAD, "id,age\n,1\n", 7, "load p 1 bad-number\n"),
-        (WITH_LOAD, "id,age\n+3,1\n", 7, "load p 1 bad-number\n"),
-        (WITH_LOAD, "id,age\n 3,1\n", 7, "load p 1 bad-number\n"),
-    ];
-    for (words, csv, status, error) in all {
-        let got = run_with(alloc, words, OVER_LOADS, csv, 0)?;
+    for (words, csv, status, error) in REFUSED_FILES {
+        let got = run_with(rt.alloc(), words, OVER_LOADS, csv, 0)?;
         assert!(rt; is_refused(&got, status, error), "{csv:?}");
     }
     Ok(())
 }
 
-/// The calls 1 to 3 pick and read the script, 4 to 6 the file, if there is one, and the next is the first write.
+/// Words, the call that fails, and then the status and the line on the error output. The calls 1 to 3 pick and read the script, 4 to 6 the
+/// file, if there is one, and the next is the first write.
+static FAILED_CALLS: [(&[&str], u64, u8, &str); 9] = [
+    (IN_FORM, 1, 3, "read\n"),
+    (IN_FORM, 2, 3, "read\n"),
+    (IN_FORM, 3, 3, "read\n"),
+    (IN_FORM, 4, 4, "write\n"),
+    (WITH_LOAD, 3, 3, "read\n"),
+    (WITH_LOAD, 4, 3, "read\n"),
+    (WITH_LOAD, 5, 3, "read\n"),
+    (WITH_LOAD, 6, 3, "read\n"),
+    (WITH_LOAD, 7, 4, "write\n"),
+];
+
 #[test]
 fn a_call_that_fails_ends_the_run(rt: HostRuntime) -> Result<(), Fail> {
-    let alloc = rt.alloc();
-    for (words, fails, status, error) in [
-        (IN_FORM, 1, 3, "read\n"),
-        (IN_FORM, 2, 3, "read\n"),
-        (IN_FORM, 3, 3, "read\n"),
-        (IN_FORM, 4, 4, "write\n"),
-        (WITH_LOAD, 3, 3, "read\n"),
-        (WITH_LOAD, 4, 3, "read\n"),
-        (WITH_LOAD, 5, 3, "read\n"),
-        (WITH_LOAD, 6, 3, "read\n"),
-        (WITH_LOAD, 7, 4, "write\n"),
-    ] {
-        let got = run_over(alloc, words, OVER_LOADS, fails)?;
+    for (words, fails, status, error) in FAILED_CALLS {
+        let got = run_over(rt.alloc(), words, OVER_LOADS, fails)?;
         assert!(rt; is_refused(&got, status, error), "{fails}");
     }
     Ok(())

@@ -11,7 +11,6 @@ use sr_message::message::Message;
 use sr_policy::policy::{Limits, Policy};
 use sr_wire::bad_frame::BadFrame;
 use std::alloc::Global;
-use std::test::Fail;
 
 const LIMITS: Limits = Limits {
     rows: 10,
@@ -161,119 +160,156 @@ fn is_no_such(step: &EvictStep, wanted: usize) -> bool {
     }
 }
 
-#[test]
-fn a_new_client_says_hello(rt: HostRuntime) -> Result<(), Fail> {
-    let alloc = rt.alloc();
-    let mut client = Client::new(alloc, 3, Schema::new(alloc), LIMITS);
-    assert!(rt; resumes(alloc, &mut client, 0)?);
+// Whether a Hello goes out first, and its welcome gives the version.
+fn says_hello(alloc: Global, client: &mut Client) -> Result<bool, NoMemory>
+    requires stands { Stands client.old }
+    requires room { drawn client.old < 50 }
+{
     let welcome = Message::Welcome {
         number: 0,
         version: 5,
         kept: false,
     };
-    assert!(rt; takes(alloc, &mut client, welcome, Seen::Welcomed(5, false))?);
-    assert!(rt; client.version() == 5);
-    Ok(())
+    let is_sent = resumes(alloc, client, 0)?;
+    let is_welcome = takes(alloc, client, welcome, Seen::Welcomed(5, false))?;
+    Ok(is_sent && is_welcome && client.version() == 5)
 }
 
 #[test]
-fn a_write_comes_to_its_version(rt: HostRuntime) -> Result<(), Fail> {
+fn a_new_client_says_hello(rt: HostRuntime) {
     let alloc = rt.alloc();
-    let mut client = opened(alloc);
-    assert!(rt; writes(alloc, &mut client, 1)?);
+    let mut client = Client::new(alloc, 3, Schema::new(alloc), LIMITS);
+    assert!(rt; says_hello(alloc, &mut client) == Ok(true));
+}
+
+// Whether a write that a notice comes before is done at its own version.
+fn comes_to_its_version(alloc: Global, client: &mut Client) -> Result<bool, NoMemory>
+    requires stands { Stands client.old }
+    requires room { drawn client.old < 50 }
+{
     let notice = Message::Notice {
         version: 2,
         told: Seq::new(alloc),
     };
-    assert!(rt; takes(alloc, &mut client, notice, Seen::Laid)?);
     let done = Message::Written {
         number: 1,
         version: 3,
     };
-    assert!(rt; takes(alloc, &mut client, done, Seen::Written(1, 3))?);
-    assert!(rt; client.version() == 3);
-    Ok(())
+    let is_sent = writes(alloc, client, 1)?;
+    let is_laid = takes(alloc, client, notice, Seen::Laid)?;
+    let is_done = takes(alloc, client, done, Seen::Written(1, 3))?;
+    Ok(is_sent && is_laid && is_done && client.version() == 3)
 }
 
 #[test]
-fn a_refused_write_comes_to_what_was_told(rt: HostRuntime) -> Result<(), Fail> {
+fn a_write_comes_to_its_version(rt: HostRuntime) {
     let alloc = rt.alloc();
     let mut client = opened(alloc);
-    assert!(rt; writes(alloc, &mut client, 1)?);
-    assert!(rt;
-        takes(
-            alloc,
-            &mut client,
-            Message::Lapse { version: 4 },
-            Seen::Laid
-        )?
-    );
+    assert!(rt; comes_to_its_version(alloc, &mut client) == Ok(true));
+}
+
+// Whether a write that is refused behind a Lapse comes to the version of the Lapse.
+fn comes_to_what_was_told(alloc: Global, client: &mut Client) -> Result<bool, NoMemory>
+    requires stands { Stands client.old }
+    requires room { drawn client.old < 50 }
+{
+    let lapse = Message::Lapse { version: 4 };
     let refused = Message::Refused {
         number: 1,
         fault: FAULT,
     };
-    assert!(rt; takes(alloc, &mut client, refused, Seen::Refused(1, FAULT))?);
-    assert!(rt; client.version() == 4);
-    Ok(())
+    let is_sent = writes(alloc, client, 1)?;
+    let is_laid = takes(alloc, client, lapse, Seen::Laid)?;
+    let is_refused = takes(alloc, client, refused, Seen::Refused(1, FAULT))?;
+    Ok(is_sent && is_laid && is_refused && client.version() == 4)
 }
 
 #[test]
-fn one_request_is_out_at_a_time(rt: HostRuntime) -> Result<(), Fail> {
+fn a_refused_write_comes_to_what_was_told(rt: HostRuntime) {
     let alloc = rt.alloc();
     let mut client = opened(alloc);
-    assert!(rt; writes(alloc, &mut client, 1)?);
-    assert!(rt; keeps(alloc, &mut client, Kept::Busy(1))?);
-    let evicted = client.evict(0);
-    assert!(rt; is_busy(&evicted, 1));
-    Ok(())
+    assert!(rt; comes_to_what_was_told(alloc, &mut client) == Ok(true));
+}
+
+// Whether nothing else is written or evicted while a write is out.
+fn waits(alloc: Global, client: &mut Client) -> Result<bool, NoMemory>
+    requires stands { Stands client.old }
+    requires room { drawn client.old < 50 }
+{
+    let is_sent = writes(alloc, client, 1)?;
+    let is_kept = keeps(alloc, client, Kept::Busy(1))?;
+    Ok(is_sent && is_kept && is_busy(&client.evict(0), 1))
 }
 
 #[test]
-fn a_cut_ends_what_is_out(rt: HostRuntime) -> Result<(), Fail> {
+fn one_request_is_out_at_a_time(rt: HostRuntime) {
     let alloc = rt.alloc();
     let mut client = opened(alloc);
-    assert!(rt; writes(alloc, &mut client, 1)?);
-    let cut = client.cut(alloc);
-    assert!(rt;
-        cut == CutStep::Cut {
-            number: 1,
-            ended: Ended::Write(1)
-        }
-    );
-    Ok(())
+    assert!(rt; waits(alloc, &mut client) == Ok(true));
+}
+
+// Whether the first cut ends a write that is out.
+fn ends_what_is_out(alloc: Global, client: &mut Client) -> Result<bool, NoMemory>
+    requires stands { Stands client.old }
+    requires room { drawn client.old < 50 }
+    requires cuts { client.old.cuts ≡ 0 }
+{
+    let cut = CutStep::Cut {
+        number: 1,
+        ended: Ended::Write(1),
+    };
+    let is_sent = writes(alloc, client, 1)?;
+    Ok(is_sent && client.cut(alloc) == cut)
 }
 
 #[test]
-fn nothing_is_written_over_a_cut_link(rt: HostRuntime) -> Result<(), Fail> {
+fn a_cut_ends_what_is_out(rt: HostRuntime) {
+    let alloc = rt.alloc();
+    let mut client = opened(alloc);
+    assert!(rt; ends_what_is_out(alloc, &mut client) == Ok(true));
+}
+
+#[test]
+fn nothing_is_written_over_a_cut_link(rt: HostRuntime) {
     let alloc = rt.alloc();
     let mut client = Client::new(alloc, 3, Schema::new(alloc), LIMITS);
-    assert!(rt; keeps(alloc, &mut client, Kept::Down(0))?);
-    Ok(())
+    assert!(rt; keeps(alloc, &mut client, Kept::Down(0)) == Ok(true));
 }
 
 #[test]
-fn what_does_not_come_is_refused(rt: HostRuntime) -> Result<(), Fail> {
+fn what_is_not_there_is_not_evicted(rt: HostRuntime) {
+    let mut client = opened(rt.alloc());
+    assert!(rt; is_no_such(&client.evict(0), 0));
+}
+
+#[test]
+fn what_was_not_asked_is_refused(rt: HostRuntime) {
     let alloc = rt.alloc();
     let mut client = opened(alloc);
-    let evicted = client.evict(0);
-    assert!(rt; is_no_such(&evicted, 0));
     let reply = Message::Reply {
         number: 1,
         version: 0,
     };
-    assert!(rt; takes(alloc, &mut client, reply, Seen::Bad(BadFrame::State))?);
-    Ok(())
+    assert!(rt; takes(alloc, &mut client, reply, Seen::Bad(BadFrame::State)) == Ok(true));
 }
 
-#[test]
-fn what_answers_another_request_is_refused(rt: HostRuntime) -> Result<(), Fail> {
-    let alloc = rt.alloc();
-    let mut client = opened(alloc);
-    assert!(rt; writes(alloc, &mut client, 1)?);
+// Whether a client whose write is out refuses what answers another request.
+fn refuses_another_answer(alloc: Global, client: &mut Client) -> Result<bool, NoMemory>
+    requires stands { Stands client.old }
+    requires room { drawn client.old < 50 }
+{
     let done = Message::Written {
         number: 2,
         version: 3,
     };
-    assert!(rt; takes(alloc, &mut client, done, Seen::Bad(BadFrame::Number))?);
-    Ok(())
+    let is_sent = writes(alloc, client, 1)?;
+    let is_bad = takes(alloc, client, done, Seen::Bad(BadFrame::Number))?;
+    Ok(is_sent && is_bad)
+}
+
+#[test]
+fn what_answers_another_request_is_refused(rt: HostRuntime) {
+    let alloc = rt.alloc();
+    let mut client = opened(alloc);
+    assert!(rt; refuses_another_answer(alloc, &mut client) == Ok(true));
 }

@@ -114,11 +114,24 @@ fn persons(
     lending.answer(alloc, &query(alloc)?)
 }
 
+// Persons 2 and 4, without their names.
+fn two_and_four(alloc: Global) -> Result<Rows, NoMemory> {
+    two(alloc, short(alloc, 2, 25)?, short(alloc, 4, 40)?)
+}
+
+fn one_and_four(alloc: Global) -> Result<Rows, NoMemory> {
+    two(alloc, long(alloc, "ann", 1, 30)?, long(alloc, "cy", 4, 40)?)
+}
+
+fn three_and_five(alloc: Global) -> Result<Rows, NoMemory> {
+    two(alloc, long(alloc, "bo", 3, 50)?, long(alloc, "di", 5, 60)?)
+}
+
 // Persons 2 and 4 of one region, 1 and 4 of another, and 3 and 5 of these rects.
 fn of_three_regions(alloc: Global, rects: &Rects) -> Result<Rows, NoMemory> {
-    let some = two(alloc, short(alloc, 2, 25)?, short(alloc, 4, 40)?)?;
-    let others = two(alloc, long(alloc, "ann", 1, 30)?, long(alloc, "cy", 4, 40)?)?;
-    let last = two(alloc, long(alloc, "bo", 3, 50)?, long(alloc, "di", 5, 60)?)?;
+    let some = two_and_four(alloc)?;
+    let others = one_and_four(alloc)?;
+    let last = three_and_five(alloc)?;
     persons(alloc, &some, &others, &last, rects)
 }
 
@@ -198,14 +211,22 @@ fn joined(alloc: Global, some: &Rows, others: &Rows, ages: &Rows) -> Result<Rows
     lending.answer(alloc, &groups(alloc)?)
 }
 
+// The groups of two ages.
+fn groups_of_ages(alloc: Global) -> Result<Rows, NoMemory> {
+    two(alloc, short(alloc, 25, 7)?, short(alloc, 40, 8)?)
+}
+
 // Persons 2 and 4 of one region, and 1 and 4 of another; nothing is known of the age of person 1.
+fn of_two_tables(alloc: Global) -> Result<Rows, NoMemory> {
+    let some = two_and_four(alloc)?;
+    let others = one_and_four(alloc)?;
+    let ages = groups_of_ages(alloc)?;
+    joined(alloc, &some, &others, &ages)
+}
+
 #[test]
 fn tables_join_by_key(rt: HostRuntime) -> Result<(), Fail> {
-    let alloc = rt.alloc();
-    let some = two(alloc, short(alloc, 2, 25)?, short(alloc, 4, 40)?)?;
-    let others = two(alloc, long(alloc, "ann", 1, 30)?, long(alloc, "cy", 4, 40)?)?;
-    let ages = two(alloc, short(alloc, 25, 7)?, short(alloc, 40, 8)?)?;
-    let answer = joined(alloc, &some, &others, &ages)?;
+    let answer = of_two_tables(rt.alloc())?;
     assert!(rt; are(&answer, &[7, 8], &[2, 4]));
     Ok(())
 }

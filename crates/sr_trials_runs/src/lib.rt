@@ -1,10 +1,8 @@
-//! Tests of what runs: the log, joins, a client, a server, and replays as a whole.
+//! Tests of what runs: the log, joins, a client, a server, and how lines are counted.
 #![tactic(auto)]
 
 #[cfg(test)]
 mod client;
-#[cfg(test)]
-mod explained;
 #[cfg(test)]
 mod join;
 #[cfg(test)]

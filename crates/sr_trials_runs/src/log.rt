@@ -62,36 +62,60 @@ fn answers(log: &Log, version: u64, above: u64, wanted: Option<&[(u64, usize)]>)
     same && log.version() == version
 }
 
+// One change each, of which one is kept.
+fn newest_of_two(alloc: Global) -> Result<bool, NoMemory> {
+    let log = log_of(alloc, 1, &[1, 1])?;
+    Ok(
+        answers(&log, 2, 0, None)
+            && answers(&log, 2, 1, Some(&[(2, 1)]))
+            && answers(&log, 2, 2, Some(&[]))
+            && answers(&log, 2, 9, Some(&[])),
+    )
+}
+
+// Five changes, of which three are kept.
+fn newest_of_three(alloc: Global) -> Result<bool, NoMemory> {
+    let log = log_of(alloc, 3, &[2, 1, 2])?;
+    Ok(answers(&log, 3, 0, None) && answers(&log, 3, 1, Some(&[(2, 1), (3, 2)])))
+}
+
 #[test]
 fn the_newest_versions_are_kept(rt: HostRuntime) -> Result<(), Fail> {
     let alloc = rt.alloc();
-    let log = log_of(alloc, 1, &[1, 1])?;
-    assert!(rt; answers(&log, 2, 0, None));
-    assert!(rt; answers(&log, 2, 1, Some(&[(2, 1)])));
-    assert!(rt; answers(&log, 2, 2, Some(&[])));
-    assert!(rt; answers(&log, 2, 9, Some(&[])));
-    let log = log_of(alloc, 3, &[2, 1, 2])?;
-    assert!(rt; answers(&log, 3, 0, None));
-    assert!(rt; answers(&log, 3, 1, Some(&[(2, 1), (3, 2)])));
+    assert!(rt; newest_of_two(alloc)?);
+    assert!(rt; newest_of_three(alloc)?);
     Ok(())
+}
+
+// Two changes at once, of which one would be kept.
+fn is_dropped(alloc: Global) -> Result<bool, NoMemory> {
+    let log = log_of(alloc, 1, &[1, 2])?;
+    Ok(answers(&log, 2, 1, None) && answers(&log, 2, 2, Some(&[])))
 }
 
 #[test]
 fn more_changes_than_the_limit_drop_all(rt: HostRuntime) -> Result<(), Fail> {
-    let log = log_of(rt.alloc(), 1, &[1, 2])?;
-    assert!(rt; answers(&log, 2, 1, None));
-    assert!(rt; answers(&log, 2, 2, Some(&[])));
+    assert!(rt; is_dropped(rt.alloc())?);
     Ok(())
+}
+
+// Two versions without changes, and a change that is kept.
+fn are_versions(alloc: Global) -> Result<bool, NoMemory> {
+    let log = log_of(alloc, 1, &[0, 1, 0])?;
+    Ok(answers(&log, 3, 0, Some(&[(1, 0), (2, 1), (3, 0)])))
+}
+
+// The same, where no change is kept.
+fn are_kept_alone(alloc: Global) -> Result<bool, NoMemory> {
+    let log = log_of(alloc, 0, &[1, 0, 0])?;
+    Ok(answers(&log, 3, 0, None) && answers(&log, 3, 1, Some(&[(2, 0), (3, 0)])))
 }
 
 #[test]
 fn pushes_without_changes_are_versions(rt: HostRuntime) -> Result<(), Fail> {
     let alloc = rt.alloc();
     assert!(rt; answers(&Log::new(alloc, 1), 0, 0, Some(&[])));
-    let log = log_of(alloc, 1, &[0, 1, 0])?;
-    assert!(rt; answers(&log, 3, 0, Some(&[(1, 0), (2, 1), (3, 0)])));
-    let log = log_of(alloc, 0, &[1, 0, 0])?;
-    assert!(rt; answers(&log, 3, 0, None));
-    assert!(rt; answers(&log, 3, 1, Some(&[(2, 0), (3, 0)])));
+    assert!(rt; are_versions(alloc)?);
+    assert!(rt; are_kept_alone(alloc)?);
     Ok(())
 }

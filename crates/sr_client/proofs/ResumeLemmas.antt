@@ -128,10 +128,14 @@ first-is c h f = by c.store.regions refl
     by : (gs : List Region) → c.store.regions ≡ gs → IsResumeMessage c.schema (past_of c h) c.next_request (first_of c gs)
     by [] e = (refl, none.0 e)
     by (g ∷ gs) e =
-        let keeps = subst (Keeps c.schema (is_held h.marks) (stamp h.queries)) e f.keeps in
-        (refl, refl, all-there c.schema h.marks (stamp h.queries) (g ∷ gs) keeps, none-else c.schema h.marks (stamp h.queries) (g ∷ gs) keeps,
-        (λ nothing. let empty = none.1 nothing in let wrong : g ∷ gs ≡ [] = sym e ∙ empty in absurd (cc)),
-        holdings-suit c.schema (g ∷ gs) (subst (All (IsOfSchema c.schema)) e f.store.each))
+        let keeps = subst (Keeps c.schema (is_held h.marks) (stamp h.queries)) e f.keeps in (
+          refl,
+          refl,
+          all-there c.schema h.marks (stamp h.queries) (g ∷ gs) keeps,
+          none-else c.schema h.marks (stamp h.queries) (g ∷ gs) keeps,
+          (λ nothing. let empty = none.1 nothing in let wrong : g ∷ gs ≡ [] = sym e ∙ empty in absurd (cc)),
+          holdings-suit c.schema (g ∷ gs) (subst (All (IsOfSchema c.schema)) e f.store.each),
+        )
 
 pub first-well : (c : Client) → Stands c → is_request_of c.schema c.id (first_of c c.store.regions) ≡ true
 first-well c stands = by c.store.regions stands.1.store.each

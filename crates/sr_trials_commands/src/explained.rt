@@ -24,11 +24,16 @@ query 1 SELECT id, age FROM emp WHERE age BETWEEN 84 AND 94
 ";
 
 /// A script, a query behind it, and what is written.
-static QUERIES: [(&str, &str, &str); 5] = [
+static QUERIES: [(&str, &[&str], &str); 5] = [
     // what is held is probed
     (
         ONE_RANGE,
-        "SELECT id, age FROM emp WHERE age BETWEEN 35 AND 50",
+        &[
+            "explain",
+            "--eager",
+            "script",
+            "SELECT id, age FROM emp WHERE age BETWEEN 35 AND 50",
+        ],
         "0 need emp (id,age)
 0 probe emp (id,age) 1 {age 35..40}
 0 rest emp (id,age) {age 41..50}
@@ -39,7 +44,12 @@ static QUERIES: [(&str, &str, &str); 5] = [
     // a region without the column is not
     (
         ONE_RANGE,
-        "SELECT name FROM emp WHERE age = 35",
+        &[
+            "explain",
+            "--eager",
+            "script",
+            "SELECT name FROM emp WHERE age = 35",
+        ],
         "0 need emp (id,age,name)
 0 rest emp (id,age,name) {age 35..35}
 0 victim 1 emp (id,age) 1 2
@@ -49,13 +59,23 @@ static QUERIES: [(&str, &str, &str); 5] = [
     // a text may be refused
     (
         ONE_RANGE,
-        "SELECT id FROM emp WHERE salary = 3",
+        &[
+            "explain",
+            "--eager",
+            "script",
+            "SELECT id FROM emp WHERE salary = 3",
+        ],
         "0 explain 1 sql unknown-column 25\n",
     ),
     // each region that serves is probed
     (
         STAFF,
-        "SELECT id, age, dept FROM emp WHERE age BETWEEN 35 AND 90 AND dept BETWEEN 25 AND 60",
+        &[
+            "explain",
+            "--eager",
+            "script",
+            "SELECT id, age, dept FROM emp WHERE age BETWEEN 35 AND 90 AND dept BETWEEN 25 AND 60",
+        ],
         "0 need emp (id,age,dept)
 0 probe emp (id,age,dept) 1 {age 35..45, dept 25..50}
 0 probe emp (id,age,dept) 2 {age 60..80, dept 40..60}
@@ -69,7 +89,7 @@ static QUERIES: [(&str, &str, &str); 5] = [
     // the key is served by all regions
     (
         STAFF,
-        "SELECT id FROM emp",
+        &["explain", "--eager", "script", "SELECT id FROM emp"],
         "0 need emp (id)
 0 probe emp (id,age) 3 {age 84..94}
 0 probe emp (id,age,dept) 1 {age 20..45, dept 10..50}
@@ -84,20 +104,20 @@ static QUERIES: [(&str, &str, &str); 5] = [
 ];
 
 /// Whether just this is written.
-fn explains(alloc: Global, script: &str, sql: &str, written: &str) -> Result<bool, NoMemory> {
+fn explains(alloc: Global, script: &str, words: &[&str], written: &str) -> Result<bool, NoMemory> {
     let given = Given {
         files: &[("script", script.as_bytes())],
         peers: &[],
         fails: 0,
     };
-    let got = run_given(alloc, &["explain", "--eager", "script", sql], given)?;
+    let got = run_given(alloc, words, given)?;
     Ok(ends(&got, 0, written.as_bytes(), b""))
 }
 
 #[test]
 fn queries_are_explained_behind_scripts(rt: HostRuntime) -> Result<(), Fail> {
-    for (script, sql, written) in QUERIES {
-        assert!(rt; explains(rt.alloc(), script, sql, written)?, "{sql}");
+    for (script, words, written) in QUERIES {
+        assert!(rt; explains(rt.alloc(), script, words, written)?, "{written}");
     }
     Ok(())
 }

@@ -15,11 +15,11 @@ const HELLO: &[u8] = b"\x00\x00\x00\x0b\x01\x01\x01\0\0\0\0\0\0\0\0";
 const WELCOME: &[u8] = b"\x00\x00\x00\x12\x11\0\0\0\0\0\0\0\0\0\0\0\0\0\0\0\0\0";
 
 /// Runs the words over a schema file, an exec file and a file of rows; its one peer says hello.
-fn run_with(
+fn run_with<'a>(
     alloc: Global,
     words: &[&str],
-    schema: &[u8],
-    exec: &[u8],
+    schema: &'a [u8],
+    exec: &'a [u8],
     fails: u64,
 ) -> Result<Outcome, NoMemory> {
     let given = Given {

@@ -11,9 +11,6 @@ use sr_cell::text::Text;
 use sr_union::rects::Rects;
 use std::alloc::Global;
 
-/// The frame by which client 1 begins.
-pub const HELLO: [u8; 15] = [0, 0, 0, 11, 1, 1, 1, 0, 0, 0, 0, 0, 0, 0, 0];
-
 /// A column of the numbers up to `hi`.
 pub fn column(alloc: Global, name: &str, hi: i64) -> Result<Column, NoMemory>
     ensures { IfOk result (λ column. (column.kind ≡ Numbers) × (column.lo ≡ pos 0) × (column.hi ≡ hi)) }

@@ -1,16 +1,12 @@
-//! Tests of points: their unions, the regions and stores that keep them, and how they are written, sent and told.
+//! Tests of points: their unions, the regions and stores that keep them, and the lines that tell of them.
 #![tactic(auto)]
 
-#[cfg(test)]
-mod bytes;
 #[cfg(test)]
 mod calls;
 #[cfg(test)]
 mod common;
 #[cfg(test)]
 mod explain;
-#[cfg(test)]
-mod feed;
 #[cfg(test)]
 mod region;
 #[cfg(test)]
@@ -19,5 +15,3 @@ mod script;
 mod store;
 #[cfg(test)]
 mod union;
-#[cfg(test)]
-mod wire;

@@ -1,5 +1,5 @@
 //! A region of persons by age, at values worked out by hand.
-ghost use Rattle.std.specs.Prelude.{◌≡◌, pos, true, [], ◌∷◌, IfOk, IfSome};
+ghost use Rattle.std.specs.Prelude.{◌≡◌, pos, true, [], ◌∷◌, IfOk, IfSome, OnOk};
 ghost use Rattle.sr_cell.specs.declared.cell.Cell.TheVariants.{Num};
 ghost use Rattle.sr_cell.specs.Columns.{is_point};
 ghost use Rattle.sr_model.specs.SortedRows.{ascend, with_row};
@@ -137,33 +137,66 @@ fn are(rows: RowsIn, ids: &[i64]) -> bool {
     rows.next().is_none()
 }
 
+// Whether just the rows of those numbers lie in these ages.
+fn has_rows(
+    alloc: Global,
+    region: &Region,
+    lo: i64,
+    hi: i64,
+    ids: &[i64],
+) -> Result<bool, NoMemory> {
+    let rects = ages(alloc, lo, hi)?;
+    Ok(are(region.rows_in(&rects), ids))
+}
+
+fn put_person(alloc: Global, region: &mut Region, id: i64, age: i64) -> Result<(), NoMemory>
+    requires { ascend (rank region.old.attrs region.old.key) region.old.rows ≡ true }
+    ensures class { OnOk result ((region.new.attrs ≡ region.old.attrs) × (region.new.key ≡ region.old.key)) }
+    ensures order { OnOk result (ascend (rank region.new.attrs region.new.key) region.new.rows ≡ true) }
+{
+    region.put(row_of(alloc, id, age)?)
+}
+
+// The ages of a range, with one person.
+fn region_with(alloc: Global, lo: i64, hi: i64, id: i64, age: i64) -> Result<Region, NoMemory>
+    ensures class { IfOk result (λ region. (region.attrs ≡ 3) × (region.key ≡ 0)) }
+    ensures order { IfOk result (λ region. ascend (rank 3 0) region.rows ≡ true) }
+{
+    let mut region = Region::new(alloc, 2, 0, Attrs(3), 7, ages(alloc, lo, hi)?);
+    put_person(alloc, &mut region, id, age).and(Ok(region))
+}
+
 #[test]
 fn rows_lie_by_key(rt: HostRuntime) -> Result<(), Fail> {
     let alloc = rt.alloc();
-    let mut region = Region::new(alloc, 2, 0, Attrs(3), 7, ages(alloc, 20, 60)?);
-    region.put(row_of(alloc, 5, 30)?)?;
-    region.put(row_of(alloc, 3, 50)?)?;
-    let all = ages(alloc, 20, 60)?;
-    assert!(rt; are(region.rows_in(&all), &[3, 5]));
-    let young = ages(alloc, 20, 30)?;
-    assert!(rt; are(region.rows_in(&young), &[5]));
+    let mut region = region_with(alloc, 20, 60, 5, 30)?;
+    put_person(alloc, &mut region, 3, 50)?;
+    assert!(rt; has_rows(alloc, &region, 20, 60, &[3, 5])?);
+    assert!(rt; has_rows(alloc, &region, 20, 30, &[5])?);
+    Ok(())
+}
+
+#[test]
+fn a_region_serves_its_class(rt: HostRuntime) -> Result<(), Fail> {
+    let alloc = rt.alloc();
+    let region = Region::new(alloc, 2, 0, Attrs(3), 7, ages(alloc, 20, 60)?);
     assert!(rt;
         region.serves(2, Attrs(1)) && !region.serves(2, Attrs(4)) && !region.serves(3, Attrs(1))
     );
     Ok(())
 }
 
+fn joined(alloc: Global) -> Result<Region, NoMemory> {
+    let young = region_with(alloc, 20, 29, 5, 22)?;
+    young.join(region_with(alloc, 30, 60, 3, 50)?)
+}
+
 #[test]
 fn a_join_has_the_rects_and_rows_of_both(rt: HostRuntime) -> Result<(), Fail> {
     let alloc = rt.alloc();
-    let mut young = Region::new(alloc, 2, 0, Attrs(3), 7, ages(alloc, 20, 29)?);
-    young.put(row_of(alloc, 5, 22)?)?;
-    let mut old = Region::new(alloc, 2, 0, Attrs(3), 7, ages(alloc, 30, 60)?);
-    old.put(row_of(alloc, 3, 50)?)?;
-    let both = young.join(old)?;
+    let both = joined(alloc)?;
     assert_eq!(rt; both.rects.len(), 2);
-    let all = ages(alloc, 20, 60)?;
-    assert!(rt; are(both.rows_in(&all), &[3, 5]));
+    assert!(rt; has_rows(alloc, &both, 20, 60, &[3, 5])?);
     Ok(())
 }
 
@@ -214,20 +247,6 @@ fn halves_of_persons(alloc: Global) -> Result<Option<Halves>, NoMemory>
     }
 }
 
-fn inside_of(halves: Option<Halves>) -> Option<Region> {
-    match halves {
-        Some(halves) => halves.inside,
-        None => None,
-    }
-}
-
-fn outside_of(halves: Option<Halves>) -> Option<Region> {
-    match halves {
-        Some(halves) => halves.outside,
-        None => None,
-    }
-}
-
 fn have_ages(alloc: Global, region: &Region, ages: &[i64], has: bool) -> Result<bool, NoMemory> {
     for i in 0..ages.len() {
         let row = row_of(alloc, 7, ages[i])?;
@@ -247,8 +266,7 @@ fn holds(
 ) -> Result<bool, NoMemory> {
     let has = have_ages(alloc, region, held, true)?;
     let lacks = have_ages(alloc, region, others, false)?;
-    let all = ages(alloc, 30, 40)?;
-    Ok(has && lacks && are(region.rows_in(&all), ids))
+    Ok(has && lacks && has_rows(alloc, region, 30, 40, ids)?)
 }
 
 fn is_half(
@@ -264,13 +282,20 @@ fn is_half(
     }
 }
 
+fn are_halves(alloc: Global, halves: &Option<Halves>) -> Result<bool, NoMemory> {
+    match halves {
+        Some(halves) => Ok(
+            is_half(alloc, &halves.inside, &[35, 40], &[30, 34, 41, 50], &[3])?
+                && is_half(alloc, &halves.outside, &[30, 34], &[29, 35, 40], &[5])?,
+        ),
+        None => Ok(false),
+    }
+}
+
 #[test]
 fn each_half_has_its_points_and_rows(rt: HostRuntime) -> Result<(), Fail> {
     let alloc = rt.alloc();
-    let inside = inside_of(halves_of_persons(alloc)?);
-    assert!(rt; is_half(alloc, &inside, &[35, 40], &[30, 34, 41, 50], &[3])?);
-    let outside = outside_of(halves_of_persons(alloc)?);
-    assert!(rt; is_half(alloc, &outside, &[30, 34], &[29, 35, 40], &[5])?);
+    assert!(rt; are_halves(alloc, &halves_of_persons(alloc)?)?);
     Ok(())
 }
 
@@ -295,15 +320,17 @@ fn persons_again(alloc: Global) -> Result<Option<Region>, NoMemory> {
     }
 }
 
+fn is_whole(alloc: Global, region: &Option<Region>) -> Result<bool, NoMemory> {
+    match region {
+        Some(region) => holds(alloc, region, &[30, 34, 35, 40], &[29, 41], &[3, 5]),
+        None => Ok(false),
+    }
+}
+
 #[test]
 fn the_halves_join_to_the_whole(rt: HostRuntime) -> Result<(), Fail> {
     let alloc = rt.alloc();
-    match persons_again(alloc)? {
-        Some(whole) => {
-            assert!(rt; holds(alloc, &whole, &[30, 34, 35, 40], &[29, 41], &[3, 5])?);
-        }
-        None => assert!(rt; false),
-    }
+    assert!(rt; is_whole(alloc, &persons_again(alloc)?)?);
     Ok(())
 }
 
@@ -331,21 +358,35 @@ fn ages_of_members(alloc: Global, lo: i64, hi: i64) -> Result<Rects, NoMemory> {
     Ok(rects)
 }
 
+// Two persons of 39 and 31 come into a region of such ages.
+fn put_members(alloc: Global, region: &mut Region) -> Result<(), NoMemory>
+    requires { ascend (rank region.old.attrs region.old.key) region.old.rows ≡ true }
+    ensures order { OnOk result (ascend (rank region.new.attrs region.new.key) region.new.rows ≡ true) }
+{
+    put_person(alloc, region, 3, 39)?;
+    put_person(alloc, region, 5, 31)
+}
+
 // The members from 30 to 40, with two of 39 and 31.
 fn members(alloc: Global) -> Result<Region, NoMemory>
     ensures { IfOk result (λ region. ascend (rank region.attrs region.key) region.rows ≡ true) }
 {
     let mut region = Region::new(alloc, 2, 0, Attrs(3), 7, ages_of_members(alloc, 30, 40)?);
-    region.put(row_of(alloc, 3, 39)?)?;
-    region.put(row_of(alloc, 5, 31)?)?;
-    Ok(region)
+    put_members(alloc, &mut region).and(Ok(region))
 }
 
-// These once the member of that number has that age, or is gone.
-fn members_after(alloc: Global, id: i64, age: Option<i64>) -> Result<Region, NoMemory> {
+// The member of that number has that age from now on, or is gone.
+fn change(alloc: Global, region: &mut Region, id: i64, age: Option<i64>) -> Result<(), NoMemory>
+    requires { ascend (rank region.old.attrs region.old.key) region.old.rows ≡ true }
+{
+    region.apply(alloc, &Cell::Num(id), &member_of(alloc, id, age)?)
+}
+
+// Whether these members are left then.
+fn leaves(alloc: Global, id: i64, age: Option<i64>, left: &[(i64, i64)]) -> Result<bool, NoMemory> {
     let mut region = members(alloc)?;
-    region.apply(alloc, &Cell::Num(id), &member_of(alloc, id, age)?)?;
-    Ok(region)
+    change(alloc, &mut region, id, age)?;
+    Ok(has_members(&region, left))
 }
 
 fn is_member(row: &Row, id: i64, age: i64) -> bool {
@@ -373,15 +414,14 @@ fn has_members(region: &Region, members: &[(i64, i64)]) -> bool {
 #[test]
 fn a_change_is_applied_where_it_concerns_the_region(rt: HostRuntime) -> Result<(), Fail> {
     let alloc = rt.alloc();
-    let moved_in = members_after(alloc, 4, Some(35))?;
-    assert!(rt; has_members(&moved_in, &[(3, 39), (4, 35), (5, 31)]));
-    let moved_out = members_after(alloc, 3, Some(41))?;
-    assert!(rt; has_members(&moved_out, &[(5, 31)]));
-    let replaced = members_after(alloc, 3, Some(33))?;
-    assert!(rt; has_members(&replaced, &[(3, 33), (5, 31)]));
-    let deleted = members_after(alloc, 5, None)?;
-    assert!(rt; has_members(&deleted, &[(3, 39)]));
-    let outside = members_after(alloc, 4, Some(51))?;
-    assert!(rt; has_members(&outside, &[(3, 39), (5, 31)]));
+    for (id, age, left) in [
+        (4, Some(35), [(3, 39), (4, 35), (5, 31)].as_slice()),
+        (3, Some(41), [(5, 31)].as_slice()),
+        (3, Some(33), [(3, 33), (5, 31)].as_slice()),
+        (5, None, [(3, 39)].as_slice()),
+        (4, Some(51), [(3, 39), (5, 31)].as_slice()),
+    ] {
+        assert!(rt; leaves(alloc, id, age, left)?, "{id} becomes {age:?}");
+    }
     Ok(())
 }

@@ -1,5 +1,5 @@
 //! A client's regions of persons by age, at answers worked out by hand.
-ghost use Rattle.std.specs.Prelude.{◌≡◌, ◌<◌, pos, true, [], ◌∷◌, length, IfOk, IfSome, OnOk, IsTrue};
+ghost use Rattle.std.specs.Prelude.{◌≡◌, ◌<◌, pos, true, [], ◌∷◌, length, IfOk, OnOk, IsTrue};
 ghost use Rattle.std.specs.List.{list_all};
 ghost use Rattle.sr_box.specs.declared.span.Span.TheVariants.{Full, Nums};
 ghost use Rattle.sr_cell.specs.declared.cell.Cell.TheVariants.{Num};
@@ -111,20 +111,20 @@ fn narrow(alloc: Global, lo: i64, hi: i64) -> Result<Arrivals, NoMemory>
     Ok(arrivals)
 }
 
-// A store to which these ages came; none where they do not fit the table.
-fn held(alloc: Global, schema: &Schema, lo: i64, hi: i64) -> Result<Option<Store>, NoMemory>
+// These ages come to an empty store, with the number and the age; want of memory is said too where they do not fit the table.
+fn hold(alloc: Global, schema: &Schema, store: &mut Store, lo: i64, hi: i64) -> Result<(), NoMemory>
     requires tables { IsTrue (list_all is_table schema.now) }
     requires there { 0 < length schema.now }
     requires key { (table_at schema.now 0).key ≡ 0 }
-    ensures store { IfOk result (λ found. IfSome found (λ store. IsStore schema.now store.regions)) }
+    requires empty { store.old.regions ≡ [] }
+    ensures store { OnOk result (IsStore schema.now store.new.regions) }
 {
     if !ages(alloc, lo, hi)?.fits(&schema.as_slice()[0]) {
-        return Ok(None);
+        return Err(NoMemory);
     }
     let parts = parts_of(alloc, lo, hi)?;
-    let mut store = Store::new(alloc, LIMITS);
     store.answered(alloc, schema, 1, parts.as_slice(), narrow(alloc, lo, hi)?)?;
-    Ok(Some(store))
+    Ok(())
 }
 
 // A query for ages that are all held.
@@ -155,36 +155,41 @@ fn region_at(store: &Store, number: usize) -> Option<(usize, u64)> {
     }
 }
 
-// The ages 30 to 40, of which 32 to 35 are asked again.
-fn split(alloc: Global) -> Result<Option<Store>, NoMemory> {
-    let schema = schema_of(alloc)?;
-    match held(alloc, &schema, 30, 40)? {
-        None => Ok(None),
-        Some(mut store) => {
-            touch(alloc, &schema, &mut store, 32, 35)?;
-            Ok(Some(store))
-        }
-    }
-}
-
 // How many rects are held of those ages.
 fn rects_held(alloc: Global, store: &Store, lo: i64, hi: i64) -> Result<usize, NoMemory> {
     let parts = parts_of(alloc, lo, hi)?;
     Ok(store.cover(alloc, &parts.as_slice()[0])?.len())
 }
 
+// A region's number of rects and its stamp.
+type Stamped = Option<(usize, u64)>;
+
+// Of the ages 30 to 40 the ages 32 to 35 are asked again: the regions then, and how many rects are held.
+fn split(
+    alloc: Global,
+    schema: &Schema,
+    store: &mut Store,
+) -> Result<(Stamped, Stamped, usize), NoMemory>
+    requires tables { IsTrue (list_all is_table schema.now) }
+    requires there { 0 < length schema.now }
+    requires key { (table_at schema.now 0).key ≡ 0 }
+    requires empty { store.old.regions ≡ [] }
+{
+    hold(alloc, schema, store, 30, 40)?;
+    touch(alloc, schema, store, 32, 35)?;
+    let held = rects_held(alloc, store, 30, 40)?;
+    Ok((region_at(store, 0), region_at(store, 1), held))
+}
+
+fn split_ages(alloc: Global) -> Result<(Stamped, Stamped, usize), NoMemory> {
+    let schema = schema_of(alloc)?;
+    let mut store = Store::new(alloc, LIMITS);
+    split(alloc, &schema, &mut store)
+}
+
 #[test]
 fn what_is_asked_again_has_a_new_stamp(rt: HostRuntime) -> Result<(), Fail> {
-    let alloc = rt.alloc();
-    match split(alloc)? {
-        Some(store) => {
-            assert_eq!(rt; store.regions.len(), 2);
-            assert_eq!(rt; region_at(&store, 0), Some((2, 1)));
-            assert_eq!(rt; region_at(&store, 1), Some((1, 2)));
-            assert_eq!(rt; rects_held(alloc, &store, 30, 40)?, 3);
-        }
-        None => assert!(rt; false),
-    }
+    assert_eq!(rt; split_ages(rt.alloc())?, (Some((2, 1)), Some((1, 2)), 3));
     Ok(())
 }
 
@@ -215,39 +220,56 @@ fn arrival_with_row(alloc: Global, age: i64, hi: i64) -> Result<Arrivals, NoMemo
     Ok(arrivals)
 }
 
-// How many marks an answer makes that brings one row, how many it makes then to meet the later limit, and how many rows are left.
-fn limit_rows(
-    alloc: Global,
-    first: u32,
-    later: u32,
-) -> Result<Option<(usize, usize, u64)>, NoMemory> {
-    let schema = schema_of(alloc)?;
+// The ages 31 to 40 come to an empty store, with a row of the first: how many marks that makes.
+fn bring_row(alloc: Global, schema: &Schema, store: &mut Store) -> Result<usize, NoMemory>
+    requires tables { IsTrue (list_all is_table schema.now) }
+    requires there { 0 < length schema.now }
+    requires key { (table_at schema.now 0).key ≡ 0 }
+    requires empty { store.old.regions ≡ [] }
+    ensures store { OnOk result (IsStore schema.now store.new.regions) }
+{
     if !ages(alloc, 31, 40)?.fits(&schema.as_slice()[0]) {
-        return Ok(None);
+        return Err(NoMemory);
     }
     let parts = parts_of(alloc, 31, 40)?;
+    let arrivals = arrival_with_row(alloc, 31, 40)?;
+    let marks = store.answered(alloc, schema, 1, parts.as_slice(), arrivals)?;
+    Ok(marks.len())
+}
+
+// How many marks such an answer makes, how many are made then to meet the later limit, and how many rows are left.
+fn limit(
+    alloc: Global,
+    schema: &Schema,
+    store: &mut Store,
+    later: u32,
+) -> Result<(usize, usize, u64), NoMemory>
+    requires tables { IsTrue (list_all is_table schema.now) }
+    requires there { 0 < length schema.now }
+    requires key { (table_at schema.now 0).key ≡ 0 }
+    requires empty { store.old.regions ≡ [] }
+{
+    let marks = bring_row(alloc, schema, store)?;
+    store.limits.rows = later;
+    let more = store.fit(alloc, schema)?.len();
+    Ok((marks, more, store.rows()))
+}
+
+fn limit_rows(alloc: Global, first: u32, later: u32) -> Result<(usize, usize, u64), NoMemory> {
+    let schema = schema_of(alloc)?;
     let limits = Limits {
         rows: first,
         regions: 64,
         policy: Policy::Recency,
     };
     let mut store = Store::new(alloc, limits);
-    let marks = store.answered(
-        alloc,
-        &schema,
-        1,
-        parts.as_slice(),
-        arrival_with_row(alloc, 31, 40)?,
-    )?;
-    store.limits.rows = later;
-    let more = store.fit(alloc, &schema)?;
-    Ok(Some((marks.len(), more.len(), store.rows())))
+    limit(alloc, &schema, &mut store, later)
 }
 
 #[test]
 fn rows_above_the_budget_are_dropped(rt: HostRuntime) -> Result<(), Fail> {
     for (first, later, left) in [(0, 0, (2, 0, 0)), (1, 1, (1, 0, 1)), (1, 0, (1, 1, 0))] {
-        assert_eq!(rt; limit_rows(rt.alloc(), first, later)?, Some(left));
+        assert_eq!(rt; limit_rows(rt.alloc(), first, later)?, left);
     }
     Ok(())
 }
@@ -297,10 +319,10 @@ fn bring_older(alloc: Global, schema: &Schema, store: &mut Store) -> Result<(), 
     requires old { is_point (table_at schema.now 0).columns (Num (pos 1) ∷ Num (pos 41) ∷ Num (pos 5) ∷ []) ≡ true }
     requires store { IsStore schema.now store.old.regions }
 {
-    let rects = ages(alloc, 41, 50)?;
     let parts = parts_of(alloc, 41, 50)?;
-    let cover = store.cover(alloc, &parts.as_slice()[0])?;
-    if !rects.fits(&schema.as_slice()[0]) || rects.meets(&cover) {
+    let part = &parts.as_slice()[0];
+    let cover = store.cover(alloc, part)?;
+    if !part.rects.fits(&schema.as_slice()[0]) || part.rects.meets(&cover) {
         return Err(NoMemory);
     }
     let arrivals = arrival_with_row(alloc, 41, 50)?;
@@ -309,40 +331,60 @@ fn bring_older(alloc: Global, schema: &Schema, store: &mut Store) -> Result<(), 
 }
 
 // How many rows a store has that holds person 1 with the age 31, once the age 41 is brought, and the age in its second region.
-fn brought_ages(alloc: Global) -> Result<Option<(u64, Option<i64>)>, NoMemory> {
+fn bring(alloc: Global, schema: &Schema, store: &mut Store) -> Result<(u64, Option<i64>), NoMemory>
+    requires tables { IsTrue (list_all is_table schema.now) }
+    requires there { 0 < length schema.now }
+    requires key { (table_at schema.now 0).key ≡ 0 }
+    requires point { is_point (table_at schema.now 0).columns (Num (pos 1) ∷ Num (pos 31) ∷ Num (pos 5) ∷ []) ≡ true }
+    requires old { is_point (table_at schema.now 0).columns (Num (pos 1) ∷ Num (pos 41) ∷ Num (pos 5) ∷ []) ≡ true }
+    requires empty { store.old.regions ≡ [] }
+{
+    hold(alloc, schema, store, 30, 40)?;
+    tell_age(alloc, schema, store, 31)?;
+    bring_older(alloc, schema, store)?;
+    Ok((store.rows(), age_at(store, 1)))
+}
+
+fn brought_ages(alloc: Global) -> Result<(u64, Option<i64>), NoMemory> {
     let schema = schema_of(alloc)?;
-    match held(alloc, &schema, 30, 40)? {
-        None => Ok(None),
-        Some(mut store) => {
-            tell_age(alloc, &schema, &mut store, 31)?;
-            bring_older(alloc, &schema, &mut store)?;
-            Ok(Some((store.rows(), age_at(&store, 1))))
-        }
-    }
+    let mut store = Store::new(alloc, LIMITS);
+    bring(alloc, &schema, &mut store)
 }
 
 #[test]
 fn a_held_row_gives_way_to_the_arriving_one(rt: HostRuntime) -> Result<(), Fail> {
-    assert_eq!(rt; brought_ages(rt.alloc())?, Some((1, Some(41))));
+    assert_eq!(rt; brought_ages(rt.alloc())?, (1, Some(41)));
     Ok(())
 }
 
 // The first age in a store of the ages 30 to 40 once person 1 is 31, and once person 1 is 41.
-fn told_ages(alloc: Global) -> Result<Option<(Option<i64>, Option<i64>)>, NoMemory> {
+fn tell_both(
+    alloc: Global,
+    schema: &Schema,
+    store: &mut Store,
+) -> Result<(Option<i64>, Option<i64>), NoMemory>
+    requires tables { IsTrue (list_all is_table schema.now) }
+    requires there { 0 < length schema.now }
+    requires key { (table_at schema.now 0).key ≡ 0 }
+    requires point { is_point (table_at schema.now 0).columns (Num (pos 1) ∷ Num (pos 31) ∷ Num (pos 5) ∷ []) ≡ true }
+    requires old { is_point (table_at schema.now 0).columns (Num (pos 1) ∷ Num (pos 41) ∷ Num (pos 5) ∷ []) ≡ true }
+    requires empty { store.old.regions ≡ [] }
+{
+    hold(alloc, schema, store, 30, 40)?;
+    tell_age(alloc, schema, store, 31)?;
+    let young = age_at(store, 0);
+    tell_age(alloc, schema, store, 41)?;
+    Ok((young, age_at(store, 0)))
+}
+
+fn told_ages(alloc: Global) -> Result<(Option<i64>, Option<i64>), NoMemory> {
     let schema = schema_of(alloc)?;
-    match held(alloc, &schema, 30, 40)? {
-        None => Ok(None),
-        Some(mut store) => {
-            tell_age(alloc, &schema, &mut store, 31)?;
-            let young = age_at(&store, 0);
-            tell_age(alloc, &schema, &mut store, 41)?;
-            Ok(Some((young, age_at(&store, 0))))
-        }
-    }
+    let mut store = Store::new(alloc, LIMITS);
+    tell_both(alloc, &schema, &mut store)
 }
 
 #[test]
 fn what_is_told_moves_a_row_in_and_out(rt: HostRuntime) -> Result<(), Fail> {
-    assert_eq!(rt; told_ages(rt.alloc())?, Some((Some(31), None)));
+    assert_eq!(rt; told_ages(rt.alloc())?, (Some(31), None));
     Ok(())
 }

@@ -95,29 +95,38 @@ fn is_once(alloc: Global, rects: &Rects, age: i64) -> Result<bool, NoMemory> {
     Ok(found)
 }
 
-// The ages of the one without those of the other.
-fn minus(
+// Whether the ages of the one without those of the other are just those of the ranges.
+fn minus_is(
     alloc: Global,
-    one: &[(i64, i64)],
-    other: &[(i64, i64)],
-) -> Result<Option<Rects>, NoMemory> {
+    one: &Rects,
+    other: &Rects,
+    ranges: &[(i64, i64)],
+) -> Result<bool, NoMemory> {
     let table = employees(alloc)?;
-    let one = aged(alloc, one)?;
-    let other = aged(alloc, other)?;
     if !one.fits(&table) || !other.fits(&table) {
-        return Ok(None);
+        return Ok(false);
     }
-    Ok(one.minus(alloc, &other, &table, 100).ok())
+    match one.minus(alloc, other, &table, 100) {
+        Ok(left) => have(alloc, &left, ranges),
+        Err(_) => Ok(false),
+    }
 }
 
 #[test]
 fn ages_without_others_are_left(rt: HostRuntime) -> Result<(), Fail> {
     let alloc = rt.alloc();
-    match minus(alloc, &[(0, 50)], &[(10, 20), (50, 60)])? {
-        Some(left) => assert!(rt; have(alloc, &left, &[(0, 9), (21, 49)])?),
-        None => assert!(rt; false, "refused"),
-    }
+    let one = aged(alloc, &[(0, 50)])?;
+    let other = aged(alloc, &[(10, 20), (50, 60)])?;
+    assert!(rt; minus_is(alloc, &one, &other, &[(0, 9), (21, 49)])?);
     Ok(())
+}
+
+fn is_within(alloc: Global, one: &Rects, other: &Rects) -> Result<Option<bool>, NoMemory> {
+    let table = employees(alloc)?;
+    if !one.fits(&table) || !other.fits(&table) {
+        return Ok(None);
+    }
+    Ok(Some(one.within(alloc, other, &table)?))
 }
 
 fn within(
@@ -125,13 +134,9 @@ fn within(
     one: &[(i64, i64)],
     other: &[(i64, i64)],
 ) -> Result<Option<bool>, NoMemory> {
-    let table = employees(alloc)?;
     let one = aged(alloc, one)?;
     let other = aged(alloc, other)?;
-    if !one.fits(&table) || !other.fits(&table) {
-        return Ok(None);
-    }
-    Ok(Some(one.within(alloc, &other, &table)?))
+    is_within(alloc, &one, &other)
 }
 
 #[test]
@@ -158,15 +163,6 @@ fn cut_between(alloc: Global) -> Result<Rects, NoMemory> {
     Ok(rects)
 }
 
-fn tidied(alloc: Global, keep: Attrs) -> Result<Option<Rects>, NoMemory> {
-    let table = employees(alloc)?;
-    let rects = cut_between(alloc)?;
-    if !rects.fits(&table) {
-        return Ok(None);
-    }
-    Ok(rects.tidy(alloc, keep, &table, 100).ok())
-}
-
 // the place of the ages
 const AGE: Attrs = Attrs(4);
 
@@ -180,40 +176,53 @@ fn constrain_no_department(rects: &Rects) -> bool {
     true
 }
 
+// Whether what is tidied for that column has just the ages 30 to 40, in rects that constrain no department.
+fn is_tidied(alloc: Global, rects: &Rects, keep: Attrs) -> Result<bool, NoMemory> {
+    let table = employees(alloc)?;
+    if !rects.fits(&table) {
+        return Ok(false);
+    }
+    match rects.tidy(alloc, keep, &table, 100) {
+        Ok(tidy) => Ok(constrain_no_department(&tidy) && have(alloc, &tidy, &[(30, 40)])?),
+        Err(_) => Ok(false),
+    }
+}
+
 #[test]
 fn a_cut_that_is_not_needed_goes(rt: HostRuntime) -> Result<(), Fail> {
     let alloc = rt.alloc();
-    match tidied(alloc, AGE)? {
-        Some(tidy) => {
-            assert!(rt; have(alloc, &tidy, &[(30, 40)])?);
-            assert!(rt; constrain_no_department(&tidy));
-        }
-        None => assert!(rt; false, "refused"),
-    }
+    let rects = cut_between(alloc)?;
+    assert!(rt; is_tidied(alloc, &rects, AGE)?);
     Ok(())
 }
 
-fn disjoint(alloc: Global, ranges: &[(i64, i64)]) -> Result<Option<Rects>, NoMemory> {
-    let table = employees(alloc)?;
-    let rects = aged(alloc, ranges)?;
-    if !rects.fits(&table) {
-        return Ok(None);
+// Whether just one of the rects has each age that a range has.
+fn are_once(alloc: Global, rects: &Rects, lo: i64, hi: i64) -> Result<bool, NoMemory> {
+    for age in lo..hi + 1 {
+        if !is_once(alloc, rects, age)? {
+            return Ok(false);
+        }
     }
-    Ok(rects.disjoint(alloc, &table, 100).ok())
+    Ok(true)
+}
+
+// Whether the rects have the ages 0 to 30, each once, when they are made disjoint.
+fn is_disjoint(alloc: Global, rects: &Rects) -> Result<bool, NoMemory> {
+    let table = employees(alloc)?;
+    if !rects.fits(&table) {
+        return Ok(false);
+    }
+    match rects.disjoint(alloc, &table, 100) {
+        Ok(apart) => Ok(have(alloc, &apart, &[(0, 30)])? && are_once(alloc, &apart, 0, 30)?),
+        Err(_) => Ok(false),
+    }
 }
 
 #[test]
 fn no_age_is_in_two_rects(rt: HostRuntime) -> Result<(), Fail> {
     let alloc = rt.alloc();
-    match disjoint(alloc, &[(0, 20), (10, 30)])? {
-        Some(rects) => {
-            assert!(rt; have(alloc, &rects, &[(0, 30)])?);
-            for age in 0..31 {
-                assert!(rt; is_once(alloc, &rects, age)?, "{age}");
-            }
-        }
-        None => assert!(rt; false, "refused"),
-    }
+    let rects = aged(alloc, &[(0, 20), (10, 30)])?;
+    assert!(rt; is_disjoint(alloc, &rects)?);
     Ok(())
 }
 
@@ -237,9 +246,8 @@ fn the_last_byte_that_can_grows(rt: HostRuntime) -> Result<(), Fail> {
     Ok(())
 }
 
-fn is_centre(alloc: Global, ranges: &[(i64, i64)], sums: &[i64]) -> Result<bool, NoMemory> {
+fn is_centre(alloc: Global, rects: &Rects, sums: &[i64]) -> Result<bool, NoMemory> {
     let table = employees(alloc)?;
-    let rects = aged(alloc, ranges)?;
     if !rects.fits(&table) {
         return Ok(false);
     }
@@ -252,6 +260,7 @@ fn is_centre(alloc: Global, ranges: &[(i64, i64)], sums: &[i64]) -> Result<bool,
 #[test]
 fn a_centre_has_both_ends_of_each_column(rt: HostRuntime) -> Result<(), Fail> {
     let alloc = rt.alloc();
-    assert!(rt; is_centre(alloc, &[(30, 34), (40, 44)], &[9999, 4294967296, 74, 99])?);
+    let rects = aged(alloc, &[(30, 34), (40, 44)])?;
+    assert!(rt; is_centre(alloc, &rects, &[9999, 4294967296, 74, 99])?);
     Ok(())
 }

@@ -1,6 +1,10 @@
-//! Tests of what is read and written: files and links, scripts and statements.
+//! Tests of what is read and written: files and links, scripts and statements, bytes and frames.
 #![tactic(auto)]
 
+#[cfg(test)]
+mod bytes;
+#[cfg(test)]
+mod feed;
 #[cfg(test)]
 mod io;
 #[cfg(test)]
@@ -11,3 +15,5 @@ mod reader;
 mod setup;
 #[cfg(test)]
 mod tokens;
+#[cfg(test)]
+mod wire;

@@ -3,7 +3,7 @@ use Rattle.sr_bytes.specs.Spelling.{number_bytes, long_bytes, count_bytes, short
 use Rattle.sr_wire.specs.Examples.{hello, reply, ask}
 use Rattle.sr_wire.specs.Limits.{IsSendable}
 use Rattle.sr_wire.specs.Spelling.{body_of}
-use Rattle.sr_trials_points.proofs.wire.messages_are_encoded.Goals as goal
+use Rattle.sr_trials_texts.proofs.wire.messages_are_encoded.Goals as goal
 
 hello_is_sendable : IsSendable hello
 unfolding number_bytes count_bytes short_count_bytes long_bytes

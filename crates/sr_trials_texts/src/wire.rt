@@ -2,7 +2,6 @@
 ghost use Rattle.std.specs.Prelude.{◌≡◌, IfOk};
 ghost use Rattle.sr_wire.specs.Examples.{ask};
 
-use crate::common::HELLO;
 use sr_box::rect::Rect;
 use sr_box::span::Span;
 use sr_bytes::views::SpanView;
@@ -16,6 +15,9 @@ use sr_wire::frame::decode;
 use sr_wire::wire_fault::WireFault;
 use std::alloc::Global;
 use std::test::Fail;
+
+/// The frame by which client 1 begins.
+pub const HELLO: [u8; 15] = [0, 0, 0, 11, 1, 1, 1, 0, 0, 0, 0, 0, 0, 0, 0];
 
 /// A reply to request 1, of version 2.
 const REPLY: [u8; 21] = [

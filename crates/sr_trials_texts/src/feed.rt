@@ -1,5 +1,5 @@
 //! A frame that comes in pieces, byte by byte and over a link in memory.
-use crate::common::HELLO;
+use crate::wire::HELLO;
 use sr_cell::list::{Bytes, Seq};
 use sr_feed::feed::{Feed, fetch};
 use sr_feed::fetched::Fetched;

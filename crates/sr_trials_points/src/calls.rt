@@ -2,14 +2,15 @@
 ghost use Rattle.std.specs.Prelude.{◌≡◌, pos, true, IfOk};
 ghost use Rattle.sr_union.specs.Grid.{all_inner, have_first};
 
+use crate::common::is_printed;
 use sr_box::rect::Rect;
 use sr_box::span::Span;
-use sr_cell::list::{Copied, NoMemory, Seq};
+use sr_cell::fault::Fault;
+use sr_cell::list::{Copied, No, NoMemory, Seq};
 use sr_cell::schema::Schema;
 use sr_cell::table::{Column, Kind, Table};
 use sr_cell::text::Text;
 use sr_script::line::TraceLine;
-use sr_script::text::trace_text;
 use sr_union::rects::Rects;
 use std::alloc::Global;
 use std::test::Fail;
@@ -60,13 +61,17 @@ fn a_difference_has_its_rects(rt: HostRuntime) -> Result<(), Fail> {
     Ok(())
 }
 
+// The place of the table in a copy of a schema that has it alone.
+fn place_in_copy(alloc: Global, schema: &mut Schema) -> Result<Option<u8>, No<Fault>> {
+    schema.add(alloc, numbers(alloc)?)?;
+    Ok(schema.copy(alloc)?.table_of("n"))
+}
+
 #[test]
-fn a_schema_is_copied(rt: HostRuntime) -> Result<(), Fail> {
+fn a_schema_is_copied(rt: HostRuntime) {
     let alloc = rt.alloc();
     let mut schema = Schema::new(alloc);
-    assert_eq!(rt; schema.add(alloc, numbers(alloc)?), Ok(()));
-    assert_eq!(rt; schema.copy(alloc)?.table_of("n"), Some(0));
-    Ok(())
+    assert!(rt; place_in_copy(alloc, &mut schema) == Ok(Some(0)));
 }
 
 #[test]
@@ -82,8 +87,7 @@ fn lines_are_printed(rt: HostRuntime) -> Result<(), Fail> {
         (TraceLine::ServerEmpty { client }, "6 toserver 1 empty\n"),
         (TraceLine::ClientEmpty { client }, "6 toclient 1 empty\n"),
     ] {
-        let text = trace_text(alloc, &[], 6, &line)?;
-        assert_eq!(rt; text.as_str(), printed);
+        assert!(rt; is_printed(alloc, &[], 6, &line, printed)?, "{printed}");
     }
     Ok(())
 }

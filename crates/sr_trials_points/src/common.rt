@@ -8,6 +8,8 @@ use sr_box::span::Span;
 use sr_cell::list::{NoMemory, Seq};
 use sr_cell::table::{Column, Kind, Table};
 use sr_cell::text::Text;
+use sr_script::line::TraceLine;
+use sr_script::text::trace_text;
 use sr_union::rects::Rects;
 use std::alloc::Global;
 
@@ -45,4 +47,16 @@ pub fn ages(alloc: Global, lo: i64, hi: i64) -> Result<Rects, NoMemory>
     let mut rects = Rects::new(alloc);
     rects.push(rect)?;
     Ok(rects)
+}
+
+/// Whether a trace has that text for the line, at that line of its script.
+pub fn is_printed(
+    alloc: Global,
+    schema: &[Table],
+    number: u64,
+    line: &TraceLine,
+    printed: &str,
+) -> Result<bool, NoMemory> {
+    let text = trace_text(alloc, schema, number, line)?;
+    Ok(text.as_str() == printed)
 }

@@ -1,10 +1,9 @@
 //! Lines that no script makes yet, as text.
-use crate::common::{ages, people};
+use crate::common::{ages, is_printed, people};
 use sr_cell::attrs::Attrs;
 use sr_cell::fault::{Fault, Why};
 use sr_cell::list::NoMemory;
 use sr_script::line::{FailKind, RequestKind, TraceLine};
-use sr_script::text::trace_text;
 use sr_union::rects::Rects;
 use std::alloc::Global;
 use std::test::Fail;
@@ -53,8 +52,7 @@ fn explained_lines_are_printed(rt: HostRuntime) -> Result<(), Fail> {
             "0 victim 1 emp (id,age) 2 7\n",
         ),
     ] {
-        let text = trace_text(alloc, &schema, 0, &line)?;
-        assert_eq!(rt; text.as_str(), printed);
+        assert!(rt; is_printed(alloc, &schema, 0, &line, printed)?, "{printed}");
     }
     Ok(())
 }
@@ -125,8 +123,7 @@ fn lines_of_one_client_are_printed(rt: HostRuntime) -> Result<(), Fail> {
             "9 cut 1 already 2\n",
         ),
     ] {
-        let text = trace_text(alloc, &[], 9, &line)?;
-        assert_eq!(rt; text.as_str(), printed);
+        assert!(rt; is_printed(alloc, &[], 9, &line, printed)?, "{printed}");
     }
     Ok(())
 }

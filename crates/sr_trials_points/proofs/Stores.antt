@@ -14,16 +14,12 @@ use Rattle.sr_box.specs.Points.{Rect, in_any}
 use Rattle.sr_query.specs.declared.query.Part.{Part}
 use Rattle.sr_region.specs.declared.region.Region.{Region}
 use Rattle.sr_store.specs.declared.store.Arrival.{Arrival}
-use Rattle.sr_store.specs.declared.store.Store.{Store}
 use Rattle.sr_store.specs.Classes.{occurs}
 use Rattle.sr_store.specs.Stores.{IsOfSchema, IsStore, cover_of, IsAbsorbedIn}
 use Rattle.sr_store.specs.Answered.{AreApart}
 use Rattle.sr_store.specs.Making.{HaveNoCommon}
 use Rattle.sr_store.specs.Noticed.{IsTellOf}
 use Rattle.sr_store.proofs.Covering.{cover_has}
-
-abbrev pub regions_of : Store → List Region
-regions_of store = store.regions
 
 abbrev pub empty_store : (schema : List Table) (gs : List Region) → gs ≡ [] → IsStore schema gs
 empty_store schema gs none = subst (IsStore schema) (sym none) (record {

@@ -149,28 +149,21 @@ fn has_rows(
     Ok(are(region.rows_in(&rects), ids))
 }
 
-fn put_person(alloc: Global, region: &mut Region, id: i64, age: i64) -> Result<(), NoMemory>
-    requires { ascend (rank region.old.attrs region.old.key) region.old.rows ≡ true }
-    ensures class { OnOk result ((region.new.attrs ≡ region.old.attrs) × (region.new.key ≡ region.old.key)) }
-    ensures order { OnOk result (ascend (rank region.new.attrs region.new.key) region.new.rows ≡ true) }
-{
-    region.put(row_of(alloc, id, age)?)
-}
-
 // The ages of a range, with one person.
 fn region_with(alloc: Global, lo: i64, hi: i64, id: i64, age: i64) -> Result<Region, NoMemory>
     ensures class { IfOk result (λ region. (region.attrs ≡ 3) × (region.key ≡ 0)) }
     ensures order { IfOk result (λ region. ascend (rank 3 0) region.rows ≡ true) }
 {
+    let row = row_of(alloc, id, age)?;
     let mut region = Region::new(alloc, 2, 0, Attrs(3), 7, ages(alloc, lo, hi)?);
-    put_person(alloc, &mut region, id, age).and(Ok(region))
+    region.put(row).and(Ok(region))
 }
 
 #[test]
 fn rows_lie_by_key(rt: HostRuntime) -> Result<(), Fail> {
     let alloc = rt.alloc();
     let mut region = region_with(alloc, 20, 60, 5, 30)?;
-    put_person(alloc, &mut region, 3, 50)?;
+    region.put(row_of(alloc, 3, 50)?)?;
     assert!(rt; has_rows(alloc, &region, 20, 60, &[3, 5])?);
     assert!(rt; has_rows(alloc, &region, 20, 30, &[5])?);
     Ok(())
@@ -358,13 +351,14 @@ fn ages_of_members(alloc: Global, lo: i64, hi: i64) -> Result<Rects, NoMemory> {
     Ok(rects)
 }
 
-// Two persons of 39 and 31 come into a region of such ages.
+// Two persons of 39 and 31 come into a region that has no rows.
 fn put_members(alloc: Global, region: &mut Region) -> Result<(), NoMemory>
-    requires { ascend (rank region.old.attrs region.old.key) region.old.rows ≡ true }
+    requires class { (region.old.attrs ≡ 3) × (region.old.key ≡ 0) }
+    requires empty { region.old.rows ≡ [] }
     ensures order { OnOk result (ascend (rank region.new.attrs region.new.key) region.new.rows ≡ true) }
 {
-    put_person(alloc, region, 3, 39)?;
-    put_person(alloc, region, 5, 31)
+    region.put(row_of(alloc, 3, 39)?)?;
+    region.put(row_of(alloc, 5, 31)?)
 }
 
 // The members from 30 to 40, with two of 39 and 31.

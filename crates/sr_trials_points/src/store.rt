@@ -225,6 +225,7 @@ fn bring_row(alloc: Global, schema: &Schema, store: &mut Store) -> Result<usize,
     requires tables { IsTrue (list_all is_table schema.now) }
     requires there { 0 < length schema.now }
     requires key { (table_at schema.now 0).key ≡ 0 }
+    requires point { is_point (table_at schema.now 0).columns (Num (pos 1) ∷ Num (pos 31) ∷ Num (pos 5) ∷ []) ≡ true }
     requires empty { store.old.regions ≡ [] }
     ensures store { OnOk result (IsStore schema.now store.new.regions) }
 {
@@ -247,6 +248,7 @@ fn limit(
     requires tables { IsTrue (list_all is_table schema.now) }
     requires there { 0 < length schema.now }
     requires key { (table_at schema.now 0).key ≡ 0 }
+    requires point { is_point (table_at schema.now 0).columns (Num (pos 1) ∷ Num (pos 31) ∷ Num (pos 5) ∷ []) ≡ true }
     requires empty { store.old.regions ≡ [] }
 {
     let marks = bring_row(alloc, schema, store)?;

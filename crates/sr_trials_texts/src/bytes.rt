@@ -46,19 +46,36 @@ fn thirties(alloc: Global) -> Result<Rects, NoMemory>
     Ok(rects)
 }
 
+// Whether the cursor stands at just those rows, and then at just those rects.
+fn are_read(alloc: Global, cursor: &mut Cursor<'_>) -> Result<bool, Fail> {
+    let rows = cursor.rows().ok().ok_or("no rows are read")?;
+    let rects = cursor.rects().ok().ok_or("no rects are read")?;
+    Ok(rows.to_rows(alloc)?.same(&ink(alloc)?) && rects.to_rects(alloc)?.same(&thirties(alloc)?))
+}
+
+#[test]
+fn rows_are_written(rt: HostRuntime) -> Result<(), Fail> {
+    let mut out = Bytes::new(rt.alloc());
+    push_rows(&mut out, &ink(rt.alloc())?)?;
+    assert_eq!(rt; out.as_slice(), INK.as_slice());
+    Ok(())
+}
+
+#[test]
+fn rects_are_written(rt: HostRuntime) -> Result<(), Fail> {
+    let mut out = Bytes::new(rt.alloc());
+    push_rects(&mut out, &thirties(rt.alloc())?)?;
+    assert_eq!(rt; out.as_slice(), THIRTIES.as_slice());
+    Ok(())
+}
+
 #[test]
 fn what_is_written_is_read(rt: HostRuntime) -> Result<(), Fail> {
-    let alloc = rt.alloc();
-    let mut out = Bytes::new(alloc);
-    push_rows(&mut out, &ink(alloc)?)?;
-    assert_eq!(rt; out.as_slice(), INK.as_slice());
-    push_rects(&mut out, &thirties(alloc)?)?;
-    assert_eq!(rt; &out.as_slice()[17..], THIRTIES.as_slice());
-    let mut cursor = Cursor::over(out.as_slice());
-    let rows = cursor.rows().ok().ok_or("no rows are read")?;
-    assert!(rt; rows.to_rows(alloc)?.same(&ink(alloc)?));
-    let rects = cursor.rects().ok().ok_or("no rects are read")?;
-    assert!(rt; rects.to_rects(alloc)?.same(&thirties(alloc)?));
+    let mut bytes = Bytes::new(rt.alloc());
+    bytes.extend(&INK)?;
+    bytes.extend(&THIRTIES)?;
+    let mut cursor = Cursor::over(bytes.as_slice());
+    assert!(rt; are_read(rt.alloc(), &mut cursor)?);
     assert!(rt; cursor.left().is_empty());
     Ok(())
 }

@@ -48,12 +48,19 @@ fn a_link_is_fetched_to_its_end(rt: HostRuntime) -> Result<(), Fail> {
 }
 
 #[test]
-fn a_silent_link_takes_what_is_sent(rt: HostRuntime) -> Result<(), Fail> {
+fn a_silent_link_is_at_its_end(rt: HostRuntime) -> Result<(), Fail> {
     let alloc = rt.alloc();
     let mut link = MemLink::new(alloc, Bytes::new(alloc), Seq::new(alloc), 1);
     let mut feed = Feed::new(alloc);
     assert_eq!(rt; fetch(&mut link, &mut feed)?, Fetched::End { left: 0 });
+    Ok(())
+}
+
+#[test]
+fn a_link_takes_what_is_sent(rt: HostRuntime) -> Result<(), Fail> {
+    let alloc = rt.alloc();
+    let mut link = MemLink::new(alloc, Bytes::new(alloc), Seq::new(alloc), 1);
     send_all(&mut link, b"ab")?;
-    assert_eq!(rt; link.sent(alloc)?.as_slice(), b"ab".as_slice());
+    assert!(rt; link.sent(alloc)?.as_slice() == b"ab".as_slice());
     Ok(())
 }

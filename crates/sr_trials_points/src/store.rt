@@ -164,12 +164,12 @@ fn rects_held(alloc: Global, store: &Store, lo: i64, hi: i64) -> Result<usize, N
 // A region's number of rects and its stamp.
 type Stamped = Option<(usize, u64)>;
 
-// Of the ages 30 to 40 the ages 32 to 35 are asked again: the regions then, and how many rects are held.
+// Of the ages 30 to 40 the ages 32 to 35 are asked again: how many regions there are, the two, and how many rects are held.
 fn split(
     alloc: Global,
     schema: &Schema,
     store: &mut Store,
-) -> Result<(Stamped, Stamped, usize), NoMemory>
+) -> Result<(usize, Stamped, Stamped, usize), NoMemory>
     requires tables { IsTrue (list_all is_table schema.now) }
     requires there { 0 < length schema.now }
     requires key { (table_at schema.now 0).key ≡ 0 }
@@ -178,10 +178,11 @@ fn split(
     hold(alloc, schema, store, 30, 40)?;
     touch(alloc, schema, store, 32, 35)?;
     let held = rects_held(alloc, store, 30, 40)?;
-    Ok((region_at(store, 0), region_at(store, 1), held))
+    let regions = store.regions.len();
+    Ok((regions, region_at(store, 0), region_at(store, 1), held))
 }
 
-fn split_ages(alloc: Global) -> Result<(Stamped, Stamped, usize), NoMemory> {
+fn split_ages(alloc: Global) -> Result<(usize, Stamped, Stamped, usize), NoMemory> {
     let schema = schema_of(alloc)?;
     let mut store = Store::new(alloc, LIMITS);
     split(alloc, &schema, &mut store)
@@ -189,7 +190,7 @@ fn split_ages(alloc: Global) -> Result<(Stamped, Stamped, usize), NoMemory> {
 
 #[test]
 fn what_is_asked_again_has_a_new_stamp(rt: HostRuntime) -> Result<(), Fail> {
-    assert_eq!(rt; split_ages(rt.alloc())?, (Some((2, 1)), Some((1, 2)), 3));
+    assert_eq!(rt; split_ages(rt.alloc())?, (2, Some((2, 1)), Some((1, 2)), 3));
     Ok(())
 }
 

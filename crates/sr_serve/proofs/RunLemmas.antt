@@ -1,6 +1,7 @@
 -- Runs, by what ended them.
 use Rattle.std.proofs.Common.{◌≡◌, ℕ, ◌+◌, Bool, true, false, eqb, List, [], ◌∷◌, ◌++◌, take, drop, Option, Some, None, option_map, arith, append-nil, refl, sym, ◌∙◌, ap, subst}
-use Rattle.std.specs.Prelude.{◌≢◌, IfSome}
+use Rattle.std.specs.Prelude.{◌≢◌, Err, IfSome, IsErrOf}
+use Rattle.sr_cell.specs.declared.list.No.TheVariants.{Refused}
 use Rattle.std.specs.Io.KnownBytes.{Appends}
 use Rattle.std.specs.List.{All}
 use Rattle.std.proofs.lemmas.Bool.Decides.{nat_tests}
@@ -289,3 +290,7 @@ module _ (db : Database) (texts : List (List ℕ)) (address : List ℕ) (count :
     ended-by Whole e = ended-whole e
     ended-by Faulty e = ended-faulty e
     ended-by Unwritten e = ended-unwritten e
+
+-- an ending that is named is that of the call
+pub same-ending : {A : Type 0} (was ending : Ending) → IsErrOf {T = A} (Err (Refused was)) (Refused ending) → was ≡ ending
+same-ending {A} was ending is = cc

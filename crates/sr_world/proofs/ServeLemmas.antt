@@ -21,7 +21,7 @@ use Rattle.sr_runs.specs.Scripts.{gives_nothing, is_push, is_to_server}
 use Rattle.sr_world.specs.declared.seat.Seat.{Seat}
 use Rattle.sr_world.specs.Worlds.{IsSeat}
 use Rattle.sr_wire.specs.declared.bad_frame.BadFrame.{BadFrame}
-use Rattle.sr_world.specs.Seats.{IsSomeSeat, SeatGoes, SeatStands}
+use Rattle.sr_world.specs.Seats.{SeatGoes, SeatStands}
 use Rattle.sr_world.proofs.Over.{Grows, grows-none, grows-taken}
 use Rattle.sr_world.proofs.Requests.{no-misfit}
 use Rattle.sr_world.proofs.SeatLemmas.{pair-stands, seat-leads, seat-stays}

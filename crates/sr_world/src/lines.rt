@@ -314,11 +314,19 @@ pub(crate) fn one_line(alloc: Global, line: TraceLine) -> Result<TraceLines, NoM
 }
 
 /// These lines with one more behind them.
-fn with_line(lines: TraceLines, line: TraceLine) -> Result<TraceLines, NoMemory>
+pub(crate) fn with_line(lines: TraceLines, line: TraceLine) -> Result<TraceLines, NoMemory>
     ensures { IfOk result (λ all. all ≡ lines ++ line ∷ []) }
 {
     let mut lines = lines;
     lines.push(line).and(Ok(lines))
+}
+
+/// These lines with others behind them.
+pub(crate) fn with_lines(lines: TraceLines, more: TraceLines) -> Result<TraceLines, NoMemory>
+    ensures { IfOk result (λ all. all ≡ lines ++ more) }
+{
+    let mut lines = lines;
+    lines.append(more).and(Ok(lines))
 }
 
 /// These lines with the last one of their step, and what is sent.

@@ -1,11 +1,10 @@
-use Rattle.std.proofs.Common.{rules, ◌∙◌, refl, subst, sym, ◌∷◌, [], ◌≡◌, List, length}
+use Rattle.std.proofs.Common.{rules, subst, sym, ◌∷◌, [], ◌≡◌, List}
 use Rattle.std.proofs.lemmas.Result.{IfOk-weaker}
 use Rattle.sr_client.proofs.Results.{if_ok}
 use Rattle.sr_message.specs.declared.message.Message.{Message}
 use Rattle.sr_script.specs.declared.line.TraceLine.TheVariants as line
 use Rattle.sr_lines.specs.Events.{DoToServer}
 use Rattle.sr_runs.specs.Runs.{Acts}
-use Rattle.sr_world.specs.declared.seat.Seat.{Seat}
 use Rattle.sr_world.specs.Seats.{SeatGoes}
 use Rattle.sr_feed.proofs.Frames.{first}
 use Rattle.sr_world.proofs.ServeLemmas.{oldest-fits, serve-goes, serve-idles}

@@ -3,6 +3,7 @@ ghost use Rattle.std.specs.Prelude.{◌≡◌, ◌<◌, ◌^◌, ℕ, true, List
 ghost use Rattle.sr_cell.specs.declared.cause.Cause.TheVariants.{Asked as AskedCause};
 ghost use Rattle.sr_cell.specs.declared.fault.Fault.{Fault as TheFault};
 ghost use Rattle.sr_model.specs.Queries.{Query as TheQuery};
+ghost use Rattle.sr_script.specs.declared.line.TraceLine.{TraceLine as TheLine};
 ghost use Rattle.sr_script.specs.declared.line.TraceLine.TheVariants.{WriteSql, Row as RowLine};
 ghost use Rattle.sr_session.specs.Clients.{Client as Past};
 ghost use Rattle.sr_session.specs.Refusals.{has_few_parts};
@@ -48,8 +49,8 @@ pub fn told_of_query(alloc: Global, client: u8, step: QueryStep) -> Result<Told,
             rows,
             marks,
         } => {
-            let last = TraceLine::QueryAnswered { client, query };
-            told_answered(alloc, client, query, version, rows, marks, last)
+            let lines = answered_lines(alloc, client, query, version, rows, marks);
+            told_if(lines, TraceLine::QueryAnswered { client, query }, None)
         }
         QueryStep::Asked {
             request,
@@ -57,8 +58,9 @@ pub fn told_of_query(alloc: Global, client: u8, step: QueryStep) -> Result<Told,
             marks,
             ..
         } => {
+            let lines = asking_lines(alloc, client, marks, &message);
             let last = TraceLine::QueryAsked { client, request };
-            told_asked(alloc, client, marks, message, last)
+            told_if(lines, last, Some(message))
         }
         QueryStep::Busy { request } => {
             let last = TraceLine::QueryBusy { client, request };
@@ -83,16 +85,17 @@ pub fn told_of_took(alloc: Global, client: u8, took: Took) -> Result<Told, NoMem
             rows,
             marks,
         } => {
-            let last = TraceLine::ClientAnswered { client };
-            told_answered(alloc, client, query, version, rows, marks, last)
+            let lines = answered_lines(alloc, client, query, version, rows, marks);
+            told_if(lines, TraceLine::ClientAnswered { client }, None)
         }
         Took::Asked {
             request,
             message,
             marks,
         } => {
+            let lines = asking_lines(alloc, client, marks, &message);
             let last = TraceLine::ClientAsked { client, request };
-            told_asked(alloc, client, marks, message, last)
+            told_if(lines, last, Some(message))
         }
         Took::Bad(_) => Ok(Told {
             lines: Seq::new(alloc),
@@ -100,20 +103,12 @@ pub fn told_of_took(alloc: Global, client: u8, took: Took) -> Result<Told, NoMem
         }),
         Took::Laid => told_with(Seq::new(alloc), TraceLine::ClientLaid { client }, None),
         Took::Applied { version, marks } => {
-            told_marked(
-                alloc,
-                client,
-                marks,
-                TraceLine::ClientApplied { client, version },
-            )
+            let lines = mark_lines(alloc, client, marks);
+            told_if(lines, TraceLine::ClientApplied { client, version }, None)
         }
         Took::Forgot { version, marks } => {
-            told_marked(
-                alloc,
-                client,
-                marks,
-                TraceLine::ClientForgot { client, version },
-            )
+            let lines = mark_lines(alloc, client, marks);
+            told_if(lines, TraceLine::ClientForgot { client, version }, None)
         }
         Took::Written {
             request,
@@ -125,7 +120,7 @@ pub fn told_of_took(alloc: Global, client: u8, took: Took) -> Result<Told, NoMem
                 request,
                 version,
             };
-            told_marked(alloc, client, marks, last)
+            told_if(mark_lines(alloc, client, marks), last, None)
         }
         Took::Refused {
             request,
@@ -137,7 +132,7 @@ pub fn told_of_took(alloc: Global, client: u8, took: Took) -> Result<Told, NoMem
                 request,
                 fault,
             };
-            told_marked(alloc, client, marks, last)
+            told_if(mark_lines(alloc, client, marks), last, None)
         }
         Took::Welcomed {
             version,
@@ -149,7 +144,7 @@ pub fn told_of_took(alloc: Global, client: u8, took: Took) -> Result<Told, NoMem
                 version,
                 kept,
             };
-            told_marked(alloc, client, marks, last)
+            told_if(mark_lines(alloc, client, marks), last, None)
         }
     }
 }
@@ -338,45 +333,19 @@ fn told_with(lines: TraceLines, last: TraceLine, sent: Option<Message>) -> Resul
     Ok(Told { lines, sent })
 }
 
-/// The answer of a query, with the last line of its step; nothing is sent.
-fn told_answered(
-    alloc: Global,
-    client: u8,
-    query: u64,
-    version: u64,
-    rows: Rows,
-    marks: Marks,
+/// The same, where there may have been no memory for the lines.
+fn told_if(
+    made: Result<TraceLines, NoMemory>,
     last: TraceLine,
+    sent: Option<Message>,
 ) -> Result<Told, NoMemory>
-    ensures lines { IfOk result (λ told. told.lines ≡ (answer_lines client query version rows ++ mark_lines client marks) ++ last ∷ []) }
-    ensures sent { IfOk result (λ told. told.sent ≡ None) }
+    ensures lines { (lines : List TheLine) → IfOk made (λ these. these ≡ lines) → IfOk result (λ told. told.lines ≡ lines ++ last ∷ []) }
+    ensures sent { IfOk result (λ told. told.sent ≡ sent) }
 {
-    let lines = answered_lines(alloc, client, query, version, rows, marks)?;
-    told_with(lines, last, None)
-}
-
-/// The ask that the message is, with the last line of its step; the message is sent.
-fn told_asked(
-    alloc: Global,
-    client: u8,
-    marks: Marks,
-    message: Message,
-    last: TraceLine,
-) -> Result<Told, NoMemory>
-    requires few { has_few_parts message ≡ true }
-    ensures lines { IfOk result (λ told. told.lines ≡ (mark_lines client marks ++ asked_lines client message) ++ last ∷ []) }
-    ensures sent { IfOk result (λ told. told.sent ≡ Some message) }
-{
-    let lines = asking_lines(alloc, client, marks, &message)?;
-    told_with(lines, last, Some(message))
-}
-
-/// The lines of marks with the last one of their step; nothing is sent.
-fn told_marked(alloc: Global, client: u8, marks: Marks, last: TraceLine) -> Result<Told, NoMemory>
-    ensures lines { IfOk result (λ told. told.lines ≡ mark_lines client marks ++ last ∷ []) }
-    ensures sent { IfOk result (λ told. told.sent ≡ None) }
-{
-    told_with(mark_lines(alloc, client, marks)?, last, None)
+    match made {
+        Ok(lines) => told_with(lines, last, sent),
+        Err(no) => Err(no),
+    }
 }
 
 /// The answer of a query, its rows, and the marks.

@@ -3,9 +3,11 @@ ghost use Rattle.std.specs.Prelude.{◌≡◌, ◌≢◌, ◌<◌, ◌^◌, ℕ,
 ghost use Rattle.std.specs.Io.KnownBytes.{Appends};
 ghost use Rattle.sr_cell.specs.declared.list.No.TheVariants.{Refused};
 ghost use Rattle.sr_io.specs.Told.{Linking, Writing, docked_at};
+ghost use Rattle.sr_log.specs.Held.{newest as newest_of};
 ghost use Rattle.sr_session.specs.Sessions.{Database};
+ghost use Rattle.sr_ends.specs.ServerEnds.{IsEnd};
 ghost use Rattle.sr_server.specs.Servers.{first_database};
-ghost use Rattle.sr_talk.specs.Rounds.{HasPeers, OnlyOutput};
+ghost use Rattle.sr_talk.specs.Rounds.{HasPeers, OnlyOutput, at_rest};
 ghost use Rattle.sr_talk.specs.Serving.{listening};
 ghost use Rattle.sr_talk.specs.declared.rounds.Ending.{Ending as TheEnding};
 ghost use Rattle.sr_talk.specs.declared.rounds.Ending.TheVariants.{Faulty, Unwritten};
@@ -40,7 +42,10 @@ pub fn serve<H: Dock + Sink>(
     ensures steady_links { H.IsSteady host.old → HasPeers count (H.linking host.old) → IfOk result (λ ending. ending ≢ Faulty) }
 {
     match listen(host, address) {
-        Ok(()) => serve_docked(alloc, host, tables, log, texts, count),
+        Ok(()) => {
+            let server = Server::new(alloc, tables, log)?;
+            serve_docked(alloc, host, &mut ServerEnd::new(server), texts, count)
+        }
         Err(No::Refused(ending)) => Ok(ending),
         Err(No::NoMemory) => Err(NoMemory),
     }
@@ -71,22 +76,21 @@ fn listen<H: Dock + Sink>(host: &mut H, address: &str) -> Result<(), No<Ending>>
 fn serve_docked<H: Dock + Sink>(
     alloc: Global,
     host: &mut H,
-    tables: Tables,
-    log: u32,
+    end: &mut ServerEnd,
     texts: &[Text],
     count: u32,
 ) -> Result<Ending, NoMemory>
     requires texts { length texts.now < 2 ^ 32 }
-    ensures ran { (address : List ℕ) (old : Linking) (before : Writing) → H.linking host.old ≡ docked_at address old → Appends before.written (H.writing host.old).written listening → (H.writing host.old).faults ≡ before.faults
-        → IfOk result (λ ending. Ran (first_database tables.schema log tables.rows) texts.now address count ending old (H.linking host.new) before (H.writing host.new)) }
+    requires stands { (db : Database) × IsEnd end.old (at_rest db) }
+    requires new { newest_of end.old.server.log ≡ 0 }
+    ensures ran { (db : Database) → IsEnd end.old (at_rest db) → (address : List ℕ) (old : Linking) (before : Writing) → H.linking host.old ≡ docked_at address old
+        → Appends before.written (H.writing host.old).written listening → (H.writing host.old).faults ≡ before.faults → IfOk result (λ ending. Ran db texts.now address count ending old (H.linking host.new) before (H.writing host.new)) }
     ensures stays { OnlyOutput H H.reading H.held H.complaints H.IsSteady host.old host.new }
     ensures steady_writes { H.IsSteady host.old → IfOk result (λ ending. ending ≢ Unwritten) }
     ensures steady_links { H.IsSteady host.old → HasPeers count (H.linking host.old) → IfOk result (λ ending. ending ≢ Faulty) }
 {
-    let mut server = Server::new(alloc, tables, log)?;
-    match exec_all(alloc, host, &mut server, texts) {
-        Ok(true) => serve_some(alloc, host, &mut ServerEnd::new(server), count),
-        Ok(false) => Ok(Ending::Unwritten),
-        Err(no) => Err(no),
+    if !exec_all(alloc, host, &mut end.server, texts)? {
+        return Ok(Ending::Unwritten);
     }
+    serve_some(alloc, host, end, count)
 }

@@ -1,4 +1,4 @@
-use Rattle.std.proofs.Common.{inr}
+use Rattle.std.proofs.Common.{Err, ap, inl, inr, refl}
 use Rattle.sr_world.proofs.ReplayLemmas.{Wrote-of, WrotePart-of, same-fault, same-faults}
 use Rattle.sr_world.proofs.replay.replay.Goals as goal
 
@@ -38,3 +38,15 @@ returns-in-Err-Refused-clause-part_after_fault g c = λ _.
 pub returns-in-Err-NoMemory-clause-part_in_want : goal.returns-in-Err-NoMemory-clause-part_in_want
 returns-in-Err-NoMemory-clause-part_in_want g c = λ _.
     inr (WrotePart-of c.args.options _ _ _ _ _ _ c.in-Ok.ensures.inside c.in-Ok.ensures.read c.in-Ok.ensures.filled c.in-Err-NoMemory.ensures.part)
+
+pub returns-in-Err-Refused-clause-write_fault_is_counted : goal.returns-in-Err-Refused-clause-write_fault_is_counted
+returns-in-Err-Refused-clause-write_fault_is_counted g c = λ _. c.in-Err-Refused.ensures.failed_is_counted (ap Err c.in-Err-Refused.field-0-is)
+
+pub returns-in-Err-Refused-clause-steady_never_faults : goal.returns-in-Err-Refused-clause-steady_never_faults
+returns-in-Err-Refused-clause-steady_never_faults g c = λ steady _. c.in-Err-Refused.ensures.steady_never_fails steady (ap Err c.in-Err-Refused.field-0-is)
+
+pub returns-in-Err-clause-part_in_want : goal.returns-in-Err-clause-part_in_want
+returns-in-Err-clause-part_in_want g c = λ _. inl refl
+
+pub returns-in-Err-NoMemory-clause-line_first : goal.returns-in-Err-NoMemory-clause-line_first
+returns-in-Err-NoMemory-clause-line_first g c = λ at _. inr refl

@@ -1,4 +1,6 @@
+use Rattle.std.proofs.Common.{Err, ap, sym, subst}
 use Rattle.sr_server.specs.Servers.{first_database}
+use Rattle.sr_talk.specs.Rounds.{HasPeers}
 use Rattle.sr_serve.proofs.serve.serve.Goals as goal
 
 pub serve_docked-requires-clause-stands : goal.serve_docked-requires-clause-stands
@@ -11,3 +13,16 @@ returns-in-Ok-clause-ran g c =
     let db = first_database c.args.tables.schema c.args.log c.args.tables.rows in
     c.serve_docked.ensures.ran db (c.new-in-Ok.ensures.stands db c.in_ok-server-in-Ok.ensures.stands) c.args.address.now (g.H.Outside.linking c.args.host.now) (g.H.Outside.writing c.args.host.now)
     c.in-Ok.ensures.docked c.in-Ok.ensures.written c.in-Ok.ensures.faults
+
+pub returns-in-Ok-clause-steady_writes : goal.returns-in-Ok-clause-steady_writes
+returns-in-Ok-clause-steady_writes g c steady = c.serve_docked.ensures.steady_writes (c.listen.ensures.stays.stays_steady steady)
+
+pub returns-in-Ok-clause-steady_links : goal.returns-in-Ok-clause-steady_links
+returns-in-Ok-clause-steady_links g c steady enough =
+    c.serve_docked.ensures.steady_links (c.listen.ensures.stays.stays_steady steady) (subst (HasPeers c.args.count) (sym c.in-Ok.ensures.docked) enough)
+
+pub returns-in-Err-Refused-clause-steady_writes : goal.returns-in-Err-Refused-clause-steady_writes
+returns-in-Err-Refused-clause-steady_writes g c steady = absurd (c.in-Err-Refused.ensures.steady steady c.in-Err-Refused.ending (ap Err c.in-Err-Refused.field-0-is))
+
+pub returns-in-Err-Refused-clause-steady_links : goal.returns-in-Err-Refused-clause-steady_links
+returns-in-Err-Refused-clause-steady_links g c steady enough = absurd (c.in-Err-Refused.ensures.steady steady c.in-Err-Refused.ending (ap Err c.in-Err-Refused.field-0-is))

@@ -1,4 +1,4 @@
-use Rattle.std.proofs.Common.{Err, ap, sym, subst}
+use Rattle.std.proofs.Common.{◌∙◌, Err, ap, sym, subst, rules}
 use Rattle.sr_server.specs.Servers.{first_database}
 use Rattle.sr_talk.specs.Rounds.{HasPeers}
 use Rattle.sr_serve.proofs.serve.serve.Goals as goal
@@ -26,3 +26,17 @@ returns-in-Err-Refused-clause-steady_writes g c steady = absurd (c.in-Err-Refuse
 
 pub returns-in-Err-Refused-clause-steady_links : goal.returns-in-Err-Refused-clause-steady_links
 returns-in-Err-Refused-clause-steady_links g c steady enough = absurd (c.in-Err-Refused.ensures.steady steady c.in-Err-Refused.ending (ap Err c.in-Err-Refused.field-0-is))
+
+pub returns-in-Ok-clause-stays : goal.returns-in-Ok-clause-stays
+returns-in-Ok-clause-stays g c =
+    let first = c.listen.ensures.stays in
+    let last = c.serve_docked.ensures.stays in
+    record {
+      stays_steady = λ s. last.stays_steady (first.stays_steady s);
+      reading_stays = last.reading_stays ∙ first.reading_stays;
+      held_stays = last.held_stays ∙ first.held_stays;
+      complaints_stay = last.complaints_stay ∙ first.complaints_stay;
+    }
+
+pub returns-in-Err-Refused-clause-ran : goal.returns-in-Err-Refused-clause-ran
+returns-in-Err-Refused-clause-ran g c = c.in-Err-Refused.ensures.ran _ (search rules) _ _ _

@@ -1,6 +1,7 @@
 -- Runs, by what ended them.
 use Rattle.std.proofs.Common.{◌≡◌, ℕ, ◌+◌, Bool, true, false, eqb, List, [], ◌∷◌, ◌++◌, take, drop, Option, Some, None, option_map, arith, append-nil, refl, sym, ◌∙◌, ap, subst}
-use Rattle.std.specs.Prelude.{◌≢◌, IfSome}
+use Rattle.std.specs.Prelude.{◌≢◌, Err, IfSome, IsErrOf}
+use Rattle.sr_cell.specs.declared.list.No.TheVariants.{Refused}
 use Rattle.std.specs.Io.KnownBytes.{Appends}
 use Rattle.std.specs.List.{All}
 use Rattle.std.proofs.lemmas.Bool.Decides.{nat_tests}
@@ -14,9 +15,9 @@ use Rattle.sr_io.proofs.SoFar.{Appends-append}
 use Rattle.sr_ends.specs.ServerEnds.{IsEnd}
 use Rattle.sr_ends.specs.declared.server_end.ServerEnd.{ServerEnd}
 use Rattle.sr_session.specs.Sessions.{Database}
-use Rattle.sr_server.specs.Servers.{Gives}
+use Rattle.sr_server.specs.Servers.{Gives, IsServer}
 use Rattle.sr_server.specs.declared.server.Server.{Server}
-use Rattle.sr_talk.specs.Rounds.{EndsBy, EndsWhole, EndsFaulty, EndsUnwritten, text_of}
+use Rattle.sr_talk.specs.Rounds.{EndsBy, EndsWhole, EndsFaulty, EndsUnwritten, at_rest, text_of}
 use Rattle.sr_talk.specs.Serving.{AreExecuted, AreTold, Conversation, RoseBy, Writes, all_told, connection_lines, count_faults, listening, missing}
 use Rattle.sr_talk.specs.declared.rounds.Ending.{Ending}
 use Rattle.sr_talk.specs.declared.rounds.Ending.TheVariants.{Whole, Faulty, Unwritten}
@@ -289,3 +290,11 @@ module _ (db : Database) (texts : List (List ℕ)) (address : List ℕ) (count :
     ended-by Whole e = ended-whole e
     ended-by Faulty e = ended-faulty e
     ended-by Unwritten e = ended-unwritten e
+
+-- an ending that is named is that of the call
+pub same-ending : {A : Type 0} (was ending : Ending) → IsErrOf {T = A} (Err (Refused was)) (Refused ending) → was ≡ ending
+same-ending {A} was ending is = cc
+
+-- an end at which no client has come stands on while statements are carried out
+pub end-after : (db last : Database) (end : ServerEnd) (new : Server) → IsEnd end (at_rest db) → IsServer new last → new.sessions ≡ end.server.sessions → IsEnd (record end { server = new }) (at_rest last)
+end-after db last end new is stands same = record { server = stands; session = (is.session.0, same ∙ is.session.1) }

@@ -1,6 +1,6 @@
 -- A world before anything happens.
 use Rattle.std.proofs.Common.{◌≡◌, ℕ, zero, suc, ◌+◌, ◌-◌, ◌<◌, ◌≤◌, true, false, List, [], ◌∷◌, ◌++◌, length, refl, sym, ◌∙◌, ap, subst, arith, inl, inr, Option, Some, None}
-use Rattle.std.specs.Prelude.{◌⊎◌, replicate, slice_get, slice_index_or, slice_set}
+use Rattle.std.specs.Prelude.{◌⊎◌, replicate, slice_get, slice_index_or, slice_set, sum_by}
 use Rattle.std.proofs.lemmas.List.{get_or-set_same, get_or-set_other, length-append, length-replicate}
 use Rattle.sr_cell.specs.declared.table.Table.{Table}
 use Rattle.sr_cell.proofs.Numbers.{eqb_same}
@@ -22,7 +22,7 @@ use Rattle.sr_server.specs.Servers.{IsClientNumber, IsServer, first_database, se
 use Rattle.sr_server.proofs.Entries.{newest-is}
 use Rattle.sr_world.specs.declared.seat.Seat.{Seat}
 use Rattle.sr_world.specs.declared.world.World.{World}
-use Rattle.sr_world.specs.Worlds.{IsSeat, Represents, drawn, drawn_by, seat_at}
+use Rattle.sr_world.specs.Worlds.{IsSeat, Represents, drawn_by, seat_at}
 use Rattle.sr_world.proofs.Sound.{sound-of}
 use Rattle.sr_world.proofs.Sums.{sum-ones}
 use Rattle.sr_world.proofs.WorldLemmas.{same-or}
@@ -164,11 +164,21 @@ begun-world limits schema log_limit tables count w b few ready = record {
 pub begun-version : (schema : List Table) (log_limit : ℕ) (tables : Tables) (server : Server) → IsServer server (first_database schema log_limit tables) → newest_of server.log ≡ 0
 begun-version schema log_limit tables server is = newest-is (first_database schema log_limit tables) server.log is.knows.log ∙ (let none : 1 - 1 ≡ 0 = omega arith in none)
 
-pub begun-drawn : (limits : Limits) (schema : List Table) (log_limit : ℕ) (tables : Tables) (count : ℕ) (w : World) → IsBegun limits schema log_limit tables count w.server w.seats.items → drawn w ≡ count
-begun-drawn limits schema log_limit tables count w b =
-    let version = begun-version schema log_limit tables w.server b.database in
+pub begun-drawn : (limits : Limits) (schema : List Table) (log_limit : ℕ) (tables : Tables) (count : ℕ) (server : Server) (seats : List Seat) → IsBegun limits schema log_limit tables count server seats
+    → newest_of server.log + sum_by drawn_by seats ≡ count
+begun-drawn limits schema log_limit tables count server seats b =
+    let version = begun-version schema log_limit tables server b.database in
     let all = b.all in
-    omega (arith, version, all, sum-ones drawn_by w.seats.items b.ones)
+    omega (arith, version, all, sum-ones drawn_by seats b.ones)
+
+-- ---- the next client
+
+-- its first message can pass
+pub begun-closed : (limits : Limits) (schema : List Table) (log_limit : ℕ) (tables : Tables) (count : ℕ) (server : Server) (seats : List Seat) → IsBegun limits schema log_limit tables count server seats
+    → session_at server.sessions (count + 1) ≡ None
+begun-closed limits schema log_limit tables count server seats b =
+    let place : count ≡ count + 1 - 1 = omega arith in
+    subst (λ k. slice_index_or server.sessions k None ≡ None) place (b.none count (omega arith))
 
 -- ---- the server before the first message
 

@@ -1,6 +1,6 @@
 -- From runs of some events to the trace of a script.
-use Rattle.std.proofs.Common.{◌≡◌, ℕ, Bool, true, List, [], ◌∷◌, ◌++◌, length, Option, Some, None, Ok, Err, refl, subst, sym, ◌∙◌, ap, append_assoc, append-nil, arith, suc, ◌+◌, ◌*◌, ◌<◌, ◌≤◌, ◌^◌}
-use Rattle.std.specs.Prelude.{IsTrue, IfOk, IsErrOf, Result}
+use Rattle.std.proofs.Common.{◌≡◌, ℕ, Bool, true, List, [], ◌∷◌, ◌++◌, length, Option, Some, None, Ok, Err, refl, subst, sym, ◌∙◌, ap, append_assoc, append-nil, arith, inl, inr, suc, ◌+◌, ◌*◌, ◌<◌, ◌≤◌, ◌^◌}
+use Rattle.std.specs.Prelude.{◌⊎◌, IsTrue, IfOk, IsErrOf, Result}
 use Rattle.std.specs.List.{list_all, AllZip}
 use Rattle.std.proofs.lemmas.Bool.{and_parts}
 use Rattle.std.proofs.lemmas.List.{length-replicate}
@@ -335,3 +335,7 @@ Wrote-of options bytes loads s tables kept first last inside read loaded traced 
 -- a fault that is handed on is that of the call before
 pub same-fault : {A B E : Type 0} (was is : E) → IsErrOf {T = A} (Err was) is → IsErrOf {T = B} (Err was) is
 same-fault {A} {B} {E} was is err = let same : was ≡ is = cc in ap (λ x. Err x) same
+
+pub same-faults : {A B E : Type 0} (was a b : E) → IsErrOf {T = A} (Err was) a ⊎ IsErrOf {T = A} (Err was) b → IsErrOf {T = B} (Err was) a ⊎ IsErrOf {T = B} (Err was) b
+same-faults was a b (inl err) = inl (same-fault was a err)
+same-faults was a b (inr err) = inr (same-fault was b err)

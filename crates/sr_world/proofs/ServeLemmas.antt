@@ -21,7 +21,7 @@ use Rattle.sr_runs.specs.Scripts.{gives_nothing, is_push, is_to_server}
 use Rattle.sr_world.specs.declared.seat.Seat.{Seat}
 use Rattle.sr_world.specs.Worlds.{IsSeat}
 use Rattle.sr_wire.specs.declared.bad_frame.BadFrame.{BadFrame}
-use Rattle.sr_world.specs.Seats.{IsSomeSeat, SeatGoes, SeatStands}
+use Rattle.sr_world.specs.Seats.{SeatGoes, SeatStands}
 use Rattle.sr_world.proofs.Over.{Grows, grows-none, grows-taken}
 use Rattle.sr_world.proofs.Requests.{no-misfit}
 use Rattle.sr_world.proofs.SeatLemmas.{pair-stands, seat-leads, seat-stays}
@@ -154,14 +154,12 @@ push-some old new server after sent found is none sends makes stands made = by (
         (λ db here. makes db session here at) stands made
 
 -- the schema stays
-pub serve-schema : (s : Scene) (n : ℕ) (old : Seat) (server after : Server) (m : Message) (sent : List Message) → SeatStands s n old server → Takes s.database server old.client.id m sent after
+pub takes-schema : (db : Database) (server after : Server) (client : ℕ) (m : Message) (sent : List Message) → IsServer server db → Takes db server client m sent after
     → after.tables.schema ≡ server.tables.schema
-serve-schema s n old server after m sent h t =
-    let d : Taken = taken s.database (session_at server.sessions old.client.id) m t.result in
-    t.stands.knows.schema ∙ ((grows-taken s.database (session_at server.sessions old.client.id) m t.result (sound-of d.database t.stands.sound)).schema ∙ sym h.server.knows.schema)
+takes-schema db server after client m sent is t =
+    let d : Taken = taken db (session_at server.sessions client) m t.result in
+    t.stands.knows.schema ∙ ((grows-taken db (session_at server.sessions client) m t.result (sound-of d.database t.stands.sound)).schema ∙ sym is.knows.schema)
 
--- a message that comes first is not refused
-pub not-refused : (old : Seat) (server : Server) (m : Message) (queue : List Message) (why : BadFrame) → IsSomeSeat old server → old.to_server ≡ m ∷ queue
-    → server_misfit server.tables.schema (session_at server.sessions old.client.id) old.client.id m ≡ Some why → ⊥
-not-refused old server m queue why some first bad =
-    absurd (let wrong : None ≡ Some why = sym (oldest-fits old server m queue some.0 some.1 some.2 first) ∙ bad in cc)
+-- a message that fits is not refused
+pub not-refused : (misfit : Option BadFrame) (why : BadFrame) → misfit ≡ None → misfit ≡ Some why → ⊥
+not-refused misfit why fits bad = absurd (let wrong : None ≡ Some why = sym fits ∙ bad in cc)

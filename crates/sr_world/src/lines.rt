@@ -1,9 +1,10 @@
 //! The lines of what a call answered.
-ghost use Rattle.std.specs.Prelude.{◌≡◌, ◌<◌, ◌^◌, ℕ, true, List, [], ◌∷◌, ◌++◌, length, map, option_to_list, None, Ok, IfOk, OnOk};
+ghost use Rattle.std.specs.Prelude.{◌≡◌, ◌<◌, ◌^◌, ℕ, true, List, [], ◌∷◌, ◌++◌, length, map, option_to_list, None, Some, Ok, IfOk, OnOk};
 ghost use Rattle.sr_cell.specs.declared.cause.Cause.TheVariants.{Asked as AskedCause};
 ghost use Rattle.sr_cell.specs.declared.fault.Fault.{Fault as TheFault};
 ghost use Rattle.sr_model.specs.Queries.{Query as TheQuery};
-ghost use Rattle.sr_script.specs.declared.line.TraceLine.TheVariants.{WriteSql};
+ghost use Rattle.sr_script.specs.declared.line.TraceLine.{TraceLine as TheLine};
+ghost use Rattle.sr_script.specs.declared.line.TraceLine.TheVariants.{WriteSql, Row as RowLine};
 ghost use Rattle.sr_session.specs.Clients.{Client as Past};
 ghost use Rattle.sr_session.specs.Refusals.{has_few_parts};
 ghost use Rattle.sr_session.specs.Rules.{Outcome, ResumeSent, sent_of};
@@ -48,8 +49,8 @@ pub fn told_of_query(alloc: Global, client: u8, step: QueryStep) -> Result<Told,
             rows,
             marks,
         } => {
-            let lines = answered_lines(alloc, client, query, version, rows, marks)?;
-            told_with(lines, TraceLine::QueryAnswered { client, query }, None)
+            let lines = answered_lines(alloc, client, query, version, rows, marks);
+            told_if(lines, TraceLine::QueryAnswered { client, query }, None)
         }
         QueryStep::Asked {
             request,
@@ -57,9 +58,9 @@ pub fn told_of_query(alloc: Global, client: u8, step: QueryStep) -> Result<Told,
             marks,
             ..
         } => {
-            let lines = asking_lines(alloc, client, marks, &message)?;
+            let lines = asking_lines(alloc, client, marks, &message);
             let last = TraceLine::QueryAsked { client, request };
-            told_with(lines, last, Some(message))
+            told_if(lines, last, Some(message))
         }
         QueryStep::Busy { request } => {
             let last = TraceLine::QueryBusy { client, request };
@@ -84,17 +85,17 @@ pub fn told_of_took(alloc: Global, client: u8, took: Took) -> Result<Told, NoMem
             rows,
             marks,
         } => {
-            let lines = answered_lines(alloc, client, query, version, rows, marks)?;
-            told_with(lines, TraceLine::ClientAnswered { client }, None)
+            let lines = answered_lines(alloc, client, query, version, rows, marks);
+            told_if(lines, TraceLine::ClientAnswered { client }, None)
         }
         Took::Asked {
             request,
             message,
             marks,
         } => {
-            let lines = asking_lines(alloc, client, marks, &message)?;
+            let lines = asking_lines(alloc, client, marks, &message);
             let last = TraceLine::ClientAsked { client, request };
-            told_with(lines, last, Some(message))
+            told_if(lines, last, Some(message))
         }
         Took::Bad(_) => Ok(Told {
             lines: Seq::new(alloc),
@@ -102,20 +103,12 @@ pub fn told_of_took(alloc: Global, client: u8, took: Took) -> Result<Told, NoMem
         }),
         Took::Laid => told_with(Seq::new(alloc), TraceLine::ClientLaid { client }, None),
         Took::Applied { version, marks } => {
-            told_marked(
-                alloc,
-                client,
-                marks,
-                TraceLine::ClientApplied { client, version },
-            )
+            let lines = mark_lines(alloc, client, marks);
+            told_if(lines, TraceLine::ClientApplied { client, version }, None)
         }
         Took::Forgot { version, marks } => {
-            told_marked(
-                alloc,
-                client,
-                marks,
-                TraceLine::ClientForgot { client, version },
-            )
+            let lines = mark_lines(alloc, client, marks);
+            told_if(lines, TraceLine::ClientForgot { client, version }, None)
         }
         Took::Written {
             request,
@@ -127,7 +120,7 @@ pub fn told_of_took(alloc: Global, client: u8, took: Took) -> Result<Told, NoMem
                 request,
                 version,
             };
-            told_marked(alloc, client, marks, last)
+            told_if(mark_lines(alloc, client, marks), last, None)
         }
         Took::Refused {
             request,
@@ -139,7 +132,7 @@ pub fn told_of_took(alloc: Global, client: u8, took: Took) -> Result<Told, NoMem
                 request,
                 fault,
             };
-            told_marked(alloc, client, marks, last)
+            told_if(mark_lines(alloc, client, marks), last, None)
         }
         Took::Welcomed {
             version,
@@ -151,7 +144,7 @@ pub fn told_of_took(alloc: Global, client: u8, took: Took) -> Result<Told, NoMem
                 version,
                 kept,
             };
-            told_marked(alloc, client, marks, last)
+            told_if(mark_lines(alloc, client, marks), last, None)
         }
     }
 }
@@ -212,10 +205,8 @@ pub fn lines_of_evict(alloc: Global, client: u8, step: EvictStep) -> Result<Trac
 {
     match step {
         EvictStep::Dropped(region) => {
-            let mut lines = Seq::with_room(alloc, 2)?;
-            lines.push(drop_line(client, region))?;
-            lines.push(TraceLine::EvictDropped { client })?;
-            Ok(lines)
+            let dropped = one_line(alloc, drop_line(client, region))?;
+            with_line(dropped, TraceLine::EvictDropped { client })
         }
         EvictStep::Busy { request } => one_line(alloc, TraceLine::EvictBusy { client, request }),
         EvictStep::NoSuch { count } => {
@@ -246,12 +237,14 @@ pub fn lines_of_cut(alloc: Global, client: u8, step: CutStep) -> Result<TraceLin
 {
     match step {
         CutStep::Cut { number, ended } => {
-            let mut lines = fail_lines(alloc, client, ended)?;
-            lines.push(TraceLine::CutDone {
-                client,
-                cut: number,
-            })?;
-            Ok(lines)
+            let failed = fail_lines(alloc, client, ended)?;
+            with_line(
+                failed,
+                TraceLine::CutDone {
+                    client,
+                    cut: number,
+                },
+            )
         }
         CutStep::Already { number } => one_line(
             alloc,
@@ -272,12 +265,14 @@ pub fn lines_of_explain(
     requires few { length explanation.now.victims < 2 ^ 32 }
     ensures { IfOk result (λ told. told ≡ explain_lines client (Ok explanation.now)) }
 {
-    let mut told = lines(alloc, explanation)?;
-    told.push(TraceLine::Explained {
-        client,
-        version: explanation.version,
-    })?;
-    Ok(told)
+    let told = lines(alloc, explanation)?;
+    with_line(
+        told,
+        TraceLine::Explained {
+            client,
+            version: explanation.version,
+        },
+    )
 }
 
 /// The line of it that the server took this request, and sent so many messages; none of what is no request.
@@ -310,9 +305,23 @@ pub(crate) fn served_line(
 pub(crate) fn one_line(alloc: Global, line: TraceLine) -> Result<TraceLines, NoMemory>
     ensures { IfOk result (λ lines. lines ≡ line ∷ []) }
 {
-    let mut lines = Seq::new(alloc);
-    lines.push(line)?;
-    Ok(lines)
+    with_line(Seq::new(alloc), line)
+}
+
+/// These lines with one more behind them.
+pub(crate) fn with_line(lines: TraceLines, line: TraceLine) -> Result<TraceLines, NoMemory>
+    ensures { IfOk result (λ all. all ≡ lines ++ line ∷ []) }
+{
+    let mut lines = lines;
+    lines.push(line).and(Ok(lines))
+}
+
+/// These lines with others behind them.
+pub(crate) fn with_lines(lines: TraceLines, more: TraceLines) -> Result<TraceLines, NoMemory>
+    ensures { IfOk result (λ all. all ≡ lines ++ more) }
+{
+    let mut lines = lines;
+    lines.append(more).and(Ok(lines))
 }
 
 /// These lines with the last one of their step, and what is sent.
@@ -320,17 +329,23 @@ fn told_with(lines: TraceLines, last: TraceLine, sent: Option<Message>) -> Resul
     ensures lines { IfOk result (λ told. told.lines ≡ lines ++ last ∷ []) }
     ensures sent { IfOk result (λ told. told.sent ≡ sent) }
 {
-    let mut lines = lines;
-    lines.push(last)?;
+    let lines = with_line(lines, last)?;
     Ok(Told { lines, sent })
 }
 
-/// The lines of marks with the last one of their step; nothing is sent.
-fn told_marked(alloc: Global, client: u8, marks: Marks, last: TraceLine) -> Result<Told, NoMemory>
-    ensures lines { IfOk result (λ told. told.lines ≡ mark_lines client marks ++ last ∷ []) }
-    ensures sent { IfOk result (λ told. told.sent ≡ None) }
+/// The same, where there may have been no memory for the lines.
+fn told_if(
+    made: Result<TraceLines, NoMemory>,
+    last: TraceLine,
+    sent: Option<Message>,
+) -> Result<Told, NoMemory>
+    ensures lines { (lines : List TheLine) → IfOk made (λ these. these ≡ lines) → IfOk result (λ told. told.lines ≡ lines ++ last ∷ []) }
+    ensures sent { IfOk result (λ told. told.sent ≡ sent) }
 {
-    told_with(mark_lines(alloc, client, marks)?, last, None)
+    match made {
+        Ok(lines) => told_with(lines, last, sent),
+        Err(no) => Err(no),
+    }
 }
 
 /// The answer of a query, its rows, and the marks.
@@ -345,8 +360,7 @@ fn answered_lines(
     ensures { IfOk result (λ lines. lines ≡ answer_lines client query version rows ++ mark_lines client marks) }
 {
     let mut lines = answer_lines(alloc, client, query, version, rows)?;
-    push_marks(&mut lines, client, marks)?;
-    Ok(lines)
+    push_marks(&mut lines, client, marks).and(Ok(lines))
 }
 
 /// The answer of a query, and then its rows.
@@ -360,16 +374,24 @@ fn answer_lines(
     ensures { IfOk result (λ lines. lines ≡ answer_lines client query version rows) }
 {
     let mut lines = Seq::with_room(alloc, rows.len())?;
-    lines.push(TraceLine::Answer {
+    let first = TraceLine::Answer {
         client,
         query,
         version,
         rows: rows.len() as u64,
-    })?;
+    };
+    push_rows(&mut lines, first, rows).and(Ok(lines))
+}
+
+/// This line, and the rows behind it.
+fn push_rows(lines: &mut TraceLines, first: TraceLine, rows: Rows) -> Result<(), NoMemory>
+    ensures { OnOk result (lines.new ≡ (lines.old ++ first ∷ []) ++ map RowLine rows) }
+{
+    lines.push(first)?;
     for row in rows.into_vec() {
         lines.push(TraceLine::Row { row })?;
     }
-    Ok(lines)
+    Ok(())
 }
 
 /// The lines of marks, in the order in which they were made.
@@ -377,8 +399,7 @@ fn mark_lines(alloc: Global, client: u8, marks: Marks) -> Result<TraceLines, NoM
     ensures { IfOk result (λ lines. lines ≡ mark_lines client marks) }
 {
     let mut lines = Seq::with_room(alloc, marks.len())?;
-    push_marks(&mut lines, client, marks)?;
-    Ok(lines)
+    push_marks(&mut lines, client, marks).and(Ok(lines))
 }
 
 fn push_marks(lines: &mut TraceLines, client: u8, marks: Marks) -> Result<(), NoMemory>
@@ -432,6 +453,19 @@ fn asking_lines(
     ensures { IfOk result (λ lines. lines ≡ mark_lines client marks ++ asked_lines client message.now) }
 {
     let mut lines = mark_lines(alloc, client, marks)?;
+    push_ask(alloc, &mut lines, client, message).and(Ok(lines))
+}
+
+/// The ask that the message is, with its parts.
+fn push_ask(
+    alloc: Global,
+    lines: &mut TraceLines,
+    client: u8,
+    message: &Message,
+) -> Result<(), NoMemory>
+    requires few { has_few_parts message.now ≡ true }
+    ensures { OnOk result (lines.new ≡ lines.old ++ asked_lines client message.now) }
+{
     if let Message::Ask {
         number,
         fresh,
@@ -444,9 +478,9 @@ fn asking_lines(
             fresh: *fresh,
             parts: parts.len() as u8,
         })?;
-        push_parts(alloc, &mut lines, parts.as_slice())?;
+        push_parts(alloc, lines, parts.as_slice())?;
     }
-    Ok(lines)
+    Ok(())
 }
 
 fn push_parts(alloc: Global, lines: &mut TraceLines, parts: &[AskPart]) -> Result<(), NoMemory>

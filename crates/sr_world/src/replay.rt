@@ -9,7 +9,7 @@ ghost use Rattle.sr_lines.specs.Script.{FirstRefused, LinePlace as TheLinePlace}
 ghost use Rattle.sr_lines.specs.Creates.{Creates};
 ghost use Rattle.sr_query.specs.Bound.{is_table};
 ghost use Rattle.sr_reader.specs.Lined.{AreLines};
-ghost use Rattle.sr_reader.specs.Read.{Fits, IsEventLine, event_fits};
+ghost use Rattle.sr_reader.specs.Read.{Fits, IsEventLine, IsRead, event_fits};
 ghost use Rattle.sr_server.specs.Servers.{IsClientNumber};
 ghost use Rattle.sr_tables.specs.Stored.{no_rows};
 ghost use Rattle.sr_load.specs.Filling.{filled};
@@ -54,6 +54,13 @@ pub enum RunFault {
     Load { table: Text, fault: Fault },
 }
 
+/// The tables of a script before its first event, and its events.
+#[derive(Drop)]
+struct Prepared {
+    tables: Tables,
+    events: EventLines,
+}
+
 /// Replays a script over tables with the rows of the files, in a world that is set up as the options say: judges its lines, runs its
 /// events in their order and writes the trace. Answers the world at the end.
 pub fn replay<K: Sink>(
@@ -88,7 +95,37 @@ pub fn replay<K: Sink>(
     ensures linking_stays { K.linking sink.new ≡ K.linking sink.old }
     ensures complaints_stay { K.complaints sink.new ≡ K.complaints sink.old }
 {
-    let lines = match read_lines(alloc, options.clients, script) {
+    let Prepared { tables, events } = match prepare(alloc, options.clients, script, loads) {
+        Ok(prepared) => prepared,
+        Err(no) => return Err(no),
+    };
+    match run_script(alloc, options, events, tables, sink) {
+        Ok(world) => Ok(world),
+        Err(No::Refused(_)) => Err(No::Refused(RunFault::WriteFault)),
+        Err(No::NoMemory) => Err(No::NoMemory),
+    }
+}
+
+/// Judges the lines of a script, and makes its tables with the rows of the files.
+fn prepare(
+    alloc: Global,
+    clients: u8,
+    script: &[u8],
+    loads: &[Load],
+) -> Result<Prepared, No<RunFault>>
+    requires script { length script.now < 2 ^ 32 }
+    requires loads { IsTrue (list_all (λ load. nat_lt (length load.bytes) (2 ^ 32)) loads.now) }
+    ensures inside { OnOk result (outside clients script.now ≡ None) }
+    ensures read { IfOk result (λ prepared. IsRead clients script.now (record { schema = prepared.tables.schema; lines = prepared.events })) }
+    ensures fits { IfOk result (λ prepared. Fits clients (record { schema = prepared.tables.schema; lines = prepared.events })) }
+    ensures filled { IfOk result (λ prepared. filled prepared.tables.schema loads.now (no_rows prepared.tables.schema) ≡ Ok prepared.tables.rows) }
+    ensures line { (line place : ℕ) → IsErrOf result (Refused (Line line place)) → outside clients script.now ≡ Some (record { line = line; place = place }) }
+    ensures line_first { (at : TheLinePlace) → outside clients script.now ≡ Some at → IsErrOf result (Refused (Line at.line at.place)) ⊎ IsErrOf result Wanting }
+    ensures setup { (line : ℕ) (fault : TheFault) → IsErrOf result (Refused (Setup line fault)) → FirstRefused clients 1 [] (lines_of script.now) line fault }
+    ensures load { (table : List ℕ) (fault : TheFault) → IsErrOf result (Refused (LoadRefused table fault)) → RefusesLoad clients script.now loads.now table fault }
+    ensures writes_nothing { ¬ IsErrOf result (Refused WriteFault) }
+{
+    let lines = match read_lines(alloc, clients, script) {
         Ok(lines) => lines,
         Err(No::Refused(at)) => {
             return Err(No::Refused(RunFault::Line {
@@ -103,11 +140,7 @@ pub fn replay<K: Sink>(
         Err(no) => return Err(no),
     };
     match read_events(alloc, tables.schema(), &lines) {
-        Ok(events) => match run_script(alloc, options, events, tables, sink) {
-            Ok(world) => Ok(world),
-            Err(No::Refused(_)) => Err(No::Refused(RunFault::WriteFault)),
-            Err(No::NoMemory) => Err(No::NoMemory),
-        },
+        Ok(events) => Ok(Prepared { tables, events }),
         Err(_) => Err(No::NoMemory),
     }
 }

@@ -1,16 +1,20 @@
 //! A client with its queues, and what happens between it and the server.
-ghost use Rattle.std.specs.Prelude.{◌≡◌, ◌+◌, ◌<◌, ◌≤◌, ◌++◌, ◌^◌, ◌⊎◌, [], length, option_to_list, Ok, IsTrue, IfSome, IfOk, OnOk};
-ghost use Rattle.std.specs.List.{list_all};
+ghost use Rattle.std.specs.Prelude.{◌≡◌, ◌+◌, ◌<◌, ◌≤◌, ◌++◌, ◌^◌, ◌⊎◌, true, List, [], length, option_to_list, None, Ok, IsTrue, IfSome, IfOk, OnOk};
+ghost use Rattle.std.specs.List.{list_all, All};
 ghost use Rattle.sr_lines.specs.Events.{DoCut, DoEvict, DoExplain, DoPush, DoQuery, DoResume, DoToClient, DoToServer, DoWrite};
 ghost use Rattle.sr_log.specs.Held.{newest as newest_of};
+ghost use Rattle.sr_message.specs.declared.message.Message.{Message as TheMessage};
 ghost use Rattle.sr_model.specs.Queries.{Query as TheQuery};
 ghost use Rattle.sr_query.specs.Bound.{is_table};
 ghost use Rattle.sr_session.specs.Laws.{IsSound};
+ghost use Rattle.sr_session.specs.Refusals.{has_few_parts, server_misfit};
 ghost use Rattle.sr_session.specs.Scenes.{new_pair};
 ghost use Rattle.sr_session.specs.Sessions.{Database};
 ghost use Rattle.sr_wire.specs.Limits.{IsSendable};
 ghost use Rattle.sr_client.specs.Bound.{IsMeaning};
 ghost use Rattle.sr_server.specs.declared.server.Server.{Server as TheServer};
+ghost use Rattle.sr_server.specs.Servers.{IsClientNumber, IsServer, StandsForSome, Takes, session_at};
+ghost use Rattle.sr_runs.specs.Lines.{served_line};
 ghost use Rattle.sr_runs.specs.Runs.{Acts, Settles};
 ghost use Rattle.sr_world.specs.Seats.{Delivers, IsSomeSeat, SeatGoes, has_mail, mail};
 ghost use Rattle.sr_world.specs.Worlds.{IsSeat, drawn_by, rank, weight};
@@ -23,6 +27,7 @@ use sr_cell::list::{No, NoMemory, Seq};
 use sr_cell::schema::Schema;
 use sr_client::client::Client;
 use sr_feed::queue::Queue;
+use sr_message::message::{Message, Messages};
 use sr_policy::policy::Limits;
 use sr_query::query::Query;
 use sr_script::line::{TraceLine, TraceLines};
@@ -182,8 +187,7 @@ impl Seat {
         match server.push(alloc, client)? {
             None => one_line(alloc, TraceLine::PushClosed { client }),
             Some(sent) => {
-                let frames = sent.len() as u64;
-                self.to_client.append(alloc, &sent)?;
+                let frames = self.send_back(alloc, sent)?;
                 one_line(alloc, TraceLine::PushSent { client, frames })
             }
         }
@@ -205,18 +209,53 @@ impl Seat {
     {
         let client = self.client.id;
         let oldest = self.to_server.pop(alloc)?;
-        let Some(message) = oldest else {
-            return one_line(alloc, TraceLine::ServerEmpty { client });
-        };
-        match server.take(alloc, client, &message) {
+        match oldest {
+            None => one_line(alloc, TraceLine::ServerEmpty { client }),
+            Some(message) => self.hand_over(alloc, server, &message),
+        }
+    }
+
+    /// The server takes this message of the client; what it answers is on its way.
+    fn hand_over(
+        &mut self,
+        alloc: Global,
+        server: &mut Server,
+        message: &Message,
+    ) -> Result<TraceLines, NoMemory>
+        requires client { IsClientNumber self.old.client.id }
+        requires stands { StandsForSome server.old }
+        requires parts { has_few_parts message.now ≡ true }
+        requires fits { server_misfit server.old.tables.schema (session_at server.old.sessions self.old.client.id) self.old.client.id message.now ≡ None }
+        requires room { newest_of server.old.log + 1 < 2 ^ 63 }
+        ensures took { IfOk result (λ lines. (sent : List TheMessage) × ((db : Database) → IsServer server.old db → Takes db server.old self.old.client.id message.now sent server.new)
+            × (self.new ≡ record self.old { to_client = self.old.to_client ++ sent }) × (lines ≡ served_line self.old.client.id (length sent) message.now)) }
+        ensures grows { newest_of server.new.log ≤ newest_of server.old.log + 1 }
+        ensures client { self.new.client ≡ self.old.client }
+        ensures queue { self.new.to_server ≡ self.old.to_server }
+        ensures schema { server.new.tables.schema ≡ server.old.tables.schema }
+    {
+        let client = self.client.id;
+        match server.take(alloc, client, message) {
             Ok(sent) => {
-                let frames = sent.len() as u64;
-                self.to_client.append(alloc, &sent)?;
-                served_line(alloc, client, &message, frames)
+                let frames = self.send_back(alloc, sent)?;
+                served_line(alloc, client, message, frames)
             }
             Err(No::Refused(_)) => unreachable!(),
             Err(No::NoMemory) => Err(NoMemory),
         }
+    }
+
+    /// Puts what the server sends behind what is on its way to the client, and tells how many messages that were.
+    fn send_back(&mut self, alloc: Global, sent: Messages) -> Result<u64, NoMemory>
+        requires sendable { All IsSendable sent }
+        ensures sent { OnOk result (self.new ≡ record self.old { to_client = self.old.to_client ++ sent }) }
+        ensures frames { IfOk result (λ frames. frames ≡ length sent) }
+        ensures client { self.new.client ≡ self.old.client }
+        ensures queue { self.new.to_server ≡ self.old.to_server }
+    {
+        self.to_client
+            .append(alloc, &sent)
+            .and(Ok(sent.len() as u64))
     }
 
     /// The client takes the oldest message of the server, if there is one.
@@ -251,10 +290,7 @@ impl Seat {
         let Told { lines, sent } = told;
         match sent {
             None => Ok(lines),
-            Some(message) => {
-                self.to_server.push(alloc, &message)?;
-                Ok(lines)
-            }
+            Some(message) => self.to_server.push(alloc, &message).and(Ok(lines)),
         }
     }
 

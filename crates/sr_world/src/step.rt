@@ -8,7 +8,7 @@ ghost use Rattle.sr_session.specs.Scenes.{Scene};
 ghost use Rattle.sr_runs.specs.Runs.{Acts, Does, Steps};
 ghost use Rattle.sr_world.specs.Worlds.{Goes, IsNumber, IsWorld, Represents, SameSetting, StandsForSome, drawn, most_drawn, potential};
 
-use crate::lines::one_line;
+use crate::lines::{one_line, with_line, with_lines};
 use crate::world::World;
 use sr_cell::fault::Fault;
 use sr_cell::list::NoMemory;
@@ -59,9 +59,8 @@ impl World {
         let eager = self.eager;
         let lines = self.event(alloc, event)?;
         if eager {
-            let mut lines = lines;
-            lines.append(self.settle_all(alloc)?)?;
-            return Ok(lines);
+            let more = self.settle_all(alloc)?;
+            return with_lines(lines, more);
         }
         Ok(lines)
     }
@@ -160,8 +159,6 @@ impl World {
     {
         let done = self.deliver(alloc, client)?;
         let frames = done.frames;
-        let mut lines = done.lines;
-        lines.push(TraceLine::Settled { client, frames })?;
-        Ok(lines)
+        with_line(done.lines, TraceLine::Settled { client, frames })
     }
 }

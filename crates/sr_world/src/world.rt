@@ -1,12 +1,15 @@
 //! A world: a server, and clients with numbers from 1.
-ghost use Rattle.std.specs.Prelude.{◌≡◌, ◌+◌, ◌<◌, ◌≤◌, ◌^◌, [], None, IfOk, OnOk};
+ghost use Rattle.std.specs.Prelude.{◌≡◌, ◌+◌, ◌<◌, ◌≤◌, ◌^◌, List, [], false, None, replicate, sum_by, IfOk, OnOk};
+ghost use Rattle.sr_cell.specs.declared.table.Table.{Table as TheTable};
 ghost use Rattle.sr_log.specs.Held.{newest as newest_of};
+ghost use Rattle.sr_model.specs.Statements.{Tables as TheTables};
 ghost use Rattle.sr_session.specs.Sessions.{Database, opened};
 ghost use Rattle.sr_session.specs.Scenes.{Scene, first_scene};
-ghost use Rattle.sr_server.specs.Servers.{IsClientNumber, IsServer, session_at, with_session};
+ghost use Rattle.sr_server.specs.Servers.{IsClientNumber, IsServer, first_database, session_at, with_session};
 ghost use Rattle.sr_server.specs.Servers as servers;
 ghost use Rattle.sr_world.specs.Lent.{IsLent};
-ghost use Rattle.sr_world.specs.Worlds.{IsNumber, Represents, drawn};
+ghost use Rattle.sr_world.specs.Worlds.{IsNumber, Represents, drawn, drawn_by};
+ghost use Rattle.sr_world.specs.declared.world.World.{World as TheWorld};
 
 use crate::seat::Seat;
 use sr_cell::list::{Copied, No, NoMemory};
@@ -47,13 +50,7 @@ impl World {
         ensures drawn { IfOk result (λ world. drawn world ≡ options.clients) }
     {
         let mut server = Server::new(alloc, tables, options.log)?;
-        let mut seats = Vec::new(alloc);
-        'clients: for place in 0..options.clients {
-            let client = place + 1;
-            open(alloc, &mut server, client)?;
-            let schema = server.tables.schema().copy(alloc)?;
-            seats.push(Seat::new(alloc, client, schema, options.limits))?;
-        }
+        let seats = seats_of(alloc, &mut server, options)?;
         Ok(World {
             server,
             seats,
@@ -71,6 +68,26 @@ impl World {
     }
 }
 
+/// The clients of a server that has no session yet; the first message of each passes.
+fn seats_of(alloc: Global, server: &mut Server, options: Options) -> Result<Vec<Seat>, NoMemory>
+    requires clients { IsClientNumber options.clients }
+    requires regions { options.limits.regions ≤ 1024 }
+    requires stands { (schema : List TheTable) × (tables : TheTables) × IsServer server.old (first_database schema options.log tables) }
+    requires sessions { server.old.sessions ≡ replicate 64 None }
+    ensures stands { (schema : List TheTable) (tables : TheTables) → IsServer server.old (first_database schema options.log tables)
+        → IfOk result (λ seats. (world : TheWorld) → world.server ≡ server.new → world.seats ≡ seats → world.spent ≡ false → Represents world (first_scene options.limits schema options.log tables options.clients)) }
+    ensures drawn { IfOk result (λ seats. newest_of server.new.log + sum_by drawn_by seats.items ≡ options.clients) }
+{
+    let mut seats = Vec::new(alloc);
+    'clients: for place in 0..options.clients {
+        let client = place + 1;
+        open(alloc, server, client)?;
+        let schema = server.tables.schema().copy(alloc)?;
+        seats.push(Seat::new(alloc, client, schema, options.limits))?;
+    }
+    Ok(seats)
+}
+
 /// The first message of a client passes, and opens its session at the server.
 fn open(alloc: Global, server: &mut Server, client: u8) -> Result<(), NoMemory>
     requires client { IsClientNumber client }
@@ -80,7 +97,10 @@ fn open(alloc: Global, server: &mut Server, client: u8) -> Result<(), NoMemory>
     ensures stands { (db : Database) → IsServer server.old db → OnOk result (IsServer server.new db) }
     ensures session { (db : Database) → IsServer server.old db → OnOk result (server.new.sessions ≡ with_session server.old.sessions client (opened db [])) }
 {
-    match server.take(alloc, client, &Message::Hello { client, number: 0 }) {
+    let hello = Message::Hello { client, number: 0 };
+    let taken = server.take(alloc, client, &hello);
+    drop(hello);
+    match taken {
         Ok(_) => Ok(()),
         Err(No::Refused(_)) => unreachable!(),
         Err(No::NoMemory) => Err(NoMemory),

@@ -1,4 +1,4 @@
-use Rattle.std.proofs.Common.{◌≡◌, ◌+◌, ◌∷◌, ◌∙◌, drop, sym, ap, subst, arith, refl, rules}
+use Rattle.std.proofs.Common.{◌≡◌, ◌+◌, ◌∷◌, ◌∙◌, drop, sym, ap, subst, arith, refl, rules, Err}
 use Rattle.std.specs.Prelude.{string_bytes}
 use Rattle.std.specs.Io.KnownBytes.{Appends}
 use Rattle.std.proofs.lemmas.List.{drop_all, drop_more}
@@ -53,7 +53,7 @@ returns-in-Err-Refused-clause-done g c db is =
     let text = c.index-texts-at.result in
     let at = c.loop-at.at in
     let first : drop at texts ≡ text ∷ drop (at + 1) texts = drop_more texts at text c.loop-at-test.true ∙ ap (λ t. t ∷ drop (at + 1) texts) (sym c.index-texts-at.is) in
-    let rose : Rose (g.K.Outside.writing c.loop-at.sink).faults (g.K.Outside.writing c.write_all.new.sink).faults = search rules in
+    let rose : Rose (g.K.Outside.writing c.loop-at.sink).faults (g.K.Outside.writing c.write_all.new.sink).faults = c.in-Err-Refused.ensures.failed_is_counted (ap Err c.in-Err-Refused.field-0-is) in
     part-executed db texts (drop (at + 1) texts) text (g.K.Outside.writing c.args.sink.now) (g.K.Outside.writing c.loop-at.sink) (g.K.Outside.writing c.write_all.new.sink) c.loop-at.server c.exec_one.new.server (string_bytes c.in_ok-line.line)
     (subst (λ left. ExecutedSome db texts left (g.K.Outside.writing c.args.sink.now) (g.K.Outside.writing c.loop-at.sink) c.loop-at.server) first (c.loop-at.invariant.so_far db is))
     (λ now stands. subst (λ t. Executed now t (string_bytes c.in_ok-line.line) c.exec_one.new.server) c.as_str.ensures (c.in_ok-line.ensures.done now stands))
@@ -68,4 +68,4 @@ returns-clause-done g c db is =
     (subst (λ left. ExecutedSome db texts left (g.K.Outside.writing c.args.sink.now) (g.K.Outside.writing c.loop-at.sink) c.loop-at.server) (drop_all c.loop-at.at texts (search rules)) h)
 
 pub returns-in-Err-Refused-clause-steady_writes : goal.returns-in-Err-Refused-clause-steady_writes
-returns-in-Err-Refused-clause-steady_writes g c steady = absurd (c.write_all.ensures.steady_never_fails (c.loop-at.invariant.stays.stays_steady steady) (search rules))
+returns-in-Err-Refused-clause-steady_writes g c steady = absurd (c.in-Err-Refused.ensures.steady_never_fails (c.loop-at.invariant.stays.stays_steady steady) (ap Err c.in-Err-Refused.field-0-is))

@@ -2,6 +2,7 @@ use Rattle.std.proofs.Common.{◌≡◌, ◌∙◌, ◌+◌, ◌*◌, ◌≤◌,
 use Rattle.std.proofs.lemmas.Grind.{common_steps}
 use Rattle.std.specs.List.{list_all}
 use Rattle.std.specs.Vec.Iter.{into_iter_items}
+use Rattle.sr_io.specs.Causes.{Rose}
 use Rattle.sr_reader.specs.Read.{event_fits}
 use Rattle.sr_world.specs.Worlds.{drawn, most_drawn}
 use Rattle.sr_world.proofs.ReplayLemmas.{RanSome-none, RanSome-all, RanSome-part, RanSome-more, RanSome-next, next-said, next-fits, rest-fits, room-now, room-then, ran-there, fits-there}
@@ -48,6 +49,16 @@ returns-in-Err-write_all-clause-part g c = λ events zip.
     let prefix = rw c.as_bytes.ensures.value at c.in-Err-write_all.ensures.prefix in
     RanSome-more _ _ _ _ _ events _ _ _ _ _ _ _ turn (before.ran events zip)
     (ran-there _ _ _ _ _ _ _ _ before.setting.eager before.setting.schema c.in-Ok.ensures.ran) prefix
+
+pub returns-in-Err-write_all-clause-failed_is_counted : goal.returns-in-Err-write_all-clause-failed_is_counted
+returns-in-Err-write_all-clause-failed_is_counted g c is =
+    subst (λ n. Rose n (g.K.Outside.writing c.write_all.new.sink).faults) c.loop-line.invariant.same_faults (c.in-Err-write_all.ensures.failed_is_counted is)
+
+pub returns-in-Err-write_all-clause-want_keeps_faults : goal.returns-in-Err-write_all-clause-want_keeps_faults
+returns-in-Err-write_all-clause-want_keeps_faults g c is = c.in-Err-write_all.ensures.want_keeps_faults is ∙ c.loop-line.invariant.same_faults
+
+pub returns-in-Err-write_all-clause-steady_never_fails : goal.returns-in-Err-write_all-clause-steady_never_fails
+returns-in-Err-write_all-clause-steady_never_fails g c steady is = c.in-Err-write_all.ensures.steady_never_fails (c.loop-line.invariant.stays.stays_steady steady) is
 
 pub loop-line-preserved : goal.loop-line-preserved
 loop-line-preserved g c =

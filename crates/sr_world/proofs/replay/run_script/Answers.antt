@@ -1,4 +1,4 @@
-use Rattle.sr_world.proofs.ReplayLemmas.{events-there, fits-first, room-first, traced-none, traced-part, traced-whole}
+use Rattle.sr_world.proofs.ReplayLemmas.{events-there, fits-first, room-first, same-fault, traced-none, traced-part, traced-whole}
 use Rattle.sr_world.proofs.replay.run_script.Goals as goal
 
 pub returns-in-Err-clause-part : goal.returns-in-Err-clause-part
@@ -26,3 +26,12 @@ returns-in-Err-run_events-clause-part g c = λ events are.
     let stands = c.in-Ok.ensures.stands in
     traced-part c.args.options _ c.args.tables.rows events _ _ _ stands c.in-Ok.ensures.eager
     (c.in-Err-run_events.ensures.part events (events-there c.args.options _ c.args.lines events c.args.tables.rows _ stands are))
+
+pub returns-in-Err-run_events-clause-failed_is_counted : goal.returns-in-Err-run_events-clause-failed_is_counted
+returns-in-Err-run_events-clause-failed_is_counted g c is = c.in-Err-run_events.ensures.failed_is_counted (same-fault _ _ is)
+
+pub returns-in-Err-run_events-clause-want_keeps_faults : goal.returns-in-Err-run_events-clause-want_keeps_faults
+returns-in-Err-run_events-clause-want_keeps_faults g c is = c.in-Err-run_events.ensures.want_keeps_faults (same-fault _ _ is)
+
+pub returns-in-Err-run_events-clause-steady_never_fails : goal.returns-in-Err-run_events-clause-steady_never_fails
+returns-in-Err-run_events-clause-steady_never_fails g c steady is = c.in-Err-run_events.ensures.steady_never_fails steady (same-fault _ _ is)

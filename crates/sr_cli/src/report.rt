@@ -88,7 +88,7 @@ fn report_line<H: Host>(alloc: Global, line: u64, place: u32, host: &mut H) -> u
     ensures linking_stays { H.linking host.new ≡ H.linking host.old }
     ensures held_stays { H.held host.new ≡ H.held host.old }
 {
-    match format!(in alloc; "line {line} {place}\n") {
+    match place_line(alloc, line, place) {
         Ok(text) => {
             host.complain(text.as_bytes());
             6
@@ -111,8 +111,7 @@ fn report_setup<H: Host>(alloc: Global, line: u64, fault: Fault, host: &mut H) -
     ensures linking_stays { H.linking host.new ≡ H.linking host.old }
     ensures held_stays { H.held host.new ≡ H.held host.old }
 {
-    let why = why_word(fault.why);
-    match format!(in alloc; "schema {line} {why} {}\n", fault.at) {
+    match setup_line(alloc, line, fault) {
         Ok(text) => {
             host.complain(text.as_bytes());
             7
@@ -145,6 +144,21 @@ fn report_load<H: Host>(alloc: Global, table: &Text, fault: Fault, host: &mut H)
             9
         }
     }
+}
+
+/// The line that names a line and the place of its fault.
+fn place_line(alloc: Global, line: u64, place: u32) -> Result<String, NoMemory>
+    ensures { IfOk result (λ text. string_bytes text ≡ line_text line place) }
+{
+    Ok(format!(in alloc; "line {line} {place}\n")?)
+}
+
+/// The line that names a CREATE line and its fault.
+fn setup_line(alloc: Global, line: u64, fault: Fault) -> Result<String, NoMemory>
+    ensures { IfOk result (λ text. string_bytes text ≡ setup_text line fault) }
+{
+    let why = why_word(fault.why);
+    Ok(format!(in alloc; "schema {line} {why} {}\n", fault.at)?)
 }
 
 /// The line that names the table of the file and its fault.

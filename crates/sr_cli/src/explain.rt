@@ -15,12 +15,10 @@ ghost use Rattle.sr_cli.specs.Replay.{options_of};
 ghost use Rattle.sr_cli.specs.declared.report.Refusal.TheVariants.{Read, Write, Link, Memory, TooLong, Line, Setup, Load as LoadRefused};
 
 use crate::file::{ReadFault, read_file};
-use crate::report::{Refusal, report};
-use sr_cell::list::No;
+use crate::report::{Refusal, end_of, report};
 use sr_explained::explain::explain;
 use sr_io::outside::Host;
 use sr_words::command::ExplainWords;
-use sr_world::replay::RunFault;
 use sr_world::world::Options;
 use std::alloc::Global;
 
@@ -127,12 +125,6 @@ fn explain_read<H: Host>(
         log: setup.log,
         clients: setup.clients,
     };
-    match explain(alloc, options, script, &[], words.sql.as_str(), host) {
-        Ok(()) => Ok(()),
-        Err(No::NoMemory) => Err(Refusal::Memory),
-        Err(No::Refused(RunFault::WriteFault)) => Err(Refusal::Write),
-        Err(No::Refused(RunFault::Line { line, place })) => Err(Refusal::Line { line, place }),
-        Err(No::Refused(RunFault::Setup { line, fault })) => Err(Refusal::Setup { line, fault }),
-        Err(No::Refused(RunFault::Load { .. })) => unreachable!(),
-    }
+    let done = explain(alloc, options, script, &[], words.sql.as_str(), host);
+    end_of(done)
 }

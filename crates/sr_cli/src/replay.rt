@@ -18,12 +18,12 @@ ghost use Rattle.sr_cli.specs.declared.report.Refusal.TheVariants.{Read, Write, 
 
 use crate::file::{ReadFault, read_file};
 use crate::loads::read_loads;
-use crate::report::{Refusal, report};
-use sr_cell::list::{Bytes, No};
+use crate::report::{Refusal, end_of, report};
+use sr_cell::list::Bytes;
 use sr_io::outside::Host;
 use sr_load::fill::Loads;
 use sr_words::command::ReplayWords;
-use sr_world::replay::{RunFault, replay};
+use sr_world::replay::replay;
 use sr_world::world::Options;
 use std::alloc::Global;
 
@@ -166,18 +166,12 @@ fn replay_read<H: Host>(
     ensures linking_stays { H.linking host.new ≡ H.linking host.old }
     ensures complaints_stay { H.complaints host.new ≡ H.complaints host.old }
 {
-    match replay(
+    let done = replay(
         alloc,
         options,
         files.script.as_slice(),
         files.loads.as_slice(),
         host,
-    ) {
-        Ok(_) => Ok(()),
-        Err(No::NoMemory) => Err(Refusal::Memory),
-        Err(No::Refused(RunFault::WriteFault)) => Err(Refusal::Write),
-        Err(No::Refused(RunFault::Line { line, place })) => Err(Refusal::Line { line, place }),
-        Err(No::Refused(RunFault::Setup { line, fault })) => Err(Refusal::Setup { line, fault }),
-        Err(No::Refused(RunFault::Load { table, fault })) => Err(Refusal::Load { table, fault }),
-    }
+    );
+    end_of(done)
 }

@@ -1,15 +1,18 @@
 //! Why a run is refused, and what the error output says of it.
-ghost use Rattle.std.specs.Prelude.{◌≡◌, ℕ, ◌⊎◌, List, string_bytes, IfSome, IfOk};
+ghost use Rattle.std.specs.Prelude.{◌≡◌, ℕ, ◌⊎◌, List, string_bytes, IfSome, IfOk, OnOk, IsOk, IsErrOf};
 ghost use Rattle.sr_cell.specs.declared.fault.Fault.{Fault as TheFault};
+ghost use Rattle.sr_cell.specs.declared.list.No.TheVariants.{Refused, NoMemory as Wanting};
+ghost use Rattle.sr_world.specs.declared.replay.RunFault.TheVariants.{WriteFault, Line as RunLine, Setup as RunSetup, Load as RunLoad};
 ghost use Rattle.sr_io.specs.Told.{complained};
 ghost use Rattle.sr_cli.specs.Errors.{line_text, setup_text, load_text, error_text};
 ghost use Rattle.sr_cli.specs.declared.report.Refusal.TheVariants.{Read, Write, Link, Memory, TooLong, Line, Setup, Load as LoadRefused};
 
 use sr_cell::fault::{Fault, Why};
-use sr_cell::list::NoMemory;
+use sr_cell::list::{No, NoMemory};
 use sr_cell::text::Text;
 use sr_io::outside::Host;
 use sr_script::words::why_word;
+use sr_world::replay::RunFault;
 use std::alloc::Global;
 
 /// Why a run did not do all that the words ask for.
@@ -31,6 +34,31 @@ pub enum Refusal {
     Setup { line: u64, fault: Fault },
     /// The file for the table of that name is the first that is refused, and why.
     Load { table: Text, fault: Fault },
+}
+
+/// What a replay that ended so comes to.
+pub(crate) fn end_of<T: Drop>(done: Result<T, No<RunFault>>) -> Result<(), Refusal>
+    ensures ok { OnOk result (IsOk done) }
+    ensures never_reads { ¬ IsErrOf result Read }
+    ensures never_links { ¬ IsErrOf result Link }
+    ensures never_too_long { ¬ IsErrOf result TooLong }
+    ensures memory { IsErrOf result Memory → IsErrOf done Wanting }
+    ensures write { IsErrOf result Write → IsErrOf done (Refused WriteFault) }
+    ensures line { (line place : ℕ) → IsErrOf result (Line line place) → IsErrOf done (Refused (RunLine line place)) }
+    ensures setup { (line : ℕ) (fault : TheFault) → IsErrOf result (Setup line fault) → IsErrOf done (Refused (RunSetup line fault)) }
+    ensures load { (table : List ℕ) (fault : TheFault) → IsErrOf result (LoadRefused table fault) → IsErrOf done (Refused (RunLoad table fault)) }
+    ensures memory_is_told { IsErrOf done Wanting → IsErrOf result Memory }
+    ensures write_is_told { IsErrOf done (Refused WriteFault) → IsErrOf result Write }
+    ensures line_is_told { (line place : ℕ) → IsErrOf done (Refused (RunLine line place)) → IsErrOf result (Line line place) }
+{
+    match done {
+        Ok(_) => Ok(()),
+        Err(No::NoMemory) => Err(Refusal::Memory),
+        Err(No::Refused(RunFault::WriteFault)) => Err(Refusal::Write),
+        Err(No::Refused(RunFault::Line { line, place })) => Err(Refusal::Line { line, place }),
+        Err(No::Refused(RunFault::Setup { line, fault })) => Err(Refusal::Setup { line, fault }),
+        Err(No::Refused(RunFault::Load { table, fault })) => Err(Refusal::Load { table, fault }),
+    }
 }
 
 /// Says why on the error output, and answers the status.
@@ -88,7 +116,7 @@ fn report_line<H: Host>(alloc: Global, line: u64, place: u32, host: &mut H) -> u
     ensures linking_stays { H.linking host.new ≡ H.linking host.old }
     ensures held_stays { H.held host.new ≡ H.held host.old }
 {
-    match format!(in alloc; "line {line} {place}\n") {
+    match place_line(alloc, line, place) {
         Ok(text) => {
             host.complain(text.as_bytes());
             6
@@ -111,8 +139,7 @@ fn report_setup<H: Host>(alloc: Global, line: u64, fault: Fault, host: &mut H) -
     ensures linking_stays { H.linking host.new ≡ H.linking host.old }
     ensures held_stays { H.held host.new ≡ H.held host.old }
 {
-    let why = why_word(fault.why);
-    match format!(in alloc; "schema {line} {why} {}\n", fault.at) {
+    match setup_line(alloc, line, fault) {
         Ok(text) => {
             host.complain(text.as_bytes());
             7
@@ -145,6 +172,21 @@ fn report_load<H: Host>(alloc: Global, table: &Text, fault: Fault, host: &mut H)
             9
         }
     }
+}
+
+/// The line that names a line and the place of its fault.
+fn place_line(alloc: Global, line: u64, place: u32) -> Result<String, NoMemory>
+    ensures { IfOk result (λ text. string_bytes text ≡ line_text line place) }
+{
+    Ok(format!(in alloc; "line {line} {place}\n")?)
+}
+
+/// The line that names a CREATE line and its fault.
+fn setup_line(alloc: Global, line: u64, fault: Fault) -> Result<String, NoMemory>
+    ensures { IfOk result (λ text. string_bytes text ≡ setup_text line fault) }
+{
+    let why = why_word(fault.why);
+    Ok(format!(in alloc; "schema {line} {why} {}\n", fault.at)?)
 }
 
 /// The line that names the table of the file and its fault.

@@ -4,12 +4,13 @@ ghost use Rattle.sr_lines.specs.Texts.{joined, number_text, bytes_text};
 ghost use Rattle.sr_cell.specs.Columns.{table_at};
 ghost use Rattle.sr_script.specs.TraceText.{name_of, attrs_text, bound_text, names_from, span_text, spans_text, rect_text, rects_text};
 
-use crate::cells::{push_bytes, push_number};
+use crate::cells::push_bytes;
 use sr_box::rect::Rect;
 use sr_box::span::Span;
 use sr_cell::attrs::Attrs;
 use sr_cell::list::{Bytes, NoMemory};
 use sr_cell::table::{Column, Table};
+use std::fmt::Write;
 
 /// The name of the table of that number; empty where there is none.
 pub fn name_at(schema: &[Table], table: u8) -> &str
@@ -113,11 +114,8 @@ fn push_span(text: &mut String, column: &Column, span: &Span) -> Result<(), NoMe
 fn push_numbers(text: &mut String, name: &str, lo: i64, hi: i64) -> Result<(), NoMemory>
     ensures { OnOk result (string_bytes text.new ≡ string_bytes text.old ++ (name.now ++ (codes " " ++ (number_text lo ++ (codes ".." ++ number_text hi))))) }
 {
-    text.push_str(name)?;
-    text.push(' ')?;
-    push_number(text, lo)?;
-    text.push_str("..")?;
-    push_number(text, hi)
+    write!(text, "{name} {lo}..{hi}")?;
+    Ok(())
 }
 
 fn push_texts(text: &mut String, name: &str, lo: &Bytes, hi: &Option<Bytes>) -> Result<(), NoMemory>

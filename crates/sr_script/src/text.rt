@@ -46,22 +46,22 @@ pub fn trace_text(
 fn push_words(text: &mut String, schema: &[Table], line: &TraceLine) -> Result<(), NoMemory>
     ensures { OnOk result (string_bytes text.new ≡ string_bytes text.old ++ ended (line_words schema.now line.now)) }
 {
-    match line {
+    match *line {
         TraceLine::Answer {
             client,
             query,
             version,
             rows,
-        } => push_answer(text, *client, *query, *version, *rows),
-        TraceLine::Row { row } => push_row_line(text, row),
+        } => push_answer(text, client, query, version, rows),
+        TraceLine::Row { ref row } => push_row_line(text, row),
         TraceLine::Held {
             client,
             table,
             attrs,
-            rects,
+            ref rects,
         } => {
-            push_held(text, *client)?;
-            push_rects_of(text, schema, *table, *attrs, rects)
+            push_held(text, client)?;
+            push_rects_of(text, schema, table, attrs, rects)
         }
         TraceLine::Drop {
             client,
@@ -69,54 +69,54 @@ fn push_words(text: &mut String, schema: &[Table], line: &TraceLine) -> Result<(
             table,
             attrs,
             stamp,
-            rects,
+            ref rects,
         } => {
-            push_drop(text, *client, *cause)?;
-            push_stamped(text, schema, *table, *attrs, *stamp, rects)
+            push_drop(text, client, cause)?;
+            push_stamped(text, schema, table, attrs, stamp, rects)
         }
         TraceLine::Ask {
             client,
             request,
             fresh,
             parts,
-        } => push_ask(text, *client, *request, *fresh, *parts),
+        } => push_ask(text, client, request, fresh, parts),
         TraceLine::Part {
             table,
             attrs,
-            rects,
+            ref rects,
         } => {
             text.push_str("part ")?;
-            push_rects_of(text, schema, *table, *attrs, rects)
+            push_rects_of(text, schema, table, attrs, rects)
         }
         TraceLine::Fail {
             client,
             kind,
             number,
-        } => push_fail(text, *client, *kind, *number),
+        } => push_fail(text, client, kind, number),
         TraceLine::Pieces => {
             text.push_str("pieces\n")?;
             Ok(())
         }
         TraceLine::Need { table, attrs } => {
             text.push_str("need ")?;
-            push_columns(text, schema, *table, *attrs)
+            push_columns(text, schema, table, attrs)
         }
         TraceLine::Probe {
             table,
             attrs,
             stamp,
-            rects,
+            ref rects,
         } => {
             text.push_str("probe ")?;
-            push_stamped(text, schema, *table, *attrs, *stamp, rects)
+            push_stamped(text, schema, table, attrs, stamp, rects)
         }
         TraceLine::Rest {
             table,
             attrs,
-            rects,
+            ref rects,
         } => {
             text.push_str("rest ")?;
-            push_rects_of(text, schema, *table, *attrs, rects)
+            push_rects_of(text, schema, table, attrs, rects)
         }
         TraceLine::Victim {
             place,
@@ -124,82 +124,78 @@ fn push_words(text: &mut String, schema: &[Table], line: &TraceLine) -> Result<(
             attrs,
             stamp,
             rows,
-        } => push_victim(text, schema, *place, *table, *attrs, *stamp, *rows),
-        TraceLine::ExecVersion { version } => push_exec_version(text, *version),
-        TraceLine::ExecRefused { fault } => push_exec_refused(text, *fault),
+        } => push_victim(text, schema, place, table, attrs, stamp, rows),
+        TraceLine::ExecVersion { version } => push_exec_version(text, version),
+        TraceLine::ExecRefused { fault } => push_exec_refused(text, fault),
         TraceLine::QueryAnswered { client, query } => push_end_at(
-            text, "query", *client, "answered", *query,
+            text, "query", client, "answered", query,
         ),
         TraceLine::QueryAsked { client, request } => push_end_at(
-            text, "query", *client, "asked", *request,
+            text, "query", client, "asked", request,
         ),
-        TraceLine::QuerySql { client, fault } => push_sql(text, "query", *client, *fault),
+        TraceLine::QuerySql { client, fault } => push_sql(text, "query", client, fault),
         TraceLine::QueryBusy { client, request } => push_end_at(
-            text, "query", *client, "busy", *request,
+            text, "query", client, "busy", request,
         ),
-        TraceLine::QueryDown { client, cut } => push_end_at(text, "query", *client, "down", *cut),
+        TraceLine::QueryDown { client, cut } => push_end_at(text, "query", client, "down", cut),
         TraceLine::WriteSent { client, request } => push_end_at(
-            text, "write", *client, "sent", *request,
+            text, "write", client, "sent", request,
         ),
-        TraceLine::WriteSql { client, fault } => push_sql(text, "write", *client, *fault),
+        TraceLine::WriteSql { client, fault } => push_sql(text, "write", client, fault),
         TraceLine::WriteBusy { client, request } => push_end_at(
-            text, "write", *client, "busy", *request,
+            text, "write", client, "busy", request,
         ),
-        TraceLine::WriteDown { client, cut } => push_end_at(text, "write", *client, "down", *cut),
-        TraceLine::PushSent { client, frames } => push_end_at(
-            text, "push", *client, "sent", *frames,
-        ),
-        TraceLine::PushClosed { client } => push_end(text, "push", *client, "closed"),
-        TraceLine::ServerEmpty { client } => push_end(text, "toserver", *client, "empty"),
+        TraceLine::WriteDown { client, cut } => push_end_at(text, "write", client, "down", cut),
+        TraceLine::PushSent { client, frames } => push_end_at(text, "push", client, "sent", frames),
+        TraceLine::PushClosed { client } => push_end(text, "push", client, "closed"),
+        TraceLine::ServerEmpty { client } => push_end(text, "toserver", client, "empty"),
         TraceLine::ServerTook {
             client,
             kind,
             frames,
-        } => push_server_took(text, *client, *kind, *frames),
-        TraceLine::ClientEmpty { client } => push_end(text, "toclient", *client, "empty"),
-        TraceLine::ClientLaid { client } => push_end(text, "toclient", *client, "laid"),
+        } => push_server_took(text, client, kind, frames),
+        TraceLine::ClientEmpty { client } => push_end(text, "toclient", client, "empty"),
+        TraceLine::ClientLaid { client } => push_end(text, "toclient", client, "laid"),
         TraceLine::ClientApplied { client, version } => push_end_at(
-            text, "toclient", *client, "applied", *version,
+            text, "toclient", client, "applied", version,
         ),
-        TraceLine::ClientAnswered { client } => push_end(text, "toclient", *client, "answered"),
+        TraceLine::ClientAnswered { client } => push_end(text, "toclient", client, "answered"),
         TraceLine::ClientAsked { client, request } => push_end_at(
-            text, "toclient", *client, "asked", *request,
+            text, "toclient", client, "asked", request,
         ),
         TraceLine::ClientWritten {
             client,
             request,
             version,
-        } => push_written(text, *client, *request, *version),
+        } => push_written(text, client, request, version),
         TraceLine::ClientRefused {
             client,
             request,
             fault,
-        } => push_refused(text, *client, *request, *fault),
+        } => push_refused(text, client, request, fault),
         TraceLine::ClientForgot { client, version } => push_end_at(
-            text, "toclient", *client, "forgot", *version,
+            text, "toclient", client, "forgot", version,
         ),
         TraceLine::ClientWelcome {
             client,
             version,
             kept,
-        } => push_welcome(text, *client, *version, *kept),
-        TraceLine::Settled { client, frames } => push_number_end(text, "settle", *client, *frames),
-        TraceLine::EvictDropped { client } => push_end(text, "evict", *client, "dropped"),
+        } => push_welcome(text, client, version, kept),
+        TraceLine::Settled { client, frames } => push_number_end(text, "settle", client, frames),
+        TraceLine::EvictDropped { client } => push_end(text, "evict", client, "dropped"),
         TraceLine::EvictBusy { client, request } => push_end_at(
-            text, "evict", *client, "busy", *request,
+            text, "evict", client, "busy", request,
         ),
-        TraceLine::EvictNone { client, count } => push_end_at(
-            text, "evict", *client, "none", *count,
-        ),
+        TraceLine::EvictNone { client, count } => push_end_at(text, "evict", client, "none", count),
         TraceLine::Explained { client, version } => push_number_end(
-            text, "explain", *client, *version,
+            text, "explain", client, version,
         ),
-        TraceLine::ExplainSql { client, fault } => push_sql(text, "explain", *client, *fault),
-        TraceLine::CutDone { client, cut } => push_number_end(text, "cut", *client, *cut),
-        TraceLine::CutAlready { client, cut } => push_end_at(text, "cut", *client, "already", *cut),
+        TraceLine::ExplainSql { client, fault } => push_sql(text, "explain", client, fault),
+        TraceLine::CutDone { client, cut } => push_number_end(text, "cut", client, cut),
+        TraceLine::CutAlready { client, cut } => push_end_at(text, "cut", client, "already", cut),
         TraceLine::ResumeSent { client, request } => push_end_at(
-            text, "resume", *client, "sent", *request,
+            text, "resume", client, "sent", request,
         ),
-        TraceLine::ResumeUp { client } => push_end(text, "resume", *client, "up"),
+        TraceLine::ResumeUp { client } => push_end(text, "resume", client, "up"),
     }
 }

@@ -75,6 +75,15 @@ fn check(alloc: Global, cursor: &mut Cursor) -> Result<Check, Stop>
     })
 }
 
+/// A check in parentheses.
+fn enclosed_check(alloc: Global, cursor: &mut Cursor) -> Result<Check, Stop>
+    ensures { Reads (λ c. c) (grammar.in_parens grammar.check) cursor.old result cursor.new }
+{
+    cursor.mark("(")?;
+    let range = check(alloc, cursor)?;
+    cursor.mark(")").and(Ok(range))
+}
+
 /// Whether a word comes next, where it may stand.
 fn may(cursor: &Cursor, left: bool, word: &str) -> bool
     requires { IsTrue (is_reserved (upper word.now)) }
@@ -90,19 +99,15 @@ fn rule(alloc: Global, cursor: &mut Cursor, left: Left) -> Result<Option<ColumnR
 {
     if may(cursor, left.primary, "PRIMARY") {
         cursor.word("PRIMARY")?;
-        cursor.word("KEY")?;
-        return Ok(Some(ColumnRule::PrimaryKey));
+        return cursor.word("KEY").and(Ok(Some(ColumnRule::PrimaryKey)));
     }
     if may(cursor, left.not_null, "NOT") {
         cursor.word("NOT")?;
-        cursor.word("NULL")?;
-        return Ok(Some(ColumnRule::NotNull));
+        return cursor.word("NULL").and(Ok(Some(ColumnRule::NotNull)));
     }
     if may(cursor, left.check, "CHECK") {
         cursor.word("CHECK")?;
-        cursor.mark("(")?;
-        let range = check(alloc, cursor)?;
-        cursor.mark(")")?;
+        let range = enclosed_check(alloc, cursor)?;
         return Ok(Some(ColumnRule::Check(range)));
     }
     Ok(None)
@@ -172,6 +177,15 @@ fn columns(alloc: Global, cursor: &mut Cursor) -> Result<Definitions, Stop>
     Ok(all)
 }
 
+/// The columns in parentheses.
+fn enclosed_columns(alloc: Global, cursor: &mut Cursor) -> Result<Definitions, Stop>
+    ensures { Reads (λ x. x) (grammar.in_parens (grammar.list Mark (codes ",") grammar.column)) cursor.old result cursor.new }
+{
+    cursor.mark("(")?;
+    let columns = columns(alloc, cursor)?;
+    cursor.mark(")").and(Ok(columns))
+}
+
 #[tactic(auto, unfolding(sr_grammar_laws::specs::Readers::create))]
 pub(crate) fn create(alloc: Global, cursor: &mut Cursor) -> Result<Written, Stop>
     ensures { Reads (λ w. Defines w.name w.columns) grammar.create cursor.old result cursor.new }
@@ -179,9 +193,7 @@ pub(crate) fn create(alloc: Global, cursor: &mut Cursor) -> Result<Written, Stop
     cursor.word("CREATE")?;
     cursor.word("TABLE")?;
     let name = cursor.name(alloc)?;
-    cursor.mark("(")?;
-    let columns = columns(alloc, cursor)?;
-    cursor.mark(")")?;
+    let columns = enclosed_columns(alloc, cursor)?;
     Ok(Written {
         name: name.text,
         columns,

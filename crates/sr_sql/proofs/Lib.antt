@@ -1,5 +1,7 @@
 mod Cases
 mod Quotes
+mod Filtered
+mod Lists
 mod Shrinking
 mod Trees
 mod Ruling

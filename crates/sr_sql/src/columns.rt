@@ -48,15 +48,12 @@ fn kind(cursor: &mut Cursor) -> Result<Kind, Stop>
     ensures { Reads (λ k. k) grammar.kind cursor.old result cursor.new }
 {
     if cursor.is_word("INT") {
-        cursor.word("INT")?;
-        return Ok(Kind::Num);
+        return cursor.word("INT").and(Ok(Kind::Num));
     }
     if cursor.is_word("INTEGER") {
-        cursor.word("INTEGER")?;
-        return Ok(Kind::Num);
+        return cursor.word("INTEGER").and(Ok(Kind::Num));
     }
-    cursor.word("TEXT")?;
-    Ok(Kind::Str)
+    cursor.word("TEXT").and(Ok(Kind::Str))
 }
 
 #[tactic(auto, unfolding(sr_grammar_laws::specs::Readers::check))]
@@ -169,12 +166,13 @@ fn columns(alloc: Global, cursor: &mut Cursor) -> Result<Definitions, Stop>
     ensures { Reads (λ x. x) (grammar.list Mark (codes ",") grammar.column) cursor.old result cursor.new }
 {
     let mut all = Definitions::new(alloc);
-    all.push(column(alloc, cursor)?)?;
-    'more: while cursor.is_mark(",") {
-        cursor.mark(",")?;
+    'more: loop {
         all.push(column(alloc, cursor)?)?;
+        if !cursor.is_mark(",") {
+            return Ok(all);
+        }
+        cursor.mark(",")?;
     }
-    Ok(all)
 }
 
 /// The columns in parentheses.

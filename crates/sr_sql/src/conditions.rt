@@ -77,12 +77,13 @@ pub(crate) fn literals(alloc: Global, cursor: &mut Cursor) -> Result<Literals, S
     ensures { Reads (λ x. x) (grammar.list Mark (codes ",") grammar.literal) cursor.old result cursor.new }
 {
     let mut all = Literals::new(alloc);
-    all.push(literal(alloc, cursor)?)?;
-    'more: while cursor.is_mark(",") {
-        cursor.mark(",")?;
+    'more: loop {
         all.push(literal(alloc, cursor)?)?;
+        if !cursor.is_mark(",") {
+            return Ok(all);
+        }
+        cursor.mark(",")?;
     }
-    Ok(all)
 }
 
 #[tactic(auto, unfolding(sr_grammar_laws::specs::Readers::in_list))]

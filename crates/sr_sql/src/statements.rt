@@ -64,12 +64,13 @@ fn references(alloc: Global, cursor: &mut Cursor) -> Result<Names, Stop>
     ensures { Reads (λ x. x) (grammar.list Mark (codes ",") grammar.reference) cursor.old result cursor.new }
 {
     let mut all = Names::new(alloc);
-    all.push(reference(alloc, cursor)?)?;
-    'more: while cursor.is_mark(",") {
-        cursor.mark(",")?;
+    'more: loop {
         all.push(reference(alloc, cursor)?)?;
+        if !cursor.is_mark(",") {
+            return Ok(all);
+        }
+        cursor.mark(",")?;
     }
-    Ok(all)
 }
 
 #[tactic(auto, unfolding(sr_grammar_laws::specs::Readers::listed))]
@@ -170,12 +171,13 @@ fn columns(alloc: Global, cursor: &mut Cursor) -> Result<Names, Stop>
     ensures { Reads (λ x. x) (grammar.list Mark (codes ",") grammar.column_name) cursor.old result cursor.new }
 {
     let mut all = Names::new(alloc);
-    all.push(column_name(alloc, cursor)?)?;
-    'more: while cursor.is_mark(",") {
-        cursor.mark(",")?;
+    'more: loop {
         all.push(column_name(alloc, cursor)?)?;
+        if !cursor.is_mark(",") {
+            return Ok(all);
+        }
+        cursor.mark(",")?;
     }
-    Ok(all)
 }
 
 #[tactic(auto, unfolding(sr_grammar_laws::specs::Readers::column_names))]
@@ -204,12 +206,13 @@ fn rows(alloc: Global, cursor: &mut Cursor) -> Result<LiteralRows, Stop>
     ensures { Reads (λ x. x) (grammar.list Mark (codes ",") grammar.row) cursor.old result cursor.new }
 {
     let mut all = LiteralRows::new(alloc);
-    all.push(row(alloc, cursor)?)?;
-    'more: while cursor.is_mark(",") {
-        cursor.mark(",")?;
+    'more: loop {
         all.push(row(alloc, cursor)?)?;
+        if !cursor.is_mark(",") {
+            return Ok(all);
+        }
+        cursor.mark(",")?;
     }
-    Ok(all)
 }
 
 #[tactic(auto, unfolding(sr_grammar_laws::specs::Readers::insert))]
@@ -245,12 +248,13 @@ fn sets(alloc: Global, cursor: &mut Cursor) -> Result<Sets, Stop>
     ensures { Reads (λ x. x) (grammar.list Mark (codes ",") grammar.set) cursor.old result cursor.new }
 {
     let mut all = Sets::new(alloc);
-    all.push(set(alloc, cursor)?)?;
-    'more: while cursor.is_mark(",") {
-        cursor.mark(",")?;
+    'more: loop {
         all.push(set(alloc, cursor)?)?;
+        if !cursor.is_mark(",") {
+            return Ok(all);
+        }
+        cursor.mark(",")?;
     }
-    Ok(all)
 }
 
 #[tactic(auto, unfolding(sr_grammar_laws::specs::Readers::update))]

@@ -57,7 +57,7 @@ fn add(regions: &mut Seq<Region>, region: Region) -> Result<(), NoMemory>
 }
 
 /// More regions, each joined with the one of its class.
-pub(crate) fn add_all(regions: &mut Seq<Region>, more: Seq<Region>) -> Result<(), NoMemory>
+fn add_all(regions: &mut Seq<Region>, more: Seq<Region>) -> Result<(), NoMemory>
     requires order { ascends regions.old ≡ true }
     requires join { CanJoin regions.old more }
     ensures { OnOk result (regions.new ≡ with_regions regions.old more) }

@@ -16,7 +16,7 @@ ghost use Rattle.sr_store.specs.Renewing.{IsRenewal, with_regions};
 ghost use Rattle.sr_store.specs.Making.{ComesFrom, AreParted, AreNews, IsOutcome, IsAbsorbedBy, IsKeptOr, CanJoin, without_rows};
 
 use crate::absorb::{absorbed, met_by, still_absorbed};
-use crate::add::{add_all, together};
+use crate::add::together;
 use crate::arrive::arrived_regions;
 use crate::marks::{drop_marks, held_marks};
 use crate::parting::{Parted, copies_without_rows, parted_by, sift};
@@ -81,9 +81,7 @@ fn renewed(
         Ok(arrived) => pieces.append(arrived)?,
         Err(no) => return Err(no),
     }
-    let mut all = Seq::new(alloc);
-    add_all(&mut all, pieces)?;
-    Ok(all)
+    Ok(together(Seq::new(alloc), pieces)?)
 }
 
 /// How many rects the region has; 0 where it has a flag.

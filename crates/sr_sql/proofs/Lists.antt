@@ -1,11 +1,11 @@
 -- Reading a list as a loop does, each of its items at one place.
-use Rattle.std.proofs.Common.{◌≡◌, ℕ, Bool, true, false, List, [], ◌∷◌, ◌++◌, length, refl, sym, ap, ◌∙◌, append_assoc}
+use Rattle.std.proofs.Common.{◌≡◌, ℕ, Bool, true, List, [], ◌∷◌, ◌++◌, length, refl, sym, ap, ◌∙◌, append_assoc}
 use Rattle.std.proofs.lemmas.Bool.{cond-true}
 use Rattle.sr_grammar.specs.Tokens.{Kind, Tok, is}
 use Rattle.sr_grammar.specs.Words.{place_of}
 use Rattle.sr_grammar_laws.specs.Reading.{Reading, Got, Fails, Reader, ◌>>=◌, one, next_is, many_for, many}
 use Rattle.sr_grammar_laws.specs.Readers.{list}
-use Rattle.sr_grammar_laws.proofs.Loops.{Shrinks, Going, goes_on, with_front, item}
+use Rattle.sr_grammar_laws.proofs.Loops.{Shrinks, goes_on, with_front, item}
 
 -- what was read before, and the list that is still read, is all
 pub record Listing {A : Type 0} (k : Kind) (text : List ℕ) (p : Reader A) (front : List A) (ts : List Tok) (total : Reading (List A)) : Type 0 where

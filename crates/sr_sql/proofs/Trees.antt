@@ -4,7 +4,7 @@ use Rattle.sr_grammar.specs.Trees as model
 use Rattle.sr_grammar.specs.Tokens.{Key, Tok}
 use Rattle.sr_grammar_laws.specs.Reading.{Reader, and_then, nothing, next_is}
 use Rattle.sr_grammar_laws.specs.Readers.{key, in_parens, cond_of, unit, comparison}
-use Rattle.std.specs.Prelude.{codes, Bool}
+use Rattle.std.specs.Prelude.{codes}
 use Rattle.sr_grammar.specs.Tokens.{is, Mark}
 use Rattle.sr_sql.specs.Views.{Reads}
 use Rattle.std.proofs.Common.{Result, Ok, Err}

@@ -48,15 +48,12 @@ fn kind(cursor: &mut Cursor) -> Result<Kind, Stop>
     ensures { Reads (λ k. k) grammar.kind cursor.old result cursor.new }
 {
     if cursor.is_word("INT") {
-        cursor.word("INT")?;
-        return Ok(Kind::Num);
+        return cursor.word("INT").and(Ok(Kind::Num));
     }
     if cursor.is_word("INTEGER") {
-        cursor.word("INTEGER")?;
-        return Ok(Kind::Num);
+        return cursor.word("INTEGER").and(Ok(Kind::Num));
     }
-    cursor.word("TEXT")?;
-    Ok(Kind::Str)
+    cursor.word("TEXT").and(Ok(Kind::Str))
 }
 
 #[tactic(auto, unfolding(sr_grammar_laws::specs::Readers::check))]
@@ -75,6 +72,15 @@ fn check(alloc: Global, cursor: &mut Cursor) -> Result<Check, Stop>
     })
 }
 
+/// A check in parentheses.
+fn enclosed_check(alloc: Global, cursor: &mut Cursor) -> Result<Check, Stop>
+    ensures { Reads (λ c. c) (grammar.in_parens grammar.check) cursor.old result cursor.new }
+{
+    cursor.mark("(")?;
+    let range = check(alloc, cursor)?;
+    cursor.mark(")").and(Ok(range))
+}
+
 /// Whether a word comes next, where it may stand.
 fn may(cursor: &Cursor, left: bool, word: &str) -> bool
     requires { IsTrue (is_reserved (upper word.now)) }
@@ -90,19 +96,15 @@ fn rule(alloc: Global, cursor: &mut Cursor, left: Left) -> Result<Option<ColumnR
 {
     if may(cursor, left.primary, "PRIMARY") {
         cursor.word("PRIMARY")?;
-        cursor.word("KEY")?;
-        return Ok(Some(ColumnRule::PrimaryKey));
+        return cursor.word("KEY").and(Ok(Some(ColumnRule::PrimaryKey)));
     }
     if may(cursor, left.not_null, "NOT") {
         cursor.word("NOT")?;
-        cursor.word("NULL")?;
-        return Ok(Some(ColumnRule::NotNull));
+        return cursor.word("NULL").and(Ok(Some(ColumnRule::NotNull)));
     }
     if may(cursor, left.check, "CHECK") {
         cursor.word("CHECK")?;
-        cursor.mark("(")?;
-        let range = check(alloc, cursor)?;
-        cursor.mark(")")?;
+        let range = enclosed_check(alloc, cursor)?;
         return Ok(Some(ColumnRule::Check(range)));
     }
     Ok(None)
@@ -164,12 +166,22 @@ fn columns(alloc: Global, cursor: &mut Cursor) -> Result<Definitions, Stop>
     ensures { Reads (λ x. x) (grammar.list Mark (codes ",") grammar.column) cursor.old result cursor.new }
 {
     let mut all = Definitions::new(alloc);
-    all.push(column(alloc, cursor)?)?;
-    'more: while cursor.is_mark(",") {
-        cursor.mark(",")?;
+    'more: loop {
         all.push(column(alloc, cursor)?)?;
+        if !cursor.is_mark(",") {
+            return Ok(all);
+        }
+        cursor.mark(",")?;
     }
-    Ok(all)
+}
+
+/// The columns in parentheses.
+fn enclosed_columns(alloc: Global, cursor: &mut Cursor) -> Result<Definitions, Stop>
+    ensures { Reads (λ x. x) (grammar.in_parens (grammar.list Mark (codes ",") grammar.column)) cursor.old result cursor.new }
+{
+    cursor.mark("(")?;
+    let columns = columns(alloc, cursor)?;
+    cursor.mark(")").and(Ok(columns))
 }
 
 #[tactic(auto, unfolding(sr_grammar_laws::specs::Readers::create))]
@@ -179,9 +191,7 @@ pub(crate) fn create(alloc: Global, cursor: &mut Cursor) -> Result<Written, Stop
     cursor.word("CREATE")?;
     cursor.word("TABLE")?;
     let name = cursor.name(alloc)?;
-    cursor.mark("(")?;
-    let columns = columns(alloc, cursor)?;
-    cursor.mark(")")?;
+    let columns = enclosed_columns(alloc, cursor)?;
     Ok(Written {
         name: name.text,
         columns,

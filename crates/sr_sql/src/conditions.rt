@@ -3,6 +3,8 @@ ghost use Rattle.std.specs.Prelude.{◌≡◌, codes, Option, Some, None};
 ghost use Rattle.sr_grammar.specs.declared.statement.Atom.TheVariants as atoms;
 ghost use Rattle.sr_grammar.specs.Tokens.{Mark};
 ghost use Rattle.sr_grammar.specs.Seen.{cond_seen};
+ghost use Rattle.sr_grammar.specs.Trees.{Not};
+ghost use Rattle.sr_grammar_laws.specs.Reading.{and_then, nothing};
 ghost use Rattle.sr_grammar_laws.specs.Readers as grammar;
 ghost use Rattle.sr_sql.specs.Views.{Reads};
 
@@ -75,12 +77,13 @@ pub(crate) fn literals(alloc: Global, cursor: &mut Cursor) -> Result<Literals, S
     ensures { Reads (λ x. x) (grammar.list Mark (codes ",") grammar.literal) cursor.old result cursor.new }
 {
     let mut all = Literals::new(alloc);
-    all.push(literal(alloc, cursor)?)?;
-    'more: while cursor.is_mark(",") {
-        cursor.mark(",")?;
+    'more: loop {
         all.push(literal(alloc, cursor)?)?;
+        if !cursor.is_mark(",") {
+            return Ok(all);
+        }
+        cursor.mark(",")?;
     }
-    Ok(all)
 }
 
 #[tactic(auto, unfolding(sr_grammar_laws::specs::Readers::in_list))]
@@ -91,8 +94,7 @@ fn in_list(alloc: Global, cursor: &mut Cursor) -> Result<Literals, Stop>
     cursor.word("IN")?;
     cursor.mark("(")?;
     let all = literals(alloc, cursor)?;
-    cursor.mark(")")?;
-    Ok(all)
+    cursor.mark(")").and(Ok(all))
 }
 
 #[tactic(auto, unfolding(sr_grammar_laws::specs::Readers::atom))]
@@ -134,28 +136,50 @@ fn comparison(alloc: Global, cursor: &mut Cursor) -> Result<Cond, Stop>
     Ok(Cond::Test(name, atom))
 }
 
+/// A test, where neither a NOT nor a parenthesis may stand.
+#[tactic(auto, unfolding(sr_grammar_laws::specs::Readers::unit))]
+fn innermost(alloc: Global, cursor: &mut Cursor) -> Result<Cond, Stop>
+    ensures { Reads cond_seen (grammar.unit 0) cursor.old result cursor.new }
+{
+    if cursor.is_word("NOT") || cursor.is_mark("(") {
+        return Err(Stop::Deep);
+    }
+    comparison(alloc, cursor)
+}
+
+/// A NOT and a unit, in which so many more of NOT and parentheses may stand.
+#[cycle(cond)]
+fn negated(alloc: Global, cursor: &mut Cursor, levels: u8) -> Result<Cond, Stop>
+    ensures { Reads cond_seen (and_then (grammar.key (codes "NOT")) (λ _. and_then (grammar.unit levels) (λ c. nothing (Not c)))) cursor.old result cursor.new }
+{
+    cursor.word("NOT")?;
+    let inner = unit(alloc, cursor, levels)?;
+    Ok(Cond::Not(Box::new(alloc, inner)?))
+}
+
+/// A condition in parentheses, in which so many more of NOT and parentheses may stand.
+#[cycle(cond)]
+fn enclosed(alloc: Global, cursor: &mut Cursor, levels: u8) -> Result<Cond, Stop>
+    ensures { Reads cond_seen (grammar.in_parens (grammar.cond_of (grammar.unit levels))) cursor.old result cursor.new }
+{
+    cursor.mark("(")?;
+    let inner = cond(alloc, cursor, levels)?;
+    cursor.mark(")").and(Ok(inner))
+}
+
 /// A NOT, a condition in parentheses or a test, where so many of the first two may stand one inside the other.
 #[cycle(cond)]
-#[tactic(auto, unfolding(sr_grammar_laws::specs::Readers::unit))]
 fn unit(alloc: Global, cursor: &mut Cursor, levels: u8) -> Result<Cond, Stop>
     ensures { Reads cond_seen (grammar.unit levels) cursor.old result cursor.new }
 {
     if levels == 0 {
-        if cursor.is_word("NOT") || cursor.is_mark("(") {
-            return Err(Stop::Deep);
-        }
-        return comparison(alloc, cursor);
+        return innermost(alloc, cursor);
     }
     if cursor.is_word("NOT") {
-        cursor.word("NOT")?;
-        let one = unit(alloc, cursor, levels - 1)?;
-        return Ok(Cond::Not(Box::new(alloc, one)?));
+        return negated(alloc, cursor, levels - 1);
     }
     if cursor.is_mark("(") {
-        cursor.mark("(")?;
-        let inner = cond(alloc, cursor, levels - 1)?;
-        cursor.mark(")")?;
-        return Ok(inner);
+        return enclosed(alloc, cursor, levels - 1);
     }
     comparison(alloc, cursor)
 }

@@ -1,11 +1,11 @@
 //! Reading the statements about rows.
 ghost use Rattle.std.specs.Prelude.{◌≡◌, codes};
-ghost use Rattle.sr_grammar.specs.Tokens.{Mark};
+ghost use Rattle.sr_grammar.specs.Tokens.{Key, Mark, is};
 ghost use Rattle.sr_grammar.specs.Trees.{Says, Selects, Inserts, Updates, Deletes};
 ghost use Rattle.sr_grammar.specs.Statements.{filter_of, place_of_where};
 ghost use Rattle.sr_grammar.specs.Says.{most_levels};
 ghost use Rattle.sr_grammar.specs.Seen.{filter_seen, select_seen, update_seen, delete_seen};
-ghost use Rattle.sr_grammar_laws.specs.Reading.{next_is, many};
+ghost use Rattle.sr_grammar_laws.specs.Reading.{and_then, branch, next_is, many};
 ghost use Rattle.sr_grammar_laws.specs.Readers as grammar;
 ghost use Rattle.sr_sql.specs.Views.{Reads};
 ghost use Rattle.sr_sql.specs.Seen.{where_seen, shown_seen};
@@ -64,12 +64,13 @@ fn references(alloc: Global, cursor: &mut Cursor) -> Result<Names, Stop>
     ensures { Reads (λ x. x) (grammar.list Mark (codes ",") grammar.reference) cursor.old result cursor.new }
 {
     let mut all = Names::new(alloc);
-    all.push(reference(alloc, cursor)?)?;
-    'more: while cursor.is_mark(",") {
-        cursor.mark(",")?;
+    'more: loop {
         all.push(reference(alloc, cursor)?)?;
+        if !cursor.is_mark(",") {
+            return Ok(all);
+        }
+        cursor.mark(",")?;
     }
-    Ok(all)
 }
 
 #[tactic(auto, unfolding(sr_grammar_laws::specs::Readers::listed))]
@@ -87,14 +88,21 @@ fn listed(alloc: Global, cursor: &mut Cursor) -> Result<Shown, Stop>
     Ok(Shown { all: false, list })
 }
 
-#[tactic(auto, unfolding(sr_grammar_laws::specs::Readers::join))]
-fn join(alloc: Global, cursor: &mut Cursor) -> Result<JoinOn, Stop>
-    ensures { Reads (λ j. j) grammar.join cursor.old result cursor.new }
+/// JOIN, with INNER in front of it or without.
+fn join_word(cursor: &mut Cursor) -> Result<u32, Stop>
+    ensures { Reads (λ at. at) (branch (is Key (codes "INNER")) (and_then (grammar.key (codes "INNER")) (λ _. grammar.key (codes "JOIN"))) (grammar.key (codes "JOIN"))) cursor.old result cursor.new }
 {
     if cursor.is_word("INNER") {
         cursor.word("INNER")?;
     }
-    cursor.word("JOIN")?;
+    cursor.word("JOIN")
+}
+
+#[tactic(auto, unfolding(sr_grammar_laws::specs::Readers::join))]
+fn join(alloc: Global, cursor: &mut Cursor) -> Result<JoinOn, Stop>
+    ensures { Reads (λ j. j) grammar.join cursor.old result cursor.new }
+{
+    join_word(cursor)?;
     let table = cursor.name(alloc)?;
     let place = cursor.word("ON")?;
     let left = reference(alloc, cursor)?;
@@ -163,12 +171,13 @@ fn columns(alloc: Global, cursor: &mut Cursor) -> Result<Names, Stop>
     ensures { Reads (λ x. x) (grammar.list Mark (codes ",") grammar.column_name) cursor.old result cursor.new }
 {
     let mut all = Names::new(alloc);
-    all.push(column_name(alloc, cursor)?)?;
-    'more: while cursor.is_mark(",") {
-        cursor.mark(",")?;
+    'more: loop {
         all.push(column_name(alloc, cursor)?)?;
+        if !cursor.is_mark(",") {
+            return Ok(all);
+        }
+        cursor.mark(",")?;
     }
-    Ok(all)
 }
 
 #[tactic(auto, unfolding(sr_grammar_laws::specs::Readers::column_names))]
@@ -180,8 +189,7 @@ fn column_names(alloc: Global, cursor: &mut Cursor) -> Result<Names, Stop>
     }
     cursor.mark("(")?;
     let all = columns(alloc, cursor)?;
-    cursor.mark(")")?;
-    Ok(all)
+    cursor.mark(")").and(Ok(all))
 }
 
 #[tactic(auto, unfolding(sr_grammar_laws::specs::Readers::row))]
@@ -190,8 +198,7 @@ fn row(alloc: Global, cursor: &mut Cursor) -> Result<LiteralRow, Stop>
 {
     let place = cursor.mark("(")?;
     let literals = literals(alloc, cursor)?;
-    cursor.mark(")")?;
-    Ok(LiteralRow { literals, place })
+    cursor.mark(")").and(Ok(LiteralRow { literals, place }))
 }
 
 /// Rows with commas between them.
@@ -199,12 +206,13 @@ fn rows(alloc: Global, cursor: &mut Cursor) -> Result<LiteralRows, Stop>
     ensures { Reads (λ x. x) (grammar.list Mark (codes ",") grammar.row) cursor.old result cursor.new }
 {
     let mut all = LiteralRows::new(alloc);
-    all.push(row(alloc, cursor)?)?;
-    'more: while cursor.is_mark(",") {
-        cursor.mark(",")?;
+    'more: loop {
         all.push(row(alloc, cursor)?)?;
+        if !cursor.is_mark(",") {
+            return Ok(all);
+        }
+        cursor.mark(",")?;
     }
-    Ok(all)
 }
 
 #[tactic(auto, unfolding(sr_grammar_laws::specs::Readers::insert))]
@@ -240,12 +248,13 @@ fn sets(alloc: Global, cursor: &mut Cursor) -> Result<Sets, Stop>
     ensures { Reads (λ x. x) (grammar.list Mark (codes ",") grammar.set) cursor.old result cursor.new }
 {
     let mut all = Sets::new(alloc);
-    all.push(set(alloc, cursor)?)?;
-    'more: while cursor.is_mark(",") {
-        cursor.mark(",")?;
+    'more: loop {
         all.push(set(alloc, cursor)?)?;
+        if !cursor.is_mark(",") {
+            return Ok(all);
+        }
+        cursor.mark(",")?;
     }
-    Ok(all)
 }
 
 #[tactic(auto, unfolding(sr_grammar_laws::specs::Readers::update))]

@@ -1,6 +1,6 @@
 -- The rects of the regions, the parts and the arrivals of a table: what the rects of an answer are cut from.
 use Rattle.std.proofs.Common.{◌≡◌, ℕ, true, false, cond, List, [], ◌∷◌, ◌++◌, refl, sym, ap, subst, ◌∙◌, arith, append_assoc}
-use Rattle.std.specs.Prelude.{Bool, not, ◌&&◌, ◌==◌, filter, flat_map, if◌then◌else◌}
+use Rattle.std.specs.Prelude.{Bool, ◌==◌, filter, flat_map, if◌then◌else◌}
 use Rattle.std.specs.List.{list_all, All}
 use Rattle.std.proofs.lemmas.Bool.Decides.{nat_tests}
 use Rattle.std.proofs.lemmas.List.{append-nil}
@@ -8,15 +8,13 @@ use Rattle.std.proofs.lemmas.List.Folds.{list_all-append}
 use Rattle.std.proofs.lemmas.List.Elements.{All-nil, All-cons, All-head, All-tail, All-weaker}
 use Rattle.sr_cell.specs.declared.table.Table.{Table}
 use Rattle.sr_cell.specs.Columns.{table_at}
-use Rattle.sr_cell.specs.Attrs.{includes}
 use Rattle.sr_box.specs.Points.{Rect, rect_fits}
 use Rattle.sr_union.specs.Grid.{AreCutFrom}
 use Rattle.sr_union.proofs.Parts.{are_part}
-use Rattle.sr_union.proofs.Among.{AreCutFrom-append}
 use Rattle.sr_query.specs.declared.query.Part.{Part}
 use Rattle.sr_region.specs.declared.region.Region.{Region}
 use Rattle.sr_store.specs.declared.store.Arrival.{Arrival}
-use Rattle.sr_store.specs.Stores.{IsOfSchema, wider}
+use Rattle.sr_store.specs.Stores.{IsOfSchema}
 use Rattle.sr_store.specs.Answered.{IsArrival, rects_on}
 use Rattle.sr_store.specs.Renewing.{IsCutFrom, IsPartCutFrom, IsArrivalCutFrom}
 

@@ -1,7 +1,8 @@
 -- Flags of regions, one by one.
-use Rattle.std.proofs.Common.{◌≡◌, ℕ, zero, suc, ◌+◌, ◌-◌, ◌<◌, ◌≤◌, Bool, true, false, List, [], ◌∷◌, length, take, drop, ◌++◌, Some, get_or, refl, ap, sym, subst, ◌∙◌, arith}
+use Rattle.std.proofs.Common.{◌≡◌, ℕ, zero, suc, ◌+◌, ◌-◌, ◌<◌, ◌≤◌, Bool, true, false, List, [], ◌∷◌, length, take, drop, ◌++◌, Some, get_or, append_assoc, refl, ap, sym, subst, ◌∙◌, arith}
 use Rattle.std.specs.Prelude.{if◌then◌else◌}
 use Rattle.std.specs.List.{slice_get}
+use Rattle.std.proofs.lemmas.List.{drop_more}
 use Rattle.std.proofs.lemmas.Option.{same_Some}
 use Rattle.std.specs.List.{All, AllZip}
 use Rattle.std.proofs.lemmas.List.Elements.{All-nil, All-cons}
@@ -105,3 +106,20 @@ take_out_plain fs gs (suc i) d long some in_range set =
     let before : i ≡ suc i - 1 = omega arith in
     subst (λ n. get_or fs n d ≡ false → (sifted fs gs (suc i) ≡ sifted fs gs n) × (flagged true (drop (suc i) fs) (drop (suc i) gs) ≡ flagged true (drop n fs) (drop n gs)))
     before (λ set. sifted-kept fs gs i d long (omega (arith, in_range)) set) set
+
+-- one region more is parted from those behind it
+pub put_plain : (fs : List Bool) (g : Region) (gs : List Region) (i : ℕ) (front next all : List Region) → i < length fs → next ≡ (if get_or fs i false then front else front ++ g ∷ [])
+    → front ++ flagged false (drop i fs) (g ∷ gs) ≡ all → next ++ flagged false (drop (i + 1) fs) gs ≡ all
+put_plain fs g gs i front next all below is sum = go (get_or fs i false) is (subst (λ fs. front ++ flagged false fs (g ∷ gs) ≡ all) (drop_more fs i false below) sum)
+  where
+    go : (f : Bool) → next ≡ (if f then front else front ++ g ∷ []) → front ++ flagged false (f ∷ drop (i + 1) fs) (g ∷ gs) ≡ all → next ++ flagged false (drop (i + 1) fs) gs ≡ all
+    go true is sum = ap (λ hs. hs ++ flagged false (drop (i + 1) fs) gs) is ∙ sum
+    go false is sum = ap (λ hs. hs ++ flagged false (drop (i + 1) fs) gs) is ∙ append_assoc front (g ∷ []) (flagged false (drop (i + 1) fs) gs) ∙ sum
+
+pub put_flagged : (fs : List Bool) (g : Region) (gs : List Region) (i : ℕ) (front next all : List Region) → i < length fs → next ≡ (if get_or fs i false then front ++ g ∷ [] else front)
+    → front ++ flagged true (drop i fs) (g ∷ gs) ≡ all → next ++ flagged true (drop (i + 1) fs) gs ≡ all
+put_flagged fs g gs i front next all below is sum = go (get_or fs i false) is (subst (λ fs. front ++ flagged true fs (g ∷ gs) ≡ all) (drop_more fs i false below) sum)
+  where
+    go : (f : Bool) → next ≡ (if f then front ++ g ∷ [] else front) → front ++ flagged true (f ∷ drop (i + 1) fs) (g ∷ gs) ≡ all → next ++ flagged true (drop (i + 1) fs) gs ≡ all
+    go true is sum = ap (λ hs. hs ++ flagged true (drop (i + 1) fs) gs) is ∙ append_assoc front (g ∷ []) (flagged true (drop (i + 1) fs) gs) ∙ sum
+    go false is sum = ap (λ hs. hs ++ flagged true (drop (i + 1) fs) gs) is ∙ sum

@@ -39,7 +39,7 @@ fn push_wider(
     ensures { OnOk result (found.new ≡ found.old ++ near rects.now (wider (region.now ∷ []) narrow.now.table narrow.now.attrs)) }
 {
     if is_wider(region, narrow.table, narrow.attrs) {
-        found.append(region.rects.near(alloc, rects)?)?;
+        return found.append(region.rects.near(alloc, rects)?);
     }
     Ok(())
 }
@@ -73,16 +73,16 @@ fn wider_near_both(
     ensures { IfOk result (λ found. found ≡ near rects.now (wider_both still.now news.now narrow.now)) }
 {
     let mut found = wider_near(alloc, still, narrow, rects)?;
-    found.append(wider_near(alloc, news, narrow, rects)?)?;
-    Ok(found)
+    let more = wider_near(alloc, news, narrow, rects)?;
+    found.append(more).and(Ok(found))
 }
 
 fn single(alloc: Global, rect: &Rect) -> Result<Rects, NoMemory>
     ensures { IfOk result (λ one. one ≡ rect.now ∷ []) }
 {
+    let copy = rect.copy(alloc)?;
     let mut one = Rects::new(alloc);
-    one.push(rect.copy(alloc)?)?;
-    Ok(one)
+    one.push(copy).and(Ok(one))
 }
 
 /// Whether the rect's points are all in regions of the two lists with strictly more columns than that region.
@@ -105,8 +105,7 @@ fn is_covered(
     let table = table_at(schema, region.table);
     let one = single(alloc, rect)?;
     let found = wider_near_both(alloc, still, news, region, &one)?;
-    let yes = one.within(alloc, &found, table)?;
-    Ok(yes)
+    one.within(alloc, &found, table)
 }
 
 /// The same of each of some rects; the first that is not covered decides.

@@ -1,5 +1,5 @@
 //! Regions put among others in class order, where two of one class become one.
-ghost use Rattle.std.specs.Prelude.{◌≡◌, ◌≤◌, true, [], ◌∷◌, length, drop, OnOk};
+ghost use Rattle.std.specs.Prelude.{◌≡◌, ◌≤◌, true, [], ◌∷◌, length, drop, IfOk, OnOk};
 ghost use Rattle.sr_store.specs.Classes.{is_before, is_same, ascends};
 ghost use Rattle.sr_store.specs.Renewing.{with_region, with_regions};
 ghost use Rattle.sr_store.specs.Making.{place_in, is_same_first, CanJoin};
@@ -57,7 +57,7 @@ fn add(regions: &mut Seq<Region>, region: Region) -> Result<(), NoMemory>
 }
 
 /// More regions, each joined with the one of its class.
-pub(crate) fn add_all(regions: &mut Seq<Region>, more: Seq<Region>) -> Result<(), NoMemory>
+fn add_all(regions: &mut Seq<Region>, more: Seq<Region>) -> Result<(), NoMemory>
     requires order { ascends regions.old ≡ true }
     requires join { CanJoin regions.old more }
     ensures { OnOk result (regions.new ≡ with_regions regions.old more) }
@@ -66,4 +66,14 @@ pub(crate) fn add_all(regions: &mut Seq<Region>, more: Seq<Region>) -> Result<()
         add(regions, region)?;
     }
     Ok(())
+}
+
+/// The regions of both lists, where two of one class are joined.
+pub(crate) fn together(regions: Seq<Region>, more: Seq<Region>) -> Result<Seq<Region>, NoMemory>
+    requires order { ascends regions ≡ true }
+    requires join { CanJoin regions more }
+    ensures { IfOk result (λ all. all ≡ with_regions regions more) }
+{
+    let mut all = regions;
+    add_all(&mut all, more).and(Ok(all))
 }

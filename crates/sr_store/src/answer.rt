@@ -1,6 +1,6 @@
 //! What an answer makes of the regions.
 ghost use Rattle.std.specs.Prelude.{◌≡◌, ◌≤◌, ◌<◌, ◌+◌, ◌↔◌, true, false, List, ◌++◌, length, map, if◌then◌else◌, IfOk, IfSome, IfNone, IsErrOf, IsTrue};
-ghost use Rattle.std.specs.List.{list_all, All};
+ghost use Rattle.std.specs.List.{list_all, All, AllZip};
 ghost use Rattle.sr_cell.specs.declared.cause.Cause.TheVariants.{Absorbed, Pieces};
 ghost use Rattle.sr_cell.specs.declared.list.No.TheVariants.{Refused};
 ghost use Rattle.sr_cell.specs.Columns.{table_at};
@@ -11,12 +11,12 @@ ghost use Rattle.sr_region.specs.declared.region.Region.{Region as TheRegion};
 ghost use Rattle.sr_store.specs.Told.{Told, IsTold, AreTrueOf};
 ghost use Rattle.sr_store.specs.Classes.{ascends};
 ghost use Rattle.sr_store.specs.Stores.{IsOfSchema, count_rects, drop_of, IsAbsorbedIn};
-ghost use Rattle.sr_store.specs.Answered.{IsArrival, AreApart, HaveArrived, IsHeavy, flagged};
+ghost use Rattle.sr_store.specs.Answered.{IsArrival, AreApart, HaveArrived, IsHeavy, AreFlags, flagged, held_of};
 ghost use Rattle.sr_store.specs.Renewing.{IsRenewal, with_regions};
-ghost use Rattle.sr_store.specs.Making.{ComesFrom, AreParted, AreNews, IsOutcome, CanJoin};
+ghost use Rattle.sr_store.specs.Making.{ComesFrom, AreParted, AreNews, IsOutcome, IsAbsorbedBy, IsKeptOr, CanJoin, without_rows};
 
 use crate::absorb::{absorbed, met_by, still_absorbed};
-use crate::add::add_all;
+use crate::add::together;
 use crate::arrive::arrived_regions;
 use crate::marks::{drop_marks, held_marks};
 use crate::parting::{Parted, copies_without_rows, parted_by, sift};
@@ -81,9 +81,7 @@ fn renewed(
         Ok(arrived) => pieces.append(arrived)?,
         Err(no) => return Err(no),
     }
-    let mut all = Seq::new(alloc);
-    add_all(&mut all, pieces)?;
-    Ok(all)
+    Ok(together(Seq::new(alloc), pieces)?)
 }
 
 /// How many rects the region has; 0 where it has a flag.
@@ -124,6 +122,31 @@ fn have_few(still: &[Region], news: &News) -> bool
     }
 }
 
+/// The regions that an answer makes, with a flag for each that is absorbed; of those that stay only the met ones are tested.
+fn flag_absorbed(
+    alloc: Global,
+    schema: &Schema,
+    still: &[Region],
+    regions: Seq<Region>,
+    met: &[bool],
+) -> Result<News, NoMemory>
+    requires tables { IsTrue (list_all is_table schema.now) }
+    requires still { All (IsOfSchema schema.now) still.now }
+    requires news { All (IsOfSchema schema.now) regions }
+    requires others { AllZip (IsKeptOr schema.now still.now regions) met.now still.now }
+    ensures regions { IfOk result (λ news. news.regions ≡ regions) }
+    ensures absorbed { IfOk result (λ news. AreFlags (IsAbsorbedBy schema.now still.now news.regions) news.absorbed news.regions) }
+    ensures still_absorbed { IfOk result (λ news. AreFlags (IsAbsorbedBy schema.now still.now news.regions) news.still_absorbed still.now) }
+{
+    let absorbed = absorbed(alloc, schema, still, regions.as_slice())?;
+    let still_absorbed = still_absorbed(alloc, schema, still, regions.as_slice(), met)?;
+    Ok(News {
+        regions,
+        absorbed,
+        still_absorbed,
+    })
+}
+
 /// The regions that an answer makes, beside those that stay.
 fn news_of(
     alloc: Global,
@@ -148,17 +171,35 @@ fn news_of(
         Ok(regions) => regions,
         Err(no) => return Err(no),
     };
-    let absorbed = absorbed(alloc, schema, still, regions.as_slice())?;
-    let still_absorbed = still_absorbed(alloc, schema, still, regions.as_slice(), met.as_slice())?;
-    let news = News {
-        regions,
-        absorbed,
-        still_absorbed,
-    };
+    let news = flag_absorbed(alloc, schema, still, regions, met.as_slice())?;
     if !have_few(still, &news) {
         return Err(No::Refused(Over));
     }
     Ok(news)
+}
+
+/// The marks, and behind them the drops of absorbed regions.
+fn with_drops(alloc: Global, marks: Marks, absorbed: Seq<Region>) -> Result<Marks, NoMemory>
+    ensures { IfOk result (λ all. all ≡ marks ++ map (drop_of Absorbed) absorbed) }
+{
+    let mut all = marks;
+    all.append(drop_marks(alloc, Cause::Absorbed, absorbed)?)
+        .and(Ok(all))
+}
+
+/// Two lists of parted regions together: the regions without flag, and the drops of the others behind the marks.
+fn join_parted(alloc: Global, still: Parted, news: Parted, marks: Marks) -> Result<Answer, NoMemory>
+    requires plain_order { ascends still.plain ≡ true }
+    requires plain_join { CanJoin still.plain news.plain }
+    requires flagged_order { ascends still.flagged ≡ true }
+    requires flagged_join { CanJoin still.flagged news.flagged }
+    ensures regions { IfOk result (λ answer. answer.regions ≡ with_regions still.plain news.plain) }
+    ensures marks { IfOk result (λ answer. answer.marks ≡ marks ++ map (drop_of Absorbed) (with_regions still.flagged news.flagged)) }
+{
+    let absorbed = together(still.flagged, news.flagged)?;
+    let marks = with_drops(alloc, marks, absorbed)?;
+    let regions = together(still.plain, news.plain)?;
+    Ok(Answer { regions, marks })
 }
 
 /// The regions that stay and the new ones together, without the flagged ones, of which the drops stand behind the marks.
@@ -175,16 +216,9 @@ fn put_together(
     ensures regions { IfOk result (λ answer. answer.regions ≡ with_regions (flagged false news.still_absorbed still) (flagged false news.absorbed news.regions)) }
     ensures marks { IfOk result (λ answer. answer.marks ≡ marks ++ map (drop_of Absorbed) (with_regions (flagged true news.still_absorbed still) (flagged true news.absorbed news.regions))) }
 {
-    let mut old = sift(alloc, still, news.still_absorbed.as_slice())?;
-    let new = sift(alloc, news.regions, news.absorbed.as_slice())?;
-    add_all(&mut old.plain, new.plain)?;
-    add_all(&mut old.flagged, new.flagged)?;
-    let mut marks = marks;
-    marks.append(drop_marks(alloc, Cause::Absorbed, old.flagged)?)?;
-    Ok(Answer {
-        regions: old.plain,
-        marks,
-    })
+    let still = sift(alloc, still, news.still_absorbed.as_slice())?;
+    let news = sift(alloc, news.regions, news.absorbed.as_slice())?;
+    join_parted(alloc, still, news, marks)
 }
 
 /// The drops of the regions of both lists, in class order.
@@ -193,9 +227,44 @@ fn given_up(alloc: Global, still: Seq<Region>, changed: Seq<Region>) -> Result<M
     requires join { CanJoin still changed }
     ensures { IfOk result (λ marks. marks ≡ map (drop_of Pieces) (with_regions still changed)) }
 {
-    let mut all = still;
-    add_all(&mut all, changed)?;
-    drop_marks(alloc, Cause::Pieces, all)
+    drop_marks(alloc, Cause::Pieces, together(still, changed)?)
+}
+
+/// What an answer makes of parted regions; the copies are of those that it may change, and the marks of what arrived.
+fn outcome_of(
+    alloc: Global,
+    schema: &Schema,
+    number: u64,
+    parts: &[Part],
+    arrivals: Arrivals,
+    both: Parted,
+    copies: Seq<Region>,
+    marks: Marks,
+) -> Result<Outcome, NoMemory>
+    requires tables { IsTrue (list_all is_table schema.now) }
+    requires fit { All (λ (part : ThePart). list_all (rect_fits (table_at schema.now part.table).columns) part.rects ≡ true) parts.now }
+    requires only { All (λ (part : ThePart). list_all (constrains_only part.need 0) part.rects ≡ true) parts.now }
+    requires arrivals { All (IsArrival schema.now parts.now) arrivals }
+    requires parted { (old : List TheRegion) × AreParted schema.now number parts.now arrivals old both.plain both.flagged }
+    requires copies { copies ≡ map without_rows both.flagged }
+    requires marks { marks ≡ map held_of arrivals }
+    ensures { (old : List TheRegion) → AreParted schema.now number parts.now arrivals old both.plain both.flagged
+        → IfOk result (IsOutcome schema.now number parts.now arrivals old) }
+{
+    let Parted { plain, flagged } = both;
+    match news_of(
+        alloc,
+        schema,
+        number,
+        parts,
+        arrivals,
+        plain.as_slice(),
+        flagged,
+    ) {
+        Ok(news) => Ok(Outcome::Answered(put_together(alloc, plain, news, marks)?)),
+        Err(No::Refused(_)) => Ok(Outcome::GivenUp(given_up(alloc, plain, copies)?)),
+        Err(No::NoMemory) => Err(NoMemory),
+    }
 }
 
 /// The regions after an answer, and its marks.
@@ -222,18 +291,5 @@ pub(crate) fn answer_of(
     let both = parted_by(alloc, old, parts, number)?;
     // Cutting gives the changed regions up, so that what their drops need is copied before it.
     let copies = copies_without_rows(alloc, both.flagged.as_slice())?;
-    let Parted { plain, flagged } = both;
-    match news_of(
-        alloc,
-        schema,
-        number,
-        parts,
-        arrivals,
-        plain.as_slice(),
-        flagged,
-    ) {
-        Ok(news) => Ok(Outcome::Answered(put_together(alloc, plain, news, marks)?)),
-        Err(No::Refused(_)) => Ok(Outcome::GivenUp(given_up(alloc, plain, copies)?)),
-        Err(No::NoMemory) => Err(NoMemory),
-    }
+    outcome_of(alloc, schema, number, parts, arrivals, both, copies, marks)
 }

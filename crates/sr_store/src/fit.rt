@@ -1,10 +1,11 @@
 //! Regions within the limits.
-ghost use Rattle.std.specs.Prelude.{◌≡◌, ◌≢◌, ◌<◌, ◌-◌, ◌^◌, true, min, nat_lt, List, [], length, option_to_list, IfOk, OnOk, IsTrue};
+ghost use Rattle.std.specs.Prelude.{◌≡◌, ◌≢◌, ◌<◌, ◌-◌, ◌^◌, true, min, nat_lt, List, [], ◌++◌, length, option_to_list, IfOk, OnOk, IsTrue};
 ghost use Rattle.std.specs.List.{list_all, All, AllZip};
 ghost use Rattle.sr_cell.specs.declared.cause.Cause.TheVariants.{Rows, Regions};
 ghost use Rattle.sr_cell.specs.declared.table.Table.{Table as TheTable};
 ghost use Rattle.sr_cell.specs.Columns.{table_at};
 ghost use Rattle.sr_box.specs.Points.{rect_fits};
+ghost use Rattle.sr_history.specs.declared.mark.Mark.{Mark as TheMark};
 ghost use Rattle.sr_union.specs.Centre.{centre_of};
 ghost use Rattle.sr_query.specs.Bound.{is_table};
 ghost use Rattle.sr_query.specs.declared.query.Part.{Part as ThePart};
@@ -130,6 +131,16 @@ impl Fitting {
         }
         Ok(())
     }
+
+    /// Drops regions while they have too many rows, and then while there are too many.
+    fn drop_for_limits(&mut self, limits: Limits, last: &[Last]) -> Result<(), NoMemory>
+        requires seen { (schema : List TheTable) × AllZip (IsViewOf schema) self.old.regions self.old.views }
+        ensures { (schema : List TheTable) → AllZip (IsViewOf schema) self.old.regions self.old.views
+            → OnOk result ((drops : List TheMark) × IsFitted schema limits last.now self.old.regions self.new.regions drops × (self.new.marks ≡ self.old.marks ++ drops)) }
+    {
+        self.drop_for_rows(limits, last)?;
+        self.drop_for_regions(limits, last)
+    }
 }
 
 /// The regions that are left, and marks of those that are dropped so that they are within the limits.
@@ -154,8 +165,7 @@ pub(crate) fn fitted(
         views,
         marks,
     };
-    fitting.drop_for_rows(limits, last)?;
-    fitting.drop_for_regions(limits, last)?;
+    fitting.drop_for_limits(limits, last)?;
     let Fitting { regions, marks, .. } = fitting;
     Ok(Answer { regions, marks })
 }

@@ -1,5 +1,5 @@
 //! Regions parted in two: by a flag, or by whether an answer changes them.
-ghost use Rattle.std.specs.Prelude.{◌≡◌, Bool, true, false, List, length, map, IfOk};
+ghost use Rattle.std.specs.Prelude.{◌≡◌, Bool, true, false, List, [], ◌∷◌, ◌++◌, length, map, if◌then◌else◌, IfOk, OnOk};
 ghost use Rattle.std.specs.List.{All, AllZip};
 ghost use Rattle.sr_store.specs.Answered.{flagged};
 ghost use Rattle.sr_store.specs.Making.{IsStill, IsStillOr, without_rows};
@@ -54,24 +54,34 @@ fn take_out(alloc: Global, regions: Seq<Region>, flags: &[bool]) -> Result<Parte
     Ok(Parted { plain, flagged })
 }
 
+/// One region more, behind those without flag or behind those with one.
+fn put(both: &mut Parted, region: Region, flag: bool) -> Result<(), NoMemory>
+    ensures plain { OnOk result (both.new.plain ≡ (if flag then both.old.plain else both.old.plain ++ region ∷ [])) }
+    ensures flagged { OnOk result (both.new.flagged ≡ (if flag then both.old.flagged ++ region ∷ [] else both.old.flagged)) }
+{
+    if flag {
+        both.flagged.push(region)
+    } else {
+        both.plain.push(region)
+    }
+}
+
 /// Moves each region to those without flag, or to those with one.
 fn move_all(alloc: Global, regions: Seq<Region>, flags: &[bool]) -> Result<Parted, NoMemory>
     requires { length flags.now ≡ length regions }
     ensures plain { IfOk result (λ both. both.plain ≡ flagged false flags.now regions) }
     ensures flagged { IfOk result (λ both. both.flagged ≡ flagged true flags.now regions) }
 {
-    let mut plain = Seq::new(alloc);
-    let mut flagged = Seq::new(alloc);
+    let mut both = Parted {
+        plain: Seq::new(alloc),
+        flagged: Seq::new(alloc),
+    };
     let mut i = 0;
     for region in regions.into_vec() {
-        if flags[i] {
-            flagged.push(region)?;
-        } else {
-            plain.push(region)?;
-        }
+        put(&mut both, region, flags[i])?;
         i += 1;
     }
-    Ok(Parted { plain, flagged })
+    Ok(both)
 }
 
 /// Whether an answer of that number may change the region.

@@ -14,7 +14,7 @@ ghost use Rattle.sr_region.specs.declared.region.Region.{Region as TheRegion};
 ghost use Rattle.sr_store.specs.declared.store.Arrival.{Arrival as TheArrival};
 ghost use Rattle.sr_store.specs.Stores.{IsOfSchema};
 ghost use Rattle.sr_store.specs.Answered.{IsHeavy};
-ghost use Rattle.sr_store.specs.Renewing.{touching, with_stamp, IsRestamped};
+ghost use Rattle.sr_store.specs.Renewing.{touching, with_stamp, pieces_of, IsRestamped};
 ghost use Rattle.sr_store.specs.Making.{HaveNoCommon, AddsHalves, AddsRestamped, ComesFrom};
 
 use crate::lookup::table_at;
@@ -96,6 +96,15 @@ fn push_stamped(pieces: &mut Seq<Region>, half: Option<Region>, number: u64) -> 
     }
 }
 
+/// Both halves at the end, where they are there, with that stamp on what lies inside.
+fn push_halves(pieces: &mut Seq<Region>, halves: Halves, number: u64) -> Result<(), NoMemory>
+    ensures { OnOk result (pieces.new ≡ pieces.old ++ pieces_of number halves.outside halves.inside) }
+{
+    let Halves { inside, outside } = halves;
+    push_half(pieces, outside)?;
+    push_stamped(pieces, inside, number)
+}
+
 /// The region cut along the rects, with a new stamp on what lies inside.
 fn push_split(
     alloc: Global,
@@ -113,14 +122,10 @@ fn push_split(
     ensures halves { OnOk result (AddsHalves table.now number region rects.now pieces.old pieces.new) }
     ensures over { IsErrOf result (Refused (record {})) → 16384 < grid table.now.columns (region.rects ++ rects.now) }
 {
-    let halves = match region.cut_by(alloc, rects, table, MOST_RECTS) {
-        Ok(halves) => halves,
-        Err(no) => return Err(no),
-    };
-    let Halves { inside, outside } = halves;
-    push_half(pieces, outside)?;
-    push_stamped(pieces, inside, number)?;
-    Ok(())
+    match region.cut_by(alloc, rects, table, MOST_RECTS) {
+        Ok(halves) => Ok(push_halves(pieces, halves, number)?),
+        Err(no) => Err(no),
+    }
 }
 
 /// The region at the end, with a new stamp on what the parts touch.

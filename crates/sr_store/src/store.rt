@@ -77,7 +77,7 @@ fn push_near(alloc: Global, cover: &mut Rects, region: &Region, part: &Part) -> 
     ensures { OnOk result (cover.new ≡ cover.old ++ near part.now.rects (cover_of part.now (region.now ∷ []))) }
 {
     if region.serves(part.table, part.need) {
-        cover.append(region.rects.near(alloc, &part.rects)?)?;
+        return cover.append(region.rects.near(alloc, &part.rects)?);
     }
     Ok(())
 }

@@ -1,29 +1,35 @@
-use Rattle.std.proofs.Common.{◌≡◌, ◌+◌, false, ◌++◌, ◌∷◌, [], map, length, true, rules, arith}
+use Rattle.std.proofs.Common.{◌≡◌, ◌+◌, ◌-◌, false, ◌++◌, ◌∷◌, [], map, length, true, rules, arith}
 use Rattle.std.specs.Prelude.{codes}
 use Rattle.std.proofs.lemmas.List.{map_push, length-append}
-use Rattle.std.proofs.lemmas.Result.{err_from_is_err_and}
 use Rattle.sr_grammar.specs.Tokens.{Key, Mark, is}
 use Rattle.sr_grammar.specs.Words.{place_of}
-use Rattle.sr_grammar_laws.specs.Reading.{next_is}
-use Rattle.sr_grammar_laws.specs.Readers.{unit, conj_of, comparison, list}
+use Rattle.sr_grammar_laws.specs.Reading.{and_then, nothing, next_is}
+use Rattle.sr_grammar_laws.specs.Readers.{key, in_parens, unit, cond_of, conj_of, comparison, list}
 use Rattle.sr_grammar_laws.proofs.Loops.{one_shrinks, goes_on}
 use Rattle.sr_sql.proofs.Shrinking.{unit_less, conj_less}
 use Rattle.sr_grammar.specs.Seen.{cond_seen}
-use Rattle.sr_sql.proofs.Trees.{unit_test, reads_same, paren_err}
+use Rattle.sr_grammar.specs.Trees.{Not}
+use Rattle.sr_sql.proofs.Trees.{unit_not, unit_paren, unit_test, reads_same}
 use Rattle.sr_sql.proofs.conditions.+cond.Goals as goal
 
-pub unit-returns-in_err-mark-2 : goal.unit-returns-in_err-mark-2
-unit-returns-in_err-mark-2 t c =
-    let p = err_from_is_err_and c.from_residual-in_err-mark-2.result c.from_residual-in_err-mark-2.ensures.1 in
+pub unit-returns-then-is_word : goal.unit-returns-then-is_word
+unit-returns-then-is_word t c =
+    let word : next_is (is Key (codes "NOT")) c.args.cursor.now ≡ true = search rules in
+    reads_same cond_seen (unit c.args.levels) (and_then (key (codes "NOT")) (λ _. and_then (unit (c.args.levels - 1)) (λ c. nothing (Not c)))) c.args.cursor.now c.negated.new.cursor c.negated.result
+    (unit_not c.args.levels c.args.cursor.now c.if-levels-eq0.false word) c.negated.ensures
+
+pub unit-returns-then-is_mark : goal.unit-returns-then-is_mark
+unit-returns-then-is_mark t c =
     let word : next_is (is Key (codes "NOT")) c.args.cursor.now ≡ false = search rules in
     let paren : next_is (is Mark (codes "(")) c.args.cursor.now ≡ true = search rules in
-    rw (p.1, p.2) (paren_err c.args.levels c.args.cursor.now c.mark.new.self c.cond.new.cursor c.mark-then-is_mark-2.new.self c.in_ok-mark.field-0 (cond_seen c.in_ok-inner.inner) c.in_err-mark-2.field-0.0 c.if-levels-eq0.false word paren c.in_ok-mark.ensures c.in_ok-inner.ensures c.in_err-mark-2.ensures)
+    reads_same cond_seen (unit c.args.levels) (in_parens (cond_of (unit (c.args.levels - 1)))) c.args.cursor.now c.enclosed.new.cursor c.enclosed.result
+    (unit_paren c.args.levels c.args.cursor.now c.if-levels-eq0.false word paren) c.enclosed.ensures
 
 pub unit-returns : goal.unit-returns
 unit-returns t c =
     let word : next_is (is Key (codes "NOT")) c.args.cursor.now ≡ false = search rules in
     let paren : next_is (is Mark (codes "(")) c.args.cursor.now ≡ false = search rules in
-    reads_same cond_seen (unit c.args.levels) comparison c.args.cursor.now c.comparison-2.new.cursor c.comparison-2.result (unit_test c.args.levels c.args.cursor.now c.if-levels-eq0.false word paren) c.comparison-2.ensures
+    reads_same cond_seen (unit c.args.levels) comparison c.args.cursor.now c.comparison.new.cursor c.comparison.result (unit_test c.args.levels c.args.cursor.now c.if-levels-eq0.false word paren) c.comparison.ensures
 
 pub conj-more-preserved : goal.conj-more-preserved
 conj-more-preserved t c =

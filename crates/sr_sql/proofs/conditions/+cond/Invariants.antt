@@ -8,13 +8,20 @@ use Rattle.sr_grammar.specs.Seen.{cond_seen}
 use Rattle.sr_sql.proofs.conditions.+cond.Given as goal
 
 abbrev pub decreases-cond : goal.decreases-cond
-decreases-cond l = 3 * l.levels + 2
+decreases-cond l = 4 * l.levels + 2
 
 abbrev pub decreases-conj : goal.decreases-conj
-decreases-conj l = 3 * l.levels + 1
+decreases-conj l = 4 * l.levels + 1
 
 abbrev pub decreases-unit : goal.decreases-unit
-decreases-unit l = 3 * l.levels
+decreases-unit l = 4 * l.levels
+
+-- the levels inside
+abbrev pub decreases-negated : goal.decreases-negated
+decreases-negated l = 4 * l.levels + 1
+
+abbrev pub decreases-enclosed : goal.decreases-enclosed
+decreases-enclosed l = 4 * l.levels + 3
 
 abbrev pub invariant-cond-more : goal.invariant-cond-more
 invariant-cond-more l = record {

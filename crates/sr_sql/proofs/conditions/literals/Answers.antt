@@ -3,18 +3,22 @@ use Rattle.std.specs.Prelude.{codes}
 use Rattle.sr_grammar.specs.Tokens.{Mark}
 use Rattle.sr_grammar.specs.Words.{place_of}
 use Rattle.sr_grammar_laws.specs.Readers.{literal, list}
-use Rattle.sr_grammar_laws.proofs.Loops.{goes_on, one_shrinks}
+use Rattle.sr_grammar_laws.proofs.Loops.{one_shrinks}
+use Rattle.sr_sql.proofs.Lists.{listing_first, listing_on}
 use Rattle.sr_sql.proofs.Shrinking.{literal_less}
 use Rattle.sr_sql.proofs.conditions.literals.Goals as goal
 
+pub more-init : goal.more-init
+more-init c = rw c.new-all.ensures (listing_first Mark (codes ",") literal c.args.cursor.now)
+
 pub more-preserved : goal.more-preserved
 more-preserved c =
-    rw c.in_ok-push-2.ensures.pushed
-    (goes_on Mark (codes ",") literal literal_less c.more.all c.more.cursor c.mark.new.self c.in_ok-mark.field-0 c.in_ok-literal-2.field-0 c.literal-in-more.new.cursor
-    (list Mark (codes ",") literal c.args.cursor.now) (search rules) c.in_ok-mark.ensures c.in_ok-literal-2.ensures c.more.invariant)
+    rw c.in_ok-push.ensures.pushed
+    (listing_on Mark (codes ",") literal literal_less c.more.all c.more.cursor c.literal.new.cursor c.mark.new.self c.in_ok-mark.field-0 c.in_ok-literal.field-0 (list Mark (codes ",") literal c.args.cursor.now) c.in_ok-literal.ensures
+    (search rules) c.in_ok-mark.ensures c.more.invariant)
 
 pub more-smaller : goal.more-smaller
 more-smaller c =
-    let one = one_shrinks (place_of Mark (codes ",")) c.more.cursor c.in_ok-mark.field-0 c.mark.new.self c.in_ok-mark.ensures in
-    let two = literal_less c.mark.new.self c.in_ok-literal-2.field-0 c.literal-in-more.new.cursor c.in_ok-literal-2.ensures in
+    let one = literal_less c.more.cursor c.in_ok-literal.field-0 c.literal.new.cursor c.in_ok-literal.ensures in
+    let two = one_shrinks (place_of Mark (codes ",")) c.literal.new.cursor c.in_ok-mark.field-0 c.mark.new.self c.in_ok-mark.ensures in
     omega (arith, one, two)

@@ -3,18 +3,22 @@ use Rattle.std.specs.Prelude.{codes}
 use Rattle.sr_grammar.specs.Tokens.{Mark}
 use Rattle.sr_grammar.specs.Words.{place_of}
 use Rattle.sr_grammar_laws.specs.Readers.{column_name, list}
-use Rattle.sr_grammar_laws.proofs.Loops.{goes_on, one_shrinks}
+use Rattle.sr_grammar_laws.proofs.Loops.{one_shrinks}
+use Rattle.sr_sql.proofs.Lists.{listing_first, listing_on}
 use Rattle.sr_sql.proofs.Shrinking.{column_name_less}
 use Rattle.sr_sql.proofs.statements.columns.Goals as goal
 
+pub more-init : goal.more-init
+more-init c = rw c.new-all.ensures (listing_first Mark (codes ",") column_name c.args.cursor.now)
+
 pub more-preserved : goal.more-preserved
 more-preserved c =
-    rw c.in_ok-push-2.ensures.pushed
-    (goes_on Mark (codes ",") column_name column_name_less c.more.all c.more.cursor c.mark.new.self c.in_ok-mark.field-0 c.in_ok-column_name-2.field-0 c.column_name-in-more.new.cursor
-    (list Mark (codes ",") column_name c.args.cursor.now) (search rules) c.in_ok-mark.ensures c.in_ok-column_name-2.ensures c.more.invariant)
+    rw c.in_ok-push.ensures.pushed
+    (listing_on Mark (codes ",") column_name column_name_less c.more.all c.more.cursor c.column_name.new.cursor c.mark.new.self c.in_ok-mark.field-0 c.in_ok-column_name.field-0 (list Mark (codes ",") column_name c.args.cursor.now) c.in_ok-column_name.ensures
+    (search rules) c.in_ok-mark.ensures c.more.invariant)
 
 pub more-smaller : goal.more-smaller
 more-smaller c =
-    let one = one_shrinks (place_of Mark (codes ",")) c.more.cursor c.in_ok-mark.field-0 c.mark.new.self c.in_ok-mark.ensures in
-    let two = column_name_less c.mark.new.self c.in_ok-column_name-2.field-0 c.column_name-in-more.new.cursor c.in_ok-column_name-2.ensures in
+    let one = column_name_less c.more.cursor c.in_ok-column_name.field-0 c.column_name.new.cursor c.in_ok-column_name.ensures in
+    let two = one_shrinks (place_of Mark (codes ",")) c.column_name.new.cursor c.in_ok-mark.field-0 c.mark.new.self c.in_ok-mark.ensures in
     omega (arith, one, two)

@@ -2,11 +2,11 @@ use Rattle.std.proofs.Common.{length}
 use Rattle.std.specs.Prelude.{codes}
 use Rattle.sr_grammar.specs.Tokens.{Mark}
 use Rattle.sr_grammar_laws.specs.Readers.{row, list}
-use Rattle.sr_grammar_laws.proofs.Loops.{Going}
+use Rattle.sr_sql.proofs.Lists.{Listing}
 use Rattle.sr_sql.proofs.statements.rows.Given as goal
 
 abbrev pub invariant-more : goal.invariant-more
-invariant-more l = Going Mark (codes ",") row l.all l.cursor (list Mark (codes ",") row l.fn.cursor)
+invariant-more l = Listing Mark (codes ",") row l.all l.cursor (list Mark (codes ",") row l.fn.cursor)
 
 abbrev pub decreases-more : goal.decreases-more
 decreases-more l = length l.cursor

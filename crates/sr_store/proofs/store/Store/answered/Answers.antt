@@ -101,3 +101,39 @@ returns-in-GivenUp-clause-answered c =
     let is = old-is old c.replace-held.result regions _ arrivals c.given_way-old.ensures c.as_slice.ensures c.replace-held.ensures.value in
     let made = subst (IsOutcome c.args.schema.now c.args.number parts arrivals old) c.in-GivenUp.is c.in_ok-answer.ensures in
     inr (given-up c.args.schema.now parts arrivals regions old c.replace-held.new.dest c.in-GivenUp.drops is made.0 made.1 (c.replace-held.ensures.after ∙ c.new.ensures))
+
+pub returns-in-GivenUp-clause-cuts : goal.returns-in-GivenUp-clause-cuts
+returns-in-GivenUp-clause-cuts c =
+    let IsCut = IsCutFrom c.args.schema.now (rects_on c.args.self.now.regions c.args.parts.now c.args.arrivals) in
+    subst (All IsCut) (sym (c.replace-held.ensures.after ∙ c.new.ensures)) (All-nil IsCut)
+
+pub returns-in-GivenUp-clause-store : goal.returns-in-GivenUp-clause-store
+returns-in-GivenUp-clause-store c =
+    subst (IsStore c.args.schema.now) (sym (c.replace-held.ensures.after ∙ c.new.ensures)) (none_store c.args.schema.now c.args.self.now.regions c.requires.store)
+
+pub returns-in-GivenUp-clause-true_still : goal.returns-in-GivenUp-clause-true_still
+returns-in-GivenUp-clause-true_still c = λ told is_told old_true rows. subst (AreTrueOf told) (sym (c.replace-held.ensures.after ∙ c.new.ensures)) (All-nil (IsTrueOf told))
+
+pub returns-in_err-answer-clause-cuts : goal.returns-in_err-answer-clause-cuts
+returns-in_err-answer-clause-cuts c =
+    let IsCut = IsCutFrom c.args.schema.now (rects_on c.args.self.now.regions c.args.parts.now c.args.arrivals) in
+    subst (All IsCut) (sym (c.replace-held.ensures.after ∙ c.new.ensures)) (All-nil IsCut)
+
+pub returns-in_err-answer-clause-store : goal.returns-in_err-answer-clause-store
+returns-in_err-answer-clause-store c =
+    subst (IsStore c.args.schema.now) (sym (c.replace-held.ensures.after ∙ c.new.ensures)) (none_store c.args.schema.now c.args.self.now.regions c.requires.store)
+
+pub returns-in_err-answer-clause-true_still : goal.returns-in_err-answer-clause-true_still
+returns-in_err-answer-clause-true_still c = λ told is_told old_true rows. subst (AreTrueOf told) (sym (c.replace-held.ensures.after ∙ c.new.ensures)) (All-nil (IsTrueOf told))
+
+pub returns-in_err-self-clause-cuts : goal.returns-in_err-self-clause-cuts
+returns-in_err-self-clause-cuts c =
+    let IsCut = IsCutFrom c.args.schema.now (rects_on c.args.self.now.regions c.args.parts.now c.args.arrivals) in
+    subst (All IsCut) (sym (c.replace-held.ensures.after ∙ c.new.ensures)) (All-nil IsCut)
+
+pub returns-in_err-self-clause-store : goal.returns-in_err-self-clause-store
+returns-in_err-self-clause-store c =
+    subst (IsStore c.args.schema.now) (sym (c.replace-held.ensures.after ∙ c.new.ensures)) (none_store c.args.schema.now c.args.self.now.regions c.requires.store)
+
+pub returns-in_err-self-clause-true_still : goal.returns-in_err-self-clause-true_still
+returns-in_err-self-clause-true_still c = λ told is_told old_true rows. subst (AreTrueOf told) (sym (c.replace-held.ensures.after ∙ c.new.ensures)) (All-nil (IsTrueOf told))

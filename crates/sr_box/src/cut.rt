@@ -1,5 +1,6 @@
 //! The parts of a span that lie under, in and over another.
-ghost use Rattle.std.specs.Prelude.{◌≡◌, IfOk};
+ghost use Rattle.std.specs.Prelude.{◌≡◌, pos, ◌+ℤ◌, ◌-ℤ◌, ◌<ℤ◌, ◌^◌, IfOk};
+ghost use Rattle.std.specs.Int.{int_max, int_min};
 ghost use Rattle.std.specs.Option.{is_some};
 ghost use Rattle.sr_box.specs.Cut.{nums, strs, text_max, end_min, meet, under, over, IsInner};
 
@@ -7,6 +8,18 @@ use crate::span::{Span, is_before};
 use sr_cell::cell::is_text_at_most;
 use sr_cell::list::{Bytes, Copied, NoMemory, Seq};
 use std::alloc::Global;
+
+fn lesser(one: i64, other: i64) -> i64
+    ensures { result ≡ int_min one other }
+{
+    if other < one { other } else { one }
+}
+
+fn greater(one: i64, other: i64) -> i64
+    ensures { result ≡ int_max one other }
+{
+    if other < one { one } else { other }
+}
 
 fn are_nums(lo: i64, hi: i64) -> bool
     ensures { result ≡ is_some (nums lo hi) }
@@ -22,6 +35,24 @@ fn some_nums(lo: i64, hi: i64) -> Option<Span>
     } else {
         None
     }
+}
+
+// The numbers from `lo` to `hi` that lie under this number.
+fn nums_under(lo: i64, hi: i64, number: i64) -> Option<Span>
+    requires { (pos 0 -ℤ pos (2 ^ 62)) <ℤ number }
+    ensures { result ≡ nums lo (int_min hi (number -ℤ pos 1)) }
+{
+    let before = number - 1;
+    some_nums(lo, lesser(hi, before))
+}
+
+// The numbers from `lo` to `hi` that lie over this number.
+fn nums_over(lo: i64, hi: i64, number: i64) -> Option<Span>
+    requires { number <ℤ pos (2 ^ 62) }
+    ensures { result ≡ nums (int_max lo (number +ℤ pos 1)) hi }
+{
+    let after = number + 1;
+    some_nums(greater(lo, after), hi)
 }
 
 fn some_strs(lo: Bytes, hi: Option<Bytes>) -> Option<Span>
@@ -142,11 +173,7 @@ impl Span {
                 Some(c.copy(alloc)?),
             )),
             (Span::Nums { lo: a, hi: b }, Span::Nums { lo: c, hi: _ }) => {
-                if *c - 1 < *b {
-                    Ok(some_nums(*a, *c - 1))
-                } else {
-                    Ok(some_nums(*a, *b))
-                }
+                Ok(nums_under(*a, *b, *c))
             }
             (Span::Strs { lo: a, hi: b }, Span::Strs { lo: c, hi: _ }) => {
                 let end = Some(c.copy(alloc)?);
@@ -165,11 +192,7 @@ impl Span {
             (Span::Full, Span::Nums { lo: _, hi: d }) => Ok(some_nums(*d + 1, high)),
             (Span::Full, Span::Strs { lo: _, hi: Some(d) }) => Ok(some_strs(d.copy(alloc)?, None)),
             (Span::Nums { lo: a, hi: b }, Span::Nums { lo: _, hi: d }) => {
-                if *d + 1 < *a {
-                    Ok(some_nums(*a, *b))
-                } else {
-                    Ok(some_nums(*d + 1, *b))
-                }
+                Ok(nums_over(*a, *b, *d))
             }
             (Span::Strs { lo: a, hi: b }, Span::Strs { lo: _, hi: Some(d) }) => {
                 Ok(some_strs(later_text(alloc, a, d)?, b.copy(alloc)?))

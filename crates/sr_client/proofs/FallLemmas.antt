@@ -77,6 +77,15 @@ pub record FallsSoFar (schema : List Table) (policy : Policy) (last : List Last)
   pub whole : (more : List Victim) → Fall schema policy last mid more → Fall schema policy last regions (fallen ++ more)
 
 module _ (schema : List Table) (policy : Policy) (last : List Last) (regions : List Region) where
+  pub none-fell : (views : List ClassView) (given : List Region) (left fallen : List Victim) → given ≡ regions → AllZip (IsViewOf schema) given views → left ≡ map victim_of given → fallen ≡ []
+      → FallsSoFar schema policy last regions views left fallen
+  none-fell views given left fallen same seen own none = record {
+    mid = regions;
+    seen = subst (λ gs. AllZip (IsViewOf schema) gs views) same seen;
+    own = own ∙ ap (map victim_of) same;
+    whole = λ more falls. subst (λ vs. Fall schema policy last regions (vs ++ more)) (sym none) falls;
+  }
+
   pub left-within : (views others : List ClassView) (left fallen : List Victim) (n : ℕ) → FallsSoFar schema policy last regions views left fallen → others ≡ views → IsVictim policy last others n → n < length left
   left-within views others left fallen n h same v =
       let below = victim_within policy last views others n same v in

@@ -98,6 +98,25 @@ lends-same number need all f g old new same lends = record {
   others = lends.others;
 }
 
+-- nothing more
+lends-nothing : (number need : ℕ) (all : List Row) (more : Test) (runs : List Run) → ((p : Row) → more p ≡ false) → LendsMore number need all more runs runs
+lends-nothing number need all more runs none = record {
+  own = λ test lent. lent-same need all test (λ p. test p || more p) (map (rows_for number) runs)
+      (each-same test (λ p. test p || more p) (λ p. sym (ap (λ b. test p || b) (none p) ∙ or-false (test p))) all) lent;
+  others = λ i also rows test other lent. lent;
+}
+
+and-false : (b : Bool) → (b && false) ≡ false
+and-false true = refl
+and-false false = refl
+
+-- nothing is kept in no regions, and nothing arrives with no arrivals
+pub lends-no_region : (number : ℕ) (part : Part) (all : List Row) (runs : List Run) → LendsMore number part.need all (is_kept part []) runs runs
+lends-no_region number part all runs = lends-nothing number part.need all (is_kept part []) runs (λ p. and-false (in_any part.rects p))
+
+pub lends-no_arrival : (number : ℕ) (part : Part) (all : List Row) (runs : List Run) → LendsMore number part.need all (is_new part []) runs runs
+lends-no_arrival number part all runs = lends-nothing number part.need all (is_new part []) runs (λ p. and-false (in_any part.rects p))
+
 -- a run more
 lends-run : (number need : ℕ) (all : List Row) (f g h : Test) (first old : List Run) (shown : List Shown) → AreShown need all g shown → ((p : Row) → (f p || g p) ≡ h p) → LendsMore number need all f first old
     → LendsMore number need all h first (old ++ record { part = number; rows = shown } ∷ [])

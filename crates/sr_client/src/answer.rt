@@ -1,11 +1,11 @@
 //! The answer of a query, from the regions and from what arrives.
-ghost use Rattle.std.specs.Prelude.{◌≡◌, List, filter, IfOk, OnOk};
+ghost use Rattle.std.specs.Prelude.{◌≡◌, List, [], filter, IfOk, OnOk};
 ghost use Rattle.std.specs.List.{AllZip};
 ghost use Rattle.sr_cell.specs.declared.table.Table.{Table as TheTable};
 ghost use Rattle.sr_model.specs.Queries.{Query as TheQuery, rows_at, rows_of};
 ghost use Rattle.sr_model.specs.Statements.{Tables as TheTables};
 ghost use Rattle.sr_region.specs.Regions.{is_in};
-ghost use Rattle.sr_join.specs.Lent.{IsJoinable};
+ghost use Rattle.sr_join.specs.Lent.{LendFrom, IsJoinable};
 ghost use Rattle.sr_client.specs.Answering.{is_kept, is_new, IsPartOver, HaveRows, BringRows, LendsMore, IsThere};
 
 use sr_cell::cell::Rows;
@@ -29,12 +29,28 @@ pub fn answer(
         → HaveRows schema tables regions.now → AllZip (IsThere schema tables regions.now arrivals.now) query.now.parts meaning.parts → rows ≡ rows_of meaning tables) }
 {
     let mut lending = Lending::new(alloc);
+    lend_all(alloc, &mut lending, query, regions, arrivals)?;
+    lending.answer(alloc, query)
+}
+
+/// Lends the rows of each part, of the regions that serve it and of what arrives.
+fn lend_all<'a>(
+    alloc: Global,
+    lending: &mut Lending<'a>,
+    query: &'a Query,
+    regions: &'a [Region],
+    arrivals: &'a [Arrival],
+) -> Result<(), NoMemory>
+    requires { lending.old.runs ≡ [] }
+    ensures { (schema : List TheTable) (tables : TheTables) (meaning : TheQuery) → OnOk result (IsJoinable schema tables query.now meaning
+        → HaveRows schema tables regions.now → AllZip (IsThere schema tables regions.now arrivals.now) query.now.parts meaning.parts → LendFrom 0 tables meaning.parts lending.new.runs) }
+{
     let parts = query.parts.as_slice();
     for i in 0..parts.len() {
-        lend_regions(alloc, &mut lending, i, &parts[i], regions)?;
-        lend_arrivals(alloc, &mut lending, i, &parts[i], arrivals)?;
+        lend_regions(alloc, lending, i, &parts[i], regions)?;
+        lend_arrivals(alloc, lending, i, &parts[i], arrivals)?;
     }
-    lending.answer(alloc, query)
+    Ok(())
 }
 
 /// Lends the rows of the regions that serve the part, as far as they lie in it. Rows of regions away from it are not looked at.

@@ -3,6 +3,7 @@ ghost use Rattle.std.specs.Prelude.{◌≡◌, ◌+◌, ◌<◌, ◌≤◌, List
 ghost use Rattle.std.specs.List.{list_all, All};
 ghost use Rattle.sr_cell.specs.declared.list.No.TheVariants.{Refused};
 ghost use Rattle.sr_cell.specs.declared.table.Table.{Table as TheTable};
+ghost use Rattle.sr_cell.specs.Columns.{table_at};
 ghost use Rattle.sr_message.specs.declared.message.AskPart.{AskPart as TheAskPart};
 ghost use Rattle.sr_message.specs.Sizes.{most_rects, count_asked};
 ghost use Rattle.sr_query.specs.Bound.{is_table};
@@ -12,6 +13,7 @@ ghost use Rattle.sr_client.specs.Cutting.{AreCutAlong, IsOver, grid_of_part};
 
 use sr_cell::list::{Copied, No, NoMemory, Seq};
 use sr_cell::schema::Schema;
+use sr_cell::table::Table;
 use sr_message::message::{AskPart, AskParts};
 use sr_query::query::Part;
 use sr_store::store::Store;
@@ -85,12 +87,22 @@ fn rest_of(
     ensures over { IsErrOf result (Refused (record {})) → room < grid_of_part schema.now store.now.regions part.now }
     ensures over_left { IsErrOf result (Refused (record {})) → LeavesRest schema.now store.now.regions (part.now ∷ []) }
 {
-    let table = &schema.as_slice()[part.table as usize];
+    let table = table_of(schema, part.table);
     let cover = store.cover_near(alloc, part)?;
     match trim(alloc, part, table, &cover, room) {
         Ok(trimmed) => Ok(entry_of(alloc, part.table, trimmed)?),
         Err(no) => Err(no),
     }
+}
+
+/// The table of that number.
+fn table_of(schema: &Schema, number: u8) -> &Table
+    requires tables { IsTrue (list_all is_table schema.now) }
+    requires within { number < length schema.now }
+    ensures is { result.now ≡ table_at schema.now number }
+    ensures sound { IsTrue (is_table result.now) }
+{
+    &schema.as_slice()[number as usize]
 }
 
 /// An entry for each part that has rects: all of it.
@@ -100,13 +112,20 @@ pub fn whole_asks(alloc: Global, parts: &[Part]) -> Result<AskParts, NoMemory>
 {
     let mut asks = Seq::new(alloc);
     for part in parts {
-        let whole = Trimmed {
-            rest: part.rects.copy(alloc)?,
-            attrs: part.need,
-        };
-        asks.append(entry_of(alloc, part.table, whole)?)?;
+        asks.append(whole_ask(alloc, part)?)?;
     }
     Ok(asks)
+}
+
+/// An entry for the part, if it has rects: all of it.
+fn whole_ask(alloc: Global, part: &Part) -> Result<AskParts, NoMemory>
+    ensures { IfOk result (λ asks. asks ≡ entry_of part.now.table part.now.need part.now.rects) }
+{
+    let whole = Trimmed {
+        rest: part.rects.copy(alloc)?,
+        attrs: part.need,
+    };
+    entry_of(alloc, part.table, whole)
 }
 
 /// An entry, if a rest is there.

@@ -1,5 +1,5 @@
 //! A client and its state.
-ghost use Rattle.std.specs.Prelude.{◌≡◌, ◌≤◌, ◌+◌, ◌-◌, ◌^◌, min, IsTrue};
+ghost use Rattle.std.specs.Prelude.{◌≡◌, ◌≤◌, ◌+◌, ◌-◌, ◌^◌, min, Some, None, IsTrue};
 ghost use Rattle.std.specs.List.{list_all};
 ghost use Rattle.std.specs.Option.{is_some};
 ghost use Rattle.sr_model.specs.Queries.{Query as TheQuery};
@@ -151,6 +151,20 @@ impl Client {
         }
     }
 
+    /// This request is out from now on; takes no memory.
+    pub(crate) fn set_out(&mut self, request: Request)
+        ensures { self.new ≡ record self.old { out = Some request } }
+    {
+        self.out = Some(request);
+    }
+
+    /// Nothing is out any more; takes no memory.
+    pub(crate) fn end_request(&mut self)
+        ensures { self.new ≡ record self.old { out = None } }
+    {
+        self.out = None;
+    }
+
     /// Forgets all, as if the link had been cut; takes no memory.
     pub(crate) fn give_up(&mut self, alloc: Global)
         ensures given { self.new ≡ given_up self.old self.new.cuts }
@@ -158,7 +172,7 @@ impl Client {
         ensures once { self.new.cuts ≤ self.old.cuts + 1 }
     {
         self.store = Store::new(alloc, self.store.limits);
-        self.out = None;
+        self.end_request();
         self.laid = Seq::new(alloc);
         if !self.cut && self.cuts < u64::MAX {
             self.cuts += 1;

@@ -62,23 +62,30 @@ impl Client {
         ensures numbers_left { OnErr result (KeepsNumbers self.old self.new) }
     {
         if let Some(request) = &self.out {
-            return Ok(QueryStep::Busy {
-                request: request.number(),
-            });
+            let request = request.number();
+            drop(query);
+            return Ok(QueryStep::Busy { request });
         }
         match asks_of(alloc, &self.schema, &self.store, query.parts.as_slice()) {
             Ok(asks) => {
                 if asks.is_empty() {
-                    self.answer_now(alloc, &query)
+                    let step = self.answer_now(alloc, &query);
+                    drop(query);
+                    step
                 } else if self.cut {
+                    drop(query);
                     Ok(QueryStep::Down { cut: self.cuts })
                 } else {
                     self.send_ask(alloc, query, asks, Seq::new(alloc))
                 }
             }
-            Err(No::NoMemory) => Err(NoMemory),
+            Err(No::NoMemory) => {
+                drop(query);
+                Err(NoMemory)
+            }
             Err(No::Refused(_)) => {
                 if self.cut {
+                    drop(query);
                     Ok(QueryStep::Down { cut: self.cuts })
                 } else {
                     self.drop_and_ask(alloc, query)
@@ -137,9 +144,20 @@ impl Client {
         ensures cuts { self.new.cuts ≡ self.old.cuts }
         ensures numbers_left { OnErr result (KeepsNumbers self.old self.new) }
     {
-        let asks = whole_asks(alloc, query.parts.as_slice())?;
-        let drops = self.store.drop_all(alloc, Cause::Pieces)?;
-        self.send_ask(alloc, query, asks, drops)
+        let asks = match whole_asks(alloc, query.parts.as_slice()) {
+            Ok(asks) => asks,
+            Err(no) => {
+                drop(query);
+                return Err(no);
+            }
+        };
+        match self.store.drop_all(alloc, Cause::Pieces) {
+            Ok(drops) => self.send_ask(alloc, query, asks, drops),
+            Err(no) => {
+                drop(query);
+                Err(no)
+            }
+        }
     }
 
     /// Sends the ask of these parts of a query, with the next numbers. It is fresh where nothing is held.
@@ -178,10 +196,17 @@ impl Client {
         ensures out { OnOk result (self.new ≡ record self.old { next_request = out.number + 1; out = Some (AskRequest out) }) }
         ensures unchanged { OnErr result (self.new ≡ self.old) }
     {
-        let message = message_of(alloc, &out)?;
-        self.next_request = out.number + 1;
-        self.out = Some(Request::Ask(out));
-        Ok(message)
+        match message_of(alloc, &out) {
+            Ok(message) => {
+                self.next_request = out.number + 1;
+                self.set_out(Request::Ask(out));
+                Ok(message)
+            }
+            Err(no) => {
+                drop(out);
+                Err(no)
+            }
+        }
     }
 }
 

@@ -61,6 +61,7 @@ impl Client {
         );
         match why {
             Some(why) => {
+                drop(message);
                 self.give_up(alloc);
                 Ok(Took::Bad(why))
             }
@@ -244,7 +245,9 @@ impl Client {
                 if is_given_up(out.fresh, self.laid.as_slice()) {
                     self.ask_again(alloc, out, number, version)
                 } else {
-                    self.finish(alloc, &out, number, version)
+                    let took = self.finish(alloc, &out, number, version);
+                    drop(out);
+                    took
                 }
             }
             _ => Ok(Took::Laid),
@@ -309,8 +312,8 @@ impl Client {
         ensures drawn { drawn self.new ≡ drawn self.old }
         ensures cuts { self.new.cuts ≡ self.old.cuts }
     {
-        let laid = mem::replace(&mut self.laid, Seq::new(alloc));
         let mut arrivals = arrivals_of(alloc, &self.schema, out.parts.as_slice())?;
+        let laid = mem::replace(&mut self.laid, Seq::new(alloc));
         self.apply_laid(alloc, arrivals.as_mut_slice(), laid)?;
         Ok(Seq::from_vec(arrivals))
     }
@@ -380,8 +383,14 @@ impl Client {
         ensures numbers_left { OnErr result (KeepsNumbers self.old self.new) }
     {
         let request = self.next_request;
+        let marks = match self.store.drop_all(alloc, Cause::Lapsed) {
+            Ok(marks) => marks,
+            Err(no) => {
+                drop(out);
+                return Err(no);
+            }
+        };
         let second = second_ask(alloc, out, request)?;
-        let marks = self.store.drop_all(alloc, Cause::Lapsed)?;
         let message = self.put_out(alloc, second)?;
         self.version = version;
         self.laid = Seq::new(alloc);
@@ -397,14 +406,19 @@ impl Client {
 fn second_ask(alloc: Global, out: AskOut, number: u64) -> Result<AskOut, NoMemory>
     ensures { IfOk result (λ second. second ≡ record { number = number; query_number = out.query_number; query = out.query; fresh = true; parts = whole_asks out.query.parts }) }
 {
-    let parts = whole_asks(alloc, out.query.parts.as_slice())?;
-    Ok(AskOut {
-        number,
-        query_number: out.query_number,
-        query: out.query,
-        fresh: true,
-        parts,
-    })
+    match whole_asks(alloc, out.query.parts.as_slice()) {
+        Ok(parts) => Ok(AskOut {
+            number,
+            query_number: out.query_number,
+            query: out.query,
+            fresh: true,
+            parts,
+        }),
+        Err(no) => {
+            drop(out);
+            Err(no)
+        }
+    }
 }
 
 /// Whether the rows that came are given up: a Lapse was laid by, under an ask that is not fresh.
@@ -449,13 +463,21 @@ fn arrivals_of(alloc: Global, schema: &Schema, asks: &[AskPart]) -> Result<Vec<A
 {
     let mut arrivals = Vec::new(alloc);
     for ask in asks {
-        arrivals.push(Arrival {
-            table: ask.table,
-            key: schema.as_slice()[ask.table as usize].key,
-            attrs: ask.attrs,
-            rects: ask.rects.copy(alloc)?,
-            rows: Seq::new(alloc),
-        })?;
+        arrivals.push(arrival_of(alloc, schema, ask)?)?;
     }
     Ok(arrivals)
+}
+
+/// What was asked of a table, without rows yet.
+fn arrival_of(alloc: Global, schema: &Schema, ask: &AskPart) -> Result<Arrival, NoMemory>
+    requires table { ask.now.table < length schema.now }
+    ensures { IfOk result (λ arrival. arrival ≡ unfilled schema.now ask.now) }
+{
+    Ok(Arrival {
+        table: ask.table,
+        key: schema.as_slice()[ask.table as usize].key,
+        attrs: ask.attrs,
+        rects: ask.rects.copy(alloc)?,
+        rows: Seq::new(alloc),
+    })
 }

@@ -1,6 +1,6 @@
 -- Spans and rects that lie side by side.
 use Rattle.std.proofs.Common.{◌≡◌, ℕ, zero, suc, true, false, List, [], ◌∷◌, ◌++◌, ◌+◌, ◌-◌, ◌<◌, length, take, drop, slice_index_or, refl, arith, ◌∙◌, sym, append_assoc, ap, subst}
-use Rattle.std.specs.Prelude.{Bool, ◌||◌, Option, Some, None, ℤ, pos, ◌+ℤ◌, if◌then◌else◌, slice_get, slice_set}
+use Rattle.std.specs.Prelude.{Bool, ◌&&◌, ◌||◌, not, Option, Some, None, ℤ, int_le, int_lt, pos, ◌+ℤ◌, if◌then◌else◌, slice_get, slice_set}
 use Rattle.std.specs.List.{list_all}
 use Rattle.std.proofs.lemmas.List.{length-append, length-drop, take_more, take_all}
 use Rattle.std.proofs.lemmas.List.Folds.{list_all-append}
@@ -10,12 +10,12 @@ use Rattle.sr_cell.specs.declared.cell.Cell.TheVariants.{Num, Str}
 use Rattle.sr_cell.specs.declared.table.Kind.{Kind}
 use Rattle.sr_cell.specs.declared.table.Kind.TheVariants.{Num as Numbers, Str as Texts}
 use Rattle.sr_cell.specs.declared.table.Column.{Column}
-use Rattle.sr_cell.specs.Cells.{Row}
+use Rattle.sr_cell.specs.Cells.{Row, text_le}
 use Rattle.sr_cell.specs.Columns.{in_kind, in_column, is_point}
 use Rattle.sr_cell.proofs.Order.{text_le-trans, text_le-total}
 use Rattle.sr_box.specs.declared.span.Span.{Span}
 use Rattle.sr_box.specs.declared.span.Span.TheVariants.{Full, Nums, Strs}
-use Rattle.sr_box.specs.Spans.{in_span, is_whole, fits_kind, span_fits}
+use Rattle.sr_box.specs.Spans.{in_span, is_below, is_whole, fits_kind, span_fits}
 use Rattle.sr_box.specs.Points.{Rect, in_rect, rect_fits, times}
 use Rattle.sr_box.proofs.Order.{is_below-between}
 use Rattle.sr_union.specs.Grid.{is_among, has_cut, first_cuts, others, CutsAmong, AreCutFrom}
@@ -32,19 +32,67 @@ use Rattle.sr_union.proofs.Once.{are_self, are_trans, once_more, with_one}
 abbrev fitted : Kind → ℤ → ℤ → Span → Span
 fitted k low high s = if fits_kind k low high s then s else Full
 
+-- a value below the border q of two spans is before the end of the second, and one above it is behind the beginning of the first
+split-once : (p q r s : Bool) → r ≡ not q → (q ≡ true → s ≡ true) → (q ≡ false → p ≡ true) → (if p && s then 1 else 0) ≡ (if p && q then 1 else 0) + (if r && s then 1 else 0)
+split-once p true r s other below above = let b = below refl in grind (arith, other, b)
+split-once p false r s other below above = let a = above refl in grind (arith, other, a)
+
+-- numbers beside the border of two spans
+from_next : (b n : ℤ) → int_le (b +ℤ pos 1) n ≡ not (int_le n b)
+from_next b n = grind (arith, ints)
+
+before_end : (b d n : ℤ) → int_le (b +ℤ pos 1) d ≡ true → int_le n b ≡ true → int_le n d ≡ true
+before_end b d n h k = grind (arith, ints)
+
+behind_start : (a b n : ℤ) → int_le a b ≡ true → int_le n b ≡ false → int_le a n ≡ true
+behind_start a b n h k = grind (arith, ints)
+
+-- a span that begins at the lowest number, and one that ends at the highest
+from_lowest : (low a n : ℤ) → int_lt low a ≡ false → int_le low n ≡ true → int_le a n ≡ true
+from_lowest low a n h k = grind (arith, ints)
+
+to_highest : (high d n : ℤ) → int_lt d high ≡ false → int_le n high ≡ true → int_le n d ≡ true
+to_highest high d n h k = grind (arith, ints)
+
+-- a span that has all numbers
+all-numbers : (in_low in_order in_high above under : Bool) → in_low ≡ true → in_order ≡ true → in_high ≡ true → (in_low && in_order && in_high && (above || under)) ≡ false → (above ≡ false) × (under ≡ false)
+all-numbers true true true true u i j k e = absurd (grind (arith, e))
+all-numbers true true true false true i j k e = absurd (grind (arith, e))
+all-numbers true true true false false i j k e = (refl, refl)
+all-numbers false o h a u i j k e = absurd (grind (arith, i))
+all-numbers true false h a u i j k e = absurd (grind (arith, j))
+all-numbers true true false a u i j k e = absurd (grind (arith, k))
+
 numbers-once : (low high a b d n : ℤ) → fits_kind Numbers low high (Nums a b) ≡ true → fits_kind Numbers low high (Nums (b +ℤ pos 1) d) ≡ true → in_kind Numbers low high (Num n) ≡ true
     → (if in_span (fitted Numbers low high (Nums a d)) (Num n) then 1 else 0) ≡ (if in_span (Nums a b) (Num n) then 1 else 0) + (if in_span (Nums (b +ℤ pos 1) d) (Num n) then 1 else 0)
 numbers-once low high a b d n f g h = go (fits_kind Numbers low high (Nums a d)) refl
   where
+    first : (int_le low a ≡ true) × (int_le a b ≡ true)
+    first = (grind (arith, f), grind (arith, f))
+
+    second : (int_le (b +ℤ pos 1) d ≡ true) × (int_le d high ≡ true)
+    second = (grind (arith, g), grind (arith, g))
+
+    once : (if int_le a n && int_le n d then 1 else 0) ≡ (if int_le a n && int_le n b then 1 else 0) + (if int_le (b +ℤ pos 1) n && int_le n d then 1 else 0)
+    once = split-once (int_le a n) (int_le n b) (int_le (b +ℤ pos 1) n) (int_le n d) (from_next b n) (before_end b d n second.0) (behind_start a b n first.1)
+
     go : (x : Bool) → fits_kind Numbers low high (Nums a d) ≡ x
         → (if in_span (if x then Nums a d else Full) (Num n) then 1 else 0) ≡ (if in_span (Nums a b) (Num n) then 1 else 0) + (if in_span (Nums (b +ℤ pos 1) d) (Num n) then 1 else 0)
-    go true e = grind (arith, ints)
-    go false e = grind (arith, ints)
+    go true e = once
+    go false e =
+        let none = all-numbers (int_le low a) (int_le a d) (int_le d high) (int_lt low a) (int_lt d high) first.0 (before_end b d a second.0 first.1) second.1 e in
+        let from = from_lowest low a n none.0 (grind (arith, h)) in
+        let to = to_highest high d n none.1 (grind (arith, h)) in
+        sym (ap (λ x. if x && int_le n d then 1 else 0) from ∙ ap (λ x. if x then 1 else 0) to) ∙ once
 
 -- what the whole texts of two spans are
 whole_texts : (low high : ℤ) (a b : List ℕ) (d : Option (List ℕ)) → fits_kind Texts low high (Strs a (Some b)) ≡ true → fits_kind Texts low high (Strs b d) ≡ true → fits_kind Texts low high (Strs a d) ≡ false
     → is_whole a d ≡ true
 whole_texts low high a b d f g n = let t = text_le-total b a in let w = is_below-between a b d in grind (arith, t, w)
+
+not-not : (x : Bool) → x ≡ not (not x)
+not-not true = refl
+not-not false = refl
 
 texts-once : (low high : ℤ) (a b : List ℕ) (d : Option (List ℕ)) (s : List ℕ) → fits_kind Texts low high (Strs a (Some b)) ≡ true → fits_kind Texts low high (Strs b d) ≡ true
     → (if in_span (fitted Texts low high (Strs a d)) (Str s) then 1 else 0) ≡ (if in_span (Strs a (Some b)) (Str s) then 1 else 0) + (if in_span (Strs b d) (Str s) then 1 else 0)
@@ -55,10 +103,18 @@ texts-once low high a b d s f g = go (fits_kind Texts low high (Strs a d)) refl
     whole [] (Some d) e = absurd (grind arith)
     whole (x ∷ a) d e = absurd (grind arith)
 
+    in_order : text_le a b ≡ true
+    in_order = text_le-total b a (grind (arith, f))
+
+    below : not (text_le b s) ≡ true → is_below s d ≡ true
+    below h = is_below-between s b d (text_le-total b s (grind (arith, h))) (grind (arith, g))
+
+    above : not (text_le b s) ≡ false → text_le a s ≡ true
+    above h = text_le-trans a b s in_order (grind (arith, h))
+
     go : (x : Bool) → fits_kind Texts low high (Strs a d) ≡ x
         → (if in_span (if x then Strs a d else Full) (Str s) then 1 else 0) ≡ (if in_span (Strs a (Some b)) (Str s) then 1 else 0) + (if in_span (Strs b d) (Str s) then 1 else 0)
-    go true e =
-        let t = text_le-total b a in let u = text_le-trans a b s in let v = text_le-total b s in let w = is_below-between s b d in grind (arith, t, u, v, w)
+    go true e = split-once (text_le a s) (not (text_le b s)) (text_le b s) (is_below s d) (not-not (text_le b s)) below above
     go false e = whole a d (whole_texts low high a b d f g e)
 
 fitted-fits : (k : Kind) (low high : ℤ) (s : Span) → fits_kind k low high (fitted k low high s) ≡ true

@@ -7,10 +7,19 @@ use Rattle.sr_store.specs.declared.store.Arrival.{Arrival}
 use Rattle.sr_store.specs.Told.{told_of}
 use Rattle.sr_join.specs.declared.runs.Run.{Run}
 use Rattle.sr_client.specs.Answering.{is_new, LendsMore, Suits}
-use Rattle.sr_client.proofs.Items.{take-item}
-use Rattle.sr_client.proofs.LendLemmas.{lent-arrival, passed-arrival}
+use Rattle.sr_client.proofs.Items.{take-item, take-end}
+use Rattle.sr_client.proofs.LendLemmas.{lends-no_arrival, lent-arrival, passed-arrival}
 use Rattle.sr_client.proofs.answer.lend_arrivals.Goals.{then-arrival-part+in_ok-lend, else-arrival-part}
 use Rattle.sr_client.proofs.answer.lend_arrivals.Goals as goal
+
+pub loop-arrival-init : goal.loop-arrival-init
+loop-arrival-init c = λ schema tables o rows. lends-no_arrival c.args.number c.args.part.now (rows_at tables c.args.part.now.table) c.args.lending.now.runs
+
+pub returns : goal.returns
+returns c = λ schema tables o rows.
+    let part = c.args.part.now in
+    subst (λ rs. LendsMore c.args.number part.need (rows_at tables part.table) (is_new part rs) c.args.lending.now.runs c.loop-arrival.lending.runs)
+    (take-end c.args.arrivals.now c.loop-arrival.arrival-index c.loop-arrival-test.false) (c.loop-arrival.invariant schema tables o rows)
 
 pub loop-arrival-preserved : goal.loop-arrival-preserved
 loop-arrival-preserved c = λ schema tables o rows.

@@ -5,10 +5,19 @@ use Rattle.sr_store.specs.Told.{told_of, IsTrueOf}
 use Rattle.sr_store.specs.Stores.{IsOfSchema}
 use Rattle.sr_join.specs.declared.runs.Run.{Run}
 use Rattle.sr_client.specs.Answering.{is_kept, LendsMore}
-use Rattle.sr_client.proofs.Items.{take-item}
-use Rattle.sr_client.proofs.LendLemmas.{lent-region, passed-region, apart-region}
+use Rattle.sr_client.proofs.Items.{take-item, take-end}
+use Rattle.sr_client.proofs.LendLemmas.{lends-no_region, lent-region, passed-region, apart-region}
 use Rattle.sr_client.proofs.answer.lend_regions.Goals.{then-serves+then-meets+in_ok-lend, then-serves+else-meets, else-serves}
 use Rattle.sr_client.proofs.answer.lend_regions.Goals as goal
+
+pub loop-region-init : goal.loop-region-init
+loop-region-init c = λ schema tables o rows. lends-no_region c.args.number c.args.part.now (rows_at tables c.args.part.now.table) c.args.lending.now.runs
+
+pub returns : goal.returns
+returns c = λ schema tables o rows.
+    let part = c.args.part.now in
+    subst (λ gs. LendsMore c.args.number part.need (rows_at tables part.table) (is_kept part gs) c.args.lending.now.runs c.loop-region.lending.runs)
+    (take-end c.args.regions.now c.loop-region.region-index c.loop-region-test.false) (c.loop-region.invariant schema tables o rows)
 
 pub loop-region-preserved : goal.loop-region-preserved
 loop-region-preserved c = λ schema tables o rows.

@@ -2,8 +2,20 @@ use Rattle.std.proofs.Common.{◌≡◌, ℕ, [], refl, sym, subst, Option, Some
 use Rattle.std.specs.Prelude.{IsNone}
 use Rattle.sr_policy.specs.Order.{IsVictim}
 use Rattle.sr_store.proofs.Views.{victim_within}
-use Rattle.sr_client.proofs.FallLemmas.{FallsSoFar, left-within, one-fell, all-fell, one-fewer}
+use Rattle.sr_client.proofs.FallLemmas.{FallsSoFar, none-fell, left-within, one-fell, all-fell, one-fewer}
 use Rattle.sr_client.proofs.victims.victims_of.Goals as goal
+
+pub loop-number-init : goal.loop-number-init
+loop-number-init c =
+    let store = c.args.store.now in
+    none-fell c.args.schema.now store.limits.policy store.last store.regions c.in_ok-views.views c.as_slice-regions.result.now c.in_ok-left.left c.new-fallen.result
+    c.as_slice-regions.ensures c.in_ok-views.ensures c.in_ok-left.ensures c.new-fallen.ensures
+
+pub remove-requires : goal.remove-requires
+remove-requires c =
+    let store = c.args.store.now in
+    let victim = subst (λ last. IsVictim store.limits.policy last c.as_slice.result.now c.in-Some.number) c.as_slice-last.ensures c.in-Some.ensures.first in
+    victim_within store.limits.policy store.last c.loop-number.views c.as_slice.result.now c.in-Some.number c.as_slice.ensures victim
 
 pub remove-requires-in-Some : goal.remove-requires-in-Some
 remove-requires-in-Some c =

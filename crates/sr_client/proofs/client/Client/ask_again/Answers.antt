@@ -13,8 +13,8 @@ put_out-requires c = let number : c.in_ok-second.second.number ≡ c.args.self.n
 
 pub returns-clause-takes : goal.returns-clause-takes
 returns-clause-takes c =
-    again-of c.args.self.now c.args.out c.args.number c.args.version c.requires.again c.in_ok-marks.marks c.drop_all.new.self c.new.result c.in_ok-second.second c.in_ok-message.message c.put_out.new.self
-    c.in_ok-marks.ensures.marks c.drop_all.ensures.nothing_left c.new.ensures c.in_ok-second.ensures c.in_ok-message.ensures.message c.in_ok-message.ensures.out c.requires.stands
+    again-of c.args.self.now c.args.out c.args.number c.args.version c.requires.again c.in-Ok.marks c.drop_all.new.self c.new.result c.in_ok-second.second c.in_ok-message.message c.put_out.new.self
+    c.in-Ok.ensures.marks c.drop_all.ensures.nothing_left c.new.ensures c.in_ok-second.ensures c.in_ok-message.ensures.message c.in_ok-message.ensures.out c.requires.stands
 
 pub returns-clause-version : goal.returns-clause-version
 returns-clause-version c =

@@ -10,8 +10,8 @@ use Rattle.sr_client.proofs.client.Client.reply.Goals as goal
 abbrev with_out : Client → Option Request → Client
 with_out c out = record c { out = out }
 
-pub finish-requires : goal.finish-requires
-finish-requires c =
+pub finish-took-requires : goal.finish-took-requires
+finish-took-requires c =
     let old = c.args.self.now in
     let out_is : old.out ≡ Some (Ask c.in-Some-Ask.out) = search rules in
     record {

@@ -1,5 +1,8 @@
-use Rattle.std.proofs.Common.{rules, sym, subst}
+use Rattle.std.proofs.Common.{rules, false, sym, subst}
+use Rattle.sr_client.specs.declared.client.Client.{Client}
+use Rattle.sr_client.specs.declared.steps.ResumeStep.TheVariants.{Sent}
 use Rattle.sr_client.specs.Sends.{IsWellSent}
+use Rattle.sr_client.specs.Steps.{Resumes}
 use Rattle.sr_client.proofs.SendableLemmas.{first-sent}
 use Rattle.sr_client.proofs.ResumeLemmas.{resume-up, resume-sent}
 use Rattle.sr_client.proofs.client.Client.resume.Goals as goal
@@ -8,7 +11,11 @@ pub returns-then-not-self-clause-resumes : goal.returns-then-not-self-clause-res
 returns-then-not-self-clause-resumes c = resume-up c.args.self.now c.requires.stands (search rules)
 
 pub returns-clause-resumes : goal.returns-clause-resumes
-returns-clause-resumes c = resume-sent c.args.self.now c.in_ok-message.message c.requires.stands (search rules) c.in_ok-message.ensures.first
+returns-clause-resumes c =
+    let old = c.args.self.now in
+    let message = c.in_ok-message.message in
+    subst (λ (x : Client). Resumes old (record x { cut = false }) (Sent old.next_request message)) (sym c.set_out.ensures)
+    (resume-sent old message c.requires.stands (search rules) c.in_ok-message.ensures.first)
 
 pub returns-clause-sends : goal.returns-clause-sends
 returns-clause-sends c = λ format.

@@ -6,7 +6,7 @@ use Rattle.sr_model.specs.Statements.{Tables}
 use Rattle.sr_join.specs.Lent.{IsJoinable}
 use Rattle.sr_client.specs.Answering.{HaveRows, IsThere}
 use Rattle.sr_client.proofs.LendLemmas.{LentUpto}
-use Rattle.sr_client.proofs.answer.answer.Given as goal
+use Rattle.sr_client.proofs.answer.lend_all.Given as goal
 
 abbrev pub invariant-loop-i : goal.invariant-loop-i
 invariant-loop-i l =

@@ -62,30 +62,23 @@ impl Client {
         ensures numbers_left { OnErr result (KeepsNumbers self.old self.new) }
     {
         if let Some(request) = &self.out {
-            let request = request.number();
-            drop(query);
-            return Ok(QueryStep::Busy { request });
+            return Ok(QueryStep::Busy {
+                request: request.number(),
+            });
         }
         match asks_of(alloc, &self.schema, &self.store, query.parts.as_slice()) {
             Ok(asks) => {
                 if asks.is_empty() {
-                    let step = self.answer_now(alloc, &query);
-                    drop(query);
-                    step
+                    self.answer_now(alloc, &query)
                 } else if self.cut {
-                    drop(query);
                     Ok(QueryStep::Down { cut: self.cuts })
                 } else {
                     self.send_ask(alloc, query, asks, Seq::new(alloc))
                 }
             }
-            Err(No::NoMemory) => {
-                drop(query);
-                Err(NoMemory)
-            }
+            Err(No::NoMemory) => Err(NoMemory),
             Err(No::Refused(_)) => {
                 if self.cut {
-                    drop(query);
                     Ok(QueryStep::Down { cut: self.cuts })
                 } else {
                     self.drop_and_ask(alloc, query)
@@ -144,20 +137,9 @@ impl Client {
         ensures cuts { self.new.cuts ≡ self.old.cuts }
         ensures numbers_left { OnErr result (KeepsNumbers self.old self.new) }
     {
-        let asks = match whole_asks(alloc, query.parts.as_slice()) {
-            Ok(asks) => asks,
-            Err(no) => {
-                drop(query);
-                return Err(no);
-            }
-        };
-        match self.store.drop_all(alloc, Cause::Pieces) {
-            Ok(drops) => self.send_ask(alloc, query, asks, drops),
-            Err(no) => {
-                drop(query);
-                Err(no)
-            }
-        }
+        let asks = whole_asks(alloc, query.parts.as_slice())?;
+        let drops = self.store.drop_all(alloc, Cause::Pieces)?;
+        self.send_ask(alloc, query, asks, drops)
     }
 
     /// Sends the ask of these parts of a query, with the next numbers. It is fresh where nothing is held.

@@ -15,10 +15,10 @@ use Rattle.sr_model.specs.Queries as model
 use Rattle.sr_client.proofs.client.Client.judge.Goals as goal
 
 pub returns-in-Some-clause-queries : goal.returns-in-Some-clause-queries
-returns-in-Some-clause-queries c = λ meaning is. query-busy c.args.self.now meaning c.number-request.result c.in-Some.request c.requires.stands (search rules) c.number-request.ensures
+returns-in-Some-clause-queries c = λ meaning is. query-busy c.args.self.now meaning c.number.result c.in-Some.request c.requires.stands (search rules) c.number.ensures
 
-pub answer_now-step-requires-clause-nothing : goal.answer_now-step-requires-clause-nothing
-answer_now-step-requires-clause-nothing c =
+pub answer_now-requires-clause-nothing : goal.answer_now-requires-clause-nothing
+answer_now-requires-clause-nothing c =
     let old = c.args.self.now in
     subst (AsksRest old.schema old.store.regions c.args.query.parts) (c.if-is_empty.ensures.0 refl)
     (asks-of old.schema old.schema old.store.regions c.args.query.parts c.as_slice.result.now c.in-Ok.asks refl c.as_slice.ensures c.in-Ok.ensures.asks)

@@ -1,9 +1,6 @@
 use Rattle.std.proofs.Common.{rules, ◌≤◌, length, sym, subst, arith}
 use Rattle.sr_message.specs.declared.message.Message.TheVariants.{Write}
-use Rattle.sr_client.specs.declared.client.Client.{Client}
-use Rattle.sr_client.specs.declared.steps.WriteStep.TheVariants.{Sent}
 use Rattle.sr_client.specs.Sends.{IsWellSent}
-use Rattle.sr_client.specs.Steps.{Writes}
 use Rattle.sr_client.proofs.SendableLemmas.{write-sent-well}
 use Rattle.sr_client.proofs.WriteLemmas.{write-busy, write-over-cut, write-sent}
 use Rattle.sr_client.proofs.client.Client.write.Goals as goal
@@ -15,12 +12,7 @@ pub returns-then-self-clause-writes : goal.returns-then-self-clause-writes
 returns-then-self-clause-writes c = λ few. write-over-cut c.args.self.now c.args.sql.now c.requires.stands (search rules) (search rules)
 
 pub returns-clause-writes : goal.returns-clause-writes
-returns-clause-writes c = λ few.
-    let old = c.args.self.now in
-    let sql = c.args.sql.now in
-    let text = c.in_ok-of.field-0 in
-    subst (λ (x : Client). Writes old sql x (Sent old.next_request (Write old.next_request text))) (sym c.set_out.ensures)
-    (write-sent old sql (Write old.next_request text) c.requires.stands (search rules) (search rules) (search rules))
+returns-clause-writes c = λ few. write-sent c.args.self.now c.args.sql.now _ c.requires.stands (search rules) (search rules) (search rules)
 
 pub returns-clause-sends : goal.returns-clause-sends
 returns-clause-sends c =

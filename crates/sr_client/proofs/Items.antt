@@ -1,20 +1,12 @@
 -- The items of a list, as loops and indices read them.
 use Rattle.std.proofs.Common.{◌≡◌, ℕ, ◌+◌, ◌<◌, ◌≤◌, zero, suc, List, [], ◌∷◌, ◌++◌, length, refl, sym, ◌∙◌, ap, arith, get_or, take}
 use Rattle.std.proofs.Math.Seq.{take-suc}
-use Rattle.sr_cell.specs.declared.table.Table.{Table}
-use Rattle.sr_cell.specs.Columns.{table_at}
 
 -- one item more
 pub take-item : {X : Type 0} (xs : List X) (i : ℕ) (x : X) → i < length xs → x ≡ get_or xs i x → take (i + 1) xs ≡ take i xs ++ x ∷ []
 take-item xs i x within is =
     let next : i + 1 ≡ suc i = omega arith in
     ap (λ k. take k xs) next ∙ (take-suc xs i x within ∙ ap (λ y. take i xs ++ y ∷ []) (sym is))
-
--- a table that was read is the one of that number
-pub table-read : (schema : List Table) (t : ℕ) (table : Table) → t < length schema → table ≡ get_or schema t table → table ≡ table_at schema t
-table-read [] t table within is = absurd (omega (arith, within))
-table-read (u ∷ schema) zero table within is = is
-table-read (u ∷ schema) (suc t) table within is = table-read schema t table (omega (arith, within)) is
 
 -- all items
 pub take-end : {X : Type 0} (xs : List X) (i : ℕ) → length xs ≤ i → take i xs ≡ xs

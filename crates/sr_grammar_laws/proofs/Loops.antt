@@ -59,7 +59,7 @@ many_step k text p s ts a rest next e =
 pub record Going {A : Type 0} (k : Kind) (text : List ℕ) (p : Reader A) (front : List A) (ts : List Tok) (total : Reading (List A)) : Type 0 where
   pub so_far : with_front front (many (is k text) (item k text p) ts) ≡ total
 
-regroup : {A : Type 0} (front : List A) (a : A) (read : Reading (List A)) → with_front front (read >>= λ y end. Got (a ∷ y) end) ≡ with_front (front ++ a ∷ []) read
+pub regroup : {A : Type 0} (front : List A) (a : A) (read : Reading (List A)) → with_front front (read >>= λ y end. Got (a ∷ y) end) ≡ with_front (front ++ a ∷ []) read
 regroup front a (Got y end) = ap (λ z. Got z end) (sym (append_assoc front (a ∷ []) y))
 regroup front a (Fails d bad) = refl
 

@@ -1,11 +1,11 @@
 -- Reading a list as a loop does, each of its items at one place.
-use Rattle.std.proofs.Common.{◌≡◌, ℕ, Bool, true, List, [], ◌∷◌, ◌++◌, length, refl, sym, ap, ◌∙◌, append_assoc}
+use Rattle.std.proofs.Common.{◌≡◌, ℕ, Bool, true, List, [], ◌∷◌, ◌++◌, length, refl, sym, ap, ◌∙◌}
 use Rattle.std.proofs.lemmas.Bool.{cond-true}
 use Rattle.sr_grammar.specs.Tokens.{Kind, Tok, is}
 use Rattle.sr_grammar.specs.Words.{place_of}
 use Rattle.sr_grammar_laws.specs.Reading.{Reading, Got, Fails, Reader, ◌>>=◌, one, next_is, many_for, many}
 use Rattle.sr_grammar_laws.specs.Readers.{list}
-use Rattle.sr_grammar_laws.proofs.Loops.{Shrinks, goes_on, with_front, item}
+use Rattle.sr_grammar_laws.proofs.Loops.{Shrinks, goes_on, with_front, item, regroup}
 
 -- what was read before, and the list that is still read, is all
 pub record Listing {A : Type 0} (k : Kind) (text : List ℕ) (p : Reader A) (front : List A) (ts : List Tok) (total : Reading (List A)) : Type 0 where
@@ -17,10 +17,6 @@ listing_first {A = A} k text p ts = record { so_far = go (list k text p ts) }
     go : (r : Reading (List A)) → with_front [] r ≡ r
     go (Got y end) = refl
     go (Fails deep bad) = refl
-
-regroup : {A : Type 0} (front : List A) (a : A) (read : Reading (List A)) → with_front front (read >>= λ y end. Got (a ∷ y) end) ≡ with_front (front ++ a ∷ []) read
-regroup front a (Got y end) = ap (λ z. Got z end) (sym (append_assoc front (a ∷ []) y))
-regroup front a (Fails d bad) = refl
 
 -- what a first item and those behind it give
 abbrev rest_of : {A : Type 0} → Kind → List ℕ → Reader A → Reading A → Reading (List A)

@@ -1,20 +1,15 @@
 -- What trees stand for.
-use Rattle.std.proofs.Common.{◌≡◌, ℕ, zero, suc, true, false, ◌-◌, List, refl, ap, subst, ◌∙◌, arith}
+use Rattle.std.proofs.Common.{◌≡◌, ℕ, zero, suc, true, false, ◌-◌, List, refl, subst, ◌∙◌, arith, Result, Ok, Err}
 use Rattle.sr_grammar.specs.Trees as model
-use Rattle.sr_grammar.specs.Tokens.{Key, Tok}
+use Rattle.sr_grammar.specs.Tokens.{Key, Mark, Tok, is}
 use Rattle.sr_grammar_laws.specs.Reading.{Reader, and_then, nothing, next_is}
 use Rattle.sr_grammar_laws.specs.Readers.{key, in_parens, cond_of, unit, comparison}
 use Rattle.std.specs.Prelude.{codes}
-use Rattle.sr_grammar.specs.Tokens.{is, Mark}
 use Rattle.sr_sql.specs.Views.{Reads}
-use Rattle.std.proofs.Common.{Result, Ok, Err}
 use Rattle.sr_sql.specs.declared.stop.Stop.{Stop}
 use Rattle.sr_sql.specs.declared.stop.Stop.TheVariants as stop
 
 -- ---- a unit, at the limit and below it
-
-pub unit_innermost : (n : ℕ) (ts : List Tok) → n ≡ 0 → unit n ts ≡ unit 0 ts
-unit_innermost n ts e = ap (λ n. unit n ts) e
 
 pub unit_not : (n : ℕ) (ts : List Tok) → (n ≡ 0 → ⊥) → next_is (is Key (codes "NOT")) ts ≡ true → unit n ts ≡ and_then (key (codes "NOT")) (λ _. and_then (unit (n - 1)) (λ c. nothing (model.Not c))) ts
 unfolding unit

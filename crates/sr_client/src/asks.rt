@@ -3,7 +3,6 @@ ghost use Rattle.std.specs.Prelude.{◌≡◌, ◌+◌, ◌<◌, ◌≤◌, List
 ghost use Rattle.std.specs.List.{list_all, All};
 ghost use Rattle.sr_cell.specs.declared.list.No.TheVariants.{Refused};
 ghost use Rattle.sr_cell.specs.declared.table.Table.{Table as TheTable};
-ghost use Rattle.sr_cell.specs.Columns.{table_at};
 ghost use Rattle.sr_message.specs.declared.message.AskPart.{AskPart as TheAskPart};
 ghost use Rattle.sr_message.specs.Sizes.{most_rects, count_asked};
 ghost use Rattle.sr_query.specs.Bound.{is_table};
@@ -11,9 +10,9 @@ ghost use Rattle.sr_store.specs.Stores.{IsStore};
 ghost use Rattle.sr_client.specs.Asking.{AsksRest, LeavesRest, AreMeant, entry_of, whole_asks};
 ghost use Rattle.sr_client.specs.Cutting.{AreCutAlong, IsOver, grid_of_part};
 
+use crate::victims::table_at;
 use sr_cell::list::{Copied, No, NoMemory, Seq};
 use sr_cell::schema::Schema;
-use sr_cell::table::Table;
 use sr_message::message::{AskPart, AskParts};
 use sr_query::query::Part;
 use sr_store::store::Store;
@@ -87,22 +86,12 @@ fn rest_of(
     ensures over { IsErrOf result (Refused (record {})) → room < grid_of_part schema.now store.now.regions part.now }
     ensures over_left { IsErrOf result (Refused (record {})) → LeavesRest schema.now store.now.regions (part.now ∷ []) }
 {
-    let table = table_of(schema, part.table);
+    let table = table_at(schema, part.table);
     let cover = store.cover_near(alloc, part)?;
     match trim(alloc, part, table, &cover, room) {
         Ok(trimmed) => Ok(entry_of(alloc, part.table, trimmed)?),
         Err(no) => Err(no),
     }
-}
-
-/// The table of that number.
-fn table_of(schema: &Schema, number: u8) -> &Table
-    requires tables { IsTrue (list_all is_table schema.now) }
-    requires within { number < length schema.now }
-    ensures is { result.now ≡ table_at schema.now number }
-    ensures sound { IsTrue (is_table result.now) }
-{
-    &schema.as_slice()[number as usize]
 }
 
 /// An entry for each part that has rects: all of it.

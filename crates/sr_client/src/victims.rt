@@ -85,10 +85,11 @@ fn view_of(alloc: Global, schema: &Schema, region: &Region) -> Result<ClassView,
 }
 
 /// The table of that number.
-fn table_at(schema: &Schema, number: u8) -> &Table
+pub(crate) fn table_at(schema: &Schema, number: u8) -> &Table
     requires sound { IsTrue (list_all is_table schema.now) }
     requires within { number < length schema.now }
     ensures found { result.now ≡ table_at schema.now number }
+    ensures sound { IsTrue (is_table result.now) }
     ensures inner { all_inner result.now.columns ≡ true }
     ensures first { have_first result.now.columns ≡ true }
 {

@@ -19,26 +19,26 @@ use Rattle.sr_client.proofs.Nearing.{near-left, near-cuts, rest-within, over-wit
 use Rattle.sr_client.proofs.TableLemmas.{have-first}
 use Rattle.sr_client.proofs.asks.rest_of.Goals as goal
 
-pub table_of-table-requires-clause-within : goal.table_of-table-requires-clause-within
-table_of-table-requires-clause-within c = (sound-one c.args.schema.now c.args.part.now c.requires.meant).within
+pub table_at-table-requires-clause-within : goal.table_at-table-requires-clause-within
+table_at-table-requires-clause-within c = (sound-one c.args.schema.now c.args.part.now c.requires.meant).within
 
 pub trim-requires-clause-part_fits : goal.trim-requires-clause-part_fits
 trim-requires-clause-part_fits c =
     let sound = sound-one c.args.schema.now c.args.part.now c.requires.meant in
-    subst (λ (t : Table). list_all (rect_fits t.columns) c.args.part.now.rects ≡ true) (sym c.table_of-table.ensures.is) sound.fits
+    subst (λ (t : Table). list_all (rect_fits t.columns) c.args.part.now.rects ≡ true) (sym c.table_at-table.ensures.found) sound.fits
 
 pub trim-requires-clause-cover_fits : goal.trim-requires-clause-cover_fits
 trim-requires-clause-cover_fits c =
-    let table = c.table_of-table.ensures.is in
+    let table = c.table_at-table.ensures.found in
     let fits = cover-fits c.args.schema.now c.args.part.now c.args.store.now.regions c.requires.store.each in
     let close = near-fits (table_at c.args.schema.now c.args.part.now.table).columns c.args.part.now.rects (cover_of c.args.part.now c.args.store.now.regions) fits in
-    subst (λ rects. list_all (rect_fits c.table_of-table.result.now.columns) rects ≡ true) (sym c.in_ok-cover.ensures)
+    subst (λ rects. list_all (rect_fits c.table_at-table.result.now.columns) rects ≡ true) (sym c.in_ok-cover.ensures)
     (subst (λ (t : Table). list_all (rect_fits t.columns) (near c.args.part.now.rects (cover_of c.args.part.now c.args.store.now.regions)) ≡ true) (sym table) close)
 
 pub returns-in-Ok-clause-asks : goal.returns-in-Ok-clause-asks
 returns-in-Ok-clause-asks c =
-    let table = c.table_of-table.ensures.is in
-    let trimmed : IsTrimmed c.table_of-table.result.now.columns c.args.part.now.need (left_over c.args.part.now.rects c.in_ok-cover.cover) c.in-Ok.trimmed.attrs c.in-Ok.trimmed.rest =
+    let table = c.table_at-table.ensures.found in
+    let trimmed : IsTrimmed c.table_at-table.result.now.columns c.args.part.now.need (left_over c.args.part.now.rects c.in_ok-cover.cover) c.in-Ok.trimmed.attrs c.in-Ok.trimmed.rest =
     record { fits = c.in-Ok.ensures.fits; points = c.in-Ok.ensures.points; bound = c.in-Ok.ensures.bound; shipped = c.in-Ok.ensures.columns; empty = c.in-Ok.ensures.empty; some = c.in-Ok.ensures.some } in
     let of_table = subst (λ (t : Table). IsTrimmed t.columns c.args.part.now.need (left_over c.args.part.now.rects c.in_ok-cover.cover) c.in-Ok.trimmed.attrs c.in-Ok.trimmed.rest) table trimmed in
     let of_cover = subst (λ rects. IsTrimmed (table_at c.args.schema.now c.args.part.now.table).columns c.args.part.now.need (left_over c.args.part.now.rects rects) c.in-Ok.trimmed.attrs c.in-Ok.trimmed.rest)
@@ -55,7 +55,7 @@ returns-in-Ok-clause-cuts c =
     let gs = c.args.store.now.regions in
     let part = c.args.part.now in
     let sound = sound-one s part c.requires.meant in
-    let table = c.table_of-table.ensures.is in
+    let table = c.table_at-table.ensures.found in
     let cut = subst (λ (t : Table). AreCutFrom t.columns (part.rects ++ c.in_ok-cover.cover) c.in-Ok.trimmed.rest) table c.in-Ok.ensures.cuts in
     let of_cover = subst (λ rects. AreCutFrom (table_at s part.table).columns (part.rects ++ rects) c.in-Ok.trimmed.rest) c.in_ok-cover.ensures cut in
     let fits = cover-fits s part gs c.requires.store.each in
@@ -74,7 +74,7 @@ returns-in-Ok-clause-grid c =
     let part = c.args.part.now in
     let rest = c.in-Ok.trimmed.rest in
     let sound = sound-one s part c.requires.meant in
-    let table = c.table_of-table.ensures.is in
+    let table = c.table_at-table.ensures.found in
     let cut = subst (λ (t : Table). AreCutFrom t.columns (part.rects ++ c.in_ok-cover.cover) rest) table c.in-Ok.ensures.cuts in
     let of_cover = subst (λ rects. AreCutFrom (table_at s part.table).columns (part.rects ++ rects) rest) c.in_ok-cover.ensures cut in
     let once = subst (λ (t : Table). (p : Row) → is_point t.columns p ≡ true → times rest p ≤ 1) table c.in-Ok.ensures.once in
@@ -89,7 +89,7 @@ returns-clause-over c = λ e.
     let gs = c.args.store.now.regions in
     let part = c.args.part.now in
     let sound = sound-one s part c.requires.meant in
-    let table = c.table_of-table.ensures.is in
+    let table = c.table_at-table.ensures.found in
     let refused = err_same c.in-Err.no _ e in
     let of_table = subst (λ (t : Table). c.args.room < grid t.columns (part.rects ++ c.in_ok-cover.cover)) table (c.in-Err.ensures.over refused) in
     let of_cover = subst (λ rects. c.args.room < grid (table_at s part.table).columns (part.rects ++ rects)) c.in_ok-cover.ensures of_table in
@@ -101,7 +101,7 @@ returns-clause-over_left c = λ e.
     let s = c.args.schema.now in
     let gs = c.args.store.now.regions in
     let part = c.args.part.now in
-    let table = c.table_of-table.ensures.is in
+    let table = c.table_at-table.ensures.found in
     let of_table = subst (λ (t : Table). HasNoPoint t.columns (left_over part.rects c.in_ok-cover.cover) → ⊥) table (c.in-Err.ensures.over_left (err_same c.in-Err.no _ e)) in
     let of_cover = subst (λ rects. HasNoPoint (table_at s part.table).columns (left_over part.rects rects) → ⊥) c.in_ok-cover.ensures of_table in
     leaves-one s gs part (λ none. of_cover (λ p point. near-left part.rects (cover_of part gs) p ∙ none p point))

@@ -79,25 +79,28 @@ Lost-exactly first mid last bytes limit before lost = record {
 }
 
 -- a piece of the bytes, copied to the front of the room
-pub read_from : (all room copied : List ℕ) (at n : ℕ) → at + n ≤ length all → copied ≡ take n (drop at all)
-    → drop at all ≡ take n (copied ++ drop n room) ++ drop (at + n) all
-read_from all room copied at n fits is =
+pub copied_first : (all room copied : List ℕ) (at n : ℕ) → at + n ≤ length all → copied ≡ take n (drop at all)
+    → take n (copied ++ drop n room) ≡ take n (drop at all)
+copied_first all room copied at n fits is =
     let len : length copied ≡ n = rw is (simp (length-take, length-drop) (omega arith)) in
-    rw (take_at copied (drop n room) n len, is) (chunk-drop at n all)
+    rw (take_at copied (drop n room) n len) is
+
+-- a piece of the bytes, and those behind it
+pub read_from : (all piece : List ℕ) (at n : ℕ) → piece ≡ take n (drop at all) → drop at all ≡ piece ++ drop (at + n) all
+read_from all piece at n is = rw is (chunk-drop at n all)
 
 -- a connection in memory that has given the first bytes of all that it brings
 abbrev pub wire_at : List ℕ → List ℕ → List ℕ → ℕ → Connection
 wire_at address sent all at = record { address = address; sent = sent; taken = take at all; coming = drop at all }
 
 -- the connection after a piece of its bytes was taken
-pub wire_taken : (address sent all room copied : List ℕ) (at n : ℕ) → at + n ≤ length all → copied ≡ take n (drop at all)
-    → wire_at address sent all (at + n) ≡ takes (take n (copied ++ drop n room)) (wire_at address sent all at)
-wire_taken address sent all room copied at n fits is =
-    let len : length copied ≡ n = rw is (simp (length-take, length-drop) (omega arith)) in
-    let piece : take n (copied ++ drop n room) ≡ copied = take_at copied (drop n room) n len in
-    let more : take at all ++ copied ≡ take (at + n) all = grind (arith, common_steps, take-add at n all) in
-    let rest : drop (length copied) (drop at all) ≡ drop (at + n) all = rw len (drop-drop n at all) in
-    rw (piece, more, rest) refl
+pub wire_taken : (address sent all piece : List ℕ) (at n : ℕ) → at + n ≤ length all → piece ≡ take n (drop at all)
+    → wire_at address sent all (at + n) ≡ takes piece (wire_at address sent all at)
+wire_taken address sent all piece at n fits is =
+    let len : length piece ≡ n = rw is (simp (length-take, length-drop) (omega arith)) in
+    let more : take at all ++ piece ≡ take (at + n) all = grind (arith, common_steps, take-add at n all) in
+    let rest : drop (length piece) (drop at all) ≡ drop (at + n) all = rw len (drop-drop n at all) in
+    rw (more, rest) refl
 
 -- what still fits behind the bytes that are there
 pub room_kept : (xs bs : List ℕ) (n count : ℕ) → length xs ≤ n → count ≡ min (length bs) (n - length xs) → xs ++ take count bs ≡ take n (xs ++ bs)

@@ -8,6 +8,7 @@ pub mod mem_link;
 pub mod mem_sink;
 pub mod mem_source;
 pub mod outside;
+mod piece;
 pub mod real_host;
 pub mod whole;
 pub mod wire;

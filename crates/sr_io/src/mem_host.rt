@@ -1,5 +1,5 @@
 //! A host in memory.
-ghost use Rattle.std.specs.Prelude.{◌≡◌, ℕ, List, Ok, ◌↔◌, ◌<◌, ◌≤◌, ◌⊎◌, [], length, drop, take, true, false, Some, None, vec_len, vec_capacity, IfOk, OnOk, OnErr, IsOk, IsErrOf, IsSome, slice_get, MatchOption};
+ghost use Rattle.std.specs.Prelude.{◌≡◌, ℕ, ◌+◌, List, ◌++◌, option_to_list, Ok, ◌↔◌, ◌<◌, ◌≤◌, ◌⊎◌, [], length, drop, take, true, false, Some, None, vec_len, vec_capacity, IfOk, OnOk, OnErr, IsOk, IsErrOf, IsSome, slice_get, MatchOption};
 ghost use Rattle.std.specs.Io.{ReadsAtMost};
 ghost use Rattle.std.specs.Io.KnownBytes.{ReadConsumes, WriteAppends};
 ghost use Rattle.std.specs.Option.{option_copied, is_some};
@@ -11,7 +11,8 @@ ghost use Rattle.sr_io.specs.Told.{OnlyFaults, Brings, IsOver, sent_on, taken_fr
 
 use crate::fails::{Failing, Fails, Planned};
 use crate::file::FileList;
-use crate::outside::{Dock, Failed, Host, Link, Outside, Sink, Source};
+use crate::outside::{Dock, Failed, Host, Link, Outside, Sink, Source, count_fault};
+use crate::piece::{add_piece, copy_piece};
 use crate::wire::Wire;
 use sr_cell::list::{Bytes, Copied, No, NoMemory, Seq};
 use sr_cell::text::Text;
@@ -66,13 +67,14 @@ impl MemHost {
         ensures plan { IfOk result (λ host. ⟦<MemHost as Planned>⟧.plan host ≡ planned fails piece) }
         ensures steady { IfOk result (λ host. NoneAbove fails 0 ↔ ⟦<MemHost as Outside>⟧.IsSteady host) }
     {
+        let complaints = Vec::with_capacity(alloc, 4096)?;
         Ok(MemHost {
             alloc,
             files,
             picked: Seq::new(alloc),
             at: 0,
             written: Seq::new(alloc),
-            complaints: Vec::with_capacity(alloc, 4096)?,
+            complaints,
             past: Vec::new(alloc),
             present: None,
             peers,
@@ -132,17 +134,14 @@ impl MemHost {
         ensures complaints_stay { ⟦<MemHost as Outside>⟧.complaints self.new ≡ ⟦<MemHost as Outside>⟧.complaints self.old }
     {
         if self.failing.fails_now() || self.peers.is_empty() {
-            self.link_faults = self.link_faults.saturating_add(1);
-            return Err(No::Refused(Failed));
+            return Err(count_fault(&mut self.link_faults));
         }
         let address = address?;
         // for the present connection now, and for the new one once it is given up
         if self.past.reserve(2).is_err() {
             return Err(No::NoMemory);
         }
-        if let Some(wire) = self.present.take() {
-            let _ = self.past.push(wire);
-        }
+        give_up(&mut self.present, &mut self.past);
         self.present = Some(Wire::new(self.alloc, address, self.peers.remove(0)));
         Ok(())
     }
@@ -186,12 +185,9 @@ impl Source for MemHost {
         ensures complaints_stay { ⟦<MemHost as Outside>⟧.complaints self.new ≡ ⟦<MemHost as Outside>⟧.complaints self.old }
     {
         if self.failing.fails_now() {
-            self.read_faults = self.read_faults.saturating_add(1);
-            return Err(No::Refused(Failed));
+            return Err(count_fault(&mut self.read_faults));
         }
-        let left = self.picked.len() - self.at;
-        let count = left.min(room.len()).min(self.piece);
-        room[..count].copy_from_slice(&self.picked.as_slice()[self.at..self.at + count]);
+        let count = copy_piece(&self.picked, self.at, room, self.piece);
         self.at += count;
         Ok(count)
     }
@@ -221,12 +217,9 @@ impl Sink for MemHost {
         ensures complaints_stay { ⟦<MemHost as Outside>⟧.complaints self.new ≡ ⟦<MemHost as Outside>⟧.complaints self.old }
     {
         if self.failing.fails_now() {
-            self.write_faults = self.write_faults.saturating_add(1);
-            return Err(No::Refused(Failed));
+            return Err(count_fault(&mut self.write_faults));
         }
-        let count = bytes.len().min(self.piece);
-        self.written.extend(&bytes[..count])?;
-        Ok(count)
+        Ok(add_piece(&mut self.written, bytes, self.piece)?)
     }
 
     fn write_faults(&self) -> u64 {
@@ -254,16 +247,10 @@ impl Link for MemHost {
         ensures held_stays { ⟦<MemHost as Outside>⟧.held self.new ≡ ⟦<MemHost as Outside>⟧.held self.old }
         ensures complaints_stay { ⟦<MemHost as Outside>⟧.complaints self.new ≡ ⟦<MemHost as Outside>⟧.complaints self.old }
     {
-        if self.failing.fails_now() {
-            self.link_faults = self.link_faults.saturating_add(1);
-            return Err(No::Refused(Failed));
-        }
+        let fails = self.failing.fails_now();
         match &mut self.present {
-            None => {
-                self.link_faults = self.link_faults.saturating_add(1);
-                Err(No::Refused(Failed))
-            }
-            Some(wire) => Ok(wire.put(bytes, self.piece)?),
+            Some(wire) if !fails => Ok(wire.put(bytes, self.piece)?),
+            _ => Err(count_fault(&mut self.link_faults)),
         }
     }
 
@@ -288,16 +275,10 @@ impl Link for MemHost {
         ensures held_stays { ⟦<MemHost as Outside>⟧.held self.new ≡ ⟦<MemHost as Outside>⟧.held self.old }
         ensures complaints_stay { ⟦<MemHost as Outside>⟧.complaints self.new ≡ ⟦<MemHost as Outside>⟧.complaints self.old }
     {
-        if self.failing.fails_now() {
-            self.link_faults = self.link_faults.saturating_add(1);
-            return Err(No::Refused(Failed));
-        }
+        let fails = self.failing.fails_now();
         match &mut self.present {
-            None => {
-                self.link_faults = self.link_faults.saturating_add(1);
-                Err(No::Refused(Failed))
-            }
-            Some(wire) => Ok(wire.get(room, self.piece)),
+            Some(wire) if !fails => Ok(wire.get(room, self.piece)),
+            _ => Err(count_fault(&mut self.link_faults)),
         }
     }
 
@@ -324,8 +305,7 @@ impl Dock for MemHost {
         ensures complaints_stay { ⟦<MemHost as Outside>⟧.complaints self.new ≡ ⟦<MemHost as Outside>⟧.complaints self.old }
     {
         if self.failing.fails_now() {
-            self.link_faults = self.link_faults.saturating_add(1);
-            return Err(No::Refused(Failed));
+            return Err(count_fault(&mut self.link_faults));
         }
         self.docked = Text::of(self.alloc, address)?;
         Ok(())
@@ -360,10 +340,7 @@ impl Dock for MemHost {
         ensures held_stays { ⟦<MemHost as Outside>⟧.held self.new ≡ ⟦<MemHost as Outside>⟧.held self.old }
         ensures complaints_stay { ⟦<MemHost as Outside>⟧.complaints self.new ≡ ⟦<MemHost as Outside>⟧.complaints self.old }
     {
-        if let Some(wire) = self.present.take() {
-            // it fits the capacity, so this takes no memory and succeeds
-            let _ = self.past.push(wire);
-        }
+        give_up(&mut self.present, &mut self.past);
     }
 }
 
@@ -384,20 +361,14 @@ impl Host for MemHost {
         ensures held_stays { ⟦<MemHost as Outside>⟧.held self.new ≡ ⟦<MemHost as Outside>⟧.held self.old }
         ensures complaints_stay { ⟦<MemHost as Outside>⟧.complaints self.new ≡ ⟦<MemHost as Outside>⟧.complaints self.old }
     {
-        if self.failing.fails_now() {
-            self.read_faults = self.read_faults.saturating_add(1);
-            return Err(No::Refused(Failed));
-        }
+        let fails = self.failing.fails_now();
         match find(&self.files, name) {
-            None => {
-                self.read_faults = self.read_faults.saturating_add(1);
-                Err(No::Refused(Failed))
-            }
-            Some(bytes) => {
+            Some(bytes) if !fails => {
                 self.picked = bytes.copy(self.alloc)?;
                 self.at = 0;
                 Ok(())
             }
+            _ => Err(count_fault(&mut self.read_faults)),
         }
     }
 
@@ -448,4 +419,18 @@ fn find<'a>(files: &'a FileList, name: &str) -> Option<&'a Bytes>
         }
     }
     None
+}
+
+/// Puts the connection at present, if there is one, behind the past ones.
+fn give_up(present: &mut Option<Wire>, past: &mut Vec<Wire>)
+    requires { IsSome present.old → vec_len past.old < vec_capacity past.old }
+    ensures none { present.new ≡ None }
+    ensures past { past.new.items ≡ past.old.items ++ option_to_list present.old }
+    ensures one_more { vec_len past.new ≤ vec_len past.old + 1 }
+    ensures capacity { vec_capacity past.old ≤ vec_capacity past.new }
+{
+    if let Some(wire) = present.take() {
+        // it fits the capacity, so this takes no memory and succeeds
+        let _ = past.push(wire);
+    }
 }

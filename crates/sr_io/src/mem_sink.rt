@@ -8,6 +8,7 @@ ghost use Rattle.sr_io.specs.Told.{no_reading, no_linking};
 
 use crate::fails::{Failing, Fails, Planned};
 use crate::outside::{Failed, Outside, Sink};
+use crate::piece::add_piece;
 use sr_cell::list::{Bytes, Copied, No, NoMemory, Seq};
 use std::alloc::Global;
 
@@ -83,9 +84,7 @@ impl Sink for MemSink {
         if self.failing.fails_now() {
             return Err(No::Refused(Failed));
         }
-        let count = bytes.len().min(self.piece);
-        self.bytes.extend(&bytes[..count])?;
-        Ok(count)
+        Ok(add_piece(&mut self.bytes, bytes, self.piece)?)
     }
 
     fn write_faults(&self) -> u64 {

@@ -9,6 +9,7 @@ ghost use Rattle.sr_io.specs.Told.{no_writing, no_linking};
 
 use crate::fails::{Failing, Fails, Planned};
 use crate::outside::{Failed, Outside, Source};
+use crate::piece::copy_piece;
 use sr_cell::list::{Bytes, No};
 
 /// Bytes that are read in pieces.
@@ -79,9 +80,7 @@ impl Source for MemSource {
         if self.failing.fails_now() {
             return Err(No::Refused(Failed));
         }
-        let left = self.bytes.len() - self.at;
-        let count = left.min(room.len()).min(self.piece);
-        room[..count].copy_from_slice(&self.bytes.as_slice()[self.at..self.at + count]);
+        let count = copy_piece(&self.bytes, self.at, room, self.piece);
         self.at += count;
         Ok(count)
     }

@@ -1,9 +1,9 @@
 //! The host over the runtime: files, standard input and output, the error output, and TCP connections.
-ghost use Rattle.std.specs.Prelude.{◌≡◌, ◌<◌, ◌≤◌, [], length, None, IfSome};
+ghost use Rattle.std.specs.Prelude.{◌≡◌, ◌<◌, ◌≤◌, [], length, Some, None, IfSome};
 ghost use Rattle.std.specs.Option.{is_some};
 ghost use Rattle.sr_io.specs.Told.{no_linking};
 
-use crate::outside::{Dock, Failed, Host, Link, Outside, Sink, Source};
+use crate::outside::{Dock, Failed, Host, Link, Outside, Sink, Source, count_fault};
 use sr_cell::list::No;
 use std::io::{ErrorKind, Read, Write};
 use std::net::{Net, OpenListener, OpenStream, TcpListener, TcpStream};
@@ -46,6 +46,15 @@ impl<R: Files + Input + Print + Eprint + Net + Drop> RealHost<R> {
             write_faults: 0,
             link_faults: 0,
         }
+    }
+
+    /// From now on this connection is used.
+    fn connect(&mut self, stream: R::Stream)
+        ensures { self.new ≡ record self.old { stream = Some stream } }
+    {
+        // else a small frame behind another would wait
+        let _ = stream.set_nodelay(true);
+        self.stream = Some(stream);
     }
 }
 
@@ -118,10 +127,7 @@ impl<R: Files + Input + Print + Eprint + Net + Drop> Source for RealHost<R> {
         };
         match got {
             Some(count) => Ok(count),
-            None => {
-                self.read_faults = self.read_faults.saturating_add(1);
-                Err(No::Refused(Failed))
-            }
+            None => Err(count_fault(&mut self.read_faults)),
         }
     }
 
@@ -134,10 +140,7 @@ impl<R: Files + Input + Print + Eprint + Net + Drop> Sink for RealHost<R> {
     fn write(&mut self, bytes: &[u8]) -> Result<usize, No<Failed>> {
         match print_some(&self.rt, bytes) {
             Some(count) => Ok(count),
-            None => {
-                self.write_faults = self.write_faults.saturating_add(1);
-                Err(No::Refused(Failed))
-            }
+            None => Err(count_fault(&mut self.write_faults)),
         }
     }
 
@@ -154,10 +157,7 @@ impl<R: Files + Input + Print + Eprint + Net + Drop> Link for RealHost<R> {
         };
         match put {
             Some(count) => Ok(count),
-            None => {
-                self.link_faults = self.link_faults.saturating_add(1);
-                Err(No::Refused(Failed))
-            }
+            None => Err(count_fault(&mut self.link_faults)),
         }
     }
 
@@ -168,10 +168,7 @@ impl<R: Files + Input + Print + Eprint + Net + Drop> Link for RealHost<R> {
         };
         match got {
             Some(count) => Ok(count),
-            None => {
-                self.link_faults = self.link_faults.saturating_add(1);
-                Err(No::Refused(Failed))
-            }
+            None => Err(count_fault(&mut self.link_faults)),
         }
     }
 
@@ -187,10 +184,7 @@ impl<R: Files + Input + Print + Eprint + Net + Drop> Dock for RealHost<R> {
                 self.listener = Some(listener);
                 Ok(())
             }
-            Err(_) => {
-                self.link_faults = self.link_faults.saturating_add(1);
-                Err(No::Refused(Failed))
-            }
+            Err(_) => Err(count_fault(&mut self.link_faults)),
         }
     }
 
@@ -198,13 +192,10 @@ impl<R: Files + Input + Print + Eprint + Net + Drop> Dock for RealHost<R> {
         if let Some(listener) = &self.listener
             && let Ok((stream, _)) = listener.accept()
         {
-            // else a small frame behind another would wait
-            let _ = stream.set_nodelay(true);
-            self.stream = Some(stream);
+            self.connect(stream);
             return Ok(());
         }
-        self.link_faults = self.link_faults.saturating_add(1);
-        Err(No::Refused(Failed))
+        Err(count_fault(&mut self.link_faults))
     }
 
     fn hang_up(&mut self) {
@@ -224,25 +215,17 @@ impl<R: Files + Input + Print + Eprint + Net + Drop> Host for RealHost<R> {
                 self.current = Current::File(file);
                 Ok(())
             }
-            Err(_) => {
-                self.read_faults = self.read_faults.saturating_add(1);
-                Err(No::Refused(Failed))
-            }
+            Err(_) => Err(count_fault(&mut self.read_faults)),
         }
     }
 
     fn dial(&mut self, address: &str) -> Result<(), No<Failed>> {
         match TcpStream::connect(&self.rt, address) {
             Ok(stream) => {
-                // else a small frame behind another would wait
-                let _ = stream.set_nodelay(true);
-                self.stream = Some(stream);
+                self.connect(stream);
                 Ok(())
             }
-            Err(_) => {
-                self.link_faults = self.link_faults.saturating_add(1);
-                Err(No::Refused(Failed))
-            }
+            Err(_) => Err(count_fault(&mut self.link_faults)),
         }
     }
 

@@ -2,6 +2,7 @@
 ghost use Rattle.std.specs.Prelude.{◌≡◌, length, min, take, IfOk, OnErr};
 ghost use Rattle.sr_io.specs.Told.{Connection, fresh, sends, takes};
 
+use crate::piece::{add_piece, copy_piece};
 use sr_cell::list::{Bytes, Copied, NoMemory, Seq};
 use sr_cell::text::Text;
 use std::alloc::Global;
@@ -47,9 +48,7 @@ impl Wire {
         ensures sent { IfOk result (λ n. self.new ≡ sends (take n bytes.now) self.old) }
         ensures unchanged { OnErr result (self.new ≡ self.old) }
     {
-        let count = bytes.len().min(piece);
-        self.sent.extend(&bytes[..count])?;
-        Ok(count)
+        add_piece(&mut self.sent, bytes, piece)
     }
 
     /// Takes the first of the bytes to come, at most `piece` of them; takes no memory.
@@ -59,9 +58,7 @@ impl Wire {
         ensures first { take result self.old.coming ≡ take result room.new }
         ensures taken { self.new ≡ takes (take result room.new) self.old }
     {
-        let left = self.brings.len() - self.at;
-        let count = left.min(room.len()).min(piece);
-        room[..count].copy_from_slice(&self.brings.as_slice()[self.at..self.at + count]);
+        let count = copy_piece(&self.brings, self.at, room, piece);
         self.at += count;
         count
     }

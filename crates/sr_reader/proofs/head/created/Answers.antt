@@ -1,5 +1,7 @@
 use Rattle.std.proofs.Common.{◌≡◌, ◌∙◌, ◌+◌, ◌≤◌, true, length, drop, sym, subst, ap, List, Err, arith}
 use Rattle.std.specs.List.{list_all}
+use Rattle.std.specs.Prelude.{IsErrOf}
+use Rattle.sr_cell.specs.declared.list.No.TheVariants.{Refused}
 use Rattle.sr_cell.specs.declared.table.Table.{Table}
 use Rattle.sr_lines.specs.Lines.{lines_of}
 use Rattle.sr_query.specs.Bound.{is_table}
@@ -9,6 +11,10 @@ use Rattle.sr_reader.proofs.Fronts.{Fronted, begins_of, fronted_silent, fronted_
 use Rattle.sr_reader.proofs.Stages.{line_here, none_here}
 use Rattle.sr_reader.proofs.head.created.Goals as goal
 use Rattle.sr_reader.proofs.head.created.Goals.{in-Silent, in-Create+in-Ok}
+
+-- a refusal is of one line
+one_refused : {T : Type 0} (a b : RefusedLine) → IsErrOf {T = T} (Err (Refused a)) (Refused b) → a ≡ b
+one_refused a b is = cc
 
 pub add_table-requires : goal.add_table-requires
 add_table-requires c =
@@ -23,8 +29,7 @@ returns-in-Err-Refused-clause-refused c clients bytes are refused is =
     let refuses = c.in-Err-Refused.ensures.refused c.in-Err-Refused.fault (ap (λ z. Err z) c.in-Err-Refused.field-0-is) in
     let first = refused_here clients (i + 1) lines (drop i lines) (drop (i + 1) lines) here.0 c.loop-i.schema (c.loop-i.invariant.1 clients bytes are) here.1 c.in-Create.sql.now c.in-Err-Refused.fault here.2 refuses in
     let line : RefusedLine = record { number = i + 1; fault = c.in-Err-Refused.fault } in
-    let same : line ≡ refused = cc in
-    named_line clients lines line refused same first
+    named_line clients lines line refused (one_refused line refused (rw c.in-Err-Refused.field-0-is at is)) first
 
 pub returns-in-Event-clause-created : goal.returns-in-Event-clause-created
 returns-in-Event-clause-created c clients bytes are =

@@ -96,10 +96,10 @@ pub fn serve_of(alloc: Global, found: &ArgMatches<'_>) -> Result<ServeWords, Wor
     ensures { Reads (serve_of (rows_of (found_of found.now))) result }
 {
     let log = log_of(found).ok_or(WordsFault::NotInForm)?;
-    let exec = text_or_none(alloc, value(found, "exec"))?;
     let schema = text_of(alloc, value(found, "schema"))?;
     let address = text_of(alloc, value(found, "address"))?;
     let count = number_in(COUNT, value(found, "count")).ok_or(WordsFault::NotInForm)? as u32;
+    let exec = text_or_none(alloc, value(found, "exec"))?;
     let loads = loads_of(alloc, found)?;
     Ok(ServeWords {
         log,

@@ -22,13 +22,23 @@ pub(crate) fn is_same_row(one: &Row, other: &Row) -> bool
 
 /// The row's key; of a row that is too short it is 0.
 #[tactic(auto, using(sr_rows::proofs::Order::cell_at_absent))]
-pub(crate) fn copy_of_key(alloc: Global, row: &Row, key: usize) -> Result<Cell, NoMemory>
+fn copy_of_key(alloc: Global, row: &Row, key: usize) -> Result<Cell, NoMemory>
     ensures { IfOk result (λ cell. cell ≡ cell_at row.now key) }
 {
     match row.get(key) {
         Some(cell) => cell.copy(alloc),
         None => Ok(Cell::Num(0)),
     }
+}
+
+/// The row's key and the row, in memory of their own.
+pub(crate) fn key_and_row(alloc: Global, row: &Row, key: usize) -> Result<(Cell, Row), NoMemory>
+    ensures key { IfOk result (λ copied. copied.0 ≡ cell_at row.now key) }
+    ensures row { IfOk result (λ copied. copied.1 ≡ row.now) }
+{
+    let cell = copy_of_key(alloc, row, key)?;
+    let copy = row.copy(alloc)?;
+    Ok((cell, copy))
 }
 
 /// What becomes of a row of table `number`.
@@ -41,14 +51,15 @@ pub(crate) fn change_of(
 ) -> Result<Change, NoMemory>
     ensures { IfOk result (λ change. change ≡ record { table = number; key = cell_at row.now key; before = Some row.now; after = after }) }
 {
-    let cell = copy_of_key(alloc, row, key)?;
-    let before = row.copy(alloc)?;
-    Ok(Change {
-        table: number,
-        key: cell,
-        before: Some(before),
-        after,
-    })
+    match key_and_row(alloc, row, key) {
+        Ok((key, before)) => Ok(Change {
+            table: number,
+            key,
+            before: Some(before),
+            after,
+        }),
+        Err(no) => Err(no),
+    }
 }
 
 /// The new rows of changes, in memory of their own.

@@ -69,8 +69,7 @@ fn delete_changes(
     let low = low_key(wanted, table);
     let high = high_key(wanted, table);
     let near = rows.between(alloc, low, high)?;
-    let changes = changes_among(alloc, number, table.key as usize, near.as_slice(), wanted)?;
-    Ok(changes)
+    changes_among(alloc, number, table.key as usize, near.as_slice(), wanted)
 }
 
 /// Takes the rows out whose keys are those of the changes; never fails.

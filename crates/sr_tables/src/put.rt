@@ -1,5 +1,5 @@
 //! Rows put into a table: all of them, or none where memory is wanting.
-ghost use Rattle.std.specs.Prelude.{◌≡◌, ℕ, ◌<◌, true, false, length, filter, OnOk, OnErr, IfOk};
+ghost use Rattle.std.specs.Prelude.{◌≡◌, ℕ, ◌<◌, ◌++◌, [], ◌∷◌, true, false, length, filter, OnOk, OnErr, IfOk};
 ghost use Rattle.std.specs.List.{list_all};
 ghost use Rattle.sr_cell.specs.Cells.{cell_at};
 ghost use Rattle.sr_cell.specs.Columns.{fits_columns};
@@ -8,22 +8,30 @@ ghost use Rattle.sr_tables.specs.Stored.{IsKeyed};
 ghost use Rattle.sr_tables.specs.Inserts.{are_apart};
 ghost use Rattle.sr_tables.specs.Added.{added_row, added_rows, is_changed, is_unchanged};
 
-use crate::changes::copy_of_key;
+use crate::changes::key_and_row;
 use sr_cell::cell::{Row, Rows};
 use sr_cell::change::{Change, Changes};
-use sr_cell::list::{Copied, NoMemory, Seq};
+use sr_cell::list::{NoMemory, Seq};
 use sr_cell::table::Table;
 use sr_keyed::keyed::KeyedRows;
 use std::alloc::Global;
 
-fn change_of(alloc: Global, number: u8, key: usize, row: &Row) -> Result<Change, NoMemory>
-    ensures { IfOk result (λ change. change ≡ added_row number key row.now) }
+/// One change more, for a row that was not there before.
+fn push_added(
+    alloc: Global,
+    changes: &mut Changes,
+    number: u8,
+    key: usize,
+    row: &Row,
+) -> Result<(), NoMemory>
+    ensures { OnOk result (changes.new ≡ changes.old ++ added_row number key row.now ∷ []) }
 {
-    Ok(Change {
+    let (key, after) = key_and_row(alloc, row, key)?;
+    changes.push(Change {
         table: number,
-        key: copy_of_key(alloc, row, key)?,
+        key,
         before: None,
-        after: Some(row.copy(alloc)?),
+        after: Some(after),
     })
 }
 
@@ -33,7 +41,7 @@ fn changes_of(alloc: Global, number: u8, key: usize, added: &Rows) -> Result<Cha
 {
     let mut changes: Changes = Seq::new(alloc);
     for row in added.as_slice() {
-        changes.push(change_of(alloc, number, key, row)?)?;
+        push_added(alloc, &mut changes, number, key, row)?;
     }
     Ok(changes)
 }

@@ -274,6 +274,5 @@ pub(crate) fn select(
     ensures { IfOk result (λ out. out ≡ map (project attrs) (filter (in_any rects.now) rows.now.rows)) }
 {
     let near = near_rows(alloc, rows, rects.as_slice())?;
-    let out = selected_among(alloc, near.as_slice(), attrs, rects)?;
-    Ok(out)
+    selected_among(alloc, near.as_slice(), attrs, rects)
 }

@@ -93,15 +93,14 @@ fn update_changes(
     let low = low_key(wanted, table);
     let high = high_key(wanted, table);
     let near = rows.between(alloc, low, high)?;
-    let changes = changes_among(
+    changes_among(
         alloc,
         number,
         table.key as usize,
         near.as_slice(),
         sets,
         wanted,
-    )?;
-    Ok(changes)
+    )
 }
 
 /// Puts rows in the place of those that have their keys; never fails.

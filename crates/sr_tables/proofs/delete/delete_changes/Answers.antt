@@ -1,6 +1,10 @@
+use Rattle.std.proofs.Common.{◌≡◌, map, ◌∙◌}
+use Rattle.std.specs.Prelude.{filter}
 use Rattle.std.specs.Option.{option_copied}
+use Rattle.std.proofs.lemmas.Result.{IfOk-weaker}
 use Rattle.sr_query.specs.Written.{condition_of}
 use Rattle.sr_model.specs.Statements.{meets}
+use Rattle.sr_tables.specs.Steps.{delete_change}
 use Rattle.sr_tables.proofs.Outcomes.{near-kept}
 use Rattle.sr_tables.proofs.delete.delete_changes.Goals as goal
 
@@ -10,5 +14,6 @@ returns c =
     c.low_key-low.ensures c.high_key-high.ensures in
     let value = c.as_slice.ensures.value in
     let some = c.in_ok-near.ensures in
-    let out = c.in_ok-changes.ensures in
-    cc
+    let whole : map (delete_change c.args.number c.args.table.now.key) (filter (meets (condition_of c.args.wanted.now.condition)) (map (λ r. r.now) c.as_slice.result.now))
+    ≡ map (delete_change c.args.number c.args.table.now.key) (filter (meets (condition_of c.args.wanted.now.condition)) c.args.rows.now.rows) = cc in
+    IfOk-weaker c.changes_among.result _ _ (λ changes out. out ∙ whole) c.changes_among.ensures

@@ -12,11 +12,10 @@ use sr_cell::list::{No, NoMemory};
 use sr_io::outside::{Dock, Sink};
 use sr_io::whole::write_all;
 use std::alloc::Global;
-use std::fmt::Write;
 
 /// How serving ended: all connections were served and none ended by a fault; the link failed, at one of them or before the next; or a
 /// line could not be written.
-#[derive(Clone, Copy, Debug, PartialEq, Eq)]
+#[derive(Clone, Copy)]
 pub enum Ending {
     Whole,
     Faulty,
@@ -64,14 +63,8 @@ fn word_of(how: How) -> &'static str
 fn line_of(alloc: Global, number: u32, served: Served) -> Result<String, NoMemory>
     ensures { IfOk result (λ line. string_bytes line ≡ connection_line number served.how served.frames) }
 {
-    let mut line = String::new(alloc);
-    write!(
-        line,
-        "connection {number} {} {}\n",
-        word_of(served.how),
-        served.frames
-    )?;
-    Ok(line)
+    let how = word_of(served.how);
+    Ok(format!(in alloc; "connection {number} {how} {}\n", served.frames)?)
 }
 
 fn ending_of(faulty: bool) -> Ending

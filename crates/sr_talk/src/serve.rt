@@ -25,7 +25,7 @@ const MOST_FRAMES: u32 = 1_000_000;
 
 /// How a connection ended: the peer said no more; it said no more inside of a frame; the link failed; what came next begins no frame; a
 /// frame came that must be refused; or the peer had all its frames.
-#[derive(Clone, Copy, Debug, PartialEq, Eq)]
+#[derive(Clone, Copy)]
 pub enum How {
     End,
     Torn,
@@ -36,14 +36,14 @@ pub enum How {
 }
 
 /// A connection that is over: how it ended, and how many whole frames were read. One that was refused is among them.
-#[derive(Clone, Copy, Debug, PartialEq, Eq)]
+#[derive(Clone, Copy)]
 pub struct Served {
     pub how: How,
     pub frames: u32,
 }
 
 /// What came of one message: all was sent, it was refused, or the link failed.
-#[derive(Clone, Copy, Debug, PartialEq, Eq)]
+#[derive(Clone, Copy)]
 enum Turn {
     Whole,
     Refused,
@@ -137,16 +137,34 @@ pub fn serve_connection<L: Link, S: Serves>(
     ensures stays_up { (L.linking link.new).is_up ≡ (L.linking link.old).is_up }
     ensures steady_fails_only_down { L.IsSteady link.old → (L.linking link.old).is_up ≡ true → IfOk result (λ served. served.how ≢ ByFault) }
 {
-    let mut feed = Feed::new(alloc);
+    serve_frames(alloc, link, server, &mut Feed::new(alloc))
+}
+
+/// Serves a connection of which nothing was read yet.
+fn serve_frames<L: Link, S: Serves>(
+    alloc: Global,
+    link: &mut L,
+    server: &mut S,
+    feed: &mut Feed,
+) -> Result<Served, NoMemory>
+    requires unread { feed.old ≡ [] }
+    requires stands { (s : Server) × S.is_of server.old s }
+    requires room { 1000000 ≤ S.room server.old }
+    ensures talked { (s : Server) → S.is_of server.old s → IfOk result (λ served. Talks S.gives s (L.linking link.old) (L.linking link.new) served.how served.frames (S.is_of server.new)) }
+    ensures draws { S.room server.old ≤ S.room server.new + 1000000 }
+    ensures stays { OnlyLinks L L.reading L.writing L.linking L.held L.complaints L.IsSteady link.old link.new }
+    ensures stays_up { (L.linking link.new).is_up ≡ (L.linking link.old).is_up }
+    ensures steady_fails_only_down { L.IsSteady link.old → (L.linking link.old).is_up ≡ true → IfOk result (λ served. served.how ≢ ByFault) }
+{
     for frames in 0..MOST_FRAMES {
-        let message = match next_frame(alloc, link, &mut feed)? {
+        let turn = match next_frame(alloc, link, feed)? {
             Next::End => return Ok(ended(How::End, frames)),
             Next::Torn => return Ok(ended(How::Torn, frames)),
             Next::Fault => return Ok(ended(How::Fault, frames)),
             Next::Bad(_) => return Ok(ended(How::Bad, frames)),
-            Next::Frame(message) => message,
+            Next::Frame(message) => answer_frame(alloc, link, server, &message),
         };
-        match answer_frame(alloc, link, server, &message)? {
+        match turn? {
             Turn::Whole => {}
             // it was read whole
             Turn::Refused => return Ok(ended(How::Refused, frames + 1)),

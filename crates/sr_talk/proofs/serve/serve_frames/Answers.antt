@@ -3,7 +3,7 @@ use Rattle.sr_talk.specs.Reading.{Nexts}
 use Rattle.sr_talk.specs.Talked.{Turns}
 use Rattle.sr_talk.proofs.MoveLemmas.{stays-on}
 use Rattle.sr_talk.proofs.TalkLemmas.{at-end, at-torn, at-fault, at-bad, at-refused, at-broken, at-limit, so-far-more}
-use Rattle.sr_talk.proofs.serve.serve_connection.Goals as goal
+use Rattle.sr_talk.proofs.serve.serve_frames.Goals as goal
 
 pub returns-in-End-clause-talked : goal.returns-in-End-clause-talked
 returns-in-End-clause-talked g c s is =
@@ -38,35 +38,35 @@ returns-in-Refused-clause-talked g c s is =
     let h = c.loop-frames.invariant.so_far s is in
     let next = subst (λ next. Nexts next (g.L.Outside.linking c.loop-frames.link) (g.L.Outside.linking c.next_frame.new.link) c.loop-frames.feed c.next_frame.new.feed) c.in-Frame.is c.in_ok-next_frame.ensures.next in
     rw (c.ended-in-Refused.ensures)
-    (at-refused g.S.Serves.gives s (g.L.Outside.linking c.args.link.now) (g.L.Outside.linking c.loop-frames.link) (g.L.Outside.linking c.next_frame.new.link) (g.L.Outside.linking c.answer_frame.new.link)
-    c.loop-frames.feed c.next_frame.new.feed c.in-Frame.message c.loop-frames.frames (g.S.Serves.is_of c.loop-frames.server) (g.S.Serves.is_of c.answer_frame.new.server) h (search rules) next.0 next.1
-    (subst (λ turn. Turns g.S.Serves.gives turn h.after c.in-Frame.message (g.L.Outside.linking c.next_frame.new.link) (g.L.Outside.linking c.answer_frame.new.link) (g.S.Serves.is_of c.answer_frame.new.server))
-    c.in-Refused.is (c.in_ok-answer_frame.ensures.turn h.after h.stands)))
+    (at-refused g.S.Serves.gives s (g.L.Outside.linking c.args.link.now) (g.L.Outside.linking c.loop-frames.link) (g.L.Outside.linking c.next_frame.new.link) (g.L.Outside.linking c.answer_frame-turn.new.link)
+    c.loop-frames.feed c.next_frame.new.feed c.in-Frame.message c.loop-frames.frames (g.S.Serves.is_of c.loop-frames.server) (g.S.Serves.is_of c.answer_frame-turn.new.server) h (search rules) next.0 next.1
+    (subst (λ turn. Turns g.S.Serves.gives turn h.after c.in-Frame.message (g.L.Outside.linking c.next_frame.new.link) (g.L.Outside.linking c.answer_frame-turn.new.link) (g.S.Serves.is_of c.answer_frame-turn.new.server))
+    c.in-Refused.is (c.in_ok-turn.ensures.turn h.after h.stands)))
 
 pub returns-in-Broken-clause-talked : goal.returns-in-Broken-clause-talked
 returns-in-Broken-clause-talked g c s is =
     let h = c.loop-frames.invariant.so_far s is in
     let next = subst (λ next. Nexts next (g.L.Outside.linking c.loop-frames.link) (g.L.Outside.linking c.next_frame.new.link) c.loop-frames.feed c.next_frame.new.feed) c.in-Frame.is c.in_ok-next_frame.ensures.next in
     rw (c.ended-in-Broken.ensures)
-    (at-broken g.S.Serves.gives s (g.L.Outside.linking c.args.link.now) (g.L.Outside.linking c.loop-frames.link) (g.L.Outside.linking c.next_frame.new.link) (g.L.Outside.linking c.answer_frame.new.link)
-    c.loop-frames.feed c.next_frame.new.feed c.in-Frame.message c.loop-frames.frames (g.S.Serves.is_of c.loop-frames.server) (g.S.Serves.is_of c.answer_frame.new.server) h (search rules) next.0 next.1
-    (subst (λ turn. Turns g.S.Serves.gives turn h.after c.in-Frame.message (g.L.Outside.linking c.next_frame.new.link) (g.L.Outside.linking c.answer_frame.new.link) (g.S.Serves.is_of c.answer_frame.new.server))
-    c.in-Broken.is (c.in_ok-answer_frame.ensures.turn h.after h.stands)))
+    (at-broken g.S.Serves.gives s (g.L.Outside.linking c.args.link.now) (g.L.Outside.linking c.loop-frames.link) (g.L.Outside.linking c.next_frame.new.link) (g.L.Outside.linking c.answer_frame-turn.new.link)
+    c.loop-frames.feed c.next_frame.new.feed c.in-Frame.message c.loop-frames.frames (g.S.Serves.is_of c.loop-frames.server) (g.S.Serves.is_of c.answer_frame-turn.new.server) h (search rules) next.0 next.1
+    (subst (λ turn. Turns g.S.Serves.gives turn h.after c.in-Frame.message (g.L.Outside.linking c.next_frame.new.link) (g.L.Outside.linking c.answer_frame-turn.new.link) (g.S.Serves.is_of c.answer_frame-turn.new.server))
+    c.in-Broken.is (c.in_ok-turn.ensures.turn h.after h.stands)))
 
 pub loop-frames-preserved : goal.loop-frames-preserved
 loop-frames-preserved g c = record {
   so_far = λ s is.
       let h = c.loop-frames.invariant.so_far s is in
       let next = subst (λ next. Nexts next (g.L.Outside.linking c.loop-frames.link) (g.L.Outside.linking c.next_frame.new.link) c.loop-frames.feed c.next_frame.new.feed) c.in-Frame.is c.in_ok-next_frame.ensures.next in
-      so-far-more g.S.Serves.gives s (g.L.Outside.linking c.args.link.now) (g.L.Outside.linking c.loop-frames.link) (g.L.Outside.linking c.next_frame.new.link) (g.L.Outside.linking c.answer_frame.new.link)
-      c.loop-frames.feed c.next_frame.new.feed c.in-Frame.message c.loop-frames.frames (g.S.Serves.is_of c.loop-frames.server) (g.S.Serves.is_of c.answer_frame.new.server) h next.0 next.1
-      (subst (λ turn. Turns g.S.Serves.gives turn h.after c.in-Frame.message (g.L.Outside.linking c.next_frame.new.link) (g.L.Outside.linking c.answer_frame.new.link) (g.S.Serves.is_of c.answer_frame.new.server))
-      c.in-Whole.is (c.in_ok-answer_frame.ensures.turn h.after h.stands));
-  draws = (let before = c.loop-frames.invariant.draws in let one = c.answer_frame.ensures.draws in omega (arith, before, one));
-  stays = stays-on _ g.L.Outside.reading g.L.Outside.writing g.L.Outside.linking g.L.Outside.held g.L.Outside.complaints g.L.Outside.IsSteady c.args.link.now c.next_frame.new.link c.answer_frame.new.link
+      so-far-more g.S.Serves.gives s (g.L.Outside.linking c.args.link.now) (g.L.Outside.linking c.loop-frames.link) (g.L.Outside.linking c.next_frame.new.link) (g.L.Outside.linking c.answer_frame-turn.new.link)
+      c.loop-frames.feed c.next_frame.new.feed c.in-Frame.message c.loop-frames.frames (g.S.Serves.is_of c.loop-frames.server) (g.S.Serves.is_of c.answer_frame-turn.new.server) h next.0 next.1
+      (subst (λ turn. Turns g.S.Serves.gives turn h.after c.in-Frame.message (g.L.Outside.linking c.next_frame.new.link) (g.L.Outside.linking c.answer_frame-turn.new.link) (g.S.Serves.is_of c.answer_frame-turn.new.server))
+      c.in-Whole.is (c.in_ok-turn.ensures.turn h.after h.stands));
+  draws = (let before = c.loop-frames.invariant.draws in let one = c.answer_frame-turn.ensures.draws in omega (arith, before, one));
+  stays = stays-on _ g.L.Outside.reading g.L.Outside.writing g.L.Outside.linking g.L.Outside.held g.L.Outside.complaints g.L.Outside.IsSteady c.args.link.now c.next_frame.new.link c.answer_frame-turn.new.link
       (stays-on _ g.L.Outside.reading g.L.Outside.writing g.L.Outside.linking g.L.Outside.held g.L.Outside.complaints g.L.Outside.IsSteady c.args.link.now c.loop-frames.link c.next_frame.new.link c.loop-frames.invariant.stays c.next_frame.ensures.stays)
-      c.answer_frame.ensures.stays;
-  up = c.answer_frame.ensures.stays_up ∙ (c.next_frame.ensures.stays_up ∙ c.loop-frames.invariant.up);
+      c.answer_frame-turn.ensures.stays;
+  up = c.answer_frame-turn.ensures.stays_up ∙ (c.next_frame.ensures.stays_up ∙ c.loop-frames.invariant.up);
 }
 
 pub returns-clause-talked : goal.returns-clause-talked

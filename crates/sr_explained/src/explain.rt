@@ -18,7 +18,7 @@ ghost use Rattle.sr_world.specs.declared.replay.RunFault.{RunFault as TheRunFaul
 ghost use Rattle.sr_world.specs.declared.replay.RunFault.TheVariants.{WriteFault, Line};
 ghost use Rattle.sr_world.specs.Replay.{outside};
 ghost use Rattle.sr_world.specs.Worlds.{Represents, StandsForSome};
-ghost use Rattle.sr_explained.specs.After.{Behind, WroteBehind, WrotePart, IsRefusedFor, IsTextFor, AreLinesFor};
+ghost use Rattle.sr_explained.specs.After.{Behind, WroteBehind, WrotePart, IsRefusedFor, IsTextFor, TextOf, AreLinesFor};
 
 use crate::nowhere::Nowhere;
 use sr_cell::fault::Fault;
@@ -96,18 +96,24 @@ fn text_behind(
     ensures line_first { (at : TheLinePlace) → outside options.clients script.now ≡ Some at → IsErrOf result (Refused (Line at.line at.place)) ⊎ IsErrOf result Wanting }
     ensures never_writes { ¬ IsErrOf result (Refused WriteFault) }
 {
-    let world = match replay(alloc, options, script, loads, &mut Nowhere) {
-        Ok(world) => world,
+    let text = match replay(alloc, options, script, loads, &mut Nowhere) {
+        Ok(world) => text_over(alloc, &world, sql),
         Err(no) => return Err(no),
     };
-    let query = match query_of(alloc, world.server.tables.schema(), sql) {
-        Ok(query) => query,
-        Err(_) => return Err(No::NoMemory),
-    };
-    match text_of(alloc, &world, &query) {
+    match text {
         Ok(text) => Ok(text),
         Err(_) => Err(No::NoMemory),
     }
+}
+
+/// The text of the lines that explain to client 1 what the SQL asks of the tables, or why it is refused.
+fn text_over(alloc: Global, world: &World, sql: &str) -> Result<String, NoMemory>
+    requires world { StandsForSome world.now }
+    requires first { 0 < length world.now.seats.items }
+    ensures { (s : Scene) → Represents world.now s → IfOk result (λ text. TextOf s sql.now (string_bytes text)) }
+{
+    let query = query_of(alloc, world.server.tables.schema(), sql)?;
+    text_of(alloc, world, &query)
 }
 
 /// The text of the lines that explain a query, or its fault, to client 1.

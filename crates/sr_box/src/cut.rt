@@ -9,18 +9,6 @@ use sr_cell::cell::is_text_at_most;
 use sr_cell::list::{Bytes, Copied, NoMemory, Seq};
 use std::alloc::Global;
 
-fn lesser(one: i64, other: i64) -> i64
-    ensures { result ≡ int_min one other }
-{
-    if other < one { other } else { one }
-}
-
-fn greater(one: i64, other: i64) -> i64
-    ensures { result ≡ int_max one other }
-{
-    if other < one { one } else { other }
-}
-
 fn are_nums(lo: i64, hi: i64) -> bool
     ensures { result ≡ is_some (nums lo hi) }
 {
@@ -42,8 +30,7 @@ fn nums_under(lo: i64, hi: i64, number: i64) -> Option<Span>
     requires { (pos 0 -ℤ pos (2 ^ 62)) <ℤ number }
     ensures { result ≡ nums lo (int_min hi (number -ℤ pos 1)) }
 {
-    let before = number - 1;
-    some_nums(lo, lesser(hi, before))
+    some_nums(lo, hi.min(number - 1))
 }
 
 // The numbers from `lo` to `hi` that lie over this number.
@@ -51,8 +38,7 @@ fn nums_over(lo: i64, hi: i64, number: i64) -> Option<Span>
     requires { number <ℤ pos (2 ^ 62) }
     ensures { result ≡ nums (int_max lo (number +ℤ pos 1)) hi }
 {
-    let after = number + 1;
-    some_nums(greater(lo, after), hi)
+    some_nums(lo.max(number + 1), hi)
 }
 
 fn some_strs(lo: Bytes, hi: Option<Bytes>) -> Option<Span>

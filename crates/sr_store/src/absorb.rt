@@ -1,5 +1,5 @@
 //! Regions whose points are all held under more columns.
-ghost use Rattle.std.specs.Prelude.{◌≡◌, ◌==◌, ◌<◌, ◌&&◌, ◌↔◌, not, true, false, [], ◌∷◌, ◌++◌, length, IfOk, OnOk, IsTrue};
+ghost use Rattle.std.specs.Prelude.{◌≡◌, Bool, ◌==◌, ◌<◌, ◌&&◌, ◌↔◌, not, true, false, [], ◌∷◌, ◌++◌, length, IfOk, OnOk, IsTrue};
 ghost use Rattle.std.specs.List.{list_all, All, AllZip};
 ghost use Rattle.sr_cell.specs.declared.table.Column.{Column};
 ghost use Rattle.sr_cell.specs.Columns.{table_at};
@@ -22,11 +22,11 @@ use sr_region::region::Region;
 use sr_union::rects::Rects;
 use std::alloc::Global;
 
-/// Whether the region is of the table, with strictly more columns.
-fn is_wider(region: &Region, table: u8, attrs: Attrs) -> bool
-    ensures { result ≡ (region.now.table == table && (includes region.now.attrs attrs && not (region.now.attrs == attrs))) }
+/// Whether the tables are the same, and the columns strictly more than the narrow ones.
+fn is_wider(table: u8, attrs: Attrs, narrow_table: u8, narrow_attrs: Attrs) -> bool
+    ensures { result ≡ (table == narrow_table && (includes attrs narrow_attrs && not (attrs == narrow_attrs))) }
 {
-    region.table == table && region.attrs.includes(attrs) && region.attrs != attrs
+    table == narrow_table && attrs.includes(narrow_attrs) && attrs != narrow_attrs
 }
 
 fn push_wider(
@@ -38,30 +38,30 @@ fn push_wider(
 ) -> Result<(), NoMemory>
     ensures { OnOk result (found.new ≡ found.old ++ near rects.now (wider (region.now ∷ []) narrow.now.table narrow.now.attrs)) }
 {
-    if is_wider(region, narrow.table, narrow.attrs) {
+    if is_wider(region.table, region.attrs, narrow.table, narrow.attrs) {
         return found.append(region.rects.near(alloc, rects)?);
     }
     Ok(())
 }
 
-/// The rects of the regions of its table with strictly more columns, as far as they meet those.
+/// At the end the rects of the regions of its table with strictly more columns, as far as they meet those.
 #[tactic(auto, using(crate::proofs::Nearing::near_wider))]
-fn wider_near(
+fn push_all_wider(
     alloc: Global,
+    found: &mut Rects,
     regions: &[Region],
     narrow: &Region,
     rects: &Rects,
-) -> Result<Rects, NoMemory>
-    ensures { IfOk result (λ found. found ≡ near rects.now (wider regions.now narrow.now.table narrow.now.attrs)) }
+) -> Result<(), NoMemory>
+    ensures { OnOk result (found.new ≡ found.old ++ near rects.now (wider regions.now narrow.now.table narrow.now.attrs)) }
 {
-    let mut found = Rects::new(alloc);
     for region in regions {
-        push_wider(alloc, &mut found, region, narrow, rects)?;
+        push_wider(alloc, found, region, narrow, rects)?;
     }
-    Ok(found)
+    Ok(())
 }
 
-/// The same of two lists of regions.
+/// The rects of the regions of two lists of its table with strictly more columns, as far as they meet those.
 #[tactic(auto, using(sr_union::proofs::Meets::near_append))]
 fn wider_near_both(
     alloc: Global,
@@ -72,9 +72,9 @@ fn wider_near_both(
 ) -> Result<Rects, NoMemory>
     ensures { IfOk result (λ found. found ≡ near rects.now (wider_both still.now news.now narrow.now)) }
 {
-    let mut found = wider_near(alloc, still, narrow, rects)?;
-    let more = wider_near(alloc, news, narrow, rects)?;
-    found.append(more).and(Ok(found))
+    let mut found = Rects::new(alloc);
+    push_all_wider(alloc, &mut found, still, narrow, rects)?;
+    push_all_wider(alloc, &mut found, news, narrow, rects).and(Ok(found))
 }
 
 fn single(alloc: Global, rect: &Rect) -> Result<Rects, NoMemory>
@@ -108,32 +108,8 @@ fn is_covered(
     one.within(alloc, &found, table)
 }
 
-/// The same of each of some rects; the first that is not covered decides.
-fn are_covered(
-    alloc: Global,
-    schema: &Schema,
-    still: &[Region],
-    news: &[Region],
-    region: &Region,
-    rects: &[Rect],
-) -> Result<bool, NoMemory>
-    requires tables { IsTrue (list_all is_table schema.now) }
-    requires still { All (IsOfSchema schema.now) still.now }
-    requires news { All (IsOfSchema schema.now) news.now }
-    requires table { region.now.table < length schema.now }
-    requires fit { list_all (rect_fits (table_at schema.now region.now.table).columns) rects.now ≡ true }
-    ensures within { IfOk result (λ yes. yes ≡ true → IsWithin (table_at schema.now region.now.table).columns rects.now (wider_both still.now news.now region.now)) }
-    ensures outside { IfOk result (λ yes. yes ≡ false → HasOutside (table_at schema.now region.now.table).columns rects.now (wider_both still.now news.now region.now)) }
-{
-    for rect in rects {
-        if !is_covered(alloc, schema, still, news, region, rect)? {
-            return Ok(false);
-        }
-    }
-    Ok(true)
-}
-
-/// Whether the region's points are all in regions of the two lists with strictly more columns.
+/// Whether the region's points are all in regions of the two lists with strictly more columns; the first rect that is not covered
+/// decides.
 fn is_absorbed(
     alloc: Global,
     schema: &Schema,
@@ -147,8 +123,12 @@ fn is_absorbed(
     requires region { IsOfSchema schema.now region.now }
     ensures absorbed { IfOk result (λ yes. IsTrue yes ↔ IsAbsorbedBy schema.now still.now news.now region.now) }
 {
-    let yes = are_covered(alloc, schema, still, news, region, region.rects.as_slice())?;
-    Ok(yes)
+    for rect in region.rects.as_slice() {
+        if !is_covered(alloc, schema, still, news, region, rect)? {
+            return Ok(false);
+        }
+    }
+    Ok(true)
 }
 
 /// Whether some arrival with strictly more columns may have points of the region.
@@ -156,20 +136,13 @@ fn may_be_met(region: &Region, arrivals: &[Arrival]) -> bool
     ensures { result ≡ false → IsUnmet arrivals.now region.now }
 {
     for arrival in arrivals {
-        if brings_more(arrival, region.table, region.attrs) {
+        if is_wider(arrival.table, arrival.attrs, region.table, region.attrs) {
             if may_meet(&region.rects, &arrival.rects) {
                 return true;
             }
         }
     }
     false
-}
-
-/// Whether the arrival is of the table, with strictly more columns.
-fn brings_more(arrival: &Arrival, table: u8, attrs: Attrs) -> bool
-    ensures { result ≡ (arrival.now.table == table && (includes arrival.now.attrs attrs && not (arrival.now.attrs == attrs))) }
-{
-    arrival.table == table && arrival.attrs.includes(attrs) && arrival.attrs != attrs
 }
 
 /// A flag for each region of which an arrival with more columns may have points.
@@ -187,6 +160,30 @@ pub(crate) fn met_by(
     Ok(flags)
 }
 
+/// A flag at the end, whether the region's points are all in regions of the two lists with strictly more columns; where it is not
+/// met, it is known that they are not.
+fn push_absorbed(
+    alloc: Global,
+    schema: &Schema,
+    still: &[Region],
+    news: &[Region],
+    region: &Region,
+    met: bool,
+    flags: &mut Seq<bool>,
+) -> Result<(), NoMemory>
+    requires tables { IsTrue (list_all is_table schema.now) }
+    requires still { All (IsOfSchema schema.now) still.now }
+    requires news { All (IsOfSchema schema.now) news.now }
+    requires region { IsOfSchema schema.now region.now }
+    requires other { IsKeptOr schema.now still.now news.now met region.now }
+    ensures { OnOk result ((yes : Bool) × (IsTrue yes ↔ IsAbsorbedBy schema.now still.now news.now region.now) × (flags.new ≡ flags.old ++ yes ∷ [])) }
+{
+    if met {
+        return flags.push(is_absorbed(alloc, schema, still, news, region)?);
+    }
+    flags.push(false)
+}
+
 /// Tells of each of the new regions whether its points are all in regions of the two lists with strictly more columns.
 pub(crate) fn absorbed(
     alloc: Global,
@@ -201,32 +198,10 @@ pub(crate) fn absorbed(
 {
     let mut flags = Seq::new(alloc);
     for region in news {
-        flags.push(is_absorbed(alloc, schema, still, news, region)?)?;
+        // What is new counts as met.
+        push_absorbed(alloc, schema, still, news, region, true, &mut flags)?;
     }
     Ok(flags)
-}
-
-/// Whether a region that can be absorbed only where it is met is so.
-fn is_absorbed_if_met(
-    alloc: Global,
-    schema: &Schema,
-    still: &[Region],
-    news: &[Region],
-    region: &Region,
-    met: bool,
-) -> Result<bool, NoMemory>
-    requires tables { IsTrue (list_all is_table schema.now) }
-    requires still { All (IsOfSchema schema.now) still.now }
-    requires news { All (IsOfSchema schema.now) news.now }
-    requires region { IsOfSchema schema.now region.now }
-    requires other { IsKeptOr schema.now still.now news.now met region.now }
-    ensures absorbed { IfOk result (λ yes. IsTrue yes ↔ IsAbsorbedBy schema.now still.now news.now region.now) }
-{
-    if met {
-        is_absorbed(alloc, schema, still, news, region)
-    } else {
-        Ok(false)
-    }
 }
 
 /// The same of the regions that stay, of which only the flagged ones are tested: the others are known not to be absorbed.
@@ -245,8 +220,7 @@ pub(crate) fn still_absorbed(
 {
     let mut flags = Seq::new(alloc);
     for i in 0..still.len() {
-        let yes = is_absorbed_if_met(alloc, schema, still, news, &still[i], met[i])?;
-        flags.push(yes)?;
+        push_absorbed(alloc, schema, still, news, &still[i], met[i], &mut flags)?;
     }
     Ok(flags)
 }

@@ -178,17 +178,8 @@ fn news_of(
     Ok(news)
 }
 
-/// The marks, and behind them the drops of absorbed regions.
-fn with_drops(alloc: Global, marks: Marks, absorbed: Seq<Region>) -> Result<Marks, NoMemory>
-    ensures { IfOk result (λ all. all ≡ marks ++ map (drop_of Absorbed) absorbed) }
-{
-    let mut all = marks;
-    all.append(drop_marks(alloc, Cause::Absorbed, absorbed)?)
-        .and(Ok(all))
-}
-
 /// Two lists of parted regions together: the regions without flag, and the drops of the others behind the marks.
-fn join_parted(alloc: Global, still: Parted, news: Parted, marks: Marks) -> Result<Answer, NoMemory>
+fn join_parted(still: Parted, news: Parted, marks: Marks) -> Result<Answer, NoMemory>
     requires plain_order { ascends still.plain ≡ true }
     requires plain_join { CanJoin still.plain news.plain }
     requires flagged_order { ascends still.flagged ≡ true }
@@ -197,7 +188,7 @@ fn join_parted(alloc: Global, still: Parted, news: Parted, marks: Marks) -> Resu
     ensures marks { IfOk result (λ answer. answer.marks ≡ marks ++ map (drop_of Absorbed) (with_regions still.flagged news.flagged)) }
 {
     let absorbed = together(still.flagged, news.flagged)?;
-    let marks = with_drops(alloc, marks, absorbed)?;
+    let marks = drop_marks(marks, Cause::Absorbed, absorbed)?;
     let regions = together(still.plain, news.plain)?;
     Ok(Answer { regions, marks })
 }
@@ -216,9 +207,14 @@ fn put_together(
     ensures regions { IfOk result (λ answer. answer.regions ≡ with_regions (flagged false news.still_absorbed still) (flagged false news.absorbed news.regions)) }
     ensures marks { IfOk result (λ answer. answer.marks ≡ marks ++ map (drop_of Absorbed) (with_regions (flagged true news.still_absorbed still) (flagged true news.absorbed news.regions))) }
 {
-    let still = sift(alloc, still, news.still_absorbed.as_slice())?;
-    let news = sift(alloc, news.regions, news.absorbed.as_slice())?;
-    join_parted(alloc, still, news, marks)
+    let News {
+        regions,
+        absorbed,
+        still_absorbed,
+    } = news;
+    let still = sift(alloc, still, still_absorbed)?;
+    let news = sift(alloc, regions, absorbed)?;
+    join_parted(still, news, marks)
 }
 
 /// The drops of the regions of both lists, in class order.
@@ -227,7 +223,7 @@ fn given_up(alloc: Global, still: Seq<Region>, changed: Seq<Region>) -> Result<M
     requires join { CanJoin still changed }
     ensures { IfOk result (λ marks. marks ≡ map (drop_of Pieces) (with_regions still changed)) }
 {
-    drop_marks(alloc, Cause::Pieces, together(still, changed)?)
+    drop_marks(Seq::new(alloc), Cause::Pieces, together(still, changed)?)
 }
 
 /// What an answer makes of parted regions; the copies are of those that it may change, and the marks of what arrived.

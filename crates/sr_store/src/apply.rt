@@ -1,5 +1,5 @@
 //! What notices do to regions.
-ghost use Rattle.std.specs.Prelude.{◌≡◌, map, OnOk, List};
+ghost use Rattle.std.specs.Prelude.{◌≡◌, map, IfOk, OnOk, List};
 ghost use Rattle.std.specs.List.{All};
 ghost use Rattle.sr_cell.specs.declared.table.Table.{Table};
 ghost use Rattle.sr_store.specs.Stores.{IsOfSchema, IsStore};
@@ -9,7 +9,6 @@ use sr_cell::list::{NoMemory, Seq};
 use sr_message::message::Tell;
 use sr_region::region::Region;
 use std::alloc::Global;
-use std::mem;
 
 /// One region once these are told.
 fn tell_one(alloc: Global, region: &mut Region, told: &[Tell]) -> Result<(), NoMemory>
@@ -37,14 +36,13 @@ fn tell_each(alloc: Global, regions: &mut [Region], told: &[Tell]) -> Result<(),
 /// The regions once these are told.
 pub(crate) fn told_all(
     alloc: Global,
-    regions: &mut Seq<Region>,
+    regions: Seq<Region>,
     told: &[Tell],
-) -> Result<(), NoMemory>
-    requires { (schema : List Table) × IsStore schema regions.old × All (IsTellOf schema) told.now }
-    ensures { OnOk result (regions.new ≡ map (told_to told.now) regions.old) }
+) -> Result<Seq<Region>, NoMemory>
+    requires { (schema : List Table) × IsStore schema regions × All (IsTellOf schema) told.now }
+    ensures { IfOk result (λ all. all ≡ map (told_to told.now) regions) }
 {
-    let mut all = mem::replace(regions, Seq::new(alloc)).into_vec();
+    let mut all = regions.into_vec();
     tell_each(alloc, &mut all, told)?;
-    *regions = Seq::from_vec(all);
-    Ok(())
+    Ok(Seq::from_vec(all))
 }

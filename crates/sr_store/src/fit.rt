@@ -1,5 +1,5 @@
 //! Regions within the limits.
-ghost use Rattle.std.specs.Prelude.{◌≡◌, ◌≢◌, ◌<◌, ◌-◌, ◌^◌, true, min, nat_lt, List, [], ◌++◌, length, option_to_list, IfOk, OnOk, IsTrue};
+ghost use Rattle.std.specs.Prelude.{◌≡◌, ◌≢◌, ◌<◌, ◌-◌, ◌^◌, true, min, nat_lt, List, [], ◌∷◌, ◌++◌, length, IfOk, OnOk, IsTrue};
 ghost use Rattle.std.specs.List.{list_all, All, AllZip};
 ghost use Rattle.sr_cell.specs.declared.cause.Cause.TheVariants.{Rows, Regions};
 ghost use Rattle.sr_cell.specs.declared.table.Table.{Table as TheTable};
@@ -7,6 +7,7 @@ ghost use Rattle.sr_cell.specs.Columns.{table_at};
 ghost use Rattle.sr_box.specs.Points.{rect_fits};
 ghost use Rattle.sr_history.specs.declared.mark.Mark.{Mark as TheMark};
 ghost use Rattle.sr_union.specs.Centre.{centre_of};
+ghost use Rattle.sr_policy.specs.declared.policy.ClassView.{ClassView as View};
 ghost use Rattle.sr_query.specs.Bound.{is_table};
 ghost use Rattle.sr_query.specs.declared.query.Part.{Part as ThePart};
 ghost use Rattle.sr_store.specs.Stores.{IsOfSchema, IsStore};
@@ -50,15 +51,20 @@ fn are_many(regions: &[Region], limits: Limits) -> bool
     regions.len() > limits.regions as usize
 }
 
-/// The region as a policy sees it.
-fn view_of(alloc: Global, schema: &Schema, region: &Region) -> Result<ClassView, NoMemory>
+/// The region at the end as a policy sees it.
+fn push_view(
+    alloc: Global,
+    schema: &Schema,
+    views: &mut ClassViews,
+    region: &Region,
+) -> Result<(), NoMemory>
     requires tables { IsTrue (list_all is_table schema.now) }
     requires region { IsOfSchema schema.now region.now }
-    ensures { IfOk result (IsViewOf schema.now region.now) }
+    ensures { OnOk result ((view : View) × IsViewOf schema.now region.now view × (views.new ≡ views.old ++ view ∷ [])) }
 {
     let table = table_at(schema, region.table);
     match region.rects.centre(alloc, table)? {
-        Some(centre) => Ok(ClassView {
+        Some(centre) => views.push(ClassView {
             table: region.table,
             attrs: region.attrs,
             stamp: region.stamp,
@@ -77,7 +83,7 @@ fn views_of(alloc: Global, schema: &Schema, regions: &[Region]) -> Result<ClassV
 {
     let mut views = Seq::new(alloc);
     for region in regions {
-        views.push(view_of(alloc, schema, region)?)?;
+        push_view(alloc, schema, &mut views, region)?;
     }
     Ok(views)
 }
@@ -143,19 +149,19 @@ impl Fitting {
     }
 }
 
-/// The regions that are left, and marks of those that are dropped so that they are within the limits.
+/// The regions that are left, and behind the marks those of the regions that are dropped so that they are within the limits.
 pub(crate) fn fitted(
     alloc: Global,
     schema: &Schema,
     limits: Limits,
     last: &[Last],
-    regions: Seq<Region>,
+    answer: Answer,
 ) -> Result<Answer, NoMemory>
     requires tables { IsTrue (list_all is_table schema.now) }
-    requires store { IsStore schema.now regions }
-    ensures { IfOk result (λ answer. IsFitted schema.now limits last.now regions answer.regions answer.marks) }
+    requires store { IsStore schema.now answer.regions }
+    ensures { IfOk result (λ kept. (drops : List TheMark) × IsFitted schema.now limits last.now answer.regions kept.regions drops × (kept.marks ≡ answer.marks ++ drops)) }
 {
-    let marks = Seq::new(alloc);
+    let Answer { regions, marks } = answer;
     if !are_many_rows(regions.as_slice(), limits) && !are_many(regions.as_slice(), limits) {
         return Ok(Answer { regions, marks });
     }
@@ -165,23 +171,25 @@ pub(crate) fn fitted(
         views,
         marks,
     };
-    fitting.drop_for_limits(limits, last)?;
+    let done = fitting.drop_for_limits(limits, last);
     let Fitting { regions, marks, .. } = fitting;
-    Ok(Answer { regions, marks })
+    done.and(Ok(Answer { regions, marks }))
 }
 
-/// What the part asks of its table, by the centre; none where it has no rects.
-fn last_of(alloc: Global, schema: &Schema, part: &Part) -> Result<Option<Last>, NoMemory>
+/// What the part asks of its table at the end, by the centre; nothing where it has no rects.
+fn push_last(alloc: Global, schema: &Schema, lasts: &mut Lasts, part: &Part) -> Result<(), NoMemory>
     requires tables { IsTrue (list_all is_table schema.now) }
     requires named { part.now.table < length schema.now }
     requires fit { list_all (rect_fits (table_at schema.now part.now.table).columns) part.now.rects ≡ true }
-    ensures { IfOk result (λ last. option_to_list last ≡ last_of part.now.table (centre_of (table_at schema.now part.now.table).columns part.now.rects)) }
+    ensures { OnOk result (lasts.new ≡ lasts.old ++ last_of part.now.table (centre_of (table_at schema.now part.now.table).columns part.now.rects)) }
 {
-    let centre = part.rects.centre(alloc, table_at(schema, part.table))?;
-    Ok(centre.map(|centre| Last {
-        table: part.table,
-        centre,
-    }))
+    match part.rects.centre(alloc, table_at(schema, part.table))? {
+        Some(centre) => lasts.push(Last {
+            table: part.table,
+            centre,
+        }),
+        None => Ok(()),
+    }
 }
 
 /// What the parts ask of their tables, by centres.
@@ -193,9 +201,7 @@ pub(crate) fn lasts_of(alloc: Global, schema: &Schema, parts: &[Part]) -> Result
 {
     let mut lasts = Seq::new(alloc);
     for part in parts {
-        if let Some(last) = last_of(alloc, schema, part)? {
-            lasts.push(last)?;
-        }
+        push_last(alloc, schema, &mut lasts, part)?;
     }
     Ok(lasts)
 }

@@ -1,5 +1,5 @@
 //! Marks of what is held and of what is dropped.
-ghost use Rattle.std.specs.Prelude.{◌≡◌, map, IfOk};
+ghost use Rattle.std.specs.Prelude.{◌≡◌, [], ◌∷◌, ◌++◌, map, IfOk, OnOk};
 ghost use Rattle.sr_store.specs.Stores.{drop_of};
 ghost use Rattle.sr_store.specs.Answered.{held_of};
 
@@ -10,13 +10,15 @@ use sr_history::mark::{Mark, Marks};
 use sr_region::region::Region;
 use std::alloc::Global;
 
-fn held_mark(alloc: Global, arrival: &Arrival) -> Result<Mark, NoMemory>
-    ensures { IfOk result (λ mark. mark ≡ held_of arrival.now) }
+/// At the end that what arrives is held.
+fn push_held(alloc: Global, marks: &mut Marks, arrival: &Arrival) -> Result<(), NoMemory>
+    ensures { OnOk result (marks.new ≡ marks.old ++ held_of arrival.now ∷ []) }
 {
-    Ok(Mark::Held {
+    let rects = arrival.rects.copy(alloc)?;
+    marks.push(Mark::Held {
         table: arrival.table,
         attrs: arrival.attrs,
-        rects: arrival.rects.copy(alloc)?,
+        rects,
     })
 }
 
@@ -26,7 +28,7 @@ pub(crate) fn held_marks(alloc: Global, arrivals: &[Arrival]) -> Result<Marks, N
 {
     let mut marks = Seq::new(alloc);
     for arrival in arrivals {
-        marks.push(held_mark(alloc, arrival)?)?;
+        push_held(alloc, &mut marks, arrival)?;
     }
     Ok(marks)
 }
@@ -51,17 +53,17 @@ pub(crate) fn drop_mark(cause: Cause, region: Region) -> Mark
     }
 }
 
-/// The classes of the regions are dropped.
+/// The marks, and behind them that the classes of the regions are dropped.
 pub(crate) fn drop_marks(
-    alloc: Global,
+    marks: Marks,
     cause: Cause,
     regions: Seq<Region>,
 ) -> Result<Marks, NoMemory>
-    ensures { IfOk result (λ marks. marks ≡ map (drop_of cause) regions) }
+    ensures { IfOk result (λ all. all ≡ marks ++ map (drop_of cause) regions) }
 {
-    let mut marks = Seq::new(alloc);
+    let mut all = marks;
     for region in regions.into_vec() {
-        marks.push(drop_mark(cause, region))?;
+        all.push(drop_mark(cause, region))?;
     }
-    Ok(marks)
+    Ok(all)
 }

@@ -26,15 +26,19 @@ fn are_few(flags: &[bool]) -> bool {
 }
 
 /// The regions without flag, and those with one.
-pub(crate) fn sift(alloc: Global, regions: Seq<Region>, flags: &[bool]) -> Result<Parted, NoMemory>
-    requires { length flags.now ≡ length regions }
-    ensures plain { IfOk result (λ both. both.plain ≡ flagged false flags.now regions) }
-    ensures flagged { IfOk result (λ both. both.flagged ≡ flagged true flags.now regions) }
+pub(crate) fn sift(
+    alloc: Global,
+    regions: Seq<Region>,
+    flags: Seq<bool>,
+) -> Result<Parted, NoMemory>
+    requires { length flags ≡ length regions }
+    ensures plain { IfOk result (λ both. both.plain ≡ flagged false flags regions) }
+    ensures flagged { IfOk result (λ both. both.flagged ≡ flagged true flags regions) }
 {
-    if are_few(flags) {
-        take_out(alloc, regions, flags)
+    if are_few(flags.as_slice()) {
+        take_out(alloc, regions, flags.as_slice())
     } else {
-        move_all(alloc, regions, flags)
+        move_all(alloc, regions, flags.as_slice())
     }
 }
 
@@ -118,15 +122,20 @@ pub(crate) fn parted_by(
         × (both.flagged ≡ flagged true flags regions) × All (IsStill number parts.now) both.plain) }
 {
     let flags = changing(alloc, regions.as_slice(), parts, number)?;
-    let both = sift(alloc, regions, flags.as_slice())?;
+    let both = sift(alloc, regions, flags)?;
     Ok(both)
 }
 
-fn copy_without_rows(alloc: Global, region: &Region) -> Result<Region, NoMemory>
-    ensures { IfOk result (λ copy. copy ≡ without_rows region.now) }
+/// A copy of the region at the end, without its rows.
+fn push_without_rows(
+    alloc: Global,
+    copies: &mut Seq<Region>,
+    region: &Region,
+) -> Result<(), NoMemory>
+    ensures { OnOk result (copies.new ≡ copies.old ++ without_rows region.now ∷ []) }
 {
     let rects = region.rects.copy(alloc)?;
-    Ok(Region::new(
+    copies.push(Region::new(
         alloc,
         region.table,
         region.key,
@@ -145,7 +154,7 @@ pub(crate) fn copies_without_rows(
 {
     let mut copies = Seq::new(alloc);
     for region in regions {
-        copies.push(copy_without_rows(alloc, region)?)?;
+        push_without_rows(alloc, &mut copies, region)?;
     }
     Ok(copies)
 }

@@ -39,6 +39,13 @@ fn is_touching(part: &Part, table: u8, attrs: Attrs) -> bool
     part.table == table && attrs.includes(part.need)
 }
 
+/// A copy of the other rects at the end.
+pub(crate) fn append_copy(alloc: Global, rects: &mut Rects, more: &Rects) -> Result<(), NoMemory>
+    ensures { OnOk result (rects.new ≡ rects.old ++ more.now) }
+{
+    rects.append(more.copy(alloc)?)
+}
+
 /// The rects of the parts that touch regions of that table with these columns.
 fn touching_rects(alloc: Global, parts: &[Part], table: u8, attrs: Attrs) -> Result<Rects, NoMemory>
     ensures { IfOk result (λ rects. rects ≡ touching parts.now table attrs) }
@@ -46,7 +53,7 @@ fn touching_rects(alloc: Global, parts: &[Part], table: u8, attrs: Attrs) -> Res
     let mut rects = Rects::new(alloc);
     for part in parts {
         if is_touching(part, table, attrs) {
-            rects.append(part.rects.copy(alloc)?)?;
+            append_copy(alloc, &mut rects, &part.rects)?;
         }
     }
     Ok(rects)

@@ -20,10 +20,11 @@ use crate::apply::told_all;
 use crate::fit::{count_rows, fitted, lasts_of};
 use crate::give_way::given_way;
 use crate::marks::drop_marks;
+use crate::restamp::append_copy;
 use sr_cell::attrs::Attrs;
 use sr_cell::cause::Cause;
 use sr_cell::cell::Rows;
-use sr_cell::list::{Copied, NoMemory, Seq};
+use sr_cell::list::{NoMemory, Seq};
 use sr_cell::schema::Schema;
 use sr_history::mark::Marks;
 use sr_message::message::Tell;
@@ -47,7 +48,7 @@ pub struct Arrival {
 pub type Arrivals = Seq<Arrival>;
 
 /// There is no region of that number; so many there are.
-#[derive(Clone, Copy, Debug, PartialEq, Eq)]
+#[derive(Clone, Copy)]
 pub struct NoSuch {
     pub count: usize,
 }
@@ -61,18 +62,6 @@ pub struct Store {
     pub last: Lasts,
 }
 
-fn cover_in(alloc: Global, regions: &[Region], part: &Part) -> Result<Rects, NoMemory>
-    ensures { IfOk result (λ cover. cover ≡ cover_of part.now regions.now) }
-{
-    let mut cover = Rects::new(alloc);
-    for region in regions {
-        if region.serves(part.table, part.need) {
-            cover.append(region.rects.copy(alloc)?)?;
-        }
-    }
-    Ok(cover)
-}
-
 fn push_near(alloc: Global, cover: &mut Rects, region: &Region, part: &Part) -> Result<(), NoMemory>
     ensures { OnOk result (cover.new ≡ cover.old ++ near part.now.rects (cover_of part.now (region.now ∷ []))) }
 {
@@ -80,17 +69,6 @@ fn push_near(alloc: Global, cover: &mut Rects, region: &Region, part: &Part) -> 
         return cover.append(region.rects.near(alloc, &part.rects)?);
     }
     Ok(())
-}
-
-#[tactic(auto, using(crate::proofs::Nearing::near_cover))]
-fn near_in(alloc: Global, regions: &[Region], part: &Part) -> Result<Rects, NoMemory>
-    ensures { IfOk result (λ cover. cover ≡ near part.now.rects (cover_of part.now regions.now)) }
-{
-    let mut cover = Rects::new(alloc);
-    for region in regions {
-        push_near(alloc, &mut cover, region, part)?;
-    }
-    Ok(cover)
 }
 
 impl Store {
@@ -116,14 +94,25 @@ impl Store {
     pub fn cover(&self, alloc: Global, part: &Part) -> Result<Rects, NoMemory>
         ensures { IfOk result (λ cover. cover ≡ cover_of part.now self.now.regions) }
     {
-        cover_in(alloc, self.regions.as_slice(), part)
+        let mut cover = Rects::new(alloc);
+        for region in self.regions.as_slice() {
+            if region.serves(part.table, part.need) {
+                append_copy(alloc, &mut cover, &region.rects)?;
+            }
+        }
+        Ok(cover)
     }
 
     /// Those rects of the cover that meet the part, which decide about its points.
+    #[tactic(auto, using(crate::proofs::Nearing::near_cover))]
     pub fn cover_near(&self, alloc: Global, part: &Part) -> Result<Rects, NoMemory>
         ensures { IfOk result (λ cover. cover ≡ near part.now.rects (cover_of part.now self.now.regions)) }
     {
-        near_in(alloc, self.regions.as_slice(), part)
+        let mut cover = Rects::new(alloc);
+        for region in self.regions.as_slice() {
+            push_near(alloc, &mut cover, region, part)?;
+        }
+        Ok(cover)
     }
 
     /// What an answer does: held rows give way to arriving ones of their key, under the same columns; what arrived is held, the
@@ -174,11 +163,9 @@ impl Store {
         ensures limits { self.new.limits ≡ self.old.limits }
         ensures nothing_left { OnErr result (self.new.regions ≡ []) }
     {
-        let Answer { regions, mut marks } = answer;
-        let kept = fitted(alloc, schema, self.limits, self.last.as_slice(), regions)?;
-        marks.append(kept.marks)?;
+        let kept = fitted(alloc, schema, self.limits, self.last.as_slice(), answer)?;
         self.regions = kept.regions;
-        Ok(marks)
+        Ok(kept.marks)
     }
 
     /// Drops regions until the limits are met: rows first, then regions, each time the one that the policy names. After want
@@ -192,9 +179,8 @@ impl Store {
         ensures nothing_left { OnErr result (self.new.regions ≡ []) }
     {
         let regions = mem::replace(&mut self.regions, Seq::new(alloc));
-        let left = fitted(alloc, schema, self.limits, self.last.as_slice(), regions)?;
-        self.regions = left.regions;
-        Ok(left.marks)
+        let marks = Seq::new(alloc);
+        self.keep(alloc, schema, Answer { regions, marks })
     }
 
     /// What notices do: of each key that is told, the old row is gone from all regions of its table, and the new row is in those
@@ -207,9 +193,8 @@ impl Store {
         ensures limits { self.new.limits ≡ self.old.limits }
         ensures nothing_left { OnErr result (self.new.regions ≡ []) }
     {
-        let mut regions = mem::replace(&mut self.regions, Seq::new(alloc));
-        told_all(alloc, &mut regions, told)?;
-        self.regions = regions;
+        let regions = mem::replace(&mut self.regions, Seq::new(alloc));
+        self.regions = told_all(alloc, regions, told)?;
         Ok(())
     }
 
@@ -219,7 +204,7 @@ impl Store {
         ensures nothing_left { self.new ≡ record self.old { regions = [] } }
     {
         let old = mem::replace(&mut self.regions, Seq::new(alloc));
-        drop_marks(alloc, cause, old)
+        drop_marks(Seq::new(alloc), cause, old)
     }
 
     /// Takes out the region of that number, counted from 0.

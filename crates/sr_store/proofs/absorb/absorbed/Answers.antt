@@ -11,8 +11,9 @@ loop-region-preserved c =
     let i = c.loop-region.region-index in
     let g = c.region-item.result in
     let first : drop i gs ≡ g ∷ drop (i + 1) gs = drop_more gs i g c.loop-region-test.true ∙ ap (λ g. g ∷ drop (i + 1) gs) (sym c.region-item.is) in
-    completes_more (λ gs fs. AreFlags (IsAbsorbedBy c.args.schema.now c.args.still.now c.args.news.now) fs gs) gs c.loop-region.flags (c.in_ok-is_absorbed.field-0 ∷ []) c.push.new.self
-    g (drop i gs) (drop (i + 1) gs) first c.in_ok-push.ensures.pushed (λ more h. (c.in_ok-is_absorbed.ensures.absorbed, h)) c.loop-region.invariant
+    let flag = c.in_ok-push_absorbed.ensures in
+    completes_more (λ gs fs. AreFlags (IsAbsorbedBy c.args.schema.now c.args.still.now c.args.news.now) fs gs) gs c.loop-region.flags (flag.0 ∷ []) c.push_absorbed.new.flags
+    g (drop i gs) (drop (i + 1) gs) first flag.2 (λ more h. (flag.1, h)) c.loop-region.invariant
 
 pub returns : goal.returns
 returns c =

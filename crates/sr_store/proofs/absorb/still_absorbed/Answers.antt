@@ -13,8 +13,8 @@ bounds-met-i c =
     let below = c.loop-i-test.true in
     omega (arith, long, below)
 
-pub is_absorbed_if_met-requires-clause-other : goal.is_absorbed_if_met-requires-clause-other
-is_absorbed_if_met-requires-clause-other c =
+pub push_absorbed-requires-clause-other : goal.push_absorbed-requires-clause-other
+push_absorbed-requires-clause-other c =
     let Kept = IsKeptOr c.args.schema.now c.args.still.now c.args.news.now in
     let long = AllZip-long Kept c.args.met.now c.args.still.now c.requires.others in
     let below = c.loop-i-test.true in
@@ -27,8 +27,9 @@ loop-i-preserved c =
     let i = c.loop-i.i in
     let g = c.index-still-i.result in
     let first : drop i gs ≡ g ∷ drop (i + 1) gs = drop_more gs i g c.loop-i-test.true ∙ ap (λ g. g ∷ drop (i + 1) gs) (sym c.index-still-i.is) in
-    completes_more (λ gs fs. AreFlags (IsAbsorbedBy c.args.schema.now c.args.still.now c.args.news.now) fs gs) gs c.loop-i.flags (c.in_ok-yes.yes ∷ []) c.push.new.self
-    g (drop i gs) (drop (i + 1) gs) first c.in_ok-push.ensures.pushed (λ more h. (c.in_ok-yes.ensures.absorbed, h)) c.loop-i.invariant
+    let flag = c.in_ok-push_absorbed.ensures in
+    completes_more (λ gs fs. AreFlags (IsAbsorbedBy c.args.schema.now c.args.still.now c.args.news.now) fs gs) gs c.loop-i.flags (flag.0 ∷ []) c.push_absorbed.new.flags
+    g (drop i gs) (drop (i + 1) gs) first flag.2 (λ more h. (flag.1, h)) c.loop-i.invariant
 
 pub returns : goal.returns
 returns c =

@@ -4,4 +4,4 @@ use Rattle.sr_store.specs.Stores.{drop_of}
 use Rattle.sr_store.proofs.marks.drop_marks.Given as goal
 
 abbrev pub invariant-loop-region : goal.invariant-loop-region
-invariant-loop-region l = l.marks ++ map (drop_of l.cause) (into_iter_items l.region-iterator) ≡ map (drop_of l.cause) l.fn.regions
+invariant-loop-region l = l.all ++ map (drop_of l.cause) (into_iter_items l.region-iterator) ≡ l.fn.marks ++ map (drop_of l.cause) l.fn.regions

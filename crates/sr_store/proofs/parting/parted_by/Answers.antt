@@ -6,17 +6,15 @@ use Rattle.sr_store.proofs.Partings.{still_plain}
 use Rattle.sr_store.proofs.parting.parted_by.Goals as goal
 
 pub sift-requires : goal.sift-requires
-sift-requires c =
-    ap length c.as_slice-2.ensures ∙ sym (AllZip-long (IsStillOr c.args.number c.args.parts.now) c.in_ok-flags.flags c.as_slice.result.now c.in_ok-flags.ensures) ∙ ap length c.as_slice.ensures
+sift-requires c = sym (AllZip-long (IsStillOr c.args.number c.args.parts.now) c.in_ok-flags.flags c.as_slice.result.now c.in_ok-flags.ensures) ∙ ap length c.as_slice.ensures
 
 pub returns : goal.returns
 returns c =
-    let flags = c.as_slice-2.result.now in
-    let are = subst (λ gs. AllZip (IsStillOr c.args.number c.args.parts.now) c.in_ok-flags.flags gs) c.as_slice.ensures c.in_ok-flags.ensures in
-    let are_here = subst (λ fs. AllZip (IsStillOr c.args.number c.args.parts.now) fs c.args.regions) (sym c.as_slice-2.ensures) are in (
+    let flags = c.in_ok-flags.flags in
+    let are = subst (λ gs. AllZip (IsStillOr c.args.number c.args.parts.now) flags gs) c.as_slice.ensures c.in_ok-flags.ensures in (
       flags,
-      sym (AllZip-long (IsStillOr c.args.number c.args.parts.now) flags c.args.regions are_here),
+      sym (AllZip-long (IsStillOr c.args.number c.args.parts.now) flags c.args.regions are),
       c.in_ok-both.ensures.plain,
       c.in_ok-both.ensures.flagged,
-      subst (All (IsStill c.args.number c.args.parts.now)) (sym c.in_ok-both.ensures.plain) (still_plain c.args.number c.args.parts.now flags c.args.regions are_here),
+      subst (All (IsStill c.args.number c.args.parts.now)) (sym c.in_ok-both.ensures.plain) (still_plain c.args.number c.args.parts.now flags c.args.regions are),
     )

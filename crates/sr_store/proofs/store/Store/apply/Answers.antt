@@ -7,5 +7,5 @@ use Rattle.sr_store.proofs.store.Store.apply.Goals as goal
 
 pub returns-clause-store : goal.returns-clause-store
 returns-clause-store c = λ schema h all.
-    let is = c.in_ok-told_all.ensures ∙ ap (map (told_to c.args.told.now)) c.replace-regions.ensures.value in
+    let is = c.in_ok-self.ensures ∙ ap (map (told_to c.args.told.now)) c.replace-regions.ensures.value in
     subst (IsStore schema) (sym is) (store-told schema c.args.told.now c.args.self.now.regions h all)

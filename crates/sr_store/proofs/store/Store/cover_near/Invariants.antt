@@ -1,0 +1,7 @@
+use Rattle.std.proofs.Common.{◌≡◌, ◌++◌, drop}
+use Rattle.sr_union.specs.Pieces.{near}
+use Rattle.sr_store.specs.Stores.{cover_of}
+use Rattle.sr_store.proofs.store.Store.cover_near.Given as goal
+
+abbrev pub invariant-loop-region : goal.invariant-loop-region
+invariant-loop-region l = l.cover ++ near l.part.rects (cover_of l.part (drop l.region-index l.region-items)) ≡ near l.part.rects (cover_of l.part l.region-items)

@@ -31,8 +31,9 @@ pub(crate) fn rest_of(
     ensures over { IsErrOf result (Refused (record {})) → limit < grid columns.now (rect.now ∷ others.now) }
     ensures room { IsErrOf result (Refused (record {})) → limit < 2 ^ 64 - 1 }
 {
+    let copy = rect.copy(alloc)?;
     let mut one = Rects::new(alloc);
-    one.push(rect.copy(alloc)?)?;
+    one.push(copy)?;
     cut_all(alloc, columns, one, others, limit)
 }
 

@@ -2,6 +2,7 @@
 ghost use Rattle.std.specs.Prelude.{◌≡◌, ◌≤◌, ◌*◌, true, List, [], ◌∷◌, ◌++◌, length, IfOk, OnOk, option_to_list};
 ghost use Rattle.std.specs.List.{list_all};
 ghost use Rattle.sr_cell.specs.declared.table.Column.{Column};
+ghost use Rattle.sr_box.specs.Cut.{rect_meet};
 ghost use Rattle.sr_box.specs.Points.{rect_fits};
 ghost use Rattle.sr_union.specs.Pieces.{meet_each, near, IsMeet};
 ghost use Rattle.sr_union.specs.Grid.{AreCutFrom};
@@ -11,24 +12,24 @@ use sr_box::rect::Rect;
 use sr_cell::list::{Copied, NoMemory};
 use std::alloc::Global;
 
-fn push_some(out: &mut Rects, rect: Option<Rect>) -> Result<(), NoMemory>
-    ensures { OnOk result (out.new ≡ out.old ++ option_to_list rect) }
+/// What a rect has in common with another at the end, if they meet.
+fn push_meet(alloc: Global, both: &mut Rects, rect: &Rect, other: &Rect) -> Result<(), NoMemory>
+    ensures { OnOk result (both.new ≡ both.old ++ option_to_list (rect_meet rect.now other.now)) }
 {
-    match rect {
+    match rect.meet(alloc, other)? {
         None => Ok(()),
-        Some(rect) => out.push(rect),
+        Some(rect) => both.push(rect),
     }
 }
 
-/// What a rect has in common with each of the others.
-fn meet_each(alloc: Global, rect: &Rect, others: &Rects) -> Result<Rects, NoMemory>
-    ensures { IfOk result (λ both. both ≡ meet_each rect.now others.now) }
+/// What a rect has in common with each of the others, at the end.
+fn push_meets(alloc: Global, both: &mut Rects, rect: &Rect, others: &Rects) -> Result<(), NoMemory>
+    ensures { OnOk result (both.new ≡ both.old ++ meet_each rect.now others.now) }
 {
-    let mut both = Rects::new(alloc);
     for other in others.as_slice() {
-        push_some(&mut both, rect.meet(alloc, other)?)?;
+        push_meet(alloc, both, rect, other)?;
     }
-    Ok(both)
+    Ok(())
 }
 
 fn push_near(alloc: Global, found: &mut Rects, rect: &Rect, others: &[Rect]) -> Result<(), NoMemory>
@@ -68,7 +69,7 @@ impl Rects {
     {
         let mut both = Rects::new(alloc);
         for rect in self.as_slice() {
-            both.append(meet_each(alloc, rect, other)?)?;
+            push_meets(alloc, &mut both, rect, other)?;
         }
         Ok(both)
     }

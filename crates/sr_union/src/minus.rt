@@ -21,7 +21,7 @@ use sr_cell::table::{Column, Table};
 use std::alloc::Global;
 
 /// More rects than the limit.
-#[derive(Clone, Copy, Debug, PartialEq, Eq)]
+#[derive(Clone, Copy)]
 pub struct Over;
 
 /// A copy of the rect with that span in that column at the end, where there is such a span.
@@ -58,7 +58,7 @@ fn cut_column(
     let span = &rect.as_slice()[place];
     push_with(alloc, out, rect, place, span.under(alloc, cut, column.lo)?)?;
     push_with(alloc, out, rect, place, span.over(alloc, cut, column.hi)?)?;
-    Ok(span.meet(alloc, cut)?)
+    span.meet(alloc, cut)
 }
 
 /// What is left of a rect without another at the end: the pieces beside it in the first column, then those beside it in the next
@@ -218,10 +218,7 @@ impl Rects {
             → limit < m * grid table.now.columns (self.now ++ other.now) }
     {
         let own = self.copy(alloc)?;
-        match own.without(alloc, other, table, limit) {
-            Ok(left) => Ok(left),
-            Err(no) => Err(no),
-        }
+        own.without(alloc, other, table, limit)
     }
 
     /// The same of rects that are given up: those that the others do not meet are moved.

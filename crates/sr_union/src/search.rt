@@ -2,7 +2,7 @@
 ghost use Rattle.std.specs.Prelude.{◌≡◌, ℕ, ◌<◌, ◌≤◌, true, false, List, [], ◌∷◌, ◌++◌, length, drop, IfOk, IfNone, IfSome, OnOk};
 ghost use Rattle.std.specs.List.{list_all};
 ghost use Rattle.sr_box.specs.Points.{rect_fits};
-ghost use Rattle.sr_union.specs.Pieces.{IsWithin, HasOutside};
+ghost use Rattle.sr_union.specs.Pieces.{rect_minus, IsWithin, HasOutside};
 ghost use Rattle.sr_union.specs.Grid.{have_first, all_inner};
 ghost use Rattle.sr_union.specs.Search.{from_met, is_covered, todos};
 
@@ -44,6 +44,26 @@ fn push_todos(todo: &mut Seq<Todo>, rects: Rects, from: usize) -> Result<(), NoM
     Ok(())
 }
 
+/// Puts what is left of a rect without a cut behind the others.
+#[tactic(auto, using(crate::proofs::Inner::fits_length))]
+fn push_pieces(
+    alloc: Global,
+    columns: &[Column],
+    todo: &mut Seq<Todo>,
+    rect: Rect,
+    cut: &Rect,
+    from: usize,
+) -> Result<(), NoMemory>
+    requires rect_fits { rect_fits columns.now rect ≡ true }
+    requires fits { rect_fits columns.now cut.now ≡ true }
+    requires inner { all_inner columns.now ≡ true }
+    ensures { OnOk result (todo.new ≡ todo.old ++ todos from (rect_minus columns.now rect cut.now)) }
+{
+    let mut pieces = Rects::new(alloc);
+    cut_rect(alloc, columns, &mut pieces, rect, cut.as_slice())?;
+    push_todos(todo, pieces, from)
+}
+
 /// Whether nothing of a rect is left without the others. What is left of it beside the first that it meets is searched piece by
 /// piece, the last first, so that few pieces are held at a time; and the first piece that meets no more of them decides.
 fn covers(alloc: Global, columns: &[Column], rect: &Rect, others: &[Rect]) -> Result<bool, NoMemory>
@@ -52,20 +72,17 @@ fn covers(alloc: Global, columns: &[Column], rect: &Rect, others: &[Rect]) -> Re
     requires inner { all_inner columns.now ≡ true }
     ensures { IfOk result (λ yes. yes ≡ is_covered columns.now others.now rect.now) }
 {
+    let copy = rect.copy(alloc)?;
     let mut todo = Seq::new(alloc);
     todo.push(Todo {
-        rect: rect.copy(alloc)?,
+        rect: copy,
         from: 0,
     })?;
     while let Some(next) = todo.pop() {
         let Todo { rect, from } = next;
         match first_met(&rect, others, from) {
             None => return Ok(false),
-            Some(at) => {
-                let mut pieces = Rects::new(alloc);
-                cut_rect(alloc, columns, &mut pieces, rect, others[at].as_slice())?;
-                push_todos(&mut todo, pieces, at + 1)?;
-            }
+            Some(at) => push_pieces(alloc, columns, &mut todo, rect, &others[at], at + 1)?,
         }
     }
     Ok(true)

@@ -1,6 +1,0 @@
-use Rattle.std.proofs.Common.{◌≡◌, drop, ◌++◌}
-use Rattle.sr_union.specs.Pieces.{meet_each}
-use Rattle.sr_union.proofs.meet.meet_each.Given as goal
-
-abbrev pub invariant-loop-other : goal.invariant-loop-other
-invariant-loop-other l = l.both ++ meet_each l.rect (drop l.other-index l.other-items) ≡ meet_each l.rect l.other-items

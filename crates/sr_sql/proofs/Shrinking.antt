@@ -1,20 +1,12 @@
 -- What readers leave is no longer than what they were given.
 use Rattle.std.proofs.Common.{ℕ, suc}
-use Rattle.sr_grammar.specs.Conditions.{IsLiteral, IsReference, IsUnit, ConjOf}
-use Rattle.sr_grammar.specs.Columns.{IsColumn}
-use Rattle.sr_grammar.specs.Statements.{IsColumnName, IsRow, IsSet, IsJoin}
-use Rattle.sr_grammar_laws.specs.Readers.{literal, reference, unit, conj_of, column, column_name, row, set, join, begins_join}
+use Rattle.sr_grammar.specs.Conditions.{IsUnit, ConjOf}
+use Rattle.sr_grammar.specs.Statements.{IsColumnName, IsJoin}
+use Rattle.sr_grammar_laws.specs.Readers.{unit, conj_of, column_name, join, begins_join}
 use Rattle.sr_grammar_laws.proofs.Words.{no_more}
-use Rattle.sr_grammar_laws.proofs.LawsOfConditions.{both_literal, both_reference, both_unit, both_conj, and_more}
-use Rattle.sr_grammar_laws.proofs.LawsOfColumns.{both_column, column_more}
-use Rattle.sr_grammar_laws.proofs.LawsOfStatements.{both_column_name, both_row, both_set, both_join, join_begins, dot_more}
+use Rattle.sr_grammar_laws.proofs.LawsOfConditions.{both_unit, both_conj, and_more}
+use Rattle.sr_grammar_laws.proofs.LawsOfStatements.{both_column_name, both_join, join_begins, dot_more}
 use Rattle.sr_grammar_laws.proofs.Loops.{Shrinks, shrinks, Takes, takes}
-
-pub literal_less : Shrinks literal
-literal_less = shrinks literal IsLiteral no_more both_literal.good
-
-pub reference_less : Shrinks reference
-reference_less = shrinks reference IsReference _ both_reference.good
 
 pub unit_less : (n : ℕ) → Shrinks (unit n)
 unit_less n = shrinks (unit n) (IsUnit n) no_more (both_unit n).good
@@ -22,17 +14,8 @@ unit_less n = shrinks (unit n) (IsUnit n) no_more (both_unit n).good
 pub conj_less : (n : ℕ) → Shrinks (conj_of (unit n))
 conj_less n = shrinks (conj_of (unit n)) (ConjOf (IsUnit n)) and_more (both_conj (unit n) (unit (suc n)) (IsUnit n) (IsUnit (suc n)) (both_unit n)).good
 
-pub column_less : Shrinks column
-column_less = shrinks column IsColumn column_more both_column.good
-
 pub column_name_less : Shrinks column_name
 column_name_less = shrinks column_name IsColumnName no_more both_column_name.good
-
-pub row_less : Shrinks row
-row_less = shrinks row IsRow no_more both_row.good
-
-pub set_less : Shrinks set
-set_less = shrinks set IsSet no_more both_set.good
 
 pub join_takes : Takes join
 join_takes = takes begins_join join IsJoin dot_more both_join.good join_begins

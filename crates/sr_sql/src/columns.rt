@@ -1,14 +1,18 @@
 //! Reading a CREATE.
-ghost use Rattle.std.specs.Prelude.{◌≡◌, codes, IsTrue};
-ghost use Rattle.sr_grammar.specs.Tokens.{Mark, upper, is_reserved};
-ghost use Rattle.sr_grammar.specs.Columns.{all_left};
-ghost use Rattle.sr_grammar.specs.Trees.{Defines};
-ghost use Rattle.sr_grammar_laws.specs.Reading.{next_is};
+ghost use Rattle.std.specs.Prelude.{◌≡◌, codes, true, false, IsTrue, MatchOption};
+ghost use Rattle.sr_grammar.specs.Tokens.{upper, is_reserved};
+ghost use Rattle.sr_grammar.specs.Columns.{IsColumn, all_left};
+ghost use Rattle.sr_grammar_laws.specs.Reading.{Got, next_is};
 ghost use Rattle.sr_grammar_laws.specs.Readers as grammar;
+ghost use Rattle.sr_grammar_laws.proofs.LawsOfColumns.{both_column, column_more};
+ghost use Rattle.sr_grammar_laws.proofs.Loops.{shrinks};
 ghost use Rattle.sr_sql.specs.Views.{Reads};
 ghost use Rattle.sr_sql.specs.Rules.{rule, without, left_seen};
+ghost use Rattle.sr_sql.specs.Seen.{tree_seen};
 
 use crate::cursor::Cursor;
+use crate::items::{Item, enclosed_list};
+use crate::read::Parsed;
 use crate::stop::Stop;
 use crate::words;
 use sr_cell::list::Seq;
@@ -36,8 +40,7 @@ pub(crate) struct Left {
 fn number(cursor: &mut Cursor) -> Result<i64, Stop>
     ensures { Reads (λ n. n) grammar.number cursor.old result cursor.new }
 {
-    if cursor.is_mark("-") {
-        cursor.mark("-")?;
+    if let Some(_) = cursor.maybe_mark("-") {
         return Ok(words::minus(cursor.number()?));
     }
     Ok(cursor.number()? as i64)
@@ -47,11 +50,11 @@ fn number(cursor: &mut Cursor) -> Result<i64, Stop>
 fn kind(cursor: &mut Cursor) -> Result<Kind, Stop>
     ensures { Reads (λ k. k) grammar.kind cursor.old result cursor.new }
 {
-    if cursor.is_word("INT") {
-        return cursor.word("INT").and(Ok(Kind::Num));
+    if let Some(_) = cursor.maybe_word("INT") {
+        return Ok(Kind::Num);
     }
-    if cursor.is_word("INTEGER") {
-        return cursor.word("INTEGER").and(Ok(Kind::Num));
+    if let Some(_) = cursor.maybe_word("INTEGER") {
+        return Ok(Kind::Num);
     }
     cursor.word("TEXT").and(Ok(Kind::Str))
 }
@@ -81,12 +84,12 @@ fn enclosed_check(alloc: Global, cursor: &mut Cursor) -> Result<Check, Stop>
     cursor.mark(")").and(Ok(range))
 }
 
-/// Whether a word comes next, where it may stand.
-fn may(cursor: &Cursor, left: bool, word: &str) -> bool
+/// Reads a word, if it comes next and may stand there: its place.
+fn may(cursor: &mut Cursor, left: bool, word: &str) -> Option<u32>
     requires { IsTrue (is_reserved (upper word.now)) }
-    ensures { result ≡ next_is (grammar.may left (upper word.now)) cursor.now }
+    ensures { MatchOption result ((next_is (grammar.may left (upper word.now)) cursor.old ≡ false) × (cursor.new ≡ cursor.old)) (λ at. (next_is (grammar.may left (upper word.now)) cursor.old ≡ true) × (grammar.key (upper word.now) cursor.old ≡ Got at cursor.new)) }
 {
-    left && cursor.is_word(word)
+    if left { cursor.maybe_word(word) } else { None }
 }
 
 /// A rule that may still stand, or None where none does.
@@ -94,16 +97,13 @@ fn may(cursor: &Cursor, left: bool, word: &str) -> bool
 fn rule(alloc: Global, cursor: &mut Cursor, left: Left) -> Result<Option<ColumnRule>, Stop>
     ensures { Reads (λ r. r) (rule (left_seen left)) cursor.old result cursor.new }
 {
-    if may(cursor, left.primary, "PRIMARY") {
-        cursor.word("PRIMARY")?;
+    if let Some(_) = may(cursor, left.primary, "PRIMARY") {
         return cursor.word("KEY").and(Ok(Some(ColumnRule::PrimaryKey)));
     }
-    if may(cursor, left.not_null, "NOT") {
-        cursor.word("NOT")?;
+    if let Some(_) = may(cursor, left.not_null, "NOT") {
         return cursor.word("NULL").and(Ok(Some(ColumnRule::NotNull)));
     }
-    if may(cursor, left.check, "CHECK") {
-        cursor.word("CHECK")?;
+    if let Some(_) = may(cursor, left.check, "CHECK") {
         let range = enclosed_check(alloc, cursor)?;
         return Ok(Some(ColumnRule::Check(range)));
     }
@@ -147,53 +147,34 @@ fn rules(alloc: Global, cursor: &mut Cursor) -> Result<Seq<ColumnRule>, Stop>
     Ok(all)
 }
 
-#[tactic(auto, unfolding(sr_grammar_laws::specs::Readers::column))]
-fn column(alloc: Global, cursor: &mut Cursor) -> Result<Definition, Stop>
-    ensures { Reads (λ d. d) grammar.column cursor.old result cursor.new }
-{
-    let name = cursor.name(alloc)?;
-    let kind = kind(cursor)?;
-    let rules = rules(alloc, cursor)?;
-    Ok(Definition {
-        name: name.text,
-        kind,
-        rules,
-    })
-}
+impl Item for Definition {
+    ghost reader = { grammar.column };
 
-/// Columns with commas between them.
-fn columns(alloc: Global, cursor: &mut Cursor) -> Result<Definitions, Stop>
-    ensures { Reads (λ x. x) (grammar.list Mark (codes ",") grammar.column) cursor.old result cursor.new }
-{
-    let mut all = Definitions::new(alloc);
-    'more: loop {
-        all.push(column(alloc, cursor)?)?;
-        if !cursor.is_mark(",") {
-            return Ok(all);
-        }
-        cursor.mark(",")?;
+    #[tactic(auto, unfolding(sr_grammar_laws::specs::Readers::column))]
+    fn read(alloc: Global, cursor: &mut Cursor) -> Result<Definition, Stop> {
+        let name = cursor.name(alloc)?;
+        let kind = kind(cursor)?;
+        let rules = rules(alloc, cursor)?;
+        Ok(Definition {
+            name: name.text,
+            kind,
+            rules,
+        })
     }
-}
 
-/// The columns in parentheses.
-fn enclosed_columns(alloc: Global, cursor: &mut Cursor) -> Result<Definitions, Stop>
-    ensures { Reads (λ x. x) (grammar.in_parens (grammar.list Mark (codes ",") grammar.column)) cursor.old result cursor.new }
-{
-    cursor.mark("(")?;
-    let columns = columns(alloc, cursor)?;
-    cursor.mark(")").and(Ok(columns))
+    ghost less = { shrinks grammar.column IsColumn column_more both_column.good };
 }
 
 #[tactic(auto, unfolding(sr_grammar_laws::specs::Readers::create))]
-pub(crate) fn create(alloc: Global, cursor: &mut Cursor) -> Result<Written, Stop>
-    ensures { Reads (λ w. Defines w.name w.columns) grammar.create cursor.old result cursor.new }
+pub(crate) fn create(alloc: Global, cursor: &mut Cursor) -> Result<Parsed, Stop>
+    ensures { Reads tree_seen grammar.create cursor.old result cursor.new }
 {
     cursor.word("CREATE")?;
     cursor.word("TABLE")?;
     let name = cursor.name(alloc)?;
-    let columns = enclosed_columns(alloc, cursor)?;
-    Ok(Written {
+    let columns = enclosed_list(alloc, cursor)?;
+    Ok(Parsed::Written(Written {
         name: name.text,
         columns,
-    })
+    }))
 }

@@ -1,26 +1,30 @@
 //! Reading conditions.
-ghost use Rattle.std.specs.Prelude.{◌≡◌, codes, Option, Some, None};
+ghost use Rattle.std.specs.Prelude.{◌≡◌, codes, if◌then◌else◌};
 ghost use Rattle.sr_grammar.specs.declared.statement.Atom.TheVariants as atoms;
-ghost use Rattle.sr_grammar.specs.Tokens.{Mark};
+ghost use Rattle.sr_grammar.specs.Tokens.{Key, is};
+ghost use Rattle.sr_grammar.specs.Conditions.{IsLiteral, IsReference};
 ghost use Rattle.sr_grammar.specs.Seen.{cond_seen};
 ghost use Rattle.sr_grammar.specs.Trees.{Not};
-ghost use Rattle.sr_grammar_laws.specs.Reading.{and_then, nothing};
+ghost use Rattle.sr_grammar_laws.specs.Reading.{and_then, branch, nothing};
 ghost use Rattle.sr_grammar_laws.specs.Readers as grammar;
+ghost use Rattle.sr_grammar_laws.proofs.LawsOfConditions.{both_literal, both_reference};
+ghost use Rattle.sr_grammar_laws.proofs.Loops.{shrinks};
+ghost use Rattle.sr_grammar_laws.proofs.Words.{no_more};
 ghost use Rattle.sr_sql.specs.Views.{Reads};
 
 use crate::cursor::Cursor;
+use crate::items::{Item, enclosed_list};
 use crate::stop::Stop;
 use crate::words;
 use sr_cell::cell::Cell;
-use sr_grammar::statement::{Atom, Cond, Literal, Literals, Name};
+use sr_grammar::statement::{Atom, Cond, Literal, Name};
 use std::alloc::Global;
 
 #[tactic(auto, unfolding(sr_grammar_laws::specs::Readers::literal))]
 pub(crate) fn literal(alloc: Global, cursor: &mut Cursor) -> Result<Literal, Stop>
     ensures { Reads (λ l. l) grammar.literal cursor.old result cursor.new }
 {
-    if cursor.is_mark("-") {
-        let place = cursor.mark("-")?;
+    if let Some(place) = cursor.maybe_mark("-") {
         let number = words::minus(cursor.number()?);
         return Ok(Literal {
             cell: Cell::Num(number),
@@ -35,8 +39,7 @@ pub(crate) fn reference(alloc: Global, cursor: &mut Cursor) -> Result<Name, Stop
     ensures { Reads (λ n. n) grammar.reference cursor.old result cursor.new }
 {
     let first = cursor.name(alloc)?;
-    if cursor.is_mark(".") {
-        cursor.mark(".")?;
+    if let Some(_) = cursor.maybe_mark(".") {
         let second = cursor.name(alloc)?;
         return Ok(Name {
             table: Some(first.text),
@@ -52,75 +55,91 @@ pub(crate) fn reference(alloc: Global, cursor: &mut Cursor) -> Result<Name, Stop
 }
 
 #[tactic(auto, unfolding(sr_grammar_laws::specs::Readers::between))]
-fn between(alloc: Global, cursor: &mut Cursor) -> Result<(Literal, Literal), Stop>
-    ensures inside { Reads (λ x. atoms.Between x.0 x.1) (grammar.between atoms.Between) cursor.old result cursor.new }
-    ensures outside { Reads (λ x. atoms.NotBetween x.0 x.1) (grammar.between atoms.NotBetween) cursor.old result cursor.new }
+fn between(alloc: Global, cursor: &mut Cursor, not: bool) -> Result<Atom, Stop>
+    ensures { Reads (λ a. a) (grammar.between (if not then atoms.NotBetween else atoms.Between)) cursor.old result cursor.new }
 {
     cursor.word("BETWEEN")?;
     let low = literal(alloc, cursor)?;
     cursor.word("AND")?;
     let high = literal(alloc, cursor)?;
-    Ok((low, high))
+    if not {
+        return Ok(Atom::NotBetween(low, high));
+    }
+    Ok(Atom::Between(low, high))
 }
 
 #[tactic(auto, unfolding(sr_grammar_laws::specs::Readers::like))]
-fn like(alloc: Global, cursor: &mut Cursor) -> Result<Literal, Stop>
-    ensures like { Reads atoms.Prefix (grammar.like atoms.Prefix) cursor.old result cursor.new }
-    ensures unlike { Reads atoms.NotPrefix (grammar.like atoms.NotPrefix) cursor.old result cursor.new }
+fn like(alloc: Global, cursor: &mut Cursor, not: bool) -> Result<Atom, Stop>
+    ensures { Reads (λ a. a) (grammar.like (if not then atoms.NotPrefix else atoms.Prefix)) cursor.old result cursor.new }
 {
     cursor.word("LIKE")?;
-    cursor.prefix(alloc)
+    let text = cursor.prefix(alloc)?;
+    if not {
+        return Ok(Atom::NotPrefix(text));
+    }
+    Ok(Atom::Prefix(text))
 }
 
-/// Literals with commas between them.
-pub(crate) fn literals(alloc: Global, cursor: &mut Cursor) -> Result<Literals, Stop>
-    ensures { Reads (λ x. x) (grammar.list Mark (codes ",") grammar.literal) cursor.old result cursor.new }
-{
-    let mut all = Literals::new(alloc);
-    'more: loop {
-        all.push(literal(alloc, cursor)?)?;
-        if !cursor.is_mark(",") {
-            return Ok(all);
-        }
-        cursor.mark(",")?;
+impl Item for Literal {
+    ghost reader = { grammar.literal };
+
+    fn read(alloc: Global, cursor: &mut Cursor) -> Result<Literal, Stop> {
+        literal(alloc, cursor)
     }
+
+    ghost less = { shrinks grammar.literal IsLiteral no_more both_literal.good };
+}
+
+impl Item for Name {
+    ghost reader = { grammar.reference };
+
+    fn read(alloc: Global, cursor: &mut Cursor) -> Result<Name, Stop> {
+        reference(alloc, cursor)
+    }
+
+    ghost less = { shrinks grammar.reference IsReference _ both_reference.good };
 }
 
 #[tactic(auto, unfolding(sr_grammar_laws::specs::Readers::in_list))]
-fn in_list(alloc: Global, cursor: &mut Cursor) -> Result<Literals, Stop>
-    ensures inside { Reads atoms.OneOf (grammar.in_list atoms.OneOf) cursor.old result cursor.new }
-    ensures outside { Reads atoms.NotOneOf (grammar.in_list atoms.NotOneOf) cursor.old result cursor.new }
+fn in_list(alloc: Global, cursor: &mut Cursor, not: bool) -> Result<Atom, Stop>
+    ensures { Reads (λ a. a) (grammar.in_list (if not then atoms.NotOneOf else atoms.OneOf)) cursor.old result cursor.new }
 {
     cursor.word("IN")?;
-    cursor.mark("(")?;
-    let all = literals(alloc, cursor)?;
-    cursor.mark(")").and(Ok(all))
+    let all = enclosed_list(alloc, cursor)?;
+    if not {
+        return Ok(Atom::NotOneOf(all));
+    }
+    Ok(Atom::OneOf(all))
+}
+
+/// What is said behind a NOT.
+fn denied(alloc: Global, cursor: &mut Cursor) -> Result<Atom, Stop>
+    ensures { Reads (λ a. a) (branch (is Key (codes "BETWEEN")) (grammar.between atoms.NotBetween) (branch (is Key (codes "IN")) (grammar.in_list atoms.NotOneOf) (grammar.like atoms.NotPrefix))) cursor.old result cursor.new }
+{
+    if cursor.is_word("BETWEEN") {
+        return between(alloc, cursor, true);
+    }
+    if cursor.is_word("IN") {
+        return in_list(alloc, cursor, true);
+    }
+    like(alloc, cursor, true)
 }
 
 #[tactic(auto, unfolding(sr_grammar_laws::specs::Readers::atom))]
 fn atom(alloc: Global, cursor: &mut Cursor) -> Result<Atom, Stop>
     ensures { Reads (λ a. a) grammar.atom cursor.old result cursor.new }
 {
-    if cursor.is_word("NOT") {
-        cursor.word("NOT")?;
-        if cursor.is_word("BETWEEN") {
-            let (low, high) = between(alloc, cursor)?;
-            return Ok(Atom::NotBetween(low, high));
-        }
-        if cursor.is_word("IN") {
-            return Ok(Atom::NotOneOf(in_list(alloc, cursor)?));
-        }
-        return Ok(Atom::NotPrefix(like(alloc, cursor)?));
+    if let Some(_) = cursor.maybe_word("NOT") {
+        return denied(alloc, cursor);
     }
     if cursor.is_word("BETWEEN") {
-        let (low, high) = between(alloc, cursor)?;
-        return Ok(Atom::Between(low, high));
+        return between(alloc, cursor, false);
     }
     if cursor.is_word("IN") {
-        return Ok(Atom::OneOf(in_list(alloc, cursor)?));
+        return in_list(alloc, cursor, false);
     }
     if cursor.is_word("LIKE") {
-        return Ok(Atom::Prefix(like(alloc, cursor)?));
+        return like(alloc, cursor, false);
     }
     let op = cursor.operator()?;
     let value = literal(alloc, cursor)?;
@@ -147,12 +166,11 @@ fn innermost(alloc: Global, cursor: &mut Cursor) -> Result<Cond, Stop>
     comparison(alloc, cursor)
 }
 
-/// A NOT and a unit, in which so many more of NOT and parentheses may stand.
+/// The unit behind a NOT, in which so many more of NOT and parentheses may stand.
 #[cycle(cond)]
 fn negated(alloc: Global, cursor: &mut Cursor, levels: u8) -> Result<Cond, Stop>
-    ensures { Reads cond_seen (and_then (grammar.key (codes "NOT")) (λ _. and_then (grammar.unit levels) (λ c. nothing (Not c)))) cursor.old result cursor.new }
+    ensures { Reads cond_seen (and_then (grammar.unit levels) (λ c. nothing (Not c))) cursor.old result cursor.new }
 {
-    cursor.word("NOT")?;
     let inner = unit(alloc, cursor, levels)?;
     Ok(Cond::Not(Box::new(alloc, inner)?))
 }
@@ -175,7 +193,7 @@ fn unit(alloc: Global, cursor: &mut Cursor, levels: u8) -> Result<Cond, Stop>
     if levels == 0 {
         return innermost(alloc, cursor);
     }
-    if cursor.is_word("NOT") {
+    if let Some(_) = cursor.maybe_word("NOT") {
         return negated(alloc, cursor, levels - 1);
     }
     if cursor.is_mark("(") {
@@ -195,8 +213,7 @@ fn conj(alloc: Global, cursor: &mut Cursor, levels: u8) -> Result<Cond, Stop>
     }
     let mut all = Vec::new(alloc);
     all.push(first)?;
-    'more: while cursor.is_word("AND") {
-        cursor.word("AND")?;
+    'more: while let Some(_) = cursor.maybe_word("AND") {
         all.push(unit(alloc, cursor, levels)?)?;
     }
     Ok(Cond::And(all))
@@ -213,8 +230,7 @@ pub(crate) fn cond(alloc: Global, cursor: &mut Cursor, levels: u8) -> Result<Con
     }
     let mut all = Vec::new(alloc);
     all.push(first)?;
-    'more: while cursor.is_word("OR") {
-        cursor.word("OR")?;
+    'more: while let Some(_) = cursor.maybe_word("OR") {
         all.push(conj(alloc, cursor, levels)?)?;
     }
     Ok(Cond::Or(all))

@@ -1,9 +1,9 @@
 //! The tokens that are still to be read, of which one is looked at ahead.
-ghost use Rattle.std.specs.Prelude.{◌≡◌, ◌↔◌, ◌<◌, ◌^◌, [], length, drop, map, IfOk, IsTrue};
+ghost use Rattle.std.specs.Prelude.{◌≡◌, ◌↔◌, ◌<◌, ◌^◌, [], length, drop, map, true, false, IfOk, IsTrue, MatchOption};
 ghost use Rattle.sr_token.specs.Texts.{IsTextOf};
 ghost use Rattle.sr_grammar.specs.Tokens.{Key, Mark, Bad, is, of_kind, upper, is_reserved, lexeme_seen, tokens_of};
 ghost use Rattle.sr_grammar.specs.Words.{place_of, name_of, number_of, plain_of, prefix_of, op_of};
-ghost use Rattle.sr_grammar_laws.specs.Reading.{one, next_is};
+ghost use Rattle.sr_grammar_laws.specs.Reading.{Got, one, next_is};
 ghost use Rattle.sr_sql.specs.Views.{Reads, next_place};
 ghost use Rattle.sr_sql.specs.Next.{item_seen, left_seen, IsNext, word_of};
 
@@ -157,17 +157,41 @@ impl<'a> Cursor<'a> {
         }
     }
 
+    /// Reads this reserved word, if it comes next: its place.
+    pub(crate) fn maybe_word(&mut self, word: &str) -> Option<u32>
+        requires { IsTrue (is_reserved (upper word.now)) }
+        ensures { MatchOption result ((next_is (is Key (upper word.now)) self.old ≡ false) × (self.new ≡ self.old)) (λ at. (next_is (is Key (upper word.now)) self.old ≡ true) × (one (place_of Key (upper word.now)) self.old ≡ Got at self.new)) }
+    {
+        match self.next {
+            Next::Item(item) if is_key(item, word) => {
+                self.advance();
+                Some(item.place)
+            }
+            _ => None,
+        }
+    }
+
+    /// Reads this mark, if it comes next: its place.
+    pub(crate) fn maybe_mark(&mut self, mark: &str) -> Option<u32>
+        ensures { MatchOption result ((next_is (is Mark mark.now) self.old ≡ false) × (self.new ≡ self.old)) (λ at. (next_is (is Mark mark.now) self.old ≡ true) × (one (place_of Mark mark.now) self.old ≡ Got at self.new)) }
+    {
+        match self.next {
+            Next::Item(item) if is_mark(item, mark) => {
+                self.advance();
+                Some(item.place)
+            }
+            _ => None,
+        }
+    }
+
     /// Reads this reserved word.
     pub(crate) fn word(&mut self, word: &str) -> Result<u32, Stop>
         requires { IsTrue (is_reserved (upper word.now)) }
         ensures { Reads (λ at. at) (one (place_of Key (upper word.now))) self.old result self.new }
     {
-        match self.next {
-            Next::Item(item) if is_key(item, word) => {
-                self.advance();
-                Ok(item.place)
-            }
-            _ => Err(Stop::Grammar),
+        match self.maybe_word(word) {
+            Some(place) => Ok(place),
+            None => Err(Stop::Grammar),
         }
     }
 
@@ -175,12 +199,9 @@ impl<'a> Cursor<'a> {
     pub(crate) fn mark(&mut self, mark: &str) -> Result<u32, Stop>
         ensures { Reads (λ at. at) (one (place_of Mark mark.now)) self.old result self.new }
     {
-        match self.next {
-            Next::Item(item) if is_mark(item, mark) => {
-                self.advance();
-                Ok(item.place)
-            }
-            _ => Err(Stop::Grammar),
+        match self.maybe_mark(mark) {
+            Some(place) => Ok(place),
+            None => Err(Stop::Grammar),
         }
     }
 }

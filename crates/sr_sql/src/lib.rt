@@ -4,6 +4,7 @@
 mod columns;
 mod conditions;
 mod cursor;
+mod items;
 mod judge;
 pub mod read;
 mod statements;

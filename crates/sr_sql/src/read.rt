@@ -1,8 +1,7 @@
 //! Reading one statement.
-ghost use Rattle.std.specs.Prelude.{◌≡◌, ◌<◌, ◌≤◌, ◌^◌, codes, length, Ok, Err, IfOk, IsErrOf};
+ghost use Rattle.std.specs.Prelude.{◌≡◌, ◌<◌, ◌≤◌, ◌^◌, length, Ok, Err, IfOk, IsErrOf};
 ghost use Rattle.sr_cell.specs.declared.fault.Fault.{Fault as TheFault};
 ghost use Rattle.sr_cell.specs.declared.list.No.TheVariants.{Refused};
-ghost use Rattle.sr_grammar.specs.Tokens.{Mark, is};
 ghost use Rattle.sr_grammar.specs.Trees.{statement_of};
 ghost use Rattle.sr_grammar.specs.Says.{most_levels, SaysShort, Says};
 ghost use Rattle.sr_grammar.specs.Seen.{statement_seen};
@@ -36,37 +35,18 @@ fn tree(alloc: Global, cursor: &mut Cursor) -> Result<Parsed, Stop>
     ensures { Reads tree_seen (grammar.tree most_levels) cursor.old result cursor.new }
 {
     if cursor.is_word("CREATE") {
-        return Ok(Parsed::Written(create(alloc, cursor)?));
+        return create(alloc, cursor);
     }
     if cursor.is_word("SELECT") {
-        return Ok(Parsed::Statement(Statement::Select(select(alloc, cursor)?)));
+        return select(alloc, cursor);
     }
     if cursor.is_word("INSERT") {
-        return Ok(Parsed::Statement(Statement::Insert(insert(alloc, cursor)?)));
+        return insert(alloc, cursor);
     }
     if cursor.is_word("UPDATE") {
-        return Ok(Parsed::Statement(Statement::Update(update(alloc, cursor)?)));
+        return update(alloc, cursor);
     }
-    Ok(Parsed::Statement(Statement::Delete(delete(alloc, cursor)?)))
-}
-
-/// Reads a semicolon, if one comes next: its place.
-fn semicolon(cursor: &mut Cursor) -> Result<Option<u32>, Stop>
-    ensures { Reads (λ at. at) (grammar.maybe (is Mark (codes ";")) (grammar.mark (codes ";"))) cursor.old result cursor.new }
-{
-    if !cursor.is_mark(";") {
-        return Ok(None);
-    }
-    let place = cursor.mark(";")?;
-    Ok(Some(place))
-}
-
-#[tactic(auto, unfolding(sr_grammar_laws::specs::Readers::statement))]
-fn statement(alloc: Global, cursor: &mut Cursor) -> Result<Parsed, Stop>
-    ensures { Reads tree_seen (grammar.statement most_levels) cursor.old result cursor.new }
-{
-    let tree = tree(alloc, cursor)?;
-    semicolon(cursor).and(Ok(tree))
+    delete(alloc, cursor)
 }
 
 /// Whether nothing more comes.
@@ -79,11 +59,13 @@ fn end(cursor: &Cursor) -> Result<(), Stop>
     Err(Stop::Grammar)
 }
 
-#[tactic(auto, unfolding(sr_grammar_laws::specs::Readers::whole))]
+/// A statement, with a semicolon behind it or without.
+#[tactic(auto, unfolding(sr_grammar_laws::specs::Readers::statement, sr_grammar_laws::specs::Readers::whole))]
 fn whole(alloc: Global, cursor: &mut Cursor) -> Result<Parsed, Stop>
     ensures { Reads tree_seen (grammar.whole most_levels) cursor.old result cursor.new }
 {
-    let tree = statement(alloc, cursor)?;
+    let tree = tree(alloc, cursor)?;
+    let _ = cursor.maybe_mark(";");
     end(cursor).and(Ok(tree))
 }
 

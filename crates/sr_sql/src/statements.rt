@@ -1,21 +1,24 @@
 //! Reading the statements about rows.
 ghost use Rattle.std.specs.Prelude.{◌≡◌, codes};
 ghost use Rattle.sr_grammar.specs.Tokens.{Key, Mark, is};
-ghost use Rattle.sr_grammar.specs.Trees.{Says, Selects, Inserts, Updates, Deletes};
-ghost use Rattle.sr_grammar.specs.Statements.{filter_of, place_of_where};
+ghost use Rattle.sr_grammar.specs.Statements.{IsRow, IsSet, filter_of, place_of_where};
 ghost use Rattle.sr_grammar.specs.Says.{most_levels};
-ghost use Rattle.sr_grammar.specs.Seen.{filter_seen, select_seen, update_seen, delete_seen};
+ghost use Rattle.sr_grammar.specs.Seen.{filter_seen};
 ghost use Rattle.sr_grammar_laws.specs.Reading.{and_then, branch, next_is, many};
 ghost use Rattle.sr_grammar_laws.specs.Readers as grammar;
+ghost use Rattle.sr_grammar_laws.proofs.LawsOfStatements.{both_row, both_set};
+ghost use Rattle.sr_grammar_laws.proofs.Loops.{shrinks};
+ghost use Rattle.sr_grammar_laws.proofs.Words.{no_more};
 ghost use Rattle.sr_sql.specs.Views.{Reads};
-ghost use Rattle.sr_sql.specs.Seen.{where_seen, shown_seen};
+ghost use Rattle.sr_sql.specs.Seen.{where_seen, shown_seen, tree_seen};
 
-use crate::conditions::{cond, literal, literals, reference};
+use crate::conditions::{cond, literal, reference};
 use crate::cursor::Cursor;
+use crate::items::{Item, list};
+use crate::read::Parsed;
 use crate::stop::Stop;
 use sr_grammar::statement::{
-    Cond, Delete, Insert, JoinOn, JoinOns, LiteralRow, LiteralRows, Name, Names, Select, Set, Sets,
-    Update,
+    Cond, Delete, Insert, JoinOn, JoinOns, LiteralRow, Name, Names, Select, Set, Statement, Update,
 };
 use std::alloc::Global;
 
@@ -40,10 +43,9 @@ pub(crate) struct Shown {
 fn filter(alloc: Global, cursor: &mut Cursor) -> Result<Option<Where>, Stop>
     ensures { Reads where_seen (grammar.filter most_levels) cursor.old result cursor.new }
 {
-    if !cursor.is_word("WHERE") {
+    let Some(place) = cursor.maybe_word("WHERE") else {
         return Ok(None);
-    }
-    let place = cursor.word("WHERE")?;
+    };
     let cond = cond(alloc, cursor, MOST_LEVELS)?;
     Ok(Some(Where { cond, place }))
 }
@@ -59,32 +61,17 @@ fn parts(filter: Option<Where>) -> (Option<Cond>, u32)
     }
 }
 
-/// References with commas between them.
-fn references(alloc: Global, cursor: &mut Cursor) -> Result<Names, Stop>
-    ensures { Reads (λ x. x) (grammar.list Mark (codes ",") grammar.reference) cursor.old result cursor.new }
-{
-    let mut all = Names::new(alloc);
-    'more: loop {
-        all.push(reference(alloc, cursor)?)?;
-        if !cursor.is_mark(",") {
-            return Ok(all);
-        }
-        cursor.mark(",")?;
-    }
-}
-
 #[tactic(auto, unfolding(sr_grammar_laws::specs::Readers::listed))]
 fn listed(alloc: Global, cursor: &mut Cursor) -> Result<Shown, Stop>
     ensures { Reads shown_seen grammar.listed cursor.old result cursor.new }
 {
-    if cursor.is_mark("*") {
-        cursor.mark("*")?;
+    if let Some(_) = cursor.maybe_mark("*") {
         return Ok(Shown {
             all: true,
             list: Names::new(alloc),
         });
     }
-    let list = references(alloc, cursor)?;
+    let list = list(alloc, cursor)?;
     Ok(Shown { all: false, list })
 }
 
@@ -134,8 +121,8 @@ fn joins(alloc: Global, cursor: &mut Cursor) -> Result<JoinOns, Stop>
 }
 
 #[tactic(auto, unfolding(sr_grammar_laws::specs::Readers::select))]
-pub(crate) fn select(alloc: Global, cursor: &mut Cursor) -> Result<Select, Stop>
-    ensures { Reads (λ s. Says (Selects (select_seen s))) (grammar.select most_levels) cursor.old result cursor.new }
+pub(crate) fn select(alloc: Global, cursor: &mut Cursor) -> Result<Parsed, Stop>
+    ensures { Reads tree_seen (grammar.select most_levels) cursor.old result cursor.new }
 {
     cursor.word("SELECT")?;
     let listed = listed(alloc, cursor)?;
@@ -143,7 +130,7 @@ pub(crate) fn select(alloc: Global, cursor: &mut Cursor) -> Result<Select, Stop>
     let first = cursor.name(alloc)?;
     let joins = joins(alloc, cursor)?;
     let (filter, place) = parts(filter(alloc, cursor)?);
-    Ok(Select {
+    Ok(Parsed::Statement(Statement::Select(Select {
         all: listed.all,
         list: listed.list,
         first: first.text,
@@ -151,7 +138,7 @@ pub(crate) fn select(alloc: Global, cursor: &mut Cursor) -> Result<Select, Stop>
         joins,
         filter,
         place,
-    })
+    })))
 }
 
 #[tactic(auto, unfolding(sr_grammar_laws::specs::Readers::column_name))]
@@ -173,10 +160,9 @@ fn columns(alloc: Global, cursor: &mut Cursor) -> Result<Names, Stop>
     let mut all = Names::new(alloc);
     'more: loop {
         all.push(column_name(alloc, cursor)?)?;
-        if !cursor.is_mark(",") {
+        let Some(_) = cursor.maybe_mark(",") else {
             return Ok(all);
-        }
-        cursor.mark(",")?;
+        };
     }
 }
 
@@ -184,107 +170,86 @@ fn columns(alloc: Global, cursor: &mut Cursor) -> Result<Names, Stop>
 fn column_names(alloc: Global, cursor: &mut Cursor) -> Result<Names, Stop>
     ensures { Reads (λ x. x) grammar.column_names cursor.old result cursor.new }
 {
-    if !cursor.is_mark("(") {
+    let Some(_) = cursor.maybe_mark("(") else {
         return Ok(Names::new(alloc));
-    }
-    cursor.mark("(")?;
+    };
     let all = columns(alloc, cursor)?;
     cursor.mark(")").and(Ok(all))
 }
 
-#[tactic(auto, unfolding(sr_grammar_laws::specs::Readers::row))]
-fn row(alloc: Global, cursor: &mut Cursor) -> Result<LiteralRow, Stop>
-    ensures { Reads (λ r. r) grammar.row cursor.old result cursor.new }
-{
-    let place = cursor.mark("(")?;
-    let literals = literals(alloc, cursor)?;
-    cursor.mark(")").and(Ok(LiteralRow { literals, place }))
-}
+impl Item for LiteralRow {
+    ghost reader = { grammar.row };
 
-/// Rows with commas between them.
-fn rows(alloc: Global, cursor: &mut Cursor) -> Result<LiteralRows, Stop>
-    ensures { Reads (λ x. x) (grammar.list Mark (codes ",") grammar.row) cursor.old result cursor.new }
-{
-    let mut all = LiteralRows::new(alloc);
-    'more: loop {
-        all.push(row(alloc, cursor)?)?;
-        if !cursor.is_mark(",") {
-            return Ok(all);
-        }
-        cursor.mark(",")?;
+    #[tactic(auto, unfolding(sr_grammar_laws::specs::Readers::row))]
+    fn read(alloc: Global, cursor: &mut Cursor) -> Result<LiteralRow, Stop> {
+        let place = cursor.mark("(")?;
+        let literals = list(alloc, cursor)?;
+        cursor.mark(")").and(Ok(LiteralRow { literals, place }))
     }
+
+    ghost less = { shrinks grammar.row IsRow no_more both_row.good };
 }
 
 #[tactic(auto, unfolding(sr_grammar_laws::specs::Readers::insert))]
-pub(crate) fn insert(alloc: Global, cursor: &mut Cursor) -> Result<Insert, Stop>
-    ensures { Reads (λ i. Says (Inserts i)) grammar.insert cursor.old result cursor.new }
+pub(crate) fn insert(alloc: Global, cursor: &mut Cursor) -> Result<Parsed, Stop>
+    ensures { Reads tree_seen grammar.insert cursor.old result cursor.new }
 {
     cursor.word("INSERT")?;
     cursor.word("INTO")?;
     let table = cursor.name(alloc)?;
     let columns = column_names(alloc, cursor)?;
     cursor.word("VALUES")?;
-    let rows = rows(alloc, cursor)?;
-    Ok(Insert {
+    let rows = list(alloc, cursor)?;
+    Ok(Parsed::Statement(Statement::Insert(Insert {
         table: table.text,
         place: table.place,
         columns,
         rows,
-    })
+    })))
 }
 
-#[tactic(auto, unfolding(sr_grammar_laws::specs::Readers::set))]
-fn set(alloc: Global, cursor: &mut Cursor) -> Result<Set, Stop>
-    ensures { Reads (λ s. s) grammar.set cursor.old result cursor.new }
-{
-    let name = column_name(alloc, cursor)?;
-    cursor.mark("=")?;
-    let value = literal(alloc, cursor)?;
-    Ok(Set { name, value })
-}
+impl Item for Set {
+    ghost reader = { grammar.set };
 
-/// New values with commas between them.
-fn sets(alloc: Global, cursor: &mut Cursor) -> Result<Sets, Stop>
-    ensures { Reads (λ x. x) (grammar.list Mark (codes ",") grammar.set) cursor.old result cursor.new }
-{
-    let mut all = Sets::new(alloc);
-    'more: loop {
-        all.push(set(alloc, cursor)?)?;
-        if !cursor.is_mark(",") {
-            return Ok(all);
-        }
-        cursor.mark(",")?;
+    #[tactic(auto, unfolding(sr_grammar_laws::specs::Readers::set))]
+    fn read(alloc: Global, cursor: &mut Cursor) -> Result<Set, Stop> {
+        let name = column_name(alloc, cursor)?;
+        cursor.mark("=")?;
+        let value = literal(alloc, cursor)?;
+        Ok(Set { name, value })
     }
+
+    ghost less = { shrinks grammar.set IsSet no_more both_set.good };
 }
 
 #[tactic(auto, unfolding(sr_grammar_laws::specs::Readers::update))]
-pub(crate) fn update(alloc: Global, cursor: &mut Cursor) -> Result<Update, Stop>
-    ensures { Reads (λ u. Says (Updates (update_seen u))) (grammar.update most_levels) cursor.old result cursor.new }
+pub(crate) fn update(alloc: Global, cursor: &mut Cursor) -> Result<Parsed, Stop>
+    ensures { Reads tree_seen (grammar.update most_levels) cursor.old result cursor.new }
 {
     cursor.word("UPDATE")?;
     let table = cursor.name(alloc)?;
     cursor.word("SET")?;
-    let sets = sets(alloc, cursor)?;
+    let sets = list(alloc, cursor)?;
     let (filter, _) = parts(filter(alloc, cursor)?);
-    Ok(Update {
+    Ok(Parsed::Statement(Statement::Update(Update {
         table: table.text,
         place: table.place,
         sets,
         filter,
-    })
+    })))
 }
 
 #[tactic(auto, unfolding(sr_grammar_laws::specs::Readers::delete))]
-pub(crate) fn delete(alloc: Global, cursor: &mut Cursor) -> Result<Delete, Stop>
-    ensures { Reads (λ d. Says (Deletes (delete_seen d))) (grammar.delete most_levels) cursor.old result cursor.new }
+pub(crate) fn delete(alloc: Global, cursor: &mut Cursor) -> Result<Parsed, Stop>
+    ensures { Reads tree_seen (grammar.delete most_levels) cursor.old result cursor.new }
 {
     cursor.word("DELETE")?;
     cursor.word("FROM")?;
     let table = cursor.name(alloc)?;
     let (filter, _) = parts(filter(alloc, cursor)?);
-    Ok(Delete {
+    Ok(Parsed::Statement(Statement::Delete(Delete {
         table: table.text,
         place: table.place,
         filter,
-    })
+    })))
 }

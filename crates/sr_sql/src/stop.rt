@@ -6,7 +6,7 @@ use sr_cell::list::NoMemory;
 use std::alloc::{AllocError, AllocFailed};
 
 /// Reading stops at the next token: no statement has it there, or only deeper ones; or memory was refused.
-#[derive(Clone, Copy, Debug, PartialEq, Eq)]
+#[derive(Clone, Copy)]
 pub(crate) enum Stop {
     Grammar,
     Deep,

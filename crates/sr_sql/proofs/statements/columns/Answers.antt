@@ -1,4 +1,4 @@
-use Rattle.std.proofs.Common.{rules, arith}
+use Rattle.std.proofs.Common.{arith}
 use Rattle.std.specs.Prelude.{codes}
 use Rattle.sr_grammar.specs.Tokens.{Mark}
 use Rattle.sr_grammar.specs.Words.{place_of}
@@ -13,12 +13,14 @@ more-init c = rw c.new-all.ensures (listing_first Mark (codes ",") column_name c
 
 pub more-preserved : goal.more-preserved
 more-preserved c =
+    let comma = rw c.in-Some.is at c.maybe_mark.ensures in
     rw c.in_ok-push.ensures.pushed
-    (listing_on Mark (codes ",") column_name column_name_less c.more.all c.more.cursor c.column_name.new.cursor c.mark.new.self c.in_ok-mark.field-0 c.in_ok-column_name.field-0 (list Mark (codes ",") column_name c.args.cursor.now) c.in_ok-column_name.ensures
-    (search rules) c.in_ok-mark.ensures c.more.invariant)
+    (listing_on Mark (codes ",") column_name column_name_less c.more.all c.more.cursor c.column_name.new.cursor c.maybe_mark.new.self c.in-Some.field-0 c.in_ok-column_name.field-0 (list Mark (codes ",") column_name c.args.cursor.now) c.in_ok-column_name.ensures
+    comma.0 comma.1 c.more.invariant)
 
 pub more-smaller : goal.more-smaller
 more-smaller c =
+    let comma = rw c.in-Some.is at c.maybe_mark.ensures in
     let one = column_name_less c.more.cursor c.in_ok-column_name.field-0 c.column_name.new.cursor c.in_ok-column_name.ensures in
-    let two = one_shrinks (place_of Mark (codes ",")) c.column_name.new.cursor c.in_ok-mark.field-0 c.mark.new.self c.in_ok-mark.ensures in
+    let two = one_shrinks (place_of Mark (codes ",")) c.column_name.new.cursor c.in-Some.field-0 c.maybe_mark.new.self comma.1 in
     omega (arith, one, two)

@@ -26,7 +26,7 @@ impl<'a> Model for Cursor<'a> {
 }
 
 /// A field that breaks its rule or leaves the bytes. The cursor stands before its first byte.
-#[derive(Clone, Copy, Debug, PartialEq, Eq)]
+#[derive(Clone, Copy)]
 pub struct BadField;
 
 impl<'a> Cursor<'a> {
@@ -137,10 +137,7 @@ impl<'a> Cursor<'a> {
     pub fn i64(&mut self) -> Result<i64, BadField>
         ensures { Reads (λ number. number) result self.new (a_signed self.old) }
     {
-        let bytes = self.front(8)?;
-        Ok(i64::from_be_bytes([
-            bytes[0], bytes[1], bytes[2], bytes[3], bytes[4], bytes[5], bytes[6], bytes[7],
-        ]))
+        Ok(self.u64()?.cast_signed())
     }
 
     /// A whole number that is at least `lo`.

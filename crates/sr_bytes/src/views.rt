@@ -27,14 +27,14 @@ const ROWS: u16 = 256;
 const RECTS: u32 = 16_384;
 
 /// A cell.
-#[derive(Clone, Copy, Debug)]
+#[derive(Clone, Copy)]
 pub enum CellView<'a> {
     Num(i64),
     Str(&'a str),
 }
 
 /// A span.
-#[derive(Clone, Copy, Debug)]
+#[derive(Clone, Copy)]
 pub enum SpanView<'a> {
     Full,
     Nums { lo: i64, hi: i64 },

@@ -54,6 +54,7 @@ pub(crate) fn reference(alloc: Global, cursor: &mut Cursor) -> Result<Name, Stop
     })
 }
 
+/// BETWEEN and its ends, behind a NOT or not.
 #[tactic(auto, unfolding(sr_grammar_laws::specs::Readers::between))]
 fn between(alloc: Global, cursor: &mut Cursor, not: bool) -> Result<Atom, Stop>
     ensures { Reads (λ a. a) (grammar.between (if not then atoms.NotBetween else atoms.Between)) cursor.old result cursor.new }
@@ -68,6 +69,7 @@ fn between(alloc: Global, cursor: &mut Cursor, not: bool) -> Result<Atom, Stop>
     Ok(Atom::Between(low, high))
 }
 
+/// LIKE and its text, behind a NOT or not.
 #[tactic(auto, unfolding(sr_grammar_laws::specs::Readers::like))]
 fn like(alloc: Global, cursor: &mut Cursor, not: bool) -> Result<Atom, Stop>
     ensures { Reads (λ a. a) (grammar.like (if not then atoms.NotPrefix else atoms.Prefix)) cursor.old result cursor.new }
@@ -100,6 +102,7 @@ impl Item for Name {
     ghost less = { shrinks grammar.reference IsReference _ both_reference.good };
 }
 
+/// IN and its list, behind a NOT or not.
 #[tactic(auto, unfolding(sr_grammar_laws::specs::Readers::in_list))]
 fn in_list(alloc: Global, cursor: &mut Cursor, not: bool) -> Result<Atom, Stop>
     ensures { Reads (λ a. a) (grammar.in_list (if not then atoms.NotOneOf else atoms.OneOf)) cursor.old result cursor.new }

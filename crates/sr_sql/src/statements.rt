@@ -1,19 +1,21 @@
 //! Reading the statements about rows.
-ghost use Rattle.std.specs.Prelude.{◌≡◌, codes};
+ghost use Rattle.std.specs.Prelude.{◌≡◌, None, codes};
 ghost use Rattle.sr_grammar.specs.Tokens.{Key, Mark, is};
 ghost use Rattle.sr_grammar.specs.Statements.{IsRow, IsSet, filter_of, place_of_where};
 ghost use Rattle.sr_grammar.specs.Says.{most_levels};
 ghost use Rattle.sr_grammar.specs.Seen.{filter_seen};
+ghost use Rattle.sr_grammar.specs.Words.{reference_of};
 ghost use Rattle.sr_grammar_laws.specs.Reading.{and_then, branch, next_is, many};
 ghost use Rattle.sr_grammar_laws.specs.Readers as grammar;
 ghost use Rattle.sr_grammar_laws.proofs.LawsOfStatements.{both_row, both_set};
 ghost use Rattle.sr_grammar_laws.proofs.Loops.{shrinks};
 ghost use Rattle.sr_grammar_laws.proofs.Words.{no_more};
 ghost use Rattle.sr_sql.specs.Views.{Reads};
+ghost use Rattle.sr_sql.specs.Next.{word_of};
 ghost use Rattle.sr_sql.specs.Seen.{where_seen, shown_seen, tree_seen};
 
 use crate::conditions::{cond, literal, reference};
-use crate::cursor::Cursor;
+use crate::cursor::{Cursor, Word};
 use crate::items::{Item, list};
 use crate::read::Parsed;
 use crate::stop::Stop;
@@ -141,16 +143,22 @@ pub(crate) fn select(alloc: Global, cursor: &mut Cursor) -> Result<Parsed, Stop>
     })))
 }
 
+/// The name of a column, without a table.
+fn bare(word: Word) -> Name
+    ensures { result ≡ reference_of (word_of word) None }
+{
+    Name {
+        table: None,
+        column: word.text,
+        place: word.place,
+    }
+}
+
 #[tactic(auto, unfolding(sr_grammar_laws::specs::Readers::column_name))]
 fn column_name(alloc: Global, cursor: &mut Cursor) -> Result<Name, Stop>
     ensures { Reads (λ n. n) grammar.column_name cursor.old result cursor.new }
 {
-    let name = cursor.name(alloc)?;
-    Ok(Name {
-        table: None,
-        column: name.text,
-        place: name.place,
-    })
+    Ok(bare(cursor.name(alloc)?))
 }
 
 /// Names of columns with commas between them.
@@ -211,12 +219,15 @@ pub(crate) fn insert(alloc: Global, cursor: &mut Cursor) -> Result<Parsed, Stop>
 impl Item for Set {
     ghost reader = { grammar.set };
 
-    #[tactic(auto, unfolding(sr_grammar_laws::specs::Readers::set))]
+    #[tactic(auto, unfolding(sr_grammar_laws::specs::Readers::set, sr_grammar_laws::specs::Readers::column_name))]
     fn read(alloc: Global, cursor: &mut Cursor) -> Result<Set, Stop> {
-        let name = column_name(alloc, cursor)?;
+        let name = cursor.name(alloc)?;
         cursor.mark("=")?;
         let value = literal(alloc, cursor)?;
-        Ok(Set { name, value })
+        Ok(Set {
+            name: bare(name),
+            value,
+        })
     }
 
     ghost less = { shrinks grammar.set IsSet no_more both_set.good };

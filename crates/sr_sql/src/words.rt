@@ -10,12 +10,11 @@ use sr_cell::text::Text;
 use sr_grammar::statement::Op;
 use std::alloc::Global;
 
-/// Whether a word is this one, which is in upper case.
-pub(crate) fn is_same(word: &str, capital: &str) -> bool
-    requires { upper capital.now ≡ capital.now }
-    ensures { result ≡ bytes_eq (upper word.now) capital.now }
+/// Whether two words are the same without regard to case.
+fn is_same(word: &str, other: &str) -> bool
+    ensures { result ≡ bytes_eq (upper word.now) (upper other.now) }
 {
-    word.eq_ignore_ascii_case(capital)
+    word.eq_ignore_ascii_case(other)
 }
 
 /// Whether a word is reserved.

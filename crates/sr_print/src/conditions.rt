@@ -8,7 +8,7 @@ ghost use Rattle.sr_grammar.specs.Printed as tokens;
 ghost use Rattle.sr_grammar.specs.Seen.{cond_seen};
 ghost use Rattle.sr_print.specs.Writes.{Writes};
 
-use crate::parts::{Print, list};
+use crate::parts::{Print, enclosed_list};
 use crate::printer::Printer;
 use sr_cell::cell::Cell;
 use sr_cell::list::NoMemory;
@@ -155,9 +155,7 @@ fn one_of(printer: &mut Printer, all: &Literals) -> Result<(), NoMemory>
     ensures { OnOk result (Writes (tokens.one_of all.now) printer.old printer.new) }
 {
     printer.key("IN")?;
-    printer.mark("(")?;
-    list(printer, all.as_slice())?;
-    printer.mark(")")
+    enclosed_list(printer, all.as_slice())
 }
 
 fn like(printer: &mut Printer, text: &Literal) -> Result<(), NoMemory>

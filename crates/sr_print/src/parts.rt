@@ -47,9 +47,7 @@ impl Print for LiteralRow {
     ghost tokens_of = { tokens.row };
 
     fn print(&self, printer: &mut Printer) -> Result<(), NoMemory> {
-        printer.mark("(")?;
-        list(printer, self.literals.as_slice())?;
-        printer.mark(")")
+        enclosed_list(printer, self.literals.as_slice())
     }
 }
 
@@ -76,4 +74,13 @@ pub fn list<T: Print>(printer: &mut Printer, items: &[T]) -> Result<(), NoMemory
         item.print(printer)?;
     }
     Ok(())
+}
+
+/// Writes a list in parentheses.
+pub fn enclosed_list<T: Print>(printer: &mut Printer, items: &[T]) -> Result<(), NoMemory>
+    ensures { OnOk result (Writes (tokens.parens (tokens.commas T.tokens_of items.now)) printer.old printer.new) }
+{
+    printer.mark("(")?;
+    list(printer, items)?;
+    printer.mark(")")
 }

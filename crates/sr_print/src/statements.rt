@@ -8,7 +8,7 @@ ghost use Rattle.sr_print.specs.Writes.{Writes};
 
 use crate::conditions::condition;
 use crate::definitions::create;
-use crate::parts::{Print, list};
+use crate::parts::{Print, enclosed_list, list};
 use crate::printer::Printer;
 use sr_cell::list::NoMemory;
 use sr_grammar::statement::{Cond, Delete, Insert, JoinOn, Names, Select, Statement, Update};
@@ -88,9 +88,7 @@ fn column_names(printer: &mut Printer, names: &Names) -> Result<(), NoMemory>
     if names.is_empty() {
         return Ok(());
     }
-    printer.mark("(")?;
-    list(printer, names.as_slice())?;
-    printer.mark(")")
+    enclosed_list(printer, names.as_slice())
 }
 
 fn update(printer: &mut Printer, update: &Update) -> Result<(), NoMemory>

@@ -53,6 +53,13 @@ doubled_all (c ∷ cs) = doubled-append (encode_utf8 c) (encodes cs) ∙ ap₂ (
 pub doubled-chars : (text : List ℕ) → IsUtf8 text → flat_map doubled_letter (chars text) ≡ doubled text
 doubled-chars text u = sym (doubled_all (chars text)) ∙ ap doubled (encodes-chars text u)
 
+-- one letter more
+pub one_letter : (front before : List ℕ) (c : ℕ) (old new : List ℕ) → old ≡ front ++ flat_map doubled_letter before → new ≡ old ++ doubled_letter c
+    → new ≡ front ++ flat_map doubled_letter (before ++ c ∷ [])
+one_letter front before c old new so pushed =
+    let grown = flat_map-append doubled_letter before (c ∷ []) ∙ ap (λ z. flat_map doubled_letter before ++ z) (append-nil (doubled_letter c)) in
+    pushed ∙ ap (λ z. z ++ doubled_letter c) so ∙ append_assoc front (flat_map doubled_letter before) (doubled_letter c) ∙ ap (λ z. front ++ z) (sym grown)
+
 -- ---- tokens of a kind
 
 pub quoted_written : (page : Page) (text a b d e : List ℕ) → a ≡ page.text ++ (if page.tight || false then [] else codes " ")

@@ -1,6 +1,8 @@
 -- Tokens behind tokens, and lists of them item by item.
 use Rattle.std.proofs.Common.{◌≡◌, ℕ, suc, ◌+◌, ◌-◌, ◌<◌, ◌≤◌, List, [], ◌∷◌, ◌++◌, length, get_or, take, drop, refl, sym, ap, ◌∙◌, arith, drop-cons, add-one, append_assoc, append-nil}
-use Rattle.std.specs.Prelude.{codes, if◌then◌else◌, ◌||◌}
+use Rattle.std.specs.Prelude.{codes, if◌then◌else◌, ◌||◌, ◌==◌}
+use Rattle.sr_cell.specs.declared.table.Column.{Column}
+use Rattle.sr_grammar.specs.Printed.{mark, column, columns_behind}
 use Rattle.std.proofs.Math.Seq.{take-length}
 use Rattle.sr_grammar.specs.Tokens.{Tok}
 use Rattle.sr_grammar.specs.Spaced.{is_close, spaced}
@@ -17,6 +19,14 @@ pub one_more : {A : Type 0} (all others : List A → List Tok) (one : A → List
 one_more all others one step items i item page mid within is e =
     let front : drop i items ≡ item ∷ drop (i + 1) items = drop-cons items i item within ∙ ap (λ k. get_or items i item ∷ drop k items) (sym (add-one i)) ∙ ap (λ x. x ∷ drop (i + 1) items) (sym is) in
     rw (front, step, written_append, e) refl
+
+-- one column more is written behind its comma, and the rest is left
+pub column_more : (key i : ℕ) (others : List Column) (one : Column) (page mid : Page) → i < length others → one ≡ get_or others i one
+    → mid ≡ written page (mark (codes ",") ∷ column (key == i + 1) one)
+    → written mid (columns_behind key (i + 1 + 1) (drop (i + 1) others)) ≡ written page (columns_behind key (i + 1) (drop i others))
+column_more key i others one page mid within is e =
+    let front : drop i others ≡ one ∷ drop (i + 1) others = drop-cons others i one within ∙ ap (λ k. get_or others i one ∷ drop k others) (sym (add-one i)) ∙ ap (λ x. x ∷ drop (i + 1) others) (sym is) in
+    rw (front, e) (sym (written_append page (mark (codes ",") ∷ column (key == i + 1) one) (columns_behind key (i + 1 + 1) (drop (i + 1) others))))
 
 -- the first item is written, and the others are left
 pub first_of_list : {A : Type 0} (all others : List A → List Tok) (one : A → List Tok) → ((x : A) (xs : List A) → all (x ∷ xs) ≡ one x ++ others xs)

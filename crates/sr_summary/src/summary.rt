@@ -22,7 +22,7 @@ use std::alloc::Global;
 const PIECE: usize = 65536;
 
 /// How many lines a trace has, and how many of each of five kinds.
-#[derive(Clone, Copy, Debug, PartialEq, Eq)]
+#[derive(Clone, Copy)]
 struct Counts {
     lines: u64,
     queries: u64,
@@ -77,15 +77,13 @@ fn replay_all(alloc: Global, script: &[u8]) -> Result<Replayed, No<RunFault>>
     ensures never_faults { ¬ IsErrOf result (Refused WriteFault) }
 {
     let mut sink = MemSink::new(alloc, Seq::new(alloc), PIECE);
-    match replay(alloc, options(), script, &[], &mut sink) {
-        Ok(world) => match sink.written(alloc) {
-            Ok(trace) => Ok(Replayed {
-                trace,
-                version: world.server.version(),
-            }),
-            Err(_) => Err(No::NoMemory),
-        },
-        Err(no) => Err(no),
+    let version = match replay(alloc, options(), script, &[], &mut sink) {
+        Ok(world) => world.server.version(),
+        Err(no) => return Err(no),
+    };
+    match sink.written(alloc) {
+        Ok(trace) => Ok(Replayed { trace, version }),
+        Err(_) => Err(No::NoMemory),
     }
 }
 

@@ -26,7 +26,7 @@ const ROUNDS: u32 = 50;
 const CHANGES: u32 = 200_000;
 
 /// What was measured of one frame: its size, and the microseconds.
-#[derive(Clone, Copy, Debug)]
+#[derive(Clone, Copy)]
 struct Times {
     size: usize,
     copied: u128,

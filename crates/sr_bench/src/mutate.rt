@@ -6,7 +6,7 @@ use sr_wire::wire_fault::WireFault;
 use std::alloc::Global;
 
 /// How often each answer came.
-#[derive(Clone, Copy, Debug, PartialEq, Eq)]
+#[derive(Clone, Copy)]
 pub struct Answers {
     pub whole: u64,
     pub short: u64,

@@ -1,5 +1,5 @@
 //! Whole reads, whole writes and whole sends.
-ghost use Rattle.std.specs.Prelude.{◌≡◌, ◌+◌, ◌<◌, ◌≤◌, length, false, IfOk, OnOk, OnErr, IsErrOf};
+ghost use Rattle.std.specs.Prelude.{◌≡◌, ◌+◌, ◌<◌, ◌≤◌, ◌++◌, nat_lt, length, false, IfOk, OnOk, OnErr, IsErrOf};
 ghost use Rattle.std.specs.Io.KnownBytes.{Consumes, Appends, IsAtEnd};
 ghost use Rattle.sr_cell.specs.declared.list.No.TheVariants.{Refused, NoMemory as Wanting};
 ghost use Rattle.sr_io.specs.declared.whole.ReadAll.TheVariants.{ReadFault, TooLong};
@@ -84,15 +84,35 @@ fn read_piece<S: Source>(
     let spare = limit - bytes.len();
     let want = if spare < 4096 { spare + 1 } else { 4096 };
     match source.read(&mut room[..want]) {
-        Ok(count) => {
-            if count > spare {
-                return Err(No::Refused(ReadAll::TooLong));
-            }
-            bytes.extend(&room[..count])?;
-            Ok(count > 0)
-        }
-        Err(No::Refused(_)) => Err(No::Refused(ReadAll::ReadFault)),
-        Err(No::NoMemory) => Err(No::NoMemory),
+        Ok(count) => keep_piece(bytes, &room[..count], spare),
+        Err(no) => Err(not_read(no)),
+    }
+}
+
+/// Puts a piece behind the bytes that are there, where no more than `spare` fit, and tells whether there may be more.
+fn keep_piece(bytes: &mut Bytes, piece: &[u8], spare: usize) -> Result<bool, No<ReadAll>>
+    ensures kept { OnOk result (bytes.new ≡ bytes.old ++ piece.now) }
+    ensures fits { OnOk result (length piece.now ≤ spare) }
+    ensures more { IfOk result (λ more. more ≡ nat_lt 0 (length piece.now)) }
+    ensures too_long { IsErrOf result (Refused TooLong) → spare < length piece.now }
+    ensures want_fits { IsErrOf result Wanting → length piece.now ≤ spare }
+    ensures never_faults { ¬ IsErrOf result (Refused ReadFault) }
+{
+    if piece.len() > spare {
+        return Err(No::Refused(ReadAll::TooLong));
+    }
+    bytes.extend(piece)?;
+    Ok(!piece.is_empty())
+}
+
+/// A refusal of one read, as that of a whole read.
+fn not_read(no: No<Failed>) -> No<ReadAll>
+    ensures refused { no ≡ Refused record {} → result ≡ Refused ReadFault }
+    ensures wanting { no ≡ Wanting → result ≡ Wanting }
+{
+    match no {
+        No::Refused(_) => No::Refused(ReadAll::ReadFault),
+        No::NoMemory => No::NoMemory,
     }
 }
 

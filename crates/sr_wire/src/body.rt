@@ -238,66 +238,55 @@ impl<'a> Body<'a> {
     pub fn again(&self) -> Body<'a>
         ensures { message_of result ≡ message_of self.now }
     {
-        match self {
-            Body::Hello { client, number } => Body::Hello {
-                client: *client,
-                number: *number,
-            },
+        match *self {
+            Body::Hello { client, number } => Body::Hello { client, number },
             Body::Resume {
                 client,
                 number,
                 version,
-                holdings,
+                ref holdings,
             } => Body::Resume {
-                client: *client,
-                number: *number,
-                version: *version,
+                client,
+                number,
+                version,
                 holdings: holdings.again(),
             },
             Body::Ask {
                 number,
                 fresh,
-                parts,
+                ref parts,
             } => Body::Ask {
-                number: *number,
-                fresh: *fresh,
+                number,
+                fresh,
                 parts: parts.again(),
             },
-            Body::Write { number, sql } => Body::Write {
-                number: *number,
-                sql: *sql,
-            },
+            Body::Write { number, sql } => Body::Write { number, sql },
             Body::Welcome {
                 number,
                 version,
                 kept,
             } => Body::Welcome {
-                number: *number,
-                version: *version,
-                kept: *kept,
+                number,
+                version,
+                kept,
             },
-            Body::Notice { version, told } => Body::Notice {
-                version: *version,
+            Body::Notice { version, ref told } => Body::Notice {
+                version,
                 told: told.again(),
             },
-            Body::Rows { number, part, rows } => Body::Rows {
-                number: *number,
-                part: *part,
+            Body::Rows {
+                number,
+                part,
+                ref rows,
+            } => Body::Rows {
+                number,
+                part,
                 rows: rows.again(),
             },
-            Body::Reply { number, version } => Body::Reply {
-                number: *number,
-                version: *version,
-            },
-            Body::Written { number, version } => Body::Written {
-                number: *number,
-                version: *version,
-            },
-            Body::Refused { number, fault } => Body::Refused {
-                number: *number,
-                fault: *fault,
-            },
-            Body::Lapse { version } => Body::Lapse { version: *version },
+            Body::Reply { number, version } => Body::Reply { number, version },
+            Body::Written { number, version } => Body::Written { number, version },
+            Body::Refused { number, fault } => Body::Refused { number, fault },
+            Body::Lapse { version } => Body::Lapse { version },
         }
     }
 }

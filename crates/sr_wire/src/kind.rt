@@ -3,7 +3,7 @@ ghost use Rattle.std.specs.Prelude.{◌≡◌};
 ghost use Rattle.sr_wire.specs.Kinds.{kind_at, kind_byte};
 
 /// The kinds of frames, as those of messages.
-#[derive(Clone, Copy, Debug, PartialEq, Eq)]
+#[derive(Clone, Copy)]
 pub enum FrameKind {
     Hello,
     Resume,

@@ -1,6 +1,9 @@
-use Rattle.std.proofs.Common.{rules, ◌≤◌, length, sym, subst, arith}
+use Rattle.std.proofs.Common.{rules, ◌≤◌, length, sym, subst, ap, arith}
 use Rattle.sr_message.specs.declared.message.Message.TheVariants.{Write}
+use Rattle.sr_client.specs.declared.client.Client.{Client}
+use Rattle.sr_client.specs.declared.steps.WriteStep.TheVariants.{Sent}
 use Rattle.sr_client.specs.Sends.{IsWellSent}
+use Rattle.sr_client.specs.Steps.{Writes}
 use Rattle.sr_client.proofs.SendableLemmas.{write-sent-well}
 use Rattle.sr_client.proofs.WriteLemmas.{write-busy, write-over-cut, write-sent}
 use Rattle.sr_client.proofs.client.Client.write.Goals as goal
@@ -9,10 +12,13 @@ pub returns-in-Some-clause-writes : goal.returns-in-Some-clause-writes
 returns-in-Some-clause-writes c = λ few. write-busy c.args.self.now c.args.sql.now c.number.result c.in-Some.request c.requires.stands (search rules) c.number.ensures
 
 pub returns-then-self-clause-writes : goal.returns-then-self-clause-writes
-returns-then-self-clause-writes c = λ few. write-over-cut c.args.self.now c.args.sql.now c.requires.stands (search rules) (search rules)
+returns-then-self-clause-writes c = λ few. write-over-cut c.args.self.now c.args.sql.now c.requires.stands c.in_default.is c.if-self.true
 
 pub returns-clause-writes : goal.returns-clause-writes
-returns-clause-writes c = λ few. write-sent c.args.self.now c.args.sql.now _ c.requires.stands (search rules) (search rules) (search rules)
+returns-clause-writes c = λ few.
+    let old = c.args.self.now in
+    subst (λ (x : Client). Writes old c.args.sql.now x (Sent old.next_request (Write old.next_request c.in_ok-of.field-0))) (sym c.set_out.ensures)
+    (write-sent old c.args.sql.now _ c.requires.stands c.in_default.is c.if-self.false (ap (Write old.next_request) c.in_ok-of.ensures))
 
 pub returns-clause-sends : goal.returns-clause-sends
 returns-clause-sends c =

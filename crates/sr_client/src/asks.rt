@@ -88,7 +88,9 @@ fn rest_of(
 {
     let table = table_at(schema, part.table);
     let cover = store.cover_near(alloc, part)?;
-    match trim(alloc, part, table, &cover, room) {
+    let trimmed = trim(alloc, part, table, &cover, room);
+    drop(cover);
+    match trimmed {
         Ok(trimmed) => Ok(entry_of(alloc, part.table, trimmed)?),
         Err(no) => Err(no),
     }

@@ -22,21 +22,21 @@ use Rattle.sr_client.proofs.asks.rest_of.Goals as goal
 pub table_at-table-requires-clause-within : goal.table_at-table-requires-clause-within
 table_at-table-requires-clause-within c = (sound-one c.args.schema.now c.args.part.now c.requires.meant).within
 
-pub trim-requires-clause-part_fits : goal.trim-requires-clause-part_fits
-trim-requires-clause-part_fits c =
+pub trim-trimmed-requires-clause-part_fits : goal.trim-trimmed-requires-clause-part_fits
+trim-trimmed-requires-clause-part_fits c =
     let sound = sound-one c.args.schema.now c.args.part.now c.requires.meant in
     subst (λ (t : Table). list_all (rect_fits t.columns) c.args.part.now.rects ≡ true) (sym c.table_at-table.ensures.found) sound.fits
 
-pub trim-requires-clause-cover_fits : goal.trim-requires-clause-cover_fits
-trim-requires-clause-cover_fits c =
+pub trim-trimmed-requires-clause-cover_fits : goal.trim-trimmed-requires-clause-cover_fits
+trim-trimmed-requires-clause-cover_fits c =
     let table = c.table_at-table.ensures.found in
     let fits = cover-fits c.args.schema.now c.args.part.now c.args.store.now.regions c.requires.store.each in
     let close = near-fits (table_at c.args.schema.now c.args.part.now.table).columns c.args.part.now.rects (cover_of c.args.part.now c.args.store.now.regions) fits in
     subst (λ rects. list_all (rect_fits c.table_at-table.result.now.columns) rects ≡ true) (sym c.in_ok-cover.ensures)
     (subst (λ (t : Table). list_all (rect_fits t.columns) (near c.args.part.now.rects (cover_of c.args.part.now c.args.store.now.regions)) ≡ true) (sym table) close)
 
-pub returns-in-Ok-clause-asks : goal.returns-in-Ok-clause-asks
-returns-in-Ok-clause-asks c =
+pub returns-in_ok-entry_of-in-Ok-clause-asks : goal.returns-in_ok-entry_of-in-Ok-clause-asks
+returns-in_ok-entry_of-in-Ok-clause-asks c =
     let table = c.table_at-table.ensures.found in
     let trimmed : IsTrimmed c.table_at-table.result.now.columns c.args.part.now.need (left_over c.args.part.now.rects c.in_ok-cover.cover) c.in-Ok.trimmed.attrs c.in-Ok.trimmed.rest =
     record { fits = c.in-Ok.ensures.fits; points = c.in-Ok.ensures.points; bound = c.in-Ok.ensures.bound; shipped = c.in-Ok.ensures.columns; empty = c.in-Ok.ensures.empty; some = c.in-Ok.ensures.some } in
@@ -49,8 +49,8 @@ returns-in-Ok-clause-asks c =
     subst (AsksRest c.args.schema.now c.args.store.now.regions (c.args.part.now ∷ [])) (sym c.in_ok-entry_of-in-Ok.ensures)
     (asks-rest c.args.schema.now c.args.store.now.regions c.args.part.now c.in-Ok.trimmed.attrs c.in-Ok.trimmed.rest of_all)
 
-pub returns-in-Ok-clause-cuts : goal.returns-in-Ok-clause-cuts
-returns-in-Ok-clause-cuts c =
+pub returns-in_ok-entry_of-in-Ok-clause-cuts : goal.returns-in_ok-entry_of-in-Ok-clause-cuts
+returns-in_ok-entry_of-in-Ok-clause-cuts c =
     let s = c.args.schema.now in
     let gs = c.args.store.now.regions in
     let part = c.args.part.now in
@@ -62,13 +62,13 @@ returns-in-Ok-clause-cuts c =
     let of_all = near-cuts (table_at s part.table).columns part.rects (cover_of part gs) c.in-Ok.trimmed.rest sound.fits fits of_cover in
     subst (AreCutAlong s gs (part ∷ [])) (sym c.in_ok-entry_of-in-Ok.ensures) (rest-along s gs part c.in-Ok.trimmed.attrs c.in-Ok.trimmed.rest of_all)
 
-pub returns-in-Ok-clause-rects : goal.returns-in-Ok-clause-rects
-returns-in-Ok-clause-rects c =
+pub returns-in_ok-entry_of-in-Ok-clause-rects : goal.returns-in_ok-entry_of-in-Ok-clause-rects
+returns-in_ok-entry_of-in-Ok-clause-rects c =
     let count = entry-count c.args.part.now.table c.in-Ok.trimmed.attrs c.in-Ok.trimmed.rest in
     subst (λ asks. count_asked asks ≤ c.args.room) (sym c.in_ok-entry_of-in-Ok.ensures) (omega (arith, count, c.in-Ok.ensures.few))
 
-pub returns-in-Ok-clause-grid : goal.returns-in-Ok-clause-grid
-returns-in-Ok-clause-grid c =
+pub returns-in_ok-entry_of-in-Ok-clause-grid : goal.returns-in_ok-entry_of-in-Ok-clause-grid
+returns-in_ok-entry_of-in-Ok-clause-grid c =
     let s = c.args.schema.now in
     let gs = c.args.store.now.regions in
     let part = c.args.part.now in
@@ -83,8 +83,8 @@ returns-in-Ok-clause-grid c =
     let count = entry-count part.table c.in-Ok.trimmed.attrs rest in
     subst (λ asks. count_asked asks ≤ grid_of_part s gs part) (sym c.in_ok-entry_of-in-Ok.ensures) (omega (arith, count, few))
 
-pub returns-clause-over : goal.returns-clause-over
-returns-clause-over c = λ e.
+pub returns-in-Err-clause-over : goal.returns-in-Err-clause-over
+returns-in-Err-clause-over c = λ e.
     let s = c.args.schema.now in
     let gs = c.args.store.now.regions in
     let part = c.args.part.now in
@@ -96,8 +96,8 @@ returns-clause-over c = λ e.
     over-within (table_at s part.table).columns part.rects (cover_of part gs) c.args.room sound.fits (cover-fits s part gs c.requires.store.each)
     (λ none. c.in-Err.ensures.over_left refused (λ p point. ap (λ rects. left_over rects c.in_ok-cover.cover p) none)) of_cover
 
-pub returns-clause-over_left : goal.returns-clause-over_left
-returns-clause-over_left c = λ e.
+pub returns-in-Err-clause-over_left : goal.returns-in-Err-clause-over_left
+returns-in-Err-clause-over_left c = λ e.
     let s = c.args.schema.now in
     let gs = c.args.store.now.regions in
     let part = c.args.part.now in

@@ -1,5 +1,7 @@
 use Rattle.std.proofs.Common.{[], sym, subst, refl, ◌+◌}
 use Rattle.std.specs.List.{All}
+use Rattle.std.proofs.lemmas.List.Elements.{All-nil}
+use Rattle.sr_store.specs.Answered.{IsArrival}
 use Rattle.sr_client.proofs.Calls.{Answers, IsAfter, after-of, answers-of}
 use Rattle.sr_client.proofs.QueryLemmas.{answered-now}
 use Rattle.sr_client.proofs.MeantLemmas.{Fit, Only, Named, parts-fit, parts-only, parts-named}
@@ -16,6 +18,9 @@ answered-requires-clause-only c =
 pub answered-requires-clause-named : goal.answered-requires-clause-named
 answered-requires-clause-named c =
     subst (All (Named c.args.self.now.schema)) (sym c.as_slice-2.ensures) (parts-named c.args.self.now.schema c.args.query.now c.requires.meant.0 c.requires.meant.1)
+
+pub answered-requires-clause-arrivals : goal.answered-requires-clause-arrivals
+answered-requires-clause-arrivals c = subst (All (IsArrival c.args.self.now.schema c.as_slice-2.result.now)) (sym c.new.ensures) (All-nil _)
 
 pub returns-clause-queries : goal.returns-clause-queries
 returns-clause-queries c = λ meaning is.

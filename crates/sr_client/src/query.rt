@@ -61,30 +61,33 @@ impl Client {
         ensures cuts { self.new.cuts ≡ self.old.cuts }
         ensures numbers_left { OnErr result (KeepsNumbers self.old self.new) }
     {
-        if let Some(request) = &self.out {
-            return Ok(QueryStep::Busy {
+        let step = if let Some(request) = &self.out {
+            Ok(QueryStep::Busy {
                 request: request.number(),
-            });
-        }
-        match asks_of(alloc, &self.schema, &self.store, query.parts.as_slice()) {
-            Ok(asks) => {
-                if asks.is_empty() {
-                    self.answer_now(alloc, &query)
-                } else if self.cut {
-                    Ok(QueryStep::Down { cut: self.cuts })
-                } else {
-                    self.send_ask(alloc, query, asks, Seq::new(alloc))
+            })
+        } else {
+            match asks_of(alloc, &self.schema, &self.store, query.parts.as_slice()) {
+                Ok(asks) => {
+                    if asks.is_empty() {
+                        self.answer_now(alloc, &query)
+                    } else if self.cut {
+                        Ok(QueryStep::Down { cut: self.cuts })
+                    } else {
+                        return self.send_ask(alloc, query, asks, Seq::new(alloc));
+                    }
+                }
+                Err(No::NoMemory) => Err(NoMemory),
+                Err(No::Refused(_)) => {
+                    if self.cut {
+                        Ok(QueryStep::Down { cut: self.cuts })
+                    } else {
+                        return self.drop_and_ask(alloc, query);
+                    }
                 }
             }
-            Err(No::NoMemory) => Err(NoMemory),
-            Err(No::Refused(_)) => {
-                if self.cut {
-                    Ok(QueryStep::Down { cut: self.cuts })
-                } else {
-                    self.drop_and_ask(alloc, query)
-                }
-            }
-        }
+        };
+        drop(query);
+        step
     }
 
     /// Answers a query of which nothing is left to ask.

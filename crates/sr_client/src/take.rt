@@ -30,7 +30,7 @@ use sr_cell::cause::Cause;
 use sr_cell::cell::Rows;
 use sr_cell::list::{Copied, NoMemory, Seq};
 use sr_cell::schema::Schema;
-use sr_message::message::{AskPart, Message, Messages, Told};
+use sr_message::message::{AskPart, Message, Messages, Tell};
 use sr_store::store::{Arrival, Arrivals};
 use std::alloc::Global;
 use std::mem;
@@ -130,19 +130,19 @@ impl Client {
         ensures numbers_left { OnErr result (KeepsNumbers self.old self.new) }
     {
         match message {
-            Message::Notice { version, told } => self.apply(alloc, version, told),
+            Message::Notice { version, told } => self.apply(alloc, version, told.as_slice()),
             Message::Lapse { version } => self.forget(alloc, version),
             _ => Ok(Took::Laid),
         }
     }
 
     /// Applies a notice, and drops what the limits demand then.
-    fn apply(&mut self, alloc: Global, version: u64, told: Told) -> Result<Took, NoMemory>
+    fn apply(&mut self, alloc: Global, version: u64, told: &[Tell]) -> Result<Took, NoMemory>
         requires stands { Stands self.old }
         requires idle { self.old.out ≡ None }
-        requires fit { IsFit self.old (Notice version told) }
+        requires fit { IsFit self.old (Notice version told.now) }
         ensures good { IfOk result (λ took. is_bad took ≡ false) }
-        ensures takes { IfOk result (Takes self.old (Notice version told) self.new) }
+        ensures takes { IfOk result (Takes self.old (Notice version told.now) self.new) }
         ensures version { self.old.version ≤ self.new.version }
         ensures sends { IfOk result (TookSendsWell self.old.schema self.old.id) }
         ensures stays { Stays self.old self.new }
@@ -150,8 +150,8 @@ impl Client {
         ensures cuts { self.new.cuts ≡ self.old.cuts }
         ensures numbers_left { OnErr result (KeepsNumbers self.old self.new) }
     {
-        know_told(told.as_slice());
-        self.store.apply(alloc, told.as_slice())?;
+        know_told(told);
+        self.store.apply(alloc, told)?;
         let marks = self.store.fit(alloc, &self.schema)?;
         self.version = version;
         Ok(Took::Applied { version, marks })

@@ -1,7 +1,7 @@
 //! Which messages a client refuses, and why.
 ghost use Rattle.std.specs.Prelude.{◌≡◌, ℕ, not, nat_lt, nat_le, Bool, true, List, [], ◌∷◌, length, slice_get, IsTrue, None, Some};
 ghost use Rattle.std.specs.List.{list_all};
-ghost use Rattle.sr_cell.specs.Cells.{cell_at, cell_eq, cell_le, Row as TheRow};
+ghost use Rattle.sr_cell.specs.Cells.{cell_at, cell_eq, Row as TheRow};
 ghost use Rattle.sr_cell.specs.Columns.{table_at, fits_columns, takes_cell};
 ghost use Rattle.sr_model.specs.Queries.{Query as TheQuery};
 ghost use Rattle.sr_model.specs.SortedRows.{ascend, key_lt};
@@ -17,6 +17,7 @@ use sr_cell::cell::{Cell, Row};
 use sr_cell::table::{Column, Table};
 use sr_message::message::{AskPart, Message, Tell};
 use sr_region::region::rank_of;
+use sr_rows::rows::is_row_at_most;
 use sr_union::rects::Rects;
 use sr_wire::bad_frame::BadFrame;
 
@@ -403,11 +404,13 @@ fn follows(key: usize, row: &Row, rows: &[Row]) -> bool
     ensures { result ≡ ascend key (row.now ∷ rows.now) }
 {
     let mut last = row;
-    for next in rows {
+    let mut rest = rows;
+    while let Some((next, others)) = rest.split_first() {
         if !is_below(key, last, next) {
             return false;
         }
         last = next;
+        rest = others;
     }
     true
 }
@@ -415,26 +418,5 @@ fn follows(key: usize, row: &Row, rows: &[Row]) -> bool
 fn is_below(key: usize, row: &Row, next: &Row) -> bool
     ensures { result ≡ key_lt key row.now next.now }
 {
-    is_at_most(key, row, next) && !is_at_most(key, next, row)
-}
-
-/// Whether the row's cell of that column is not above the other's.
-#[tactic(auto, using(sr_rows::proofs::Order::cell_at_absent))]
-fn is_at_most(key: usize, row: &Row, other: &Row) -> bool
-    ensures { result ≡ cell_le (cell_at row.now key) (cell_at other.now key) }
-{
-    match row.get(key) {
-        Some(cell) => is_cell_at_most(cell, key, other),
-        None => is_cell_at_most(&Cell::Num(0), key, other),
-    }
-}
-
-#[tactic(auto, using(sr_rows::proofs::Order::cell_at_absent))]
-fn is_cell_at_most(cell: &Cell, key: usize, other: &Row) -> bool
-    ensures { result ≡ cell_le cell.now (cell_at other.now key) }
-{
-    match other.get(key) {
-        Some(own) => cell.is_at_most(own),
-        None => cell.is_at_most(&Cell::Num(0)),
-    }
+    is_row_at_most(row, next, key) && !is_row_at_most(next, row, key)
 }

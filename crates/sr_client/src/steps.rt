@@ -97,7 +97,7 @@ pub enum EvictStep {
 }
 
 /// What ended with a cut: nothing, or the request of that number; of an ask, the query that waits for it.
-#[derive(Clone, Copy, Debug, PartialEq, Eq)]
+#[derive(Clone, Copy, PartialEq, Eq)]
 pub enum Ended {
     Nothing,
     Query(u64),
@@ -106,7 +106,7 @@ pub enum Ended {
 }
 
 /// What comes of a cut: its number and what ended, or the number of the last cut where the link was cut already.
-#[derive(Clone, Copy, Debug, PartialEq, Eq)]
+#[derive(Clone, Copy, PartialEq, Eq)]
 pub enum CutStep {
     Cut { number: u64, ended: Ended },
     Already { number: u64 },

@@ -1,5 +1,5 @@
 //! A client and its state.
-ghost use Rattle.std.specs.Prelude.{◌≡◌, ◌≤◌, ◌+◌, ◌-◌, ◌^◌, min, Some, None, IsTrue};
+ghost use Rattle.std.specs.Prelude.{◌≡◌, ◌≤◌, ◌+◌, ◌-◌, ◌^◌, min, IsTrue};
 ghost use Rattle.std.specs.List.{list_all};
 ghost use Rattle.std.specs.Option.{is_some};
 ghost use Rattle.sr_model.specs.Queries.{Query as TheQuery};
@@ -151,18 +151,11 @@ impl Client {
         }
     }
 
-    /// This request is out from now on; takes no memory.
-    pub(crate) fn set_out(&mut self, request: Request)
-        ensures { self.new ≡ record self.old { out = Some request } }
+    /// This request is out from now on, or none; takes no memory.
+    pub(crate) fn set_out(&mut self, out: Option<Request>)
+        ensures { self.new ≡ record self.old { out = out } }
     {
-        self.out = Some(request);
-    }
-
-    /// Nothing is out any more; takes no memory.
-    pub(crate) fn end_request(&mut self)
-        ensures { self.new ≡ record self.old { out = None } }
-    {
-        self.out = None;
+        self.out = out;
     }
 
     /// Forgets all, as if the link had been cut; takes no memory.
@@ -172,7 +165,7 @@ impl Client {
         ensures once { self.new.cuts ≤ self.old.cuts + 1 }
     {
         self.store = Store::new(alloc, self.store.limits);
-        self.end_request();
+        self.set_out(None);
         self.laid = Seq::new(alloc);
         if !self.cut && self.cuts < u64::MAX {
             self.cuts += 1;

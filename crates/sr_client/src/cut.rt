@@ -25,7 +25,7 @@ impl Client {
             return CutStep::Already { number: self.cuts };
         }
         let ended = ended_of(&self.out);
-        self.end_request();
+        self.set_out(None);
         self.laid = Seq::new(alloc);
         self.cut = true;
         self.cuts += 1;

@@ -184,7 +184,7 @@ impl Client {
         match message_of(alloc, &out) {
             Ok(message) => {
                 self.next_request = out.number + 1;
-                self.set_out(Request::Ask(out));
+                self.set_out(Some(Request::Ask(out)));
                 Ok(message)
             }
             Err(no) => {

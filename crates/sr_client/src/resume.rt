@@ -34,7 +34,7 @@ impl Client {
         let request = self.next_request;
         let message = first_of(alloc, self)?;
         self.next_request = request + 1;
-        self.set_out(Request::Resume { number: request });
+        self.set_out(Some(Request::Resume { number: request }));
         self.cut = false;
         Ok(ResumeStep::Sent { request, message })
     }

@@ -163,7 +163,7 @@ impl Client {
     {
         let marks = self.store.drop_all(alloc, cause)?;
         self.laid = Seq::new(alloc);
-        self.end_request();
+        self.set_out(None);
         self.version = version;
         Ok(marks)
     }
@@ -182,7 +182,7 @@ impl Client {
         let laid = mem::replace(&mut self.laid, Seq::new(alloc));
         self.apply_laid(alloc, &mut [], laid)?;
         let marks = self.store.fit(alloc, &self.schema)?;
-        self.end_request();
+        self.set_out(None);
         self.version = version;
         Ok(marks)
     }

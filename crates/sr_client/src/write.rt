@@ -54,7 +54,7 @@ impl Client {
             sql: Text::of(alloc, sql)?,
         };
         self.next_request = request + 1;
-        self.set_out(Request::Write { number: request });
+        self.set_out(Some(Request::Write { number: request }));
         Ok(WriteStep::Sent { request, message })
     }
 }

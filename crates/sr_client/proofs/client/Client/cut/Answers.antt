@@ -12,6 +12,6 @@ returns-then-self-clause-cuts c = cut-already c.args.self.now c.requires.stands 
 pub returns-clause-cuts : goal.returns-clause-cuts
 returns-clause-cuts c =
     let old = c.args.self.now in
-    subst (λ (x : Client). Cuts old (record x { laid = c.new.result; cut = true; cuts = x.cuts + 1 }) (Cut (x.cuts + 1) c.ended_of-ended.result)) (sym c.end_request.ensures)
+    subst (λ (x : Client). Cuts old (record x { laid = c.new.result; cut = true; cuts = x.cuts + 1 }) (Cut (x.cuts + 1) c.ended_of-ended.result)) (sym c.set_out.ensures)
     (subst (λ (ms : List Message). Cuts old (record (cut_off old) { laid = ms }) (Cut (old.cuts + 1) c.ended_of-ended.result)) (sym c.new.ensures)
     (cut-now old c.ended_of-ended.result c.requires.stands (search rules) c.ended_of-ended.ensures))

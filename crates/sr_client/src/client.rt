@@ -21,6 +21,7 @@ use sr_query::query::Query;
 use sr_region::region::Region;
 use sr_store::store::Store;
 use std::alloc::Global;
+use std::mem;
 
 /// The ask that is out, with its number, and its query with that one's number.
 #[derive(Drop)]
@@ -155,7 +156,7 @@ impl Client {
     pub(crate) fn set_out(&mut self, out: Option<Request>)
         ensures { self.new ≡ record self.old { out = out } }
     {
-        self.out = out;
+        drop(mem::replace(&mut self.out, out));
     }
 
     /// Forgets all, as if the link had been cut; takes no memory.

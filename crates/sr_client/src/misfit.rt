@@ -173,7 +173,12 @@ fn told_suits(schema: &[Table], told: &[Tell]) -> bool
 fn all_suit(schema: &[Table], told: &[Tell]) -> bool
     ensures { result ≡ list_all (tell_suits schema.now) told.now }
 {
-    told.iter().all(|tell| tell_suits(schema, tell))
+    for tell in told {
+        if !tell_suits(schema, tell) {
+            return false;
+        }
+    }
+    true
 }
 
 fn tell_suits(schema: &[Table], tell: &Tell) -> bool
@@ -310,18 +315,24 @@ fn fit_ask(schema: &[Table], ask: &AskPart, rows: &[Row]) -> bool
     ensures { result ≡ fit_ask schema.now ask.now rows.now }
 {
     let columns = columns_of(schema, ask.table);
-    rows.iter().all(|row| cells_fit(ask.attrs, columns, row)
-        && has_cells(&ask.rects, ask.attrs, row))
+    for row in rows {
+        if !cells_fit(ask.attrs, columns, row) || !has_cells(&ask.rects, ask.attrs, row) {
+            return false;
+        }
+    }
+    true
 }
 
 /// Whether some rect has the rows with these cells.
 fn has_cells(rects: &Rects, attrs: Attrs, cells: &Row) -> bool
     ensures { result ≡ is_in attrs rects.now cells.now }
 {
-    rects
-        .as_slice()
-        .iter()
-        .any(|rect| rect.has_part(attrs, cells))
+    for rect in rects.as_slice() {
+        if rect.has_part(attrs, cells) {
+            return true;
+        }
+    }
+    false
 }
 
 /// Whether a row has a cell for each of these columns, which the column takes, and no other.

@@ -93,7 +93,7 @@ impl Client {
     }
 
     /// A client whose first messages have passed: its session is open at version 0, and its first request will be number 1.
-    #[tactic(auto, using(crate::proofs::NewLemmas::opened_stands, crate::proofs::NewLemmas::opened_over))]
+    #[tactic(auto, using(crate::proofs::NewLemmas::opened_stands))]
     pub fn opened(alloc: Global, id: u8, schema: Schema, limits: Limits) -> Client
         requires tables { IsTrue (list_all is_table schema) }
         ensures is { result ≡ opened_client id schema limits }

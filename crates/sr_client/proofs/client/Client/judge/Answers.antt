@@ -83,7 +83,7 @@ returns-clause-queries c = λ meaning is.
             let left = leaves-asked old.schema old.store.regions w.as_slice.result.now w.in-Ok.asks w.in-Ok.ensures.asks some in
             by-branch old meaning step _ new _ (w.step-is ∙ w'.step-is) (w.self-is ∙ w'.self-is)
             (query-over-cut old q meaning c.requires.stands w.in_default.is w'.if-self.true is (subst (LeavesRest old.schema old.store.regions) w.as_slice.ensures left)))
-        ]
+      ]
       | in_default+in-Err-NoMemory w ↦ by-branch old meaning step _ new _ w.step-is w.self-is tt
       | in_default+in-Err-Refused+then-self-2 w ↦ (let left = subst (LeavesRest old.schema old.store.regions) w.as_slice.ensures (w.in-Err-Refused.ensures.over_left (ap Err w.in-Err-Refused.field-0-is)) in
           by-branch old meaning step _ new _ w.step-is w.self-is (query-over-cut old q meaning c.requires.stands w.in_default.is w.if-self-2.true is left))

@@ -25,3 +25,19 @@ returns-clause-sends c =
     let old = c.args.self.now in
     let few : length c.args.sql.now ≤ 65536 = omega arith in
     subst (λ sql. IsWellSent old.schema old.id (Write old.next_request sql)) (sym c.in_ok-of.ensures) (write-sent-well old.schema old.id old.next_request c.args.sql.now few)
+
+-- a text is too long, or it is not
+pub returns-then-sql-clause-writes : goal.returns-then-sql-clause-writes
+returns-then-sql-clause-writes c = λ few. absurd (omega (arith, few))
+
+pub returns-in-Some-clause-too_long : goal.returns-in-Some-clause-too_long
+returns-in-Some-clause-too_long c = λ long. absurd (omega (arith, long))
+
+pub returns-then-self-clause-too_long : goal.returns-then-self-clause-too_long
+returns-then-self-clause-too_long c = λ long. absurd (omega (arith, long))
+
+pub returns-in_err-of-clause-too_long : goal.returns-in_err-of-clause-too_long
+returns-in_err-of-clause-too_long c = λ long. absurd (omega (arith, long))
+
+pub returns-clause-too_long : goal.returns-clause-too_long
+returns-clause-too_long c = λ long. absurd (omega (arith, long))

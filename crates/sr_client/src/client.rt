@@ -156,6 +156,7 @@ impl Client {
     pub(crate) fn set_out(&mut self, out: Option<Request>)
         ensures { self.new ≡ record self.old { out = out } }
     {
+        // An assignment would drop the old one in place, kind by kind.
         drop(mem::replace(&mut self.out, out));
     }
 

@@ -2,44 +2,27 @@
 ghost use Rattle.std.specs.Prelude.{◌≡◌, pos, true, IfOk};
 ghost use Rattle.sr_union.specs.Grid.{all_inner, have_first};
 
-use crate::common::is_printed;
-use sr_box::rect::Rect;
+use crate::common::{column, other_text, rects_of, table_of};
 use sr_box::span::Span;
 use sr_cell::fault::Fault;
-use sr_cell::list::{Copied, No, NoMemory, Seq};
+use sr_cell::list::{Copied, No, NoMemory};
 use sr_cell::schema::Schema;
-use sr_cell::table::{Column, Kind, Table};
-use sr_cell::text::Text;
+use sr_cell::table::Table;
 use sr_script::line::TraceLine;
 use sr_union::rects::Rects;
 use std::alloc::Global;
-use std::test::Fail;
 
 // Numbers from 0 to 99.
 fn numbers(alloc: Global) -> Result<Table, NoMemory>
     ensures inner { IfOk result (λ table. all_inner table.columns ≡ true) }
     ensures first { IfOk result (λ table. have_first table.columns ≡ true) }
 {
-    let mut columns = Seq::new(alloc);
-    columns.push(Column {
-        name: Text::of(alloc, "id")?,
-        kind: Kind::Num,
-        lo: 0,
-        hi: 99,
-    })?;
-    Ok(Table {
-        name: Text::of(alloc, "n")?,
-        columns,
-        key: 0,
-    })
+    let id = column(alloc, "id", 99)?;
+    table_of(alloc, "n", [id])
 }
 
-fn rects_of(alloc: Global, lo: i64, hi: i64) -> Result<Rects, NoMemory> {
-    let mut rect = Rect::new(alloc);
-    rect.push(Span::Nums { lo, hi })?;
-    let mut rects = Rects::new(alloc);
-    rects.push(rect)?;
-    Ok(rects)
+fn range(alloc: Global, lo: i64, hi: i64) -> Result<Rects, NoMemory> {
+    rects_of(alloc, [Span::Nums { lo, hi }])
 }
 
 // How many rects those of the one without the others are.
@@ -51,14 +34,16 @@ fn rects_left(alloc: Global, one: &Rects, others: &Rects) -> Result<Option<usize
     Ok(Some(one.difference(alloc, others, &table)?.len()))
 }
 
-/// The numbers from 10 to 50 without those from 20 to 30 are two rects.
+// The same of the numbers from 10 to 50 without those from 20 to 30.
+fn rects_around(alloc: Global) -> Result<Option<usize>, NoMemory> {
+    let rects = range(alloc, 10, 50)?;
+    let others = range(alloc, 20, 30)?;
+    rects_left(alloc, &rects, &others)
+}
+
 #[test]
-fn a_difference_has_its_rects(rt: HostRuntime) -> Result<(), Fail> {
-    let alloc = rt.alloc();
-    let rects = rects_of(alloc, 10, 50)?;
-    let others = rects_of(alloc, 20, 30)?;
-    assert_eq!(rt; rects_left(alloc, &rects, &others)?, Some(2));
-    Ok(())
+fn a_difference_has_its_rects(rt: HostRuntime) {
+    assert_eq!(rt; rects_around(rt.alloc()), Ok(Some(2)));
 }
 
 // The place of the table in a copy of a schema that has it alone.
@@ -74,20 +59,21 @@ fn a_schema_is_copied(rt: HostRuntime) {
     assert!(rt; place_in_copy(alloc, &mut schema) == Ok(Some(0)));
 }
 
+const LINES: [(TraceLine, &str); 4] = [
+    (
+        TraceLine::QueryBusy {
+            client: 1,
+            request: 1,
+        },
+        "6 query 1 busy 1\n",
+    ),
+    (TraceLine::PushClosed { client: 1 }, "6 push 1 closed\n"),
+    (TraceLine::ServerEmpty { client: 1 }, "6 toserver 1 empty\n"),
+    (TraceLine::ClientEmpty { client: 1 }, "6 toclient 1 empty\n"),
+];
+
 #[test]
-fn lines_are_printed(rt: HostRuntime) -> Result<(), Fail> {
-    let alloc = rt.alloc();
-    let client = 1;
-    for (line, printed) in [
-        (
-            TraceLine::QueryBusy { client, request: 1 },
-            "6 query 1 busy 1\n",
-        ),
-        (TraceLine::PushClosed { client }, "6 push 1 closed\n"),
-        (TraceLine::ServerEmpty { client }, "6 toserver 1 empty\n"),
-        (TraceLine::ClientEmpty { client }, "6 toclient 1 empty\n"),
-    ] {
-        assert!(rt; is_printed(alloc, &[], 6, &line, printed)?, "{printed}");
-    }
-    Ok(())
+fn lines_are_printed(rt: HostRuntime) {
+    let other = other_text(rt.alloc(), &[], 6, &LINES);
+    assert_eq!(rt; other, Ok(None));
 }

@@ -1,9 +1,9 @@
 //! The lines of an explanation, as text.
 ghost use Rattle.std.specs.Prelude.{◌≡◌, length, IfOk};
 
-use crate::common::{ages, people};
+use crate::common::{ages, list_of, people};
 use sr_cell::attrs::Attrs;
-use sr_cell::list::{NoMemory, Seq};
+use sr_cell::list::NoMemory;
 use sr_explain::explanation::{ExplainPart, Explanation, ProbeView, Victim};
 use sr_explain::lines::lines;
 use sr_script::text::push_line;
@@ -20,28 +20,30 @@ fn region(stamp: u64, rows: u64) -> Victim {
     }
 }
 
-// A query of which some points are held, and two regions.
-fn partly_held(alloc: Global) -> Result<Explanation, NoMemory>
-    ensures { IfOk result (λ explanation. length explanation.victims ≡ 2) }
-{
+// A part of a query of which some points are held.
+fn part(alloc: Global) -> Result<ExplainPart, NoMemory> {
     let attrs = Attrs(3);
-    let mut probes = Seq::new(alloc);
-    probes.push(ProbeView {
+    let rest = ages(alloc, 41, 50)?;
+    let probe = ProbeView {
         attrs,
         stamp: 1,
         rects: ages(alloc, 35, 40)?,
-    })?;
-    let mut parts = Seq::new(alloc);
-    parts.push(ExplainPart {
+    };
+    Ok(ExplainPart {
         table: 0,
         need: attrs,
-        probes,
-        rest: ages(alloc, 41, 50)?,
+        probes: list_of(alloc, [probe])?,
+        rest,
         attrs,
-    })?;
-    let mut victims = Seq::new(alloc);
-    victims.push(region(1, 2))?;
-    victims.push(region(4, 0))?;
+    })
+}
+
+// A query of that part, and two regions.
+fn partly_held(alloc: Global) -> Result<Explanation, NoMemory>
+    ensures { IfOk result (λ explanation. length explanation.victims ≡ 2) }
+{
+    let parts = list_of(alloc, [part(alloc)?])?;
+    let victims = list_of(alloc, [region(1, 2), region(4, 0)])?;
     Ok(Explanation {
         version: 2,
         pieces: false,
@@ -61,11 +63,15 @@ fn text_of(alloc: Global, explanation: &Explanation) -> Result<String, NoMemory>
     Ok(text)
 }
 
+// The lines of that query.
+fn text_of_partly_held(alloc: Global) -> Result<String, NoMemory> {
+    let explanation = partly_held(alloc)?;
+    text_of(alloc, &explanation)
+}
+
 #[test]
 fn probes_stand_before_the_rest(rt: HostRuntime) -> Result<(), Fail> {
-    let alloc = rt.alloc();
-    let explanation = partly_held(alloc)?;
-    let text = text_of(alloc, &explanation)?;
+    let text = text_of_partly_held(rt.alloc())?;
     assert_eq!(rt;
         text.as_str(),
         "6 need emp (id,age)

@@ -8,12 +8,11 @@ ghost use Rattle.sr_box.specs.declared.span.Span.TheVariants.{Full, Nums};
 ghost use Rattle.sr_union.specs.Grid.{all_inner, have_first};
 ghost use Rattle.sr_region.specs.Regions.{rank, IsRowIn, IsRegion};
 
-use crate::common::{ages, column};
-use sr_box::rect::Rect;
+use crate::common::{ages, column, list_of, rects_of, table_of};
 use sr_box::span::Span;
 use sr_cell::attrs::Attrs;
 use sr_cell::cell::{Cell, Row};
-use sr_cell::list::{NoMemory, Seq};
+use sr_cell::list::NoMemory;
 use sr_cell::table::Table;
 use sr_cell::text::Text;
 use sr_region::halves::Halves;
@@ -21,7 +20,6 @@ use sr_region::inside::RowsIn;
 use sr_region::region::Region;
 use sr_union::rects::Rects;
 use std::alloc::Global;
-use std::test::Fail;
 
 // Numbers up to 9999, and ages up to 150.
 fn persons(alloc: Global) -> Result<Table, NoMemory>
@@ -31,14 +29,9 @@ fn persons(alloc: Global) -> Result<Table, NoMemory>
     ensures young { IfOk result (λ table. is_point table.columns (Num (pos 5) ∷ Num (pos 31) ∷ []) ≡ true) }
     ensures old { IfOk result (λ table. is_point table.columns (Num (pos 3) ∷ Num (pos 39) ∷ []) ≡ true) }
 {
-    let mut columns = Seq::new(alloc);
-    columns.push(column(alloc, "id", 9999)?)?;
-    columns.push(column(alloc, "age", 150)?)?;
-    Ok(Table {
-        name: Text::of(alloc, "persons")?,
-        columns,
-        key: 0,
-    })
+    let id = column(alloc, "id", 9999)?;
+    let age = column(alloc, "age", 150)?;
+    table_of(alloc, "persons", [id, age])
 }
 
 fn region_of(alloc: Global, table: &Table, lo: i64, hi: i64) -> Result<Option<Region>, NoMemory>
@@ -101,22 +94,29 @@ fn have(halves: &Option<Halves>, inside: usize, outside: usize) -> bool {
     }
 }
 
+// Whether these halves have so many rects.
+fn are_cut(
+    alloc: Global,
+    lo: i64,
+    hi: i64,
+    inside: usize,
+    outside: usize,
+) -> Result<bool, NoMemory> {
+    Ok(have(&halves_at(alloc, lo, hi)?, inside, outside))
+}
+
 #[test]
-fn a_region_has_two_halves_or_one(rt: HostRuntime) -> Result<(), Fail> {
+fn a_region_has_two_halves_or_one(rt: HostRuntime) {
     let alloc = rt.alloc();
-    assert!(rt; have(&halves_at(alloc, 30, 40)?, 1, 2));
-    assert!(rt; have(&halves_at(alloc, 0, 10)?, 0, 1));
-    assert!(rt; have(&halves_at(alloc, 10, 70)?, 1, 0));
-    Ok(())
+    assert!(rt; are_cut(alloc, 30, 40, 1, 2) == Ok(true));
+    assert!(rt; are_cut(alloc, 0, 10, 0, 1) == Ok(true));
+    assert!(rt; are_cut(alloc, 10, 70, 1, 0) == Ok(true));
 }
 
 fn row_of(alloc: Global, id: i64, age: i64) -> Result<Row, NoMemory>
     ensures { IfOk result (λ row. row ≡ Num id ∷ Num age ∷ []) }
 {
-    let mut row: Row = Seq::new(alloc);
-    row.push(Cell::Num(id))?;
-    row.push(Cell::Num(age))?;
-    Ok(row)
+    list_of(alloc, [Cell::Num(id), Cell::Num(age)])
 }
 
 fn is_row_of(row: &Row, id: i64) -> bool {
@@ -159,24 +159,35 @@ fn region_with(alloc: Global, lo: i64, hi: i64, id: i64, age: i64) -> Result<Reg
     region.put(row).and(Ok(region))
 }
 
-#[test]
-fn rows_lie_by_key(rt: HostRuntime) -> Result<(), Fail> {
-    let alloc = rt.alloc();
+// The ages from 20 to 60, with person 5 of 30, and then person 3 of 50.
+fn region_with_two(alloc: Global) -> Result<Region, NoMemory> {
+    let row = row_of(alloc, 3, 50)?;
     let mut region = region_with(alloc, 20, 60, 5, 30)?;
-    region.put(row_of(alloc, 3, 50)?)?;
-    assert!(rt; has_rows(alloc, &region, 20, 60, &[3, 5])?);
-    assert!(rt; has_rows(alloc, &region, 20, 30, &[5])?);
-    Ok(())
+    region.put(row).and(Ok(region))
+}
+
+// Whether the rows of these two come by key, and one of them alone where the other is left out.
+fn two_lie_by_key(alloc: Global) -> Result<bool, NoMemory> {
+    let region = region_with_two(alloc)?;
+    let both = has_rows(alloc, &region, 20, 60, &[3, 5])?;
+    Ok(both && has_rows(alloc, &region, 20, 30, &[5])?)
 }
 
 #[test]
-fn a_region_serves_its_class(rt: HostRuntime) -> Result<(), Fail> {
-    let alloc = rt.alloc();
+fn rows_lie_by_key(rt: HostRuntime) {
+    assert!(rt; two_lie_by_key(rt.alloc()) == Ok(true));
+}
+
+// Whether a region serves its first column, and neither another column nor another table.
+fn serves_its_class(alloc: Global) -> Result<bool, NoMemory> {
     let region = Region::new(alloc, 2, 0, Attrs(3), 7, ages(alloc, 20, 60)?);
-    assert!(rt;
-        region.serves(2, Attrs(1)) && !region.serves(2, Attrs(4)) && !region.serves(3, Attrs(1))
-    );
-    Ok(())
+    let others = region.serves(2, Attrs(4)) || region.serves(3, Attrs(1));
+    Ok(region.serves(2, Attrs(1)) && !others)
+}
+
+#[test]
+fn a_region_serves_its_class(rt: HostRuntime) {
+    assert!(rt; serves_its_class(rt.alloc()) == Ok(true));
 }
 
 fn joined(alloc: Global) -> Result<Region, NoMemory> {
@@ -184,13 +195,16 @@ fn joined(alloc: Global) -> Result<Region, NoMemory> {
     young.join(region_with(alloc, 30, 60, 3, 50)?)
 }
 
-#[test]
-fn a_join_has_the_rects_and_rows_of_both(rt: HostRuntime) -> Result<(), Fail> {
-    let alloc = rt.alloc();
+// How many rects that one has, and whether it has the rows of both.
+fn both_of_joined(alloc: Global) -> Result<(usize, bool), NoMemory> {
     let both = joined(alloc)?;
-    assert_eq!(rt; both.rects.len(), 2);
-    assert!(rt; has_rows(alloc, &both, 20, 60, &[3, 5])?);
-    Ok(())
+    let has = has_rows(alloc, &both, 20, 60, &[3, 5])?;
+    Ok((both.rects.len(), has))
+}
+
+#[test]
+fn a_join_has_the_rects_and_rows_of_both(rt: HostRuntime) {
+    assert_eq!(rt; both_of_joined(rt.alloc()), Ok((2, true)));
 }
 
 fn with_person(
@@ -285,11 +299,13 @@ fn are_halves(alloc: Global, halves: &Option<Halves>) -> Result<bool, NoMemory> 
     }
 }
 
+fn are_halves_of_persons(alloc: Global) -> Result<bool, NoMemory> {
+    are_halves(alloc, &halves_of_persons(alloc)?)
+}
+
 #[test]
-fn each_half_has_its_points_and_rows(rt: HostRuntime) -> Result<(), Fail> {
-    let alloc = rt.alloc();
-    assert!(rt; are_halves(alloc, &halves_of_persons(alloc)?)?);
-    Ok(())
+fn each_half_has_its_points_and_rows(rt: HostRuntime) {
+    assert!(rt; are_halves_of_persons(rt.alloc()) == Ok(true));
 }
 
 fn together(halves: Halves) -> Result<Option<Region>, NoMemory>
@@ -320,18 +336,19 @@ fn is_whole(alloc: Global, region: &Option<Region>) -> Result<bool, NoMemory> {
     }
 }
 
+fn are_persons_whole(alloc: Global) -> Result<bool, NoMemory> {
+    is_whole(alloc, &persons_again(alloc)?)
+}
+
 #[test]
-fn the_halves_join_to_the_whole(rt: HostRuntime) -> Result<(), Fail> {
-    let alloc = rt.alloc();
-    assert!(rt; is_whole(alloc, &persons_again(alloc)?)?);
-    Ok(())
+fn the_halves_join_to_the_whole(rt: HostRuntime) {
+    assert!(rt; are_persons_whole(rt.alloc()) == Ok(true));
 }
 
 // A number, an age and a name, of which a region holds the first two.
 fn member(alloc: Global, id: i64, age: i64) -> Result<Row, NoMemory> {
-    let mut row = row_of(alloc, id, age)?;
-    row.push(Cell::Str(Text::of(alloc, "Ada")?))?;
-    Ok(row)
+    let name = Text::of(alloc, "Ada")?;
+    list_of(alloc, [Cell::Num(id), Cell::Num(age), Cell::Str(name)])
 }
 
 fn member_of(alloc: Global, id: i64, age: Option<i64>) -> Result<Option<Row>, NoMemory> {
@@ -342,13 +359,7 @@ fn member_of(alloc: Global, id: i64, age: Option<i64>) -> Result<Option<Row>, No
 }
 
 fn ages_of_members(alloc: Global, lo: i64, hi: i64) -> Result<Rects, NoMemory> {
-    let mut rect = Rect::new(alloc);
-    rect.push(Span::Full)?;
-    rect.push(Span::Nums { lo, hi })?;
-    rect.push(Span::Full)?;
-    let mut rects = Rects::new(alloc);
-    rects.push(rect)?;
-    Ok(rects)
+    rects_of(alloc, [Span::Full, Span::Nums { lo, hi }, Span::Full])
 }
 
 // Two persons of 39 and 31 come into a region that has no rows.
@@ -405,17 +416,21 @@ fn has_members(region: &Region, members: &[(i64, i64)]) -> bool {
     true
 }
 
+// The number and the new age of a member, and which are left.
+static CHANGES: [(i64, Option<i64>, &[(i64, i64)]); 5] = [
+    (4, Some(35), &[(3, 39), (4, 35), (5, 31)]),
+    (3, Some(41), &[(5, 31)]),
+    (3, Some(33), &[(3, 33), (5, 31)]),
+    (5, None, &[(3, 39)]),
+    (4, Some(51), &[(3, 39), (5, 31)]),
+];
+
 #[test]
-fn a_change_is_applied_where_it_concerns_the_region(rt: HostRuntime) -> Result<(), Fail> {
-    let alloc = rt.alloc();
-    for (id, age, left) in [
-        (4, Some(35), [(3, 39), (4, 35), (5, 31)].as_slice()),
-        (3, Some(41), [(5, 31)].as_slice()),
-        (3, Some(33), [(3, 33), (5, 31)].as_slice()),
-        (5, None, [(3, 39)].as_slice()),
-        (4, Some(51), [(3, 39), (5, 31)].as_slice()),
-    ] {
-        assert!(rt; leaves(alloc, id, age, left)?, "{id} becomes {age:?}");
+fn a_change_is_applied_where_it_concerns_the_region(rt: HostRuntime) {
+    for (id, age, left) in &CHANGES {
+        assert!(rt;
+            leaves(rt.alloc(), *id, *age, left) == Ok(true),
+            "{id} becomes {age:?}"
+        );
     }
-    Ok(())
 }

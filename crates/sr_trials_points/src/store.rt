@@ -7,22 +7,19 @@ ghost use Rattle.sr_cell.specs.Columns.{is_point, table_at};
 ghost use Rattle.sr_query.specs.Bound.{is_table};
 ghost use Rattle.sr_store.specs.Stores.{IsStore};
 
-use crate::common::column;
-use sr_box::rect::Rect;
+use crate::common::{column, list_of, rects_of, table_of};
 use sr_box::span::Span;
 use sr_cell::attrs::Attrs;
 use sr_cell::cell::{Cell, Rows};
 use sr_cell::list::{NoMemory, Seq};
 use sr_cell::schema::Schema;
 use sr_cell::table::Table;
-use sr_cell::text::Text;
 use sr_message::message::Tell;
 use sr_policy::policy::{Limits, Policy};
 use sr_query::query::{Part, Parts};
 use sr_store::store::{Arrival, Arrivals, Store};
 use sr_union::rects::Rects;
 use std::alloc::Global;
-use std::test::Fail;
 
 // More than these tests keep.
 const LIMITS: Limits = Limits {
@@ -38,15 +35,10 @@ fn table(alloc: Global) -> Result<Table, NoMemory>
     ensures point { IfOk result (λ table. is_point table.columns (Num (pos 1) ∷ Num (pos 31) ∷ Num (pos 5) ∷ []) ≡ true) }
     ensures old { IfOk result (λ table. is_point table.columns (Num (pos 1) ∷ Num (pos 41) ∷ Num (pos 5) ∷ []) ≡ true) }
 {
-    let mut columns = Seq::new(alloc);
-    columns.push(column(alloc, "id", 9999)?)?;
-    columns.push(column(alloc, "age", 150)?)?;
-    columns.push(column(alloc, "dept", 99)?)?;
-    Ok(Table {
-        name: Text::of(alloc, "p")?,
-        columns,
-        key: 0,
-    })
+    let id = column(alloc, "id", 9999)?;
+    let age = column(alloc, "age", 150)?;
+    let dept = column(alloc, "dept", 99)?;
+    table_of(alloc, "p", [id, age, dept])
 }
 
 fn schema_of(alloc: Global) -> Result<Schema, NoMemory>
@@ -66,28 +58,21 @@ fn schema_of(alloc: Global) -> Result<Schema, NoMemory>
 fn ages(alloc: Global, lo: i64, hi: i64) -> Result<Rects, NoMemory>
     ensures { IfOk result (λ rects. rects ≡ (Full ∷ Nums lo hi ∷ Full ∷ []) ∷ []) }
 {
-    let mut rect = Rect::new(alloc);
-    rect.push(Span::Full)?;
-    rect.push(Span::Nums { lo, hi })?;
-    rect.push(Span::Full)?;
-    let mut rects = Rects::new(alloc);
-    rects.push(rect)?;
-    Ok(rects)
+    rects_of(alloc, [Span::Full, Span::Nums { lo, hi }, Span::Full])
 }
 
 // A query for those ages, which needs the number and the age.
 fn parts_of(alloc: Global, lo: i64, hi: i64) -> Result<Parts, NoMemory>
     ensures { IfOk result (λ parts. parts ≡ record { table = 0; key = 0; need = 3; rects = (Full ∷ Nums lo hi ∷ Full ∷ []) ∷ []; width = 1 } ∷ []) }
 {
-    let mut parts = Seq::new(alloc);
-    parts.push(Part {
+    let part = Part {
         table: 0,
         key: 0,
         need: Attrs(3),
         rects: ages(alloc, lo, hi)?,
         width: 1,
-    })?;
-    Ok(parts)
+    };
+    list_of(alloc, [part])
 }
 
 fn arrival_of(alloc: Global, attrs: Attrs, rects: Rects) -> Arrival
@@ -106,9 +91,7 @@ fn arrival_of(alloc: Global, attrs: Attrs, rects: Rects) -> Arrival
 fn narrow(alloc: Global, lo: i64, hi: i64) -> Result<Arrivals, NoMemory>
     ensures { IfOk result (λ arrivals. arrivals ≡ record { table = 0; key = 0; attrs = 3; rects = (Full ∷ Nums lo hi ∷ Full ∷ []) ∷ []; rows = [] } ∷ []) }
 {
-    let mut arrivals = Seq::new(alloc);
-    arrivals.push(arrival_of(alloc, Attrs(3), ages(alloc, lo, hi)?))?;
-    Ok(arrivals)
+    list_of(alloc, [arrival_of(alloc, Attrs(3), ages(alloc, lo, hi)?)])
 }
 
 // These ages come to an empty store, with the number and the age; want of memory is said too where they do not fit the table.
@@ -189,36 +172,33 @@ fn split_ages(alloc: Global) -> Result<(usize, Stamped, Stamped, usize), NoMemor
 }
 
 #[test]
-fn what_is_asked_again_has_a_new_stamp(rt: HostRuntime) -> Result<(), Fail> {
-    assert_eq!(rt; split_ages(rt.alloc())?, (2, Some((2, 1)), Some((1, 2)), 3));
-    Ok(())
+fn what_is_asked_again_has_a_new_stamp(rt: HostRuntime) {
+    assert_eq!(rt;
+        split_ages(rt.alloc()),
+        Ok((2, Some((2, 1)), Some((1, 2)), 3))
+    );
 }
 
 // One row with the number 1 and that age.
 fn row_of_age(alloc: Global, age: i64) -> Result<Rows, NoMemory>
     ensures { IfOk result (λ rows. rows ≡ (Num (pos 1) ∷ Num age ∷ []) ∷ []) }
 {
-    let mut row = Seq::new(alloc);
-    row.push(Cell::Num(1))?;
-    row.push(Cell::Num(age))?;
-    let mut rows = Seq::new(alloc);
-    rows.push(row)?;
-    Ok(rows)
+    list_of(alloc, [list_of(alloc, [Cell::Num(1), Cell::Num(age)])?])
 }
 
 // The ages from that one on arrive, with a row of it.
 fn arrival_with_row(alloc: Global, age: i64, hi: i64) -> Result<Arrivals, NoMemory>
     ensures { IfOk result (λ arrivals. arrivals ≡ record { table = 0; key = 0; attrs = 3; rects = (Full ∷ Nums age hi ∷ Full ∷ []) ∷ []; rows = (Num (pos 1) ∷ Num age ∷ []) ∷ [] } ∷ []) }
 {
-    let mut arrivals = Seq::new(alloc);
-    arrivals.push(Arrival {
+    let rows = row_of_age(alloc, age)?;
+    let arrival = Arrival {
         table: 0,
         key: 0,
         attrs: Attrs(3),
         rects: ages(alloc, age, hi)?,
-        rows: row_of_age(alloc, age)?,
-    })?;
-    Ok(arrivals)
+        rows,
+    };
+    list_of(alloc, [arrival])
 }
 
 // The ages 31 to 40 come to an empty store, with a row of the first: how many marks that makes.
@@ -269,22 +249,25 @@ fn limit_rows(alloc: Global, first: u32, later: u32) -> Result<(usize, usize, u6
     limit(alloc, &schema, &mut store, later)
 }
 
+// The first and the later limit, and what `limit` comes to.
+static BUDGETS: [(u32, u32, (usize, usize, u64)); 3] = [
+    (0, 0, (2, 0, 0)),
+    (1, 1, (1, 0, 1)),
+    (1, 0, (1, 1, 0)),
+];
+
 #[test]
-fn rows_above_the_budget_are_dropped(rt: HostRuntime) -> Result<(), Fail> {
-    for (first, later, left) in [(0, 0, (2, 0, 0)), (1, 1, (1, 0, 1)), (1, 0, (1, 1, 0))] {
-        assert_eq!(rt; limit_rows(rt.alloc(), first, later)?, left);
+fn rows_above_the_budget_are_dropped(rt: HostRuntime) {
+    for (first, later, left) in &BUDGETS {
+        assert_eq!(rt; limit_rows(rt.alloc(), *first, *later), Ok(*left));
     }
-    Ok(())
 }
 
 // Person 1 of department 5 has that age from now on.
 fn tell_of(alloc: Global, age: i64) -> Result<Tell, NoMemory>
     ensures { IfOk result (λ tell. tell ≡ record { table = 0; key = Num (pos 1); after = Some (Num (pos 1) ∷ Num age ∷ Num (pos 5) ∷ []) }) }
 {
-    let mut row = Seq::new(alloc);
-    row.push(Cell::Num(1))?;
-    row.push(Cell::Num(age))?;
-    row.push(Cell::Num(5))?;
+    let row = list_of(alloc, [Cell::Num(1), Cell::Num(age), Cell::Num(5)])?;
     Ok(Tell {
         table: 0,
         key: Cell::Num(1),
@@ -299,8 +282,7 @@ fn tell_age(alloc: Global, schema: &Schema, store: &mut Store, age: i64) -> Resu
     requires store { IsStore schema.now store.old.regions }
     ensures store { OnOk result (IsStore schema.now store.new.regions) }
 {
-    let mut told = Seq::new(alloc);
-    told.push(tell_of(alloc, age)?)?;
+    let told = list_of(alloc, [tell_of(alloc, age)?])?;
     store.apply(alloc, told.as_slice())
 }
 
@@ -355,9 +337,8 @@ fn brought_ages(alloc: Global) -> Result<(u64, Option<i64>), NoMemory> {
 }
 
 #[test]
-fn a_held_row_gives_way_to_the_arriving_one(rt: HostRuntime) -> Result<(), Fail> {
-    assert_eq!(rt; brought_ages(rt.alloc())?, (1, Some(41)));
-    Ok(())
+fn a_held_row_gives_way_to_the_arriving_one(rt: HostRuntime) {
+    assert_eq!(rt; brought_ages(rt.alloc()), Ok((1, Some(41))));
 }
 
 // The first age in a store of the ages 30 to 40 once person 1 is 31, and once person 1 is 41.
@@ -387,7 +368,6 @@ fn told_ages(alloc: Global) -> Result<(Option<i64>, Option<i64>), NoMemory> {
 }
 
 #[test]
-fn what_is_told_moves_a_row_in_and_out(rt: HostRuntime) -> Result<(), Fail> {
-    assert_eq!(rt; told_ages(rt.alloc())?, (Some(31), None));
-    Ok(())
+fn what_is_told_moves_a_row_in_and_out(rt: HostRuntime) {
+    assert_eq!(rt; told_ages(rt.alloc()), Ok((Some(31), None)));
 }

@@ -1,4 +1,4 @@
-use Rattle.std.proofs.Common.{[], ◌∷◌, ◌++◌, w64, ap, ◌∙◌}
+use Rattle.std.proofs.Common.{[], ◌∷◌, w64, ap, ◌∙◌}
 use Rattle.std.proofs.lemmas.Int.{to_z-of_z}
 use Rattle.std.proofs.lemmas.Result.{on_ok_weaker}
 use Rattle.sr_message.specs.declared.message.Tell.{Tell}
@@ -7,8 +7,6 @@ use Rattle.sr_trials_points.proofs.store.tell_age.Goals as goal
 
 pub returns : goal.returns
 returns c =
-    let told =
-    c.as_slice.ensures ∙ c.in_ok-push.ensures.pushed ∙ ap (λ xs. xs ++ c.in_ok-tell_of.field-0 ∷ []) c.new-told.ensures
-    ∙ ap (λ (tell : Tell). tell ∷ []) c.in_ok-tell_of.ensures in
+    let told = c.as_slice.ensures ∙ c.in_ok-told.ensures ∙ ap (λ (tell : Tell). tell ∷ []) c.in_ok-tell_of.ensures in
     let all = tells_one c.args.schema.now c.as_slice.result.now _ c.args.age c.requires.there c.requires.key c.requires.point (to_z-of_z w64 c.args.age c.ranges.age) told in
     record { store = on_ok_weaker c.apply.result (λ store. store c.requires.store all) (c.apply.ensures.store c.args.schema.now) }

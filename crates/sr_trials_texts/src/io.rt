@@ -1,18 +1,18 @@
 //! Runs over the forms in memory, with each call failing in turn.
 ghost use Rattle.std.specs.Prelude.{◌<◌};
 
+use crate::common::list_of;
 use sr_cell::list::{Bytes, No, NoMemory, Seq};
 use sr_cell::text::Text;
 use sr_io::fails::Fails;
-use sr_io::file::{File, FileList};
-use sr_io::mem_host::{MemHost, Peers};
+use sr_io::file::File;
+use sr_io::mem_host::MemHost;
 use sr_io::mem_link::MemLink;
 use sr_io::mem_sink::MemSink;
 use sr_io::mem_source::MemSource;
 use sr_io::outside::{Dock, Failed, Host, Link, Sink, Source};
 use sr_io::whole::{ReadAll, read_all, send_all, write_all};
 use std::alloc::Global;
-use std::test::Fail;
 
 fn list(alloc: Global, bytes: &[u8]) -> Result<Bytes, NoMemory> {
     let mut list = Seq::new(alloc);
@@ -28,20 +28,20 @@ fn numbers(alloc: Global, numbers: &[u64]) -> Result<Fails, NoMemory> {
 
 /// Holds `hello` under the name `greeting`.
 fn host(alloc: Global, fails: &[u64]) -> Result<MemHost, NoMemory> {
-    let mut files: FileList = Seq::new(alloc);
-    files.push(File {
+    let fails = numbers(alloc, fails)?;
+    let bytes = list(alloc, b"hello")?;
+    let file = File {
         name: Text::of(alloc, "greeting")?,
-        bytes: list(alloc, b"hello")?,
-    })?;
-    MemHost::new(alloc, files, Seq::new(alloc), numbers(alloc, fails)?, 2)
+        bytes,
+    };
+    MemHost::new(alloc, list_of(alloc, [file])?, Seq::new(alloc), fails, 2)
 }
 
 /// Two peers connect, and the first of them brings `hello`.
 fn dock(alloc: Global, fails: &[u64]) -> Result<MemHost, NoMemory> {
-    let mut peers: Peers = Seq::new(alloc);
-    peers.push(list(alloc, b"hello")?)?;
-    peers.push(Seq::new(alloc))?;
-    MemHost::new(alloc, Seq::new(alloc), peers, numbers(alloc, fails)?, 3)
+    let fails = numbers(alloc, fails)?;
+    let peers = list_of(alloc, [list(alloc, b"hello")?, Seq::new(alloc)])?;
+    MemHost::new(alloc, Seq::new(alloc), peers, fails, 3)
 }
 
 /// Whether the call failed.
@@ -128,9 +128,8 @@ fn missed(alloc: Global) -> Result<(bool, u64, u64), NoMemory> {
 }
 
 #[test]
-fn a_name_that_is_not_held_is_a_fault_of_reading(rt: HostRuntime) -> Result<(), Fail> {
-    assert!(rt; missed(rt.alloc())? == (true, 1, 0));
-    Ok(())
+fn a_name_that_is_not_held_is_a_fault_of_reading(rt: HostRuntime) {
+    assert!(rt; missed(rt.alloc()) == Ok((true, 1, 0)));
 }
 
 // The number of the call that is to fail, and which of four calls fail then.
@@ -154,11 +153,13 @@ fn failed_calls(alloc: Global, number: u64) -> Result<[bool; 4], NoMemory> {
 }
 
 #[test]
-fn each_call_fails_at_its_number(rt: HostRuntime) -> Result<(), Fail> {
-    for (number, wanted) in CALLS {
-        assert!(rt; failed_calls(rt.alloc(), number)? == wanted, "at {number}");
+fn each_call_fails_at_its_number(rt: HostRuntime) {
+    for (number, wanted) in &CALLS {
+        assert!(rt;
+            failed_calls(rt.alloc(), *number) == Ok(*wanted),
+            "at {number}"
+        );
     }
-    Ok(())
 }
 
 // What the first and the third of four calls to fail comes to.
@@ -188,11 +189,10 @@ fn failed_writes(alloc: Global) -> Result<([bool; 4], u64), NoMemory> {
 }
 
 #[test]
-fn a_source_and_a_sink_fail_at_their_numbers(rt: HostRuntime) -> Result<(), Fail> {
+fn a_source_and_a_sink_fail_at_their_numbers(rt: HostRuntime) {
     let alloc = rt.alloc();
-    assert!(rt; failed_reads(alloc)? == (TWO_OF_FOUR, 2));
-    assert!(rt; failed_writes(alloc)? == (TWO_OF_FOUR, 2));
-    Ok(())
+    assert!(rt; failed_reads(alloc) == Ok((TWO_OF_FOUR, 2)));
+    assert!(rt; failed_writes(alloc) == Ok((TWO_OF_FOUR, 2)));
 }
 
 /// How much the first peer brings, before it is sent `abcd`.
@@ -265,14 +265,13 @@ fn failed_calls_of_a_dock(alloc: Global, number: u64) -> Result<[bool; 4], NoMem
 }
 
 #[test]
-fn each_call_of_a_dock_fails_at_its_number(rt: HostRuntime) -> Result<(), Fail> {
-    for (number, wanted) in CALLS_OF_A_DOCK {
+fn each_call_of_a_dock_fails_at_its_number(rt: HostRuntime) {
+    for (number, wanted) in &CALLS_OF_A_DOCK {
         assert!(rt;
-            failed_calls_of_a_dock(rt.alloc(), number)? == wanted,
+            failed_calls_of_a_dock(rt.alloc(), *number) == Ok(*wanted),
             "at {number}"
         );
     }
-    Ok(())
 }
 
 /// Whether the first and the third of four sends fail, how many faults are counted, and what was sent.

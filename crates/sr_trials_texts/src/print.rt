@@ -5,7 +5,6 @@ use sr_grammar::statement::Statement;
 use sr_print::print::print;
 use sr_sql::read::read;
 use std::alloc::Global;
-use std::test::Fail;
 
 fn printed(alloc: Global, statement: Statement) -> Result<Text, NoMemory> {
     print(alloc, &statement)
@@ -26,49 +25,50 @@ fn is_printed(alloc: Global, text: &str, wanted: &str) -> bool {
     }
 }
 
+static TEXTS: [(&str, &str); 9] = [
+    (
+        "select ID from Emp where NOT (age!=3);",
+        "SELECT id FROM emp WHERE NOT age <> 3",
+    ),
+    (
+        "create table T (ID int check (id between -5 and 09) not null,N integer primary key,s text);",
+        "CREATE TABLE t (id INT CHECK (id BETWEEN -5 AND 9), n INT PRIMARY KEY, s TEXT)",
+    ),
+    (
+        "CREATE TABLE t(a INT CHECK(a BETWEEN -1099511627776 AND 1099511627775)PRIMARY KEY)",
+        "CREATE TABLE t (a INT PRIMARY KEY)",
+    ),
+    (
+        "SELECT Emp . ID,name FROM emp INNER JOIN dept ON emp.dept=dept.id WHERE (name NOT LIKE 'o''%') OR age BETWEEN - 1 AND 2",
+        "SELECT emp.id, name FROM emp JOIN dept ON emp.dept = dept.id WHERE name NOT LIKE 'o''%' OR age BETWEEN -1 AND 2",
+    ),
+    (
+        "insert into t(id,s) values(-012,'it''s'),(-0,'')",
+        "INSERT INTO t (id, s) VALUES (-12, 'it''s'), (0, '')",
+    ),
+    (
+        "update t set a=1,b='x' where c not in(1,-2)",
+        "UPDATE t SET a = 1, b = 'x' WHERE c NOT IN (1, -2)",
+    ),
+    (
+        "delete from t where(((a=1)or b='it''s'))and c like'x%'",
+        "DELETE FROM t WHERE (a = 1 OR b = 'it''s') AND c LIKE 'x%'",
+    ),
+    (
+        "delete from t where a=1 and(b<2 and c>=3)or d<=4 or(e>5 or f<>6)",
+        "DELETE FROM t WHERE a = 1 AND (b < 2 AND c >= 3) OR d <= 4 OR (e > 5 OR f <> 6)",
+    ),
+    (
+        "delete from t where not(a=1 and b=2)and not not c not between 'x' and 'y'",
+        "DELETE FROM t WHERE NOT (a = 1 AND b = 2) AND NOT NOT c NOT BETWEEN 'x' AND 'y'",
+    ),
+];
+
 #[test]
-fn statements_have_one_printed_form(rt: HostRuntime) -> Result<(), Fail> {
+fn statements_have_one_printed_form(rt: HostRuntime) {
     let alloc = rt.alloc();
-    for (text, printed) in [
-        (
-            "select ID from Emp where NOT (age!=3);",
-            "SELECT id FROM emp WHERE NOT age <> 3",
-        ),
-        (
-            "create table T (ID int check (id between -5 and 09) not null,N integer primary key,s text);",
-            "CREATE TABLE t (id INT CHECK (id BETWEEN -5 AND 9), n INT PRIMARY KEY, s TEXT)",
-        ),
-        (
-            "CREATE TABLE t(a INT CHECK(a BETWEEN -1099511627776 AND 1099511627775)PRIMARY KEY)",
-            "CREATE TABLE t (a INT PRIMARY KEY)",
-        ),
-        (
-            "SELECT Emp . ID,name FROM emp INNER JOIN dept ON emp.dept=dept.id WHERE (name NOT LIKE 'o''%') OR age BETWEEN - 1 AND 2",
-            "SELECT emp.id, name FROM emp JOIN dept ON emp.dept = dept.id WHERE name NOT LIKE 'o''%' OR age BETWEEN -1 AND 2",
-        ),
-        (
-            "insert into t(id,s) values(-012,'it''s'),(-0,'')",
-            "INSERT INTO t (id, s) VALUES (-12, 'it''s'), (0, '')",
-        ),
-        (
-            "update t set a=1,b='x' where c not in(1,-2)",
-            "UPDATE t SET a = 1, b = 'x' WHERE c NOT IN (1, -2)",
-        ),
-        (
-            "delete from t where(((a=1)or b='it''s'))and c like'x%'",
-            "DELETE FROM t WHERE (a = 1 OR b = 'it''s') AND c LIKE 'x%'",
-        ),
-        (
-            "delete from t where a=1 and(b<2 and c>=3)or d<=4 or(e>5 or f<>6)",
-            "DELETE FROM t WHERE a = 1 AND (b < 2 AND c >= 3) OR d <= 4 OR (e > 5 OR f <> 6)",
-        ),
-        (
-            "delete from t where not(a=1 and b=2)and not not c not between 'x' and 'y'",
-            "DELETE FROM t WHERE NOT (a = 1 AND b = 2) AND NOT NOT c NOT BETWEEN 'x' AND 'y'",
-        ),
-    ] {
+    for (text, printed) in &TEXTS {
         assert!(rt; is_printed(alloc, text, printed));
         assert!(rt; is_printed(alloc, printed, printed));
     }
-    Ok(())
 }

@@ -5,7 +5,6 @@ use sr_reader::head::created;
 use sr_reader::line::read_line;
 use sr_reader::lines::read_lines;
 use std::alloc::Global;
-use std::test::Fail;
 
 // Lines, how many clients there are, and the place of the line's fault, if it has one.
 static LINES: [(&[u8], u8, Option<u32>); 16] = [
@@ -35,11 +34,10 @@ fn fault(line: &[u8], clients: u8) -> Option<u32> {
 }
 
 #[test]
-fn faults_of_lines_have_their_places(rt: HostRuntime) -> Result<(), Fail> {
-    for (line, clients, wanted) in LINES {
-        assert_eq!(rt; fault(line, clients), wanted);
+fn faults_of_lines_have_their_places(rt: HostRuntime) {
+    for (line, clients, wanted) in &LINES {
+        assert_eq!(rt; fault(line, *clients), *wanted);
     }
-    Ok(())
 }
 
 // What reading a script of two clients comes to.
@@ -100,9 +98,8 @@ fn reading(alloc: Global, bytes: &[u8]) -> Came {
 }
 
 #[test]
-fn scripts_are_read(rt: HostRuntime) -> Result<(), Fail> {
-    for (script, wanted) in SCRIPTS {
-        assert_eq!(rt; reading(rt.alloc(), script), wanted);
+fn scripts_are_read(rt: HostRuntime) {
+    for (script, wanted) in &SCRIPTS {
+        assert_eq!(rt; reading(rt.alloc(), script), *wanted);
     }
-    Ok(())
 }

@@ -3,19 +3,16 @@ ghost use Rattle.std.specs.Prelude.{◌≡◌, IfOk};
 ghost use Rattle.sr_wire.specs.Examples.{ask};
 ghost use Rattle.sr_wire.specs.Limits.{IsSendable};
 
-use sr_box::rect::Rect;
-use sr_box::span::Span;
+use crate::common::{list_of, thirties};
 use sr_bytes::views::SpanView;
 use sr_cell::attrs::Attrs;
 use sr_cell::list::NoMemory;
-use sr_message::message::{AskPart, AskParts, Message};
-use sr_union::rects::Rects;
+use sr_message::message::{AskPart, Message};
 use sr_wire::body::Body;
 use sr_wire::encode::encode;
 use sr_wire::frame::decode;
 use sr_wire::wire_fault::WireFault;
 use std::alloc::Global;
-use std::test::Fail;
 
 /// The frame by which client 1 begins.
 pub const HELLO: [u8; 15] = [0, 0, 0, 11, 1, 1, 1, 0, 0, 0, 0, 0, 0, 0, 0];
@@ -39,23 +36,15 @@ const ASK: [u8; 43] = [
 fn ask(alloc: Global) -> Result<Message, NoMemory>
     ensures { IfOk result (λ message. message ≡ ask) }
 {
-    let mut rect = Rect::new(alloc);
-    rect.push(Span::Full)?;
-    rect.push(Span::Nums { lo: 30, hi: 40 })?;
-    rect.push(Span::Full)?;
-    rect.push(Span::Full)?;
-    let mut rects = Rects::new(alloc);
-    rects.push(rect)?;
-    let mut parts = AskParts::new(alloc);
-    parts.push(AskPart {
+    let part = AskPart {
         table: 0,
         attrs: Attrs(3),
-        rects,
-    })?;
+        rects: thirties(alloc)?,
+    };
     Ok(Message::Ask {
         number: 1,
         fresh: true,
-        parts,
+        parts: list_of(alloc, [part])?,
     })
 }
 
@@ -68,30 +57,32 @@ fn is_encoded(alloc: Global, message: &Message, bytes: &[u8]) -> Result<bool, No
 }
 
 #[test]
-fn a_hello_is_encoded(rt: HostRuntime) -> Result<(), Fail> {
+fn a_hello_is_encoded(rt: HostRuntime) {
     let hello = Message::Hello {
         client: 1,
         number: 0,
     };
-    assert!(rt; is_encoded(rt.alloc(), &hello, &HELLO)?);
-    Ok(())
+    assert!(rt; is_encoded(rt.alloc(), &hello, &HELLO) == Ok(true));
 }
 
 #[test]
-fn a_reply_is_encoded(rt: HostRuntime) -> Result<(), Fail> {
+fn a_reply_is_encoded(rt: HostRuntime) {
     let reply = Message::Reply {
         number: 1,
         version: 2,
     };
-    assert!(rt; is_encoded(rt.alloc(), &reply, &REPLY)?);
-    Ok(())
+    assert!(rt; is_encoded(rt.alloc(), &reply, &REPLY) == Ok(true));
+}
+
+// The same of the ask.
+fn is_ask_encoded(alloc: Global, bytes: &[u8]) -> Result<bool, NoMemory> {
+    let ask = ask(alloc)?;
+    is_encoded(alloc, &ask, bytes)
 }
 
 #[test]
-fn an_ask_is_encoded(rt: HostRuntime) -> Result<(), Fail> {
-    let ask = ask(rt.alloc())?;
-    assert!(rt; is_encoded(rt.alloc(), &ask, &ASK)?);
-    Ok(())
+fn an_ask_is_encoded(rt: HostRuntime) {
+    assert!(rt; is_ask_encoded(rt.alloc(), &ASK) == Ok(true));
 }
 
 /// The numbers of a Hello, a Reply or an ask in front of the bytes.
@@ -130,22 +121,28 @@ fn frames_are_decoded(rt: HostRuntime) {
     assert_eq!(rt; asked(&ASK), Some((0, 3, 30, 40)));
 }
 
+fn is_short(bytes: &[u8]) -> bool {
+    matches!(decode(bytes), Err(WireFault::Short))
+}
+
+static FAULTS: [(&[u8], WireFault); 4] = [
+    (b"\0\0\0\0", WireFault::Field { place: 0 }),
+    (
+        b"\x08\0\0\x01",
+        WireFault::Long {
+            length: 134_217_729,
+        },
+    ),
+    (b"\0\0\0\x0b\x05", WireFault::Kind { byte: 5 }),
+    (&LONG_REPLY, WireFault::Field { place: 21 }),
+];
+
 #[test]
 fn the_first_fault_is_named(rt: HostRuntime) {
-    for (bytes, fault) in [
-        (&HELLO[..3], WireFault::Short),
-        (b"\0\0\0\0".as_slice(), WireFault::Field { place: 0 }),
-        (
-            b"\x08\0\0\x01".as_slice(),
-            WireFault::Long {
-                length: 134_217_729,
-            },
-        ),
-        (&HELLO[..4], WireFault::Short),
-        (b"\0\0\0\x0b\x05".as_slice(), WireFault::Kind { byte: 5 }),
-        (&REPLY[..20], WireFault::Short),
-        (LONG_REPLY.as_slice(), WireFault::Field { place: 21 }),
-    ] {
-        assert_eq!(rt; decode(bytes).err(), Some(fault), "in {bytes:?}");
+    for (bytes, fault) in &FAULTS {
+        assert_eq!(rt; decode(bytes).err(), Some(*fault), "in {bytes:?}");
     }
+    assert!(rt; is_short(&HELLO[..3]));
+    assert!(rt; is_short(&HELLO[..4]));
+    assert!(rt; is_short(&REPLY[..20]));
 }

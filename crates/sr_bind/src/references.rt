@@ -9,7 +9,7 @@ use sr_query::condition::{Condition, Output};
 use std::alloc::Global;
 
 /// A column that a condition names, and the place of its name in the text.
-#[derive(Clone, Copy, Debug, PartialEq, Eq)]
+#[derive(Clone, Copy)]
 pub struct Reference {
     pub place: u32,
     pub output: Output,

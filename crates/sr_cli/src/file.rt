@@ -13,7 +13,7 @@ use std::alloc::Global;
 const LIMIT: usize = 67108864;
 
 /// Why a file was not read.
-#[derive(Clone, Copy, Debug, PartialEq, Eq)]
+#[derive(Clone, Copy)]
 pub enum ReadFault {
     /// The host failed.
     Fault,

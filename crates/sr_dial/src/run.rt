@@ -22,7 +22,7 @@ use sr_reader::script::{Event, EventLine, EventLines};
 use std::alloc::Global;
 
 /// How a line ended: it is done, and the link did not fail; it failed; or the run ends.
-#[derive(Clone, Copy, Debug, PartialEq, Eq)]
+#[derive(Clone, Copy)]
 pub enum LineEnd {
     Done,
     Failed,

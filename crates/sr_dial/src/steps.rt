@@ -31,7 +31,7 @@ use sr_talk::serve::send_messages;
 use std::alloc::Global;
 
 /// What came of a step: all was sent and its lines are written; the link failed, and its lines are written; or they are not.
-#[derive(Clone, Copy, Debug, PartialEq, Eq)]
+#[derive(Clone, Copy)]
 pub enum Handed {
     Whole,
     Broken,

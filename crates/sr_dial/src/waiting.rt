@@ -25,7 +25,7 @@ use std::alloc::Global;
 const MOST_FRAMES: u32 = 1_000_000;
 
 /// What came of a message: it was taken and its lines are written; then the link failed; the lines are not written; or it must be refused.
-#[derive(Clone, Copy, Debug, PartialEq, Eq)]
+#[derive(Clone, Copy)]
 pub enum Handled {
     Whole,
     Broken,
@@ -35,7 +35,7 @@ pub enum Handled {
 
 /// Why no more messages are awaited: nothing is out; the link failed, or the peer said no more; a line was not written; what came is no
 /// frame, or must be refused; or there were too many.
-#[derive(Clone, Copy, Debug, PartialEq, Eq)]
+#[derive(Clone, Copy)]
 pub enum Awaited {
     Free,
     Failed,

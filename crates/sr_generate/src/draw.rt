@@ -3,7 +3,7 @@ ghost use Rattle.std.specs.Prelude.{◌≡◌, ◌<◌, ◌≢◌};
 ghost use Rattle.sr_generate.specs.Script.{after, drawn};
 
 /// What the next draws come from.
-#[derive(Clone, Copy, Debug, PartialEq, Eq)]
+#[derive(Clone, Copy)]
 pub struct Draws {
     pub state: u64,
 }

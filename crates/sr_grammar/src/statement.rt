@@ -24,7 +24,7 @@ pub struct Literal {
 pub type Literals = Seq<Literal>;
 
 /// A comparison.
-#[derive(Clone, Copy, Debug, PartialEq, Eq)]
+#[derive(Clone, Copy)]
 pub enum Op {
     Eq,
     Ne,

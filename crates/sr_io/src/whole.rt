@@ -12,7 +12,7 @@ use sr_cell::list::{Bytes, No, Seq};
 use std::alloc::Global;
 
 /// Why a whole read was refused.
-#[derive(Clone, Copy, Debug, PartialEq, Eq)]
+#[derive(Clone, Copy)]
 pub enum ReadAll {
     /// A call of the source failed.
     ReadFault,

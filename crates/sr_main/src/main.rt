@@ -29,7 +29,7 @@ fn main(rt: HostRuntime) -> ExitCode {
 }
 
 /// The system does not give the words, or one of them is not UTF-8.
-#[derive(Clone, Copy, Debug, PartialEq, Eq)]
+#[derive(Clone, Copy)]
 struct NotGiven;
 
 /// The words after the program's own name.

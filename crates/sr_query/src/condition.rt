@@ -4,7 +4,7 @@ use sr_cell::text::Text;
 use sr_grammar::statement::Op;
 
 /// A column of a part of a query, both by their numbers.
-#[derive(Clone, Copy, Debug, PartialEq, Eq)]
+#[derive(Clone, Copy)]
 pub struct Output {
     pub part: u8,
     pub column: u8,

@@ -20,7 +20,7 @@ pub struct Part {
 pub type Parts = Seq<Part>;
 
 /// The column of part `left` equals the key of part `right`.
-#[derive(Clone, Copy, Debug, PartialEq, Eq)]
+#[derive(Clone, Copy)]
 pub struct KeyJoin {
     pub left: u8,
     pub column: u8,

@@ -22,7 +22,7 @@ use sr_sql::read::read;
 use std::alloc::Global;
 
 /// A CREATE line that is refused, by its number counted from 1, and why.
-#[derive(Clone, Copy, Debug, PartialEq, Eq)]
+#[derive(Clone, Copy)]
 pub struct RefusedLine {
     pub number: u64,
     pub fault: Fault,

@@ -63,7 +63,7 @@ pub struct Script {
 }
 
 /// A line that is outside the grammar: its number counted from 1, and the place of the fault in bytes.
-#[derive(Clone, Copy, Debug, PartialEq, Eq)]
+#[derive(Clone, Copy)]
 pub struct LinePlace {
     pub line: u64,
     pub place: u32,

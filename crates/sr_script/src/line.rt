@@ -7,7 +7,7 @@ use sr_cell::list::Seq;
 use sr_union::rects::Rects;
 
 /// What a cut ended.
-#[derive(Clone, Copy, Debug, PartialEq, Eq)]
+#[derive(Clone, Copy)]
 pub enum FailKind {
     Query,
     Write,
@@ -15,7 +15,7 @@ pub enum FailKind {
 }
 
 /// The requests of a client.
-#[derive(Clone, Copy, Debug, PartialEq, Eq)]
+#[derive(Clone, Copy)]
 pub enum RequestKind {
     Hello,
     Resume,

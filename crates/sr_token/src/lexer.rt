@@ -12,7 +12,7 @@ const WORD_BYTES: usize = 64;
 const NUMBER_DIGITS: usize = 18;
 
 /// A set of bytes.
-#[derive(Clone, Copy, Debug, PartialEq, Eq)]
+#[derive(Clone, Copy)]
 pub(crate) enum Class {
     Blank,
     Word,

@@ -1,7 +1,7 @@
 //! One token.
 
 /// What a token is, by how it is written.
-#[derive(Clone, Copy, Debug, PartialEq, Eq)]
+#[derive(Clone, Copy)]
 pub enum TokenKind {
     /// A letter or `_`, and letters, digits and `_` behind it.
     Word,
@@ -14,7 +14,7 @@ pub enum TokenKind {
 }
 
 /// A token: the slice `from..to` of its source.
-#[derive(Clone, Copy, Debug)]
+#[derive(Clone, Copy)]
 pub struct Token<'a> {
     pub text: &'a str,
     pub from: usize,

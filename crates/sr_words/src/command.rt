@@ -23,7 +23,7 @@ pub struct ReplayWords {
 
 /// How a script is replayed: whether all deliveries are made after each event, what each client may keep, how many changes the log of
 /// the server keeps, and how many clients there are.
-#[derive(Clone, Copy, Debug, PartialEq, Eq)]
+#[derive(Clone, Copy, PartialEq, Eq)]
 pub struct Setup {
     pub eager: bool,
     pub limits: Limits,
@@ -70,7 +70,7 @@ pub struct ExplainWords {
 }
 
 /// Make a script from a number, and write it, or what its replay comes to.
-#[derive(Clone, Copy, Debug, PartialEq, Eq)]
+#[derive(Clone, Copy)]
 pub struct GenerateWords {
     pub whole_script: bool,
     pub seed: u64,

@@ -2,7 +2,7 @@
 use sr_cell::list::NoMemory;
 
 /// Why words are not read.
-#[derive(Clone, Copy, Debug, PartialEq, Eq)]
+#[derive(Clone, Copy)]
 pub enum WordsFault {
     /// They are in the form of no command.
     NotInForm,

@@ -1,5 +1,5 @@
 //! Answers from rows of several regions, at values worked out by hand.
-use sr_box::rect::Rect;
+use crate::common::{list_of, rects_of};
 use sr_box::span::Span;
 use sr_cell::attrs::Attrs;
 use sr_cell::cell::{Cell, Row, Rows};
@@ -11,7 +11,6 @@ use sr_query::query::{KeyJoin, Part, Query};
 use sr_region::inside::rows_inside;
 use sr_union::rects::Rects;
 use std::alloc::Global;
-use std::test::Fail;
 
 // Persons have a name, a number, which is their key, and an age.
 const NUMBER_AGE: Attrs = Attrs(6);
@@ -30,42 +29,28 @@ fn part(alloc: Global) -> Part {
 
 // The ages, and then the numbers.
 fn query(alloc: Global) -> Result<Query, NoMemory> {
-    let mut parts = Seq::new(alloc);
-    parts.push(part(alloc))?;
-    let mut output = Seq::new(alloc);
-    output.push(Output { part: 0, column: 2 })?;
-    output.push(Output { part: 0, column: 1 })?;
+    let ages = Output { part: 0, column: 2 };
+    let numbers = Output { part: 0, column: 1 };
+    let output = list_of(alloc, [ages, numbers])?;
     Ok(Query {
-        parts,
+        parts: list_of(alloc, [part(alloc)])?,
         joins: Seq::new(alloc),
         output,
     })
 }
 
 fn short(alloc: Global, number: i64, age: i64) -> Result<Row, NoMemory> {
-    let mut row = Seq::new(alloc);
-    row.push(Cell::Num(number))?;
-    row.push(Cell::Num(age))?;
-    Ok(row)
+    list_of(alloc, [Cell::Num(number), Cell::Num(age)])
 }
 
 fn long(alloc: Global, name: &str, number: i64, age: i64) -> Result<Row, NoMemory> {
-    let mut row = Seq::new(alloc);
-    row.push(Cell::Str(Text::of(alloc, name)?))?;
-    row.push(Cell::Num(number))?;
-    row.push(Cell::Num(age))?;
-    Ok(row)
+    let name = Cell::Str(Text::of(alloc, name)?);
+    list_of(alloc, [name, Cell::Num(number), Cell::Num(age)])
 }
 
 // Each person.
 fn everyone(alloc: Global) -> Result<Rects, NoMemory> {
-    let mut rect = Rect::new(alloc);
-    rect.push(Span::Full)?;
-    rect.push(Span::Full)?;
-    rect.push(Span::Full)?;
-    let mut rects = Rects::new(alloc);
-    rects.push(rect)?;
-    Ok(rects)
+    rects_of(alloc, [Span::Full, Span::Full, Span::Full])
 }
 
 fn is_row(row: &Row, age: i64, number: i64) -> bool {
@@ -85,13 +70,6 @@ fn are(rows: &Rows, ages: &[i64], numbers: &[i64]) -> bool {
         }
     }
     true
-}
-
-fn two(alloc: Global, one: Row, other: Row) -> Result<Rows, NoMemory> {
-    let mut rows = Seq::new(alloc);
-    rows.push(one)?;
-    rows.push(other)?;
-    Ok(rows)
 }
 
 // The answer of persons, from rows that are lent one list after another; of the last list just those in the rects.
@@ -116,15 +94,21 @@ fn persons(
 
 // Persons 2 and 4, without their names.
 fn two_and_four(alloc: Global) -> Result<Rows, NoMemory> {
-    two(alloc, short(alloc, 2, 25)?, short(alloc, 4, 40)?)
+    list_of(alloc, [short(alloc, 2, 25)?, short(alloc, 4, 40)?])
 }
 
 fn one_and_four(alloc: Global) -> Result<Rows, NoMemory> {
-    two(alloc, long(alloc, "ann", 1, 30)?, long(alloc, "cy", 4, 40)?)
+    list_of(
+        alloc,
+        [long(alloc, "ann", 1, 30)?, long(alloc, "cy", 4, 40)?],
+    )
 }
 
 fn three_and_five(alloc: Global) -> Result<Rows, NoMemory> {
-    two(alloc, long(alloc, "bo", 3, 50)?, long(alloc, "di", 5, 60)?)
+    list_of(
+        alloc,
+        [long(alloc, "bo", 3, 50)?, long(alloc, "di", 5, 60)?],
+    )
 }
 
 // Persons 2 and 4 of one region, 1 and 4 of another, and 3 and 5 of these rects.
@@ -135,20 +119,26 @@ fn of_three_regions(alloc: Global, rects: &Rects) -> Result<Rows, NoMemory> {
     persons(alloc, &some, &others, &last, rects)
 }
 
-#[test]
-fn a_common_row_counts_once(rt: HostRuntime) -> Result<(), Fail> {
-    let alloc = rt.alloc();
+// Whether these are the answer where persons 3 and 5 are left out.
+fn are_without(alloc: Global, ages: &[i64], numbers: &[i64]) -> Result<bool, NoMemory> {
     let answer = of_three_regions(alloc, &Rects::new(alloc))?;
-    assert!(rt; are(&answer, &[30, 25, 40], &[1, 2, 4]));
-    Ok(())
+    Ok(are(&answer, ages, numbers))
 }
 
 #[test]
-fn later_rows_come_between(rt: HostRuntime) -> Result<(), Fail> {
-    let alloc = rt.alloc();
+fn a_common_row_counts_once(rt: HostRuntime) {
+    assert!(rt; are_without(rt.alloc(), &[30, 25, 40], &[1, 2, 4]) == Ok(true));
+}
+
+// Whether these are the answer with all.
+fn are_with(alloc: Global, ages: &[i64], numbers: &[i64]) -> Result<bool, NoMemory> {
     let answer = of_three_regions(alloc, &everyone(alloc)?)?;
-    assert!(rt; are(&answer, &[30, 25, 50, 40, 60], &[1, 2, 3, 4, 5]));
-    Ok(())
+    Ok(are(&answer, ages, numbers))
+}
+
+#[test]
+fn later_rows_come_between(rt: HostRuntime) {
+    assert!(rt; are_with(rt.alloc(), &[30, 25, 50, 40, 60], &[1, 2, 3, 4, 5]) == Ok(true));
 }
 
 // ---- several tables
@@ -156,28 +146,29 @@ fn later_rows_come_between(rt: HostRuntime) -> Result<(), Fail> {
 // Ages have a number, which is their key, and a group.
 const AGE_GROUP: Attrs = Attrs(3);
 
-// The groups of the persons' ages, and the persons' numbers.
-fn groups(alloc: Global) -> Result<Query, NoMemory> {
-    let mut parts = Seq::new(alloc);
-    parts.push(part(alloc))?;
-    parts.push(Part {
+fn groups_part(alloc: Global) -> Part {
+    Part {
         table: 1,
         key: 0,
         need: AGE_GROUP,
         rects: Rects::new(alloc),
         width: 0,
-    })?;
-    let mut joins = Seq::new(alloc);
-    joins.push(KeyJoin {
+    }
+}
+
+// The groups of the persons' ages, and the persons' numbers.
+fn groups(alloc: Global) -> Result<Query, NoMemory> {
+    let groups = Output { part: 1, column: 1 };
+    let numbers = Output { part: 0, column: 1 };
+    let output = list_of(alloc, [groups, numbers])?;
+    let join = KeyJoin {
         left: 0,
         column: 2,
         right: 1,
-    })?;
-    let mut output = Seq::new(alloc);
-    output.push(Output { part: 1, column: 1 })?;
-    output.push(Output { part: 0, column: 1 })?;
+    };
+    let joins = list_of(alloc, [join])?;
     Ok(Query {
-        parts,
+        parts: list_of(alloc, [part(alloc), groups_part(alloc)])?,
         joins,
         output,
     })
@@ -185,12 +176,7 @@ fn groups(alloc: Global) -> Result<Query, NoMemory> {
 
 // Each age.
 fn every_age(alloc: Global) -> Result<Rects, NoMemory> {
-    let mut rect = Rect::new(alloc);
-    rect.push(Span::Full)?;
-    rect.push(Span::Full)?;
-    let mut rects = Rects::new(alloc);
-    rects.push(rect)?;
-    Ok(rects)
+    rects_of(alloc, [Span::Full, Span::Full])
 }
 
 fn joined(alloc: Global, some: &Rows, others: &Rows, ages: &Rows) -> Result<Rows, NoMemory> {
@@ -213,7 +199,7 @@ fn joined(alloc: Global, some: &Rows, others: &Rows, ages: &Rows) -> Result<Rows
 
 // The groups of two ages.
 fn groups_of_ages(alloc: Global) -> Result<Rows, NoMemory> {
-    two(alloc, short(alloc, 25, 7)?, short(alloc, 40, 8)?)
+    list_of(alloc, [short(alloc, 25, 7)?, short(alloc, 40, 8)?])
 }
 
 // Persons 2 and 4 of one region, and 1 and 4 of another; nothing is known of the age of person 1.
@@ -224,9 +210,11 @@ fn of_two_tables(alloc: Global) -> Result<Rows, NoMemory> {
     joined(alloc, &some, &others, &ages)
 }
 
+fn are_joined(alloc: Global, groups: &[i64], numbers: &[i64]) -> Result<bool, NoMemory> {
+    Ok(are(&of_two_tables(alloc)?, groups, numbers))
+}
+
 #[test]
-fn tables_join_by_key(rt: HostRuntime) -> Result<(), Fail> {
-    let answer = of_two_tables(rt.alloc())?;
-    assert!(rt; are(&answer, &[7, 8], &[2, 4]));
-    Ok(())
+fn tables_join_by_key(rt: HostRuntime) {
+    assert!(rt; are_joined(rt.alloc(), &[7, 8], &[2, 4]) == Ok(true));
 }

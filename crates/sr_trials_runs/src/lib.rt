@@ -4,6 +4,8 @@
 #[cfg(test)]
 mod client;
 #[cfg(test)]
+mod common;
+#[cfg(test)]
 mod join;
 #[cfg(test)]
 mod log;

@@ -7,7 +7,6 @@ use sr_cell::list::{NoMemory, Seq};
 use sr_log::entry::Entry;
 use sr_log::log::Log;
 use std::alloc::Global;
-use std::test::Fail;
 
 fn changes(alloc: Global, count: usize) -> Result<Changes, NoMemory> {
     let mut changes = Seq::new(alloc);
@@ -80,11 +79,10 @@ fn newest_of_three(alloc: Global) -> Result<bool, NoMemory> {
 }
 
 #[test]
-fn the_newest_versions_are_kept(rt: HostRuntime) -> Result<(), Fail> {
+fn the_newest_versions_are_kept(rt: HostRuntime) {
     let alloc = rt.alloc();
-    assert!(rt; newest_of_two(alloc)?);
-    assert!(rt; newest_of_three(alloc)?);
-    Ok(())
+    assert!(rt; newest_of_two(alloc) == Ok(true));
+    assert!(rt; newest_of_three(alloc) == Ok(true));
 }
 
 // Two changes at once, of which one would be kept.
@@ -94,9 +92,8 @@ fn is_dropped(alloc: Global) -> Result<bool, NoMemory> {
 }
 
 #[test]
-fn more_changes_than_the_limit_drop_all(rt: HostRuntime) -> Result<(), Fail> {
-    assert!(rt; is_dropped(rt.alloc())?);
-    Ok(())
+fn more_changes_than_the_limit_drop_all(rt: HostRuntime) {
+    assert!(rt; is_dropped(rt.alloc()) == Ok(true));
 }
 
 // Two versions without changes, and a change that is kept.
@@ -112,10 +109,9 @@ fn are_kept_alone(alloc: Global) -> Result<bool, NoMemory> {
 }
 
 #[test]
-fn pushes_without_changes_are_versions(rt: HostRuntime) -> Result<(), Fail> {
+fn pushes_without_changes_are_versions(rt: HostRuntime) {
     let alloc = rt.alloc();
     assert!(rt; answers(&Log::new(alloc, 1), 0, 0, Some(&[])));
-    assert!(rt; are_versions(alloc)?);
-    assert!(rt; are_kept_alone(alloc)?);
-    Ok(())
+    assert!(rt; are_versions(alloc) == Ok(true));
+    assert!(rt; are_kept_alone(alloc) == Ok(true));
 }

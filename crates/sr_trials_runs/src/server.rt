@@ -7,10 +7,10 @@ ghost use Rattle.sr_log.specs.Held.{newest as newest_of};
 ghost use Rattle.sr_session.specs.Refusals.{has_few_parts};
 ghost use Rattle.sr_server.specs.Servers.{StandsForSome};
 
-use sr_box::rect::Rect;
+use crate::common::{list_of, rects_of};
 use sr_box::span::Span;
 use sr_cell::attrs::Attrs;
-use sr_cell::list::{No, NoMemory, Seq};
+use sr_cell::list::{No, NoMemory};
 use sr_cell::schema::Schema;
 use sr_cell::table::{Column, Kind, Table};
 use sr_cell::text::Text;
@@ -24,23 +24,27 @@ use std::alloc::Global;
 // A message, by its kind on the wire, its version or 0, and how much it carries.
 type Seen = (u8, u64, usize);
 
-// What a step of a test does.
+// What a step of a test does, for the client of its number.
 #[derive(Clone, Copy)]
 enum Step {
-    // the first message of a session, by the client of that number
-    Hello(u8, Wanted),
-    // a session begins again at that version, with the keys from 0 to 9 of that table
-    Resume(u8, u64, u8, Wanted),
-    // an ask, fresh or not, for the keys between two numbers, of that table and with these columns
-    Ask(u8, bool, (i64, i64), (u8, u16), Wanted),
-    // an ask for values of `a` from 0 to 9, with these columns
-    Values(u8, u16, Wanted),
-    // a Hello that names another client
-    Named(u8, u8, Wanted),
-    Write(u8, &'static str, Wanted),
-    Lapse(u8, Wanted),
+    Take(u8, Sent, Wanted),
     Push(u8, Wanted),
     Cut(u8),
+}
+
+// A message that the server takes.
+#[derive(Clone, Copy)]
+enum Sent {
+    // the first message of a session, which names that client
+    Hello(u8),
+    // the session of that client begins again at that version, with the keys from 0 to 9 of that table
+    Resume(u8, u64, u8),
+    // an ask, fresh or not, for the keys between two numbers, of that table and with these columns
+    Ask(bool, (i64, i64), (u8, u16)),
+    // an ask for values of `a` from 0 to 9, with these columns
+    Values(u16),
+    Write(&'static str),
+    Lapse,
 }
 
 // What comes of it: at most two messages, or nothing, or a refusal.
@@ -67,11 +71,17 @@ fn seen(message: &Message) -> Seen {
 }
 
 fn are(sent: &[Message], wanted: Wanted) -> bool {
-    match (sent, wanted) {
-        ([], Wanted::Nothing) => true,
-        ([one], Wanted::One(first)) => seen(one) == first,
-        ([one, other], Wanted::Two(first, second)) => seen(one) == first && seen(other) == second,
-        _ => false,
+    match wanted {
+        Wanted::Nothing => sent.is_empty(),
+        Wanted::One(first) => match sent {
+            [one] => seen(one) == first,
+            _ => false,
+        },
+        Wanted::Two(first, second) => match sent {
+            [one, other] => seen(one) == first && seen(other) == second,
+            _ => false,
+        },
+        Wanted::Closed | Wanted::Bad(_) => false,
     }
 }
 
@@ -93,9 +103,7 @@ fn table(alloc: Global) -> Result<Table, NoMemory>
 {
     let key = numbers(alloc, "k")?;
     let other = numbers(alloc, "a")?;
-    let mut columns = Seq::new(alloc);
-    columns.push(key)?;
-    columns.push(other)?;
+    let columns = list_of(alloc, [key, other])?;
     Ok(Table {
         name: Text::of(alloc, "t")?,
         columns,
@@ -123,37 +131,26 @@ fn server(alloc: Global) -> Result<Server, NoMemory>
 
 // The rect of the keys from `lo` to `hi`.
 fn keys(alloc: Global, lo: i64, hi: i64) -> Result<Rects, NoMemory> {
-    let mut rect = Rect::new(alloc);
-    rect.push(Span::Nums { lo, hi })?;
-    rect.push(Span::Full)?;
-    let mut rects = Rects::new(alloc);
-    rects.push(rect)?;
-    Ok(rects)
+    rects_of(alloc, [Span::Nums { lo, hi }, Span::Full])
 }
 
 // The rect of the values of `a` from 0 to 9.
 fn values(alloc: Global) -> Result<Rects, NoMemory> {
-    let mut rect = Rect::new(alloc);
-    rect.push(Span::Full)?;
-    rect.push(Span::Nums { lo: 0, hi: 9 })?;
-    let mut rects = Rects::new(alloc);
-    rects.push(rect)?;
-    Ok(rects)
+    rects_of(alloc, [Span::Full, Span::Nums { lo: 0, hi: 9 }])
 }
 
 fn ask(alloc: Global, fresh: bool, table: u8, attrs: u16, rects: Rects) -> Result<Message, NoMemory>
     ensures { IfOk result (λ m. has_few_parts m ≡ true) }
 {
-    let mut parts = Seq::new(alloc);
-    parts.push(AskPart {
+    let part = AskPart {
         table,
         attrs: Attrs(attrs),
         rects,
-    })?;
+    };
     Ok(Message::Ask {
         number: 1,
         fresh,
-        parts,
+        parts: list_of(alloc, [part])?,
     })
 }
 
@@ -166,13 +163,11 @@ fn resume(
 ) -> Result<Message, NoMemory>
     ensures { IfOk result (λ m. has_few_parts m ≡ true) }
 {
-    let mut holdings = Seq::new(alloc);
-    holdings.push(Holding { table, rects })?;
     Ok(Message::Resume {
         client,
         number: 1,
         version,
-        holdings,
+        holdings: list_of(alloc, [Holding { table, rects }])?,
     })
 }
 
@@ -183,6 +178,23 @@ fn write(alloc: Global, sql: &str) -> Result<Message, NoMemory>
         number: 1,
         sql: Text::of(alloc, sql)?,
     })
+}
+
+fn message(alloc: Global, sent: Sent) -> Result<Message, NoMemory>
+    ensures { IfOk result (λ m. has_few_parts m ≡ true) }
+{
+    match sent {
+        Sent::Hello(client) => Ok(Message::Hello { client, number: 0 }),
+        Sent::Resume(client, version, table) => {
+            resume(alloc, client, version, table, keys(alloc, 0, 9)?)
+        }
+        Sent::Ask(fresh, (lo, hi), (table, attrs)) => {
+            ask(alloc, fresh, table, attrs, keys(alloc, lo, hi)?)
+        }
+        Sent::Values(attrs) => ask(alloc, true, 0, attrs, values(alloc)?),
+        Sent::Write(sql) => write(alloc, sql),
+        Sent::Lapse => Ok(Message::Lapse { version: 0 }),
+    }
 }
 
 // Whether the server takes the message and sends these, or refuses it for that reason.
@@ -234,10 +246,9 @@ fn takes_one(
 }
 
 fn is_pushed(sent: &Option<Messages>, wanted: Wanted) -> bool {
-    match (sent, wanted) {
-        (None, Wanted::Closed) => true,
-        (Some(sent), wanted) => are(sent.as_slice(), wanted),
-        _ => false,
+    match sent {
+        None => matches!(wanted, Wanted::Closed),
+        Some(sent) => are(sent.as_slice(), wanted),
     }
 }
 
@@ -266,48 +277,6 @@ fn cut(server: &mut Server, client: u8) -> bool
     true
 }
 
-// Whether a request is answered so.
-fn takes_step(alloc: Global, server: &mut Server, step: Step) -> Result<bool, NoMemory>
-    requires stands { StandsForSome server.old }
-    requires number { newest_of server.old.log < 100 }
-    ensures stands { OnOk result (StandsForSome server.new) }
-    ensures grows { OnOk result (newest_of server.new.log ≤ newest_of server.old.log + 1) }
-{
-    match step {
-        Step::Hello(client, wanted) => {
-            let hello = Message::Hello { client, number: 0 };
-            takes_one(alloc, server, client, hello, wanted)
-        }
-        Step::Resume(client, version, table, wanted) => {
-            let message = resume(alloc, client, version, table, keys(alloc, 0, 9)?)?;
-            takes_one(alloc, server, client, message, wanted)
-        }
-        Step::Ask(client, fresh, (lo, hi), (table, attrs), wanted) => {
-            let message = ask(alloc, fresh, table, attrs, keys(alloc, lo, hi)?)?;
-            takes_one(alloc, server, client, message, wanted)
-        }
-        Step::Write(client, sql, wanted) => {
-            takes_one(alloc, server, client, write(alloc, sql)?, wanted)
-        }
-        Step::Values(client, attrs, wanted) => {
-            let message = ask(alloc, true, 0, attrs, values(alloc)?)?;
-            takes_one(alloc, server, client, message, wanted)
-        }
-        Step::Named(client, named, wanted) => {
-            let hello = Message::Hello {
-                client: named,
-                number: 0,
-            };
-            takes_one(alloc, server, client, hello, wanted)
-        }
-        Step::Lapse(client, wanted) => {
-            let lapse = Message::Lapse { version: 0 };
-            takes_one(alloc, server, client, lapse, wanted)
-        }
-        _ => Ok(false),
-    }
-}
-
 fn does_step(alloc: Global, server: &mut Server, step: Step) -> Result<bool, NoMemory>
     requires stands { StandsForSome server.old }
     requires number { newest_of server.old.log < 100 }
@@ -315,9 +284,12 @@ fn does_step(alloc: Global, server: &mut Server, step: Step) -> Result<bool, NoM
     ensures grows { OnOk result (newest_of server.new.log ≤ newest_of server.old.log + 1) }
 {
     match step {
+        Step::Take(client, sent, wanted) => {
+            let message = message(alloc, sent)?;
+            takes_one(alloc, server, client, message, wanted)
+        }
         Step::Push(client, wanted) => pushes(alloc, server, client, wanted),
         Step::Cut(client) => Ok(cut(server, client)),
-        _ => takes_step(alloc, server, step),
     }
 }
 
@@ -341,74 +313,140 @@ fn done(alloc: Global, steps: &[Step]) -> Result<usize, NoMemory> {
 }
 
 // Client 1 writes; client 2 has asked for all keys from 0 to 9, and client 1 for those from 5 on.
-const TOLD: [Step; 9] = [
-    Step::Hello(1, Wanted::One((0x11, 0, 0))),
-    Step::Hello(2, Wanted::One((0x11, 0, 0))),
-    Step::Write(1, "INSERT INTO t VALUES (1, 10)", Wanted::One((0x15, 1, 0))),
-    Step::Ask(
+static TOLD: [Step; 9] = [
+    Step::Take(1, Sent::Hello(1), Wanted::One((0x11, 0, 0))),
+    Step::Take(2, Sent::Hello(2), Wanted::One((0x11, 0, 0))),
+    Step::Take(
+        1,
+        Sent::Write("INSERT INTO t VALUES (1, 10)"),
+        Wanted::One((0x15, 1, 0)),
+    ),
+    Step::Take(
         2,
-        true,
-        (0, 9),
-        (0, 3),
+        Sent::Ask(true, (0, 9), (0, 3)),
         Wanted::Two((0x13, 0, 1), (0x14, 1, 0)),
     ),
-    Step::Ask(1, false, (5, 9), (0, 3), Wanted::One((0x14, 1, 0))),
-    Step::Write(
+    Step::Take(
         1,
-        "UPDATE t SET a = 11 WHERE k = 1",
+        Sent::Ask(false, (5, 9), (0, 3)),
+        Wanted::One((0x14, 1, 0)),
+    ),
+    Step::Take(
+        1,
+        Sent::Write("UPDATE t SET a = 11 WHERE k = 1"),
         Wanted::One((0x15, 2, 0)),
     ),
     Step::Push(2, Wanted::One((0x12, 2, 1))),
     Step::Push(2, Wanted::Nothing),
-    Step::Write(
+    Step::Take(
         1,
-        "INSERT INTO t VALUES (6, 60)",
+        Sent::Write("INSERT INTO t VALUES (6, 60)"),
         Wanted::Two((0x12, 3, 1), (0x15, 3, 0)),
     ),
 ];
 
 // The log keeps one change, so the first of two writes is dropped.
-const DROPPED: [Step; 10] = [
-    Step::Hello(1, Wanted::One((0x11, 0, 0))),
-    Step::Hello(2, Wanted::One((0x11, 0, 0))),
-    Step::Ask(2, true, (0, 9), (0, 3), Wanted::One((0x14, 0, 0))),
-    Step::Write(1, "INSERT INTO t VALUES (1, 10)", Wanted::One((0x15, 1, 0))),
-    Step::Write(1, "INSERT INTO t VALUES (2, 20)", Wanted::One((0x15, 2, 0))),
+static DROPPED: [Step; 10] = [
+    Step::Take(1, Sent::Hello(1), Wanted::One((0x11, 0, 0))),
+    Step::Take(2, Sent::Hello(2), Wanted::One((0x11, 0, 0))),
+    Step::Take(
+        2,
+        Sent::Ask(true, (0, 9), (0, 3)),
+        Wanted::One((0x14, 0, 0)),
+    ),
+    Step::Take(
+        1,
+        Sent::Write("INSERT INTO t VALUES (1, 10)"),
+        Wanted::One((0x15, 1, 0)),
+    ),
+    Step::Take(
+        1,
+        Sent::Write("INSERT INTO t VALUES (2, 20)"),
+        Wanted::One((0x15, 2, 0)),
+    ),
     Step::Push(2, Wanted::One((0x17, 2, 0))),
     Step::Push(2, Wanted::Nothing),
-    Step::Write(1, "DELETE FROM t WHERE k = 1", Wanted::One((0x15, 3, 0))),
+    Step::Take(
+        1,
+        Sent::Write("DELETE FROM t WHERE k = 1"),
+        Wanted::One((0x15, 3, 0)),
+    ),
     Step::Push(2, Wanted::One((0x12, 3, 0))),
     Step::Push(3, Wanted::Closed),
 ];
 
 // A second row of key 1 is refused. Then client 2 resumes at a version that the log reaches back to, and at an earlier one.
-const RESUMED: [Step; 7] = [
-    Step::Hello(1, Wanted::One((0x11, 0, 0))),
-    Step::Write(1, "INSERT INTO t VALUES (1, 10)", Wanted::One((0x15, 1, 0))),
-    Step::Write(1, "INSERT INTO t VALUES (1, 20)", Wanted::One((0x16, 0, 0))),
-    Step::Write(1, "DELETE FROM t WHERE k = 1", Wanted::One((0x15, 2, 0))),
-    Step::Resume(2, 1, 0, Wanted::Two((0x12, 2, 1), (0x11, 2, 1))),
+static RESUMED: [Step; 7] = [
+    Step::Take(1, Sent::Hello(1), Wanted::One((0x11, 0, 0))),
+    Step::Take(
+        1,
+        Sent::Write("INSERT INTO t VALUES (1, 10)"),
+        Wanted::One((0x15, 1, 0)),
+    ),
+    Step::Take(
+        1,
+        Sent::Write("INSERT INTO t VALUES (1, 20)"),
+        Wanted::One((0x16, 0, 0)),
+    ),
+    Step::Take(
+        1,
+        Sent::Write("DELETE FROM t WHERE k = 1"),
+        Wanted::One((0x15, 2, 0)),
+    ),
+    Step::Take(
+        2,
+        Sent::Resume(2, 1, 0),
+        Wanted::Two((0x12, 2, 1), (0x11, 2, 1)),
+    ),
     Step::Cut(2),
-    Step::Resume(2, 0, 0, Wanted::One((0x11, 2, 0))),
+    Step::Take(2, Sent::Resume(2, 0, 0), Wanted::One((0x11, 2, 0))),
 ];
 
 // Table 9 is not there. Columns 2 lack the key, columns 7 are more than there are; no key lies between 9 and 0.
-const REFUSED: [Step; 15] = [
-    Step::Lapse(2, Wanted::Bad(BadFrame::Direction)),
-    Step::Ask(1, true, (0, 9), (9, 3), Wanted::Bad(BadFrame::State)),
-    Step::Write(1, "DELETE FROM t", Wanted::Bad(BadFrame::State)),
-    Step::Named(1, 2, Wanted::Bad(BadFrame::State)),
-    Step::Hello(1, Wanted::One((0x11, 0, 0))),
-    Step::Hello(1, Wanted::Bad(BadFrame::State)),
-    Step::Lapse(1, Wanted::Bad(BadFrame::Direction)),
-    Step::Ask(1, true, (0, 9), (9, 3), Wanted::Bad(BadFrame::Shape)),
-    Step::Ask(1, true, (0, 9), (0, 2), Wanted::Bad(BadFrame::Shape)),
-    Step::Ask(1, true, (0, 9), (0, 7), Wanted::Bad(BadFrame::Shape)),
-    Step::Ask(1, true, (9, 0), (0, 3), Wanted::Bad(BadFrame::Shape)),
-    Step::Values(1, 1, Wanted::Bad(BadFrame::Shape)),
-    Step::Values(1, 3, Wanted::One((0x14, 0, 0))),
-    Step::Resume(2, 0, 9, Wanted::Bad(BadFrame::Shape)),
-    Step::Ask(1, true, (0, 9), (0, 1), Wanted::One((0x14, 0, 0))),
+static REFUSED: [Step; 15] = [
+    Step::Take(2, Sent::Lapse, Wanted::Bad(BadFrame::Direction)),
+    Step::Take(
+        1,
+        Sent::Ask(true, (0, 9), (9, 3)),
+        Wanted::Bad(BadFrame::State),
+    ),
+    Step::Take(
+        1,
+        Sent::Write("DELETE FROM t"),
+        Wanted::Bad(BadFrame::State),
+    ),
+    Step::Take(1, Sent::Hello(2), Wanted::Bad(BadFrame::State)),
+    Step::Take(1, Sent::Hello(1), Wanted::One((0x11, 0, 0))),
+    Step::Take(1, Sent::Hello(1), Wanted::Bad(BadFrame::State)),
+    Step::Take(1, Sent::Lapse, Wanted::Bad(BadFrame::Direction)),
+    Step::Take(
+        1,
+        Sent::Ask(true, (0, 9), (9, 3)),
+        Wanted::Bad(BadFrame::Shape),
+    ),
+    Step::Take(
+        1,
+        Sent::Ask(true, (0, 9), (0, 2)),
+        Wanted::Bad(BadFrame::Shape),
+    ),
+    Step::Take(
+        1,
+        Sent::Ask(true, (0, 9), (0, 7)),
+        Wanted::Bad(BadFrame::Shape),
+    ),
+    Step::Take(
+        1,
+        Sent::Ask(true, (9, 0), (0, 3)),
+        Wanted::Bad(BadFrame::Shape),
+    ),
+    Step::Take(1, Sent::Values(1), Wanted::Bad(BadFrame::Shape)),
+    Step::Take(1, Sent::Values(3), Wanted::One((0x14, 0, 0))),
+    Step::Take(2, Sent::Resume(2, 0, 9), Wanted::Bad(BadFrame::Shape)),
+    Step::Take(
+        1,
+        Sent::Ask(true, (0, 9), (0, 1)),
+        Wanted::One((0x14, 0, 0)),
+    ),
 ];
 
 #[test]

@@ -105,7 +105,7 @@ fn keep_piece(bytes: &mut Bytes, piece: &[u8], spare: usize) -> Result<bool, No<
     Ok(!piece.is_empty())
 }
 
-/// A refusal of one read, as that of a whole read.
+/// The refusal of a whole read in which one read was refused.
 fn not_read(no: No<Failed>) -> No<ReadAll>
     ensures refused { no ≡ Refused record {} → result ≡ Refused ReadFault }
     ensures wanting { no ≡ Wanting → result ≡ Wanting }

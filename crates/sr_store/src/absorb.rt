@@ -44,7 +44,7 @@ fn push_wider(
     Ok(())
 }
 
-/// At the end the rects of the regions of its table with strictly more columns, as far as they meet those.
+/// Appends the rects of the regions of its table with strictly more columns, as far as they meet those.
 #[tactic(auto, using(crate::proofs::Nearing::near_wider))]
 fn push_all_wider(
     alloc: Global,
@@ -160,8 +160,8 @@ pub(crate) fn met_by(
     Ok(flags)
 }
 
-/// A flag at the end, whether the region's points are all in regions of the two lists with strictly more columns; where it is not
-/// met, it is known that they are not.
+/// Appends whether the region's points are all in regions of the two lists with strictly more columns; where it is not met, it is
+/// known that they are not.
 fn push_absorbed(
     alloc: Global,
     schema: &Schema,

@@ -51,7 +51,7 @@ fn are_many(regions: &[Region], limits: Limits) -> bool
     regions.len() > limits.regions as usize
 }
 
-/// The region at the end as a policy sees it.
+/// Appends the region as a policy sees it.
 fn push_view(
     alloc: Global,
     schema: &Schema,
@@ -176,7 +176,7 @@ pub(crate) fn fitted(
     done.and(Ok(Answer { regions, marks }))
 }
 
-/// What the part asks of its table at the end, by the centre; nothing where it has no rects.
+/// Appends what the part asks of its table, by the centre; nothing where it has no rects.
 fn push_last(alloc: Global, schema: &Schema, lasts: &mut Lasts, part: &Part) -> Result<(), NoMemory>
     requires tables { IsTrue (list_all is_table schema.now) }
     requires named { part.now.table < length schema.now }

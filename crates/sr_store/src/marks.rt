@@ -10,7 +10,7 @@ use sr_history::mark::{Mark, Marks};
 use sr_region::region::Region;
 use std::alloc::Global;
 
-/// At the end that what arrives is held.
+/// Appends the mark that what arrives is held.
 fn push_held(alloc: Global, marks: &mut Marks, arrival: &Arrival) -> Result<(), NoMemory>
     ensures { OnOk result (marks.new ≡ marks.old ++ held_of arrival.now ∷ []) }
 {
@@ -53,7 +53,7 @@ pub(crate) fn drop_mark(cause: Cause, region: Region) -> Mark
     }
 }
 
-/// The marks, and behind them that the classes of the regions are dropped.
+/// The marks, and behind them those of the classes of the regions, which are dropped.
 pub(crate) fn drop_marks(
     marks: Marks,
     cause: Cause,

@@ -126,7 +126,7 @@ pub(crate) fn parted_by(
     Ok(both)
 }
 
-/// A copy of the region at the end, without its rows.
+/// Appends a copy of the region, without its rows.
 fn push_without_rows(
     alloc: Global,
     copies: &mut Seq<Region>,

@@ -39,7 +39,7 @@ fn is_touching(part: &Part, table: u8, attrs: Attrs) -> bool
     part.table == table && attrs.includes(part.need)
 }
 
-/// A copy of the other rects at the end.
+/// Appends a copy of the other rects.
 pub(crate) fn append_copy(alloc: Global, rects: &mut Rects, more: &Rects) -> Result<(), NoMemory>
     ensures { OnOk result (rects.new ≡ rects.old ++ more.now) }
 {

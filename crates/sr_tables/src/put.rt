@@ -16,7 +16,7 @@ use sr_cell::table::Table;
 use sr_keyed::keyed::KeyedRows;
 use std::alloc::Global;
 
-/// One change more, for a row that was not there before.
+/// Appends the change of a row that was not there before.
 fn push_added(
     alloc: Global,
     changes: &mut Changes,

@@ -12,7 +12,7 @@ use sr_box::rect::Rect;
 use sr_cell::list::{Copied, NoMemory};
 use std::alloc::Global;
 
-/// What a rect has in common with another at the end, if they meet.
+/// Appends what a rect has in common with another, if they meet.
 fn push_meet(alloc: Global, both: &mut Rects, rect: &Rect, other: &Rect) -> Result<(), NoMemory>
     ensures { OnOk result (both.new ≡ both.old ++ option_to_list (rect_meet rect.now other.now)) }
 {
@@ -22,7 +22,7 @@ fn push_meet(alloc: Global, both: &mut Rects, rect: &Rect, other: &Rect) -> Resu
     }
 }
 
-/// What a rect has in common with each of the others, at the end.
+/// Appends what a rect has in common with each of the others.
 fn push_meets(alloc: Global, both: &mut Rects, rect: &Rect, others: &Rects) -> Result<(), NoMemory>
     ensures { OnOk result (both.new ≡ both.old ++ meet_each rect.now others.now) }
 {

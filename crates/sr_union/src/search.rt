@@ -44,7 +44,7 @@ fn push_todos(todo: &mut Seq<Todo>, rects: Rects, from: usize) -> Result<(), NoM
     Ok(())
 }
 
-/// Puts what is left of a rect without a cut behind the others.
+/// Appends what is left of a rect without a cut.
 #[tactic(auto, using(crate::proofs::Inner::fits_length))]
 fn push_pieces(
     alloc: Global,

@@ -1,7 +1,7 @@
 //! One token.
 
 /// What a token is, by how it is written.
-#[derive(Clone, Copy)]
+#[derive(Clone, Copy, PartialEq, Eq)]
 pub enum TokenKind {
     /// A letter or `_`, and letters, digits and `_` behind it.
     Word,

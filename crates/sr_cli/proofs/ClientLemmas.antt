@@ -1,5 +1,5 @@
 -- How a run of `client` comes to its end.
-use Rattle.std.proofs.Common.{◌≡◌, ℕ, true, List, [], ◌∷◌, refl, sym, ◌∙◌, ap, subst}
+use Rattle.std.proofs.Common.{◌≡◌, ℕ, ◌⊎◌, true, List, [], ◌∷◌, inl, inr, refl, sym, ◌∙◌, ap, subst}
 use Rattle.std.specs.Prelude.{Option, Some}
 use Rattle.std.specs.Cmp.{first_so, second_so}
 use Rattle.std.specs.List.{list_all, AllZip}
@@ -8,7 +8,8 @@ use Rattle.sr_cell.specs.declared.table.Table.{Table}
 use Rattle.sr_dial.specs.Known.{IsTask, IsTaskLine, AreTasks}
 use Rattle.sr_dial.specs.declared.ending.Ending.{Ending}
 use Rattle.sr_dial.specs.declared.ending.Ending.TheVariants.{Faulty, Unwritten, Spoiled, Bad as BadMessage, Limit as TooMany}
-use Rattle.sr_io.specs.Told.{Linking, Writing}
+use Rattle.sr_io.specs.Causes.{Rose}
+use Rattle.sr_io.specs.Told.{Reading, Linking, Writing}
 use Rattle.sr_lines.specs.Events.{ScriptEvent}
 use Rattle.sr_links.specs.Steps.{Queried, Wrote, Evicted, WasCut, Resumed}
 use Rattle.sr_reader.specs.declared.script.Event.{Event}
@@ -21,9 +22,11 @@ use Rattle.sr_setup.specs.declared.client_setup.ClientFault.TheVariants as fault
 use Rattle.sr_cell.specs.declared.fault.Fault.{Fault}
 use Rattle.sr_talk.specs.Calls.{Task, Do, Explain}
 use Rattle.sr_words.specs.declared.command.ClientWords.{ClientWords}
-use Rattle.sr_cli.specs.Client.{Ends, IsTaskOf, Stops, ending_of, task_of}
+use Rattle.sr_cli.specs.Files.{SomeTooLong}
+use Rattle.sr_cli.specs.Client.{Ends, IsTaskOf, NotRead, Stops, Untouched, ending_of, files_of, task_of}
 use Rattle.sr_cli.specs.declared.client.Stop.{Stop}
 use Rattle.sr_cli.specs.declared.client.Stop.TheVariants as stop
+use Rattle.sr_cli.specs.declared.report.Refusal.{Refusal}
 use Rattle.sr_cli.specs.declared.report.Refusal.TheVariants as refusal
 
 -- ---- what the lines ask
@@ -100,3 +103,12 @@ ends_of schema script words old new before after ending (stop.Refused (refusal.L
 ends_of schema script words old new before after ending (stop.Spoiled fault) is stops = ends_as schema script words old new before after (Spoiled fault) ending (sym is) stops
 ends_of schema script words old new before after ending (stop.Bad why) is stops = ends_as schema script words old new before after (BadMessage why) ending (sym is) stops
 ends_of schema script words old new before after ending stop.Limit is stops = ends_as schema script words old new before after TooMany ending (sym is) stops
+
+-- ---- why the files are not read
+
+pub not_read : (held : List ℕ → Option (List ℕ)) (words : ClientWords) (from to : Reading) (old new : Linking) (before after : Writing) (why : Refusal)
+    → (why ≡ refusal.Read) ⊎ (why ≡ refusal.Memory) ⊎ (why ≡ refusal.TooLong) → Untouched old new before after
+    → (why ≡ refusal.Read → Rose from.faults to.faults) → (why ≡ refusal.TooLong → SomeTooLong held to.left (files_of words)) → NotRead held words from to old new before after (stop.Refused why)
+not_read held words from to old new before after why (inl is) untouched failed long = subst (λ w. NotRead held words from to old new before after (stop.Refused w)) (sym is) (failed is, untouched)
+not_read held words from to old new before after why (inr (inl is)) untouched failed long = subst (λ w. NotRead held words from to old new before after (stop.Refused w)) (sym is) tt
+not_read held words from to old new before after why (inr (inr is)) untouched failed long = subst (λ w. NotRead held words from to old new before after (stop.Refused w)) (sym is) (long is, untouched)

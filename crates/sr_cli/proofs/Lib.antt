@@ -1,5 +1,6 @@
 pub mod ClientFits
 pub mod ClientLemmas
+pub mod Endings
 pub mod ExplainFits
 pub mod FitsLemmas
 pub mod Insides

@@ -12,7 +12,7 @@ ghost use Rattle.sr_cli.specs.declared.report.Refusal.TheVariants.{Read};
 
 use crate::file::{ReadFault, read_file};
 use crate::frames::{report_bad, report_limit, report_spoiled};
-use crate::report::{Refusal, report};
+use crate::report::{Refusal, report, unread};
 use sr_calls::client::client;
 use sr_cell::list::{Bytes, No};
 use sr_dial::ending::Ending;
@@ -92,9 +92,7 @@ fn client_files<H: Host>(alloc: Global, words: &ClientWords, host: &mut H) -> Re
     ensures complaints_stay { H.complaints host.new ≡ H.complaints host.old }
 {
     match read_files(alloc, words, host) {
-        Err(ReadFault::Fault) => Err(Stop::Refused(Refusal::Read)),
-        Err(ReadFault::NoMemory) => Err(Stop::Refused(Refusal::Memory)),
-        Err(ReadFault::TooLong) => Err(Stop::Refused(Refusal::TooLong)),
+        Err(fault) => Err(Stop::Refused(unread(fault))),
         Ok(files) => client_read(alloc, words, &files, host),
     }
 }

@@ -14,8 +14,8 @@ ghost use Rattle.sr_cli.specs.Files.{IsTooLong};
 ghost use Rattle.sr_cli.specs.Replay.{options_of};
 ghost use Rattle.sr_cli.specs.declared.report.Refusal.TheVariants.{Read, Write, Link, Memory, TooLong, Line, Setup, Load as LoadRefused};
 
-use crate::file::{ReadFault, read_file};
-use crate::report::{Refusal, end_of, report};
+use crate::file::read_file;
+use crate::report::{Refusal, end_of, report, unread};
 use sr_explained::explain::explain;
 use sr_io::outside::Host;
 use sr_words::command::ExplainWords;
@@ -80,9 +80,7 @@ fn explain_file<H: Host>(alloc: Global, words: &ExplainWords, host: &mut H) -> R
     ensures complaints_stay { H.complaints host.new ≡ H.complaints host.old }
 {
     match read_file(alloc, words.script.as_str(), host) {
-        Err(ReadFault::Fault) => Err(Refusal::Read),
-        Err(ReadFault::NoMemory) => Err(Refusal::Memory),
-        Err(ReadFault::TooLong) => Err(Refusal::TooLong),
+        Err(fault) => Err(unread(fault)),
         Ok(script) => explain_read(alloc, words, script.as_slice(), host),
     }
 }

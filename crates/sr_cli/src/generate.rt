@@ -1,7 +1,8 @@
 //! Making a large script.
-ghost use Rattle.std.specs.Prelude.{◌≡◌, ℕ, ◌⊎◌, ◌≤◌, List, [], Some, true, false, IfSome, OnOk, IsErrOf};
+ghost use Rattle.std.specs.Prelude.{◌≡◌, ℕ, ◌⊎◌, ◌≤◌, List, [], Some, true, false, IfSome, OnOk, IsOk, IsErrOf};
 ghost use Rattle.std.specs.Io.KnownBytes.{Appends};
 ghost use Rattle.sr_cell.specs.declared.fault.Fault.{Fault as TheFault};
+ghost use Rattle.sr_cell.specs.declared.list.No.TheVariants.{Refused, NoMemory as Wanting};
 ghost use Rattle.sr_generate.specs.Script.{script};
 ghost use Rattle.sr_io.specs.Causes.{Rose};
 ghost use Rattle.sr_io.specs.Pieces.{WritesPrefix};
@@ -13,14 +14,13 @@ ghost use Rattle.sr_cli.specs.Errors.{error_text};
 ghost use Rattle.sr_cli.specs.Generate.{Summarized, SummarizedInPart};
 ghost use Rattle.sr_cli.specs.declared.report.Refusal.TheVariants.{Read, Write, Link, Memory, TooLong, Line, Setup, Load as LoadRefused};
 
-use crate::report::{Refusal, report};
+use crate::report::{Refusal, refusal_of, report};
 use sr_cell::list::No;
 use sr_generate::script::write_script;
-use sr_io::outside::Host;
+use sr_io::outside::{Failed, Host};
 use sr_io::whole::write_all;
 use sr_summary::summary::summary_of;
 use sr_words::command::GenerateWords;
-use sr_world::replay::RunFault;
 use std::alloc::Global;
 
 /// Writes the script of a seed, or what its replay comes to, and answers the status to end with.
@@ -127,20 +127,20 @@ fn summarize<H: Host>(alloc: Global, seed: u64, events: u32, host: &mut H) -> Re
     ensures held_stays { H.held host.new ≡ H.held host.old }
     ensures complaints_stay { H.complaints host.new ≡ H.complaints host.old }
 {
-    let text = match summary_of(alloc, seed, events) {
-        Ok(text) => text,
-        Err(No::NoMemory) => return Err(Refusal::Memory),
-        Err(No::Refused(RunFault::Line { line, place })) => return Err(Refusal::Line {
-            line,
-            place,
-        }),
-        Err(No::Refused(RunFault::Setup { line, fault })) => {
-            return Err(Refusal::Setup { line, fault });
-        }
-        Err(No::Refused(RunFault::Load { .. })) => unreachable!(),
-        Err(No::Refused(RunFault::WriteFault)) => unreachable!(),
-    };
-    match write_all(host, text.as_bytes()) {
+    match summary_of(alloc, seed, events) {
+        Ok(text) => end_of_write(write_all(host, text.as_bytes())),
+        Err(no) => Err(refusal_of(no)),
+    }
+}
+
+/// What writing that ended so comes to.
+fn end_of_write(done: Result<(), No<Failed>>) -> Result<(), Refusal>
+    ensures only { IsOk result ⊎ IsErrOf result Write ⊎ IsErrOf result Memory }
+    ensures ok { OnOk result (IsOk done) }
+    ensures write { IsErrOf result Write → IsErrOf done (Refused record {}) }
+    ensures memory { IsErrOf result Memory → IsErrOf done Wanting }
+{
+    match done {
         Ok(()) => Ok(()),
         Err(No::Refused(_)) => Err(Refusal::Write),
         Err(No::NoMemory) => Err(Refusal::Memory),

@@ -18,7 +18,7 @@ ghost use Rattle.sr_cli.specs.declared.report.Refusal.TheVariants.{Read, Write, 
 
 use crate::file::{ReadFault, read_file};
 use crate::loads::read_loads;
-use crate::report::{Refusal, end_of, report};
+use crate::report::{Refusal, end_of, report, unread};
 use sr_cell::list::Bytes;
 use sr_io::outside::Host;
 use sr_load::fill::Loads;
@@ -99,9 +99,7 @@ fn replay_files<H: Host>(alloc: Global, words: &ReplayWords, host: &mut H) -> Re
         clients: setup.clients,
     };
     match read_files(alloc, words, host) {
-        Err(ReadFault::Fault) => Err(Refusal::Read),
-        Err(ReadFault::NoMemory) => Err(Refusal::Memory),
-        Err(ReadFault::TooLong) => Err(Refusal::TooLong),
+        Err(fault) => Err(unread(fault)),
         Ok(files) => replay_read(alloc, options, &files, host),
     }
 }

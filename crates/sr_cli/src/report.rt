@@ -5,8 +5,10 @@ ghost use Rattle.sr_cell.specs.declared.list.No.TheVariants.{Refused, NoMemory a
 ghost use Rattle.sr_world.specs.declared.replay.RunFault.TheVariants.{WriteFault, Line as RunLine, Setup as RunSetup, Load as RunLoad};
 ghost use Rattle.sr_io.specs.Told.{complained};
 ghost use Rattle.sr_cli.specs.Errors.{line_text, setup_text, load_text, error_text};
+ghost use Rattle.sr_cli.specs.declared.file.ReadFault.TheVariants.{Fault as ReadFailed, NoMemory as ReadWanting, TooLong as ReadTooLong};
 ghost use Rattle.sr_cli.specs.declared.report.Refusal.TheVariants.{Read, Write, Link, Memory, TooLong, Line, Setup, Load as LoadRefused};
 
+use crate::file::ReadFault;
 use sr_cell::fault::{Fault, Why};
 use sr_cell::list::{No, NoMemory};
 use sr_cell::text::Text;
@@ -36,6 +38,20 @@ pub enum Refusal {
     Load { table: Text, fault: Fault },
 }
 
+/// Why a run is refused whose file is not read.
+pub(crate) fn unread(fault: ReadFault) -> Refusal
+    ensures only { (result ≡ Read) ⊎ (result ≡ Memory) ⊎ (result ≡ TooLong) }
+    ensures read { result ≡ Read → fault ≡ ReadFailed }
+    ensures memory { result ≡ Memory → fault ≡ ReadWanting }
+    ensures too_long { result ≡ TooLong → fault ≡ ReadTooLong }
+{
+    match fault {
+        ReadFault::Fault => Refusal::Read,
+        ReadFault::NoMemory => Refusal::Memory,
+        ReadFault::TooLong => Refusal::TooLong,
+    }
+}
+
 /// What a replay that ended so comes to.
 pub(crate) fn end_of<T: Drop>(done: Result<T, No<RunFault>>) -> Result<(), Refusal>
     ensures ok { OnOk result (IsOk done) }
@@ -53,11 +69,30 @@ pub(crate) fn end_of<T: Drop>(done: Result<T, No<RunFault>>) -> Result<(), Refus
 {
     match done {
         Ok(_) => Ok(()),
-        Err(No::NoMemory) => Err(Refusal::Memory),
-        Err(No::Refused(RunFault::WriteFault)) => Err(Refusal::Write),
-        Err(No::Refused(RunFault::Line { line, place })) => Err(Refusal::Line { line, place }),
-        Err(No::Refused(RunFault::Setup { line, fault })) => Err(Refusal::Setup { line, fault }),
-        Err(No::Refused(RunFault::Load { table, fault })) => Err(Refusal::Load { table, fault }),
+        Err(no) => Err(refusal_of(no)),
+    }
+}
+
+/// Why a run is refused whose replay is refused so.
+pub(crate) fn refusal_of(no: No<RunFault>) -> Refusal
+    ensures never_reads { ¬ (result ≡ Read) }
+    ensures never_links { ¬ (result ≡ Link) }
+    ensures never_too_long { ¬ (result ≡ TooLong) }
+    ensures memory { result ≡ Memory → no ≡ Wanting }
+    ensures write { result ≡ Write → no ≡ Refused WriteFault }
+    ensures line { (line place : ℕ) → result ≡ Line line place → no ≡ Refused (RunLine line place) }
+    ensures setup { (line : ℕ) (fault : TheFault) → result ≡ Setup line fault → no ≡ Refused (RunSetup line fault) }
+    ensures load { (table : List ℕ) (fault : TheFault) → result ≡ LoadRefused table fault → no ≡ Refused (RunLoad table fault) }
+    ensures memory_is_told { no ≡ Wanting → result ≡ Memory }
+    ensures write_is_told { no ≡ Refused WriteFault → result ≡ Write }
+    ensures line_is_told { (line place : ℕ) → no ≡ Refused (RunLine line place) → result ≡ Line line place }
+{
+    match no {
+        No::NoMemory => Refusal::Memory,
+        No::Refused(RunFault::WriteFault) => Refusal::Write,
+        No::Refused(RunFault::Line { line, place }) => Refusal::Line { line, place },
+        No::Refused(RunFault::Setup { line, fault }) => Refusal::Setup { line, fault },
+        No::Refused(RunFault::Load { table, fault }) => Refusal::Load { table, fault },
     }
 }
 

@@ -1,12 +1,14 @@
 //! Serving tables.
-ghost use Rattle.std.specs.Prelude.{◌≡◌, ℕ, ◌⊎◌, ◌<◌, ◌^◌, nat_lt, List, [], length, None, IsTrue, IfSome, IfOk, OnOk, IsErrOf};
+ghost use Rattle.std.specs.Prelude.{◌≡◌, ℕ, ◌⊎◌, ◌<◌, ◌^◌, nat_lt, List, [], length, None, Ok, IsTrue, IfSome, IfOk, OnOk, IsOk, IsErrOf};
 ghost use Rattle.std.specs.List.{list_all};
 ghost use Rattle.sr_cell.specs.declared.fault.Fault.{Fault as TheFault};
+ghost use Rattle.sr_cell.specs.declared.list.No.TheVariants.{Refused};
 ghost use Rattle.sr_lines.specs.Script.{LinePlace as TheLinePlace};
 ghost use Rattle.sr_load.specs.declared.fill.Load.{Load};
 ghost use Rattle.sr_io.specs.Causes.{Rose};
 ghost use Rattle.sr_io.specs.Told.{complained};
 ghost use Rattle.sr_setup.specs.Files.{outside, RefusesCreate, RefusesLoad};
+ghost use Rattle.sr_setup.specs.declared.setup.SetupFault.TheVariants.{Line as SetupLine, Create as SetupCreate, Load as SetupLoad};
 ghost use Rattle.sr_talk.specs.Rounds.{HasPeers};
 ghost use Rattle.sr_talk.specs.declared.rounds.Ending.TheVariants.{Whole, Faulty, Unwritten};
 ghost use Rattle.sr_cli.specs.Files.{SomeTooLong};
@@ -17,8 +19,8 @@ ghost use Rattle.sr_cli.specs.declared.report.Refusal.TheVariants.{Read, Write, 
 
 use crate::file::{ReadFault, read_file};
 use crate::loads::read_loads;
-use crate::report::{Refusal, report};
-use sr_cell::list::{Bytes, No, Seq};
+use crate::report::{Refusal, report, unread};
+use sr_cell::list::{Bytes, No, NoMemory, Seq};
 use sr_cell::text::Text;
 use sr_io::outside::Host;
 use sr_load::fill::Loads;
@@ -92,9 +94,7 @@ fn serve_files<H: Host>(alloc: Global, words: &ServeWords, host: &mut H) -> Resu
     ensures complaints_stay { H.complaints host.new ≡ H.complaints host.old }
 {
     match read_files(alloc, words, host) {
-        Err(ReadFault::Fault) => Err(Refusal::Read),
-        Err(ReadFault::NoMemory) => Err(Refusal::Memory),
-        Err(ReadFault::TooLong) => Err(Refusal::TooLong),
+        Err(fault) => Err(unread(fault)),
         Ok(files) => serve_read(alloc, words, &files, host),
     }
 }
@@ -196,18 +196,9 @@ fn serve_read<H: Host>(
         files.loads.as_slice(),
     ) {
         Ok(setup) => setup,
-        Err(No::NoMemory) => return Err(Refusal::Memory),
-        Err(No::Refused(SetupFault::Line { line, place })) => {
-            return Err(Refusal::Line { line, place });
-        }
-        Err(No::Refused(SetupFault::Create { line, fault })) => {
-            return Err(Refusal::Setup { line, fault });
-        }
-        Err(No::Refused(SetupFault::Load { table, fault })) => {
-            return Err(Refusal::Load { table, fault });
-        }
+        Err(no) => return Err(refusal_of(no)),
     };
-    match serve(
+    let done = serve(
         alloc,
         host,
         tables,
@@ -215,7 +206,36 @@ fn serve_read<H: Host>(
         statements.as_slice(),
         words.address.as_str(),
         words.count,
-    ) {
+    );
+    end_of(done)
+}
+
+/// Why a run is refused whose files are not set up.
+fn refusal_of(no: No<SetupFault>) -> Refusal
+    ensures never_reads { ¬ (result ≡ Read) }
+    ensures never_writes { ¬ (result ≡ Write) }
+    ensures never_links { ¬ (result ≡ Link) }
+    ensures never_too_long { ¬ (result ≡ TooLong) }
+    ensures line { (line place : ℕ) → result ≡ Line line place → no ≡ Refused (SetupLine line place) }
+    ensures setup { (line : ℕ) (fault : TheFault) → result ≡ CreateRefused line fault → no ≡ Refused (SetupCreate line fault) }
+    ensures load { (table : List ℕ) (fault : TheFault) → result ≡ LoadRefused table fault → no ≡ Refused (SetupLoad table fault) }
+{
+    match no {
+        No::NoMemory => Refusal::Memory,
+        No::Refused(SetupFault::Line { line, place }) => Refusal::Line { line, place },
+        No::Refused(SetupFault::Create { line, fault }) => Refusal::Setup { line, fault },
+        No::Refused(SetupFault::Load { table, fault }) => Refusal::Load { table, fault },
+    }
+}
+
+/// What a server that ended so comes to.
+fn end_of(done: Result<Ending, NoMemory>) -> Result<(), Refusal>
+    ensures only { IsOk result ⊎ IsErrOf result Write ⊎ IsErrOf result Link ⊎ IsErrOf result Memory }
+    ensures whole { OnOk result (done ≡ Ok Whole) }
+    ensures unwritten { IsErrOf result Write → done ≡ Ok Unwritten }
+    ensures faulty { IsErrOf result Link → done ≡ Ok Faulty }
+{
+    match done {
         Ok(Ending::Whole) => Ok(()),
         Ok(Ending::Faulty) => Err(Refusal::Link),
         Ok(Ending::Unwritten) => Err(Refusal::Write),

@@ -1,5 +1,6 @@
-use Rattle.std.proofs.Common.{refl}
+use Rattle.std.proofs.Common.{Err, refl, ap}
 use Rattle.std.proofs.lemmas.Result.{on_ok_weaker}
+use Rattle.sr_cli.proofs.Endings.{keeps, one_refusal}
 use Rattle.sr_cli.proofs.Insides.{inside-there}
 use Rattle.sr_cli.proofs.replay.replay_files.Goals as goal
 
@@ -32,3 +33,13 @@ returns-in-Ok-clause-load g c = λ table fault is. record {
   inside = inside-there c.args.words.now.setup.clients c.in-Ok.files.script c.replay_read.result _ is refl c.replay_read.ensures.line_first;
   refuses = c.replay_read.ensures.load table fault is;
 }
+
+pub returns-in-Err-clause-steady_reads : goal.returns-in-Err-clause-steady_reads
+returns-in-Err-clause-steady_reads g c = λ steady failed script loads are.
+    c.in-Err.ensures.steady_never_faults steady (ap Err (c.unread.ensures.read (one_refusal _ _ failed))) script loads are
+
+pub returns-in-Err-clause-reading_keeps_faults : goal.returns-in-Err-clause-reading_keeps_faults
+returns-in-Err-clause-reading_keeps_faults g c =
+    keeps c.unread.result _ _ c.unread.ensures.only (λ is. ap Err is)
+    (λ is. c.in-Err.ensures.want_keeps_faults (ap Err (c.unread.ensures.memory is)))
+    (λ is. c.in-Err.ensures.too_long_keeps_faults (ap Err (c.unread.ensures.too_long is)))

@@ -1,5 +1,6 @@
 use Rattle.std.proofs.Common.{Err, ap}
 use Rattle.std.proofs.lemmas.Result.{on_ok_weaker}
+use Rattle.sr_cli.proofs.Endings.{keeps, one_refusal}
 use Rattle.sr_cli.proofs.serve.serve_files.Goals as goal
 
 pub returns-in-Ok-clause-whole : goal.returns-in-Ok-clause-whole
@@ -32,9 +33,15 @@ returns-in-Ok-clause-faulty g c = λ is. record {
   ends = rw (c.in-Ok.ensures.linking_stays, c.in-Ok.ensures.writing_stays) at (c.serve_read.ensures.faulty is);
 }
 
-pub returns-in-Err-Fault-clause-steady_reads : goal.returns-in-Err-Fault-clause-steady_reads
-returns-in-Err-Fault-clause-steady_reads g c = λ steady failed schema exec loads are.
-    c.in-Err-Fault.ensures.steady_never_faults steady (ap Err c.in-Err-Fault.field-0-is) schema exec loads are
+pub returns-in-Err-clause-steady_reads : goal.returns-in-Err-clause-steady_reads
+returns-in-Err-clause-steady_reads g c = λ steady failed schema exec loads are.
+    c.in-Err.ensures.steady_never_faults steady (ap Err (c.unread.ensures.read (one_refusal _ _ failed))) schema exec loads are
+
+pub returns-in-Err-clause-reading_keeps_faults : goal.returns-in-Err-clause-reading_keeps_faults
+returns-in-Err-clause-reading_keeps_faults g c =
+    keeps c.unread.result _ _ c.unread.ensures.only (λ is. ap Err is)
+    (λ is. c.in-Err.ensures.want_keeps_faults (ap Err (c.unread.ensures.memory is)))
+    (λ is. c.in-Err.ensures.too_long_keeps_faults (ap Err (c.unread.ensures.too_long is)))
 
 pub returns-in-Ok-clause-setup : goal.returns-in-Ok-clause-setup
 returns-in-Ok-clause-setup g c = λ line fault is. record {

@@ -1,4 +1,4 @@
-use Rattle.std.proofs.Common.{Err, inr, ap}
+use Rattle.std.proofs.Common.{Err, inr, arith, ap}
 use Rattle.sr_cli.proofs.ExplainFits.{fits_held, fits_done, outside_of, refused_of}
 use Rattle.sr_cli.proofs.FitsLemmas.{known_status}
 use Rattle.sr_cli.proofs.explain.run_explain.Goals as goal
@@ -20,3 +20,9 @@ returns-in-Err-clause-steady g c = λ steady script held.
 
 pub returns-in-Ok-clause-steady : goal.returns-in-Ok-clause-steady
 returns-in-Ok-clause-steady g c = λ steady script held. fits_done _ c.args.words.now script _ _ held c.in-Ok.ensures.explained
+
+pub returns-in-Ok-clause-part_after_fault : goal.returns-in-Ok-clause-part_after_fault
+returns-in-Ok-clause-part_after_fault g c = λ is. absurd (omega (arith, is))
+
+pub returns-in-Err-clause-complaint : goal.returns-in-Err-clause-complaint
+returns-in-Err-clause-complaint g c = rw c.in-Err.ensures.complaints_stay at c.report.ensures.complaint

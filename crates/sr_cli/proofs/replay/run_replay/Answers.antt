@@ -1,7 +1,9 @@
-use Rattle.std.proofs.Common.{◌≡◌, ℕ, ◌⊎◌, List, Option, Err, inl, inr, ap}
+use Rattle.std.proofs.Common.{◌≡◌, ℕ, ◌⊎◌, List, Option, Err, inl, inr, arith, sym, ap, subst}
 use Rattle.sr_cell.specs.declared.fault.Fault.{Fault}
+use Rattle.sr_io.specs.Told.{Reading}
 use Rattle.sr_words.specs.declared.command.ReplayWords.{ReplayWords}
-use Rattle.sr_cli.specs.Replay.{IsOutside, IsRefusedSetup, IsRefusedLoad}
+use Rattle.sr_cli.specs.Files.{SomeTooLong}
+use Rattle.sr_cli.specs.Replay.{IsOutside, IsRefusedSetup, IsRefusedLoad, files_of}
 use Rattle.sr_cli.specs.declared.report.Refusal.{Refusal}
 use Rattle.sr_cli.specs.declared.report.Refusal.TheVariants.{Line, Setup, Load as LoadRefused}
 use Rattle.sr_cli.proofs.FitsLemmas.{IsRefused, SomeOutside, fits_held, fits_done, known_status}
@@ -40,3 +42,14 @@ returns-in-Err-clause-steady g c = λ steady script loads are.
 
 pub returns-in-Ok-clause-steady : goal.returns-in-Ok-clause-steady
 returns-in-Ok-clause-steady g c = λ steady script loads are. fits_done _ c.args.words.now script loads _ _ are c.in-Ok.ensures.replayed
+
+pub returns-in-Ok-clause-part_after_fault : goal.returns-in-Ok-clause-part_after_fault
+returns-in-Ok-clause-part_after_fault g c = λ is. absurd (omega (arith, is))
+
+pub returns-in-Err-clause-too_long : goal.returns-in-Err-clause-too_long
+returns-in-Err-clause-too_long g c = λ is.
+    subst (λ left. SomeTooLong (g.H.Outside.held c.args.host.now) left (files_of c.args.words.now)) (ap (λ (r : Reading). r.left) (sym c.report.ensures.reading_stays))
+    (c.in-Err.ensures.too_long (ap Err (c.report.ensures.too_long is)))
+
+pub returns-in-Err-clause-complaint : goal.returns-in-Err-clause-complaint
+returns-in-Err-clause-complaint g c = rw c.in-Err.ensures.complaints_stay at c.report.ensures.complaint

@@ -1,10 +1,11 @@
-use Rattle.std.proofs.Common.{◌≡◌, ℕ, ◌⊎◌, List, Option, Err, inl, inr, refl, ap, arith, ◌∙◌}
+use Rattle.std.proofs.Common.{◌≡◌, ℕ, ◌⊎◌, List, Option, Err, inl, inr, refl, sym, ap, subst, arith, ◌∙◌}
 use Rattle.sr_cell.specs.declared.fault.Fault.{Fault}
-use Rattle.sr_io.specs.Told.{Linking, Writing, complained}
+use Rattle.sr_io.specs.Told.{Linking, Reading, Writing, complained}
 use Rattle.sr_talk.specs.declared.rounds.Ending.TheVariants.{Whole, Faulty, Unwritten}
 use Rattle.sr_words.specs.declared.command.ServeWords.{ServeWords}
 use Rattle.sr_cli.specs.Errors.{setup_text, load_text}
-use Rattle.sr_cli.specs.Serve.{DidRun, IsOutside, IsRefusedCreate, IsRefusedLoad, NamedCreate, NamedLoad, Served}
+use Rattle.sr_cli.specs.Files.{SomeTooLong}
+use Rattle.sr_cli.specs.Serve.{DidRun, IsOutside, IsRefusedCreate, IsRefusedLoad, NamedCreate, NamedLoad, Served, files_of}
 use Rattle.sr_cli.specs.declared.report.Refusal.{Refusal}
 use Rattle.sr_cli.specs.declared.report.Refusal.TheVariants.{Line, Setup, Load as LoadRefused}
 use Rattle.sr_cli.proofs.ServeLemmas.{IsRefused, SomeOutside, SomeServed, Statuses, fits_held}
@@ -71,3 +72,23 @@ returns-in-Ok-clause-steady g c = λ steady schema exec loads are.
     fits_held _ (g.H.Outside.reading c.serve_files.new.host).left c.args.words.now schema exec loads _ _ _ _ 0 are (inl refl)
     (λ is. absurd (omega (arith, is))) (λ is. absurd (omega (arith, is))) (λ is. absurd (omega (arith, is))) (λ is. absurd (omega (arith, is)))
     (λ did. (Whole, c.in-Ok.ensures.whole))
+
+pub returns-in-Ok-clause-unwritten : goal.returns-in-Ok-clause-unwritten
+returns-in-Ok-clause-unwritten g c = λ is. absurd (omega (arith, is))
+
+pub returns-in-Ok-clause-faulty : goal.returns-in-Ok-clause-faulty
+returns-in-Ok-clause-faulty g c = λ is. absurd (omega (arith, is))
+
+pub returns-in-Err-clause-unwritten : goal.returns-in-Err-clause-unwritten
+returns-in-Err-clause-unwritten g c = λ is. rw (sym c.report.ensures.linking_stays, sym c.report.ensures.writing_stays) at (c.in-Err.ensures.unwritten (ap Err (c.report.ensures.write is)))
+
+pub returns-in-Err-clause-faulty : goal.returns-in-Err-clause-faulty
+returns-in-Err-clause-faulty g c = λ is. rw (sym c.report.ensures.linking_stays, sym c.report.ensures.writing_stays) at (c.in-Err.ensures.faulty (ap Err (c.report.ensures.link is)))
+
+pub returns-in-Err-clause-too_long : goal.returns-in-Err-clause-too_long
+returns-in-Err-clause-too_long g c = λ is.
+    subst (λ left. SomeTooLong (g.H.Outside.held c.args.host.now) left (files_of c.args.words.now)) (ap (λ (r : Reading). r.left) (sym c.report.ensures.reading_stays))
+    (c.in-Err.ensures.too_long (ap Err (c.report.ensures.too_long is)))
+
+pub returns-in-Err-clause-complaint : goal.returns-in-Err-clause-complaint
+returns-in-Err-clause-complaint g c = rw c.in-Err.ensures.complaints_stay at c.report.ensures.complaint

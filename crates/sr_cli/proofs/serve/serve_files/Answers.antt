@@ -51,3 +51,21 @@ returns-in-Ok-clause-setup g c = λ line fault is. record {
   files = c.in-Ok.ensures.read;
   refuses = c.serve_read.ensures.setup line fault is;
 }
+
+pub returns-in-Ok-clause-load : goal.returns-in-Ok-clause-load
+returns-in-Ok-clause-load g c = λ table fault is. record {
+  schema = c.in-Ok.files.schema;
+  exec = c.in-Ok.files.exec;
+  loads = c.in-Ok.files.loads;
+  files = c.in-Ok.ensures.read;
+  refuses = c.serve_read.ensures.load table fault is;
+}
+
+pub returns-in-Ok-clause-line : goal.returns-in-Ok-clause-line
+returns-in-Ok-clause-line g c = λ line place is. record {
+  schema = c.in-Ok.files.schema;
+  exec = c.in-Ok.files.exec;
+  loads = c.in-Ok.files.loads;
+  files = c.in-Ok.ensures.read;
+  first = c.serve_read.ensures.line line place is;
+}

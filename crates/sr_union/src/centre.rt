@@ -72,30 +72,22 @@ fn high_text(end: &Option<Bytes>) -> i64
 fn low_of(column: &Column, span: &Span) -> i64
     ensures { result ≡ low_of column.now.kind column.now.lo span.now }
 {
-    match column.kind {
-        Kind::Num => match span {
-            Span::Nums { lo, hi: _ } => *lo,
-            _ => column.lo,
-        },
-        Kind::Str => match span {
-            Span::Strs { lo, hi: _ } => first_bytes(lo.as_slice()) as i64,
-            _ => 0,
-        },
+    match (column.kind, span) {
+        (Kind::Num, Span::Nums { lo, hi: _ }) => *lo,
+        (Kind::Num, _) => column.lo,
+        (Kind::Str, Span::Strs { lo, hi: _ }) => first_bytes(lo.as_slice()) as i64,
+        (Kind::Str, _) => 0,
     }
 }
 
 fn high_of(column: &Column, span: &Span) -> i64
     ensures { result ≡ high_of column.now.kind column.now.hi span.now }
 {
-    match column.kind {
-        Kind::Num => match span {
-            Span::Nums { lo: _, hi } => *hi,
-            _ => column.hi,
-        },
-        Kind::Str => match span {
-            Span::Strs { lo: _, hi } => high_text(hi),
-            _ => 4294967296,
-        },
+    match (column.kind, span) {
+        (Kind::Num, Span::Nums { lo: _, hi }) => *hi,
+        (Kind::Num, _) => column.hi,
+        (Kind::Str, Span::Strs { lo: _, hi }) => high_text(hi),
+        (Kind::Str, _) => 4294967296,
     }
 }
 

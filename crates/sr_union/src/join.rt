@@ -76,15 +76,13 @@ fn is_beside(one: &Span, next: &Span) -> bool
 fn beside(alloc: Global, one: &Span, next: &Span) -> Result<Option<Span>, NoMemory>
     ensures { IfOk result (λ both. IfSome both (AreBeside one.now next.now)) }
 {
-    match one {
-        Span::Nums { lo: a, hi: b } => match next {
-            Span::Nums { lo: c, hi: d } => Ok(nums_beside(*a, *b, *c, *d)),
-            _ => Ok(None),
-        },
-        Span::Strs { lo: a, hi: Some(b) } => match next {
-            Span::Strs { lo: c, hi: d } => strs_beside(alloc, a, b, c, d),
-            _ => Ok(None),
-        },
+    match (one, next) {
+        (Span::Nums { lo: a, hi: b }, Span::Nums { lo: c, hi: d }) => {
+            Ok(nums_beside(*a, *b, *c, *d))
+        }
+        (Span::Strs { lo: a, hi: Some(b) }, Span::Strs { lo: c, hi: d }) => {
+            strs_beside(alloc, a, b, c, d)
+        }
         _ => Ok(None),
     }
 }

@@ -4,7 +4,6 @@ ghost use Rattle.std.specs.Prelude.{◌<◌};
 use crate::common::{Given, ends, run_given};
 use sr_cell::list::NoMemory;
 use std::alloc::Global;
-use std::test::Fail;
 
 const SCHEMA: &[u8] =
     b"CREATE TABLE emp (id INT PRIMARY KEY CHECK (id BETWEEN 0 AND 9999), age INT CHECK (age BETWEEN 0 AND 150), name TEXT, dept INT CHECK (dept BETWEEN 0 AND 99))\n";
@@ -130,11 +129,10 @@ static RUNS: [(&[&str], &[u8], &[u8], (u8, &[u8], &[u8])); 7] = [
 ];
 
 #[test]
-fn clients_end(rt: HostRuntime) -> Result<(), Fail> {
-    for (words, script, says, wanted) in RUNS {
-        assert!(rt; ends_with(rt.alloc(), words, script, says, wanted)?);
+fn clients_end(rt: HostRuntime) {
+    for (words, script, says, wanted) in &RUNS {
+        assert!(rt; ends_with(rt.alloc(), words, script, says, *wanted) == Ok(true));
     }
-    Ok(())
 }
 
 const EXPLAINED_ALONE: &[u8] = b"0 resume 1 sent 0
@@ -146,17 +144,16 @@ const EXPLAINED_ALONE: &[u8] = b"0 resume 1 sent 0
 ";
 
 #[test]
-fn clients_explain_with_a_link(rt: HostRuntime) -> Result<(), Fail> {
-    assert!(rt; ends_with(rt.alloc(), WORDS, EXPLAINS, ANSWERS, (0, EXPLAINED, b""))?);
-    Ok(())
+fn clients_explain_with_a_link(rt: HostRuntime) {
+    let wanted: (u8, &[u8], &[u8]) = (0, EXPLAINED, b"");
+    assert!(rt; ends_with(rt.alloc(), WORDS, EXPLAINS, ANSWERS, wanted) == Ok(true));
 }
 
 #[test]
-fn clients_explain_without_a_link(rt: HostRuntime) -> Result<(), Fail> {
+fn clients_explain_without_a_link(rt: HostRuntime) {
     let script = b"explain 1 SELECT id FROM emp";
     let wanted: (u8, &[u8], &[u8]) = (5, EXPLAINED_ALONE, b"link\n");
-    assert!(rt; ends_with(rt.alloc(), WORDS, script, b"", wanted)?);
-    Ok(())
+    assert!(rt; ends_with(rt.alloc(), WORDS, script, b"", wanted) == Ok(true));
 }
 
 /// Whether a link that ends behind so many bytes of a welcome is cut.
@@ -168,9 +165,8 @@ fn is_cut_behind(alloc: Global, length: usize) -> Result<bool, NoMemory>
 }
 
 #[test]
-fn a_welcome_that_is_not_whole_is_a_cut(rt: HostRuntime) -> Result<(), Fail> {
+fn a_welcome_that_is_not_whole_is_a_cut(rt: HostRuntime) {
     for length in 0..22usize {
-        assert!(rt; is_cut_behind(rt.alloc(), length)?, "{length}");
+        assert!(rt; is_cut_behind(rt.alloc(), length) == Ok(true), "{length}");
     }
-    Ok(())
 }

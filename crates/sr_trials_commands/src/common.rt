@@ -2,8 +2,8 @@
 use sr_cell::list::{Bytes, NoMemory, Seq};
 use sr_cell::text::Text;
 use sr_cli::run::run;
-use sr_io::file::File;
-use sr_io::mem_host::MemHost;
+use sr_io::file::{File, FileList};
+use sr_io::mem_host::{MemHost, Peers};
 use std::alloc::Global;
 
 /// What the host holds: the files with their names, what each peer says, and the number of the call that fails, 0 for none.
@@ -42,26 +42,35 @@ fn words_of(alloc: Global, all: &[&str]) -> Result<Seq<Text>, NoMemory> {
     Ok(words)
 }
 
-fn files_of(alloc: Global, all: &[(&str, &[u8])]) -> Result<Seq<File>, NoMemory> {
+fn file_of(alloc: Global, name: &str, bytes: &[u8]) -> Result<File, NoMemory> {
+    let bytes = bytes_of(alloc, bytes)?;
+    Ok(File {
+        name: Text::of(alloc, name)?,
+        bytes,
+    })
+}
+
+fn files_of(alloc: Global, all: &[(&str, &[u8])]) -> Result<FileList, NoMemory> {
     let mut files = Seq::new(alloc);
     for (name, bytes) in all {
-        files.push(File {
-            name: Text::of(alloc, name)?,
-            bytes: bytes_of(alloc, bytes)?,
-        })?;
+        files.push(file_of(alloc, name, bytes)?)?;
     }
     Ok(files)
 }
 
-fn host_of(alloc: Global, given: Given<'_>) -> Result<MemHost, NoMemory> {
-    let files = files_of(alloc, given.files)?;
+fn peers_of(alloc: Global, all: &[&[u8]]) -> Result<Peers, NoMemory> {
     let mut peers = Seq::new(alloc);
-    for says in given.peers {
+    for says in all {
         peers.push(bytes_of(alloc, says)?)?;
     }
+    Ok(peers)
+}
+
+fn host_of(alloc: Global, given: Given<'_>) -> Result<MemHost, NoMemory> {
     let mut numbers = Seq::new(alloc);
     numbers.push(given.fails)?;
-    MemHost::new(alloc, files, peers, numbers, 4096)
+    let files = files_of(alloc, given.files)?;
+    MemHost::new(alloc, files, peers_of(alloc, given.peers)?, numbers, 4096)
 }
 
 fn outcome_of(alloc: Global, status: u8, host: &MemHost) -> Result<Outcome, NoMemory> {

@@ -2,7 +2,6 @@
 use crate::common::{Given, ends, run_given};
 use sr_cell::list::NoMemory;
 use std::alloc::Global;
-use std::test::Fail;
 
 /// One range of ages is held.
 const ONE_RANGE: &str =
@@ -115,9 +114,11 @@ fn explains(alloc: Global, script: &str, words: &[&str], written: &str) -> Resul
 }
 
 #[test]
-fn queries_are_explained_behind_scripts(rt: HostRuntime) -> Result<(), Fail> {
-    for (script, words, written) in QUERIES {
-        assert!(rt; explains(rt.alloc(), script, words, written)?, "{written}");
+fn queries_are_explained_behind_scripts(rt: HostRuntime) {
+    for (script, words, written) in &QUERIES {
+        assert!(rt;
+            explains(rt.alloc(), script, words, written) == Ok(true),
+            "{written}"
+        );
     }
-    Ok(())
 }

@@ -1,12 +1,11 @@
 //! The program in two processes: a server, and a client that dials it.
-use sr_cell::list::{NoMemory, Seq};
+use sr_cell::list::Seq;
 use sr_cell::text::Text;
 use sr_cli::run::run;
 use sr_io::real_host::RealHost;
-use std::alloc::Global;
 use std::io::{ErrorKind, Read};
 use std::net::TcpListener;
-use std::path::PathBuf;
+use std::path::{Path, PathBuf};
 use std::process::{Child, Command, ExitCode, Output, Stdio};
 use std::test::Fail;
 use std::{env, fs, io};
@@ -56,20 +55,18 @@ test result: ok
 #[test]
 fn is_the_program(rt: HostRuntime) -> Result<ExitCode, Fail> {
     let alloc = rt.alloc();
-    let all: Vec<String> = env::args(&rt)?.collect(alloc)?;
-    match all.as_slice() {
-        [] | [_] | [_, _] => Ok(ExitCode::SUCCESS),
-        [_, _, all @ ..] => {
-            let words = words_of(alloc, all)?;
-            Ok(ExitCode::from(run(alloc, words.as_slice(), &mut RealHost::new(rt))))
-        }
+    let words = words_of(&rt)?;
+    if words.is_empty() {
+        return Ok(ExitCode::SUCCESS);
     }
+    Ok(ExitCode::from(run(alloc, words.as_slice(), &mut RealHost::new(rt))))
 }
 
-fn words_of(alloc: Global, all: &[String]) -> Result<Seq<Text>, NoMemory> {
-    let mut words = Seq::new(alloc);
-    for word in all {
-        words.push(Text::of(alloc, word.as_str())?)?;
+/// The words behind this program's name and the test's.
+fn words_of(rt: &HostRuntime) -> Result<Seq<Text>, Fail> {
+    let mut words = Seq::new(rt.alloc());
+    for word in env::args(rt)?.skip(2) {
+        words.push(Text::from_string(word))?;
     }
     Ok(words)
 }
@@ -129,15 +126,16 @@ fn session(rt: &HostRuntime, server: &[&str], client: &[&str]) -> io::Result<(Ou
     Ok((asked?, served))
 }
 
-#[test]
-fn a_client_dials_a_server(rt: HostRuntime) -> Result<(), Fail> {
-    let address = free_address(&rt)?;
-    let address = address.as_str();
-    let schema = file_of(&rt, address, ".schema", SCHEMA)?;
-    let script = file_of(&rt, address, ".sql", SCRIPT)?;
-    let (schema_name, script_name) = (schema.as_path().as_str(), script.as_path().as_str());
+/// A session over these files, which are removed then.
+fn session_over(
+    rt: &HostRuntime,
+    address: &str,
+    schema: Path<'_>,
+    script: Path<'_>,
+) -> io::Result<(Output, Output)> {
+    let (schema_name, script_name) = (schema.as_str(), script.as_str());
     let ended = session(
-        &rt,
+        rt,
         &["serve", "--schema", schema_name, address, "2"],
         &[
             "client",
@@ -149,9 +147,21 @@ fn a_client_dials_a_server(rt: HostRuntime) -> Result<(), Fail> {
             script_name,
         ],
     );
-    fs::remove_file(&rt, schema.as_path())?;
-    fs::remove_file(&rt, script.as_path())?;
-    let (asked, served) = ended?;
+    let removed = fs::remove_file(rt, schema).and(fs::remove_file(rt, script));
+    removed.and(ended)
+}
+
+/// A session over new files, at an address that nobody listens at.
+fn new_session(rt: &HostRuntime) -> io::Result<(Output, Output)> {
+    let address = free_address(rt)?;
+    let schema = file_of(rt, address.as_str(), ".schema", SCHEMA)?;
+    let script = file_of(rt, address.as_str(), ".sql", SCRIPT)?;
+    session_over(rt, address.as_str(), schema.as_path(), script.as_path())
+}
+
+#[test]
+fn a_client_dials_a_server(rt: HostRuntime) -> Result<(), Fail> {
+    let (asked, served) = new_session(&rt)?;
     assert_eq!(rt; asked.stdout.as_slice(), ANSWERED);
     assert!(rt; asked.status.success());
     assert_eq!(rt; served.stdout.as_slice(), SERVED);

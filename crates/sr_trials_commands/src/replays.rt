@@ -2,7 +2,6 @@
 use crate::common::{Given, Outcome, ends, run_given};
 use sr_cell::list::NoMemory;
 use std::alloc::Global;
-use std::test::Fail;
 
 const CREATE_ALONE: &str =
     "CREATE TABLE p (id INT PRIMARY KEY CHECK (id BETWEEN 0 AND 9999), age INT CHECK (age BETWEEN 0 AND 150))
@@ -226,8 +225,16 @@ fn writes(alloc: Global, words: &[&str], script: &str, trace: &str) -> Result<bo
 }
 
 /// Whether the run writes no trace, and ends with this status and this line.
-fn is_refused(got: &Outcome, status: u8, error: &str) -> bool {
-    ends(got, status, b"", error.as_bytes())
+fn is_refused(
+    alloc: Global,
+    words: &[&str],
+    script: &str,
+    fails: u64,
+    ended: (u8, &str),
+) -> Result<bool, NoMemory> {
+    let (status, error) = ended;
+    let got = run_over(alloc, words, script, fails)?;
+    Ok(ends(&got, status, b"", error.as_bytes()))
 }
 
 static OTHER_WORDS: [&[&str]; 6] = [
@@ -240,12 +247,10 @@ static OTHER_WORDS: [&[&str]; 6] = [
 ];
 
 #[test]
-fn other_words_are_refused(rt: HostRuntime) -> Result<(), Fail> {
-    for words in OTHER_WORDS {
-        let got = run_over(rt.alloc(), words, CREATE_ALONE, 0)?;
-        assert!(rt; is_refused(&got, 2, "words\n"));
+fn other_words_are_refused(rt: HostRuntime) {
+    for words in &OTHER_WORDS {
+        assert!(rt; is_refused(rt.alloc(), words, CREATE_ALONE, 0, (2, "words\n")) == Ok(true));
     }
-    Ok(())
 }
 
 /// Words, a script, and its trace.
@@ -291,11 +296,10 @@ static REPLAYED: [(&[&str], &str, &str); 8] = [
 ];
 
 #[test]
-fn scripts_are_replayed(rt: HostRuntime) -> Result<(), Fail> {
-    for (words, script, trace) in REPLAYED {
-        assert!(rt; writes(rt.alloc(), words, script, trace)?);
+fn scripts_are_replayed(rt: HostRuntime) {
+    for (words, script, trace) in &REPLAYED {
+        assert!(rt; writes(rt.alloc(), words, script, trace) == Ok(true));
     }
-    Ok(())
 }
 
 /// Words, and the lines of the explanation behind two queries.
@@ -333,29 +337,27 @@ static EXPLANATIONS: [(&[&str], &str); 3] = [
 ];
 
 #[test]
-fn queries_are_explained(rt: HostRuntime) -> Result<(), Fail> {
-    for (words, lines) in EXPLANATIONS {
-        assert!(rt; writes(rt.alloc(), words, TWO_QUERIES, lines)?);
+fn queries_are_explained(rt: HostRuntime) {
+    for (words, lines) in &EXPLANATIONS {
+        assert!(rt; writes(rt.alloc(), words, TWO_QUERIES, lines) == Ok(true));
     }
-    Ok(())
 }
 
 /// A script, the call that fails, and then the status and the line on the error output.
-static NOT_EXPLAINED: [(&str, u64, u8, &str); 4] = [
-    (TWO_QUERIES, 1, 3, "read\n"),
-    (TWO_QUERIES, 4, 4, "write\n"),
-    ("push 1\npush", 0, 6, "line 2 4\n"),
-    ("CREATE", 0, 7, "schema 1 grammar 6\n"),
+static NOT_EXPLAINED: [(&str, u64, (u8, &str)); 4] = [
+    (TWO_QUERIES, 1, (3, "read\n")),
+    (TWO_QUERIES, 4, (4, "write\n")),
+    ("push 1\npush", 0, (6, "line 2 4\n")),
+    ("CREATE", 0, (7, "schema 1 grammar 6\n")),
 ];
 
 #[test]
-fn nothing_is_explained_behind_what_is_refused(rt: HostRuntime) -> Result<(), Fail> {
-    for (script, fails, status, error) in NOT_EXPLAINED {
-        let words = &["explain", "script", "SELECT id FROM p"];
-        let got = run_over(rt.alloc(), words, script, fails)?;
-        assert!(rt; is_refused(&got, status, error), "{script:?}");
+fn nothing_is_explained_behind_what_is_refused(rt: HostRuntime) {
+    let words = &["explain", "script", "SELECT id FROM p"];
+    for (script, fails, ended) in &NOT_EXPLAINED {
+        let refused = is_refused(rt.alloc(), words, script, *fails, *ended);
+        assert!(rt; refused == Ok(true), "{script:?}");
     }
-    Ok(())
 }
 
 /// Whether the lines stand somewhere in the trace.
@@ -394,146 +396,146 @@ static OPTIONS: [(&str, &str, &str); 3] = [
 ];
 
 #[test]
-fn options_are_obeyed(rt: HostRuntime) -> Result<(), Fail> {
-    for (option, value, line) in OPTIONS {
-        assert!(rt; obeys(rt.alloc(), option, value, line)?, "{line}");
+fn options_are_obeyed(rt: HostRuntime) {
+    for (option, value, line) in &OPTIONS {
+        assert!(rt;
+            obeys(rt.alloc(), option, value, line) == Ok(true),
+            "{line}"
+        );
     }
-    Ok(())
 }
 
 /// A script, and then the status and the line on the error output.
-static REFUSED_SCRIPTS: [(&str, u8, &str); 17] = [
-    ("CREATE", 7, "schema 1 grammar 6\n"),
-    ("create\x0btable", 7, "schema 1 bad-token 6\n"),
+static REFUSED_SCRIPTS: [(&str, (u8, &str)); 17] = [
+    ("CREATE", (7, "schema 1 grammar 6\n")),
+    ("create\x0btable", (7, "schema 1 bad-token 6\n")),
     (
         "# first\nCREATE TABLE t (a INT, b INT)",
-        7,
-        "schema 2 no-key 0\n",
+        (7, "schema 2 no-key 0\n"),
     ),
     (
         "CREATE TABLE t (a INT PRIMARY KEY CHECK (a BETWEEN 2 AND 1), b INT)",
-        7,
-        "schema 1 bad-domain 0\n",
+        (7, "schema 1 bad-domain 0\n"),
     ),
     (
         "CREATE TABLE t (a INT PRIMARY KEY, A INT)\nCREATE",
-        7,
-        "schema 1 duplicate-name 1\n",
+        (7, "schema 1 duplicate-name 1\n"),
     ),
     (
         "CREATE TABLE t (a TEXT PRIMARY KEY, b INT)\nCREATE TABLE T (a INT PRIMARY KEY)",
-        7,
-        "schema 2 duplicate-name 0\n",
+        (7, "schema 2 duplicate-name 0\n"),
     ),
-    ("CREATE\npush", 6, "line 2 4\n"),
-    ("exec x\nCREATE TABLE t (a INT)", 6, "line 2 0\n"),
-    ("\t", 6, "line 1 0\n"),
-    ("exec ", 6, "line 1 5\n"),
-    ("query 2 SELECT * FROM p", 6, "line 1 6\n"),
-    ("push 1 ", 6, "line 1 7\n"),
-    ("push", 6, "line 1 4\n"),
-    ("push  1", 6, "line 1 5\n"),
-    (" push 1", 6, "line 1 0\n"),
-    ("PUSH 1", 6, "line 1 0\n"),
-    ("evict 1 x", 6, "line 1 8\n"),
+    ("CREATE\npush", (6, "line 2 4\n")),
+    ("exec x\nCREATE TABLE t (a INT)", (6, "line 2 0\n")),
+    ("\t", (6, "line 1 0\n")),
+    ("exec ", (6, "line 1 5\n")),
+    ("query 2 SELECT * FROM p", (6, "line 1 6\n")),
+    ("push 1 ", (6, "line 1 7\n")),
+    ("push", (6, "line 1 4\n")),
+    ("push  1", (6, "line 1 5\n")),
+    (" push 1", (6, "line 1 0\n")),
+    ("PUSH 1", (6, "line 1 0\n")),
+    ("evict 1 x", (6, "line 1 8\n")),
 ];
 
 #[test]
-fn scripts_are_refused(rt: HostRuntime) -> Result<(), Fail> {
-    for (script, status, error) in REFUSED_SCRIPTS {
-        let got = run_over(rt.alloc(), IN_FORM, script, 0)?;
-        assert!(rt; is_refused(&got, status, error), "{script:?}");
+fn scripts_are_refused(rt: HostRuntime) {
+    for (script, ended) in &REFUSED_SCRIPTS {
+        let refused = is_refused(rt.alloc(), IN_FORM, script, 0, *ended);
+        assert!(rt; refused == Ok(true), "{script:?}");
     }
-    Ok(())
 }
 
 /// Words, a file of rows, and then the status and the line on the error output.
-static REFUSED_FILES: [(&[&str], &str, u8, &str); 20] = [
-    (&["replay", "--eager", "-"], ONE_ROW, 3, "read\n"),
+static REFUSED_FILES: [(&[&str], &str, (u8, &str)); 20] = [
+    (&["replay", "--eager", "-"], ONE_ROW, (3, "read\n")),
     (
         &["replay", "--eager", "script", "p=q.csv"],
         ONE_ROW,
-        3,
-        "read\n",
+        (3, "read\n"),
     ),
     (
         &["replay", "--eager", "script", "p=p.csv", "p=p=p.csv"],
         ONE_ROW,
-        3,
-        "read\n",
+        (3, "read\n"),
     ),
     (
         &["replay", "--eager", "script", "q=p.csv", "p=p.csv"],
         ROW_TWICE,
-        7,
-        "load q unknown\n",
+        (7, "load q unknown\n"),
     ),
     (
         &["replay", "--eager", "script", "p=p.csv", "p=p.csv"],
         ONE_ROW,
-        7,
-        "load p 1 duplicate-key\n",
+        (7, "load p 1 duplicate-key\n"),
     ),
-    (WITH_LOAD, ROW_TWICE, 7, "load p 2 duplicate-key\n"),
+    (WITH_LOAD, ROW_TWICE, (7, "load p 2 duplicate-key\n")),
     (
         WITH_LOAD,
         "id,age\n3,200\n3,1\n",
-        7,
-        "load p 1 domain-cell\n",
+        (7, "load p 1 domain-cell\n"),
     ),
-    (WITH_LOAD, "", 7, "load p 0 bad-header\n"),
-    (WITH_LOAD, "id\n3\n", 7, "load p 0 bad-header\n"),
-    (WITH_LOAD, "id,id\n", 7, "load p 0 bad-header\n"),
-    (WITH_LOAD, "id,name\n", 7, "load p 0 bad-header\n"),
-    (WITH_LOAD, "id,age\n3\n", 7, "load p 1 bad-record\n"),
+    (WITH_LOAD, "", (7, "load p 0 bad-header\n")),
+    (WITH_LOAD, "id\n3\n", (7, "load p 0 bad-header\n")),
+    (WITH_LOAD, "id,id\n", (7, "load p 0 bad-header\n")),
+    (WITH_LOAD, "id,name\n", (7, "load p 0 bad-header\n")),
+    (WITH_LOAD, "id,age\n3\n", (7, "load p 1 bad-record\n")),
     (
         WITH_LOAD,
         "id,age\n3,1\n4,2,3\n",
-        7,
-        "load p 2 bad-record\n",
+        (7, "load p 2 bad-record\n"),
     ),
-    (WITH_LOAD, "id,age\nx\n", 7, "load p 1 bad-record\n"),
-    (WITH_LOAD, "id,age\nx,1\n4\n", 7, "load p 1 bad-number\n"),
+    (WITH_LOAD, "id,age\nx\n", (7, "load p 1 bad-record\n")),
+    (WITH_LOAD, "id,age\nx,1\n4\n", (7, "load p 1 bad-number\n")),
     (
         WITH_LOAD,
         "id,age\n1234567890123456789,1\n",
-        7,
-        "load p 1 bad-number\n",
+        (7, "load p 1 bad-number\n"),
     ),
-    (WITH_LOAD, "id,age\n-,1\n", 7, "load p 1 bad-number\n"),
-    (WITH_LOAD, "id,age\n,1\n", 7, "load p 1 bad-number\n"),
-    (WITH_LOAD, "id,age\n+3,1\n", 7, "load p 1 bad-number\n"),
-    (WITH_LOAD, "id,age\n 3,1\n", 7, "load p 1 bad-number\n"),
+    (WITH_LOAD, "id,age\n-,1\n", (7, "load p 1 bad-number\n")),
+    (WITH_LOAD, "id,age\n,1\n", (7, "load p 1 bad-number\n")),
+    (WITH_LOAD, "id,age\n+3,1\n", (7, "load p 1 bad-number\n")),
+    (WITH_LOAD, "id,age\n 3,1\n", (7, "load p 1 bad-number\n")),
 ];
 
+/// Whether a run over that file of rows is refused so.
+fn is_file_refused(
+    alloc: Global,
+    words: &[&str],
+    csv: &str,
+    ended: (u8, &str),
+) -> Result<bool, NoMemory> {
+    let (status, error) = ended;
+    let got = run_with(alloc, words, OVER_LOADS, csv, 0)?;
+    Ok(ends(&got, status, b"", error.as_bytes()))
+}
+
 #[test]
-fn files_are_refused(rt: HostRuntime) -> Result<(), Fail> {
-    for (words, csv, status, error) in REFUSED_FILES {
-        let got = run_with(rt.alloc(), words, OVER_LOADS, csv, 0)?;
-        assert!(rt; is_refused(&got, status, error), "{csv:?}");
+fn files_are_refused(rt: HostRuntime) {
+    for (words, csv, ended) in &REFUSED_FILES {
+        let refused = is_file_refused(rt.alloc(), words, csv, *ended);
+        assert!(rt; refused == Ok(true), "{csv:?}");
     }
-    Ok(())
 }
 
 /// Words, the call that fails, and then the status and the line on the error output. The calls 1 to 3 pick and read the script, 4 to 6 the
 /// file, if there is one, and the next is the first write.
-static FAILED_CALLS: [(&[&str], u64, u8, &str); 9] = [
-    (IN_FORM, 1, 3, "read\n"),
-    (IN_FORM, 2, 3, "read\n"),
-    (IN_FORM, 3, 3, "read\n"),
-    (IN_FORM, 4, 4, "write\n"),
-    (WITH_LOAD, 3, 3, "read\n"),
-    (WITH_LOAD, 4, 3, "read\n"),
-    (WITH_LOAD, 5, 3, "read\n"),
-    (WITH_LOAD, 6, 3, "read\n"),
-    (WITH_LOAD, 7, 4, "write\n"),
+static FAILED_CALLS: [(&[&str], u64, (u8, &str)); 9] = [
+    (IN_FORM, 1, (3, "read\n")),
+    (IN_FORM, 2, (3, "read\n")),
+    (IN_FORM, 3, (3, "read\n")),
+    (IN_FORM, 4, (4, "write\n")),
+    (WITH_LOAD, 3, (3, "read\n")),
+    (WITH_LOAD, 4, (3, "read\n")),
+    (WITH_LOAD, 5, (3, "read\n")),
+    (WITH_LOAD, 6, (3, "read\n")),
+    (WITH_LOAD, 7, (4, "write\n")),
 ];
 
 #[test]
-fn a_call_that_fails_ends_the_run(rt: HostRuntime) -> Result<(), Fail> {
-    for (words, fails, status, error) in FAILED_CALLS {
-        let got = run_over(rt.alloc(), words, OVER_LOADS, fails)?;
-        assert!(rt; is_refused(&got, status, error), "{fails}");
+fn a_call_that_fails_ends_the_run(rt: HostRuntime) {
+    for (words, fails, ended) in &FAILED_CALLS {
+        let refused = is_refused(rt.alloc(), words, OVER_LOADS, *fails, *ended);
+        assert!(rt; refused == Ok(true), "{fails}");
     }
-    Ok(())
 }

@@ -114,19 +114,32 @@ fn earlier_end(
     }
 }
 
+/// Whether both spans have a part in common, where they are not both of numbers.
+fn others_meet(one: &Span, other: &Span) -> bool
+    ensures { result ≡ is_some (meet one.now other.now) }
+{
+    match (one, other) {
+        (Span::Full, _) => true,
+        (_, Span::Full) => true,
+        (Span::Nums { lo: a, hi: b }, Span::Nums { lo: c, hi: d }) => {
+            are_nums((*a).max(*c), (*b).min(*d))
+        }
+        (Span::Strs { lo: a, hi: b }, Span::Strs { lo: c, hi: d }) => texts_meet(a, b, c, d),
+        _ => false,
+    }
+}
+
 impl Span {
-    /// Whether both spans have a part in common; takes no memory.
+    /// Whether both spans have a part in common; takes no memory. Spans of numbers are tested here, since a call takes longer.
     pub fn meets(&self, other: &Span) -> bool
         ensures { result ≡ is_some (meet self.now other.now) }
     {
         match (self, other) {
             (Span::Full, _) => true,
-            (_, Span::Full) => true,
             (Span::Nums { lo: a, hi: b }, Span::Nums { lo: c, hi: d }) => {
                 are_nums((*a).max(*c), (*b).min(*d))
             }
-            (Span::Strs { lo: a, hi: b }, Span::Strs { lo: c, hi: d }) => texts_meet(a, b, c, d),
-            _ => false,
+            _ => others_meet(self, other),
         }
     }
 

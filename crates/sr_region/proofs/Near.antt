@@ -1,10 +1,11 @@
 -- A region cut by rects that meet only some of its own.
-use Rattle.std.proofs.Common.{◌≡◌, ℕ, ◌+◌, ◌≤◌, true, false, cond, List, [], ◌∷◌, ◌++◌, refl, sym, ap, subst, ◌∙◌, arith}
-use Rattle.std.specs.Prelude.{Bool, not, ◌&&◌, nat_eq, if◌then◌else◌, filter, Some, None}
+use Rattle.std.proofs.Common.{◌≡◌, ℕ, ◌+◌, ◌≤◌, true, false, cond, List, [], ◌∷◌, ◌++◌, length, refl, sym, ap, subst, ◌∙◌, arith}
+use Rattle.std.specs.Prelude.{Bool, not, ◌&&◌, ◌||◌, ◌*◌, nat_eq, if◌then◌else◌, filter, Some, None}
 use Rattle.std.specs.List.{list_all, list_any, All}
 use Rattle.std.specs.Option.{is_some}
 use Rattle.std.proofs.lemmas.Bool.Decides.{nat_tests}
 use Rattle.std.proofs.lemmas.List.Elements.{All-head, All-tail, All-weaker}
+use Rattle.std.proofs.lemmas.List.{append-nil}
 use Rattle.std.proofs.lemmas.List.Folds.{list_all-append}
 use Rattle.sr_cell.specs.declared.table.Column.{Column}
 use Rattle.sr_cell.specs.declared.table.Table.{Table}
@@ -12,7 +13,7 @@ use Rattle.sr_cell.specs.Cells.{Row}
 use Rattle.sr_cell.specs.Columns.{is_point}
 use Rattle.sr_box.specs.Points.{Rect, in_rect, in_any, times, rect_fits, constrains_only}
 use Rattle.sr_box.specs.Cut.{rect_meet}
-use Rattle.sr_union.specs.Pieces.{near, IsMinus}
+use Rattle.sr_union.specs.Pieces.{near, IsMinus, IsMeet}
 use Rattle.sr_union.specs.Grid.{grid, AreCutFrom, have_first}
 use Rattle.sr_union.proofs.Times.{in_any-times}
 use Rattle.sr_union.proofs.Parts.{are_part}
@@ -65,6 +66,32 @@ near-minus cs own cut outside inside minus more p point =
     go true o n m k i same le some is left = left ∙ ap (λ x. if o then 0 else x) (same refl)
     go false true n m k i same le some is left = left
     go false false n m k i same le some is left = grind (arith, nat_tests, le, some, is, left)
+
+-- a point lies in a single rect once, or not at all
+single-times : (cut : List Rect) (p : Row) → length cut ≡ 1 → times cut p ≡ (if in_any cut p then 1 else 0)
+single-times [] p h = absurd (omega (arith, h))
+single-times (q ∷ []) p h = go (in_rect q p)
+  where
+    go : (b : Bool) → (if b then 1 else 0) + 0 ≡ (if b || false then 1 else 0)
+    go true = omega arith
+    go false = omega arith
+single-times (q ∷ r ∷ cut) p h = absurd (omega (arith, h))
+
+-- what the near rects have in common with a single cut is what is left of all without the outside
+pub meet-minus : (cs : List Column) (own cut outside inside : List Rect) → length cut ≡ 1 → IsMinus cs own cut outside → IsMeet cs (near cut own) cut inside → IsMinus cs own outside inside
+meet-minus cs own cut outside inside one minus both p point =
+    go (in_any cut p) (in_any outside p) (times own p) (times (near cut own) p) (times outside p) (times inside p) (times cut p) (near-times cut own p)
+    (in_any-times outside p) (minus p point) (single-times cut p one) (both p point)
+  where
+    go : (c o : Bool) (n m k i t : ℕ) → (c ≡ true → m ≡ n) → o ≡ not (nat_eq k 0) → k ≡ (if c then 0 else n) → t ≡ (if c then 1 else 0) → i ≡ m * t → i ≡ (if o then 0 else n)
+    go true o n m k i t same some is once both = let e = same refl in grind (arith, nat_tests, e, some, is, once, both)
+    go false true n m k i t same some is once both = grind (arith, nat_tests, once, both)
+    go false false n m k i t same some is once both = grind (arith, nat_tests, some, is, once, both)
+
+pub meet-cuts : (cs : List Column) (own cut inside : List Rect) → list_all (rect_fits cs) own ≡ true → list_all (rect_fits cs) cut ≡ true
+    → AreCutFrom cs (near cut own ++ cut) inside → AreCutFrom cs (own ++ cut) inside
+meet-cuts cs own cut inside f g k =
+    near-cuts cs own cut cut inside f (subst (λ all. AreCutFrom cs (own ++ all) cut) (append-nil cut) (are_part cs own cut [] g)) k
 
 far : (own cut : List Rect) (p : Row) → near cut own ≡ [] → (in_any own p && in_any cut p) ≡ false
 far own cut p none = go (in_any cut p) (λ h. sym (near-in cut own p h) ∙ ap (λ rects. in_any rects p) none)

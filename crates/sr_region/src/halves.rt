@@ -76,6 +76,11 @@ fn cut_rects(
         Ok(outside) => outside,
         Err(no) => return Err(no),
     };
+    if cut.len() == 1 && meeting.len() <= limit as usize {
+        // Each rect has one part inside of a single cut.
+        let inside = meeting.common(alloc, cut, table)?;
+        return Ok(CutRects { inside, outside });
+    }
     match meeting.without(alloc, &outside, table, limit) {
         Ok(inside) => Ok(CutRects { inside, outside }),
         Err(no) => Err(no),

@@ -18,3 +18,4 @@ pub mod Searching
 pub mod Slices
 pub mod Distinct
 pub mod SpanCuts
+pub mod Hulls

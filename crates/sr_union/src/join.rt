@@ -169,6 +169,37 @@ fn join_two(
     }
 }
 
+/// Whether spans of numbers or of all values are the same. Of texts nothing is told.
+fn are_equal_numbers(one: &Span, other: &Span) -> bool {
+    match (one, other) {
+        (Span::Full, Span::Full) => true,
+        (Span::Nums { lo: a, hi: b }, Span::Nums { lo: c, hi: d }) => *a == *c && *b == *d,
+        (Span::Strs { lo: _, hi: _ }, Span::Strs { lo: _, hi: _ }) => true,
+        _ => false,
+    }
+}
+
+/// Whether spans of numbers may lie side by side. Of texts nothing is told.
+fn are_numbers_beside(one: &Span, other: &Span) -> bool {
+    match (one, other) {
+        (Span::Nums { lo: a, hi: b }, Span::Nums { lo: c, hi: d }) => {
+            (*b < *c && *c - 1 == *b) || (*d < *a && *a - 1 == *d)
+        }
+        (Span::Strs { lo: _, hi: _ }, Span::Strs { lo: _, hi: _ }) => true,
+        _ => false,
+    }
+}
+
+/// Whether two rects may make one, as a first test that takes no memory and few steps: the first column in which they differ decides.
+fn may_be_one(one: &[Span], other: &[Span]) -> bool {
+    for i in 0..one.len().min(other.len()) {
+        if !are_equal_numbers(&one[i], &other[i]) {
+            return are_numbers_beside(&one[i], &other[i]);
+        }
+    }
+    true
+}
+
 /// A place in a list of rects, and the rect that the one of that place makes together with another.
 #[derive(Drop)]
 struct Found {
@@ -189,9 +220,11 @@ fn find_neighbour(
         → IsJoined columns.now (r ∷ rect.now ∷ []) (f.both ∷ []))) }
 {
     for place in 0..rects.len() {
-        match join_two(alloc, columns, &rects[place], rect)? {
-            Some(both) => return Ok(Some(Found { place, both })),
-            None => {}
+        if may_be_one(rects[place].as_slice(), rect.as_slice()) {
+            match join_two(alloc, columns, &rects[place], rect)? {
+                Some(both) => return Ok(Some(Found { place, both })),
+                None => {}
+            }
         }
     }
     Ok(None)

@@ -3,6 +3,7 @@
 
 pub mod centre;
 pub mod disjoint;
+mod hull;
 mod join;
 pub mod laws;
 pub mod meet;

@@ -7,9 +7,11 @@ ghost use Rattle.sr_box.specs.Points.{rect_fits};
 ghost use Rattle.sr_union.specs.Pieces.{meet_each, near, IsMeet};
 ghost use Rattle.sr_union.specs.Grid.{AreCutFrom};
 
+use crate::join::join_all;
 use crate::rects::{Rects, meets_some};
 use sr_box::rect::Rect;
 use sr_cell::list::{Copied, NoMemory};
+use sr_cell::table::Table;
 use std::alloc::Global;
 
 /// Appends what a rect has in common with another, if they meet.
@@ -57,6 +59,9 @@ impl Rects {
     pub fn near(&self, alloc: Global, others: &Rects) -> Result<Rects, NoMemory>
         ensures { IfOk result (λ found. found ≡ near others.now self.now) }
     {
+        if !self.may_meet(others) {
+            return Ok(Rects::new(alloc));
+        }
         copies_near(alloc, self.as_slice(), others.as_slice())
     }
 
@@ -72,5 +77,17 @@ impl Rects {
             push_meets(alloc, &mut both, rect, other)?;
         }
         Ok(both)
+    }
+
+    /// The same, with neighbours joined.
+    pub fn common(&self, alloc: Global, other: &Rects, table: &Table) -> Result<Rects, NoMemory>
+        requires self_fits { list_all (rect_fits table.now.columns) self.now ≡ true }
+        requires other_fits { list_all (rect_fits table.now.columns) other.now ≡ true }
+        ensures points { IfOk result (λ both. IsMeet table.now.columns self.now other.now both) }
+        ensures cuts { IfOk result (λ both. AreCutFrom table.now.columns (self.now ++ other.now) both) }
+        ensures few { IfOk result (λ both. length both ≤ length self.now * length other.now) }
+    {
+        let both = self.meet(alloc, other)?;
+        join_all(alloc, table.columns.as_slice(), both)
     }
 }

@@ -7,6 +7,7 @@ ghost use Rattle.sr_cell.specs.Cells.{Row as Cells};
 ghost use Rattle.sr_box.specs.Cut.{rect_meet};
 ghost use Rattle.sr_box.specs.Points.{in_any, rect_fits};
 
+use crate::hull::Hull;
 use sr_box::rect::Rect;
 use sr_cell::cell::Row;
 use sr_cell::list::{Copied, NoMemory, Same, Seq};
@@ -14,10 +15,11 @@ use sr_cell::table::Table;
 use std::alloc::Global;
 use std::marker::Model;
 
-/// Rects of one table, which contracts see as the list of them.
+/// Rects of one table, which contracts see as the list of them. All lie within the hull.
 #[derive(Drop)]
 pub struct Rects {
     rects: Seq<Rect>,
+    hull: Hull,
 }
 
 impl Model for Rects {
@@ -27,6 +29,12 @@ impl Model for Rects {
     ghost Value = { List (List Span) };
 
     ghost view = { λ r. r.rects };
+
+    ghost use Rattle.std.specs.Prelude.{◌≡◌, true};
+    ghost use Rattle.std.specs.List.{list_all};
+    ghost use Rattle.sr_union.specs.Hulls.{in_hull};
+
+    ghost invariant = { λ r. list_all (in_hull r.hull) r.rects ≡ true };
 }
 
 impl Rects {
@@ -36,6 +44,7 @@ impl Rects {
     {
         Rects {
             rects: Seq::new(alloc),
+            hull: Hull::empty(),
         }
     }
 
@@ -45,6 +54,7 @@ impl Rects {
     {
         Ok(Rects {
             rects: Seq::with_room(alloc, len)?,
+            hull: Hull::empty(),
         })
     }
 
@@ -53,7 +63,10 @@ impl Rects {
         ensures pushed { OnOk result (self.new ≡ self.old ++ rect ∷ []) }
         ensures unchanged { OnErr result (self.new ≡ self.old) }
     {
-        self.rects.push(rect)
+        let hull = self.hull.with(&rect);
+        self.rects.push(rect)?;
+        self.hull = hull;
+        Ok(())
     }
 
     /// How many rects there are.
@@ -97,7 +110,7 @@ impl Rects {
     pub(crate) fn into_vec(self) -> Vec<Rect>
         ensures { result.items ≡ self }
     {
-        let Rects { rects } = self;
+        let Rects { rects, .. } = self;
         rects.into_vec()
     }
 
@@ -106,8 +119,10 @@ impl Rects {
         ensures appended { OnOk result (self.new ≡ self.old ++ more) }
         ensures unchanged { OnErr result (self.new ≡ self.old) }
     {
-        let Rects { rects } = more;
-        self.rects.append(rects)
+        let Rects { rects, hull } = more;
+        self.rects.append(rects)?;
+        self.hull = self.hull.both(&hull);
+        Ok(())
     }
 
     /// Whether each rect fits the columns of the table.
@@ -122,7 +137,17 @@ impl Rects {
         ensures is { result ≡ list_any (λ r. list_any (λ q. is_some (rect_meet r q)) other.now) self.now }
         ensures apart { (p : Cells) → result ≡ false → (in_any self.now p && in_any other.now p) ≡ false }
     {
+        if !self.may_meet(other) {
+            return false;
+        }
         lists_meet(self.as_slice(), other.as_slice())
+    }
+
+    /// Whether the hulls meet: else no rect meets one of the others.
+    pub(crate) fn may_meet(&self, other: &Rects) -> bool
+        ensures { result ≡ false → list_any (λ r. list_any (λ q. is_some (rect_meet r q)) other.now) self.now ≡ false }
+    {
+        self.hull.meets(&other.hull)
     }
 
     /// Whether some rect has the row.
@@ -160,6 +185,7 @@ impl Copied for Rects {
     fn copy(&self, alloc: Global) -> Result<Rects, NoMemory> {
         Ok(Rects {
             rects: self.rects.copy(alloc)?,
+            hull: self.hull,
         })
     }
 }

@@ -1,14 +1,15 @@
-use Rattle.std.proofs.Common.{◌≡◌, ◌++◌, ◌≤◌, true, sym, ap, subst, arith}
+use Rattle.std.proofs.Common.{◌≡◌, ◌++◌, ◌≤◌, length, true, sym, ap, subst, arith}
+use Rattle.std.proofs.lemmas.Bool.Decides.{nat_tests}
 use Rattle.sr_cell.specs.Cells.{Row}
 use Rattle.sr_cell.specs.Columns.{is_point}
 use Rattle.std.specs.List.{list_all}
 use Rattle.sr_box.specs.Points.{times, rect_fits}
-use Rattle.sr_union.specs.Pieces.{near, IsMinus}
+use Rattle.sr_union.specs.Pieces.{near, IsMinus, IsMeet}
 use Rattle.sr_union.specs.Grid.{AreCutFrom, grid}
 use Rattle.sr_union.proofs.Parts.{are_fit}
 use Rattle.sr_union.proofs.Meets.{near-fits}
 use Rattle.sr_union.proofs.Once.{err_same}
-use Rattle.sr_region.proofs.Near.{near-few, near-cuts, near-grid, near-minus}
+use Rattle.sr_region.proofs.Near.{near-few, near-cuts, near-grid, near-minus, meet-cuts, meet-minus}
 use Rattle.sr_region.proofs.halves.cut_rects.Goals as goal
 
 pub returns-in-Err-clause-over : goal.returns-in-Err-clause-over
@@ -46,3 +47,21 @@ pub without-requires-2-clause-self_fits : goal.without-requires-2-clause-self_fi
 without-requires-2-clause-self_fits c =
     let columns = c.args.table.now.columns in
     subst (λ rects. list_all (rect_fits columns) rects ≡ true) (sym c.requires.meeting) (near-fits columns c.args.cut.now c.args.own c.requires.own_fit)
+
+pub common-requires-clause-self_fits : goal.common-requires-clause-self_fits
+common-requires-clause-self_fits c =
+    let columns = c.args.table.now.columns in
+    subst (λ rects. list_all (rect_fits columns) rects ≡ true) (sym c.requires.meeting) (near-fits columns c.args.cut.now c.args.own c.requires.own_fit)
+
+pub returns-then-len-limit-clause-inside : goal.returns-then-len-limit-clause-inside
+returns-then-len-limit-clause-inside c =
+    let columns = c.args.table.now.columns in
+    let one : length c.args.cut.now ≡ 1 = let is = c.len.ensures in let test = c.if-len-eq1.true in grind (arith, nat_tests, is, test) in
+    meet-minus columns c.args.own c.args.cut.now c.in-Ok.outside c.in_ok-inside.inside one c.in-Ok.ensures.points
+    (subst (λ rects. IsMeet columns rects c.args.cut.now c.in_ok-inside.inside) c.requires.meeting c.in_ok-inside.ensures.points)
+
+pub returns-then-len-limit-clause-cuts_inside : goal.returns-then-len-limit-clause-cuts_inside
+returns-then-len-limit-clause-cuts_inside c =
+    let columns = c.args.table.now.columns in
+    meet-cuts columns c.args.own c.args.cut.now c.in_ok-inside.inside c.requires.own_fit c.requires.cut_fit
+    (subst (λ rects. AreCutFrom columns (rects ++ c.args.cut.now) c.in_ok-inside.inside) c.requires.meeting c.in_ok-inside.ensures.cuts)

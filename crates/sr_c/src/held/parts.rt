@@ -1,0 +1,27 @@
+//! A `Box` with its fields in sight of the module above.
+ghost use Rattle.std.specs.Prelude.{◌≡◌};
+ghost use Rattle.std_alloc.specs.Box.Ownership.{box_owns};
+
+use std::alloc::Allocator;
+use std::marker::Model;
+
+/// What a `Box` is made of. It owns what that `Box` owns.
+pub struct Parts<T, A: Allocator> {
+    pub(super) ptr: *mut T,
+    pub(super) alloc: A,
+    pub ghost value: { T },
+}
+
+impl<T, A: Allocator> Model for Parts<T, A> {
+    ghost also_owns = { λ p. box_owns (A.dealloc_token p.alloc) T.row p.ptr p.value };
+}
+
+impl<T, A: Allocator> Parts<T, A> {
+    /// The `Box` of these parts.
+    pub fn into_box(self) -> Box<T, A>
+        ensures { result.value ≡ self.value }
+    {
+        let Parts { ptr, alloc } = self;
+        unsafe { Box::from_raw(alloc, ptr) }
+    }
+}

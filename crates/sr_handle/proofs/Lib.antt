@@ -1,0 +1,4 @@
+pub mod Kept
+pub mod Seated
+pub mod Sendable
+pub mod Handled

@@ -1,0 +1,9 @@
+pub mod Ready
+pub mod Seats
+pub mod Leaving
+pub mod Packed
+pub mod Telling
+pub mod Told
+pub mod Handles
+pub mod Opening
+pub mod Showing

@@ -1,0 +1,93 @@
+"""What the package reads of SQL itself: parameters, the names of a schema, and those of a query's columns."""
+import re
+
+from .faults import DataError, InterfaceError, ProgrammingError
+
+TOKEN = re.compile(r"[A-Za-z_][A-Za-z_0-9]*|[0-9]+|'(?:[^']|'')*'|<=|>=|<>|!=|[(),;.*\-=<>?]|[ \t\r\n]+|.", re.S)
+MOST_DIGITS = 18
+
+
+def tokens(text):
+    """The tokens of a text, one behind the other, with the blanks between them."""
+    return TOKEN.findall(text)
+
+
+# ---- parameters
+
+def quoted(value):
+    """A number or a text as a literal. A quote in a text is doubled; all other characters stand for themselves."""
+    if isinstance(value, int):
+        if len(str(abs(value))) > MOST_DIGITS:
+            raise DataError('a number has at most %d digits' % MOST_DIGITS)
+        return str(int(value))
+    if isinstance(value, str):
+        try:
+            value.encode('utf-8')
+        except UnicodeEncodeError as fault:
+            raise DataError('no UTF-8: %s' % fault) from fault
+        return "'" + value.replace("'", "''") + "'"
+    raise InterfaceError('a parameter is an int or a str, not %s' % type(value).__name__)
+
+
+def filled(text, parameters):
+    """The text with a literal in place of each ? that stands outside of texts."""
+    if not parameters and '?' not in text:
+        return text
+    left = list(parameters)
+    parts = []
+    for token in tokens(text):
+        if token == '?':
+            if not left:
+                raise ProgrammingError('too few parameters')
+            # blanks keep a literal from growing together with what stands beside it
+            token = ' %s ' % quoted(left.pop(0))
+        parts.append(token)
+    if left:
+        raise ProgrammingError('%d parameters too many' % len(left))
+    return ''.join(parts)
+
+
+# ---- names
+
+def words(text):
+    return [token for token in tokens(text) if not token.isspace()]
+
+
+def tables_of(schema):
+    """The tables of CREATE lines, in order: a name, and its columns' names, each with True for a text."""
+    tables = []
+    for line in schema.splitlines():
+        found = words(line)
+        if found and found[0].upper() == 'CREATE' and len(found) > 3:
+            tables.append((found[2].lower(), columns_of(found[4:])))
+    return tables
+
+
+def columns_of(found):
+    columns, depth, first = [], 0, True
+    for word, behind in zip(found, found[1:]):
+        if depth == 0 and first:
+            columns.append((word.lower(), behind.upper() == 'TEXT'))
+        first = depth == 0 and word == ','
+        depth += (word == '(') - (word == ')')
+    return columns
+
+
+def outputs_of(text, tables):
+    """The names of the columns of a query that was understood, each with True for a text."""
+    found = [word.lower() for word in words(text)]
+    end = found.index('from')
+    named = dict(tables)
+    joined = [behind for word, behind in zip(found[end:], found[end + 1:]) if word in ('from', 'join')]
+    if found[1] == '*':
+        return [column for table in joined for column in named[table]]
+    return [output_of(reference, joined, named) for reference in ' '.join(found[1:end]).replace(' . ', '.').split(' , ')]
+
+
+def output_of(reference, joined, named):
+    table, dot, column = reference.rpartition('.')
+    for name in [table] if dot else joined:
+        for other, is_text in named[name]:
+            if other == column:
+                return column, is_text
+    raise ProgrammingError('no column %s' % reference)

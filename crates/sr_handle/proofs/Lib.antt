@@ -1,4 +1,1 @@
-pub mod Kept
-pub mod Seated
-pub mod Sendable
-pub mod Handled
+pub mod Asked

@@ -1,5 +1,6 @@
 //! What a call of a client came to.
 use sr_cell::fault::Fault;
+use sr_cell::list::NoMemory;
 use sr_wire::bad_frame::BadFrame;
 use sr_wire::wire_fault::WireFault;
 
@@ -34,4 +35,10 @@ pub enum Stop {
     NoMemory,
     Worn,
     BadText { place: u32 },
+}
+
+impl From<NoMemory> for Stop {
+    fn from(_want: NoMemory) -> Stop {
+        Stop::NoMemory
+    }
 }

@@ -120,13 +120,13 @@ impl Seat {
         ensures sends { IfOk result (AskedSendsWell self.old.schema self.old.id) }
         ensures stays { Stays self.old self.new }
     {
-        match query_of(alloc, &self.schema, sql) {
-            Ok(Ok(query)) => match self.judge(alloc, query) {
-                Ok(step) => Ok(Ok(step)),
-                Err(stop) => Err(stop),
-            },
-            Ok(Err(fault)) => Ok(Err(fault)),
-            Err(NoMemory) => Err(Stop::NoMemory),
+        let asked = query_of(alloc, &self.schema, sql)?;
+        match asked {
+            Ok(query) => {
+                let step = self.judge(alloc, query)?;
+                Ok(Ok(step))
+            }
+            Err(fault) => Ok(Err(fault)),
         }
     }
 

@@ -76,9 +76,9 @@ fn a_silent_peer_is_given_up(rt: HostRuntime) -> Result<(), Fail> {
 
 /// Whether the server gives up to send to the client, which reads nothing, once the system keeps no more for it.
 fn outlasts_deafness<H: Host>(server: &mut H, client: &mut H) -> Result<bool, No<Failed>> {
-    let bytes = [0u8; 65536];
+    let bytes = [0u8; 4096];
     connect(server, client)?;
-    for _ in 0..1024 {
+    for _ in 0..16384 {
         if fails(send_all(server, &bytes)) {
             return Ok(server.link_faults() == 1);
         }

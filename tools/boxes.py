@@ -106,3 +106,27 @@ def boxes_of_test(test, table):
     ends = sorted({low, high} | {end for end in test.ends if low < end < high})
     spans = [span for span in zip(ends, ends[1:]) if test.holds({test.column: span[0]})]
     return [whole[:test.column] + (span,) + whole[test.column + 1:] for span in spans]
+
+
+# ---- rects as frames have them
+
+def box_of(rect, table):
+    """The box of a rect as frames have it: None for a whole column, both ends of numbers inside, and None for no upper end of texts."""
+    def span_of(span, domain):
+        if span is None:
+            return domain
+        low, high = span
+        return (low, high + 1) if isinstance(low, int) else (low, ABOVE_TEXTS if high is None else high)
+
+    return tuple(map(span_of, rect, all_of(table)))
+
+
+def rect_of(box, table):
+    """The rect of a box."""
+    def span_of(span, domain):
+        low, high = span
+        if span == domain:
+            return None
+        return (low, high - 1) if isinstance(low, int) else (low, None if high == ABOVE_TEXTS else high)
+
+    return tuple(map(span_of, box, all_of(table)))

@@ -20,15 +20,15 @@ import sys
 TESTS = pathlib.Path(__file__).resolve().parent.parent / 'tests'
 sys.path += [str(TESTS / 'oracle'), str(TESTS / 'links')]
 
-from boxes import ABOVE_TEXTS, all_of, are_same, both, boxes_of, has, joined, without
+from boxes import are_same, box_of, rect_of
 from compare import SPAN, value_of
 from counted import Fact
-from forgotten import last_dropped
-from frames import Ask, Hello, Holding, Lapse, Notice, Part, Refused, Reply, Resume, Rows, Tell, Welcome, Write, Written, frame
+from frames import Ask, Hello, Lapse, Notice, Part, Refused, Reply, Resume, Rows, Welcome, Write, Written, frame
 from lines import CREATE, split
+from played_client import Client
+from played_server import Server
 from reader import Reader, Unread, event_of
 
-ROWS_OF_A_FRAME = 256
 MUCH_LOG = 100000
 RECT = re.compile(r"\{((?:[^'{}]|'[^']*')*)\}")
 # what a client may do with each kind of message
@@ -39,186 +39,6 @@ TAKES = {Notice: ['laid', 'applied'], Rows: ['laid'], Lapse: ['laid', 'forgot'],
 class Differs(Exception):
     """A line of the trace that says something else than what happens here."""
 
-
-# ---- the server
-
-class Session:
-    """The boxes of each table that a client asked for, and the version that the messages to it have reached."""
-
-    def __init__(self, upto=0):
-        self.boxes, self.upto = collections.defaultdict(list), upto
-
-    def subscribe(self, table, boxes):
-        self.boxes[table] = joined(self.boxes[table] + without(boxes, self.boxes[table]))
-
-
-class Server:
-    """The newest rows of each table by their keys, the changes of each version, and a session for each client, or None."""
-
-    def __init__(self, tables, log):
-        self.tables, self.log = tables, log
-        self.rows = [{} for _ in tables]
-        self.changes = [[]]  # each is a table, a key, and its rows before and after
-        self.sessions = collections.defaultdict(Session)
-
-    @property
-    def version(self):
-        return len(self.changes) - 1
-
-    def write(self, statement):
-        """Makes the next version; or tells the fault, and changes nothing."""
-        before, rows = self.rows[statement.table], dict(self.rows[statement.table])
-        fault = statement.carry_out(rows)
-        if fault is None:
-            keys = [key for key in sorted(before.keys() | rows.keys()) if before.get(key) != rows.get(key)]
-            self.changes.append([(statement.table, key, before.get(key), rows.get(key)) for key in keys])
-            self.rows[statement.table] = rows
-        return fault
-
-    def told(self, session, version):
-        return [Tell(table, key, after) for table, key, before, after in self.changes[version]
-                if any(row is not None and has(session.boxes[table], row) for row in (before, after))]
-
-    def notices(self, session):
-        told = [(version, self.told(session, version)) for version in range(session.upto + 1, self.version + 1)]
-        return [Notice(version, tells) for version, tells in told if tells]
-
-    def due(self, session):
-        """What is sent before anything else."""
-        if any(session.boxes.values()) and session.upto < self.version and session.upto < last_dropped(self.changes, self.log):
-            session.boxes.clear()
-            sent = [Lapse(self.version)]
-        else:
-            sent = self.notices(session)
-        session.upto = self.version
-        return sent
-
-    def push(self, client):
-        session = self.sessions[client]
-        is_behind = session.upto < self.version
-        sent = self.due(session)
-        return sent + [Notice(self.version, [])] * (is_behind and self.version not in [message.version for message in sent])
-
-    def take(self, client, request):
-        """What is sent for a request. A refused write is None here."""
-        if isinstance(request, (Hello, Resume)):
-            return self.begin(client, request)
-        session = self.sessions[client]
-        if isinstance(request, Write):
-            return self.due(session) + [Written(request.number, self.version)]
-        if request.fresh:
-            self.sessions[client] = session = Session(self.version)
-        sent = self.due(session)
-        for place, part in enumerate(request.parts):
-            boxes = [box_of(rect, self.tables[part.table]) for rect in part.rects]
-            session.subscribe(part.table, boxes)
-            sent += self.rows_of(request.number, place, part, boxes)
-        return sent + [Reply(request.number, self.version)]
-
-    def begin(self, client, request):
-        """Opens a session."""
-        self.sessions[client] = session = Session(self.version)
-        if isinstance(request, Hello) or request.version < last_dropped(self.changes, self.log):
-            return [Welcome(request.number, self.version, False)]
-        for held in request.holdings:
-            session.subscribe(held.table, [box_of(rect, self.tables[held.table]) for rect in held.rects])
-        session.upto = request.version
-        return self.due(session) + [Welcome(request.number, self.version, True)]
-
-    def rows_of(self, number, place, part, boxes):
-        rows = [tuple(row[c] for c in part.columns) for row in self.rows[part.table].values() if has(boxes, row)]
-        return [Rows(number, place, rows[first:first + ROWS_OF_A_FRAME]) for first in range(0, len(rows), ROWS_OF_A_FRAME)]
-
-
-def box_of(rect, table):
-    """The box of a rect as frames have it: None for a whole column, both ends of numbers inside, and None for no upper end of texts."""
-    def span_of(span, domain):
-        if span is None:
-            return domain
-        low, high = span
-        return (low, high + 1) if isinstance(low, int) else (low, ABOVE_TEXTS if high is None else high)
-
-    return tuple(map(span_of, rect, all_of(table)))
-
-
-def rect_of(box, table):
-    """The rect of a box."""
-    def span_of(span, domain):
-        low, high = span
-        if span == domain:
-            return None
-        return (low, high - 1) if isinstance(low, int) else (low, None if high == ABOVE_TEXTS else high)
-
-    return tuple(map(span_of, box, all_of(table)))
-
-
-# ---- a client
-
-class Region:
-    """The points of a class, and the keys of the rows that lie there."""
-
-    def __init__(self, boxes=(), keys=()):
-        self.boxes, self.keys = list(boxes), set(keys)
-
-    def add(self, boxes, keys):
-        self.boxes = joined(self.boxes + boxes)
-        self.keys |= keys
-
-
-class Client:
-    """What a client holds: the rows of its version, and its regions by table, columns and stamp. Columns are a number of bits."""
-
-    def __init__(self, rows):
-        self.version, self.rows = 0, [dict(of_table) for of_table in rows]
-        self.regions = collections.defaultdict(Region)
-        self.to_server, self.to_client = collections.deque(), collections.deque()
-        self.asked = None  # the query that waits for a reply
-        self.touching = None  # the query that is answered, and its number, until it has touched what is held
-        self.stamp, self.heard = 0, 0  # the number of the last answered query, and the version of the last message laid by
-
-    def advance(self, version, changes):
-        for table, key, before, after in [change for made in changes[self.version + 1:version + 1] for change in made]:
-            rows = self.rows[table]
-            if after is None:
-                del rows[key]
-            else:
-                rows[key] = after
-            for (of, _, _), region in self.regions.items():
-                if of == table and before is not None:
-                    region.keys.discard(key)
-                if of == table and after is not None and has(region.boxes, after):
-                    region.keys.add(key)
-        self.version = max(self.version, version)
-
-    def touch(self):
-        """Gives the points that the answered query took, where their columns suffice, its number as their stamp."""
-        query, self.touching = self.touching, None
-        for part in query.parts if query else []:
-            boxes = boxes_of(part.condition, part.definition)
-            for (table, columns, stamp), region in list(self.regions.items()):
-                inside = both(region.boxes, boxes) if table == part.table and not part.need & ~columns else []
-                if inside:
-                    keys = {key for key in region.keys if part.holds(self.rows[table][key])}
-                    del self.regions[table, columns, stamp]
-                    outside = without(region.boxes, boxes)
-                    if outside:
-                        self.regions[table, columns, stamp].add(outside, region.keys - keys)
-                    self.regions[table, columns, self.stamp].add(inside, keys)
-
-    def hold(self, table, columns, boxes):
-        keys = {key for key, row in self.rows[table].items() if has(boxes, row)}
-        self.regions[table, columns, self.stamp].add(boxes, keys)
-
-    def holdings(self, tables):
-        return [Holding(table, [rect_of(box, tables[table]) for box in region.boxes])
-                for (table, _, _), region in sorted(self.regions.items(), key=lambda item: item[0])]
-
-    def kept(self):
-        """How many rows are kept, and how many regions."""
-        return sum(len(region.keys) for region in self.regions.values()), len(self.regions)
-
-
-# ---- the trace
 
 class Play:
     """Goes through the lines of a trace, and keeps what they brought about. Script and files are bytes; a file stands

@@ -92,8 +92,8 @@ def draw_queries(picture, top, high, facts, lines, bins):
         for place, number in sorted(count.items()):
             left, right = panel.x(max(place, 0) * bins), panel.x(min((place + 1) * bins, lines))
             bottom, upper = panel.y(below[place]), panel.y(below[place] + number)
-            picture.add(f'<rect class="{name}" x="{left + 1:.1f}" y="{upper:.1f}" width="{max(right - left - 2, 1):.1f}" height="{bottom - upper:.1f}"'
-                        f' fill="{fill}" stroke="{edge}" stroke-width="0.8"><title>{number} {name}</title></rect>')
+            picture.add(f'<rect class="{name}" x="{left + 1:.1f}" y="{upper:.1f}" width="{max(right - left - 2, 1):.1f}"'
+                        f' height="{bottom - upper:.1f}" fill="{fill}" stroke="{edge}" stroke-width="0.8"><title>{number} {name}</title></rect>')
         below += count
         if name != 'not answered' or count:
             y = legend(picture, y, [name, named(sum(count.values()))], swatch(y, fill, edge))
@@ -132,7 +132,8 @@ def draw_held(picture, top, high, levels, clients, lines):
         path, width = panel.steps([(line, rows) for line, rows, _ in held]), 2 if lines < WIDE else 1
         picture.add(f'<path class="held" d="{path}" fill="none" stroke="{colour}" stroke-width="{width}" stroke-dasharray="{dash}"/>')
         rows, regions = held[-1][1:]
-        said = [f'at the end {named(rows)}, in {named(regions)} region{"" if regions == 1 else "s"}', f'at most {named(max(rows for _, rows, _ in held))}']
+        many = 'region' if regions == 1 else 'regions'
+        said = [f'at the end {named(rows)}, in {named(regions)} {many}', f'at most {named(max(rows for _, rows, _ in held))}']
         said = said if len(clients) < 4 else [', '.join(said)]
         y = legend(picture, y, ['client ' + client, *said], stroke(y, colour, dash))
 

@@ -28,10 +28,11 @@ class Client:
         self.regions = collections.defaultdict(Region)
         self.to_server, self.to_client = collections.deque(), collections.deque()
         self.asked = None  # the query that waits for a reply
-        self.touching = None  # the query that is answered, and its number, until it has touched what is held
+        self.touching = None  # the answered query, until it has touched what is held
         self.stamp, self.heard = 0, 0  # the number of the last answered query, and the version of the last message laid by
 
     def advance(self, version, changes):
+        """Brings the rows to a version, by the changes of all versions."""
         for table, key, before, after in [change for made in changes[self.version + 1:version + 1] for change in made]:
             rows = self.rows[table]
             if after is None:

@@ -55,12 +55,12 @@ class Panel:
         return self.top + self.high - self.high * value / self.most
 
     def steps(self, points):
-        """The path of a value that begins with 0 and changes where a line begins. No two changes of it share the half of a pixel."""
+        """The path of a value that begins with 0 and changes where a line begins. No two changes of it share a pixel."""
         path, last = [f'M{LEFT} {self.y(0):.1f}'], {}
         for line, value in points:
-            last[round(2 * self.x(max(line - 1, 0)))] = value
-        for half, value in sorted(last.items()):
-            path.append(f'H{half / 2:.1f}V{self.y(value):.1f}')
+            last[round(self.x(max(line - 1, 0)))] = value
+        for x, value in sorted(last.items()):
+            path.append(f'H{x}V{self.y(value):.1f}')
         return ''.join(path) + f'H{LEFT + WIDE}'
 
 

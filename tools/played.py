@@ -77,17 +77,15 @@ class Play:
 
     def play(self, trace):
         """Reads all lines of a trace."""
-        trace = list(trace)
-        for line in trace:
-            words = line.split(' ')
-            if words[1] == 'toclient' and words[3] in ('written', 'refused'):
-                self.carried[words[2], int(words[4])] = words[3] == 'written'
-        for line in trace:
-            number, word, *rest = line.split(' ')
+        split_lines = [line.split(' ') for line in trace]
+        for _, word, *rest in split_lines:
+            if word == 'toclient' and rest[1] in ('written', 'refused'):
+                self.carried[rest[0], int(rest[2])] = rest[1] == 'written'
+        for number, word, *rest in split_lines:
             if int(number) != self.line:
                 self.end_line()
             self.line = int(number)
-            self.read(line, word, rest)
+            self.read(word, rest)
         self.end_line()
         return self
 
@@ -97,14 +95,14 @@ class Play:
             rows, regions = held.kept()
             self.levels.append((self.line, client, rows, regions))
 
-    def read(self, line, word, rest):
+    def read(self, word, rest):
         read = getattr(self, 'read_' + word, None)
         try:
             fits = read is None or read(*rest) is not False
         except (LookupError, ValueError, Unread):
             fits = False
         if not fits:
-            raise Differs(line)
+            raise Differs(' '.join([str(self.line), word, *rest]))
 
     def points(self, table, words):
         """The boxes of the rects at the end of a line."""

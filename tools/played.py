@@ -6,8 +6,8 @@ says were carried out. Each message is spelled as docs/FORMATS.md has its frame,
 step is held against its line: how many rows an answer has, how many messages are sent, whether a client may do with each one what the
 line says, which points are dropped, and which regions an explanation names, with how many rows. Texts are read by tests/oracle/reader.py.
 
-One number may differ from the program's: how a region is cut into rects is free, and no line tells it, so a Resume, which names all that
-is held, may be somewhat longer or shorter.
+One message may have other bytes than the program's: how a region is cut into rects is free, and no line tells it. So a Resume, which names
+all that is held, is often shorter here, where neighbours are joined.
 """
 import collections
 import csv

@@ -14,8 +14,7 @@ SHORT = 0.02
 def build():
     """Proves and builds the program, where it is not there yet."""
     if not PROGRAM.exists():
-        print('The program is proved and built once; this takes some minutes.', file=sys.stderr)
-        subprocess.run(['rt', 'run', '--', 'replay', '--eager', '/dev/null'], cwd=CRATE, stdout=subprocess.DEVNULL)
+        subprocess.run([str(CRATE.parent.parent / 'tools' / 'prove')], stdout=subprocess.DEVNULL)
 
 
 def most_memory(process):

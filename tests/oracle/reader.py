@@ -253,12 +253,16 @@ class Reader:
 
     def update(self, table):
         self.need('set')
+        cells = self.list_of(lambda: self.set_cell(self.tables[table]))
+        return Update(self.tables, table, cells, self.where())
+
+    def set_cell(self, table):
+        """The column that is set, and its new cell."""
         _, c = self.column()
         self.need('=')
-        cell = self.literal_for(self.tables[table].columns[c])
-        if c == self.tables[table].key:
+        if c == table.key:
             raise Unread('the key is set')
-        return Update(self.tables, table, c, cell, self.where())
+        return c, self.literal_for(table.columns[c])
 
 
 def conjuncts(condition):

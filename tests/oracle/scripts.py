@@ -95,7 +95,7 @@ class Maker:
     def update(self, number):
         columns = TABLES[number].columns
         c = self.random.choice([c for c in range(len(columns)) if c != TABLES[number].key])
-        return Update(TABLES, number, c, self.cell(columns[c]), self.maybe_condition(number))
+        return Update(TABLES, number, [(c, self.cell(columns[c]))], self.maybe_condition(number))
 
     def query(self, number):
         columns = TABLES[number].columns

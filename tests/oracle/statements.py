@@ -26,22 +26,24 @@ class Insert:
 
 
 class Update:
-    """A new cell in column c of the rows that meet the condition."""
+    """New cells in the rows that meet the condition: (column, cell), one behind the other."""
 
-    def __init__(self, tables, number, c, cell, condition):
-        self.table, self.definition, self.c, self.cell, self.condition = number, tables[number], c, cell, condition
+    def __init__(self, tables, number, cells, condition):
+        self.table, self.definition, self.cells, self.condition = number, tables[number], cells, condition
 
     @property
     def text(self):
-        name = self.definition.columns[self.c].name
-        return 'UPDATE %s SET %s = %s%s' % (self.definition.name, name, literal_of(self.cell), where(self.condition))
+        said = ', '.join('%s = %s' % (self.definition.columns[c].name, literal_of(cell)) for c, cell in self.cells)
+        return 'UPDATE %s SET %s%s' % (self.definition.name, said, where(self.condition))
 
     def carry_out(self, rows):
-        if not self.definition.columns[self.c].has(self.cell):
-            return 'domain-cell %d' % self.c
+        bad = [c for c, cell in self.cells if not self.definition.columns[c].has(cell)]
+        if bad:
+            return 'domain-cell %d' % bad[0]
         for key, row in rows.items():
             if self.condition is None or self.condition.holds(row):
-                rows[key] = row[:self.c] + (self.cell,) + row[self.c + 1:]
+                new = dict(self.cells)
+                rows[key] = tuple(new.get(c, cell) for c, cell in enumerate(row))
         return None
 
 

@@ -168,8 +168,7 @@ good-iff t w reason none good = (
   λ e. absurd (let wrong : Some w ≡ None = sym e ∙ none in cc),
 )
 
--- what the call tells, of the client's fields as it read them
-pub misfit-of : (c : Client) (m : Message) (schema : List Table) (pre : List Message) (why : Option BadFrame) → schema ≡ c.schema → pre ≡ c.laid
-    → ((meaning : Query) → why ≡ misfit schema (out_of meaning c.out) pre c.version m) → (meaning : Query) → misfit c.schema (out_of meaning c.out) c.laid c.version m ≡ why
-misfit-of c m schema pre why schema_is laid_is gives meaning =
-    sym (gives meaning ∙ (ap (λ s. misfit s (out_of meaning c.out) pre c.version m) schema_is ∙ ap (λ ms. misfit c.schema (out_of meaning c.out) ms c.version m) laid_is))
+-- what the call tells, of the client's schema as it read it
+pub misfit-of : (c : Client) (m : Message) (schema : List Table) (why : Option BadFrame) → schema ≡ c.schema
+    → ((meaning : Query) → why ≡ misfit schema (out_of meaning c.out) c.laid c.version m) → (meaning : Query) → misfit c.schema (out_of meaning c.out) c.laid c.version m ≡ why
+misfit-of c m schema why schema_is gives meaning = sym (gives meaning ∙ ap (λ s. misfit s (out_of meaning c.out) c.laid c.version m) schema_is)

@@ -20,6 +20,7 @@ mod GoesLemmas
 mod HeavyLemmas
 mod Items
 mod KeptLemmas
+mod LaidLemmas
 mod LastLemmas
 pub mod LayLemmas
 mod LendLemmas

@@ -1,5 +1,5 @@
 -- What a message tells, piece by piece.
-use Rattle.std.specs.Prelude.{Bool, true, false, not, ◌&&◌, ◌||◌, ◌==◌, nat_lt, slice_get, length, None, Some}
+use Rattle.std.specs.Prelude.{◌≡◌, ℕ, Bool, true, false, not, ◌&&◌, ◌||◌, ◌==◌, nat_lt, List, [], ◌∷◌, slice_get, length, Option, None, Some}
 use Rattle.sr_cell.specs.declared.cell.Cell.{Cell}
 use Rattle.sr_cell.specs.declared.table.Table.{Table}
 use Rattle.sr_cell.specs.Cells.{cell_at, cell_eq, cell_le}
@@ -7,6 +7,7 @@ use Rattle.sr_cell.specs.Columns.{takes_cell, fits_columns}
 use Rattle.sr_message.specs.declared.message.Message.{Message}
 use Rattle.sr_message.specs.declared.message.Message.TheVariants.{Rows}
 use Rattle.sr_message.specs.declared.message.Tell.{Tell}
+use Rattle.sr_session.specs.Misfits.{last_came}
 
 -- the key column takes the cell
 abbrev pub key_suits : Table → Cell → Bool
@@ -24,3 +25,8 @@ is_told_before a b = nat_lt a.table b.table || (a.table == b.table && (cell_le a
 abbrev pub brings_rows : Message → Bool
 brings_rows (Rows number part rows) = nat_lt 0 (length rows)
 brings_rows other = false
+
+-- the message of that place, if there is one, is the last that brings rows
+abbrev pub IsLastRows : List Message → Option ℕ → Type 0
+IsLastRows messages None = last_came None messages ≡ None
+IsLastRows messages (Some place) = (message : Message) × (slice_get messages place ≡ Some message) × (last_came None (message ∷ []) ≡ last_came None messages)

@@ -12,10 +12,10 @@ ghost use Rattle.sr_session.specs.Laws.{IsSound};
 ghost use Rattle.sr_client.specs.Stands.{Stands, StandsOver, request_of, given_up, cuts_down, new_client, opened_client};
 ghost use Rattle.sr_client.specs.Steps.{Evicts};
 
+use crate::laid::Laid;
 use crate::steps::EvictStep;
-use sr_cell::list::Seq;
 use sr_cell::schema::Schema;
-use sr_message::message::{AskParts, Messages};
+use sr_message::message::AskParts;
 use sr_policy::policy::Limits;
 use sr_query::query::Query;
 use sr_region::region::Region;
@@ -52,7 +52,7 @@ pub struct Client {
     pub(crate) queries: u64,
     pub(crate) next_request: u64,
     pub(crate) out: Option<Request>,
-    pub(crate) laid: Messages,
+    pub(crate) laid: Laid,
     pub(crate) cut: bool,
     pub(crate) cuts: u64,
 }
@@ -86,7 +86,7 @@ impl Client {
             queries: 0,
             next_request: 0,
             out: None,
-            laid: Seq::new(alloc),
+            laid: Laid::new(alloc),
             cut: true,
             cuts: 0,
         }
@@ -168,7 +168,7 @@ impl Client {
     {
         self.store = Store::new(alloc, self.store.limits);
         self.set_out(None);
-        self.laid = Seq::new(alloc);
+        self.laid = Laid::new(alloc);
         if !self.cut && self.cuts < u64::MAX {
             self.cuts += 1;
         }

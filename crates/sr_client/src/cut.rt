@@ -4,8 +4,8 @@ ghost use Rattle.sr_client.specs.Stands.{Stands, Stays, drawn};
 ghost use Rattle.sr_client.specs.Steps.{Cuts, ended_of};
 
 use crate::client::{Client, Request};
+use crate::laid::Laid;
 use crate::steps::{CutStep, Ended};
-use sr_cell::list::Seq;
 use std::alloc::Global;
 
 impl Client {
@@ -26,7 +26,7 @@ impl Client {
         }
         let ended = ended_of(&self.out);
         self.set_out(None);
-        self.laid = Seq::new(alloc);
+        self.laid = Laid::new(alloc);
         self.cut = true;
         self.cuts += 1;
         CutStep::Cut {

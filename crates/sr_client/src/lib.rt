@@ -6,6 +6,7 @@ pub mod asks;
 pub mod client;
 pub mod cut;
 pub mod explain;
+pub mod laid;
 pub mod laws;
 pub mod misfit;
 pub mod query;

@@ -7,11 +7,12 @@ ghost use Rattle.sr_model.specs.Queries.{Query as TheQuery};
 ghost use Rattle.sr_model.specs.SortedRows.{ascend, key_lt};
 ghost use Rattle.sr_region.specs.Regions.{is_in, rank};
 ghost use Rattle.sr_wire.specs.declared.bad_frame.BadFrame.TheVariants.{State, Number, Version, Shape};
-ghost use Rattle.sr_session.specs.Misfits.{misfit, or_else, known, version_of, is_ask, is_write, is_resume, is_number, parts_of, cells_fit, fit_ask, suits, rows_suit, tell_suits, tells_ascend, told_suits, goes_on, last_came};
+ghost use Rattle.sr_session.specs.Misfits.{misfit, or_else, known, is_ask, is_write, is_resume, is_number, parts_of, cells_fit, fit_ask, suits, rows_suit, tell_suits, tells_ascend, told_suits, goes_on, last_came};
 ghost use Rattle.sr_client.specs.Stands.{out_of};
-ghost use Rattle.sr_client.specs.Shapes.{key_suits, after_suits, is_told_before, brings_rows};
+ghost use Rattle.sr_client.specs.Shapes.{key_suits, after_suits, is_told_before};
 
 use crate::client::Request;
+use crate::laid::Laid;
 use sr_cell::attrs::Attrs;
 use sr_cell::cell::{Cell, Row};
 use sr_cell::table::{Column, Table};
@@ -25,7 +26,7 @@ use sr_wire::bad_frame::BadFrame;
 pub fn misfit(
     schema: &[Table],
     out: &Option<Request>,
-    laid: &[Message],
+    laid: &Laid,
     version: u64,
     message: &Message,
 ) -> Option<BadFrame>
@@ -35,8 +36,8 @@ pub fn misfit(
         Message::Notice {
             version: then,
             told,
-        } => told_misfit(schema, known(version, laid), *then, told.as_slice()),
-        Message::Lapse { version: then } => first_of(false, false, *then <= known(version, laid)),
+        } => told_misfit(schema, laid.known(version), *then, told.as_slice()),
+        Message::Lapse { version: then } => first_of(false, false, *then <= laid.known(version)),
         Message::Rows { number, part, rows } => {
             rows_misfit(schema, out, laid, *number, *part, rows.as_slice())
         }
@@ -46,7 +47,7 @@ pub fn misfit(
         } => first_of(
             !is_ask(out),
             !is_number(out, *number),
-            *then < known(version, laid),
+            *then < laid.known(version),
         ),
         Message::Written {
             number,
@@ -54,7 +55,7 @@ pub fn misfit(
         } => first_of(
             !is_write(out),
             !is_number(out, *number),
-            *then < known(version, laid),
+            *then < laid.known(version),
         ),
         Message::Refused { number, .. } => {
             first_of(!is_write(out), !is_number(out, *number), false)
@@ -66,7 +67,7 @@ pub fn misfit(
         } => first_of(
             !is_resume(out),
             !is_number(out, *number),
-            *then < known(version, laid),
+            *then < laid.known(version),
         ),
         _ => Some(BadFrame::Direction),
     }
@@ -84,28 +85,6 @@ fn first_of(state: bool, number: bool, version: bool) -> Option<BadFrame>
         Some(BadFrame::Version)
     } else {
         None
-    }
-}
-
-// ---- versions
-
-/// The greatest version of the client and of what is laid by.
-fn known(version: u64, laid: &[Message]) -> u64
-    ensures { result ≡ known version laid.now }
-{
-    let mut most = version;
-    for message in laid {
-        most = version_of(message, most);
-    }
-    most
-}
-
-fn version_of(message: &Message, most: u64) -> u64
-    ensures { result ≡ version_of message.now most }
-{
-    match message {
-        Message::Notice { version, .. } | Message::Lapse { version } => most.max(*version),
-        _ => most,
     }
 }
 
@@ -254,7 +233,7 @@ fn is_told_before(tell: &Tell, next: &Tell) -> bool
 fn rows_misfit(
     schema: &[Table],
     out: &Option<Request>,
-    laid: &[Message],
+    laid: &Laid,
     number: u64,
     part: u8,
     rows: &[Row],
@@ -274,7 +253,7 @@ fn rows_misfit(
 }
 
 /// Whether rows are of that part of what was asked, and go on behind those that were laid by.
-fn rows_suit(schema: &[Table], parts: &[AskPart], laid: &[Message], part: u8, rows: &[Row]) -> bool
+fn rows_suit(schema: &[Table], parts: &[AskPart], laid: &Laid, part: u8, rows: &[Row]) -> bool
     ensures { result ≡ rows_suit schema.now parts.now laid.now part rows.now }
 {
     match parts.get(part as usize) {
@@ -352,24 +331,12 @@ fn cells_fit(attrs: Attrs, columns: &[Column], row: &Row) -> bool
 }
 
 /// Whether rows of a part ascend by key, behind the last row that was laid by.
-fn goes_on(key: usize, part: u8, laid: &[Message], rows: &[Row]) -> bool
+fn goes_on(key: usize, part: u8, laid: &Laid, rows: &[Row]) -> bool
     ensures { result ≡ goes_on key part (last_came None laid.now) rows.now }
 {
-    for i in 0..laid.len() {
-        let message = &laid[laid.len() - 1 - i];
-        if brings_rows(message) {
-            return goes_on_after(key, part, message, rows);
-        }
-    }
-    ascends(key, rows)
-}
-
-fn brings_rows(message: &Message) -> bool
-    ensures { result ≡ brings_rows message.now }
-{
-    match message {
-        Message::Rows { rows, .. } => rows.len() > 0,
-        _ => false,
+    match laid.last_rows() {
+        Some(message) => goes_on_after(key, part, message, rows),
+        None => ascends(key, rows),
     }
 }
 

@@ -15,12 +15,13 @@ ghost use Rattle.sr_client.specs.Steps.{Takes, is_bad};
 ghost use Rattle.sr_client.specs.Values.{has_values};
 
 use crate::client::Client;
+use crate::laid::Laid;
 use crate::steps::Took;
 use crate::take::has_lapse;
 use crate::values::know_messages;
 use sr_cell::cause::Cause;
 use sr_cell::fault::Fault;
-use sr_cell::list::{NoMemory, Seq};
+use sr_cell::list::NoMemory;
 use sr_history::mark::Marks;
 use sr_message::message::Message;
 use std::alloc::Global;
@@ -162,7 +163,7 @@ impl Client {
         ensures numbers_left { OnErr result (KeepsNumbers self.old self.new) }
     {
         let marks = self.store.drop_all(alloc, cause)?;
-        self.laid = Seq::new(alloc);
+        self.laid = Laid::new(alloc);
         self.set_out(None);
         self.version = version;
         Ok(marks)
@@ -179,7 +180,7 @@ impl Client {
         ensures cuts { self.new.cuts ≡ self.old.cuts }
         ensures numbers_left { OnErr result (KeepsNumbers self.old self.new) }
     {
-        let laid = mem::replace(&mut self.laid, Seq::new(alloc));
+        let laid = mem::replace(&mut self.laid, Laid::new(alloc));
         self.apply_laid(alloc, &mut [], laid)?;
         let marks = self.store.fit(alloc, &self.schema)?;
         self.set_out(None);

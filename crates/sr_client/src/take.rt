@@ -23,6 +23,7 @@ ghost use Rattle.sr_client.specs.Steps.{Takes, is_bad};
 use crate::answer::answer;
 use crate::asks::whole_asks;
 use crate::client::{AskOut, Client, Request};
+use crate::laid::Laid;
 use crate::misfit::misfit;
 use crate::steps::Took;
 use crate::values::{know_messages, know_told};
@@ -30,7 +31,7 @@ use sr_cell::cause::Cause;
 use sr_cell::cell::Rows;
 use sr_cell::list::{Copied, NoMemory, Seq};
 use sr_cell::schema::Schema;
-use sr_message::message::{AskPart, Message, Messages, Tell};
+use sr_message::message::{AskPart, Message, Tell};
 use sr_store::store::{Arrival, Arrivals};
 use std::alloc::Global;
 use std::mem;
@@ -55,7 +56,7 @@ impl Client {
         let why = misfit(
             self.schema.as_slice(),
             &self.out,
-            self.laid.as_slice(),
+            &self.laid,
             self.version,
             &message,
         );
@@ -313,7 +314,7 @@ impl Client {
         ensures cuts { self.new.cuts ≡ self.old.cuts }
     {
         let mut arrivals = arrivals_of(alloc, &self.schema, out.parts.as_slice())?;
-        let laid = mem::replace(&mut self.laid, Seq::new(alloc));
+        let laid = mem::replace(&mut self.laid, Laid::new(alloc));
         self.apply_laid(alloc, arrivals.as_mut_slice(), laid)?;
         Ok(Seq::from_vec(arrivals))
     }
@@ -323,7 +324,7 @@ impl Client {
         &mut self,
         alloc: Global,
         arrivals: &mut [Arrival],
-        laid: Messages,
+        laid: Laid,
     ) -> Result<(), NoMemory>
         requires { (schema : List TheTable) × IsStore schema self.old.store.regions × All (TellsRows schema) laid }
         ensures arrivals { OnOk result (arrivals.new ≡ with_messages laid arrivals.old) }
@@ -393,7 +394,7 @@ impl Client {
         let second = second_ask(alloc, out, request)?;
         let message = self.put_out(alloc, second)?;
         self.version = version;
-        self.laid = Seq::new(alloc);
+        self.laid = Laid::new(alloc);
         Ok(Took::Asked {
             request,
             message,

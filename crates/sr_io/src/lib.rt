@@ -3,6 +3,7 @@
 
 pub mod fails;
 pub mod file;
+pub mod laws;
 pub mod mem_host;
 pub mod mem_link;
 pub mod mem_sink;

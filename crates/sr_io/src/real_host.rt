@@ -1,5 +1,5 @@
 //! The host over the runtime: files, standard input and output, the error output, and TCP connections.
-ghost use Rattle.std.specs.Prelude.{◌≡◌, ◌<◌, ◌≤◌, [], length, Some, None, IfSome};
+ghost use Rattle.std.specs.Prelude.{◌≡◌, ◌<◌, ◌≤◌, [], length, Some, None, IfSome, OnOk, OnErr};
 ghost use Rattle.std.specs.Option.{is_some};
 ghost use Rattle.sr_io.specs.Told.{no_linking};
 
@@ -8,7 +8,8 @@ use sr_cell::list::No;
 use std::io::{ErrorKind, Read, Write};
 use std::net::{Net, OpenListener, OpenStream, TcpListener, TcpStream};
 use std::rt::Files;
-use std::{fs, str};
+use std::time::Duration;
+use std::{fs, io, str};
 
 /// What is read at present.
 #[derive(Drop)]
@@ -25,14 +26,24 @@ pub struct RealHost<R: Files + Input + Print + Eprint + Net + Drop> {
     current: Current<R::File, R::Reader>,
     stream: Option<R::Stream>,
     listener: Option<R::Listener>,
+    patience: Duration,
     read_faults: u64,
     write_faults: u64,
     link_faults: u64,
 }
 
 impl<R: Files + Input + Print + Eprint + Net + Drop> RealHost<R> {
-    /// Nothing is picked or connected yet.
+    /// Nothing is picked or connected yet. A receive for which nothing comes in 60 seconds fails, and a send of which nothing goes.
     pub fn new(rt: R) -> RealHost<R>
+        ensures reading { ⟦<RealHost<R> as Outside>⟧.reading result ≡ record { left = None; faults = 0 } }
+        ensures writing { ⟦<RealHost<R> as Outside>⟧.writing result ≡ record { written = None; faults = 0 } }
+        ensures linking { ⟦<RealHost<R> as Outside>⟧.linking result ≡ no_linking }
+    {
+        RealHost::with_patience(rt, Duration::from_secs(60))
+    }
+
+    /// The same, but for how long a receive and a send wait.
+    pub fn with_patience(rt: R, patience: Duration) -> RealHost<R>
         ensures reading { ⟦<RealHost<R> as Outside>⟧.reading result ≡ record { left = None; faults = 0 } }
         ensures writing { ⟦<RealHost<R> as Outside>⟧.writing result ≡ record { written = None; faults = 0 } }
         ensures linking { ⟦<RealHost<R> as Outside>⟧.linking result ≡ no_linking }
@@ -42,19 +53,25 @@ impl<R: Files + Input + Print + Eprint + Net + Drop> RealHost<R> {
             current: Current::Nothing,
             stream: None,
             listener: None,
+            patience,
             read_faults: 0,
             write_faults: 0,
             link_faults: 0,
         }
     }
 
-    /// From now on this connection is used.
-    fn connect(&mut self, stream: R::Stream)
-        ensures { self.new ≡ record self.old { stream = Some stream } }
+    /// From now on this connection is used, where the system can say when the peer is silent for too long.
+    fn connect(&mut self, stream: R::Stream) -> io::Result<()>
+        ensures used { OnOk result (self.new ≡ record self.old { stream = Some stream }) }
+        ensures unchanged { OnErr result (self.new ≡ self.old) }
     {
         // else a small frame behind another would wait
         let _ = stream.set_nodelay(true);
+        // else a peer that has vanished would be waited for forever
+        stream.set_read_timeout(Some(self.patience))?;
+        stream.set_write_timeout(Some(self.patience))?;
         self.stream = Some(stream);
+        Ok(())
     }
 }
 
@@ -191,8 +208,8 @@ impl<R: Files + Input + Print + Eprint + Net + Drop> Dock for RealHost<R> {
     fn accept(&mut self) -> Result<(), No<Failed>> {
         if let Some(listener) = &self.listener
             && let Ok((stream, _)) = listener.accept()
+            && self.connect(stream).is_ok()
         {
-            self.connect(stream);
             return Ok(());
         }
         Err(count_fault(&mut self.link_faults))
@@ -220,13 +237,12 @@ impl<R: Files + Input + Print + Eprint + Net + Drop> Host for RealHost<R> {
     }
 
     fn dial(&mut self, address: &str) -> Result<(), No<Failed>> {
-        match TcpStream::connect(&self.rt, address) {
-            Ok(stream) => {
-                self.connect(stream);
-                Ok(())
-            }
-            Err(_) => Err(count_fault(&mut self.link_faults)),
+        if let Ok(stream) = TcpStream::connect(&self.rt, address)
+            && self.connect(stream).is_ok()
+        {
+            return Ok(());
         }
+        Err(count_fault(&mut self.link_faults))
     }
 
     /// What is no text is not said.

@@ -9,25 +9,31 @@ use sr_cell::list::NoMemory;
 use std::alloc::Global;
 use std::marker::Model;
 
-/// The newest versions with their changes: as many as have at most `limit` changes together.
+/// The newest versions with their changes: as many as have at most `limit` changes together. The first `gone` entries are
+/// dropped already, and leave when they are many.
 #[derive(Drop)]
 pub struct Log {
     limit: u32,
     floor: u64,
     count: usize,
+    gone: usize,
     entries: Vec<Entry>,
 }
 
 impl Model for Log {
-    ghost use Rattle.std.specs.Prelude.{◌≡◌, ◌-◌, ◌+◌, ◌<◌, ◌≤◌, ◌^◌, vec_len, vec_capacity};
+    ghost use Rattle.std.specs.Prelude.{◌≡◌, ◌-◌, ◌+◌, ◌<◌, ◌≤◌, ◌^◌, drop, vec_len, vec_capacity};
     ghost use Rattle.sr_log.specs.Held.{Held, changes_of, numbered};
     ghost use Rattle.sr_log.specs.Kept.{total};
 
     ghost Value = { Held };
 
-    ghost view = { λ l. record { limit = l.limit; floor = l.floor; kept = changes_of l.entries.items; room = vec_capacity l.entries - vec_len l.entries } };
+    ghost view = { λ l. record { limit = l.limit; floor = l.floor; kept = changes_of (drop l.gone l.entries.items); room = vec_capacity l.entries - vec_len l.entries } };
 
-    ghost invariant = { λ l. (l.entries.items ≡ numbered l.floor (changes_of l.entries.items)) × (l.count ≡ total (changes_of l.entries.items)) × (l.count ≤ l.limit) × (l.floor + vec_len l.entries < 2 ^ 64) };
+    ghost invariant = { λ l. (l.gone ≤ vec_len l.entries)
+        × (drop l.gone l.entries.items ≡ numbered l.floor (changes_of (drop l.gone l.entries.items)))
+        × (l.count ≡ total (changes_of (drop l.gone l.entries.items)))
+        × (l.count ≤ l.limit)
+        × (l.floor + vec_len l.entries < 2 ^ 64 + l.gone) };
 }
 
 impl Log {
@@ -41,6 +47,7 @@ impl Log {
             limit,
             floor: 0,
             count: 0,
+            gone: 0,
             entries: Vec::new(alloc),
         }
     }
@@ -70,8 +77,8 @@ impl Log {
         // no slice is so long that the sum would wrap
         let count = self.count + changes.as_slice().len();
         self.entries.push_reserved(Entry { version, changes });
-        let (dropped, left) = surplus(&self.entries, count, self.limit as usize);
-        drop_first(&mut self.entries, dropped);
+        let (dropped, left) = surplus(&self.entries[self.gone..], count, self.limit as usize);
+        self.gone = leave(&mut self.entries, self.gone + dropped);
         self.floor += dropped as u64;
         self.count = left;
     }
@@ -80,7 +87,7 @@ impl Log {
     pub fn version(&self) -> u64
         ensures { result ≡ newest self.now }
     {
-        self.floor + self.entries.len() as u64
+        self.floor + (self.entries.len() - self.gone) as u64
     }
 
     /// The versions above that one, oldest first; none where one of them was dropped.
@@ -92,8 +99,9 @@ impl Log {
             return None;
         }
         let known = (version - self.floor) as usize;
-        let first = known.min(self.entries.len());
-        Some(&self.entries[first..])
+        let kept = &self.entries[self.gone..];
+        let first = known.min(kept.len());
+        Some(&kept[first..])
     }
 }
 
@@ -112,13 +120,17 @@ fn surplus(entries: &[Entry], count: usize, limit: usize) -> (usize, usize)
     (dropped, left)
 }
 
-/// Drops the first entries.
-fn drop_first(entries: &mut Vec<Entry>, count: usize)
-    requires { count ≤ vec_len entries.old }
-    ensures rest { entries.new.items ≡ drop count entries.old.items }
-    ensures capacity { vec_capacity entries.old ≤ vec_capacity entries.new }
+/// Lets the first entries leave where they are more than an eighth of the others, so that each moves eight at most in the mean.
+/// Answers how many are still there.
+fn leave(entries: &mut Vec<Entry>, gone: usize) -> usize
+    requires { gone ≤ vec_len entries.old }
+    ensures rest { drop result entries.new.items ≡ drop gone entries.old.items }
+    ensures within { result ≤ vec_len entries.new }
+    ensures room { vec_capacity entries.old + vec_len entries.new ≤ vec_capacity entries.new + vec_len entries.old }
 {
-    if count > 0 {
-        let _ = entries.drain(..count);
+    if gone <= (entries.len() - gone) / 8 {
+        return gone;
     }
+    let _ = entries.drain(..gone);
+    0
 }

@@ -1,2 +1,3 @@
 pub mod Execs
 pub mod Runs
+pub mod Address

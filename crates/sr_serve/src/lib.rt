@@ -2,4 +2,5 @@
 #![tactic(auto)]
 
 pub mod exec;
+pub mod laws;
 pub mod serve;

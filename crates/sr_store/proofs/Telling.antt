@@ -1,9 +1,7 @@
 -- Regions once it is told which rows keys have.
-use Rattle.std.proofs.Common.{◌≡◌, ◌≢◌, ℕ, zero, suc, ◌+◌, ◌<◌, Bool, true, false, cond, not, List, [], ◌∷◌, ◌++◌, length, take, drop, map, refl, sym, ap, subst, ◌∙◌, arith, eqb-true}
-use Rattle.std.specs.Prelude.{◌==◌, filter, fold, slice_index_or, Option, Some, None, if◌then◌else◌}
+use Rattle.std.proofs.Common.{◌≡◌, ℕ, ◌+◌, Bool, true, false, cond, not, List, [], ◌∷◌, length, map, refl, sym, ap, subst, ◌∙◌, arith, eqb-true}
+use Rattle.std.specs.Prelude.{◌==◌, filter, fold, Option, Some, None, if◌then◌else◌}
 use Rattle.std.specs.List.{All}
-use Rattle.std.proofs.lemmas.Bool.Decides.{nat_tests}
-use Rattle.std.proofs.lemmas.List.{at_drop_more}
 use Rattle.std.proofs.lemmas.List.Elements.{All-nil, All-cons, All-head, All-tail, All-filter}
 use Rattle.sr_cell.specs.declared.cell.Cell.{Cell}
 use Rattle.sr_cell.specs.declared.table.Table.{Table}
@@ -24,15 +22,13 @@ use Rattle.sr_rows.specs.Keys.{without_key}
 use Rattle.sr_region.proofs.Parts.{is_in-point}
 use Rattle.sr_region.proofs.Ordered.{All-with_row}
 use Rattle.sr_region.proofs.Places.{row-front}
-use Rattle.sr_region.proofs.Applied.{applied-region, rows-apart}
+use Rattle.sr_region.proofs.Applied.{rows-apart}
+use Rattle.sr_regions.specs.Touched.{told_one, told_all}
+use Rattle.sr_regions.proofs.Telling.{told-of-schema}
 use Rattle.sr_store.specs.Classes.{is_of, occurs, is_before, ascends}
 use Rattle.sr_store.specs.Told.{Told, IsTold, IsTrueOf, AreTrueOf}
 use Rattle.sr_store.specs.Stores.{IsOfSchema, count_rects}
 use Rattle.sr_store.specs.Noticed.{told_to, IsTellOf}
-
--- the region after one tell
-abbrev pub after_tell : Tell → Region → Region
-after_tell tell g = if tell.table == g.table then applied tell.key tell.after g else g
 
 -- ---- only the rows change
 
@@ -117,13 +113,6 @@ module _ (schema : List Table) (tell : Tell) (is : IsTellOf schema tell) where
       ascending t a has true e = cells-ascend (table_at schema t) a tell.key (told t a) tell.after has (new-in t e) (h.rows t a) (h.ascending t a has)
       ascending t a has false e = h.ascending t a has
 
-  pub of-schema : (g : Region) → IsOfSchema schema g → IsOfSchema schema (after_tell tell g)
-  of-schema g h = go (tell.table == g.table) refl
-    where
-      go : (b : Bool) → (tell.table == g.table) ≡ b → IsOfSchema schema (if b then applied tell.key tell.after g else g)
-      go true e = (h.0, applied-region (table_at schema g.table) tell.key tell.after g h.1 (new-in g.table e))
-      go false e = h
-
 -- ---- a change commutes with taking a part
 
 filters-swap : (f g : Row → Bool) (rows : List Row) → filter f (filter g rows) ≡ filter g (filter f rows)
@@ -190,7 +179,7 @@ module _ (t : Table) (g : Region) (h : IsRegion t g) (v : Cell) (rows : List Row
       left = without_key (rank g.attrs g.key) v rows
 
 module _ (schema : List Table) (tell : Tell) (is : IsTellOf schema tell) where
-  true-after : (told : Told) (g : Region) → IsTold schema told → IsOfSchema schema g → IsTrueOf told g → IsTrueOf (tells schema tell told) (after_tell tell g)
+  true-after : (told : Told) (g : Region) → IsTold schema told → IsOfSchema schema g → IsTrueOf told g → IsTrueOf (tells schema tell told) (told_one tell g)
   true-after told g k h own = go (tell.table == g.table) refl
     where
       key : g.key ≡ (table_at schema g.table).key
@@ -217,7 +206,7 @@ module _ (schema : List Table) where
   pub of-schema-all : (told : List Tell) (g : Region) → All (IsTellOf schema) told → IsOfSchema schema g → IsOfSchema schema (told_to told g)
   of-schema-all [] g all h = h
   of-schema-all (tell ∷ told) g all h =
-      of-schema-all told (after_tell tell g) (All-tail (IsTellOf schema) tell told all) (of-schema schema tell (All-head (IsTellOf schema) tell told all) g h)
+      of-schema-all told (told_one tell g) (All-tail (IsTellOf schema) tell told all) (told-of-schema schema tell g (All-head (IsTellOf schema) tell told all) h)
 
   pub told-all : (told : List Tell) (telling : Told) → All (IsTellOf schema) told → IsTold schema telling → IsTold schema (tells_all schema told telling)
   told-all [] telling all h = h
@@ -229,7 +218,7 @@ module _ (schema : List Table) where
   true-all [] telling g all k h own = own
   true-all (tell ∷ told) telling g all k h own =
       let one = All-head (IsTellOf schema) tell told all in
-      true-all told (tells schema tell telling) (after_tell tell g) (All-tail (IsTellOf schema) tell told all) (told-after schema tell one telling k) (of-schema schema tell one g h)
+      true-all told (tells schema tell telling) (told_one tell g) (All-tail (IsTellOf schema) tell told all) (told-after schema tell one telling k) (told-of-schema schema tell g one h)
       (true-after schema tell one telling g k h own)
 
   pub each-told : (told : List Tell) (regions : List Region) → All (IsTellOf schema) told → All (IsOfSchema schema) regions → All (IsOfSchema schema) (map (told_to told) regions)
@@ -246,32 +235,16 @@ module _ (schema : List Table) where
       (true-all told telling g all k (All-head (IsOfSchema schema) g regions each) (All-head (IsTrueOf telling) g regions own))
       (true-each told telling regions all k (All-tail (IsOfSchema schema) g regions each) (All-tail (IsTrueOf telling) g regions own))
 
--- ---- as tells and regions are gone through
+-- ---- tell by tell, and region by region
 
-pub own-tell : (tell : Tell) (g : Region) → tell.table ≡ g.table → applied tell.key tell.after g ≡ after_tell tell g
-own-tell tell g same = let e : (tell.table == g.table) ≡ true = grind (arith, nat_tests) in sym (ap (λ b. if b then applied tell.key tell.after g else g) e)
+map-told : (tell : Tell) (told : List Tell) (regions : List Region) → map (told_to told) (map (told_one tell) regions) ≡ map (told_to (tell ∷ told)) regions
+map-told tell told [] = refl
+map-told tell told (g ∷ regions) = ap (λ gs. told_to told (told_one tell g) ∷ gs) (map-told tell told regions)
 
-pub other-tell : (tell : Tell) (g : Region) → tell.table ≢ g.table → g ≡ after_tell tell g
-other-tell tell g differ = let e : (tell.table == g.table) ≡ false = grind (arith, nat_tests, differ) in sym (ap (λ b. if b then applied tell.key tell.after g else g) e)
+map-none : (regions : List Region) → regions ≡ map (told_to []) regions
+map-none [] = refl
+map-none (g ∷ regions) = ap (λ gs. g ∷ gs) (map-none regions)
 
-pub told-more : (told : List Tell) (i : ℕ) (tell : Tell) (g h first : Region) → i < length told → tell ≡ slice_index_or told i tell → h ≡ after_tell tell g
-    → told_to (drop i told) g ≡ told_to told first → told_to (drop (i + 1) told) h ≡ told_to told first
-told-more told i tell g h first below at is own =
-    ap (told_to (drop (i + 1) told)) (is ∙ ap (λ x. after_tell x g) at)
-    ∙ sym (at_drop_more (λ ts. told_to ts g) told i tell below) ∙ own
-
--- a region of a schema that the tells are of
-abbrev pub IsTellable : List Tell → Region → Type 0
-IsTellable told g = (schema : List Table) × IsOfSchema schema g × All (IsTellOf schema) told
-
-pub tellable-more : (told : List Tell) (i : ℕ) (tell : Tell) (g h : Region) → i < length told → tell ≡ slice_index_or told i tell → h ≡ after_tell tell g → IsTellable told g → IsTellable told h
-tellable-more told i tell g h below at is all =
-    let schema = all.0 in
-    let one : IsTellOf schema tell = subst (IsTellOf schema) (sym at) (all.2 i tell below) in
-    (schema, subst (IsOfSchema schema) (sym is) (of-schema schema tell one g all.1), all.2)
-
--- the regions behind those that are told are as they were
-pub next-untold : (f : Region → Region) (regions : List Region) (i : ℕ) (d : Region) → i < length regions → slice_index_or (map f (take i regions) ++ drop i regions) i d ≡ slice_index_or regions i d
-next-untold f [] i d below = absurd (omega arith)
-next-untold f (g ∷ regions) zero d below = refl
-next-untold f (g ∷ regions) (suc i) d below = next-untold f regions i d (omega arith)
+pub told-each : (told : List Tell) (regions : List Region) → told_all told regions ≡ map (told_to told) regions
+told-each [] regions = map-none regions
+told-each (tell ∷ told) regions = told-each told (map (told_one tell) regions) ∙ map-told tell told regions

@@ -1,5 +1,5 @@
 -- The regions of a client, and what of them a part of a query uses.
-use Rattle.std.specs.Prelude.{ℕ, Bool, true, not, ◌&&◌, ◌==◌, ◌≤◌, ◌<◌, List, length, filter, flat_map, sum_by, ◌≡◌, IsTrue}
+use Rattle.std.specs.Prelude.{ℕ, Bool, true, not, ◌&&◌, ◌==◌, ◌≤◌, List, length, filter, flat_map, sum_by, ◌≡◌, IsTrue}
 use Rattle.std.specs.List.{All}
 use Rattle.sr_cell.specs.declared.cause.Cause.{Cause}
 use Rattle.sr_cell.specs.declared.cell.Cell.{Cell}
@@ -13,12 +13,8 @@ use Rattle.sr_query.specs.declared.query.Part.{Part}
 use Rattle.sr_history.specs.declared.mark.Mark.{Mark}
 use Rattle.sr_history.specs.declared.mark.Mark.TheVariants.{Dropped}
 use Rattle.sr_region.specs.declared.region.Region.{Region}
-use Rattle.sr_region.specs.Regions.{IsRegion}
+pub use Rattle.sr_regions.specs.Touched.{IsOfSchema}
 use Rattle.sr_store.specs.Classes.{occurs, key_occurs, ascends}
-
--- a region of a table of the schema
-abbrev pub IsOfSchema : List Table → Region → Type 0
-IsOfSchema schema g = (g.table < length schema) × IsRegion (table_at schema g.table) g
 
 abbrev pub count_rects : List Region → ℕ
 count_rects regions = sum_by (λ g. length g.rects) regions

@@ -8,6 +8,7 @@ ghost use Rattle.sr_box.specs.Points.{rect_fits};
 ghost use Rattle.sr_history.specs.declared.mark.Mark.{Mark as TheMark};
 ghost use Rattle.sr_union.specs.Centre.{centre_of};
 ghost use Rattle.sr_policy.specs.declared.policy.ClassView.{ClassView as View};
+ghost use Rattle.sr_policy.specs.declared.policy.Last.{Last as TheLast};
 ghost use Rattle.sr_query.specs.Bound.{is_table};
 ghost use Rattle.sr_query.specs.declared.query.Part.{Part as ThePart};
 ghost use Rattle.sr_store.specs.Stores.{IsOfSchema, IsStore};
@@ -49,6 +50,13 @@ fn are_many(regions: &[Region], limits: Limits) -> bool
     ensures { result ≡ nat_lt limits.regions (length regions.now) }
 {
     regions.len() > limits.regions as usize
+}
+
+/// Whether the regions are within the limits.
+pub(crate) fn are_within(regions: &[Region], limits: Limits) -> bool
+    ensures { (schema : List TheTable) (last : List TheLast) → result ≡ true → IsFitted schema limits last regions.now regions.now [] }
+{
+    !are_many_rows(regions, limits) && !are_many(regions, limits)
 }
 
 /// Appends the region as a policy sees it.
@@ -162,7 +170,7 @@ pub(crate) fn fitted(
     ensures { IfOk result (λ kept. (drops : List TheMark) × IsFitted schema.now limits last.now answer.regions kept.regions drops × (kept.marks ≡ answer.marks ++ drops)) }
 {
     let Answer { regions, marks } = answer;
-    if !are_many_rows(regions.as_slice(), limits) && !are_many(regions.as_slice(), limits) {
+    if are_within(regions.as_slice(), limits) {
         return Ok(Answer { regions, marks });
     }
     let views = views_of(alloc, schema, regions.as_slice())?;

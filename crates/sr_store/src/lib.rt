@@ -4,7 +4,6 @@
 mod absorb;
 mod add;
 mod answer;
-mod apply;
 mod arrive;
 mod fit;
 mod give_way;

@@ -1,5 +1,5 @@
 //! The regions of a client.
-ghost use Rattle.std.specs.Prelude.{◌≡◌, ◌<◌, ◌≤◌, ◌-◌, ◌^◌, min, true, ◌⊎◌, List, [], ◌∷◌, ◌++◌, length, map, slice_get, Some, IfOk, IfErr, OnOk, OnErr, IsTrue};
+ghost use Rattle.std.specs.Prelude.{◌≡◌, ◌<◌, ◌≤◌, ◌+◌, ◌-◌, ◌^◌, min, true, ◌⊎◌, List, [], ◌∷◌, ◌++◌, length, map, slice_get, Some, IfOk, IfErr, OnOk, OnErr, IsTrue};
 ghost use Rattle.std.specs.List.{list_all, All};
 ghost use Rattle.sr_cell.specs.declared.table.Table.{Table as TheTable};
 ghost use Rattle.sr_cell.specs.Columns.{table_at};
@@ -8,6 +8,8 @@ ghost use Rattle.sr_box.specs.Points.{rect_fits, constrains_only};
 ghost use Rattle.sr_union.specs.Pieces.{near};
 ghost use Rattle.sr_query.specs.Bound.{is_table};
 ghost use Rattle.sr_query.specs.declared.query.Part.{Part as ThePart};
+ghost use Rattle.sr_regions.specs.Holders.{holders_of};
+ghost use Rattle.sr_regions.specs.Touched.{count_all};
 ghost use Rattle.sr_store.specs.Told.{Told, IsTold, AreTrueOf};
 ghost use Rattle.sr_store.specs.Stores.{IsStore, cover_of, drop_of};
 ghost use Rattle.sr_store.specs.Answered.{IsArrival, AreApart, BringOwnKeys, giving_way, HaveArrived, IsGivenUp, rects_on};
@@ -16,14 +18,13 @@ ghost use Rattle.sr_store.specs.Noticed.{told_to, IsTellOf};
 ghost use Rattle.sr_store.specs.Renewing.{IsCutFrom};
 
 use crate::answer::{Answer, Outcome, answer_of};
-use crate::apply::told_all;
-use crate::fit::{count_rows, fitted, lasts_of};
+use crate::fit::{are_within, count_rows, fitted, lasts_of};
 use crate::give_way::given_way;
 use crate::marks::drop_marks;
 use crate::restamp::append_copy;
 use sr_cell::attrs::Attrs;
 use sr_cell::cause::Cause;
-use sr_cell::cell::Rows;
+use sr_cell::cell::{Cell, Rows};
 use sr_cell::list::{NoMemory, Seq};
 use sr_cell::schema::Schema;
 use sr_history::mark::Marks;
@@ -31,9 +32,14 @@ use sr_message::message::Tell;
 use sr_policy::policy::{Lasts, Limits};
 use sr_query::query::Part;
 use sr_region::region::Region;
+use sr_regions::holders::Classes;
+use sr_regions::regions::Regions;
+use sr_regions::steps::Steps;
 use sr_union::rects::Rects;
 use std::alloc::Global;
+use std::marker::Brand;
 use std::mem;
+use std::sync::ledger::{Blank, Ledger};
 
 /// What was asked of a table, and the rows that came.
 #[derive(Drop)]
@@ -57,7 +63,7 @@ pub struct NoSuch {
 /// what the last answered query asked of its tables.
 #[derive(Drop)]
 pub struct Store {
-    pub regions: Seq<Region>,
+    pub regions: Regions,
     pub limits: Limits,
     pub last: Lasts,
 }
@@ -77,7 +83,7 @@ impl Store {
         ensures { result ≡ record { regions = []; limits = limits; last = [] } }
     {
         Store {
-            regions: Seq::new(alloc),
+            regions: Regions::new(alloc),
             limits,
             last: Seq::new(alloc),
         }
@@ -144,8 +150,8 @@ impl Store {
         ensures limits { self.new.limits ≡ self.old.limits }
         ensures nothing_left { OnErr result (self.new.regions ≡ []) }
     {
-        let held = mem::replace(&mut self.regions, Seq::new(alloc));
-        let old = given_way(held, arrivals.as_slice());
+        let held = mem::replace(&mut self.regions, Regions::new(alloc));
+        let old = given_way(held.into_seq(), arrivals.as_slice());
         self.last = lasts_of(alloc, schema, parts)?;
         match answer_of(alloc, schema, number, parts, arrivals, old)? {
             Outcome::Answered(answer) => self.keep(alloc, schema, answer),
@@ -164,7 +170,7 @@ impl Store {
         ensures nothing_left { OnErr result (self.new.regions ≡ []) }
     {
         let kept = fitted(alloc, schema, self.limits, self.last.as_slice(), answer)?;
-        self.regions = kept.regions;
+        self.regions = Regions::of(kept.regions);
         Ok(kept.marks)
     }
 
@@ -178,8 +184,11 @@ impl Store {
         ensures limits { self.new.limits ≡ self.old.limits }
         ensures nothing_left { OnErr result (self.new.regions ≡ []) }
     {
-        let regions = mem::replace(&mut self.regions, Seq::new(alloc));
         let marks = Seq::new(alloc);
+        if are_within(self.regions.as_slice(), self.limits) {
+            return Ok(marks);
+        }
+        let regions = mem::replace(&mut self.regions, Regions::new(alloc)).into_seq();
         self.keep(alloc, schema, Answer { regions, marks })
     }
 
@@ -193,9 +202,55 @@ impl Store {
         ensures limits { self.new.limits ≡ self.old.limits }
         ensures nothing_left { OnErr result (self.new.regions ≡ []) }
     {
-        let regions = mem::replace(&mut self.regions, Seq::new(alloc));
-        self.regions = told_all(alloc, regions, told)?;
-        Ok(())
+        self.apply_from::<Brand>(alloc, told, Blank::new(1))
+    }
+
+    /// The same, with the steps counted from a blank on, and the count let go.
+    fn apply_from<L: Ledger>(
+        &mut self,
+        alloc: Global,
+        told: &[Tell],
+        blank: Blank,
+    ) -> Result<(), NoMemory>
+        requires name { blank.name ≡ L.name }
+        requires parts { blank.parts ≡ L.parts }
+        requires some { 0 < blank.parts }
+        requires tellable { (schema : List TheTable) × IsStore schema self.old.regions × All (IsTellOf schema) told.now }
+        ensures applied { OnOk result (self.new ≡ record self.old { regions = map (told_to told.now) self.old.regions }) }
+        ensures nothing_left { OnErr result (self.new ≡ record self.old { regions = [] }) }
+    {
+        let mut steps: Steps<L> = Steps::new(blank);
+        self.apply_counted(alloc, told, &mut steps)
+    }
+
+    /// The same, with a count of its steps, each of which applies a change to a region: a change takes no more steps than there are
+    /// regions of its table that have a row with its key or whose rects have its new row.
+    pub fn apply_counted<L: Ledger>(
+        &mut self,
+        alloc: Global,
+        told: &[Tell],
+        steps: &mut Steps<L>,
+    ) -> Result<(), NoMemory>
+        requires { (schema : List TheTable) × IsStore schema self.old.regions × All (IsTellOf schema) told.now }
+        ensures applied { OnOk result (self.new ≡ record self.old { regions = map (told_to told.now) self.old.regions }) }
+        ensures bound { OnOk result (steps.new ≤ steps.old + count_all told.now self.old.regions) }
+        ensures nothing_left { OnErr result (self.new ≡ record self.old { regions = [] }) }
+    {
+        match self.regions.apply_counted(alloc, told, steps) {
+            Ok(()) => Ok(()),
+            Err(no) => {
+                self.forget(alloc);
+                Err(no)
+            }
+        }
+    }
+
+    /// The classes that hold a row with that key of the table, in class order.
+    pub fn holders(&self, alloc: Global, table: u8, key: &Cell) -> Result<Classes, NoMemory>
+        requires { (schema : List TheTable) × IsStore schema self.now.regions }
+        ensures { IfOk result (λ classes. classes ≡ holders_of self.now.regions table key.now) }
+    {
+        self.regions.holders(alloc, table, key)
     }
 
     /// Drops all regions, in class order, also where there is no memory for the marks.
@@ -203,8 +258,8 @@ impl Store {
         ensures marks { IfOk result (λ marks. marks ≡ map (drop_of cause) self.old.regions) }
         ensures nothing_left { self.new ≡ record self.old { regions = [] } }
     {
-        let old = mem::replace(&mut self.regions, Seq::new(alloc));
-        drop_marks(Seq::new(alloc), cause, old)
+        let old = mem::replace(&mut self.regions, Regions::new(alloc));
+        drop_marks(Seq::new(alloc), cause, old.into_seq())
     }
 
     /// Takes out the region of that number, counted from 0.
@@ -226,6 +281,6 @@ impl Store {
     pub fn forget(&mut self, alloc: Global)
         ensures { self.new ≡ record self.old { regions = [] } }
     {
-        self.regions = Seq::new(alloc);
+        self.regions = Regions::new(alloc);
     }
 }

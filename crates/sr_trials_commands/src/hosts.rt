@@ -1,8 +1,10 @@
-//! The real host: it links another, and reads a file.
+//! The real host: it links another, gives up a peer that is silent for too long, and reads a file.
 use sr_cell::list::No;
 use sr_io::outside::{Failed, Host};
 use sr_io::real_host::RealHost;
 use sr_io::whole::send_all;
+use std::test::Fail;
+use std::time::{Duration, Instant};
 
 /// Whether the call failed.
 fn fails<T: Drop>(came: Result<T, No<Failed>>) -> bool {
@@ -24,13 +26,18 @@ fn dock_somewhere<H: Host>(host: &mut H) -> Option<&'static str> {
     None
 }
 
+/// Connects the client to the server.
+fn connect<H: Host>(server: &mut H, client: &mut H) -> Result<(), No<Failed>> {
+    let address = dock_somewhere(server);
+    client.dial(address.unwrap_or(""))?;
+    server.accept()
+}
+
 /// Whether the client receives nothing before it dials, and the server then what it sends, and the end.
 fn links<H: Host>(server: &mut H, client: &mut H) -> Result<bool, No<Failed>> {
     let mut room = [0u8; 4];
     let is_alone = fails(client.recv(&mut room));
-    let address = dock_somewhere(server);
-    client.dial(address.unwrap_or(""))?;
-    server.accept()?;
+    connect(server, client)?;
     send_all(client, b"ab")?;
     let sent = server.recv(&mut room)?;
     client.hang_up();
@@ -44,6 +51,46 @@ fn the_real_host_links_another(rt: HostRuntime) {
     let mut server = RealHost::new(&rt);
     let mut client = RealHost::new(&rt);
     assert!(rt; links(&mut server, &mut client) == Ok(true));
+}
+
+/// Whether the server gives up to receive while the client is silent, and receives what the client sends then.
+fn outlasts_silence<H: Host>(server: &mut H, client: &mut H) -> Result<bool, No<Failed>> {
+    let mut room = [0u8; 4];
+    connect(server, client)?;
+    let is_given_up = fails(server.recv(&mut room));
+    send_all(client, b"ab")?;
+    let sent = server.recv(&mut room)?;
+    Ok(is_given_up && sent == 2 && server.link_faults() == 1)
+}
+
+#[test]
+fn a_silent_peer_is_given_up(rt: HostRuntime) -> Result<(), Fail> {
+    let patience = Duration::from_millis(100);
+    let mut server = RealHost::with_patience(&rt, patience);
+    let mut client = RealHost::new(&rt);
+    let start = Instant::now(&rt)?;
+    assert!(rt; outlasts_silence(&mut server, &mut client) == Ok(true));
+    assert!(rt; start.elapsed(&rt)? >= patience);
+    Ok(())
+}
+
+/// Whether the server gives up to send to the client, which reads nothing, once the system keeps no more for it.
+fn outlasts_deafness<H: Host>(server: &mut H, client: &mut H) -> Result<bool, No<Failed>> {
+    let bytes = [0u8; 4096];
+    connect(server, client)?;
+    for _ in 0..16384 {
+        if fails(send_all(server, &bytes)) {
+            return Ok(server.link_faults() == 1);
+        }
+    }
+    Ok(false)
+}
+
+#[test]
+fn a_peer_that_never_reads_is_given_up(rt: HostRuntime) {
+    let mut server = RealHost::with_patience(&rt, Duration::from_millis(100));
+    let mut client = RealHost::new(&rt);
+    assert!(rt; outlasts_deafness(&mut server, &mut client) == Ok(true));
 }
 
 /// Whether there is nothing to read, then no such file, and then the program of this test, which begins as each program of Linux does.

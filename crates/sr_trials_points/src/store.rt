@@ -371,3 +371,46 @@ fn told_ages(alloc: Global) -> Result<(Option<i64>, Option<i64>), NoMemory> {
 fn what_is_told_moves_a_row_in_and_out(rt: HostRuntime) {
     assert_eq!(rt; told_ages(rt.alloc()), Ok((Some(31), None)));
 }
+
+// The stamp of the class that holds person 1, if one does.
+fn holder_of(alloc: Global, schema: &Schema, store: &Store) -> Result<Option<u64>, NoMemory>
+    requires { IsStore schema.now store.now.regions }
+{
+    let classes = store.holders(alloc, 0, &Cell::Num(1))?;
+    match classes.get(0) {
+        Some(class) => Ok(Some(class.stamp)),
+        None => Ok(None),
+    }
+}
+
+// Which class holds person 1 in a store of the ages 30 to 40: at first, once person 1 is 31, and once person 1 is 41.
+fn hold_by_turns(
+    alloc: Global,
+    schema: &Schema,
+    store: &mut Store,
+) -> Result<(Option<u64>, Option<u64>, Option<u64>), NoMemory>
+    requires tables { IsTrue (list_all is_table schema.now) }
+    requires there { 0 < length schema.now }
+    requires key { (table_at schema.now 0).key ≡ 0 }
+    requires point { is_point (table_at schema.now 0).columns (Num (pos 1) ∷ Num (pos 31) ∷ Num (pos 5) ∷ []) ≡ true }
+    requires old { is_point (table_at schema.now 0).columns (Num (pos 1) ∷ Num (pos 41) ∷ Num (pos 5) ∷ []) ≡ true }
+    requires empty { store.old.regions ≡ [] }
+{
+    hold(alloc, schema, store, 30, 40)?;
+    let first = holder_of(alloc, schema, store)?;
+    tell_age(alloc, schema, store, 31)?;
+    let young = holder_of(alloc, schema, store)?;
+    tell_age(alloc, schema, store, 41)?;
+    Ok((first, young, holder_of(alloc, schema, store)?))
+}
+
+fn held_by_turns(alloc: Global) -> Result<(Option<u64>, Option<u64>, Option<u64>), NoMemory> {
+    let schema = schema_of(alloc)?;
+    let mut store = Store::new(alloc, LIMITS);
+    hold_by_turns(alloc, &schema, &mut store)
+}
+
+#[test]
+fn a_class_holds_what_it_is_told(rt: HostRuntime) {
+    assert_eq!(rt; held_by_turns(rt.alloc()), Ok((None, Some(1), None)));
+}

@@ -3,3 +3,4 @@ pub mod Words
 pub mod Reads
 pub mod Seen
 pub mod Ranges
+pub mod Examples

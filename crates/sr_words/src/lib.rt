@@ -4,6 +4,7 @@
 pub mod command;
 pub mod fault;
 mod form;
+pub mod laws;
 pub mod read;
 mod said;
 mod value;

@@ -1,4 +1,4 @@
-use Rattle.std.proofs.Common.{◌≡◌, ◌∙◌, true, false, drop, sym, ap}
+use Rattle.std.proofs.Common.{◌∙◌, drop, sym, ap}
 use Rattle.std.proofs.lemmas.Result.{on_ok_weaker}
 use Rattle.sr_store.specs.Making.{place_in, is_same_first}
 use Rattle.sr_store.proofs.Joining.{joins, added_joined, added_new}

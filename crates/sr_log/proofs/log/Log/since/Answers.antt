@@ -1,9 +1,12 @@
-use Rattle.std.proofs.Common.{arith}
+use Rattle.std.proofs.Common.{◌-◌, length, drop, ap, ◌∙◌}
+use Rattle.std.specs.Prelude.{min}
 use Rattle.sr_log.proofs.Numbers.{tail_above}
+use Rattle.sr_log.proofs.Pushing.{slice_rest}
 use Rattle.sr_log.proofs.log.Log.since.Goals as goal
 
 pub returns-clause-above : goal.returns-clause-above
 returns-clause-above c =
-    rw (← c.self.view_is, c.deref.ensures.value)
-    (tail_above c.args.version c.self.inside.floor c.min-first.result c.self.inside.entries.items c.if-version-self.false
-    (omega (arith, c.min-first.ensures, c.len.ensures, c.self.inside.entries.ok.0)) c.self.invariant.0)
+    let slice = slice_rest c.self.inside.gone c.self.inside.entries.items c.deref.result.now c.deref.ensures.value in
+    rw (← c.self.view_is, slice)
+    (tail_above c.args.version c.self.inside.floor c.min-first.result (drop c.self.inside.gone c.self.inside.entries.items) c.if-version-self.false
+    (c.min-first.ensures ∙ ap (λ es. min (c.args.version - c.self.inside.floor) (length es)) slice) c.self.invariant.1)

@@ -17,35 +17,35 @@ pub given_way-old-requires-clause-lie : goal.given_way-old-requires-clause-lie
 given_way-old-requires-clause-lie c =
     let arrivals = c.args.arrivals in
     let lie = all-lie c.args.schema.now c.args.parts.now c.args.self.now.regions arrivals c.requires.store.each c.requires.arrivals in
-    subst (λ rs. All (λ (g : Region). All (LiesBy g) rs) c.replace-held.result) (sym c.as_slice.ensures) (subst (All (λ (g : Region). All (LiesBy g) arrivals)) (sym c.replace-held.ensures.value) lie)
+    subst (λ rs. All (λ (g : Region). All (LiesBy g) rs) c.into_seq.result) (sym c.as_slice.ensures) (subst (All (λ (g : Region). All (LiesBy g) arrivals)) (sym (c.into_seq.ensures ∙ c.replace-held.ensures.value)) lie)
 
 pub answer_of-requires-clause-each : goal.answer_of-requires-clause-each
 answer_of-requires-clause-each c =
     let schema = c.args.schema.now in
-    let is = old-is c.given_way-old.result c.replace-held.result c.args.self.now.regions _ c.args.arrivals c.given_way-old.ensures c.as_slice.ensures c.replace-held.ensures.value in
+    let is = old-is c.given_way-old.result c.into_seq.result c.args.self.now.regions _ c.args.arrivals c.given_way-old.ensures c.as_slice.ensures (c.into_seq.ensures ∙ c.replace-held.ensures.value) in
     subst (All (IsOfSchema schema)) (sym is) (way-each c.args.arrivals schema c.args.self.now.regions c.requires.store.each)
 
 pub answer_of-requires-clause-order : goal.answer_of-requires-clause-order
 answer_of-requires-clause-order c =
-    let is = old-is c.given_way-old.result c.replace-held.result c.args.self.now.regions _ c.args.arrivals c.given_way-old.ensures c.as_slice.ensures c.replace-held.ensures.value in
+    let is = old-is c.given_way-old.result c.into_seq.result c.args.self.now.regions _ c.args.arrivals c.given_way-old.ensures c.as_slice.ensures (c.into_seq.ensures ∙ c.replace-held.ensures.value) in
     ap ascends is ∙ way-order c.args.arrivals c.args.self.now.regions ∙ c.requires.store.order
 
 pub answer_of-requires-clause-settled : goal.answer_of-requires-clause-settled
 answer_of-requires-clause-settled c =
     let schema = c.args.schema.now in
-    let is = old-is c.given_way-old.result c.replace-held.result c.args.self.now.regions _ c.args.arrivals c.given_way-old.ensures c.as_slice.ensures c.replace-held.ensures.value in
+    let is = old-is c.given_way-old.result c.into_seq.result c.args.self.now.regions _ c.args.arrivals c.given_way-old.ensures c.as_slice.ensures (c.into_seq.ensures ∙ c.replace-held.ensures.value) in
     subst (λ gs. All (λ g. IsAbsorbedIn schema gs g → ⊥) gs) (sym is) (way-settled c.args.arrivals schema c.args.self.now.regions c.requires.store.settled)
 
 pub answer_of-requires-clause-apart : goal.answer_of-requires-clause-apart
 answer_of-requires-clause-apart c =
     let schema = c.args.schema.now in
-    let is = old-is c.given_way-old.result c.replace-held.result c.args.self.now.regions _ c.args.arrivals c.given_way-old.ensures c.as_slice.ensures c.replace-held.ensures.value in
+    let is = old-is c.given_way-old.result c.into_seq.result c.args.self.now.regions _ c.args.arrivals c.given_way-old.ensures c.as_slice.ensures (c.into_seq.ensures ∙ c.replace-held.ensures.value) in
     subst (λ gs. AreApart schema gs c.args.arrivals) (sym is) (way-apart c.args.arrivals schema c.args.self.now.regions c.requires.apart)
 
 pub answer_of-requires-clause-told : goal.answer_of-requires-clause-told
 answer_of-requires-clause-told c =
     let schema = c.args.schema.now in
-    let is = old-is c.given_way-old.result c.replace-held.result c.args.self.now.regions _ c.args.arrivals c.given_way-old.ensures c.as_slice.ensures c.replace-held.ensures.value in
+    let is = old-is c.given_way-old.result c.into_seq.result c.args.self.now.regions _ c.args.arrivals c.given_way-old.ensures c.as_slice.ensures (c.into_seq.ensures ∙ c.replace-held.ensures.value) in
     subst (λ gs. (told : Told) × IsTold schema told × AreTrueOf told gs × HaveArrived told c.args.arrivals) (sym is)
     (some-fits schema c.args.parts.now c.args.self.now.regions c.args.arrivals c.requires.store c.requires.arrivals c.requires.apart c.requires.own)
 
@@ -56,7 +56,7 @@ returns-in-Answered-clause-answered c =
     let parts = c.args.parts.now in
     let arrivals = c.args.arrivals in
     let answer = c.in-Answered.answer in
-    let is = old-is c.given_way-old.result c.replace-held.result c.args.self.now.regions _ arrivals c.given_way-old.ensures c.as_slice.ensures c.replace-held.ensures.value in
+    let is = old-is c.given_way-old.result c.into_seq.result c.args.self.now.regions _ arrivals c.given_way-old.ensures c.as_slice.ensures (c.into_seq.ensures ∙ c.replace-held.ensures.value) in
     keeps-answer schema c.args.self.now.limits c.args.number parts arrivals c.args.self.now.regions answer.regions c.keep.new.self.regions answer.marks _ c.keep.result
     c.in_ok-self.ensures
     (subst (λ gs. IsRenewed schema c.args.number parts arrivals gs answer.regions answer.marks) is made.renewed) made.store
@@ -71,7 +71,7 @@ returns-in-Answered-clause-cuts c =
     let arrivals = c.args.arrivals in
     let regions = c.args.self.now.regions in
     let IsCut = IsCutFrom schema (rects_on regions parts arrivals) in
-    let is = old-is c.given_way-old.result c.replace-held.result regions _ arrivals c.given_way-old.ensures c.as_slice.ensures c.replace-held.ensures.value in
+    let is = old-is c.given_way-old.result c.into_seq.result regions _ arrivals c.given_way-old.ensures c.as_slice.ensures (c.into_seq.ensures ∙ c.replace-held.ensures.value) in
     kept_left schema _ _ _ c.in-Answered.answer.regions c.keep.new.self.regions c.keep.result (All IsCut) (λ n gs p. evicted_all IsCut n gs p) (All-nil IsCut)
     (way-cuts arrivals schema parts regions c.in-Answered.answer.regions (subst (λ gs. All (IsCutFrom schema (rects_on gs parts arrivals)) c.in-Answered.answer.regions) is made.cuts))
     c.keep.ensures.kept c.keep.ensures.nothing_left
@@ -87,7 +87,7 @@ returns-in-Answered-clause-store c =
 pub returns-in-Answered-clause-true_still : goal.returns-in-Answered-clause-true_still
 returns-in-Answered-clause-true_still c = λ told is_told old_true rows.
     let made = subst (IsOutcome c.args.schema.now c.args.number c.args.parts.now c.args.arrivals c.given_way-old.result) c.in-Answered.is c.in_ok-answer.ensures in
-    let is = old-is c.given_way-old.result c.replace-held.result c.args.self.now.regions _ c.args.arrivals c.given_way-old.ensures c.as_slice.ensures c.replace-held.ensures.value in
+    let is = old-is c.given_way-old.result c.into_seq.result c.args.self.now.regions _ c.args.arrivals c.given_way-old.ensures c.as_slice.ensures (c.into_seq.ensures ∙ c.replace-held.ensures.value) in
     kept_left c.args.schema.now _ _ _ c.in-Answered.answer.regions c.keep.new.self.regions c.keep.result (AreTrueOf told) (λ n gs p. evicted_all (IsTrueOf told) n gs p) (All-nil (IsTrueOf told))
     (made.true_still told is_told (subst (AreTrueOf told) (sym is) old_true) rows)
     c.keep.ensures.kept c.keep.ensures.nothing_left
@@ -98,7 +98,7 @@ returns-in-GivenUp-clause-answered c =
     let arrivals = c.args.arrivals in
     let regions = c.args.self.now.regions in
     let old = c.given_way-old.result in
-    let is = old-is old c.replace-held.result regions _ arrivals c.given_way-old.ensures c.as_slice.ensures c.replace-held.ensures.value in
+    let is = old-is old c.into_seq.result regions _ arrivals c.given_way-old.ensures c.as_slice.ensures (c.into_seq.ensures ∙ c.replace-held.ensures.value) in
     let made = subst (IsOutcome c.args.schema.now c.args.number parts arrivals old) c.in-GivenUp.is c.in_ok-answer.ensures in
     inr (given-up c.args.schema.now parts arrivals regions old c.replace-held.new.dest c.in-GivenUp.drops is made.0 made.1 (c.replace-held.ensures.after ∙ c.new.ensures))
 

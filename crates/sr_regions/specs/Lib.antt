@@ -1,0 +1,4 @@
+pub mod Touched
+pub mod Holders
+pub mod Named
+pub mod Worked

@@ -70,20 +70,20 @@ def cuts(connection, server):
     ask(connection, 'SELECT id, amount FROM sale')
     connection.cut()
     assert ask(connection, 'SELECT id FROM sale WHERE amount = 100') == [(1,)]
-    raised(naworuke.OperationalError, connection.cursor().execute, 'SELECT name FROM kind WHERE code = 7')
+    raised(naworuke.OperationalError, connection.cursor().execute, 'SELECT note FROM sale WHERE amount = 123457')
     raised(naworuke.OperationalError, connection.cursor().execute, 'DELETE FROM kind')
     connection.resume()
     connection.resume()
-    assert ask(connection, 'SELECT name FROM kind WHERE code = 7') == []
+    assert ask(connection, 'SELECT note FROM sale WHERE amount = 123457') == []
     connection.link.socket.shutdown(2)
-    assert ask(connection, 'SELECT name FROM kind WHERE code = 8') == []
+    assert ask(connection, 'SELECT note FROM sale WHERE amount = 123458') == []
     assert connection.stats()['resumes'] == 3
 
 
 def loses(connection, server):
     """Behind all others: the server is gone."""
     server.stop()
-    raised(naworuke.OperationalError, connection.cursor().execute, 'SELECT name FROM kind WHERE code = 9')
+    raised(naworuke.OperationalError, connection.cursor().execute, 'SELECT note FROM sale WHERE amount = 123459')
     assert ask(connection, 'SELECT id FROM sale WHERE amount = 100') == [(1,)]
     connection.close()
     raised(naworuke.InterfaceError, ask, connection, 'SELECT id FROM sale')

@@ -6,8 +6,8 @@ ghost use Rattle.sr_c.specs.Owned.{handle_coded, held_owns};
 
 pub(crate) mod parts;
 
-use sr_handle::handle::Handle;
 use parts::Parts;
+use sr_handle::handle::Handle;
 use std::alloc::Global;
 use std::marker::Model;
 

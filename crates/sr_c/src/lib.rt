@@ -1,5 +1,6 @@
 //! A client as a library for programs in C, and in what calls C. `c/naworuke.h` says what each call does.
 #![tactic(auto)]
+
 ghost use Rattle.std.specs.Prelude.{◌≡◌, ◌-◌, ◌^◌, length, min, slice_get};
 ghost use Rattle.std.specs.Option.{is_some};
 ghost use Rattle.sr_store.specs.Fitted.{count_rows};
@@ -10,11 +11,11 @@ ghost use Rattle.sr_handle.specs.Showing.{cell_at, copied, kind_of, number_of, s
 mod held;
 
 use held::{Held, erased};
+use sr_cell::list::NoMemory;
 use sr_handle::open::{Closed, Setting, open, told_of_closed};
 use sr_handle::show::{Shown, shown_region};
-use sr_cell::list::NoMemory;
-use std::alloc::Global;
 use sr_handle::told::{Told, bare, outcome_of};
+use std::alloc::Global;
 
 /// A client over the tables of a schema.
 #[unsafe(no_mangle)]

@@ -210,13 +210,7 @@ impl Handle {
 
     /// The kind of a cell of the last answer. Its number, or the length of its text, goes out, and the text into the room, unless that is
     /// too short.
-    pub fn copy_cell(
-        &self,
-        row: usize,
-        column: usize,
-        number: &mut i64,
-        room: &mut [u8],
-    ) -> u32
+    pub fn copy_cell(&self, row: usize, column: usize, number: &mut i64, room: &mut [u8]) -> u32
         ensures kind { result ≡ kind_of (cell_at self.now.rows row column) }
         ensures number { number.new ≡ number_of (cell_at self.now.rows row column) number.old }
         ensures text { room.new ≡ copied (text_of (cell_at self.now.rows row column)) room.old }

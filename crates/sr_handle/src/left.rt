@@ -62,7 +62,9 @@ fn left_of_query(alloc: Global, step: QueryStep) -> Left
             ..
         } => answered(query, version, rows),
         QueryStep::Asked {
-            request, message, ..
+            request,
+            message,
+            ..
         } => sending(alloc, request, message),
         QueryStep::Busy { request } => quiet(alloc, Said::Busy { request }),
         QueryStep::Down { cut } => quiet(alloc, Said::Down { cut }),
@@ -94,10 +96,14 @@ pub fn left_of_took(alloc: Global, took: Took) -> Left
             ..
         } => answered(query, version, rows),
         Took::Asked {
-            request, message, ..
+            request,
+            message,
+            ..
         } => sending(alloc, request, message),
         Took::Written {
-            request, version, ..
+            request,
+            version,
+            ..
         } => quiet(alloc, Said::Written { request, version }),
         Took::Refused { request, fault, .. } => quiet(alloc, Said::Refused { request, fault }),
         Took::Welcomed { version, kept, .. } => quiet(alloc, Said::Welcomed { version, kept }),

@@ -111,11 +111,7 @@ impl Seat {
     }
 
     /// What a text asks of the client's tables is judged, or why it is refused.
-    pub fn query(
-        &mut self,
-        alloc: Global,
-        sql: &str,
-    ) -> Result<Result<QueryStep, Fault>, Stop>
+    pub fn query(&mut self, alloc: Global, sql: &str) -> Result<Result<QueryStep, Fault>, Stop>
         ensures asks { IfOk result (AsksAs self.old sql.now self.new) }
         ensures sends { IfOk result (AskedSendsWell self.old.schema self.old.id) }
         ensures stays { Stays self.old self.new }

@@ -2,7 +2,6 @@
 use Rattle.std.specs.Prelude.{ℕ, ◌≡◌, ◌⊎◌, List, ◌++◌, Result, Ok, Err, IfOk}
 use Rattle.sr_handle.specs.declared.handle.Handle.{Handle}
 use Rattle.sr_handle.specs.declared.open.Closed.{Closed}
-use Rattle.sr_handle.specs.declared.open.Closed.TheVariants as closed
 use Rattle.sr_handle.specs.declared.open.Setting.{Setting}
 use Rattle.sr_handle.specs.declared.said.Said.{Said}
 use Rattle.sr_handle.specs.declared.said.Stop.{Stop}
@@ -18,14 +17,18 @@ pub record Tells (IsSo : Said → Type 0) (tells : Told) (number : ℕ) : Type 0
   pub told : tells ≡ outcome_of made
   pub outcome : number ≡ tells.outcome
 
--- what is told of a client that is opened, or is not
-abbrev pub told_of_opening : Result Handle Closed → Told
-told_of_opening (Ok handle) = bare 0
+-- a handle is opened and goes out, or why none is
+abbrev pub Hands : List ℕ → Setting → Result (Unit {0}) Closed → Type 0
+Hands schema setting (Ok done) = (handle : Handle) × Opens schema setting (Ok handle)
+Hands schema setting (Err why) = Opens schema setting (Err why)
+
+abbrev pub told_of_opening : Result (Unit {0}) Closed → Told
+told_of_opening (Ok done) = bare 0
 told_of_opening (Err why) = told_of_closed why
 
 pub record TellsOpening (schema : List ℕ) (setting : Setting) (tells : Told) (number : ℕ) : Type 0 where
-  pub made : Result Handle Closed
-  pub opens : Opens schema setting made
+  pub made : Result (Unit {0}) Closed
+  pub hands : Hands schema setting made
   pub told : tells ≡ told_of_opening made
   pub outcome : number ≡ tells.outcome
 

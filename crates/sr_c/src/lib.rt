@@ -4,7 +4,7 @@
 ghost use Rattle.std.specs.Prelude.{◌≡◌, ◌-◌, ◌^◌, length, min, slice_get};
 ghost use Rattle.std.specs.Option.{is_some};
 ghost use Rattle.sr_store.specs.Fitted.{count_rows};
-ghost use Rattle.sr_c.specs.Calls.{Feeds, Packs, Tells, TellsOpening};
+ghost use Rattle.sr_c.specs.Calls.{Feeds, Hands, Packs, Tells, TellsOpening, told_of_opening};
 ghost use Rattle.sr_handle.specs.Handles.{Asked, Began, Dropped, Explained, IsCut, Took, Wrote};
 ghost use Rattle.sr_handle.specs.Showing.{cell_at, copied, kind_of, number_of, shown_at, text_of};
 
@@ -17,6 +17,34 @@ use sr_handle::show::{Shown, shown_region};
 use sr_handle::told::{Told, bare, outcome_of};
 use std::alloc::Global;
 
+/// A handle is opened, and its pointer goes out; or why not.
+fn opened(
+    alloc: Global,
+    schema: &[u8],
+    setting: &Setting,
+    client: &mut *mut u8,
+) -> Result<(), Closed>
+    ensures { Hands schema.now setting.now result }
+{
+    let handle = open(alloc, schema, setting)?;
+    match Box::new(alloc, handle) {
+        Ok(handle) => {
+            *client = erased(Box::into_raw(handle));
+            Ok(())
+        }
+        Err(_) => Err(Closed::NoMemory),
+    }
+}
+
+fn told_of_opening(made: Result<(), Closed>) -> Told
+    ensures { result ≡ told_of_opening made }
+{
+    match made {
+        Ok(()) => bare(0),
+        Err(closed) => told_of_closed(closed),
+    }
+}
+
 /// A client over the tables of a schema.
 #[unsafe(no_mangle)]
 pub extern "C" fn naworuke_open(
@@ -28,16 +56,8 @@ pub extern "C" fn naworuke_open(
 ) -> u32
     ensures { TellsOpening schema.now setting.now tells.new result }
 {
-    *tells = match open(alloc, schema, setting) {
-        Ok(handle) => match Box::new(alloc, handle) {
-            Ok(handle) => {
-                *client = erased(Box::into_raw(handle));
-                bare(0)
-            }
-            Err(_) => told_of_closed(Closed::NoMemory),
-        },
-        Err(closed) => told_of_closed(closed),
-    };
+    let made = opened(alloc, schema, setting, client);
+    *tells = told_of_opening(made);
     tells.outcome
 }
 

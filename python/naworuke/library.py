@@ -46,6 +46,7 @@ CALLS = {
     'take': (CLIENT + TOLD, ctypes.c_uint32),
     'sent': (CLIENT + ROOM, ctypes.c_uint64),
     'rows': (CLIENT, ctypes.c_uint64),
+    'cell': (CLIENT + [ctypes.c_size_t, ctypes.c_size_t, ctypes.POINTER(ctypes.c_int64)] + ROOM, ctypes.c_uint32),
     'pack': (CLIENT, ctypes.c_uint32),
     'text': (CLIENT + ROOM, ctypes.c_uint64),
     'version': (CLIENT, ctypes.c_uint64),

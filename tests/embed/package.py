@@ -91,7 +91,7 @@ def loses(connection, server):
 
 
 def opens(address):
-    assert raised(naworuke.ProgrammingError, naworuke.connect, address, 'query') == 'schema: line 1 0'
+    assert raised(naworuke.ProgrammingError, naworuke.connect, address, 'nothing') == 'schema: line 1 0'
     assert raised(naworuke.ProgrammingError, naworuke.connect, address, 'CREATE TABLE t (a INT)') == 'schema: line 1: no-key 0'
     raised(naworuke.InterfaceError, naworuke.connect, address, SCHEMA, client=65)
     raised(naworuke.InterfaceError, naworuke.connect, address, SCHEMA, policy='fifo')

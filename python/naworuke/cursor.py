@@ -25,11 +25,10 @@ class Cursor:
         """Asks a query, or sends a write. A ? stands for a parameter, an int or a str. Answers the cursor."""
         connection = self._open()
         self._clear()
-        text = filled(text, parameters)
         if text.lstrip()[:6].upper() != 'SELECT':
-            connection._write(text)
+            connection._write(filled(text, parameters))
             return self
-        connection._query(text)
+        connection._query(filled(text, parameters))
         outputs = outputs_of(text, connection.tables)
         rows = connection._rows(outputs)
         self.description = [(name, str if is_text else int, None, None, None, None, None) for name, is_text in outputs]

@@ -1,4 +1,5 @@
 """What the package reads of SQL itself: parameters, the names of a schema, and those of a query's columns."""
+import functools
 import re
 
 from .faults import DataError, InterfaceError, ProgrammingError
@@ -29,22 +30,27 @@ def quoted(value):
     raise InterfaceError('a parameter is an int or a str, not %s' % type(value).__name__)
 
 
+@functools.lru_cache(1000)
+def pieces_of(text):
+    """The pieces of a text between its ?s, those that stand in texts left out."""
+    pieces = ['']
+    for token in tokens(text):
+        if token == '?':
+            pieces.append('')
+        else:
+            pieces[-1] += token
+    return pieces
+
+
 def filled(text, parameters):
     """The text with a literal in place of each ? that stands outside of texts."""
     if not parameters and '?' not in text:
         return text
-    left = list(parameters)
-    parts = []
-    for token in tokens(text):
-        if token == '?':
-            if not left:
-                raise ProgrammingError('too few parameters')
-            # blanks keep a literal from growing together with what stands beside it
-            token = ' %s ' % quoted(left.pop(0))
-        parts.append(token)
-    if left:
-        raise ProgrammingError('%d parameters too many' % len(left))
-    return ''.join(parts)
+    pieces, literals = pieces_of(text), list(map(quoted, parameters))
+    if len(pieces) != len(literals) + 1:
+        raise ProgrammingError('%d parameters, and %d are there' % (len(pieces) - 1, len(literals)))
+    # blanks keep a literal from growing together with what stands beside it
+    return pieces[0] + ''.join(' %s %s' % both for both in zip(literals, pieces[1:]))
 
 
 # ---- names
@@ -60,7 +66,7 @@ def tables_of(schema):
         found = words(line)
         if found and found[0].upper() == 'CREATE' and len(found) > 3:
             tables.append((found[2].lower(), columns_of(found[4:])))
-    return tables
+    return tuple(tables)
 
 
 def columns_of(found):
@@ -70,9 +76,10 @@ def columns_of(found):
             columns.append((word.lower(), behind.upper() == 'TEXT'))
         first = depth == 0 and word == ','
         depth += (word == '(') - (word == ')')
-    return columns
+    return tuple(columns)
 
 
+@functools.lru_cache(1000)
 def outputs_of(text, tables):
     """The names of the columns of a query that was understood, each with True for a text."""
     found = [word.lower() for word in words(text)]

@@ -119,7 +119,7 @@ fn print_speed(
     )
 }
 
-/// Measures a message's frame; None in want of memory.
+/// Measures a message's frame; None when out of memory.
 fn measure(rt: &HostRuntime, message: &Message) -> io::Result<Option<Times>>
     requires { IsSendable message.now }
 {

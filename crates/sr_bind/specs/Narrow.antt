@@ -16,7 +16,7 @@ use Rattle.sr_query.specs.Bound.{IsPart}
 abbrev pub part_with : List Table → ℕ → ℕ → List model.Output → Cond → model.Part
 part_with schema part t columns condition = record { table = t; need = needed part columns (2 ^ (table_at schema t).key); condition = condition }
 
--- the part, which is not too wide, or its fault; want of memory is free
+-- the part, which is not too wide, or its fault; memory may run out
 abbrev pub IsNarrow : List Table → Result Part (No Fault) → model.Part → Type 0
 IsNarrow schema (Ok p) meaning = (narrow meaning ≡ Ok meaning) × IsPart schema p meaning
 IsNarrow schema (Err (Refused fault)) meaning = narrow meaning ≡ Err fault

@@ -16,7 +16,7 @@ queried schema tables joins outputs bs =
     each one_table bs >>= λ _. each narrow (parts_from schema 0 tables (named_columns outputs joins bs) bs) >>= λ parts.
     Ok (record { parts = parts; joins = joins; outputs = outputs })
 
--- a query that stands for what is decided, or the same fault; want of memory is free
+-- a query that stands for what is decided, or the same fault; memory may run out
 abbrev pub Asks : List Table → Result Query (No Fault) → Result model.Query Fault → Type 0
 Asks schema (Ok q) decided = (meaning : model.Query) × (decided ≡ Ok meaning) × IsQuery schema q meaning
 Asks schema (Err (Refused fault)) decided = decided ≡ Err fault

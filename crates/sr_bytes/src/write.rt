@@ -1,4 +1,4 @@
-//! Cells, rows, spans and rects written as bytes behind others. In want of memory a part of them may have been written; what
+//! Cells, rows, spans and rects written as bytes behind others. Out of memory a part of them may have been written; what
 //! stood there stands in front still.
 #![tactic(auto, using(crate::proofs::Fronts::stays, crate::proofs::Fronts::stays_behind, crate::proofs::Fronts::stays_on))]
 

@@ -1,4 +1,4 @@
-//! Lists, which contracts see as lists; copies and comparison by value; want of memory.
+//! Lists, which contracts see as lists; copies and comparison by value; being out of memory.
 ghost use Rattle.std.specs.Prelude.{◌≡◌, ℕ, ◌<◌, ◌≤◌, ◌+◌, List, [], ◌∷◌, ◌++◌, ◌↔◌, IsTrue, length, take, drop, IfNone, IfOk, OnOk, OnErr, option_to_list, slice_get, slice_set};
 ghost use Rattle.std.specs.Option.{option_copied};
 
@@ -22,7 +22,7 @@ impl From<AllocError> for NoMemory {
     }
 }
 
-/// A refusal, or want of memory.
+/// A refusal, or out of memory.
 #[derive(Clone, Copy, Debug, PartialEq, Eq)]
 pub enum No<E> {
     Refused(E),

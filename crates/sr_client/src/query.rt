@@ -25,7 +25,7 @@ use std::alloc::Global;
 
 impl Client {
     /// Judges a query. It is answered at once where its points are held under the columns that its parts need; else what is
-    /// left of it is asked, unless the link is cut. Nothing is done while a request is out. After want of memory the client holds
+    /// left of it is asked, unless the link is cut. Nothing is done while a request is out. When memory ran out the client holds
     /// nothing, and is cut; nothing else has changed.
     pub fn query(&mut self, alloc: Global, query: Query) -> Result<QueryStep, NoMemory>
         requires stands { Stands self.old }

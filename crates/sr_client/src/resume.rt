@@ -13,7 +13,7 @@ use std::alloc::Global;
 
 impl Client {
     /// Begins a session over a cut link: a Hello where nothing is held, else a Resume of the client's version with all points that
-    /// are held. Nothing is done where the link is not cut, nor after want of memory.
+    /// are held. Nothing is done where the link is not cut, nor when memory ran out.
     pub fn resume(&mut self, alloc: Global) -> Result<ResumeStep, NoMemory>
         requires stands { Stands self.old }
         requires room { drawn self.old + 2 < 2 ^ 63 }

@@ -38,7 +38,7 @@ use std::mem;
 
 impl Client {
     /// Takes a message of the server. It is refused just where it does not fit what was asked, what was laid by, the client's
-    /// version or the schema. After that, and after want of memory, the client holds nothing, and is cut; nothing else has changed.
+    /// version or the schema. After that, and when memory ran out, the client holds nothing, and is cut; nothing else has changed.
     pub fn take(&mut self, alloc: Global, message: Message) -> Result<Took, NoMemory>
         requires stands { Stands self.old }
         requires room { drawn self.old + 2 < 2 ^ 63 }

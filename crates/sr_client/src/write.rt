@@ -19,7 +19,7 @@ const MOST_TEXT: u32 = 65_536;
 
 impl Client {
     /// Sends the text of a write as it is, for the server to judge. A text of more than 65,536 bytes is refused before all else.
-    /// Nothing is done while a request is out, or over a cut link, nor after want of memory.
+    /// Nothing is done while a request is out, or over a cut link, nor when memory ran out.
     pub fn write(&mut self, alloc: Global, sql: &str) -> Result<WriteStep, NoMemory>
         requires stands { Stands self.old }
         requires room { drawn self.old + 2 < 2 ^ 63 }

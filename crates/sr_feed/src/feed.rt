@@ -65,7 +65,7 @@ impl Feed {
         }
     }
 
-    /// Takes the next piece of the stream. In want of memory nothing changes.
+    /// Takes the next piece of the stream. Out of memory nothing changes.
     pub fn feed(&mut self, piece: &[u8]) -> Result<(), NoMemory>
         ensures fed { OnOk result (self.new ≡ self.old ++ piece.now) }
         ensures unchanged { OnErr result (self.new ≡ self.old) }
@@ -98,7 +98,7 @@ impl Feed {
     }
 }
 
-/// Takes one piece of what comes over the link, at most 65,536 bytes, and feeds it. In want of memory nothing changes.
+/// Takes one piece of what comes over the link, at most 65,536 bytes, and feeds it. Out of memory nothing changes.
 pub fn fetch<L: Link>(link: &mut L, feed: &mut Feed) -> Result<Fetched, NoMemory>
     ensures fetched { IfOk result (λ fetched. Fetches fetched (L.linking link.old) (L.linking link.new) feed.old feed.new) }
     ensures feed_unchanged { OnErr result (feed.new ≡ feed.old) }
@@ -114,7 +114,7 @@ pub fn fetch<L: Link>(link: &mut L, feed: &mut Feed) -> Result<Fetched, NoMemory
     ensures complaints_stay { L.complaints link.new ≡ L.complaints link.old }
 {
     feed.let_go();
-    // so that nothing that the link has given is lost in want of memory
+    // so that nothing that the link has given is lost where memory runs out
     feed.bytes.reserve(PIECE)?;
     let mut room = [0u8; PIECE];
     match link.recv(&mut room) {

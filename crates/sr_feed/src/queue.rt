@@ -54,7 +54,7 @@ impl Queue {
         self.frames.left() == 0
     }
 
-    /// One message more, behind the others. In want of memory nothing changes.
+    /// One message more, behind the others. Out of memory nothing changes.
     pub fn push(&mut self, alloc: Global, message: &Message) -> Result<(), NoMemory>
         requires sendable { IsSendable message.now }
         ensures pushed { OnOk result (self.new ≡ self.old ++ message.now ∷ []) }
@@ -64,7 +64,7 @@ impl Queue {
         self.frames.feed(frame.as_slice())
     }
 
-    /// These messages behind the others; in want of memory only the first few of them.
+    /// These messages behind the others; out of memory only the first few of them.
     pub fn append(&mut self, alloc: Global, messages: &Messages) -> Result<(), NoMemory>
         requires sendable { All IsSendable messages.now }
         ensures appended { OnOk result (self.new ≡ self.old ++ messages.now) }
@@ -76,7 +76,7 @@ impl Queue {
         Ok(())
     }
 
-    /// Takes the oldest message out, if there is one. In want of memory nothing changes.
+    /// Takes the oldest message out, if there is one. Out of memory nothing changes.
     pub fn pop(&mut self, alloc: Global) -> Result<Option<Message>, NoMemory>
         ensures taken { IfOk result (λ message. self.old ≡ option_to_list message ++ self.new) }
         ensures empty { IfOk result (λ message. IfNone message (self.old ≡ [])) }

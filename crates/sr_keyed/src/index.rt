@@ -36,7 +36,7 @@ pub(crate) struct Place {
     key: Spot,
 }
 
-/// The places of rows by some columns. It may have places of rows that are gone. Want of memory empties it.
+/// The places of rows by some columns. It may have places of rows that are gone. Out of memory it is emptied.
 #[derive(Drop)]
 pub(crate) struct Index {
     alloc: Global,

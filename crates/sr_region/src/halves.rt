@@ -30,7 +30,7 @@ pub struct Halves {
     pub outside: Option<Region>,
 }
 
-/// More rects than the limit, or want of memory; with the region, unchanged.
+/// More rects than the limit, or out of memory; with the region, unchanged.
 #[derive(Drop)]
 pub enum NotSplit {
     Over(Region),

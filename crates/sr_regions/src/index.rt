@@ -31,6 +31,11 @@ impl Index {
         }
     }
 
+    /// How many keys there are.
+    pub(crate) fn len(&self) -> usize {
+        self.numbers.len()
+    }
+
     /// The numbers that are named under the key.
     pub(crate) fn numbers_at(&self, key: &Cell) -> &[usize]
         ensures { (n : ℕ) → list_any (λ m. m == n) result.now ≡ is_named ⟦<Cell as Ord>⟧.cmp (Some self.now) key.now n }
@@ -110,8 +115,8 @@ fn add_name(
     }
 }
 
-/// An index of all rows of the regions.
-pub(crate) fn index_of(alloc: Global, regions: &[Region]) -> Result<Index, NoMemory>
+/// Names each region under the keys of its rows.
+fn name_all(alloc: Global, regions: &[Region]) -> Result<Index, NoMemory>
     ensures { IfOk result (λ index. AgreesWith ⟦<Cell as Ord>⟧.cmp (Some index) regions.now) }
 {
     let mut index = Index::new(alloc);
@@ -119,4 +124,14 @@ pub(crate) fn index_of(alloc: Global, regions: &[Region]) -> Result<Index, NoMem
         add_names(&mut index, alloc, &regions[number], number)?;
     }
     Ok(index)
+}
+
+/// An index of all rows of the regions, or none where there is no memory for it: then each region is looked at.
+pub(crate) fn index_of(alloc: Global, regions: &[Region]) -> Option<Index>
+    ensures { AgreesWith ⟦<Cell as Ord>⟧.cmp result regions.now }
+{
+    match name_all(alloc, regions) {
+        Ok(index) => Some(index),
+        Err(_) => None,
+    }
 }

@@ -176,24 +176,29 @@ impl Regions {
         Ok(())
     }
 
-    /// Makes an index, once more regions were looked at for keys than there are rows to name.
+    /// Makes an index where one is due.
     fn look(&mut self, alloc: Global, tells: usize)
         ensures { self.new ≡ self.old }
     {
-        if self.index.is_some() {
+        if !self.is_due(tells) {
             return;
         }
-        self.looks = self
-            .looks
-            .saturating_add(tells.saturating_mul(self.list.len()));
-        if self.looks > count_rows(&self.list) {
-            self.looks = 0;
-            self.index = match index_of(alloc, &self.list) {
-                Ok(index) => Some(index),
-                // Without one each region is looked at.
-                Err(_) => None,
-            };
+        self.looks = 0;
+        self.index = index_of(alloc, &self.list);
+    }
+
+    /// Whether an index pays: once more regions were looked at for keys than there are rows to name. Keys stay named when their rows
+    /// are gone, so one is made anew once these are most.
+    fn is_due(&mut self, tells: usize) -> bool
+        ensures { self.new ≡ self.old }
+    {
+        let rows = count_rows(&self.list);
+        if let Some(index) = &self.index {
+            return index.len() / 2 > rows;
         }
+        let looks = tells.saturating_mul(self.list.len());
+        self.looks = self.looks.saturating_add(looks);
+        self.looks > rows
     }
 
     /// The classes whose regions have a row of the key of that table, in the order of the regions.

@@ -76,7 +76,7 @@ impl Server {
         self.log.version()
     }
 
-    /// Carries out a statement, which makes a version, or refuses it. Answers the version. After a refusal, or want of memory,
+    /// Carries out a statement, which makes a version, or refuses it. Answers the version. After a refusal, or out of memory,
     /// nothing has changed, but that the log may have more room.
     pub fn exec(&mut self, alloc: Global, write: Write) -> Result<u64, No<Fault>>
         requires suits { IsTrue (suits self.old.tables.schema (write_of write)) }
@@ -122,7 +122,7 @@ impl Server {
     }
 
     /// Takes a message of that client: it is refused and changes nothing, or carried out and answered, in order, with the messages
-    /// to send. A write that is carried out makes a version. After want of memory the client's session is closed; a write that was
+    /// to send. A write that is carried out makes a version. When memory ran out the client's session is closed; a write that was
     /// carried out stays.
     pub fn take(
         &mut self,
@@ -152,7 +152,7 @@ impl Server {
     }
 
     /// What is sent to that client without a request: notices of what it subscribed, or a Lapse, up to the newest version. None
-    /// where it has no session, and then nothing changes. After want of memory its session is closed.
+    /// where it has no session, and then nothing changes. When memory ran out its session is closed.
     pub fn push(&mut self, alloc: Global, client: u8) -> Result<Option<Messages>, NoMemory>
         requires client { IsClientNumber client }
         requires stands { StandsForSome self.old }

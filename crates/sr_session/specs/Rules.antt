@@ -111,7 +111,8 @@ pub record Renews (b : Basis) (a : Answering) (c : Client) (marks : List Mark) :
 abbrev pub counted : ℕ → List Numbered → List Query
 counted from queries = map (λ n. n.query) (drop (from - 1) queries)
 
--- Where the load is too high all classes may be dropped, as they stood before the answer, and nothing that was asked is held.
+-- Where the load is too high all classes may be dropped, as they stood before the answer, and nothing that was asked is held. There is
+-- something to give up: a class that is held, or a part that was asked.
 pub record GivesUp (b : Basis) (a : Answering) (c : Client) (marks : List Mark) : Type 0 where
   pub heavy : IsHeavy b.schema c.marks a.asked a.query (counted c.counted_from a.queries)
   pub drops : DropsAll b.schema c.marks c.queries Pieces marks

@@ -62,7 +62,7 @@ fitted_fit_still schema limits last old new drops h = record {
   regions = drops_end schema limits.policy last Regions length limits.regions h.mid new h.regions h.for_regions;
 }
 
--- what is true of no regions, and of the regions without any one, is true of those that a store keeps, also after want of memory
+-- what is true of no regions, and of the regions without any one, is true of those that a store keeps, also when memory ran out
 pub kept_left : {E : Type 0} (schema : List Table) (limits : Limits) (last : List Last) (front : List Mark) (old new : List Region) (r : Result (List Mark) E) (P : List Region → Type 0)
     → ((n : ℕ) (gs : List Region) → P gs → P (without n gs)) → P [] → P old
     → IfOk r (λ marks. (drops : List Mark) × IsFitted schema limits last old new drops × (marks ≡ front ++ drops)) → OnErr r (new ≡ []) → P new

@@ -123,8 +123,8 @@ impl Store {
 
     /// What an answer does: held rows give way to arriving ones of their key, under the same columns; what arrived is held, the
     /// points that the query touches have its number as their stamp, and the regions whose points are all held under more columns
-    /// are dropped; then those that the limits demand. Where there would be too many pieces, all regions are dropped instead. After
-    /// want of memory it holds nothing.
+    /// are dropped; then those that the limits demand. Where there would be too many pieces, all regions are dropped instead. When
+    /// memory ran out it holds nothing.
     pub fn answered(
         &mut self,
         alloc: Global,
@@ -159,7 +159,7 @@ impl Store {
         }
     }
 
-    /// Keeps the regions of an answer as far as the limits allow. After want of memory it holds nothing.
+    /// Keeps the regions of an answer as far as the limits allow. When memory ran out it holds nothing.
     fn keep(&mut self, alloc: Global, schema: &Schema, answer: Answer) -> Result<Marks, NoMemory>
         requires tables { IsTrue (list_all is_table schema.now) }
         requires store { IsStore schema.now answer.regions }
@@ -193,7 +193,7 @@ impl Store {
     }
 
     /// What notices do: of each key that is told, the old row is gone from all regions of its table, and the new row is in those
-    /// whose rects have it. After want of memory it holds nothing.
+    /// whose rects have it. When memory ran out it holds nothing.
     pub fn apply(&mut self, alloc: Global, told: &[Tell]) -> Result<(), NoMemory>
         requires { (schema : List TheTable) × IsStore schema self.old.regions × All (IsTellOf schema) told.now }
         ensures applied { OnOk result (self.new.regions ≡ map (told_to told.now) self.old.regions) }

@@ -94,7 +94,7 @@ fn narrow(alloc: Global, lo: i64, hi: i64) -> Result<Arrivals, NoMemory>
     list_of(alloc, [arrival_of(alloc, Attrs(3), ages(alloc, lo, hi)?)])
 }
 
-// These ages come to an empty store, with the number and the age; want of memory is said too where they do not fit the table.
+// These ages come to an empty store, with the number and the age; out of memory is said too where they do not fit the table.
 fn hold(alloc: Global, schema: &Schema, store: &mut Store, lo: i64, hi: i64) -> Result<(), NoMemory>
     requires tables { IsTrue (list_all is_table schema.now) }
     requires there { 0 < length schema.now }

@@ -1,18 +1,21 @@
 -- Bounds of rects.
-use Rattle.std.proofs.Common.{◌≡◌, ◌<◌, ◌+◌, ℕ, zero, suc, Bool, true, false, List, [], ◌∷◌, ◌++◌, length, take, drop, refl, sym, ap, ◌∙◌, subst, arith}
-use Rattle.std.specs.Prelude.{ℤ, int_le, ◌&&◌, ◌||◌, Option, Some, None, slice_get}
+use Rattle.std.proofs.Common.{◌≡◌, ◌+◌, ℕ, zero, suc, Bool, true, false, List, [], ◌∷◌, ◌++◌, take, drop, refl, arith}
+use Rattle.std.specs.Prelude.{ℤ, int_le, ◌&&◌, Option, Some, None, slice_get}
 use Rattle.std.specs.Option.{is_some}
 use Rattle.std.specs.List.{list_all, list_any}
 use Rattle.std.proofs.lemmas.Int.{ints}
 use Rattle.sr_box.specs.declared.span.Span.{Span}
 use Rattle.sr_box.specs.declared.span.Span.TheVariants.{Full, Nums, Strs}
-use Rattle.sr_box.specs.Points.{Rect}
+use Rattle.sr_cell.specs.declared.cell.Cell.{Cell}
+use Rattle.sr_cell.specs.Cells.{Row}
+use Rattle.sr_box.specs.Spans.{in_span}
+use Rattle.sr_box.specs.Points.{Rect, in_any, in_rect}
 use Rattle.sr_box.specs.Cut.{meet, rect_meet, with_first}
 use Rattle.sr_union.specs.declared.hull.Bound.{Bound}
 use Rattle.sr_union.specs.declared.hull.Hull.{Hull}
 use Rattle.sr_union.specs.Free.{span_at}
 use Rattle.sr_union.specs.Pieces.{near}
-use Rattle.sr_union.specs.Hulls.{has_all, in_bound, in_hull}
+use Rattle.sr_union.specs.Hulls.{in_bound, in_hull}
 
 -- a bound with lesser and greater ends has what a bound has
 pub wider : (b : Bound) (lo hi x y : ℤ) → x ≡ lo → y ≡ hi → int_le lo b.lo ≡ true → int_le b.hi hi ≡ true → (s : Span) → in_bound b s ≡ true → in_bound (record { lo = x; hi = y }) s ≡ true
@@ -34,12 +37,6 @@ none_rest : (m : Option Span) (n : Option Rect) → is_some n ≡ false → is_s
 none_rest None n h = refl
 none_rest (Some m) None h = refl
 none_rest (Some m) (Some n) h = absurd (grind (arith, h))
-
--- a span meets one of all values
-meet_full : (s : Span) → is_some (meet s Full) ≡ true
-meet_full Full = refl
-meet_full (Nums a b) = refl
-meet_full (Strs a b) = refl
 
 -- rects whose spans of one column do not meet have nothing in common
 pub meet_at : (k : ℕ) (r q : Rect) → is_some (meet (span_at k r) (span_at k q)) ≡ false → is_some (rect_meet r q) ≡ false
@@ -90,3 +87,23 @@ near_none others [] h = refl
 near_none others (r ∷ rects) h =
     let off : list_any (λ q. is_some (rect_meet r q)) others ≡ false = grind (arith, h) in let ih = near_none others rects (grind (arith, h)) in
     rw (off, ih) refl
+
+and_none : (a : Bool) → (a && false) ≡ false
+and_none true = refl
+and_none false = refl
+
+-- a rect whose span of one column does not have a row's value does not have the row
+pub out_at : (k : ℕ) (r : Rect) (row : Row) (v : Cell) → slice_get row k ≡ Some v → in_span (span_at k r) v ≡ false → in_rect r row ≡ false
+out_at k [] [] v at out = absurd (cc)
+out_at k [] (w ∷ row) v at out = refl
+out_at k (s ∷ r) [] v at out = refl
+out_at zero (s ∷ r) (w ∷ row) v at out =
+    let same : w ≡ v = cc in
+    rw (same, out) refl
+out_at (suc k) (s ∷ r) (w ∷ row) v at out = rw (out_at k r row v at out) (and_none (in_span s w))
+
+-- nor do rects of a hull that has no row like it
+pub none_has : (h : Hull) (rects : List Rect) (row : Row) → ((r : Rect) → in_hull h r ≡ true → in_rect r row ≡ false) → list_all (in_hull h) rects ≡ true → in_any rects row ≡ false
+none_has h [] row f g = refl
+none_has h (r ∷ rects) row f g =
+    let one = f r (grind (arith, g)) in let ih = none_has h rects row f (grind (arith, g)) in grind (arith, one, ih)

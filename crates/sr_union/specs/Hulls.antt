@@ -1,5 +1,5 @@
 -- Bounds of rects in the first columns.
-use Rattle.std.specs.Prelude.{ℕ, ℤ, pos, ◌-ℤ◌, ◌^◌, int_le, Bool, ◌&&◌}
+use Rattle.std.specs.Prelude.{pos, ◌-ℤ◌, ◌^◌, int_le, Bool, ◌&&◌}
 use Rattle.sr_box.specs.declared.span.Span.{Span}
 use Rattle.sr_box.specs.declared.span.Span.TheVariants.{Full, Nums, Strs}
 use Rattle.sr_box.specs.Points.{Rect}

@@ -2,13 +2,15 @@
 ghost use Rattle.std.specs.Prelude.{◌≡◌, true, false};
 ghost use Rattle.std.specs.Option.{is_some};
 ghost use Rattle.sr_box.specs.declared.span.Span.{Span as TheSpan};
-ghost use Rattle.sr_box.specs.Points.{Rect as Spans};
+ghost use Rattle.sr_box.specs.Spans.{in_span};
+ghost use Rattle.sr_box.specs.Points.{Rect as Spans, in_rect};
 ghost use Rattle.sr_box.specs.Cut.{meet, rect_meet};
 ghost use Rattle.sr_union.specs.Free.{span_at};
 ghost use Rattle.sr_union.specs.Hulls.{has_all, in_bound, in_hull};
 
 use sr_box::rect::Rect;
 use sr_box::span::Span;
+use sr_cell::cell::{Cell, Row};
 
 /// The least and the greatest number of some spans; all numbers where one of them is not of numbers.
 #[derive(Clone, Copy)]
@@ -68,6 +70,29 @@ impl Bound {
         ensures { (s t : TheSpan) → result ≡ false → in_bound self.now s ≡ true → in_bound other.now t ≡ true → is_some (meet s t) ≡ false }
     {
         self.lo <= other.hi && other.lo <= self.hi
+    }
+
+    /// Whether a span of these may have the row's value of that column.
+    fn may_have(&self, row: &Row, column: usize) -> bool
+        ensures { (r : Spans) → result ≡ false → in_bound self.now (span_at column r) ≡ true → in_rect r row.now ≡ false }
+    {
+        match row.get(column) {
+            Some(cell) => self.may_be(cell),
+            None => true,
+        }
+    }
+
+    /// Whether a span of these may have the value.
+    fn may_be(&self, cell: &Cell) -> bool
+        ensures { (s : TheSpan) → result ≡ false → in_bound self.now s ≡ true → in_span s cell.now ≡ false }
+    {
+        match cell {
+            Cell::Num(number) => {
+                let number = *number;
+                self.lo <= number && number <= self.hi
+            }
+            Cell::Str(_) => true,
+        }
     }
 }
 
@@ -135,5 +160,18 @@ impl Hull {
             return false;
         }
         self.third.meets(&other.third)
+    }
+
+    /// Whether rects of these may have the row.
+    pub(crate) fn may_have(&self, row: &Row) -> bool
+        ensures { (r : Spans) → result ≡ false → in_hull self.now r ≡ true → in_rect r row.now ≡ false }
+    {
+        if !self.first.may_have(row, 0) {
+            return false;
+        }
+        if !self.second.may_have(row, 1) {
+            return false;
+        }
+        self.third.may_have(row, 2)
     }
 }

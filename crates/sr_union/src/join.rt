@@ -8,9 +8,10 @@ ghost use Rattle.sr_box.specs.Points.{Rect as Spans, rect_fits};
 ghost use Rattle.sr_union.specs.Joined.{AreBeside, IsBoth, IsJoined};
 
 use crate::rects::Rects;
+use crate::sign::{Sign, may_join_at, signs_of, take_sign};
 use sr_box::rect::Rect;
 use sr_box::span::Span;
-use sr_cell::list::{Bytes, Copied, NoMemory, Same};
+use sr_cell::list::{Bytes, Copied, NoMemory, Same, Seq};
 use sr_cell::table::Column;
 use std::alloc::Global;
 
@@ -211,6 +212,7 @@ fn find_neighbour(
     alloc: Global,
     columns: &[Column],
     rects: &[Rect],
+    signs: &[Sign],
     rect: &Rect,
 ) -> Result<Option<Found>, NoMemory>
     requires fits { rect_fits columns.now rect.now ≡ true }
@@ -219,8 +221,11 @@ fn find_neighbour(
     ensures joined { IfOk result (λ found. IfSome found (λ f. (r : Spans) → slice_get rects.now f.place ≡ Some r
         → IsJoined columns.now (r ∷ rect.now ∷ []) (f.both ∷ []))) }
 {
+    let sign = Sign::of(rect);
     for place in 0..rects.len() {
-        if may_be_one(rects[place].as_slice(), rect.as_slice()) {
+        if may_join_at(signs, place, &sign)
+            && may_be_one(rects[place].as_slice(), rect.as_slice())
+        {
             match join_two(alloc, columns, &rects[place], rect)? {
                 Some(both) => return Ok(Some(Found { place, both })),
                 None => {}
@@ -230,19 +235,33 @@ fn find_neighbour(
     Ok(None)
 }
 
-/// The rects and one more, which makes one with a neighbour as long as it has one.
-fn with_one(alloc: Global, columns: &[Column], rects: Rects, rect: Rect) -> Result<Rects, NoMemory>
+/// The rects and one more, which makes one with a neighbour as long as it has one; the signs stay those of the rects.
+fn with_one(
+    alloc: Global,
+    columns: &[Column],
+    rects: Rects,
+    signs: &mut Seq<Sign>,
+    rect: Rect,
+) -> Result<Rects, NoMemory>
     requires fits { rect_fits columns.now rect ≡ true }
     requires rects_fit { list_all (rect_fits columns.now) rects ≡ true }
     ensures { IfOk result (λ joined. IsJoined columns.now (rects ++ rect ∷ []) joined) }
 {
     let mut rects = rects;
     let mut rect = rect;
-    while let Some(found) = find_neighbour(alloc, columns, rects.as_slice(), &rect)? {
+    while let Some(found) = find_neighbour(
+        alloc,
+        columns,
+        rects.as_slice(),
+        signs.as_slice(),
+        &rect,
+    )? {
         let Found { place, both } = found;
         rects.remove(place);
+        take_sign(signs, place);
         rect = both;
     }
+    signs.push(Sign::of(&rect))?;
     rects.push(rect)?;
     Ok(rects)
 }
@@ -258,9 +277,10 @@ pub(crate) fn with_all(
     requires more_fit { list_all (rect_fits columns.now) more ≡ true }
     ensures { IfOk result (λ joined. IsJoined columns.now (rects ++ more) joined) }
 {
+    let mut signs = signs_of(alloc, rects.as_slice())?;
     let mut joined = rects;
     for rect in more.into_vec() {
-        joined = with_one(alloc, columns, joined, rect)?;
+        joined = with_one(alloc, columns, joined, &mut signs, rect)?;
     }
     Ok(joined)
 }

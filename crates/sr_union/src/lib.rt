@@ -10,4 +10,5 @@ pub mod meet;
 pub mod minus;
 pub mod rects;
 mod search;
+mod sign;
 pub mod tidy;

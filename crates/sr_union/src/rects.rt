@@ -154,6 +154,9 @@ impl Rects {
     pub fn has(&self, row: &Row) -> bool
         ensures { result ≡ in_any self.now row.now }
     {
+        if !self.hull.may_have(row) {
+            return false;
+        }
         some_has(self.rects.as_slice(), row)
     }
 }

@@ -19,7 +19,7 @@ use sr_script::line::{TraceLine, TraceLines};
 use std::alloc::Global;
 
 impl World {
-    /// What an event does, and with eager delivery the deliveries behind it, as the lines of the trace. After want of memory each
+    /// What an event does, and with eager delivery the deliveries behind it, as the lines of the trace. When memory ran out each
     /// later step answers just that.
     pub fn step(&mut self, alloc: Global, event: Event) -> Result<TraceLines, NoMemory>
         requires world { IsWorld self.old }

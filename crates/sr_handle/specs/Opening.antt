@@ -1,6 +1,5 @@
 -- How a client is opened.
 use Rattle.std.specs.Prelude.{ℕ, ◌≡◌, ◌==◌, ◌||◌, nat_lt, List, [], Option, Some, None, Result, Ok, Err, if◌then◌else◌}
-use Rattle.sr_cell.specs.declared.fault.Fault.{Fault}
 use Rattle.sr_cell.specs.declared.table.Table.{Table}
 use Rattle.sr_cell.specs.Clients.{most_clients}
 use Rattle.sr_lines.specs.Creates.{Creates}

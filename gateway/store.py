@@ -221,7 +221,7 @@ class Store:
 
     async def insert(self, base, table, relation: str, insert: bind.Insert) -> None:
         await self.judge_rows(base, table, relation, insert.rows)
-        there = await self.number(base, 'SELECT count(*) FROM (SELECT FROM %s LIMIT %d) AS some' % (relation, MOST_ROWS + 1))
+        there = await self.number(base, 'SELECT count(*) FROM (SELECT FROM %s LIMIT %d) AS few' % (relation, MOST_ROWS + 1))
         if there + len(insert.rows) > MOST_ROWS:
             raise sql.Refusal('table-full', MOST_ROWS)
         judge_changes(len(insert.rows))

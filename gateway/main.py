@@ -9,6 +9,7 @@ import argparse
 import asyncio
 import logging
 import pathlib
+import resource
 import signal
 import sys
 
@@ -72,6 +73,8 @@ async def run(found: argparse.Namespace, tables: list) -> None:
     following = asyncio.create_task(keep_up(gateway, found, tables))
     while gateway.server is None and not following.done():
         await asyncio.sleep(0.01)
+    if following.done():
+        following.result()
     await listen(gateway, found)
     print('listening', flush=True)
     ended = asyncio.Event()
@@ -85,6 +88,8 @@ async def run(found: argparse.Namespace, tables: list) -> None:
 
 def main() -> None:
     found = words()
+    most = resource.getrlimit(resource.RLIMIT_NOFILE)[1]
+    resource.setrlimit(resource.RLIMIT_NOFILE, (most, most))
     logging.basicConfig(level=logging.INFO if found.verbose else logging.WARNING, format='%(message)s', stream=sys.stderr)
     logging.getLogger('psycopg').setLevel(logging.ERROR)
     try:

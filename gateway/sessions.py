@@ -92,8 +92,9 @@ class Gateway:
 
     def tell(self, connection: Connection) -> None:
         """What is due is sent unasked where the peer waits for it, and not while a request is carried out."""
-        if connection.is_told and not connection.is_busy and connection.session and connection.session.pending:
-            messages = self.server.push(connection.session)
+        session = connection.session
+        if connection.is_told and not connection.is_busy and session and (session.pending or session.is_full):
+            messages = self.server.push(session)
             if connection.waiting() > self.most_waiting:
                 LOG.info('%s does not take what it is told', connection.name)
                 return connection.cut()

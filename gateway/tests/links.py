@@ -6,7 +6,7 @@ import subprocess
 import sys
 
 ROOT = pathlib.Path(__file__).resolve().parent.parent.parent
-sys.path += [str(ROOT / 'tests' / 'links'), str(ROOT / 'tests' / 'oracle')]
+sys.path += [str(ROOT), str(ROOT / 'tests' / 'links'), str(ROOT / 'tests' / 'oracle')]
 
 import frames  # noqa: E402
 
@@ -47,9 +47,15 @@ class Stream:
         self.link.close()
 
 
-def dial(address):
+def dial(address, room=None):
+    """A link to an address; its system keeps so many bytes for this side, if that is said."""
     host, port = address.rsplit(':', 1)
-    return Stream(socket.create_connection((host, int(port)), SECONDS))
+    link = socket.socket()
+    if room:
+        link.setsockopt(socket.SOL_SOCKET, socket.SO_RCVBUF, room)
+    link.settimeout(SECONDS)
+    link.connect((host, int(port)))
+    return Stream(link)
 
 
 class Program:

@@ -1,0 +1,150 @@
+"""Clients and psql that go on while the gateway and the database are killed at random moments. Behind it each answer must be one of its
+version, as the log of the database has it, and nothing that was accepted may be lost."""
+import json
+import random
+import subprocess
+import threading
+import time
+
+from links import Broken, Psql, dial
+from postgres import Gateway
+
+import reader
+
+CREATE = 'CREATE TABLE p (id INT PRIMARY KEY, age INT CHECK (age BETWEEN 0 AND 150), name TEXT)'
+TABLE = reader.Reader(CREATE, []).create()
+LINES = 120
+
+
+def script_of(chance, client, run):
+    """Lines of a client. The keys of its rows are its own."""
+    lines = []
+    for number in range(LINES):
+        kind, low = chance.random(), chance.randrange(140)
+        if kind < 0.5:
+            lines.append('query %d SELECT id, age FROM p WHERE age BETWEEN %d AND %d' % (client, low, low + chance.randrange(30)))
+        elif kind < 0.6:
+            lines.append("query %d SELECT id, name FROM p WHERE name >= 'c%d'" % (client, chance.randrange(5)))
+        elif kind < 0.75:
+            lines.append("write %d INSERT INTO p VALUES (%d, %d, 'c%d')" % (client, client * 10 ** 6 + run * 1000 + number, low, client))
+        elif kind < 0.85:
+            lines.append('write %d UPDATE p SET age = %d WHERE age = %d' % (client, low, chance.randrange(150)))
+        else:
+            lines.append('cut %d' % client if kind < 0.87 else 'resume %d' % client)
+    return lines
+
+
+class Clients(threading.Thread):
+    """Runs of one client, one behind the other, until they are to end."""
+
+    def __init__(self, program, cluster, address, client, seed, ending):
+        super().__init__()
+        self.words = [program, 'client', '--id', str(client), '--schema', cluster.folder / 'postgres.schema', address]
+        self.client, self.chance, self.ending, self.folder = client, random.Random(seed), ending, cluster.folder
+        self.runs = []
+
+    def run(self):
+        while not self.ending.is_set():
+            self.wait()
+            script = script_of(self.chance, self.client, len(self.runs))
+            path = self.folder / ('script.%d' % self.client)
+            path.write_text(''.join(line + '\n' for line in script))
+            done = subprocess.run(self.words + [path], stdin=subprocess.DEVNULL, capture_output=True, timeout=120)
+            self.runs.append((script, done))
+
+    def wait(self):
+        """Until somebody listens."""
+        while not self.ending.is_set():
+            try:
+                return dial(self.words[-1]).close()
+            except OSError:
+                time.sleep(0.02)
+
+
+class Writes(threading.Thread):
+    """A psql that writes, and is called anew where the database went."""
+
+    def __init__(self, url, ending):
+        super().__init__()
+        self.url, self.ending, self.accepted = url, ending, []
+
+    def run(self):
+        psql, key, chance = Psql(self.url), 0, random.Random(0)
+        while not self.ending.is_set():
+            key += 1
+            try:
+                said = psql.do("BEGIN; INSERT INTO p VALUES (%d, %d, 'psql'); UPDATE p SET age = %d WHERE id = %d; COMMIT"
+                               % (key, chance.randrange(150), chance.randrange(150), chance.randrange(key) + 1))
+                self.accepted += [] if said else [key]
+            except (Broken, OSError):
+                time.sleep(0.2)
+                psql = Psql(self.url)
+            time.sleep(0.005)
+        psql.close()
+
+
+def history(cluster):
+    """The rows at each version."""
+    versions, rows = {}, {}
+    for line in cluster.psql("SELECT json_build_array(version, before, after) FROM naworuke.version LEFT JOIN naworuke.change USING (version) ORDER BY version, seq").splitlines():
+        version, before, after = json.loads(line)
+        if before:
+            rows = {key: row for key, row in rows.items() if key != before[0]}
+        if after:
+            rows = {**rows, after[0]: (after[0], after[1], after[2].encode())}
+        versions[version] = [rows]
+    return versions
+
+
+def run_fault(versions, script, done):
+    """What is wrong with a client's run, or None."""
+    if done.returncode not in (0, 5) or done.stderr not in (b'', b'link\n'):
+        return 'status %d, %r' % (done.returncode, done.stderr)
+    lines, last, answers = [line.split(' ', 3) for line in done.stdout.decode().splitlines()], 0, 0
+    for place, (number, word, *rest) in enumerate(lines):
+        line = script[int(number) - 1]
+        if word == 'answer':
+            version, count = map(int, rest[1].split(' ')[1:])
+            got = [' '.join(each[2:]) for each in lines[place + 1:place + 1 + count]]
+            query = reader.Reader(line.split(' ', 2)[2], [TABLE]).query()
+            want = list(query.rows(versions[version])) if version in versions else None
+            if got != want or version < last:
+                return 'line %s, %s: at version %d got %s, wanted %s' % (number, line, version, got[:9], want and want[:9])
+            last = version
+        if word == 'toclient' and rest[1].startswith('written') and 'INSERT' in line:
+            version, key = int(rest[1].split(' ')[2]), int(line.split('(')[1].split(',')[0])
+            if key not in versions.get(version, [{}])[0]:
+                return '%s is not in version %d' % (line, version)
+    return None
+
+
+def results(program, cluster, moments, clients=4, seed=1):
+    """A name and what was wrong, for all of it."""
+    chance, ending = random.Random(seed), threading.Event()
+    with Gateway(cluster, CREATE + '\n', words=['--first', '0']) as gateway:
+        writes = Writes(cluster.url(), ending)
+        threads = [Clients(program, cluster, gateway.address, n, seed * 100 + n, ending) for n in range(1, clients + 1)] + [writes]
+        for thread in threads:
+            thread.start()
+        for _ in range(moments):
+            time.sleep(chance.uniform(0.1, 1.5))
+            if chance.random() < 0.5:
+                gateway.kill()
+                gateway.start()
+            else:
+                cluster.stop('immediate')
+                cluster.start()
+        time.sleep(1)
+        ending.set()
+        for thread in threads:
+            thread.join()
+    versions = history(cluster)
+    runs = [run for thread in threads[:-1] for run in thread.runs]
+    faults = [fault for fault in (run_fault(versions, *run) for run in runs) if fault]
+    newest = versions[max(versions)][0]
+    lost = [key for key in writes.accepted if key not in newest]
+    failed = sum(b'fail' in done.stdout for _, done in runs)
+    answers = sum(done.stdout.count(b' answer ') for _, done in runs)
+    name = '%d kills, %d versions, %d runs (%d with a link that failed), %d answers, %d writes of psql' % (
+        moments, max(versions), len(runs), failed, answers, len(writes.accepted))
+    yield name, faults[0] if faults else 'lost: %s' % lost[:5] if lost else None

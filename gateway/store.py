@@ -12,10 +12,14 @@ from .rules import Change
 from .texts import above_prefix, least_text
 
 ROWS_OF_A_MESSAGE, MOST_ROWS, MOST_CHANGES = 256, 65536, 10000
-# what is newer than a version, and how far back the log reaches
-NEWS = """SELECT v.version, c.place, c.before, c.after FROM naworuke.version v LEFT JOIN naworuke.change c USING (version)
-    WHERE v.version > %s ORDER BY v.version, c.seq"""
-FLOOR = 'SELECT floor FROM naworuke.state'
+# What is newer than a version, and how far back the log reaches; and a piece of the rows of an asked part, by key. They stand in one statement,
+# which has one snapshot.
+NEWS = """SELECT 0 AS kind, v.version AS number, c.seq, c.place::bigint AS count, c.before, c.after, NULL::bytea AS spelled
+    FROM naworuke.version v LEFT JOIN naworuke.change c USING (version) WHERE v.version > %d
+    UNION ALL SELECT 1, floor, NULL, NULL, NULL, NULL, NULL FROM naworuke.state"""
+ROWS = """SELECT %d, piece, NULL, count(*), NULL, NULL, string_agg(spelled, ''::bytea ORDER BY key)
+    FROM (SELECT %s AS key, %s AS spelled, (row_number() OVER (ORDER BY %s) - 1) / %d AS piece FROM %s WHERE %s) AS rows GROUP BY piece"""
+FIRST_PART = 2
 SETTINGS = '-c jit=off -c standard_conforming_strings=on -c client_encoding=UTF8'
 
 
@@ -101,13 +105,11 @@ def spelled_sql(columns: list) -> str:
     return ' || '.join(["'\\x%02x'::bytea" % len(columns)] + [each.format(quoted(column.name)) for each, column in zip(cells, columns)])
 
 
-def rows_sql(table, relation: str, part) -> str:
-    """The rows of an asked part by key, in pieces as they stand in messages."""
+def rows_sql(place: int, table, relation: str, part) -> str:
+    """The rows of the asked part in this place, in pieces as they stand in messages."""
     where = ' OR '.join('(%s)' % rect_sql(table, rect) for rect in part.rects)
     key, spelled = cell(table.columns[table.key]), spelled_sql([table.columns[c] for c in part.columns])
-    return ("SELECT count(*), string_agg(spelled, ''::bytea ORDER BY key) FROM (SELECT %s AS key, %s AS spelled,"
-            " (row_number() OVER (ORDER BY %s) - 1) / %d AS piece FROM %s WHERE %s) AS rows GROUP BY piece ORDER BY piece"
-            % (key, spelled, key, ROWS_OF_A_MESSAGE, relation, where))
+    return ROWS % (FIRST_PART + place, key, spelled, key, ROWS_OF_A_MESSAGE, relation, where)
 
 
 # ---- news
@@ -183,28 +185,26 @@ class Store:
 
     async def news(self, known: int) -> News:
         async with self.connection() as base:
-            return await self.news_in(base, known)
-
-    async def news_in(self, base: psycopg.AsyncConnection, known: int) -> News:
-        async with base.pipeline():
-            logged, floor = await base.execute(NEWS, [known]), await base.execute(FLOOR)
-        return await self.told(logged, floor)
-
-    async def told(self, logged: psycopg.AsyncCursor, floor: psycopg.AsyncCursor) -> News:
-        return News((await floor.fetchone())[0], versions_of(self.tables, await logged.fetchall()))
+            return (await self.look(base, known, [])).news
 
     async def ask(self, ask, known: int) -> Asked:
-        """The rows of an ask in one snapshot, and what is newer there than the known version."""
+        """The rows of an ask, and what is newer than the known version, in one snapshot."""
         async with self.connection() as base:
-            async with base.pipeline():
-                await base.execute('BEGIN ISOLATION LEVEL REPEATABLE READ READ ONLY')
-                logged, floor = await base.execute(NEWS, [known]), await base.execute(FLOOR)
-                found = [await base.execute(rows_sql(self.tables[part.table], self.relations[part.table], part), prepare=False, binary=True)
-                         for part in ask.parts]
-                await base.execute('COMMIT')
-            news = await self.told(logged, floor)
-            rows = [Rows(ask.number, place, count, spelled) for place, pieces in enumerate(found) for count, spelled in await pieces.fetchall()]
-            return Asked(news.versions[-1][0] if news.versions else known, news, rows)
+            return await self.look(base, known, ask.parts, ask.number)
+
+    async def look(self, base: psycopg.AsyncConnection, known: int, parts: list, number: int = 0) -> Asked:
+        queries = [NEWS % known] + [rows_sql(place, self.tables[part.table], self.relations[part.table], part) for place, part in enumerate(parts)]
+        found = await base.execute(' UNION ALL '.join(queries) + ' ORDER BY kind, number, seq', prepare=False, binary=True)
+        logged, floor, rows = [], 0, []
+        for kind, at, _, count, before, after, spelled in await found.fetchall():
+            if kind == 0:
+                logged.append((at, count, before, after))
+            elif kind == 1:
+                floor = at
+            else:
+                rows.append(Rows(number, kind - FIRST_PART, count, spelled))
+        versions = versions_of(self.tables, logged)
+        return Asked(versions[-1][0] if versions else known, News(floor, versions), rows)
 
     # ---- writes
 
@@ -215,7 +215,7 @@ class Store:
             await base.execute('SELECT pg_advisory_xact_lock(%s)', [LOCK])
             do = {bind.Insert: self.insert, bind.Update: self.update, bind.Delete: self.delete}[type(write)]
             await do(base, self.tables[write.table], self.relations[write.table], write)
-            news = await self.news_in(base, known)
+            news = (await self.look(base, known, [])).news
             await base.execute('COMMIT')
             return news
 

@@ -9,6 +9,7 @@ import time
 from links import Broken, Psql, dial
 from postgres import Gateway
 
+import frames
 import reader
 
 CREATE = 'CREATE TABLE p (id INT PRIMARY KEY, age INT CHECK (age BETWEEN 0 AND 150), name TEXT)'
@@ -53,12 +54,18 @@ class Clients(threading.Thread):
             self.runs.append((script, done))
 
     def wait(self):
-        """Until somebody listens."""
+        """Until a session can begin."""
         while not self.ending.is_set():
             try:
-                return dial(self.words[-1]).close()
-            except OSError:
-                time.sleep(0.02)
+                stream = dial(self.words[-1])
+                stream.link.sendall(frames.frame(frames.Hello(self.client, 0)))
+                welcome = stream.next()
+                stream.close()
+                if welcome:
+                    return
+            except (OSError, Broken):
+                pass
+            time.sleep(0.05)
 
 
 class Writes(threading.Thread):
@@ -83,10 +90,18 @@ class Writes(threading.Thread):
         psql.close()
 
 
+# the log drops old versions, so a table of the test's own keeps them
+KEPT = """CREATE TABLE kept (version bigint, seq bigint, before json, after json);
+CREATE FUNCTION keep() RETURNS trigger LANGUAGE plpgsql AS 'BEGIN INSERT INTO public.kept VALUES (NEW.version, NEW.seq, NEW.before, NEW.after); RETURN NULL; END';
+CREATE FUNCTION begin() RETURNS trigger LANGUAGE plpgsql AS 'BEGIN INSERT INTO public.kept VALUES (NEW.version); RETURN NULL; END';
+CREATE TRIGGER keep AFTER INSERT ON naworuke.change FOR EACH ROW EXECUTE FUNCTION keep();
+CREATE TRIGGER begin AFTER INSERT ON naworuke.version FOR EACH ROW EXECUTE FUNCTION begin()"""
+
+
 def history(cluster):
     """The rows at each version."""
-    versions, rows = {}, {}
-    for line in cluster.psql("SELECT json_build_array(version, before, after) FROM naworuke.version LEFT JOIN naworuke.change USING (version) ORDER BY version, seq").splitlines():
+    versions, rows = {0: [{}]}, {}
+    for line in cluster.psql('SELECT json_build_array(version, before, after) FROM kept ORDER BY version, seq NULLS FIRST').splitlines():
         version, before, after = json.loads(line)
         if before:
             rows = {key: row for key, row in rows.items() if key != before[0]}
@@ -122,6 +137,7 @@ def results(program, cluster, moments, clients=4, seed=1):
     """A name and what was wrong, for all of it."""
     chance, ending = random.Random(seed), threading.Event()
     with Gateway(cluster, CREATE + '\n', words=['--first', '0']) as gateway:
+        cluster.psql(KEPT)
         writes = Writes(cluster.url(), ending)
         threads = [Clients(program, cluster, gateway.address, n, seed * 100 + n, ending) for n in range(1, clients + 1)] + [writes]
         for thread in threads:
@@ -138,7 +154,9 @@ def results(program, cluster, moments, clients=4, seed=1):
         ending.set()
         for thread in threads:
             thread.join()
-    versions = history(cluster)
+    versions, now = history(cluster), {}
+    for row in map(json.loads, cluster.psql('SELECT json_build_array(id, age, name) FROM p').splitlines()):
+        now[row[0]] = (row[0], row[1], row[2].encode())
     runs = [run for thread in threads[:-1] for run in thread.runs]
     faults = [fault for fault in (run_fault(versions, *run) for run in runs) if fault]
     newest = versions[max(versions)][0]
@@ -147,4 +165,4 @@ def results(program, cluster, moments, clients=4, seed=1):
     answers = sum(done.stdout.count(b' answer ') for _, done in runs)
     name = '%d kills, %d versions, %d runs (%d with a link that failed), %d answers, %d writes of psql' % (
         moments, max(versions), len(runs), failed, answers, len(writes.accepted))
-    yield name, faults[0] if faults else 'lost: %s' % lost[:5] if lost else None
+    yield name, faults[0] if faults else 'lost: %s' % lost[:5] if lost else None if now == newest else 'the log has not all that was written'

@@ -58,7 +58,8 @@ BEGIN
     ELSIF current_setting('transaction_isolation') <> 'read committed' THEN
         RAISE 'TRUNCATE of a published table needs READ COMMITTED';
     ELSE
-        EXECUTE format('INSERT INTO naworuke.change (version, place, before, after) SELECT $1, {number}, {quoted_old}, NULL FROM %s o', TG_RELID::regclass) USING of;
+        EXECUTE format('INSERT INTO naworuke.change (version, place, before, after) SELECT $1, {number}, {quoted_old}, NULL FROM %s o',
+                       TG_RELID::regclass) USING of;
     END IF;
     RETURN NULL;
 END $$;

@@ -233,7 +233,8 @@ class Store:
         """Row by row: first the cells, then the key."""
         key = table.columns[table.key]
         keys = [storable(row[table.key]) for row in rows if not key.fault_of(row[table.key])]
-        found = await base.execute('SELECT %s FROM %s WHERE %s = ANY(%%s::%s[])' % (quoted(key.name), relation, cell(key), 'text' if key.is_text else 'bigint'), [keys])
+        kind = 'text' if key.is_text else 'bigint'
+        found = await base.execute('SELECT %s FROM %s WHERE %s = ANY(%%s::%s[])' % (quoted(key.name), relation, cell(key), kind), [keys])
         taken = {row_of(row)[0] for row in await found.fetchall()}
         for number, row in enumerate(rows):
             judge_cells(table, enumerate(row))

@@ -141,7 +141,8 @@ def beside_fault(cluster):
 def parts_fault(cluster):
     """A table in partitions, one of which is written by its own name."""
     cluster.psql('CREATE TABLE sale (id int PRIMARY KEY, amount int, name text) PARTITION BY RANGE (id);'
-                 'CREATE TABLE low PARTITION OF sale FOR VALUES FROM (0) TO (100); CREATE TABLE high PARTITION OF sale FOR VALUES FROM (100) TO (1000)', 'parts')
+                 'CREATE TABLE low PARTITION OF sale FOR VALUES FROM (0) TO (100);'
+                 'CREATE TABLE high PARTITION OF sale FOR VALUES FROM (100) TO (1000)', 'parts')
     with Gateway(cluster, SALE, 'parts', ['--first', '0']) as gateway:
         cluster.psql(ROW % (1, 1), 'parts')
         cluster.psql('UPDATE sale SET id = 200', 'parts')

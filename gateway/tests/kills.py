@@ -92,7 +92,8 @@ class Writes(threading.Thread):
 
 # the log drops old versions, so a table of the test's own keeps them
 KEPT = """CREATE TABLE kept (version bigint, seq bigint, before json, after json);
-CREATE FUNCTION keep() RETURNS trigger LANGUAGE plpgsql AS 'BEGIN INSERT INTO public.kept VALUES (NEW.version, NEW.seq, NEW.before, NEW.after); RETURN NULL; END';
+CREATE FUNCTION keep() RETURNS trigger LANGUAGE plpgsql AS
+    'BEGIN INSERT INTO public.kept VALUES (NEW.version, NEW.seq, NEW.before, NEW.after); RETURN NULL; END';
 CREATE FUNCTION begin() RETURNS trigger LANGUAGE plpgsql AS 'BEGIN INSERT INTO public.kept VALUES (NEW.version); RETURN NULL; END';
 CREATE TRIGGER keep AFTER INSERT ON naworuke.change FOR EACH ROW EXECUTE FUNCTION keep();
 CREATE TRIGGER begin AFTER INSERT ON naworuke.version FOR EACH ROW EXECUTE FUNCTION begin()"""

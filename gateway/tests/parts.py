@@ -47,12 +47,15 @@ class Maker:
     def row(self):
         return tuple(self.some(self.cell, 12))
 
+    def part(self):
+        return judge.Part(self.random.choice([0, 255]), sorted(self.random.sample(range(12), 3)), self.rects())
+
     def message(self):
         pick, number = self.random.choice, self.number
         return pick([
             lambda: judge.Hello(pick([1, 64]), number()),
             lambda: judge.Resume(pick([1, 64]), number(), number(), self.some(lambda: judge.Holding(pick([0, 15]), self.rects()), 3)),
-            lambda: judge.Ask(number(), pick([True, False]), self.some(lambda: judge.Part(pick([0, 255]), sorted(self.random.sample(range(12), 3)), self.rects()), 4)),
+            lambda: judge.Ask(number(), pick([True, False]), self.some(self.part, 4)),
             lambda: judge.Write(number(), pick(TEXTS)),
             lambda: judge.Welcome(number(), number(), pick([True, False])),
             lambda: judge.Notice(number(), self.some(lambda: judge.Tell(pick([0, 255]), self.cell(), pick([None, self.row()])), 3)),

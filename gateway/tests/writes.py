@@ -16,7 +16,8 @@ SCHEMA = ''.join(line + '\n' for line in scripts.CREATES + [EXTRA])
 TOKENS = re.compile(r"'(?:''|[^'])*'|\w+|<=|>=|<>|!=|\s+|.", re.DOTALL)
 PIECES = ['(', ')', ',', ';', '.', '*', '-', '=', '<', '>=', '<>', '!=', 'NOT', 'not', 'AND', 'OR', 'IN', 'LIKE', 'BETWEEN', 'WHERE', 'SET', 'VALUES', 'FROM',
           'TABLE', 'x', 'reading', 'label', 'id', 'title', 'no', '0', '7', '123456789012345678', '1234567890123456789', '1099511627775', '1099511627776',
-          "'a'", "'a%'", "'%'", "'_%'", "'", "''''", "'\u00e9'", '\u00e9', "'" + 'a' * 120 + "'", "'" + 'a' * 121 + "'", 'a' * 64, 'a' * 65, '"', '#', ' ', '\t']
+          "'a'", "'a%'", "'%'", "'_%'", "'", "''''", "'\u00e9'", '\u00e9', "'" + 'a' * 120 + "'", "'" + 'a' * 121 + "'",
+          'a' * 64, 'a' * 65, '"', '#', ' ', '\t']
 WHOLE = ['SELECT id FROM reading', 'SELECT * FROM reading JOIN shelf ON reading.id = shelf.code WHERE NOT room = 10;', 'SELECT id FROM reading INNER shelf',
          'CREATE TABLE z (a INT PRIMARY KEY)', 'CREATE TABLE z (a INT)', 'CREATE TABLE z (a INT PRIMARY KEY CHECK (b BETWEEN 0 AND 1))',
          'CREATE TABLE z (a INT PRIMARY KEY NOT NULL CHECK (a BETWEEN -1 AND 1), t TEXT NOT NULL NOT NULL)', 'CREATE TABLE z (t TEXT PRIMARY KEY PRIMARY KEY)',
@@ -24,7 +25,8 @@ WHOLE = ['SELECT id FROM reading', 'SELECT * FROM reading JOIN shelf ON reading.
          'INSERT INTO reading (level, level, id) VALUES (1, 0, 3)', 'INSERT INTO reading VALUES (1, 0)', "INSERT INTO reading VALUES (1, 'a', 0)",
          'INSERT INTO reading VALUES (5, 0, 0), (5, 0, 9)', 'INSERT INTO reading VALUES (5, 0, 9), (5, 0, 0)', 'UPDATE reading SET id = 4',
          'UPDATE reading SET place = 9 WHERE id = 77', 'UPDATE reading SET place = 1, place = 2', 'UPDATE reading SET place = 1, level = 2 WHERE shelf.id = 1',
-         'UPDATE reading SET place = 1 WHERE reading.place = 1 AND reading.none = 2', "DELETE FROM label WHERE title LIKE 'a_%'", "DELETE FROM label WHERE no LIKE '1%'",
+         'UPDATE reading SET place = 1 WHERE reading.place = 1 AND reading.none = 2',
+         "DELETE FROM label WHERE title LIKE 'a_%'", "DELETE FROM label WHERE no LIKE '1%'",
          'DELETE FROM big WHERE ' + 'NOT ' * 64 + 'k = 1', 'DELETE FROM big WHERE ' + 'NOT ' * 65 + 'k = 1', 'DELETE FROM big WHERE ' + '(' * 70 + 'k = 1',
          'INSERT INTO big VALUES ' + ', '.join("(%d, 0, '')" % k for k in range(4000)), 'UPDATE big SET v = 5', 'DELETE FROM big',
          'UPDATE big SET v = 1 WHERE k = ' + '9' * 18, 'DELETE FROM big WHERE k > 1099511627775', "UPDATE big SET name = '%s'" % ('b' * 121)]

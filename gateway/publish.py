@@ -20,7 +20,7 @@ IDENTITY = """SELECT system_identifier || '/' || substr(pg_walfile_name(pg_curre
 KEPT = f"""
 CREATE SCHEMA IF NOT EXISTS naworuke;
 CREATE TABLE IF NOT EXISTS naworuke.state (one boolean PRIMARY KEY CHECK (one), identity text NOT NULL, tables text NOT NULL, floor bigint NOT NULL);
-CREATE TABLE IF NOT EXISTS naworuke.version (version bigint PRIMARY KEY);
+CREATE TABLE IF NOT EXISTS naworuke.version (version bigint PRIMARY KEY, logged bigint NOT NULL DEFAULT 0);
 CREATE TABLE IF NOT EXISTS naworuke.change (seq bigserial PRIMARY KEY, version bigint NOT NULL, place smallint NOT NULL, before json, after json);
 CREATE INDEX IF NOT EXISTS change_version ON naworuke.change (version);
 CREATE SEQUENCE IF NOT EXISTS naworuke.versions MINVALUE 0;
@@ -45,7 +45,7 @@ END $$;
 # what a table of this number logs; old_rows and new_rows are what a statement took away and brought
 LOGGED = """
 CREATE OR REPLACE FUNCTION naworuke.changed_{number}() RETURNS trigger LANGUAGE plpgsql SECURITY DEFINER SET search_path = pg_catalog, pg_temp AS $$
-DECLARE of bigint := current_setting('naworuke.version');
+DECLARE of bigint := current_setting('naworuke.version'); count bigint;
 BEGIN
     IF TG_OP = 'INSERT' THEN
         INSERT INTO naworuke.change (version, place, before, after) SELECT of, {number}, NULL, {new} FROM new_rows n;
@@ -61,6 +61,8 @@ BEGIN
         EXECUTE format('INSERT INTO naworuke.change (version, place, before, after) SELECT $1, {number}, {quoted_old}, NULL FROM %s o',
                        TG_RELID::regclass) USING of;
     END IF;
+    GET DIAGNOSTICS count = ROW_COUNT;
+    UPDATE naworuke.version SET logged = logged + count WHERE version = of;
     RETURN NULL;
 END $$;
 """

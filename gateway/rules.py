@@ -35,9 +35,13 @@ class Log:
         self.versions, self.kept, self.count = deque(), deque(), 0
         self.floors = deque([(newest, floor)])
 
-    def add(self, version: int, changes: list) -> None:
+    def add(self, version: int, changes: Optional[list]) -> None:
+        """One version more. None stands for more changes than any log keeps."""
         self.newest = version
-        if changes:
+        if changes is None:
+            self.kept.clear()
+            self.count, self.floor = 0, version
+        elif changes:
             self.versions.append((version, changes))
             self.kept.append((version, len(changes)))
             self.count += len(changes)
@@ -83,6 +87,7 @@ class Server:
     def __init__(self, tables: list, log: Log):
         self.tables, self.log = tables, log
         self.indexes = [Index() for _ in tables]
+        self.subscribed: set = set()
 
     def extend(self, versions: list) -> set:
         """Takes versions with their changes, those that are not known yet; the sessions that they touch."""
@@ -90,10 +95,21 @@ class Server:
         for version, changes in versions:
             if version > self.log.newest:
                 self.log.add(version, changes)
-                for change in changes:
-                    for session in self.touched(change):
-                        self.mark(session, version, change)
-                        touched.add(session)
+                touched |= self.mark_all() if changes is None else self.mark_touched(version, changes)
+        return touched
+
+    def mark_all(self) -> set:
+        """Whoever asked for something is lost."""
+        for session in self.subscribed:
+            session.pending, session.is_full = [], True
+        return set(self.subscribed)
+
+    def mark_touched(self, version: int, changes: list) -> set:
+        touched = set()
+        for change in changes:
+            for session in self.touched(change):
+                self.mark(session, version, change)
+                touched.add(session)
         return touched
 
     def touched(self, change: Change) -> set:
@@ -113,6 +129,7 @@ class Server:
         """From this version on; newer ones may be told already."""
         added = [rect for rect in dict.fromkeys(rects) if rect not in session.rects[table]]
         session.rects[table].update(dict.fromkeys(added))
+        self.subscribed.add(session)
         for rect in added:
             self.indexes[table].add(rect, session)
         if self.log.newest > version:
@@ -125,6 +142,7 @@ class Server:
             for rect in rects:
                 self.indexes[table].remove(rect, session)
         session.rects.clear()
+        self.subscribed.discard(session)
         session.pending, session.is_full = [], False
 
     def told(self, table: int, rects: list, above: int, upto: int) -> list:

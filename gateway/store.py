@@ -12,14 +12,21 @@ from .rules import Change
 from .texts import above_prefix, least_text
 
 ROWS_OF_A_MESSAGE, MOST_ROWS, MOST_CHANGES = 256, 65536, 10000
+# a version that logged more is looked at in the database first
+MOST_LOGGED = 20000
 # What is newer than a version, and how far back the log reaches; and a piece of the rows of an asked part, by key. They stand in one statement,
 # which has one snapshot.
-NEWS = """SELECT 0 AS kind, v.version AS number, c.seq, c.place::bigint AS count, c.before, c.after, NULL::bytea AS spelled
-    FROM naworuke.version v LEFT JOIN naworuke.change c USING (version) WHERE v.version > %d
-    UNION ALL SELECT 1, floor, NULL, NULL, NULL, NULL, NULL FROM naworuke.state"""
+NEWS = """SELECT 0 AS kind, v.version AS number, c.seq, CASE WHEN logged > {most} THEN -1 ELSE c.place END::bigint AS count,
+        c.before, c.after, NULL::bytea AS spelled
+    FROM naworuke.version v LEFT JOIN naworuke.change c ON c.version = v.version AND logged <= {most} WHERE v.version > %d
+    UNION ALL SELECT 1, floor, NULL, NULL, NULL, NULL, NULL FROM naworuke.state""".format(most=MOST_LOGGED)
+# what a version of many logged changes comes to, as far as a log may keep it; and how far back the log reaches by then
+MANY = """SELECT place::bigint, old, new FROM (SELECT place, (array_agg(before ORDER BY seq))[1] AS old, (array_agg(after ORDER BY seq DESC))[1] AS new
+        FROM naworuke.change WHERE version = %d GROUP BY place, coalesce(after, before) ->> (%s)) AS net WHERE old::text IS DISTINCT FROM new::text
+    UNION ALL SELECT -1, NULL, to_json(floor) FROM naworuke.state LIMIT %d"""
 ROWS = """SELECT %d, piece, NULL, count(*), NULL, NULL, string_agg(spelled, ''::bytea ORDER BY key)
     FROM (SELECT %s AS key, %s AS spelled, (row_number() OVER (ORDER BY %s) - 1) / %d AS piece FROM %s WHERE %s) AS rows GROUP BY piece"""
-FIRST_PART = 2
+FIRST_PART, MANY_LOGGED = 2, -1
 SETTINGS = '-c jit=off -c standard_conforming_strings=on -c client_encoding=UTF8'
 
 
@@ -203,8 +210,22 @@ class Store:
                 floor = at
             else:
                 rows.append(Rows(number, kind - FIRST_PART, count, spelled))
-        versions = versions_of(self.tables, logged)
+        versions = versions_of(self.tables, [each for each in logged if each[1] != MANY_LOGGED])
+        for version in [at for at, place, _, _ in logged if place == MANY_LOGGED]:
+            changes, floor = await self.many(base, version, floor)
+            versions.append((version, changes))
+        versions.sort(key=lambda each: each[0])
         return Asked(versions[-1][0] if versions else known, News(floor, versions), rows)
+
+    async def many(self, base: psycopg.AsyncConnection, version: int, floor: int) -> tuple:
+        """The changes of a version that logged many, or None where they are more than a log keeps; and how far back the log reaches by now."""
+        keys = 'CASE place %s END' % ' '.join('WHEN %d THEN %d' % (place, table.key) for place, table in enumerate(self.tables))
+        found = await (await base.execute(MANY % (version, keys, MOST_CHANGES + 2), prepare=False, binary=True)).fetchall()
+        told = [each[2] for each in found if each[0] < 0]
+        if not told or len(found) > MOST_CHANGES + 1:
+            return None, floor
+        changes = versions_of(self.tables, [(version, *each) for each in found if each[0] >= 0])
+        return (changes[0][1] if changes else []), max(floor, told[0])
 
     # ---- writes
 

@@ -92,6 +92,24 @@ def limits_fault(cluster):
             return None if 'naworuke_id' in str(fault) else str(fault)
 
 
+def bulk_fault(cluster):
+    """A transaction of very many changes is a version that the log drops; one that comes to few is told like any other."""
+    with Gateway(cluster, SALE.replace('999', '99999'), 'bulk', ['--first', '0']) as gateway:
+        cluster.psql("INSERT INTO sale SELECT n, 0, 'n' FROM generate_series(1, 30000) AS n", 'bulk')
+        cluster.psql('BEGIN; UPDATE sale SET amount = 1; UPDATE sale SET amount = 0 WHERE id <> 7; COMMIT', 'bulk')
+        told = []
+        for version in (0, 1):
+            stream = dial(gateway.address)
+            stream.link.sendall(frames.frame(frames.Resume(1, version, version, [frames.Holding(0, [(None, None, None)])])))
+            told.append([])
+            while not isinstance(message := stream.next()[0], frames.Welcome):
+                told[-1].append(message)
+            told[-1].append(message)
+            stream.close()
+    want = [[frames.Welcome(0, 2, False)], [frames.Notice(2, [frames.Tell(0, 7, (7, 1, b'n'))]), frames.Welcome(1, 2, True)]]
+    return None if told == want else str(told)[:500]
+
+
 def version_at(gateway):
     """The version that a Hello is told."""
     stream = dial(gateway.address)
@@ -156,7 +174,7 @@ def parts_fault(cluster):
 def results(cluster):
     """A name and what was wrong, for each case, in a base of its own."""
     for base, name, tell in [('ways', 'each way to write', ways_fault), ('orders', 'the order of commits', order_fault),
-                             ('limits', 'limits', limits_fault), ('dumped', 'restarts and restored dumps', restored_fault),
+                             ('limits', 'limits', limits_fault), ('bulk', 'very many changes', bulk_fault), ('dumped', 'restarts and restored dumps', restored_fault),
                              ('beside', 'two gateways', beside_fault), ('parts', 'partitions', parts_fault)]:
         cluster.psql('CREATE DATABASE %s' % base)
         if base == 'dumped':

@@ -10,7 +10,7 @@ from postgres import Gateway
 
 import frames
 
-SCHEMA = 'CREATE TABLE p (id INT PRIMARY KEY CHECK (id BETWEEN 0 AND 9999), age INT CHECK (age BETWEEN 0 AND 150), name TEXT)\n'
+SCHEMA = 'CREATE TABLE p (id INT PRIMARY KEY CHECK (id BETWEEN 0 AND 99999), age INT CHECK (age BETWEEN 0 AND 150), name TEXT)\n'
 FILL = "INSERT INTO p SELECT n, n %% 151, 'row ' || n FROM generate_series(0, %d) AS n"
 # the last version, behind enough bytes to fill what the systems of both sides keep
 LAST = 700
@@ -81,7 +81,7 @@ def holds(cluster, idle, busy_ones, asks):
 # ---- told unasked
 
 def told_fault(cluster):
-    """A peer at an address of --tell gets a notice of each change that touches what it asked, and of no other."""
+    """A peer at an address of --tell gets a notice of each change that touches what it asked, and of no other; of too many a Lapse."""
     with Gateway(cluster, SCHEMA, 'told', ['--first', '0'], tell=True) as gateway:
         cluster.psql(FILL % 500, 'told')
         stream = dial(gateway.address)
@@ -90,9 +90,10 @@ def told_fault(cluster):
             pass
         for text in ["UPDATE p SET name = 'x' WHERE id = 100", 'UPDATE p SET age = 12 WHERE id = 20', "UPDATE p SET age = 140 WHERE id = 10"]:
             cluster.psql(text, 'told')
-        got = [stream.next()[0] for _ in range(2)]
+        cluster.psql("INSERT INTO p SELECT n, 150, '' FROM generate_series(1000, 31000) AS n", 'told')
+        got = [stream.next()[0] for _ in range(3)]
         stream.close()
-    want = [frames.Notice(3, [frames.Tell(0, 20, (20, 12, b'row 20'))]), frames.Notice(4, [frames.Tell(0, 10, (10, 140, b'row 10'))])]
+    want = [frames.Notice(3, [frames.Tell(0, 20, (20, 12, b'row 20'))]), frames.Notice(4, [frames.Tell(0, 10, (10, 140, b'row 10'))]), frames.Lapse(5)]
     return None if got == want else '%s, wanted %s' % (got, want)
 
 

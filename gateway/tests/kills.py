@@ -1,5 +1,6 @@
 """Clients and psql that go on while the gateway and the database are killed at random moments. Behind it each answer must be one of its
 version, as the log of the database has it, and nothing that was accepted may be lost."""
+import collections
 import json
 import random
 import subprocess
@@ -100,38 +101,47 @@ CREATE TRIGGER begin AFTER INSERT ON naworuke.version FOR EACH ROW EXECUTE FUNCT
 
 
 def history(cluster):
-    """The rows at each version."""
-    versions, rows = {0: [{}]}, {}
+    """Each version with its rows, which change as it goes on."""
+    rows, last = {}, 0
     for line in cluster.psql('SELECT json_build_array(version, before, after) FROM kept ORDER BY version, seq NULLS FIRST').splitlines():
         version, before, after = json.loads(line)
+        if version > last:
+            yield last, rows
+            last = version
         if before:
-            rows = {key: row for key, row in rows.items() if key != before[0]}
+            rows.pop(before[0], None)
         if after:
-            rows = {**rows, after[0]: (after[0], after[1], after[2].encode())}
-        versions[version] = [rows]
-    return versions
+            rows[after[0]] = (after[0], after[1], after[2].encode())
+    yield last, rows
 
 
-def run_fault(versions, script, done):
-    """What is wrong with a client's run, or None."""
-    if done.returncode not in (0, 5) or done.stderr not in (b'', b'link\n'):
-        return 'status %d, %r' % (done.returncode, done.stderr)
-    lines, last, answers = [line.split(' ', 3) for line in done.stdout.decode().splitlines()], 0, 0
+def told_by(script, done):
+    """What a run tells of versions: each with a line of the script, and with the rows of its answer, or None of an INSERT that was written."""
+    lines = [line.split(' ', 3) for line in done.stdout.decode().splitlines()]
     for place, (number, word, *rest) in enumerate(lines):
         line = script[int(number) - 1]
         if word == 'answer':
             version, count = map(int, rest[1].split(' ')[1:])
-            got = [' '.join(each[2:]) for each in lines[place + 1:place + 1 + count]]
-            query = reader.Reader(line.split(' ', 2)[2], [TABLE]).query()
-            want = list(query.rows(versions[version])) if version in versions else None
-            if got != want or version < last:
-                return 'line %s, %s: at version %d got %s, wanted %s' % (number, line, version, got[:9], want and want[:9])
-            last = version
+            yield version, line, [' '.join(each[2:]) for each in lines[place + 1:place + 1 + count]]
         if word == 'toclient' and rest[1].startswith('written') and 'INSERT' in line:
-            version, key = int(rest[1].split(' ')[2]), int(line.split('(')[1].split(',')[0])
-            if key not in versions.get(version, [{}])[0]:
-                return '%s is not in version %d' % (line, version)
-    return None
+            yield int(rest[1].split(' ')[2]), line, None
+
+
+def run_fault(script, done):
+    """What is wrong with a run by itself, or None."""
+    if done.returncode not in (0, 5) or done.stderr not in (b'', b'link\n'):
+        return 'status %d, %r' % (done.returncode, done.stderr)
+    versions = [version for version, _, rows in told_by(script, done) if rows is not None]
+    return None if versions == sorted(versions) else 'versions fall: %s' % versions
+
+
+def told_fault(rows, version, line, got):
+    """What is wrong with what was told of a version with these rows, or None."""
+    if got is None:
+        key = int(line.split('(')[1].split(',')[0])
+        return None if key in rows else '%s is not in version %d' % (line, version)
+    want = list(reader.Reader(line.split(' ', 2)[2], [TABLE]).query().rows([rows]))
+    return None if got == want else '%s: at version %d got %s, wanted %s' % (line, version, got[:9], want[:9])
 
 
 def results(program, cluster, moments, clients=4, seed=1):
@@ -155,15 +165,18 @@ def results(program, cluster, moments, clients=4, seed=1):
         ending.set()
         for thread in threads:
             thread.join()
-    versions, now = history(cluster), {}
-    for row in map(json.loads, cluster.psql('SELECT json_build_array(id, age, name) FROM p').splitlines()):
-        now[row[0]] = (row[0], row[1], row[2].encode())
     runs = [run for thread in threads[:-1] for run in thread.runs]
-    faults = [fault for fault in (run_fault(versions, *run) for run in runs) if fault]
-    newest = versions[max(versions)][0]
-    lost = [key for key in writes.accepted if key not in newest]
+    told, faults = collections.defaultdict(list), [fault for fault in (run_fault(*run) for run in runs) if fault]
+    for version, line, got in [each for run in runs for each in told_by(*run)]:
+        told[version].append((line, got))
+    count, version, rows = sum(map(len, told.values())), 0, {}
+    for version, rows in history(cluster):
+        faults += [fault for fault in (told_fault(rows, version, *each) for each in told.pop(version, [])) if fault]
+    faults += ['no version: %s' % told] if told else []
+    faults += ['lost: %d' % key for key in writes.accepted if key not in rows]
+    now = map(json.loads, cluster.psql('SELECT json_build_array(id, age, name) FROM p').splitlines())
+    if {row[0]: (row[0], row[1], row[2].encode()) for row in now} != rows:
+        faults.append('the log has not all that was written')
     failed = sum(b'fail' in done.stdout for _, done in runs)
-    answers = sum(done.stdout.count(b' answer ') for _, done in runs)
-    name = '%d kills, %d versions, %d runs (%d with a link that failed), %d answers, %d writes of psql' % (
-        moments, max(versions), len(runs), failed, answers, len(writes.accepted))
-    yield name, faults[0] if faults else 'lost: %s' % lost[:5] if lost else None if now == newest else 'the log has not all that was written'
+    yield '%d kills, %d versions, %d runs (%d with a link that failed), %d answers and writes of clients, %d of psql' % (
+        moments, version, len(runs), failed, count, len(writes.accepted)), faults[0] if faults else None

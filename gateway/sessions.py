@@ -94,12 +94,14 @@ class Gateway:
         """What is due is sent unasked where the peer waits for it, and not while a request is carried out."""
         session = connection.session
         if connection.is_told and not connection.is_busy and session and (session.pending or session.is_full):
-            messages = self.server.push(session)
             if connection.waiting() > self.most_waiting:
                 LOG.info('%s does not take what it is told', connection.name)
                 return connection.cut()
-            for message in messages:
-                connection.writer.write(frames.frame(message))
+            try:
+                for message in self.server.push(session):
+                    connection.writer.write(frames.frame(message))
+            except rules.Late:
+                connection.cut()
 
     # ---- requests
 

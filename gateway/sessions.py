@@ -1,6 +1,7 @@
 """Connections: each reads requests, has them carried out, and sends what the rules say. Any number stand side by side."""
 import asyncio
 import logging
+import time
 from typing import NamedTuple, Optional
 
 from . import bind, frames, rules, sql
@@ -9,6 +10,8 @@ from .store import Down, News, Store, Undone
 LOG = logging.getLogger('gateway')
 # a reply is handed over in pieces of so many bytes, each of which the peer has so many seconds to take
 PIECE, PATIENCE = 1 << 20, 30
+# the log in the database is cut at most once in so many seconds
+TRIM_EVERY = 1
 
 
 class Cut(Exception):
@@ -58,7 +61,7 @@ class Gateway:
         self.tables, self.store, self.log_limit, self.most_waiting = tables, store, log_limit, most_waiting
         self.server: Optional[rules.Server] = None
         self.connections: set = set()
-        self.trimmed = 0
+        self.trimmed, self.trim_from = 0, 0.0
 
     # ---- versions
 
@@ -68,10 +71,9 @@ class Gateway:
             if self.server is None:
                 await self.begin()
             self.take(await self.store.news(self.server.log.newest))
-            floor = self.server.log.floor
-            if floor > self.trimmed:
-                await self.store.trim(floor)
-                self.trimmed = floor
+            if self.server.log.floor > self.trimmed and time.monotonic() > self.trim_from:
+                self.trimmed, self.trim_from = self.server.log.floor, time.monotonic() + TRIM_EVERY
+                await self.store.trim(self.trimmed)
 
     async def begin(self) -> None:
         """The log as the database has it."""

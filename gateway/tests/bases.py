@@ -58,10 +58,10 @@ def order_fault(cluster):
         slow = subprocess.Popen(first, shell=True, stdout=subprocess.DEVNULL)
         while cluster.psql("SELECT count(*) FROM pg_stat_activity WHERE query LIKE '%pg_sleep(1)%' AND state = 'active'", 'orders') != '2\n':
             pass
-        cluster.psql(ROW % (2, 20), 'orders')
+        there = cluster.psql('%s; SELECT count(*) FROM sale' % (ROW % (2, 20)), 'orders')
         slow.wait()
         found = [json.loads(line) for line in cluster.psql('SELECT after FROM naworuke.change ORDER BY version', 'orders').splitlines()]
-    return None if [row[0] for row in found] == [1, 2] else str(found)
+    return None if [row[0] for row in found] == [1, 2] and there == '2\n' else '%s of 2, %s' % (there.strip(), found)
 
 
 def limits_fault(cluster):

@@ -5,6 +5,7 @@ import resource
 import time
 
 import links  # noqa: F401, it makes the modules of tests/links known
+from bases import version_at
 from links import Psql, dial
 from postgres import Gateway
 
@@ -108,7 +109,8 @@ def slow_fault(cluster):
         psql = Psql(cluster.url('slow'))
         for version in range(2, LAST + 1):
             psql.do("UPDATE p SET name = repeat('%d', 120)" % (version % 10))
-            time.sleep(0.002)  # so that its log reaches back to what it has told
+            if version % 50 == 0:
+                version_at(gateway)  # it has told all of it by then, so its log reaches back
         psql.close()
         notices = 0
         try:

@@ -1,7 +1,7 @@
 -- What the tests need of stores to which no rows come, or one.
-use Rattle.std.proofs.Common.{◌≡◌, ℕ, ◌+◌, ◌<◌, ◌≤◌, zero, suc, true, false, List, [], ◌∷◌, length, get_or, refl, sym, ap, subst, ◌∙◌, arith}
-use Rattle.std.specs.Prelude.{Bool, ◌&&◌, ◌==◌, if◌then◌else◌, ℤ, pos, Some}
-use Rattle.std.specs.List.{All}
+use Rattle.std.proofs.Common.{◌≡◌, ℕ, ◌+◌, ◌<◌, ◌≤◌, zero, suc, true, false, List, [], ◌∷◌, length, get_or, refl, sym, ap, ap₂, subst, ◌∙◌, arith}
+use Rattle.std.specs.Prelude.{Bool, ◌&&◌, ◌||◌, ◌==◌, if◌then◌else◌, ℤ, pos, Some}
+use Rattle.std.specs.List.{All, list_all}
 use Rattle.std.proofs.lemmas.Bool.Decides.{nat_tests}
 use Rattle.std.proofs.lemmas.List.Elements.{All-nil, All-cons, All-same}
 use Rattle.sr_cell.specs.declared.cell.Cell.TheVariants.{Num}
@@ -10,13 +10,16 @@ use Rattle.sr_cell.specs.Attrs.{includes}
 use Rattle.sr_cell.specs.Cells.{Row, cell_at}
 use Rattle.sr_cell.specs.Columns.{table_at, is_point}
 use Rattle.sr_message.specs.declared.message.Tell.{Tell}
-use Rattle.sr_box.specs.Points.{Rect, in_any}
+use Rattle.sr_model.specs.SortedRows.{ascend}
+use Rattle.sr_box.specs.declared.span.Span.TheVariants.{Full, Nums}
+use Rattle.sr_box.specs.Points.{Rect, in_any, rect_fits}
 use Rattle.sr_query.specs.declared.query.Part.{Part}
 use Rattle.sr_region.specs.declared.region.Region.{Region}
+use Rattle.sr_region.specs.Regions.{rank, IsRowIn}
 use Rattle.sr_store.specs.declared.store.Arrival.{Arrival}
 use Rattle.sr_store.specs.Classes.{occurs}
 use Rattle.sr_store.specs.Stores.{IsOfSchema, IsStore, cover_of, IsAbsorbedIn}
-use Rattle.sr_store.specs.Answered.{AreApart}
+use Rattle.sr_store.specs.Answered.{AreApart, IsArrival}
 use Rattle.sr_store.specs.Making.{HaveNoCommon}
 use Rattle.sr_store.specs.Noticed.{IsTellOf}
 use Rattle.sr_store.proofs.Covering.{cover_has}
@@ -30,6 +33,58 @@ empty_store schema gs none = subst (IsStore schema) (sym none) (record {
   few = omega arith;
   settled = All-nil (λ g. IsAbsorbedIn schema [] g → ⊥);
 })
+
+-- ---- one range of ages, and what arrives of it
+
+abbrev pub ages_of : ℤ → ℤ → List Rect
+ages_of lo hi = (Full ∷ Nums lo hi ∷ Full ∷ []) ∷ []
+
+-- the numbers of a program are those that were given
+pub ages_same : (rects : List Rect) (a b lo hi : ℤ) → rects ≡ ages_of a b → a ≡ lo → b ≡ hi → rects ≡ ages_of lo hi
+ages_same rects a b lo hi is low high = is ∙ ap₂ ages_of low high
+
+abbrev pub part_of : List Rect → Part
+part_of rects = record { table = 0; key = 0; need = 3; rects = rects; width = 1 }
+
+abbrev pub arrival_of : List Rect → List Row → Arrival
+arrival_of rects rows = record { table = 0; key = 0; attrs = 3; rects = rects; rows = rows }
+
+pub one_arrives : (schema : List Table) (parts : List Part) (rs : List Arrival) (lo hi : ℤ) (rows : List Row) → parts ≡ part_of (ages_of lo hi) ∷ []
+    → rs ≡ arrival_of (ages_of lo hi) rows ∷ [] → 0 < length schema → (table_at schema 0).key ≡ 0 → list_all (rect_fits (table_at schema 0).columns) (ages_of lo hi) ≡ true
+    → All (IsRowIn (table_at schema 0).columns 3 (ages_of lo hi)) rows → ascend (rank 3 0) rows ≡ true → All (IsArrival schema parts) rs
+one_arrives schema parts rs lo hi rows asked is there key fit each ascending =
+    All-same (IsArrival schema parts) rs (arrival_of (ages_of lo hi) rows ∷ []) is
+    (All-cons (IsArrival schema parts) (arrival_of (ages_of lo hi) rows) []
+    (subst (λ ps. IsArrival schema ps (arrival_of (ages_of lo hi) rows)) (sym asked) (record {
+      table = there;
+      key = sym key;
+      has_key = refl;
+      some = λ none. absurd (cc none);
+      fit = fit;
+      only = refl;
+      touched = λ p point there. ap (λ b. b || false) there;
+      rows = each;
+      ascending = ascending;
+    }))
+    (All-nil (IsArrival schema parts)))
+
+-- a check against the first table is one against the table of number zero
+pub first_fits : (schema ts : List Table) (t : Table) (rects given : List Rect) → ts ≡ schema → 0 < length schema → t ≡ get_or ts 0 t → rects ≡ given
+    → list_all (rect_fits t.columns) rects ≡ true → list_all (rect_fits (table_at schema 0).columns) given ≡ true
+first_fits schema ts t rects given same there is own fit =
+    let table = go schema there (is ∙ ap (λ us. get_or us 0 t) same) in
+    ap (λ (u : Table). list_all (rect_fits u.columns) given) (sym table) ∙ ap (λ rs. list_all (rect_fits t.columns) rs) (sym own) ∙ fit
+  where
+    go : (us : List Table) → 0 < length us → t ≡ get_or us 0 t → t ≡ table_at us 0
+    go [] none at = absurd (omega (arith, none))
+    go (u ∷ us) some at = at
+
+pub apart_alone : (schema : List Table) (gs : List Region) (rs : List Arrival) (r : Arrival) → rs ≡ r ∷ [] → gs ≡ [] → AreApart schema gs rs
+apart_alone schema gs rs r is none = subst (AreApart schema gs) (sym is) (subst (λ hs. AreApart schema hs (r ∷ [])) (sym none) (λ t a p point. go ((r.table == t && r.attrs == a) && in_any r.rects p)))
+  where
+    go : (b : Bool) → ((if b then 1 else 0) + 0) + 0 ≤ 1
+    go true = omega arith
+    go false = omega arith
 
 -- ---- what arrives where it is not covered
 

@@ -1,0 +1,1 @@
+"""A server of the frames of `serve` whose tables stand in PostgreSQL."""

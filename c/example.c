@@ -1,6 +1,6 @@
 /* example ADDRESS PORT SCHEMA: asks a server twice, and writes the rows and how each query was answered.
 
-   gcc -o example c/example.c -Ic libsr_c.a liblibc_c.a */
+   gcc -o example c/example.c -Ic out/sr_c.a liblibc_c.a */
 #include <arpa/inet.h>
 #include <stdio.h>
 #include <stdlib.h>

@@ -58,6 +58,16 @@ def dial(address, room=None):
     return Stream(link)
 
 
+def hand_on(one, other, who):
+    """The next message of one side, which goes on to the other."""
+    got = one.next()
+    if got is None:
+        raise Broken('%s hung up' % who)
+    message, whole = got
+    other.link.sendall(whole)
+    return message
+
+
 class Program:
     """The built program as client `number`, whose links go through here to the gateway."""
 
@@ -81,21 +91,11 @@ class Program:
 
     def request(self):
         """Its next request, which goes on to the gateway."""
-        got = self.near.next()
-        if got is None:
-            raise Broken('it hung up')
-        message, whole = got
-        self.far.link.sendall(whole)
-        return message
+        return hand_on(self.near, self.far, 'it')
 
     def answer(self):
         """The next message of the gateway, which goes on to it."""
-        got = self.far.next()
-        if got is None:
-            raise Broken('the gateway hung up')
-        message, whole = got
-        self.near.link.sendall(whole)
-        return message
+        return hand_on(self.far, self.near, 'the gateway')
 
     def ending(self):
         """Its status, its error output and its lines."""

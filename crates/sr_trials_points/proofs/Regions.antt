@@ -1,24 +1,18 @@
 -- What the tests need of regions of one range of ages.
-use Rattle.std.proofs.Common.{◌≡◌, ◌∙◌, ℤ, ◌≤◌, ◌+◌, Bool, true, false, List, [], ◌∷◌, refl, sym, ap, subst, arith}
-use Rattle.std.specs.Prelude.{if◌then◌else◌, Option, Some, None, Result, Ok, Err, IfOk, IfSome, OnOk}
+use Rattle.std.proofs.Common.{◌≡◌, ◌∙◌, ℤ, ◌≤◌, true, List, [], ◌∷◌, refl, sym, ap, subst}
+use Rattle.std.specs.Prelude.{Option, Some, None, Result, Ok, Err, IfOk, IfSome, OnOk}
 use Rattle.std.specs.List.{list_all}
 use Rattle.std.specs.Result.{result_and}
 use Rattle.sr_cell.specs.declared.list.NoMemory.{NoMemory}
 use Rattle.sr_cell.specs.declared.table.Table.{Table}
 use Rattle.sr_cell.specs.Cells.{Row}
 use Rattle.sr_box.specs.declared.span.Span.TheVariants.{Full, Nums}
-use Rattle.sr_box.specs.Points.{Rect, times, in_rect, rect_fits, constrains_only}
+use Rattle.sr_box.specs.Points.{Rect, times, rect_fits, constrains_only}
 use Rattle.sr_model.specs.SortedRows.{ascend, with_row}
+use Rattle.sr_union.proofs.Once.{one_le}
 use Rattle.sr_region.specs.declared.region.Region.{Region}
 use Rattle.sr_region.specs.Regions.{rank, IsArea}
 use Rattle.sr_region.specs.Halves.{IsInside, IsOutside}
-
-once : (r : Rect) (p : Row) → times (r ∷ []) p ≤ 1
-once r p = go (in_rect r p)
-  where
-    go : (b : Bool) → (if b then 1 else 0) + 0 ≤ 1
-    go true = omega arith
-    go false = omega arith
 
 -- the points of one range, under both columns
 pub one_area : (t : Table) (lo hi : ℤ) (rects : List Rect) → 0 ≡ t.key → rects ≡ (Full ∷ Nums lo hi ∷ []) ∷ [] → list_all (rect_fits t.columns) rects ≡ true → IsArea t 0 3 rects
@@ -28,7 +22,7 @@ one_area t lo hi rects key is fit = record {
   some = λ none. absurd (cc (none, is));
   fit = fit;
   only = subst (λ rs. list_all (constrains_only 3 0) rs ≡ true) (sym is) refl;
-  once = λ p point. subst (λ rs. times rs p ≤ 1) (sym is) (once (Full ∷ Nums lo hi ∷ []) p);
+  once = λ p point. subst (λ rs. times rs p ≤ 1) (sym is) (one_le (Full ∷ Nums lo hi ∷ []) p);
 }
 
 -- a new region of these rects

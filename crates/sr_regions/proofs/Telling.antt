@@ -29,7 +29,6 @@ use Rattle.sr_region.proofs.Applied.{applied-region}
 use Rattle.sr_region.proofs.Ranks.{stand}
 use Rattle.sr_regions.specs.declared.index.Index.{Index}
 use Rattle.sr_regions.specs.Touched.{holds_key, is_touched, told_one, count_touched, IsOfSchema, IsTellOf}
-use Rattle.sr_regions.specs.Holders.{class_of, holders_of}
 use Rattle.sr_regions.specs.Named.{is_named, has_names, AgreesWith, NamesMore}
 use Rattle.sr_regions.proofs.Places.{set-cases, read-same}
 
@@ -199,19 +198,3 @@ count-one tell (x ∷ regions) (suc i) g there = go (is_touched tell x) (count-o
 pub count-more : (tell : Tell) (regions : List Region) (i : ℕ) (g : Region) → slice_get regions i ≡ Some g
     → count_touched tell (take (i + 1) regions) ≡ count_touched tell (take i regions) + (if is_touched tell g then 1 else 0)
 count-more tell regions i g there = let next : i + 1 ≡ suc i = omega arith in rw next (count-one tell regions i g there)
-
--- ---- holders
-
-pub holders-more : (regions : List Region) (i : ℕ) (g : Region) (t : ℕ) (k : Cell) → slice_get regions i ≡ Some g → holders_of (take (i + 1) regions) t k ≡ holders_of (take i regions) t k ++ holders_of (g ∷ []) t k
-holders-more regions i g t k there = let next : i + 1 ≡ suc i = omega arith in rw next (go regions i there)
-  where
-    go : (regions : List Region) (i : ℕ) → slice_get regions i ≡ Some g → holders_of (take (suc i) regions) t k ≡ holders_of (take i regions) t k ++ holders_of (g ∷ []) t k
-    go [] i there = absurd (cc)
-    go (x ∷ regions) zero there = let same : x ≡ g = cc in ap (λ y. holders_of (y ∷ []) t k) same
-    go (x ∷ regions) (suc i) there = on (holds_key t k x) (go regions i there)
-      where
-        on : (b : Bool) → holders_of (take (suc i) regions) t k ≡ holders_of (take i regions) t k ++ holders_of (g ∷ []) t k
-            → map class_of (cond b (x ∷ filter (holds_key t k) (take (suc i) regions)) (filter (holds_key t k) (take (suc i) regions)))
-            ≡ map class_of (cond b (x ∷ filter (holds_key t k) (take i regions)) (filter (holds_key t k) (take i regions))) ++ holders_of (g ∷ []) t k
-        on true ih = ap (λ cs. class_of x ∷ cs) ih
-        on false ih = ih

@@ -1,4 +1,5 @@
-//! A client as a handle, for callers who know no types of it: calls take and give numbers, bytes and texts, and none has a `requires`.
+//! A client as a handle, for callers who know no types of it: calls take and give numbers, bytes and texts. Once it is made,
+//! none of its calls has a `requires`.
 #![tactic(auto)]
 
 pub mod handle;

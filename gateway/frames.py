@@ -2,7 +2,9 @@
 from typing import Any, Callable, NamedTuple, Union
 
 MOST_BYTES = 134217728
-FORMAT = 1
+# the newest of the two ways to write a message; under the first one, holdings have no columns, and stand for all
+WIRE = 2
+ALL_COLUMNS = list(range(12))
 
 Cell = Union[int, bytes]
 # a span is None for all values, or its two ends; a text has no upper end where the second is None
@@ -111,13 +113,13 @@ RECT = Field(lambda reader: tuple(SPANS.read(reader)), SPANS.spell)
 RECTS = many(number(4, 1, 16384), RECT)
 COLUMNS = Field(lambda reader: [c for c, bits in enumerate([number(2, 0, 4095).read(reader)] * 12) if bits >> c & 1],
                 lambda columns: sum(1 << c for c in columns).to_bytes(2, 'big'))
-ONLY_FORMAT = number(1, FORMAT, FORMAT)
 
 
 # ---- what stands in messages
 
 class Holding(NamedTuple):
     table: int
+    columns: list
     rects: list
 
 
@@ -133,7 +135,11 @@ class Tell(NamedTuple):
     after: Union[None, list]
 
 
-HOLDING = one(Holding, number(1, 0, 15), RECTS)
+TABLE_HELD = number(1, 0, 15)
+# by the wire
+HOLDING = {1: Field(lambda reader: Holding(TABLE_HELD.read(reader), ALL_COLUMNS, RECTS.read(reader)),
+                    lambda held: TABLE_HELD.spell(held.table) + RECTS.spell(held.rects)),
+           2: one(Holding, TABLE_HELD, COLUMNS, RECTS)}
 PART = one(Part, BYTE, COLUMNS, RECTS)
 MAYBE_ROW = Field(lambda reader: ROW.read(reader) if FLAG.read(reader) else None, lambda row: b'\0' if row is None else b'\1' + ROW.spell(row))
 TELL = one(Tell, BYTE, CELL, MAYBE_ROW)
@@ -142,13 +148,13 @@ TELL = one(Tell, BYTE, CELL, MAYBE_ROW)
 # ---- messages
 
 class Hello(NamedTuple):
-    format: int
+    wire: int
     client: int
     number: int
 
 
 class Resume(NamedTuple):
-    format: int
+    wire: int
     client: int
     number: int
     version: int
@@ -213,11 +219,21 @@ def read_rows(reader: Reader) -> Rows:
     return Rows(of, part, count, reader.whole[begin:reader.at])
 
 
+def read_resume(reader: Reader) -> Resume:
+    wire, client, of, version = WIRES.read(reader), CLIENT.read(reader), LONG.read(reader), LONG.read(reader)
+    return Resume(wire, client, of, version, many(MANY_HELD, HOLDING[wire]).read(reader))
+
+
+def spell_resume(resume: Resume) -> bytes:
+    return b''.join(field.spell(part) for field, part in zip(RESUME, resume[:-1])) + many(MANY_HELD, HOLDING[resume.wire]).spell(resume.holdings)
+
+
 ROWS = Field(read_rows, lambda rows: LONG.spell(rows.number) + bytes([rows.part]) + rows.count.to_bytes(2, 'big') + rows.spelled)
-CLIENT = number(1, 1, 64)
+WIRES, CLIENT, MANY_HELD = number(1, 1, WIRE), number(1, 1, 64), number(4, 1, 1024)
+RESUME = WIRES, CLIENT, LONG, LONG
 KINDS = {
-    0x01: (Hello, one(Hello, ONLY_FORMAT, CLIENT, LONG)),
-    0x02: (Resume, one(Resume, ONLY_FORMAT, CLIENT, LONG, LONG, many(number(4, 1, 1024), HOLDING))),
+    0x01: (Hello, one(Hello, WIRES, CLIENT, LONG)),
+    0x02: (Resume, Field(read_resume, spell_resume)),
     0x03: (Ask, one(Ask, LONG, FLAG, many(number(1, 1, 4), PART))),
     0x04: (Write, one(Write, LONG, text(number(4, 0, 65536), True))),
     0x11: (Welcome, one(Welcome, LONG, LONG, FLAG)),

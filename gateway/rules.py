@@ -6,7 +6,7 @@ come from the same version, and stand between what `Server.ask` and `frames.Repl
 from collections import defaultdict, deque
 from typing import NamedTuple, Optional
 
-from .frames import Ask, Hello, Lapse, Notice, Resume, Tell, Welcome, Write, Written
+from .frames import ALL_COLUMNS, WIRE, Ask, Hello, Lapse, Notice, Resume, Tell, Welcome, Write, Written
 from .ranges import Index, has_any
 
 MOST_TELLS = 10000
@@ -25,6 +25,12 @@ class Change(NamedTuple):
     key: object
     before: Optional[list]
     after: Optional[list]
+
+    def columns(self) -> int:
+        """The columns in which the rows differ, as a number of bits; all, where one of them is not there."""
+        if self.before is None or self.after is None:
+            return -1
+        return sum(1 << c for c, (old, new) in enumerate(zip(self.before, self.after)) if old != new)
 
 
 class Log:
@@ -74,11 +80,26 @@ class Log:
 
 
 class Session:
-    """The points that a client asked for, the version that the messages to it have reached, and the changes above it that touch."""
+    """What a client asked for, the version that the messages to it have reached, and the changes above it that touch.
 
-    def __init__(self, upto: int, owner: object = None):
-        self.owner, self.upto = owner, upto
-        self.rects, self.pending, self.is_full = defaultdict(dict), [], False
+    What it asked for is rects by their table, each with its columns as a number of bits.
+    """
+
+    def __init__(self, upto: int, wire: int = WIRE, owner: object = None):
+        self.owner, self.upto, self.wire = owner, upto, wire
+        self.entries, self.pending, self.is_full = defaultdict(dict), [], False
+
+    def entries_of(self, parts: list) -> dict:
+        """What asked parts or holdings bring, by their tables. The first wire has no columns: a part stands for all."""
+        found = defaultdict(dict)
+        for part in parts:
+            columns = bits(part.columns if self.wire == 2 else ALL_COLUMNS)
+            found[part.table].update(dict.fromkeys((rect, columns) for rect in part.rects))
+        return found
+
+
+def bits(columns: list) -> int:
+    return sum(1 << c for c in columns)
 
 
 class Server:
@@ -113,8 +134,11 @@ class Server:
         return touched
 
     def touched(self, change: Change) -> set:
-        index = self.indexes[change.table]
-        return {session for row in (change.before, change.after) if row is not None for session in index.owners(row)}
+        """A change touches what has one of its rows, and a column in which they differ. No rect constrains a column that is not asked
+        for with it, so a row that comes or goes differs in one."""
+        index, differing = self.indexes[change.table], change.columns()
+        return {session for row in (change.before, change.after) if row is not None
+                for session, columns in index.owners(row) if columns & differing}
 
     def mark(self, session: Session, version: int, change: Change) -> None:
         """Once more changes wait than the log keeps, the session is lost."""
@@ -125,30 +149,30 @@ class Server:
 
     # ---- subscriptions
 
-    def subscribe(self, session: Session, table: int, rects: list, version: int) -> None:
+    def subscribe(self, session: Session, table: int, entries: dict, version: int) -> None:
         """From this version on; newer ones may be told already."""
-        added = [rect for rect in dict.fromkeys(rects) if rect not in session.rects[table]]
-        session.rects[table].update(dict.fromkeys(added))
+        added = [entry for entry in entries if entry not in session.entries[table]]
+        session.entries[table].update(dict.fromkeys(added))
         self.subscribed.add(session)
-        for rect in added:
-            self.indexes[table].add(rect, session)
+        for rect, columns in added:
+            self.indexes[table].add(rect, (session, columns))
         if self.log.newest > version:
             marked = {(of, change.table, change.key) for of, change in session.pending}
             late = [(of, change) for of, change in self.told(table, added, version, self.log.newest) if (of, table, change.key) not in marked]
             session.pending = sorted(session.pending + late, key=place_in_notices)
 
     def clear(self, session: Session) -> None:
-        for table, rects in session.rects.items():
-            for rect in rects:
-                self.indexes[table].remove(rect, session)
-        session.rects.clear()
+        for table, entries in session.entries.items():
+            for rect, columns in entries:
+                self.indexes[table].remove(rect, (session, columns))
+        session.entries.clear()
         self.subscribed.discard(session)
         session.pending, session.is_full = [], False
 
-    def told(self, table: int, rects: list, above: int, upto: int) -> list:
-        """The changes between the versions that touch these points."""
+    def told(self, table: int, entries: list, above: int, upto: int) -> list:
+        """The changes between the versions that touch these entries."""
         return [(version, change) for version, changes in self.log.changes(above, upto) for change in changes
-                if change.table == table and any(row is not None and has_any(rects, row) for row in (change.before, change.after))]
+                if change.table == table and touches(entries, change)]
 
     # ---- what is sent
 
@@ -159,7 +183,7 @@ class Server:
         return sent
 
     def is_lost(self, session: Session, version: int) -> bool:
-        is_lost = any(session.rects.values()) and session.upto < self.log.floor_at(version)
+        is_lost = any(session.entries.values()) and session.upto < self.log.floor_at(version)
         if session.is_full and not is_lost:
             raise Late
         return is_lost
@@ -175,16 +199,16 @@ class Server:
 
     def hello(self, hello, version: int) -> tuple:
         """A session, and what is sent."""
-        return Session(version), [Welcome(hello.number, version, False)]
+        return Session(version, hello.wire), [Welcome(hello.number, version, False)]
 
     def resume(self, resume: Resume, version: int) -> tuple:
         """A session, and what is sent: all is kept where the log reaches back to the client's version."""
         if not self.log.floor_at(version) <= resume.version <= version:
             return self.hello(resume, version)
-        session, due = Session(version), []
-        for table, rects in rects_of(resume.holdings).items():
-            due += self.told(table, rects, resume.version, version)
-            self.subscribe(session, table, rects, version)
+        session, due = Session(version, resume.wire), []
+        for table, entries in session.entries_of(resume.holdings).items():
+            due += self.told(table, entries, resume.version, version)
+            self.subscribe(session, table, entries, version)
         return session, notices(sorted(due, key=place_in_notices)) + [Welcome(resume.number, version, True)]
 
     def ask(self, session: Session, ask: Ask, version: int) -> list:
@@ -193,8 +217,8 @@ class Server:
             self.clear(session)
         sent = [] if ask.fresh else self.due(session, version)
         session.upto = version
-        for table, rects in rects_of(ask.parts).items():
-            self.subscribe(session, table, rects, version)
+        for table, entries in session.entries_of(ask.parts).items():
+            self.subscribe(session, table, entries, version)
         return sent
 
     def written(self, session: Session, number: int, version: int) -> list:
@@ -209,12 +233,10 @@ class Server:
         return sent if version in named or before == version else sent + [Notice(version, [])]
 
 
-def rects_of(parts: list) -> dict:
-    """The rects of asked parts or of holdings, by their tables."""
-    found = defaultdict(list)
-    for part in parts:
-        found[part.table] += part.rects
-    return found
+def touches(entries: list, change: Change) -> bool:
+    differing = change.columns()
+    rects = [rect for rect, columns in entries if columns & differing]
+    return any(row is not None and has_any(rects, row) for row in (change.before, change.after))
 
 
 def place_in_notices(pair: tuple) -> tuple:
@@ -240,7 +262,7 @@ def misfit(tables: list, session: Optional[Session], message: NamedTuple) -> str
         return 'state'
     if isinstance(message, Ask) and not all(part_fits(tables, part) for part in message.parts):
         return 'shape'
-    if isinstance(message, Resume) and not all(rects_fit(tables, held.table, held.rects) for held in message.holdings):
+    if isinstance(message, Resume) and not all(holding_fits(tables, held, message.wire) for held in message.holdings):
         return 'shape'
     return ''
 
@@ -252,6 +274,10 @@ def part_fits(tables: list, part) -> bool:
     table = tables[part.table]
     constrained = {column for rect in part.rects for column, span in enumerate(rect) if span is not None}
     return table.key in part.columns and part.columns[-1] < len(table.columns) and constrained <= set(part.columns)
+
+
+def holding_fits(tables: list, held, wire: int) -> bool:
+    return part_fits(tables, held) if wire == 2 else rects_fit(tables, held.table, held.rects)
 
 
 def rects_fit(tables: list, number: int, rects: list) -> bool:

@@ -66,8 +66,8 @@ class Client:
         self.regions[table, columns, self.stamp].add(boxes, keys)
 
     def holdings(self, tables):
-        return [Holding(table, [rect_of(box, tables[table]) for box in region.boxes])
-                for (table, _, _), region in sorted(self.regions.items(), key=lambda item: item[0])]
+        return [Holding(table, [c for c in range(12) if columns >> c & 1], [rect_of(box, tables[table]) for box in region.boxes])
+                for (table, columns, _), region in sorted(self.regions.items(), key=lambda item: item[0])]
 
     def kept(self):
         """How many rows are kept, and how many regions."""

@@ -14,13 +14,19 @@ ROWS_OF_A_FRAME = 256
 
 
 class Session:
-    """The boxes of each table that a client asked for, and the version that the messages to it have reached."""
+    """The boxes that a client asked for, by their table and columns, and the version that the messages to it have reached."""
 
     def __init__(self, upto=0):
         self.boxes, self.upto = collections.defaultdict(list), upto
 
-    def subscribe(self, table, boxes):
-        self.boxes[table] = joined(self.boxes[table] + without(boxes, self.boxes[table]))
+    def subscribe(self, part, boxes):
+        place = part.table, tuple(part.columns)
+        self.boxes[place] = joined(self.boxes[place] + without(boxes, self.boxes[place]))
+
+    def is_touched(self, table, before, after):
+        """Whether a row of what was asked for comes, goes, or changes in the columns that were asked for with it."""
+        return any(of == table and (None in (before, after) or any(before[c] != after[c] for c in columns))
+                   and any(row is not None and has(boxes, row) for row in (before, after)) for (of, columns), boxes in self.boxes.items())
 
 
 class Server:
@@ -47,8 +53,7 @@ class Server:
         return fault
 
     def told(self, session, version):
-        return [Tell(table, key, after) for table, key, before, after in self.changes[version]
-                if any(row is not None and has(session.boxes[table], row) for row in (before, after))]
+        return [Tell(table, key, after) for table, key, before, after in self.changes[version] if session.is_touched(table, before, after)]
 
     def notices(self, session):
         told = [(version, self.told(session, version)) for version in range(session.upto + 1, self.version + 1)]
@@ -82,7 +87,7 @@ class Server:
         sent = self.due(session)
         for place, part in enumerate(request.parts):
             boxes = [box_of(rect, self.tables[part.table]) for rect in part.rects]
-            session.subscribe(part.table, boxes)
+            session.subscribe(part, boxes)
             sent += self.rows_of(request.number, place, part, boxes)
         return sent + [Reply(request.number, self.version)]
 
@@ -92,7 +97,7 @@ class Server:
         if isinstance(request, Hello) or request.version < last_dropped(self.changes, self.log):
             return [Welcome(request.number, self.version, False)]
         for held in request.holdings:
-            session.subscribe(held.table, [box_of(rect, self.tables[held.table]) for rect in held.rects])
+            session.subscribe(held, [box_of(rect, self.tables[held.table]) for rect in held.rects])
         session.upto = request.version
         return self.due(session) + [Welcome(request.number, self.version, True)]
 

@@ -32,7 +32,7 @@ WHOLE = frames.Ask(1, True, [frames.Part(0, [0, 1], [(None, None, None)])])
 
 def notices_of(stream, version, number):
     """What a resume from the version tells."""
-    stream.link.sendall(frames.frame(frames.Resume(1, number, version, [frames.Holding(0, [(None, None, None)])])))
+    stream.link.sendall(frames.frame(frames.Resume(1, number, version, [frames.Holding(0, [0, 1, 2], [(None, None, None)])])))
     while isinstance(message := stream.next()[0], frames.Notice):
         yield message
 
@@ -100,7 +100,7 @@ def bulk_fault(cluster):
         told = []
         for version in (0, 1):
             stream = dial(gateway.address)
-            stream.link.sendall(frames.frame(frames.Resume(1, version, version, [frames.Holding(0, [(None, None, None)])])))
+            stream.link.sendall(frames.frame(frames.Resume(1, version, version, [frames.Holding(0, [0, 1, 2], [(None, None, None)])])))
             told.append([])
             while not isinstance(message := stream.next()[0], frames.Welcome):
                 told[-1].append(message)
@@ -138,7 +138,7 @@ def restored_fault(cluster):
     with Gateway(cluster, SALE, 'restored') as gateway:
         cluster.psql(ROW % (3, 30), 'restored')
         stream = dial(gateway.address)
-        stream.link.sendall(frames.frame(frames.Resume(1, 0, before, [frames.Holding(0, [(None, None, None)])])))
+        stream.link.sendall(frames.frame(frames.Resume(1, 0, before, [frames.Holding(0, [0, 1, 2], [(None, None, None)])])))
         welcome = stream.next()[0]
         stream.close()
     return None if welcome.version > before and not welcome.kept else str(welcome)

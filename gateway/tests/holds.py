@@ -121,7 +121,7 @@ def slow_fault(cluster):
         if notices >= LAST - 1:
             return 'it was not cut'
         stream = dial(gateway.address)
-        stream.link.sendall(frames.frame(frames.Resume(1, 0, LAST - 3, [frames.Holding(0, [(None, None, None)])])))
+        stream.link.sendall(frames.frame(frames.Resume(1, 0, LAST - 3, [frames.Holding(0, [0, 1, 2], [(None, None, None)])])))
         came = [stream.next()[0] for _ in range(4)]
         stream.close()
     return None if [message.version for message in came] == [LAST - 2, LAST - 1, LAST, LAST] and came[-1].kept else str(came)[:500]

@@ -26,13 +26,11 @@ class Telling(Server):
 
     told: dict = {}
 
-    def notices(self, points, version):
-        sent = super().notices(points, version)
+    def notices(self, entries, version):
+        sent = super().notices(entries, version)
         for notice in sent:
-            touching = [(table, before, after) for table, before, after in self.changes[notice.version]
-                        if any(row is not None and (table, self.tables[table].place(row)) in points for row in (before, after))]
             self.told[notice.version] = [frames.Tell(table, (before if after is None else after)[self.tables[table].key], after)
-                                         for table, before, after in touching]
+                                         for table, before, after in self.touching(entries, notice.version)]
         return sent
 
     def transact(self, statements):

@@ -47,14 +47,23 @@ class Maker:
     def row(self):
         return tuple(self.some(self.cell, 12))
 
+    def columns(self):
+        return sorted(self.random.sample(range(12), 3))
+
     def part(self):
-        return judge.Part(self.random.choice([0, 255]), sorted(self.random.sample(range(12), 3)), self.rects())
+        return judge.Part(self.random.choice([0, 255]), self.columns(), self.rects())
+
+    def resume(self, wire):
+        def held():
+            return judge.Holding(self.random.choice([0, 15]), self.columns() if wire == 2 else judge.ALL_COLUMNS, self.rects())
+
+        return judge.Resume(self.random.choice([1, 64]), self.number(), self.number(), self.some(held, 3), wire)
 
     def message(self):
         pick, number = self.random.choice, self.number
         return pick([
-            lambda: judge.Hello(pick([1, 64]), number()),
-            lambda: judge.Resume(pick([1, 64]), number(), number(), self.some(lambda: judge.Holding(pick([0, 15]), self.rects()), 3)),
+            lambda: judge.Hello(pick([1, 64]), number(), pick([1, 2])),
+            lambda: self.resume(pick([1, 2])),
             lambda: judge.Ask(number(), pick([True, False]), self.some(self.part, 4)),
             lambda: judge.Write(number(), pick(TEXTS)),
             lambda: judge.Welcome(number(), number(), pick([True, False])),
@@ -164,17 +173,25 @@ class Beside:
         changes = [rules.Change(0, key, before, row)] if before != row else []
         self.server.extend([(self.wanted.version, changes)])
 
-    def rects(self):
+    def part(self):
+        """A part that suits: its columns are those that its rect constrains, the key, and perhaps others."""
         low = self.random.randrange(30, 40)
         ages = self.random.choice([None, (low, min(39, low + self.random.randrange(4)))])
-        return [(None, ages, self.random.choice([None, (b'b', None), (b'', b'b')]))]
+        rect = None, ages, self.random.choice([None, (b'b', None), (b'', b'b')])
+        columns = [c for c, span in enumerate(rect) if c == 0 or span is not None or self.random.random() < 0.3]
+        return judge.Part(0, columns, [rect])
+
+    def held(self, wire):
+        part = self.part()
+        return judge.Holding(0, part.columns if wire == 2 else judge.ALL_COLUMNS, part.rects)
 
     def request(self, session):
         number = self.random.randrange(9)
         if session is None:
-            version = self.random.randrange(self.wanted.version + 2)
-            return self.random.choice([judge.Hello(1, number), judge.Resume(1, number, version, [judge.Holding(0, self.rects()) for _ in range(2)])])
-        return judge.Ask(number, self.random.random() < 0.2, [judge.Part(0, [0, 1, 2], self.rects())])
+            version, wire = self.random.randrange(self.wanted.version + 2), self.random.choice([1, 2])
+            greetings = judge.Hello(1, number, wire), judge.Resume(1, number, version, [self.held(wire) for _ in range(2)], wire)
+            return self.random.choice(greetings)
+        return judge.Ask(number, self.random.random() < 0.2, [self.part()])
 
     def fault(self):
         """What one step more does otherwise, or None."""

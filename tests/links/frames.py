@@ -2,11 +2,13 @@
 from collections import namedtuple
 
 MOST_BYTES = 134217728
-WIRE = 1
+# the newest of the two ways to write a message; under the first one, holdings have no columns, and stand for all
+WIRE = 2
+ALL_COLUMNS = list(range(12))
 
 # to the server
-Hello = namedtuple('Hello', 'client number')
-Resume = namedtuple('Resume', 'client number version holdings')
+Hello = namedtuple('Hello', 'client number wire', defaults=[WIRE])
+Resume = namedtuple('Resume', 'client number version holdings wire', defaults=[WIRE])
 Ask = namedtuple('Ask', 'number fresh parts')
 Write = namedtuple('Write', 'number sql')
 # to the client
@@ -18,7 +20,7 @@ Written = namedtuple('Written', 'number version')
 Refused = namedtuple('Refused', 'number why place')
 Lapse = namedtuple('Lapse', 'version')
 # in them: a rect is a span for each column, and a span None for all values, (lo, hi) of numbers or of texts, hi None where there is none
-Holding = namedtuple('Holding', 'table rects')
+Holding = namedtuple('Holding', 'table columns rects')
 Part = namedtuple('Part', 'table columns rects')
 Tell = namedtuple('Tell', 'table key after')
 
@@ -59,7 +61,12 @@ def row_bytes(row):
 
 
 def part_bytes(part):
+    """Those of an asked part, or of what is held."""
     return number(part.table, 1) + number(sum(1 << column for column in part.columns), 2) + rects_bytes(part.rects)
+
+
+def holding_bytes(held, wire):
+    return part_bytes(held) if wire == 2 else number(held.table, 1) + rects_bytes(held.rects)
 
 
 def tell_bytes(tell):
@@ -70,10 +77,10 @@ def tell_bytes(tell):
 def fields(message):
     kind = type(message)
     if kind is Hello:
-        return number(WIRE, 1) + number(message.client, 1) + number(message.number, 8)
+        return number(message.wire, 1) + number(message.client, 1) + number(message.number, 8)
     if kind is Resume:
-        holdings = b''.join(number(held.table, 1) + rects_bytes(held.rects) for held in message.holdings)
-        return fields(Hello(message.client, message.number)) + number(message.version, 8) + number(len(message.holdings), 4) + holdings
+        begin = fields(Hello(message.client, message.number, message.wire)) + number(message.version, 8)
+        return begin + number(len(message.holdings), 4) + b''.join(holding_bytes(held, message.wire) for held in message.holdings)
     if kind is Ask:
         return number(message.number, 8) + number(message.fresh, 1) + number(len(message.parts), 1) + b''.join(map(part_bytes, message.parts))
     if kind is Write:
@@ -173,12 +180,15 @@ class Fields:
     def row(self):
         return tuple(self.many(1, 1, 12, self.cell))
 
-    def holding(self):
-        return Holding(self.number(1, 0, 15), self.rects())
+    def columns(self):
+        columns = self.number(2, 0, 4095)
+        return [column for column in ALL_COLUMNS if columns >> column & 1]
+
+    def holding(self, wire):
+        return Holding(self.number(1, 0, 15), self.columns() if wire == 2 else ALL_COLUMNS, self.rects())
 
     def part(self):
-        table, columns = self.number(1), self.number(2, 0, 4095)
-        return Part(table, [column for column in range(12) if columns >> column & 1], self.rects())
+        return Part(self.number(1), self.columns(), self.rects())
 
     def tell(self):
         table, key = self.number(1), self.cell()
@@ -186,11 +196,10 @@ class Fields:
 
     def message(self, kind):
         if kind in (Hello, Resume):
-            self.number(1, WIRE, WIRE)
-            client, request = self.number(1, 1, 64), self.number(8)
+            wire, client, request = self.number(1, 1, WIRE), self.number(1, 1, 64), self.number(8)
             if kind is Hello:
-                return Hello(client, request)
-            return Resume(client, request, self.number(8), self.many(4, 1, 1024, self.holding))
+                return Hello(client, request, wire)
+            return Resume(client, request, self.number(8), self.many(4, 1, 1024, lambda: self.holding(wire)), wire)
         if kind is Ask:
             return Ask(self.number(8), self.number(1, 0, 1) == 1, self.many(1, 1, 4, self.part))
         if kind is Write:

@@ -1,6 +1,6 @@
 """Frames that a client must refuse, each with its error line, and those beside them that it must take. Where several reasons stand against
 a frame, the case says which goes first."""
-from frames import Ask, Hello, Holding, Lapse, Notice, Part, Refused, Reply, Resume, Rows, Tell, Welcome, Write, Written, frame, number
+from frames import ALL_COLUMNS, Ask, Hello, Holding, Lapse, Notice, Part, Refused, Reply, Resume, Rows, Tell, Welcome, Write, Written, frame, number
 from told import ANSWERED, QUERY, told_fault
 
 JOIN = 'query 1 SELECT p.id, q.title FROM p JOIN q ON p.age = q.no'
@@ -24,9 +24,9 @@ MOMENTS = {
 
 # what a client sends never comes to one, whatever is out and whatever it says
 DIRECTION = {
-    'resume': [Hello(1, 0), Resume(1, 0, 0, [Holding(0, [WHOLE])]), Ask(0, True, [Part(0, [0], [WHOLE])]), Write(0, b'')],
+    'resume': [Hello(1, 0), Resume(1, 0, 0, [Holding(0, [0], [WHOLE])]), Ask(0, True, [Part(0, [0], [WHOLE])]), Write(0, b'')],
     'ask': [Hello(1, 1), Ask(1, True, [Part(0, [0, 1], [(None, (30, 40), None)])]), Write(9, b'DELETE FROM p')],
-    'write': [Write(1, b'DELETE FROM p'), Resume(1, 9, 9, [Holding(9, [(None,)])])],
+    'write': [Write(1, b'DELETE FROM p'), Hello(1, 1, 1), Resume(1, 9, 9, [Holding(9, ALL_COLUMNS, [(None,)])], 1)],
 }
 # the last of each goes before what else is wrong: the number, the version, the shape
 STATE = {
@@ -113,8 +113,9 @@ BYTES = [
     (asks(b'', None), 'field 24'), (asks(b'a' * 122, None), 'field 24'), (asks(b'a', b'b' * 122), 'field 26'),
     (with_byte(23, 4, Ask(1, True, [Part(0, [0], [(None,)])])), 'field 23'),
     # before all that can stand against a message
-    (frame(Hello(0, 0)), 'field 6'), (frame(Hello(65, 0)), 'field 6'), (with_byte(5, 2, Hello(1, 0)), 'field 5'),
-    (frame(Resume(1, 0, 0, [])), 'field 23'), (frame(Ask(1, True, [])), 'field 14'), (frame(Write(1, b'\xff')), 'field 17'),
+    (frame(Hello(0, 0)), 'field 6'), (frame(Hello(65, 0)), 'field 6'), (with_byte(5, 0, Hello(1, 0)), 'field 5'), (with_byte(5, 3, Hello(1, 0)), 'field 5'),
+    (frame(Resume(1, 0, 0, [])), 'field 23'), (frame(Resume(1, 0, 0, [Holding(16, [0], [WHOLE])])), 'field 27'),
+    (with_byte(28, 16, Resume(1, 0, 0, [Holding(0, [0], [WHOLE])])), 'field 28'), (frame(Ask(1, True, [])), 'field 14'), (frame(Write(1, b'\xff')), 'field 17'),
     (frame(Rows(9, 4, [(5000,)])), 'field 13'), (with_byte(-1, 7, Welcome(9, 3, True)), 'field 21'),
 ]
 

@@ -6,7 +6,8 @@ import sys
 sys.path.append(str(pathlib.Path(__file__).resolve().parent.parent / 'oracle'))
 
 from forgotten import last_dropped
-from frames import FROM_CLIENTS, Ask, Fault, Hello, Lapse, Notice, Reply, Resume, Rows, Short, Tell, Welcome, Write, Written, read, spelled
+from frames import (ALL_COLUMNS, FROM_CLIENTS, Ask, Fault, Hello, Lapse, Notice, Part, Reply, Resume, Rows, Short, Tell, Welcome, Write, Written, read,
+                    spelled)
 
 ROWS_OF_A_FRAME = 256
 UPDATE = re.compile(rb'UPDATE p SET age = (\d+) WHERE id = (\d+)')
@@ -45,15 +46,30 @@ def constrained(rects):
 
 
 def part_suits(part):
+    """Whether the server can give an asked part, or keep a client's part of the second wire up to date."""
     return (part.table == 0 and KEY in part.columns and part.columns[-1] < len(DOMAINS) and all(map(fits, part.rects))
             and constrained(part.rects) <= set(part.columns))
 
 
-class Session:
-    """What a client asked for, and the version that the messages to it have reached."""
+def holding_suits(held, wire):
+    return part_suits(held) if wire == 2 else held.table == 0 and all(map(fits, held.rects))
 
-    def __init__(self, rects, upto):
-        self.rects, self.upto = rects, upto
+
+def touches(entry, before, after):
+    """Whether a row of the entry comes, goes, or changes in the entry's columns."""
+    was_inside, is_inside = (row is not None and has(entry.rects, row) for row in (before, after))
+    return was_inside != is_inside or was_inside and any(old != new for c, (old, new) in enumerate(zip(before, after)) if c in entry.columns)
+
+
+class Session:
+    """The parts of the table that a client asked for, how it speaks, and the version that the messages to it have reached."""
+
+    def __init__(self, entries, wire, upto):
+        self.entries, self.wire, self.upto = entries, wire, upto
+
+    def entry_of(self, part):
+        """The first wire has no columns: each asked part stands for all."""
+        return part if self.wire == 2 else part._replace(columns=ALL_COLUMNS)
 
 
 class Model:
@@ -86,16 +102,16 @@ class Model:
         """The log has dropped the versions up to this one."""
         return last_dropped(self.changes, self.log)
 
-    def notices(self, rects, above):
-        told = [(version, [change for change in self.changes[version] if any(row and has(rects, row) for row in change[1:])])
+    def notices(self, entries, above):
+        told = [(version, [change for change in self.changes[version] if any(touches(entry, *change[1:]) for entry in entries)])
                 for version in range(above + 1, self.version + 1)]
         return [Notice(version, [Tell(0, key, after) for key, _, after in changes]) for version, changes in told if changes]
 
     def due(self, session):
-        if session.rects and session.upto < self.floor():
-            session.rects = []
+        if session.entries and session.upto < self.floor():
+            session.entries = []
             return [Lapse(self.version)]
-        return self.notices(session.rects, session.upto)
+        return self.notices(session.entries, session.upto)
 
     def rows(self, number, place, part):
         rows = [tuple(row[column] for column in part.columns) for _, row in sorted(self.versions[-1].items()) if has(part.rects, row)]
@@ -112,15 +128,15 @@ class Model:
         if isinstance(message, Ask):
             return None if all(map(part_suits, message.parts)) else 'shape'
         if isinstance(message, Resume):
-            return None if all(held.table == 0 and all(map(fits, held.rects)) for held in message.holdings) else 'shape'
+            return None if all(holding_suits(held, message.wire) for held in message.holdings) else 'shape'
         return None
 
     def begin(self, message):
         """The session that a greeting opens, and what is sent."""
         if isinstance(message, Hello) or message.version > self.version or message.version < self.floor():
-            return Session([], self.version), [Welcome(message.number, self.version, False)]
-        rects = [rect for held in message.holdings for rect in held.rects]
-        return Session(rects, self.version), self.notices(rects, message.version) + [Welcome(message.number, self.version, True)]
+            return Session([], message.wire, self.version), [Welcome(message.number, self.version, False)]
+        session = Session([Part(*held) for held in message.holdings], message.wire, self.version)
+        return session, self.notices(session.entries, message.version) + [Welcome(message.number, self.version, True)]
 
     def take(self, session, message):
         """The session behind a request, and what is sent."""
@@ -131,7 +147,7 @@ class Model:
             sent = self.due(session) + [Written(message.number, self.version)]
         else:
             sent = [] if message.fresh else self.due(session)
-            session.rects = ([] if message.fresh else session.rects) + [rect for part in message.parts for rect in part.rects]
+            session.entries = ([] if message.fresh else session.entries) + [session.entry_of(part) for part in message.parts]
             for place, part in enumerate(message.parts):
                 sent += self.rows(message.number, place, part)
             sent.append(Reply(message.number, self.version))

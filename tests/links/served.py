@@ -4,7 +4,7 @@ import socket
 import subprocess
 import tempfile
 
-from frames import Ask, Hello, Holding, Lapse, Part, Resume, Write, frame, spelled
+from frames import ALL_COLUMNS, WIRE, Ask, Hello, Holding, Lapse, Part, Resume, Write, frame, spelled
 from model import SCHEMA, Model
 
 ROWS = [(1, 35, b'ann'), (2, 45, b'bob'), (3, 33, b"cy's"), (300, 30, b'\xc3\xa9')]
@@ -23,10 +23,14 @@ def statement(row):
 
 # ---- what is sent to the server
 
-def honest():
-    """A conversation with each kind of request."""
-    return [HELLO, Ask(1, True, [Part(0, [0, 1], [AGES_30_40])]), Write(2, b'UPDATE p SET age = 50 WHERE id = 1'),
-            Ask(3, False, [Part(0, [0, 1, 2], [NAMES_FROM_B])])]
+def honest(wire=WIRE):
+    """A conversation with each kind of request. The write is seen in one of the asked columns, and the last one is not."""
+    return [HELLO._replace(wire=wire), Ask(1, True, [Part(0, [0, 1], [AGES_30_40])]), Write(2, b'UPDATE p SET age = 50 WHERE id = 1'),
+            Ask(3, False, [Part(0, [0, 2], [NAMES_FROM_B])]), Write(4, b'UPDATE p SET age = 46 WHERE id = 2')]
+
+
+def honest_in_both():
+    return [('in wire %d' % wire, [spelled(honest(wire))]) for wire in (1, 2)]
 
 
 def cut_after_each_byte():
@@ -40,8 +44,18 @@ def in_pieces():
 
 
 def resumed():
-    holdings = [Holding(0, [AGES_30_40])]
-    return [('resume from version %d' % version, [spelled([Resume(7, 0, version, holdings), Ask(1, False, [WHOLE])])]) for version in range(0, 9)]
+    """A write behind each changes a column of one holding, and none of the other."""
+    held = {1: [Holding(0, ALL_COLUMNS, [NAMES_FROM_B])], 2: [Holding(0, [0, 1], [AGES_30_40]), Holding(0, [0, 2], [NAMES_FROM_B])]}
+    return [('resume in wire %d from version %d' % (wire, version),
+             [spelled([Resume(7, 0, version, holdings, wire), Write(1, b'UPDATE p SET age = %d WHERE id = 2' % (36 + version)), Ask(2, False, [WHOLE])])])
+            for wire, holdings in held.items() for version in range(0, 25)]
+
+
+def with_wire(wire, message):
+    """The frame of a message with another number of the wire."""
+    whole = bytearray(frame(message))
+    whole[5] = wire
+    return bytes(whole)
 
 
 def refused():
@@ -57,7 +71,13 @@ def refused():
         'a number outside the domain': [HELLO, Ask(1, True, [Part(0, [0, 1], [(None, (30, 151), None)])])],
         'a text in a column of numbers': [HELLO, Ask(1, True, [Part(0, [0, 1], [(None, (b'a', None), None)])])],
         'a rect of two columns': [HELLO, Ask(1, True, [Part(0, [0, 1], [(None, None)])])],
-        'a holding of no table': [Resume(1, 0, 1, [Holding(3, [(None, None, None)])])],
+        'a holding of no table': [Resume(1, 0, 1, [Holding(3, [0], [(None, None, None)])])],
+        'a holding of no table, in wire 1': [Resume(1, 0, 1, [Holding(3, ALL_COLUMNS, [(None, None, None)])], 1)],
+        'a holding of a column that is not there': [Resume(1, 0, 1, [Holding(0, [0, 3], [(None, None, None)])])],
+        'a holding without the key': [Resume(1, 0, 1, [Holding(0, [1], [(None, None, None)])])],
+        'a holding with a span of a column that is not held': [Resume(1, 0, 1, [Holding(0, [0], [AGES_30_40])])],
+        'a holding of columns, in wire 1': [with_wire(1, Resume(1, 0, 1, [Holding(0, [0, 1], [AGES_30_40])]))],
+        'a wire that is not there': [with_wire(3, HELLO)],
     }
     return [(name, [spelled(messages + [Ask(9, True, [WHOLE])])]) for name, messages in wrong.items()]
 
@@ -103,7 +123,7 @@ def received(link):
 
 def run(program):
     """Serves all conversations, one after another; gives a name and what was wrong for each."""
-    cases = in_pieces() + cut_after_each_byte() + resumed() + refused() + mutated()
+    cases = in_pieces() + honest_in_both() + cut_after_each_byte() + resumed() + refused() + mutated()
     with tempfile.TemporaryDirectory() as folder:
         schema, texts, address = pathlib.Path(folder) / 'schema', pathlib.Path(folder) / 'exec', free_address()
         schema.write_text(SCHEMA, encoding='utf-8')

@@ -79,8 +79,9 @@ REQUESTS = [
     Ask(1, True, [Part(1, [0, 1], [((10, 20), None)])]),
     Ask(2, False, [Part(0, [0, 1], [(None, (30, 40), None)])]),
     Ask(3, False, [Part(0, [0, 2], [(None, None, (b'b', None))])]),
-    Resume(64, 4, 8, [Holding(0, [(None, (30, 34), None), (None, (38, 40), None)]), Holding(0, [(None, (35, 37), None)]),
-                      Holding(0, [(None, None, (b'b', None))]), Holding(1, [((11, 20), None)]), Holding(1, [((10, 10), None)])]),
+    Resume(64, 4, 8, [Holding(0, [0, 1], [(None, (30, 34), None), (None, (38, 40), None)]), Holding(0, [0, 1], [(None, (35, 37), None)]),
+                      Holding(0, [0, 2], [(None, None, (b'b', None))]), Holding(1, [0, 1], [((11, 20), None)]),
+                      Holding(1, [0, 1], [((10, 10), None)])]),
 ]
 
 
@@ -94,7 +95,7 @@ def with_points(request, tables):
 
 
 def holdings_fault(program):
-    """A Resume names the points of each class by themselves, in class order, and the version of the last message."""
+    """A Resume names the points of each class by themselves under its columns, in class order, and the version of the last message."""
     replies = [[Welcome(0, 4, False)], [Reply(1, 4)], [Reply(2, 8)], [Reply(3, 8)], [Welcome(4, 8, True)]]
     done, peer = run(program, HOLDING, Says(replies), [None, None], client=64, schema=SCHEMA)
     tables, _ = reader.read_script((SCHEMA + '\n'.join(line.replace(' 64', ' 1') for line in HOLDING)).encode())

@@ -212,6 +212,10 @@ def columns_of(part):
     return [c for c in range(12) if part.columns >> c & 1]
 
 
+def bits(columns):
+    return sum(1 << c for c in columns)
+
+
 def takes(column, cell):
     return isinstance(cell, bytes) == column.is_text and column.has(cell)
 
@@ -261,9 +265,9 @@ def same_request(request, ours, classes, tables):
     if kind is messages.Write:
         return request == frames.Write(ours.number, ours.statement.text.encode())
     if kind is messages.Resume:
-        holdings = [(table, points) for (table, _, _), points in classes.items()]
-        return (type(request) is frames.Resume and request[:3] == (1, ours.number, ours.version)
-                and [(held.table, points_of(held.rects, tables[held.table])) for held in request.holdings] == holdings)
+        holdings = [(table, columns, points) for (table, columns, _), points in classes.items()]
+        return (type(request) is frames.Resume and request[:3] == (1, ours.number, ours.version) and request.wire == frames.WIRE
+                and [(held.table, bits(held.columns), points_of(held.rects, tables[held.table])) for held in request.holdings] == holdings)
     asked = [(part.table, columns_of(part), part.points) for part in ours.parts]
     return (type(request) is frames.Ask and request[:2] == (ours.number, ours.fresh)
             and [(part.table, part.columns, points_of(part.rects, tables[part.table])) for part in request.parts] == asked)

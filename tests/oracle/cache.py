@@ -1,6 +1,8 @@
 """What a client holds."""
 import collections
 
+from server import Entry
+
 
 def includes(columns, others):
     return others & ~columns == 0
@@ -30,9 +32,9 @@ class Cache:
         return part.points.difference(*(stamps for (table, columns), stamps in self.held.items()
                                         if table == part.table and includes(columns, part.need)))
 
-    def points(self):
-        """All points that are held, each with its table's number."""
-        return {(table, point) for (table, _), stamps in self.held.items() for point in stamps}
+    def entries(self):
+        """All points that are held, under their columns."""
+        return [Entry(table, columns, set(stamps)) for (table, columns), stamps in self.held.items()]
 
     def classes(self):
         """{(table's number, columns, stamp): points}, in class order."""

@@ -311,5 +311,5 @@ class Client:
         if not self.is_cut:
             return self.say('resume', 'up')
         self.is_cut, number = False, self.next_request()
-        self.send(Hello(number) if self.cache.is_empty() else Resume(number, self.version, self.cache.points()))
+        self.send(Hello(number) if self.cache.is_empty() else Resume(number, self.version, self.cache.entries()))
         return self.say('resume', 'sent %d' % number)

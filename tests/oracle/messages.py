@@ -3,7 +3,7 @@ from collections import namedtuple
 
 # to the server
 Hello = namedtuple('Hello', 'number')
-Resume = namedtuple('Resume', 'number version points')
+Resume = namedtuple('Resume', 'number version entries')
 Ask = namedtuple('Ask', 'number fresh query asked parts')  # a query with its number
 AskPart = namedtuple('AskPart', 'table columns points')
 Write = namedtuple('Write', 'number statement')

@@ -1,15 +1,21 @@
 """The server: all versions, and a session for each client."""
+from collections import namedtuple
+
 from forgotten import last_dropped
 from messages import Lapse, Notice, Refused, Reply, Rows, Welcome, Written, name_of
 
 ROWS_OF_A_MESSAGE = 256
 
 
+# points of a table, and columns of it as a number of bits
+Entry = namedtuple('Entry', 'table columns points')
+
+
 class Session:
-    """The points that a client asked for, each with its table's number, and the version that the messages to it have reached."""
+    """What a client asked for, entry by entry, and the version that the messages to it have reached."""
 
     def __init__(self, subscription=(), upto=0):
-        self.subscription, self.upto = set(subscription), upto
+        self.subscription, self.upto = list(subscription), upto
 
 
 class Server:
@@ -45,12 +51,24 @@ class Server:
 
     # ---- notices
 
-    def touches(self, points, version):
-        return any(row is not None and (table, self.tables[table].place(row)) in points
-                   for table, before, after in self.changes[version] for row in (before, after))
+    def touching(self, entries, version):
+        """The changes of a version that touch some entry."""
+        return [(table, before, after) for table, before, after in self.changes[version]
+                if any(entry.table == table and self.touches_entry(entry, before, after) for entry in entries)]
 
-    def notices(self, points, version):
-        return [Notice(v) for v in range(version + 1, self.version + 1) if self.touches(points, v)]
+    def touches_entry(self, entry, before, after):
+        """Whether a row of the entry comes, goes, or changes in the entry's columns."""
+        was_inside, is_inside = self.is_inside(entry, before), self.is_inside(entry, after)
+        return was_inside != is_inside or was_inside and self.differ(entry, before, after)
+
+    def is_inside(self, entry, row):
+        return row is not None and self.tables[entry.table].place(row) in entry.points
+
+    def differ(self, entry, before, after):
+        return any(entry.columns >> c & 1 and old != new for c, (old, new) in enumerate(zip(before, after)))
+
+    def notices(self, entries, version):
+        return [Notice(v) for v in range(version + 1, self.version + 1) if self.touching(entries, v)]
 
     def is_lost(self, session):
         """The log has dropped a version of which the session would have to be told."""
@@ -63,7 +81,7 @@ class Server:
         return self.notices(session.subscription, session.upto)
 
     def lapse(self, session):
-        session.subscription = set()
+        session.subscription = []
         return [Lapse(self.version)]
 
     def push(self, client):
@@ -90,20 +108,20 @@ class Server:
     def take_resume(self, client, resume):
         if resume.version < self.floor():
             return self.take_hello(client, resume)
-        self.sessions[client] = Session(resume.points, self.version)
-        return self.notices(resume.points, resume.version) + [Welcome(resume.number, self.version, True)]
+        self.sessions[client] = Session(resume.entries, self.version)
+        return self.notices(resume.entries, resume.version) + [Welcome(resume.number, self.version, True)]
 
     def take_ask(self, client, ask):
         session = self.sessions[client]
         sent = self.begin(session) if ask.fresh else self.due(session)
-        session.subscription |= {(part.table, point) for part in ask.parts for point in part.points}
+        session.subscription += [Entry(part.table, part.columns, part.points) for part in ask.parts]
         session.upto = self.version
         rows = [message for part in ask.parts for message in self.rows(ask.number, part)]
         return sent + rows + [Reply(ask.number, self.version)]
 
     def begin(self, session):
         """A fresh ask begins the subscription anew, and nothing is due."""
-        session.subscription = set()
+        session.subscription = []
         return []
 
     def rows(self, number, part):

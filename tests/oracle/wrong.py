@@ -42,7 +42,7 @@ class NeverCloses(Server):
         return [message for message in super().push(client) or [] if isinstance(message, Lapse) or self.touched(client, message)]
 
     def touched(self, client, message):
-        return self.touches(self.sessions[client].subscription, message.version)
+        return self.touching(self.sessions[client].subscription, message.version)
 
 
 class FreshAskAdds(Server):
@@ -57,7 +57,7 @@ class FreshAskBringsNotices(Server):
 
     def begin(self, session):
         sent = self.due(session)
-        session.subscription = set()
+        session.subscription = []
         return sent
 
 
@@ -78,9 +78,22 @@ class CountsVersions(Server):
 class TellsTheOldRowOnly(Server):
     """A change touches only by its old row."""
 
-    def touches(self, points, version):
-        return any(before is not None and (table, self.tables[table].place(before)) in points
-                   for table, before, _ in self.changes[version])
+    def touches_entry(self, entry, before, after):
+        return self.is_inside(entry, before) and super().touches_entry(entry, before, after)
+
+
+class TellsEachChange(Server):
+    """A change of a row that stays inside touches in whatever columns it is."""
+
+    def differ(self, entry, before, after):
+        return before != after
+
+
+class TellsNoChangeInside(Server):
+    """A change of a row that stays inside does not touch."""
+
+    def differ(self, entry, before, after):
+        return False
 
 
 class WelcomesAll(Server):
@@ -320,7 +333,9 @@ class SettlesAll(World):
 SERVERS = {'lapse_keeps_the_subscription': LapseKeepsSubscription, 'notices_leave_out_the_newest': LeavesOutNewest,
            'push_reaches_nothing': PushReachesNothing, 'no_empty_notice': NeverCloses, 'fresh_ask_adds': FreshAskAdds,
            'fresh_ask_brings_notices': FreshAskBringsNotices, 'empty_subscription_lapses': LosesEmpty,
-           'log_counts_versions': CountsVersions, 'old_row_alone_touches': TellsTheOldRowOnly, 'welcomes_all': WelcomesAll}
+           'log_counts_versions': CountsVersions, 'old_row_alone_touches': TellsTheOldRowOnly,
+           'each_change_inside_touches': TellsEachChange, 'no_change_inside_touches': TellsNoChangeInside,
+           'welcomes_all': WelcomesAll}
 CLIENTS = {'second_ask_asks_the_old_rest': AsksTheOldRest, 'notice_applied_at_once': AppliesAtOnce,
            'answer_behind_a_lapse': AnswersBehindLapse, 'fresh_ask_is_asked_again': AsksAgainThoughFresh,
            'answers_at_the_newest': AnswersAtNewest, 'evicts_by_stamp': EvictsByStamp, 'notices_meet_no_limit': NoticesMeetNoLimit,

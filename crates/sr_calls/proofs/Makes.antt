@@ -12,7 +12,7 @@ use Rattle.sr_session.specs.Clients as session
 use Rattle.sr_session.specs.Rules.{Outcome, AlreadyCut, AlreadyUp, AskSent, CutDone, QueryRefused, ResumeSent, WriteSent, sent_of}
 use Rattle.sr_session.specs.Bases.{basis_of}
 use Rattle.sr_links.specs.Steps.{Deed, ComesIf, Does, IsFair}
-use Rattle.sr_talk.specs.Calls.{lines_of}
+use Rattle.sr_dial.specs.Calls.{lines_of}
 use Rattle.sr_client.specs.Stands.{StandsFor, out_of}
 use Rattle.sr_client.specs.Steps as client
 use Rattle.sr_client.specs.Steps.{Moves}

@@ -11,7 +11,7 @@ use Rattle.sr_query.specs.Bound.{is_table}
 use Rattle.sr_reader.specs.declared.script.EventLine.{EventLine}
 use Rattle.sr_session.specs.Clients as session
 use Rattle.sr_store.specs.Told.{IsTrueOf, told_of}
-use Rattle.sr_talk.specs.Calls.{Task}
+use Rattle.sr_dial.specs.Calls.{Task}
 use Rattle.sr_client.specs.declared.client.Client.{Client}
 use Rattle.sr_client.specs.Stands.{new_client}
 use Rattle.sr_client.proofs.NewLemmas.{at_first, new-facts}

@@ -21,7 +21,7 @@ use Rattle.sr_session.specs.Bases.{basis_of}
 use Rattle.sr_wire.specs.Limits.{IsSendable}
 use Rattle.sr_runs.specs.Lines.{cut_line, details, evict_line, query_line, resume_line, write_line}
 use Rattle.sr_links.specs.Steps.{Evicted, Queried, Resumed, WasCut, Wrote, too_long, writes}
-use Rattle.sr_talk.specs.Calls.{last_lines}
+use Rattle.sr_dial.specs.Calls.{last_lines}
 use Rattle.sr_client.specs.declared.client.Client.{Client}
 use Rattle.sr_client.specs.declared.steps.CutStep.{CutStep}
 use Rattle.sr_client.specs.declared.steps.CutStep.TheVariants as cuts

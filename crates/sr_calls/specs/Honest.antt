@@ -9,7 +9,7 @@ use Rattle.sr_session.specs.Sessions.{Database}
 use Rattle.sr_client.specs.declared.client.Client.{Client}
 use Rattle.sr_server.specs.Servers.{Gives}
 use Rattle.sr_links.specs.Honest.{Server, Input, server_at_last}
-use Rattle.sr_talk.specs.Calls.{Task}
+use Rattle.sr_dial.specs.Calls.{Task}
 use Rattle.sr_talk.specs.Serving.{Conversation}
 use Rattle.sr_dial.specs.Honest.{IsHonest, IsTrue}
 use Rattle.sr_dial.specs.Known.{AreTasks}

@@ -7,7 +7,7 @@ use Rattle.sr_policy.specs.declared.policy.Limits.{Limits}
 use Rattle.sr_session.specs.Clients as session
 use Rattle.sr_client.specs.Stands.{new_client}
 use Rattle.sr_client.specs.declared.client.Client.{Client}
-use Rattle.sr_talk.specs.Calls.{Task}
+use Rattle.sr_dial.specs.Calls.{Task}
 use Rattle.sr_dial.specs.Runs.{RanFairly}
 use Rattle.sr_dial.specs.declared.ending.Ending.{Ending}
 use Rattle.sr_calls.specs.ClientEnds.{IsEnd}

@@ -2,7 +2,7 @@
 ghost use Rattle.std.specs.Prelude.{◌<◌, ◌≤◌, ◌^◌, ℕ, List, length, IfOk, IsTrue};
 ghost use Rattle.std.specs.List.{list_all};
 ghost use Rattle.sr_query.specs.Bound.{is_table};
-ghost use Rattle.sr_talk.specs.Calls.{Task};
+ghost use Rattle.sr_dial.specs.Calls.{Task};
 ghost use Rattle.sr_talk.specs.Rounds.{OnlyOutput};
 ghost use Rattle.sr_dial.specs.Known.{AreTasks};
 ghost use Rattle.sr_calls.specs.Runs.{RanNew};

@@ -20,7 +20,7 @@ use Rattle.sr_setup.specs.ClientFiles.{client_outside, ClientRefuses, IsAsked, i
 use Rattle.sr_setup.specs.declared.client_setup.ClientFault.{ClientFault}
 use Rattle.sr_setup.specs.declared.client_setup.ClientFault.TheVariants as fault
 use Rattle.sr_cell.specs.declared.fault.Fault.{Fault}
-use Rattle.sr_talk.specs.Calls.{Task, Do, Explain}
+use Rattle.sr_dial.specs.Calls.{Task, Do, Explain}
 use Rattle.sr_words.specs.declared.command.ClientWords.{ClientWords}
 use Rattle.sr_cli.specs.Files.{SomeTooLong}
 use Rattle.sr_cli.specs.Client.{Ends, IsTaskOf, NotRead, Stops, Untouched, ending_of, files_of, task_of}

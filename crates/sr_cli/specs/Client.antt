@@ -18,7 +18,7 @@ use Rattle.sr_setup.specs.declared.client_setup.ClientFault.{ClientFault}
 use Rattle.sr_setup.specs.declared.client_setup.ClientFault.TheVariants as fault
 use Rattle.sr_wire.specs.declared.bad_frame.BadFrame.{BadFrame}
 use Rattle.sr_wire.specs.declared.wire_fault.WireFault.{WireFault}
-use Rattle.sr_talk.specs.Calls.{Task, Do, Explain}
+use Rattle.sr_dial.specs.Calls.{Task, Do, Explain}
 use Rattle.sr_words.specs.declared.command.ClientWords.{ClientWords}
 use Rattle.sr_cli.specs.Files.{IsWhatIsHeld, SomeTooLong, IsLong}
 use Rattle.sr_cli.specs.Errors.{line_text, setup_text, spoiled_text, bad_text}

@@ -12,7 +12,7 @@ use Rattle.sr_script.specs.TraceText.{line_text}
 use Rattle.sr_session.specs.Clients.{Client}
 use Rattle.sr_session.specs.Rules.{sent_of}
 use Rattle.sr_links.specs.Steps.{Standing, Resumed, past_after, requests_of}
-use Rattle.sr_talk.specs.Calls.{Call, Scripted, Task, Do, all_done, calls_told, count_faults, fails, is_fault, one_if, steps_in}
+use Rattle.sr_dial.specs.Calls.{Call, Scripted, Task, Do, all_done, calls_told, count_faults, fails, is_fault, one_if, steps_in}
 use Rattle.sr_talk.specs.Serving.{RoseBy, spelled}
 use Rattle.sr_dial.specs.Known.{Setting, Makes}
 use Rattle.sr_dial.specs.Runs.{IsCarried, IsToldIf, SendsMost, left_by}

@@ -17,7 +17,7 @@ use Rattle.sr_wire.specs.declared.wire_fault.WireFault.TheVariants.{Short}
 use Rattle.sr_wire.specs.Spelling.{spelling}
 use Rattle.sr_links.specs.Honest.{IsPrefix}
 use Rattle.sr_links.specs.Steps.{Step, Standing, Deed, StaysOn, WasCut, given_of, past_after, requests_of, taken_by}
-use Rattle.sr_talk.specs.Calls.{Call, Cause, Failed, Done, Task, all_done, calls_told, count_faults, done_in, fails, is_coming, is_failed, is_fault, is_short, line_of, one_if, steps_in, text_of}
+use Rattle.sr_dial.specs.Calls.{Call, Cause, Failed, Done, Task, all_done, calls_told, count_faults, done_in, fails, is_coming, is_failed, is_fault, is_short, line_of, one_if, steps_in, text_of}
 use Rattle.sr_talk.specs.Reading.{Reads}
 use Rattle.sr_talk.specs.Serving.{RoseBy, spelled}
 use Rattle.sr_talk.proofs.TalkLemmas.{spelled-append}

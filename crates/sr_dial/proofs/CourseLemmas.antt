@@ -11,7 +11,7 @@ use Rattle.sr_script.specs.TraceText.{line_text}
 use Rattle.sr_session.specs.Clients.{Client}
 use Rattle.sr_session.specs.Rules.{sent_of}
 use Rattle.sr_links.specs.Steps.{Step, Standing, Deed, IsFair, AreFair, OnOne, StaysOn, code_after, given_of, past_after, requests_of, taken_by}
-use Rattle.sr_talk.specs.Calls.{Call, Cause, Done, Made, Explained, Task, all_done, calls_told, count_faults, done_in, fails, is_failed, is_fault, line_of, lines_done, lines_of, one_if, steps_in, text_of}
+use Rattle.sr_dial.specs.Calls.{Call, Cause, Done, Made, Explained, Task, all_done, calls_told, count_faults, done_in, fails, is_failed, is_fault, line_of, lines_done, lines_of, one_if, steps_in, text_of}
 use Rattle.sr_talk.specs.Serving.{RoseBy, spelled}
 use Rattle.sr_talk.proofs.TalkLemmas.{spelled-append}
 use Rattle.sr_dial.specs.Known.{IsFrom, Setting, Makes}

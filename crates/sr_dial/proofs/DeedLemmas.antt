@@ -9,7 +9,7 @@ use Rattle.sr_reader.specs.declared.script.Event as code
 use Rattle.sr_reader.specs.declared.script.Event.TheVariants as read
 use Rattle.sr_reader.specs.Read.{Means}
 use Rattle.sr_links.specs.Steps.{Deed, WasCut, Resumed}
-use Rattle.sr_talk.specs.Calls.{Task, Do, Explain}
+use Rattle.sr_dial.specs.Calls.{Task, Do, Explain}
 use Rattle.sr_dial.specs.Known.{IsDeed, IsPlain, IsTask}
 
 -- what neither resumes nor cuts leaves the link as it is

@@ -6,7 +6,7 @@ use Rattle.sr_message.specs.declared.message.Message.{Message}
 use Rattle.sr_session.specs.Clients.{Client}
 use Rattle.sr_links.specs.Honest.{IsPrefix}
 use Rattle.sr_links.specs.Steps.{Standing, Resumed, AreFair, requests_of}
-use Rattle.sr_talk.specs.Calls.{Call, Task, all_done, calls_told, count_faults, done_in, fails, is_fault, one_if, steps_in, text_of}
+use Rattle.sr_dial.specs.Calls.{Call, Task, all_done, calls_told, count_faults, done_in, fails, is_fault, one_if, steps_in, text_of}
 use Rattle.sr_talk.specs.Serving.{RoseBy, spelled}
 use Rattle.sr_dial.specs.Known.{Setting}
 use Rattle.sr_dial.specs.Runs.{EndsBy, IsCarried, SendsMost, SentAs, WritesAs, is_unwritten, left_by}

@@ -13,7 +13,7 @@ use Rattle.sr_session.specs.Clients.{Client}
 use Rattle.sr_explain.specs.declared.explanation.Explanation.{Explanation}
 use Rattle.sr_explain.specs.Telling.{explain_lines}
 use Rattle.sr_links.specs.Steps.{Step, Standing, AreFair, OnOne, code_after, given_of, past_after, requests_of}
-use Rattle.sr_talk.specs.Calls.{Call, Done, Explained, Task, Explain, all_done, calls_told, count_faults, done_in, fails, is_fault, lines_done, one_if, steps_in, text_of}
+use Rattle.sr_dial.specs.Calls.{Call, Done, Explained, Task, Explain, all_done, calls_told, count_faults, done_in, fails, is_fault, lines_done, one_if, steps_in, text_of}
 use Rattle.sr_talk.specs.Serving.{RoseBy, spelled}
 use Rattle.sr_dial.specs.Carrying.{SaysAs}
 use Rattle.sr_dial.specs.Known.{IsFairlyExplained, IsFrom, Setting, Tells}

@@ -10,7 +10,7 @@ use Rattle.sr_script.specs.TraceText.{line_text}
 use Rattle.sr_session.specs.Clients.{Client}
 use Rattle.sr_session.specs.Rules.{sent_of}
 use Rattle.sr_links.specs.Steps.{Standing, Deed, Queried, Wrote, Evicted, Took, WasCut, Resumed, StaysOn, taken_by}
-use Rattle.sr_talk.specs.Calls.{Cause, Scripted, Task, Do, is_failed, line_of}
+use Rattle.sr_dial.specs.Calls.{Cause, Scripted, Task, Do, is_failed, line_of}
 use Rattle.sr_talk.specs.Serving.{spelled}
 use Rattle.sr_talk.proofs.MoveLemmas.{nothing-sent}
 use Rattle.sr_talk.proofs.SomeLemmas.{prefix-behind}

@@ -17,7 +17,7 @@ use Rattle.sr_wire.proofs.Staying.{answer_stays}
 use Rattle.sr_session.specs.Clients.{Client}
 use Rattle.sr_links.specs.Honest.{Server, Input, IsPrefix, AreTalks, IsHonest, sent_for, server_after, steps_of}
 use Rattle.sr_links.specs.Steps.{Step, Standing, Deed, Queried, Wrote, Evicted, Took, WasCut, Resumed, AreAwaited, AreFair, IsAwaited, code_after, given_of, past_after, taken_by}
-use Rattle.sr_talk.specs.Calls.{Call, Cause, Scripted, Delivered, Failed, Done, Made, Explained, Task, Do, Explain, AreCalls, all_done, done_in, line_of, lines_done, steps_in, talk_of}
+use Rattle.sr_dial.specs.Calls.{Call, Cause, Scripted, Delivered, Failed, Done, Made, Explained, Task, Do, Explain, AreCalls, all_done, done_in, line_of, lines_done, steps_in, talk_of}
 use Rattle.sr_talk.specs.Serving.{spelled}
 use Rattle.sr_dial.specs.Honest.{AreExplained}
 use Rattle.sr_dial.specs.Known.{AreTasks, IsDeed, IsTask}

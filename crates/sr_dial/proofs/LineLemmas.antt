@@ -10,7 +10,7 @@ use Rattle.sr_script.specs.TraceText.{line_text}
 use Rattle.sr_session.specs.Clients.{Client}
 use Rattle.sr_session.specs.Rules.{sent_of}
 use Rattle.sr_links.specs.Steps.{Standing, WasCut, Resumed}
-use Rattle.sr_talk.specs.Calls.{Call, Scripted, Task, Do}
+use Rattle.sr_dial.specs.Calls.{Call, Scripted, Task, Do}
 use Rattle.sr_talk.specs.Serving.{spelled}
 use Rattle.sr_dial.specs.Carrying.{Carries, SaysAs}
 use Rattle.sr_dial.specs.Known.{IsFrom, KeepsLink, Makes, Setting}

@@ -11,7 +11,7 @@ use Rattle.sr_policy.specs.declared.policy.Limits.{Limits}
 use Rattle.sr_session.specs.Clients.{Client}
 use Rattle.sr_session.specs.Rules.{sent_of}
 use Rattle.sr_links.specs.Steps.{Step, Standing, Deed, AreFair, OnOne, StaysOn, code_after, given_of, past_after, requests_of, taken_by}
-use Rattle.sr_talk.specs.Calls.{Call, Done, Made, Explained, AreCalls, all_done, asked_by, calls_told, count_faults, done_in, fails, has_failed, is_fault, lines_done, number_of, one_if, steps_in}
+use Rattle.sr_dial.specs.Calls.{Call, Done, Made, Explained, AreCalls, all_done, asked_by, calls_told, count_faults, done_in, fails, has_failed, is_fault, lines_done, number_of, one_if, steps_in}
 use Rattle.sr_dial.specs.Courses.{IsCall, line_after}
 use Rattle.sr_dial.specs.Known.{AreFairlyExplained}
 use Rattle.sr_dial.specs.Runs.{AreInPlace, left_by, more_taken, taken_after}

@@ -5,7 +5,7 @@ use Rattle.sr_io.specs.Told.{Linking, Writing, connections, hung_up}
 use Rattle.sr_session.specs.Clients.{Client}
 use Rattle.sr_links.specs.Honest.{IsPrefix}
 use Rattle.sr_links.specs.Steps.{Standing, Resumed, AreFair}
-use Rattle.sr_talk.specs.Calls.{Call, Task, Do, all_done, steps_in, text_of}
+use Rattle.sr_dial.specs.Calls.{Call, Task, Do, all_done, steps_in, text_of}
 use Rattle.sr_dial.specs.Known.{Setting}
 use Rattle.sr_dial.specs.Runs.{EndsBy, IsCarried, RanFairly, WritesAs, is_unwritten, left_by}
 use Rattle.sr_dial.specs.Courses.{Finishes, Free, IsWritten, Over, Start}
@@ -20,7 +20,7 @@ module _ (C : Type 0) (Stands : C → Client → Type 0) (IsOf : Standing C) (k 
   made-still {made} is = ap connections gone ∙ (append-nil (connections l) ∙ is)
 
   free-ran : (ended : Ending) (failed : Bool) (line : ℕ) → Free C Stands IsOf k s ((0, Do Resumed) ∷ script) line failed l (IsWritten s w) feed code → is_unwritten ended ≡ false
-      → ((calls : List (Call C)) (c : Client) (left : List ℕ) → c.out ≡ None → Rattle.std.specs.List.list_any Rattle.sr_talk.specs.Calls.fails calls ≡ failed → EndsBy ended k.schema calls c left ((0, Do Resumed) ∷ script) ((0, Do Resumed) ∷ script))
+      → ((calls : List (Call C)) (c : Client) (left : List ℕ) → c.out ≡ None → Rattle.std.specs.List.list_any Rattle.sr_dial.specs.Calls.fails calls ≡ failed → EndsBy ended k.schema calls c left ((0, Do Resumed) ∷ script) ((0, Do Resumed) ∷ script))
       → ((texts : List ℕ) → IsWritten s w texts → WritesAs ended texts s.writing w) → RanFairly C IsOf k s.code s.past s.address script ended s.linking new_l s.writing w
   free-ran ended failed line f written ends writes =
       let h = f.at in
@@ -40,7 +40,7 @@ module _ (C : Type 0) (Stands : C → Client → Type 0) (IsOf : Standing C) (k 
           each_told = told-more s.linking.peers h.course.earlier h.course.call h.course.before_told h.course.is_told;
           made = made-still (made-of (left_by s.past (h.course.earlier ++ h.course.call ∷ [])).cut h.course.earlier h.course.call s.linking l h.there);
           hung_up = ap (λ (x : Linking). x.is_up) gone;
-          faults = subst (λ (x : Linking). Rattle.sr_talk.specs.Serving.RoseBy s.linking.faults (Rattle.sr_talk.specs.Calls.count_faults (h.course.earlier ++ h.course.call ∷ [])) x.faults) (sym gone) h.faults;
+          faults = subst (λ (x : Linking). Rattle.sr_talk.specs.Serving.RoseBy s.linking.faults (Rattle.sr_dial.specs.Calls.count_faults (h.course.earlier ++ h.course.call ∷ [])) x.faults) (sym gone) h.faults;
           ends = ends (h.course.earlier ++ h.course.call ∷ []) (left_by s.past (h.course.earlier ++ h.course.call ∷ [])) h.course.call.left f.free h.failed_is;
           writes = writes (flat_map (text_of k.schema k.number) (all_done (h.course.earlier ++ h.course.call ∷ []))) h.course.steps.writes;
         };
@@ -65,7 +65,7 @@ module _ (C : Type 0) (Stands : C → Client → Type 0) (IsOf : Standing C) (k 
       each_told = o.each_told;
       made = made-still o.made;
       hung_up = ap (λ (x : Linking). x.is_up) gone;
-      faults = subst (λ (x : Linking). Rattle.sr_talk.specs.Serving.RoseBy s.linking.faults (Rattle.sr_talk.specs.Calls.count_faults (o.earlier ++ o.last ∷ [])) x.faults) (sym gone) o.faults;
+      faults = subst (λ (x : Linking). Rattle.sr_talk.specs.Serving.RoseBy s.linking.faults (Rattle.sr_dial.specs.Calls.count_faults (o.earlier ++ o.last ∷ [])) x.faults) (sym gone) o.faults;
       ends = o.ends ((0, Do Resumed) ∷ script);
       writes = o.writes;
     };

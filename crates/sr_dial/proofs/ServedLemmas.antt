@@ -13,7 +13,7 @@ use Rattle.sr_session.specs.Sessions.{Database, Session, with_version}
 use Rattle.sr_links.specs.Honest.{Server, Input, Version, Frame, CutOff, IsPrefix, AreClosedBehind, IsClosedBehind, answer, cut_off, frame_of, frames_of, has_cut, is_cut_off, sent_for, server_after, server_at_last}
 use Rattle.sr_links.specs.Steps.{given_of, requests_of}
 use Rattle.sr_links.proofs.MendLemmas.{prefix-on}
-use Rattle.sr_talk.specs.Calls.{Call, done_in, fails, steps_in}
+use Rattle.sr_dial.specs.Calls.{Call, done_in, fails, steps_in}
 use Rattle.sr_talk.specs.Rounds.{at_rest}
 use Rattle.sr_talk.specs.Serving.{Answers, Conversation, SentAs, spelled}
 use Rattle.sr_talk.specs.declared.serve.How.{How}

@@ -6,7 +6,7 @@ use Rattle.sr_reader.specs.declared.script.EventLine.{EventLine}
 use Rattle.sr_session.specs.Clients.{Client}
 use Rattle.sr_links.specs.Honest.{IsPrefix}
 use Rattle.sr_links.specs.Steps.{Standing}
-use Rattle.sr_talk.specs.Calls.{Task}
+use Rattle.sr_dial.specs.Calls.{Task}
 use Rattle.sr_talk.specs.Rounds.{OnlyOutput}
 use Rattle.sr_dial.specs.Known.{AreTasks, IsTask, Setting}
 use Rattle.sr_dial.specs.Courses.{At, Finishes, Free, IsEarly, IsWritten, Over, Start}

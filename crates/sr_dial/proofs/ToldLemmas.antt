@@ -5,7 +5,7 @@ use Rattle.std.specs.List.{All}
 use Rattle.std.proofs.lemmas.List.Elements.{All-append, All-cons, All-nil}
 use Rattle.sr_io.specs.Told.{Connection, Linking, next_peer, other_peers}
 use Rattle.sr_links.specs.Steps.{given_of}
-use Rattle.sr_talk.specs.Calls.{Call, done_in, steps_in}
+use Rattle.sr_dial.specs.Calls.{Call, done_in, steps_in}
 use Rattle.sr_dial.specs.Courses.{TellsStill}
 use Rattle.sr_dial.specs.Runs.{IsToldIf}
 

@@ -26,7 +26,7 @@ use Rattle.sr_links.proofs.AnswerLemmas.{served-answers-are-true, answered-at}
 use Rattle.sr_links.proofs.DatabaseLemmas.{last-more, sound-before}
 use Rattle.sr_links.proofs.MendLemmas.{closed-runs}
 use Rattle.sr_links.proofs.TalkLemmas.{AreLawful, IsLawful}
-use Rattle.sr_talk.specs.Calls.{Call, Done, Made, Do, Delivered, AreCalls, all_done, done_in, steps_in, talk_of}
+use Rattle.sr_dial.specs.Calls.{Call, Done, Made, Do, Delivered, AreCalls, all_done, done_in, steps_in, talk_of}
 use Rattle.sr_talk.specs.Serving.{spelled}
 use Rattle.sr_talk.proofs.TalkLemmas.{spelled-append}
 use Rattle.sr_dial.specs.Honest.{AreExplained, HonestRunsAreTrue, IsHonest, NamesVersion, NeverFall, came_over}

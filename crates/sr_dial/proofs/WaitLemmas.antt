@@ -12,7 +12,7 @@ use Rattle.sr_wire.specs.declared.bad_frame.BadFrame.{BadFrame}
 use Rattle.sr_wire.specs.declared.wire_fault.WireFault.{WireFault}
 use Rattle.sr_wire.specs.Spelling.{has_spelling, spelling}
 use Rattle.sr_links.specs.Steps.{Standing, Took}
-use Rattle.sr_talk.specs.Calls.{Delivered, Task}
+use Rattle.sr_dial.specs.Calls.{Delivered, Task}
 use Rattle.sr_talk.specs.Reading.{Nexts, Reads}
 use Rattle.sr_talk.specs.Serving.{spelled}
 use Rattle.sr_talk.specs.declared.frames.Next.{Next}

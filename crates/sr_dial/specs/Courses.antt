@@ -9,7 +9,7 @@ use Rattle.sr_message.specs.declared.message.Message.{Message}
 use Rattle.sr_session.specs.Clients.{Client}
 use Rattle.sr_links.specs.Honest.{IsPrefix}
 use Rattle.sr_links.specs.Steps.{Standing, Resumed, AreFair, OnOne, code_after, given_of, past_after, requests_of}
-use Rattle.sr_talk.specs.Calls.{Call, Done, Task, AreCalls, all_done, calls_told, count_faults, done_in, fails, is_fault, lines_done, number_of, one_if, steps_in, text_of}
+use Rattle.sr_dial.specs.Calls.{Call, Done, Task, AreCalls, all_done, calls_told, count_faults, done_in, fails, is_fault, lines_done, number_of, one_if, steps_in, text_of}
 use Rattle.sr_talk.specs.Serving.{RoseBy, spelled}
 use Rattle.sr_talk.specs.declared.frames.Next.{Next}
 use Rattle.sr_talk.specs.declared.frames.Next.TheVariants.{Frame, End, Torn, Fault, Bad}

@@ -16,7 +16,7 @@ use Rattle.sr_session.specs.Sessions.{Database}
 use Rattle.sr_links.specs.Answers.{AreTrueSteps, AsksKeys}
 use Rattle.sr_links.specs.Honest.{Server, Input, IsPrefix, AreClosedBehind, Rests, frames_of, sent_for, server_after, server_at_last}
 use Rattle.sr_links.specs.Steps.{Standing, Step, given_of, requests_of}
-use Rattle.sr_talk.specs.Calls.{Call, Task, all_done, done_in, steps_in}
+use Rattle.sr_dial.specs.Calls.{Call, Task, all_done, done_in, steps_in}
 use Rattle.sr_talk.specs.Serving.{spelled}
 use Rattle.sr_dial.specs.Known.{AreTasks, Setting}
 use Rattle.sr_dial.specs.Runs.{RanFairly}

@@ -23,7 +23,7 @@ use Rattle.sr_explain.specs.declared.explanation.Explanation.{Explanation}
 use Rattle.sr_explain.specs.Explained.{Explains, count_in}
 use Rattle.sr_explain.specs.Telling.{explain_lines}
 use Rattle.sr_links.specs.Steps.{Step, Standing, Deed, Queried, Wrote, Evicted, Took, WasCut, Resumed, IsFair}
-use Rattle.sr_talk.specs.Calls.{Done, Made, Explained, Task, Do, Explain, lines_of}
+use Rattle.sr_dial.specs.Calls.{Done, Made, Explained, Task, Do, Explain, lines_of}
 use Rattle.sr_dial.specs.declared.parts.Came.{Came}
 use Rattle.sr_dial.specs.declared.parts.Came.TheVariants.{Taken, Bad}
 

@@ -1,3 +1,4 @@
+pub mod Calls
 pub mod Known
 pub mod Runs
 pub mod Statuses

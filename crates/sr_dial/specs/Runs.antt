@@ -19,7 +19,7 @@ use Rattle.sr_session.specs.Clients.{Client}
 use Rattle.sr_session.specs.Misfits.{misfit}
 use Rattle.sr_links.specs.Honest.{IsPrefix}
 use Rattle.sr_links.specs.Steps.{AreFair, Standing, Deed, Took, WasCut, Resumed, given_of, requests_of, past_after}
-use Rattle.sr_talk.specs.Calls.{Call, Cause, Scripted, Delivered, Failed, Done, Made, Explained, Task, Do, AreCalls, all_done, calls_told, count_faults, done_in, fails, lines_done, steps_in, text_of}
+use Rattle.sr_dial.specs.Calls.{Call, Cause, Scripted, Delivered, Failed, Done, Made, Explained, Task, Do, AreCalls, all_done, calls_told, count_faults, done_in, fails, lines_done, steps_in, text_of}
 use Rattle.sr_talk.specs.Serving.{RoseBy, spelled}
 use Rattle.sr_dial.specs.Known.{AreFairlyExplained, IsFrom, Setting}
 use Rattle.sr_dial.specs.declared.ending.Ending.{Ending}

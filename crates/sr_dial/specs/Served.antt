@@ -9,7 +9,7 @@ use Rattle.sr_wire.specs.Spelling.{has_spelling}
 use Rattle.sr_session.specs.Sessions.{Database}
 use Rattle.sr_links.specs.Honest.{Server, Input, IsPrefix, AreClosedBehind, server_at_last}
 use Rattle.sr_links.specs.Steps.{requests_of}
-use Rattle.sr_talk.specs.Calls.{Call, done_in, steps_in}
+use Rattle.sr_dial.specs.Calls.{Call, done_in, steps_in}
 use Rattle.sr_talk.specs.Rounds.{at_rest}
 use Rattle.sr_talk.specs.Serving.{Conversation, IsServed}
 use Rattle.sr_dial.specs.Honest.{AreExplained, came_over}

@@ -8,7 +8,7 @@ ghost use Rattle.sr_cell.specs.declared.fault.Fault.{Fault as TheFault};
 ghost use Rattle.sr_model.specs.Queries.{Query as TheQuery};
 ghost use Rattle.sr_reader.specs.Read.{Means};
 ghost use Rattle.sr_links.specs.Steps.{Deed, Resumed, WasCut};
-ghost use Rattle.sr_talk.specs.Calls.{Task, Do, Explain};
+ghost use Rattle.sr_dial.specs.Calls.{Task, Do, Explain};
 ghost use Rattle.sr_talk.specs.Rounds.{OnlyOutput};
 ghost use Rattle.sr_talk.specs.Serving.{spelled};
 ghost use Rattle.sr_dial.specs.Carrying.{Carries, SaysAs};

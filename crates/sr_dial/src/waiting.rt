@@ -3,7 +3,7 @@ ghost use Rattle.std.specs.Prelude.{◌≡◌, ◌≤◌, ◌+◌, ◌*◌, ◌+
 ghost use Rattle.std.specs.Option.{is_some};
 ghost use Rattle.sr_session.specs.Clients.{Client as Past};
 ghost use Rattle.sr_wire.specs.Spelling.{has_spelling, spelling};
-ghost use Rattle.sr_talk.specs.Calls.{Task};
+ghost use Rattle.sr_dial.specs.Calls.{Task};
 ghost use Rattle.sr_talk.specs.Rounds.{OnlyOutput};
 ghost use Rattle.sr_dial.specs.Courses.{At, Handles, IsWritten, Start, Waits, handled_by, last_of};
 ghost use Rattle.sr_dial.specs.Known.{Setting};

@@ -1,7 +1,7 @@
 use Rattle.std.proofs.Common.{◌≡◌, ℕ, ◌+◌, ◌≤◌, List, length, sym, ◌∙◌, ap, subst}
 use Rattle.std.specs.Prelude.{◌*◌}
 use Rattle.sr_cell.specs.declared.table.Table.{Table}
-use Rattle.sr_talk.specs.Calls.{Task}
+use Rattle.sr_dial.specs.Calls.{Task}
 use Rattle.sr_client.specs.declared.client.Client.{Client}
 use Rattle.sr_client.specs.Stands.{new_client}
 use Rattle.sr_dial.specs.Known.{AreTasks}

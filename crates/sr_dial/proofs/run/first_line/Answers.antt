@@ -1,6 +1,6 @@
 use Rattle.std.proofs.Common.{◌∙◌, false, [], ◌∷◌, inr, refl}
 use Rattle.sr_links.specs.Steps.{Resumed}
-use Rattle.sr_talk.specs.Calls.{Do}
+use Rattle.sr_dial.specs.Calls.{Do}
 use Rattle.sr_dial.proofs.run.first_line.Goals as goal
 
 pub begin-requires-clause-asks : goal.begin-requires-clause-asks

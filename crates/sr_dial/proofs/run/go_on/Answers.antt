@@ -1,6 +1,6 @@
 use Rattle.std.proofs.Common.{false, [], ◌∷◌, refl, subst}
 use Rattle.sr_links.specs.Steps.{Resumed}
-use Rattle.sr_talk.specs.Calls.{Do}
+use Rattle.sr_dial.specs.Calls.{Do}
 use Rattle.sr_dial.specs.Courses.{EndsLine}
 use Rattle.sr_dial.proofs.SoFarLemmas.{early}
 use Rattle.sr_dial.proofs.run.go_on.Goals as goal

@@ -1,7 +1,7 @@
 use Rattle.std.proofs.Common.{◌≡◌, [], ◌∷◌, ◌++◌, inl, refl, sym, subst}
 use Rattle.std.specs.Prelude.{IfOk}
 use Rattle.sr_links.specs.Steps.{Resumed, WasCut}
-use Rattle.sr_talk.specs.Calls.{Do}
+use Rattle.sr_dial.specs.Calls.{Do}
 use Rattle.sr_dial.specs.Courses.{Hands}
 use Rattle.sr_dial.proofs.DeedLemmas.{asked-deed, asked-text, cuts-task, does-deed, explains-text, resumes-task}
 use Rattle.sr_dial.proofs.Results.{if-ok}

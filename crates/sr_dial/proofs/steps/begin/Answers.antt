@@ -4,7 +4,7 @@ use Rattle.sr_io.specs.Causes.{Rose}
 use Rattle.sr_io.specs.Told.{OnlyFaults, connected_at}
 use Rattle.sr_script.specs.TraceText.{line_text}
 use Rattle.sr_links.specs.Steps.{Resumed}
-use Rattle.sr_talk.specs.Calls.{Do}
+use Rattle.sr_dial.specs.Calls.{Do}
 use Rattle.sr_talk.specs.Serving.{spelled}
 use Rattle.sr_dial.specs.Carrying.{Carries, SaysAs}
 use Rattle.sr_dial.specs.Courses.{Hands}

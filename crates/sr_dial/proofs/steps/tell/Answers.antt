@@ -2,7 +2,7 @@ use Rattle.std.proofs.Common.{◌≡◌, [], ◌∷◌, ◌++◌, cond, sym, sub
 use Rattle.std.specs.Prelude.{flat_map}
 use Rattle.sr_reader.specs.Read.{Means}
 use Rattle.sr_script.specs.TraceText.{line_text}
-use Rattle.sr_talk.specs.Calls.{Explain}
+use Rattle.sr_dial.specs.Calls.{Explain}
 use Rattle.sr_dial.specs.Carrying.{SaysAs}
 use Rattle.sr_dial.specs.Courses.{Hands}
 use Rattle.sr_dial.specs.Known.{Setting, Tells}

@@ -148,3 +148,4 @@ pub record Serves (H : Type 0) (held : H → List ℕ → Option (List ℕ)) (re
   pub steady : IsSteady old → (schema exec : List ℕ) (loads : List Load) → AreHeld (held old) words schema exec loads → FitsFiles schema exec loads status
   pub steady_writes : IsSteady old → ¬ (status ≡ 4)
   pub steady_links : IsSteady old → HasPeers words.count (linking old) → ¬ (status ≡ 5)
+  pub quiet : status ≡ 0 → (linking new).faults ≡ (linking old).faults

@@ -56,6 +56,7 @@ pub(crate) fn run_serve<H: Host>(alloc: Global, words: &ServeWords, host: &mut H
     ensures steady { H.IsSteady host.old → (schema exec : List ℕ) (loads : List Load) → AreHeld (H.held host.old) words.now schema exec loads → FitsFiles schema exec loads result }
     ensures steady_writes { H.IsSteady host.old → ¬ (result ≡ 4) }
     ensures steady_links { H.IsSteady host.old → HasPeers words.now.count (H.linking host.old) → ¬ (result ≡ 5) }
+    ensures quiet { result ≡ 0 → (H.linking host.new).faults ≡ (H.linking host.old).faults }
     ensures stays_steady { H.IsSteady host.old → H.IsSteady host.new }
     ensures held_stays { H.held host.new ≡ H.held host.old }
 {

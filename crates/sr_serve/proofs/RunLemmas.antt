@@ -116,6 +116,7 @@ module _ (db : Database) (texts : List (List ℕ)) (address : List ℕ) (count :
           few = omega arith;
           all = λ is. absurd (omega (arith, is));
           counted = omega (arith, rose);
+          quiet = λ is. absurd (omega (arith, is));
         };
         sound = λ some. absurd (some refl);
         link_fault_is_counted = λ is. rose;
@@ -144,6 +145,7 @@ module _ (db : Database) (texts : List (List ℕ)) (address : List ℕ) (count :
       few = omega arith;
       all = λ is. absurd (omega (arith, is));
       counted = omega arith;
+      quiet = λ is. absurd (omega (arith, is));
     };
     sound = λ some. absurd (some refl);
     link_fault_is_counted = λ wrong. absurd (cc);
@@ -198,6 +200,7 @@ module _ (db : Database) (texts : List (List ℕ)) (address : List ℕ) (count :
             few = omega (arith, number);
             all = λ is. (number, e.none);
             counted = omega (arith, faults);
+            quiet = λ is. e.all.quiet e.none;
           };
           sound = λ some. e.all.stands.server.sound;
           link_fault_is_counted = λ wrong. absurd (cc);
@@ -248,6 +251,7 @@ module _ (db : Database) (texts : List (List ℕ)) (address : List ℕ) (count :
             few = omega (arith, number, few);
             all = λ is. absurd (omega (arith, is));
             counted = subst (λ n. RoseBy old.faults (count_faults e.some.conversations + missing 5 n count) new.faults) (sym number) w.counted;
+            quiet = λ is. absurd (omega (arith, is));
           };
           sound = λ some. e.some.stands.server.sound;
           link_fault_is_counted = λ is. w.rose;
@@ -279,6 +283,7 @@ module _ (db : Database) (texts : List (List ℕ)) (address : List ℕ) (count :
             few = omega (arith, number, few);
             all = λ is. absurd (omega (arith, is));
             counted = omega (arith, faults);
+            quiet = λ is. absurd (omega (arith, is));
           };
           sound = λ some. e.some.stands.server.sound;
           link_fault_is_counted = λ wrong. absurd (cc);

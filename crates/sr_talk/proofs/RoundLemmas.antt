@@ -12,7 +12,7 @@ use Rattle.sr_message.specs.declared.message.Message.{Message}
 use Rattle.sr_model.specs.Statements.{Tables}
 use Rattle.sr_session.specs.Sessions.{Database}
 use Rattle.sr_links.specs.Honest.{Server}
-use Rattle.sr_talk.specs.Serving.{SentAs, IsWholeAs, CountsAs, Conversation, IsServed, AreServed, AreTold, RoseBy, all_told, count_faults, connection_line, connection_lines, frames_read, is_fault, spelled}
+use Rattle.sr_talk.specs.Serving.{QuietAs, SentAs, IsWholeAs, CountsAs, Conversation, IsServed, AreServed, AreTold, RoseBy, all_told, count_faults, connection_line, connection_lines, frames_read, is_fault, spelled}
 use Rattle.sr_talk.specs.Talked.{SentOn, ClosesAs, EndsAt, Talks}
 use Rattle.sr_talk.specs.Rounds.{at_rest, text_of, Rounds, SoMany}
 use Rattle.sr_talk.specs.declared.serve.How.{How}
@@ -126,6 +126,23 @@ rose-by Bad before old new same up closes = omega (arith, up)
 rose-by Refused before old new same up closes = omega (arith, up)
 rose-by Limit before old new same up closes = omega (arith, up)
 
+-- none, unless it ended by one
+quiet-as : (how : How) (n : ℕ) (all T : List ℕ) (l made talked new : Linking) → made ≡ connected_at l.docked l → SentOn how n all (taken_from T made) talked → new ≡ hung_up talked → QuietAs how l.faults new.faults
+quiet-as End n all T l made talked new is said gone = ap (λ (l : Linking). l.faults) gone ∙ (ap (λ (l : Linking). l.faults) said ∙ ap (λ (l : Linking). l.faults) is)
+quiet-as Torn n all T l made talked new is said gone = ap (λ (l : Linking). l.faults) gone ∙ (ap (λ (l : Linking). l.faults) said ∙ ap (λ (l : Linking). l.faults) is)
+quiet-as Fault n all T l made talked new is said gone = tt
+quiet-as Bad n all T l made talked new is said gone = ap (λ (l : Linking). l.faults) gone ∙ (ap (λ (l : Linking). l.faults) said ∙ ap (λ (l : Linking). l.faults) is)
+quiet-as Refused n all T l made talked new is said gone = ap (λ (l : Linking). l.faults) gone ∙ (ap (λ (l : Linking). l.faults) said ∙ ap (λ (l : Linking). l.faults) is)
+quiet-as Limit n all T l made talked new is said gone = ap (λ (l : Linking). l.faults) gone ∙ (ap (λ (l : Linking). l.faults) said ∙ ap (λ (l : Linking). l.faults) is)
+
+pub quiet-one : (how : How) (before now : ℕ) → is_fault how ≡ 0 → QuietAs how before now → now ≡ before
+quiet-one End before now none quiet = quiet
+quiet-one Torn before now none quiet = quiet
+quiet-one Fault before now none quiet = absurd (cc)
+quiet-one Bad before now none quiet = quiet
+quiet-one Refused before now none quiet = quiet
+quiet-one Limit before now none quiet = quiet
+
 -- ---- its line
 
 -- how many whole frames were read
@@ -167,6 +184,7 @@ module _ (Gives : Database → Message → Result Tables TheFault → Type 0) wh
         docked = ap (λ (l : Linking). l.docked) gone ∙ s.docked;
         peers_stay = keeps-peers served.how served.frames (spelled talks.sent) T l made talked new made_is talks.is gone;
         faults = rose-by served.how l.faults made new (ap (λ (l : Linking). l.faults) made_is) (subst (λ (t : Linking). l.faults ≤ t.faults) (sym gone) up) (closes-on served.how made talked new talks.closes gone);
+        quiet = quiet-as served.how served.frames (spelled talks.sent) T l made talked new made_is talks.is gone;
         stands = stands talks.after talks.stands;
       }
     where
@@ -205,7 +223,7 @@ module _ (Gives : Database → Message → Result Tables TheFault → Type 0) wh
       ∙ ap (λ x. text_of (connection_lines 1 cs) ++ x) (append-nil (connection_line (length cs + 1) c.how (read c))))
 
   abbrev pub none-so-far : (db : Database) (l : Linking) (IsNow : Server → Type 0) → IsNow (at_rest db) → SoMany Gives db l l 0 IsNow
-  none-so-far db l IsNow stands = record { conversations = []; last = db; served = refl; made = sym (append-nil (connections l)); came_at = All-nil (λ t. l.docked ≡ Some t.address); each_told = none-told l; hung_up = λ some. absurd (some refl); docked = refl; peers_stay = same-peers l.peers; number = refl; faults = omega arith; stands = stands }
+  none-so-far db l IsNow stands = record { conversations = []; last = db; served = refl; made = sym (append-nil (connections l)); came_at = All-nil (λ t. l.docked ≡ Some t.address); each_told = none-told l; hung_up = λ some. absurd (some refl); docked = refl; peers_stay = same-peers l.peers; number = refl; faults = omega arith; quiet = λ none. refl; stands = stands }
 
   pub all-at : (docked now : Option (List ℕ)) (cs : List Conversation) (c : Conversation) → now ≡ docked → All (λ t. docked ≡ Some t.address) (all_told cs) → IfSome c.told (λ t. now ≡ Some t.address)
       → All (λ t. docked ≡ Some t.address) (all_told (cs ++ c ∷ []))
@@ -236,6 +254,8 @@ module _ (Gives : Database → Message → Result Tables TheFault → Type 0) wh
         peers_stay = peers-on old.peers now.peers new.peers h.peers_stay r.peers_stay;
         number = omega (arith, number, length-append h.conversations (r.conversation ∷ []));
         faults = omega (arith, before, here, sum);
+        quiet = λ none. (let how : is_fault r.conversation.how ≡ 0 = omega (arith, sum, none) in
+        quiet-one served.how now.faults new.faults (subst (λ h. is_fault h ≡ 0) r.how_is how) r.quiet ∙ h.quiet (omega (arith, sum, none)));
         stands = r.stands;
       }
 

@@ -148,7 +148,7 @@ module _ (Gives : Database → Message → Result Tables TheFault → Type 0) wh
   none-more db count old now new before mid after done faulty IsNow IsNew below h (rose, only, stands) same = record {
     done = done;
     linking = now;
-    some = record { conversations = h.many.conversations; last = h.many.last; served = h.many.served; made = h.many.made; came_at = h.many.came_at; each_told = h.many.each_told; hung_up = h.many.hung_up; docked = h.many.docked; peers_stay = h.many.peers_stay; number = h.many.number; faults = h.many.faults; stands = stands };
+    some = record { conversations = h.many.conversations; last = h.many.last; served = h.many.served; made = h.many.made; came_at = h.many.came_at; each_told = h.many.each_told; hung_up = h.many.hung_up; docked = h.many.docked; peers_stay = h.many.peers_stay; number = h.many.number; faults = h.many.faults; quiet = h.many.quiet; stands = stands };
     few = omega (arith, below);
     only = only;
     fewer = λ other. rose;

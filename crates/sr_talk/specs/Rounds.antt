@@ -10,7 +10,7 @@ use Rattle.sr_message.specs.declared.message.Message.{Message}
 use Rattle.sr_model.specs.Statements.{Tables}
 use Rattle.sr_session.specs.Sessions.{Database}
 use Rattle.sr_links.specs.Honest.{Server}
-use Rattle.sr_talk.specs.Serving.{Conversation, IsServed, AreServed, AreTold, RoseBy, all_told, count_faults, connection_lines, frames_read, is_fault}
+use Rattle.sr_talk.specs.Serving.{Conversation, IsServed, AreServed, AreTold, RoseBy, all_told, count_faults, connection_lines, frames_read, is_fault, QuietAs}
 use Rattle.sr_talk.specs.declared.serve.How.TheVariants.{Fault as ByFault}
 use Rattle.sr_talk.specs.declared.serve.Served.{Served}
 use Rattle.sr_talk.specs.declared.rounds.Ending.{Ending}
@@ -58,6 +58,7 @@ module _ (Gives : Database → Message → Result Tables TheFault → Type 0) wh
     pub docked : new.docked ≡ old.docked
     pub peers_stay : KeepsPeers old new
     pub faults : RoseBy old.faults (is_fault served.how) new.faults
+    pub quiet : QuietAs served.how old.faults new.faults
     pub stands : IsNew (at_rest after.database)
 
   -- Or none could be made.
@@ -78,6 +79,7 @@ module _ (Gives : Database → Message → Result Tables TheFault → Type 0) wh
     pub peers_stay : KeepsPeers old new
     pub number : length conversations ≡ count
     pub faults : RoseBy old.faults (count_faults conversations) new.faults
+    pub quiet : count_faults conversations ≡ 0 → new.faults ≡ old.faults
     pub stands : IsNew (at_rest last)
 
   -- how serving ended: all connections were served, none or some of them by a fault; one more could not be made; or a line not written

@@ -98,6 +98,11 @@ abbrev pub is_fault : How → ℕ
 is_fault Fault = 1
 is_fault how = 0
 
+-- No fault of the link is counted, unless the connection ended by one.
+abbrev pub QuietAs : How → ℕ → ℕ → Type 0
+QuietAs Fault before now = Unit {0}
+QuietAs how before now = now ≡ before
+
 abbrev pub count_faults : List Conversation → ℕ
 count_faults [] = 0
 count_faults (c ∷ cs) = is_fault c.how + count_faults cs
@@ -206,3 +211,4 @@ module _ (Gives : Database → Message → Result Tables TheFault → Type 0) wh
     pub few : length conversations ≤ count
     pub all : status ≡ 0 → (length conversations ≡ count) × (count_faults conversations ≡ 0)
     pub counted : RoseBy old.faults (count_faults conversations + missing status (length conversations) count) new.faults
+    pub quiet : status ≡ 0 → new.faults ≡ old.faults

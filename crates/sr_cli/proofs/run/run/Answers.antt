@@ -86,6 +86,7 @@ returns-in-Ok-Serve-clause-serves g c = λ w says.
       steady = did.steady;
       steady_writes = did.steady_writes;
       steady_links = did.steady_links;
+      quiet = did.quiet;
     }
 
 pub returns-in-Ok-Explain-clause-explains : goal.returns-in-Ok-Explain-clause-explains

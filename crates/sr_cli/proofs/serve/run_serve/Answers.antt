@@ -92,3 +92,9 @@ returns-in-Err-clause-too_long g c = λ is.
 
 pub returns-in-Err-clause-complaint : goal.returns-in-Err-clause-complaint
 returns-in-Err-clause-complaint g c = rw c.in-Err.ensures.complaints_stay at c.report.ensures.complaint
+
+pub returns-in-Ok-clause-quiet : goal.returns-in-Ok-clause-quiet
+returns-in-Ok-clause-quiet g c = λ is. c.in-Ok.ensures.whole.ends.ran.served.quiet refl
+
+pub returns-in-Err-clause-quiet : goal.returns-in-Err-clause-quiet
+returns-in-Err-clause-quiet g c = λ is. (let o = c.report.ensures.only in absurd (omega (arith, o, is)))

@@ -7,7 +7,6 @@ use Rattle.sr_cell.specs.Cells.{Row}
 use Rattle.sr_cell.specs.Columns.{is_point, table_at}
 use Rattle.sr_box.specs.Points.{in_any}
 use Rattle.sr_message.specs.declared.message.AskPart.{AskPart}
-use Rattle.sr_message.specs.declared.message.Holding.{Holding}
 use Rattle.sr_message.specs.Agree.{agree}
 use Rattle.sr_history.specs.declared.mark.Mark.{Mark}
 use Rattle.sr_history.specs.Marks.{is_held}
@@ -26,10 +25,6 @@ held marks t a p = is_held marks t a p
 -- what an ask asks, under its columns
 abbrev pub asked : List AskPart → Places
 asked parts t a p = list_any (λ ask. ask.table == t && ask.attrs == a && in_any ask.rects p) parts
-
--- what holdings name, under just their columns
-abbrev pub named : List Holding → Places
-named holdings t a p = list_any (λ h. h.table == t && h.attrs == a && in_any h.rects p) holdings
 
 abbrev pub both : Places → Places → Places
 both one other t a p = one t a p || other t a p

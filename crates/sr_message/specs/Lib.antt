@@ -1,2 +1,3 @@
 pub mod Tells
 pub mod Sizes
+pub mod Agree

@@ -37,10 +37,11 @@ pub struct Tell {
 
 pub type Told = Seq<Tell>;
 
-/// Points of one table that a client holds or asked for: those in these rects.
+/// Points of one table that a client holds or asked for, under these columns: those in these rects.
 #[derive(Drop)]
 pub struct Holding {
     pub table: u8,
+    pub attrs: Attrs,
     pub rects: Rects,
 }
 
@@ -50,13 +51,16 @@ pub type Holdings = Seq<Holding>;
 /// request that is meant.
 #[derive(Drop)]
 pub enum Message {
-    /// A session begins for a client that holds nothing.
+    /// A session begins for a client that holds nothing. The wire is 1 or 2: over wire 2 a holding has its columns, over wire 1 it
+    /// stands for all columns.
     Hello {
+        wire: u8,
         client: u8,
         number: u64,
     },
     /// A session begins again: the client holds these points, with the rows of that version.
     Resume {
+        wire: u8,
         client: u8,
         number: u64,
         version: u64,

@@ -205,6 +205,8 @@ class Play:
         self.tell(client, 'bytes that came', len(frame(message)))
         if isinstance(message, Rows):
             self.tell(client, 'rows that came', len(message.rows))
+        if isinstance(message, Notice):
+            self.tell(client, 'changes that came', len(message.tells))
         if what == 'laid':
             held.heard = getattr(message, 'version', held.heard)
         elif what != 'asked':

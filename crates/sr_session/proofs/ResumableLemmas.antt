@@ -20,7 +20,6 @@ use Rattle.sr_history.specs.declared.mark.Mark.{Mark}
 use Rattle.sr_history.specs.Marks.{is_held}
 use Rattle.sr_history.specs.Classes.{AreClasses, Class, in_class, Numbered, same_class, stamp}
 use Rattle.sr_region.specs.declared.region.Region.{Region}
-use Rattle.sr_region.specs.Regions.{AreColumnsOf}
 use Rattle.sr_store.specs.Past.{class_of}
 use Rattle.sr_store.specs.Stores.{IsOfSchema}
 use Rattle.sr_store.proofs.Classing.{are_classes, have_classes, HasClass}
@@ -46,10 +45,10 @@ module _ (schema : List Table) (marks : List Mark) (queries : List Numbered) (t 
       let stamped : k.stamp ≡ stamp queries t a p = grind (arith, nat_tests, same) in
       let here : in_any h.rects p ≡ in_class marks queries k p = is.points p (subst (λ n. is_point (table_at schema n).columns p ≡ true) (sym table) point) in
       let classed : in_class marks queries k p ≡ true =
-          ap (λ n. is_held marks n k.attrs p && stamp queries n k.attrs p == k.stamp) table
-          ∙ ap (λ n. is_held marks t n p && stamp queries t n p == k.stamp) attrs
-          ∙ ap (λ n. is_held marks t a p && stamp queries t a p == n) stamped
-          ∙ both_true held (eqb_same (stamp queries t a p)) in
+      ap (λ n. is_held marks n k.attrs p && stamp queries n k.attrs p == k.stamp) table
+      ∙ ap (λ n. is_held marks t n p && stamp queries t n p == k.stamp) attrs
+      ∙ ap (λ n. is_held marks t a p && stamp queries t a p == n) stamped
+      ∙ both_true held (eqb_same (stamp queries t a p)) in
       let of : (h.table == t) ≡ true = ap (λ n. n == t) (is.table ∙ table) ∙ eqb_same t in
       let with : includes h.attrs a ≡ true = ap (λ n. includes n a) (is.attrs ∙ attrs) ∙ include-self a in
       both_true (both_true of with) (here ∙ classed)
@@ -81,15 +80,12 @@ region-holdings schema marks queries (g ∷ gs) all = (
   region-holdings schema marks queries gs (All-tail (HasClass schema marks queries) g gs all),
 )
 
--- a set of a table's columns has none beyond them
-own-columns : (table : Table) (attrs : ℕ) → AreColumnsOf table attrs → are_columns attrs (length table.columns) ≡ true
-own-columns table attrs own =
+-- a set of columns below n has none beyond them
+few-columns : (n attrs : ℕ) → ((c : ℕ) → has_column attrs c ≡ true → c < n) → are_columns attrs n ≡ true
+few-columns n attrs own =
     let zero_is = no_bits (attrs / 2 ^ n) (attrs / 2 ^ n) (omega arith) (λ k. sym (has_column-shifted attrs n k) ∙ beyond (n + k) (omega arith) (has_column attrs (n + k)) refl) in
     by (attrs / 2 ^ n) zero_is
   where
-    abbrev n : ℕ
-    n = length table.columns
-
     beyond : (c : ℕ) → n ≤ c → (b : Bool) → has_column attrs c ≡ b → b ≡ false
     beyond c far false is = refl
     beyond c far true is = absurd (let less = own c is in omega (arith, less, far))
@@ -102,7 +98,7 @@ region-suits schema g is =
     let area = is.1.area in
     let key : has_column g.attrs (table_at schema g.table).key ≡ true = ap (has_column g.attrs) (sym area.key) ∙ area.has_key in
     both_true (both_true (below g.table (length schema) is.0) area.fit)
-    (both_true (both_true (own-columns (table_at schema g.table) g.attrs area.own) key) area.only)
+    (both_true (both_true (few-columns (length (table_at schema g.table).columns) g.attrs area.own) key) area.only)
   where
     below : (n k : ℕ) → n < k → nat_lt n k ≡ true
     below n k less = grind (arith, nat_tests, less)

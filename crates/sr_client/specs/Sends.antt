@@ -48,14 +48,14 @@ pub record IsOfFormat (c : Client) : Type 0 where
 
 -- ---- the first message of a session
 
--- the points of a region
+-- the points of a region, under its columns
 abbrev pub holding_of : Region → Holding
-holding_of region = record { table = region.table; rects = region.rects }
+holding_of region = record { table = region.table; attrs = region.attrs; rects = region.rects }
 
 -- a Hello where there are no regions, or a Resume of the version with the points of them all
 abbrev pub first_of : Client → List Region → Message
-first_of c [] = Hello c.id c.next_request
-first_of c (region ∷ regions) = Resume c.id c.next_request c.version (map holding_of (region ∷ regions))
+first_of c [] = Hello 2 c.id c.next_request
+first_of c (region ∷ regions) = Resume 2 c.id c.next_request c.version (map holding_of (region ∷ regions))
 
 -- what is sent, if anything is, is the first message of the client's next session
 abbrev pub SendsFirst : Client → ResumeStep → Type 0

@@ -139,8 +139,8 @@ module _ (C : Type 0) (Gives : Database → Message → Result Tables Fault → 
   frame-version db None m result = same-version db
   frame-version db (Some session) (Write k sql) (Ok tables) = one-version db tables
   frame-version db (Some session) (Write k sql) (Err fault) = same-version db
-  frame-version db (Some session) (Hello client k) result = same-version db
-  frame-version db (Some session) (Resume client k version holdings) result = same-version db
+  frame-version db (Some session) (Hello wire client k) result = same-version db
+  frame-version db (Some session) (Resume wire client k version holdings) result = same-version db
   frame-version db (Some session) (Ask k fresh parts) result = same-version db
   frame-version db (Some session) (Welcome k version kept) result = same-version db
   frame-version db (Some session) (Notice version told) result = same-version db

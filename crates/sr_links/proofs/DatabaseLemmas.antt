@@ -53,8 +53,8 @@ frame-more : (db : Database) (session : Option Session) (m : Message) (result : 
 frame-more db None m result some = still db some
 frame-more db (Some session) (Write k sql) (Ok tables) some = version-more db tables some
 frame-more db (Some session) (Write k sql) (Err fault) some = still db some
-frame-more db (Some session) (Hello client k) result some = still db some
-frame-more db (Some session) (Resume client k version holdings) result some = still db some
+frame-more db (Some session) (Hello wire client k) result some = still db some
+frame-more db (Some session) (Resume wire client k version holdings) result some = still db some
 frame-more db (Some session) (Ask k fresh parts) result some = still db some
 frame-more db (Some session) (Welcome k version kept) result some = still db some
 frame-more db (Some session) (Notice version told) result some = still db some

@@ -105,8 +105,8 @@ ask-no-welcome db session number true parts result = reply-no-welcome db number 
 ask-no-welcome db session number false parts result = welcome-append (due db session).sent (reply_messages db number parts) (due-no-welcome (is_lost db session) db session) (reply-no-welcome db number parts)
 
 frame-no-welcome : (db : Database) (session : Option Session) (m : Message) (result : Result Tables Fault) → IsOther m → AreNoWelcome (taken db session m result).served.sent
-frame-no-welcome db session (Hello client number) result other = absurd other
-frame-no-welcome db session (Resume client number version holdings) result other = absurd other
+frame-no-welcome db session (Hello wire client number) result other = absurd other
+frame-no-welcome db session (Resume wire client number version holdings) result other = absurd other
 frame-no-welcome db None (Ask number fresh parts) result other = tt
 frame-no-welcome db (Some session) (Ask number fresh parts) result other = ask-no-welcome db session number fresh parts result
 frame-no-welcome db None (Write number sql) result other = tt
@@ -152,13 +152,13 @@ frame-mute db (Reply k w) result other = refl
 frame-mute db (Written k w) result other = refl
 frame-mute db (Refused k fault) result other = refl
 frame-mute db (Lapse w) result other = refl
-frame-mute db (Hello client number) result other = absurd other
-frame-mute db (Resume client number version holdings) result other = absurd other
+frame-mute db (Hello wire client number) result other = absurd other
+frame-mute db (Resume wire client number version holdings) result other = absurd other
 
 -- a greeting that finds a session is not answered
 greeting-refused : (db : Database) (old : Session) (m : Message) (result : Result Tables Fault) → IsGreeting m → answer (on db (Some old)) (Frame m result) ≡ silent (on db (Some old))
-greeting-refused db old (Hello client number) result is = refl
-greeting-refused db old (Resume client number version holdings) result is = refl
+greeting-refused db old (Hello wire client number) result is = refl
+greeting-refused db old (Resume wire client number version holdings) result is = refl
 greeting-refused db old (Ask number fresh parts) result is = absurd is
 greeting-refused db old (Write number sql) result is = absurd is
 greeting-refused db old (Welcome k w kept) result is = absurd is
@@ -295,8 +295,8 @@ module _ (first : Message) (greets : IsGreeting first) (others : List Message) (
 -- ---- a connection
 
 greeting-is : (b : Basis) (c : Client) (number : ℕ) (m : Message) → IsResumeMessage b.schema c number m → IsGreeting m
-greeting-is b c number (Hello client k) ok = tt
-greeting-is b c number (Resume client k version holdings) ok = tt
+greeting-is b c number (Hello wire client k) ok = tt
+greeting-is b c number (Resume wire client k version holdings) ok = tt
 greeting-is b c number (Ask k fresh parts) ok = absurd ok
 greeting-is b c number (Write k sql) ok = absurd ok
 greeting-is b c number (Welcome k w kept) ok = absurd ok

@@ -86,8 +86,8 @@ never-ends db request m (Reply k w ∷ ms) session all h = all.0
 never-ends db request m (Written k w ∷ ms) session all h = all.0
 never-ends db request m (Refused k fault ∷ ms) session all h = all.0
 never-ends db request m (Welcome k w kept ∷ ms) session all h = all.0
-never-ends db request m (Hello client k ∷ ms) session all h = all.0
-never-ends db request m (Resume client k version holdings ∷ ms) session all h = all.0
+never-ends db request m (Hello wire client k ∷ ms) session all h = all.0
+never-ends db request m (Resume wire client k version holdings ∷ ms) session all h = all.0
 never-ends db request m (Ask k fresh parts ∷ ms) session all h = all.0
 never-ends db request m (Write k sql ∷ ms) session all h = all.0
 

@@ -15,13 +15,13 @@ use Rattle.sr_links.specs.Steps.{Deed, Queried, Wrote, Evicted, Took, WasCut, Re
 
 -- the first message of a session
 abbrev pub IsGreeting : Message → Type 0
-IsGreeting (Hello client number) = Unit {0}
-IsGreeting (Resume client number version holdings) = Unit {0}
+IsGreeting (Hello wire client number) = Unit {0}
+IsGreeting (Resume wire client number version holdings) = Unit {0}
 IsGreeting m = ⊥
 
 abbrev pub IsOther : Message → Type 0
-IsOther (Hello client number) = ⊥
-IsOther (Resume client number version holdings) = ⊥
+IsOther (Hello wire client number) = ⊥
+IsOther (Resume wire client number version holdings) = ⊥
 IsOther m = Unit {0}
 
 abbrev pub AreOthers : List Message → Type 0

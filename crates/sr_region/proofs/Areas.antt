@@ -49,6 +49,7 @@ joined-area t r s h k same apart =
     record {
       key = h.key;
       has_key = h.has_key;
+      own = h.own;
       some = append-some r.rects s.rects h.some;
       fit = list_all-append (rect_fits t.columns) r.rects s.rects ∙ grind (arith, fit1, fit2);
       only = list_all-append (constrains_only r.attrs 0) r.rects s.rects ∙ grind (arith, only1, only2);

@@ -1,5 +1,5 @@
 -- A region with its rows has its rows once the changes are applied.
-use Rattle.std.proofs.Common.{◌≡◌, ℕ, zero, suc, ◌+◌, ◌<◌, Bool, true, false, cond, ◌&&◌, ◌||◌, ◌==◌, List, [], ◌∷◌, ◌++◌, length, map, refl, sym, ap, subst, ◌∙◌, arith}
+use Rattle.std.proofs.Common.{◌≡◌, ℕ, zero, suc, ◌+◌, ◌<◌, Bool, true, false, cond, not, ◌&&◌, ◌||◌, ◌==◌, List, [], ◌∷◌, ◌++◌, length, map, refl, sym, ap, subst, ◌∙◌, arith}
 use Rattle.std.specs.Prelude.{filter, Option, Some, None, if◌then◌else◌}
 use Rattle.std.specs.List.{list_all, list_any, AllByRecursion}
 use Rattle.std.proofs.lemmas.Bool.Decides.{nat_tests}
@@ -7,7 +7,8 @@ use Rattle.std.proofs.lemmas.List.Elements.{filter-append}
 use Rattle.sr_cell.specs.declared.cell.Cell.{Cell}
 use Rattle.sr_cell.specs.declared.change.Change.{Change}
 use Rattle.sr_cell.specs.declared.table.Table.{Table}
-use Rattle.sr_cell.specs.Attrs.{project}
+use Rattle.std.specs.Cmp.{first_so, second_so}
+use Rattle.sr_cell.specs.Attrs.{has_column, project, project_from}
 use Rattle.sr_cell.specs.Cells.{Row, cell_at, cell_eq}
 use Rattle.sr_cell.specs.Columns.{is_point, table_at}
 use Rattle.sr_cell.proofs.Order.{cell_eq-sound}
@@ -17,12 +18,14 @@ use Rattle.sr_model.specs.SortedRows.{ascend}
 use Rattle.sr_model.specs.Statements.{Tables}
 use Rattle.sr_box.specs.Points.{Rect, in_any}
 use Rattle.sr_region.specs.declared.region.Region.{Region}
-use Rattle.sr_region.specs.Regions.{rank, IsRegion}
-use Rattle.sr_region.specs.Applied.{applied, applied_all, IsNew, has_points, concerns, HasItsRows, ApplyKeepsRows}
+use Rattle.sr_region.specs.Regions.{rank, is_in, IsRegion}
+use Rattle.sr_region.specs.Applied.{applied, applied_all, IsNew, is_point_if_there, has_points, concerns, HasItsRows, ApplyKeepsRows}
 use Rattle.sr_box.specs.Rows.{has_row}
+use Rattle.sr_message.specs.Agree.{same_from, agree}
 use Rattle.sr_rows.specs.Keys.{without_key}
 use Rattle.sr_region.specs.Entering.{part_in}
 use Rattle.sr_region.proofs.Ranks.{stand}
+use Rattle.sr_region.proofs.Parts.{is_in-point}
 use Rattle.sr_region.proofs.Applied.{applied-region, with_new-part}
 use Rattle.sr_region.proofs.Found.{same-rows, HasKey, found-part, parts_of, parts-ascend, found-parts}
 use Rattle.sr_region.proofs.Changed.{IsChange, are-changes, are-points, is-new, has_change, stays}
@@ -127,6 +130,22 @@ outside : (attrs : ℕ) (rects : List Rect) (row : Option Row) → has_row rects
 outside attrs rects None out = refl
 outside attrs rects (Some row) out = ap (λ b. if b then Some (project attrs row) else None) out
 
+-- rows that are equal in some columns have the same cells there
+same-project : (c attrs : ℕ) (p q : Row) → same_from c attrs p q ≡ true → project_from c attrs p ≡ project_from c attrs q
+same-project c attrs [] [] same = refl
+same-project c attrs [] (w ∷ q) same = absurd (cc)
+same-project c attrs (v ∷ p) [] same = absurd (cc)
+same-project c attrs (v ∷ p) (w ∷ q) same = go (has_column attrs c) same (same-project (c + 1) attrs p q)
+  where
+    go : (b : Bool) → ((not b || cell_eq v w) && same_from (c + 1) attrs p q) ≡ true
+        → (same_from (c + 1) attrs p q ≡ true → project_from (c + 1) attrs p ≡ project_from (c + 1) attrs q)
+        → (if b then v ∷ project_from (c + 1) attrs p else project_from (c + 1) attrs p) ≡ (if b then w ∷ project_from (c + 1) attrs q else project_from (c + 1) attrs q)
+    go true own ih =
+        let one = cell_eq-sound v w (first_so (cell_eq v w) (same_from (c + 1) attrs p q) own) in
+        let rest = ih (second_so (cell_eq v w) (same_from (c + 1) attrs p q) own) in
+        rw (one, rest) refl
+    go false own ih = ih own
+
 module _ (test : Change → Bool) (table : Table) (old new : List Row) (were : list_all (is_point table.columns) old ≡ true) (points : list_all (is_point table.columns) new ≡ true) where
   -- the region's place of the key, and its parts
   abbrev place_of : Region → ℕ
@@ -191,20 +210,37 @@ module _ (test : Change → Bool) (table : Table) (old new : List Row) (were : l
           ∙ ap (λ o. if is_hit test v cs then then_new else o) one ∙ both (cell_eq c.key v) (is_hit test v cs)
       go false one two rest = rest
 
+  -- rows that are equal in the region's columns have the same part in it
+  same-in : (g : Region) → IsRegion table g → (one other : Option Row) → is_point_if_there table.columns one ≡ true → is_point_if_there table.columns other ≡ true
+      → agree g.attrs one other ≡ true → part_in g.attrs g.rects one ≡ part_in g.attrs g.rects other
+  same-in g h None other first second same = absurd (cc)
+  same-in g h (Some p) None first second same = absurd (cc)
+  same-in g h (Some p) (Some q) first second same =
+      let cells : project g.attrs p ≡ project g.attrs q = same-project 0 g.attrs p q same in
+      let inside : in_any g.rects p ≡ in_any g.rects q =
+      sym (is_in-point table.columns g.attrs g.rects p h.area.fit h.area.only first) ∙ ap (is_in g.attrs g.rects) cells
+      ∙ is_in-point table.columns g.attrs g.rects q h.area.fit h.area.only second in
+      rw (inside, cells) refl
+
   -- a key whose changes do not pass has the same part before and after
-  same-part : (v : Cell) (cs : List Change) (g : Region) → ((c : Change) → has_points table.columns c ≡ true → concerns g c ≡ true → test c ≡ true) → AllByRecursion (IsChange table g.table old new) cs
+  same-part : (v : Cell) (cs : List Change) (g : Region) → IsRegion table g → ((c : Change) → has_points table.columns c ≡ true → concerns g c ≡ true → test c ≡ true) → AllByRecursion (IsChange table g.table old new) cs
       → has_change v cs ≡ true → is_hit test v cs ≡ false → part_in g.attrs g.rects (row_with table.key v old) ≡ part_in g.attrs g.rects (row_with table.key v new)
-  same-part v [] g passes all has none = absurd (cc)
-  same-part v (c ∷ cs) g passes all has none = go (cell_eq c.key v) refl (test c) refl has none (same-part v cs g passes all.1)
+  same-part v [] g h passes all has none = absurd (cc)
+  same-part v (c ∷ cs) g h passes all has none = go (cell_eq c.key v) refl (test c) refl has none (same-part v cs g h passes all.1)
     where
       own : (c.table == g.table) ≡ true
       own = let is = all.0.number in grind (arith, nat_tests, is)
 
-      not_before : test c ≡ false → has_row g.rects c.before ≡ false
-      not_before fails = let p = passes c (are-points table g.table old new c all.0 were points) in grind (arith, own, p, fails)
+      points_are : has_points table.columns c ≡ true
+      points_are = are-points table g.table old new c all.0 were points
 
-      not_after : test c ≡ false → has_row g.rects c.after ≡ false
-      not_after fails = let p = passes c (are-points table g.table old new c all.0 were points) in grind (arith, own, p, fails)
+      same-ends : test c ≡ false → (b : Bool) → agree g.attrs c.before c.after ≡ b → part_in g.attrs g.rects c.before ≡ part_in g.attrs g.rects c.after
+      same-ends fails true equal =
+          same-in g h c.before c.after (first_so (is_point_if_there table.columns c.before) (is_point_if_there table.columns c.after) points_are)
+          (second_so (is_point_if_there table.columns c.before) (is_point_if_there table.columns c.after) points_are) equal
+      same-ends fails false differ =
+          let p = passes c points_are in
+          outside g.attrs g.rects c.before (grind (arith, own, p, fails, differ)) ∙ sym (outside g.attrs g.rects c.after (grind (arith, own, p, fails, differ)))
 
       go : (a : Bool) → cell_eq c.key v ≡ a → (b : Bool) → test c ≡ b → (a || has_change v cs) ≡ true → ((b && a) || is_hit test v cs) ≡ false
           → (has_change v cs ≡ true → is_hit test v cs ≡ false → part_in g.attrs g.rects (row_with table.key v old) ≡ part_in g.attrs g.rects (row_with table.key v new))
@@ -214,8 +250,7 @@ module _ (test : Change → Bool) (table : Table) (old new : List Row) (were : l
           let at = cell_eq-sound c.key v e in
           let was : c.before ≡ row_with table.key v old = all.0.before ∙ ap (λ u. row_with table.key u old) at in
           let is : c.after ≡ row_with table.key v new = all.0.after ∙ ap (λ u. row_with table.key u new) at in
-          ap (part_in g.attrs g.rects) (sym was) ∙ outside g.attrs g.rects c.before (not_before f)
-          ∙ sym (ap (part_in g.attrs g.rects) (sym is) ∙ outside g.attrs g.rects c.after (not_after f))
+          ap (part_in g.attrs g.rects) (sym was) ∙ same-ends f (agree g.attrs c.before c.after) refl ∙ ap (part_in g.attrs g.rects) is
       go false e b f some hit ih = ih some (grind (arith, hit))
 
   -- ---- the region's rows
@@ -244,7 +279,7 @@ module _ (test : Change → Bool) (table : Table) (old new : List Row) (were : l
       go : (v : Cell) (b : Bool) → is_hit test v cs ≡ b → (d : Bool) → has_change v cs ≡ d
           → (if b then part_in g.attrs g.rects (row_with table.key v new) else row_with (place_of g) v g.rows) ≡ part_in g.attrs g.rects (row_with table.key v new)
       go v true e d f = refl
-      go v false e true f = before v ∙ same-part v cs g passes (are-changes table g.table old new) f e
+      go v false e true f = before v ∙ same-part v cs g h passes (are-changes table g.table old new) f e
       go v false e false f = before v ∙ ap (part_in g.attrs g.rects) (stays table g.table old new v f)
 
 pub keeps : ApplyKeepsRows

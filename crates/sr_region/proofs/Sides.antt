@@ -172,6 +172,7 @@ half-from t whole cut (r ∷ rects) those test h first only are cuts tests =
         area = record {
           key = h.area.key;
           has_key = h.area.has_key;
+          own = h.area.own;
           some = some;
           fit = fits;
           only = onlys;

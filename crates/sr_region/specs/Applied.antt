@@ -1,5 +1,5 @@
 -- What changes do to the rows of a region.
-use Rattle.std.specs.Prelude.{ℕ, ◌<◌, Bool, true, ◌||◌, ◌==◌, List, [], ◌∷◌, ◌≡◌, Option, Some, None, map, filter, length, IsTrue, ◌&&◌, if◌then◌else◌}
+use Rattle.std.specs.Prelude.{ℕ, ◌<◌, Bool, true, ◌||◌, ◌==◌, List, [], ◌∷◌, ◌≡◌, Option, Some, None, map, filter, length, IsTrue, ◌&&◌, not, if◌then◌else◌}
 use Rattle.std.specs.List.{list_all}
 use Rattle.sr_cell.specs.declared.cell.Cell.{Cell}
 use Rattle.sr_cell.specs.declared.change.Change.{Change}
@@ -14,6 +14,7 @@ use Rattle.sr_model.specs.SortedRows.{ascend, with_row}
 use Rattle.sr_model.specs.Statements.{Tables}
 use Rattle.sr_box.specs.Points.{Rect, in_any}
 use Rattle.sr_box.specs.Rows.{has_row}
+use Rattle.sr_message.specs.Agree.{agree}
 use Rattle.sr_rows.specs.Keys.{without_key}
 use Rattle.sr_region.specs.declared.region.Region.{Region}
 use Rattle.sr_region.specs.Regions.{rank, IsRegion}
@@ -38,9 +39,9 @@ abbrev pub applied_all : List Change → Region → Region
 applied_all [] g = g
 applied_all (c ∷ changes) g = applied_all changes (if c.table == g.table then applied c.key c.after g else g)
 
--- the old or the new row of the change lies in the region
+-- the old or the new row of the change lies in the region, and the two differ in its columns or one is absent
 abbrev pub concerns : Region → Change → Bool
-concerns g c = c.table == g.table && (has_row g.rects c.before || has_row g.rects c.after)
+concerns g c = c.table == g.table && ((has_row g.rects c.before || has_row g.rects c.after) && not (agree g.attrs c.before c.after))
 
 abbrev pub is_point_if_there : List Column → Option Row → Bool
 is_point_if_there columns None = true

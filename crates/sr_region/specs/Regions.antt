@@ -1,5 +1,5 @@
 -- Regions: what a client's cache holds of a set of points of one table.
-use Rattle.std.specs.Prelude.{ℕ, zero, suc, ◌+◌, ◌≤◌, Bool, true, List, [], ◌++◌, ◌≡◌, IsTrue, if◌then◌else◌}
+use Rattle.std.specs.Prelude.{ℕ, zero, suc, ◌+◌, ◌≤◌, ◌<◌, Bool, true, List, [], ◌++◌, ◌≡◌, length, IsTrue, if◌then◌else◌}
 use Rattle.std.specs.List.{list_all, list_any, All}
 use Rattle.sr_cell.specs.declared.table.Column.{Column}
 use Rattle.sr_cell.specs.declared.table.Table.{Table}
@@ -28,10 +28,16 @@ IsPart columns attrs cells = (p : Row) × IsTrue (is_point columns p) × (projec
 abbrev pub IsRowIn : List Column → ℕ → List Rect → Row → Type 0
 IsRowIn columns attrs rects cells = IsPart columns attrs cells × IsTrue (is_in attrs rects cells)
 
--- rects of a table, of which each point lies in at most one; the key and each column that they constrain are in attrs
+-- each column of attrs is one of the table's
+abbrev pub AreColumnsOf : Table → ℕ → Type 0
+AreColumnsOf t attrs = (c : ℕ) → IsTrue (has_column attrs c) → c < length t.columns
+
+-- Rects of a table, of which each point lies in at most one. The columns are the table's, and the key and each column that the rects
+-- constrain are among them.
 pub record IsArea (t : Table) (k attrs : ℕ) (rects : List Rect) : Type 0 where
   pub key : k ≡ t.key
   pub has_key : IsTrue (has_column attrs k)
+  pub own : AreColumnsOf t attrs
   pub some : rects ≡ [] → ⊥
   pub fit : list_all (rect_fits t.columns) rects ≡ true
   pub only : list_all (constrains_only attrs 0) rects ≡ true

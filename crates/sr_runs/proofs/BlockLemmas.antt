@@ -52,8 +52,8 @@ fails-lack n x (Some (WriteOut number)) = refl
 fails-lack n x (Some (ResumeOut number)) = refl
 
 resume-lacks : (n : ℕ) (m : Message) → list_any is_head (resume_line n (ResumeSent m)) ≡ false
-resume-lacks n (Hello client k) = refl
-resume-lacks n (Resume client k at holdings) = refl
+resume-lacks n (Hello wire client k) = refl
+resume-lacks n (Resume wire client k at holdings) = refl
 resume-lacks n (Ask k fresh parts) = refl
 resume-lacks n (Write k sql) = refl
 resume-lacks n (Welcome k at kept) = refl
@@ -65,8 +65,8 @@ resume-lacks n (Refused k fault) = refl
 resume-lacks n (Lapse at) = refl
 
 served-lacks : (n sent : ℕ) (m : Message) → list_any is_head (served_line n sent m) ≡ false
-served-lacks n sent (Hello client k) = refl
-served-lacks n sent (Resume client k at holdings) = refl
+served-lacks n sent (Hello wire client k) = refl
+served-lacks n sent (Resume wire client k at holdings) = refl
 served-lacks n sent (Ask k fresh parts) = refl
 served-lacks n sent (Write k sql) = refl
 served-lacks n sent (Welcome k at kept) = refl

@@ -63,13 +63,13 @@ abbrev pub asking : Client
 asking = with_ask new_one (query 30 40) true (ask 30 40 ∷ [])
 
 abbrev pub first_sent : Connection
-first_sent = record { to_server = Ask 1 true (ask 30 40 ∷ []) ∷ []; to_client = []; session = Some (record { subscription = []; upto = 0 }) }
+first_sent = record { to_server = Ask 1 true (ask 30 40 ∷ []) ∷ []; to_client = []; session = Some (record { wire = 2; subscription = []; upto = 0 }) }
 
 abbrev pub filled : Client
 filled = record { marks = held_1; queries = asked_1 ∷ []; counted_from = 0; version = 2; next_request = 2; out = None; laid = []; cut = false; cuts = 0 }
 
 abbrev pub session_2 : Session
-session_2 = record { subscription = record { table = 0; rects = ages 30 40 } ∷ []; upto = 2 }
+session_2 = record { wire = 2; subscription = record { table = 0; attrs = 3; rects = ages 30 40 } ∷ []; upto = 2 }
 
 abbrev pub served : Connection
 served = record { to_server = []; to_client = []; session = Some session_2 }
@@ -81,7 +81,7 @@ abbrev second_sent : Connection
 second_sent = record { to_server = Ask 2 false (ask 41 50 ∷ []) ∷ []; to_client = []; session = Some session_2 }
 
 abbrev told_lapse : Connection
-told_lapse = record { to_server = Ask 2 false (ask 41 50 ∷ []) ∷ []; to_client = Lapse 5 ∷ []; session = Some (record { subscription = []; upto = 5 }) }
+told_lapse = record { to_server = Ask 2 false (ask 41 50 ∷ []) ∷ []; to_client = Lapse 5 ∷ []; session = Some (record { wire = 2; subscription = []; upto = 5 }) }
 
 abbrev lines_at : ℕ → List TraceLine
 lines_at n = map (λ numbered. numbered.1) (filter (λ numbered. numbered.0 == n) lines)

@@ -96,8 +96,8 @@ cut_line n other = []
 
 -- by the first message of the new session
 abbrev pub resume_line : ℕ → Outcome → List TraceLine
-resume_line n (ResumeSent (Hello client request)) = line.ResumeSent n request ∷ []
-resume_line n (ResumeSent (Resume client request version holdings)) = line.ResumeSent n request ∷ []
+resume_line n (ResumeSent (Hello wire client request)) = line.ResumeSent n request ∷ []
+resume_line n (ResumeSent (Resume wire client request version holdings)) = line.ResumeSent n request ∷ []
 resume_line n AlreadyUp = line.ResumeUp n ∷ []
 resume_line n other = []
 
@@ -114,8 +114,8 @@ last_line other o = []
 
 -- of a request that the server took, with the number of messages that it sent; other messages do not go to the server
 abbrev pub served_line : ℕ → ℕ → Message → List TraceLine
-served_line n sent (Hello client request) = line.ServerTook n kind.Hello sent ∷ []
-served_line n sent (Resume client request version holdings) = line.ServerTook n kind.Resume sent ∷ []
+served_line n sent (Hello wire client request) = line.ServerTook n kind.Hello sent ∷ []
+served_line n sent (Resume wire client request version holdings) = line.ServerTook n kind.Resume sent ∷ []
 served_line n sent (Ask request fresh parts) = line.ServerTook n kind.Ask sent ∷ []
 served_line n sent (Write request sql) = line.ServerTook n kind.Write sent ∷ []
 served_line n sent other = []

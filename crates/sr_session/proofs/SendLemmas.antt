@@ -1,15 +1,18 @@
 -- What a server sends goes on with what is promised.
 use Rattle.std.proofs.Common.{◌≡◌, ℕ, zero, suc, ◌+◌, ◌-◌, ◌<◌, ◌≤◌, Bool, true, false, List, [], ◌∷◌, ◌++◌, length, refl, sym, ◌∙◌, ap, subst, arith, inl, inr, Option, Some, None, ltb-true, leb-true}
-use Rattle.std.specs.Prelude.{◌&&◌, ◌||◌, ◌==◌, nat_le, nat_lt, ◌⊎◌, if◌then◌else◌}
+use Rattle.std.specs.Prelude.{not, ◌&&◌, ◌||◌, ◌==◌, nat_le, nat_lt, ◌⊎◌, if◌then◌else◌}
 use Rattle.std.specs.List.{list_any}
 use Rattle.std.proofs.lemmas.Bool.Decides.{nat_tests}
 use Rattle.std.specs.Cmp.{second_so}
 use Rattle.sr_cell.specs.declared.change.Change.{Change}
 use Rattle.sr_cell.specs.declared.table.Table.{Table}
-use Rattle.sr_cell.specs.Cells.{Row}
+use Rattle.sr_cell.specs.Attrs.{has_column, includes}
+use Rattle.sr_cell.specs.Cells.{Row, cell_eq}
+use Rattle.sr_cell.proofs.ColumnSets.{has_column-more}
 use Rattle.sr_box.specs.Rows.{has_row}
+use Rattle.sr_message.specs.Agree.{agree, same_from}
 use Rattle.sr_message.specs.declared.message.Holding.{Holding}
-use Rattle.sr_subs.specs.Subscription.{has_point, touches}
+use Rattle.sr_subs.specs.Subscription.{has_point, touches, touches_entry}
 use Rattle.sr_message.specs.declared.message.Tell.{Tell}
 use Rattle.sr_model.specs.Statements.{Tables}
 use Rattle.sr_message.specs.declared.message.Message.{Message}
@@ -34,8 +37,8 @@ walks-on db out m (Reply k w ∷ ms) more old new h on = (h.0, walks-on db None 
 walks-on db out m (Written k w ∷ ms) more old new h on = (h.0, walks-on db None (welcomed true m w) ms more old new h.1 on)
 walks-on db out m (Refused k fault ∷ ms) more old new h on = (h.0, walks-on db None (welcomed true m m.version) ms more old new h.1 on)
 walks-on db out m (Welcome k w kept ∷ ms) more old new h on = (h.0, walks-on db None (welcomed kept m w) ms more old new h.1 on)
-walks-on db out m (Hello client number ∷ ms) more old new h on = absurd h
-walks-on db out m (Resume client number version holdings ∷ ms) more old new h on = absurd h
+walks-on db out m (Hello wire client number ∷ ms) more old new h on = absurd h
+walks-on db out m (Resume wire client number version holdings ∷ ms) more old new h on = absurd h
 walks-on db out m (Ask number fresh parts ∷ ms) more old new h on = absurd h
 walks-on db out m (Write number sql ∷ ms) more old new h on = absurd h
 
@@ -45,14 +48,14 @@ pub walks-ask : (db : Database) (request : Request) (m : Mirror) (ms more : List
 walks-ask db request m [] more old new h on = on m h refl (within-self db.schema m.places)
 walks-ask db request m (Notice w told ∷ ms) more old new h on = (h.0, walks-ask db request (noticed m w) ms more old new h.1 on)
 walks-ask db request m (Lapse w ∷ ms) more old new h on =
-    (h.0, walks-ask db request (forgot m w) ms more old new h.1 (λ end ends came within. on end ends came (λ t p point is. absurd (let wrong = within t p point is in cc))))
+    (h.0, walks-ask db request (forgot m w) ms more old new h.1 (λ end ends came within. on end ends came (λ t a p point is. absurd (let wrong = within t a p point is in cc))))
 walks-ask db request m (Rows k part rows ∷ ms) more old new h on = absurd h.0
 walks-ask db request m (Reply k w ∷ ms) more old new h on = absurd h.0
 walks-ask db request m (Written k w ∷ ms) more old new h on = absurd h.0.0
 walks-ask db request m (Refused k fault ∷ ms) more old new h on = absurd h.0
 walks-ask db request m (Welcome k w kept ∷ ms) more old new h on = absurd h.0.0
-walks-ask db request m (Hello client number ∷ ms) more old new h on = absurd h
-walks-ask db request m (Resume client number version holdings ∷ ms) more old new h on = absurd h
+walks-ask db request m (Hello wire client number ∷ ms) more old new h on = absurd h
+walks-ask db request m (Resume wire client number version holdings ∷ ms) more old new h on = absurd h
 walks-ask db request m (Ask number fresh parts ∷ ms) more old new h on = absurd h
 walks-ask db request m (Write number sql ∷ ms) more old new h on = absurd h
 
@@ -66,27 +69,57 @@ more-any f db more (h ∷ hs) is = go (f h) refl is (more-any f db more hs)
     go true here is rest = rw (more h here) refl
     go false here is rest = let ih = rest is in grind (arith, ih)
 
--- a change that concerns subscribed points touches the subscription
-concerned-touches : (subs : List Holding) (c : Change) → concerns (has_point subs) c ≡ true → touches subs c ≡ true
-concerned-touches subs c is = by (at_row (has_point subs) c.table c.before) refl
+-- rows that are equal in some columns are so in fewer
+same-fewer : (c many few : ℕ) (p q : Row) → includes many few ≡ true → same_from c many p q ≡ true → same_from c few p q ≡ true
+same-fewer c many few [] [] inc same = refl
+same-fewer c many few [] (w ∷ q) inc same = same
+same-fewer c many few (v ∷ p) [] inc same = same
+same-fewer c many few (v ∷ p) (w ∷ q) inc same =
+    let ih = same-fewer (c + 1) many few p q inc (second_so (not (has_column many c) || cell_eq v w) (same_from (c + 1) many p q) same) in
+    by (has_column few c) refl (has_column-more many few c inc) ih
   where
-    one : (row : Option Row) → at_row (has_point subs) c.table row ≡ true → list_any (λ (h : Holding). h.table == c.table && has_row h.rects row) subs ≡ true
+    by : (b : Bool) → has_column few c ≡ b → (has_column few c ≡ true → has_column many c ≡ true) → same_from (c + 1) few p q ≡ true → ((not (has_column few c) || cell_eq v w) && same_from (c + 1) few p q) ≡ true
+    by false none more ih = rw (none, ih) refl
+    by true has more ih = let there = more has in grind (arith, has, there, ih, same)
+
+agree-fewer : (many few : ℕ) (one other : Option Row) → includes many few ≡ true → agree many one other ≡ true → agree few one other ≡ true
+agree-fewer many few None other inc same = same
+agree-fewer many few (Some p) None inc same = same
+agree-fewer many few (Some p) (Some q) inc same = same-fewer 0 many few p q inc same
+
+-- a change that concerns subscribed points touches the subscription
+concerned-touches : (subs : List Holding) (c : Change) (a : ℕ) → concerns (has_point subs) a c ≡ true → touches subs c ≡ true
+concerned-touches subs c a is = by (at_row (has_point subs) c.table a c.before) refl
+  where
+    has : Option Row → Holding → Bool
+    has row h = h.table == c.table && includes h.attrs a && has_row h.rects row
+
+    differ : agree a c.before c.after ≡ false
+    differ = grind (arith, is)
+
+    one : (row : Option Row) → at_row (has_point subs) c.table a row ≡ true → list_any (has row) subs ≡ true
     one None is = absurd (cc)
     one (Some p) is = is
 
-    by : (b : Bool) → at_row (has_point subs) c.table c.before ≡ b → touches subs c ≡ true
+    -- rows that differ in fewer columns differ in an entry's
+    apart : (h : Holding) → includes h.attrs a ≡ true → agree h.attrs c.before c.after ≡ false
+    apart h inc = go (agree h.attrs c.before c.after) refl
+      where
+        go : (b : Bool) → agree h.attrs c.before c.after ≡ b → b ≡ false
+        go true same = sym (agree-fewer h.attrs a c.before c.after inc same) ∙ differ
+        go false other = refl
+
+    by : (b : Bool) → at_row (has_point subs) c.table a c.before ≡ b → touches subs c ≡ true
     by true here =
-        more-any (λ h. h.table == c.table && has_row h.rects c.before) (λ h. h.table == c.table && (has_row h.rects c.before || has_row h.rects c.after))
-        (λ h i. grind (arith, i)) subs (one c.before here)
+        more-any (has c.before) (touches_entry c) (λ h i. let far = apart h (grind (arith, i)) in grind (arith, i, far)) subs (one c.before here)
     by false here =
-        more-any (λ h. h.table == c.table && has_row h.rects c.after) (λ h. h.table == c.table && (has_row h.rects c.before || has_row h.rects c.after))
-        (λ h i. grind (arith, i)) subs (one c.after (grind (arith, is, here)))
+        more-any (has c.after) (touches_entry c) (λ h i. let far = apart h (grind (arith, i)) in grind (arith, i, far)) subs (one c.after (grind (arith, is, here)))
 
 -- what a server tells of a version is what has to be told
 pub told-tells : (db : Database) (subs : List Holding) (places : Places) → Within db.schema places (has_point subs) → (w : ℕ) → Tells db places w (told_at db subs w)
 told-tells db subs places within w = record {
   test = touches subs;
-  all = λ c points is. concerned-touches subs c (concerns-more db.schema places (has_point subs) within c points is);
+  all = λ c a points is. concerned-touches subs c a (concerns-more db.schema places (has_point subs) within c a points is);
   are = refl;
 }
 
@@ -163,7 +196,7 @@ pub due-walk : (db : Database) (out : Option Request) (m : Mirror) (session new 
     → Walks db out m ((due_if lost db session).sent ++ rest) new
 due-walk db out m session new rest upto ends true lost on =
     let later = lost-later db session lost in
-    (omega (arith, later, ends.comes.0), on (forgot m (newest db)) (λ t p point is. absurd (cc)) (here db (forgot m (newest db))) refl)
+    (omega (arith, later, ends.comes.0), on (forgot m (newest db)) (λ t a p point is. absurd (cc)) (here db (forgot m (newest db))) refl)
 due-walk db out m session new rest upto ends false lost on =
     notices-walk db out session.subscription (newest db - session.upto) session.upto (newest db) m rest new (omega (arith, upto)) ends.within ends.comes
     (λ v up was comes. on (noticed m v) ends.within comes refl)
@@ -187,10 +220,10 @@ closing-walk db m v session new upto within before was comes true e [] is = (
         strictly v (newest db) comes.0 differs
 
 pub push-walk : (db : Database) (m : Mirror) (session : Session) → session.upto ≤ newest db → Ends db m session → (lost : Bool) → is_lost db session ≡ lost
-    → Walks db None m ((due_if lost db session).sent ++ closing_if lost db session) (record { subscription = (due_if lost db session).subscription; upto = newest db })
+    → Walks db None m ((due_if lost db session).sent ++ closing_if lost db session) (record { wire = session.wire; subscription = (due_if lost db session).subscription; upto = newest db })
 push-walk db m session upto ends true lost =
     let later = lost-later db session lost in
-    (omega (arith, later, ends.comes.0), record { within = λ t p point is. absurd (cc); comes = here db (forgot m (newest db)) })
+    (omega (arith, later, ends.comes.0), record { within = λ t a p point is. absurd (cc); comes = here db (forgot m (newest db)) })
 push-walk db m session upto ends false lost =
     notices-walk db None session.subscription (newest db - session.upto) session.upto (newest db) m (closing_if false db session) _ (omega (arith, upto)) ends.within ends.comes
     (λ v up was comes. closing-walk db m v session _ refl ends.within ends.comes.0 was comes (nat_lt session.upto (newest db)) refl (told_at db session.subscription (newest db)) refl)

@@ -11,11 +11,12 @@ use Rattle.sr_history.specs.Marks.{HoldsNothing}
 use Rattle.sr_session.specs.Sessions.{Database, Served, Session, due, floor_of, is_lost, newest, notices, opened, serve, serve_write}
 use Rattle.sr_session.specs.Places.{Within, held}
 use Rattle.sr_session.specs.Walks.{AreLaid, Request, ResumeOut, Walks, WriteOut, noticed, welcomed}
-use Rattle.sr_session.specs.Clients.{Client, Connection, Flows, IsOpen, IsOut, IsResumeMessage, IsResuming, Pair, Stands, is_down, is_idle, is_open, is_resuming, is_sent, is_served, mirror_of, pending}
+use Rattle.sr_session.specs.Clients.{AreHoldings, Client, Connection, Flows, IsOpen, IsOut, IsResumeMessage, IsResuming, Pair, Stands, is_down, is_idle, is_open, is_resuming, is_sent, is_served, mirror_of, pending}
 use Rattle.sr_session.specs.Rules.{CutStep, Outcome, ResumeStep, already_cut, already_up, cuts, resumes}
 use Rattle.sr_session.specs.Scenes.{acted, cut_off}
 use Rattle.sr_session.proofs.WalkLemmas.{walks-later}
 use Rattle.sr_session.proofs.SendLemmas.{walks-ask, due-walk, notices-walk, here}
+use Rattle.sr_session.proofs.ResumableLemmas.{held-within}
 use Rattle.sr_session.proofs.QueryLemmas.{silent}
 
 -- what is on the connection once the only request is taken
@@ -29,6 +30,7 @@ pub refused-write : (db : Database) (c : Client) (l : Connection) (session : Ses
 refused-write db c l session number k fault h out same is_out all walks = record {
   up = h.up;
   session_is = refl;
+  wire = h.wire;
   upto = h.upto;
   flows = subst (Flows db c (served l (serve_write db session k (Some fault))) session) (sym out) (is_served (WriteOut number) is_out all (record {
     to_server = refl;
@@ -40,10 +42,11 @@ refused-write db c l session number k fault h out same is_out all walks = record
 
 pub accepted-write : (db : Database) (c : Client) (l : Connection) (session : Session) (number k : ℕ) → IsOpen db c l session → c.out ≡ Some (WriteOut number) → k ≡ number → IsOut db.schema c (WriteOut number) → AreLaid c.laid
     → Walks db None (mirror_of c) (pending c l) session
-    → IsOpen db c (served l (serve_write db session k None)) (record { subscription = (due db session).subscription; upto = newest db })
+    → IsOpen db c (served l (serve_write db session k None)) (record { wire = session.wire; subscription = (due db session).subscription; upto = newest db })
 accepted-write db c l session number k h out same is_out all walks = record {
   up = h.up;
   session_is = refl;
+  wire = h.wire;
   upto = omega arith;
   flows = subst (Flows db c (served l (serve_write db session k None)) now) (sym out) (is_served (WriteOut number) is_out all (record {
     to_server = refl;
@@ -55,18 +58,19 @@ accepted-write db c l session number k h out same is_out all walks = record {
 }
   where
     now : Session
-    now = record { subscription = (due db session).subscription; upto = newest db }
+    now = record { wire = session.wire; subscription = (due db session).subscription; upto = newest db }
 
 -- ---- a session begins
 
 module _ (db : Database) (c : Client) (l : Connection) (h : IsResuming db c l) where
-  begins : (subscription : List Holding) (sent : List Message) → Walks db (Some (ResumeOut h.number)) (mirror_of c) sent (record { subscription = subscription; upto = newest db })
-      → Stands db (record { client = c; connection = served l (record { session = opened db subscription; sent = sent }) })
-  begins subscription sent walks = is_open now (record {
+  begins : (wire : ℕ) (subscription : List Holding) (sent : List Message) → wire ≡ 2 → Walks db (Some (ResumeOut h.number)) (mirror_of c) sent (record { wire = wire; subscription = subscription; upto = newest db })
+      → Stands db (record { client = c; connection = served l (record { session = opened db wire subscription; sent = sent }) })
+  begins wire subscription sent two walks = is_open now (record {
     up = h.up;
     session_is = refl;
+    wire = two;
     upto = omega arith;
-    flows = subst (Flows db c (served l (record { session = opened db subscription; sent = sent })) now) (sym h.out) (is_served (ResumeOut h.number) h.next (subst AreLaid (sym h.laid) tt) (record {
+    flows = subst (Flows db c (served l (record { session = opened db wire subscription; sent = sent })) now) (sym h.out) (is_served (ResumeOut h.number) h.next (subst AreLaid (sym h.laid) tt) (record {
       to_server = refl;
       walks = subst (λ ms. Walks db (Some (ResumeOut h.number)) (mirror_of c) (ms ++ (l.to_client ++ sent)) now) (sym h.laid)
           (subst (λ ms. Walks db (Some (ResumeOut h.number)) (mirror_of c) (ms ++ sent) now) (sym h.to_client) walks);
@@ -74,29 +78,29 @@ module _ (db : Database) (c : Client) (l : Connection) (h : IsResuming db c l) w
   })
     where
       now : Session
-      now = record { subscription = subscription; upto = newest db }
+      now = record { wire = wire; subscription = subscription; upto = newest db }
 
   -- with nothing, at the newest version
-  begins-anew : (k : ℕ) → k ≡ h.number → Stands db (record { client = c; connection = served l (record { session = opened db []; sent = Welcome k (newest db) false ∷ [] }) })
-  begins-anew k is = begins [] (Welcome k (newest db) false ∷ []) ((is, h.version), record { within = λ t p point wrong. wrong; comes = here db (welcomed false (mirror_of c) (newest db)) })
+  begins-anew : (wire k : ℕ) → k ≡ h.number → wire ≡ 2 → Stands db (record { client = c; connection = served l (record { session = opened db wire []; sent = Welcome k (newest db) false ∷ [] }) })
+  begins-anew wire k is two = begins wire [] (Welcome k (newest db) false ∷ []) two ((is, h.version), record { within = λ t a p point wrong. wrong; comes = here db (welcomed false (mirror_of c) (newest db)) })
 
   -- with the notices from the client's version on, by what it holds
-  begins-again : (k version : ℕ) (holdings : List Holding) → k ≡ h.number → version ≡ c.version → Within db.schema (held c.marks) (has_point holdings)
-      → Stands db (record { client = c; connection = served l (record { session = opened db holdings; sent = notices db holdings version (newest db - version) ++ Welcome k (newest db) true ∷ [] }) })
-  begins-again k version holdings is at within = begins holdings _
-      (subst (λ v. Walks db (Some (ResumeOut h.number)) (mirror_of c) (notices db holdings v (newest db - v) ++ Welcome k (newest db) true ∷ []) (record { subscription = holdings; upto = newest db })) (sym at)
+  begins-again : (wire k version : ℕ) (holdings : List Holding) → k ≡ h.number → wire ≡ 2 → version ≡ c.version → Within db.schema (held c.marks) (has_point holdings)
+      → Stands db (record { client = c; connection = served l (record { session = opened db wire holdings; sent = notices db holdings version (newest db - version) ++ Welcome k (newest db) true ∷ [] }) })
+  begins-again wire k version holdings is two at within = begins wire holdings _ two
+      (subst (λ v. Walks db (Some (ResumeOut h.number)) (mirror_of c) (notices db holdings v (newest db - v) ++ Welcome k (newest db) true ∷ []) (record { wire = wire; subscription = holdings; upto = newest db })) (sym at)
       (notices-walk db (Some (ResumeOut h.number)) holdings (newest db - c.version) c.version (newest db) (mirror_of c) (Welcome k (newest db) true ∷ []) _ (let below = h.version in omega (arith, below)) within (here db (mirror_of c))
       (λ v up was comes. ((is, comes), record { within = within; comes = here db (welcomed true (noticed (mirror_of c) v) (newest db)) }))))
 
   -- the message of the resume that is out
   pub begun : (m : Message) → IsResumeMessage db.schema c h.number m → Stands db (record { client = c; connection = served l (serve db None m) })
-  begun (Hello client k) is = begins-anew k is.0
-  begun (Resume client k version holdings) is = by (nat_le version (newest db) && nat_le (floor_of db) version)
+  begun (Hello wire client k) is = begins-anew wire k is.0 is.1
+  begun (Resume wire client k version holdings) is = by (nat_le version (newest db) && nat_le (floor_of db) version)
     where
       by : (kept : Bool)
-          → Stands db (record { client = c; connection = served l (if kept then record { session = opened db holdings; sent = notices db holdings version (newest db - version) ++ Welcome k (newest db) true ∷ [] } else record { session = opened db []; sent = Welcome k (newest db) false ∷ [] }) })
-      by true = begins-again k version holdings is.0 is.1 is.2
-      by false = begins-anew k is.0
+          → Stands db (record { client = c; connection = served l (if kept then record { session = opened db wire holdings; sent = notices db holdings version (newest db - version) ++ Welcome k (newest db) true ∷ [] } else record { session = opened db wire []; sent = Welcome k (newest db) false ∷ [] }) })
+      by true = begins-again wire k version holdings is.0 is.1 is.2 (held-within db.schema c.marks c.queries holdings is.3)
+      by false = begins-anew wire k is.0 is.1
   begun (Ask k fresh parts) is = absurd is
   begun (Write k sql) is = absurd is
   begun (Welcome k version kept) is = absurd is
@@ -133,18 +137,25 @@ cuts-stand db old o new (is_resuming h) (already_cut down) = absurd (let wrong :
 
 -- ---- a resume
 
-resume-message-still : (schema : List Table) (c new : Client) (number : ℕ) (m : Message) → new.marks ≡ c.marks → new.version ≡ c.version → IsResumeMessage schema c number m → IsResumeMessage schema new number m
-resume-message-still schema c new number (Hello client k) marks version ok = (ok.0, subst (HoldsNothing schema) (sym marks) ok.1)
-resume-message-still schema c new number (Resume client k at holdings) marks version ok = (ok.0, ok.1 ∙ sym version, subst (λ ms. Within schema (held ms) (has_point holdings)) (sym marks) ok.2, subst (λ ms. Within schema (has_point holdings) (held ms)) (sym marks) ok.3, (λ none. ok.4 (subst (HoldsNothing schema) marks none)), ok.5)
-resume-message-still schema c new number (Ask k fresh parts) marks version ok = ok
-resume-message-still schema c new number (Write k sql) marks version ok = ok
-resume-message-still schema c new number (Welcome k at kept) marks version ok = ok
-resume-message-still schema c new number (Notice at told) marks version ok = ok
-resume-message-still schema c new number (Rows k part rows) marks version ok = ok
-resume-message-still schema c new number (Reply k at) marks version ok = ok
-resume-message-still schema c new number (Written k at) marks version ok = ok
-resume-message-still schema c new number (Refused k fault) marks version ok = ok
-resume-message-still schema c new number (Lapse at) marks version ok = ok
+resume-message-still : (schema : List Table) (c new : Client) (number : ℕ) (m : Message) → new.marks ≡ c.marks → new.queries ≡ c.queries → new.version ≡ c.version → IsResumeMessage schema c number m → IsResumeMessage schema new number m
+resume-message-still schema c new number (Hello wire client k) marks queries version ok = (ok.0, ok.1, subst (HoldsNothing schema) (sym marks) ok.2)
+resume-message-still schema c new number (Resume wire client k at holdings) marks queries version ok = (
+  ok.0,
+  ok.1,
+  ok.2 ∙ sym version,
+  subst (λ qs. AreHoldings schema new.marks qs holdings) (sym queries) (subst (λ ms. AreHoldings schema ms c.queries holdings) (sym marks) ok.3),
+  (λ none. ok.4 (subst (HoldsNothing schema) marks none)),
+  ok.5,
+)
+resume-message-still schema c new number (Ask k fresh parts) marks queries version ok = ok
+resume-message-still schema c new number (Write k sql) marks queries version ok = ok
+resume-message-still schema c new number (Welcome k at kept) marks queries version ok = ok
+resume-message-still schema c new number (Notice at told) marks queries version ok = ok
+resume-message-still schema c new number (Rows k part rows) marks queries version ok = ok
+resume-message-still schema c new number (Reply k at) marks queries version ok = ok
+resume-message-still schema c new number (Written k at) marks queries version ok = ok
+resume-message-still schema c new number (Refused k fault) marks queries version ok = ok
+resume-message-still schema c new number (Lapse at) marks queries version ok = ok
 
 pub resumes-stand : (db : Database) (old : Pair) (o : Outcome) (new : Client) → Stands db old → ResumeStep db.schema old.client o new → Stands db (acted new old.connection o)
 resumes-stand db old o new h (already_up up) = silent (λ l. Stands db (record { client = old.client; connection = l })) old.connection o refl h
@@ -157,7 +168,7 @@ resumes-stand db old o new (is_down h) (resumes m down is) = is_resuming (record
   next = refl;
   laid = h.laid;
   message = m;
-  is = resume-message-still db.schema old.client new old.client.next_request m refl refl is;
+  is = resume-message-still db.schema old.client new old.client.next_request m refl refl refl is;
   to_server = ap (λ q. q ++ m ∷ []) h.to_server;
   to_client = h.to_client;
   session_is = h.session_is;

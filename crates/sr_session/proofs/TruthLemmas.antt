@@ -1,6 +1,6 @@
 -- Regions with the rows of one version have those of a later one, once messages are applied that tell truly.
 use Rattle.std.proofs.Common.{◌≡◌, ℕ, zero, suc, ◌+◌, ◌-◌, ◌<◌, ◌≤◌, Bool, true, false, List, [], ◌∷◌, map, refl, sym, subst, arith, Option, Some, None, map-id}
-use Rattle.std.specs.Prelude.{◌&&◌, ◌||◌, ◌==◌, filter}
+use Rattle.std.specs.Prelude.{not, ◌&&◌, ◌||◌, ◌==◌, filter}
 use Rattle.std.specs.List.{All}
 use Rattle.std.proofs.lemmas.Bool.Decides.{nat_tests}
 use Rattle.std.proofs.lemmas.List.Elements.{All-nil, All-map, All-weaker}
@@ -18,6 +18,7 @@ use Rattle.sr_model.specs.Changes.{changes}
 use Rattle.sr_region.specs.declared.region.Region.{Region}
 use Rattle.sr_region.specs.Applied.{AreTables, is_point_if_there, has_points}
 use Rattle.sr_box.specs.Rows.{has_row}
+use Rattle.sr_message.specs.Agree.{agree}
 use Rattle.sr_region.specs.Applied as regions
 use Rattle.sr_store.specs.Told.{told_of, AreTrueOf, IsTrueOf}
 use Rattle.sr_store.specs.Stores.{IsStore}
@@ -39,7 +40,7 @@ use Rattle.sr_session.proofs.TakeLemmas.{passes-later}
 
 -- the points of a region are among these
 abbrev Lies : List Table → Places → Region → Type 0
-Lies schema places region = (p : Row) → is_point (table_at schema region.table).columns p ≡ true → in_any region.rects p ≡ true → places region.table p ≡ true
+Lies schema places region = (p : Row) → is_point (table_at schema region.table).columns p ≡ true → in_any region.rects p ≡ true → places region.table region.attrs p ≡ true
 
 pub lie-still : (schema : List Table) (places : Places) (told : List Tell) (gs : List Region) → LieIn schema places gs → LieIn schema places (map (told_to told) gs)
 lie-still schema places told gs lie =
@@ -49,7 +50,7 @@ lie-still schema places told gs lie =
 -- ---- a change that concerns a region concerns its points
 
 row-lies : (schema : List Table) (places : Places) (region : Region) → Lies schema places region → (row : Option Row) → is_point_if_there (table_at schema region.table).columns row ≡ true
-    → has_row region.rects row ≡ true → at_row places region.table row ≡ true
+    → has_row region.rects row ≡ true → at_row places region.table region.attrs row ≡ true
 row-lies schema places region lie None point inside = absurd (cc)
 row-lies schema places region lie (Some p) point inside = lie p point inside
 
@@ -57,23 +58,28 @@ same-table : (n k : ℕ) (b : Bool) → (n == k && b) ≡ true → n ≡ k
 same-table n k b e = grind (arith, nat_tests)
 
 concerned : (schema : List Table) (places : Places) (region : Region) → Lies schema places region → (c : Change) → has_points (table_at schema region.table).columns c ≡ true → regions.concerns region c ≡ true
-    → concerns places c ≡ true
-concerned schema places region lie c points is = subst (λ t. (at_row places t c.before || at_row places t c.after) ≡ true) (sym same) (by (has_row region.rects c.before) refl)
+    → concerns places region.attrs c ≡ true
+concerned schema places region lie c points is =
+    subst (λ t. ((at_row places t region.attrs c.before || at_row places t region.attrs c.after) && not (agree region.attrs c.before c.after)) ≡ true) (sym same) (by (has_row region.rects c.before) refl)
   where
+    altered : Bool
+    altered = (has_row region.rects c.before || has_row region.rects c.after) && not (agree region.attrs c.before c.after)
+
     same : c.table ≡ region.table
-    same = same-table c.table region.table (has_row region.rects c.before || has_row region.rects c.after) is
+    same = same-table c.table region.table altered is
 
-    rows : (has_row region.rects c.before || has_row region.rects c.after) ≡ true
-    rows = second_so (c.table == region.table) (has_row region.rects c.before || has_row region.rects c.after) is
+    rows : altered ≡ true
+    rows = second_so (c.table == region.table) altered is
 
-    by : (b : Bool) → has_row region.rects c.before ≡ b → (at_row places region.table c.before || at_row places region.table c.after) ≡ true
+    by : (b : Bool) → has_row region.rects c.before ≡ b
+        → ((at_row places region.table region.attrs c.before || at_row places region.table region.attrs c.after) && not (agree region.attrs c.before c.after)) ≡ true
     by true here =
-        or_left (at_row places region.table c.before) (at_row places region.table c.after)
-        (row-lies schema places region lie c.before (first_so (is_point_if_there (table_at schema region.table).columns c.before) (is_point_if_there (table_at schema region.table).columns c.after) points) here)
+        let lies = row-lies schema places region lie c.before (first_so (is_point_if_there (table_at schema region.table).columns c.before) (is_point_if_there (table_at schema region.table).columns c.after) points) here in
+        grind (arith, lies, rows)
     by false none =
-        or_right (at_row places region.table c.before) (at_row places region.table c.after)
-        (row-lies schema places region lie c.after (second_so (is_point_if_there (table_at schema region.table).columns c.before) (is_point_if_there (table_at schema region.table).columns c.after) points)
-        (or-other (has_row region.rects c.before) (has_row region.rects c.after) rows none))
+        let lies = row-lies schema places region lie c.after (second_so (is_point_if_there (table_at schema region.table).columns c.before) (is_point_if_there (table_at schema region.table).columns c.after) points)
+        (grind (arith, rows, none)) in
+        grind (arith, lies, rows)
 
 -- ---- from one version to the next
 
@@ -95,7 +101,7 @@ module _ (db : Database) (places : Places) where
       (subst (λ u. AreTrueOf (told_of (tables_of db (v + 1))) (map (told_to (map tell_of (filter h.test (changes db.schema (tables_of db u) (tables_of db (v + 1)))))) gs)) (one-back v)
       (notices-true db.schema (tables_of db v) (tables_of db (v + 1)) h.test gs old new at.store
       (All-weaker (Lies db.schema places) (λ r. (c : Change) → has_points (table_at db.schema r.table).columns c ≡ true → regions.concerns r c ≡ true → h.test c ≡ true)
-      (λ r lie c points is. h.all c (subst (λ t. has_points (table_at db.schema t).columns c ≡ true) (sym (same-table c.table r.table (has_row r.rects c.before || has_row r.rects c.after) is)) points)
+      (λ r lie c points is. h.all c r.attrs (subst (λ t. has_points (table_at db.schema t).columns c ≡ true) (sym (same-table c.table r.table ((has_row r.rects c.before || has_row r.rects c.after) && not (agree r.attrs c.before c.after)) is)) points)
       (concerned db.schema places r lie c points is)) gs at.lie)
       at.are_true))
 
@@ -147,8 +153,8 @@ passes-true db out m (Reply k w ∷ ms) gs are h later at = absurd h
 passes-true db out m (Written k w ∷ ms) gs are h later at = absurd h
 passes-true db out m (Refused k fault ∷ ms) gs are h later at = absurd h
 passes-true db out m (Welcome k w kept ∷ ms) gs are h later at = absurd h
-passes-true db out m (Hello client number ∷ ms) gs are h later at = absurd h
-passes-true db out m (Resume client number version holdings ∷ ms) gs are h later at = absurd h
+passes-true db out m (Hello wire client number ∷ ms) gs are h later at = absurd h
+passes-true db out m (Resume wire client number version holdings ∷ ms) gs are h later at = absurd h
 passes-true db out m (Ask number fresh parts ∷ ms) gs are h later at = absurd h
 passes-true db out m (Write number sql ∷ ms) gs are h later at = absurd h
 

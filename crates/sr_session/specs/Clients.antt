@@ -1,18 +1,19 @@
 -- A client's past, its connection to the server, and when these stand.
 use Rattle.std.specs.Prelude.{ℕ, Bool, true, false, ◌+◌, ◌≤◌, ◌↔◌, List, [], ◌∷◌, ◌++◌, length, ◌≡◌, Option, Some, None, IsTrue}
-use Rattle.std.specs.List.{list_all}
+use Rattle.std.specs.List.{AllZip, list_all}
 use Rattle.sr_cell.specs.declared.table.Table.{Table}
+use Rattle.sr_box.specs.Points.{AreSame, in_any}
 use Rattle.sr_message.specs.declared.message.AskPart.{AskPart}
+use Rattle.sr_message.specs.declared.message.Holding.{Holding}
 use Rattle.sr_message.specs.declared.message.Message.{Message}
 use Rattle.sr_message.specs.declared.message.Message.TheVariants.{Hello, Resume, Ask, Write}
-use Rattle.sr_subs.specs.Subscription.{has_point}
 use Rattle.sr_model.specs.Queries.{Query}
 use Rattle.sr_history.specs.declared.mark.Mark.{Mark}
 use Rattle.sr_history.specs.Marks.{HoldsNothing, with_marks}
-use Rattle.sr_history.specs.Classes.{Numbered}
+use Rattle.sr_history.specs.Classes.{AreClasses, Class, in_class, Numbered}
 use Rattle.sr_history.specs.Rests.{Asks}
 use Rattle.sr_session.specs.Sessions.{Database, Session, newest}
-use Rattle.sr_session.specs.Places.{held, Within}
+use Rattle.sr_session.specs.Places.{held}
 use Rattle.sr_session.specs.Refusals.{holding_suits}
 use Rattle.sr_session.specs.Walks.{Request, AskOut, WriteOut, ResumeOut, Mirror, Walks, AreLaid}
 
@@ -94,6 +95,7 @@ pub data Flows (db : Database) (c : Client) (l : Connection) (session : Session)
 pub record IsOpen (db : Database) (c : Client) (l : Connection) (session : Session) : Type 0 where
   pub up : c.cut ≡ false
   pub session_is : l.session ≡ Some session
+  pub wire : session.wire ≡ 2
   pub upto : session.upto ≤ newest db
   pub flows : Flows db c l session c.out
 
@@ -109,10 +111,22 @@ pub record IsDown (db : Database) (c : Client) (l : Connection) : Type 0 where
   pub session_is : l.session ≡ None
   pub version : c.version ≤ newest db
 
--- The first message of a session: a Hello where nothing is held, else a Resume of the client's version with just the points that it holds.
+-- what a Resume says of a class: its table, its columns and its points
+pub record IsHoldingOf (schema : List Table) (marks : List Mark) (queries : List Numbered) (k : Class) (h : Holding) : Type 0 where
+  pub table : h.table ≡ k.table
+  pub attrs : h.attrs ≡ k.attrs
+  pub points : AreSame (table_at schema k.table).columns (in_any h.rects) (in_class marks queries k)
+
+-- one holding for each class that is held, in class order
+abbrev pub AreHoldings : List Table → List Mark → List Numbered → List Holding → Type 0
+AreHoldings schema marks queries holdings =
+    (classes : List Class) × AreClasses schema marks queries classes × AllZip (IsHoldingOf schema marks queries) classes holdings
+
+-- The first message of a session, over wire 2: a Hello where nothing is held, else a Resume of the client's version with just what it
+-- holds, class by class, in the shape that a server wants.
 abbrev pub IsResumeMessage : List Table → Client → ℕ → Message → Type 0
-IsResumeMessage schema c number (Hello client k) = (k ≡ number) × HoldsNothing schema c.marks
-IsResumeMessage schema c number (Resume client k version holdings) = (k ≡ number) × (version ≡ c.version) × Within schema (held c.marks) (has_point holdings) × Within schema (has_point holdings) (held c.marks) × (HoldsNothing schema c.marks → ⊥) × (list_all (holding_suits schema) holdings ≡ true)
+IsResumeMessage schema c number (Hello wire client k) = (k ≡ number) × (wire ≡ 2) × HoldsNothing schema c.marks
+IsResumeMessage schema c number (Resume wire client k version holdings) = (k ≡ number) × (wire ≡ 2) × (version ≡ c.version) × AreHoldings schema c.marks c.queries holdings × (HoldsNothing schema c.marks → ⊥) × (list_all (holding_suits schema wire) holdings ≡ true)
 IsResumeMessage schema c number m = ⊥
 
 -- The link is up, and the server has not taken the first message of the session yet.

@@ -1,5 +1,5 @@
 -- Which messages a server must refuse: the first of three reasons.
-use Rattle.std.specs.Prelude.{ℕ, ◌^◌, ◌/◌, Bool, true, false, not, ◌&&◌, ◌==◌, nat_lt, nat_le, List, length, Option, Some, None}
+use Rattle.std.specs.Prelude.{ℕ, ◌^◌, ◌/◌, Bool, true, false, not, ◌&&◌, ◌||◌, ◌==◌, nat_lt, nat_le, List, length, Option, Some, None}
 use Rattle.std.specs.List.{list_all}
 use Rattle.sr_cell.specs.declared.table.Table.{Table}
 use Rattle.sr_cell.specs.Attrs.{has_column}
@@ -17,8 +17,8 @@ use Rattle.sr_session.specs.Misfits.{or_else}
 -- ---- direction: a client sends requests alone
 
 abbrev pub is_request : Message → Bool
-is_request (Hello client number) = true
-is_request (Resume client number version holdings) = true
+is_request (Hello wire client number) = true
+is_request (Resume wire client number version holdings) = true
 is_request (Ask number fresh parts) = true
 is_request (Write number sql) = true
 is_request (Welcome number version kept) = false
@@ -39,8 +39,8 @@ abbrev pub begins : Bool → ℕ → ℕ → Bool
 begins opened client named = not opened && named == client
 
 abbrev pub suits_state : Bool → ℕ → Message → Bool
-suits_state opened client (Hello named number) = begins opened client named
-suits_state opened client (Resume named number version holdings) = begins opened client named
+suits_state opened client (Hello wire named number) = begins opened client named
+suits_state opened client (Resume wire named number version holdings) = begins opened client named
 suits_state opened client (Ask number fresh parts) = opened
 suits_state opened client (Write number sql) = opened
 suits_state opened client (Welcome number version kept) = true
@@ -52,10 +52,6 @@ suits_state opened client (Refused number fault) = true
 suits_state opened client (Lapse version) = true
 
 -- ---- shape
-
--- the table is there, and each rect fits its columns
-abbrev pub holding_suits : List Table → Holding → Bool
-holding_suits schema h = nat_lt h.table (length schema) && list_all (rect_fits (table_at schema h.table).columns) h.rects
 
 -- no column of the set is one that a table of so many columns lacks
 abbrev pub are_columns : ℕ → ℕ → Bool
@@ -70,9 +66,19 @@ suits_table table part =
 abbrev pub part_suits : List Table → AskPart → Bool
 part_suits schema part = nat_lt part.table (length schema) && suits_table (table_at schema part.table) part
 
+-- the columns are the table's, the key among them, and no other is constrained
+abbrev pub suits_columns : Table → Holding → Bool
+suits_columns table h = are_columns h.attrs (length table.columns) && has_column h.attrs table.key && list_all (constrains_only h.attrs 0) h.rects
+
+-- The table is there, and each rect fits its columns. Over wire 1 a holding stands for all columns; else its columns have to suit too.
+abbrev pub holding_suits : List Table → ℕ → Holding → Bool
+holding_suits schema wire h =
+    nat_lt h.table (length schema) && list_all (rect_fits (table_at schema h.table).columns) h.rects
+    && (wire == 1 || suits_columns (table_at schema h.table) h)
+
 abbrev pub suits_schema : List Table → Message → Bool
-suits_schema schema (Hello named number) = true
-suits_schema schema (Resume named number version holdings) = list_all (holding_suits schema) holdings
+suits_schema schema (Hello wire named number) = true
+suits_schema schema (Resume wire named number version holdings) = list_all (holding_suits schema wire) holdings
 suits_schema schema (Ask number fresh parts) = list_all (part_suits schema) parts
 suits_schema schema (Write number sql) = true
 suits_schema schema (Welcome number version kept) = true
@@ -94,8 +100,8 @@ server_misfit schema session client m =
 
 -- An ask has at most four parts; that is the format's, whose messages alone come to a server.
 abbrev pub has_few_parts : Message → Bool
-has_few_parts (Hello named number) = true
-has_few_parts (Resume named number version holdings) = true
+has_few_parts (Hello wire named number) = true
+has_few_parts (Resume wire named number version holdings) = true
 has_few_parts (Ask number fresh parts) = nat_le (length parts) 4
 has_few_parts (Write number sql) = true
 has_few_parts (Welcome number version kept) = true
@@ -110,8 +116,8 @@ has_few_parts (Lapse version) = true
 
 -- where a message names a client, it is this one
 abbrev pub names_client : ℕ → Message → Bool
-names_client client (Hello named number) = named == client
-names_client client (Resume named number version holdings) = named == client
+names_client client (Hello wire named number) = named == client
+names_client client (Resume wire named number version holdings) = named == client
 names_client client other = true
 
 -- a request of this client that suits the schema, in the format

@@ -1,5 +1,5 @@
 -- What a server sends.
-use Rattle.std.specs.Prelude.{ℕ, Bool, true, false, not, ◌&&◌, nat_lt, nat_le, List, [], ◌∷◌, ◌++◌, ◌+◌, ◌-◌, suc, zero, map, filter, take, drop, length, Option, Some, None, if◌then◌else◌}
+use Rattle.std.specs.Prelude.{ℕ, Bool, true, false, not, ◌&&◌, nat_lt, nat_le, List, [], ◌∷◌, ◌++◌, ◌+◌, ◌-◌, ◌==◌, suc, zero, map, filter, take, drop, length, Option, Some, None, if◌then◌else◌}
 use Rattle.std.specs.List.{list_all}
 use Rattle.sr_union.specs.Search.{is_nothing}
 use Rattle.sr_cell.specs.declared.change.Change.{Change}
@@ -36,8 +36,9 @@ tables_of db v = version_at db.versions v
 abbrev pub with_version : Database → Tables → Database
 with_version db tables = record db { versions = db.versions ++ tables ∷ [] }
 
--- An open session: the points that the client asked for, and the version that the messages to it have reached.
+-- An open session: its wire, the points that the client asked for, and the version that the messages to it have reached.
 pub record Session : Type 0 where
+  pub wire : ℕ
   pub subscription : List Holding
   pub upto : ℕ
 
@@ -126,8 +127,17 @@ row_messages tables number i (ask ∷ asks) =
 abbrev pub reply_messages : Database → ℕ → List AskPart → List Message
 reply_messages db number parts = row_messages (tables_of db (newest db)) number 0 parts ++ Reply number (newest db) ∷ []
 
-abbrev pub holding_of : AskPart → Holding
-holding_of ask = record { table = ask.table; rects = ask.rects }
+-- the set of all twelve columns that a table may have
+abbrev pub all_columns : ℕ
+all_columns = 4095
+
+-- the columns of an entry: those that were asked, and over wire 1 all
+abbrev pub entry_columns : ℕ → ℕ → ℕ
+entry_columns wire attrs = if wire == 1 then all_columns else attrs
+
+-- the entry of an asked part
+abbrev pub holding_of : ℕ → AskPart → Holding
+holding_of wire ask = record { table = ask.table; attrs = entry_columns wire ask.attrs; rects = ask.rects }
 
 -- ---- requests
 
@@ -137,30 +147,30 @@ pub record Served : Type 0 where
   pub sent : List Message
 
 -- a session that has reached the newest version
-abbrev pub opened : Database → List Holding → Option Session
-opened db subscription = Some (record { subscription = subscription; upto = newest db })
+abbrev pub opened : Database → ℕ → List Holding → Option Session
+opened db wire subscription = Some (record { wire = wire; subscription = subscription; upto = newest db })
 
 -- A fresh ask begins the subscription anew; another one brings what is due first, and adds to the subscription.
 abbrev pub serve_ask : Database → Session → ℕ → Bool → List AskPart → Served
-serve_ask db session number true parts = record { session = opened db (map holding_of parts); sent = reply_messages db number parts }
+serve_ask db session number true parts = record { session = opened db session.wire (map (holding_of session.wire) parts); sent = reply_messages db number parts }
 serve_ask db session number false parts =
     let d = due db session in
-    record { session = opened db (d.subscription ++ map holding_of parts); sent = d.sent ++ reply_messages db number parts }
+    record { session = opened db session.wire (d.subscription ++ map (holding_of session.wire) parts); sent = d.sent ++ reply_messages db number parts }
 
 -- A client that resumes at a version from which the log reaches on is told of what changed since, and keeps what it holds; another one
 -- begins with nothing.
-abbrev pub serve_resume : Database → ℕ → ℕ → List Holding → Served
-serve_resume db number version holdings =
+abbrev pub serve_resume : Database → ℕ → ℕ → ℕ → List Holding → Served
+serve_resume db wire number version holdings =
     if nat_le version (newest db) && nat_le (floor_of db) version
-    then record { session = opened db holdings; sent = notices db holdings version (newest db - version) ++ Welcome number (newest db) true ∷ [] }
-    else record { session = opened db []; sent = Welcome number (newest db) false ∷ [] }
+    then record { session = opened db wire holdings; sent = notices db holdings version (newest db - version) ++ Welcome number (newest db) true ∷ [] }
+    else record { session = opened db wire []; sent = Welcome number (newest db) false ∷ [] }
 
 -- A write that was refused sends that alone. One that was carried out, whose version the database has already, sends what is due first.
 abbrev pub serve_write : Database → Session → ℕ → Option Fault → Served
 serve_write db session number (Some fault) = record { session = Some session; sent = Refused number fault ∷ [] }
 serve_write db session number None =
     let d = due db session in
-    record { session = opened db d.subscription; sent = d.sent ++ Written number (newest db) ∷ [] }
+    record { session = opened db session.wire d.subscription; sent = d.sent ++ Written number (newest db) ∷ [] }
 
 -- A message that must be refused sends nothing.
 abbrev pub nothing_served : Option Session → Served
@@ -169,10 +179,10 @@ nothing_served session = record { session = session; sent = [] }
 -- What the server makes of a request of a client with this session, unless it is a write.
 abbrev pub serve : Database → Option Session → Message → Served
 serve db (Some session) (Ask number fresh parts) = serve_ask db session number fresh parts
-serve db None (Hello client number) = record { session = opened db []; sent = Welcome number (newest db) false ∷ [] }
-serve db None (Resume client number version holdings) = serve_resume db number version holdings
+serve db None (Hello wire client number) = record { session = opened db wire []; sent = Welcome number (newest db) false ∷ [] }
+serve db None (Resume wire client number version holdings) = serve_resume db wire number version holdings
 serve db session m = nothing_served session
 
 -- What a push to this session makes.
 abbrev pub serve_push : Database → Session → Served
-serve_push db session = record { session = opened db (due db session).subscription; sent = pushed db session }
+serve_push db session = record { session = opened db session.wire (due db session).subscription; sent = pushed db session }

@@ -2,8 +2,10 @@
 ghost use Rattle.sr_session.specs.Headline.{ACoveredQueryIsAnswered, ACoveredQuerySendsNothing, AnAskAsksTheUncovered, AnswersAreRight, AnswersNeverFall, AsksByPoints, CachesKeepToTheirBudgets, QueriesKeepTheirNumbers, TablesStayOfTheSchema, VersionsNeverFall};
 ghost use Rattle.sr_session.specs.Laws.{AnsweringKeeps, AskingAgainKeeps, ExecKeeps, ForgettingKeeps, LayingKeeps, NeverRefused, NoticingKeeps, PromisedRowsSuit, PromisedTellsSuit, PromisesFit, PushKeeps, RepliesAreAnswerable, RowsAreAsked, TakingAsksKeeps};
 ghost use Rattle.sr_session.specs.Regions.{LaidMessagesKeepTrue};
+ghost use Rattle.sr_session.specs.Resumable.{RegionsCanResume};
 ghost use Rattle.sr_session.specs.Scenes.{EventsKeep, FirstStands, OthersStay, RunsStand};
 ghost use Rattle.sr_session.specs.Tidy.{RulesKeepTidy};
+ghost use Rattle.sr_session.specs.Wires.{AllColumnsAreToldAll, WorkedTouches};
 
 // ---- the headline
 
@@ -156,4 +158,21 @@ pub fn promised_tells_suit()
 /// So nothing that is promised is refused.
 pub fn never_refused()
     ensures { NeverRefused }
+{}
+
+// ---- both wires
+
+/// An entry for all columns, as a session of wire 1 has them, is told of each change whose old or new row it has.
+pub fn all_columns_are_told_all()
+    ensures { AllColumnsAreToldAll }
+{}
+
+/// Six changes, and whether they are told.
+pub fn worked_touches()
+    ensures { WorkedTouches }
+{}
+
+/// Regions that keep what is held have one holding for each class in a Resume, and a server finds their shape right.
+pub fn regions_can_resume()
+    ensures { RegionsCanResume }
 {}

@@ -33,6 +33,7 @@ arrived-area : (schema : List Table) (number : ℕ) (parts : List Part) (r : Arr
 arrived-area schema number parts r g first h k = record {
   key = h.key;
   has_key = h.has_key;
+  own = h.own;
   some = λ none.
       let point = has_point (table_at schema r.table).columns r.rects h.some h.fit first in
       let inside : in_any g.rects point.0 ≡ true = in_any-once (table_at schema r.table).columns r.rects g.rects k.once point.0 point.1 ∙ point.2 in

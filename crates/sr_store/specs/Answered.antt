@@ -15,7 +15,7 @@ use Rattle.sr_history.specs.declared.mark.Mark.{Mark}
 use Rattle.sr_history.specs.declared.mark.Mark.TheVariants.{Held as HeldMark}
 use Rattle.sr_history.specs.Load.{are_once}
 use Rattle.sr_region.specs.declared.region.Region.{Region}
-use Rattle.sr_region.specs.Regions.{rank, is_in, IsRowIn}
+use Rattle.sr_region.specs.Regions.{rank, is_in, AreColumnsOf, IsRowIn}
 use Rattle.sr_store.specs.declared.store.Arrival.{Arrival}
 use Rattle.sr_store.specs.Classes.{Held, Stamps, occurs, ascends, Keeps, touches, restamped}
 use Rattle.sr_store.specs.Told.{Told}
@@ -32,12 +32,13 @@ abbrev pub arrivals_at : List Arrival → ℕ → ℕ → Row → ℕ
 arrivals_at [] t a p = 0
 arrivals_at (r ∷ rs) t a p = (if (r.table == t && r.attrs == a) && in_any r.rects p then 1 else 0) + arrivals_at rs t a p
 
--- Rects of a table of the schema, which constrain only these columns, the key among them, and rows in them. Each point is one
+-- Rects of a table of the schema, which constrain only these columns, its own and the key among them, and rows in them. Each point is one
 -- of a part that needs none but these columns.
 pub record IsArrival (schema : List Table) (parts : List Part) (r : Arrival) : Type 0 where
   pub table : r.table < length schema
   pub key : r.key ≡ (table_at schema r.table).key
   pub has_key : IsTrue (has_column r.attrs r.key)
+  pub own : AreColumnsOf (table_at schema r.table) r.attrs
   pub some : r.rects ≡ [] → ⊥
   pub fit : list_all (rect_fits (table_at schema r.table).columns) r.rects ≡ true
   pub only : list_all (constrains_only r.attrs 0) r.rects ≡ true

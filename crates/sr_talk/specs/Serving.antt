@@ -36,8 +36,8 @@ spelled messages = flat_map spelling messages
 -- The number of the client that a message names. Where it names none, any number will do: of other messages only that is asked whether
 -- a session is open.
 abbrev pub named : Message → ℕ
-named (Hello client number) = client
-named (Resume client number version holdings) = client
+named (Hello wire client number) = client
+named (Resume wire client number version holdings) = client
 named other = 1
 
 -- A message must be refused on a connection with this session. The first message that is not refused names the client; a second

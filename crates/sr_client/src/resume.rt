@@ -1,8 +1,9 @@
 //! How a client begins a session anew.
 ghost use Rattle.std.specs.Prelude.{◌≡◌, ◌+◌, ◌<◌, ◌≤◌, ◌^◌, length, map, IfOk, OnOk, OnErr};
-ghost use Rattle.sr_client.specs.Sends.{IsOfFormat, ResumeSendsWell, SendsFirst, first_of, holding_of};
+ghost use Rattle.sr_client.specs.Sends.{IsOfFormat, ResumeSendsWell, SendsFirst, first_of};
 ghost use Rattle.sr_client.specs.Stands.{Stands, Stays, drawn};
 ghost use Rattle.sr_client.specs.Steps.{Resumes};
+ghost use Rattle.sr_session.specs.Resumable.{region_holding};
 
 use crate::client::{Client, Request};
 use crate::steps::ResumeStep;
@@ -74,7 +75,7 @@ fn first_of(alloc: Global, client: &Client) -> Result<Message, NoMemory>
 
 /// The points of regions, under their columns.
 fn holdings_of(alloc: Global, regions: &[Region]) -> Result<Holdings, NoMemory>
-    ensures { IfOk result (λ holdings. holdings ≡ map holding_of regions.now) }
+    ensures { IfOk result (λ holdings. holdings ≡ map region_holding regions.now) }
 {
     let mut holdings = Seq::new(alloc);
     for region in regions {

@@ -1,5 +1,5 @@
 //! Which messages must be refused.
-ghost use Rattle.std.specs.Prelude.{◌≡◌, ◌&&◌, nat_lt, not, ◌==◌, length, if◌then◌else◌};
+ghost use Rattle.std.specs.Prelude.{◌≡◌, ◌&&◌, nat_lt, not, ◌==◌, ◌||◌, length};
 ghost use Rattle.std.specs.List.{list_all};
 ghost use Rattle.sr_cell.specs.Columns.{table_at};
 ghost use Rattle.sr_box.specs.Points.{constrains_only};
@@ -16,9 +16,6 @@ use sr_wire::bad_frame::BadFrame;
 
 /// The wire over which a holding stands for all columns.
 const WHOLE_WIRE: u8 = 1;
-
-/// All columns that a table may have.
-const ALL_COLUMNS: u16 = 4_095;
 
 /// What stands against a message of that client, which has this session or none: the first of Direction, State and Shape.
 pub(crate) fn server_misfit(
@@ -98,7 +95,7 @@ fn all_holdings_suit(schema: &Schema, wire: u8, holdings: &[Holding]) -> bool
     true
 }
 
-/// Whether the table is there, the rects fit it and the columns suit it.
+/// Whether the table is there, the rects fit it, and the columns suit it unless the holding stands for all.
 fn holding_suits(schema: &Schema, wire: u8, holding: &Holding) -> bool
     ensures { result ≡ holding_suits schema.now wire holding.now }
 {
@@ -106,18 +103,7 @@ fn holding_suits(schema: &Schema, wire: u8, holding: &Holding) -> bool
     let tables = schema.as_slice();
     number < tables.len()
         && holding.rects.fits(&tables[number])
-        && has_columns(&tables[number], wire, holding)
-}
-
-/// Whether the columns of a holding suit the table. Over wire 1 it stands for all columns.
-fn has_columns(table: &Table, wire: u8, holding: &Holding) -> bool
-    ensures { result ≡ (if wire == 1 then holding.now.attrs == 4095 else suits_columns table.now holding.now) }
-{
-    if wire == WHOLE_WIRE {
-        holding.attrs.0 == ALL_COLUMNS
-    } else {
-        suits_columns(table, holding)
-    }
+        && (wire == WHOLE_WIRE || suits_columns(&tables[number], holding))
 }
 
 /// Whether the columns are the table's, the key among them, and the rects constrain no other.

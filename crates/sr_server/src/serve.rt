@@ -163,12 +163,7 @@ fn entry_columns(wire: u8, attrs: Attrs) -> Attrs
 }
 
 /// Subscribes the rects of each part, under its columns.
-fn subscribe(
-    alloc: Global,
-    wire: u8,
-    subs: &mut Subs,
-    parts: &[AskPart],
-) -> Result<(), NoMemory>
+fn subscribe(alloc: Global, wire: u8, subs: &mut Subs, parts: &[AskPart]) -> Result<(), NoMemory>
     ensures { OnOk result (subs.new ≡ subs.old ++ map (holding_of wire) parts.now) }
 {
     for part in parts {

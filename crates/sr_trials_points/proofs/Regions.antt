@@ -1,24 +1,41 @@
 -- What the tests need of regions of one range of ages.
-use Rattle.std.proofs.Common.{◌≡◌, ◌∙◌, ℤ, ◌≤◌, true, List, [], ◌∷◌, refl, sym, ap, subst}
+use Rattle.std.proofs.Common.{◌≡◌, ◌∙◌, ℤ, zero, suc, ◌+◌, ◌≤◌, true, false, List, [], ◌∷◌, length, refl, sym, ap, subst, arith}
 use Rattle.std.specs.Prelude.{Option, Some, None, Result, Ok, Err, IfOk, IfSome, OnOk}
 use Rattle.std.specs.List.{list_all}
 use Rattle.std.specs.Result.{result_and}
 use Rattle.sr_cell.specs.declared.list.NoMemory.{NoMemory}
+use Rattle.sr_cell.specs.declared.table.Column.{Column}
 use Rattle.sr_cell.specs.declared.table.Table.{Table}
+use Rattle.sr_cell.specs.Attrs.{has_column}
 use Rattle.sr_cell.specs.Cells.{Row}
+use Rattle.sr_cell.proofs.ColumnSets.{has_column-none, has_column-shifted}
+use Rattle.sr_box.specs.declared.span.Span.{Span}
 use Rattle.sr_box.specs.declared.span.Span.TheVariants.{Full, Nums}
 use Rattle.sr_box.specs.Points.{Rect, times, rect_fits, constrains_only}
 use Rattle.sr_model.specs.SortedRows.{ascend, with_row}
 use Rattle.sr_union.proofs.Once.{one_le}
 use Rattle.sr_region.specs.declared.region.Region.{Region}
-use Rattle.sr_region.specs.Regions.{rank, IsArea}
+use Rattle.sr_region.specs.Regions.{rank, AreColumnsOf, IsArea}
 use Rattle.sr_region.specs.Halves.{IsInside, IsOutside}
+
+two_columns : (columns : List Column) (s u : Span) (r : Rect) → list_all (rect_fits columns) ((s ∷ u ∷ r) ∷ []) ≡ true → 2 ≤ length columns
+two_columns [] s u r fit = absurd (grind (arith, fit))
+two_columns (c ∷ []) s u r fit = absurd (grind (arith, fit))
+two_columns (c ∷ d ∷ columns) s u r fit = omega arith
+
+-- a table whose rects have two spans or more has the first two columns
+pub first_two : (t : Table) (s u : Span) (r : Rect) → list_all (rect_fits t.columns) ((s ∷ u ∷ r) ∷ []) ≡ true → AreColumnsOf t 3
+first_two t s u r fit zero has = let two = two_columns t.columns s u r fit in omega (arith, two)
+first_two t s u r fit (suc zero) has = let two = two_columns t.columns s u r fit in omega (arith, two)
+first_two t s u r fit (suc (suc c)) has =
+    absurd (let none : has_column 3 (2 + c) ≡ false = has_column-shifted 3 2 c ∙ has_column-none c in let wrong : true ≡ false = sym has ∙ none in cc)
 
 -- the points of one range, under both columns
 pub one_area : (t : Table) (lo hi : ℤ) (rects : List Rect) → 0 ≡ t.key → rects ≡ (Full ∷ Nums lo hi ∷ []) ∷ [] → list_all (rect_fits t.columns) rects ≡ true → IsArea t 0 3 rects
 one_area t lo hi rects key is fit = record {
   key = key;
   has_key = refl;
+  own = first_two t Full (Nums lo hi) [] (subst (λ rs. list_all (rect_fits t.columns) rs ≡ true) is fit);
   some = λ none. absurd (cc (none, is));
   fit = fit;
   only = subst (λ rs. list_all (constrains_only 3 0) rs ≡ true) (sym is) refl;

@@ -23,6 +23,7 @@ use Rattle.sr_store.specs.Answered.{AreApart, IsArrival}
 use Rattle.sr_store.specs.Making.{HaveNoCommon}
 use Rattle.sr_store.specs.Noticed.{IsTellOf}
 use Rattle.sr_store.proofs.Covering.{cover_has}
+use Rattle.sr_trials_points.proofs.Regions.{first_two}
 
 abbrev pub empty_store : (schema : List Table) (gs : List Region) → gs ≡ [] → IsStore schema gs
 empty_store schema gs none = subst (IsStore schema) (sym none) (record {
@@ -59,6 +60,7 @@ one_arrives schema parts rs lo hi rows asked is there key fit each ascending =
       table = there;
       key = sym key;
       has_key = refl;
+      own = first_two (table_at schema 0) Full (Nums lo hi) (Full ∷ []) fit;
       some = λ none. absurd (cc none);
       fit = fit;
       only = refl;

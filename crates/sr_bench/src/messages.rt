@@ -120,6 +120,7 @@ pub fn hello() -> Message
     ensures { IsSendable result }
 {
     Message::Hello {
+        wire: 2,
         client: 1,
         number: 0,
     }

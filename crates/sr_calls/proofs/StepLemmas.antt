@@ -160,8 +160,8 @@ evict_makes old new place step lines told does tells is past stands =
 
 -- a request that names a client names its own
 named_by : (schema : List Table) (id : ℕ) (m : Message) → is_request_of schema id m ≡ true → IsFrom id m
-named_by schema id (kinds.Hello named number) is = grind (arith, is)
-named_by schema id (kinds.Resume named number version holdings) is = grind (arith, is)
+named_by schema id (kinds.Hello wire named number) is = grind (arith, is)
+named_by schema id (kinds.Resume wire named number version holdings) is = grind (arith, is)
 named_by schema id (kinds.Ask number fresh parts) is = refl
 named_by schema id (kinds.Write number sql) is = refl
 named_by schema id (kinds.Welcome number version kept) is = refl

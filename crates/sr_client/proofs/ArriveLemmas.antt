@@ -40,8 +40,8 @@ message-length (Reply k w) arrivals = refl
 message-length (Written k w) arrivals = refl
 message-length (Refused k fault) arrivals = refl
 message-length (Welcome k w kept) arrivals = refl
-message-length (Hello client number) arrivals = refl
-message-length (Resume client number version holdings) arrivals = refl
+message-length (Hello wire client number) arrivals = refl
+message-length (Resume wire client number version holdings) arrivals = refl
 message-length (Ask number fresh parts) arrivals = refl
 message-length (Write number sql) arrivals = refl
 
@@ -94,8 +94,8 @@ message-comes schema asks pre (Reply k w) = sym (still schema 0 asks pre (Reply 
 message-comes schema asks pre (Written k w) = sym (still schema 0 asks pre (Written k w) (λ k above. refl))
 message-comes schema asks pre (Refused k fault) = sym (still schema 0 asks pre (Refused k fault) (λ k above. refl))
 message-comes schema asks pre (Welcome k w kept) = sym (still schema 0 asks pre (Welcome k w kept) (λ k above. refl))
-message-comes schema asks pre (Hello client number) = sym (still schema 0 asks pre (Hello client number) (λ k above. refl))
-message-comes schema asks pre (Resume client number version holdings) = sym (still schema 0 asks pre (Resume client number version holdings) (λ k above. refl))
+message-comes schema asks pre (Hello wire client number) = sym (still schema 0 asks pre (Hello wire client number) (λ k above. refl))
+message-comes schema asks pre (Resume wire client number version holdings) = sym (still schema 0 asks pre (Resume wire client number version holdings) (λ k above. refl))
 message-comes schema asks pre (Ask number fresh parts) = sym (still schema 0 asks pre (Ask number fresh parts) (λ k above. refl))
 message-comes schema asks pre (Write number sql) = sym (still schema 0 asks pre (Write number sql) (λ k above. refl))
 

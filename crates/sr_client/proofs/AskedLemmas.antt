@@ -53,8 +53,8 @@ after-all P still (Reply k w ∷ ms) gs all = after-all P still ms gs all
 after-all P still (Written k w ∷ ms) gs all = after-all P still ms gs all
 after-all P still (Refused k fault ∷ ms) gs all = after-all P still ms gs all
 after-all P still (Welcome k w kept ∷ ms) gs all = after-all P still ms gs all
-after-all P still (Hello client number ∷ ms) gs all = after-all P still ms gs all
-after-all P still (Resume client number version holdings ∷ ms) gs all = after-all P still ms gs all
+after-all P still (Hello wire client number ∷ ms) gs all = after-all P still ms gs all
+after-all P still (Resume wire client number version holdings ∷ ms) gs all = after-all P still ms gs all
 after-all P still (Ask number fresh parts ∷ ms) gs all = after-all P still ms gs all
 after-all P still (Write number sql ∷ ms) gs all = after-all P still ms gs all
 
@@ -73,8 +73,8 @@ after-keeps schema marks stamps (Reply k w ∷ ms) gs none keeps = after-keeps s
 after-keeps schema marks stamps (Written k w ∷ ms) gs none keeps = after-keeps schema marks stamps ms gs none keeps
 after-keeps schema marks stamps (Refused k fault ∷ ms) gs none keeps = after-keeps schema marks stamps ms gs none keeps
 after-keeps schema marks stamps (Welcome k w kept ∷ ms) gs none keeps = after-keeps schema marks stamps ms gs none keeps
-after-keeps schema marks stamps (Hello client number ∷ ms) gs none keeps = after-keeps schema marks stamps ms gs none keeps
-after-keeps schema marks stamps (Resume client number version holdings ∷ ms) gs none keeps = after-keeps schema marks stamps ms gs none keeps
+after-keeps schema marks stamps (Hello wire client number ∷ ms) gs none keeps = after-keeps schema marks stamps ms gs none keeps
+after-keeps schema marks stamps (Resume wire client number version holdings ∷ ms) gs none keeps = after-keeps schema marks stamps ms gs none keeps
 after-keeps schema marks stamps (Ask number fresh parts ∷ ms) gs none keeps = after-keeps schema marks stamps ms gs none keeps
 after-keeps schema marks stamps (Write number sql ∷ ms) gs none keeps = after-keeps schema marks stamps ms gs none keeps
 
@@ -87,8 +87,8 @@ after-store schema (Reply k w ∷ ms) gs store tells = after-store schema ms gs 
 after-store schema (Written k w ∷ ms) gs store tells = after-store schema ms gs store (All-tail (TellsRows schema) (Written k w) ms tells)
 after-store schema (Refused k fault ∷ ms) gs store tells = after-store schema ms gs store (All-tail (TellsRows schema) (Refused k fault) ms tells)
 after-store schema (Welcome k w kept ∷ ms) gs store tells = after-store schema ms gs store (All-tail (TellsRows schema) (Welcome k w kept) ms tells)
-after-store schema (Hello client number ∷ ms) gs store tells = after-store schema ms gs store (All-tail (TellsRows schema) (Hello client number) ms tells)
-after-store schema (Resume client number version holdings ∷ ms) gs store tells = after-store schema ms gs store (All-tail (TellsRows schema) (Resume client number version holdings) ms tells)
+after-store schema (Hello wire client number ∷ ms) gs store tells = after-store schema ms gs store (All-tail (TellsRows schema) (Hello wire client number) ms tells)
+after-store schema (Resume wire client number version holdings ∷ ms) gs store tells = after-store schema ms gs store (All-tail (TellsRows schema) (Resume wire client number version holdings) ms tells)
 after-store schema (Ask number fresh parts ∷ ms) gs store tells = after-store schema ms gs store (All-tail (TellsRows schema) (Ask number fresh parts) ms tells)
 after-store schema (Write number sql ∷ ms) gs store tells = after-store schema ms gs store (All-tail (TellsRows schema) (Write number sql) ms tells)
 

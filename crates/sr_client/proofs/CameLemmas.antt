@@ -24,6 +24,7 @@ use Rattle.sr_query.specs.declared.query.Part.{Part}
 use Rattle.sr_history.specs.declared.mark.Mark.{Mark}
 use Rattle.sr_history.specs.Marks.{is_held, is_covered}
 use Rattle.sr_history.specs.Rests.{IsRest, Asks, nothing, covered, asked}
+use Rattle.sr_lines.specs.Own.{part_needs_own}
 use Rattle.sr_lines.specs.Sound.{is_sound_part}
 use Rattle.sr_region.specs.declared.region.Region.{Region}
 use Rattle.sr_region.specs.Regions.{rank, is_in}
@@ -42,6 +43,7 @@ use Rattle.sr_client.proofs.PartsLemmas.{EachFrom, apart-numbers, first-differs,
 use Rattle.sr_client.proofs.ToldLemmas.{includes-each}
 use Rattle.sr_client.proofs.Covers.{occurs-covers}
 use Rattle.sr_client.proofs.CoverLemmas.{covered-of, kept-all}
+use Rattle.sr_client.proofs.SendsLemmas.{rest-own}
 use Rattle.sr_client.proofs.SuitLemmas.{AreRows}
 use Rattle.sr_region.specs.Applied.{AreTables}
 
@@ -137,8 +139,8 @@ there-later schema tables regions r rs fit only arrived (part ∷ parts) (m ∷ 
 -- ---- the arrival
 
 arrival-is : (schema : List Table) (marks : List Mark) (part : Part) (m : model.Part) (ask : AskPart) (rows : List Row) → IsRestAsked schema marks part m ask
-    → AreRows schema ask rows → IsArrival schema (part ∷ []) (arrival_of schema ask rows)
-arrival-is schema marks part m ask rows a are =
+    → part_needs_own schema m ≡ true → AreRows schema ask rows → IsArrival schema (part ∷ []) (arrival_of schema ask rows)
+arrival-is schema marks part m ask rows a own are =
     let table = asked-table schema marks part m ask a in
     let need = asked-need schema marks part m ask a in
     let fits = asked-fits schema marks part m ask a in
@@ -148,6 +150,7 @@ arrival-is schema marks part m ask rows a are =
       table = subst (λ t. t < length schema) (sym table) (part-table schema part m a.is a.sound);
       key = refl;
       has_key = key;
+      own = rest-own schema marks m ask a.rest own;
       some = λ none. some none;
       fit = fits;
       only = a.rest.bound;
@@ -240,6 +243,7 @@ arrival-later schema part parts r is = record {
   table = is.table;
   key = is.key;
   has_key = is.has_key;
+  own = is.own;
   some = is.some;
   fit = is.fit;
   only = is.only;
@@ -257,6 +261,7 @@ arrival-first schema part parts r is = record {
   table = is.table;
   key = is.key;
   has_key = is.has_key;
+  own = is.own;
   some = is.some;
   fit = is.fit;
   only = is.only;
@@ -279,18 +284,20 @@ CameOf tables ms i ask = arrived_at i ms ≡ asked_rows tables ask
 
 module _ (schema : List Table) (marks : List Mark) (ms : List Message) where
   pub all-arrive : (i : ℕ) (parts : List Part) (meant : List model.Part) (asks : List AskPart) → Asks schema marks meant asks → AllZip (IsPart schema) parts meant → list_all (is_sound_part schema) meant ≡ true
-      → EachFrom (CameRight schema ms) i asks → All (IsArrival schema parts) (arrivals_from i schema asks ms)
-  all-arrive i parts meant asks nothing zip sound came = All-nil (IsArrival schema parts)
-  all-arrive i [] meant asks (covered m others more free rest) zip sound came = absurd zip
-  all-arrive i (p ∷ parts) meant asks (covered m others more free rest) zip sound came =
+      → list_all (part_needs_own schema) meant ≡ true → EachFrom (CameRight schema ms) i asks → All (IsArrival schema parts) (arrivals_from i schema asks ms)
+  all-arrive i parts meant asks nothing zip sound own came = All-nil (IsArrival schema parts)
+  all-arrive i [] meant asks (covered m others more free rest) zip sound own came = absurd zip
+  all-arrive i (p ∷ parts) meant asks (covered m others more free rest) zip sound own came =
       let s = and_parts (is_sound_part schema m) (list_all (is_sound_part schema) others) sound in
-      All-weaker (IsArrival schema parts) (IsArrival schema (p ∷ parts)) (arrival-later schema p parts) (arrivals_from i schema more ms) (all-arrive i parts others more rest zip.1 s.1 came)
-  all-arrive i [] meant asks (asked m others ask more is rest) zip sound came = absurd zip
-  all-arrive i (p ∷ parts) meant asks (asked m others ask more is rest) zip sound came =
+      let o = and_parts (part_needs_own schema m) (list_all (part_needs_own schema) others) own in
+      All-weaker (IsArrival schema parts) (IsArrival schema (p ∷ parts)) (arrival-later schema p parts) (arrivals_from i schema more ms) (all-arrive i parts others more rest zip.1 s.1 o.1 came)
+  all-arrive i [] meant asks (asked m others ask more is rest) zip sound own came = absurd zip
+  all-arrive i (p ∷ parts) meant asks (asked m others ask more is rest) zip sound own came =
       let s = and_parts (is_sound_part schema m) (list_all (is_sound_part schema) others) sound in
+      let o = and_parts (part_needs_own schema m) (list_all (part_needs_own schema) others) own in
       All-cons (IsArrival schema (p ∷ parts)) (arrival_of schema ask (arrived_at i ms)) (arrivals_from (i + 1) schema more ms)
-      (arrival-first schema p parts (arrival_of schema ask (arrived_at i ms)) (arrival-is schema marks p m ask (arrived_at i ms) (record { is = zip.0; sound = s.0; rest = is }) came.0))
-      (All-weaker (IsArrival schema parts) (IsArrival schema (p ∷ parts)) (arrival-later schema p parts) (arrivals_from (i + 1) schema more ms) (all-arrive (i + 1) parts others more rest zip.1 s.1 came.1))
+      (arrival-first schema p parts (arrival_of schema ask (arrived_at i ms)) (arrival-is schema marks p m ask (arrived_at i ms) (record { is = zip.0; sound = s.0; rest = is }) o.0 came.0))
+      (All-weaker (IsArrival schema parts) (IsArrival schema (p ∷ parts)) (arrival-later schema p parts) (arrivals_from (i + 1) schema more ms) (all-arrive (i + 1) parts others more rest zip.1 s.1 o.1 came.1))
 
   -- of a table that no part names nothing was asked
   others-differ : (i t : ℕ) (meant : List model.Part) (asks : List AskPart) → Asks schema marks meant asks → is_named t meant ≡ false → All (IsOther t) (arrivals_from i schema asks ms)
@@ -376,29 +383,31 @@ module _ (schema : List Table) (marks : List Mark) (ms : List Message) where
 
     -- of each part, the points are held or arrive
     pub there-all : (i : ℕ) (stamps : Stamps) (regions : List Region) (parts : List Part) (meant : List model.Part) (asks : List AskPart) → Asks schema marks meant asks → AllZip (IsPart schema) parts meant
-        → list_all (is_sound_part schema) meant ≡ true → are_different (map (λ (m : model.Part). m.table) meant) ≡ true → KeepsPoints schema (is_held marks) stamps regions
+        → list_all (is_sound_part schema) meant ≡ true → list_all (part_needs_own schema) meant ≡ true → are_different (map (λ (m : model.Part). m.table) meant) ≡ true → KeepsPoints schema (is_held marks) stamps regions
         → EachFrom (CameRight schema ms) i asks → EachFrom (CameOf tables ms) i asks → AllZip (IsThere schema tables regions (arrivals_from i schema asks ms)) parts meant
-    there-all i stamps regions [] meant asks nothing zip sound differ keeps right came = tt
-    there-all i stamps regions (p ∷ parts) meant asks nothing zip sound differ keeps right came = absurd zip
-    there-all i stamps regions [] meant asks (covered m others more free rest) zip sound differ keeps right came = absurd zip
-    there-all i stamps regions (p ∷ parts) meant asks (covered m others more free rest) zip sound differ keeps right came =
+    there-all i stamps regions [] meant asks nothing zip sound owns differ keeps right came = tt
+    there-all i stamps regions (p ∷ parts) meant asks nothing zip sound owns differ keeps right came = absurd zip
+    there-all i stamps regions [] meant asks (covered m others more free rest) zip sound owns differ keeps right came = absurd zip
+    there-all i stamps regions (p ∷ parts) meant asks (covered m others more free rest) zip sound owns differ keeps right came =
         let s = and_parts (is_sound_part schema m) (list_all (is_sound_part schema) others) sound in
+        let o = and_parts (part_needs_own schema m) (list_all (part_needs_own schema) others) owns in
         let far = others-differ i p.table others more rest (subst (λ t. is_named t others ≡ false) (sym zip.0.table) (first-differs m others differ)) in (
           record {
             over = part-over schema tables p m zip.0 s.0 are.points;
             brings = record {
-              suit = suit-others schema p parts (arrivals_from i schema more ms) (all-arrive i parts others more rest zip.1 s.1 right) far;
+              suit = suit-others schema p parts (arrivals_from i schema more ms) (all-arrive i parts others more rest zip.1 s.1 o.1 right) far;
               arrived = all-came i parts others more rest zip.1 s.1 came;
             };
             points = λ r point.
                 ap (λ b. is_kept p regions r || (in_any p.rects r && b)) (none-new p.table r (arrivals_from i schema more ms) far)
                 ∙ kept-all schema marks stamps regions p m keeps zip.0 free r point;
           },
-          there-all i stamps regions parts others more rest zip.1 s.1 (rest-differs m others differ) keeps right came,
+          there-all i stamps regions parts others more rest zip.1 s.1 o.1 (rest-differs m others differ) keeps right came,
         )
-    there-all i stamps regions [] meant asks (asked m others ask more is rest) zip sound differ keeps right came = absurd zip
-    there-all i stamps regions (p ∷ parts) meant asks (asked m others ask more is rest) zip sound differ keeps right came =
+    there-all i stamps regions [] meant asks (asked m others ask more is rest) zip sound owns differ keeps right came = absurd zip
+    there-all i stamps regions (p ∷ parts) meant asks (asked m others ask more is rest) zip sound owns differ keeps right came =
         let s = and_parts (is_sound_part schema m) (list_all (is_sound_part schema) others) sound in
+        let o = and_parts (part_needs_own schema m) (list_all (part_needs_own schema) others) owns in
         let a : IsRestAsked schema marks p m ask = record { is = zip.0; sound = s.0; rest = is } in
         let none = first-differs m others differ in
         let far = others-differ (i + 1) p.table others more rest (subst (λ t. is_named t others ≡ false) (sym zip.0.table) none) in
@@ -410,12 +419,12 @@ module _ (schema : List Table) (marks : List Mark) (ms : List Message) where
             brings = record {
               suit = All-cons (Suits schema p) (arrival_of schema ask (arrived_at i ms)) (arrivals_from (i + 1) schema more ms)
                   (record { fit = fits; only = is.bound; need = λ same. asked-need schema marks p m ask a })
-                  (suit-others schema p parts (arrivals_from (i + 1) schema more ms) (all-arrive (i + 1) parts others more rest zip.1 s.1 right.1) far);
+                  (suit-others schema p parts (arrivals_from (i + 1) schema more ms) (all-arrive (i + 1) parts others more rest zip.1 s.1 o.1 right.1) far);
               arrived = All-cons (HasArrived tables) (arrival_of schema ask (arrived_at i ms)) (arrivals_from (i + 1) schema more ms) own arrived;
             };
             points = all-there schema marks stamps p m ask (arrived_at i ms) (arrivals_from (i + 1) schema more ms) regions a keeps far;
           },
           there-later schema tables regions (arrival_of schema ask (arrived_at i ms)) (arrivals_from (i + 1) schema more ms) fits is.bound own parts others zip.1
               (subst (λ t. is_named t others ≡ false) (sym is.table) none)
-              (there-all (i + 1) stamps regions parts others more rest zip.1 s.1 (rest-differs m others differ) keeps right.1 came.1),
+              (there-all (i + 1) stamps regions parts others more rest zip.1 s.1 o.1 (rest-differs m others differ) keeps right.1 came.1),
         )

@@ -78,7 +78,7 @@ module _ (c : Client) (o : code.AskOut) (h : Hidden) (f : Facts (asking c o) h) 
 
   arrive : All (IsArrival c.schema o.query.parts) (arrivals_of c.schema o.parts c.laid)
   arrive =
-      all-arrive c.schema h.marks c.laid 0 o.query.parts h.meaning.parts o.parts (is-out c o h f).1.asks f.meant.0.query.parts (are-sound c.schema o.query h.meaning f.meant.0) came-right
+      all-arrive c.schema h.marks c.laid 0 o.query.parts h.meaning.parts o.parts (is-out c o h f).1.asks f.meant.0.query.parts (are-sound c.schema o.query h.meaning f.meant.0) f.meant.0.own came-right
 
   -- where the rows are not given up
   module _ (whole : is_given_up o.fresh c.laid ≡ false) where

@@ -20,8 +20,8 @@ known-max v (Reply k u ∷ ms) = known-max v ms
 known-max v (Written k u ∷ ms) = known-max v ms
 known-max v (Refused k fault ∷ ms) = known-max v ms
 known-max v (Welcome k u kept ∷ ms) = known-max v ms
-known-max v (Hello client number ∷ ms) = known-max v ms
-known-max v (Resume client number version holdings ∷ ms) = known-max v ms
+known-max v (Hello wire client number ∷ ms) = known-max v ms
+known-max v (Resume wire client number version holdings ∷ ms) = known-max v ms
 known-max v (Ask number fresh parts ∷ ms) = known-max v ms
 known-max v (Write number sql ∷ ms) = known-max v ms
 
@@ -34,8 +34,8 @@ known-append v (Reply k u ∷ ms) m = known-append v ms m
 known-append v (Written k u ∷ ms) m = known-append v ms m
 known-append v (Refused k fault ∷ ms) m = known-append v ms m
 known-append v (Welcome k u kept ∷ ms) m = known-append v ms m
-known-append v (Hello client number ∷ ms) m = known-append v ms m
-known-append v (Resume client number version holdings ∷ ms) m = known-append v ms m
+known-append v (Hello wire client number ∷ ms) m = known-append v ms m
+known-append v (Resume wire client number version holdings ∷ ms) m = known-append v ms m
 known-append v (Ask number fresh parts ∷ ms) m = known-append v ms m
 known-append v (Write number sql ∷ ms) m = known-append v ms m
 
@@ -51,8 +51,8 @@ other-kind last (Reply k w) none = refl
 other-kind last (Written k w) none = refl
 other-kind last (Refused k fault) none = refl
 other-kind last (Welcome k w kept) none = refl
-other-kind last (Hello client n) none = refl
-other-kind last (Resume client n v holdings) none = refl
+other-kind last (Hello wire client n) none = refl
+other-kind last (Resume wire client n v holdings) none = refl
 other-kind last (Ask n mode parts) none = refl
 other-kind last (Write n sql) none = refl
 
@@ -66,8 +66,8 @@ own-kind last (Reply k w) some = absurd (cc)
 own-kind last (Written k w) some = absurd (cc)
 own-kind last (Refused k fault) some = absurd (cc)
 own-kind last (Welcome k w kept) some = absurd (cc)
-own-kind last (Hello client n) some = absurd (cc)
-own-kind last (Resume client n v holdings) some = absurd (cc)
+own-kind last (Hello wire client n) some = absurd (cc)
+own-kind last (Resume wire client n v holdings) some = absurd (cc)
 own-kind last (Ask n mode parts) some = absurd (cc)
 own-kind last (Write n sql) some = absurd (cc)
 

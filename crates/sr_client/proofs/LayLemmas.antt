@@ -54,8 +54,8 @@ is-for schema r pre version (Reply k w) fit = tt
 is-for schema r pre version (Written k w) fit = tt
 is-for schema r pre version (Refused k fault) fit = tt
 is-for schema r pre version (Welcome k w kept) fit = tt
-is-for schema r pre version (Hello client n) fit = tt
-is-for schema r pre version (Resume client n v holdings) fit = tt
+is-for schema r pre version (Hello wire client n) fit = tt
+is-for schema r pre version (Resume wire client n v holdings) fit = tt
 is-for schema r pre version (Ask n mode parts) fit = tt
 is-for schema r pre version (Write n sql) fit = tt
 
@@ -113,8 +113,8 @@ only-laid schema out pre version (Reply k w) fit reply written refused welcome =
 only-laid schema out pre version (Written k w) fit reply written refused welcome = absurd (written k w refl)
 only-laid schema out pre version (Refused k fault) fit reply written refused welcome = absurd (refused k fault refl)
 only-laid schema out pre version (Welcome k w kept) fit reply written refused welcome = absurd (welcome k w kept refl)
-only-laid schema out pre version (Hello client n) fit reply written refused welcome = absurd (cc)
-only-laid schema out pre version (Resume client n v holdings) fit reply written refused welcome = absurd (cc)
+only-laid schema out pre version (Hello wire client n) fit reply written refused welcome = absurd (cc)
+only-laid schema out pre version (Resume wire client n v holdings) fit reply written refused welcome = absurd (cc)
 only-laid schema out pre version (Ask n mode asks) fit reply written refused welcome = absurd (cc)
 only-laid schema out pre version (Write n sql) fit reply written refused welcome = absurd (cc)
 

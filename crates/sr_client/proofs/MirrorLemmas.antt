@@ -17,14 +17,13 @@ use Rattle.sr_session.specs.Sessions.{Database}
 use Rattle.sr_session.specs.Places.{Places, held}
 use Rattle.sr_session.specs.Clients.{mirror_of}
 use Rattle.sr_session.specs.Regions.{AreAt, LieIn}
-use Rattle.sr_session.proofs.MarkLemmas.{held-some}
 use Rattle.sr_client.specs.declared.client.Client.{Client}
 use Rattle.sr_client.specs.Stands.{Hidden, Facts, past_of}
 use Rattle.sr_client.proofs.OverLemmas.{on, IsHere}
 
 -- the points of a region are among these
 abbrev Lies : List Table → Places → Region → Type 0
-Lies schema places region = (p : Row) → is_point (table_at schema region.table).columns p ≡ true → in_any region.rects p ≡ true → places region.table p ≡ true
+Lies schema places region = (p : Row) → is_point (table_at schema region.table).columns p ≡ true → in_any region.rects p ≡ true → places region.table region.attrs p ≡ true
 
 -- a point in the rects of the first region occurs
 first-occurs : (g : Region) (gs : List Region) (p : Row) → in_any g.rects p ≡ true → occurs (g ∷ gs) g.table g.attrs p ≡ 0 → ⊥
@@ -44,7 +43,7 @@ lies-of : (schema : List Table) (marks : List Mark) (gs : List Region) → ((t a
 lies-of schema marks [] each = All-nil (Lies schema (held marks))
 lies-of schema marks (g ∷ gs) each =
     All-cons (Lies schema (held marks)) g gs
-    (λ p point inside. held-some marks g.table g.attrs p (each g.table g.attrs p point (first-occurs g gs p inside)))
+    (λ p point inside. each g.table g.attrs p point (first-occurs g gs p inside))
     (lies-of schema marks gs (λ t a p point some. each t a p point (λ none. some (less (if is_of g t a then times g.rects p else 0) (occurs gs t a p) none))))
   where
     less : (n m : ℕ) → n + m ≡ 0 → m ≡ 0

@@ -128,7 +128,7 @@ module _ (c : Client) (o : code.AskOut) (number version : ℕ) (store : Store) (
           gives c.schema (tables_of db version) h.meaning (is-joinable c.schema (tables_of db version) o.query h.meaning f.meant.0 are.ascending)
           (record { each = now.store.each; are_true = now.are_true })
           (there-all c.schema h.marks c.laid (tables_of db version) are 0 (stamp h.queries) (after_messages c.laid c.store.regions) o.query.parts h.meaning.parts o.parts (is-out c o h f).1.asks
-          f.meant.0.query.parts (are-sound c.schema o.query h.meaning f.meant.0) (tables-differ c.schema o.query h.meaning f.meant.0) (laid-keeps c o h f values whole) (came-right c o h f values) came)
+          f.meant.0.query.parts (are-sound c.schema o.query h.meaning f.meant.0) f.meant.0.own (tables-differ c.schema o.query h.meaning f.meant.0) (laid-keeps c o h f values whole) (came-right c o h f values) came)
 
       reply-goes : rules.TakeStep (basis_of (on c db) c.store.limits) (past_of (asking c o) h) (Reply number version) (rules.Answered o.query_number version rows marks)
           (answered (past_of (asking c o) h) (with_answered o.query_number h.meaning h.queries) from version marks)

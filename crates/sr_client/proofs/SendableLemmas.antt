@@ -29,19 +29,20 @@ use Rattle.sr_history.specs.Rests.{IsRest, Asks, nothing, covered, asked}
 use Rattle.sr_region.specs.declared.region.Region.{Region}
 use Rattle.sr_store.specs.Stores.{IsOfSchema, count_rects}
 use Rattle.sr_session.specs.Refusals.{are_columns, suits_table, part_suits}
+use Rattle.sr_session.specs.Resumable.{region_holding}
 use Rattle.sr_session.specs.Rules.{counted}
 use Rattle.sr_session.proofs.TableLemmas.{HasColumns, one-table}
 use Rattle.sr_client.specs.Arriving.{is_empty}
 use Rattle.sr_client.specs.Bound.{IsMeaning}
 use Rattle.sr_client.specs.Cutting.{EndWith, AsksEnd}
-use Rattle.sr_client.specs.Sends.{IsWellSent, IsOfFormat, QuerySendsWell, holding_of, first_of}
+use Rattle.sr_client.specs.Sends.{IsWellSent, IsOfFormat, QuerySendsWell, first_of}
 use Rattle.sr_client.specs.Sending.{IsSent}
 use Rattle.sr_client.specs.Stands.{Hidden, Facts, Stands, asks_short}
 use Rattle.sr_client.specs.declared.client.Client.{Client}
 use Rattle.sr_client.specs.declared.steps.QueryStep.{QueryStep}
 use Rattle.sr_client.proofs.ResumeLemmas.{first-well}
 use Rattle.sr_client.proofs.SendLemmas.{MayAsk, are-asked, ask-ends}
-use Rattle.sr_client.proofs.SendsLemmas.{ask-well}
+use Rattle.sr_client.proofs.SendsLemmas.{ask-well, own-columns}
 use Rattle.sr_client.proofs.ShortLemmas.{rects-may, counted-short, meaning-short}
 
 -- ---- numbers
@@ -159,30 +160,33 @@ abbrev EndsWith : List Table → List model.Query → Region → Type 0
 EndsWith schema queries g = EndWith schema queries g.table g.rects
 
 held-may : (schema : List Table) (queries : List model.Query) (gs : List Region) → list_all is_table schema ≡ true → length schema ≤ 16 → list_all asks_short queries ≡ true → All (IsOfSchema schema) gs
-    → All (EndsWith schema queries) gs → count_rects gs ≤ 16384 → list_all may_write_holding (map holding_of gs) ≡ true
+    → All (EndsWith schema queries) gs → count_rects gs ≤ 16384 → list_all (may_write_holding 2) (map region_holding gs) ≡ true
 held-may schema queries [] tables most short each ends few = refl
 held-may schema queries (g ∷ gs) tables most short each ends few =
     let is = All-head (IsOfSchema schema) g gs each in
     let count = sum_by-cons (λ (g : Region). length g.rects) g gs in
     let there = is.0 in
+    let columns = has-columns schema g.table tables is.0 in
+    let attrs = attrs-few g.attrs (length (table_at schema g.table).columns) (own-columns (table_at schema g.table) g.attrs is.1.area.own) columns.few in
     both_true
     (both_true (from-to 0 15 g.table (omega arith) (omega (arith, there, most)))
-    (table-rects schema g.table queries g.rects tables is.0 short (All-head (EndsWith schema queries) g gs ends) is.1.area.some (omega (arith, count, few)) is.1.area.fit))
+    (both_true (from-to 0 4095 g.attrs (omega arith) attrs)
+    (table-rects schema g.table queries g.rects tables is.0 short (All-head (EndsWith schema queries) g gs ends) is.1.area.some (omega (arith, count, few)) is.1.area.fit)))
     (held-may schema queries gs tables most short (All-tail (IsOfSchema schema) g gs each) (All-tail (EndsWith schema queries) g gs ends) (omega (arith, count, few)))
 
-held-count : (gs : List Region) → count_held (map holding_of gs) ≡ count_rects gs
+held-count : (gs : List Region) → count_held (map region_holding gs) ≡ count_rects gs
 held-count [] = refl
 held-count (g ∷ gs) =
-    let here = sum_by-cons (λ (h : Holding). length h.rects) (holding_of g) (map holding_of gs) in
+    let here = sum_by-cons (λ (h : Holding). length h.rects) (region_holding g) (map region_holding gs) in
     let there = sum_by-cons (λ (g : Region). length g.rects) g gs in
     here ∙ (ap (λ n. length g.rects + n) (held-count gs) ∙ sym there)
 
-held-length : (gs : List Region) → length (map holding_of gs) ≡ length gs
+held-length : (gs : List Region) → length (map region_holding gs) ≡ length gs
 held-length [] = refl
 held-length (g ∷ gs) = ap (λ n. suc n) (held-length gs)
 
 first-sendable : (c : Client) (h : Hidden) → Facts c h → IsOfFormat c → length c.schema ≤ 16 → (gs : List Region) → c.store.regions ≡ gs → IsSendable (first_of c gs)
-first-sendable c h f format most [] same = few_are_sendable (Hello c.id c.next_request) (from-to 1 64 c.id format.first format.last) refl
+first-sendable c h f format most [] same = few_are_sendable (Hello 2 c.id c.next_request) (from-to 1 64 c.id format.first format.last) refl
 first-sendable c h f format most (g ∷ gs) same =
     let queries = counted h.counted_from h.queries in
     let each = subst (All (IsOfSchema c.schema)) same f.store.each in
@@ -192,11 +196,11 @@ first-sendable c h f format most (g ∷ gs) same =
     let room = format.regions in
     let count = held-count (g ∷ gs) in
     let long = held-length (g ∷ gs) in
-    few_are_sendable (Resume c.id c.next_request c.version (map holding_of (g ∷ gs)))
+    few_are_sendable (Resume 2 c.id c.next_request c.version (map region_holding (g ∷ gs)))
     (both_true (from-to 1 64 c.id format.first format.last)
-    (both_true (from-to 1 1024 (length (map holding_of (g ∷ gs))) (omega arith) (omega (arith, long, regions, room)))
+    (both_true (from-to 1 1024 (length (map region_holding (g ∷ gs))) (omega arith) (omega (arith, long, regions, room)))
     (held-may c.schema (counted h.counted_from h.queries) (g ∷ gs) f.tables most (counted-short h.counted_from h.queries f.short) each ends rects)))
-    (le-leb (count_held (map holding_of (g ∷ gs))) most_rects (omega (arith, count, rects)))
+    (le-leb (count_held (map region_holding (g ∷ gs))) most_rects (omega (arith, count, rects)))
 
 pub first-sent : (c : Client) → Stands c → IsOfFormat c → length c.schema ≤ 16 → IsWellSent c.schema c.id (first_of c c.store.regions)
 first-sent c stands format most = record { request = first-well c stands; sendable = first-sendable c stands.0 stands.1 format most c.store.regions refl }

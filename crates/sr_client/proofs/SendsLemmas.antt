@@ -1,6 +1,6 @@
 -- What is asked of a query suits the schema.
 use Rattle.std.proofs.Common.{◌≡◌, ℕ, zero, suc, ◌+◌, ◌-◌, ◌/◌, ◌%◌, ◌^◌, ◌≤◌, ◌<◌, Bool, true, false, inl, inr, List, [], ◌∷◌, length, refl, sym, ◌∙◌, ap, subst, arith}
-use Rattle.std.specs.Prelude.{◌&&◌, ◌==◌, nat_lt, nat_le, slice_set}
+use Rattle.std.specs.Prelude.{◌&&◌, ◌==◌, ◌⊎◌, nat_lt, nat_le, slice_set}
 use Rattle.std.specs.List.{list_all}
 use Rattle.std.specs.Cmp.Derive.{both_true}
 use Rattle.std.proofs.Math.Nat.{zero-div}
@@ -22,6 +22,7 @@ use Rattle.sr_query.specs.declared.query.Query.{Query}
 use Rattle.sr_history.specs.declared.mark.Mark.{Mark}
 use Rattle.sr_history.specs.Rests.{rest_of, IsRest, Asks, nothing, covered, asked}
 use Rattle.sr_lines.specs.Sound.{is_sound_part}
+use Rattle.sr_region.specs.Regions.{AreColumnsOf}
 use Rattle.sr_session.specs.Refusals.{are_columns, suits_table, part_suits, is_request_of}
 use Rattle.sr_client.specs.Bound.{IsMeaning}
 use Rattle.sr_client.proofs.MeantLemmas.{are-sound}
@@ -48,6 +49,14 @@ none-beyond attrs n c own le =
     empty : (k : ℕ) → has_column 0 k ≡ false
     empty k = ap (λ x. x % 2 == 1) (zero-div (2 ^ k))
 
+-- columns of the table have none beyond it
+pub own-columns : (table : Table) (attrs : ℕ) → AreColumnsOf table attrs → are_columns attrs (length table.columns) ≡ true
+own-columns table attrs own = are-own attrs (length table.columns) (λ c far. by c far (has_column attrs c) refl)
+  where
+    by : (c : ℕ) → length table.columns ≤ c → (b : Bool) → has_column attrs c ≡ b → b ≡ false
+    by c far false is = refl
+    by c far true is = absurd (let less = own c is in omega (arith, less, far))
+
 -- ---- essential columns are the table's
 
 set-beyond : (p : Row) (c : ℕ) (v : Cell) → length p ≤ c → slice_set p c v ≡ p
@@ -63,6 +72,19 @@ essential-own cs a c is = elim (cases_lt c (length cs)) [
       let same = set-beyond is.inside c is.other (omega (arith, beyond, len)) in
       absurd (let wrong : true ≡ false = sym is.is_inside.1 ∙ (ap a (sym same) ∙ is.is_outside.1) in cc)
 ]
+
+-- the columns of a rest are the table's
+pub rest-own : (schema : List Table) (marks : List Mark) (part : model.Part) (ask : AskPart) → IsRest schema marks part ask
+    → are_columns part.need (length (table_at schema part.table).columns) ≡ true → AreColumnsOf (table_at schema ask.table) ask.attrs
+rest-own schema marks part ask is own = subst (λ t. AreColumnsOf (table_at schema t) ask.attrs) (sym is.table) (λ c has. elim ((is.columns c).0 has) [
+  | inl need ↦ needed c need (cases_lt c (length (table_at schema part.table).columns))
+  | inr essential ↦ essential-own (table_at schema part.table).columns (rest_of marks part) c essential
+])
+  where
+    needed : (c : ℕ) → has_column part.need c ≡ true → (c < length (table_at schema part.table).columns) ⊎ (length (table_at schema part.table).columns ≤ c)
+        → c < length (table_at schema part.table).columns
+    needed c need (inl less) = less
+    needed c need (inr beyond) = absurd (let wrong : true ≡ false = sym need ∙ none-beyond part.need (length (table_at schema part.table).columns) c own beyond in cc)
 
 -- ---- a rest suits the schema
 

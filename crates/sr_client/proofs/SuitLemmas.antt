@@ -100,8 +100,8 @@ version-least (Reply k w) v = omega arith
 version-least (Written k w) v = omega arith
 version-least (Refused k fault) v = omega arith
 version-least (Welcome k w kept) v = omega arith
-version-least (Hello client number) v = omega arith
-version-least (Resume client number version holdings) v = omega arith
+version-least (Hello wire client number) v = omega arith
+version-least (Resume wire client number version holdings) v = omega arith
 version-least (Ask number fresh parts) v = omega arith
 version-least (Write number sql) v = omega arith
 
@@ -332,8 +332,8 @@ module _ (schema : List Table) (asks : List AskPart) (number query version : ℕ
   rows-on pre (Written k w ∷ ms) acc last fit came values behind a = rows-on (pre ++ Written k w ∷ []) ms acc last fit.1 (came-on pre (Written k w) last came) values behind a
   rows-on pre (Refused k fault ∷ ms) acc last fit came values behind a = rows-on (pre ++ Refused k fault ∷ []) ms acc last fit.1 (came-on pre (Refused k fault) last came) values behind a
   rows-on pre (Welcome k w kept ∷ ms) acc last fit came values behind a = rows-on (pre ++ Welcome k w kept ∷ []) ms acc last fit.1 (came-on pre (Welcome k w kept) last came) values behind a
-  rows-on pre (Hello client n ∷ ms) acc last fit came values behind a = absurd (let wrong = fit.0 in cc)
-  rows-on pre (Resume client n v holdings ∷ ms) acc last fit came values behind a = absurd (let wrong = fit.0 in cc)
+  rows-on pre (Hello wire client n ∷ ms) acc last fit came values behind a = absurd (let wrong = fit.0 in cc)
+  rows-on pre (Resume wire client n v holdings ∷ ms) acc last fit came values behind a = absurd (let wrong = fit.0 in cc)
   rows-on pre (Ask n mode parts ∷ ms) acc last fit came values behind a = absurd (let wrong = fit.0 in cc)
   rows-on pre (Write n sql ∷ ms) acc last fit came values behind a = absurd (let wrong = fit.0 in cc)
 
@@ -355,8 +355,8 @@ laid-tells schema out version pre (Reply k w ∷ ms) fit values = All-cons (Tell
 laid-tells schema out version pre (Written k w ∷ ms) fit values = All-cons (TellsRows schema) (Written k w) ms tt (laid-tells schema out version (pre ++ Written k w ∷ []) ms fit.1 values)
 laid-tells schema out version pre (Refused k fault ∷ ms) fit values = All-cons (TellsRows schema) (Refused k fault) ms tt (laid-tells schema out version (pre ++ Refused k fault ∷ []) ms fit.1 values)
 laid-tells schema out version pre (Welcome k w kept ∷ ms) fit values = All-cons (TellsRows schema) (Welcome k w kept) ms tt (laid-tells schema out version (pre ++ Welcome k w kept ∷ []) ms fit.1 values)
-laid-tells schema out version pre (Hello client n ∷ ms) fit values = absurd (let wrong = fit.0 in cc)
-laid-tells schema out version pre (Resume client n v holdings ∷ ms) fit values = absurd (let wrong = fit.0 in cc)
+laid-tells schema out version pre (Hello wire client n ∷ ms) fit values = absurd (let wrong = fit.0 in cc)
+laid-tells schema out version pre (Resume wire client n v holdings ∷ ms) fit values = absurd (let wrong = fit.0 in cc)
 laid-tells schema out version pre (Ask n mode parts ∷ ms) fit values = absurd (let wrong = fit.0 in cc)
 laid-tells schema out version pre (Write n sql ∷ ms) fit values = absurd (let wrong = fit.0 in cc)
 

@@ -1,12 +1,12 @@
 -- What a client sends: requests of its own that suit the schema and the format, and the first message of a session.
 use Rattle.std.specs.Prelude.{ℕ, ◌≤◌, true, ◌≡◌, List, [], ◌∷◌, map}
 use Rattle.sr_cell.specs.declared.table.Table.{Table}
-use Rattle.sr_message.specs.declared.message.Holding.{Holding}
 use Rattle.sr_message.specs.declared.message.Message.{Message}
 use Rattle.sr_message.specs.declared.message.Message.TheVariants.{Hello, Resume}
 use Rattle.sr_wire.specs.Limits.{IsSendable}
 use Rattle.sr_region.specs.declared.region.Region.{Region}
 use Rattle.sr_session.specs.Refusals.{is_request_of}
+use Rattle.sr_session.specs.Resumable.{region_holding}
 use Rattle.sr_client.specs.declared.client.Client.{Client}
 use Rattle.sr_client.specs.declared.steps.QueryStep.{QueryStep}
 use Rattle.sr_client.specs.declared.steps.QueryStep.TheVariants as query
@@ -48,14 +48,10 @@ pub record IsOfFormat (c : Client) : Type 0 where
 
 -- ---- the first message of a session
 
--- the points of a region
-abbrev pub holding_of : Region → Holding
-holding_of region = record { table = region.table; rects = region.rects }
-
--- a Hello where there are no regions, or a Resume of the version with the points of them all
+-- a Hello where there are no regions, or a Resume of the version with the points of them all, under their columns
 abbrev pub first_of : Client → List Region → Message
-first_of c [] = Hello c.id c.next_request
-first_of c (region ∷ regions) = Resume c.id c.next_request c.version (map holding_of (region ∷ regions))
+first_of c [] = Hello 2 c.id c.next_request
+first_of c (region ∷ regions) = Resume 2 c.id c.next_request c.version (map region_holding (region ∷ regions))
 
 -- what is sent, if anything is, is the first message of the client's next session
 abbrev pub SendsFirst : Client → ResumeStep → Type 0

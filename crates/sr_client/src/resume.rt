@@ -1,8 +1,9 @@
 //! How a client begins a session anew.
 ghost use Rattle.std.specs.Prelude.{◌≡◌, ◌+◌, ◌<◌, ◌≤◌, ◌^◌, length, map, IfOk, OnOk, OnErr};
-ghost use Rattle.sr_client.specs.Sends.{IsOfFormat, ResumeSendsWell, SendsFirst, first_of, holding_of};
+ghost use Rattle.sr_client.specs.Sends.{IsOfFormat, ResumeSendsWell, SendsFirst, first_of};
 ghost use Rattle.sr_client.specs.Stands.{Stands, Stays, drawn};
 ghost use Rattle.sr_client.specs.Steps.{Resumes};
+ghost use Rattle.sr_session.specs.Resumable.{region_holding};
 
 use crate::client::{Client, Request};
 use crate::steps::ResumeStep;
@@ -13,7 +14,7 @@ use std::alloc::Global;
 
 impl Client {
     /// Begins a session over a cut link: a Hello where nothing is held, else a Resume of the client's version with all points that
-    /// are held. Nothing is done where the link is not cut, nor when memory ran out.
+    /// are held, under their columns. Nothing is done where the link is not cut, nor when memory ran out.
     pub fn resume(&mut self, alloc: Global) -> Result<ResumeStep, NoMemory>
         requires stands { Stands self.old }
         requires room { drawn self.old + 2 < 2 ^ 63 }
@@ -40,6 +41,9 @@ impl Client {
     }
 }
 
+/// The version of the format that a client speaks.
+const WIRE: u8 = 2;
+
 /// The most tables of a schema.
 const MOST_TABLES: usize = 16;
 
@@ -55,11 +59,13 @@ fn first_of(alloc: Global, client: &Client) -> Result<Message, NoMemory>
     let regions = client.store.regions.as_slice();
     if regions.is_empty() {
         return Ok(Message::Hello {
+            wire: WIRE,
             client: client.id,
             number: client.next_request,
         });
     }
     Ok(Message::Resume {
+        wire: WIRE,
         client: client.id,
         number: client.next_request,
         version: client.version,
@@ -67,14 +73,15 @@ fn first_of(alloc: Global, client: &Client) -> Result<Message, NoMemory>
     })
 }
 
-/// The points of regions.
+/// The points of regions, under their columns.
 fn holdings_of(alloc: Global, regions: &[Region]) -> Result<Holdings, NoMemory>
-    ensures { IfOk result (λ holdings. holdings ≡ map holding_of regions.now) }
+    ensures { IfOk result (λ holdings. holdings ≡ map region_holding regions.now) }
 {
     let mut holdings = Seq::new(alloc);
     for region in regions {
         holdings.push(Holding {
             table: region.table,
+            attrs: region.attrs,
             rects: region.rects.copy(alloc)?,
         })?;
     }

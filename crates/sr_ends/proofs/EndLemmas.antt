@@ -62,8 +62,8 @@ client-number : (client : ℕ) → IsTrue (is_client client) → IsClientNumber 
 client-number client is = grind (arith, nat_tests)
 
 pub named-number : (m : Message) → IsTrue (has_spelling m) → IsClientNumber (named m)
-named-number (Hello client number) is = client-number client (first_so (is_client client) (is_long number) (fields (Hello client number) is))
-named-number (Resume client number version holdings) is = client-number client (first_so (is_client client) _ (fields (Resume client number version holdings) is))
+named-number (Hello wire client number) is = client-number client (first_so (is_client client) (is_long number) (fields (Hello wire client number) is))
+named-number (Resume wire client number version holdings) is = client-number client (first_so (is_client client) _ (fields (Resume wire client number version holdings) is))
 named-number (Ask number fresh parts) is = (omega arith, omega arith)
 named-number (Write number sql) is = (omega arith, omega arith)
 named-number (Welcome number version kept) is = (omega arith, omega arith)
@@ -109,8 +109,8 @@ session-closed client sessions session (is, are) =
 
 -- where a session is open, the number does not matter
 any-number : (schema : List Table) (session : Session) (a b : ℕ) (m : Message) → server_misfit schema (Some session) a m ≡ server_misfit schema (Some session) b m
-any-number schema session a b (Hello client number) = refl
-any-number schema session a b (Resume client number version holdings) = refl
+any-number schema session a b (Hello wire client number) = refl
+any-number schema session a b (Resume wire client number version holdings) = refl
 any-number schema session a b (Ask number fresh parts) = refl
 any-number schema session a b (Write number sql) = refl
 any-number schema session a b (Welcome number version kept) = refl
@@ -141,8 +141,8 @@ resume-opens true one two h k = h
 resume-opens false one two h k = k
 
 pub opens : (db : Database) (session : Option Session) (m : Message) (result : Result Tables Fault) → server_misfit db.schema session (named m) m ≡ None → IsOpen (taken db session m result).served.session
-opens db None (Hello client number) result fit = record { new = _; is = refl }
-opens db None (Resume client number version holdings) result fit = resume-opens _ _ _ (record { new = _; is = refl }) (record { new = _; is = refl })
+opens db None (Hello wire client number) result fit = record { new = _; is = refl }
+opens db None (Resume wire client number version holdings) result fit = resume-opens _ _ _ (record { new = _; is = refl }) (record { new = _; is = refl })
 opens db None (Ask number fresh parts) result fit = absurd (cc)
 opens db None (Write number sql) result fit = absurd (cc)
 opens db None (Welcome number version kept) result fit = absurd (cc)
@@ -152,8 +152,8 @@ opens db None (Reply number version) result fit = absurd (cc)
 opens db None (Written number version) result fit = absurd (cc)
 opens db None (Refused number fault) result fit = absurd (cc)
 opens db None (Lapse version) result fit = absurd (cc)
-opens db (Some session) (Hello client number) result fit = record { new = session; is = refl }
-opens db (Some session) (Resume client number version holdings) result fit = record { new = session; is = refl }
+opens db (Some session) (Hello wire client number) result fit = record { new = session; is = refl }
+opens db (Some session) (Resume wire client number version holdings) result fit = record { new = session; is = refl }
 opens db (Some session) (Ask number true parts) result fit = record { new = _; is = refl }
 opens db (Some session) (Ask number false parts) result fit = record { new = _; is = refl }
 opens db (Some session) (Write number sql) (Ok tables) fit = record { new = _; is = refl }

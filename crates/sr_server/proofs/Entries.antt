@@ -122,12 +122,16 @@ bare-touches (h ∷ subs) c all = by h.rects refl (bare-touches subs c)
     none None = refl
     none (Some p) = refl
 
+    never : (b : Bool) → (b && false) ≡ false
+    never true = refl
+    never false = refl
+
     by : (rects : List Rect) → h.rects ≡ rects → (list_all (λ h. is_nothing h.rects) subs ≡ true → touches subs c ≡ false) → touches (h ∷ subs) c ≡ false
     by [] is ih =
         let rest = ih (let both : (is_nothing h.rects && list_all (λ h. is_nothing h.rects) subs) ≡ true = all in grind (arith, both)) in
         let before : has_row h.rects c.before ≡ false = ap (λ rs. has_row rs c.before) is ∙ none c.before in
         let after : has_row h.rects c.after ≡ false = ap (λ rs. has_row rs c.after) is ∙ none c.after in
-        grind (arith, rest, before, after)
+        rw (before, after, never (h.table == c.table), rest) refl
     by (r ∷ rects) is ih = absurd (let wrong : (is_nothing (r ∷ rects) && list_all (λ h. is_nothing h.rects) subs) ≡ true = ap (λ rs. is_nothing rs && list_all (λ h. is_nothing h.rects) subs) (sym is) ∙ all in cc)
 
 none-touch : (subs : List Holding) (cs : List Change) → list_all (λ h. is_nothing h.rects) subs ≡ true → filter (touches subs) cs ≡ []
@@ -169,10 +173,10 @@ lost-due db session some lt =
     let lost : is_lost db session ≡ true = rw (has, lt-ltb session.upto (floor_of db) lt) refl in
     ap (λ b. due_if b db session) lost
 
-pub bare-is : (subs : List Holding) (empty : Bool) → AllByRecursion FitsSome subs → (IsTrue empty ↔ ((t : ℕ) (row : Row) → has_point subs t row ≡ false)) → list_all (λ h. is_nothing h.rects) subs ≡ empty
+pub bare-is : (subs : List Holding) (empty : Bool) → AllByRecursion FitsSome subs → (IsTrue empty ↔ ((t a : ℕ) (row : Row) → has_point subs t a row ≡ false)) → list_all (λ h. is_nothing h.rects) subs ≡ empty
 bare-is subs empty fit is = by (list_all (λ h. is_nothing h.rects) subs) empty refl refl
   where
-    own : IsTrue (list_all (λ h. is_nothing h.rects) subs) ↔ ((t : ℕ) (row : Row) → has_point subs t row ≡ false)
+    own : IsTrue (list_all (λ h. is_nothing h.rects) subs) ↔ ((t a : ℕ) (row : Row) → has_point subs t a row ≡ false)
     own = empty_where_bare subs (list_all (λ h. is_nothing h.rects) subs) fit refl
 
     by : (a b : Bool) → list_all (λ h. is_nothing h.rects) subs ≡ a → empty ≡ b → a ≡ b
@@ -283,16 +287,16 @@ lost-closing db session some lt =
 
 -- ---- sessions as their fields say
 
-abbrev pub session-of : List Holding → ℕ → Session
-session-of subscription upto = record { subscription = subscription; upto = upto }
+abbrev pub session-of : ℕ → List Holding → ℕ → Session
+session-of wire subscription upto = record { wire = wire; subscription = subscription; upto = upto }
 
-pub made-of : (one other : List Holding) (u v : ℕ) → one ≡ other → u ≡ v → session-of one u ≡ session-of other v
-made-of one other u v subscription upto = ap (λ s. session-of s u) subscription ∙ ap (λ n. session-of other n) upto
+pub made-of : (w x : ℕ) (one other : List Holding) (u v : ℕ) → w ≡ x → one ≡ other → u ≡ v → session-of w one u ≡ session-of x other v
+made-of w x one other u v wire subscription upto = ap (λ n. session-of n one u) wire ∙ ap (λ s. session-of x s u) subscription ∙ ap (λ n. session-of x other n) upto
 
 pub bare-now : (session inside : Session) (empty : Bool) → inside ≡ session → AllByRecursion FitsSome session.subscription
-    → (IsTrue empty ↔ ((t : ℕ) (row : Row) → has_point inside.subscription t row ≡ false)) → list_all (λ h. is_nothing h.rects) session.subscription ≡ empty
+    → (IsTrue empty ↔ ((t a : ℕ) (row : Row) → has_point inside.subscription t a row ≡ false)) → list_all (λ h. is_nothing h.rects) session.subscription ≡ empty
 bare-now session inside empty same fit is =
-    bare-is session.subscription empty fit (subst (λ (s : Session). IsTrue empty ↔ ((t : ℕ) (row : Row) → has_point s.subscription t row ≡ false)) same is)
+    bare-is session.subscription empty fit (subst (λ (s : Session). IsTrue empty ↔ ((t a : ℕ) (row : Row) → has_point s.subscription t a row ≡ false)) same is)
 
 pub some-due-in : (db : Database) (held : Held) (session inside : Session) (entries : List Entry) (sent : List Message) → inside ≡ session → Logs db held → session.upto ≤ newest db
     → (inside.upto < held.floor → ⊥) → entries ≡ entries_above inside.upto held → sent ≡ noticed inside.subscription entries → sent ≡ (due db session).sent
@@ -320,7 +324,7 @@ bare-or-lost db session true bare below later = bare-closing db session bare lat
 bare-or-lost db session false bare below later = lost-closing db session bare below
 
 pub dropped-closes : (db : Database) (held : Held) (session inside : Session) (empty : Bool) (v : ℕ) → inside ≡ session → Logs db held → inside.upto < held.floor
-    → v ≡ log.newest held → inside.upto < v → AllByRecursion FitsSome session.subscription → (IsTrue empty ↔ ((t : ℕ) (row : Row) → has_point inside.subscription t row ≡ false))
+    → v ≡ log.newest held → inside.upto < v → AllByRecursion FitsSome session.subscription → (IsTrue empty ↔ ((t a : ℕ) (row : Row) → has_point inside.subscription t a row ≡ false))
     → closing_if (is_lost db session) db session ≡ (if empty then Notice (newest db) [] ∷ [] else [])
 dropped-closes db held session inside empty v same keeps dropped at later fit is =
     bare-or-lost db session empty (bare-now session inside empty same fit is)

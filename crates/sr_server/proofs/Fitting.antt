@@ -1,6 +1,6 @@
 -- What a server makes of a session is one of its database, where nothing stands against the message.
 use Rattle.std.proofs.Common.{◌≡◌, ℕ, Bool, true, false, List, [], ◌∷◌, ◌++◌, length, map, refl, arith, Option, Some, None}
-use Rattle.std.specs.Prelude.{◌&&◌, not, nat_lt, nat_le}
+use Rattle.std.specs.Prelude.{◌&&◌, ◌||◌, ◌==◌, not, nat_lt, nat_le}
 use Rattle.std.specs.List.{AllByRecursion, list_all}
 use Rattle.std.proofs.lemmas.Bool.{and_parts}
 use Rattle.sr_cell.specs.declared.fault.Fault.{Fault}
@@ -17,29 +17,30 @@ use Rattle.sr_wire.specs.declared.bad_frame.BadFrame.TheVariants.{Direction, Sta
 use Rattle.sr_subs.specs.Subscription.{FitsSome}
 use Rattle.sr_session.specs.Misfits.{or_else}
 use Rattle.sr_session.specs.Sessions.{Database, Session, due, due_if, floor_of, holding_of, is_lost, newest, opened, serve, serve_ask, serve_resume, serve_write}
-use Rattle.sr_session.specs.Refusals.{are_columns, holding_suits, is_open, is_request, part_suits, server_misfit, suits_schema, suits_state, suits_table}
+use Rattle.sr_session.specs.Refusals.{are_columns, holding_suits, suits_columns, is_open, is_request, part_suits, server_misfit, suits_schema, suits_state, suits_table}
 use Rattle.sr_server.specs.Servers.{IsSession, IsSessionIf}
 
 -- ---- points
 
-holdings-fit : (schema : List Table) (holdings : List Holding) → list_all (holding_suits schema) holdings ≡ true → AllByRecursion FitsSome holdings
-holdings-fit schema [] all = tt
-holdings-fit schema (h ∷ holdings) all =
-    let both = and_parts (holding_suits schema h) (list_all (holding_suits schema) holdings) all in
-    let here = and_parts (nat_lt h.table (length schema)) (list_all (rect_fits (table_at schema h.table).columns) h.rects) both.0 in
-    (((table_at schema h.table).columns, here.1), holdings-fit schema holdings both.1)
+holdings-fit : (schema : List Table) (wire : ℕ) (holdings : List Holding) → list_all (holding_suits schema wire) holdings ≡ true → AllByRecursion FitsSome holdings
+holdings-fit schema wire [] all = tt
+holdings-fit schema wire (h ∷ holdings) all =
+    let both = and_parts (holding_suits schema wire h) (list_all (holding_suits schema wire) holdings) all in
+    let fits = and_parts (nat_lt h.table (length schema) && list_all (rect_fits (table_at schema h.table).columns) h.rects) (wire == 1 || suits_columns (table_at schema h.table) h) both.0 in
+    let here = and_parts (nat_lt h.table (length schema)) (list_all (rect_fits (table_at schema h.table).columns) h.rects) fits.0 in
+    (((table_at schema h.table).columns, here.1), holdings-fit schema wire holdings both.1)
 
 rects-fit : (table : Table) (part : AskPart) → suits_table table part ≡ true → list_all (rect_fits table.columns) part.rects ≡ true
 rects-fit table part suits =
     let only = and_parts (are_columns part.attrs (length table.columns) && has_column part.attrs table.key && list_all (rect_fits table.columns) part.rects) (list_all (constrains_only part.attrs 0) part.rects) suits in
     (and_parts (are_columns part.attrs (length table.columns) && has_column part.attrs table.key) (list_all (rect_fits table.columns) part.rects) only.0).1
 
-parts-fit : (schema : List Table) (parts : List AskPart) → list_all (part_suits schema) parts ≡ true → AllByRecursion FitsSome (map holding_of parts)
-parts-fit schema [] all = tt
-parts-fit schema (part ∷ parts) all =
+parts-fit : (schema : List Table) (wire : ℕ) (parts : List AskPart) → list_all (part_suits schema) parts ≡ true → AllByRecursion FitsSome (map (holding_of wire) parts)
+parts-fit schema wire [] all = tt
+parts-fit schema wire (part ∷ parts) all =
     let both = and_parts (part_suits schema part) (list_all (part_suits schema) parts) all in
     let here = and_parts (nat_lt part.table (length schema)) (suits_table (table_at schema part.table) part) both.0 in
-    (((table_at schema part.table).columns, rects-fit (table_at schema part.table) part here.1), parts-fit schema parts both.1)
+    (((table_at schema part.table).columns, rects-fit (table_at schema part.table) part here.1), parts-fit schema wire parts both.1)
 
 more-fit : (some others : List Holding) → AllByRecursion FitsSome some → AllByRecursion FitsSome others → AllByRecursion FitsSome (some ++ others)
 more-fit [] others all rest = rest
@@ -72,30 +73,31 @@ due-fits : (db : Database) (session : Session) (lost : Bool) → AllByRecursion 
 due-fits db session true all = tt
 due-fits db session false all = all
 
-reached : (db : Database) (subscription : List Holding) → AllByRecursion FitsSome subscription → IsSessionIf db (opened db subscription)
-reached db subscription all = record { upto = omega arith; points = all }
+reached : (db : Database) (wire : ℕ) (subscription : List Holding) → AllByRecursion FitsSome subscription → IsSessionIf db (opened db wire subscription)
+reached db wire subscription all = record { upto = omega arith; points = all }
 
 pub write-fits : (db : Database) (session : Session) (number : ℕ) (fault : Option Fault) → IsSession db session → IsSessionIf db (serve_write db session number fault).session
-write-fits db session number None is = reached db (due db session).subscription (due-fits db session (is_lost db session) is.points)
+write-fits db session number None is = reached db session.wire (due db session).subscription (due-fits db session (is_lost db session) is.points)
 write-fits db session number (Some fault) is = is
 
 ask-fits : (db : Database) (session : Session) (number : ℕ) (fresh : Bool) (parts : List AskPart) → IsSession db session → list_all (part_suits db.schema) parts ≡ true
     → IsSessionIf db (serve_ask db session number fresh parts).session
-ask-fits db session number true parts is all = reached db (map holding_of parts) (parts-fit db.schema parts all)
+ask-fits db session number true parts is all = reached db session.wire (map (holding_of session.wire) parts) (parts-fit db.schema session.wire parts all)
 ask-fits db session number false parts is all =
-    reached db ((due db session).subscription ++ map holding_of parts)
-    (more-fit (due db session).subscription (map holding_of parts) (due-fits db session (is_lost db session) is.points) (parts-fit db.schema parts all))
+    reached db session.wire ((due db session).subscription ++ map (holding_of session.wire) parts)
+    (more-fit (due db session).subscription (map (holding_of session.wire) parts) (due-fits db session (is_lost db session) is.points) (parts-fit db.schema session.wire parts all))
 
-resume-fits : (db : Database) (number version : ℕ) (holdings : List Holding) → list_all (holding_suits db.schema) holdings ≡ true → IsSessionIf db (serve_resume db number version holdings).session
-resume-fits db number version holdings all = by (nat_le version (newest db) && nat_le (floor_of db) version) refl
+resume-fits : (db : Database) (wire number version : ℕ) (holdings : List Holding) → list_all (holding_suits db.schema wire) holdings ≡ true
+    → IsSessionIf db (serve_resume db wire number version holdings).session
+resume-fits db wire number version holdings all = by (nat_le version (newest db) && nat_le (floor_of db) version) refl
   where
-    by : (b : Bool) → (nat_le version (newest db) && nat_le (floor_of db) version) ≡ b → IsSessionIf db (serve_resume db number version holdings).session
-    by true is = rw is (reached db holdings (holdings-fit db.schema holdings all))
-    by false is = rw is (reached db [] tt)
+    by : (b : Bool) → (nat_le version (newest db) && nat_le (floor_of db) version) ≡ b → IsSessionIf db (serve_resume db wire number version holdings).session
+    by true is = rw is (reached db wire holdings (holdings-fit db.schema wire holdings all))
+    by false is = rw is (reached db wire [] tt)
 
 pub serve-fits : (db : Database) (session : Option Session) (m : Message) → suits_schema db.schema m ≡ true → IsSessionIf db session → IsSessionIf db (serve db session m).session
-serve-fits db None (Hello client number) suits is = reached db [] tt
-serve-fits db None (Resume client number version holdings) suits is = resume-fits db number version holdings suits
+serve-fits db None (Hello wire client number) suits is = reached db wire [] tt
+serve-fits db None (Resume wire client number version holdings) suits is = resume-fits db wire number version holdings suits
 serve-fits db None (Ask number fresh parts) suits is = tt
 serve-fits db None (Write number sql) suits is = tt
 serve-fits db None (Welcome number version kept) suits is = tt
@@ -106,8 +108,8 @@ serve-fits db None (Written number version) suits is = tt
 serve-fits db None (Refused number fault) suits is = tt
 serve-fits db None (Lapse version) suits is = tt
 serve-fits db (Some session) (Ask number fresh parts) suits is = ask-fits db session number fresh parts is suits
-serve-fits db (Some session) (Hello client number) suits is = is
-serve-fits db (Some session) (Resume client number version holdings) suits is = is
+serve-fits db (Some session) (Hello wire client number) suits is = is
+serve-fits db (Some session) (Resume wire client number version holdings) suits is = is
 serve-fits db (Some session) (Write number sql) suits is = is
 serve-fits db (Some session) (Welcome number version kept) suits is = is
 serve-fits db (Some session) (Notice version told) suits is = is

@@ -311,12 +311,12 @@ ask-sent db session number true parts sound upto few suit = reply-sent db number
 ask-sent db session number false parts sound upto few suit =
     All-append IsSendable (due db session).sent (reply_messages db number parts) (due-sent db session sound upto) (reply-sent db number parts sound few suit)
 
-resume-sent : (db : Database) (number version : ℕ) (holdings : List Holding) → IsSound db → All IsSendable (serve_resume db number version holdings).sent
-resume-sent db number version holdings sound = by (nat_le version (newest db)) (nat_le (floor_of db) version) refl
+resume-sent : (db : Database) (wire number version : ℕ) (holdings : List Holding) → IsSound db → All IsSendable (serve_resume db wire number version holdings).sent
+resume-sent db wire number version holdings sound = by (nat_le version (newest db)) (nat_le (floor_of db) version) refl
   where
     by : (a b : Bool) → nat_le version (newest db) ≡ a
-        → All IsSendable (let here : Served = if a && b then record { session = Some (record { subscription = holdings; upto = newest db }); sent = notices db holdings version (newest db - version) ++ Welcome number (newest db) true ∷ [] }
-        else record { session = Some (record { subscription = []; upto = newest db }); sent = Welcome number (newest db) false ∷ [] } in here).sent
+        → All IsSendable (let here : Served = if a && b then record { session = Some (record { wire = wire; subscription = holdings; upto = newest db }); sent = notices db holdings version (newest db - version) ++ Welcome number (newest db) true ∷ [] }
+        else record { session = Some (record { wire = wire; subscription = []; upto = newest db }); sent = Welcome number (newest db) false ∷ [] } in here).sent
     by true true is =
         let within = leb-true version (newest db) is in
         All-append IsSendable (notices db holdings version (newest db - version)) (Welcome number (newest db) true ∷ []) (notices-sent db holdings version (newest db - version) sound (omega (arith, within)))
@@ -334,8 +334,8 @@ suits-schema false b c none = absurd (cc)
 -- what the server makes of a message that it takes
 pub taken-sent : (db : Database) (session : Option Session) (client : ℕ) (m : Message) (result : Result Tables Fault) → IsSound db → IsSessionIf db session → IsSound (taken db session m result).database
     → server_misfit db.schema session client m ≡ None → has_few_parts m ≡ true → All IsSendable (taken db session m result).served.sent
-taken-sent db None client (Hello named number) result sound own later fits few = one-sent (Welcome number (newest db) false) (few_are_sendable (Welcome number (newest db) false) refl refl)
-taken-sent db None client (Resume named number version holdings) result sound own later fits few = resume-sent db number version holdings sound
+taken-sent db None client (Hello wire named number) result sound own later fits few = one-sent (Welcome number (newest db) false) (few_are_sendable (Welcome number (newest db) false) refl refl)
+taken-sent db None client (Resume wire named number version holdings) result sound own later fits few = resume-sent db wire number version holdings sound
 taken-sent db None client (Ask number fresh parts) result sound own later fits few = All-nil IsSendable
 taken-sent db None client (Write number sql) result sound own later fits few = All-nil IsSendable
 taken-sent db None client (Welcome number version kept) result sound own later fits few = All-nil IsSendable
@@ -354,8 +354,8 @@ taken-sent db (Some session) client (Write number sql) (Ok tables) sound own lat
     All-append IsSendable (due (with_version db tables) session).sent (Written number (newest (with_version db tables)) ∷ []) (due-sent (with_version db tables) session later (omega (arith, before, more)))
     (one-sent (Written number (newest (with_version db tables))) (few_are_sendable (Written number (newest (with_version db tables))) refl refl))
 taken-sent db (Some session) client (Write number sql) (Err fault) sound own later fits few = one-sent (Refused number fault) (few_are_sendable (Refused number fault) refl refl)
-taken-sent db (Some session) client (Hello named number) result sound own later fits few = All-nil IsSendable
-taken-sent db (Some session) client (Resume named number version holdings) result sound own later fits few = All-nil IsSendable
+taken-sent db (Some session) client (Hello wire named number) result sound own later fits few = All-nil IsSendable
+taken-sent db (Some session) client (Resume wire named number version holdings) result sound own later fits few = All-nil IsSendable
 taken-sent db (Some session) client (Welcome number version kept) result sound own later fits few = All-nil IsSendable
 taken-sent db (Some session) client (Notice version told) result sound own later fits few = All-nil IsSendable
 taken-sent db (Some session) client (Rows number part rows) result sound own later fits few = All-nil IsSendable

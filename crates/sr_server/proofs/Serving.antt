@@ -26,7 +26,7 @@ served-same one other sent more session messages = ap (λ s. served-of (Some s) 
 -- ---- an ask
 
 asked : (db : Database) (session : Session) (number : ℕ) (fresh : Bool) (parts : List AskPart)
-    → served-of (Some (session-of ((if fresh then [] else (due db session).subscription) ++ map holding_of parts) (newest db))) ((if fresh then [] else (due db session).sent) ++ reply_messages db number parts)
+    → served-of (Some (session-of session.wire ((if fresh then [] else (due db session).subscription) ++ map (holding_of session.wire) parts) (newest db))) ((if fresh then [] else (due db session).sent) ++ reply_messages db number parts)
     ≡ serve_ask db session number fresh parts
 asked db session number true parts = refl
 asked db session number false parts = refl
@@ -39,47 +39,47 @@ reply-is db stored held number v parts rest knows is at =
 
 pub ask-served : (db : Database) (stored : Stored) (held : Held) (session mid inside : Session) (number v : ℕ) (fresh : Bool) (parts : List AskPart) (subs : List Holding) (sent rest all : List Message)
     → Knows stored held db → sent ≡ (if fresh then [] else (due db session).sent)
-    → mid ≡ record { subscription = (if fresh then [] else (due db session).subscription); upto = newest db } → inside ≡ mid → subs ≡ inside.subscription ++ map holding_of parts
+    → mid ≡ session-of session.wire (if fresh then [] else (due db session).subscription) (newest db) → inside ≡ mid → subs ≡ inside.subscription ++ map (holding_of inside.wire) parts
     → rest ≡ row_messages stored.rows number 0 parts ++ Reply number v ∷ [] → v ≡ log.newest held → all ≡ sent ++ rest
-    → served-of (Some (session-of subs inside.upto)) all ≡ serve_ask db session number fresh parts
+    → served-of (Some (session-of inside.wire subs inside.upto)) all ≡ serve_ask db session number fresh parts
 ask-served db stored held session mid inside number v fresh parts subs sent rest all knows first before same added reply at made =
     let there = same ∙ before in
-    served-same (session-of subs inside.upto) (session-of ((if fresh then [] else (due db session).subscription) ++ map holding_of parts) (newest db)) all ((if fresh then [] else (due db session).sent) ++ reply_messages db number parts)
-    (made-of subs ((if fresh then [] else (due db session).subscription) ++ map holding_of parts) inside.upto (newest db)
-    (added ∙ ap (λ (s : Session). s.subscription ++ map holding_of parts) there) (ap (λ (s : Session). s.upto) there))
+    served-same (session-of inside.wire subs inside.upto) (session-of session.wire ((if fresh then [] else (due db session).subscription) ++ map (holding_of session.wire) parts) (newest db)) all ((if fresh then [] else (due db session).sent) ++ reply_messages db number parts)
+    (made-of inside.wire session.wire subs ((if fresh then [] else (due db session).subscription) ++ map (holding_of session.wire) parts) inside.upto (newest db) (ap (λ (s : Session). s.wire) there)
+    (added ∙ ap (λ (s : Session). s.subscription ++ map (holding_of s.wire) parts) there) (ap (λ (s : Session). s.upto) there))
     (made ∙ (ap (λ ms. ms ++ rest) first ∙ ap (λ ms. (if fresh then [] else (due db session).sent) ++ ms) (reply-is db stored held number v parts rest knows reply at)))
     ∙ asked db session number fresh parts
 
 -- ---- a session begins
 
-pub anew-served : (db : Database) (held : Held) (number v : ℕ) (subs : List Holding) (before sent : List Message) → Logs db held → subs ≡ [] → v ≡ log.newest held → before ≡ [] → sent ≡ before ++ Welcome number v false ∷ []
-    → served-of (Some (session-of subs v)) sent ≡ served-of (opened db []) (Welcome number (newest db) false ∷ [])
-anew-served db held number v subs before sent keeps none at empty made =
-    served-same (session-of subs v) (session-of [] (newest db)) sent (Welcome number (newest db) false ∷ [])
-    (made-of subs [] v (newest db) none (at ∙ newest-is db held keeps))
+pub anew-served : (db : Database) (held : Held) (wire number v : ℕ) (subs : List Holding) (before sent : List Message) → Logs db held → subs ≡ [] → v ≡ log.newest held → before ≡ [] → sent ≡ before ++ Welcome number v false ∷ []
+    → served-of (Some (session-of wire subs v)) sent ≡ served-of (opened db wire []) (Welcome number (newest db) false ∷ [])
+anew-served db held wire number v subs before sent keeps none at empty made =
+    served-same (session-of wire subs v) (session-of wire [] (newest db)) sent (Welcome number (newest db) false ∷ [])
+    (made-of wire wire subs [] v (newest db) refl none (at ∙ newest-is db held keeps))
     (made ∙ (ap (λ ms. ms ++ Welcome number v false ∷ []) empty ∙ ap (λ w. Welcome number w false ∷ []) (at ∙ newest-is db held keeps)))
 
 not-yet : (v n : ℕ) → n < v → nat_le v n ≡ false
 not-yet v n later = grind (arith, nat_tests, later)
 
 -- at a version that is not there yet
-pub later-resume : (db : Database) (held : Held) (number version v : ℕ) (holdings : List Holding) → Logs db held → v ≡ log.newest held → v < version
-    → served-of (opened db []) (Welcome number (newest db) false ∷ []) ≡ serve_resume db number version holdings
-later-resume db held number version v holdings keeps at later =
+pub later-resume : (db : Database) (held : Held) (wire number version v : ℕ) (holdings : List Holding) → Logs db held → v ≡ log.newest held → v < version
+    → served-of (opened db wire []) (Welcome number (newest db) false ∷ []) ≡ serve_resume db wire number version holdings
+later-resume db held wire number version v holdings keeps at later =
     let above : newest db < version = omega (arith, later, at, newest-is db held keeps) in
     rw (not-yet version (newest db) above) refl
 
 -- at a version from which the log reaches on
-pub kept-resume : (db : Database) (held : Held) (number version v : ℕ) (holdings : List Holding) (entries : List Entry) → Logs db held → v ≡ log.newest held → version ≤ v → (version < held.floor → ⊥)
+pub kept-resume : (db : Database) (held : Held) (wire number version v : ℕ) (holdings : List Holding) (entries : List Entry) → Logs db held → v ≡ log.newest held → version ≤ v → (version < held.floor → ⊥)
     → entries ≡ entries_above version held
-    → served-of (Some (session-of holdings (log.newest held))) (noticed holdings entries ++ Welcome number (log.newest held) true ∷ []) ≡ serve_resume db number version holdings
-kept-resume db held number version v holdings entries keeps at within there are =
+    → served-of (Some (session-of wire holdings (log.newest held))) (noticed holdings entries ++ Welcome number (log.newest held) true ∷ []) ≡ serve_resume db wire number version holdings
+kept-resume db held wire number version v holdings entries keeps at within there are =
     let up : version ≤ newest db = omega (arith, within, at, newest-is db held keeps) in
     let le : held.floor ≤ version = not-below version held.floor there in
     let floor : floor_of db ≤ version = subst (λ f. f ≤ version) keeps.2 le in
-    served-same (session-of holdings (log.newest held)) (session-of holdings (newest db)) (noticed holdings entries ++ Welcome number (log.newest held) true ∷ [])
+    served-same (session-of wire holdings (log.newest held)) (session-of wire holdings (newest db)) (noticed holdings entries ++ Welcome number (log.newest held) true ∷ [])
     (notices db holdings version (newest db - version) ++ Welcome number (newest db) true ∷ [])
-    (made-of holdings holdings (log.newest held) (newest db) refl (newest-is db held keeps))
+    (made-of wire wire holdings holdings (log.newest held) (newest db) refl refl (newest-is db held keeps))
     (ap (λ es. noticed holdings es ++ Welcome number (log.newest held) true ∷ []) are
     ∙ (ap (λ ms. ms ++ Welcome number (log.newest held) true ∷ []) (entries-noticed db held holdings version keeps le up)
     ∙ ap (λ w. notices db holdings version (newest db - version) ++ Welcome number w true ∷ []) (newest-is db held keeps)))

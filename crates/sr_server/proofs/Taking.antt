@@ -63,8 +63,8 @@ IsNoWrite m = (number : ℕ) (sql : List ℕ) → m ≡ Write number sql → ⊥
 
 other-taken : (db : Database) (session : Option Session) (m : Message) (result : Result Tables Fault) → IsNoWrite m → taken db session m result ≡ record { database = db; served = serve db session m }
 other-taken db None m result other = refl
-other-taken db (Some session) (Hello client number) result other = refl
-other-taken db (Some session) (Resume client number version holdings) result other = refl
+other-taken db (Some session) (Hello wire client number) result other = refl
+other-taken db (Some session) (Resume wire client number version holdings) result other = refl
 other-taken db (Some session) (Ask number fresh parts) result other = refl
 other-taken db (Some session) (Write number sql) result other = absurd (other number sql refl)
 other-taken db (Some session) (Welcome number version kept) result other = refl
@@ -76,8 +76,8 @@ other-taken db (Some session) (Refused number fault) result other = refl
 other-taken db (Some session) (Lapse version) result other = refl
 
 other-gives : (db : Database) (m : Message) (result : Result Tables Fault) → IsNoWrite m → Gives db m result
-other-gives db (Hello client number) result other = tt
-other-gives db (Resume client number version holdings) result other = tt
+other-gives db (Hello wire client number) result other = tt
+other-gives db (Resume wire client number version holdings) result other = tt
 other-gives db (Ask number fresh parts) result other = tt
 other-gives db (Write number sql) result other = absurd (other number sql refl)
 other-gives db (Welcome number version kept) result other = tt
@@ -210,8 +210,8 @@ newest-carried db old new is did =
 
 taken-one : (db : Database) (session : Option Session) (m : Message) (result : Result Tables Fault) → newest (taken db session m result).database ≤ newest db + 1
 taken-one db None m result = omega arith
-taken-one db (Some session) (Hello client number) result = omega arith
-taken-one db (Some session) (Resume client number version holdings) result = omega arith
+taken-one db (Some session) (Hello wire client number) result = omega arith
+taken-one db (Some session) (Resume wire client number version holdings) result = omega arith
 taken-one db (Some session) (Ask number fresh parts) result = omega arith
 taken-one db (Some session) (Write number sql) (Ok tables) = later-one db tables
 taken-one db (Some session) (Write number sql) (Err fault) = omega arith
@@ -236,8 +236,8 @@ takes-on db old new client m sent is t = record {
 
 written-on : (db : Database) (old new : Server) (m : Message) → IsServer old db → IsWritten db m new → GoesOn old new
 written-on db old new (Write number sql) is w = record { stands = (with_version db w.0, w.2); grows = grows-with old new db (with_version db w.0) is w.2 (later-one db w.0) }
-written-on db old new (Hello client number) is w = absurd w
-written-on db old new (Resume client number version holdings) is w = absurd w
+written-on db old new (Hello wire client number) is w = absurd w
+written-on db old new (Resume wire client number version holdings) is w = absurd w
 written-on db old new (Ask number fresh parts) is w = absurd w
 written-on db old new (Welcome number version kept) is w = absurd w
 written-on db old new (Notice version told) is w = absurd w

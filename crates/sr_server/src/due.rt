@@ -21,7 +21,7 @@ use std::alloc::Global;
 pub(crate) fn due(alloc: Global, log: &Log, session: &mut Session) -> Result<Messages, NoMemory>
     requires points { AllByRecursion FitsSome session.old.subscription }
     ensures sent { (db : Database) → Logs db log.now → session.old.upto ≤ newest db → IfOk result (λ sent. sent ≡ (due db session.old).sent) }
-    ensures session { (db : Database) → Logs db log.now → session.old.upto ≤ newest db → OnOk result (session.new ≡ record { subscription = (due db session.old).subscription; upto = newest db }) }
+    ensures session { (db : Database) → Logs db log.now → session.old.upto ≤ newest db → OnOk result (session.new ≡ record session.old { subscription = (due db session.old).subscription; upto = newest db }) }
 {
     let sent = match log.since(session.upto) {
         Some(entries) => notices_of(alloc, entries, &session.subs)?,
@@ -103,7 +103,7 @@ fn tell_of(alloc: Global, change: &Change) -> Result<Tell, NoMemory>
 pub(crate) fn pushed(alloc: Global, log: &Log, session: &mut Session) -> Result<Messages, NoMemory>
     requires points { AllByRecursion FitsSome session.old.subscription }
     ensures sent { (db : Database) → Logs db log.now → session.old.upto ≤ newest db → IfOk result (λ sent. sent ≡ (serve_push db session.old).sent) }
-    ensures session { (db : Database) → Logs db log.now → session.old.upto ≤ newest db → OnOk result (session.new ≡ record { subscription = (due db session.old).subscription; upto = newest db }) }
+    ensures session { (db : Database) → Logs db log.now → session.old.upto ≤ newest db → OnOk result (session.new ≡ record session.old { subscription = (due db session.old).subscription; upto = newest db }) }
 {
     let closes = is_closed_by_notice(log, session);
     let mut sent = due(alloc, log, session)?;

@@ -1,9 +1,9 @@
 //! Which messages must be refused.
-ghost use Rattle.std.specs.Prelude.{◌≡◌, ◌&&◌, nat_lt, not, ◌==◌, length};
+ghost use Rattle.std.specs.Prelude.{◌≡◌, ◌&&◌, nat_lt, not, ◌==◌, ◌||◌, length};
 ghost use Rattle.std.specs.List.{list_all};
 ghost use Rattle.sr_cell.specs.Columns.{table_at};
 ghost use Rattle.sr_box.specs.Points.{constrains_only};
-ghost use Rattle.sr_session.specs.Refusals.{is_request, begins, suits_state, suits_schema, holding_suits, are_columns, suits_table, part_suits, server_misfit};
+ghost use Rattle.sr_session.specs.Refusals.{is_request, begins, suits_state, suits_schema, holding_suits, suits_columns, are_columns, suits_table, part_suits, server_misfit};
 
 use crate::session::Session;
 use sr_box::rect::Rect;
@@ -13,6 +13,9 @@ use sr_cell::table::Table;
 use sr_message::message::{AskPart, Holding, Message};
 use sr_union::rects::Rects;
 use sr_wire::bad_frame::BadFrame;
+
+/// The wire over which a holding stands for all columns.
+const WHOLE_WIRE: u8 = 1;
 
 /// What stands against a message of that client, which has this session or none: the first of Direction, State and Shape.
 pub(crate) fn server_misfit(
@@ -73,30 +76,43 @@ fn suits_schema(schema: &Schema, message: &Message) -> bool
     ensures { result ≡ suits_schema schema.now message.now }
 {
     match message {
-        Message::Resume { holdings, .. } => all_holdings_suit(schema, holdings.as_slice()),
+        Message::Resume { wire, holdings, .. } => {
+            all_holdings_suit(schema, *wire, holdings.as_slice())
+        }
         Message::Ask { parts, .. } => all_parts_suit(schema, parts.as_slice()),
         _ => true,
     }
 }
 
-fn all_holdings_suit(schema: &Schema, holdings: &[Holding]) -> bool
-    ensures { result ≡ list_all (holding_suits schema.now) holdings.now }
+fn all_holdings_suit(schema: &Schema, wire: u8, holdings: &[Holding]) -> bool
+    ensures { result ≡ list_all (holding_suits schema.now wire) holdings.now }
 {
     for holding in holdings {
-        if !holding_suits(schema, holding) {
+        if !holding_suits(schema, wire, holding) {
             return false;
         }
     }
     true
 }
 
-/// Whether the table is there and the rects fit it.
-fn holding_suits(schema: &Schema, holding: &Holding) -> bool
-    ensures { result ≡ holding_suits schema.now holding.now }
+/// Whether the table is there, the rects fit it, and the columns suit it unless the holding stands for all.
+fn holding_suits(schema: &Schema, wire: u8, holding: &Holding) -> bool
+    ensures { result ≡ holding_suits schema.now wire holding.now }
 {
     let number = holding.table as usize;
     let tables = schema.as_slice();
-    number < tables.len() && holding.rects.fits(&tables[number])
+    number < tables.len()
+        && holding.rects.fits(&tables[number])
+        && (wire == WHOLE_WIRE || suits_columns(&tables[number], holding))
+}
+
+/// Whether the columns are the table's, the key among them, and the rects constrain no other.
+fn suits_columns(table: &Table, holding: &Holding) -> bool
+    ensures { result ≡ suits_columns table.now holding.now }
+{
+    are_columns(holding.attrs.0, table.columns.len())
+        && holding.attrs.has_index(table.key as usize)
+        && all_constrain_only(holding.attrs, &holding.rects)
 }
 
 fn all_parts_suit(schema: &Schema, parts: &[AskPart]) -> bool

@@ -4,7 +4,7 @@ ghost use Rattle.std.specs.List.{AllByRecursion};
 ghost use Rattle.sr_message.specs.declared.message.Message.TheVariants.{Welcome as WelcomeOf};
 ghost use Rattle.sr_log.specs.Held.{newest as newest_of};
 ghost use Rattle.sr_subs.specs.Subscription.{FitsSome};
-ghost use Rattle.sr_session.specs.Sessions.{Database, newest, due, holding_of, serve, serve_ask, serve_resume, serve_write, opened};
+ghost use Rattle.sr_session.specs.Sessions.{Database, newest, due, entry_columns, holding_of, serve, serve_ask, serve_resume, serve_write, opened};
 ghost use Rattle.sr_server.specs.Noticed.{noticed};
 ghost use Rattle.sr_session.specs.Refusals.{has_few_parts};
 ghost use Rattle.sr_server.specs.Servers.{Logs, Knows, IsSessionIf};
@@ -12,6 +12,7 @@ ghost use Rattle.sr_server.specs.Servers.{Logs, Knows, IsSessionIf};
 use crate::due::{due, notices_of};
 use crate::reply::reply;
 use crate::session::Session;
+use sr_cell::attrs::Attrs;
 use sr_cell::list::{NoMemory, Seq};
 use sr_log::entry::Entry;
 use sr_log::log::Log;
@@ -20,6 +21,12 @@ use sr_subs::subs::Subs;
 use sr_tables::tables::Tables;
 use std::alloc::Global;
 use std::marker::Model;
+
+/// The wire over which an entry stands for all columns.
+const WHOLE_WIRE: u8 = 1;
+
+/// All columns that a table may have.
+const ALL_COLUMNS: u16 = 4_095;
 
 /// A session as a request leaves it, and what is sent.
 #[derive(Drop)]
@@ -84,13 +91,14 @@ fn serve_closed(alloc: Global, log: &Log, message: &Message) -> Result<Served, N
     ensures { (db : Database) → Logs db log.now → IfOk result (λ served. served ≡ serve db None message.now) }
 {
     match message {
-        Message::Hello { number, .. } => welcome_anew(alloc, log, *number),
+        Message::Hello { wire, number, .. } => welcome_anew(alloc, log, *wire, *number),
         Message::Resume {
+            wire,
             number,
             version,
             holdings,
             ..
-        } => serve_resume(alloc, log, *number, *version, holdings),
+        } => serve_resume(alloc, log, *wire, *number, *version, holdings),
         _ => Ok(Served {
             session: None,
             sent: Seq::new(alloc),
@@ -116,7 +124,8 @@ fn serve_ask(
     let mut session = session;
     let mut sent = before_reply(alloc, log, fresh, &mut session)?;
     sent.append(reply(alloc, tables, log.version(), number, parts)?)?;
-    subscribe(alloc, &mut session.subs, parts.as_slice())?;
+    let wire = session.wire;
+    subscribe(alloc, wire, &mut session.subs, parts.as_slice())?;
     Ok(Served {
         session: Some(session),
         sent,
@@ -132,7 +141,7 @@ fn before_reply(
 ) -> Result<Messages, NoMemory>
     requires points { AllByRecursion FitsSome session.old.subscription }
     ensures sent { (db : Database) → Logs db log.now → session.old.upto ≤ newest db → IfOk result (λ sent. sent ≡ (if fresh then [] else (due db session.old).sent)) }
-    ensures session { (db : Database) → Logs db log.now → session.old.upto ≤ newest db → OnOk result (session.new ≡ record { subscription = (if fresh then [] else (due db session.old).subscription); upto = newest db }) }
+    ensures session { (db : Database) → Logs db log.now → session.old.upto ≤ newest db → OnOk result (session.new ≡ record session.old { subscription = (if fresh then [] else (due db session.old).subscription); upto = newest db }) }
 {
     if fresh {
         session.subs.clear();
@@ -142,19 +151,31 @@ fn before_reply(
     due(alloc, log, session)
 }
 
-/// Subscribes the rects of each part.
-fn subscribe(alloc: Global, subs: &mut Subs, parts: &[AskPart]) -> Result<(), NoMemory>
-    ensures { OnOk result (subs.new ≡ subs.old ++ map holding_of parts.now) }
+/// The columns of an entry: those that were asked, and over wire 1 all.
+fn entry_columns(wire: u8, attrs: Attrs) -> Attrs
+    ensures { result ≡ entry_columns wire attrs }
+{
+    if wire == WHOLE_WIRE {
+        Attrs(ALL_COLUMNS)
+    } else {
+        attrs
+    }
+}
+
+/// Subscribes the rects of each part, under its columns.
+fn subscribe(alloc: Global, wire: u8, subs: &mut Subs, parts: &[AskPart]) -> Result<(), NoMemory>
+    ensures { OnOk result (subs.new ≡ subs.old ++ map (holding_of wire) parts.now) }
 {
     for part in parts {
-        subs.add(alloc, part.table, &part.rects)?;
+        let attrs = entry_columns(wire, part.attrs);
+        subs.add(alloc, part.table, attrs, &part.rects)?;
     }
     Ok(())
 }
 
 /// A session begins that has subscribed nothing.
-fn welcome_anew(alloc: Global, log: &Log, number: u64) -> Result<Served, NoMemory>
-    ensures { (db : Database) → Logs db log.now → IfOk result (λ served. served ≡ record { session = opened db []; sent = WelcomeOf number (newest db) false ∷ [] }) }
+fn welcome_anew(alloc: Global, log: &Log, wire: u8, number: u64) -> Result<Served, NoMemory>
+    ensures { (db : Database) → Logs db log.now → IfOk result (λ served. served ≡ record { session = opened db wire []; sent = WelcomeOf number (newest db) false ∷ [] }) }
 {
     let version = log.version();
     let mut sent = Seq::new(alloc);
@@ -165,6 +186,7 @@ fn welcome_anew(alloc: Global, log: &Log, number: u64) -> Result<Served, NoMemor
     })?;
     Ok(Served {
         session: Some(Session {
+            wire,
             subs: Subs::new(alloc),
             upto: version,
         }),
@@ -176,18 +198,19 @@ fn welcome_anew(alloc: Global, log: &Log, number: u64) -> Result<Served, NoMemor
 fn serve_resume(
     alloc: Global,
     log: &Log,
+    wire: u8,
     number: u64,
     version: u64,
     holdings: &Holdings,
 ) -> Result<Served, NoMemory>
-    ensures { (db : Database) → Logs db log.now → IfOk result (λ served. served ≡ serve_resume db number version holdings.now) }
+    ensures { (db : Database) → Logs db log.now → IfOk result (λ served. served ≡ serve_resume db wire number version holdings.now) }
 {
     if version > log.version() {
-        return welcome_anew(alloc, log, number);
+        return welcome_anew(alloc, log, wire, number);
     }
     match log.since(version) {
-        Some(entries) => welcome_back(alloc, log, number, entries, holdings),
-        None => welcome_anew(alloc, log, number),
+        Some(entries) => welcome_back(alloc, log, wire, number, entries, holdings),
+        None => welcome_anew(alloc, log, wire, number),
     }
 }
 
@@ -195,11 +218,12 @@ fn serve_resume(
 fn welcome_back(
     alloc: Global,
     log: &Log,
+    wire: u8,
     number: u64,
     entries: &[Entry],
     holdings: &Holdings,
 ) -> Result<Served, NoMemory>
-    ensures { IfOk result (λ served. served ≡ record { session = Some (record { subscription = holdings.now; upto = newest_of log.now }); sent = noticed holdings.now entries.now ++ WelcomeOf number (newest_of log.now) true ∷ [] }) }
+    ensures { IfOk result (λ served. served ≡ record { session = Some (record { wire = wire; subscription = holdings.now; upto = newest_of log.now }); sent = noticed holdings.now entries.now ++ WelcomeOf number (newest_of log.now) true ∷ [] }) }
 {
     let version = log.version();
     let subs = subs_of(alloc, holdings.as_slice())?;
@@ -211,6 +235,7 @@ fn welcome_back(
     })?;
     Ok(Served {
         session: Some(Session {
+            wire,
             subs,
             upto: version,
         }),
@@ -224,7 +249,7 @@ fn subs_of(alloc: Global, holdings: &[Holding]) -> Result<Subs, NoMemory>
 {
     let mut subs = Subs::new(alloc);
     for holding in holdings {
-        subs.add(alloc, holding.table, &holding.rects)?;
+        subs.add(alloc, holding.table, holding.attrs, &holding.rects)?;
     }
     Ok(subs)
 }
@@ -238,7 +263,7 @@ pub(crate) fn serve_written(
 ) -> Result<Messages, NoMemory>
     requires points { AllByRecursion FitsSome session.old.subscription }
     ensures sent { (db : Database) → Logs db log.now → session.old.upto ≤ newest db → IfOk result (λ sent. sent ≡ (serve_write db session.old number None).sent) }
-    ensures session { (db : Database) → Logs db log.now → session.old.upto ≤ newest db → OnOk result (session.new ≡ record { subscription = (due db session.old).subscription; upto = newest db }) }
+    ensures session { (db : Database) → Logs db log.now → session.old.upto ≤ newest db → OnOk result (session.new ≡ record session.old { subscription = (due db session.old).subscription; upto = newest db }) }
 {
     let mut sent = due(alloc, log, session)?;
     sent.push(Message::Written {

@@ -2,9 +2,10 @@
 use sr_subs::subs::Subs;
 use std::marker::Model;
 
-/// What a client has asked for, and the version that the messages to it have reached.
+/// The wire that a client speaks, what it has asked for, and the version that the messages to it have reached.
 #[derive(Drop)]
 pub struct Session {
+    pub(crate) wire: u8,
     pub(crate) subs: Subs,
     pub(crate) upto: u64,
 }
@@ -14,5 +15,5 @@ impl Model for Session {
 
     ghost Value = { TheSession };
 
-    ghost view = { λ s. record { subscription = s.subs; upto = s.upto } };
+    ghost view = { λ s. record { wire = s.wire; subscription = s.subs; upto = s.upto } };
 }

@@ -16,4 +16,6 @@ mod programs;
 #[cfg(test)]
 mod replays;
 #[cfg(test)]
+mod wires;
+#[cfg(test)]
 mod words;

@@ -17,6 +17,16 @@ use std::alloc::Global;
 /// The frame by which client 1 begins.
 pub const HELLO: [u8; 15] = [0, 0, 0, 11, 1, 1, 1, 0, 0, 0, 0, 0, 0, 0, 0];
 
+/// Client 1 begins again over wire 2 with number 3, at version 5; it holds two columns of all rows of a table of two.
+const RESUME: [u8; 37] = [
+    0, 0, 0, 0x21, 2, 2, 1, 0, 0, 0, 0, 0, 0, 0, 3, 0, 0, 0, 0, 0, 0, 0, 5, 0, 0, 0, 1, 0, 0, 3, 0, 0, 0, 1, 2, 0, 0,
+];
+
+/// Over wire 1 it holds all columns, and does not name them.
+const WHOLE_RESUME: [u8; 35] = [
+    0, 0, 0, 0x1f, 2, 1, 1, 0, 0, 0, 0, 0, 0, 0, 3, 0, 0, 0, 0, 0, 0, 0, 5, 0, 0, 0, 1, 0, 0, 0, 0, 1, 2, 0, 0,
+];
+
 /// A reply to request 1, of version 2.
 const REPLY: [u8; 21] = [
     0, 0, 0, 17, 0x14, 0, 0, 0, 0, 0, 0, 0, 1, 0, 0, 0, 0, 0, 0, 0, 2,
@@ -31,6 +41,14 @@ const LONG_REPLY: [u8; 22] = [
 const ASK: [u8; 43] = [
     0, 0, 0, 39, 3, 0, 0, 0, 0, 0, 0, 0, 1, 1, 1, 0, 0, 3, 0, 0, 0, 1, 4, 0, 1, 0, 0, 0, 0, 0, 0,
     0, 30, 0, 0, 0, 0, 0, 0, 0, 40, 0, 0,
+];
+
+/// A Hello of a wire that there is not.
+const LATER_HELLO: [u8; 15] = [0, 0, 0, 11, 1, 3, 1, 0, 0, 0, 0, 0, 0, 0, 0];
+
+/// The first Resume with a thirteenth column.
+const STRANGE_RESUME: [u8; 37] = [
+    0, 0, 0, 0x21, 2, 2, 1, 0, 0, 0, 0, 0, 0, 0, 3, 0, 0, 0, 0, 0, 0, 0, 5, 0, 0, 0, 1, 0, 0x10, 3, 0, 0, 0, 1, 2, 0, 0,
 ];
 
 fn ask(alloc: Global) -> Result<Message, NoMemory>
@@ -59,6 +77,7 @@ fn is_encoded(alloc: Global, message: &Message, bytes: &[u8]) -> Result<bool, No
 #[test]
 fn a_hello_is_encoded(rt: HostRuntime) {
     let hello = Message::Hello {
+        wire: 1,
         client: 1,
         number: 0,
     };
@@ -85,11 +104,49 @@ fn an_ask_is_encoded(rt: HostRuntime) {
     assert!(rt; is_ask_encoded(rt.alloc(), &ASK) == Ok(true));
 }
 
+// The message of that wire by which client 1 begins again.
+fn resume(alloc: Global, wire: u8, attrs: u16) -> Result<Message, NoMemory> {
+    let rects = rects_of(alloc, [Span::Full, Span::Full])?;
+    let holding = Holding {
+        table: 0,
+        attrs: Attrs(attrs),
+        rects,
+    };
+    Ok(Message::Resume {
+        wire,
+        client: 1,
+        number: 3,
+        version: 5,
+        holdings: list_of(alloc, [holding])?,
+    })
+}
+
+/// The wire of a Resume in front of the bytes, with the columns of its first holding and the number of all.
+fn resumed(bytes: &[u8]) -> Option<(u8, u16, usize)> {
+    let frame = decode(bytes).ok()?;
+    match frame.body() {
+        Body::Resume {
+            wire,
+            mut holdings,
+            ..
+        } => {
+            let first = holdings.next()?;
+            let is_last = holdings.next().is_none();
+            Some((wire, first.attrs.0, if is_last { 1 } else { 2 }))
+        }
+        _ => None,
+    }
+}
+
 /// The numbers of a Hello, a Reply or an ask in front of the bytes.
 fn numbers(bytes: &[u8]) -> Option<(u64, u64)> {
     let frame = decode(bytes).ok()?;
     match frame.body() {
-        Body::Hello { client, number } => Some((number, client as u64)),
+        Body::Hello {
+            wire: 1,
+            client,
+            number,
+        } => Some((number, client as u64)),
         Body::Reply { number, version } => Some((number, version)),
         Body::Ask { number, fresh, .. } => Some((number, fresh as u64)),
         _ => None,
@@ -119,13 +176,15 @@ fn frames_are_decoded(rt: HostRuntime) {
     assert_eq!(rt; numbers(&REPLY), Some((1, 2)));
     assert_eq!(rt; numbers(&ASK), Some((1, 1)));
     assert_eq!(rt; asked(&ASK), Some((0, 3, 30, 40)));
+    assert_eq!(rt; resumed(&RESUME), Some((2, 3, 1)));
+    assert_eq!(rt; resumed(&WHOLE_RESUME), Some((1, 4095, 1)));
 }
 
 fn is_short(bytes: &[u8]) -> bool {
     matches!(decode(bytes), Err(WireFault::Short))
 }
 
-static FAULTS: [(&[u8], WireFault); 4] = [
+static FAULTS: [(&[u8], WireFault); 6] = [
     (b"\0\0\0\0", WireFault::Field { place: 0 }),
     (
         b"\x08\0\0\x01",
@@ -135,6 +194,8 @@ static FAULTS: [(&[u8], WireFault); 4] = [
     ),
     (b"\0\0\0\x0b\x05", WireFault::Kind { byte: 5 }),
     (&LONG_REPLY, WireFault::Field { place: 21 }),
+    (&LATER_HELLO, WireFault::Field { place: 5 }),
+    (&STRANGE_RESUME, WireFault::Field { place: 28 }),
 ];
 
 #[test]

@@ -1,6 +1,6 @@
 -- The formats of fields and of the items of lists.
 use Rattle.std.proofs.Common.{◌≡◌, ℕ, zero, suc, ◌^◌, ◌<◌, ◌≤◌, ◌+◌, Bool, true, false, ltb, List, [], ◌∷◌, ◌++◌, length, Option, Some, None, refl, sym, ap, subst, ◌∙◌, append_assoc, arith}
-use Rattle.std.specs.Prelude.{IsTrue, ◌&&◌, ◌==◌, ◌-◌, nat_le, nat_lt, slice_index_or}
+use Rattle.std.specs.Prelude.{IsTrue, ◌&&◌, ◌==◌, ◌-◌, nat_le, nat_lt, slice_index_or, if◌then◌else◌}
 use Rattle.std.specs.Int.{w16, w32}
 use Rattle.std.specs.Str.{is_utf8}
 use Rattle.std.proofs.lemmas.Bool.{ltb-true, lt-ltb, leb-true, le-ltb, eqb-true, and_from}
@@ -16,15 +16,15 @@ use Rattle.sr_box.specs.Points.{Rect}
 use Rattle.sr_message.specs.declared.message.Holding.{Holding}
 use Rattle.sr_message.specs.declared.message.AskPart.{AskPart}
 use Rattle.sr_message.specs.declared.message.Tell.{Tell}
-use Rattle.sr_bytes.specs.Reading.{Got, passing, a_byte, a_number, bytes_that, a_cell, a_row, some_rows, some_rects}
+use Rattle.sr_bytes.specs.Reading.{Got, give, passing, a_byte, a_number, bytes_that, a_cell, a_row, some_rows, some_rects}
 use Rattle.sr_bytes.specs.Spelling.{long_bytes, count_bytes, short_count_bytes, cell_bytes, row_bytes, rows_bytes, rects_bytes, is_from_to, has_cell_bytes, has_row_bytes, have_rows_bytes, have_rects_bytes}
 use Rattle.sr_bytes.specs.Laws.{IsExact}
 use Rattle.sr_bytes.proofs.Steps.{step_of, got_value, got_rest, passed, front_bytes, behind}
 use Rattle.sr_bytes.proofs.Numbers.{byte_spelled, byte_in_spelled, byte_in_again, short_count_again, short_count_spelled, count_again, count_spelled, long_again, long_spelled, front_spelled}
 use Rattle.sr_bytes.proofs.Values.{cell_exact, row_exact, rows_exact, rects_exact, counted_exact, listed_exact, counts, counted_bytes, have_counted, listed_bytes}
 use Rattle.sr_wire.specs.Kinds.{why_byte, reasons}
-use Rattle.sr_wire.specs.Spelling.{flag_bytes, holding_bytes, part_bytes, after_bytes, tell_bytes, fault_bytes, wire, is_long, is_table, is_client, has_holding_bytes, has_part_bytes, has_after_bytes, has_tell_bytes}
-use Rattle.sr_wire.specs.Reading.{a_long, a_byte_in, a_flag, a_reason, a_fault, a_client, a_statement, a_holding, some_holdings, some_attrs, a_part, some_parts, after_flag, an_after, a_tell, some_told}
+use Rattle.sr_wire.specs.Spelling.{flag_bytes, held_attrs_bytes, holding_bytes, part_bytes, after_bytes, tell_bytes, fault_bytes, is_long, is_table, is_client, is_wire, has_held_attrs, has_holding_bytes, has_part_bytes, has_after_bytes, has_tell_bytes}
+use Rattle.sr_wire.specs.Reading.{a_long, a_byte_in, a_flag, a_reason, a_fault, a_client, a_wire, a_statement, a_holding, some_holdings, some_attrs, some_held_attrs, a_part, some_parts, after_flag, an_after, a_tell, some_told}
 use Rattle.sr_wire.proofs.Fields.{Format, first_of_all, one_spelled, two_spelled, two_again, three_spelled, three_again}
 
 -- ---- numbers
@@ -85,6 +85,18 @@ attrs_exact = record {
 
 abbrev attrs : Format ℕ
 attrs = record { reader = some_attrs; bytes_of = short_count_bytes; has = is_from_to 0 4095; exact = attrs_exact }
+
+-- the columns of a holding, which over the first wire stands for all
+held_exact : (first : Bool)
+    → IsExact (if first then give 4095 else some_attrs) (λ a. if first then [] else short_count_bytes a) (λ a. if first then a == 4095 else is_from_to 0 4095 a)
+held_exact true = record {
+  again = λ n rest h. ap (λ (a : ℕ). Got a rest) (sym (eqb-true n 4095 h));
+  spelled = λ bytes n rest fits e. (got_rest 4095 n bytes rest e, subst (λ a. IsTrue (a == 4095)) (got_value 4095 n bytes rest e) refl);
+}
+held_exact false = attrs_exact
+
+abbrev held_attrs : ℕ → Format ℕ
+held_attrs wire = record { reader = some_held_attrs wire; bytes_of = held_attrs_bytes wire; has = has_held_attrs wire; exact = held_exact (wire == 1) }
 
 -- ---- flags, reasons, clients, statements
 
@@ -196,27 +208,11 @@ fault = record {
   exact = record { again = λ f rest h. two_again why count make_fault f.why f.at rest refl h; spelled = fault_spelled };
 }
 
-abbrev pub client_bytes : ℕ → List ℕ
-client_bytes client = wire ∷ client ∷ []
-
-abbrev the_client : ℕ → ℕ → ℕ
-the_client version client = client
-
-pub client_spelled : (bytes : List ℕ) (c : ℕ) (rest : List ℕ) → IsTrue (are_bytes bytes) → a_client bytes ≡ Got c rest → (bytes ≡ client_bytes c ++ rest) × IsTrue (is_client c)
-client_spelled bytes c rest fits e =
-    let t = two_spelled (byte_in wire wire) (byte_in 1 64) the_client bytes c rest fits e in
-    let low : wire ≤ t.first = leb-true wire t.first (first_so (nat_le wire t.first) (nat_le t.first wire) t.has_first) in
-    let high : t.first ≤ wire = leb-true t.first wire (second_so (nat_le wire t.first) (nat_le t.first wire) t.has_first) in
-    let same : t.first ≡ wire = omega arith in
-    (t.parts ∙ ap (λ (n : ℕ). n ∷ (t.second ∷ rest)) same ∙ ap (λ (n : ℕ). wire ∷ (n ∷ rest)) t.is, subst (λ n. IsTrue (is_client n)) t.is t.has_second)
-
 abbrev pub client : Format ℕ
-client = record {
-  reader = a_client;
-  bytes_of = client_bytes;
-  has = is_client;
-  exact = record { again = λ c rest h. two_again (byte_in wire wire) (byte_in 1 64) the_client wire c rest refl h; spelled = client_spelled };
-}
+client = byte_in 1 64
+
+abbrev pub wire : Format ℕ
+wire = byte_in 1 2
 
 abbrev pub statement_bytes : List ℕ → List ℕ
 statement_bytes sql = count_bytes (length sql) ++ sql
@@ -260,35 +256,42 @@ rows = record { reader = some_rows; bytes_of = rows_bytes; has = have_rows_bytes
 abbrev rects : Format (List Rect)
 rects = record { reader = some_rects; bytes_of = rects_bytes; has = have_rects_bytes; exact = rects_exact }
 
-abbrev make_holding : ℕ → List Rect → Holding
-make_holding table rects = record { table = table; rects = rects }
+abbrev make_holding : ℕ → ℕ → List Rect → Holding
+make_holding table attrs rects = record { table = table; attrs = attrs; rects = rects }
 
-holding_again : (h : Holding) (rest : List ℕ) → IsTrue (has_holding_bytes h) → a_holding (holding_bytes h ++ rest) ≡ Got h rest
-holding_again h rest has =
-    two_again (byte_in 0 15) rects make_holding h.table h.rects rest
-    (first_so (is_from_to 0 15 h.table) (have_rects_bytes h.rects) has) (second_so (is_from_to 0 15 h.table) (have_rects_bytes h.rects) has)
+holding_again : (w : ℕ) (h : Holding) (rest : List ℕ) → IsTrue (has_holding_bytes w h) → a_holding w (holding_bytes w h ++ rest) ≡ Got h rest
+holding_again w h rest has =
+    let more = second_so (is_from_to 0 15 h.table) (has_held_attrs w h.attrs && have_rects_bytes h.rects) has in
+    three_again (byte_in 0 15) (held_attrs w) rects make_holding h.table h.attrs h.rects rest
+    (first_so (is_from_to 0 15 h.table) (has_held_attrs w h.attrs && have_rects_bytes h.rects) has)
+    (first_so (has_held_attrs w h.attrs) (have_rects_bytes h.rects) more)
+    (second_so (has_held_attrs w h.attrs) (have_rects_bytes h.rects) more)
 
-holding_spelled : (bytes : List ℕ) (h : Holding) (rest : List ℕ) → IsTrue (are_bytes bytes) → a_holding bytes ≡ Got h rest → (bytes ≡ holding_bytes h ++ rest) × IsTrue (has_holding_bytes h)
-holding_spelled bytes h rest fits e =
-    let t = two_spelled (byte_in 0 15) rects make_holding bytes h rest fits e in
-    subst (λ v. (bytes ≡ holding_bytes v ++ rest) × IsTrue (has_holding_bytes v)) t.is
-    (t.parts, and_from (is_from_to 0 15 t.first) (have_rects_bytes t.second) t.has_first t.has_second)
+holding_spelled : (w : ℕ) (bytes : List ℕ) (h : Holding) (rest : List ℕ) → IsTrue (are_bytes bytes) → a_holding w bytes ≡ Got h rest
+    → (bytes ≡ holding_bytes w h ++ rest) × IsTrue (has_holding_bytes w h)
+holding_spelled w bytes h rest fits e =
+    let t = three_spelled (byte_in 0 15) (held_attrs w) rects make_holding bytes h rest fits e in
+    subst (λ v. (bytes ≡ holding_bytes w v ++ rest) × IsTrue (has_holding_bytes w v)) t.is (
+      t.parts,
+      and_from (is_from_to 0 15 t.first) (has_held_attrs w t.second && have_rects_bytes t.third) t.has_first
+          (and_from (has_held_attrs w t.second) (have_rects_bytes t.third) t.has_second t.has_third),
+    )
 
-pub holding_exact : IsExact a_holding holding_bytes has_holding_bytes
-holding_exact = record { again = holding_again; spelled = holding_spelled }
+pub holding_exact : (w : ℕ) → IsExact (a_holding w) (holding_bytes w) (has_holding_bytes w)
+holding_exact w = record { again = holding_again w; spelled = holding_spelled w }
 
-abbrev pub holdings_bytes : List Holding → List ℕ
-holdings_bytes = listed_bytes count_bytes holding_bytes
+abbrev pub holdings_bytes : ℕ → List Holding → List ℕ
+holdings_bytes w = listed_bytes count_bytes (holding_bytes w)
 
-abbrev pub have_holdings_bytes : List Holding → Bool
-have_holdings_bytes = have_counted 1 1024 has_holding_bytes
+abbrev pub have_holdings_bytes : ℕ → List Holding → Bool
+have_holdings_bytes w = have_counted 1 1024 (has_holding_bytes w)
 
-abbrev pub holdings : Format (List Holding)
-holdings = record {
-  reader = some_holdings;
-  bytes_of = holdings_bytes;
-  has = have_holdings_bytes;
-  exact = listed_exact (2 ^ 32) 1 1024 (a_number w32) count_bytes counts (omega arith) a_holding holding_bytes has_holding_bytes holding_exact;
+abbrev pub holdings : ℕ → Format (List Holding)
+holdings w = record {
+  reader = some_holdings w;
+  bytes_of = holdings_bytes w;
+  has = have_holdings_bytes w;
+  exact = listed_exact (2 ^ 32) 1 1024 (a_number w32) count_bytes counts (omega arith) (a_holding w) (holding_bytes w) (has_holding_bytes w) (holding_exact w);
 }
 
 abbrev make_part : ℕ → ℕ → List Rect → AskPart

@@ -6,3 +6,4 @@ pub mod Decoding
 pub mod Encoding
 pub mod Staying
 pub mod Sizes
+pub mod Holdings

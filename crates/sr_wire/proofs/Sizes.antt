@@ -1,6 +1,6 @@
 -- A message of few rects is short enough to be sent.
 use Rattle.std.proofs.Common.{◌≡◌, ℕ, ℤ, ◌+◌, ◌*◌, ◌≤◌, Bool, true, false, List, [], ◌∷◌, ◌++◌, length, Option, Some, None, refl, ap, ◌∙◌, arith}
-use Rattle.std.specs.Prelude.{◌&&◌, nat_le}
+use Rattle.std.specs.Prelude.{◌&&◌, ◌==◌, nat_le, if◌then◌else◌}
 use Rattle.std.specs.List.{flat_map, list_all, sum_by}
 use Rattle.std.proofs.Math.Nat.{suc-mul, add-mul}
 use Rattle.std.proofs.lemmas.Bool.{and_parts, leb-true}
@@ -20,7 +20,7 @@ use Rattle.sr_message.specs.declared.message.AskPart.{AskPart}
 use Rattle.sr_message.specs.declared.message.Tell.{Tell}
 use Rattle.sr_bytes.specs.Spelling.{number_bytes, long_bytes, count_bytes, short_count_bytes, text_bytes, cell_bytes, row_bytes, rows_bytes, span_bytes, rect_bytes, rects_bytes, is_from_to}
 use Rattle.sr_bytes.specs.Writing.{may_write_cell, may_write_row, may_write_rows, may_write_span, may_write_rect, may_write_rects}
-use Rattle.sr_wire.specs.Spelling.{flag_bytes, fault_bytes, holding_bytes, part_bytes, after_bytes, tell_bytes, body_of, most_bytes}
+use Rattle.sr_wire.specs.Spelling.{is_client, flag_bytes, fault_bytes, has_held_attrs, held_attrs_bytes, holding_bytes, part_bytes, after_bytes, tell_bytes, body_of, most_bytes}
 use Rattle.sr_wire.specs.Limits.{may_write_holding, may_write_part, may_write_after, may_write_tell, may_write, count_held, has_few_rects, FewAreSendable}
 use Rattle.sr_wire.proofs.Frames.{count_length}
 
@@ -116,10 +116,17 @@ rects_length rects h =
 
 -- ---- items
 
-holding_length : (h : Holding) → may_write_holding h ≡ true → length (holding_bytes h) ≤ 5 + length h.rects * 2941
-holding_length h may =
-    let rects = rects_length h.rects (and_parts (is_from_to 0 15 h.table) (may_write_rects h.rects) may).1 in
-    omega (arith, rects)
+held_length : (first : Bool) (attrs : ℕ) → length (if first then [] else short_count_bytes attrs) ≤ 2
+held_length true attrs = omega arith
+held_length false attrs = omega (arith, short_length attrs)
+
+holding_length : (wire : ℕ) (h : Holding) → may_write_holding wire h ≡ true → length (holding_bytes wire h) ≤ 7 + length h.rects * 2941
+holding_length wire h may =
+    let more = (and_parts (is_from_to 0 15 h.table) (has_held_attrs wire h.attrs && may_write_rects h.rects) may).1 in
+    let rects = rects_length h.rects (and_parts (has_held_attrs wire h.attrs) (may_write_rects h.rects) more).1 in
+    let few : length (held_attrs_bytes wire h.attrs) ≤ 2 = held_length (wire == 1) h.attrs in
+    let all = length-append (held_attrs_bytes wire h.attrs) (rects_bytes h.rects) in
+    omega (arith, rects, few, all)
 
 part_length : (p : AskPart) → may_write_part p ≡ true → length (part_bytes p) ≤ 7 + length p.rects * 2941
 part_length p may =
@@ -144,13 +151,15 @@ flag_length true = refl
 flag_length false = refl
 
 size : (m : Message) → may_write m ≡ true → has_few_rects m ≡ true → length (body_of m) ≤ most_bytes
-size (Hello client number) may few = omega (arith, long_length number)
-size (Resume client number version holdings) may few =
-    let list = and_parts (is_from_to 1 1024 (length holdings)) (list_all may_write_holding holdings) (and_parts _ (is_from_to 1 1024 (length holdings) && list_all may_write_holding holdings) may).1 in
+size (Hello wire client number) may few = omega (arith, long_length number)
+size (Resume wire client number version holdings) may few =
+    let named = (and_parts _ (is_client client && (is_from_to 1 1024 (length holdings) && list_all (may_write_holding wire) holdings)) may).1 in
+    let counted = (and_parts (is_client client) (is_from_to 1 1024 (length holdings) && list_all (may_write_holding wire) holdings) named).1 in
+    let list = and_parts (is_from_to 1 1024 (length holdings)) (list_all (may_write_holding wire) holdings) counted in
     let count = up_to 1 1024 (length holdings) list.0 in
     let rects = leb-true (count_held holdings) 16384 few in
-    let bytes = longer holding_bytes may_write_holding (λ h. length h.rects) 5 2941 holding_length holdings list.1 in
-    let behind = flat_map holding_bytes holdings in
+    let bytes = longer (holding_bytes wire) (may_write_holding wire) (λ h. length h.rects) 7 2941 (holding_length wire) holdings list.1 in
+    let behind = flat_map (holding_bytes wire) holdings in
     omega (
       arith,
       count,

@@ -9,8 +9,8 @@ use Rattle.sr_wire.specs.Reading.{Decoded, Whole, Faulty}
 use Rattle.sr_wire.specs.Spelling.{spelling}
 
 abbrev pub message_of : Body → Message
-message_of (Hello client number) = messages.Hello client number
-message_of (Resume client number version holdings) = messages.Resume client number version holdings
+message_of (Hello wire client number) = messages.Hello wire client number
+message_of (Resume wire client number version holdings) = messages.Resume wire client number version holdings
 message_of (Ask number fresh parts) = messages.Ask number fresh parts
 message_of (Write number sql) = messages.Write number sql.now
 message_of (Welcome number version kept) = messages.Welcome number version kept
@@ -23,8 +23,8 @@ message_of (Lapse version) = messages.Lapse version
 
 -- the client that begins a session, or begins it again
 abbrev pub client_of : Message → Option ℕ
-client_of (messages.Hello client number) = Some client
-client_of (messages.Resume client number version holdings) = Some client
+client_of (messages.Hello wire client number) = Some client
+client_of (messages.Resume wire client number version holdings) = Some client
 client_of (messages.Ask number fresh parts) = None
 client_of (messages.Write number sql) = None
 client_of (messages.Welcome number version kept) = None

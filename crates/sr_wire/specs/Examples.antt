@@ -1,18 +1,39 @@
--- Three frames, worked out by hand, and one with a byte left over.
+-- Frames, worked out by hand, and one with a byte left over.
 use Rattle.std.specs.Prelude.{pos, ℕ, List, [], ◌∷◌, ◌++◌, ◌≡◌, true}
 use Rattle.sr_box.specs.declared.span.Span.TheVariants.{Full, Nums}
 use Rattle.sr_message.specs.declared.message.Message.{Message}
-use Rattle.sr_message.specs.declared.message.Message.TheVariants.{Hello, Ask, Reply}
+use Rattle.sr_message.specs.declared.message.Message.TheVariants.{Hello, Resume, Ask, Reply}
 use Rattle.sr_wire.specs.declared.wire_fault.WireFault.TheVariants.{Field}
 use Rattle.sr_wire.specs.Spelling.{spelling}
 use Rattle.sr_wire.specs.Reading.{decoded, Whole, Faulty}
 
--- a client without anything begins
+-- a client without anything begins, over wire 1
 abbrev pub hello : Message
-hello = Hello 1 0
+hello = Hello 1 1 0
 
 abbrev pub hello_frame : List ℕ
 hello_frame = 0 ∷ 0 ∷ 0 ∷ 0x0b ∷ 1 ∷ 1 ∷ 1 ∷ 0 ∷ 0 ∷ 0 ∷ 0 ∷ 0 ∷ 0 ∷ 0 ∷ 0 ∷ []
+
+-- a client begins again that holds the two columns of a table of two numbers, over wire 2
+abbrev pub resume : Message
+resume = Resume 2 1 3 5 ((record { table = 0; attrs = 3; rects = (Full ∷ Full ∷ []) ∷ [] }) ∷ [])
+
+abbrev pub resume_frame : List ℕ
+resume_frame =
+    0 ∷ 0 ∷ 0 ∷ 0x21 ∷ 2 ∷ 2 ∷ 1 ∷ 0 ∷ 0 ∷ 0 ∷ 0 ∷ 0 ∷ 0 ∷ 0 ∷ 3 ∷ 0 ∷ 0 ∷ 0 ∷ 0 ∷ 0 ∷ 0 ∷ 0 ∷ 5 ∷ 0 ∷ 0 ∷ 0 ∷ 1 ∷ 0 ∷ 0 ∷ 3 ∷ 0 ∷ 0 ∷ 0 ∷ 1 ∷ 2 ∷ 0 ∷ 0
+    ∷ []
+
+-- over wire 1 it holds all columns, and does not name them
+abbrev pub whole_resume : Message
+whole_resume = Resume 1 1 3 5 ((record { table = 0; attrs = 4095; rects = (Full ∷ Full ∷ []) ∷ [] }) ∷ [])
+
+abbrev pub whole_resume_frame : List ℕ
+whole_resume_frame =
+    0 ∷ 0 ∷ 0 ∷ 0x1f ∷ 2 ∷ 1 ∷ 1 ∷ 0 ∷ 0 ∷ 0 ∷ 0 ∷ 0 ∷ 0 ∷ 0 ∷ 3 ∷ 0 ∷ 0 ∷ 0 ∷ 0 ∷ 0 ∷ 0 ∷ 0 ∷ 5 ∷ 0 ∷ 0 ∷ 0 ∷ 1 ∷ 0 ∷ 0 ∷ 0 ∷ 0 ∷ 1 ∷ 2 ∷ 0 ∷ 0 ∷ []
+
+-- there is no wire 3
+abbrev pub later_hello_frame : List ℕ
+later_hello_frame = 0 ∷ 0 ∷ 0 ∷ 0x0b ∷ 1 ∷ 3 ∷ 1 ∷ 0 ∷ 0 ∷ 0 ∷ 0 ∷ 0 ∷ 0 ∷ 0 ∷ 0 ∷ []
 
 abbrev pub reply : Message
 reply = Reply 1 2
@@ -38,6 +59,11 @@ long_reply_frame =
 pub record AreWorkedFrames : Type 0 where
   pub hello_is : spelling hello ≡ hello_frame
   pub hello_back : decoded hello_frame ≡ Whole hello 15
+  pub resume_is : spelling resume ≡ resume_frame
+  pub resume_back : decoded resume_frame ≡ Whole resume 37
+  pub whole_resume_is : spelling whole_resume ≡ whole_resume_frame
+  pub whole_resume_back : decoded whole_resume_frame ≡ Whole whole_resume 35
+  pub no_wire : decoded later_hello_frame ≡ Faulty (Field 5)
   pub reply_is : spelling reply ≡ reply_frame
   pub reply_back : decoded reply_frame ≡ Whole reply 21
   pub ask_is : spelling ask ≡ ask_frame

@@ -10,10 +10,11 @@ use Rattle.sr_message.specs.declared.message.Tell.{Tell}
 use Rattle.sr_message.specs.Sizes.{most_rects, count_asked}
 use Rattle.sr_bytes.specs.Spelling.{is_from_to}
 use Rattle.sr_bytes.specs.Writing.{may_write_cell, may_write_row, may_write_rows, may_write_rects}
-use Rattle.sr_wire.specs.Spelling.{is_client, body_of, most_bytes}
+use Rattle.sr_wire.specs.Spelling.{is_client, is_wire, has_held_attrs, body_of, most_bytes}
 
-abbrev pub may_write_holding : Holding → Bool
-may_write_holding h = is_from_to 0 15 h.table && may_write_rects h.rects
+-- over wire 1 a holding has all columns
+abbrev pub may_write_holding : ℕ → Holding → Bool
+may_write_holding wire h = is_from_to 0 15 h.table && (has_held_attrs wire h.attrs && may_write_rects h.rects)
 
 abbrev pub may_write_part : AskPart → Bool
 may_write_part p = is_from_to 0 4095 p.attrs && may_write_rects p.rects
@@ -26,8 +27,9 @@ abbrev pub may_write_tell : Tell → Bool
 may_write_tell t = may_write_cell t.key && may_write_after t.after
 
 abbrev pub may_write : Message → Bool
-may_write (Hello client number) = is_client client
-may_write (Resume client number version holdings) = is_client client && (is_from_to 1 1024 (length holdings) && list_all may_write_holding holdings)
+may_write (Hello wire client number) = is_wire wire && is_client client
+may_write (Resume wire client number version holdings) =
+    is_wire wire && (is_client client && (is_from_to 1 1024 (length holdings) && list_all (may_write_holding wire) holdings))
 may_write (Ask number fresh parts) = is_from_to 1 4 (length parts) && list_all may_write_part parts
 may_write (Write number sql) = is_from_to 0 65536 (length sql)
 may_write (Welcome number version kept) = true
@@ -44,7 +46,7 @@ count_held holdings = sum_by (λ h. length h.rects) holdings
 
 -- a message holds or asks no more rects than a client may
 abbrev pub has_few_rects : Message → Bool
-has_few_rects (Resume client number version holdings) = nat_le (count_held holdings) most_rects
+has_few_rects (Resume wire client number version holdings) = nat_le (count_held holdings) most_rects
 has_few_rects (Ask number fresh parts) = nat_le (count_asked parts) most_rects
 has_few_rects other = true
 

@@ -18,7 +18,7 @@ use Rattle.sr_wire.specs.declared.kind.FrameKind.TheVariants as kinds
 use Rattle.sr_wire.specs.declared.wire_fault.WireFault.{WireFault}
 use Rattle.sr_wire.specs.declared.wire_fault.WireFault.TheVariants.{Short, Long, Kind, Field}
 use Rattle.sr_wire.specs.Kinds.{kind_at, reasons}
-use Rattle.sr_wire.specs.Spelling.{wire, most_bytes}
+use Rattle.sr_wire.specs.Spelling.{most_bytes}
 
 -- ---- values made of several fields, one behind the other
 
@@ -65,9 +65,12 @@ a_reason = one (a_byte_in 1 31) (λ n. slice_index_or reasons (n - 1) LongText)
 abbrev pub a_fault : Reader Fault
 a_fault = two a_reason (a_number w32) (λ why at. record { why = why; at = at })
 
--- this version of the format, and the client
+-- the version of the format
+abbrev pub a_wire : Reader ℕ
+a_wire = a_byte_in 1 2
+
 abbrev pub a_client : Reader ℕ
-a_client = two (a_byte_in wire wire) (a_byte_in 1 64) (λ version client. client)
+a_client = a_byte_in 1 64
 
 -- so many bytes of UTF-8, behind their number
 abbrev pub a_statement : Reader (List ℕ)
@@ -77,16 +80,20 @@ a_statement = do
 
 -- ---- lists and their items
 
-abbrev pub a_holding : Reader Holding
-a_holding = two (a_byte_in 0 15) some_rects (λ table rects. record { table = table; rects = rects })
-
-abbrev pub some_holdings : Reader (List Holding)
-some_holdings = do
-  n ← passing (is_from_to 1 1024) (a_number w32)
-  many a_holding n
-
 abbrev pub some_attrs : Reader ℕ
 some_attrs = passing (is_from_to 0 4095) (a_number w16)
+
+-- the columns of a holding: over wire 1 there are none to be read, and it stands for all
+abbrev pub some_held_attrs : ℕ → Reader ℕ
+some_held_attrs wire = if wire == 1 then give 4095 else some_attrs
+
+abbrev pub a_holding : ℕ → Reader Holding
+a_holding wire = three (a_byte_in 0 15) (some_held_attrs wire) some_rects (λ table attrs rects. record { table = table; attrs = attrs; rects = rects })
+
+abbrev pub some_holdings : ℕ → Reader (List Holding)
+some_holdings wire = do
+  n ← passing (is_from_to 1 1024) (a_number w32)
+  many (a_holding wire) n
 
 abbrev pub a_part : Reader AskPart
 a_part = three a_byte some_attrs some_rects (λ table attrs rects. record { table = table; attrs = attrs; rects = rects })
@@ -117,8 +124,10 @@ some_told = do
 -- ---- the fields of each kind
 
 abbrev pub fields_at : FrameKind → Reader Message
-fields_at kinds.Hello = two a_client a_long Hello
-fields_at kinds.Resume = four a_client a_long a_long some_holdings Resume
+fields_at kinds.Hello = three a_wire a_client a_long Hello
+fields_at kinds.Resume = do
+  wire ← a_wire
+  four a_client a_long a_long (some_holdings wire) (Resume wire)
 fields_at kinds.Ask = three a_long a_flag some_parts Ask
 fields_at kinds.Write = two a_long a_statement Write
 fields_at kinds.Welcome = three a_long a_long a_flag Welcome

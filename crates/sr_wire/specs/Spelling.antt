@@ -1,5 +1,5 @@
 -- Messages as frames of bytes. All numbers have the highest byte first.
-use Rattle.std.specs.Prelude.{ℕ, ◌^◌, Bool, true, false, ◌&&◌, nat_le, nat_lt, List, [], ◌∷◌, ◌++◌, length, Option, Some, None}
+use Rattle.std.specs.Prelude.{ℕ, ◌^◌, ◌==◌, Bool, true, false, ◌&&◌, nat_le, nat_lt, List, [], ◌∷◌, ◌++◌, length, Option, Some, None, if◌then◌else◌}
 use Rattle.std.specs.List.{flat_map, list_all}
 use Rattle.std.specs.Str.{is_utf8}
 use Rattle.sr_cell.specs.declared.fault.Fault.{Fault}
@@ -20,8 +20,12 @@ flag_bytes true = 1 ∷ []
 
 -- ---- the items of lists
 
-abbrev pub holding_bytes : Holding → List ℕ
-holding_bytes h = h.table ∷ rects_bytes h.rects
+-- the columns of a holding; over wire 1 it has none of its own
+abbrev pub held_attrs_bytes : ℕ → ℕ → List ℕ
+held_attrs_bytes wire attrs = if wire == 1 then [] else short_count_bytes attrs
+
+abbrev pub holding_bytes : ℕ → Holding → List ℕ
+holding_bytes wire h = h.table ∷ (held_attrs_bytes wire h.attrs ++ rects_bytes h.rects)
 
 abbrev pub part_bytes : AskPart → List ℕ
 part_bytes p = p.table ∷ (short_count_bytes p.attrs ++ rects_bytes p.rects)
@@ -37,8 +41,8 @@ tell_bytes t = t.table ∷ (cell_bytes t.key ++ after_bytes t.after)
 -- ---- messages
 
 abbrev pub kind_of : Message → FrameKind
-kind_of (Hello client number) = kinds.Hello
-kind_of (Resume client number version holdings) = kinds.Resume
+kind_of (Hello wire client number) = kinds.Hello
+kind_of (Resume wire client number version holdings) = kinds.Resume
 kind_of (Ask number fresh parts) = kinds.Ask
 kind_of (Write number sql) = kinds.Write
 kind_of (Welcome number version kept) = kinds.Welcome
@@ -49,18 +53,14 @@ kind_of (Written number version) = kinds.Written
 kind_of (Refused number fault) = kinds.Refused
 kind_of (Lapse version) = kinds.Lapse
 
--- the version of this format, with which a session begins
-abbrev pub wire : ℕ
-wire = 1
-
 abbrev pub fault_bytes : Fault → List ℕ
 fault_bytes fault = why_byte fault.why ∷ count_bytes fault.at
 
 -- the fields, in their order
 abbrev pub fields_of : Message → List ℕ
-fields_of (Hello client number) = wire ∷ client ∷ long_bytes number
-fields_of (Resume client number version holdings) =
-    wire ∷ client ∷ (long_bytes number ++ (long_bytes version ++ (count_bytes (length holdings) ++ flat_map holding_bytes holdings)))
+fields_of (Hello wire client number) = wire ∷ client ∷ long_bytes number
+fields_of (Resume wire client number version holdings) =
+    wire ∷ client ∷ (long_bytes number ++ (long_bytes version ++ (count_bytes (length holdings) ++ flat_map (holding_bytes wire) holdings)))
 fields_of (Ask number fresh parts) = long_bytes number ++ (flag_bytes fresh ++ length parts ∷ flat_map part_bytes parts)
 fields_of (Write number sql) = long_bytes number ++ (count_bytes (length sql) ++ sql)
 fields_of (Welcome number version kept) = long_bytes number ++ (long_bytes version ++ flag_bytes kept)
@@ -90,8 +90,16 @@ is_table n = nat_lt n 256
 abbrev pub is_client : ℕ → Bool
 is_client n = is_from_to 1 64 n
 
-abbrev pub has_holding_bytes : Holding → Bool
-has_holding_bytes h = is_from_to 0 15 h.table && have_rects_bytes h.rects
+-- the two versions of this format, with one of which a session begins
+abbrev pub is_wire : ℕ → Bool
+is_wire n = is_from_to 1 2 n
+
+-- over wire 1 a holding stands for all columns that a table may have
+abbrev pub has_held_attrs : ℕ → ℕ → Bool
+has_held_attrs wire attrs = if wire == 1 then attrs == 4095 else is_from_to 0 4095 attrs
+
+abbrev pub has_holding_bytes : ℕ → Holding → Bool
+has_holding_bytes wire h = is_from_to 0 15 h.table && (has_held_attrs wire h.attrs && have_rects_bytes h.rects)
 
 abbrev pub has_part_bytes : AskPart → Bool
 has_part_bytes p = is_table p.table && (is_from_to 0 4095 p.attrs && have_rects_bytes p.rects)
@@ -104,9 +112,10 @@ abbrev pub has_tell_bytes : Tell → Bool
 has_tell_bytes t = is_table t.table && (has_cell_bytes t.key && has_after_bytes t.after)
 
 abbrev pub has_fields : Message → Bool
-has_fields (Hello client number) = is_client client && is_long number
-has_fields (Resume client number version holdings) =
-    is_client client && (is_long number && (is_long version && (is_from_to 1 1024 (length holdings) && list_all has_holding_bytes holdings)))
+has_fields (Hello wire client number) = is_wire wire && (is_client client && is_long number)
+has_fields (Resume wire client number version holdings) =
+    is_wire wire
+    && (is_client client && (is_long number && (is_long version && (is_from_to 1 1024 (length holdings) && list_all (has_holding_bytes wire) holdings))))
 has_fields (Ask number fresh parts) = is_long number && (is_from_to 1 4 (length parts) && list_all has_part_bytes parts)
 has_fields (Write number sql) = is_long number && (is_from_to 0 65536 (length sql) && is_utf8 sql)
 has_fields (Welcome number version kept) = is_long number && is_long version

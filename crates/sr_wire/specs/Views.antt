@@ -11,7 +11,7 @@ use Rattle.sr_wire.specs.declared.views.AskPartView.{AskPartView}
 use Rattle.sr_wire.specs.declared.views.TellView.{TellView}
 
 abbrev pub holding_of : HoldingView → Holding
-holding_of v = record { table = v.table; rects = v.rects }
+holding_of v = record { table = v.table; attrs = v.attrs; rects = v.rects }
 
 abbrev pub part_of : AskPartView → AskPart
 part_of v = record { table = v.table; attrs = v.attrs; rects = v.rects }

@@ -2,18 +2,18 @@
 ghost use Rattle.std.specs.Prelude.{◌≡◌, ◌≤◌, length};
 ghost use Rattle.sr_bytes.specs.Views.{Reads};
 ghost use Rattle.sr_wire.specs.Bodies.{message_of};
-ghost use Rattle.sr_wire.specs.Reading.{a_client, a_flag, a_fault, a_statement, fields_at};
+ghost use Rattle.sr_wire.specs.Reading.{a_client, a_flag, a_fault, a_statement, a_wire, fields_at};
 ghost use Rattle.sr_wire.specs.declared.kind.FrameKind.TheVariants as kinds;
 
 use crate::kind::FrameKind;
-use crate::views::{AskPartsView, HoldingsView, ToldView, holdings, parts, told};
+use crate::views::{AskPartsView, FIRST_WIRE, HoldingsView, ToldView, holdings, parts, told};
 use crate::why::why_of;
 use sr_bytes::cursor::{BadField, Cursor};
 use sr_bytes::views::RowsView;
 use sr_cell::fault::Fault;
 
-/// The version of this format.
-const WIRE: u8 = 1;
+/// The last version of this format.
+const LAST_WIRE: u8 = 2;
 
 /// The greatest number of a client.
 const CLIENTS: u8 = 64;
@@ -31,10 +31,12 @@ const REASONS: u8 = 31;
 #[derive(Drop)]
 pub enum Body<'a> {
     Hello {
+        wire: u8,
         client: u8,
         number: u64,
     },
     Resume {
+        wire: u8,
         client: u8,
         number: u64,
         version: u64,
@@ -80,10 +82,15 @@ pub enum Body<'a> {
     },
 }
 
+fn wire(fields: &mut Cursor<'_>) -> Result<u8, BadField>
+    ensures { Reads (λ wire. wire) result fields.new (a_wire fields.old) }
+{
+    fields.byte_in(FIRST_WIRE, LAST_WIRE)
+}
+
 fn client(fields: &mut Cursor<'_>) -> Result<u8, BadField>
     ensures { Reads (λ client. client) result fields.new (a_client fields.old) }
 {
-    fields.byte_in(WIRE, WIRE)?;
     fields.byte_in(1, CLIENTS)
 }
 
@@ -112,19 +119,26 @@ fn statement<'a>(fields: &mut Cursor<'a>) -> Result<&'a str, BadField>
 fn hello<'a>(fields: &mut Cursor<'a>) -> Result<Body<'a>, BadField>
     ensures { Reads message_of result fields.new (fields_at kinds.Hello fields.old) }
 {
+    let wire = wire(fields)?;
     let client = client(fields)?;
     let number = fields.u64()?;
-    Ok(Body::Hello { client, number })
+    Ok(Body::Hello {
+        wire,
+        client,
+        number,
+    })
 }
 
 fn resume<'a>(fields: &mut Cursor<'a>) -> Result<Body<'a>, BadField>
     ensures { Reads message_of result fields.new (fields_at kinds.Resume fields.old) }
 {
+    let wire = wire(fields)?;
     let client = client(fields)?;
     let number = fields.u64()?;
     let version = fields.u64()?;
-    let holdings = holdings(fields)?;
+    let holdings = holdings(fields, wire)?;
     Ok(Body::Resume {
+        wire,
         client,
         number,
         version,
@@ -239,13 +253,23 @@ impl<'a> Body<'a> {
         ensures { message_of result ≡ message_of self.now }
     {
         match *self {
-            Body::Hello { client, number } => Body::Hello { client, number },
+            Body::Hello {
+                wire,
+                client,
+                number,
+            } => Body::Hello {
+                wire,
+                client,
+                number,
+            },
             Body::Resume {
+                wire,
                 client,
                 number,
                 version,
                 ref holdings,
             } => Body::Resume {
+                wire,
                 client,
                 number,
                 version,

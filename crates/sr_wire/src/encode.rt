@@ -4,22 +4,21 @@ ghost use Rattle.std.specs.List.{flat_map, list_all};
 ghost use Rattle.std.specs.Str.{is_utf8};
 ghost use Rattle.sr_bytes.specs.Spelling.{count_bytes, long_bytes, is_from_to};
 ghost use Rattle.sr_wire.specs.Limits.{may_write_holding, may_write_part, may_write_after, may_write_tell, may_write, IsSendable};
-ghost use Rattle.sr_wire.specs.Spelling.{holding_bytes, part_bytes, after_bytes, tell_bytes, flag_bytes, fault_bytes, kind_of, fields_of, body_of, spelling, has_holding_bytes, has_part_bytes, has_after_bytes, has_tell_bytes, has_fields, has_spelling, is_long, wire};
+ghost use Rattle.sr_wire.specs.Spelling.{held_attrs_bytes, holding_bytes, part_bytes, after_bytes, tell_bytes, flag_bytes, fault_bytes, kind_of, fields_of, body_of, spelling, has_holding_bytes, has_part_bytes, has_after_bytes, has_tell_bytes, has_fields, has_spelling, is_long};
 
 use crate::kind::FrameKind;
+use crate::views::FIRST_WIRE;
 use crate::why;
 use sr_bytes::write::{
     know_utf8, push_cell, push_count, push_long, push_rects, push_row, push_rows, push_short_count,
 };
+use sr_cell::attrs::Attrs;
 use sr_cell::cell::Row;
 use sr_cell::fault::Fault;
 use sr_cell::list::{Bytes, NoMemory};
 use sr_cell::text::Text;
 use sr_message::message::{AskPart, AskParts, Holding, Holdings, Message, Tell, Told};
 use std::alloc::Global;
-
-/// The version of this format.
-const WIRE: u8 = 1;
 
 /// The bytes of the length.
 const LENGTH_BYTES: usize = 4;
@@ -50,23 +49,35 @@ fn push_statement(out: &mut Bytes, sql: &Text) -> Result<(), NoMemory>
     out.extend(bytes)
 }
 
-fn push_holding(out: &mut Bytes, holding: &Holding) -> Result<(), NoMemory>
-    requires { IsTrue (may_write_holding holding.now) }
-    ensures written { OnOk result (out.new ≡ out.old ++ holding_bytes holding.now) }
-    ensures spelled { OnOk result (has_holding_bytes holding.now ≡ true) }
+// Over wire 1 the columns of a holding are not written.
+fn push_held_attrs(out: &mut Bytes, wire: u8, attrs: Attrs) -> Result<(), NoMemory>
+    ensures { OnOk result (out.new ≡ out.old ++ held_attrs_bytes wire attrs) }
+{
+    if wire == FIRST_WIRE {
+        Ok(())
+    } else {
+        push_short_count(out, attrs.0)
+    }
+}
+
+fn push_holding(out: &mut Bytes, wire: u8, holding: &Holding) -> Result<(), NoMemory>
+    requires { IsTrue (may_write_holding wire holding.now) }
+    ensures written { OnOk result (out.new ≡ out.old ++ holding_bytes wire holding.now) }
+    ensures spelled { OnOk result (has_holding_bytes wire holding.now ≡ true) }
 {
     out.push(holding.table)?;
+    push_held_attrs(out, wire, holding.attrs)?;
     push_rects(out, &holding.rects)
 }
 
-fn push_holdings(out: &mut Bytes, holdings: &Holdings) -> Result<(), NoMemory>
-    requires { IsTrue (is_from_to 1 1024 (length holdings.now) && list_all may_write_holding holdings.now) }
-    ensures written { OnOk result (out.new ≡ out.old ++ (count_bytes (length holdings.now) ++ flat_map holding_bytes holdings.now)) }
-    ensures spelled { OnOk result (list_all has_holding_bytes holdings.now ≡ true) }
+fn push_holdings(out: &mut Bytes, wire: u8, holdings: &Holdings) -> Result<(), NoMemory>
+    requires { IsTrue (is_from_to 1 1024 (length holdings.now) && list_all (may_write_holding wire) holdings.now) }
+    ensures written { OnOk result (out.new ≡ out.old ++ (count_bytes (length holdings.now) ++ flat_map (holding_bytes wire) holdings.now)) }
+    ensures spelled { OnOk result (list_all (has_holding_bytes wire) holdings.now ≡ true) }
 {
     push_count(out, holdings.len() as u32)?;
     for holding in holdings.as_slice() {
-        push_holding(out, holding)?;
+        push_holding(out, wire, holding)?;
     }
     Ok(())
 }
@@ -129,11 +140,11 @@ fn push_told(out: &mut Bytes, told: &Told) -> Result<(), NoMemory>
     Ok(())
 }
 
-fn push_session(out: &mut Bytes, client: u8, number: u64) -> Result<(), NoMemory>
+fn push_session(out: &mut Bytes, wire: u8, client: u8, number: u64) -> Result<(), NoMemory>
     ensures written { OnOk result (out.new ≡ out.old ++ (wire ∷ client ∷ long_bytes number)) }
     ensures spelled { is_long number ≡ true }
 {
-    out.push(WIRE)?;
+    out.push(wire)?;
     out.push(client)?;
     push_long(out, number)
 }
@@ -153,16 +164,21 @@ fn push_fields(out: &mut Bytes, message: &Message) -> Result<(), NoMemory>
     ensures spelled { OnOk result (has_fields message.now ≡ true) }
 {
     match message {
-        Message::Hello { client, number } => push_session(out, *client, *number),
+        Message::Hello {
+            wire,
+            client,
+            number,
+        } => push_session(out, *wire, *client, *number),
         Message::Resume {
+            wire,
             client,
             number,
             version,
             holdings,
         } => {
-            push_session(out, *client, *number)?;
+            push_session(out, *wire, *client, *number)?;
             push_long(out, *version)?;
-            push_holdings(out, holdings)
+            push_holdings(out, *wire, holdings)
         }
         Message::Ask {
             number,

@@ -18,9 +18,17 @@ impl<'a> HoldingView<'a> {
     pub fn to_holding(self, alloc: Global) -> Result<Holding, NoMemory>
         ensures { IfOk result (λ holding. holding ≡ holding_of self.entry) }
     {
-        let HoldingView { table, rects } = self;
+        let HoldingView {
+            table,
+            attrs,
+            rects,
+        } = self;
         let rects = rects.to_rects(alloc)?;
-        Ok(Holding { table, rects })
+        Ok(Holding {
+            table,
+            attrs,
+            rects,
+        })
     }
 }
 
@@ -109,13 +117,23 @@ impl<'a> Body<'a> {
         ensures { IfOk result (λ message. message ≡ message_of self.entry) }
     {
         match self {
-            Body::Hello { client, number } => Ok(Message::Hello { client, number }),
+            Body::Hello {
+                wire,
+                client,
+                number,
+            } => Ok(Message::Hello {
+                wire,
+                client,
+                number,
+            }),
             Body::Resume {
+                wire,
                 client,
                 number,
                 version,
                 holdings,
             } => Ok(Message::Resume {
+                wire,
                 client,
                 number,
                 version,

@@ -1,5 +1,6 @@
 //! Holdings, parts and tells in the bytes that spell them.
 ghost use Rattle.std.specs.Prelude.{◌≡◌, ℕ, List, [], ◌++◌, option_to_list, IfNone};
+ghost use Rattle.sr_bytes.specs.Reading.{items, many};
 ghost use Rattle.std.specs.Option.{option_map};
 ghost use Rattle.sr_bytes.specs.Views.{Reads};
 ghost use Rattle.sr_wire.specs.Reading.{a_holding, a_part, a_tell, an_after, some_holdings, some_parts, some_told};
@@ -27,10 +28,14 @@ const TELLS: u32 = 10_000;
 /// All columns that a table may have.
 const ALL_COLUMNS: u16 = 4_095;
 
-/// Points of one table.
+/// The first version of this format, over which a holding stands for all columns.
+pub(crate) const FIRST_WIRE: u8 = 1;
+
+/// Points of one table, under these columns.
 #[derive(Drop)]
 pub struct HoldingView<'a> {
     pub table: u8,
+    pub attrs: Attrs,
     pub rects: RectsView<'a>,
 }
 
@@ -53,6 +58,7 @@ pub struct TellView<'a> {
 /// The holdings that are left of a list.
 #[derive(Drop)]
 pub struct HoldingsView<'a> {
+    wire: u8,
     holdings: u32,
     bytes: Cursor<'a>,
 }
@@ -66,7 +72,7 @@ impl<'a> Model for HoldingsView<'a> {
     ghost use Rattle.sr_bytes.specs.Reading.{items};
     ghost use Rattle.sr_wire.specs.Reading.{a_holding};
 
-    ghost view = { λ v. items a_holding v.holdings v.bytes };
+    ghost view = { λ v. items (a_holding v.wire) v.holdings v.bytes };
 }
 
 /// The parts that are left of a list.
@@ -110,14 +116,46 @@ impl<'a> Model for ToldView<'a> {
 impl<'a> Item<'a> for HoldingView<'a> {
     type Seen = Holding;
 
-    ghost reader = { a_holding };
+    ghost reader = { a_holding 2 };
 
     ghost seen = { holding_of };
 
     fn read(bytes: &mut Cursor<'a>) -> Result<HoldingView<'a>, BadField> {
         let table = bytes.byte_in(0, LAST_TABLE)?;
+        let attrs = Attrs(bytes.u16_in(0, ALL_COLUMNS)?);
         let rects = bytes.rects()?;
-        Ok(HoldingView { table, rects })
+        Ok(HoldingView {
+            table,
+            attrs,
+            rects,
+        })
+    }
+}
+
+/// A holding as wire 1 has it, without columns of its own.
+#[derive(Drop)]
+struct WholeView<'a> {
+    holding: HoldingView<'a>,
+}
+
+impl<'a> Item<'a> for WholeView<'a> {
+    type Seen = Holding;
+
+    ghost reader = { a_holding 1 };
+
+    ghost seen = { λ v. holding_of v.holding };
+
+    fn read(bytes: &mut Cursor<'a>) -> Result<WholeView<'a>, BadField> {
+        let table = bytes.byte_in(0, LAST_TABLE)?;
+        let attrs = Attrs(ALL_COLUMNS);
+        let rects = bytes.rects()?;
+        Ok(WholeView {
+            holding: HoldingView {
+                table,
+                attrs,
+                rects,
+            },
+        })
     }
 }
 
@@ -164,14 +202,26 @@ impl<'a> Item<'a> for TellView<'a> {
     }
 }
 
-/// A list of holdings, which are read again when they are asked for.
-pub(crate) fn holdings<'a>(bytes: &mut Cursor<'a>) -> Result<HoldingsView<'a>, BadField>
-    ensures { Reads (λ v. v) result bytes.new (some_holdings bytes.old) }
+/// Passes over so many holdings.
+fn skip_holdings(bytes: &mut Cursor<'_>, wire: u8, count: u32) -> Result<(), BadField>
+    ensures { Reads (λ _. items (a_holding wire) count bytes.old) result bytes.new (many (a_holding wire) count bytes.old) }
+{
+    if wire == FIRST_WIRE {
+        skip_items::<WholeView<'_>>(bytes, count)
+    } else {
+        skip_items::<HoldingView<'_>>(bytes, count)
+    }
+}
+
+/// A list of holdings over that wire, which are read again when they are asked for.
+pub(crate) fn holdings<'a>(bytes: &mut Cursor<'a>, wire: u8) -> Result<HoldingsView<'a>, BadField>
+    ensures { Reads (λ v. v) result bytes.new (some_holdings wire bytes.old) }
 {
     let holdings = bytes.u32_in(1, HOLDINGS)?;
     let from = Cursor::over(bytes.left());
-    skip_items::<HoldingView<'a>>(bytes, holdings)?;
+    skip_holdings(bytes, wire, holdings)?;
     Ok(HoldingsView {
+        wire,
         holdings,
         bytes: from,
     })
@@ -197,13 +247,28 @@ pub(crate) fn told<'a>(bytes: &mut Cursor<'a>) -> Result<ToldView<'a>, BadField>
     Ok(ToldView { tells, bytes: from })
 }
 
+/// The next of so many holdings of wire 1, or None where none is left.
+fn next_whole<'a>(left: &mut u32, bytes: &mut Cursor<'a>) -> Option<HoldingView<'a>>
+    ensures first { items (a_holding 1) left.old bytes.old ≡ option_to_list (option_map holding_of result) ++ items (a_holding 1) left.new bytes.new }
+    ensures end { IfNone result (items (a_holding 1) left.old bytes.old ≡ []) }
+{
+    match next_item::<WholeView<'a>>(left, bytes) {
+        None => None,
+        Some(whole) => Some(whole.holding),
+    }
+}
+
 impl<'a> HoldingsView<'a> {
     /// The next holding, or None where none is left.
     pub fn next(&mut self) -> Option<HoldingView<'a>>
         ensures first { self.old ≡ option_to_list (option_map holding_of result) ++ self.new }
         ensures end { IfNone result (self.old ≡ []) }
     {
-        next_item(&mut self.holdings, &mut self.bytes)
+        if self.wire == FIRST_WIRE {
+            next_whole(&mut self.holdings, &mut self.bytes)
+        } else {
+            next_item(&mut self.holdings, &mut self.bytes)
+        }
     }
 
     /// The same holdings, to be gone through by themselves.
@@ -211,6 +276,7 @@ impl<'a> HoldingsView<'a> {
         ensures { result ≡ self.now }
     {
         HoldingsView {
+            wire: self.wire,
             holdings: self.holdings,
             bytes: Cursor::over(self.bytes.left()),
         }

@@ -42,8 +42,8 @@ pub grows-taken : (db : Database) (session : Option Session) (m : Message) (resu
 grows-taken db None m result sound = grows-none db
 grows-taken db (Some session) (Write number sql) (Ok tables) sound = grows-more db tables sound
 grows-taken db (Some session) (Write number sql) (Err fault) sound = grows-none db
-grows-taken db (Some session) (Hello client number) result sound = grows-none db
-grows-taken db (Some session) (Resume client number version holdings) result sound = grows-none db
+grows-taken db (Some session) (Hello wire client number) result sound = grows-none db
+grows-taken db (Some session) (Resume wire client number version holdings) result sound = grows-none db
 grows-taken db (Some session) (Ask number fresh parts) result sound = grows-none db
 grows-taken db (Some session) (Welcome number version kept) result sound = grows-none db
 grows-taken db (Some session) (Notice version told) result sound = grows-none db

@@ -20,8 +20,8 @@ pub record IsRequest (tables : List Table) (n : ℕ) (m : Message) : Type 0 wher
   pub parts : has_few_parts m ≡ true
 
 pub request-parts : (schema : List Table) (n : ℕ) (m : Message) → is_request_of schema n m ≡ true → IsRequest schema n m
-request-parts schema n (Hello named number) is = record { request = refl; begins = λ _. grind (arith, is); schema = refl; parts = refl }
-request-parts schema n (Resume named number version holdings) is = record { request = refl; begins = λ _. grind (arith, is); schema = grind (arith, is); parts = refl }
+request-parts schema n (Hello wire named number) is = record { request = refl; begins = λ _. grind (arith, is); schema = refl; parts = refl }
+request-parts schema n (Resume wire named number version holdings) is = record { request = refl; begins = λ _. grind (arith, is); schema = grind (arith, is); parts = refl }
 request-parts schema n (Ask number fresh parts) is = record { request = refl; begins = λ wrong. absurd (let w : true ≡ false = wrong in cc); schema = grind (arith, is); parts = grind (arith, is) }
 request-parts schema n (Write number sql) is = record { request = refl; begins = λ wrong. absurd (let w : true ≡ false = wrong in cc); schema = refl; parts = refl }
 request-parts schema n (Welcome number version kept) is = absurd (let w : false ≡ true = is in cc)
@@ -37,8 +37,8 @@ request-parts schema n (Lapse version) is = absurd (let w : false ≡ true = is 
 -- no request but the first of a session is a Hello or a Resume
 message-state : (n : ℕ) (request : Request) (m : Message) → IsMessageOf request m → suits_state true n m ≡ true
 message-state n (AskOut number query q fresh parts) (Ask k mode asked) are = refl
-message-state n (AskOut number query q fresh parts) (Hello client k) are = absurd are
-message-state n (AskOut number query q fresh parts) (Resume client k version holdings) are = absurd are
+message-state n (AskOut number query q fresh parts) (Hello wire client k) are = absurd are
+message-state n (AskOut number query q fresh parts) (Resume wire client k version holdings) are = absurd are
 message-state n (AskOut number query q fresh parts) (Write k sql) are = absurd are
 message-state n (AskOut number query q fresh parts) (Welcome k version kept) are = absurd are
 message-state n (AskOut number query q fresh parts) (Notice version told) are = absurd are
@@ -49,8 +49,8 @@ message-state n (AskOut number query q fresh parts) (Refused k fault) are = absu
 message-state n (AskOut number query q fresh parts) (Lapse version) are = absurd are
 message-state n (WriteOut number) (Write k sql) are = refl
 message-state n (WriteOut number) (Ask k mode asked) are = absurd are
-message-state n (WriteOut number) (Hello client k) are = absurd are
-message-state n (WriteOut number) (Resume client k version holdings) are = absurd are
+message-state n (WriteOut number) (Hello wire client k) are = absurd are
+message-state n (WriteOut number) (Resume wire client k version holdings) are = absurd are
 message-state n (WriteOut number) (Welcome k version kept) are = absurd are
 message-state n (WriteOut number) (Notice version told) are = absurd are
 message-state n (WriteOut number) (Rows k part rows) are = absurd are
@@ -62,8 +62,8 @@ message-state n (ResumeOut number) m are = absurd are
 
 -- the first of a session is one of these, which an open session takes no more
 resume-state : (schema : List Table) (c : Client) (n number : ℕ) (m : Message) → IsResumeMessage schema c number m → suits_state true n m ≡ false
-resume-state schema c n number (Hello client k) is = refl
-resume-state schema c n number (Resume client k version holdings) is = refl
+resume-state schema c n number (Hello wire client k) is = refl
+resume-state schema c n number (Resume wire client k version holdings) is = refl
 resume-state schema c n number (Ask k mode asked) is = absurd is
 resume-state schema c n number (Write k sql) is = absurd is
 resume-state schema c n number (Welcome k version kept) is = absurd is

@@ -20,6 +20,9 @@ use sr_server::server::Server;
 use sr_tables::tables::Tables;
 use std::alloc::Global;
 
+/// The version of the format that the clients speak.
+const WIRE: u8 = 2;
+
 /// How a world is set up: whether all deliveries are made after each event, what each client may keep, at most 1,024 regions, how many
 /// changes the log of the server keeps, and how many clients there are, 1 to 64.
 #[derive(Clone, Copy)]
@@ -95,9 +98,13 @@ fn open(alloc: Global, server: &mut Server, client: u8) -> Result<(), NoMemory>
     requires closed { session_at server.old.sessions client ≡ None }
     requires room { newest_of server.old.log + 1 < 2 ^ 63 }
     ensures stands { (db : Database) → IsServer server.old db → OnOk result (IsServer server.new db) }
-    ensures session { (db : Database) → IsServer server.old db → OnOk result (server.new.sessions ≡ with_session server.old.sessions client (opened db [])) }
+    ensures session { (db : Database) → IsServer server.old db → OnOk result (server.new.sessions ≡ with_session server.old.sessions client (opened db 2 [])) }
 {
-    let hello = Message::Hello { client, number: 0 };
+    let hello = Message::Hello {
+        wire: WIRE,
+        client,
+        number: 0,
+    };
     let taken = server.take(alloc, client, &hello);
     drop(hello);
     match taken {

@@ -14,7 +14,11 @@ returns-clause-sent c db keeps upto = elim c.match-since.branch [
 
 pub returns-clause-session : goal.returns-clause-session
 returns-clause-session c db keeps upto =
-    made-of c.session-2.inside.subs (due db c.args.session.now).subscription c.version-session-inside.result (newest db)
+    made-of c.session-2.inside.wire c.args.session.now.wire c.session-2.inside.subs (due db c.args.session.now).subscription c.version-session-inside.result (newest db)
+    (ap (λ (s : Session). s.wire) c.session-2.view_is ∙ elim c.match-since.branch [
+      | in-Some+in_ok-sent-in-Some w ↦ ap (λ (s : Session). s.wire) w.session-is
+      | in-None+in_ok-sent-in-None w ↦ ap (λ (s : Session). s.wire) w.session-is ∙ ap (λ (s : Session). s.wire) (w.in_ok-sent-in-None.ensures.session db keeps upto)
+    ])
     (ap (λ (s : Session). s.subscription) c.session-2.view_is ∙ elim c.match-since.branch [
       | in-Some+in_ok-sent-in-Some w ↦
           ap (λ (s : Session). s.subscription) w.session-is

@@ -10,7 +10,7 @@ returns-then-is_empty-clause-sent c db keeps upto =
 
 pub returns-then-is_empty-clause-session : goal.returns-then-is_empty-clause-session
 returns-then-is_empty-clause-session c db keeps upto =
-    ap (λ s. record { subscription = s; upto = c.args.session.now.upto })
+    ap (λ s. record { wire = c.args.session.now.wire; subscription = s; upto = c.args.session.now.upto })
     (sym (ap (λ d. d.subscription) (bare-due db c.args.session.now (bare-now c.args.session.now _ c.is_empty.result c.session.view_is c.requires.points c.is_empty.ensures ∙ c.if-is_empty.true))))
 
 pub returns-clause-sent : goal.returns-clause-sent
@@ -22,6 +22,6 @@ returns-clause-sent c db keeps upto =
 pub returns-clause-session : goal.returns-clause-session
 returns-clause-session c db keeps upto =
     let below : c.args.session.now.upto < floor_of db = subst (λ f. c.args.session.now.upto < f) keeps.2 c.requires.dropped in
-    made-of c.clear.new.self (due db c.args.session.now).subscription c.session.inside.upto c.args.session.now.upto
+    made-of c.session.inside.wire c.args.session.now.wire c.clear.new.self (due db c.args.session.now).subscription c.session.inside.upto c.args.session.now.upto (ap (λ (s : Session). s.wire) c.session.view_is)
     (c.clear.ensures ∙ sym (ap (λ d. d.subscription) (lost-due db c.args.session.now (bare-now c.args.session.now _ c.is_empty.result c.session.view_is c.requires.points c.is_empty.ensures ∙ c.if-is_empty.false) below)))
     (ap (λ (s : Session). s.upto) c.session.view_is)

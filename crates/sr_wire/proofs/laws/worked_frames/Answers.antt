@@ -7,6 +7,11 @@ unfolding number_bytes count_bytes short_count_bytes long_bytes
 returns c = record {
   hello_is = refl;
   hello_back = refl;
+  resume_is = refl;
+  resume_back = refl;
+  whole_resume_is = refl;
+  whole_resume_back = refl;
+  no_wire = refl;
   reply_is = refl;
   reply_back = refl;
   ask_is = refl;

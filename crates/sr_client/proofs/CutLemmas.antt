@@ -18,7 +18,7 @@ cut-already c stands down = cuts-by c c (Already c.cuts) (λ h f. record {
   draws = omega arith;
   stands = (h, f, refl);
   over = λ db here it. (already_cut down, stands-over c h db f here);
-}) stands
+}) (λ h f. already_cut down) stands
 
 -- the client once its link is cut
 abbrev pub cut_off : Client → Client
@@ -51,4 +51,4 @@ cut-now c ended stands up is = cuts-by c (cut_off c) (Cut (c.cuts + 1) ended) (�
   draws = omega arith;
   stands = (h, cut-facts c h f, refl);
   over = λ db here it. (cuts up, stands-over (cut_off c) h db (cut-facts c h f) (record { sound = here.sound; within = here.within; are_true = here.are_true }));
-}) stands
+}) (λ h f. cuts up) stands

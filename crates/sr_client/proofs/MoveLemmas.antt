@@ -28,20 +28,30 @@ pub record MovesHere (old new : Client) (past : session.Client) (says : Outcome 
   pub stands : StandsFor next new
   pub over : (db : Database) → IsHere db old → If (on old db) → rule (on old db) outcome next × StandsOver (on old db) next new
 
-module _ (old new : Client) (says : session.Client → Outcome → Type 0) (If : session.Client → Database → Type 0) (rule : session.Client → Database → Outcome → session.Client → Type 0) where
+module _ (old new : Client) (says : session.Client → Outcome → Type 0) (If : session.Client → Database → Type 0) (rule : session.Client → Database → Outcome → session.Client → Type 0)
+    (lawful : session.Client → Outcome → session.Client → Type 0) where
+  -- with what is so whatever the database
+  record IsMoved (past : session.Client) : Type 0 where
+    moves : Moves old new past (says past) (If past) (rule past)
+    ruled : lawful past moves.outcome moves.next
+
   -- so it is for all databases
-  moves-for : ((h : Hidden) → Facts old h → MovesHere old new (past_of old h) (says (past_of old h)) (If (past_of old h)) (rule (past_of old h)))
-      → (past : session.Client) → StandsFor past old → Moves old new past (says past) (If past) (rule past)
-  moves-for each past (h, f, same) =
+  moved-for : (each : (h : Hidden) → Facts old h → MovesHere old new (past_of old h) (says (past_of old h)) (If (past_of old h)) (rule (past_of old h)))
+      → ((h : Hidden) (f : Facts old h) → lawful (past_of old h) (each h f).outcome (each h f).next)
+      → (past : session.Client) → StandsFor past old → IsMoved past
+  moved-for each law past (h, f, same) =
       let m = each h f in
-      subst (λ p. Moves old new p (says p) (If p) (rule p)) (sym same) (record {
-        outcome = m.outcome;
-        next = m.next;
-        is = m.is;
-        link = m.link;
-        draws = m.draws;
-        stands = m.stands;
-        over = λ db s. of-schema old (λ db past. If past db → rule past db m.outcome m.next × StandsOver db m.next new) h f m.over db s.schema s.sound s.within s.client.are_true;
+      subst IsMoved (sym same) (record {
+        moves = record {
+          outcome = m.outcome;
+          next = m.next;
+          is = m.is;
+          link = m.link;
+          draws = m.draws;
+          stands = m.stands;
+          over = λ db s. of-schema old (λ db past. If past db → rule past db m.outcome m.next × StandsOver db m.next new) h f m.over db s.schema s.sound s.within s.client.are_true;
+        };
+        ruled = law h f;
       })
 
   -- and over one
@@ -55,53 +65,63 @@ module _ (old new : Client) (says : session.Client → Outcome → Type 0) (If :
   record Both : Type 0 where
     by_rules : (db : Database) (past : session.Client) → StandsOver db past old → If past db → Goes db (says past) (rule past db) new
     moves : (past : session.Client) → StandsFor past old → Moves old new past (says past) (If past) (rule past)
+    ruled : (past : session.Client) (stands : StandsFor past old) → lawful past (moves past stands).outcome (moves past stands).next
     stands : Stands new
 
-  both : ((h : Hidden) → Facts old h → MovesHere old new (past_of old h) (says (past_of old h)) (If (past_of old h)) (rule (past_of old h))) → Stands old → Both
-  both each (h, f) =
-      let moves = moves-for each in
+  both : (each : (h : Hidden) → Facts old h → MovesHere old new (past_of old h) (says (past_of old h)) (If (past_of old h)) (rule (past_of old h)))
+      → ((h : Hidden) (f : Facts old h) → lawful (past_of old h) (each h f).outcome (each h f).next) → Stands old → Both
+  both each law (h, f) =
+      let moved : (past : session.Client) → StandsFor past old → IsMoved past = moved-for each law in
       let m = each h f in
-      record { by_rules = goes-by moves; moves = moves; stands = (m.stands.0, m.stands.1) }
+      record {
+        by_rules = goes-by (λ past s. (moved past s).moves);
+        moves = λ past s. (moved past s).moves;
+        ruled = λ past s. (moved past s).ruled;
+        stands = (m.stands.0, m.stands.1);
+      }
 
 module _ (old new : Client) where
   pub queries-by : (meaning : model.Query) (step : QueryStep)
       → ((h : Hidden) → Facts old h → MovesHere old new (past_of old h) (SaysQuery (past_of old h) step) (λ db. Unit {0}) (λ db. rules.QueryStep (basis_of db old.store.limits) (past_of old h) (Ok meaning)))
       → Stands old → Queries old meaning new step
   queries-by meaning step each stands =
-      let b = both old new (λ past. SaysQuery past step) (λ past db. Unit {0}) (λ past db. rules.QueryStep (basis_of db old.store.limits) past (Ok meaning)) each stands in
+      let b = both old new (λ past. SaysQuery past step) (λ past db. Unit {0}) (λ past db. rules.QueryStep (basis_of db old.store.limits) past (Ok meaning)) (λ past o next. Unit {0}) each (λ h f. tt) stands in
       record { by_rules = λ db past s. b.by_rules db past s tt; moves = b.moves; stands = b.stands }
 
   pub takes-by : (m : Message) (took : Took)
       → ((h : Hidden) → Facts old h → MovesHere old new (past_of old h) (SaysTook took) (λ db. Truly db (past_of old h) m) (λ db. rules.TakeStep (basis_of db old.store.limits) (past_of old h) m))
       → Stands old → Takes old m new took
   takes-by m took each stands =
-      let b = both old new (λ past. SaysTook took) (λ past db. Truly db past m) (λ past db. rules.TakeStep (basis_of db old.store.limits) past m) each stands in
+      let b = both old new (λ past. SaysTook took) (λ past db. Truly db past m) (λ past db. rules.TakeStep (basis_of db old.store.limits) past m) (λ past o next. Unit {0}) each (λ h f. tt) stands in
       record { by_rules = b.by_rules; moves = λ past s good. b.moves past s; stands = b.stands }
 
   pub evicts-by : (place : ℕ) (step : EvictStep)
       → ((h : Hidden) → Facts old h → MovesHere old new (past_of old h) (SaysEvict step) (λ db. Unit {0}) (λ db. rules.EvictStep (basis_of db old.store.limits) place (past_of old h)))
       → Stands old → Evicts old place new step
   evicts-by place step each stands =
-      let b = both old new (λ past. SaysEvict step) (λ past db. Unit {0}) (λ past db. rules.EvictStep (basis_of db old.store.limits) place past) each stands in
+      let b = both old new (λ past. SaysEvict step) (λ past db. Unit {0}) (λ past db. rules.EvictStep (basis_of db old.store.limits) place past) (λ past o next. Unit {0}) each (λ h f. tt) stands in
       record { by_rules = λ db past s. b.by_rules db past s tt; moves = b.moves; stands = b.stands }
 
   pub writes-by : (sql : List ℕ) (step : WriteStep)
-      → ((h : Hidden) → Facts old h → MovesHere old new (past_of old h) (SaysWrite sql step) (λ db. Unit {0}) (λ db. rules.WriteStep sql (past_of old h)))
+      → (each : (h : Hidden) → Facts old h → MovesHere old new (past_of old h) (SaysWrite sql step) (λ db. Unit {0}) (λ db. rules.WriteStep sql (past_of old h)))
+      → ((h : Hidden) (f : Facts old h) → rules.WriteStep sql (past_of old h) (each h f).outcome (each h f).next)
       → Stands old → Writes old sql new step
-  writes-by sql step each stands =
-      let b = both old new (λ past. SaysWrite sql step) (λ past db. Unit {0}) (λ past db. rules.WriteStep sql past) each stands in
-      record { by_rules = λ db past s. b.by_rules db past s tt; moves = b.moves; stands = b.stands }
+  writes-by sql step each law stands =
+      let b = both old new (λ past. SaysWrite sql step) (λ past db. Unit {0}) (λ past db. rules.WriteStep sql past) (λ past. rules.WriteStep sql past) each law stands in
+      record { by_rules = λ db past s. b.by_rules db past s tt; moves = b.moves; ruled = b.ruled; stands = b.stands }
 
   pub resumes-by : (step : ResumeStep)
-      → ((h : Hidden) → Facts old h → MovesHere old new (past_of old h) (SaysResume (past_of old h) step) (λ db. Unit {0}) (λ db. rules.ResumeStep db.schema (past_of old h)))
+      → (each : (h : Hidden) → Facts old h → MovesHere old new (past_of old h) (SaysResume (past_of old h) step) (λ db. Unit {0}) (λ db. rules.ResumeStep db.schema (past_of old h)))
+      → ((h : Hidden) (f : Facts old h) → rules.ResumeStep old.schema (past_of old h) (each h f).outcome (each h f).next)
       → Stands old → Resumes old new step
-  resumes-by step each stands =
-      let b = both old new (λ past. SaysResume past step) (λ past db. Unit {0}) (λ past db. rules.ResumeStep db.schema past) each stands in
-      record { by_rules = λ db past s. b.by_rules db past s tt; moves = b.moves; stands = b.stands }
+  resumes-by step each law stands =
+      let b = both old new (λ past. SaysResume past step) (λ past db. Unit {0}) (λ past db. rules.ResumeStep db.schema past) (λ past. rules.ResumeStep old.schema past) each law stands in
+      record { by_rules = λ db past s. b.by_rules db past s tt; moves = b.moves; ruled = b.ruled; stands = b.stands }
 
   pub cuts-by : (step : CutStep)
-      → ((h : Hidden) → Facts old h → MovesHere old new (past_of old h) (SaysCut (past_of old h) old step) (λ db. Unit {0}) (λ db. rules.CutStep (past_of old h)))
+      → (each : (h : Hidden) → Facts old h → MovesHere old new (past_of old h) (SaysCut (past_of old h) old step) (λ db. Unit {0}) (λ db. rules.CutStep (past_of old h)))
+      → ((h : Hidden) (f : Facts old h) → rules.CutStep (past_of old h) (each h f).outcome (each h f).next)
       → Stands old → Cuts old new step
-  cuts-by step each stands =
-      let b = both old new (λ past. SaysCut past old step) (λ past db. Unit {0}) (λ past db. rules.CutStep past) each stands in
-      record { by_rules = λ db past s. b.by_rules db past s tt; moves = b.moves; stands = b.stands }
+  cuts-by step each law stands =
+      let b = both old new (λ past. SaysCut past old step) (λ past db. Unit {0}) (λ past db. rules.CutStep past) (λ past. rules.CutStep past) each law stands in
+      record { by_rules = λ db past s. b.by_rules db past s tt; moves = b.moves; ruled = b.ruled; stands = b.stands }

@@ -36,7 +36,7 @@ resume-up c stands up = resumes-by c c Up (λ h f. record {
   draws = omega arith;
   stands = (h, f, refl);
   over = λ db here it. (already_up up, stands-over c h db f here);
-}) stands
+}) (λ h f. already_up up) stands
 
 -- ---- what it is
 
@@ -111,4 +111,4 @@ resume-sent c message stands down told = resumes-by c (resuming c) (Sent c.next_
     resumes message down (subst (IsResumeMessage c.schema (past_of c h) c.next_request) (sym told) (first-is c h f)),
     stands-over (resuming c) h db (resuming-facts c h f down) (record { sound = here.sound; within = here.within; are_true = here.are_true }),
   );
-}) stands
+}) (λ h f. resumes message down (subst (IsResumeMessage c.schema (past_of c h) c.next_request) (sym told) (first-is c h f))) stands

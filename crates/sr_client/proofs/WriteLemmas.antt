@@ -29,7 +29,7 @@ write-busy c sql number request stands out number_is = writes-by c c sql (Busy n
     subst (λ k. rules.WriteStep sql (past_of c h) (rules.Busy k) (past_of c h)) (sym (number_is h.meaning)) (write_busy (request_of h.meaning request) (ap (out_of h.meaning) out)),
     stands-over c h db f here,
   );
-}) stands
+}) (λ h f. subst (λ k. rules.WriteStep sql (past_of c h) (rules.Busy k) (past_of c h)) (sym (number_is h.meaning)) (write_busy (request_of h.meaning request) (ap (out_of h.meaning) out))) stands
 
 pub write-over-cut : (c : Client) (sql : List ℕ) → Stands c → c.out ≡ None → c.cut ≡ true → Writes c sql c (Down c.cuts)
 write-over-cut c sql stands out down = writes-by c c sql (Down c.cuts) (λ h f. record {
@@ -40,7 +40,7 @@ write-over-cut c sql stands out down = writes-by c c sql (Down c.cuts) (λ h f. 
   draws = omega arith;
   stands = (h, f, refl);
   over = λ db here it. (write_down (ap (out_of h.meaning) out) down, stands-over c h db f here);
-}) stands
+}) (λ h f. write_down (ap (out_of h.meaning) out) down) stands
 
 -- the client once a write is out
 abbrev pub writing : Client → Client
@@ -78,4 +78,4 @@ write-sent c sql message stands out up told = writes-by c (writing c) sql (Sent 
     write_sends (ap (out_of h.meaning) out) up,
     stands-over (writing c) h db (writing-facts c h f out up) (record { sound = here.sound; within = here.within; are_true = here.are_true }),
   );
-}) stands
+}) (λ h f. write_sends (ap (out_of h.meaning) out) up) stands

@@ -2,6 +2,7 @@ pub mod Answering
 pub mod Asking
 pub mod Bound
 pub mod Cutting
+pub mod Evicting
 pub mod Explaining
 pub mod Arriving
 pub mod Sending

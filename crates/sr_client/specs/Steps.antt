@@ -151,21 +151,27 @@ pub record Evicts (old : Client) (place : ℕ) (new : Client) (step : EvictStep)
       → Moves old new past (SaysEvict step) (λ db. Unit {0}) (λ db. rules.EvictStep (basis_of db old.store.limits) place past)
   pub stands : Stands new
 
--- For every database and past that the client stands over, what a write does whose text is not too long is a step of the rules.
+-- For every database and past that the client stands over, what a write does whose text is not too long is a step of the rules. So it is on any
+-- link: this rule needs no database.
 pub record Writes (old : Client) (sql : List ℕ) (new : Client) (step : WriteStep) : Type 0 where
   pub by_rules : (db : Database) (past : session.Client) → StandsOver db past old → Goes db (SaysWrite sql step) (rules.WriteStep sql past) new
   pub moves : (past : session.Client) → StandsFor past old → Moves old new past (SaysWrite sql step) (λ db. Unit {0}) (λ db. rules.WriteStep sql past)
+  pub ruled : (past : session.Client) (stands : StandsFor past old) → rules.WriteStep sql past (moves past stands).outcome (moves past stands).next
   pub stands : Stands new
 
--- For every database and past that the client stands over, what a resume does is a step of the rules.
+-- For every database and past that the client stands over, what a resume does is a step of the rules. So it is on any
+-- link: this rule needs no database.
 pub record Resumes (old new : Client) (step : ResumeStep) : Type 0 where
   pub by_rules : (db : Database) (past : session.Client) → StandsOver db past old
       → Goes db (SaysResume past step) (rules.ResumeStep db.schema past) new
   pub moves : (past : session.Client) → StandsFor past old → Moves old new past (SaysResume past step) (λ db. Unit {0}) (λ db. rules.ResumeStep db.schema past)
+  pub ruled : (past : session.Client) (stands : StandsFor past old) → rules.ResumeStep old.schema past (moves past stands).outcome (moves past stands).next
   pub stands : Stands new
 
--- For every database and past that the client stands over, what a cut does is a step of the rules.
+-- For every database and past that the client stands over, what a cut does is a step of the rules. So it is on any
+-- link: this rule needs no database.
 pub record Cuts (old new : Client) (step : CutStep) : Type 0 where
   pub by_rules : (db : Database) (past : session.Client) → StandsOver db past old → Goes db (SaysCut past old step) (rules.CutStep past) new
   pub moves : (past : session.Client) → StandsFor past old → Moves old new past (SaysCut past old step) (λ db. Unit {0}) (λ db. rules.CutStep past)
+  pub ruled : (past : session.Client) (stands : StandsFor past old) → rules.CutStep past (moves past stands).outcome (moves past stands).next
   pub stands : Stands new

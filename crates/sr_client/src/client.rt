@@ -9,6 +9,7 @@ ghost use Rattle.sr_session.specs.Sessions.{Database};
 ghost use Rattle.sr_session.specs.Rules.{number_of};
 ghost use Rattle.sr_session.specs.Scenes.{new_pair};
 ghost use Rattle.sr_session.specs.Laws.{IsSound};
+ghost use Rattle.sr_client.specs.Evicting.{HandsOut};
 ghost use Rattle.sr_client.specs.Stands.{Stands, StandsOver, request_of, given_up, cuts_down, new_client, opened_client};
 ghost use Rattle.sr_client.specs.Steps.{Evicts};
 
@@ -139,6 +140,7 @@ impl Client {
     pub fn evict(&mut self, number: usize) -> EvictStep
         requires stands { Stands self.old }
         ensures evicts { Evicts self.old number self.new result }
+        ensures region { HandsOut self.old.store.regions number self.new.store.regions result }
         ensures rest { self.new ≡ record self.old { store = record self.old.store { regions = self.new.store.regions } } }
     {
         if let Some(request) = &self.out {

@@ -26,6 +26,7 @@ use Rattle.sr_links.specs.Steps.{Deed, Queried, Wrote, Evicted, Took, WasCut, Re
 use Rattle.sr_links.proofs.BudgetLemmas.{keeps-later, keeps-on}
 use Rattle.sr_links.proofs.DatabaseLemmas.{Grows, More, after-more, last-more}
 use Rattle.sr_links.proofs.MendLemmas.{runs, closed-runs}
+use Rattle.sr_links.proofs.OutLemmas.{does-out}
 use Rattle.sr_links.proofs.TalkLemmas.{AreLawful, one-connection}
 
 -- an answer leaves the client at its version
@@ -124,6 +125,7 @@ all-true {C} limits all c (step ∷ steps) keeps (one, others) =
         fits = later-fits limits one.db all one.grows step.deed c one.fits;
         answer = answer;
         ask = ask;
+        out = does-out (basis_of one.db limits) step.deed c step.outcome step.past one.does;
         silent = silent-so limits one.db all one.grows step.deed c step.outcome step.past one.does;
         budgets = budgets;
       },

@@ -4,4 +4,6 @@ pub mod RuleLemmas
 pub mod TalkLemmas
 pub mod MendLemmas
 mod BudgetLemmas
+pub mod OutLemmas
+pub mod HaveLemmas
 pub mod AnswerLemmas

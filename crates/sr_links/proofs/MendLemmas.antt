@@ -362,7 +362,7 @@ module _ {C : Type 0} (IsOf : Standing C) (keys : AsksKeys IsOf) (limits : Limit
   lawful-on : (few many : Database) → Grows few many → (c : Client) (steps : List (Step C)) → AreLawful limits few c steps → AreLawful limits many c steps
   lawful-on few many grows c [] lawful = tt
   lawful-on few many grows c (step ∷ steps) (one, others) =
-      (record { db = one.db; sound = one.sound; grows = grows-on one.db few many one.grows grows; before = one.before; does = one.does; fits = one.fits; within = one.within }, lawful-on few many grows step.past steps others)
+      (record { db = one.db; sound = one.sound; grows = grows-on one.db few many one.grows grows; before = one.before; comes = one.comes; does = one.does; fits = one.fits; within = one.within }, lawful-on few many grows step.past steps others)
 
   lawful-append : (all : Database) (c : Client) (steps more : List (Step C)) → AreLawful limits all c steps → AreLawful limits all (past_after c steps) more → AreLawful limits all c (steps ++ more)
   lawful-append all c [] more lawful then_more = then_more

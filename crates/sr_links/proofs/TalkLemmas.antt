@@ -17,7 +17,7 @@ use Rattle.sr_session.proofs.ServeLemmas.{stands-version}
 use Rattle.sr_session.specs.Bases.{basis_of}
 use Rattle.sr_links.specs.Answers.{AsksKeys, FitsIf}
 use Rattle.sr_links.specs.Honest.{Server, Input, Version, Frame, CutOff, Answer, answer, server_after, sent_for, frames_of, has_cut, IsPrefix, Explains, Rests, Talk, IsTalk, steps_in}
-use Rattle.sr_links.specs.Steps.{Deed, Queried, Wrote, Evicted, Took, WasCut, Resumed, Does, Standing, Step, ComesIf, AreFair, AreAwaited, OnOne, taken_by, given_of, requests_of, past_after, code_after}
+use Rattle.sr_links.specs.Steps.{Deed, Queried, Wrote, Evicted, Took, WasCut, Resumed, Does, Standing, Step, ComesIf, ComesTruly, AreFair, AreAwaited, OnOne, taken_by, given_of, requests_of, past_after, code_after}
 use Rattle.sr_links.proofs.DatabaseLemmas.{Grows, More, grows-still, grows-on, answer-more, after-more, sound-before}
 use Rattle.sr_links.proofs.PairLemmas.{pair, at, nothing, IsQuiet, version-keeps, quiet-keeps, take-keeps, cut-keeps, server-keeps, never-idle, opens, is-down}
 use Rattle.sr_links.proofs.RuleLemmas.{StaysMute, mute-step}
@@ -28,6 +28,7 @@ pub record IsLawful {C : Type 0} (limits : Limits) (all : Database) (c : Client)
   pub sound : IsSound db
   pub grows : Grows db all
   pub before : c.version ≤ newest db
+  pub comes : ComesIf db c step.deed
   pub does : Does (basis_of db limits) step.deed c step.outcome step.past
   pub fits : FitsIf db c step.deed
   pub within : step.past.version ≤ newest db
@@ -198,7 +199,7 @@ module _ {C : Type 0} (IsOf : Standing C) (keys : AsksKeys IsOf) (limits : Limit
       let mute : StaysMute o new = mute-step (basis_of db limits) deed c o new (record { cut = down.down; out = down.out }) awaited.0 one.0 does in
       let after : IsDown db new (sends l o) = is-down db new (sends l o) mute.mute.cut (keeps db c l some (is_down down) down does) in
       let others = go fr gr db new (sends l o) new_code some grows after new_is fair.1 awaited.1 one.1 in
-      record { lawful = (record { db = db; sound = sound'; grows = grows; before = down.version; does = does; fits = fits db c; within = after.version }, others.lawful); ends = others.ends; free = others.free }
+      record { lawful = (record { db = db; sound = sound'; grows = grows; before = down.version; comes = comes db c; does = does; fits = fits db c; within = after.version }, others.lawful); ends = others.ends; free = others.free }
 
   -- a cut of a link that is cut leaves all as it was
   cut-again : (db : Database) (c : Client) (l : Connection) → 0 < length db.versions → Stands db (pair c l) → IsDown db c l → (o : Outcome) (new : Client) → CutStep c o new → Stands db (pair new (sends l o))
@@ -276,7 +277,7 @@ module _ {C : Type 0} (IsOf : Standing C) (keys : AsksKeys IsOf) (limits : Limit
       (record { rest = given.rest; all = given.all ∙ ap (λ t. (t ++ given_of steps) ++ given.rest) (quiet-takes deed quiet) }) last frames_is given_is in
       record {
         lawful = (
-          record { db = db; sound = sound'; grows = grows; before = before; does = does; fits = quiet-fits deed quiet db c; within = stands-version db (pair new (sends l o)) after },
+          record { db = db; sound = sound'; grows = grows; before = before; comes = quiet-comes deed quiet db c; does = does; fits = quiet-fits deed quiet db c; within = stands-version db (pair new (sends l o)) after },
           others.lawful,
         );
         ends = others.ends;
@@ -294,8 +295,8 @@ module _ {C : Type 0} (IsOf : Standing C) (keys : AsksKeys IsOf) (limits : Limit
       let open-now = opens r.database c r.line m r.queue r.stands r.first in
       let is' : IsOf r.database.schema code c (tables_of r.database c.version) = still-is db r.database c code r.more.grows (stands-version db (pair c l) stands) is in
       let before = stands-version r.database (pair c r.line) r.stands in
-      let (does, new_is) = fair.0 r.database sound' before is'
-      (record { connection = r.line; session = open-now.session; queue = r.queue; is_open = open-now.stands; first = r.first }) in
+      let come : ComesTruly r.database c m = record { connection = r.line; session = open-now.session; queue = r.queue; is_open = open-now.stands; first = r.first } in
+      let (does, new_is) = fair.0 r.database sound' before is' come in
       let next : Connection = sends (record r.line { to_client = r.queue }) o in
       let after : Stands r.database (pair new next) = take-keeps limits r.database c r.line r.more.some r.stands m r.queue o new r.first does in
       let e : m ∷ (r.queue ++ sent_for (at r.database r.line) r.left) ≡ m ∷ (given_of steps ++ r.rest.rest) = ap (λ q. q ++ sent_for (at r.database r.line) r.left) (sym r.first) ∙ r.rest.all in
@@ -310,6 +311,7 @@ module _ {C : Type 0} (IsOf : Standing C) (keys : AsksKeys IsOf) (limits : Limit
             sound = sound';
             grows = grows;
             before = before;
+            comes = come;
             does = does;
             fits = never-refused r.database c r.line open-now.session m r.queue sound' are (keys r.database.schema code c (tables_of r.database c.version) is') open-now.stands r.first;
             within = stands-version r.database (pair new next) after;
@@ -330,7 +332,7 @@ module _ {C : Type 0} (IsOf : Standing C) (keys : AsksKeys IsOf) (limits : Limit
       let after : Stands db (pair new nothing) = cut-keeps limits db c l some stands o new does in
       let d : IsDown db new nothing = is-down db new nothing (is-cut c o new does) after in
       let others = down steps fr gr db new nothing new_code some grows d new_is fair.1 awaited.1 one.1 in
-      record { lawful = (record { db = db; sound = sound'; grows = grows; before = before; does = does; fits = tt; within = d.version }, others.lawful); ends = others.ends; free = others.free }
+      record { lawful = (record { db = db; sound = sound'; grows = grows; before = before; comes = tt; does = does; fits = tt; within = d.version }, others.lawful); ends = others.ends; free = others.free }
     where
       is-cut : (c : Client) (o : Outcome) (new : Client) → CutStep c o new → new.cut ≡ true
       is-cut c o new (Rattle.sr_session.specs.Rules.already_cut cut) = cut

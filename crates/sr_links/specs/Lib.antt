@@ -1,3 +1,5 @@
 pub mod Steps
 pub mod Honest
+pub mod Queried
+pub mod Outs
 pub mod Answers

@@ -3,7 +3,7 @@ ghost use Rattle.sr_cell.specs.declared.table.Table.{Table};
 ghost use Rattle.sr_model.specs.Statements.{Tables};
 ghost use Rattle.sr_session.specs.Clients.{Client};
 ghost use Rattle.std.specs.Prelude.{List};
-ghost use Rattle.sr_links.specs.Answers.{AnswersAreTrue, ServedAnswersAreTrue, WholeTalksEndFree};
+ghost use Rattle.sr_links.specs.Answers.{AnswersAreTrue, ServedAnswersAreTrue, WholeTalksEndFree, LinesAnswerTheirQueries, ClientsHaveTheRows, ServedClientsHaveTheRows};
 
 /// A client of which only this is known: when it stands for a past, with the rows of some tables of a schema.
 pub trait Peer {
@@ -26,4 +26,19 @@ pub fn served_answers_are_true<C: Peer>()
 /// Where the server took all requests of a connection, and all that it sent came, no request is out at its end.
 pub fn whole_talks_end_free<C: Peer>()
     ensures { WholeTalksEndFree C.is_of }
+{}
+
+/// Each answer of a line that queries while nothing is out is that of the line's query, at once or behind the messages that are taken.
+pub fn lines_answer_their_queries<C: Peer>()
+    ensures { LinesAnswerTheirQueries C.is_of }
+{}
+
+/// Over an honest link the client has the rows of its version on the server behind each step: so what it explains then is said of them.
+pub fn clients_have_the_rows<C: Peer>()
+    ensures { ClientsHaveTheRows C.is_of }
+{}
+
+/// The same where the session is closed behind each connection and nowhere else, of a client of which nothing is known over other links.
+pub fn served_clients_have_the_rows<C: Peer>()
+    ensures { ServedClientsHaveTheRows C.is_of }
 {}

@@ -1,6 +1,7 @@
 //! Laws of the definitions: functions that do nothing, and whose contracts are the laws.
 ghost use Rattle.sr_session.specs.Headline.{ACoveredQueryIsAnswered, ACoveredQuerySendsNothing, AnAskAsksTheUncovered, AnswersAreRight, AnswersNeverFall, AsksByPoints, CachesKeepToTheirBudgets, QueriesKeepTheirNumbers, TablesStayOfTheSchema, VersionsNeverFall};
 ghost use Rattle.sr_session.specs.Laws.{AnsweringKeeps, AskingAgainKeeps, ExecKeeps, ForgettingKeeps, LayingKeeps, NeverRefused, NoticingKeeps, PromisedRowsSuit, PromisedTellsSuit, PromisesFit, PushKeeps, RepliesAreAnswerable, RowsAreAsked, TakingAsksKeeps};
+ghost use Rattle.sr_session.specs.Progress.{LightQueriesKeepTheirPieces, LightRepliesKeepTheirPieces, QueriesAreAnsweredOrAsked, RepliesAnswer};
 ghost use Rattle.sr_session.specs.Regions.{LaidMessagesKeepTrue};
 ghost use Rattle.sr_session.specs.Resumable.{RegionsCanResume};
 ghost use Rattle.sr_session.specs.Scenes.{EventsKeep, FirstStands, OthersStay, RunsStand};
@@ -175,4 +176,23 @@ pub fn worked_touches()
 /// Regions that keep what is held have one holding for each class in a Resume, and a server finds their shape right.
 pub fn regions_can_resume()
     ensures { RegionsCanResume }
+{}
+
+// ---- what comes of a query in the end
+
+/// A query that means something, while no request is out and the link is not cut, is answered or asked.
+pub fn queries_are_answered_or_asked()
+    ensures { QueriesAreAnsweredOrAsked }
+{}
+
+/// The reply of an ask answers its query in the same step, or the query is asked once more, afresh, and then the next reply answers it: a
+/// query has at most two asks.
+pub fn replies_answer()
+    ensures { RepliesAnswer }
+{}
+
+/// Where the load is not too high, nothing is dropped for its pieces, neither at a query nor at a reply.
+pub fn light_loads_keep_their_pieces()
+    ensures queries { LightQueriesKeepTheirPieces }
+    ensures replies { LightRepliesKeepTheirPieces }
 {}

@@ -1,11 +1,15 @@
 -- What goes over a connection, piece by piece.
 use Rattle.std.proofs.Common.{◌≡◌, ℕ, ◌+◌, List, [], ◌++◌, length, take, Option, Some, None, arith, option_map, append_assoc, refl, sym, ◌∙◌, ap, subst, length-append, append-nil}
+use Rattle.std.specs.Prelude.{Result, Ok, Err, OnErr}
 use Rattle.std.proofs.lemmas.List.{drop-drop, take-append-le}
 use Rattle.std.proofs.Math.Seq.{take-add, take-append-add}
 use Rattle.sr_io.specs.Pieces.{SendsPart}
 use Rattle.sr_io.specs.Told.{Reading, Writing, Linking, Connection, sends, takes, sent_on, taken_from, OnlyFaults, Brings}
 use Rattle.sr_io.proofs.SoFar.{sent_on-append}
-use Rattle.sr_talk.specs.Moves.{OnlyLinks}
+use Rattle.sr_message.specs.declared.message.Message.{Message}
+use Rattle.sr_bytes.specs.Spelling.{count_bytes}
+use Rattle.sr_wire.specs.Spelling.{body_of, spelling}
+use Rattle.sr_talk.specs.Moves.{OnlyLinks, SendsInPart}
 
 takes-more : (p : Option Connection) (one two : List ℕ) → option_map (takes two) (option_map (takes one) p) ≡ option_map (takes (one ++ two)) p
 takes-more None one two = refl
@@ -35,6 +39,19 @@ sends-nothing (Some c) = rw (append-nil c.sent) refl
 
 pub nothing-sent : (l : Linking) → sent_on [] l ≡ l
 nothing-sent l = rw (sends-nothing l.present) refl
+
+-- what holds anyway holds where a call gave an error
+pub so-in-err : {T E P : Type 0} (r : Result T E) → P → OnErr r P
+so-in-err {T} {E} {P} (Ok x) p = tt
+so-in-err {T} {E} {P} (Err e) p = p
+
+pub same-link : (l : Linking) → OnlyFaults l l
+same-link l = record { past = refl; present = refl; peers = refl; docked = refl; is_up = refl }
+
+-- a frame has some bytes, of which none was sent
+pub none-of : (l : Linking) (m : Message) → SendsInPart l l (spelling m)
+none-of l m =
+    (record { count = 0; fewer = omega (arith, length-append (count_bytes (length (body_of m))) (body_of m)); sent = subst (λ x. OnlyFaults x l) (sym (nothing-sent l)) (same-link l) }, refl)
 
 -- a part behind what was sent is a part of both
 pub part-behind : (old now new : Linking) (one two : List ℕ) → now ≡ sent_on one old → SendsPart now new two → SendsPart old new (one ++ two)

@@ -7,14 +7,14 @@ use Rattle.std.proofs.lemmas.List.{take-append-drop, length-take}
 use Rattle.std.proofs.lemmas.List.Elements.{All-append, All-cons, All-nil}
 use Rattle.sr_cell.specs.declared.fault.Fault.{Fault as TheFault}
 use Rattle.sr_io.specs.Causes.{Rose}
-use Rattle.sr_io.specs.Told.{Linking, Connection, sends, takes, taken_from, connections, connected_at, hung_up, next_peer, IsOver}
+use Rattle.sr_io.specs.Told.{Linking, Connection, OnlyFaults, sends, takes, taken_from, connections, connected_at, hung_up, next_peer, IsOver}
 use Rattle.sr_message.specs.declared.message.Message.{Message}
 use Rattle.sr_model.specs.Statements.{Tables}
 use Rattle.sr_session.specs.Sessions.{Database}
 use Rattle.sr_links.specs.Honest.{Server}
-use Rattle.sr_talk.specs.Serving.{QuietAs, SentAs, IsWholeAs, CountsAs, Conversation, IsServed, AreServed, AreTold, RoseBy, all_told, count_faults, connection_line, connection_lines, frames_read, is_fault, spelled}
-use Rattle.sr_talk.specs.Talked.{SentOn, ClosesAs, EndsAt, Talks}
-use Rattle.sr_talk.specs.Rounds.{at_rest, text_of, Rounds, SoMany}
+use Rattle.sr_talk.specs.Serving.{Answers, EndsAs, QuietAs, SentAs, IsWholeAs, CountsAs, FewerAs, Conversation, IsServed, AreServed, AreTold, RoseBy, all_told, count_faults, connection_line, connection_lines, frames_read, is_fault, spelled}
+use Rattle.sr_talk.specs.Talked.{SendsSome, SentOn, ClosesAs, EndsAt, Talks, TalksInPart}
+use Rattle.sr_talk.specs.Rounds.{at_rest, text_of, Rounds, RoundsInPart, SoMany}
 use Rattle.sr_talk.specs.declared.serve.How.{How}
 use Rattle.sr_talk.specs.declared.serve.How.TheVariants.{End, Torn, Fault, Bad, Refused, Limit}
 use Rattle.sr_talk.specs.declared.serve.Served.{Served}
@@ -33,14 +33,14 @@ record Sent (how : How) (n : ℕ) (all : List ℕ) (l talked : Linking) (T : Lis
   pub present : talked.present ≡ after l.docked l.peers T bytes
   pub docked : talked.docked ≡ l.docked
   pub are : SentAs how bytes all
-  pub counts : (frames : ℕ) → n ≡ frames_read how frames → EndsAt how n → CountsAs how frames (length bytes) (length all)
+  pub fewer : (frames : ℕ) → n ≡ frames_read how frames → FewerAs how frames (length bytes) (length all)
 
 sent : (how : How) (n : ℕ) (all : List ℕ) (l talked : Linking) (T : List ℕ) → SentOn how n all (taken_from T (connected_at l.docked l)) talked → Sent how n all l talked T
-sent End n all l talked T is = record { bytes = all; past = ap (λ (l : Linking). l.past) is; present = ap (λ (l : Linking). l.present) is; docked = ap (λ (l : Linking). l.docked) is; are = refl; counts = λ frames same below. omega (arith, same, below) }
-sent Torn n all l talked T is = record { bytes = all; past = ap (λ (l : Linking). l.past) is; present = ap (λ (l : Linking). l.present) is; docked = ap (λ (l : Linking). l.docked) is; are = refl; counts = λ frames same below. omega (arith, same, below) }
-sent Bad n all l talked T is = record { bytes = all; past = ap (λ (l : Linking). l.past) is; present = ap (λ (l : Linking). l.present) is; docked = ap (λ (l : Linking). l.docked) is; are = refl; counts = λ frames same below. omega (arith, same, below) }
-sent Refused n all l talked T is = record { bytes = all; past = ap (λ (l : Linking). l.past) is; present = ap (λ (l : Linking). l.present) is; docked = ap (λ (l : Linking). l.docked) is; are = refl; counts = λ frames same within. omega (arith, same, within) }
-sent Limit n all l talked T is = record { bytes = all; past = ap (λ (l : Linking). l.past) is; present = ap (λ (l : Linking). l.present) is; docked = ap (λ (l : Linking). l.docked) is; are = refl; counts = λ frames same reached. sym same ∙ reached }
+sent End n all l talked T is = record { bytes = all; past = ap (λ (l : Linking). l.past) is; present = ap (λ (l : Linking). l.present) is; docked = ap (λ (l : Linking). l.docked) is; are = refl; fewer = λ frames same. tt }
+sent Torn n all l talked T is = record { bytes = all; past = ap (λ (l : Linking). l.past) is; present = ap (λ (l : Linking). l.present) is; docked = ap (λ (l : Linking). l.docked) is; are = refl; fewer = λ frames same. tt }
+sent Bad n all l talked T is = record { bytes = all; past = ap (λ (l : Linking). l.past) is; present = ap (λ (l : Linking). l.present) is; docked = ap (λ (l : Linking). l.docked) is; are = refl; fewer = λ frames same. tt }
+sent Refused n all l talked T is = record { bytes = all; past = ap (λ (l : Linking). l.past) is; present = ap (λ (l : Linking). l.present) is; docked = ap (λ (l : Linking). l.docked) is; are = refl; fewer = λ frames same. tt }
+sent Limit n all l talked T is = record { bytes = all; past = ap (λ (l : Linking). l.past) is; present = ap (λ (l : Linking). l.present) is; docked = ap (λ (l : Linking). l.docked) is; are = refl; fewer = λ frames same. tt }
 sent Fault n all l talked T s =
     let within = s.within in
     let size : length (take s.count all) ≡ s.count = length-take s.count all ∙ omega (arith, within) in
@@ -50,8 +50,17 @@ sent Fault n all l talked T s =
       present = s.only.present;
       docked = s.only.docked;
       are = record { rest = drop s.count all; all = sym (take-append-drop s.count all) };
-      counts = λ frames same below. (omega (arith, same, below), λ reached. (let fewer = s.fewer (same ∙ reached) in omega (arith, size, fewer)));
+      fewer = λ frames same reached. (let fewer = s.fewer (same ∙ reached) in omega (arith, size, fewer));
     }
+
+-- how many frames were answered
+counts-as : (how : How) (n frames : ℕ) → n ≡ frames_read how frames → EndsAt how n → CountsAs how frames
+counts-as End n frames same below = omega (arith, same, below)
+counts-as Torn n frames same below = omega (arith, same, below)
+counts-as Fault n frames same within = omega (arith, same, within)
+counts-as Bad n frames same below = omega (arith, same, below)
+counts-as Refused n frames same within = omega (arith, same, within)
+counts-as Limit n frames same reached = sym same ∙ reached
 
 -- what is so of that connection, whatever is to come
 told-after : (P : Connection → Type 0) (docked : Option (List ℕ)) (peers : Option (List (List ℕ))) (T S : List ℕ)
@@ -151,6 +160,30 @@ read c = frames_read c.how (length c.frames)
 
 module _ (Gives : Database → Message → Result Tables TheFault → Type 0) where
   -- what was said over the connection is a conversation
+  served-as : (db : Database) (how : How) (n : ℕ) (frames answered : List Message) (left : List ℕ) (last : Server) (l talked : Linking) → Sent how n (spelled answered) l talked (spelled frames ++ left)
+      → Answers Gives (at_rest db) frames answered last → EndsAs how last left → IfSome talked.present (λ t. IsWholeAs how t.coming) → n ≡ frames_read how (length frames) → EndsAt how n
+      → IsServed Gives db (record { frames = frames; how = how; told = talked.present }) last
+  served-as db how n frames answered left last l talked s answers ends whole count_is counts =
+      let T : List ℕ = spelled frames ++ left in
+      let all : List ℕ = spelled answered in
+      record {
+        sent = answered;
+        left = left;
+        answers = answers;
+        ends = ends;
+        taken = subst (λ p. IfSome p (λ t. t.taken ≡ T)) (sym s.present) (told-after (λ t. t.taken ≡ T) l.docked l.peers T s.bytes (λ address coming is. refl));
+        bytes = subst (λ p. IfSome p (λ t. SentAs how t.sent all)) (sym s.present) (told-after (λ t. SentAs how t.sent all) l.docked l.peers T s.bytes (λ address coming is. s.are));
+        whole = whole;
+        counts = counts-as how n (length frames) count_is counts;
+        fewer = subst (λ p. IfSome p (λ t. FewerAs how (length frames) (length t.sent) (length all))) (sym s.present)
+            (told-after (λ t. FewerAs how (length frames) (length t.sent) (length all)) l.docked l.peers T s.bytes (λ address coming is. s.fewer (length frames) count_is));
+      }
+
+  -- it came at the docked address
+  came-at : (how : How) (n : ℕ) (all T : List ℕ) (l talked : Linking) → Sent how n all l talked T → IfSome talked.present (λ t. l.docked ≡ Some t.address)
+  came-at how n all T l talked s =
+      subst (λ p. IfSome p (λ t. l.docked ≡ Some t.address)) (sym s.present) (told-after (λ t. l.docked ≡ Some t.address) l.docked l.peers T s.bytes (λ address coming is. is))
+
   pub round : (db : Database) (l made talked new : Linking) (served : Served) (IsAfter IsNew : Server → Type 0) → l.peers ≢ Some [] → made ≡ connected_at l.docked l
       → Talks Gives (at_rest db) made talked served.how served.frames IsAfter → ((s : Server) → IsAfter s → IsNew (at_rest s.database)) → new ≡ hung_up talked → l.faults ≤ talked.faults
       → Rounds Gives db l new served IsNew
@@ -164,21 +197,9 @@ module _ (Gives : Database → Message → Result Tables TheFault → Type 0) wh
         after = talks.after;
         how_is = refl;
         count_is = talks.count_is;
-        is = record {
-          sent = talks.sent;
-          left = talks.left;
-          answers = talks.answers;
-          ends = talks.ends;
-          taken = subst (λ p. IfSome p (λ t. t.taken ≡ T)) (sym s.present) (told-after (λ t. t.taken ≡ T) l.docked l.peers T s.bytes (λ address coming is. refl));
-          bytes = subst (λ p. IfSome p (λ t. SentAs served.how t.sent (spelled talks.sent))) (sym s.present)
-              (told-after (λ t. SentAs served.how t.sent (spelled talks.sent)) l.docked l.peers T s.bytes (λ address coming is. s.are));
-          whole = told-whole served.how made talked talks.closes;
-          counts = subst (λ p. IfSome p (λ t. CountsAs served.how (length talks.frames) (length t.sent) (length (spelled talks.sent)))) (sym s.present)
-              (told-after (λ t. CountsAs served.how (length talks.frames) (length t.sent) (length (spelled talks.sent))) l.docked l.peers T s.bytes
-              (λ address coming is. s.counts (length talks.frames) talks.count_is talks.counts));
-        };
+        is = served-as db served.how served.frames talks.frames talks.sent talks.left talks.after l talked s talks.answers talks.ends (told-whole served.how made talked talks.closes) talks.count_is talks.counts;
         made = ap connections gone ∙ (append-nil (connections talked) ∙ ap (λ x. x ++ option_to_list talked.present) s.past);
-        came_at = subst (λ p. IfSome p (λ t. l.docked ≡ Some t.address)) (sym s.present) (told-after (λ t. l.docked ≡ Some t.address) l.docked l.peers T s.bytes (λ address coming is. is));
+        came_at = came-at served.how served.frames (spelled talks.sent) T l talked s;
         hung_up = ap (λ (l : Linking). l.is_up) gone;
         is_told = one-told l.docked l.peers T s.bytes conversation some_peer s.present;
         docked = ap (λ (l : Linking). l.docked) gone ∙ s.docked;
@@ -195,6 +216,39 @@ module _ (Gives : Database → Message → Result Tables TheFault → Type 0) wh
       closes-on Bad old talked new closes gone = tt
       closes-on Refused old talked new closes gone = tt
       closes-on Limit old talked new closes gone = tt
+
+  -- ---- out of memory
+
+  -- none was made
+  abbrev pub none-made : (db : Database) (l new : Linking) → OnlyFaults l new → new.faults ≡ l.faults → RoundsInPart Gives db l new
+  none-made db l new only same = record {
+    cut_short = None;
+    is = tt;
+    made = ap (λ past. past ++ option_to_list new.present) only.past ∙ (ap (λ present. l.past ++ option_to_list present) only.present ∙ sym (append-nil (connections l)));
+    came_at = tt;
+    is_told = none-told l;
+    faults_stay = same;
+  }
+
+  -- one was cut short
+  pub one-cut-short : (db : Database) (l made talked : Linking) → l.peers ≢ Some [] → made ≡ connected_at l.docked l → TalksInPart Gives (at_rest db) made talked → RoundsInPart Gives db l talked
+  one-cut-short db l made talked some_peer made_is talks =
+      let T : List ℕ = spelled talks.frames ++ talks.left in
+      let n : ℕ = length talks.frames in
+      let s : Sent Fault n (spelled talks.sent) l talked T = sent Fault n (spelled talks.sent) l talked T (subst (λ m. SendsSome n (spelled talks.sent) (taken_from T m) talked) made_is talks.some) in
+      let conversation : Conversation = record { frames = talks.frames; how = Fault; told = talked.present } in
+      record {
+        cut_short = Some conversation;
+        is = record {
+          failed = refl;
+          after = talks.after;
+          is = served-as db Fault n talks.frames talks.sent talks.left talks.after l talked s talks.answers tt (told-any talked.present) refl talks.few;
+        };
+        made = ap (λ x. x ++ option_to_list talked.present) s.past ∙ ap (λ x. connections l ++ x) (sym (append-nil (option_to_list talked.present)));
+        came_at = came-at Fault n (spelled talks.sent) T l talked s;
+        is_told = one-told l.docked l.peers T s.bytes conversation some_peer s.present;
+        faults_stay = talks.faults_stay ∙ ap (λ (l : Linking). l.faults) made_is;
+      }
 
   -- ---- several
 
@@ -234,6 +288,31 @@ module _ (Gives : Database → Message → Result Tables TheFault → Type 0) wh
       by None here = All-nil (λ t. docked ≡ Some t.address)
       by (Some t) here = All-cons (λ t. docked ≡ Some t.address) t [] (sym same ∙ here) (All-nil (λ t. docked ≡ Some t.address))
 
+  -- what a link tells behind these, and one that was cut short, or none
+  pub record WithCutShort (old new : Linking) (cs : List Conversation) (cut_short : Option Conversation) : Type 0 where
+    pub made : connections new ≡ connections old ++ all_told (cs ++ option_to_list cut_short)
+    pub came_at : All (λ t. old.docked ≡ Some t.address) (all_told (cs ++ option_to_list cut_short))
+    pub each_told : AreTold old (cs ++ option_to_list cut_short)
+
+  pub with-cut-short : (db : Database) (old now new : Linking) (count : ℕ) (IsNow : Server → Type 0) → (h : SoMany Gives db old now count IsNow) → (r : RoundsInPart Gives h.last now new) → WithCutShort old new h.conversations r.cut_short
+  with-cut-short db old now new count IsNow h r = by r.cut_short r.made r.came_at r.is_told
+    where
+      by : (x : Option Conversation) → connections new ≡ connections now ++ all_told (option_to_list x) → IfSome x (λ c. IfSome c.told (λ t. now.docked ≡ Some t.address)) → AreTold now (option_to_list x)
+          → WithCutShort old new h.conversations x
+      by None made came_at told =
+          let none : h.conversations ++ [] ≡ h.conversations = append-nil h.conversations in
+          record {
+            made = subst (λ cs. connections new ≡ connections old ++ all_told cs) (sym none) (made ∙ (append-nil (connections now) ∙ h.made));
+            came_at = subst (λ cs. All (λ t. old.docked ≡ Some t.address) (all_told cs)) (sym none) h.came_at;
+            each_told = subst (AreTold old) (sym none) h.each_told;
+          }
+      by (Some c) made came_at told = record {
+        made = made ∙ (ap (λ x. connections now ++ x) (append-nil (option_to_list c.told)) ∙ (ap (λ x. x ++ option_to_list c.told) h.made
+            ∙ (append_assoc (connections old) (all_told h.conversations) (option_to_list c.told) ∙ ap (λ x. connections old ++ x) (sym (told-one h.conversations c)))));
+        came_at = all-at old.docked now.docked h.conversations c h.docked h.came_at came_at;
+        each_told = more-told old.docked now.docked old.peers now.peers h.conversations c h.docked h.peers_stay h.each_told told;
+      }
+
   abbrev pub one-more : (db : Database) (old now new : Linking) (count : ℕ) (served : Served) (IsNow IsNew : Server → Type 0) → (h : SoMany Gives db old now count IsNow) → Rounds Gives h.last now new served IsNew
       → SoMany Gives db old new (count + 1) IsNew
   one-more db old now new count served IsNow IsNew h r =
@@ -255,7 +334,7 @@ module _ (Gives : Database → Message → Result Tables TheFault → Type 0) wh
         number = omega (arith, number, length-append h.conversations (r.conversation ∷ []));
         faults = omega (arith, before, here, sum);
         quiet = λ none. (let how : is_fault r.conversation.how ≡ 0 = omega (arith, sum, none) in
-        quiet-one served.how now.faults new.faults (subst (λ h. is_fault h ≡ 0) r.how_is how) r.quiet ∙ h.quiet (omega (arith, sum, none)));
+            quiet-one served.how now.faults new.faults (subst (λ h. is_fault h ≡ 0) r.how_is how) r.quiet ∙ h.quiet (omega (arith, sum, none)));
         stands = r.stands;
       }
 

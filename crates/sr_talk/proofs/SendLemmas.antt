@@ -6,7 +6,7 @@ use Rattle.sr_io.specs.Pieces.{SendsPart}
 use Rattle.sr_io.specs.Told.{Reading, Writing, Linking, sent_on}
 use Rattle.sr_message.specs.declared.message.Message.{Message}
 use Rattle.sr_wire.specs.Spelling.{spelling}
-use Rattle.sr_talk.specs.Moves.{OnlyLinks, SendsAs}
+use Rattle.sr_talk.specs.Moves.{OnlyLinks, SendsAs, SendsInPart}
 use Rattle.sr_talk.specs.Serving.{spelled}
 use Rattle.sr_talk.proofs.MoveLemmas.{part-behind, part-front}
 use Rattle.sr_talk.proofs.TalkLemmas.{spelled-append}
@@ -33,3 +33,8 @@ pub breaks-off : (old now new : Linking) (messages : List Message) (i : ℕ) (m 
 breaks-off old now new messages i m true within is so_far broken sent = absurd (cc)
 breaks-off old now new messages i m false within is so_far broken (part, rose) =
     (part-of-all old now new messages i m within is so_far part, subst (λ n. Rose n new.faults) (ap (λ (l : Linking). l.faults) so_far) rose)
+
+-- out of memory
+pub stops-short : (old now new : Linking) (messages : List Message) (i : ℕ) (m : Message) → i < length messages → m ≡ get_or messages i m → now ≡ sent_on (spelled (take i messages)) old
+    → SendsInPart now new (spelling m) → SendsInPart old new (spelled messages)
+stops-short old now new messages i m within is so_far (part, same) = (part-of-all old now new messages i m within is so_far part, same ∙ ap (λ (l : Linking). l.faults) so_far)

@@ -1,8 +1,8 @@
 -- Connections that were served so far, with their lines.
-use Rattle.std.proofs.Common.{◌≡◌, ℕ, ◌+◌, ◌*◌, ◌<◌, ◌≤◌, Bool, true, false, List, [], ◌∷◌, ◌++◌, length, take, Option, Some, None, arith, append-nil, refl, sym, ◌∙◌, ap, subst, length-append}
+use Rattle.std.proofs.Common.{◌≡◌, ℕ, ◌+◌, ◌*◌, ◌<◌, ◌≤◌, Bool, true, false, List, [], ◌∷◌, ◌++◌, length, take, Option, Some, None, option_to_list, arith, append-nil, refl, sym, ◌∙◌, ap, subst, length-append}
 use Rattle.std.specs.Prelude.{◌≢◌, ◌||◌, Result, if◌then◌else◌}
 use Rattle.std.specs.Io.KnownBytes.{Appends}
-use Rattle.std.proofs.Math.Seq.{take-append-add}
+use Rattle.std.proofs.Math.Seq.{take-append-add, take-length}
 use Rattle.sr_cell.specs.declared.fault.Fault.{Fault as TheFault}
 use Rattle.sr_io.specs.Causes.{Rose}
 use Rattle.sr_io.specs.Pieces.{WritesPrefix}
@@ -12,13 +12,14 @@ use Rattle.sr_message.specs.declared.message.Message.{Message}
 use Rattle.sr_model.specs.Statements.{Tables}
 use Rattle.sr_session.specs.Sessions.{Database}
 use Rattle.sr_links.specs.Honest.{Server}
-use Rattle.sr_talk.specs.Rounds.{HasPeers, OnlyOutput, at_rest, text_of, Rounds, RoundsIf, SoMany, EndsBy, EndsFaulty, EndsUnwritten}
-use Rattle.sr_talk.specs.Serving.{count_faults, connection_line, connection_lines, by_fault, frames_read, is_fault}
+use Rattle.sr_talk.specs.Rounds.{HasPeers, OnlyOutput, at_rest, text_of, Rounds, RoundsIf, RoundsInPart, SoMany, EndsBy, EndsFaulty, EndsInPart, EndsUnwritten}
+use Rattle.sr_talk.specs.Serving.{Conversation, count_faults, connection_line, connection_lines, by_fault, frames_read, is_fault}
 use Rattle.sr_talk.specs.declared.rounds.Ending.TheVariants.{Whole, Faulty}
 use Rattle.sr_talk.specs.declared.serve.How.{How}
 use Rattle.sr_talk.specs.declared.serve.How.TheVariants.{End, Torn, Fault, Bad, Refused, Limit}
 use Rattle.sr_talk.specs.declared.serve.Served.{Served}
-use Rattle.sr_talk.proofs.RoundLemmas.{faults-one, texts-one, one-more, none-so-far, same-line}
+use Rattle.sr_talk.proofs.MoveLemmas.{same-link}
+use Rattle.sr_talk.proofs.RoundLemmas.{faults-one, texts-one, one-more, none-made, none-so-far, same-line, with-cut-short}
 
 -- ---- writing
 
@@ -34,6 +35,13 @@ prefix-behind first mid last one two before w =
       within = omega (arith, within, length-append one two);
       appended = subst (Appends first last) (sym (take-append-add one two w.count)) (Appends-append first mid last one (take w.count two) before w.appended);
     }
+
+-- all is a prefix, and so is nothing
+pub all-written : (first last : Option (List ℕ)) (bytes : List ℕ) → Appends first last bytes → WritesPrefix first last bytes
+all-written first last bytes all = record { count = length bytes; within = omega arith; appended = subst (Appends first last) (sym (take-length bytes)) all }
+
+pub none-written : (known : Option (List ℕ)) (bytes : List ℕ) → WritesPrefix known known bytes
+none-written known bytes = record { count = 0; within = omega arith; appended = appends-nothing known }
 
 -- ---- faults
 
@@ -88,6 +96,36 @@ module _ (Gives : Database → Message → Result Tables TheFault → Type 0) wh
     links = λ steady more enough. (refl, (let none : 0 + more ≡ more = omega arith in subst (λ n. HasPeers n (linking host)) none enough));
   }
 
+  -- ---- out of memory
+
+  -- behind these
+  ends-short : (db : Database) (count : ℕ) (old now new : Linking) (before after : Writing) (done : ℕ) (IsNow : Server → Type 0) → (h : SoMany Gives db old now done IsNow) → (r : RoundsInPart Gives h.last now new)
+      → done + length (option_to_list r.cut_short) ≤ count → WritesPrefix before.written after.written (text_of (connection_lines 1 h.conversations))
+      → (r.cut_short ≢ None → Appends before.written after.written (text_of (connection_lines 1 h.conversations))) → after.faults ≡ before.faults → EndsInPart Gives db count old new before after
+  ends-short db count old now new before after done IsNow h r few written all_before write_faults =
+      let w = with-cut-short Gives db old now new done IsNow h r in
+      let number = h.number in
+      record {
+        conversations = h.conversations;
+        last = h.last;
+        cut_short = r.cut_short;
+        served = h.served;
+        is_cut_short = r.is;
+        made = w.made;
+        came_at = w.came_at;
+        each_told = w.each_told;
+        few = omega (arith, few, number, length-append h.conversations (option_to_list r.cut_short));
+        faults = (let rose = h.faults in let same = r.faults_stay in omega (arith, rose, same));
+        quiet = λ none. r.faults_stay ∙ h.quiet none;
+        written = written;
+        all_before = all_before;
+        write_faults = write_faults;
+      }
+
+  one-at-most : (c : Option Conversation) → length (option_to_list c) ≤ 1
+  one-at-most None = omega arith
+  one-at-most (Some c) = omega arith
+
   -- ---- one more, and its line
 
   module _ (db : Database) (old now new : Linking) (before mid : Writing) (done : ℕ) (served : Served) (IsNow IsNew : Server → Type 0) where
@@ -141,7 +179,23 @@ module _ (Gives : Database → Message → Result Tables TheFault → Type 0) wh
           cause = subst (λ n. Rose n after.faults) h.write_faults rose;
         })
 
+    -- out of memory before its line is written
+    pub line-cut-short : (count : ℕ) (after : Writing) (faulty : Bool) (last : Linking) → done < count → (h : ServedSome db old now before mid done faulty IsNow) → Rounds Gives h.many.last now new served IsNew
+        → WritesPrefix mid.written after.written (connection_line (done + 1) served.how served.frames) → after.faults ≡ mid.faults → last ≡ new → EndsInPart Gives db count old last before after
+    line-cut-short count after faulty last below h r line same_faults same =
+        subst (λ l. EndsInPart Gives db count old l before after) (sym same)
+        (ends-short db count old new new before after (done + 1) IsNew (one-more Gives db old now new done served IsNow IsNew h.many r) (none-made Gives r.after.database new new (same-link new) refl) (omega (arith, below))
+        (subst (WritesPrefix before.written after.written) (sym (line-is h.many r)) (prefix-behind before.written mid.written after.written _ _ h.written line)) (λ some. absurd (some refl)) (same_faults ∙ h.write_faults))
+
   -- ---- the end
+
+  -- out of memory at the next one
+  pub next-cut-short : (db : Database) (count : ℕ) (old now new : Linking) (before mid after : Writing) (done : ℕ) (faulty : Bool) (IsNow : Server → Type 0) → done < count
+      → (h : ServedSome db old now before mid done faulty IsNow) → RoundsInPart Gives h.many.last now new → after ≡ mid → EndsInPart Gives db count old new before after
+  next-cut-short db count old now new before mid after done faulty IsNow below h r same =
+      let written = subst (λ (w : Writing). Appends before.written w.written (text_of (connection_lines 1 h.many.conversations))) (sym same) h.written in
+      ends-short db count old now new before after done IsNow h.many r (let one = one-at-most r.cut_short in omega (arith, below, one)) (all-written before.written after.written (text_of (connection_lines 1 h.many.conversations)) written) (λ some. written)
+      (ap (λ (w : Writing). w.faults) same ∙ h.write_faults)
 
   pub none-more : (db : Database) (count : ℕ) (old now new : Linking) (before mid after : Writing) (done : ℕ) (faulty : Bool) (IsNow IsNew : Server → Type 0) → done < count
       → (h : ServedSome db old now before mid done faulty IsNow) → RoundsIf Gives None h.many.last now new IsNew → after ≡ mid → EndsFaulty Gives db count old new before after IsNew
@@ -156,9 +210,6 @@ module _ (Gives : Database → Message → Result Tables TheFault → Type 0) wh
     written = subst (λ (w : Writing). Appends before.written w.written (text_of (connection_lines 1 h.many.conversations))) (sym same) h.written;
     write_faults = ap (λ (w : Writing). w.faults) same ∙ h.write_faults;
   }
-
-  same-link : (l : Linking) → OnlyFaults l l
-  same-link l = record { past = refl; present = refl; peers = refl; docked = refl; is_up = refl }
 
   pub all-served : (db : Database) (count : ℕ) (old new : Linking) (before after : Writing) (faulty : Bool) (IsNow : Server → Type 0) → ServedSome db old new before after count faulty IsNow
       → EndsBy Gives (if faulty then Faulty else Whole) db count old new before after IsNow

@@ -1,10 +1,11 @@
 -- What was said so far over a connection.
-use Rattle.std.proofs.Common.{◌≡◌, ℕ, ◌+◌, ◌<◌, ◌≤◌, List, [], ◌∷◌, ◌++◌, length, take, Option, arith, append_assoc, refl, sym, ◌∙◌, ap, subst, length-append, append-nil, option_map}
+use Rattle.std.proofs.Common.{◌≡◌, ℕ, ◌+◌, ◌<◌, ◌≤◌, List, [], ◌∷◌, ◌++◌, length, take, Option, arith, inl, inr, append_assoc, refl, sym, ◌∙◌, ap, subst, length-append, append-nil, option_map}
 use Rattle.std.specs.Prelude.{Result, IsTrue}
 use Rattle.std.proofs.lemmas.Grind.{flat_map-append}
 use Rattle.std.proofs.Math.Seq.{take-append-add, take-length}
 use Rattle.sr_cell.specs.declared.fault.Fault.{Fault as TheFault}
 use Rattle.sr_io.specs.Causes.{Rose}
+use Rattle.sr_io.specs.Pieces.{SendsPart}
 use Rattle.sr_io.specs.Told.{Reading, Writing, Linking, sends, takes, sent_on, taken_from, OnlyFaults, Brings}
 use Rattle.sr_io.proofs.SoFar.{sent_on-append}
 use Rattle.sr_message.specs.declared.message.Message.{Message}
@@ -16,11 +17,11 @@ use Rattle.sr_links.specs.Honest.{Server, Frame as FrameOf, answer}
 use Rattle.sr_talk.specs.Moves.{OnlyLinks}
 use Rattle.sr_talk.specs.Reading.{Reads, Nexts}
 use Rattle.sr_talk.specs.Serving.{Answers, spelled, EndsAs, frames_read}
-use Rattle.sr_talk.specs.Talked.{Takes, Sends, Turns, Talks, ClosesAs, SentOn, EndsAt}
+use Rattle.sr_talk.specs.Talked.{Takes, Sends, SendsSome, Turns, TurnsInPart, Talks, TalksInPart, ClosesAs, SentOn, EndsAt}
 use Rattle.sr_talk.specs.declared.frames.Next.TheVariants.{End as NextEnd, Torn as NextTorn, Fault as NextFault, Bad as NextBad}
 use Rattle.sr_talk.specs.declared.serve.How.TheVariants.{End, Torn, Fault, Bad, Refused as ByRefusal, Limit}
 use Rattle.sr_talk.specs.declared.serve.Turn.TheVariants.{Refused, Broken}
-use Rattle.sr_talk.proofs.MoveLemmas.{taken_from-more, taken-behind, brings-more, brings-behind}
+use Rattle.sr_talk.proofs.MoveLemmas.{taken_from-more, taken-behind, brings-more, brings-behind, same-link}
 use Rattle.sr_talk.specs.declared.serve.How.{How}
 
 -- ---- lists of frames
@@ -120,6 +121,30 @@ module _ (Gives : Database → Message → Result Tables TheFault → Type 0) wh
         stands = stands;
       }
 
+  -- all of it, and then perhaps a fault
+  sends-all : (n : ℕ) (bytes : List ℕ) (before mid new : Linking) → mid ≡ sent_on bytes before → OnlyFaults mid new → n < 1000000 → SendsSome n bytes before new
+  sends-all n bytes before mid new is only below =
+      let whole : mid ≡ sent_on (take (length bytes) bytes) before = is ∙ ap (λ x. sent_on x before) (sym (take-length bytes)) in
+      record { count = length bytes; within = omega arith; fewer = λ reached. absurd (omega (arith, below, reached)); only = subst (λ l. OnlyFaults l new) whole only }
+
+  -- out of memory while a message is read, or taken
+  pub stops-reading : (s : Server) (first now mid : Linking) (left frame after : List ℕ) (index : ℕ) (IsNow : Server → Type 0) → SoFar s first now left index IsNow → index < 1000000
+      → Reads now mid left frame after → TalksInPart Gives s first mid
+  stops-reading s first now mid left frame after index IsNow h below r =
+      let on = read-on s first now mid left frame after index IsNow h r in
+      let count = h.count_is in
+      record {
+        frames = h.frames;
+        sent = h.sent;
+        left = frame ++ after;
+        after = h.after;
+        brings = on.brings;
+        answers = h.answers;
+        some = sends-all (length h.frames) (spelled h.sent) (taken_from (spelled h.frames ++ (frame ++ after)) first) mid mid on.is (same-link mid) (omega (arith, count, below));
+        faults_stay = ap (λ (l : Linking). l.faults) on.is;
+        few = omega (arith, count, below);
+      }
+
   module _ (s : Server) (first now new : Linking) (left after : List ℕ) (index : ℕ) (IsNow : Server → Type 0) (h : SoFar s first now left index IsNow) (below : index < 1000000) where
     pub at-end : Nexts NextEnd now new left after → Talks Gives s first new End index IsNow
     at-end (r, none, over) = quiet-end End s first now new left [] after index index IsNow IsNow h h.stands r (λ e. e) none over refl below
@@ -133,9 +158,6 @@ module _ (Gives : Database → Message → Result Tables TheFault → Type 0) wh
     pub at-fault : Nexts NextFault now new left after → Talks Gives s first new Fault index IsNow
     at-fault all =
         let on = read-on s first now all.linking left [] after index IsNow h all.reads in
-        let S : List ℕ = spelled h.sent in
-        let before : Linking = taken_from (spelled h.frames ++ after) first in
-        let whole : all.linking ≡ sent_on (take (length S) S) before = on.is ∙ ap (λ x. sent_on x before) (sym (take-length S)) in
         record {
           frames = h.frames;
           sent = h.sent;
@@ -143,7 +165,7 @@ module _ (Gives : Database → Message → Result Tables TheFault → Type 0) wh
           after = h.after;
           brings = on.brings;
           answers = h.answers;
-          is = record { count = length S; within = omega arith; fewer = λ reached. absurd (omega (arith, below, reached)); only = subst (λ l. OnlyFaults l new) whole all.only };
+          is = sends-all index (spelled h.sent) (taken_from (spelled h.frames ++ after) first) all.linking new on.is all.only below;
           ends = tt;
           closes = subst (λ (l : Linking). Rose l.faults new.faults) h.is all.rose;
           count_is = h.count_is;
@@ -157,22 +179,32 @@ module _ (Gives : Database → Message → Result Tables TheFault → Type 0) wh
         quiet-end ByRefusal s first now new left (spelling m) after index (index + 1) IsNow IsNew h stands (subst (λ l. Reads now l left (spelling m) after) (sym same) r) (λ e. e) (m, after, refl, spells, refused) tt refl
         (omega (arith, below))
 
-    pub at-broken : IsTrue (has_spelling m) → Turns Gives Broken h.after m mid new IsNew → Talks Gives s first new Fault (index + 1) IsNew
-    at-broken spells t =
+    -- a part of an answer, behind those before
+    part-on : (sent : List Message) (n : ℕ) → SendsPart mid new (spelled sent) → SendsSome n (spelled (h.sent ++ sent)) (taken_from (spelled (h.frames ++ m ∷ []) ++ after) first) new
+    part-on sent n part =
         let on = read-on s first now mid left (spelling m) after index IsNow h r in
         let S : List ℕ = spelled h.sent in
-        let A : List ℕ = spelled t.sent in
-        let part = t.part in
-        let count = h.count_is in
+        let A : List ℕ = spelled sent in
         let fewer = part.fewer in
-        let both : spelled (h.sent ++ t.sent) ≡ S ++ A = spelled-append h.sent t.sent in
-        let sizes : length (spelled (h.sent ++ t.sent)) ≡ length S + length A = ap (λ x. length x) both ∙ length-append S A in
+        let both : spelled (h.sent ++ sent) ≡ S ++ A = spelled-append h.sent sent in
+        let sizes : length (spelled (h.sent ++ sent)) ≡ length S + length A = ap (λ x. length x) both ∙ length-append S A in
         let before : Linking = taken_from (spelled h.frames ++ (spelling m ++ after)) first in
         let before' : Linking = taken_from (spelled (h.frames ++ m ∷ []) ++ after) first in
         let same : before' ≡ before = ap (λ x. taken_from x first) (spelled-one h.frames m after) in
-        let e : sent_on (take part.count A) mid ≡ sent_on (take (length S + part.count) (spelled (h.sent ++ t.sent))) before' =
+        let e : sent_on (take part.count A) mid ≡ sent_on (take (length S + part.count) (spelled (h.sent ++ sent))) before' =
         ap (sent_on (take part.count A)) on.is ∙ (sent_on-append before S (take part.count A)
         ∙ (ap (sent_on (S ++ take part.count A)) (sym same) ∙ (ap (λ x. sent_on x before') (sym (take-append-add S A part.count)) ∙ ap (λ x. sent_on (take (length S + part.count) x) before') (sym both)))) in
+        record {
+          count = length S + part.count;
+          within = omega (arith, sizes, fewer);
+          fewer = λ reached. omega (arith, sizes, fewer);
+          only = subst (λ l. OnlyFaults l new) e part.sent;
+        }
+
+    pub at-broken : IsTrue (has_spelling m) → Turns Gives Broken h.after m mid new IsNew → Talks Gives s first new Fault (index + 1) IsNew
+    at-broken spells t =
+        let on = read-on s first now mid left (spelling m) after index IsNow h r in
+        let count = h.count_is in
         let faults : mid.faults ≡ first.faults = ap (λ (l : Linking). l.faults) on.is in
         record {
           frames = h.frames ++ m ∷ [];
@@ -181,17 +213,30 @@ module _ (Gives : Database → Message → Result Tables TheFault → Type 0) wh
           after = (answer h.after (FrameOf m t.takes.result)).server;
           brings = subst (Brings first.present) (sym (spelled-one h.frames m after)) on.brings;
           answers = answers-one s h.after h.frames h.sent m t.sent IsNew h.answers spells t.takes;
-          is = record {
-            count = length S + part.count;
-            within = omega (arith, sizes, fewer);
-            fewer = λ reached. omega (arith, sizes, fewer);
-            only = subst (λ l. OnlyFaults l new) e part.sent;
-          };
+          is = part-on t.sent (index + 1) t.part;
           ends = tt;
           closes = subst (λ n. Rose n new.faults) faults t.rose;
           count_is = omega (arith, count, length-append h.frames (m ∷ []));
           counts = omega (arith, below);
           stands = t.takes.stands;
+        }
+
+    -- out of memory while it is answered
+    pub stops-answering : IsTrue (has_spelling m) → TurnsInPart Gives h.after m mid new IsNew → TalksInPart Gives s first new
+    stops-answering spells (inl same) = subst (TalksInPart Gives s first) (sym same) (stops-reading s first now mid left (spelling m) after index IsNow h below r)
+    stops-answering spells (inr t) =
+        let on = read-on s first now mid left (spelling m) after index IsNow h r in
+        let count = h.count_is in
+        record {
+          frames = h.frames ++ m ∷ [];
+          sent = h.sent ++ t.sent;
+          left = after;
+          after = (answer h.after (FrameOf m t.takes.result)).server;
+          brings = subst (Brings first.present) (sym (spelled-one h.frames m after)) on.brings;
+          answers = answers-one s h.after h.frames h.sent m t.sent IsNew h.answers spells t.takes;
+          some = part-on t.sent (length (h.frames ++ m ∷ [])) t.part.0;
+          faults_stay = t.part.1 ∙ ap (λ (l : Linking). l.faults) on.is;
+          few = omega (arith, count, below, length-append h.frames (m ∷ []));
         }
 
   pub at-limit : (s : Server) (first now : Linking) (left : List ℕ) (index : ℕ) (IsNow : Server → Type 0) → SoFar s first now left index IsNow → index ≡ 1000000 → Talks Gives s first now Limit 1000000 IsNow

@@ -18,3 +18,7 @@ pub record OnlyLinks (L : Type 0) (reading : L → Reading) (writing : L → Wri
 abbrev pub SendsAs : Bool → Linking → Linking → List ℕ → Type 0
 SendsAs true old new bytes = new ≡ sent_on bytes old
 SendsAs false old new bytes = SendsPart old new bytes × Rose old.faults new.faults
+
+-- Fewer were sent, and no fault is counted.
+abbrev pub SendsInPart : Linking → Linking → List ℕ → Type 0
+SendsInPart old new bytes = SendsPart old new bytes × (new.faults ≡ old.faults)

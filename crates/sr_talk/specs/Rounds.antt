@@ -10,7 +10,7 @@ use Rattle.sr_message.specs.declared.message.Message.{Message}
 use Rattle.sr_model.specs.Statements.{Tables}
 use Rattle.sr_session.specs.Sessions.{Database}
 use Rattle.sr_links.specs.Honest.{Server}
-use Rattle.sr_talk.specs.Serving.{Conversation, IsServed, AreServed, AreTold, RoseBy, all_told, count_faults, connection_lines, frames_read, is_fault, QuietAs}
+use Rattle.sr_talk.specs.Serving.{Conversation, IsServed, IsCutShort, AreServed, AreTold, RoseBy, all_told, count_faults, connection_lines, frames_read, is_fault, QuietAs}
 use Rattle.sr_talk.specs.declared.serve.How.TheVariants.{Fault as ByFault}
 use Rattle.sr_talk.specs.declared.serve.Served.{Served}
 use Rattle.sr_talk.specs.declared.rounds.Ending.{Ending}
@@ -66,6 +66,15 @@ module _ (Gives : Database → Message → Result Tables TheFault → Type 0) wh
   RoundsIf None db old new IsNew = Rose old.faults new.faults × OnlyFaults old new × IsNew (at_rest db)
   RoundsIf (Some served) db old new IsNew = Rounds db old new served IsNew
 
+  -- Out of memory: none was made, or one was cut short.
+  pub record RoundsInPart (db : Database) (old new : Linking) : Type 0 where
+    pub cut_short : Option Conversation
+    pub is : IfSome cut_short (IsCutShort Gives db)
+    pub made : connections new ≡ connections old ++ all_told (option_to_list cut_short)
+    pub came_at : IfSome cut_short (λ c. IfSome c.told (λ t. old.docked ≡ Some t.address))
+    pub is_told : AreTold old (option_to_list cut_short)
+    pub faults_stay : new.faults ≡ old.faults
+
   -- So many connections were served, all made at the docked address, and the link has just these more. The last one was given up too.
   pub record SoMany (db : Database) (old new : Linking) (count : ℕ) (IsNew : Server → Type 0) : Type 0 where
     pub conversations : List Conversation
@@ -106,6 +115,23 @@ module _ (Gives : Database → Message → Result Tables TheFault → Type 0) wh
     pub few : done ≤ count
     pub written : WritesPrefix before.written after.written (text_of (connection_lines 1 some.conversations))
     pub cause : Rose before.faults after.faults
+
+  -- Out of memory: some connections were over, and one more was cut short, or none; then all lines before it were written.
+  pub record EndsInPart (db : Database) (count : ℕ) (old new : Linking) (before after : Writing) : Type 0 where
+    pub conversations : List Conversation
+    pub last : Database
+    pub cut_short : Option Conversation
+    pub served : AreServed Gives db conversations last
+    pub is_cut_short : IfSome cut_short (IsCutShort Gives last)
+    pub made : connections new ≡ connections old ++ all_told (conversations ++ option_to_list cut_short)
+    pub came_at : All (λ t. old.docked ≡ Some t.address) (all_told (conversations ++ option_to_list cut_short))
+    pub each_told : AreTold old (conversations ++ option_to_list cut_short)
+    pub few : length (conversations ++ option_to_list cut_short) ≤ count
+    pub faults : RoseBy old.faults (count_faults conversations) new.faults
+    pub quiet : count_faults conversations ≡ 0 → new.faults ≡ old.faults
+    pub written : WritesPrefix before.written after.written (text_of (connection_lines 1 conversations))
+    pub all_before : cut_short ≢ None → Appends before.written after.written (text_of (connection_lines 1 conversations))
+    pub write_faults : after.faults ≡ before.faults
 
   abbrev pub EndsBy : Ending → Database → ℕ → Linking → Linking → Writing → Writing → (Server → Type 0) → Type 0
   EndsBy Whole db count old new before after IsNew = EndsWhole db count old new before after IsNew

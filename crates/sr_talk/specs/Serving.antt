@@ -58,10 +58,15 @@ EndsAs Refused s left = (m : Message) × (rest : List ℕ) × (left ≡ spelling
 EndsAs Limit s left = Unit {0}
 
 -- It ended by the limit just where so many frames were answered in full.
-abbrev pub CountsAs : How → ℕ → ℕ → ℕ → Type 0
-CountsAs Limit frames sent all = frames ≡ 1000000
-CountsAs Fault frames sent all = (frames ≤ 1000000) × (frames ≡ 1000000 → sent < all)
-CountsAs how frames sent all = frames < 1000000
+abbrev pub CountsAs : How → ℕ → Type 0
+CountsAs Limit frames = frames ≡ 1000000
+CountsAs Fault frames = frames ≤ 1000000
+CountsAs how frames = frames < 1000000
+
+-- after a fault behind so many frames fewer bytes than all were sent
+abbrev pub FewerAs : How → ℕ → ℕ → ℕ → Type 0
+FewerAs Fault frames sent all = frames ≡ 1000000 → sent < all
+FewerAs how frames sent all = Unit {0}
 
 -- after a fault the bytes sent are a beginning of all
 abbrev pub SentAs : How → List ℕ → List ℕ → Type 0
@@ -180,7 +185,14 @@ module _ (Gives : Database → Message → Result Tables TheFault → Type 0) wh
     pub taken : IfSome c.told (λ t. t.taken ≡ spelled c.frames ++ left)
     pub bytes : IfSome c.told (λ t. SentAs c.how t.sent (spelled sent))
     pub whole : IfSome c.told (λ t. IsWholeAs c.how t.coming)
-    pub counts : IfSome c.told (λ t. CountsAs c.how (length c.frames) (length t.sent) (length (spelled sent)))
+    pub counts : CountsAs c.how (length c.frames)
+    pub fewer : IfSome c.told (λ t. FewerAs c.how (length c.frames) (length t.sent) (length (spelled sent)))
+
+  -- A connection that was cut short, out of memory, is one that failed: what was sent begins the answers.
+  pub record IsCutShort (db : Database) (c : Conversation) : Type 0 where
+    pub failed : c.how ≡ Fault
+    pub after : Server
+    pub is : IsServed db c after
 
   -- One connection after another; the session is cut after each.
   abbrev pub AreServed : Database → List Conversation → Database → Type 0
@@ -212,3 +224,23 @@ module _ (Gives : Database → Message → Result Tables TheFault → Type 0) wh
     pub all : status ≡ 0 → (length conversations ≡ count) × (count_faults conversations ≡ 0)
     pub counted : RoseBy old.faults (count_faults conversations + missing status (length conversations) count) new.faults
     pub quiet : status ≡ 0 → new.faults ≡ old.faults
+
+  -- A run that was out of memory: the connections that were over, and the one that was cut short, if there was one. A beginning of the
+  -- lines was written, and all of them before a connection was cut short.
+  pub record ServedInPart (db : Database) (texts : List (List ℕ)) (address : List ℕ) (count : ℕ) (old new : Linking) (written : List ℕ) : Type 0 where
+    pub exec_lines : List (List ℕ)
+    pub first : Database
+    pub conversations : List Conversation
+    pub last : Database
+    pub cut_short : Option Conversation
+    pub executed : AreExecuted db texts exec_lines first
+    pub served : AreServed first conversations last
+    pub is_cut_short : IfSome cut_short (IsCutShort last)
+    pub made : connections new ≡ connections old ++ all_told (conversations ++ option_to_list cut_short)
+    pub came_at : AreAt address (all_told (conversations ++ option_to_list cut_short))
+    pub each_told : AreTold old (conversations ++ option_to_list cut_short)
+    pub writes : Writes 9 (listening ∷ exec_lines ++ connection_lines 1 conversations) written
+    pub all_before : cut_short ≢ None → written ≡ flat_map (λ line. line) (listening ∷ exec_lines ++ connection_lines 1 conversations)
+    pub few : length (conversations ++ option_to_list cut_short) ≤ count
+    pub counted : RoseBy old.faults (count_faults conversations) new.faults
+    pub quiet : count_faults conversations ≡ 0 → new.faults ≡ old.faults

@@ -1,5 +1,5 @@
 -- What was said over one connection, as a server sees it, step by step.
-use Rattle.std.specs.Prelude.{◌≡◌, ℕ, ◌<◌, ◌≤◌, List, ◌++◌, length, take, Result}
+use Rattle.std.specs.Prelude.{◌≡◌, ◌⊎◌, ℕ, ◌<◌, ◌≤◌, List, ◌++◌, length, take, Result}
 use Rattle.sr_cell.specs.declared.fault.Fault.{Fault as TheFault}
 use Rattle.sr_io.specs.Causes.{Rose}
 use Rattle.sr_io.specs.Pieces.{SendsPart}
@@ -8,6 +8,7 @@ use Rattle.sr_message.specs.declared.message.Message.{Message}
 use Rattle.sr_model.specs.Statements.{Tables}
 use Rattle.sr_session.specs.Sessions.{Database}
 use Rattle.sr_links.specs.Honest.{Server, Frame, answer}
+use Rattle.sr_talk.specs.Moves.{SendsInPart}
 use Rattle.sr_talk.specs.Serving.{Answers, EndsAs, IsAccepted, IsRefused, frames_read, spelled}
 use Rattle.sr_talk.specs.declared.serve.How.{How}
 use Rattle.sr_talk.specs.declared.serve.How.TheVariants.{End, Torn, Fault, Refused as ByRefusal, Limit}
@@ -65,6 +66,15 @@ module _ (Gives : Database → Message → Result Tables TheFault → Type 0) wh
   Turns Refused s m old new IsNew = IsRefused s m × (new ≡ old) × IsNew s
   Turns Broken s m old new IsNew = Breaks s m old new IsNew
 
+  -- Out of memory: nothing was sent, or a part of all that the rules give.
+  pub record SendsShort (s : Server) (m : Message) (old new : Linking) (IsNew : Server → Type 0) : Type 0 where
+    pub sent : List Message
+    pub takes : Takes s m sent IsNew
+    pub part : SendsInPart old new (spelled sent)
+
+  abbrev pub TurnsInPart : Server → Message → Linking → Linking → (Server → Type 0) → Type 0
+  TurnsInPart s m old new IsNew = (new ≡ old) ⊎ SendsShort s m old new IsNew
+
   -- From this state of the server to that one: the frames that were read and answered, and what was left behind them. The count is of those
   -- that were read.
   pub record Talks (s : Server) (old new : Linking) (how : How) (count : ℕ) (IsNew : Server → Type 0) : Type 0 where
@@ -80,3 +90,15 @@ module _ (Gives : Database → Message → Result Tables TheFault → Type 0) wh
     pub count_is : count ≡ frames_read how (length frames)
     pub counts : EndsAt how count
     pub stands : IsNew after
+
+  -- Out of memory: the frames that were answered, what was taken behind them, and that what was sent begins the answers.
+  pub record TalksInPart (s : Server) (old new : Linking) : Type 0 where
+    pub frames : List Message
+    pub sent : List Message
+    pub left : List ℕ
+    pub after : Server
+    pub brings : Brings old.present (spelled frames ++ left)
+    pub answers : Answers Gives s frames sent after
+    pub some : SendsSome (length frames) (spelled sent) (taken_from (spelled frames ++ left) old) new
+    pub faults_stay : new.faults ≡ old.faults
+    pub few : length frames ≤ 1000000

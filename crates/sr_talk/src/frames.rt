@@ -1,7 +1,7 @@
 //! Frames that come over a link.
-ghost use Rattle.std.specs.Prelude.{◌≡◌, ◌≢◌, true, ℕ, List, IfOk};
+ghost use Rattle.std.specs.Prelude.{◌≡◌, ◌≢◌, true, ℕ, List, [], IfOk, OnErr};
 ghost use Rattle.sr_talk.specs.Moves.{OnlyLinks};
-ghost use Rattle.sr_talk.specs.Reading.{Nexts, Pops};
+ghost use Rattle.sr_talk.specs.Reading.{Nexts, Pops, Reads};
 ghost use Rattle.sr_talk.specs.declared.frames.Next.TheVariants.{Fault as NextFault};
 
 use sr_cell::list::NoMemory;
@@ -36,7 +36,8 @@ enum Popped {
 
 /// Takes the message in front, if its frame is all there.
 fn pop(alloc: Global, feed: &mut Feed) -> Result<Popped, NoMemory>
-    ensures { IfOk result (λ popped. Pops popped feed.old feed.new) }
+    ensures pops { IfOk result (λ popped. Pops popped feed.old feed.new) }
+    ensures unchanged { OnErr result (feed.new ≡ feed.old) }
 {
     let (message, size) = match feed.front() {
         Ok(Some(frame)) => (frame.message(alloc)?, frame.bytes().len()),
@@ -47,9 +48,10 @@ fn pop(alloc: Global, feed: &mut Feed) -> Result<Popped, NoMemory>
     Ok(Popped::Frame(message))
 }
 
-/// Reads up to the next message, however its frame is cut into pieces.
+/// Reads up to the next message, however its frame is cut into pieces. Out of memory the feed has all that was taken.
 pub fn next_frame<L: Link>(alloc: Global, link: &mut L, feed: &mut Feed) -> Result<Next, NoMemory>
     ensures next { IfOk result (λ next. Nexts next (L.linking link.old) (L.linking link.new) feed.old feed.new) }
+    ensures wanting { OnErr result (Reads (L.linking link.old) (L.linking link.new) feed.old [] feed.new) }
     ensures stays { OnlyLinks L L.reading L.writing L.linking L.held L.complaints L.IsSteady link.old link.new }
     ensures stays_up { (L.linking link.new).is_up ≡ (L.linking link.old).is_up }
     ensures steady_fails_only_down { L.IsSteady link.old → (L.linking link.old).is_up ≡ true → IfOk result (λ next. next ≢ NextFault) }

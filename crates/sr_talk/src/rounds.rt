@@ -1,7 +1,7 @@
 //! Connections, served one after another.
-ghost use Rattle.std.specs.Prelude.{◌≡◌, ◌≢◌, ◌||◌, ◌+◌, ◌*◌, ◌≤◌, ℕ, List, IfOk, OnOk, string_bytes, if◌then◌else◌};
+ghost use Rattle.std.specs.Prelude.{◌≡◌, ◌≢◌, ◌||◌, ◌+◌, ◌*◌, ◌≤◌, ℕ, List, IfOk, OnErr, string_bytes, if◌then◌else◌};
 ghost use Rattle.sr_session.specs.Sessions.{Database};
-ghost use Rattle.sr_talk.specs.Rounds.{EndsBy, HasPeers, OnlyOutput, RoundsIf, ServesPeer, at_rest};
+ghost use Rattle.sr_talk.specs.Rounds.{EndsBy, EndsInPart, HasPeers, OnlyOutput, RoundsIf, RoundsInPart, ServesPeer, at_rest};
 ghost use Rattle.sr_talk.specs.Moves.{OnlyLinks};
 ghost use Rattle.sr_talk.specs.Serving.{by_fault, connection_line, how_text};
 ghost use Rattle.sr_talk.specs.declared.rounds.Ending.TheVariants.{Whole, Faulty, Unwritten};
@@ -22,7 +22,7 @@ pub enum Ending {
     Unwritten,
 }
 
-/// Makes one connection, serves it and gives it up; its session is closed. None where none can be made.
+/// Makes one connection, serves it and gives it up; its session is closed. None where none can be made. Out of memory it is cut short.
 pub fn serve_one<D: Dock, S: Serves>(
     alloc: Global,
     dock: &mut D,
@@ -31,6 +31,7 @@ pub fn serve_one<D: Dock, S: Serves>(
     requires stands { (db : Database) × S.is_of server.old (at_rest db) }
     requires room { 1000000 ≤ S.room server.old }
     ensures round { (db : Database) → S.is_of server.old (at_rest db) → IfOk result (λ round. RoundsIf S.gives round db (D.linking dock.old) (D.linking dock.new) (S.is_of server.new)) }
+    ensures in_part { (db : Database) → S.is_of server.old (at_rest db) → OnErr result (RoundsInPart S.gives db (D.linking dock.old) (D.linking dock.new)) }
     ensures draws { S.room server.old ≤ S.room server.new + 1000000 }
     ensures stays { OnlyLinks D D.reading D.writing D.linking D.held D.complaints D.IsSteady dock.old dock.new }
     ensures steady { D.IsSteady dock.old → (more : ℕ) → HasPeers (more + 1) (D.linking dock.old) → IfOk result (λ round. ServesPeer round more (D.linking dock.new)) }
@@ -95,6 +96,7 @@ pub fn serve_some<H: Dock + Sink, S: Serves>(
     requires stands { (db : Database) × S.is_of server.old (at_rest db) }
     requires room { 1000000 * count ≤ S.room server.old }
     ensures ending { (db : Database) → S.is_of server.old (at_rest db) → IfOk result (λ ending. EndsBy S.gives ending db count (H.linking host.old) (H.linking host.new) (H.writing host.old) (H.writing host.new) (S.is_of server.new)) }
+    ensures in_part { (db : Database) → S.is_of server.old (at_rest db) → OnErr result (EndsInPart S.gives db count (H.linking host.old) (H.linking host.new) (H.writing host.old) (H.writing host.new)) }
     ensures stays { OnlyOutput H H.reading H.held H.complaints H.IsSteady host.old host.new }
     ensures steady_writes { H.IsSteady host.old → IfOk result (λ ending. ending ≢ Unwritten) }
     ensures steady_links { H.IsSteady host.old → HasPeers count (H.linking host.old) → IfOk result (λ ending. ending ≢ Faulty) }

@@ -1,12 +1,12 @@
 //! One connection of a server.
-ghost use Rattle.std.specs.Prelude.{◌≡◌, ◌≢◌, ◌+◌, ◌<◌, ◌≤◌, true, false, ℕ, List, [], IfOk, IsTrue};
+ghost use Rattle.std.specs.Prelude.{◌≡◌, ◌≢◌, ◌+◌, ◌<◌, ◌≤◌, true, false, ℕ, List, [], IfOk, OnErr, IsTrue};
 ghost use Rattle.std.specs.List.{All};
 ghost use Rattle.sr_wire.specs.Limits.{IsSendable};
 ghost use Rattle.sr_wire.specs.Spelling.{has_spelling, spelling};
 ghost use Rattle.sr_links.specs.Honest.{Server};
-ghost use Rattle.sr_talk.specs.Moves.{OnlyLinks, SendsAs};
+ghost use Rattle.sr_talk.specs.Moves.{OnlyLinks, SendsAs, SendsInPart};
 ghost use Rattle.sr_talk.specs.Serving.{spelled};
-ghost use Rattle.sr_talk.specs.Talked.{Turns, Talks};
+ghost use Rattle.sr_talk.specs.Talked.{Turns, TurnsInPart, Talks, TalksInPart};
 ghost use Rattle.sr_talk.specs.declared.serve.How.TheVariants.{Fault as ByFault};
 ghost use Rattle.sr_talk.specs.declared.serve.Turn.TheVariants.{Broken};
 
@@ -50,7 +50,7 @@ enum Turn {
     Broken,
 }
 
-/// Sends the frames of messages, one after another. Answers false where the link fails.
+/// Sends the frames of messages, one after another. Answers false where the link fails; then, and out of memory, fewer bytes were sent.
 pub fn send_messages<L: Link>(
     alloc: Global,
     link: &mut L,
@@ -58,6 +58,7 @@ pub fn send_messages<L: Link>(
 ) -> Result<bool, NoMemory>
     requires { All IsSendable messages.now }
     ensures sent { IfOk result (λ whole. SendsAs whole (L.linking link.old) (L.linking link.new) (spelled messages.now)) }
+    ensures in_part { OnErr result (SendsInPart (L.linking link.old) (L.linking link.new) (spelled messages.now)) }
     ensures stays { OnlyLinks L L.reading L.writing L.linking L.held L.complaints L.IsSteady link.old link.new }
     ensures stays_up { (L.linking link.new).is_up ≡ (L.linking link.old).is_up }
     ensures steady_fails_only_down { L.IsSteady link.old → (L.linking link.old).is_up ≡ true → IfOk result (λ whole. whole ≡ true) }
@@ -74,6 +75,7 @@ pub fn send_messages<L: Link>(
 fn send_one<L: Link>(alloc: Global, link: &mut L, message: &Message) -> Result<bool, NoMemory>
     requires { IsSendable message.now }
     ensures sent { IfOk result (λ whole. SendsAs whole (L.linking link.old) (L.linking link.new) (spelling message.now)) }
+    ensures in_part { OnErr result (SendsInPart (L.linking link.old) (L.linking link.new) (spelling message.now)) }
     ensures stays { OnlyLinks L L.reading L.writing L.linking L.held L.complaints L.IsSteady link.old link.new }
     ensures stays_up { (L.linking link.new).is_up ≡ (L.linking link.old).is_up }
     ensures steady_fails_only_down { L.IsSteady link.old → (L.linking link.old).is_up ≡ true → IfOk result (λ whole. whole ≡ true) }
@@ -97,6 +99,7 @@ fn answer_frame<L: Link, S: Serves>(
     requires spelled { IsTrue (has_spelling message.now) }
     requires room { 0 < S.room server.old }
     ensures turn { (s : Server) → S.is_of server.old s → IfOk result (λ turn. Turns S.gives turn s message.now (L.linking link.old) (L.linking link.new) (S.is_of server.new)) }
+    ensures in_part { (s : Server) → S.is_of server.old s → OnErr result (TurnsInPart S.gives s message.now (L.linking link.old) (L.linking link.new) (S.is_of server.new)) }
     ensures draws { S.room server.old ≤ S.room server.new + 1 }
     ensures stays { OnlyLinks L L.reading L.writing L.linking L.held L.complaints L.IsSteady link.old link.new }
     ensures stays_up { (L.linking link.new).is_up ≡ (L.linking link.old).is_up }
@@ -123,7 +126,7 @@ fn ended(how: How, frames: u32) -> Served
 }
 
 /// Serves one connection to its end: each frame is answered, however the input is cut, until no frame comes, one must be refused, the
-/// link fails, or a million were read.
+/// link fails, or a million were read. Out of memory, what was sent begins what the rules give.
 pub fn serve_connection<L: Link, S: Serves>(
     alloc: Global,
     link: &mut L,
@@ -132,6 +135,7 @@ pub fn serve_connection<L: Link, S: Serves>(
     requires stands { (s : Server) × S.is_of server.old s }
     requires room { 1000000 ≤ S.room server.old }
     ensures talked { (s : Server) → S.is_of server.old s → IfOk result (λ served. Talks S.gives s (L.linking link.old) (L.linking link.new) served.how served.frames (S.is_of server.new)) }
+    ensures in_part { (s : Server) → S.is_of server.old s → OnErr result (TalksInPart S.gives s (L.linking link.old) (L.linking link.new)) }
     ensures draws { S.room server.old ≤ S.room server.new + 1000000 }
     ensures stays { OnlyLinks L L.reading L.writing L.linking L.held L.complaints L.IsSteady link.old link.new }
     ensures stays_up { (L.linking link.new).is_up ≡ (L.linking link.old).is_up }
@@ -151,6 +155,7 @@ fn serve_frames<L: Link, S: Serves>(
     requires stands { (s : Server) × S.is_of server.old s }
     requires room { 1000000 ≤ S.room server.old }
     ensures talked { (s : Server) → S.is_of server.old s → IfOk result (λ served. Talks S.gives s (L.linking link.old) (L.linking link.new) served.how served.frames (S.is_of server.new)) }
+    ensures in_part { (s : Server) → S.is_of server.old s → OnErr result (TalksInPart S.gives s (L.linking link.old) (L.linking link.new)) }
     ensures draws { S.room server.old ≤ S.room server.new + 1000000 }
     ensures stays { OnlyLinks L L.reading L.writing L.linking L.held L.complaints L.IsSteady link.old link.new }
     ensures stays_up { (L.linking link.new).is_up ≡ (L.linking link.old).is_up }

@@ -1,9 +1,10 @@
-use Rattle.std.proofs.Common.{◌++◌, ap, arith, rules}
+use Rattle.std.proofs.Common.{◌++◌, Err, ap, arith, rules}
 use Rattle.sr_io.specs.Told.{Linking}
 use Rattle.sr_talk.specs.Rounds.{at_rest}
 use Rattle.sr_talk.specs.Serving.{spelled}
 use Rattle.sr_talk.proofs.PeerLemmas.{not-last, one-less}
-use Rattle.sr_talk.proofs.RoundLemmas.{round}
+use Rattle.sr_talk.proofs.RoundLemmas.{round, none-made, one-cut-short}
+use Rattle.sr_talk.proofs.MoveLemmas.{so-in-err}
 use Rattle.sr_talk.proofs.rounds.serve_one.Goals as goal
 
 pub returns-clause-round : goal.returns-clause-round
@@ -27,3 +28,13 @@ returns-clause-steady g c steady more enough =
 pub returns-in-Err-Refused-clause-steady : goal.returns-in-Err-Refused-clause-steady
 returns-in-Err-Refused-clause-steady g c steady more enough =
     absurd (not-last (g.D.Outside.linking c.args.dock.now) more enough (c.accept.ensures.steady_fails_only_past_the_last steady (search rules)))
+
+pub returns-in-Err-NoMemory-clause-in_part : goal.returns-in-Err-NoMemory-clause-in_part
+returns-in-Err-NoMemory-clause-in_part g c db is =
+    none-made g.S.Serves.gives db (g.D.Outside.linking c.args.dock.now) (g.D.Outside.linking c.accept.new.self) c.in-Err-NoMemory.ensures.unchanged (c.in-Err-NoMemory.ensures.want_keeps_faults (ap Err c.in-Err-NoMemory.field-0-is))
+
+pub returns-in_err-served-clause-in_part : goal.returns-in_err-served-clause-in_part
+returns-in_err-served-clause-in_part g c db is =
+    so-in-err c.from_residual.result
+    (one-cut-short g.S.Serves.gives db (g.D.Outside.linking c.args.dock.now) (g.D.Outside.linking c.accept.new.self) (g.D.Outside.linking c.serve_connection.new.link) (λ last. c.accept.ensures.none_past_the_last last (search rules))
+    c.in-Ok.ensures.made (c.in_err-served.ensures.in_part (at_rest db) is))

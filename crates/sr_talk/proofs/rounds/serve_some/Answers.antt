@@ -1,4 +1,4 @@
-use Rattle.std.proofs.Common.{◌≡◌, ◌+◌, ◌-◌, ◌<◌, ◌∙◌, sym, ap, subst, arith, rules}
+use Rattle.std.proofs.Common.{◌≡◌, ◌+◌, ◌-◌, ◌<◌, ◌∙◌, Err, refl, sym, ap, subst, arith, rules}
 use Rattle.std.specs.Prelude.{◌||◌}
 use Rattle.std.specs.Io.KnownBytes.{Appends}
 use Rattle.sr_io.specs.Causes.{Rose}
@@ -7,7 +7,8 @@ use Rattle.sr_io.specs.Told.{Writing}
 use Rattle.sr_talk.specs.Rounds.{EndsBy, HasPeers, RoundsIf, ServesPeer}
 use Rattle.sr_talk.specs.Serving.{by_fault, connection_line}
 use Rattle.sr_talk.proofs.PeerLemmas.{still-none}
-use Rattle.sr_talk.proofs.SomeLemmas.{ServedSome, some-start, more-served, none-more, unwritten, all-served}
+use Rattle.sr_talk.proofs.SomeLemmas.{ServedSome, some-start, more-served, next-cut-short, line-cut-short, none-more, none-written, unwritten, all-served}
+use Rattle.sr_talk.proofs.MoveLemmas.{so-in-err}
 use Rattle.sr_talk.proofs.rounds.serve_some.Goals as goal
 
 pub loop-done-init : goal.loop-done-init
@@ -99,3 +100,38 @@ returns-clause-steady_links g c steady enough =
 pub returns-in-Err-Refused-clause-steady_writes : goal.returns-in-Err-Refused-clause-steady_writes
 returns-in-Err-Refused-clause-steady_writes g c steady =
     absurd (c.write_all.ensures.steady_never_fails (c.serve_one.ensures.stays.stays_steady (c.loop-done.invariant.stays.stays_steady steady)) (search rules))
+
+pub returns-in_err-served-clause-in_part : goal.returns-in_err-served-clause-in_part
+returns-in_err-served-clause-in_part g c db is =
+    let h = c.loop-done.invariant.so_far db is in
+    so-in-err c.from_residual.result
+    (next-cut-short g.S.Serves.gives db c.args.count (g.H.Outside.linking c.args.host.now) (g.H.Outside.linking c.loop-done.host) (g.H.Outside.linking c.serve_one.new.dock) (g.H.Outside.writing c.args.host.now)
+    (g.H.Outside.writing c.loop-done.host) (g.H.Outside.writing c.serve_one.new.dock) c.loop-done.done c.loop-done.faulty (g.S.Serves.is_of c.loop-done.server) (search rules) h (c.in_err-served.ensures.in_part h.many.last h.many.stands)
+    c.serve_one.ensures.stays.writing_stays)
+
+pub returns-in_err-line-clause-in_part : goal.returns-in_err-line-clause-in_part
+returns-in_err-line-clause-in_part g c db is =
+    let h = c.loop-done.invariant.so_far db is in
+    let r = subst (λ round. RoundsIf g.S.Serves.gives round h.many.last (g.H.Outside.linking c.loop-done.host) (g.H.Outside.linking c.serve_one.new.dock) (g.S.Serves.is_of c.serve_one.new.server)) c.in-Some.is
+    (c.in_ok-served.ensures.round h.many.last h.many.stands) in
+    so-in-err c.from_residual-in_err-line.result
+    (line-cut-short g.S.Serves.gives db (g.H.Outside.linking c.args.host.now) (g.H.Outside.linking c.loop-done.host) (g.H.Outside.linking c.serve_one.new.dock) (g.H.Outside.writing c.args.host.now) (g.H.Outside.writing c.loop-done.host)
+    c.loop-done.done c.in-Some.served (g.S.Serves.is_of c.loop-done.server) (g.S.Serves.is_of c.serve_one.new.server) c.args.count (g.H.Outside.writing c.serve_one.new.dock) c.loop-done.faulty
+    (g.H.Outside.linking c.serve_one.new.dock) (search rules) h r
+    (subst (λ (w : Writing). WritesPrefix w.written (g.H.Outside.writing c.serve_one.new.dock).written (connection_line (c.loop-done.done + 1) c.in-Some.served.how c.in-Some.served.frames)) c.serve_one.ensures.stays.writing_stays
+    (none-written (g.H.Outside.writing c.serve_one.new.dock).written (connection_line (c.loop-done.done + 1) c.in-Some.served.how c.in-Some.served.frames)))
+    (ap (λ (w : Writing). w.faults) c.serve_one.ensures.stays.writing_stays) refl)
+
+pub returns-in-Err-NoMemory-clause-in_part : goal.returns-in-Err-NoMemory-clause-in_part
+returns-in-Err-NoMemory-clause-in_part g c db is =
+    let h = c.loop-done.invariant.so_far db is in
+    let r = subst (λ round. RoundsIf g.S.Serves.gives round h.many.last (g.H.Outside.linking c.loop-done.host) (g.H.Outside.linking c.serve_one.new.dock) (g.S.Serves.is_of c.serve_one.new.server)) c.in-Some.is
+    (c.in_ok-served.ensures.round h.many.last h.many.stands) in
+    let bytes : c.as_bytes.result.now ≡ connection_line (c.loop-done.done + 1) c.in-Some.served.how c.in-Some.served.frames = search rules in
+    line-cut-short g.S.Serves.gives db (g.H.Outside.linking c.args.host.now) (g.H.Outside.linking c.loop-done.host) (g.H.Outside.linking c.serve_one.new.dock) (g.H.Outside.writing c.args.host.now) (g.H.Outside.writing c.loop-done.host)
+    c.loop-done.done c.in-Some.served (g.S.Serves.is_of c.loop-done.server) (g.S.Serves.is_of c.serve_one.new.server) c.args.count (g.H.Outside.writing c.write_all.new.sink) c.loop-done.faulty
+    (g.H.Outside.linking c.write_all.new.sink) (search rules) h r
+    (subst (λ b. WritesPrefix (g.H.Outside.writing c.loop-done.host).written (g.H.Outside.writing c.write_all.new.sink).written b) bytes
+    (subst (λ (w : Writing). WritesPrefix w.written (g.H.Outside.writing c.write_all.new.sink).written c.as_bytes.result.now) c.serve_one.ensures.stays.writing_stays c.write_all.ensures.prefix))
+    (c.in-Err-NoMemory.ensures.want_keeps_faults (ap Err c.in-Err-NoMemory.field-0-is) ∙ ap (λ (w : Writing). w.faults) c.serve_one.ensures.stays.writing_stays)
+    c.write_all.ensures.linking_stays

@@ -1,8 +1,8 @@
-use Rattle.std.proofs.Common.{◌∙◌, subst, arith, rules}
+use Rattle.std.proofs.Common.{◌∙◌, [], subst, arith, rules}
 use Rattle.sr_talk.specs.Reading.{Nexts}
 use Rattle.sr_talk.specs.Talked.{Turns}
-use Rattle.sr_talk.proofs.MoveLemmas.{stays-on}
-use Rattle.sr_talk.proofs.TalkLemmas.{at-end, at-torn, at-fault, at-bad, at-refused, at-broken, at-limit, so-far-more}
+use Rattle.sr_talk.proofs.MoveLemmas.{stays-on, so-in-err}
+use Rattle.sr_talk.proofs.TalkLemmas.{at-end, at-torn, at-fault, at-bad, at-refused, at-broken, at-limit, so-far-more, stops-reading, stops-answering}
 use Rattle.sr_talk.proofs.serve.serve_frames.Goals as goal
 
 pub returns-in-End-clause-talked : goal.returns-in-End-clause-talked
@@ -74,3 +74,18 @@ returns-clause-talked g c s is =
     rw (c.ended-2.ensures)
     (at-limit g.S.Serves.gives s (g.L.Outside.linking c.args.link.now) (g.L.Outside.linking c.loop-frames.link) c.loop-frames.feed c.loop-frames.frames (g.S.Serves.is_of c.loop-frames.server)
     (c.loop-frames.invariant.so_far s is) (search rules))
+
+pub returns-in_err-next_frame-clause-in_part : goal.returns-in_err-next_frame-clause-in_part
+returns-in_err-next_frame-clause-in_part g c s is =
+    so-in-err c.from_residual.result
+    (stops-reading g.S.Serves.gives s (g.L.Outside.linking c.args.link.now) (g.L.Outside.linking c.loop-frames.link) (g.L.Outside.linking c.next_frame.new.link) c.loop-frames.feed [] c.next_frame.new.feed c.loop-frames.frames
+    (g.S.Serves.is_of c.loop-frames.server) (c.loop-frames.invariant.so_far s is) (search rules) c.in_err-next_frame.ensures.wanting)
+
+pub returns-in_err-turn-clause-in_part : goal.returns-in_err-turn-clause-in_part
+returns-in_err-turn-clause-in_part g c s is =
+    let h = c.loop-frames.invariant.so_far s is in
+    let next = subst (λ next. Nexts next (g.L.Outside.linking c.loop-frames.link) (g.L.Outside.linking c.next_frame.new.link) c.loop-frames.feed c.next_frame.new.feed) c.in-Frame.is c.in_ok-next_frame.ensures.next in
+    so-in-err c.from_residual-in_err-turn.result
+    (stops-answering g.S.Serves.gives s (g.L.Outside.linking c.args.link.now) (g.L.Outside.linking c.loop-frames.link) (g.L.Outside.linking c.next_frame.new.link) (g.L.Outside.linking c.answer_frame-turn.new.link)
+    c.loop-frames.feed c.next_frame.new.feed c.in-Frame.message c.loop-frames.frames (g.S.Serves.is_of c.loop-frames.server) (g.S.Serves.is_of c.answer_frame-turn.new.server) h (search rules) next.0 next.1
+    (c.in_err-turn.ensures.in_part h.after h.stands))

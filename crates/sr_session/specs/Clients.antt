@@ -2,6 +2,7 @@
 use Rattle.std.specs.Prelude.{ℕ, Bool, true, false, ◌+◌, ◌≤◌, ◌↔◌, List, [], ◌∷◌, ◌++◌, length, ◌≡◌, Option, Some, None, IsTrue}
 use Rattle.std.specs.List.{AllZip, list_all}
 use Rattle.sr_cell.specs.declared.table.Table.{Table}
+use Rattle.sr_cell.specs.Columns.{table_at}
 use Rattle.sr_box.specs.Points.{AreSame, in_any}
 use Rattle.sr_message.specs.declared.message.AskPart.{AskPart}
 use Rattle.sr_message.specs.declared.message.Holding.{Holding}

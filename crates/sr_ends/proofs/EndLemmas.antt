@@ -1,16 +1,16 @@
 -- What a server's end makes of a message.
 use Rattle.std.proofs.Common.{◌≡◌, ℕ, zero, suc, ◌-◌, ◌<◌, Bool, true, false, cond, eqb, List, [], ◌∷◌, length, refl, sym, ◌∙◌, ap, subst, arith, Option, Some, None}
-use Rattle.std.specs.Prelude.{nat_le, replicate, slice_set, slice_index_or, Result, Ok, Err, IsTrue}
+use Rattle.std.specs.Prelude.{◌&&◌, nat_le, replicate, slice_set, slice_index_or, Result, Ok, Err, IsTrue}
 use Rattle.std.proofs.lemmas.Bool.{ne_eqb}
 use Rattle.std.proofs.lemmas.Bool.Decides.{nat_tests}
-use Rattle.std.specs.Cmp.{first_so}
+use Rattle.std.specs.Cmp.{first_so, second_so}
 use Rattle.sr_cell.specs.declared.fault.Fault.{Fault}
 use Rattle.sr_cell.specs.declared.table.Table.{Table}
 use Rattle.sr_message.specs.declared.message.Message.{Message}
 use Rattle.sr_message.specs.declared.message.Message.TheVariants.{Hello, Resume, Ask, Write, Welcome, Notice, Rows, Reply, Written, Refused, Lapse}
 use Rattle.sr_model.specs.Statements.{Tables}
 use Rattle.sr_wire.specs.declared.bad_frame.BadFrame.{BadFrame}
-use Rattle.sr_wire.specs.Spelling.{has_spelling, has_fields, body_of, is_client, is_long, most_bytes}
+use Rattle.sr_wire.specs.Spelling.{has_spelling, has_fields, body_of, is_client, is_long, is_wire, most_bytes}
 use Rattle.sr_session.specs.Refusals.{server_misfit}
 use Rattle.sr_session.specs.Scenes.{Taken, taken}
 use Rattle.sr_session.specs.Sessions.{Database, Session, Served}
@@ -62,8 +62,8 @@ client-number : (client : ℕ) → IsTrue (is_client client) → IsClientNumber 
 client-number client is = grind (arith, nat_tests)
 
 pub named-number : (m : Message) → IsTrue (has_spelling m) → IsClientNumber (named m)
-named-number (Hello wire client number) is = client-number client (first_so (is_client client) (is_long number) (fields (Hello wire client number) is))
-named-number (Resume wire client number version holdings) is = client-number client (first_so (is_client client) _ (fields (Resume wire client number version holdings) is))
+named-number (Hello wire client number) is = client-number client (first_so (is_client client) (is_long number) (second_so (is_wire wire) (is_client client && is_long number) (fields (Hello wire client number) is)))
+named-number (Resume wire client number version holdings) is = client-number client (first_so (is_client client) _ (second_so (is_wire wire) _ (fields (Resume wire client number version holdings) is)))
 named-number (Ask number fresh parts) is = (omega arith, omega arith)
 named-number (Write number sql) is = (omega arith, omega arith)
 named-number (Welcome number version kept) is = (omega arith, omega arith)

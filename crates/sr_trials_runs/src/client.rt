@@ -129,7 +129,11 @@ fn is_hello(step: &ResumeStep, wanted: u64) -> bool {
     match step {
         ResumeStep::Sent {
             request,
-            message: Message::Hello { client, number },
+            message: Message::Hello {
+                wire: 2,
+                client,
+                number,
+            },
         } => *request == wanted && *client == 3 && *number == wanted,
         _ => false,
     }

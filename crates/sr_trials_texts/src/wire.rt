@@ -1,13 +1,17 @@
 //! Frames worked out by hand.
-ghost use Rattle.std.specs.Prelude.{◌≡◌, IfOk};
-ghost use Rattle.sr_wire.specs.Examples.{ask};
+ghost use Rattle.std.specs.Prelude.{◌≡◌, [], ◌∷◌, IfOk};
+ghost use Rattle.sr_box.specs.declared.span.Span.TheVariants.{Full};
+ghost use Rattle.sr_wire.specs.Examples.{ask, resume, whole_resume};
 ghost use Rattle.sr_wire.specs.Limits.{IsSendable};
 
 use crate::common::{list_of, thirties};
+use sr_box::rect::Rect;
+use sr_box::span::Span;
 use sr_bytes::views::SpanView;
 use sr_cell::attrs::Attrs;
 use sr_cell::list::NoMemory;
-use sr_message::message::{AskPart, Message};
+use sr_message::message::{AskPart, Holding, Message};
+use sr_union::rects::Rects;
 use sr_wire::body::Body;
 use sr_wire::encode::encode;
 use sr_wire::frame::decode;
@@ -19,12 +23,14 @@ pub const HELLO: [u8; 15] = [0, 0, 0, 11, 1, 1, 1, 0, 0, 0, 0, 0, 0, 0, 0];
 
 /// Client 1 begins again over wire 2 with number 3, at version 5; it holds two columns of all rows of a table of two.
 const RESUME: [u8; 37] = [
-    0, 0, 0, 0x21, 2, 2, 1, 0, 0, 0, 0, 0, 0, 0, 3, 0, 0, 0, 0, 0, 0, 0, 5, 0, 0, 0, 1, 0, 0, 3, 0, 0, 0, 1, 2, 0, 0,
+    0, 0, 0, 0x21, 2, 2, 1, 0, 0, 0, 0, 0, 0, 0, 3, 0, 0, 0, 0, 0, 0, 0, 5, 0, 0, 0, 1, 0, 0, 3, 0,
+    0, 0, 1, 2, 0, 0,
 ];
 
 /// Over wire 1 it holds all columns, and does not name them.
 const WHOLE_RESUME: [u8; 35] = [
-    0, 0, 0, 0x1f, 2, 1, 1, 0, 0, 0, 0, 0, 0, 0, 3, 0, 0, 0, 0, 0, 0, 0, 5, 0, 0, 0, 1, 0, 0, 0, 0, 1, 2, 0, 0,
+    0, 0, 0, 0x1f, 2, 1, 1, 0, 0, 0, 0, 0, 0, 0, 3, 0, 0, 0, 0, 0, 0, 0, 5, 0, 0, 0, 1, 0, 0, 0, 0,
+    1, 2, 0, 0,
 ];
 
 /// A reply to request 1, of version 2.
@@ -48,7 +54,8 @@ const LATER_HELLO: [u8; 15] = [0, 0, 0, 11, 1, 3, 1, 0, 0, 0, 0, 0, 0, 0, 0];
 
 /// The first Resume with a thirteenth column.
 const STRANGE_RESUME: [u8; 37] = [
-    0, 0, 0, 0x21, 2, 2, 1, 0, 0, 0, 0, 0, 0, 0, 3, 0, 0, 0, 0, 0, 0, 0, 5, 0, 0, 0, 1, 0, 0x10, 3, 0, 0, 0, 1, 2, 0, 0,
+    0, 0, 0, 0x21, 2, 2, 1, 0, 0, 0, 0, 0, 0, 0, 3, 0, 0, 0, 0, 0, 0, 0, 5, 0, 0, 0, 1, 0, 0x10, 3,
+    0, 0, 0, 1, 2, 0, 0,
 ];
 
 fn ask(alloc: Global) -> Result<Message, NoMemory>
@@ -104,21 +111,61 @@ fn an_ask_is_encoded(rt: HostRuntime) {
     assert!(rt; is_ask_encoded(rt.alloc(), &ASK) == Ok(true));
 }
 
-// The message of that wire by which client 1 begins again.
-fn resume(alloc: Global, wire: u8, attrs: u16) -> Result<Message, NoMemory> {
-    let rects = rects_of(alloc, [Span::Full, Span::Full])?;
+// All rows of a table of two columns.
+fn pairs(alloc: Global) -> Result<Rects, NoMemory>
+    ensures { IfOk result (λ rects. rects ≡ (Full ∷ Full ∷ []) ∷ []) }
+{
+    let mut rect = Rect::new(alloc);
+    rect.push(Span::Full)?;
+    rect.push(Span::Full)?;
+    let mut rects = Rects::new(alloc);
+    rects.push(rect).and(Ok(rects))
+}
+
+fn resume(alloc: Global) -> Result<Message, NoMemory>
+    ensures { IfOk result (λ message. message ≡ resume) }
+{
     let holding = Holding {
         table: 0,
-        attrs: Attrs(attrs),
-        rects,
+        attrs: Attrs(3),
+        rects: pairs(alloc)?,
     };
     Ok(Message::Resume {
-        wire,
+        wire: 2,
         client: 1,
         number: 3,
         version: 5,
         holdings: list_of(alloc, [holding])?,
     })
+}
+
+fn whole_resume(alloc: Global) -> Result<Message, NoMemory>
+    ensures { IfOk result (λ message. message ≡ whole_resume) }
+{
+    let holding = Holding {
+        table: 0,
+        attrs: Attrs(4095),
+        rects: pairs(alloc)?,
+    };
+    Ok(Message::Resume {
+        wire: 1,
+        client: 1,
+        number: 3,
+        version: 5,
+        holdings: list_of(alloc, [holding])?,
+    })
+}
+
+// The same of both.
+fn are_resumes_encoded(alloc: Global) -> Result<bool, NoMemory> {
+    let resume = resume(alloc)?;
+    let whole = whole_resume(alloc)?;
+    Ok(is_encoded(alloc, &resume, &RESUME)? && is_encoded(alloc, &whole, &WHOLE_RESUME)?)
+}
+
+#[test]
+fn a_resume_is_encoded_as_its_wire_has_it(rt: HostRuntime) {
+    assert!(rt; are_resumes_encoded(rt.alloc()) == Ok(true));
 }
 
 /// The wire of a Resume in front of the bytes, with the columns of its first holding and the number of all.

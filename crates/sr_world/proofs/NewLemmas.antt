@@ -29,11 +29,11 @@ use Rattle.sr_world.proofs.WorldLemmas.{same-or}
 
 -- ---- the first message
 
-hello-by : (schema : List Table) (session : Option Session) (n : ℕ) → session ≡ None → server_misfit schema session n (Hello n 0) ≡ None
+hello-by : (schema : List Table) (session : Option Session) (n : ℕ) → session ≡ None → server_misfit schema session n (Hello 2 n 0) ≡ None
 hello-by schema None n is = rw (eqb_same n) refl
 hello-by schema (Some s) n is = absurd (cc)
 
-pub hello-fits : (schema : List Table) (sessions : List (Option Session)) (n : ℕ) → session_at sessions n ≡ None → server_misfit schema (session_at sessions n) n (Hello n 0) ≡ None
+pub hello-fits : (schema : List Table) (sessions : List (Option Session)) (n : ℕ) → session_at sessions n ≡ None → server_misfit schema (session_at sessions n) n (Hello 2 n 0) ≡ None
 hello-fits schema sessions n is = hello-by schema (session_at sessions n) n is
 
 -- ---- the clients so far
@@ -42,7 +42,7 @@ hello-fits schema sessions n is = hello-by schema (session_at sessions n) n is
 pub record IsBegun (limits : Limits) (schema : List Table) (log_limit : ℕ) (tables : Tables) (count : ℕ) (server : Server) (seats : List Seat) : Type 0 where
   pub database : IsServer server (first_database schema log_limit tables)
   pub all : length seats ≡ count
-  pub some : (k : ℕ) → k < count → slice_index_or server.sessions k None ≡ opened (first_database schema log_limit tables) []
+  pub some : (k : ℕ) → k < count → slice_index_or server.sessions k None ≡ opened (first_database schema log_limit tables) 2 []
   pub none : (k : ℕ) → count ≤ k → slice_index_or server.sessions k None ≡ None
   pub own : (k : ℕ) (seat : Seat) → slice_get seats k ≡ Some seat → IsSeat (first_database schema log_limit tables) limits (k + 1) seat new_pair
   pub ones : (k : ℕ) (seat : Seat) → slice_get seats k ≡ Some seat → drawn_by seat ≡ 1
@@ -82,7 +82,7 @@ last-or {X} (z ∷ xs) y x (suc k) there = by (last-or xs y x k there)
 
 pub begun-more : (limits : Limits) (schema : List Table) (log_limit : ℕ) (tables : Tables) (count client : ℕ) (server after : Server) (seats : List Seat) (seat : Seat)
     → IsBegun limits schema log_limit tables count server seats → client ≡ count + 1 → IsClientNumber client → IsServer after (first_database schema log_limit tables)
-    → after.sessions ≡ with_session server.sessions client (opened (first_database schema log_limit tables) [])
+    → after.sessions ≡ with_session server.sessions client (opened (first_database schema log_limit tables) 2 [])
     → ((db : Database) → IsSound db → db.schema ≡ schema → IsSeat db limits client seat new_pair) → drawn_by seat ≡ 1
     → IsBegun limits schema log_limit tables (count + 1) after (seats ++ seat ∷ [])
 begun-more limits schema log_limit tables count client server after seats seat b number within is sessions own one = record {
@@ -90,7 +90,7 @@ begun-more limits schema log_limit tables count client server after seats seat b
   all = length-append seats (seat ∷ []) ∙ ap (λ n. n + 1) b.all;
   some = open_at;
   none = λ k behind. ap (λ ss. slice_index_or ss k None) sessions
-      ∙ (get_or-set_other server.sessions (client - 1) k (opened db []) None (λ same. absurd (omega (arith, same, number, behind))) ∙ b.none k (omega (arith, behind)));
+      ∙ (get_or-set_other server.sessions (client - 1) k (opened db 2 []) None (λ same. absurd (omega (arith, same, number, behind))) ∙ b.none k (omega (arith, behind)));
   own = each;
   ones = λ k x there. one_of k x (last-or seats seat x k there);
 }
@@ -104,11 +104,11 @@ begun-more limits schema log_limit tables count client server after seats seat b
     room : client - 1 < length server.sessions
     room = let count = b.database.count in omega (arith, within.0, within.1, count)
 
-    set_at : (k : ℕ) → k < count + 1 → (k ≡ client - 1) ⊎ (k ≡ client - 1 → ⊥) → slice_index_or (slice_set server.sessions (client - 1) (opened db [])) k None ≡ opened db []
-    set_at k below (inl same) = subst (λ j. slice_index_or (slice_set server.sessions (client - 1) (opened db [])) j None ≡ opened db []) (sym same) (get_or-set_same server.sessions (client - 1) (opened db []) None room)
-    set_at k below (inr differ) = get_or-set_other server.sessions (client - 1) k (opened db []) None differ ∙ b.some k (under k count below (λ same. differ (omega (arith, same, place))))
+    set_at : (k : ℕ) → k < count + 1 → (k ≡ client - 1) ⊎ (k ≡ client - 1 → ⊥) → slice_index_or (slice_set server.sessions (client - 1) (opened db 2 [])) k None ≡ opened db 2 []
+    set_at k below (inl same) = subst (λ j. slice_index_or (slice_set server.sessions (client - 1) (opened db 2 [])) j None ≡ opened db 2 []) (sym same) (get_or-set_same server.sessions (client - 1) (opened db 2 []) None room)
+    set_at k below (inr differ) = get_or-set_other server.sessions (client - 1) k (opened db 2 []) None differ ∙ b.some k (under k count below (λ same. differ (omega (arith, same, place))))
 
-    open_at : (k : ℕ) → k < count + 1 → slice_index_or after.sessions k None ≡ opened db []
+    open_at : (k : ℕ) → k < count + 1 → slice_index_or after.sessions k None ≡ opened db 2 []
     open_at k below = ap (λ ss. slice_index_or ss k None) sessions ∙ set_at k below (same-or k (client - 1))
 
     own_at : (k : ℕ) (x : Seat) → (slice_get seats k ≡ Some x) ⊎ ((k ≡ length seats) × (seat ≡ x)) → IsSeat db limits (k + 1) x new_pair

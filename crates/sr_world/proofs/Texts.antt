@@ -59,10 +59,10 @@ other-given db session m queue result other same =
 
 pub is-given : (db : Database) (session : Option Session) (m : Message) (queue : List Message) (result : Result Tables Fault) → servers.Gives db m result → IsGiven db session m queue result
 is-given db session (Write number sql) queue result e = write-given db session number sql queue result e
-is-given db None (Hello n number) queue result e = other-given db None (Hello n number) queue result refl (λ r. refl)
-is-given db (Some s) (Hello n number) queue result e = other-given db (Some s) (Hello n number) queue result refl (λ r. refl)
-is-given db None (Resume n number version holdings) queue result e = other-given db None (Resume n number version holdings) queue result refl (λ r. refl)
-is-given db (Some s) (Resume n number version holdings) queue result e = other-given db (Some s) (Resume n number version holdings) queue result refl (λ r. refl)
+is-given db None (Hello w n number) queue result e = other-given db None (Hello w n number) queue result refl (λ r. refl)
+is-given db (Some s) (Hello w n number) queue result e = other-given db (Some s) (Hello w n number) queue result refl (λ r. refl)
+is-given db None (Resume w n number version holdings) queue result e = other-given db None (Resume w n number version holdings) queue result refl (λ r. refl)
+is-given db (Some s) (Resume w n number version holdings) queue result e = other-given db (Some s) (Resume w n number version holdings) queue result refl (λ r. refl)
 is-given db None (Ask number fresh parts) queue result e = other-given db None (Ask number fresh parts) queue result refl (λ r. refl)
 is-given db (Some s) (Ask number fresh parts) queue result e = other-given db (Some s) (Ask number fresh parts) queue result refl (λ r. refl)
 is-given db None (Welcome number version kept) queue result e = other-given db None (Welcome number version kept) queue result refl (λ r. refl)

@@ -1,5 +1,5 @@
 -- A new client over an honest link.
-use Rattle.std.proofs.Common.{[], ◌∷◌, ◌++◌, refl, sym, ap, subst, arith}
+use Rattle.std.proofs.Common.{false, [], ◌∷◌, ◌++◌, refl, sym, ap, subst, arith}
 use Rattle.sr_session.specs.Bases.{basis_of}
 use Rattle.sr_session.specs.Clients as session
 use Rattle.sr_session.specs.Headline.{KeepsToBudgets}
@@ -17,6 +17,10 @@ use Rattle.sr_talk.specs.Rounds.{at_rest}
 use Rattle.sr_dial.specs.Honest.{IsTrue}
 use Rattle.sr_dial.specs.Served.{HaveInputs}
 use Rattle.sr_dial.proofs.ServedLemmas.{served-calls-are-explained}
+use Rattle.sr_links.specs.Steps.{Resumed}
+use Rattle.sr_plan.specs.Plans.{plan_of}
+use Rattle.sr_dial.specs.Calls.{Do}
+use Rattle.sr_dial.proofs.HonestLemmas.{are-asked}
 use Rattle.sr_dial.proofs.TrueLemmas.{honest-runs-are-true}
 use Rattle.sr_calls.specs.ClientEnds.{IsEnd}
 use Rattle.sr_calls.specs.Honest.{NewHonestRunsAreTrue, ServedRunsAreTrue}
@@ -29,7 +33,8 @@ asks-keys schema c past tables (same, is) =
 
 pub new-honest-runs-are-true : NewHonestRunsAreTrue
 new-honest-runs-are-true id address schema limits s pieces lines script ended old new before after deeds run h =
-    honest-runs-are-true IsEnd (record { number = id; schema = schema; limits = limits }) s pieces (new_client id schema limits) new_past address lines script ended old new before after asks-keys (run.begins []).1.facts.tables rests keeps deeds run.ran h
+    honest-runs-are-true IsEnd (record { number = id; schema = schema; limits = limits; keeps = false }) s pieces (new_client id schema limits) new_past address (plan_of ((0, Do Resumed) ∷ script)) ended old new before after asks-keys
+    (run.begins []).1.facts.tables rests keeps (tt, λ answer. are-asked schema lines script deeds) run.ran h
   where
     rests : Rests IsEnd s.database (new_client id schema limits) new_past
     rests = record {

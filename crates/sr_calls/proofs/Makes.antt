@@ -18,7 +18,7 @@ use Rattle.sr_client.specs.Steps as client
 use Rattle.sr_client.specs.Steps.{Moves}
 use Rattle.sr_client.specs.declared.client.Client.{Client}
 use Rattle.sr_dial.specs.Known.{IsFrom, KeepsLink, Makes}
-use Rattle.sr_calls.specs.ClientEnds.{IsEnd, Stands, setting_of}
+use Rattle.sr_calls.specs.ClientEnds.{IsEnd, Stands, lent_by, setting_of}
 
 -- over a cut link nothing is out
 pub rests : (past : session.Client) (c : Client) → StandsFor past c → past.cut ≡ true → past.out ≡ None
@@ -71,7 +71,7 @@ module _ (old new : Client) (past : session.Client) (deed : Deed) (says : Outcom
       (does db m.outcome m.next both.0, (both.1.schema, both.1.client))
 
   pub makes : (lines : List TraceLine) (sent : List Message) → lines ≡ lines_of old.id deed m.outcome → sent ≡ sent_of m.outcome → KeepsLink deed (sent_of m.outcome) past m.next
-      → Makes Stands IsEnd (setting_of old) old new past deed lines sent
+      → Makes Stands lent_by IsEnd (setting_of old) old new past deed lines sent
   makes lines sent lines_are sent_is link = record {
     outcome = m.outcome;
     next = m.next;
@@ -81,13 +81,14 @@ module _ (old new : Client) (past : session.Client) (deed : Deed) (says : Outcom
     link = subst (λ ms. KeepsLink deed ms past m.next) (sym sent_is) link;
     waits = λ some. waits past m.next m.outcome m.link (λ none. some (sent_is ∙ none));
     rests = rests m.next new m.stands;
+    answers = refl;
     stands = m.stands;
     fair = fair;
   }
 
 -- what is refused by the client itself changes nothing
 pub refuses : (old : Client) (past : session.Client) (deed : Deed) (fault : Fault) (lines : List TraceLine) → StandsFor past old → lines ≡ lines_of old.id deed (QueryRefused fault) → KeepsLink deed [] past past
-    → ((db : Database) → Does (basis_of db old.store.limits) deed past (QueryRefused fault) past) → Makes Stands IsEnd (setting_of old) old old past deed lines []
+    → ((db : Database) → Does (basis_of db old.store.limits) deed past (QueryRefused fault) past) → Makes Stands lent_by IsEnd (setting_of old) old old past deed lines []
 refuses old past deed fault lines stands lines_are link does = record {
   outcome = QueryRefused fault;
   next = past;
@@ -97,6 +98,7 @@ refuses old past deed fault lines stands lines_are link does = record {
   link = link;
   waits = λ some. absurd (some refl);
   rests = rests past old stands;
+  answers = refl;
   stands = stands;
   fair = λ db sound within is come. (does db, is);
 }

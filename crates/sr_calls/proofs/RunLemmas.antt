@@ -1,6 +1,6 @@
 -- A run of a new client.
 use Rattle.std.proofs.Common.{◌≡◌, ℕ, ◌+◌, ◌≤◌, ◌<◌, true, List, length, refl, sym, subst, arith, None, Result}
-use Rattle.std.specs.Prelude.{◌*◌, ◌^◌, IfOk}
+use Rattle.std.specs.Prelude.{[], ◌∷◌, ◌*◌, ◌^◌, IfOk}
 use Rattle.std.specs.List.{list_all}
 use Rattle.std.proofs.lemmas.List.Elements.{All-nil}
 use Rattle.std.proofs.lemmas.Result.{IfOk-weaker}
@@ -11,7 +11,11 @@ use Rattle.sr_query.specs.Bound.{is_table}
 use Rattle.sr_reader.specs.declared.script.EventLine.{EventLine}
 use Rattle.sr_session.specs.Clients as session
 use Rattle.sr_store.specs.Told.{IsTrueOf, told_of}
-use Rattle.sr_dial.specs.Calls.{Task}
+use Rattle.sr_links.specs.Steps.{Resumed}
+use Rattle.sr_plan.specs.Plans.{Next, plan_of}
+use Rattle.sr_dial.specs.Calls.{Task, Do}
+use Rattle.sr_dial.specs.Following.{Ahead}
+use Rattle.sr_dial.specs.Jobs.{AreAhead}
 use Rattle.sr_client.specs.declared.client.Client.{Client}
 use Rattle.sr_client.specs.Stands.{new_client}
 use Rattle.sr_client.proofs.NewLemmas.{at_first, new-facts}
@@ -24,8 +28,8 @@ use Rattle.sr_calls.specs.Runs.{RanNew, new_past}
 -- what `run` says of a client
 abbrev pub Runs : {E : Type 0} → List Table → List EventLine → Result Ending E → Linking → Linking → Writing → Writing → List ℕ → Client → Type 0
 Runs {E} schema lines r old new before after address first =
-    (past : session.Client) (script : List (ℕ × Task)) → Stands first past → past.cut ≡ true → past.out ≡ None → AreTasks schema lines script
-    → IfOk r (λ ending. RanFairly Client IsEnd (setting_of first) first past address script ending old new before after)
+    (past : session.Client) (ahead : Ahead) → Stands first past → past.cut ≡ true → past.out ≡ None → AreAhead schema lines ahead
+    → IfOk r (λ ending. RanFairly Client IsEnd (setting_of first) first past address (Next 0 (Do Resumed) ahead) ending old new before after)
 
 pub ran_new : {E : Type 0} (id : ℕ) (address : List ℕ) (schema said : List Table) (limits : Limits) (lines : List EventLine) (first : Client) (r : Result Ending E) (old new : Linking) (before after : Writing) → list_all is_table schema ≡ true
     → first ≡ new_client id schema limits → said ≡ schema → Runs said lines r old new before after address first
@@ -33,9 +37,9 @@ pub ran_new : {E : Type 0} (id : ℕ) (address : List ℕ) (schema said : List T
 ran_new {E} id address schema said limits lines first r old new before after tables is said_is runs script are =
     let here = subst (Runs said lines r old new before after address) is runs in
     let facts = new-facts id schema limits tables in
-    IfOk-weaker r (λ ending. RanFairly Client IsEnd (setting_of (new_client id schema limits)) (new_client id schema limits) new_past address script ending old new before after) (λ ended. RanNew id address schema limits script ended old new before after)
+    IfOk-weaker r (λ ending. RanFairly Client IsEnd (setting_of (new_client id schema limits)) (new_client id schema limits) new_past address (plan_of ((0, Do Resumed) ∷ script)) ending old new before after) (λ ended. RanNew id address schema limits script ended old new before after)
     (λ ended ran. record { begins = λ rows. (refl, record { hidden = at_first; facts = facts; same = refl; are_true = All-nil (IsTrueOf (told_of rows)) }); ran = ran })
-    (here new_past script (at_first, facts, refl) refl refl (subst (λ (s : List Table). AreTasks s lines script) (sym said_is) are))
+    (here new_past (λ answer. plan_of script) (at_first, facts, refl) refl refl (record { tasks = script; are = subst (λ (s : List Table). AreTasks s lines script) (sym said_is) are; ahead_is = λ answer. refl }))
 
 -- a new client can draw enough numbers for all lines of a script
 pub room_for : (id : ℕ) (schema : List Table) (limits : Limits) (lines : List EventLine) → length lines < 2 ^ 32 → 2000004 * (length lines + 1) ≤ room_of (new_client id schema limits)

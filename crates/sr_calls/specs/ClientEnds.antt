@@ -1,5 +1,5 @@
 -- Which pasts a client stands for, and what it did.
-use Rattle.std.specs.Prelude.{ℕ, ◌-◌, ◌^◌, ◌≡◌, min, List}
+use Rattle.std.specs.Prelude.{ℕ, false, ◌-◌, ◌^◌, ◌≡◌, min, List, Option, None}
 use Rattle.sr_cell.specs.declared.table.Table.{Table}
 use Rattle.sr_model.specs.Statements.{Tables}
 use Rattle.sr_session.specs.Clients as session
@@ -9,6 +9,7 @@ use Rattle.sr_client.specs.Stands.{IsClient, StandsFor, drawn}
 use Rattle.sr_client.specs.declared.client.Client.{Client}
 use Rattle.sr_links.specs.Steps.{Deed}
 use Rattle.sr_dial.specs.Known.{Makes, Setting}
+use Rattle.sr_dial.specs.declared.parts.Answer.{Answer}
 use Rattle.sr_dial.specs.declared.parts.Told.{Told}
 
 -- It stands for some past, and the format has its number and its limits.
@@ -23,9 +24,13 @@ Stands c past = StandsFor past c
 abbrev pub IsEnd : List Table → Client → session.Client → Tables → Type 0
 IsEnd schema c past tables = (schema ≡ c.schema) × IsClient c past tables
 
--- what no step changes
+-- what no step changes; it keeps no answer
 abbrev pub setting_of : Client → Setting
-setting_of c = record { number = c.id; schema = c.schema; limits = c.store.limits }
+setting_of c = record { number = c.id; schema = c.schema; limits = c.store.limits; keeps = false }
+
+-- so it lends none
+abbrev pub lent_by : Client → Option Answer
+lent_by c = None
 
 -- how many numbers it can draw still, of queries and requests or of cuts
 abbrev pub room_of : Client → ℕ
@@ -33,4 +38,4 @@ room_of c = min (2 ^ 63 - 1 - drawn c) (2 ^ 63 - 1 - c.cuts)
 
 -- what it did, from this past, with these lines, and what was sent
 abbrev pub Did : Client → Client → session.Client → Deed → Told → Type 0
-Did old new past deed told = Makes Stands IsEnd (setting_of old) old new past deed told.lines told.sent
+Did old new past deed told = Makes Stands lent_by IsEnd (setting_of old) old new past deed told.lines told.sent

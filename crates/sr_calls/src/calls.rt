@@ -11,7 +11,7 @@ ghost use Rattle.sr_links.specs.Steps.{Deed, Evicted, Queried, Resumed, WasCut, 
 ghost use Rattle.sr_client.specs.Bound.{IsMeaning};
 ghost use Rattle.sr_explain.specs.Telling.{explain_lines};
 ghost use Rattle.sr_dial.specs.Known.{IsDeed, MaySend, TakesAs, Tells};
-ghost use Rattle.sr_calls.specs.ClientEnds.{Did, IsEnd, IsReady, Stands, room_of, setting_of};
+ghost use Rattle.sr_calls.specs.ClientEnds.{Did, IsEnd, IsReady, Stands, lent_by, room_of, setting_of};
 
 use sr_cell::fault::Fault;
 use sr_cell::list::{NoMemory, Seq};
@@ -201,7 +201,7 @@ fn unexplained(alloc: Global, client: u8, fault: Fault) -> Result<TraceLines, No
 pub(crate) fn take(alloc: Global, client: &mut Client, message: Message) -> Result<Came, NoMemory>
     requires ready { IsReady client.old }
     requires room { 2 ≤ room_of client.old }
-    ensures taken { (c : Past) → Stands client.old c → IfOk result (λ came. TakesAs came Stands IsEnd (setting_of client.old) client.old client.new c message) }
+    ensures taken { (c : Past) → Stands client.old c → IfOk result (λ came. TakesAs came Stands lent_by IsEnd (setting_of client.old) client.old client.new c message) }
     ensures sendable { IfOk result MaySend }
     ensures ready { IsReady client.new }
     ensures setting { setting_of client.new ≡ setting_of client.old }

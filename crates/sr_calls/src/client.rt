@@ -11,6 +11,7 @@ use crate::client_end::ClientEnd;
 use sr_cell::list::{Copied, NoMemory};
 use sr_cell::schema::Schema;
 use sr_dial::ending::Ending;
+use sr_dial::plans::Script;
 use sr_dial::run::run;
 use sr_io::outside::Host;
 use sr_policy::policy::Limits;
@@ -40,5 +41,6 @@ pub fn client<H: Host>(
 {
     let own = schema.copy(alloc)?;
     let mut end = ClientEnd::new(alloc, id, own, limits);
-    run(alloc, host, &mut end, schema.as_slice(), id, address, lines)
+    let mut script = Script::new(lines);
+    run(alloc, host, &mut end, schema.as_slice(), id, address, &mut script)
 }

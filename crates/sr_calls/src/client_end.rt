@@ -9,7 +9,7 @@ use sr_cell::fault::Fault;
 use sr_cell::list::NoMemory;
 use sr_cell::schema::Schema;
 use sr_client::client::Client;
-use sr_dial::parts::{Asks, Came, Told};
+use sr_dial::parts::{Answer, Asks, Came, Told};
 use sr_links::laws::Peer;
 use sr_message::message::Message;
 use sr_policy::policy::Limits;
@@ -59,16 +59,22 @@ impl Peer for ClientEnd {
 }
 
 impl Asks for ClientEnd {
-    ghost use Rattle.sr_calls.specs.ClientEnds.{Stands, room_of, setting_of};
+    ghost use Rattle.sr_calls.specs.ClientEnds.{Stands, lent_by, room_of, setting_of};
 
     ghost stands = { Stands };
 
     ghost setting = { setting_of };
 
+    ghost lent = { lent_by };
+
     ghost room = { room_of };
 
     fn is_waiting(&self) -> bool {
         self.client.is_waiting()
+    }
+
+    fn answer(&self) -> Option<&Answer> {
+        None
     }
 
     fn act(&mut self, alloc: Global, event: Event) -> Result<Told, NoMemory> {

@@ -21,6 +21,9 @@ use Rattle.sr_dial.proofs.ListLemmas.{all-one, any-one, calls-one, count-one, di
 use Rattle.sr_dial.proofs.CourseLemmas.{count-still, done_of, made-of, past-one, step_of, stepped-one}
 use Rattle.sr_dial.proofs.BrokenLemmas.{most-part, one-at-most}
 use Rattle.sr_dial.proofs.ToldLemmas.{still-other, still-same, told-first, told-more, told-none}
+use Rattle.sr_dial.specs.declared.parts.Answer.{Answer}
+use Rattle.sr_dial.specs.Following.{Ahead}
+use Rattle.sr_plan.specs.Plans.{Next}
 
 -- what a connection that has just been made has sent and taken
 told-fresh : (P : Connection → Type 0) (address bytes : List ℕ) (peers : Option (List (List ℕ))) → ((coming : List ℕ) → P (record { address = address; sent = bytes; taken = []; coming = coming }))
@@ -29,11 +32,11 @@ told-fresh P address bytes None each = tt
 told-fresh P address bytes (Some []) each = tt
 told-fresh P address bytes (Some (coming ∷ more)) each = each coming
 
-module _ (C : Type 0) (Stands : C → Client → Type 0) (IsOf : Standing C) (k : Setting) (s : Start C) where
+module _ (C : Type 0) (Stands : C → Client → Type 0) (lent : C → Option Answer) (IsOf : Standing C) (k : Setting) (s : Start C) where
   -- where the link is cut the present call is over
-  pub rests-of : (script : List (ℕ × Task)) (line came : ℕ) (failed : Bool) (l : Linking) (P : List ℕ → Type 0) (feed : List ℕ) (code : C) (h : At C Stands IsOf k s script line came failed l P feed code)
-      → (left_by s.past (h.course.earlier ++ h.course.call ∷ [])).cut ≡ true → Rests C Stands IsOf k s script line failed l P code
-  rests-of script line came failed l P feed code h down = record {
+  pub rests-of : (ahead : Ahead) (line came : ℕ) (failed : Bool) (l : Linking) (P : List ℕ → Type 0) (feed : List ℕ) (code : C) (h : At C Stands lent IsOf k s ahead line came failed l P feed code)
+      → (left_by s.past (h.course.earlier ++ h.course.call ∷ [])).cut ≡ true → Rests C Stands lent IsOf k s ahead line failed l P code
+  rests-of ahead line came failed l P feed code h down = record {
     calls = h.course.earlier ++ h.course.call ∷ [];
     are = calls-one s.past h.course.earlier h.course.call h.course.are h.course.is;
     carried = All-append (IsCarried false) h.course.earlier (h.course.call ∷ []) h.course.carried
@@ -49,20 +52,20 @@ module _ (C : Type 0) (Stands : C → Client → Type 0) (IsOf : Standing C) (k 
     cut = down;
   }
 
-  module _ (script : List (ℕ × Task)) (line number : ℕ) (failed : Bool) (P Q : List ℕ → Type 0) (l : Linking) (code new : C) (lines : List TraceLine) (sent : List Message)
-      (says : (texts : List ℕ) → P texts → Q (texts ++ flat_map (line_text k.schema number) lines)) (r : Rests C Stands IsOf k s script line failed l P code)
-      (m : Makes Stands IsOf k code new (left_by s.past r.calls) Resumed lines sent) (free : (left_by s.past r.calls).out ≡ None) (message : Message) (one : sent ≡ message ∷ []) where
+  module _ (ahead further : Ahead) (line number : ℕ) (failed : Bool) (P Q : List ℕ → Type 0) (l : Linking) (code new : C) (lines : List TraceLine) (sent : List Message)
+      (on : ahead (lent code) ≡ Next number (Do Resumed) further) (says : (texts : List ℕ) → P texts → Q (texts ++ flat_map (line_text k.schema number) lines)) (r : Rests C Stands lent IsOf k s ahead line failed l P code)
+      (m : Makes Stands lent IsOf k code new (left_by s.past r.calls) Resumed lines sent) (free : (left_by s.past r.calls).out ≡ None) (message : Message) (one : sent ≡ message ∷ []) where
     -- its next past is that of a link that is up
     next-up : m.next.cut ≡ false
     next-up = (subst (λ ms. Rattle.sr_dial.specs.Known.KeepsLink Resumed ms (left_by s.past r.calls) m.next) one m.link).1
 
     abbrev new_call : Bool → Option Connection → Call C
-    new_call connected told = record { number = number; first = step_of C Stands IsOf k s m; others = []; connected = connected; told = told; left = [] }
+    new_call connected told = record { number = number; first = step_of C Stands lent IsOf k s m; others = []; connected = connected; told = told; left = [] }
 
-    abbrev new_course : (connected : Bool) (told : Option Connection) → IfSome told (λ t. t.taken ≡ []) → IfSome told (λ t. t.address ≡ s.address) → IsToldIf s.linking.peers (new_call connected told) → Course C Stands IsOf k s (script ++ (number, Do Resumed) ∷ []) number 0 Q [] new
+    abbrev new_course : (connected : Bool) (told : Option Connection) → IfSome told (λ t. t.taken ≡ []) → IfSome told (λ t. t.address ≡ s.address) → IsToldIf s.linking.peers (new_call connected told) → Course C Stands lent IsOf k s further number 0 Q [] new
     new_course connected told taken dialled is_told = record {
       earlier = r.calls;
-      call = record { number = number; first = step_of C Stands IsOf k s m; others = []; connected = connected; told = told; left = [] };
+      call = record { number = number; first = step_of C Stands lent IsOf k s m; others = []; connected = connected; told = told; left = [] };
       are = r.are;
       is = record { first = refl; was_cut = r.cut; on_one = tt };
       carried = r.carried;
@@ -73,33 +76,33 @@ module _ (C : Type 0) (Stands : C → Client → Type 0) (IsOf : Standing C) (k 
       left = refl;
       some = λ none. absurd (let wrong : message ∷ [] ≡ [] = sym one ∙ (m.sent_is ∙ (sym (append-nil (sent_of m.outcome)) ∙ none)) in cc);
       taken = taken;
-      steps = subst (λ ds. Stepped C Stands IsOf k s (script ++ (number, Do Resumed) ∷ []) number 0 ds Q new)
-          (sym (all-one r.calls (record { number = number; first = step_of C Stands IsOf k s m; others = []; connected = connected; told = told; left = [] })))
-          (stepped-one C Stands IsOf k s script line r.came number Scripted P Q code new Resumed lines sent says (all_done r.calls) r.steps m free);
+      steps = subst (λ ds. Stepped C Stands lent IsOf k s further number 0 ds Q new)
+          (sym (all-one r.calls (record { number = number; first = step_of C Stands lent IsOf k s m; others = []; connected = connected; told = told; left = [] })))
+          (stepped-one C Stands lent IsOf k s ahead further line r.came number Scripted P Q code new Resumed lines sent on says (all_done r.calls) r.steps m free);
     }
 
-    sum : requests_of (step_of C Stands IsOf k s m ∷ []) ≡ sent
+    sum : requests_of (step_of C Stands lent IsOf k s m ∷ []) ≡ sent
     sum = append-nil (sent_of m.outcome) ∙ sym m.sent_is
 
     past-new : (connected : Bool) (told : Option Connection)
-        → left_by s.past (r.calls ++ record { number = number; first = step_of C Stands IsOf k s m; others = []; connected = connected; told = told; left = [] } ∷ []) ≡ m.next
+        → left_by s.past (r.calls ++ record { number = number; first = step_of C Stands lent IsOf k s m; others = []; connected = connected; told = told; left = [] } ∷ []) ≡ m.next
     past-new connected told =
-        ap (λ ds. past_after s.past (steps_in ds)) (all-one r.calls (record { number = number; first = step_of C Stands IsOf k s m; others = []; connected = connected; told = told; left = [] }))
-        ∙ past-one s.past (all_done r.calls) (done_of C Stands IsOf k s number Scripted m)
+        ap (λ ds. past_after s.past (steps_in ds)) (all-one r.calls (record { number = number; first = step_of C Stands lent IsOf k s m; others = []; connected = connected; told = told; left = [] }))
+        ∙ past-one s.past (all_done r.calls) (done_of C Stands lent IsOf k s number Scripted m)
 
     or-none : (b : Bool) → (b || false) ≡ b
     or-none true = refl
     or-none false = refl
 
     -- it dials, and its message is sent
-    pub begins : (new_l : Linking) → (l.peers ≡ Some [] → ⊥) → new_l ≡ sent_on (spelled sent) (connected_at (Some s.address) l) → At C Stands IsOf k s (script ++ (number, Do Resumed) ∷ []) number 0 failed new_l Q [] new
+    pub begins : (new_l : Linking) → (l.peers ≡ Some [] → ⊥) → new_l ≡ sent_on (spelled sent) (connected_at (Some s.address) l) → At C Stands lent IsOf k s further number 0 failed new_l Q [] new
     begins new_l more is =
         let before = r.faults in
         record {
           course = new_course true (option_map (sends (spelled sent)) (next_peer (Some s.address) l.peers)) (told-fresh (λ t. t.taken ≡ []) s.address (spelled sent) l.peers (λ coming. refl))
               (told-fresh (λ t. t.address ≡ s.address) s.address (spelled sent) l.peers (λ coming. refl))
               (told-first s.linking l s.address (sends (spelled sent)) (new_call true (option_map (sends (spelled sent)) (next_peer (Some s.address) l.peers))) refl refl more r.peers_stay);
-          sent = told-fresh (λ t. t.sent ≡ spelled (requests_of (step_of C Stands IsOf k s m ∷ []))) s.address (spelled sent) l.peers (λ coming. ap spelled (sym sum));
+          sent = told-fresh (λ t. t.sent ≡ spelled (requests_of (step_of C Stands lent IsOf k s m ∷ []))) s.address (spelled sent) l.peers (λ coming. ap spelled (sym sum));
           faults = subst (λ n. RoseBy s.linking.faults n new_l.faults) (sym (count-still r.calls (new_call true (option_map (sends (spelled sent)) (next_peer (Some s.address) l.peers))) refl))
               (subst (λ (x : Linking). RoseBy s.linking.faults (count_faults r.calls) x.faults) (sym is) before);
           there = subst (λ b. IsThere b r.calls (new_call true (option_map (sends (spelled sent)) (next_peer (Some s.address) l.peers))) s.linking new_l)
@@ -110,11 +113,11 @@ module _ (C : Type 0) (Stands : C → Client → Type 0) (IsOf : Standing C) (k 
         }
 
     not-free : (connected : Bool) (told : Option Connection)
-        → (left_by s.past (r.calls ++ record { number = number; first = step_of C Stands IsOf k s m; others = []; connected = connected; told = told; left = [] } ∷ [])).out ≢ None
+        → (left_by s.past (r.calls ++ record { number = number; first = step_of C Stands lent IsOf k s m; others = []; connected = connected; told = told; left = [] } ∷ [])).out ≢ None
     not-free connected told none = m.waits (λ no. absurd (let wrong : message ∷ [] ≡ [] = sym one ∙ no in cc)) (sym (ap (λ (c : Client). c.out) (past-new connected told)) ∙ none)
 
     -- nobody could be dialled
-    pub begin-fails : (new_l : Linking) → OnlyFaults l new_l → Rose l.faults new_l.faults → Broken C Stands IsOf k s (script ++ (number, Do Resumed) ∷ []) number new_l Q [] new
+    pub begin-fails : (new_l : Linking) → OnlyFaults l new_l → Rose l.faults new_l.faults → Broken C Stands lent IsOf k s further number new_l Q [] new
     begin-fails new_l only rose =
         let before = r.faults in
         record {
@@ -130,7 +133,7 @@ module _ (C : Type 0) (Stands : C → Client → Type 0) (IsOf : Standing C) (k 
         }
 
     -- the message is cut short
-    pub begin-breaks : (new_l : Linking) → (l.peers ≡ Some [] → ⊥) → SendsPart (connected_at (Some s.address) l) new_l (spelled sent) → Rose l.faults new_l.faults → Broken C Stands IsOf k s (script ++ (number, Do Resumed) ∷ []) number new_l Q [] new
+    pub begin-breaks : (new_l : Linking) → (l.peers ≡ Some [] → ⊥) → SendsPart (connected_at (Some s.address) l) new_l (spelled sent) → Rose l.faults new_l.faults → Broken C Stands lent IsOf k s further number new_l Q [] new
     begin-breaks new_l more part rose =
         let before = r.faults in
         let most = one-at-most (is_fault (new_call true (option_map (sends (take part.count (spelled sent))) (next_peer (Some s.address) l.peers)))) in
@@ -139,7 +142,7 @@ module _ (C : Type 0) (Stands : C → Client → Type 0) (IsOf : Standing C) (k 
           course = new_course true (option_map (sends (take part.count (spelled sent))) (next_peer (Some s.address) l.peers)) (told-fresh (λ t. t.taken ≡ []) s.address (take part.count (spelled sent)) l.peers (λ coming. refl))
               (told-fresh (λ t. t.address ≡ s.address) s.address (take part.count (spelled sent)) l.peers (λ coming. refl))
               (told-first s.linking l s.address (sends (take part.count (spelled sent))) (new_call true (option_map (sends (take part.count (spelled sent))) (next_peer (Some s.address) l.peers))) refl refl more r.peers_stay);
-          sent = told-fresh (λ t. SendsMost (requests_of (step_of C Stands IsOf k s m ∷ [])) t.sent) s.address (take part.count (spelled sent)) l.peers
+          sent = told-fresh (λ t. SendsMost (requests_of (step_of C Stands lent IsOf k s m ∷ [])) t.sent) s.address (take part.count (spelled sent)) l.peers
               (λ coming. subst (λ ms. SendsMost ms (take part.count (spelled sent))) (sym (sum ∙ one)) (subst (λ ms. SendsMost (message ∷ []) (take part.count (spelled ms))) (sym one) (most-part [] message part.count)));
           faults = omega (arith, before, rose, most);
           made = made-of false r.calls (new_call true (option_map (sends (take part.count (spelled sent))) (next_peer (Some s.address) l.peers))) s.linking new_l (part.sent.present, part.sent.past ∙ r.made, refl, refl);

@@ -17,7 +17,7 @@ use Rattle.sr_wire.specs.declared.wire_fault.WireFault.TheVariants.{Short}
 use Rattle.sr_wire.specs.Spelling.{spelling}
 use Rattle.sr_links.specs.Honest.{IsPrefix}
 use Rattle.sr_links.specs.Steps.{Step, Standing, Deed, StaysOn, WasCut, given_of, past_after, requests_of, taken_by}
-use Rattle.sr_dial.specs.Calls.{Call, Cause, Failed, Done, Task, all_done, calls_told, count_faults, done_in, fails, is_coming, is_failed, is_fault, is_short, line_of, one_if, steps_in, text_of}
+use Rattle.sr_dial.specs.Calls.{Call, Cause, Failed, Done, Task, all_done, calls_told, count_faults, done_in, fails, is_coming, is_failed, is_fault, is_short, one_if, steps_in, text_of}
 use Rattle.sr_talk.specs.Reading.{Reads}
 use Rattle.sr_talk.specs.Serving.{RoseBy, spelled}
 use Rattle.sr_talk.proofs.TalkLemmas.{spelled-append}
@@ -27,6 +27,9 @@ use Rattle.sr_dial.specs.Courses.{At, Broken, Free, IsThere, Start, Stepped}
 use Rattle.sr_dial.proofs.ListLemmas.{all-one, any-one, count-one, fails-one, told-one}
 use Rattle.sr_dial.proofs.CourseLemmas.{course-one, done_of, given-step, made-of, map-told, weaken-told, or-no, past-step, requests-step, with_step, count-still}
 use Rattle.sr_dial.proofs.ToldLemmas.{still-same, told-on, told-same}
+use Rattle.sr_dial.specs.declared.parts.Answer.{Answer}
+use Rattle.sr_dial.specs.Following.{Ahead}
+use Rattle.sr_dial.proofs.PlanLemmas.{GoesOn}
 
 -- ---- messages that are sent
 
@@ -85,11 +88,11 @@ pub or-yes : (a : Bool) → (a || true) ≡ true
 or-yes true = refl
 or-yes false = refl
 
-module _ (C : Type 0) (Stands : C → Client → Type 0) (IsOf : Standing C) (k : Setting) (s : Start C) where
+module _ (C : Type 0) (Stands : C → Client → Type 0) (lent : C → Option Answer) (IsOf : Standing C) (k : Setting) (s : Start C) where
   -- ---- bytes that are taken
 
   -- behind what was left these bytes came
-  module _ (script : List (ℕ × Task)) (line came : ℕ) (failed : Bool) (l new_l : Linking) (P : List ℕ → Type 0) (feed frame after : List ℕ) (code : C) (h : At C Stands IsOf k s script line came failed l P feed code)
+  module _ (ahead : Ahead) (line came : ℕ) (failed : Bool) (l new_l : Linking) (P : List ℕ → Type 0) (feed frame after : List ℕ) (code : C) (h : At C Stands lent IsOf k s ahead line came failed l P feed code)
       (up : (left_by s.past (h.course.earlier ++ h.course.call ∷ [])).cut ≡ false) (r : Reads l new_l feed frame after) where
     abbrev read_call : Call C
     read_call = record { number = h.course.call.number; first = h.course.call.first; others = h.course.call.others; connected = h.course.call.connected; told = option_map (takes r.bytes) h.course.call.told; left = frame ++ after }
@@ -98,7 +101,7 @@ module _ (C : Type 0) (Stands : C → Client → Type 0) (IsOf : Standing C) (k 
         ≡ all_done (h.course.earlier ++ h.course.call ∷ [])
     all-same = all-one h.course.earlier read_call ∙ sym (all-one h.course.earlier h.course.call)
 
-    abbrev pub at-read : At C Stands IsOf k s script line came failed new_l P (frame ++ after) code
+    abbrev pub at-read : At C Stands lent IsOf k s ahead line came failed new_l P (frame ++ after) code
     at-read =
         let there = subst (λ b. IsThere b h.course.earlier h.course.call s.linking l) up h.there in
         let before = h.faults in
@@ -119,7 +122,7 @@ module _ (C : Type 0) (Stands : C → Client → Type 0) (IsOf : Standing C) (k 
                 (λ t. t.taken ≡ spelled (given_of (steps_in (done_in h.course.call))) ++ (frame ++ after)) h.course.call.told
                 (λ t e. ap (λ x. x ++ r.bytes) e ∙ (append_assoc (spelled (given_of (steps_in (done_in h.course.call)))) h.course.call.left r.bytes
                 ∙ ap (λ x. spelled (given_of (steps_in (done_in h.course.call))) ++ x) (ap (λ x. x ++ r.bytes) h.course.left ∙ r.cut))) h.course.taken;
-            steps = subst (λ ds. Stepped C Stands IsOf k s script line came ds P code) (sym all-same) h.course.steps;
+            steps = subst (λ ds. Stepped C Stands lent IsOf k s ahead line came ds P code) (sym all-same) h.course.steps;
           };
           sent = map-told (takes r.bytes) (λ t. SentAs (fails h.course.call) (requests_of (steps_in (done_in h.course.call))) t.sent)
               (λ t. SentAs (fails h.course.call) (requests_of (steps_in (done_in h.course.call))) t.sent) h.course.call.told (λ t e. e) h.sent;
@@ -137,7 +140,7 @@ module _ (C : Type 0) (Stands : C → Client → Type 0) (IsOf : Standing C) (k 
 
   -- ---- the link fails while a request is out
 
-  module _ (script : List (ℕ × Task)) (line came : ℕ) (failed : Bool) (l : Linking) (P : List ℕ → Type 0) (feed : List ℕ) (code : C) (h : At C Stands IsOf k s script line came failed l P feed code)
+  module _ (ahead : Ahead) (line came : ℕ) (failed : Bool) (l : Linking) (P : List ℕ → Type 0) (feed : List ℕ) (code : C) (h : At C Stands lent IsOf k s ahead line came failed l P feed code)
       (up : (left_by s.past (h.course.earlier ++ h.course.call ∷ [])).cut ≡ false) (out : (left_by s.past (h.course.earlier ++ h.course.call ∷ [])).out ≢ None) where
     whole-sent : fails h.course.call ≡ false → IfSome h.course.call.told (λ t. SendsMost (requests_of (steps_in (done_in h.course.call))) t.sent)
     whole-sent none =
@@ -146,7 +149,7 @@ module _ (C : Type 0) (Stands : C → Client → Type 0) (IsOf : Standing C) (k 
         (most-all (requests_of (steps_in (done_in h.course.call))) h.course.some)) h.sent
 
     -- a fault is counted
-    pub fault-breaks : (new_l : Linking) → OnlyFaults l new_l → Rose l.faults new_l.faults → Broken C Stands IsOf k s script line new_l P feed code
+    pub fault-breaks : (new_l : Linking) → OnlyFaults l new_l → Rose l.faults new_l.faults → Broken C Stands lent IsOf k s ahead line new_l P feed code
     fault-breaks new_l only rose =
         let there = subst (λ b. IsThere b h.course.earlier h.course.call s.linking l) up h.there in
         let before = h.faults in
@@ -168,7 +171,7 @@ module _ (C : Type 0) (Stands : C → Client → Type 0) (IsOf : Standing C) (k 
     not-coming (Some t) over = ap (λ (x : List ℕ). Rattle.std.specs.Prelude.nat_lt 0 (length x)) over
 
     -- the peer says no more
-    pub end-breaks : IsOver l.present → decoded feed ≡ Faulty Short → Broken C Stands IsOf k s script line l P feed code
+    pub end-breaks : IsOver l.present → decoded feed ≡ Faulty Short → Broken C Stands lent IsOf k s ahead line l P feed code
     end-breaks over short =
         let there = subst (λ b. IsThere b h.course.earlier h.course.call s.linking l) up h.there in
         let before = h.faults in
@@ -186,44 +189,44 @@ module _ (C : Type 0) (Stands : C → Client → Type 0) (IsOf : Standing C) (k 
           peers_stay = h.peers_stay;
         }
 
-  module _ (script : List (ℕ × Task)) (line came number : ℕ) (cause : Cause) (P Q : List ℕ → Type 0) (code new : C) (deed : Deed) (lines : List TraceLine) (sent : List Message)
-      (says : (texts : List ℕ) → P texts → Q (texts ++ flat_map (line_text k.schema number) lines)) where
+  module _ (ahead further : Ahead) (line came number : ℕ) (cause : Cause) (P Q : List ℕ → Type 0) (code new : C) (deed : Deed) (lines : List TraceLine) (sent : List Message)
+      (on : GoesOn cause ahead (lent code) number deed further) (says : (texts : List ℕ) → P texts → Q (texts ++ flat_map (line_text k.schema number) lines)) where
     -- a request is cut short
-    pub send-breaks : (failed : Bool) (l new_l : Linking) (feed left : List ℕ) (h : At C Stands IsOf k s script line came failed l P feed code)
-        (m : Makes Stands IsOf k code new (left_by s.past (h.course.earlier ++ h.course.call ∷ [])) deed lines sent)
+    pub send-breaks : (failed : Bool) (l new_l : Linking) (feed left : List ℕ) (h : At C Stands lent IsOf k s ahead line came failed l P feed code)
+        (m : Makes Stands lent IsOf k code new (left_by s.past (h.course.earlier ++ h.course.call ∷ [])) deed lines sent)
         → IsInPlace k.schema cause line number deed (left_by s.past (h.course.earlier ++ h.course.call ∷ [])) → StaysOn (left_by s.past (h.course.earlier ++ h.course.call ∷ [])) deed
         → is_failed cause ≡ false → (left_by s.past (h.course.earlier ++ h.course.call ∷ [])).cut ≡ false → feed ≡ spelled (taken_by deed) ++ left
-        → SendsPart l new_l (spelled sent) → Rose l.faults new_l.faults → Broken C Stands IsOf k s (script ++ line_of cause number deed) number new_l Q left new
+        → SendsPart l new_l (spelled sent) → Rose l.faults new_l.faults → Broken C Stands lent IsOf k s further number new_l Q left new
     send-breaks failed l new_l feed left h m place stays not_failed up fed part rose = by (one-sent m.outcome)
       where
-        by : (sent_of m.outcome ≡ []) ⊎ ((x : Message) × (sent_of m.outcome ≡ x ∷ [])) → Broken C Stands IsOf k s (script ++ line_of cause number deed) number new_l Q left new
+        by : (sent_of m.outcome ≡ []) ⊎ ((x : Message) × (sent_of m.outcome ≡ x ∷ [])) → Broken C Stands lent IsOf k s further number new_l Q left new
         by (inl none) = absurd (let fewer = part.fewer in let zero_is : length (spelled sent) ≡ 0 = ap (λ ms. length (spelled ms)) (m.sent_is ∙ none) in omega (arith, fewer, zero_is))
         by (inr (x, one)) =
             let there = subst (λ b. IsThere b h.course.earlier h.course.call s.linking l) up h.there in
             let bytes : List ℕ = take part.count (spelled sent) in
             let told : Option Connection = option_map (sends (take part.count (spelled sent))) h.course.call.told in
-            let fails-no : fails (with_step h.course.call (done_of C Stands IsOf k s number cause m) (option_map (sends (take part.count (spelled sent))) h.course.call.told) left) ≡ false =
-            fails-one h.course.call.others (done_of C Stands IsOf k s number cause m) ∙ (or-no (fails h.course.call) (is_failed cause) not_failed ∙ there.2) in
+            let fails-no : fails (with_step h.course.call (done_of C Stands lent IsOf k s number cause m) (option_map (sends (take part.count (spelled sent))) h.course.call.told) left) ≡ false =
+            fails-one h.course.call.others (done_of C Stands lent IsOf k s number cause m) ∙ (or-no (fails h.course.call) (is_failed cause) not_failed ∙ there.2) in
             let same : sent ≡ x ∷ [] = m.sent_is ∙ one in
-            let sum : requests_of (steps_in (done_in (with_step h.course.call (done_of C Stands IsOf k s number cause m) (option_map (sends (take part.count (spelled sent))) h.course.call.told) left)))
+            let sum : requests_of (steps_in (done_in (with_step h.course.call (done_of C Stands lent IsOf k s number cause m) (option_map (sends (take part.count (spelled sent))) h.course.call.told) left)))
             ≡ requests_of (steps_in (done_in h.course.call)) ++ x ∷ [] =
-            requests-step h.course.call (done_of C Stands IsOf k s number cause m) (option_map (sends (take part.count (spelled sent))) h.course.call.told) left
+            requests-step h.course.call (done_of C Stands lent IsOf k s number cause m) (option_map (sends (take part.count (spelled sent))) h.course.call.told) left
             ∙ ap (λ ms. requests_of (steps_in (done_in h.course.call)) ++ ms) one in
             let before = h.faults in
             let none = count-still h.course.earlier h.course.call there.2 in
-            let most = one-at-most (is_fault (with_step h.course.call (done_of C Stands IsOf k s number cause m) (option_map (sends (take part.count (spelled sent))) h.course.call.told) left)) in
+            let most = one-at-most (is_fault (with_step h.course.call (done_of C Stands lent IsOf k s number cause m) (option_map (sends (take part.count (spelled sent))) h.course.call.told) left)) in
             record {
               came = more_taken cause came;
-              course = course-one C Stands IsOf k s script line came number cause P Q code new deed lines sent says feed left left refl (option_map (sends (take part.count (spelled sent))) h.course.call.told) h.course m place stays
+              course = course-one C Stands lent IsOf k s ahead further line came number cause P Q code new deed lines sent on says feed left left refl (option_map (sends (take part.count (spelled sent))) h.course.call.told) h.course m place stays
                   (map-told (sends (take part.count (spelled sent))) (λ t. t.taken ≡ spelled (given_of (steps_in (done_in h.course.call))) ++ h.course.call.left)
                   (λ t. t.taken ≡ spelled (given_of (steps_in (done_in h.course.call)) ++ taken_by deed) ++ left) h.course.call.told
                   (λ t e. e ∙ (ap (λ x. spelled (given_of (steps_in (done_in h.course.call))) ++ x) (h.course.left ∙ fed)
                   ∙ (sym (append_assoc (spelled (given_of (steps_in (done_in h.course.call)))) (spelled (taken_by deed)) left)
                   ∙ ap (λ x. x ++ left) (sym (spelled-append (given_of (steps_in (done_in h.course.call))) (taken_by deed)))))) h.course.taken)
                   (map-told (sends (take part.count (spelled sent))) (λ t. t.address ≡ s.address) (λ t. t.address ≡ s.address) h.course.call.told (λ t e. e) h.course.dialled)
-                  (told-on s.linking.peers h.course.call (with_step h.course.call (done_of C Stands IsOf k s number cause m) (option_map (sends (take part.count (spelled sent))) h.course.call.told) left) (sends (take part.count (spelled sent))) there.3 refl refl h.course.is_told);
+                  (told-on s.linking.peers h.course.call (with_step h.course.call (done_of C Stands lent IsOf k s number cause m) (option_map (sends (take part.count (spelled sent))) h.course.call.told) left) (sends (take part.count (spelled sent))) there.3 refl refl h.course.is_told);
               sent = map-told (sends (take part.count (spelled sent))) (λ t. SentAs (fails h.course.call) (requests_of (steps_in (done_in h.course.call))) t.sent)
-                  (λ t. SendsMost (requests_of (steps_in (done_in (with_step h.course.call (done_of C Stands IsOf k s number cause m) (option_map (sends (take part.count (spelled sent))) h.course.call.told) left)))) t.sent)
+                  (λ t. SendsMost (requests_of (steps_in (done_in (with_step h.course.call (done_of C Stands lent IsOf k s number cause m) (option_map (sends (take part.count (spelled sent))) h.course.call.told) left)))) t.sent)
                   h.course.call.told
                   (λ t e.
                   let was : t.sent ≡ spelled (requests_of (steps_in (done_in h.course.call))) = subst (λ b. SentAs b (requests_of (steps_in (done_in h.course.call))) t.sent) there.2 e in
@@ -231,54 +234,54 @@ module _ (C : Type 0) (Stands : C → Client → Type 0) (IsOf : Standing C) (k 
                   (subst (λ ms. SendsMost (requests_of (steps_in (done_in h.course.call)) ++ x ∷ []) (t.sent ++ take part.count (spelled ms))) (sym same)
                   (subst (λ b. SendsMost (requests_of (steps_in (done_in h.course.call)) ++ x ∷ []) (b ++ take part.count (spelled (x ∷ [])))) (sym was) (most-part (requests_of (steps_in (done_in h.course.call))) x part.count)))) h.sent;
               faults = omega (arith, before, rose, none, most);
-              made = made-of false h.course.earlier (with_step h.course.call (done_of C Stands IsOf k s number cause m) (option_map (sends (take part.count (spelled sent))) h.course.call.told) left) s.linking new_l
+              made = made-of false h.course.earlier (with_step h.course.call (done_of C Stands lent IsOf k s number cause m) (option_map (sends (take part.count (spelled sent))) h.course.call.told) left) s.linking new_l
                   (part.sent.present ∙ ap (option_map (sends (take part.count (spelled sent)))) there.0, part.sent.past ∙ there.1, fails-no, there.3);
               out = λ none_out. m.waits (λ no. absurd (let wrong : x ∷ [] ≡ [] = sym same ∙ no in cc))
-                  (sym (ap (λ (c : Client). c.out) (past-step s.past h.course.earlier h.course.call (done_of C Stands IsOf k s number cause m) (option_map (sends (take part.count (spelled sent))) h.course.call.told) left)) ∙ none_out);
+                  (sym (ap (λ (c : Client). c.out) (past-step s.past h.course.earlier h.course.call (done_of C Stands lent IsOf k s number cause m) (option_map (sends (take part.count (spelled sent))) h.course.call.told) left)) ∙ none_out);
               not_yet = fails-no;
               peers_stay = still-same s.linking l new_l part.sent.peers h.peers_stay;
             }
 
   -- ---- the client is cut, and the connection given up
 
-  pub fail-ends : (script : List (ℕ × Task)) (line : ℕ) (P Q : List ℕ → Type 0) (l : Linking) (feed : List ℕ) (code new : C) (lines : List TraceLine)
-      → ((texts : List ℕ) → P texts → Q (texts ++ flat_map (line_text k.schema line) lines)) → (b : Broken C Stands IsOf k s script line l P feed code)
-      → Makes Stands IsOf k code new (left_by s.past (b.course.earlier ++ b.course.call ∷ [])) WasCut lines []
-      → Free C Stands IsOf k s (script ++ []) line true (hung_up l) Q feed new
-  fail-ends script line P Q l feed code new lines says b m =
+  pub fail-ends : (ahead : Ahead) (line : ℕ) (P Q : List ℕ → Type 0) (l : Linking) (feed : List ℕ) (code new : C) (lines : List TraceLine)
+      → ((texts : List ℕ) → P texts → Q (texts ++ flat_map (line_text k.schema line) lines)) → (b : Broken C Stands lent IsOf k s ahead line l P feed code)
+      → Makes Stands lent IsOf k code new (left_by s.past (b.course.earlier ++ b.course.call ∷ [])) WasCut lines []
+      → Free C Stands lent IsOf k s ahead line true (hung_up l) Q feed new
+  fail-ends ahead line P Q l feed code new lines says b m =
       let E : List (Call C) = b.course.earlier in
-      let fails-yes : fails (with_step b.course.call (done_of C Stands IsOf k s line Failed m) b.course.call.told b.course.call.left) ≡ true =
-      fails-one b.course.call.others (done_of C Stands IsOf k s line Failed m) ∙ or-yes (fails b.course.call) in
-      let sum : requests_of (steps_in (done_in (with_step b.course.call (done_of C Stands IsOf k s line Failed m) b.course.call.told b.course.call.left))) ≡ requests_of (steps_in (done_in b.course.call)) =
-      requests-step b.course.call (done_of C Stands IsOf k s line Failed m) b.course.call.told b.course.call.left
+      let fails-yes : fails (with_step b.course.call (done_of C Stands lent IsOf k s line Failed m) b.course.call.told b.course.call.left) ≡ true =
+      fails-one b.course.call.others (done_of C Stands lent IsOf k s line Failed m) ∙ or-yes (fails b.course.call) in
+      let sum : requests_of (steps_in (done_in (with_step b.course.call (done_of C Stands lent IsOf k s line Failed m) b.course.call.told b.course.call.left))) ≡ requests_of (steps_in (done_in b.course.call)) =
+      requests-step b.course.call (done_of C Stands lent IsOf k s line Failed m) b.course.call.told b.course.call.left
       ∙ (ap (λ ms. requests_of (steps_in (done_in b.course.call)) ++ ms) (sym m.sent_is) ∙ append-nil (requests_of (steps_in (done_in b.course.call)))) in
       let before = b.faults in
-      let count : count_faults (b.course.earlier ++ with_step b.course.call (done_of C Stands IsOf k s line Failed m) b.course.call.told b.course.call.left ∷ []) ≡ count_faults b.course.earlier + one_if (is_fault b.course.call) =
-      count-one b.course.earlier (with_step b.course.call (done_of C Stands IsOf k s line Failed m) b.course.call.told b.course.call.left)
+      let count : count_faults (b.course.earlier ++ with_step b.course.call (done_of C Stands lent IsOf k s line Failed m) b.course.call.told b.course.call.left ∷ []) ≡ count_faults b.course.earlier + one_if (is_fault b.course.call) =
+      count-one b.course.earlier (with_step b.course.call (done_of C Stands lent IsOf k s line Failed m) b.course.call.told b.course.call.left)
       ∙ ap (λ y. count_faults b.course.earlier + one_if (y && is_fault b.course.call)) fails-yes in
       record {
         came = 0;
         at = record {
-          course = course-one C Stands IsOf k s script line b.came line Failed P Q code new WasCut lines [] says feed b.course.call.left feed b.course.left b.course.call.told b.course m (refl, b.out) tt
+          course = course-one C Stands lent IsOf k s ahead ahead line b.came line Failed P Q code new WasCut lines [] refl says feed b.course.call.left feed b.course.left b.course.call.told b.course m (refl, b.out) tt
               (weaken-told (λ t. t.taken ≡ spelled (given_of (steps_in (done_in b.course.call))) ++ b.course.call.left)
               (λ t. t.taken ≡ spelled (given_of (steps_in (done_in b.course.call)) ++ []) ++ b.course.call.left) b.course.call.told
               (λ t e. e ∙ ap (λ ms. spelled ms ++ b.course.call.left) (sym (append-nil (given_of (steps_in (done_in b.course.call)))))) b.course.taken)
               b.course.dialled
-              (told-same s.linking.peers b.course.call (with_step b.course.call (done_of C Stands IsOf k s line Failed m) b.course.call.told b.course.call.left) refl
-              (given-step b.course.call (done_of C Stands IsOf k s line Failed m) b.course.call.told b.course.call.left ∙ append-nil (given_of (steps_in (done_in b.course.call)))) refl refl b.course.is_told);
+              (told-same s.linking.peers b.course.call (with_step b.course.call (done_of C Stands lent IsOf k s line Failed m) b.course.call.told b.course.call.left) refl
+              (given-step b.course.call (done_of C Stands lent IsOf k s line Failed m) b.course.call.told b.course.call.left ∙ append-nil (given_of (steps_in (done_in b.course.call)))) refl refl b.course.is_told);
           sent = weaken-told (λ t. SendsMost (requests_of (steps_in (done_in b.course.call))) t.sent)
-              (λ t. SentAs (fails (with_step b.course.call (done_of C Stands IsOf k s line Failed m) b.course.call.told b.course.call.left))
-              (requests_of (steps_in (done_in (with_step b.course.call (done_of C Stands IsOf k s line Failed m) b.course.call.told b.course.call.left)))) t.sent) b.course.call.told
-              (λ t e. subst (λ y. SentAs y (requests_of (steps_in (done_in (with_step b.course.call (done_of C Stands IsOf k s line Failed m) b.course.call.told b.course.call.left)))) t.sent) (sym fails-yes)
+              (λ t. SentAs (fails (with_step b.course.call (done_of C Stands lent IsOf k s line Failed m) b.course.call.told b.course.call.left))
+              (requests_of (steps_in (done_in (with_step b.course.call (done_of C Stands lent IsOf k s line Failed m) b.course.call.told b.course.call.left)))) t.sent) b.course.call.told
+              (λ t e. subst (λ y. SentAs y (requests_of (steps_in (done_in (with_step b.course.call (done_of C Stands lent IsOf k s line Failed m) b.course.call.told b.course.call.left)))) t.sent) (sym fails-yes)
               (subst (λ ms. SendsMost ms t.sent) (sym sum) e)) b.sent;
           faults = subst (λ n. RoseBy s.linking.faults n l.faults) (sym count) before;
-          there = subst (λ y. IsThere y b.course.earlier (with_step b.course.call (done_of C Stands IsOf k s line Failed m) b.course.call.told b.course.call.left) s.linking (hung_up l))
-              (sym (ap (λ (c : Client). c.cut) (past-step s.past b.course.earlier b.course.call (done_of C Stands IsOf k s line Failed m) b.course.call.told b.course.call.left) ∙ m.link.0))
+          there = subst (λ y. IsThere y b.course.earlier (with_step b.course.call (done_of C Stands lent IsOf k s line Failed m) b.course.call.told b.course.call.left) s.linking (hung_up l))
+              (sym (ap (λ (c : Client). c.cut) (past-step s.past b.course.earlier b.course.call (done_of C Stands lent IsOf k s line Failed m) b.course.call.told b.course.call.left) ∙ m.link.0))
               (append-nil (connections l) ∙ (b.made
-              ∙ ap (λ x. connections s.linking ++ x) (told-one b.course.earlier b.course.call ∙ sym (told-one b.course.earlier (with_step b.course.call (done_of C Stands IsOf k s line Failed m) b.course.call.told b.course.call.left)))));
-          failed_is = any-one b.course.earlier (with_step b.course.call (done_of C Stands IsOf k s line Failed m) b.course.call.told b.course.call.left)
+              ∙ ap (λ x. connections s.linking ++ x) (told-one b.course.earlier b.course.call ∙ sym (told-one b.course.earlier (with_step b.course.call (done_of C Stands lent IsOf k s line Failed m) b.course.call.told b.course.call.left)))));
+          failed_is = any-one b.course.earlier (with_step b.course.call (done_of C Stands lent IsOf k s line Failed m) b.course.call.told b.course.call.left)
               ∙ (ap (λ y. list_any fails b.course.earlier || y) fails-yes ∙ or-yes (list_any fails b.course.earlier));
           peers_stay = b.peers_stay;
         };
-        free = ap (λ (c : Client). c.out) (past-step s.past b.course.earlier b.course.call (done_of C Stands IsOf k s line Failed m) b.course.call.told b.course.call.left) ∙ m.rests m.link.0;
+        free = ap (λ (c : Client). c.out) (past-step s.past b.course.earlier b.course.call (done_of C Stands lent IsOf k s line Failed m) b.course.call.told b.course.call.left) ∙ m.rests m.link.0;
       }

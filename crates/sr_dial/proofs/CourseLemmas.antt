@@ -11,14 +11,17 @@ use Rattle.sr_script.specs.TraceText.{line_text}
 use Rattle.sr_session.specs.Clients.{Client}
 use Rattle.sr_session.specs.Rules.{sent_of}
 use Rattle.sr_links.specs.Steps.{Step, Standing, Deed, IsFair, AreFair, OnOne, StaysOn, code_after, given_of, past_after, requests_of, taken_by}
-use Rattle.sr_dial.specs.Calls.{Call, Cause, Done, Made, Explained, Task, all_done, calls_told, count_faults, done_in, fails, is_failed, is_fault, line_of, lines_done, lines_of, one_if, steps_in, text_of}
+use Rattle.sr_dial.specs.Calls.{Call, Cause, Done, Made, Explained, Said, all_done, calls_told, count_faults, done_in, fails, is_failed, is_fault, lines_of, one_if, steps_in, text_of}
 use Rattle.sr_talk.specs.Serving.{RoseBy, spelled}
 use Rattle.sr_talk.proofs.TalkLemmas.{spelled-append}
 use Rattle.sr_dial.specs.Known.{IsFrom, Setting, Makes}
 use Rattle.sr_dial.specs.Runs.{IsCarried, IsInPlace, IsToldIf, SentAs, left_by, more_taken}
 use Rattle.sr_dial.specs.Courses.{At, Course, IsCall, IsThere, Start, Stepped, line_after}
-use Rattle.sr_dial.proofs.ListLemmas.{all-one, any-one, code-append, count-one, explained-append, fails-one, fair-append, given-append, line-append, lines-append, on-append, past-append, place-append, requests-append, steps-append, taken-append, told-one}
+use Rattle.sr_dial.proofs.ListLemmas.{all-one, any-one, code-append, count-one, explained-append, fails-one, fair-append, given-append, line-append, on-append, past-append, place-append, requests-append, steps-append, taken-append, told-one}
 use Rattle.sr_dial.proofs.ToldLemmas.{still-same, told-on, told-same}
+use Rattle.sr_dial.specs.declared.parts.Answer.{Answer}
+use Rattle.sr_dial.specs.Following.{Ahead}
+use Rattle.sr_dial.proofs.PlanLemmas.{GoesOn, made-ahead, made-answer, made-goes}
 
 -- what is so of a connection is so, changed, of what a link tells of it
 pub map-told : (f : Connection → Connection) (P Q : Connection → Type 0) (told : Option Connection) → ((t : Connection) → P t → Q (f t)) → IfSome told P → IfSome (option_map f told) Q
@@ -45,14 +48,17 @@ with_step {C} call d told left = record { number = call.number; first = call.fir
 abbrev pub past_by : {C : Type 0} → Client → Done C → Client
 past_by {C} c (Made number cause step) = step.past
 past_by {C} c (Explained number text result) = c
+past_by {C} c (Said number text) = c
 
 abbrev pub given_by : {C : Type 0} → Done C → List Message
 given_by {C} (Made number cause step) = taken_by step.deed
 given_by {C} (Explained number text result) = []
+given_by {C} (Said number text) = []
 
 abbrev pub sent_by : {C : Type 0} → Done C → List Message
 sent_by {C} (Made number cause step) = sent_of step.outcome
 sent_by {C} (Explained number text result) = []
+sent_by {C} (Said number text) = []
 
 module _ {C : Type 0} where
   pub all-step : (E : List (Call C)) (call : Call C) (d : Done C) (told : Option Connection) (left : List ℕ) → all_done (E ++ with_step call d told left ∷ []) ≡ all_done (E ++ call ∷ []) ++ d ∷ []
@@ -66,6 +72,7 @@ module _ {C : Type 0} where
       by : (d : Done C) → past_after (past_after c (steps_in ds)) (steps_in (d ∷ [])) ≡ past_by (past_after c (steps_in ds)) d
       by (Made number cause step) = refl
       by (Explained number text result) = refl
+      by (Said number text) = refl
 
   pub past-step : (c : Client) (E : List (Call C)) (call : Call C) (d : Done C) (told : Option Connection) (left : List ℕ) → left_by c (E ++ with_step call d told left ∷ []) ≡ past_by (left_by c (E ++ call ∷ [])) d
   past-step c E call d told left = ap (λ ds. past_after c (steps_in ds)) (all-step E call d told left) ∙ past-one c (all_done (E ++ call ∷ [])) d
@@ -82,6 +89,7 @@ module _ {C : Type 0} where
       by : (d : Done C) → given_of (steps_in (d ∷ [])) ≡ given_by d
       by (Made number cause step) = append-nil (taken_by step.deed)
       by (Explained number text result) = refl
+      by (Said number text) = refl
 
   pub requests-step : (call : Call C) (d : Done C) (told : Option Connection) (left : List ℕ)
       → requests_of (steps_in (done_in (with_step call d told left))) ≡ requests_of (steps_in (done_in call)) ++ sent_by d
@@ -92,6 +100,7 @@ module _ {C : Type 0} where
       by : (d : Done C) → requests_of (steps_in (d ∷ [])) ≡ sent_by d
       by (Made number cause step) = append-nil (sent_of step.outcome)
       by (Explained number text result) = refl
+      by (Said number text) = refl
 
   -- where a call did not fail, no fault is counted of it
   pub count-still : (E : List (Call C)) (call : Call C) → fails call ≡ false → count_faults (E ++ call ∷ []) ≡ count_faults E
@@ -105,19 +114,19 @@ module _ {C : Type 0} where
       ∙ (ap (λ x. x ++ option_to_list call.told) past
       ∙ (append_assoc (connections old) (calls_told E) (option_to_list call.told) ∙ ap (λ x. connections old ++ x) (sym (told-one E call))))
 
-module _ (C : Type 0) (Stands : C → Client → Type 0) (IsOf : Standing C) (k : Setting) (s : Start C) where
+module _ (C : Type 0) (Stands : C → Client → Type 0) (lent : C → Option Answer) (IsOf : Standing C) (k : Setting) (s : Start C) where
   -- a step that was made
-  abbrev pub step_of : {code new : C} {c : Client} {deed : Deed} {lines : List TraceLine} {sent : List Message} → Makes Stands IsOf k code new c deed lines sent → Step C
+  abbrev pub step_of : {code new : C} {c : Client} {deed : Deed} {lines : List TraceLine} {sent : List Message} → Makes Stands lent IsOf k code new c deed lines sent → Step C
   step_of {code} {new} {c} {deed} {lines} {sent} m = record { deed = deed; outcome = m.outcome; past = m.next; code = new }
 
-  abbrev pub done_of : {code new : C} {c : Client} {deed : Deed} {lines : List TraceLine} {sent : List Message} → ℕ → Cause → Makes Stands IsOf k code new c deed lines sent → Done C
+  abbrev pub done_of : {code new : C} {c : Client} {deed : Deed} {lines : List TraceLine} {sent : List Message} → ℕ → Cause → Makes Stands lent IsOf k code new c deed lines sent → Done C
   done_of {code} {new} {c} {deed} {lines} {sent} number cause m = Made number cause (record { deed = deed; outcome = m.outcome; past = m.next; code = new })
 
-  module _ (script : List (ℕ × Task)) (line came number : ℕ) (cause : Cause) (P Q : List ℕ → Type 0) (code new : C) (deed : Deed) (lines : List TraceLine) (sent : List Message)
-      (says : (texts : List ℕ) → P texts → Q (texts ++ flat_map (line_text k.schema number) lines)) where
-    pub stepped-one : (ds : List (Done C)) → Stepped C Stands IsOf k s script line came ds P code → (m : Makes Stands IsOf k code new (past_after s.past (steps_in ds)) deed lines sent)
+  module _ (ahead further : Ahead) (line came number : ℕ) (cause : Cause) (P Q : List ℕ → Type 0) (code new : C) (deed : Deed) (lines : List TraceLine) (sent : List Message)
+      (on : GoesOn cause ahead (lent code) number deed further) (says : (texts : List ℕ) → P texts → Q (texts ++ flat_map (line_text k.schema number) lines)) where
+    pub stepped-one : (ds : List (Done C)) → Stepped C Stands lent IsOf k s ahead line came ds P code → (m : Makes Stands lent IsOf k code new (past_after s.past (steps_in ds)) deed lines sent)
         → IsInPlace k.schema cause line number deed (past_after s.past (steps_in ds))
-        → Stepped C Stands IsOf k s (script ++ line_of cause number deed) number (more_taken cause came) (ds ++ done_of number cause m ∷ []) Q new
+        → Stepped C Stands lent IsOf k s further number (more_taken cause came) (ds ++ done_of number cause m ∷ []) Q new
     stepped-one ds h m place =
         let past : past_after s.past (steps_in (ds ++ done_of number cause m ∷ [])) ≡ m.next = past-one s.past ds (done_of number cause m) in
         let texts : flat_map (text_of k.schema k.number) (ds ++ done_of number cause m ∷ []) ≡ flat_map (text_of k.schema k.number) ds ++ flat_map (line_text k.schema number) (lines_of k.number deed m.outcome) =
@@ -126,7 +135,9 @@ module _ (C : Type 0) (Stands : C → Client → Type 0) (IsOf : Standing C) (k 
           in_place = place-append k.schema 0 s.past ds (done_of number cause m ∷ []) h.in_place (subst (λ n. IsInPlace k.schema cause n number deed (past_after s.past (steps_in ds))) (sym h.line_is) place, tt);
           line_is = line-append 0 ds (done_of number cause m ∷ []);
           came_is = taken-append 0 ds (done_of number cause m ∷ []) ∙ ap (more_taken cause) h.came_is;
-          lines = lines-append ds (done_of number cause m ∷ []) ∙ (ap (λ x. lines_done ds ++ x) (append-nil (line_of cause number deed)) ∙ ap (λ x. x ++ line_of cause number deed) h.lines);
+          goes = made-goes k.keeps s.plan ds ahead further (lent code) h.goes h.ahead_is h.answer_is number cause (step_of m) on;
+          ahead_is = made-ahead k.keeps s.plan ds ahead further (lent code) h.goes h.ahead_is h.answer_is number cause (step_of m) on;
+          answer_is = made-answer k.keeps s.plan ds ahead further (lent code) h.goes h.ahead_is h.answer_is number cause (step_of m) ∙ sym m.answers;
           from = subst (All (IsFrom k.number)) (sym (ap requests_of (steps-append ds (done_of number cause m ∷ [])) ∙ requests-append (steps_in ds) (step_of m ∷ [])))
               (All-append (IsFrom k.number) (requests_of (steps_in ds)) (requests_of (step_of m ∷ [])) h.from
               (subst (All (IsFrom k.number)) (m.sent_is ∙ sym (append-nil (sent_of m.outcome))) m.from));
@@ -143,11 +154,11 @@ module _ (C : Type 0) (Stands : C → Client → Type 0) (IsOf : Standing C) (k 
     -- ---- a step of the present call
 
     -- with what the link tells then
-    abbrev pub course-one : (feed left new_feed : List ℕ) (same : left ≡ new_feed) (told : Option Connection) (h : Course C Stands IsOf k s script line came P feed code) (m : Makes Stands IsOf k code new (left_by s.past (h.earlier ++ h.call ∷ [])) deed lines sent)
+    abbrev pub course-one : (feed left new_feed : List ℕ) (same : left ≡ new_feed) (told : Option Connection) (h : Course C Stands lent IsOf k s ahead line came P feed code) (m : Makes Stands lent IsOf k code new (left_by s.past (h.earlier ++ h.call ∷ [])) deed lines sent)
         → IsInPlace k.schema cause line number deed (left_by s.past (h.earlier ++ h.call ∷ [])) → StaysOn (left_by s.past (h.earlier ++ h.call ∷ [])) deed
         → IfSome told (λ t. t.taken ≡ spelled (given_of (steps_in (done_in h.call)) ++ taken_by deed) ++ left) → IfSome told (λ t. t.address ≡ s.address)
         → IsToldIf s.linking.peers (with_step h.call (done_of number cause m) told left)
-        → Course C Stands IsOf k s (script ++ line_of cause number deed) number (more_taken cause came) Q new_feed new
+        → Course C Stands lent IsOf k s further number (more_taken cause came) Q new_feed new
     course-one feed left new_feed same told h m place stays taken dialled is_told = record {
       earlier = h.earlier;
       call = with_step h.call (done_of number cause m) told left;
@@ -166,17 +177,17 @@ module _ (C : Type 0) (Stands : C → Client → Type 0) (IsOf : Standing C) (k 
       left = same;
       some = λ none. append-some (requests_of (steps_in (done_in h.call))) (sent_of m.outcome) h.some (sym (requests-step h.call (done_of number cause m) told left) ∙ none);
       taken = subst (λ ms. IfSome told (λ t. t.taken ≡ spelled ms ++ left)) (sym (given-step h.call (done_of number cause m) told left)) taken;
-      steps = subst (λ ds. Stepped C Stands IsOf k s (script ++ line_of cause number deed) number (more_taken cause came) ds Q new) (sym (all-step h.earlier h.call (done_of number cause m) told left))
+      steps = subst (λ ds. Stepped C Stands lent IsOf k s further number (more_taken cause came) ds Q new) (sym (all-step h.earlier h.call (done_of number cause m) told left))
           (stepped-one (all_done (h.earlier ++ h.call ∷ [])) h.steps m place);
     }
 
-    module _ (failed : Bool) (l new_l : Linking) (feed left : List ℕ) (h : At C Stands IsOf k s script line came failed l P feed code)
-        (m : Makes Stands IsOf k code new (left_by s.past (h.course.earlier ++ h.course.call ∷ [])) deed lines sent)
+    module _ (failed : Bool) (l new_l : Linking) (feed left : List ℕ) (h : At C Stands lent IsOf k s ahead line came failed l P feed code)
+        (m : Makes Stands lent IsOf k code new (left_by s.past (h.course.earlier ++ h.course.call ∷ [])) deed lines sent)
         (place : IsInPlace k.schema cause line number deed (left_by s.past (h.course.earlier ++ h.course.call ∷ []))) (stays : StaysOn (left_by s.past (h.course.earlier ++ h.course.call ∷ [])) deed)
         (not_failed : is_failed cause ≡ false) where
       -- all behind it went over the link, which is up
       pub at-up : (left_by s.past (h.course.earlier ++ h.course.call ∷ [])).cut ≡ false → m.next.cut ≡ false → feed ≡ spelled (taken_by deed) ++ left → new_l ≡ sent_on (spelled sent) l
-          → At C Stands IsOf k s (script ++ line_of cause number deed) number (more_taken cause came) failed new_l Q left new
+          → At C Stands lent IsOf k s further number (more_taken cause came) failed new_l Q left new
       at-up up still fed is =
           let there = subst (λ b. IsThere b h.course.earlier h.course.call s.linking l) up h.there in
           let fails-no : fails (with_step h.course.call (done_of number cause m) (option_map (sends (spelled sent)) h.course.call.told) left) ≡ false =
@@ -214,7 +225,7 @@ module _ (C : Type 0) (Stands : C → Client → Type 0) (IsOf : Standing C) (k 
 
       -- nothing went over the link, which is down then
       pub at-down : m.next.cut ≡ true → sent ≡ [] → taken_by deed ≡ [] → connections new_l ≡ connections l → new_l.peers ≡ l.peers → l.faults ≤ new_l.faults
-          → At C Stands IsOf k s (script ++ line_of cause number deed) number (more_taken cause came) failed new_l Q feed new
+          → At C Stands lent IsOf k s further number (more_taken cause came) failed new_l Q feed new
       at-down down none took same_links same_peers more =
           let fails-same : fails (with_step h.course.call (done_of number cause m) h.course.call.told h.course.call.left) ≡ fails h.course.call =
           fails-one h.course.call.others (done_of number cause m) ∙ or-no (fails h.course.call) (is_failed cause) not_failed in

@@ -9,7 +9,7 @@ use Rattle.sr_reader.specs.declared.script.Event as code
 use Rattle.sr_reader.specs.declared.script.Event.TheVariants as read
 use Rattle.sr_reader.specs.Read.{Means}
 use Rattle.sr_links.specs.Steps.{Deed, WasCut, Resumed}
-use Rattle.sr_dial.specs.Calls.{Task, Do, Explain}
+use Rattle.sr_dial.specs.Calls.{Task, Do, Explain, Say}
 use Rattle.sr_dial.specs.Known.{IsDeed, IsPlain, IsTask}
 
 -- what neither resumes nor cuts leaves the link as it is
@@ -31,6 +31,7 @@ pub explains-text : (schema : List Table) (event : code.Event) (n : ℕ) (query 
     → ((text : Result model.Query Fault) → Means schema query text → P (Explain text)) → P task
 explains-text schema event n query (Do deed) P same is each = absurd (subst (λ e. IsDeed schema e deed) same is)
 explains-text schema event n query (Explain text) P same is each = each text (subst (λ e. IsTask schema e (Explain text)) same is)
+explains-text schema event n query (Say text) P same is each = absurd is
 
 explains-none : (schema : List Table) (event : code.Event) (text : Result model.Query Fault) → IsTask schema event (Explain text) → ((n : ℕ) (query : Result Query Fault) → event ≡ read.Explain n query → ⊥) → ⊥
 explains-none schema (read.Explain n query) text is none = none n query refl
@@ -50,15 +51,18 @@ pub does-deed : (schema : List Table) (event : code.Event) (task : Task) (P : Ta
     → ((n : ℕ) (query : Result Query Fault) → event ≡ read.Explain n query → ⊥) → ((deed : Deed) → IsDeed schema event deed → IsPlain deed → P (Do deed)) → P task
 does-deed schema event (Do deed) P is resume cut explain each = each deed is (plain-deed schema event deed is resume cut)
 does-deed schema event (Explain text) P is resume cut explain each = absurd (explains-none schema event text is explain)
+does-deed schema event (Say text) P is resume cut explain each = absurd is
 
 -- the deed of a line that resumes, or cuts
 pub resumes-task : (schema : List Table) (event : code.Event) (n : ℕ) (task : Task) → event ≡ read.Resume n → IsTask schema event task → task ≡ Do Resumed
 resumes-task schema event n (Do deed) same is = ap Do (subst (λ e. IsDeed schema e deed) same is)
 resumes-task schema event n (Explain text) same is = absurd (subst (λ e. IsTask schema e (Explain text)) same is)
+resumes-task schema event n (Say text) same is = absurd is
 
 pub cuts-task : (schema : List Table) (event : code.Event) (n : ℕ) (task : Task) → event ≡ read.Cut n → IsTask schema event task → task ≡ Do WasCut
 cuts-task schema event n (Do deed) same is = ap Do (subst (λ e. IsDeed schema e deed) same is)
 cuts-task schema event n (Explain text) same is = absurd (subst (λ e. IsTask schema e (Explain text)) same is)
+cuts-task schema event n (Say text) same is = absurd is
 
 -- what is asked by a line that asks for something
 pub asked-text : (schema : List Table) (event : code.Event) (n : ℕ) (query : Result Query Fault) → event ≡ read.Explain n query → (task : Task) × IsTask schema event task → (text : Result model.Query Fault) × Means schema query text

@@ -1,5 +1,5 @@
 -- How a run ends.
-use Rattle.std.proofs.Common.{◌≡◌, ℕ, Bool, true, false, List, [], ◌∷◌, ◌++◌, arith, sym, subst}
+use Rattle.std.proofs.Common.{◌≡◌, ℕ, Bool, true, false, List, [], ◌∷◌, ◌++◌, arith, sym, subst, Option}
 use Rattle.std.specs.Prelude.{◌≢◌, flat_map}
 use Rattle.sr_io.specs.Told.{Linking, Writing}
 use Rattle.sr_message.specs.declared.message.Message.{Message}
@@ -17,21 +17,24 @@ use Rattle.sr_dial.proofs.ListLemmas.{calls-one, dialled-one}
 use Rattle.sr_dial.proofs.CourseLemmas.{count-still, made-of, weaken-told}
 use Rattle.sr_dial.proofs.BrokenLemmas.{most-all}
 use Rattle.sr_dial.proofs.ToldLemmas.{told-more}
+use Rattle.sr_dial.specs.declared.parts.Answer.{Answer}
+use Rattle.sr_dial.specs.Following.{Ahead}
+use Rattle.sr_plan.specs.Plans.{Plan}
 
 most-of : (b : Bool) (ms : List Message) (bytes : List ℕ) → ms ≢ [] → SentAs b ms bytes → SendsMost ms bytes
 most-of true ms bytes some sent = sent
 most-of false ms bytes some sent = subst (SendsMost ms) (sym sent) (most-all ms some)
 
-module _ (C : Type 0) (Stands : C → Client → Type 0) (IsOf : Standing C) (k : Setting) (s : Start C) (script : List (ℕ × Task)) (line came : ℕ) (l : Linking) (feed : List ℕ) (code : C) where
+module _ (C : Type 0) (Stands : C → Client → Type 0) (lent : C → Option Answer) (IsOf : Standing C) (k : Setting) (s : Start C) (ahead : Ahead) (line came : ℕ) (l : Linking) (feed : List ℕ) (code : C) where
   -- the lines of a step are not written, all else of it was done
-  pub unwritten-at : (w : Writing) (failed : Bool) → At C Stands IsOf k s script line came failed l (IsPartWritten s w) feed code → Over C Stands IsOf k s script ending.Unwritten l w
+  pub unwritten-at : (w : Writing) (failed : Bool) → At C Stands lent IsOf k s ahead line came failed l (IsPartWritten s w) feed code → Over C Stands lent IsOf k s ending.Unwritten l w
   unwritten-at w failed h = record {
     earlier = h.course.earlier;
     last = h.course.call;
     are = calls-one s.past h.course.earlier h.course.call h.course.are h.course.is;
     in_place = h.course.steps.in_place;
     from = h.course.steps.from;
-    lines = h.course.steps.lines;
+    goes = h.course.steps.goes;
     fair = h.course.steps.fair;
     explained = h.course.steps.explained;
     carried = h.course.carried;
@@ -44,11 +47,11 @@ module _ (C : Type 0) (Stands : C → Client → Type 0) (IsOf : Standing C) (k 
     each_told = told-more s.linking.peers h.course.earlier h.course.call h.course.before_told h.course.is_told;
     made = made-of (left_by s.past (h.course.earlier ++ h.course.call ∷ [])).cut h.course.earlier h.course.call s.linking l h.there;
     faults = h.faults;
-    ends = λ whole. tt;
+    ends = λ rest. tt;
     writes = h.course.steps.writes;
   }
 
-  pub unwritten-broken : (w : Writing) → Broken C Stands IsOf k s script line l (IsPartWritten s w) feed code → Over C Stands IsOf k s script ending.Unwritten l w
+  pub unwritten-broken : (w : Writing) → Broken C Stands lent IsOf k s ahead line l (IsPartWritten s w) feed code → Over C Stands lent IsOf k s ending.Unwritten l w
   unwritten-broken w b =
       let before = b.faults in
       let none = count-still b.course.earlier b.course.call b.not_yet in
@@ -58,7 +61,7 @@ module _ (C : Type 0) (Stands : C → Client → Type 0) (IsOf : Standing C) (k 
         are = calls-one s.past b.course.earlier b.course.call b.course.are b.course.is;
         in_place = b.course.steps.in_place;
         from = b.course.steps.from;
-        lines = b.course.steps.lines;
+        goes = b.course.steps.goes;
         fair = b.course.steps.fair;
         explained = b.course.steps.explained;
         carried = b.course.carried;
@@ -67,21 +70,21 @@ module _ (C : Type 0) (Stands : C → Client → Type 0) (IsOf : Standing C) (k 
         each_told = told-more s.linking.peers b.course.earlier b.course.call b.course.before_told b.course.is_told;
         made = b.made;
         faults = omega (arith, before, none);
-        ends = λ whole. tt;
+        ends = λ rest. tt;
         writes = b.course.steps.writes;
       }
 
   -- what came next ends it
-  pub over-at : (w : Writing) (failed : Bool) (ended : Ending) (h : At C Stands IsOf k s script line came failed l (IsWritten s w) feed code) → is_unwritten ended ≡ false
-      → ((whole : List (ℕ × Task)) → EndsBy ended k.schema (h.course.earlier ++ h.course.call ∷ []) (left_by s.past (h.course.earlier ++ h.course.call ∷ [])) feed script whole)
-      → ((texts : List ℕ) → IsWritten s w texts → WritesAs ended texts s.writing w) → Over C Stands IsOf k s script ended l w
+  pub over-at : (w : Writing) (failed : Bool) (ended : Ending) (h : At C Stands lent IsOf k s ahead line came failed l (IsWritten s w) feed code) → is_unwritten ended ≡ false
+      → ((rest : Plan Task Answer) → EndsBy ended k.schema (h.course.earlier ++ h.course.call ∷ []) (left_by s.past (h.course.earlier ++ h.course.call ∷ [])) feed rest)
+      → ((texts : List ℕ) → IsWritten s w texts → WritesAs ended texts s.writing w) → Over C Stands lent IsOf k s ended l w
   over-at w failed ended h written ends writes = record {
     earlier = h.course.earlier;
     last = h.course.call;
     are = calls-one s.past h.course.earlier h.course.call h.course.are h.course.is;
     in_place = h.course.steps.in_place;
     from = h.course.steps.from;
-    lines = h.course.steps.lines;
+    goes = h.course.steps.goes;
     fair = h.course.steps.fair;
     explained = h.course.steps.explained;
     carried = h.course.carried;
@@ -90,6 +93,6 @@ module _ (C : Type 0) (Stands : C → Client → Type 0) (IsOf : Standing C) (k 
     each_told = told-more s.linking.peers h.course.earlier h.course.call h.course.before_told h.course.is_told;
     made = made-of (left_by s.past (h.course.earlier ++ h.course.call ∷ [])).cut h.course.earlier h.course.call s.linking l h.there;
     faults = h.faults;
-    ends = λ whole. subst (λ x. EndsBy ended k.schema (h.course.earlier ++ h.course.call ∷ []) (left_by s.past (h.course.earlier ++ h.course.call ∷ [])) x script whole) (sym h.course.left) (ends whole);
+    ends = λ rest. subst (λ x. EndsBy ended k.schema (h.course.earlier ++ h.course.call ∷ []) (left_by s.past (h.course.earlier ++ h.course.call ∷ [])) x rest) (sym h.course.left) (ends rest);
     writes = writes (flat_map (text_of k.schema k.number) (all_done (h.course.earlier ++ h.course.call ∷ []))) h.course.steps.writes;
   }

@@ -1,5 +1,5 @@
 -- What comes of a step that was carried out.
-use Rattle.std.proofs.Common.{◌≡◌, ℕ, ◌≤◌, Bool, true, false, List, [], ◌∷◌, ◌++◌, arith, append-nil, inl, inr, refl, sym, ◌∙◌, ap, subst}
+use Rattle.std.proofs.Common.{◌≡◌, ℕ, ◌≤◌, Bool, true, false, List, [], ◌∷◌, ◌++◌, arith, append-nil, inl, inr, refl, sym, ◌∙◌, ap, subst, Option}
 use Rattle.std.specs.Prelude.{◌≢◌, ◌⊎◌, flat_map}
 use Rattle.sr_io.specs.Causes.{Rose}
 use Rattle.sr_io.specs.Told.{Linking, Writing, connections, sent_on}
@@ -10,7 +10,7 @@ use Rattle.sr_script.specs.TraceText.{line_text}
 use Rattle.sr_session.specs.Clients.{Client}
 use Rattle.sr_session.specs.Rules.{sent_of}
 use Rattle.sr_links.specs.Steps.{Standing, Deed, Queried, Wrote, Evicted, Took, WasCut, Resumed, StaysOn, taken_by}
-use Rattle.sr_dial.specs.Calls.{Cause, Scripted, Task, Do, is_failed, line_of}
+use Rattle.sr_dial.specs.Calls.{Cause, Scripted, Task, Do, is_failed}
 use Rattle.sr_talk.specs.Serving.{spelled}
 use Rattle.sr_talk.proofs.MoveLemmas.{nothing-sent}
 use Rattle.sr_talk.proofs.SomeLemmas.{prefix-behind}
@@ -23,6 +23,10 @@ use Rattle.sr_dial.specs.declared.steps.Handed.TheVariants.{Whole, Broken, Unwri
 use Rattle.sr_dial.proofs.CourseLemmas.{at-up, at-down}
 use Rattle.sr_dial.proofs.BrokenLemmas.{one-sent, send-breaks}
 use Rattle.sr_dial.proofs.EndLemmas.{unwritten-at, unwritten-broken}
+use Rattle.sr_dial.specs.declared.parts.Answer.{Answer}
+use Rattle.sr_dial.specs.Following.{Ahead}
+use Rattle.sr_plan.specs.Plans.{Next}
+use Rattle.sr_dial.proofs.PlanLemmas.{GoesOn}
 
 module _ {C : Type 0} (s : Start C) (w new_w : Writing) (text : List ℕ) where
   pub wrote : SaysAs true w new_w text → (texts : List ℕ) → IsWritten s w texts → IsWritten s new_w (texts ++ text)
@@ -31,9 +35,9 @@ module _ {C : Type 0} (s : Start C) (w new_w : Writing) (text : List ℕ) where
   pub half : SaysAs false w new_w text → (texts : List ℕ) → IsWritten s w texts → IsPartWritten s new_w (texts ++ text)
   half (part, rose) texts (before, faults) = (prefix-behind s.writing.written w.written new_w.written texts text before part, subst (λ n. Rose n new_w.faults) faults rose)
 
-module _ (C : Type 0) (Stands : C → Client → Type 0) (IsOf : Standing C) (k : Setting) (s : Start C) (script : List (ℕ × Task)) (line came number : ℕ) (cause : Cause) (code new : C) (deed : Deed) (lines : List TraceLine) (sent : List Message)
-    (failed : Bool) (l new_l : Linking) (w new_w : Writing) (feed left : List ℕ) (h : At C Stands IsOf k s script line came failed l (IsWritten s w) feed code)
-    (m : Makes Stands IsOf k code new (left_by s.past (h.course.earlier ++ h.course.call ∷ [])) deed lines sent)
+module _ (C : Type 0) (Stands : C → Client → Type 0) (lent : C → Option Answer) (IsOf : Standing C) (k : Setting) (s : Start C) (ahead further : Ahead) (line came number : ℕ) (cause : Cause) (code new : C) (deed : Deed) (lines : List TraceLine) (sent : List Message)
+    (on : GoesOn cause ahead (lent code) number deed further) (failed : Bool) (l new_l : Linking) (w new_w : Writing) (feed left : List ℕ) (h : At C Stands lent IsOf k s ahead line came failed l (IsWritten s w) feed code)
+    (m : Makes Stands lent IsOf k code new (left_by s.past (h.course.earlier ++ h.course.call ∷ [])) deed lines sent)
     (place : IsInPlace k.schema cause line number deed (left_by s.past (h.course.earlier ++ h.course.call ∷ []))) (stays : StaysOn (left_by s.past (h.course.earlier ++ h.course.call ∷ [])) deed)
     (not_failed : is_failed cause ≡ false) where
   abbrev text : List ℕ
@@ -41,21 +45,21 @@ module _ (C : Type 0) (Stands : C → Client → Type 0) (IsOf : Standing C) (k 
 
   -- over a link that is up
   pub hands-up : (handed : Handed) → (left_by s.past (h.course.earlier ++ h.course.call ∷ [])).cut ≡ false → m.next.cut ≡ false → feed ≡ spelled (taken_by deed) ++ left
-      → Carries handed l new_l w new_w (spelled sent) (flat_map (line_text k.schema number) lines) → Hands C Stands IsOf k handed s (script ++ line_of cause number deed) number (more_taken cause came) failed new_l new_w left new
+      → Carries handed l new_l w new_w (spelled sent) (flat_map (line_text k.schema number) lines) → Hands C Stands lent IsOf k handed s further number (more_taken cause came) failed new_l new_w left new
   hands-up Whole up still fed (is, says) =
-      at-up C Stands IsOf k s script line came number cause (IsWritten s w) (IsWritten s new_w) code new deed lines sent (wrote s w new_w text says) failed l new_l feed left h m place stays not_failed up still fed is
+      at-up C Stands lent IsOf k s ahead further line came number cause (IsWritten s w) (IsWritten s new_w) code new deed lines sent on (wrote s w new_w text says) failed l new_l feed left h m place stays not_failed up still fed is
   hands-up Broken up still fed ((part, rose), says) =
-      send-breaks C Stands IsOf k s script line came number cause (IsWritten s w) (IsWritten s new_w) code new deed lines sent (wrote s w new_w text says) failed l new_l feed left h m place stays not_failed up fed part rose
+      send-breaks C Stands lent IsOf k s ahead further line came number cause (IsWritten s w) (IsWritten s new_w) code new deed lines sent on (wrote s w new_w text says) failed l new_l feed left h m place stays not_failed up fed part rose
   hands-up Unwritten up still fed (inl is, says) =
-      unwritten-at C Stands IsOf k s (script ++ line_of cause number deed) number (more_taken cause came) new_l left new new_w failed
-      (at-up C Stands IsOf k s script line came number cause (IsWritten s w) (IsPartWritten s new_w) code new deed lines sent (half s w new_w text says) failed l new_l feed left h m place stays not_failed up still fed is)
+      unwritten-at C Stands lent IsOf k s further number (more_taken cause came) new_l left new new_w failed
+      (at-up C Stands lent IsOf k s ahead further line came number cause (IsWritten s w) (IsPartWritten s new_w) code new deed lines sent on (half s w new_w text says) failed l new_l feed left h m place stays not_failed up still fed is)
   hands-up Unwritten up still fed (inr (part, rose), says) =
-      unwritten-broken C Stands IsOf k s (script ++ line_of cause number deed) number (more_taken cause came) new_l left new new_w
-      (send-breaks C Stands IsOf k s script line came number cause (IsWritten s w) (IsPartWritten s new_w) code new deed lines sent (half s w new_w text says) failed l new_l feed left h m place stays not_failed up fed part rose)
+      unwritten-broken C Stands lent IsOf k s further number (more_taken cause came) new_l left new new_w
+      (send-breaks C Stands lent IsOf k s ahead further line came number cause (IsWritten s w) (IsPartWritten s new_w) code new deed lines sent on (half s w new_w text says) failed l new_l feed left h m place stays not_failed up fed part rose)
 
   -- where it is down then
   pub hands-down : (handed : Handed) (mid : Linking) → m.next.cut ≡ true → sent ≡ [] → taken_by deed ≡ [] → connections mid ≡ connections l → mid.peers ≡ l.peers → l.faults ≤ mid.faults
-      → Carries handed mid new_l w new_w (spelled sent) (flat_map (line_text k.schema number) lines) → Hands C Stands IsOf k handed s (script ++ line_of cause number deed) number (more_taken cause came) failed new_l new_w feed new
+      → Carries handed mid new_l w new_w (spelled sent) (flat_map (line_text k.schema number) lines) → Hands C Stands lent IsOf k handed s further number (more_taken cause came) failed new_l new_w feed new
   hands-down handed mid down none took same peers more carries = by handed (subst (λ ms. Carries handed mid new_l w new_w (spelled ms) (flat_map (line_text k.schema number) lines)) none carries)
     where
       same-links : new_l ≡ sent_on [] mid → connections new_l ≡ connections l
@@ -67,14 +71,14 @@ module _ (C : Type 0) (Stands : C → Client → Type 0) (IsOf : Standing C) (k 
       more-faults : new_l ≡ sent_on [] mid → l.faults ≤ new_l.faults
       more-faults is = subst (λ (x : Linking). l.faults ≤ x.faults) (sym is) more
 
-      by : (handed : Handed) → Carries handed mid new_l w new_w [] (flat_map (line_text k.schema number) lines) → Hands C Stands IsOf k handed s (script ++ line_of cause number deed) number (more_taken cause came) failed new_l new_w feed new
+      by : (handed : Handed) → Carries handed mid new_l w new_w [] (flat_map (line_text k.schema number) lines) → Hands C Stands lent IsOf k handed s further number (more_taken cause came) failed new_l new_w feed new
       by Whole (is, says) =
-          at-down C Stands IsOf k s script line came number cause (IsWritten s w) (IsWritten s new_w) code new deed lines sent (wrote s w new_w text says) failed l new_l feed left h m place stays not_failed down none took
+          at-down C Stands lent IsOf k s ahead further line came number cause (IsWritten s w) (IsWritten s new_w) code new deed lines sent on (wrote s w new_w text says) failed l new_l feed left h m place stays not_failed down none took
           (same-links is) (same-peers is) (more-faults is)
       by Broken ((part, rose), says) = absurd (let fewer = part.fewer in omega (arith, fewer))
       by Unwritten (inl is, says) =
-          unwritten-at C Stands IsOf k s (script ++ line_of cause number deed) number (more_taken cause came) new_l feed new new_w failed
-          (at-down C Stands IsOf k s script line came number cause (IsWritten s w) (IsPartWritten s new_w) code new deed lines sent (half s w new_w text says) failed l new_l feed left h m place stays not_failed down none took
+          unwritten-at C Stands lent IsOf k s further number (more_taken cause came) new_l feed new new_w failed
+          (at-down C Stands lent IsOf k s ahead further line came number cause (IsWritten s w) (IsPartWritten s new_w) code new deed lines sent on (half s w new_w text says) failed l new_l feed left h m place stays not_failed down none took
           (same-links is) (same-peers is) (more-faults is))
       by Unwritten (inr (part, rose), says) = absurd (let fewer = part.fewer in omega (arith, fewer))
 
@@ -105,38 +109,39 @@ plain-none WasCut is = absurd is
 plain-none Resumed is = absurd is
 
 -- nothing is sent over a link that is down
-pub down-silent : {C : Type 0} (Stands : C → Client → Type 0) (IsOf : Standing C) (k : Setting) (code new : C) (c : Client) (deed : Deed) (lines : List TraceLine) (sent : List Message)
-    → Makes Stands IsOf k code new c deed lines sent → c.cut ≡ true → (sent ≢ [] → c.cut ≡ false) → sent ≡ []
-down-silent {C} Stands IsOf k code new c deed lines sent m down up = by (one-sent m.outcome)
+pub down-silent : {C : Type 0} (Stands : C → Client → Type 0) (lent : C → Option Answer) (IsOf : Standing C) (k : Setting) (code new : C) (c : Client) (deed : Deed) (lines : List TraceLine) (sent : List Message)
+    → Makes Stands lent IsOf k code new c deed lines sent → c.cut ≡ true → (sent ≢ [] → c.cut ≡ false) → sent ≡ []
+down-silent {C} Stands lent IsOf k code new c deed lines sent m down up = by (one-sent m.outcome)
   where
     by : (sent_of m.outcome ≡ []) ⊎ ((x : Message) × (sent_of m.outcome ≡ x ∷ [])) → sent ≡ []
     by (inl none) = m.sent_is ∙ none
     by (inr (x, one)) = absurd (let no : true ≡ false = sym down ∙ up (λ none. absurd (let wrong : x ∷ [] ≡ [] = sym (m.sent_is ∙ one) ∙ none in cc)) in cc)
 
-pub plain-hands : (C : Type 0) (Stands : C → Client → Type 0) (IsOf : Standing C) (k : Setting) (s : Start C) (script : List (ℕ × Task)) (line number : ℕ) (failed : Bool) (l new_l : Linking) (w new_w : Writing) (feed : List ℕ) (code new : C)
-    (deed : Deed) (lines : List TraceLine) (sent : List Message) (handed : Handed) (h : Free C Stands IsOf k s script line failed l (IsWritten s w) feed code) → IsPlain deed
-    → Makes Stands IsOf k code new (left_by s.past (h.at.course.earlier ++ h.at.course.call ∷ [])) deed lines sent
-    → Carries handed l new_l w new_w (spelled sent) (flat_map (line_text k.schema number) lines) → Hands C Stands IsOf k handed s (script ++ (number, Do deed) ∷ []) number 0 failed new_l new_w feed new
-plain-hands C Stands IsOf k s script line number failed l new_l w new_w feed code new deed lines sent handed h plain m carries =
+pub plain-hands : (C : Type 0) (Stands : C → Client → Type 0) (lent : C → Option Answer) (IsOf : Standing C) (k : Setting) (s : Start C) (ahead further : Ahead) (line number : ℕ) (failed : Bool) (l new_l : Linking) (w new_w : Writing) (feed : List ℕ) (code new : C)
+    (deed : Deed) (lines : List TraceLine) (sent : List Message) (handed : Handed) (h : Free C Stands lent IsOf k s ahead line failed l (IsWritten s w) feed code) → IsPlain deed → ahead (lent code) ≡ Next number (Do deed) further
+    → Makes Stands lent IsOf k code new (left_by s.past (h.at.course.earlier ++ h.at.course.call ∷ [])) deed lines sent
+    → Carries handed l new_l w new_w (spelled sent) (flat_map (line_text k.schema number) lines) → Hands C Stands lent IsOf k handed s further number 0 failed new_l new_w feed new
+plain-hands C Stands lent IsOf k s ahead further line number failed l new_l w new_w feed code new deed lines sent handed h plain on m carries =
     by (left_by s.past (h.at.course.earlier ++ h.at.course.call ∷ [])).cut refl
   where
     link : (m.next.cut ≡ (left_by s.past (h.at.course.earlier ++ h.at.course.call ∷ [])).cut) × (sent ≢ [] → (left_by s.past (h.at.course.earlier ++ h.at.course.call ∷ [])).cut ≡ false)
     link = plain-link deed sent (left_by s.past (h.at.course.earlier ++ h.at.course.call ∷ [])) m.next plain m.link
 
-    by : (cut : Bool) → (left_by s.past (h.at.course.earlier ++ h.at.course.call ∷ [])).cut ≡ cut → Hands C Stands IsOf k handed s (script ++ (number, Do deed) ∷ []) number 0 failed new_l new_w feed new
+    by : (cut : Bool) → (left_by s.past (h.at.course.earlier ++ h.at.course.call ∷ [])).cut ≡ cut → Hands C Stands lent IsOf k handed s further number 0 failed new_l new_w feed new
     by false up =
-        hands-up C Stands IsOf k s script line h.came number Scripted code new deed lines sent failed l new_l w new_w feed feed h.at m h.free (plain-stays deed (left_by s.past (h.at.course.earlier ++ h.at.course.call ∷ [])) plain) refl handed up (link.0 ∙ up)
+        hands-up C Stands lent IsOf k s ahead further line h.came number Scripted code new deed lines sent on failed l new_l w new_w feed feed h.at m h.free (plain-stays deed (left_by s.past (h.at.course.earlier ++ h.at.course.call ∷ [])) plain) refl handed up (link.0 ∙ up)
         (ap (λ ms. spelled ms ++ feed) (sym (plain-none deed plain))) carries
     by true down =
-        hands-down C Stands IsOf k s script line h.came number Scripted code new deed lines sent failed l new_l w new_w feed feed h.at m h.free (plain-stays deed (left_by s.past (h.at.course.earlier ++ h.at.course.call ∷ [])) plain) refl handed l (link.0 ∙ down)
-        (down-silent Stands IsOf k code new (left_by s.past (h.at.course.earlier ++ h.at.course.call ∷ [])) deed lines sent m down link.1) (plain-none deed plain) refl refl (omega arith) carries
+        hands-down C Stands lent IsOf k s ahead further line h.came number Scripted code new deed lines sent on failed l new_l w new_w feed feed h.at m h.free (plain-stays deed (left_by s.past (h.at.course.earlier ++ h.at.course.call ∷ [])) plain) refl handed l (link.0 ∙ down)
+        (down-silent Stands lent IsOf k code new (left_by s.past (h.at.course.earlier ++ h.at.course.call ∷ [])) deed lines sent m down link.1) (plain-none deed plain) refl refl (omega arith) carries
 
 -- ---- a line that cuts the link
 
-pub cut-hands : (C : Type 0) (Stands : C → Client → Type 0) (IsOf : Standing C) (k : Setting) (s : Start C) (script : List (ℕ × Task)) (line number : ℕ) (failed : Bool) (l mid new_l : Linking) (w new_w : Writing) (feed : List ℕ) (code new : C)
-    (lines : List TraceLine) (sent : List Message) (handed : Handed) (h : Free C Stands IsOf k s script line failed l (IsWritten s w) feed code)
-    → Makes Stands IsOf k code new (left_by s.past (h.at.course.earlier ++ h.at.course.call ∷ [])) WasCut lines sent → mid ≡ Rattle.sr_io.specs.Told.hung_up l
-    → Carries handed mid new_l w new_w (spelled sent) (flat_map (line_text k.schema number) lines) → Hands C Stands IsOf k handed s (script ++ (number, Do WasCut) ∷ []) number 0 failed new_l new_w feed new
-cut-hands C Stands IsOf k s script line number failed l mid new_l w new_w feed code new lines sent handed h m gone carries =
-    hands-down C Stands IsOf k s script line h.came number Scripted code new WasCut lines sent failed l new_l w new_w feed feed h.at m h.free tt refl handed mid m.link.0 m.link.1 refl
+pub cut-hands : (C : Type 0) (Stands : C → Client → Type 0) (lent : C → Option Answer) (IsOf : Standing C) (k : Setting) (s : Start C) (ahead further : Ahead) (line number : ℕ) (failed : Bool) (l mid new_l : Linking) (w new_w : Writing) (feed : List ℕ) (code new : C)
+    (lines : List TraceLine) (sent : List Message) (handed : Handed) (h : Free C Stands lent IsOf k s ahead line failed l (IsWritten s w) feed code)
+    → ahead (lent code) ≡ Next number (Do WasCut) further
+    → Makes Stands lent IsOf k code new (left_by s.past (h.at.course.earlier ++ h.at.course.call ∷ [])) WasCut lines sent → mid ≡ Rattle.sr_io.specs.Told.hung_up l
+    → Carries handed mid new_l w new_w (spelled sent) (flat_map (line_text k.schema number) lines) → Hands C Stands lent IsOf k handed s further number 0 failed new_l new_w feed new
+cut-hands C Stands lent IsOf k s ahead further line number failed l mid new_l w new_w feed code new lines sent handed h on m gone carries =
+    hands-down C Stands lent IsOf k s ahead further line h.came number Scripted code new WasCut lines sent on failed l new_l w new_w feed feed h.at m h.free tt refl handed mid m.link.0 m.link.1 refl
     (ap connections gone ∙ append-nil (connections l)) (ap (λ (x : Linking). x.peers) gone) (subst (λ (x : Linking). l.faults ≤ x.faults) (sym gone) (omega arith)) carries

@@ -1,5 +1,5 @@
 -- The calls of a run over an honest link, as talks with a server.
-use Rattle.std.proofs.Common.{◌≡◌, ℕ, Bool, true, false, List, [], ◌∷◌, ◌++◌, length, map, append_assoc, refl, sym, ◌∙◌, ap, subst, inl, inr, None}
+use Rattle.std.proofs.Common.{◌≡◌, ℕ, Bool, true, false, List, [], ◌∷◌, ◌++◌, length, map, append_assoc, refl, sym, ◌∙◌, ap, subst, inl, inr, Option, None}
 use Rattle.std.specs.Prelude.{◌≢◌, ◌⊎◌, ◌&&◌, IsTrue}
 use Rattle.std.specs.List.{list_all}
 use Rattle.sr_cell.specs.declared.table.Table.{Table}
@@ -17,9 +17,13 @@ use Rattle.sr_wire.proofs.Staying.{answer_stays}
 use Rattle.sr_session.specs.Clients.{Client}
 use Rattle.sr_links.specs.Honest.{Server, Input, IsPrefix, AreTalks, IsHonest, sent_for, server_after, steps_of}
 use Rattle.sr_links.specs.Steps.{Step, Standing, Deed, Queried, Wrote, Evicted, Took, WasCut, Resumed, AreAwaited, AreFair, IsAwaited, code_after, given_of, past_after, taken_by}
-use Rattle.sr_dial.specs.Calls.{Call, Cause, Scripted, Delivered, Failed, Done, Made, Explained, Task, Do, Explain, AreCalls, all_done, done_in, line_of, lines_done, steps_in, talk_of}
+use Rattle.sr_dial.specs.Calls.{Call, Cause, Scripted, Delivered, Failed, Done, Made, Explained, Said, Task, Do, Explain, Say, AreCalls, all_done, done_in, steps_in, talk_of}
 use Rattle.sr_talk.specs.Serving.{spelled}
-use Rattle.sr_dial.specs.Honest.{AreExplained}
+use Rattle.sr_dial.specs.Honest.{AreExplained, IsAsked, IsAskedFor}
+use Rattle.sr_dial.specs.Following.{answer_of, did_by, dids_of}
+use Rattle.sr_dial.specs.declared.parts.Answer.{Answer}
+use Rattle.sr_plan.specs.Laws.{AreOf}
+use Rattle.sr_plan.specs.Plans.{AllTasks, Did, plan_of}
 use Rattle.sr_dial.specs.Known.{AreTasks, IsDeed, IsTask}
 use Rattle.sr_dial.specs.Runs.{AreInPlace, IsInPlace}
 use Rattle.sr_dial.proofs.ListLemmas.{steps-append}
@@ -65,18 +69,6 @@ not-faulty left (m ∷ ms) all p fault bad other =
 
 -- ---- lines ask for no message
 
-abbrev pub IsAsked : Deed → Type 0
-IsAsked (Took m) = ⊥
-IsAsked other = Unit {0}
-
-abbrev pub IsAskedFor : Task → Type 0
-IsAskedFor (Do deed) = IsAsked deed
-IsAskedFor (Explain text) = Unit {0}
-
-abbrev pub AreAsked : List (ℕ × Task) → Type 0
-AreAsked [] = Unit {0}
-AreAsked (line ∷ lines) = IsAskedFor line.1 × AreAsked lines
-
 deed-asked : (schema : List Table) (event : code.Event) (deed : Deed) → IsDeed schema event deed → IsAsked deed
 deed-asked schema (read.Query n query) deed (meaning, means, is) = subst IsAsked (sym is) tt
 deed-asked schema (read.Write n sql) deed is = subst IsAsked (sym is) tt
@@ -93,21 +85,24 @@ deed-asked schema (read.Settle n) deed is = absurd is
 task-asked : (schema : List Table) (event : code.Event) (task : Task) → IsTask schema event task → IsAskedFor task
 task-asked schema event (Do deed) is = deed-asked schema event deed is
 task-asked schema event (Explain text) is = tt
+task-asked schema event (Say text) is = absurd is
 
-pub are-asked : (schema : List Table) (lines : List EventLine) (script : List (ℕ × Task)) → AreTasks schema lines script → AreAsked script
+pub are-asked : (schema : List Table) (lines : List EventLine) (script : List (ℕ × Task)) → AreTasks schema lines script → AllTasks IsAskedFor (plan_of {A = Answer} script)
 are-asked schema [] [] h = tt
 are-asked schema [] (x ∷ xs) h = absurd h
 are-asked schema (line ∷ lines) [] h = absurd h
 are-asked schema (line ∷ lines) (x ∷ xs) ((task, is, same), more) =
-    (subst (λ (numbered : ℕ × Task). IsAskedFor numbered.1) (sym same) (task-asked schema line.event task is), are-asked schema lines xs more)
+    (subst (λ (numbered : ℕ × Task). IsAskedFor numbered.1) (sym same) (task-asked schema line.event task is), λ answer. are-asked schema lines xs more)
 
-pub asked-front : (xs ys : List (ℕ × Task)) → AreAsked (xs ++ ys) → AreAsked xs
-asked-front [] ys h = tt
-asked-front (x ∷ xs) ys (one, more) = (one, asked-front xs ys more)
+-- where a line asked for it, it is no message
+abbrev AsksIf : Cause → Deed → Type 0
+AsksIf Scripted deed = IsAsked deed
+AsksIf other deed = Unit {0}
 
-asked-back : (xs ys : List (ℕ × Task)) → AreAsked (xs ++ ys) → AreAsked ys
-asked-back [] ys h = h
-asked-back (x ∷ xs) ys (one, more) = asked-back xs ys more
+asked-first : (cause : Cause) (number : ℕ) (deed : Deed) (answer : Option Answer) (ds : List (Did Task Answer)) → AreOf IsAskedFor (did_by cause number deed answer ∷ ds) → AsksIf cause deed × AreOf IsAskedFor ds
+asked-first Scripted number deed answer ds asked = asked
+asked-first Delivered number deed answer ds asked = (tt, asked)
+asked-first Failed number deed answer ds asked = (tt, asked)
 
 -- ---- what was taken was awaited, and came as frames
 
@@ -119,14 +114,15 @@ abbrev pub AreHeard : {C : Type 0} → Client → List (Done C) → Type 0
 AreHeard {C} c [] = Unit {0}
 AreHeard {C} c (Made number cause step ∷ ds) = IsHeard step.deed c × AreHeard step.past ds
 AreHeard {C} c (Explained number text result ∷ ds) = AreHeard c ds
+AreHeard {C} c (Said number text ∷ ds) = AreHeard c ds
 
-heard-one : (schema : List Table) (cause : Cause) (line number : ℕ) (deed : Deed) (c : Client) → IsInPlace schema cause line number deed c → AreAsked (line_of cause number deed) → IsHeard deed c
+heard-one : (schema : List Table) (cause : Cause) (line number : ℕ) (deed : Deed) (c : Client) → IsInPlace schema cause line number deed c → AsksIf cause deed → IsHeard deed c
 heard-one schema cause line number (Queried query) c place asked = tt
 heard-one schema cause line number (Wrote sql) c place asked = tt
 heard-one schema cause line number (Evicted at) c place asked = tt
 heard-one schema cause line number WasCut c place asked = tt
 heard-one schema cause line number Resumed c place asked = tt
-heard-one schema Scripted line number (Took m) c place asked = absurd asked.0
+heard-one schema Scripted line number (Took m) c place asked = absurd asked
 heard-one schema Delivered line number (Took m) c (same, waits, is, fits) asked = (waits, is)
 heard-one schema Failed line number (Took m) c place asked = absurd place
 
@@ -147,38 +143,43 @@ spells-one WasCut c ms h all = all
 spells-one Resumed c ms h all = all
 
 module _ {C : Type 0} where
-  pub are-heard : (schema : List Table) (line : ℕ) (c : Client) (ds : List (Done C)) → AreInPlace schema line c ds → AreAsked (lines_done ds) → AreHeard c ds
-  are-heard schema line c [] place asked = tt
-  are-heard schema line c (Made number cause step ∷ ds) (one, more) asked = (
-    heard-one schema cause line number step.deed c one (asked-front (line_of cause number step.deed) (lines_done ds) asked),
-    are-heard schema number step.past ds more (asked-back (line_of cause number step.deed) (lines_done ds) asked),
-  )
-  are-heard schema line c (Explained number text result ∷ ds) (one, more) asked = are-heard schema number c ds more asked.1
+  pub are-heard : (keeps : Bool) (schema : List Table) (line : ℕ) (c : Client) (ds : List (Done C)) → AreInPlace schema line c ds → AreOf IsAskedFor (dids_of keeps ds) → AreHeard c ds
+  are-heard keeps schema line c [] place asked = tt
+  are-heard keeps schema line c (Made number cause step ∷ ds) (one, more) asked =
+      let both = asked-first cause number step.deed (answer_of keeps step.outcome) (dids_of keeps ds) asked in
+      (heard-one schema cause line number step.deed c one both.0, are-heard keeps schema number step.past ds more both.1)
+  are-heard keeps schema line c (Explained number text result ∷ ds) (one, more) asked = are-heard keeps schema number c ds more asked.1
+  are-heard keeps schema line c (Said number text ∷ ds) (one, more) asked = are-heard keeps schema number c ds more asked.1
 
   heard-front : (c : Client) (xs ys : List (Done C)) → AreHeard c (xs ++ ys) → AreHeard c xs
   heard-front c [] ys h = tt
   heard-front c (Made number cause step ∷ xs) ys (one, more) = (one, heard-front step.past xs ys more)
   heard-front c (Explained number text result ∷ xs) ys h = heard-front c xs ys h
+  heard-front c (Said number text ∷ xs) ys h = heard-front c xs ys h
 
   heard-back : (c : Client) (xs ys : List (Done C)) → AreHeard c (xs ++ ys) → AreHeard (past_after c (steps_in xs)) ys
   heard-back c [] ys h = h
   heard-back c (Made number cause step ∷ xs) ys (one, more) = heard-back step.past xs ys more
   heard-back c (Explained number text result ∷ xs) ys h = heard-back c xs ys h
+  heard-back c (Said number text ∷ xs) ys h = heard-back c xs ys h
 
   pub heard-append : (c : Client) (xs ys : List (Done C)) → AreHeard c xs → AreHeard (past_after c (steps_in xs)) ys → AreHeard c (xs ++ ys)
   heard-append c [] ys h one = one
   heard-append c (Made number cause step ∷ xs) ys (first, more) one = (first, heard-append step.past xs ys more one)
   heard-append c (Explained number text result ∷ xs) ys h one = heard-append c xs ys h one
+  heard-append c (Said number text ∷ xs) ys h one = heard-append c xs ys h one
 
   heard-awaited : (c : Client) (ds : List (Done C)) → AreHeard c ds → AreAwaited c (steps_in ds)
   heard-awaited c [] h = tt
   heard-awaited c (Made number cause step ∷ ds) (one, more) = (awaited-one step.deed c one, heard-awaited step.past ds more)
   heard-awaited c (Explained number text result ∷ ds) h = heard-awaited c ds h
+  heard-awaited c (Said number text ∷ ds) h = heard-awaited c ds h
 
   heard-spells : (c : Client) (ds : List (Done C)) → AreHeard c ds → list_all has_spelling (given_of (steps_in ds)) ≡ true
   heard-spells c [] h = refl
   heard-spells c (Made number cause step ∷ ds) (one, more) = spells-one step.deed c (given_of (steps_in ds)) one (heard-spells step.past ds more)
   heard-spells c (Explained number text result ∷ ds) h = heard-spells c ds h
+  heard-spells c (Said number text ∷ ds) h = heard-spells c ds h
 
   fair-front : (IsOf : Standing C) (limits : Limits) (code : C) (c : Client) (xs ys : List (Step C)) → AreFair IsOf limits code c (xs ++ ys) → AreFair IsOf limits code c xs
   fair-front IsOf limits code c [] ys f = tt

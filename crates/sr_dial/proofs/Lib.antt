@@ -5,7 +5,7 @@ pub mod BrokenLemmas
 pub mod BeginLemmas
 pub mod EndLemmas
 pub mod HandLemmas
-pub mod ExplainLemmas
+pub mod QuietLemmas
 pub mod LineLemmas
 pub mod WaitLemmas
 pub mod RunLemmas
@@ -16,3 +16,4 @@ pub mod SomeLemmas
 pub mod HonestLemmas
 pub mod TrueLemmas
 pub mod ServedLemmas
+pub mod PlanLemmas

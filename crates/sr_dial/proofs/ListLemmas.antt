@@ -11,7 +11,7 @@ use Rattle.sr_policy.specs.declared.policy.Limits.{Limits}
 use Rattle.sr_session.specs.Clients.{Client}
 use Rattle.sr_session.specs.Rules.{sent_of}
 use Rattle.sr_links.specs.Steps.{Step, Standing, Deed, AreFair, OnOne, StaysOn, code_after, given_of, past_after, requests_of, taken_by}
-use Rattle.sr_dial.specs.Calls.{Call, Done, Made, Explained, AreCalls, all_done, asked_by, calls_told, count_faults, done_in, fails, has_failed, is_fault, lines_done, number_of, one_if, steps_in}
+use Rattle.sr_dial.specs.Calls.{Call, Done, Made, Explained, Said, AreCalls, all_done, calls_told, count_faults, done_in, fails, has_failed, is_fault, number_of, one_if, steps_in}
 use Rattle.sr_dial.specs.Courses.{IsCall, line_after}
 use Rattle.sr_dial.specs.Known.{AreFairlyExplained}
 use Rattle.sr_dial.specs.Runs.{AreInPlace, left_by, more_taken, taken_after}
@@ -48,6 +48,7 @@ module _ {C : Type 0} where
   steps-append [] ys = refl
   steps-append (Made number cause step ∷ xs) ys = ap (λ more. step ∷ more) (steps-append xs ys)
   steps-append (Explained number text result ∷ xs) ys = steps-append xs ys
+  steps-append (Said number text ∷ xs) ys = steps-append xs ys
 
   pub line-append : (line : ℕ) (xs ys : List (Done C)) → line_after line (xs ++ ys) ≡ line_after (line_after line xs) ys
   line-append line [] ys = refl
@@ -57,23 +58,21 @@ module _ {C : Type 0} where
   taken-append n [] ys = refl
   taken-append n (Made number cause step ∷ xs) ys = taken-append (more_taken cause n) xs ys
   taken-append n (Explained number text result ∷ xs) ys = taken-append 0 xs ys
+  taken-append n (Said number text ∷ xs) ys = taken-append 0 xs ys
 
   pub place-append : (schema : List Table) (line : ℕ) (c : Client) (xs ys : List (Done C)) → AreInPlace schema line c xs → AreInPlace schema (line_after line xs) (past_after c (steps_in xs)) ys
       → AreInPlace schema line c (xs ++ ys)
   place-append schema line c [] ys one more = more
   place-append schema line c (Made number cause step ∷ xs) ys (here, one) more = (here, place-append schema number step.past xs ys one more)
   place-append schema line c (Explained number text result ∷ xs) ys (here, one) more = (here, place-append schema number c xs ys one more)
+  place-append schema line c (Said number text ∷ xs) ys (here, one) more = (here, place-append schema number c xs ys one more)
 
   pub explained-append : (IsOf : Standing C) (limits : Limits) (code : C) (c : Client) (xs ys : List (Done C)) → AreFairlyExplained IsOf limits code c xs
       → AreFairlyExplained IsOf limits (code_after code (steps_in xs)) (past_after c (steps_in xs)) ys → AreFairlyExplained IsOf limits code c (xs ++ ys)
   explained-append IsOf limits code c [] ys one more = more
   explained-append IsOf limits code c (Made number cause step ∷ xs) ys one more = explained-append IsOf limits step.code step.past xs ys one more
   explained-append IsOf limits code c (Explained number text result ∷ xs) ys (here, one) more = (here, explained-append IsOf limits code c xs ys one more)
-
-  pub lines-append : (xs ys : List (Done C)) → lines_done (xs ++ ys) ≡ lines_done xs ++ lines_done ys
-  lines-append [] ys = refl
-  lines-append (x ∷ xs) ys =
-      ap (λ more. asked_by x ++ more) (lines-append xs ys) ∙ sym (append_assoc (asked_by x) (lines_done xs) (lines_done ys))
+  explained-append IsOf limits code c (Said number text ∷ xs) ys one more = explained-append IsOf limits code c xs ys one more
 
   -- ---- calls
 

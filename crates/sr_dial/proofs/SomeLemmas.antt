@@ -1,5 +1,5 @@
 -- The beginning of a run.
-use Rattle.std.proofs.Common.{◌≡◌, ℕ, Bool, true, false, cond, List, [], refl, None}
+use Rattle.std.proofs.Common.{◌≡◌, ℕ, Bool, true, false, cond, List, [], refl, None, Option}
 use Rattle.sr_session.specs.Clients.{Client}
 use Rattle.sr_io.specs.Told.{Linking, Writing}
 use Rattle.sr_links.specs.Steps.{Standing}
@@ -9,11 +9,14 @@ use Rattle.sr_dial.specs.Known.{Setting}
 use Rattle.sr_dial.specs.Courses.{EndsLine, FailsAs, IsWritten, Start, Unbegun}
 use Rattle.sr_dial.specs.declared.ending.Ending.TheVariants.{Unwritten}
 use Rattle.sr_dial.specs.declared.run.LineEnd.TheVariants.{Failed, Ends}
+use Rattle.sr_dial.specs.declared.parts.Answer.{Answer}
+use Rattle.sr_dial.specs.Following.{Ahead}
 
-pub unbegun : (C : Type 0) (Stands : C → Client → Type 0) (IsOf : Standing C) (k : Setting) (s : Start C) → Stands s.code s.past → s.past.cut ≡ true → s.past.out ≡ None
-    → Unbegun C Stands IsOf k s [] 0 false s.linking (IsWritten s s.writing) s.code
-unbegun C Stands IsOf k s stands cut out = record {
+pub unbegun : (C : Type 0) (Stands : C → Client → Type 0) (lent : C → Option Answer) (IsOf : Standing C) (k : Setting) (s : Start C) → Stands s.code s.past → s.past.cut ≡ true → s.past.out ≡ None → lent s.code ≡ None
+    → Unbegun C Stands lent IsOf k s (λ answer. s.plan) 0 false s.linking (IsWritten s s.writing) s.code
+unbegun C Stands lent IsOf k s stands cut out lends = record {
   none = refl;
+  lends = lends;
   first = refl;
   not_failed = refl;
   links = refl;
@@ -25,7 +28,7 @@ unbegun C Stands IsOf k s stands cut out = record {
 }
 
 -- a line ends so whose link failed
-pub ends-failed : (C : Type 0) (Stands : C → Client → Type 0) (IsOf : Standing C) (k : Setting) (s : Start C) (script : List (ℕ × Task)) (line : ℕ) (failed : Bool) (l : Linking) (w : Writing) (feed : List ℕ) (code : C) (said : Bool)
-    → FailsAs C Stands IsOf k said s script line l w feed code → EndsLine C Stands IsOf k (cond said Failed (Ends Unwritten)) s script line failed l w feed code
-ends-failed C Stands IsOf k s script line failed l w feed code true is = is
-ends-failed C Stands IsOf k s script line failed l w feed code false is = (is, tt)
+pub ends-failed : (C : Type 0) (Stands : C → Client → Type 0) (lent : C → Option Answer) (IsOf : Standing C) (k : Setting) (s : Start C) (ahead : Ahead) (line : ℕ) (failed : Bool) (l : Linking) (w : Writing) (feed : List ℕ) (code : C) (said : Bool)
+    → FailsAs C Stands lent IsOf k said s ahead line l w feed code → EndsLine C Stands lent IsOf k (cond said Failed (Ends Unwritten)) s ahead line failed l w feed code
+ends-failed C Stands lent IsOf k s ahead line failed l w feed code true is = is
+ends-failed C Stands lent IsOf k s ahead line failed l w feed code false is = (is, tt)

@@ -26,16 +26,19 @@ use Rattle.sr_links.proofs.AnswerLemmas.{served-answers-are-true, answered-at}
 use Rattle.sr_links.proofs.DatabaseLemmas.{last-more, sound-before}
 use Rattle.sr_links.proofs.MendLemmas.{closed-runs}
 use Rattle.sr_links.proofs.TalkLemmas.{AreLawful, IsLawful}
-use Rattle.sr_dial.specs.Calls.{Call, Done, Made, Do, Delivered, AreCalls, all_done, done_in, steps_in, talk_of}
+use Rattle.sr_dial.specs.Calls.{Call, Done, Made, Delivered, AreCalls, all_done, done_in, steps_in, talk_of}
 use Rattle.sr_talk.specs.Serving.{spelled}
 use Rattle.sr_talk.proofs.TalkLemmas.{spelled-append}
-use Rattle.sr_dial.specs.Honest.{AreExplained, HonestRunsAreTrue, IsHonest, NamesVersion, NeverFall, came_over}
+use Rattle.sr_plan.specs.Plans.{begun, left}
+use Rattle.sr_plan.proofs.Going.{are-of}
+use Rattle.sr_dial.specs.Following.{dids_of, stage_by}
+use Rattle.sr_dial.specs.Honest.{AreExplained, HonestRunsAreTrue, IsAskedFor, IsHonest, NamesVersion, NeverFall, came_over}
 use Rattle.sr_dial.specs.Runs.{EndsBy, IsRefused, left_by}
 use Rattle.sr_dial.specs.Statuses.{status_of}
 use Rattle.sr_dial.specs.declared.ending.Ending.{Ending}
 use Rattle.sr_dial.specs.declared.ending.Ending.TheVariants as ending
 use Rattle.sr_dial.proofs.CourseLemmas.{all-step, given-step, requests-step, with_step}
-use Rattle.sr_dial.proofs.HonestLemmas.{AreAsked, AreHeard, are-asked, are-heard, are-honest, are-talks, asked-front, heard-append, never-spoiled, talk-steps}
+use Rattle.sr_dial.proofs.HonestLemmas.{AreHeard, are-heard, are-honest, are-talks, heard-append, never-spoiled, talk-steps}
 use Rattle.sr_dial.proofs.ListLemmas.{fair-append, on-append, steps-append}
 
 -- ---- versions never fall
@@ -222,21 +225,20 @@ module _ {C : Type 0} (IsOf : Standing C) (keys : AsksKeys IsOf) (limits : Limit
 -- ---- a run
 
 pub honest-runs-are-true : {C : Type 0} (IsOf : Standing C) → HonestRunsAreTrue IsOf
-honest-runs-are-true {C} IsOf k s pieces code c address lines script ended old new before after keys tables rests keeps deeds run h = record {
+honest-runs-are-true {C} IsOf k s pieces code c address plan ended old new before after keys tables rests keeps asked run h = record {
   steps = true-steps IsOf keys k.limits k.schema tables s pieces code c rests (run.ran.earlier ++ run.ran.last ∷ []) h run.ran.are heard fair keeps;
   versions = never-fall k.limits (server_at_last s pieces).database c (steps_in (all_done (run.ran.earlier ++ run.ran.last ∷ []))) (are-lawful IsOf keys k.limits k.schema tables s pieces code c rests (run.ran.earlier ++ run.ran.last ∷ []) h run.ran.are heard fair);
   accepted = by ended run.ran.ends;
 }
   where
     heard : AreHeard c (all_done (run.ran.earlier ++ run.ran.last ∷ []))
-    heard = are-heard k.schema 0 c (all_done (run.ran.earlier ++ run.ran.last ∷ [])) run.ran.in_place
-        (subst AreAsked (sym run.ran.lines_are)
-        (asked-front run.ran.lines run.ran.beginning.rest (subst AreAsked run.ran.beginning.all (tt, are-asked k.schema lines script deeds))))
+    heard = are-heard k.keeps k.schema 0 c (all_done (run.ran.earlier ++ run.ran.last ∷ [])) run.ran.in_place
+        (are-of IsAskedFor (begun plan) (dids_of k.keeps (all_done (run.ran.earlier ++ run.ran.last ∷ []))) (λ answer. asked) run.ran.goes)
 
     fair : AreFair (Here k.schema IsOf) k.limits code c (steps_in (all_done (run.ran.earlier ++ run.ran.last ∷ [])))
     fair = fair-here k.schema IsOf k.limits code c (steps_in (all_done (run.ran.earlier ++ run.ran.last ∷ []))) run.fair
 
-    by : (ended : Ending) → EndsBy ended k.schema (run.ran.earlier ++ run.ran.last ∷ []) (left_by c (run.ran.earlier ++ run.ran.last ∷ [])) run.ran.last.left run.ran.lines ((0, Do Resumed) ∷ script) → status_of ended ≢ 8
+    by : (ended : Ending) → EndsBy ended k.schema (run.ran.earlier ++ run.ran.last ∷ []) (left_by c (run.ran.earlier ++ run.ran.last ∷ [])) run.ran.last.left (left (stage_by k.keeps plan (all_done (run.ran.earlier ++ run.ran.last ∷ [])))) → status_of ended ≢ 8
     by ending.Whole ends is = absurd (let wrong : 0 ≡ 8 = is in omega (arith, wrong))
     by ending.Faulty ends is = absurd (let wrong : 5 ≡ 8 = is in omega (arith, wrong))
     by ending.Unwritten ends is = absurd (let wrong : 4 ≡ 8 = is in omega (arith, wrong))

@@ -26,15 +26,17 @@ pub data Cause : Type 0 where
   Failed : Cause
 
 -- What was done, with the number of the script's line: a step; or the client explained how it would answer a query, which is no step. Of
--- that there is what the query's text means, and what was explained, or why the text is refused.
+-- that there is what the query's text means, and what was explained, or why the text is refused. Or a text was written, which is none.
 pub data Done (C : Type 0) : Type 0 where
   Made : (number : ℕ) (cause : Cause) (step : Step C) → Done C
   Explained : (number : ℕ) (text : Result Query Fault) (result : Result Explanation Fault) → Done C
+  Said : (number : ℕ) (text : List ℕ) → Done C
 
 -- the number of the line
 abbrev pub number_of : {C : Type 0} → Done C → ℕ
 number_of {C} (Made number cause step) = number
 number_of {C} (Explained number text result) = number
+number_of {C} (Said number text) = number
 
 -- ---- its lines
 
@@ -55,27 +57,15 @@ lines_of client deed o = details client o ++ last_lines client deed o
 abbrev pub text_of : {C : Type 0} → List Table → ℕ → Done C → List ℕ
 text_of {C} schema client (Made number cause step) = flat_map (line_text schema number) (lines_of client step.deed step.outcome)
 text_of {C} schema client (Explained number text result) = flat_map (line_text schema number) (explain_lines client result)
+text_of {C} schema client (Said number text) = text
 
 -- ---- the script's lines
 
--- what a line asks of a client: a deed; or how it would answer a query of this text
+-- what a line asks for: a deed of a client; how it would answer a query of this text; or that a text is written
 pub data Task : Type 0 where
   Do : (deed : Deed) → Task
   Explain : (text : Result Query Fault) → Task
-
-abbrev pub line_of : Cause → ℕ → Deed → List (ℕ × Task)
-line_of Scripted number deed = (number, Do deed) ∷ []
-line_of other number deed = []
-
--- the line that asked for it
-abbrev pub asked_by : {C : Type 0} → Done C → List (ℕ × Task)
-asked_by {C} (Made number cause step) = line_of cause number step.deed
-asked_by {C} (Explained number text result) = (number, Explain text) ∷ []
-
--- the script's lines, in order
-abbrev pub lines_done : {C : Type 0} → List (Done C) → List (ℕ × Task)
-lines_done {C} [] = []
-lines_done {C} (d ∷ ds) = asked_by d ++ lines_done ds
+  Say : (text : List ℕ) → Task
 
 -- ---- its connections
 
@@ -83,6 +73,7 @@ abbrev pub steps_in : {C : Type 0} → List (Done C) → List (Step C)
 steps_in {C} [] = []
 steps_in {C} (Made number cause step ∷ ds) = step ∷ steps_in ds
 steps_in {C} (Explained number text result ∷ ds) = steps_in ds
+steps_in {C} (Said number text ∷ ds) = steps_in ds
 
 -- What was done from one resume, which the line of that number asked for, to the next; whether a connection was made, and the connection,
 -- where the link tells it; and the bytes that were taken from it and belong to no message that was handed on.
@@ -119,6 +110,7 @@ is_failed other = false
 abbrev pub has_failed : {C : Type 0} → Done C → Bool
 has_failed {C} (Made number cause step) = is_failed cause
 has_failed {C} (Explained number text result) = false
+has_failed {C} (Said number text) = false
 
 -- a failure cut it
 abbrev pub fails : {C : Type 0} → Call C → Bool

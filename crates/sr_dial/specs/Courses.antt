@@ -1,5 +1,5 @@
 -- How far a run has come.
-use Rattle.std.specs.Prelude.{ℕ, Bool, true, false, ◌+◌, List, [], ◌∷◌, ◌++◌, flat_map, ◌≡◌, ◌≢◌, ◌⊎◌, None, IfSome}
+use Rattle.std.specs.Prelude.{ℕ, Bool, true, false, ◌+◌, List, [], ◌∷◌, ◌++◌, flat_map, ◌≡◌, ◌≢◌, ◌⊎◌, Option, None, IfSome}
 use Rattle.std.specs.Io.KnownBytes.{Appends}
 use Rattle.std.specs.List.{list_any, All}
 use Rattle.sr_io.specs.Causes.{Rose}
@@ -9,13 +9,17 @@ use Rattle.sr_message.specs.declared.message.Message.{Message}
 use Rattle.sr_session.specs.Clients.{Client}
 use Rattle.sr_links.specs.Honest.{IsPrefix}
 use Rattle.sr_links.specs.Steps.{Standing, Resumed, AreFair, OnOne, code_after, given_of, past_after, requests_of}
-use Rattle.sr_dial.specs.Calls.{Call, Done, Task, AreCalls, all_done, calls_told, count_faults, done_in, fails, is_fault, lines_done, number_of, one_if, steps_in, text_of}
+use Rattle.sr_dial.specs.Calls.{Call, Done, Task, AreCalls, all_done, calls_told, count_faults, done_in, fails, is_fault, number_of, one_if, steps_in, text_of}
+use Rattle.sr_plan.specs.Plans.{Plan, GoBy, begun}
+use Rattle.sr_plan.specs.Plans.{Over as Nothing}
 use Rattle.sr_talk.specs.Serving.{RoseBy, spelled}
 use Rattle.sr_talk.specs.declared.frames.Next.{Next}
 use Rattle.sr_talk.specs.declared.frames.Next.TheVariants.{Frame, End, Torn, Fault, Bad}
+use Rattle.sr_dial.specs.Following.{Ahead, dids_of, stage_by}
 use Rattle.sr_dial.specs.Known.{AreFairlyExplained, IsFrom, Setting}
 use Rattle.sr_dial.specs.Runs.{AreInPlace, EndsBy, IsCarried, IsToldIf, SendsMost, SentAs, WritesAs, is_unwritten, left_by, taken_after}
 use Rattle.sr_dial.specs.declared.ending.Ending.{Ending}
+use Rattle.sr_dial.specs.declared.parts.Answer.{Answer}
 use Rattle.sr_dial.specs.declared.ending.Ending.TheVariants as ending
 use Rattle.sr_dial.specs.declared.run.LineEnd.{LineEnd}
 use Rattle.sr_dial.specs.declared.run.LineEnd.TheVariants as line_end
@@ -26,7 +30,7 @@ use Rattle.sr_dial.specs.declared.waiting.Handled.TheVariants as handled
 use Rattle.sr_dial.specs.declared.waiting.Awaited.{Awaited}
 use Rattle.sr_dial.specs.declared.waiting.Awaited.TheVariants as awaited
 
--- ---- where it began, and the address that it dials
+-- ---- where it began, the address that it dials, and the plan that it goes by
 
 pub record Start (C : Type 0) : Type 0 where
   pub linking : Linking
@@ -34,6 +38,7 @@ pub record Start (C : Type 0) : Type 0 where
   pub code : C
   pub past : Client
   pub address : List ℕ
+  pub plan : Plan Task Answer
 
 -- the number of the last line
 abbrev pub line_after : {C : Type 0} → ℕ → List (Done C) → ℕ
@@ -69,7 +74,7 @@ last_of Torn = awaited.Failed
 last_of Fault = awaited.Failed
 last_of (Bad fault) = awaited.Spoiled fault
 
--- it ends a run before its script is done
+-- it ends a run before its plan is done
 abbrev pub IsEarly : Ending → Type 0
 IsEarly ending.Whole = ⊥
 IsEarly ending.Faulty = ⊥
@@ -82,13 +87,16 @@ IsWritten {C} s w texts = Appends s.writing.written w.written texts × (w.faults
 abbrev pub IsPartWritten : {C : Type 0} → Start C → Writing → List ℕ → Type 0
 IsPartWritten {C} s w texts = WritesPrefix s.writing.written w.written texts × Rose s.writing.faults w.faults
 
-module _ (C : Type 0) (Stands : C → Client → Type 0) (IsOf : Standing C) (k : Setting) where
-  -- Steps and explanations, each in its place and fair, with this of their lines; and the client stands for the last past.
-  pub record Stepped (s : Start C) (script : List (ℕ × Task)) (line came : ℕ) (ds : List (Done C)) (P : List ℕ → Type 0) (code : C) : Type 0 where
+module _ (C : Type 0) (Stands : C → Client → Type 0) (lent : C → Option Answer) (IsOf : Standing C) (k : Setting) where
+  -- What was done, each thing in its place and fair, with this of the lines. It went by the plan: this is ahead, and the client lends the
+  -- last answer. And the client stands for the last past.
+  pub record Stepped (s : Start C) (ahead : Ahead) (line came : ℕ) (ds : List (Done C)) (P : List ℕ → Type 0) (code : C) : Type 0 where
     pub in_place : AreInPlace k.schema 0 s.past ds
     pub line_is : line_after 0 ds ≡ line
     pub came_is : taken_after 0 ds ≡ came
-    pub lines : lines_done ds ≡ script
+    pub goes : GoBy (begun s.plan) (dids_of k.keeps ds)
+    pub ahead_is : (stage_by k.keeps s.plan ds).ahead ≡ ahead
+    pub answer_is : (stage_by k.keeps s.plan ds).answer ≡ lent code
     pub from : All (IsFrom k.number) (requests_of (steps_in ds))
     pub fair : AreFair IsOf k.limits s.code s.past (steps_in ds)
     pub explained : AreFairlyExplained IsOf k.limits s.code s.past ds
@@ -98,7 +106,7 @@ module _ (C : Type 0) (Stands : C → Client → Type 0) (IsOf : Standing C) (k 
     pub writes : P (flat_map (text_of k.schema k.number) ds)
 
   -- Calls that are over, and the present one, behind whose messages the feed has these bytes.
-  pub record Course (s : Start C) (script : List (ℕ × Task)) (line came : ℕ) (P : List ℕ → Type 0) (feed : List ℕ) (code : C) : Type 0 where
+  pub record Course (s : Start C) (ahead : Ahead) (line came : ℕ) (P : List ℕ → Type 0) (feed : List ℕ) (code : C) : Type 0 where
     pub earlier : List (Call C)
     pub call : Call C
     pub are : AreCalls s.past earlier
@@ -111,11 +119,11 @@ module _ (C : Type 0) (Stands : C → Client → Type 0) (IsOf : Standing C) (k 
     pub left : call.left ≡ feed
     pub some : requests_of (steps_in (done_in call)) ≢ []
     pub taken : IfSome call.told (λ t. t.taken ≡ spelled (given_of (steps_in (done_in call))) ++ call.left)
-    pub steps : Stepped s script line came (all_done (earlier ++ call ∷ [])) P code
+    pub steps : Stepped s ahead line came (all_done (earlier ++ call ∷ [])) P code
 
   -- All that had to be sent was.
-  pub record At (s : Start C) (script : List (ℕ × Task)) (line came : ℕ) (failed : Bool) (l : Linking) (P : List ℕ → Type 0) (feed : List ℕ) (code : C) : Type 0 where
-    pub course : Course s script line came P feed code
+  pub record At (s : Start C) (ahead : Ahead) (line came : ℕ) (failed : Bool) (l : Linking) (P : List ℕ → Type 0) (feed : List ℕ) (code : C) : Type 0 where
+    pub course : Course s ahead line came P feed code
     pub sent : IfSome course.call.told (λ t. SentAs (fails course.call) (requests_of (steps_in (done_in course.call))) t.sent)
     pub faults : RoseBy s.linking.faults (count_faults (course.earlier ++ course.call ∷ [])) l.faults
     pub there : IsThere (left_by s.past (course.earlier ++ course.call ∷ [])).cut course.earlier course.call s.linking l
@@ -123,9 +131,9 @@ module _ (C : Type 0) (Stands : C → Client → Type 0) (IsOf : Standing C) (k 
     pub peers_stay : TellsStill s.linking l
 
   -- The link failed while a request is out.
-  pub record Broken (s : Start C) (script : List (ℕ × Task)) (line : ℕ) (l : Linking) (P : List ℕ → Type 0) (feed : List ℕ) (code : C) : Type 0 where
+  pub record Broken (s : Start C) (ahead : Ahead) (line : ℕ) (l : Linking) (P : List ℕ → Type 0) (feed : List ℕ) (code : C) : Type 0 where
     pub came : ℕ
-    pub course : Course s script line came P feed code
+    pub course : Course s ahead line came P feed code
     pub sent : IfSome course.call.told (λ t. SendsMost (requests_of (steps_in (done_in course.call))) t.sent)
     pub faults : RoseBy s.linking.faults (count_faults course.earlier + one_if (is_fault course.call)) l.faults
     pub made : connections l ≡ connections s.linking ++ calls_told (course.earlier ++ course.call ∷ [])
@@ -134,7 +142,7 @@ module _ (C : Type 0) (Stands : C → Client → Type 0) (IsOf : Standing C) (k 
     pub peers_stay : TellsStill s.linking l
 
   -- The client's link is cut.
-  pub record Rests (s : Start C) (script : List (ℕ × Task)) (line : ℕ) (failed : Bool) (l : Linking) (P : List ℕ → Type 0) (code : C) : Type 0 where
+  pub record Rests (s : Start C) (ahead : Ahead) (line : ℕ) (failed : Bool) (l : Linking) (P : List ℕ → Type 0) (code : C) : Type 0 where
     pub calls : List (Call C)
     pub are : AreCalls s.past calls
     pub carried : All (IsCarried false) calls
@@ -145,16 +153,16 @@ module _ (C : Type 0) (Stands : C → Client → Type 0) (IsOf : Standing C) (k 
     pub faults : RoseBy s.linking.faults (count_faults calls) l.faults
     pub failed_is : list_any fails calls ≡ failed
     pub came : ℕ
-    pub steps : Stepped s script line came (all_done calls) P code
+    pub steps : Stepped s ahead line came (all_done calls) P code
     pub cut : (left_by s.past calls).cut ≡ true
 
-  -- The run ends before its script is done, at this line.
-  pub record Over (s : Start C) (script : List (ℕ × Task)) (ended : Ending) (l : Linking) (w : Writing) : Type 0 where
+  -- The run ends before its plan is done.
+  pub record Over (s : Start C) (ended : Ending) (l : Linking) (w : Writing) : Type 0 where
     pub earlier : List (Call C)
     pub last : Call C
     pub are : AreCalls s.past (earlier ++ last ∷ [])
     pub in_place : AreInPlace k.schema 0 s.past (all_done (earlier ++ last ∷ []))
-    pub lines : lines_done (all_done (earlier ++ last ∷ [])) ≡ script
+    pub goes : GoBy (begun s.plan) (dids_of k.keeps (all_done (earlier ++ last ∷ [])))
     pub from : All (IsFrom k.number) (requests_of (steps_in (all_done (earlier ++ last ∷ []))))
     pub fair : AreFair IsOf k.limits s.code s.past (steps_in (all_done (earlier ++ last ∷ [])))
     pub explained : AreFairlyExplained IsOf k.limits s.code s.past (all_done (earlier ++ last ∷ []))
@@ -164,18 +172,19 @@ module _ (C : Type 0) (Stands : C → Client → Type 0) (IsOf : Standing C) (k 
     pub each_told : All (IsToldIf s.linking.peers) (earlier ++ last ∷ [])
     pub made : connections l ≡ connections s.linking ++ calls_told (earlier ++ last ∷ [])
     pub faults : RoseBy s.linking.faults (count_faults (earlier ++ last ∷ [])) l.faults
-    pub ends : (whole : List (ℕ × Task)) → EndsBy ended k.schema (earlier ++ last ∷ []) (left_by s.past (earlier ++ last ∷ [])) last.left script whole
+    pub ends : (rest : Plan Task Answer) → EndsBy ended k.schema (earlier ++ last ∷ []) (left_by s.past (earlier ++ last ∷ [])) last.left rest
     pub writes : WritesAs ended (flat_map (text_of k.schema k.number) (all_done (earlier ++ last ∷ []))) s.writing w
 
   -- nothing is out
-  pub record Free (s : Start C) (script : List (ℕ × Task)) (line : ℕ) (failed : Bool) (l : Linking) (P : List ℕ → Type 0) (feed : List ℕ) (code : C) : Type 0 where
+  pub record Free (s : Start C) (ahead : Ahead) (line : ℕ) (failed : Bool) (l : Linking) (P : List ℕ → Type 0) (feed : List ℕ) (code : C) : Type 0 where
     pub came : ℕ
-    pub at : At s script line came failed l P feed code
+    pub at : At s ahead line came failed l P feed code
     pub free : (left_by s.past (at.course.earlier ++ at.course.call ∷ [])).out ≡ None
 
   -- before anything was done
-  pub record Unbegun (s : Start C) (script : List (ℕ × Task)) (line : ℕ) (failed : Bool) (l : Linking) (P : List ℕ → Type 0) (code : C) : Type 0 where
-    pub none : script ≡ []
+  pub record Unbegun (s : Start C) (ahead : Ahead) (line : ℕ) (failed : Bool) (l : Linking) (P : List ℕ → Type 0) (code : C) : Type 0 where
+    pub none : ahead ≡ (λ answer. s.plan)
+    pub lends : lent code ≡ None
     pub first : line ≡ 0
     pub not_failed : failed ≡ false
     pub links : l ≡ s.linking
@@ -186,43 +195,50 @@ module _ (C : Type 0) (Stands : C → Client → Type 0) (IsOf : Standing C) (k 
     pub out : s.past.out ≡ None
 
   -- a line may resume
-  abbrev pub IsReady : Start C → List (ℕ × Task) → ℕ → Bool → Linking → (List ℕ → Type 0) → List ℕ → C → Type 0
-  IsReady s script line failed l P feed code = Free s script line failed l P feed code ⊎ Unbegun s script line failed l P code
+  abbrev pub IsReady : Start C → Ahead → ℕ → Bool → Linking → (List ℕ → Type 0) → List ℕ → C → Type 0
+  IsReady s ahead line failed l P feed code = Free s ahead line failed l P feed code ⊎ Unbegun s ahead line failed l P code
+
+  -- nothing is left to do
+  pub record IsDone (s : Start C) (failed : Bool) (l : Linking) (w : Writing) (feed : List ℕ) (code : C) : Type 0 where
+    pub ahead : Ahead
+    pub line : ℕ
+    pub free : Free s ahead line failed l (IsWritten s w) feed code
+    pub none : ahead (lent code) ≡ Nothing
 
   -- ---- what comes of a step, of waiting, and of a line
 
-  abbrev pub Hands : Handed → Start C → List (ℕ × Task) → ℕ → ℕ → Bool → Linking → Writing → List ℕ → C → Type 0
-  Hands handed.Whole s script line came failed l w feed code = At s script line came failed l (IsWritten s w) feed code
-  Hands handed.Broken s script line came failed l w feed code = Broken s script line l (IsWritten s w) feed code
-  Hands handed.Unwritten s script line came failed l w feed code = Over s script ending.Unwritten l w
+  abbrev pub Hands : Handed → Start C → Ahead → ℕ → ℕ → Bool → Linking → Writing → List ℕ → C → Type 0
+  Hands handed.Whole s ahead line came failed l w feed code = At s ahead line came failed l (IsWritten s w) feed code
+  Hands handed.Broken s ahead line came failed l w feed code = Broken s ahead line l (IsWritten s w) feed code
+  Hands handed.Unwritten s ahead line came failed l w feed code = Over s ending.Unwritten l w
 
-  abbrev pub EndsLine : LineEnd → Start C → List (ℕ × Task) → ℕ → Bool → Linking → Writing → List ℕ → C → Type 0
-  EndsLine line_end.Done s script line failed l w feed code = Free s script line failed l (IsWritten s w) feed code
-  EndsLine line_end.Failed s script line failed l w feed code = Free s script line true l (IsWritten s w) feed code
-  EndsLine (line_end.Ends ended) s script line failed l w feed code = Over s script ended l w × (IsEarly ended)
+  abbrev pub EndsLine : LineEnd → Start C → Ahead → ℕ → Bool → Linking → Writing → List ℕ → C → Type 0
+  EndsLine line_end.Done s ahead line failed l w feed code = Free s ahead line failed l (IsWritten s w) feed code
+  EndsLine line_end.Failed s ahead line failed l w feed code = Free s ahead line true l (IsWritten s w) feed code
+  EndsLine (line_end.Ends ended) s ahead line failed l w feed code = Over s ended l w × (IsEarly ended)
 
-  abbrev pub Waits : Awaited → Start C → List (ℕ × Task) → ℕ → Bool → Linking → Writing → List ℕ → C → Type 0
-  Waits awaited.Free s script line failed l w feed code = Free s script line failed l (IsWritten s w) feed code
-  Waits awaited.Failed s script line failed l w feed code = Broken s script line l (IsWritten s w) feed code
-  Waits awaited.Unwritten s script line failed l w feed code = Over s script ending.Unwritten l w
-  Waits (awaited.Spoiled fault) s script line failed l w feed code = Over s script (ending.Spoiled fault) l w
-  Waits (awaited.Bad why) s script line failed l w feed code = Over s script (ending.Bad why) l w
-  Waits awaited.Limit s script line failed l w feed code = Over s script ending.Limit l w
+  abbrev pub Waits : Awaited → Start C → Ahead → ℕ → Bool → Linking → Writing → List ℕ → C → Type 0
+  Waits awaited.Free s ahead line failed l w feed code = Free s ahead line failed l (IsWritten s w) feed code
+  Waits awaited.Failed s ahead line failed l w feed code = Broken s ahead line l (IsWritten s w) feed code
+  Waits awaited.Unwritten s ahead line failed l w feed code = Over s ending.Unwritten l w
+  Waits (awaited.Spoiled fault) s ahead line failed l w feed code = Over s (ending.Spoiled fault) l w
+  Waits (awaited.Bad why) s ahead line failed l w feed code = Over s (ending.Bad why) l w
+  Waits awaited.Limit s ahead line failed l w feed code = Over s ending.Limit l w
 
   -- the link failed, with the lines of that
-  abbrev pub FailsAs : Bool → Start C → List (ℕ × Task) → ℕ → Linking → Writing → List ℕ → C → Type 0
-  FailsAs true s script line l w feed code = Free s script line true l (IsWritten s w) feed code
-  FailsAs false s script line l w feed code = Over s script ending.Unwritten l w
+  abbrev pub FailsAs : Bool → Start C → Ahead → ℕ → Linking → Writing → List ℕ → C → Type 0
+  FailsAs true s ahead line l w feed code = Free s ahead line true l (IsWritten s w) feed code
+  FailsAs false s ahead line l w feed code = Over s ending.Unwritten l w
 
   -- a message was taken, behind which these bytes are left, or is refused
-  abbrev pub Handles : Handled → Start C → List (ℕ × Task) → ℕ → ℕ → Bool → Message → Linking → Writing → List ℕ → C → Type 0
-  Handles handled.Whole s script line came failed m l w after code = At s script line (came + 1) failed l (IsWritten s w) after code
-  Handles handled.Broken s script line came failed m l w after code = Broken s script line l (IsWritten s w) after code
-  Handles handled.Unwritten s script line came failed m l w after code = Over s script ending.Unwritten l w
-  Handles (handled.Refused why) s script line came failed m l w after code = Over s script (ending.Bad why) l w
+  abbrev pub Handles : Handled → Start C → Ahead → ℕ → ℕ → Bool → Message → Linking → Writing → List ℕ → C → Type 0
+  Handles handled.Whole s ahead line came failed m l w after code = At s ahead line (came + 1) failed l (IsWritten s w) after code
+  Handles handled.Broken s ahead line came failed m l w after code = Broken s ahead line l (IsWritten s w) after code
+  Handles handled.Unwritten s ahead line came failed m l w after code = Over s ending.Unwritten l w
+  Handles (handled.Refused why) s ahead line came failed m l w after code = Over s (ending.Bad why) l w
 
-  -- how the lines of a script end
-  abbrev pub Finishes : Ending → Start C → List (ℕ × Task) → Linking → Writing → List ℕ → C → Type 0
-  Finishes ending.Whole s script l w feed code = (line : ℕ) × Free s script line false l (IsWritten s w) feed code
-  Finishes ending.Faulty s script l w feed code = (line : ℕ) × Free s script line true l (IsWritten s w) feed code
-  Finishes ended s script l w feed code = (some : List (ℕ × Task)) × IsPrefix some script × Over s some ended l w
+  -- how a plan ends
+  abbrev pub Finishes : Ending → Start C → Linking → Writing → List ℕ → C → Type 0
+  Finishes ending.Whole s l w feed code = IsDone s false l w feed code
+  Finishes ending.Faulty s l w feed code = IsDone s true l w feed code
+  Finishes ended s l w feed code = Over s ended l w

@@ -5,7 +5,6 @@ use Rattle.sr_cell.specs.declared.table.Table.{Table}
 use Rattle.sr_io.specs.Told.{Linking, Writing}
 use Rattle.sr_policy.specs.declared.policy.Limits.{Limits}
 use Rattle.sr_query.specs.Bound.{is_table}
-use Rattle.sr_reader.specs.declared.script.EventLine.{EventLine}
 use Rattle.sr_wire.specs.Spelling.{has_spelling}
 use Rattle.sr_session.specs.Bases.{basis_of}
 use Rattle.sr_session.specs.Clients.{Client}
@@ -15,13 +14,15 @@ use Rattle.sr_session.specs.Rules.{Outcome, Answered}
 use Rattle.sr_session.specs.Sessions.{Database}
 use Rattle.sr_links.specs.Answers.{AreTrueSteps, AsksKeys}
 use Rattle.sr_links.specs.Honest.{Server, Input, IsPrefix, AreClosedBehind, Rests, frames_of, sent_for, server_after, server_at_last}
-use Rattle.sr_links.specs.Steps.{Standing, Step, given_of, requests_of}
-use Rattle.sr_dial.specs.Calls.{Call, Task, all_done, done_in, steps_in}
+use Rattle.sr_links.specs.Steps.{Standing, Step, Deed, Took, given_of, requests_of}
+use Rattle.sr_plan.specs.Plans.{Plan, AllTasks}
+use Rattle.sr_dial.specs.Calls.{Call, Task, Do, Explain, Say, all_done, done_in, steps_in}
 use Rattle.sr_talk.specs.Serving.{spelled}
-use Rattle.sr_dial.specs.Known.{AreTasks, Setting}
+use Rattle.sr_dial.specs.Known.{Setting}
 use Rattle.sr_dial.specs.Runs.{RanFairly}
 use Rattle.sr_dial.specs.Statuses.{status_of}
 use Rattle.sr_dial.specs.declared.ending.Ending.{Ending}
+use Rattle.sr_dial.specs.declared.parts.Answer.{Answer}
 
 -- ---- honest links
 
@@ -71,10 +72,20 @@ pub record IsTrue {C : Type 0} (db : Database) (limits : Limits) (c : Client) (c
   pub versions : NeverFall c (steps_in (all_done calls))
   pub accepted : status_of ended ≢ 8
 
--- So it is of a run over any number of calls, for any client whose link is cut, and that has the rows of its version on the server, within
--- its budgets.
+-- No task is to take a message: these come when the server sends them.
+abbrev pub IsAsked : Deed → Type 0
+IsAsked (Took m) = ⊥
+IsAsked other = Unit {0}
+
+abbrev pub IsAskedFor : Task → Type 0
+IsAskedFor (Do deed) = IsAsked deed
+IsAskedFor (Explain text) = Unit {0}
+IsAskedFor (Say text) = Unit {0}
+
+-- So it is of a run over any plan and any number of calls, for any client whose link is cut, and that has the rows of its version on the
+-- server, within its budgets.
 abbrev pub HonestRunsAreTrue : {C : Type 0} → Standing C → Type 0
-HonestRunsAreTrue {C} IsOf = (k : Setting) (s : Server) (pieces : List (List Input)) (code : C) (c : Client) (address : List ℕ) (lines : List EventLine) (script : List (ℕ × Task)) (ended : Ending) (old new : Linking) (before after : Writing)
-    → AsksKeys IsOf → list_all is_table k.schema ≡ true → Rests IsOf s.database code c → KeepsToBudgets (basis_of s.database k.limits) c → AreTasks k.schema lines script
-    → (run : RanFairly C IsOf k code c address script ended old new before after) → IsHonest k.schema s pieces (run.ran.earlier ++ run.ran.last ∷ [])
+HonestRunsAreTrue {C} IsOf = (k : Setting) (s : Server) (pieces : List (List Input)) (code : C) (c : Client) (address : List ℕ) (plan : Plan Task Answer) (ended : Ending) (old new : Linking) (before after : Writing)
+    → AsksKeys IsOf → list_all is_table k.schema ≡ true → Rests IsOf s.database code c → KeepsToBudgets (basis_of s.database k.limits) c → AllTasks IsAskedFor plan
+    → (run : RanFairly C IsOf k code c address plan ended old new before after) → IsHonest k.schema s pieces (run.ran.earlier ++ run.ran.last ∷ [])
     → IsTrue (server_at_last s pieces).database k.limits c (run.ran.earlier ++ run.ran.last ∷ []) ended

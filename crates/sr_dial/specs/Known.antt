@@ -1,5 +1,5 @@
 -- What is known of a client by its contract.
-use Rattle.std.specs.Prelude.{ℕ, true, false, ◌≤◌, ◌+◌, List, [], ◌∷◌, ◌≡◌, ◌≢◌, Some, None, Result, Ok, Err}
+use Rattle.std.specs.Prelude.{ℕ, Bool, true, false, ◌≤◌, ◌+◌, List, [], ◌∷◌, ◌≡◌, ◌≢◌, Option, Some, None, Result, Ok, Err}
 use Rattle.std.specs.List.{All, AllZip}
 use Rattle.sr_cell.specs.declared.fault.Fault.{Fault}
 use Rattle.sr_cell.specs.declared.table.Table.{Table}
@@ -23,7 +23,9 @@ use Rattle.sr_explain.specs.declared.explanation.Explanation.{Explanation}
 use Rattle.sr_explain.specs.Explained.{Explains, count_in}
 use Rattle.sr_explain.specs.Telling.{explain_lines}
 use Rattle.sr_links.specs.Steps.{Step, Standing, Deed, Queried, Wrote, Evicted, Took, WasCut, Resumed, IsFair}
-use Rattle.sr_dial.specs.Calls.{Done, Made, Explained, Task, Do, Explain, lines_of}
+use Rattle.sr_dial.specs.Calls.{Done, Made, Explained, Said, Task, Do, Explain, Say, lines_of}
+use Rattle.sr_dial.specs.Following.{answer_of}
+use Rattle.sr_dial.specs.declared.parts.Answer.{Answer}
 use Rattle.sr_dial.specs.declared.parts.Came.{Came}
 use Rattle.sr_dial.specs.declared.parts.Came.TheVariants.{Taken, Bad}
 
@@ -47,6 +49,7 @@ IsExplaining schema other text = ⊥
 abbrev pub IsTask : List Table → code.Event → Task → Type 0
 IsTask schema event (Do deed) = IsDeed schema event deed
 IsTask schema event (Explain text) = IsExplaining schema event text
+IsTask schema event (Say text) = ⊥
 
 -- with the number of the line
 abbrev pub IsTaskLine : List Table → EventLine → ℕ × Task → Type 0
@@ -57,11 +60,12 @@ AreTasks schema lines script = AllZip (IsTaskLine schema) lines script
 
 -- ---- steps
 
--- what a client knows, which no step changes
+-- what a client knows, which no step changes; and whether it keeps the rows of an answer, so as to lend them
 pub record Setting : Type 0 where
   pub number : ℕ
   pub schema : List Table
   pub limits : Limits
+  pub keeps : Bool
 
 -- A resume over a cut link brings it up and sends one message; a cut takes it down; nothing else changes it. Requests go out only over a
 -- link that is up.
@@ -75,9 +79,9 @@ KeepsLink deed sent c next = (next.cut ≡ c.cut) × (sent ≢ [] → c.cut ≡ 
 abbrev pub IsFrom : ℕ → Message → Type 0
 IsFrom number m = names_client number m ≡ true
 
--- What a client did, from this past: it has an outcome, by which are its lines and what it sends, and a next past, for which it stands
--- then. What is sent is from it, and is out, and over a cut link nothing is. And it is fair.
-pub record Makes {C : Type 0} (Stands : C → Client → Type 0) (IsOf : Standing C) (s : Setting) (old new : C) (c : Client) (deed : Deed) (lines : List TraceLine) (sent : List Message) : Type 0 where
+-- What a client did, from this past: it has an outcome, by which are its lines, what it sends and the answer that it lends, and a next past,
+-- for which it stands then. What is sent is from it, and is out, and over a cut link nothing is. And it is fair.
+pub record Makes {C : Type 0} (Stands : C → Client → Type 0) (lent : C → Option Answer) (IsOf : Standing C) (s : Setting) (old new : C) (c : Client) (deed : Deed) (lines : List TraceLine) (sent : List Message) : Type 0 where
   pub outcome : Outcome
   pub next : Client
   pub lines_are : lines ≡ lines_of s.number deed outcome
@@ -86,6 +90,7 @@ pub record Makes {C : Type 0} (Stands : C → Client → Type 0) (IsOf : Standin
   pub link : KeepsLink deed sent c next
   pub waits : sent ≢ [] → next.out ≢ None
   pub rests : next.cut ≡ true → next.out ≡ None
+  pub answers : lent new ≡ answer_of s.keeps outcome
   pub stands : Stands new next
   pub fair : IsFair IsOf s.limits old c (record { deed = deed; outcome = outcome; past = next; code = new })
 
@@ -95,9 +100,9 @@ MaySend (Taken told) = All IsSendable told.sent
 MaySend (Bad why) = Unit {0}
 
 -- A message was taken, which need not be refused; or it is refused.
-abbrev pub TakesAs : {C : Type 0} → Came → (C → Client → Type 0) → Standing C → Setting → C → C → Client → Message → Type 0
-TakesAs {C} (Taken told) Stands IsOf s old new c m = Makes Stands IsOf s old new c (Took m) told.lines told.sent × (misfit s.schema c.out c.laid c.version m ≡ None)
-TakesAs {C} (Bad why) Stands IsOf s old new c m = misfit s.schema c.out c.laid c.version m ≡ Some why
+abbrev pub TakesAs : {C : Type 0} → Came → (C → Client → Type 0) → (C → Option Answer) → Standing C → Setting → C → C → Client → Message → Type 0
+TakesAs {C} (Taken told) Stands lent IsOf s old new c m = Makes Stands lent IsOf s old new c (Took m) told.lines told.sent × (misfit s.schema c.out c.laid c.version m ≡ None)
+TakesAs {C} (Bad why) Stands lent IsOf s old new c m = misfit s.schema c.out c.laid c.version m ≡ Some why
 
 -- It leaves the link as it is.
 abbrev pub IsPlain : Deed → Type 0
@@ -122,6 +127,7 @@ abbrev pub AreFairlyExplained : {C : Type 0} → Standing C → Limits → C →
 AreFairlyExplained {C} IsOf limits code c [] = Unit {0}
 AreFairlyExplained {C} IsOf limits code c (Made number cause step ∷ ds) = AreFairlyExplained IsOf limits step.code step.past ds
 AreFairlyExplained {C} IsOf limits code c (Explained number text result ∷ ds) = IsFairlyExplained IsOf limits code c text result × AreFairlyExplained IsOf limits code c ds
+AreFairlyExplained {C} IsOf limits code c (Said number text ∷ ds) = AreFairlyExplained IsOf limits code c ds
 
 -- These lines tell it.
 pub record Tells {C : Type 0} (IsOf : Standing C) (s : Setting) (code : C) (c : Client) (text : Result model.Query Fault) (lines : List TraceLine) : Type 0 where

@@ -1,8 +1,11 @@
 pub mod Calls
+pub mod Following
 pub mod Known
 pub mod Runs
 pub mod Statuses
 pub mod Courses
 pub mod Carrying
+pub mod Jobs
+pub mod Listed
 pub mod Honest
 pub mod Served

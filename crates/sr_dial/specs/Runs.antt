@@ -19,17 +19,20 @@ use Rattle.sr_session.specs.Clients.{Client}
 use Rattle.sr_session.specs.Misfits.{misfit}
 use Rattle.sr_links.specs.Honest.{IsPrefix}
 use Rattle.sr_links.specs.Steps.{AreFair, Standing, Deed, Took, WasCut, Resumed, given_of, requests_of, past_after}
-use Rattle.sr_dial.specs.Calls.{Call, Cause, Scripted, Delivered, Failed, Done, Made, Explained, Task, Do, AreCalls, all_done, calls_told, count_faults, done_in, fails, lines_done, steps_in, text_of}
+use Rattle.sr_dial.specs.Calls.{Call, Cause, Scripted, Delivered, Failed, Done, Made, Explained, Said, Task, AreCalls, all_done, calls_told, count_faults, done_in, fails, steps_in, text_of}
+use Rattle.sr_plan.specs.Plans.{Plan, Over, GoBy, begun, left}
 use Rattle.sr_talk.specs.Serving.{RoseBy, spelled}
+use Rattle.sr_dial.specs.Following.{dids_of, stage_by}
 use Rattle.sr_dial.specs.Known.{AreFairlyExplained, IsFrom, Setting}
 use Rattle.sr_dial.specs.declared.ending.Ending.{Ending}
 use Rattle.sr_dial.specs.declared.ending.Ending.TheVariants as ending
+use Rattle.sr_dial.specs.declared.parts.Answer.{Answer}
 
 -- ---- steps
 
 -- A line of the script runs while nothing is out. Messages, which came as frames and need not be refused, are taken while a request is out,
 -- and the link fails then, which cuts it; both have the number of the line that ran. That nobody could be dialled is such a failure: the
--- first message of the session is out. A line that explains leaves the client as it is.
+-- first message of the session is out. A line that explains, or writes a text, leaves the client as it is.
 abbrev pub IsInPlace : List Table → Cause → ℕ → ℕ → Deed → Client → Type 0
 IsInPlace schema Scripted line number deed c = c.out ≡ None
 IsInPlace schema Delivered line number (Took m) c = (number ≡ line) × (c.out ≢ None) × IsTrue (has_spelling m) × (misfit schema c.out c.laid c.version m ≡ None)
@@ -40,6 +43,7 @@ abbrev pub AreInPlace : {C : Type 0} → List Table → ℕ → Client → List 
 AreInPlace {C} schema line c [] = Unit {0}
 AreInPlace {C} schema line c (Made number cause step ∷ ds) = IsInPlace schema cause line number step.deed c × AreInPlace schema number step.past ds
 AreInPlace {C} schema line c (Explained number text result ∷ ds) = (c.out ≡ None) × AreInPlace schema number c ds
+AreInPlace {C} schema line c (Said number text ∷ ds) = (c.out ≡ None) × AreInPlace schema number c ds
 
 -- ---- connections
 
@@ -83,6 +87,7 @@ abbrev pub taken_after : {C : Type 0} → ℕ → List (Done C) → ℕ
 taken_after {C} n [] = n
 taken_after {C} n (Made number cause step ∷ ds) = taken_after (more_taken cause n) ds
 taken_after {C} n (Explained number text result ∷ ds) = taken_after 0 ds
+taken_after {C} n (Said number text ∷ ds) = taken_after 0 ds
 
 -- A million messages were taken for one request, and one more came.
 pub record IsFull {C : Type 0} (done : List (Done C)) (left : List ℕ) : Type 0 where
@@ -107,20 +112,20 @@ pub record IsSpoiled (c : Client) (left : List ℕ) (fault : WireFault) : Type 0
   pub whole : fault ≢ Short
   pub waits : c.out ≢ None
 
--- All lines were carried out, nothing is out, and the link failed or never did.
-pub record EndsFree {C : Type 0} (c : Client) (calls : List (Call C)) (lines script : List (ℕ × Task)) (failed : Bool) : Type 0 where
-  pub all : lines ≡ script
+-- Nothing of the plan is left, nothing is out, and the link failed or never did.
+pub record EndsFree {C : Type 0} (c : Client) (calls : List (Call C)) (rest : Plan Task Answer) (failed : Bool) : Type 0 where
+  pub all : rest ≡ Over
   pub free : c.out ≡ None
   pub failed_is : list_any fails calls ≡ failed
 
--- Why a run ended, with these lines of a script, the client that its steps leave, and the bytes that are left behind what was taken last.
-abbrev pub EndsBy : {C : Type 0} → Ending → List Table → List (Call C) → Client → List ℕ → List (ℕ × Task) → List (ℕ × Task) → Type 0
-EndsBy {C} ending.Whole schema calls c left lines script = EndsFree c calls lines script false
-EndsBy {C} ending.Faulty schema calls c left lines script = EndsFree c calls lines script true
-EndsBy {C} ending.Unwritten schema calls c left lines script = Unit {0}
-EndsBy {C} (ending.Spoiled fault) schema calls c left lines script = IsSpoiled c left fault
-EndsBy {C} (ending.Bad why) schema calls c left lines script = IsRefused schema c left why
-EndsBy {C} ending.Limit schema calls c left lines script = IsFull (all_done calls) left
+-- Why a run ended, with the client that its steps leave, the bytes that are left behind what was taken last, and what is left of the plan.
+abbrev pub EndsBy : {C : Type 0} → Ending → List Table → List (Call C) → Client → List ℕ → Plan Task Answer → Type 0
+EndsBy {C} ending.Whole schema calls c left rest = EndsFree c calls rest false
+EndsBy {C} ending.Faulty schema calls c left rest = EndsFree c calls rest true
+EndsBy {C} ending.Unwritten schema calls c left rest = Unit {0}
+EndsBy {C} (ending.Spoiled fault) schema calls c left rest = IsSpoiled c left fault
+EndsBy {C} (ending.Bad why) schema calls c left rest = IsRefused schema c left why
+EndsBy {C} ending.Limit schema calls c left rest = IsFull (all_done calls) left
 
 -- Each line is written once its step is done: all of them, or a beginning where one is not written, which is counted as a fault.
 abbrev pub WritesAs : Ending → List ℕ → Writing → Writing → Type 0
@@ -131,18 +136,16 @@ abbrev pub is_unwritten : Ending → Bool
 is_unwritten ending.Unwritten = true
 is_unwritten other = false
 
--- A run of the client of that number, which was `c` before, over the lines of a script. Call by call it resumed, and then did what the
--- lines ask, in order. The link tells just these connections more, each made at this address; where it told its peers, it tells each that
--- was made. It is given up. Each request is from that client.
-pub record Ran (C : Type 0) (schema : List Table) (client : ℕ) (c : Client) (address : List ℕ) (script : List (ℕ × Task)) (ended : Ending) (old new : Linking) (before after : Writing) : Type 0 where
+-- A run over a plan by a client of this setting, which was `c` before. Call by call it resumed, and then did what the plan asks, in order.
+-- The link tells just these connections more, each made at this address; where it told its peers, it tells each that was made. It is given
+-- up. Each request is from that client.
+pub record Ran (C : Type 0) (k : Setting) (c : Client) (address : List ℕ) (plan : Plan Task Answer) (ended : Ending) (old new : Linking) (before after : Writing) : Type 0 where
   pub earlier : List (Call C)
   pub last : Call C
-  pub lines : List (ℕ × Task)
   pub are : AreCalls c (earlier ++ last ∷ [])
-  pub in_place : AreInPlace schema 0 c (all_done (earlier ++ last ∷ []))
-  pub from : All (IsFrom client) (requests_of (steps_in (all_done (earlier ++ last ∷ []))))
-  pub lines_are : lines_done (all_done (earlier ++ last ∷ [])) ≡ lines
-  pub beginning : IsPrefix lines ((0, Do Resumed) ∷ script)
+  pub in_place : AreInPlace k.schema 0 c (all_done (earlier ++ last ∷ []))
+  pub from : All (IsFrom k.number) (requests_of (steps_in (all_done (earlier ++ last ∷ []))))
+  pub goes : GoBy (begun plan) (dids_of k.keeps (all_done (earlier ++ last ∷ [])))
   pub carried : All (IsCarried false) earlier
   pub last_carried : IsCarried (is_unwritten ended) last
   pub made : connections new ≡ connections old ++ calls_told (earlier ++ last ∷ [])
@@ -150,11 +153,11 @@ pub record Ran (C : Type 0) (schema : List Table) (client : ℕ) (c : Client) (a
   pub each_told : All (IsToldIf old.peers) (earlier ++ last ∷ [])
   pub hung_up : new.is_up ≡ false
   pub faults : RoseBy old.faults (count_faults (earlier ++ last ∷ [])) new.faults
-  pub ends : EndsBy ended schema (earlier ++ last ∷ []) (left_by c (earlier ++ last ∷ [])) last.left lines ((0, Do Resumed) ∷ script)
-  pub writes : WritesAs ended (flat_map (text_of schema client) (all_done (earlier ++ last ∷ []))) before after
+  pub ends : EndsBy ended k.schema (earlier ++ last ∷ []) (left_by c (earlier ++ last ∷ [])) last.left (left (stage_by k.keeps plan (all_done (earlier ++ last ∷ []))))
+  pub writes : WritesAs ended (flat_map (text_of k.schema k.number) (all_done (earlier ++ last ∷ []))) before after
 
 -- And each of its steps is fair, from this code on, and so is what was explained.
-pub record RanFairly (C : Type 0) (IsOf : Standing C) (k : Setting) (code : C) (c : Client) (address : List ℕ) (script : List (ℕ × Task)) (ended : Ending) (old new : Linking) (before after : Writing) : Type 0 where
-  pub ran : Ran C k.schema k.number c address script ended old new before after
+pub record RanFairly (C : Type 0) (IsOf : Standing C) (k : Setting) (code : C) (c : Client) (address : List ℕ) (plan : Plan Task Answer) (ended : Ending) (old new : Linking) (before after : Writing) : Type 0 where
+  pub ran : Ran C k c address plan ended old new before after
   pub fair : AreFair IsOf k.limits code c (steps_in (all_done (ran.earlier ++ ran.last ∷ [])))
   pub explained : AreFairlyExplained IsOf k.limits code c (all_done (ran.earlier ++ ran.last ∷ []))

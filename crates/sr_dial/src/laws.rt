@@ -1,15 +1,22 @@
 //! Laws of runs of `client`: functions that do nothing, and whose contracts are the laws.
 ghost use Rattle.sr_dial.specs.Honest.{HonestRunsAreTrue};
+ghost use Rattle.sr_dial.specs.Listed.{ListsAreDoneInOrder};
 ghost use Rattle.sr_dial.specs.Served.{ServedCallsAreExplained};
 
 use sr_links::laws::Peer;
 use sr_talk::parts::Serves;
 
-/// Over an honest link each answer that a run of `client` writes has the rows of its query on the server's tables at the version that it
-/// names, each ask asks just what is not covered, a covered query sends nothing, the client keeps to its budgets, versions never fall, and
-/// nothing that comes is refused: over any number of connections in turn, and whatever versions the server makes meanwhile.
+/// Over an honest link, whatever the plan is, each answer that a run of a client writes has the rows of its query on the server's tables
+/// at the version that it names, each ask asks just what is not covered, a covered query sends nothing, the client keeps to its budgets,
+/// versions never fall, and nothing that comes is refused: over any number of connections in turn, and whatever versions the server makes
+/// meanwhile.
 pub fn honest_runs_are_true<C: Peer>()
     ensures { HonestRunsAreTrue C.is_of }
+{}
+
+/// A run over the plan of a list does the list's tasks in order, up to one of them; where nothing is left, all of them.
+pub fn lists_are_done_in_order<C>()
+    ensures { ListsAreDoneInOrder C }
 {}
 
 /// The link of calls to a server that serves is honest: what was said over each connection is what the rules give, and the session is

@@ -4,6 +4,7 @@
 pub mod ending;
 pub mod laws;
 pub mod parts;
+pub mod plans;
 pub mod run;
 pub mod steps;
 pub mod waiting;

@@ -2,23 +2,27 @@
 ghost use Rattle.std.specs.Prelude.{◌≡◌, ◌≤◌, ◌+◌, ◌*◌, ◌++◌, ◌^◌, true, false, ℕ, Bool, List, [], ◌∷◌, None, length, IfOk, if◌then◌else◌};
 ghost use Rattle.sr_session.specs.Clients.{Client as Past};
 ghost use Rattle.sr_links.specs.Steps.{Resumed};
+ghost use Rattle.sr_plan.specs.Plans.{Next};
 ghost use Rattle.sr_dial.specs.Calls.{Task, Do};
+ghost use Rattle.sr_dial.specs.Following.{Ahead, ahead_of};
+ghost use Rattle.sr_dial.specs.Jobs.{IsJob, number_of};
 ghost use Rattle.sr_talk.specs.Rounds.{OnlyOutput};
 ghost use Rattle.sr_dial.specs.Courses.{At, Broken, EndsLine, Finishes, Free, Hands, IsWritten, Start, Unbegun};
-ghost use Rattle.sr_dial.specs.Known.{AreTasks, IsTask, Setting};
+ghost use Rattle.sr_dial.specs.Known.{IsTask, Setting};
 ghost use Rattle.sr_dial.specs.Runs.{RanFairly};
 ghost use Rattle.sr_dial.specs.declared.ending.Ending.TheVariants.{Whole as EndsWhole, Faulty as EndsFaulty, Unwritten as EndsUnwritten};
 ghost use Rattle.sr_dial.specs.declared.run.LineEnd.TheVariants.{Failed as LineFailed, Ends as LineEnds};
 
 use crate::ending::Ending;
 use crate::parts::Asks;
-use crate::steps::{Handed, ask, begin, end, fail, tell};
+use crate::plans::{Job, Plans};
+use crate::steps::{Handed, ask, begin, end, fail, tell, write};
 use crate::waiting::{Awaited, await_answer};
 use sr_cell::list::NoMemory;
 use sr_cell::table::Table;
 use sr_feed::feed::Feed;
 use sr_io::outside::Host;
-use sr_reader::script::{Event, EventLine, EventLines};
+use sr_reader::script::{Event, EventLine};
 use std::alloc::Global;
 
 /// How a line ended: it is done, and the link did not fail; it failed; or the run ends.
@@ -29,8 +33,31 @@ pub enum LineEnd {
     Ends(Ending),
 }
 
-/// Begins to do what a line asks.
+/// Begins a job.
 fn start<H: Host, C: Asks>(
+    alloc: Global,
+    host: &mut H,
+    feed: &mut Feed,
+    client: &mut C,
+    schema: &[Table],
+    address: &str,
+    job: Job,
+) -> Result<Handed, NoMemory>
+    requires asks { (task : Task) × IsJob (C.setting client.old).schema job task }
+    requires room { 2 ≤ C.room client.old }
+    ensures started { (k : Setting) (s : Start C) (ahead further : Ahead) (number : ℕ) (failed : Bool) (task : Task) → s.address ≡ address.now → C.setting client.old ≡ k → schema.now ≡ k.schema → Free C C.stands C.lent C.is_of k s ahead number failed (H.linking host.old) (IsWritten s (H.writing host.old)) feed.old client.old → IsJob k.schema job task → ahead (C.lent client.old) ≡ Next (number_of job) task further → IfOk result (λ handed. Hands C C.stands C.lent C.is_of k handed s (ahead_of task further) (number_of job) 0 failed (H.linking host.new) (H.writing host.new) feed.new client.new) }
+    ensures setting { C.setting client.new ≡ C.setting client.old }
+    ensures draws { C.room client.old ≤ C.room client.new + 2 }
+    ensures stays { OnlyOutput H H.reading H.held H.complaints H.IsSteady host.old host.new }
+{
+    match job {
+        Job::Line(line) => start_line(alloc, host, feed, client, schema, address, line),
+        Job::Say { number, text } => write(host, client, number, text.as_str()),
+    }
+}
+
+/// Begins to do what a line asks.
+fn start_line<H: Host, C: Asks>(
     alloc: Global,
     host: &mut H,
     feed: &mut Feed,
@@ -41,7 +68,7 @@ fn start<H: Host, C: Asks>(
 ) -> Result<Handed, NoMemory>
     requires asks { (task : Task) × IsTask (C.setting client.old).schema line.event task }
     requires room { 2 ≤ C.room client.old }
-    ensures started { (k : Setting) (s : Start C) (script : List (ℕ × Task)) (number : ℕ) (failed : Bool) (task : Task) → s.address ≡ address.now → C.setting client.old ≡ k → schema.now ≡ k.schema → Free C C.stands C.is_of k s script number failed (H.linking host.old) (IsWritten s (H.writing host.old)) feed.old client.old → IsTask k.schema line.event task → IfOk result (λ handed. Hands C C.stands C.is_of k handed s (script ++ (line.number, task) ∷ []) line.number 0 failed (H.linking host.new) (H.writing host.new) feed.new client.new) }
+    ensures started { (k : Setting) (s : Start C) (ahead further : Ahead) (number : ℕ) (failed : Bool) (task : Task) → s.address ≡ address.now → C.setting client.old ≡ k → schema.now ≡ k.schema → Free C C.stands C.lent C.is_of k s ahead number failed (H.linking host.old) (IsWritten s (H.writing host.old)) feed.old client.old → IsTask k.schema line.event task → ahead (C.lent client.old) ≡ Next line.number task further → IfOk result (λ handed. Hands C C.stands C.lent C.is_of k handed s (ahead_of task further) line.number 0 failed (H.linking host.new) (H.writing host.new) feed.new client.new) }
     ensures setting { C.setting client.new ≡ C.setting client.old }
     ensures draws { C.room client.old ≤ C.room client.new + 2 }
     ensures stays { OnlyOutput H H.reading H.held H.complaints H.IsSteady host.old host.new }
@@ -71,25 +98,25 @@ fn start<H: Host, C: Asks>(
     }
 }
 
-/// Does what a line asks, until nothing is out.
-fn run_line<H: Host, C: Asks>(
+/// Does a job, until nothing is out.
+fn run_job<H: Host, C: Asks>(
     alloc: Global,
     host: &mut H,
     feed: &mut Feed,
     client: &mut C,
     schema: &[Table],
     address: &str,
-    line: EventLine,
+    job: Job,
 ) -> Result<LineEnd, NoMemory>
-    requires asks { (task : Task) × IsTask (C.setting client.old).schema line.event task }
+    requires asks { (task : Task) × IsJob (C.setting client.old).schema job task }
     requires room { 2000004 ≤ C.room client.old }
-    ensures ended { (k : Setting) (s : Start C) (script : List (ℕ × Task)) (number : ℕ) (failed : Bool) (task : Task) → s.address ≡ address.now → C.setting client.old ≡ k → schema.now ≡ k.schema → Free C C.stands C.is_of k s script number failed (H.linking host.old) (IsWritten s (H.writing host.old)) feed.old client.old → IsTask k.schema line.event task → IfOk result (λ end. EndsLine C C.stands C.is_of k end s (script ++ (line.number, task) ∷ []) line.number failed (H.linking host.new) (H.writing host.new) feed.new client.new) }
+    ensures ended { (k : Setting) (s : Start C) (ahead further : Ahead) (number : ℕ) (failed : Bool) (task : Task) → s.address ≡ address.now → C.setting client.old ≡ k → schema.now ≡ k.schema → Free C C.stands C.lent C.is_of k s ahead number failed (H.linking host.old) (IsWritten s (H.writing host.old)) feed.old client.old → IsJob k.schema job task → ahead (C.lent client.old) ≡ Next (number_of job) task further → IfOk result (λ end. EndsLine C C.stands C.lent C.is_of k end s (ahead_of task further) (number_of job) failed (H.linking host.new) (H.writing host.new) feed.new client.new) }
     ensures setting { C.setting client.new ≡ C.setting client.old }
     ensures draws { C.room client.old ≤ C.room client.new + 2000004 }
     ensures stays { OnlyOutput H H.reading H.held H.complaints H.IsSteady host.old host.new }
 {
-    let number = line.number;
-    let handed = start(alloc, host, feed, client, schema, address, line)?;
+    let number = job.number();
+    let handed = start(alloc, host, feed, client, schema, address, job)?;
     finish(alloc, host, feed, client, schema, number, handed)
 }
 
@@ -104,7 +131,7 @@ fn finish<H: Host, C: Asks>(
     handed: Handed,
 ) -> Result<LineEnd, NoMemory>
     requires room { 2000002 ≤ C.room client.old }
-    ensures ended { (k : Setting) (s : Start C) (script : List (ℕ × Task)) (failed : Bool) → C.setting client.old ≡ k → schema.now ≡ k.schema → Hands C C.stands C.is_of k handed s script number 0 failed (H.linking host.old) (H.writing host.old) feed.old client.old → IfOk result (λ end. EndsLine C C.stands C.is_of k end s script number failed (H.linking host.new) (H.writing host.new) feed.new client.new) }
+    ensures ended { (k : Setting) (s : Start C) (ahead : Ahead) (failed : Bool) → C.setting client.old ≡ k → schema.now ≡ k.schema → Hands C C.stands C.lent C.is_of k handed s ahead number 0 failed (H.linking host.old) (H.writing host.old) feed.old client.old → IfOk result (λ end. EndsLine C C.stands C.lent C.is_of k end s ahead number failed (H.linking host.new) (H.writing host.new) feed.new client.new) }
     ensures setting { C.setting client.new ≡ C.setting client.old }
     ensures draws { C.room client.old ≤ C.room client.new + 2000002 }
     ensures stays { OnlyOutput H H.reading H.held H.complaints H.IsSteady host.old host.new }
@@ -126,7 +153,7 @@ fn settle<H: Host, C: Asks>(
     number: u64,
 ) -> Result<LineEnd, NoMemory>
     requires room { 2000002 ≤ C.room client.old }
-    ensures ended { (k : Setting) (s : Start C) (script : List (ℕ × Task)) (failed : Bool) → C.setting client.old ≡ k → schema.now ≡ k.schema → At C C.stands C.is_of k s script number 0 failed (H.linking host.old) (IsWritten s (H.writing host.old)) feed.old client.old → IfOk result (λ end. EndsLine C C.stands C.is_of k end s script number failed (H.linking host.new) (H.writing host.new) feed.new client.new) }
+    ensures ended { (k : Setting) (s : Start C) (ahead : Ahead) (failed : Bool) → C.setting client.old ≡ k → schema.now ≡ k.schema → At C C.stands C.lent C.is_of k s ahead number 0 failed (H.linking host.old) (IsWritten s (H.writing host.old)) feed.old client.old → IfOk result (λ end. EndsLine C C.stands C.lent C.is_of k end s ahead number failed (H.linking host.new) (H.writing host.new) feed.new client.new) }
     ensures setting { C.setting client.new ≡ C.setting client.old }
     ensures draws { C.room client.old ≤ C.room client.new + 2000002 }
     ensures stays { OnlyOutput H H.reading H.held H.complaints H.IsSteady host.old host.new }
@@ -150,7 +177,7 @@ fn failed<H: Host, C: Asks>(
     number: u64,
 ) -> Result<LineEnd, NoMemory>
     requires room { 2 ≤ C.room client.old }
-    ensures ended { (k : Setting) (s : Start C) (script : List (ℕ × Task)) (failed : Bool) (feed : List ℕ) → C.setting client.old ≡ k → schema.now ≡ k.schema → Broken C C.stands C.is_of k s script number (H.linking host.old) (IsWritten s (H.writing host.old)) feed client.old → IfOk result (λ end. EndsLine C C.stands C.is_of k end s script number failed (H.linking host.new) (H.writing host.new) feed client.new) }
+    ensures ended { (k : Setting) (s : Start C) (ahead : Ahead) (failed : Bool) (feed : List ℕ) → C.setting client.old ≡ k → schema.now ≡ k.schema → Broken C C.stands C.lent C.is_of k s ahead number (H.linking host.old) (IsWritten s (H.writing host.old)) feed client.old → IfOk result (λ end. EndsLine C C.stands C.lent C.is_of k end s ahead number failed (H.linking host.new) (H.writing host.new) feed client.new) }
     ensures setting { C.setting client.new ≡ C.setting client.old }
     ensures draws { C.room client.old ≤ C.room client.new + 2 }
     ensures stays { OnlyOutput H H.reading H.held H.complaints H.IsSteady host.old host.new }
@@ -169,25 +196,25 @@ fn end_of(said: bool) -> LineEnd
     }
 }
 
-/// Does what the lines ask, one after another, after one that failed or did not.
-fn run_lines<H: Host, C: Asks>(
+/// Does one job of a plan after another, behind a line that failed or did not.
+fn run_plan<H: Host, C: Asks, P: Plans>(
     alloc: Global,
     host: &mut H,
     feed: &mut Feed,
     client: &mut C,
     schema: &[Table],
     address: &str,
-    lines: EventLines,
+    plans: &mut P,
     failed: bool,
 ) -> Result<Ending, NoMemory>
-    requires asks { (script : List (ℕ × Task)) × AreTasks (C.setting client.old).schema lines script }
-    requires room { 2000004 * length lines ≤ C.room client.old }
-    ensures ended { (k : Setting) (s : Start C) (script : List (ℕ × Task)) (number : ℕ) (tasks : List (ℕ × Task)) → s.address ≡ address.now → C.setting client.old ≡ k → schema.now ≡ k.schema → Free C C.stands C.is_of k s script number failed (H.linking host.old) (IsWritten s (H.writing host.old)) feed.old client.old → AreTasks k.schema lines tasks → IfOk result (λ ending. Finishes C C.stands C.is_of k ending s (script ++ tasks) (H.linking host.new) (H.writing host.new) feed.new client.new) }
+    requires asks { (ahead : Ahead) × P.follows (C.setting client.old).schema plans.old ahead }
+    requires room { 2000004 * P.depth plans.old ≤ C.room client.old }
+    ensures ended { (k : Setting) (s : Start C) (ahead : Ahead) (number : ℕ) → s.address ≡ address.now → C.setting client.old ≡ k → schema.now ≡ k.schema → Free C C.stands C.lent C.is_of k s ahead number failed (H.linking host.old) (IsWritten s (H.writing host.old)) feed.old client.old → P.follows k.schema plans.old ahead → IfOk result (λ ending. Finishes C C.stands C.lent C.is_of k ending s (H.linking host.new) (H.writing host.new) feed.new client.new) }
     ensures stays { OnlyOutput H H.reading H.held H.complaints H.IsSteady host.old host.new }
 {
     let mut failed = failed;
-    for line in lines.into_vec() {
-        match run_line(alloc, host, feed, client, schema, address, line)? {
+    while let Some(job) = plans.next(alloc, client.answer())? {
+        match run_job(alloc, host, feed, client, schema, address, job)? {
             LineEnd::Done => {}
             LineEnd::Failed => failed = true,
             LineEnd::Ends(ending) => return Ok(ending),
@@ -217,7 +244,7 @@ fn first_line<H: Host, C: Asks>(
     address: &str,
 ) -> Result<LineEnd, NoMemory>
     requires room { 2000004 ≤ C.room client.old }
-    ensures ended { (k : Setting) (s : Start C) → s.address ≡ address.now → C.setting client.old ≡ k → schema.now ≡ k.schema → Unbegun C C.stands C.is_of k s [] 0 false (H.linking host.old) (IsWritten s (H.writing host.old)) client.old → IfOk result (λ end. EndsLine C C.stands C.is_of k end s ((0, Do Resumed) ∷ []) 0 false (H.linking host.new) (H.writing host.new) feed.new client.new) }
+    ensures ended { (k : Setting) (s : Start C) (ahead : Ahead) → s.address ≡ address.now → C.setting client.old ≡ k → schema.now ≡ k.schema → s.plan ≡ Next 0 (Do Resumed) ahead → Unbegun C C.stands C.lent C.is_of k s (λ answer. s.plan) 0 false (H.linking host.old) (IsWritten s (H.writing host.old)) client.old → IfOk result (λ end. EndsLine C C.stands C.lent C.is_of k end s ahead 0 false (H.linking host.new) (H.writing host.new) feed.new client.new) }
     ensures setting { C.setting client.new ≡ C.setting client.old }
     ensures draws { C.room client.old ≤ C.room client.new + 2000004 }
     ensures stays { OnlyOutput H H.reading H.held H.complaints H.IsSteady host.old host.new }
@@ -227,49 +254,50 @@ fn first_line<H: Host, C: Asks>(
     finish(alloc, host, feed, client, schema, 0, handed)
 }
 
-/// Does what the lines ask, if the first resume did not end the run.
-fn go_on<H: Host, C: Asks>(
+/// Does the jobs of a plan, if the first resume did not end the run.
+fn go_on<H: Host, C: Asks, P: Plans>(
     alloc: Global,
     host: &mut H,
     feed: &mut Feed,
     client: &mut C,
     schema: &[Table],
     address: &str,
-    lines: EventLines,
+    plans: &mut P,
     end: LineEnd,
 ) -> Result<Ending, NoMemory>
-    requires asks { (script : List (ℕ × Task)) × AreTasks (C.setting client.old).schema lines script }
-    requires room { 2000004 * length lines ≤ C.room client.old }
-    ensures ended { (k : Setting) (s : Start C) (tasks : List (ℕ × Task)) → s.address ≡ address.now → C.setting client.old ≡ k → schema.now ≡ k.schema → EndsLine C C.stands C.is_of k end s ((0, Do Resumed) ∷ []) 0 false (H.linking host.old) (H.writing host.old) feed.old client.old → AreTasks k.schema lines tasks → IfOk result (λ ending. Finishes C C.stands C.is_of k ending s ((0, Do Resumed) ∷ tasks) (H.linking host.new) (H.writing host.new) feed.new client.new) }
+    requires asks { (ahead : Ahead) × P.follows (C.setting client.old).schema plans.old ahead }
+    requires room { 2000004 * P.depth plans.old ≤ C.room client.old }
+    ensures ended { (k : Setting) (s : Start C) (ahead : Ahead) → s.address ≡ address.now → C.setting client.old ≡ k → schema.now ≡ k.schema → EndsLine C C.stands C.lent C.is_of k end s ahead 0 false (H.linking host.old) (H.writing host.old) feed.old client.old → P.follows k.schema plans.old ahead → IfOk result (λ ending. Finishes C C.stands C.lent C.is_of k ending s (H.linking host.new) (H.writing host.new) feed.new client.new) }
     ensures stays { OnlyOutput H H.reading H.held H.complaints H.IsSteady host.old host.new }
 {
     match end {
-        LineEnd::Done => run_lines(alloc, host, feed, client, schema, address, lines, false),
-        LineEnd::Failed => run_lines(alloc, host, feed, client, schema, address, lines, true),
+        LineEnd::Done => run_plan(alloc, host, feed, client, schema, address, plans, false),
+        LineEnd::Failed => run_plan(alloc, host, feed, client, schema, address, plans, true),
         LineEnd::Ends(ending) => Ok(ending),
     }
 }
 
-/// Resumes the client, whose link is cut, and then does what the lines of a script ask of it, each until nothing is out. Each line of the
-/// trace is written once its step is done. The link is given up at the end.
-pub fn run<H: Host, C: Asks>(
+/// Resumes the client, whose link is cut, and then does what the plan asks, each job until nothing is out. Each line of the trace is
+/// written once its step is done. The link is given up at the end.
+pub fn run<H: Host, C: Asks, P: Plans>(
     alloc: Global,
     host: &mut H,
     client: &mut C,
     schema: &[Table],
     id: u8,
     address: &str,
-    lines: EventLines,
+    plans: &mut P,
 ) -> Result<Ending, NoMemory>
     requires schema { schema.now ≡ (C.setting client.old).schema }
-    requires asks { (script : List (ℕ × Task)) × AreTasks (C.setting client.old).schema lines script }
-    requires room { 2000004 * (length lines + 1) ≤ C.room client.old }
-    ensures ran { (c : Past) (script : List (ℕ × Task)) → C.stands client.old c → c.cut ≡ true → c.out ≡ None → AreTasks schema.now lines script → IfOk result (λ ending. RanFairly C C.is_of (C.setting client.old) client.old c address.now script ending (H.linking host.old) (H.linking host.new) (H.writing host.old) (H.writing host.new)) }
+    requires asks { (ahead : Ahead) × P.follows (C.setting client.old).schema plans.old ahead }
+    requires room { 2000004 * (P.depth plans.old + 1) ≤ C.room client.old }
+    requires fresh { C.lent client.old ≡ None }
+    ensures ran { (c : Past) (ahead : Ahead) → C.stands client.old c → c.cut ≡ true → c.out ≡ None → P.follows schema.now plans.old ahead → IfOk result (λ ending. RanFairly C C.is_of (C.setting client.old) client.old c address.now (Next 0 (Do Resumed) ahead) ending (H.linking host.old) (H.linking host.new) (H.writing host.old) (H.writing host.new)) }
     ensures stays { OnlyOutput H H.reading H.held H.complaints H.IsSteady host.old host.new }
 {
     let mut feed = Feed::new(alloc);
     let end = first_line(alloc, host, &mut feed, client, schema, id, address)?;
-    let ending = go_on(alloc, host, &mut feed, client, schema, address, lines, end)?;
+    let ending = go_on(alloc, host, &mut feed, client, schema, address, plans, end)?;
     host.hang_up();
     Ok(ending)
 }

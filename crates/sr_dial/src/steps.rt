@@ -1,5 +1,5 @@
 //! Steps of a client, carried out over a link.
-ghost use Rattle.std.specs.Prelude.{◌≡◌, ◌≤◌, ◌<◌, ◌+◌, ◌++◌, true, false, ℕ, Bool, List, [], ◌∷◌, flat_map, string_bytes, Result, IfOk, if◌then◌else◌};
+ghost use Rattle.std.specs.Prelude.{◌≡◌, ◌≤◌, ◌+◌, ℕ, Bool, List, None, flat_map, string_bytes, Result, IfOk, if◌then◌else◌};
 ghost use Rattle.std.specs.List.{All};
 ghost use Rattle.sr_script.specs.TraceText.{line_text};
 ghost use Rattle.sr_session.specs.Clients.{Client as Past};
@@ -8,7 +8,9 @@ ghost use Rattle.sr_cell.specs.declared.fault.Fault.{Fault as TheFault};
 ghost use Rattle.sr_model.specs.Queries.{Query as TheQuery};
 ghost use Rattle.sr_reader.specs.Read.{Means};
 ghost use Rattle.sr_links.specs.Steps.{Deed, Resumed, WasCut};
-ghost use Rattle.sr_dial.specs.Calls.{Task, Do, Explain};
+ghost use Rattle.sr_plan.specs.Plans.{Next};
+ghost use Rattle.sr_dial.specs.Calls.{Do, Explain, Say};
+ghost use Rattle.sr_dial.specs.Following.{Ahead};
 ghost use Rattle.sr_talk.specs.Rounds.{OnlyOutput};
 ghost use Rattle.sr_talk.specs.Serving.{spelled};
 ghost use Rattle.sr_dial.specs.Carrying.{Carries, SaysAs};
@@ -54,6 +56,19 @@ fn text_of(
     Ok(text)
 }
 
+/// Writes a text. False where the sink fails.
+fn write_text<K: Sink>(sink: &mut K, text: &str) -> Result<bool, NoMemory>
+    ensures said { IfOk result (λ all. SaysAs all (K.writing sink.old) (K.writing sink.new) text.now) }
+    ensures stays { OnlyOutput K K.reading K.held K.complaints K.IsSteady sink.old sink.new }
+    ensures linking_stays { K.linking sink.new ≡ K.linking sink.old }
+{
+    match write_all(sink, text.as_bytes()) {
+        Ok(()) => Ok(true),
+        Err(No::Refused(_)) => Ok(false),
+        Err(No::NoMemory) => Err(NoMemory),
+    }
+}
+
 /// Writes the lines of a step. False where the sink fails.
 fn say<K: Sink>(
     alloc: Global,
@@ -67,11 +82,7 @@ fn say<K: Sink>(
     ensures linking_stays { K.linking sink.new ≡ K.linking sink.old }
 {
     let text = text_of(alloc, schema, number, lines)?;
-    match write_all(sink, text.as_bytes()) {
-        Ok(()) => Ok(true),
-        Err(No::Refused(_)) => Ok(false),
-        Err(No::NoMemory) => Err(NoMemory),
-    }
+    write_text(sink, text.as_str())
 }
 
 /// Sends what a step sends, and then writes its lines.
@@ -130,7 +141,7 @@ pub(crate) fn ask<H: Link + Sink, C: Asks>(
 ) -> Result<Handed, NoMemory>
     requires asks { (deed : Deed) × IsDeed (C.setting client.old).schema event deed }
     requires room { 2 ≤ C.room client.old }
-    ensures asked { (k : Setting) (s : Start C) (script : List (ℕ × Task)) (line : ℕ) (failed : Bool) (feed : List ℕ) (deed : Deed) → C.setting client.old ≡ k → schema.now ≡ k.schema → Free C C.stands C.is_of k s script line failed (H.linking host.old) (IsWritten s (H.writing host.old)) feed client.old → IsDeed k.schema event deed → IsPlain deed → IfOk result (λ handed. Hands C C.stands C.is_of k handed s (script ++ (number, Do deed) ∷ []) number 0 failed (H.linking host.new) (H.writing host.new) feed client.new) }
+    ensures asked { (k : Setting) (s : Start C) (ahead further : Ahead) (line : ℕ) (failed : Bool) (feed : List ℕ) (deed : Deed) → C.setting client.old ≡ k → schema.now ≡ k.schema → Free C C.stands C.lent C.is_of k s ahead line failed (H.linking host.old) (IsWritten s (H.writing host.old)) feed client.old → IsDeed k.schema event deed → IsPlain deed → ahead (C.lent client.old) ≡ Next number (Do deed) further → IfOk result (λ handed. Hands C C.stands C.lent C.is_of k handed s further number 0 failed (H.linking host.new) (H.writing host.new) feed client.new) }
     ensures setting { C.setting client.new ≡ C.setting client.old }
     ensures draws { C.room client.old ≤ C.room client.new + 2 }
     ensures stays { OnlyOutput H H.reading H.held H.complaints H.IsSteady host.old host.new }
@@ -149,12 +160,27 @@ pub(crate) fn tell<K: Sink, C: Asks>(
     query: Result<Query, Fault>,
 ) -> Result<Handed, NoMemory>
     requires means { (text : Result TheQuery TheFault) × Means (C.setting client.now).schema query text }
-    ensures told { (k : Setting) (s : Start C) (script : List (ℕ × Task)) (line : ℕ) (failed : Bool) (feed : List ℕ) (text : Result TheQuery TheFault) → C.setting client.now ≡ k → schema.now ≡ k.schema → Free C C.stands C.is_of k s script line failed (K.linking sink.old) (IsWritten s (K.writing sink.old)) feed client.now → Means k.schema query text → IfOk result (λ handed. Hands C C.stands C.is_of k handed s (script ++ (number, Explain text) ∷ []) number 0 failed (K.linking sink.new) (K.writing sink.new) feed client.now) }
+    ensures told { (k : Setting) (s : Start C) (ahead further : Ahead) (line : ℕ) (failed : Bool) (feed : List ℕ) (text : Result TheQuery TheFault) → C.setting client.now ≡ k → schema.now ≡ k.schema → Free C C.stands C.lent C.is_of k s ahead line failed (K.linking sink.old) (IsWritten s (K.writing sink.old)) feed client.now → Means k.schema query text → ahead (C.lent client.now) ≡ Next number (Explain text) further → IfOk result (λ handed. Hands C C.stands C.lent C.is_of k handed s (λ answer. further None) number 0 failed (K.linking sink.new) (K.writing sink.new) feed client.now) }
     ensures stays { OnlyOutput K K.reading K.held K.complaints K.IsSteady sink.old sink.new }
     ensures linking_stays { K.linking sink.new ≡ K.linking sink.old }
 {
     let lines = client.explain(alloc, query)?;
     let said = say(alloc, sink, schema, number, lines.as_slice())?;
+    Ok(written_by(said))
+}
+
+/// A text is written. Nothing is sent, and nothing changes.
+pub(crate) fn write<K: Sink, C: Asks>(
+    sink: &mut K,
+    client: &C,
+    number: u64,
+    text: &str,
+) -> Result<Handed, NoMemory>
+    ensures told { (k : Setting) (s : Start C) (ahead further : Ahead) (line : ℕ) (failed : Bool) (feed : List ℕ) → C.setting client.now ≡ k → Free C C.stands C.lent C.is_of k s ahead line failed (K.linking sink.old) (IsWritten s (K.writing sink.old)) feed client.now → ahead (C.lent client.now) ≡ Next number (Say text.now) further → IfOk result (λ handed. Hands C C.stands C.lent C.is_of k handed s (λ answer. further None) number 0 failed (K.linking sink.new) (K.writing sink.new) feed client.now) }
+    ensures stays { OnlyOutput K K.reading K.held K.complaints K.IsSteady sink.old sink.new }
+    ensures linking_stays { K.linking sink.new ≡ K.linking sink.old }
+{
+    let said = write_text(sink, text)?;
     Ok(written_by(said))
 }
 
@@ -169,7 +195,7 @@ pub(crate) fn end<H: Host, C: Asks>(
 ) -> Result<Handed, NoMemory>
     requires asks { (deed : Deed) × IsDeed (C.setting client.old).schema event deed }
     requires room { 2 ≤ C.room client.old }
-    ensures cut { (k : Setting) (s : Start C) (script : List (ℕ × Task)) (line : ℕ) (failed : Bool) (feed : List ℕ) → C.setting client.old ≡ k → schema.now ≡ k.schema → Free C C.stands C.is_of k s script line failed (H.linking host.old) (IsWritten s (H.writing host.old)) feed client.old → IsDeed k.schema event WasCut → IfOk result (λ handed. Hands C C.stands C.is_of k handed s (script ++ (number, Do WasCut) ∷ []) number 0 failed (H.linking host.new) (H.writing host.new) feed client.new) }
+    ensures cut { (k : Setting) (s : Start C) (ahead further : Ahead) (line : ℕ) (failed : Bool) (feed : List ℕ) → C.setting client.old ≡ k → schema.now ≡ k.schema → Free C C.stands C.lent C.is_of k s ahead line failed (H.linking host.old) (IsWritten s (H.writing host.old)) feed client.old → IsDeed k.schema event WasCut → ahead (C.lent client.old) ≡ Next number (Do WasCut) further → IfOk result (λ handed. Hands C C.stands C.lent C.is_of k handed s further number 0 failed (H.linking host.new) (H.writing host.new) feed client.new) }
     ensures setting { C.setting client.new ≡ C.setting client.old }
     ensures draws { C.room client.old ≤ C.room client.new + 2 }
     ensures stays { OnlyOutput H H.reading H.held H.complaints H.IsSteady host.old host.new }
@@ -192,7 +218,7 @@ pub(crate) fn begin<H: Host, C: Asks>(
 ) -> Result<Handed, NoMemory>
     requires asks { (deed : Deed) × IsDeed (C.setting client.old).schema event deed }
     requires room { 2 ≤ C.room client.old }
-    ensures begun { (k : Setting) (s : Start C) (script : List (ℕ × Task)) (line : ℕ) (failed : Bool) → s.address ≡ address.now → C.setting client.old ≡ k → schema.now ≡ k.schema → IsReady C C.stands C.is_of k s script line failed (H.linking host.old) (IsWritten s (H.writing host.old)) feed.old client.old → IsDeed k.schema event Resumed → IfOk result (λ handed. Hands C C.stands C.is_of k handed s (script ++ (number, Do Resumed) ∷ []) number 0 failed (H.linking host.new) (H.writing host.new) feed.new client.new) }
+    ensures begun { (k : Setting) (s : Start C) (ahead further : Ahead) (line : ℕ) (failed : Bool) → s.address ≡ address.now → C.setting client.old ≡ k → schema.now ≡ k.schema → IsReady C C.stands C.lent C.is_of k s ahead line failed (H.linking host.old) (IsWritten s (H.writing host.old)) feed.old client.old → IsDeed k.schema event Resumed → ahead (C.lent client.old) ≡ Next number (Do Resumed) further → IfOk result (λ handed. Hands C C.stands C.lent C.is_of k handed s further number 0 failed (H.linking host.new) (H.writing host.new) feed.new client.new) }
     ensures setting { C.setting client.new ≡ C.setting client.old }
     ensures draws { C.room client.old ≤ C.room client.new + 2 }
     ensures stays { OnlyOutput H H.reading H.held H.complaints H.IsSteady host.old host.new }
@@ -221,7 +247,7 @@ pub(crate) fn fail<H: Host, C: Asks>(
     number: u64,
 ) -> Result<bool, NoMemory>
     requires room { 2 ≤ C.room client.old }
-    ensures failed { (k : Setting) (s : Start C) (script : List (ℕ × Task)) (feed : List ℕ) → C.setting client.old ≡ k → schema.now ≡ k.schema → Broken C C.stands C.is_of k s script number (H.linking host.old) (IsWritten s (H.writing host.old)) feed client.old → IfOk result (λ all. FailsAs C C.stands C.is_of k all s script number (H.linking host.new) (H.writing host.new) feed client.new) }
+    ensures failed { (k : Setting) (s : Start C) (ahead : Ahead) (feed : List ℕ) → C.setting client.old ≡ k → schema.now ≡ k.schema → Broken C C.stands C.lent C.is_of k s ahead number (H.linking host.old) (IsWritten s (H.writing host.old)) feed client.old → IfOk result (λ all. FailsAs C C.stands C.lent C.is_of k all s ahead number (H.linking host.new) (H.writing host.new) feed client.new) }
     ensures setting { C.setting client.new ≡ C.setting client.old }
     ensures draws { C.room client.old ≤ C.room client.new + 2 }
     ensures stays { OnlyOutput H H.reading H.held H.complaints H.IsSteady host.old host.new }

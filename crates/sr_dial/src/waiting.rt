@@ -3,7 +3,7 @@ ghost use Rattle.std.specs.Prelude.{◌≡◌, ◌≤◌, ◌+◌, ◌*◌, ◌+
 ghost use Rattle.std.specs.Option.{is_some};
 ghost use Rattle.sr_session.specs.Clients.{Client as Past};
 ghost use Rattle.sr_wire.specs.Spelling.{has_spelling, spelling};
-ghost use Rattle.sr_dial.specs.Calls.{Task};
+ghost use Rattle.sr_dial.specs.Following.{Ahead};
 ghost use Rattle.sr_talk.specs.Rounds.{OnlyOutput};
 ghost use Rattle.sr_dial.specs.Courses.{At, Handles, IsWritten, Start, Waits, handled_by, last_of};
 ghost use Rattle.sr_dial.specs.Known.{Setting};
@@ -55,7 +55,7 @@ fn handle<H: Link + Sink, C: Asks>(
     message: Message,
 ) -> Result<Handled, NoMemory>
     requires room { 2 ≤ C.room client.old }
-    ensures handled { (k : Setting) (s : Start C) (script : List (ℕ × Task)) (taken : ℕ) (failed : Bool) (after : List ℕ) → C.setting client.old ≡ k → schema.now ≡ k.schema → (h : At C C.stands C.is_of k s script number taken failed (H.linking host.old) (IsWritten s (H.writing host.old)) (spelling message ++ after) client.old) → is_some (left_by s.past (h.course.earlier ++ h.course.call ∷ [])).out ≡ true → IsTrue (has_spelling message) → IfOk result (λ handled. Handles C C.stands C.is_of k handled s script number taken failed message (H.linking host.new) (H.writing host.new) after client.new) }
+    ensures handled { (k : Setting) (s : Start C) (ahead : Ahead) (taken : ℕ) (failed : Bool) (after : List ℕ) → C.setting client.old ≡ k → schema.now ≡ k.schema → (h : At C C.stands C.lent C.is_of k s ahead number taken failed (H.linking host.old) (IsWritten s (H.writing host.old)) (spelling message ++ after) client.old) → is_some (left_by s.past (h.course.earlier ++ h.course.call ∷ [])).out ≡ true → IsTrue (has_spelling message) → IfOk result (λ handled. Handles C C.stands C.lent C.is_of k handled s ahead number taken failed message (H.linking host.new) (H.writing host.new) after client.new) }
     ensures setting { C.setting client.new ≡ C.setting client.old }
     ensures draws { C.room client.old ≤ C.room client.new + 2 }
     ensures stays { OnlyOutput H H.reading H.held H.complaints H.IsSteady host.old host.new }
@@ -89,7 +89,7 @@ pub(crate) fn await_answer<H: Link + Sink, C: Asks>(
     number: u64,
 ) -> Result<Awaited, NoMemory>
     requires room { 2000000 ≤ C.room client.old }
-    ensures awaited { (k : Setting) (s : Start C) (script : List (ℕ × Task)) (failed : Bool) → C.setting client.old ≡ k → schema.now ≡ k.schema → At C C.stands C.is_of k s script number 0 failed (H.linking host.old) (IsWritten s (H.writing host.old)) feed.old client.old → IfOk result (λ how. Waits C C.stands C.is_of k how s script number failed (H.linking host.new) (H.writing host.new) feed.new client.new) }
+    ensures awaited { (k : Setting) (s : Start C) (ahead : Ahead) (failed : Bool) → C.setting client.old ≡ k → schema.now ≡ k.schema → At C C.stands C.lent C.is_of k s ahead number 0 failed (H.linking host.old) (IsWritten s (H.writing host.old)) feed.old client.old → IfOk result (λ how. Waits C C.stands C.lent C.is_of k how s ahead number failed (H.linking host.new) (H.writing host.new) feed.new client.new) }
     ensures setting { C.setting client.new ≡ C.setting client.old }
     ensures draws { C.room client.old ≤ C.room client.new + 2000000 }
     ensures stays { OnlyOutput H H.reading H.held H.complaints H.IsSteady host.old host.new }
@@ -123,7 +123,7 @@ fn end_of_many<H: Link + Sink, C: Asks>(
     client: &C,
     number: u64,
 ) -> Result<Awaited, NoMemory>
-    ensures awaited { (k : Setting) (s : Start C) (script : List (ℕ × Task)) (failed : Bool) → At C C.stands C.is_of k s script number 1000000 failed (H.linking host.old) (IsWritten s (H.writing host.old)) feed.old client.now → IfOk result (λ how. Waits C C.stands C.is_of k how s script number failed (H.linking host.new) (H.writing host.new) feed.new client.now) }
+    ensures awaited { (k : Setting) (s : Start C) (ahead : Ahead) (failed : Bool) → At C C.stands C.lent C.is_of k s ahead number 1000000 failed (H.linking host.old) (IsWritten s (H.writing host.old)) feed.old client.now → IfOk result (λ how. Waits C C.stands C.lent C.is_of k how s ahead number failed (H.linking host.new) (H.writing host.new) feed.new client.now) }
     ensures stays { OnlyOutput H H.reading H.held H.complaints H.IsSteady host.old host.new }
 {
     if !client.is_waiting() {

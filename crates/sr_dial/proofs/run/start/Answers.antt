@@ -1,44 +1,26 @@
-use Rattle.std.proofs.Common.{◌≡◌, [], ◌∷◌, ◌++◌, inl, refl, sym, subst}
-use Rattle.std.specs.Prelude.{IfOk}
-use Rattle.sr_links.specs.Steps.{Resumed, WasCut}
-use Rattle.sr_dial.specs.Calls.{Do}
+use Rattle.std.proofs.Common.{sym, subst, ◌≡◌}
+use Rattle.std.specs.Prelude.{IfOk, string_bytes}
+use Rattle.sr_dial.specs.Calls.{Say}
+use Rattle.sr_plan.specs.Plans.{Next}
 use Rattle.sr_dial.specs.Courses.{Hands}
-use Rattle.sr_dial.proofs.DeedLemmas.{asked-deed, asked-text, cuts-task, does-deed, explains-text, resumes-task}
-use Rattle.sr_dial.proofs.Results.{if-ok}
+use Rattle.sr_dial.specs.Following.{ahead_of}
+use Rattle.sr_dial.specs.Jobs.{IsJob, number_of}
 use Rattle.sr_dial.proofs.run.start.Goals as goal
 
-pub begin-requires-clause-asks : goal.begin-requires-clause-asks
-begin-requires-clause-asks g c = (Resumed, refl)
+pub start_line-requires-clause-asks : goal.start_line-requires-clause-asks
+start_line-requires-clause-asks g c = subst (λ job. (task : _) × IsJob (g.C.Asks.setting c.args.client.now).schema job task) c.in-Line.is c.requires.asks
 
-pub end-requires-clause-asks : goal.end-requires-clause-asks
-end-requires-clause-asks g c = (WasCut, refl)
+pub returns-in-Line-clause-started : goal.returns-in-Line-clause-started
+returns-in-Line-clause-started g c k s ahead further number failed task at same schema free is next =
+    subst (λ job. IfOk c.start_line.result (λ handed. Hands _ g.C.Asks.stands g.C.Asks.lent g.C.Peer.is_of k handed s (ahead_of task further) (number_of job) 0 failed (g.H.Outside.linking c.start_line.new.host) (g.H.Outside.writing c.start_line.new.host) c.start_line.new.feed c.start_line.new.client)) (sym c.in-Line.is)
+    (c.start_line.ensures.started k s ahead further number failed task at same schema free (subst (λ job. IsJob k.schema job task) c.in-Line.is is)
+    (subst (λ job. ahead (g.C.Asks.lent c.args.client.now) ≡ Next (number_of job) task further) c.in-Line.is next))
 
-pub tell-requires : goal.tell-requires
-tell-requires g c = record { means = asked-text (g.C.Asks.setting c.args.client.now).schema c.args.line.event _ c.in-Explain.query c.in-Explain.is c.requires.asks }
-
-pub ask-requires-clause-asks : goal.ask-requires-clause-asks
-ask-requires-clause-asks g c = asked-deed (g.C.Asks.setting c.args.client.now).schema c.args.line.event c.in_default.not-Resume c.in_default.not-Cut c.in_default.not-Explain c.requires.asks
-
-pub returns-in-Resume-clause-started : goal.returns-in-Resume-clause-started
-returns-in-Resume-clause-started g c k s script number failed task at same schema free is =
-    let resumed : task ≡ Do Resumed = resumes-task k.schema c.args.line.event _ task c.in-Resume.is is in
-    if-ok _ _ c.begin.result (λ handed hands. subst (λ d. Hands _ g.C.Asks.stands g.C.Peer.is_of k handed s (script ++ (c.args.line.number, d) ∷ []) c.args.line.number 0 failed (g.H.Outside.linking c.begin.new.host) (g.H.Outside.writing c.begin.new.host) c.begin.new.feed c.begin.new.client) (sym resumed) hands)
-    (c.begin.ensures.begun k s script number failed at same schema (inl free) refl)
-
-pub returns-in-Cut-clause-started : goal.returns-in-Cut-clause-started
-returns-in-Cut-clause-started g c k s script number failed task at same schema free is =
-    let cut : task ≡ Do WasCut = cuts-task k.schema c.args.line.event _ task c.in-Cut.is is in
-    if-ok _ _ c.end.result (λ handed hands. subst (λ d. Hands _ g.C.Asks.stands g.C.Peer.is_of k handed s (script ++ (c.args.line.number, d) ∷ []) c.args.line.number 0 failed (g.H.Outside.linking c.end.new.host) (g.H.Outside.writing c.end.new.host) c.args.feed.now c.end.new.client) (sym cut) hands)
-    (c.end.ensures.cut k s script number failed c.args.feed.now same schema free refl)
-
-pub returns-in-Explain-clause-started : goal.returns-in-Explain-clause-started
-returns-in-Explain-clause-started g c k s script number failed task at same schema free is =
-    explains-text k.schema c.args.line.event _ c.in-Explain.query task
-    (λ task. IfOk c.tell.result (λ handed. Hands _ g.C.Asks.stands g.C.Peer.is_of k handed s (script ++ (c.args.line.number, task) ∷ []) c.args.line.number 0 failed (g.H.Outside.linking c.tell.new.sink) (g.H.Outside.writing c.tell.new.sink) c.args.feed.now c.args.client.now))
-    c.in-Explain.is is (λ text means. c.tell.ensures.told k s script number failed c.args.feed.now text same schema free means)
-
-pub returns-in_default-clause-started : goal.returns-in_default-clause-started
-returns-in_default-clause-started g c k s script number failed task at same schema free is =
-    does-deed k.schema c.args.line.event task
-    (λ task. IfOk c.ask.result (λ handed. Hands _ g.C.Asks.stands g.C.Peer.is_of k handed s (script ++ (c.args.line.number, task) ∷ []) c.args.line.number 0 failed (g.H.Outside.linking c.ask.new.host) (g.H.Outside.writing c.ask.new.host) c.args.feed.now c.ask.new.client))
-    is c.in_default.not-Resume c.in_default.not-Cut c.in_default.not-Explain (λ deed is plain. c.ask.ensures.asked k s script number failed c.args.feed.now deed same schema free is plain)
+pub returns-in-Say-clause-started : goal.returns-in-Say-clause-started
+returns-in-Say-clause-started g c k s ahead further line failed task at same schema free is next =
+    let what : task ≡ Say (string_bytes c.in-Say.text) = subst (λ job. IsJob k.schema job task) c.in-Say.is is in
+    let due = subst (λ job. ahead (g.C.Asks.lent c.args.client.now) ≡ Next (number_of job) task further) c.in-Say.is next in
+    subst (λ job. IfOk c.write.result (λ handed. Hands _ g.C.Asks.stands g.C.Asks.lent g.C.Peer.is_of k handed s (ahead_of task further) (number_of job) 0 failed (g.H.Outside.linking c.write.new.sink) (g.H.Outside.writing c.write.new.sink) c.args.feed.now c.args.client.now)) (sym c.in-Say.is)
+    (subst (λ t. IfOk c.write.result (λ handed. Hands _ g.C.Asks.stands g.C.Asks.lent g.C.Peer.is_of k handed s (ahead_of t further) c.in-Say.number 0 failed (g.H.Outside.linking c.write.new.sink) (g.H.Outside.writing c.write.new.sink) c.args.feed.now c.args.client.now)) (sym what)
+    (c.write.ensures.told k s ahead further line failed c.args.feed.now same free
+    (subst (λ bytes. ahead (g.C.Asks.lent c.args.client.now) ≡ Next c.in-Say.number (Say bytes) further) (sym c.as_str.ensures.value) (subst (λ t. ahead (g.C.Asks.lent c.args.client.now) ≡ Next c.in-Say.number t further) what due))))

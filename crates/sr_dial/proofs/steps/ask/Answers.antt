@@ -10,13 +10,13 @@ use Rattle.sr_dial.proofs.Results.{if-ok}
 use Rattle.sr_dial.proofs.steps.ask.Goals as goal
 
 pub returns-clause-asked : goal.returns-clause-asked
-returns-clause-asked g c k s script line failed feed deed same schema free is plain =
+returns-clause-asked g c k s ahead further line failed feed deed same schema free is plain on =
     let old = c.args.client.now in
     let new = c.act.new.self in
     let told = c.in_ok-told.told in
     let past = left_by s.past (free.at.course.earlier ++ free.at.course.call ∷ []) in
     let m = c.in_ok-told.ensures.made past deed free.at.course.steps.stands (subst (λ (x : Setting). IsDeed x.schema c.args.event deed) (sym same) is) in
-    let made = subst (λ x. Makes g.C.Asks.stands g.C.Peer.is_of x old new past deed told.lines told.sent) same m in
-    if-ok _ _ c.carry.result (λ handed carries. plain-hands _ g.C.Asks.stands g.C.Peer.is_of k s script line c.args.number failed _ _ _ _ feed _ _ deed _ _ handed free plain made
+    let made = subst (λ x. Makes g.C.Asks.stands g.C.Asks.lent g.C.Peer.is_of x old new past deed told.lines told.sent) same m in
+    if-ok _ _ c.carry.result (λ handed carries. plain-hands _ g.C.Asks.stands g.C.Asks.lent g.C.Peer.is_of k s ahead further line c.args.number failed _ _ _ _ feed _ _ deed _ _ handed free plain on made
     (subst (λ x. Carries handed (g.H.Outside.linking c.args.host.now) (g.H.Outside.linking c.carry.new.host) (g.H.Outside.writing c.args.host.now) (g.H.Outside.writing c.carry.new.host) (spelled told.sent)
     (flat_map (line_text x c.args.number) told.lines)) schema carries)) c.carry.ensures.carried

@@ -11,14 +11,14 @@ use Rattle.sr_dial.proofs.Results.{if-ok}
 use Rattle.sr_dial.proofs.steps.end.Goals as goal
 
 pub returns-clause-cut : goal.returns-clause-cut
-returns-clause-cut g c k s script line failed feed same schema free is =
+returns-clause-cut g c k s ahead further line failed feed same schema free is on =
     let old = c.args.client.now in
     let new = c.act.new.self in
     let told = c.in_ok-told.told in
     let past = left_by s.past (free.at.course.earlier ++ free.at.course.call ∷ []) in
     let m = c.in_ok-told.ensures.made past WasCut free.at.course.steps.stands (subst (λ (x : Setting). IsDeed x.schema c.args.event WasCut) (sym same) is) in
-    let made = subst (λ x. Makes g.C.Asks.stands g.C.Peer.is_of x old new past WasCut told.lines told.sent) same m in
-    if-ok _ _ c.carry.result (λ handed carries. cut-hands _ g.C.Asks.stands g.C.Peer.is_of k s script line c.args.number failed _ (g.H.Outside.linking c.hang_up.new.self) _ _ _ feed _ _ _ _ handed free made c.hang_up.ensures.over
+    let made = subst (λ x. Makes g.C.Asks.stands g.C.Asks.lent g.C.Peer.is_of x old new past WasCut told.lines told.sent) same m in
+    if-ok _ _ c.carry.result (λ handed carries. cut-hands _ g.C.Asks.stands g.C.Asks.lent g.C.Peer.is_of k s ahead further line c.args.number failed _ (g.H.Outside.linking c.hang_up.new.self) _ _ _ feed _ _ _ _ handed free on made c.hang_up.ensures.over
     (subst (λ x. Carries handed (g.H.Outside.linking c.hang_up.new.self) (g.H.Outside.linking c.carry.new.host) (g.H.Outside.writing c.args.host.now) (g.H.Outside.writing c.carry.new.host) (spelled told.sent)
     (flat_map (line_text x c.args.number) told.lines)) schema
     (subst (λ w. Carries handed (g.H.Outside.linking c.hang_up.new.self) (g.H.Outside.linking c.carry.new.host) w (g.H.Outside.writing c.carry.new.host) (spelled told.sent)

@@ -9,14 +9,14 @@ use Rattle.sr_dial.proofs.Results.{if-ok}
 use Rattle.sr_dial.proofs.steps.fail.Goals as goal
 
 pub returns-clause-failed : goal.returns-clause-failed
-returns-clause-failed g c k s script feed same schema broken =
+returns-clause-failed g c k s ahead feed same schema broken =
     let old = c.args.client.now in
     let new = c.cut.new.self in
     let lines = c.in_ok-lines.lines in
     let number = c.args.number in
     let after = g.H.Outside.writing c.say.new.sink in
-    if-ok _ _ c.say.result (λ said says. fails-as _ g.C.Asks.stands g.C.Peer.is_of k s script number _ _ _ _ feed _ _ lines said broken
-    (λ past st. subst (λ x. Makes g.C.Asks.stands g.C.Peer.is_of x old new past WasCut lines []) same (c.in_ok-lines.ensures.made past st))
+    if-ok _ _ c.say.result (λ said says. fails-as _ g.C.Asks.stands g.C.Asks.lent g.C.Peer.is_of k s ahead number _ _ _ _ feed _ _ lines said broken
+    (λ past st. subst (λ x. Makes g.C.Asks.stands g.C.Asks.lent g.C.Peer.is_of x old new past WasCut lines []) same (c.in_ok-lines.ensures.made past st))
     (c.say.ensures.linking_stays ∙ c.hang_up.ensures.over)
     (subst (λ w. SaysAs said w (g.H.Outside.writing c.say.new.sink) (flat_map (line_text k.schema c.args.number) c.in_ok-lines.lines)) c.hang_up.ensures.writing_stays
     (subst (λ x. SaysAs said (g.H.Outside.writing c.hang_up.new.self) (g.H.Outside.writing c.say.new.sink) (flat_map (line_text x c.args.number) c.in_ok-lines.lines)) schema

@@ -9,76 +9,76 @@ use Rattle.sr_dial.proofs.waiting.await_answer.Goals as goal
 
 pub loop-taken-init : goal.loop-taken-init
 loop-taken-init g c = record {
-  so_far = λ k s script failed same schema at. at;
+  so_far = λ k s ahead failed same schema at. at;
   same = refl;
   draws = omega arith;
   stays = record { stays_steady = λ s. s; reading_stays = refl; held_stays = refl; complaints_stay = refl };
 }
 
 pub returns-then-not-is_waiting-clause-awaited : goal.returns-then-not-is_waiting-clause-awaited
-returns-then-not-is_waiting-clause-awaited g c k s script failed same schema at =
-    let h = c.loop-taken.invariant.so_far k s script failed same schema at in
+returns-then-not-is_waiting-clause-awaited g c k s ahead failed same schema at =
+    let h = c.loop-taken.invariant.so_far k s ahead failed same schema at in
     let quiet : c.is_waiting.result ≡ false = search rules in
-    is-free _ g.C.Asks.stands g.C.Peer.is_of k s script c.args.number c.loop-taken.taken failed _ _ _ _ h (sym (c.is_waiting.ensures (left_by s.past (h.course.earlier ++ h.course.call ∷ [])) h.course.steps.stands) ∙ quiet)
+    is-free _ g.C.Asks.stands g.C.Asks.lent g.C.Peer.is_of k s ahead c.args.number c.loop-taken.taken failed _ _ _ _ h (sym (c.is_waiting.ensures (left_by s.past (h.course.earlier ++ h.course.call ∷ [])) h.course.steps.stands) ∙ quiet)
 
 pub returns-in-End-clause-awaited : goal.returns-in-End-clause-awaited
-returns-in-End-clause-awaited g c k s script failed same schema at =
-    let h = c.loop-taken.invariant.so_far k s script failed same schema at in
+returns-in-End-clause-awaited g c k s ahead failed same schema at =
+    let h = c.loop-taken.invariant.so_far k s ahead failed same schema at in
     let waiting : c.is_waiting.result ≡ true = search rules in
     let some : is_some (left_by s.past (h.course.earlier ++ h.course.call ∷ [])).out ≡ true = sym (c.is_waiting.ensures (left_by s.past (h.course.earlier ++ h.course.call ∷ [])) h.course.steps.stands) ∙ waiting in
-    subst (λ w. Broken _ g.C.Asks.stands g.C.Peer.is_of k s script c.args.number (g.H.Outside.linking c.next_frame.new.link) (IsWritten s w) c.next_frame.new.feed c.loop-taken.client) (sym c.next_frame.ensures.stays.writing_stays)
-    (awaits-end _ g.C.Asks.stands g.C.Peer.is_of k s script c.args.number c.loop-taken.taken failed _ _ _ _ h some _ _ (subst (λ next. Nexts next (g.H.Outside.linking c.loop-taken.host) (g.H.Outside.linking c.next_frame.new.link) c.loop-taken.feed c.next_frame.new.feed) c.in-End.is c.in_ok-next_frame.ensures.next))
+    subst (λ w. Broken _ g.C.Asks.stands g.C.Asks.lent g.C.Peer.is_of k s ahead c.args.number (g.H.Outside.linking c.next_frame.new.link) (IsWritten s w) c.next_frame.new.feed c.loop-taken.client) (sym c.next_frame.ensures.stays.writing_stays)
+    (awaits-end _ g.C.Asks.stands g.C.Asks.lent g.C.Peer.is_of k s ahead c.args.number c.loop-taken.taken failed _ _ _ _ h some _ _ (subst (λ next. Nexts next (g.H.Outside.linking c.loop-taken.host) (g.H.Outside.linking c.next_frame.new.link) c.loop-taken.feed c.next_frame.new.feed) c.in-End.is c.in_ok-next_frame.ensures.next))
 
 pub returns-in-Torn-clause-awaited : goal.returns-in-Torn-clause-awaited
-returns-in-Torn-clause-awaited g c k s script failed same schema at =
-    let h = c.loop-taken.invariant.so_far k s script failed same schema at in
+returns-in-Torn-clause-awaited g c k s ahead failed same schema at =
+    let h = c.loop-taken.invariant.so_far k s ahead failed same schema at in
     let waiting : c.is_waiting.result ≡ true = search rules in
     let some : is_some (left_by s.past (h.course.earlier ++ h.course.call ∷ [])).out ≡ true = sym (c.is_waiting.ensures (left_by s.past (h.course.earlier ++ h.course.call ∷ [])) h.course.steps.stands) ∙ waiting in
-    subst (λ w. Broken _ g.C.Asks.stands g.C.Peer.is_of k s script c.args.number (g.H.Outside.linking c.next_frame.new.link) (IsWritten s w) c.next_frame.new.feed c.loop-taken.client) (sym c.next_frame.ensures.stays.writing_stays)
-    (awaits-torn _ g.C.Asks.stands g.C.Peer.is_of k s script c.args.number c.loop-taken.taken failed _ _ _ _ h some _ _ (subst (λ next. Nexts next (g.H.Outside.linking c.loop-taken.host) (g.H.Outside.linking c.next_frame.new.link) c.loop-taken.feed c.next_frame.new.feed) c.in-Torn.is c.in_ok-next_frame.ensures.next))
+    subst (λ w. Broken _ g.C.Asks.stands g.C.Asks.lent g.C.Peer.is_of k s ahead c.args.number (g.H.Outside.linking c.next_frame.new.link) (IsWritten s w) c.next_frame.new.feed c.loop-taken.client) (sym c.next_frame.ensures.stays.writing_stays)
+    (awaits-torn _ g.C.Asks.stands g.C.Asks.lent g.C.Peer.is_of k s ahead c.args.number c.loop-taken.taken failed _ _ _ _ h some _ _ (subst (λ next. Nexts next (g.H.Outside.linking c.loop-taken.host) (g.H.Outside.linking c.next_frame.new.link) c.loop-taken.feed c.next_frame.new.feed) c.in-Torn.is c.in_ok-next_frame.ensures.next))
 
 pub returns-in-Fault-clause-awaited : goal.returns-in-Fault-clause-awaited
-returns-in-Fault-clause-awaited g c k s script failed same schema at =
-    let h = c.loop-taken.invariant.so_far k s script failed same schema at in
+returns-in-Fault-clause-awaited g c k s ahead failed same schema at =
+    let h = c.loop-taken.invariant.so_far k s ahead failed same schema at in
     let waiting : c.is_waiting.result ≡ true = search rules in
     let some : is_some (left_by s.past (h.course.earlier ++ h.course.call ∷ [])).out ≡ true = sym (c.is_waiting.ensures (left_by s.past (h.course.earlier ++ h.course.call ∷ [])) h.course.steps.stands) ∙ waiting in
-    subst (λ w. Broken _ g.C.Asks.stands g.C.Peer.is_of k s script c.args.number (g.H.Outside.linking c.next_frame.new.link) (IsWritten s w) c.next_frame.new.feed c.loop-taken.client) (sym c.next_frame.ensures.stays.writing_stays)
-    (awaits-fault _ g.C.Asks.stands g.C.Peer.is_of k s script c.args.number c.loop-taken.taken failed _ _ _ _ h some _ _ (subst (λ next. Nexts next (g.H.Outside.linking c.loop-taken.host) (g.H.Outside.linking c.next_frame.new.link) c.loop-taken.feed c.next_frame.new.feed) c.in-Fault.is c.in_ok-next_frame.ensures.next))
+    subst (λ w. Broken _ g.C.Asks.stands g.C.Asks.lent g.C.Peer.is_of k s ahead c.args.number (g.H.Outside.linking c.next_frame.new.link) (IsWritten s w) c.next_frame.new.feed c.loop-taken.client) (sym c.next_frame.ensures.stays.writing_stays)
+    (awaits-fault _ g.C.Asks.stands g.C.Asks.lent g.C.Peer.is_of k s ahead c.args.number c.loop-taken.taken failed _ _ _ _ h some _ _ (subst (λ next. Nexts next (g.H.Outside.linking c.loop-taken.host) (g.H.Outside.linking c.next_frame.new.link) c.loop-taken.feed c.next_frame.new.feed) c.in-Fault.is c.in_ok-next_frame.ensures.next))
 
 pub returns-in-Bad-clause-awaited : goal.returns-in-Bad-clause-awaited
-returns-in-Bad-clause-awaited g c k s script failed same schema at =
-    let h = c.loop-taken.invariant.so_far k s script failed same schema at in
+returns-in-Bad-clause-awaited g c k s ahead failed same schema at =
+    let h = c.loop-taken.invariant.so_far k s ahead failed same schema at in
     let waiting : c.is_waiting.result ≡ true = search rules in
     let some : is_some (left_by s.past (h.course.earlier ++ h.course.call ∷ [])).out ≡ true = sym (c.is_waiting.ensures (left_by s.past (h.course.earlier ++ h.course.call ∷ [])) h.course.steps.stands) ∙ waiting in
-    subst (λ w. Over _ g.C.Asks.stands g.C.Peer.is_of k s script (Spoiled c.in-Bad.fault) (g.H.Outside.linking c.next_frame.new.link) w) (sym c.next_frame.ensures.stays.writing_stays)
-    (awaits-spoiled _ g.C.Asks.stands g.C.Peer.is_of k s script c.args.number c.loop-taken.taken failed _ _ _ _ h some _ _ c.in-Bad.fault (subst (λ next. Nexts next (g.H.Outside.linking c.loop-taken.host) (g.H.Outside.linking c.next_frame.new.link) c.loop-taken.feed c.next_frame.new.feed) c.in-Bad.is c.in_ok-next_frame.ensures.next))
+    subst (λ w. Over _ g.C.Asks.stands g.C.Asks.lent g.C.Peer.is_of k s (Spoiled c.in-Bad.fault) (g.H.Outside.linking c.next_frame.new.link) w) (sym c.next_frame.ensures.stays.writing_stays)
+    (awaits-spoiled _ g.C.Asks.stands g.C.Asks.lent g.C.Peer.is_of k s ahead c.args.number c.loop-taken.taken failed _ _ _ _ h some _ _ c.in-Bad.fault (subst (λ next. Nexts next (g.H.Outside.linking c.loop-taken.host) (g.H.Outside.linking c.next_frame.new.link) c.loop-taken.feed c.next_frame.new.feed) c.in-Bad.is c.in_ok-next_frame.ensures.next))
 
 pub returns-in-Broken-clause-awaited : goal.returns-in-Broken-clause-awaited
-returns-in-Broken-clause-awaited g c k s script failed same schema at =
-    let h = c.loop-taken.invariant.so_far k s script failed same schema at in
+returns-in-Broken-clause-awaited g c k s ahead failed same schema at =
+    let h = c.loop-taken.invariant.so_far k s ahead failed same schema at in
     let waiting : c.is_waiting.result ≡ true = search rules in
     let some : is_some (left_by s.past (h.course.earlier ++ h.course.call ∷ [])).out ≡ true = sym (c.is_waiting.ensures (left_by s.past (h.course.earlier ++ h.course.call ∷ [])) h.course.steps.stands) ∙ waiting in
-    let r = reads-on _ g.C.Asks.stands g.C.Peer.is_of k s script c.args.number c.loop-taken.taken failed _ _ _ _ h some (g.H.Outside.linking c.next_frame.new.link) (g.H.Outside.writing c.next_frame.new.link) c.in-Frame.message c.next_frame.new.feed c.next_frame.ensures.stays.writing_stays (subst (λ next. Nexts next (g.H.Outside.linking c.loop-taken.host) (g.H.Outside.linking c.next_frame.new.link) c.loop-taken.feed c.next_frame.new.feed) c.in-Frame.is c.in_ok-next_frame.ensures.next) in
-    subst (λ x. Handles _ g.C.Asks.stands g.C.Peer.is_of k x s script c.args.number c.loop-taken.taken failed c.in-Frame.message (g.H.Outside.linking c.handle.new.host) (g.H.Outside.writing c.handle.new.host) c.next_frame.new.feed c.handle.new.client)
-    c.in-Broken.is (c.in_ok-handle.ensures.handled k s script c.loop-taken.taken failed c.next_frame.new.feed (c.loop-taken.invariant.same ∙ same) schema r.at r.waits r.spells)
+    let r = reads-on _ g.C.Asks.stands g.C.Asks.lent g.C.Peer.is_of k s ahead c.args.number c.loop-taken.taken failed _ _ _ _ h some (g.H.Outside.linking c.next_frame.new.link) (g.H.Outside.writing c.next_frame.new.link) c.in-Frame.message c.next_frame.new.feed c.next_frame.ensures.stays.writing_stays (subst (λ next. Nexts next (g.H.Outside.linking c.loop-taken.host) (g.H.Outside.linking c.next_frame.new.link) c.loop-taken.feed c.next_frame.new.feed) c.in-Frame.is c.in_ok-next_frame.ensures.next) in
+    subst (λ x. Handles _ g.C.Asks.stands g.C.Asks.lent g.C.Peer.is_of k x s ahead c.args.number c.loop-taken.taken failed c.in-Frame.message (g.H.Outside.linking c.handle.new.host) (g.H.Outside.writing c.handle.new.host) c.next_frame.new.feed c.handle.new.client)
+    c.in-Broken.is (c.in_ok-handle.ensures.handled k s ahead c.loop-taken.taken failed c.next_frame.new.feed (c.loop-taken.invariant.same ∙ same) schema r.at r.waits r.spells)
 
 pub returns-in-Unwritten-clause-awaited : goal.returns-in-Unwritten-clause-awaited
-returns-in-Unwritten-clause-awaited g c k s script failed same schema at =
-    let h = c.loop-taken.invariant.so_far k s script failed same schema at in
+returns-in-Unwritten-clause-awaited g c k s ahead failed same schema at =
+    let h = c.loop-taken.invariant.so_far k s ahead failed same schema at in
     let waiting : c.is_waiting.result ≡ true = search rules in
     let some : is_some (left_by s.past (h.course.earlier ++ h.course.call ∷ [])).out ≡ true = sym (c.is_waiting.ensures (left_by s.past (h.course.earlier ++ h.course.call ∷ [])) h.course.steps.stands) ∙ waiting in
-    let r = reads-on _ g.C.Asks.stands g.C.Peer.is_of k s script c.args.number c.loop-taken.taken failed _ _ _ _ h some (g.H.Outside.linking c.next_frame.new.link) (g.H.Outside.writing c.next_frame.new.link) c.in-Frame.message c.next_frame.new.feed c.next_frame.ensures.stays.writing_stays (subst (λ next. Nexts next (g.H.Outside.linking c.loop-taken.host) (g.H.Outside.linking c.next_frame.new.link) c.loop-taken.feed c.next_frame.new.feed) c.in-Frame.is c.in_ok-next_frame.ensures.next) in
-    subst (λ x. Handles _ g.C.Asks.stands g.C.Peer.is_of k x s script c.args.number c.loop-taken.taken failed c.in-Frame.message (g.H.Outside.linking c.handle.new.host) (g.H.Outside.writing c.handle.new.host) c.next_frame.new.feed c.handle.new.client)
-    c.in-Unwritten.is (c.in_ok-handle.ensures.handled k s script c.loop-taken.taken failed c.next_frame.new.feed (c.loop-taken.invariant.same ∙ same) schema r.at r.waits r.spells)
+    let r = reads-on _ g.C.Asks.stands g.C.Asks.lent g.C.Peer.is_of k s ahead c.args.number c.loop-taken.taken failed _ _ _ _ h some (g.H.Outside.linking c.next_frame.new.link) (g.H.Outside.writing c.next_frame.new.link) c.in-Frame.message c.next_frame.new.feed c.next_frame.ensures.stays.writing_stays (subst (λ next. Nexts next (g.H.Outside.linking c.loop-taken.host) (g.H.Outside.linking c.next_frame.new.link) c.loop-taken.feed c.next_frame.new.feed) c.in-Frame.is c.in_ok-next_frame.ensures.next) in
+    subst (λ x. Handles _ g.C.Asks.stands g.C.Asks.lent g.C.Peer.is_of k x s ahead c.args.number c.loop-taken.taken failed c.in-Frame.message (g.H.Outside.linking c.handle.new.host) (g.H.Outside.writing c.handle.new.host) c.next_frame.new.feed c.handle.new.client)
+    c.in-Unwritten.is (c.in_ok-handle.ensures.handled k s ahead c.loop-taken.taken failed c.next_frame.new.feed (c.loop-taken.invariant.same ∙ same) schema r.at r.waits r.spells)
 
 pub returns-in-Refused-clause-awaited : goal.returns-in-Refused-clause-awaited
-returns-in-Refused-clause-awaited g c k s script failed same schema at =
-    let h = c.loop-taken.invariant.so_far k s script failed same schema at in
+returns-in-Refused-clause-awaited g c k s ahead failed same schema at =
+    let h = c.loop-taken.invariant.so_far k s ahead failed same schema at in
     let waiting : c.is_waiting.result ≡ true = search rules in
     let some : is_some (left_by s.past (h.course.earlier ++ h.course.call ∷ [])).out ≡ true = sym (c.is_waiting.ensures (left_by s.past (h.course.earlier ++ h.course.call ∷ [])) h.course.steps.stands) ∙ waiting in
-    let r = reads-on _ g.C.Asks.stands g.C.Peer.is_of k s script c.args.number c.loop-taken.taken failed _ _ _ _ h some (g.H.Outside.linking c.next_frame.new.link) (g.H.Outside.writing c.next_frame.new.link) c.in-Frame.message c.next_frame.new.feed c.next_frame.ensures.stays.writing_stays (subst (λ next. Nexts next (g.H.Outside.linking c.loop-taken.host) (g.H.Outside.linking c.next_frame.new.link) c.loop-taken.feed c.next_frame.new.feed) c.in-Frame.is c.in_ok-next_frame.ensures.next) in
-    subst (λ x. Handles _ g.C.Asks.stands g.C.Peer.is_of k x s script c.args.number c.loop-taken.taken failed c.in-Frame.message (g.H.Outside.linking c.handle.new.host) (g.H.Outside.writing c.handle.new.host) c.next_frame.new.feed c.handle.new.client)
-    c.in-Refused.is (c.in_ok-handle.ensures.handled k s script c.loop-taken.taken failed c.next_frame.new.feed (c.loop-taken.invariant.same ∙ same) schema r.at r.waits r.spells)
+    let r = reads-on _ g.C.Asks.stands g.C.Asks.lent g.C.Peer.is_of k s ahead c.args.number c.loop-taken.taken failed _ _ _ _ h some (g.H.Outside.linking c.next_frame.new.link) (g.H.Outside.writing c.next_frame.new.link) c.in-Frame.message c.next_frame.new.feed c.next_frame.ensures.stays.writing_stays (subst (λ next. Nexts next (g.H.Outside.linking c.loop-taken.host) (g.H.Outside.linking c.next_frame.new.link) c.loop-taken.feed c.next_frame.new.feed) c.in-Frame.is c.in_ok-next_frame.ensures.next) in
+    subst (λ x. Handles _ g.C.Asks.stands g.C.Asks.lent g.C.Peer.is_of k x s ahead c.args.number c.loop-taken.taken failed c.in-Frame.message (g.H.Outside.linking c.handle.new.host) (g.H.Outside.writing c.handle.new.host) c.next_frame.new.feed c.handle.new.client)
+    c.in-Refused.is (c.in_ok-handle.ensures.handled k s ahead c.loop-taken.taken failed c.next_frame.new.feed (c.loop-taken.invariant.same ∙ same) schema r.at r.waits r.spells)
 
 pub loop-taken-preserved : goal.loop-taken-preserved
 loop-taken-preserved g c =
@@ -89,12 +89,12 @@ loop-taken-preserved g c =
     let draws = c.handle.ensures.draws in
     let waiting : c.is_waiting.result ≡ true = search rules in
     record {
-      so_far = λ k s script failed same schema at.
-          let h = before.so_far k s script failed same schema at in
+      so_far = λ k s ahead failed same schema at.
+          let h = before.so_far k s ahead failed same schema at in
           let some : is_some (left_by s.past (h.course.earlier ++ h.course.call ∷ [])).out ≡ true = sym (c.is_waiting.ensures (left_by s.past (h.course.earlier ++ h.course.call ∷ [])) h.course.steps.stands) ∙ waiting in
-          let r = reads-on _ g.C.Asks.stands g.C.Peer.is_of k s script c.args.number c.loop-taken.taken failed _ _ _ _ h some (g.H.Outside.linking c.next_frame.new.link) (g.H.Outside.writing c.next_frame.new.link) c.in-Frame.message c.next_frame.new.feed c.next_frame.ensures.stays.writing_stays (subst (λ next. Nexts next (g.H.Outside.linking c.loop-taken.host) (g.H.Outside.linking c.next_frame.new.link) c.loop-taken.feed c.next_frame.new.feed) c.in-Frame.is c.in_ok-next_frame.ensures.next) in
-          subst (λ x. Handles _ g.C.Asks.stands g.C.Peer.is_of k x s script c.args.number c.loop-taken.taken failed c.in-Frame.message (g.H.Outside.linking c.handle.new.host) (g.H.Outside.writing c.handle.new.host) c.next_frame.new.feed c.handle.new.client)
-          c.in-Whole.is (c.in_ok-handle.ensures.handled k s script c.loop-taken.taken failed c.next_frame.new.feed (c.loop-taken.invariant.same ∙ same) schema r.at r.waits r.spells);
+          let r = reads-on _ g.C.Asks.stands g.C.Asks.lent g.C.Peer.is_of k s ahead c.args.number c.loop-taken.taken failed _ _ _ _ h some (g.H.Outside.linking c.next_frame.new.link) (g.H.Outside.writing c.next_frame.new.link) c.in-Frame.message c.next_frame.new.feed c.next_frame.ensures.stays.writing_stays (subst (λ next. Nexts next (g.H.Outside.linking c.loop-taken.host) (g.H.Outside.linking c.next_frame.new.link) c.loop-taken.feed c.next_frame.new.feed) c.in-Frame.is c.in_ok-next_frame.ensures.next) in
+          subst (λ x. Handles _ g.C.Asks.stands g.C.Asks.lent g.C.Peer.is_of k x s ahead c.args.number c.loop-taken.taken failed c.in-Frame.message (g.H.Outside.linking c.handle.new.host) (g.H.Outside.writing c.handle.new.host) c.next_frame.new.feed c.handle.new.client)
+          c.in-Whole.is (c.in_ok-handle.ensures.handled k s ahead c.loop-taken.taken failed c.next_frame.new.feed (c.loop-taken.invariant.same ∙ same) schema r.at r.waits r.spells);
       same = c.handle.ensures.setting ∙ before.same;
       draws = omega (arith, drawn, draws);
       stays = record {
@@ -106,7 +106,7 @@ loop-taken-preserved g c =
     }
 
 pub returns-clause-awaited : goal.returns-clause-awaited
-returns-clause-awaited g c k s script failed same schema at =
+returns-clause-awaited g c k s ahead failed same schema at =
     let many : c.loop-taken.taken ≡ 1000000 = search rules in
-    c.end_of_many.ensures.awaited k s script failed (subst (λ n. Rattle.sr_dial.specs.Courses.At _ g.C.Asks.stands g.C.Peer.is_of k s script c.args.number n failed (g.H.Outside.linking c.loop-taken.host) (IsWritten s (g.H.Outside.writing c.loop-taken.host)) c.loop-taken.feed c.loop-taken.client) many
-    (c.loop-taken.invariant.so_far k s script failed same schema at))
+    c.end_of_many.ensures.awaited k s ahead failed (subst (λ n. Rattle.sr_dial.specs.Courses.At _ g.C.Asks.stands g.C.Asks.lent g.C.Peer.is_of k s ahead c.args.number n failed (g.H.Outside.linking c.loop-taken.host) (IsWritten s (g.H.Outside.writing c.loop-taken.host)) c.loop-taken.feed c.loop-taken.client) many
+    (c.loop-taken.invariant.so_far k s ahead failed same schema at))

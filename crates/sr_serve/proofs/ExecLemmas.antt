@@ -7,7 +7,6 @@ use Rattle.std.proofs.lemmas.List.{length-append, take-append-le}
 use Rattle.sr_cell.specs.declared.fault.Fault.{Fault}
 use Rattle.sr_cell.specs.declared.table.Table.{Table}
 use Rattle.sr_grammar_laws.proofs.OneSaying.{each_says_something}
-use Rattle.sr_io.specs.Causes.{Rose}
 use Rattle.sr_io.specs.Pieces.{WritesPrefix}
 use Rattle.sr_io.specs.Told.{Reading, Writing, Linking}
 use Rattle.sr_io.proofs.SoFar.{Appends-append}
@@ -21,8 +20,8 @@ use Rattle.sr_server.proofs.Standing.{stands-still}
 use Rattle.sr_tables.specs.Stored.{done_by}
 use Rattle.sr_talk.specs.Rounds.{OnlyOutput, text_of}
 use Rattle.sr_talk.specs.Serving.{AreExecuted, exec_line, grown}
-use Rattle.sr_talk.proofs.SomeLemmas.{appends-nothing, prefix-behind}
-use Rattle.sr_serve.specs.Execs.{Executed, AllExecuted, PartExecuted}
+use Rattle.sr_talk.proofs.SomeLemmas.{all-written, appends-nothing, prefix-behind}
+use Rattle.sr_serve.specs.Execs.{Executed, ExecutesInPart, AllExecuted, PartExecuted}
 
 -- ---- one statement
 
@@ -90,6 +89,20 @@ prefix-of-more old now some more w =
     let within = w.within in
     record { count = w.count; within = omega (arith, within, length-append some more); appended = subst (Appends old now) (sym (take-append-le w.count some more w.within)) w.appended }
 
+-- out of memory before the next one has a line
+pub lines-so-far : (db : Database) (texts left : List (List ℕ)) (before mid : Writing) (server : Server) → ExecutedSome db texts left before mid server → ExecutesInPart db texts before mid
+lines-so-far db texts left before mid server h =
+    let more = some-way h.now left in (
+      record {
+        lines = h.lines ++ more.lines;
+        last = more.last;
+        executed = h.goes_on more.lines more.last more.executed;
+        written = subst (WritesPrefix before.written mid.written) (sym (flat_map-append (λ line. line) h.lines more.lines))
+            (prefix-of-more before.written mid.written (text_of h.lines) (text_of more.lines) (all-written before.written mid.written (text_of h.lines) h.written));
+      },
+      h.faults_stay,
+    )
+
 module _ (db : Database) (texts left : List (List ℕ)) (text : List ℕ) (before mid after : Writing) (server new : Server) (line : List ℕ) where
   -- one more goes on behind those before
   behind : (h : ExecutedSome db texts (text ∷ left) before mid server) (e : Executed h.now text line new) (more : List (List ℕ)) (last : Database) → AreExecuted Gives (grown h.now e.result) left more last
@@ -113,8 +126,8 @@ module _ (db : Database) (texts left : List (List ℕ)) (text : List ℕ) (befor
 
   -- its line is not written
   pub part-executed : ExecutedSome db texts (text ∷ left) before mid server → ((now : Database) → IsServer server now → Executed now text line new)
-      → WritesPrefix mid.written after.written line → Rose mid.faults after.faults → PartExecuted db texts before after
-  part-executed h one line_written rose =
+      → WritesPrefix mid.written after.written line → PartExecuted db texts before after
+  part-executed h one line_written =
       let e = one h.now h.stands in
       let more = some-way (grown h.now e.result) left in
       record {
@@ -123,7 +136,6 @@ module _ (db : Database) (texts left : List (List ℕ)) (text : List ℕ) (befor
         executed = behind h e more.lines more.last more.executed;
         written = subst (WritesPrefix before.written after.written) (sym (flat_map-append (λ line. line) (h.lines ++ line ∷ []) more.lines ∙ ap (λ x. x ++ text_of more.lines) (texts-one h.lines line)))
             (prefix-of-more before.written after.written (text_of h.lines ++ line) (text_of more.lines) (prefix-behind before.written mid.written after.written (text_of h.lines) line h.written line_written));
-        cause = subst (λ n. Rose n after.faults) h.faults_stay rose;
       }
 
 pub all-executed : (db : Database) (texts : List (List ℕ)) (before after : Writing) (server : Server) → ExecutedSome db texts [] before after server → AllExecuted db texts before after server

@@ -1,5 +1,5 @@
 -- Runs, by what ended them.
-use Rattle.std.proofs.Common.{◌≡◌, ℕ, ◌+◌, Bool, true, false, eqb, List, [], ◌∷◌, ◌++◌, take, drop, Option, Some, None, option_map, arith, append-nil, refl, sym, ◌∙◌, ap, subst}
+use Rattle.std.proofs.Common.{◌≡◌, ℕ, ◌+◌, Bool, true, false, eqb, List, [], ◌∷◌, ◌++◌, take, drop, Option, Some, None, option_map, option_to_list, arith, inl, inr, ◌⊎◌, append-nil, refl, sym, ◌∙◌, ap, subst}
 use Rattle.std.specs.Prelude.{◌≢◌, Err, IfSome, IsErrOf}
 use Rattle.sr_cell.specs.declared.list.No.TheVariants.{Refused}
 use Rattle.std.specs.Io.KnownBytes.{Appends}
@@ -12,19 +12,19 @@ use Rattle.sr_io.specs.Causes.{Rose}
 use Rattle.sr_io.specs.Pieces.{WritesPrefix}
 use Rattle.sr_io.specs.Told.{Linking, Writing, Connection, AreAt, connections, docked_at, OnlyFaults}
 use Rattle.sr_io.proofs.SoFar.{Appends-append}
-use Rattle.sr_ends.specs.ServerEnds.{IsEnd}
-use Rattle.sr_ends.specs.declared.server_end.ServerEnd.{ServerEnd}
+use Rattle.sr_serve.specs.ServerEnds.{IsEnd}
+use Rattle.sr_serve.specs.declared.server_end.ServerEnd.{ServerEnd}
 use Rattle.sr_session.specs.Sessions.{Database}
 use Rattle.sr_server.specs.Servers.{Gives, IsServer}
 use Rattle.sr_server.specs.declared.server.Server.{Server}
-use Rattle.sr_talk.specs.Rounds.{EndsBy, EndsWhole, EndsFaulty, EndsUnwritten, at_rest, text_of}
-use Rattle.sr_talk.specs.Serving.{AreExecuted, AreTold, Conversation, RoseBy, Writes, all_told, connection_lines, count_faults, listening, missing}
+use Rattle.sr_talk.specs.Rounds.{EndsBy, EndsWhole, EndsFaulty, EndsInPart, EndsUnwritten, at_rest, text_of}
+use Rattle.sr_talk.specs.Serving.{AreExecuted, AreTold, Conversation, RoseBy, ServedInPart, Writes, all_told, connection_lines, count_faults, listening, missing}
 use Rattle.sr_talk.specs.declared.rounds.Ending.{Ending}
 use Rattle.sr_talk.specs.declared.rounds.Ending.TheVariants.{Whole, Faulty, Unwritten}
 use Rattle.sr_talk.proofs.RoundLemmas.{none-told}
-use Rattle.sr_talk.proofs.SomeLemmas.{appends-nothing, prefix-behind}
-use Rattle.sr_serve.specs.Execs.{AllExecuted, PartExecuted}
-use Rattle.sr_serve.specs.Runs.{Ran}
+use Rattle.sr_talk.proofs.SomeLemmas.{appends-nothing, none-written as none-written-of, prefix-behind}
+use Rattle.sr_serve.specs.Execs.{AllExecuted, ExecutesInPart, PartExecuted}
+use Rattle.sr_serve.specs.Runs.{Ran, RanInPart}
 use Rattle.sr_serve.proofs.ExecLemmas.{prefix-of-more, some-way}
 
 -- ---- what is written
@@ -55,15 +55,21 @@ none-written lines = record {
   whole = λ is. refl;
 }
 
-part-written : (lines : List (List ℕ)) (count : ℕ) → Writes 4 lines (take count (text_of lines))
-part-written lines count = record {
+part-written : (status : ℕ) (lines : List (List ℕ)) (count : ℕ) → status ≢ 0 → status ≢ 5 → Writes status lines (take count (text_of lines))
+part-written status lines count not_whole not_faulty = record {
   some = [];
   more = lines;
   are = refl;
   beginning = record { rest = drop count (text_of lines); all = sym (take-append-drop count (text_of lines)) };
-  all = λ is. absurd (omega (arith, is));
-  whole = λ is. absurd (omega (arith, is));
+  all = λ is. absurd (not_whole is);
+  whole = λ is. absurd (not_faulty is);
 }
+
+a-line-is-short : (lines : List (List ℕ)) (count : ℕ) → Writes 4 lines (take count (text_of lines))
+a-line-is-short lines count = part-written 4 lines count (λ is. absurd (omega (arith, is))) (λ is. absurd (omega (arith, is)))
+
+out-of-memory : (lines : List (List ℕ)) (count : ℕ) → Writes 9 lines (take count (text_of lines))
+out-of-memory lines count = part-written 9 lines count (λ is. absurd (omega (arith, is))) (λ is. absurd (omega (arith, is)))
 
 -- ---- the link
 
@@ -141,7 +147,7 @@ module _ (db : Database) (texts : List (List ℕ)) (address : List ℕ) (count :
       came_at = none-at address;
       each_told = none-told old;
       hung_up = λ some. absurd (some refl);
-      writes = part-written (lines_of lines []) written.count;
+      writes = a-line-is-short (lines_of lines []) written.count;
       few = omega arith;
       all = λ is. absurd (omega (arith, is));
       counted = omega arith;
@@ -158,11 +164,58 @@ module _ (db : Database) (texts : List (List ℕ)) (address : List ℕ) (count :
       let way = some-way db texts in
       stopped old before after way.lines way.last way.executed (prefix-of-more before.written after.written listening (text_of (way.lines ++ [])) written) rose
 
-  pub unexecuted : (old : Linking) (before mid after : Writing) → Appends before.written mid.written listening → mid.faults ≡ before.faults → PartExecuted db texts mid after → Ran db texts address count Unwritten old (docked_at address old) before after
-  unexecuted old before mid after heard same part =
-      stopped old before after part.lines part.last part.executed
-      (subst (λ lines. WritesPrefix before.written after.written (listening ++ text_of lines)) (sym (append-nil part.lines)) (prefix-behind before.written mid.written after.written listening (text_of part.lines) heard part.written))
-      (subst (λ n. Rose n after.faults) same part.cause)
+  -- `listening` and a beginning of the lines of the exec file
+  exec-prefix : (before mid after : Writing) → Appends before.written mid.written listening → (part : PartExecuted db texts mid after) → WritesPrefix before.written after.written (text_of (lines_of part.lines []))
+  exec-prefix before mid after heard part =
+      subst (λ lines. WritesPrefix before.written after.written (listening ++ text_of lines)) (sym (append-nil part.lines)) (prefix-behind before.written mid.written after.written listening (text_of part.lines) heard part.written)
+
+  pub unexecuted : (old : Linking) (before mid after : Writing) → Appends before.written mid.written listening → mid.faults ≡ before.faults → PartExecuted db texts mid after → Rose mid.faults after.faults
+      → Ran db texts address count Unwritten old (docked_at address old) before after
+  unexecuted old before mid after heard same part rose = stopped old before after part.lines part.last part.executed (exec-prefix before mid after heard part) (subst (λ n. Rose n after.faults) same rose)
+
+  -- ---- out of memory before any connection
+
+  stopped-short : (old new : Linking) (before after : Writing) (lines : List (List ℕ)) (last : Database) → AreExecuted Gives db texts lines last → connections new ≡ connections old → new.faults ≡ old.faults
+      → WritesPrefix before.written after.written (text_of (lines_of lines [])) → after.faults ≡ before.faults → RanInPart db texts address count old new before after
+  stopped-short old new before after lines last executed made quiet written same = record {
+    written = take written.count (text_of (lines_of lines []));
+    appended = written.appended;
+    served = record {
+      exec_lines = lines;
+      first = last;
+      conversations = [];
+      last = last;
+      cut_short = None;
+      executed = executed;
+      served = refl;
+      is_cut_short = tt;
+      made = made ∙ sym (append-nil (connections old));
+      came_at = none-at address;
+      each_told = none-told old;
+      writes = out-of-memory (lines_of lines []) written.count;
+      all_before = λ some. absurd (some refl);
+      few = omega arith;
+      counted = omega (arith, quiet);
+      quiet = λ none. quiet;
+    };
+    writing_keeps_faults = same;
+  }
+
+  pub undocked-short : (old new : Linking) (before after : Writing) → OnlyFaults old new → new.faults ≡ old.faults → after ≡ before → RanInPart db texts address count old new before after
+  undocked-short old new before after only quiet same =
+      let way = some-way db texts in
+      subst (λ w. RanInPart db texts address count old new before w) (sym same)
+      (stopped-short old new before before way.lines way.last way.executed (same-connections old new only) quiet (none-written-of before.written (text_of (lines_of way.lines []))) refl)
+
+  pub unheard-short : (old : Linking) (before after : Writing) → WritesPrefix before.written after.written listening → after.faults ≡ before.faults → RanInPart db texts address count old (docked_at address old) before after
+  unheard-short old before after written same =
+      let way = some-way db texts in
+      stopped-short old (docked_at address old) before after way.lines way.last way.executed refl refl (prefix-of-more before.written after.written listening (text_of (way.lines ++ [])) written) same
+
+  pub unexecuted-short : (old : Linking) (before mid after : Writing) → Appends before.written mid.written listening → mid.faults ≡ before.faults → ExecutesInPart db texts mid after
+      → RanInPart db texts address count old (docked_at address old) before after
+  unexecuted-short old before mid after heard same (part, faults) =
+      stopped-short old (docked_at address old) before after part.lines part.last part.executed refl refl (exec-prefix before mid after heard part) (faults ∙ same)
 
   -- ---- connections were served
 
@@ -206,6 +259,33 @@ module _ (db : Database) (texts : List (List ℕ)) (address : List ℕ) (count :
           link_fault_is_counted = λ wrong. absurd (cc);
           write_fault_is_counted = λ wrong. absurd (cc);
           writing_keeps_faults = λ is. e.write_faults ∙ (executed.faults_stay ∙ same);
+        }
+
+    whole-or-none : (c : Option Conversation) → (c ≡ None) ⊎ (c ≢ None)
+    whole-or-none None = inl refl
+    whole-or-none (Some c) = inr (λ none. absurd (cc))
+
+    short-of : (e : EndsInPart Gives executed.last count (docked_at address old) new late after) (written : List ℕ) → Writes 9 (lines_of executed.lines e.conversations) written
+        → (e.cut_short ≢ None → written ≡ text_of (lines_of executed.lines e.conversations)) → ServedInPart Gives db texts address count old new written
+    short-of e written writes all_before =
+        let cs = e.conversations ++ option_to_list e.cut_short in
+        record {
+          exec_lines = executed.lines;
+          first = executed.last;
+          conversations = e.conversations;
+          last = e.last;
+          cut_short = e.cut_short;
+          executed = executed.executed;
+          served = e.served;
+          is_cut_short = e.is_cut_short;
+          made = e.made;
+          came_at = at-address address old (all_told cs) e.came_at;
+          each_told = told-before address old cs e.each_told;
+          writes = writes;
+          all_before = all_before;
+          few = e.few;
+          counted = e.faults;
+          quiet = e.quiet;
         }
 
     -- all were served, and some ended by a fault; or one more could not be made
@@ -279,7 +359,7 @@ module _ (db : Database) (texts : List (List ℕ)) (address : List ℕ) (count :
             came_at = at-address address old (all_told e.some.conversations) e.some.came_at;
             each_told = told-before address old e.some.conversations e.some.each_told;
             hung_up = e.some.hung_up;
-            writes = part-written (lines_of executed.lines e.some.conversations) p.count;
+            writes = a-line-is-short (lines_of executed.lines e.some.conversations) p.count;
             few = omega (arith, number, few);
             all = λ is. absurd (omega (arith, is));
             counted = omega (arith, faults);
@@ -290,6 +370,26 @@ module _ (db : Database) (texts : List (List ℕ)) (address : List ℕ) (count :
           write_fault_is_counted = λ is. subst (λ n. Rose n after.faults) (executed.faults_stay ∙ same) e.cause;
           writing_keeps_faults = λ other. absurd (other refl);
         }
+
+    -- out of memory, while connections were served
+    pub ended-short : EndsInPart Gives executed.last count (docked_at address old) new late after → RanInPart db texts address count old new before after
+    ended-short e =
+        let p = prefix e.conversations e.written in
+        let lines = lines_of executed.lines e.conversations in
+        elim (whole-or-none e.cut_short) [
+          | inl none ↦ record {
+            written = take p.count (text_of lines);
+            appended = p.appended;
+            served = short-of e (take p.count (text_of lines)) (out-of-memory lines p.count) (λ some. absurd (some none));
+            writing_keeps_faults = e.write_faults ∙ (executed.faults_stay ∙ same);
+          }
+          | inr some ↦ record {
+            written = text_of lines;
+            appended = behind e.conversations (e.all_before some);
+            served = short-of e (text_of lines) (all-written 9 lines) (λ any. refl);
+            writing_keeps_faults = e.write_faults ∙ (executed.faults_stay ∙ same);
+          }
+        ]
 
     pub ended-by : (ending : Ending) → EndsBy Gives ending executed.last count (docked_at address old) new late after (IsEnd end) → Ran db texts address count ending old new before after
     ended-by Whole e = ended-whole e

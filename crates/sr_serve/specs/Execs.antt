@@ -28,14 +28,18 @@ pub record AllExecuted (db : Database) (texts : List (List ℕ)) (before after :
   pub faults_stay : after.faults ≡ before.faults
   pub stands : IsServer new last
 
--- A line is not written; these are the lines of all.
+-- A beginning of the lines of all is written.
 pub record PartExecuted (db : Database) (texts : List (List ℕ)) (before after : Writing) : Type 0 where
   pub lines : List (List ℕ)
   pub last : Database
   pub executed : AreExecuted Gives db texts lines last
   pub written : WritesPrefix before.written after.written (text_of lines)
-  pub cause : Rose before.faults after.faults
 
+-- All are, and their lines are written; or a line is not.
 abbrev pub ExecutesAs : Bool → Database → List (List ℕ) → Writing → Writing → Server → Type 0
 ExecutesAs true db texts before after new = AllExecuted db texts before after new
-ExecutesAs false db texts before after new = PartExecuted db texts before after
+ExecutesAs false db texts before after new = PartExecuted db texts before after × Rose before.faults after.faults
+
+-- Out of memory no fault is counted.
+abbrev pub ExecutesInPart : Database → List (List ℕ) → Writing → Writing → Type 0
+ExecutesInPart db texts before after = PartExecuted db texts before after × (after.faults ≡ before.faults)

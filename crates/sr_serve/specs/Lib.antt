@@ -1,3 +1,4 @@
 pub mod Execs
 pub mod Runs
 pub mod Address
+pub mod ServerEnds

@@ -5,7 +5,7 @@ use Rattle.sr_io.specs.Causes.{Rose}
 use Rattle.sr_io.specs.Told.{Linking, Writing}
 use Rattle.sr_session.specs.Sessions.{Database}
 use Rattle.sr_server.specs.Servers.{Gives, IsSound}
-use Rattle.sr_talk.specs.Serving.{Served}
+use Rattle.sr_talk.specs.Serving.{Served, ServedInPart}
 use Rattle.sr_talk.specs.declared.rounds.Ending.{Ending}
 use Rattle.sr_talk.specs.declared.rounds.Ending.TheVariants.{Whole, Faulty, Unwritten}
 
@@ -26,3 +26,10 @@ pub record Ran (db : Database) (texts : List (List ℕ)) (address : List ℕ) (c
   pub link_fault_is_counted : ending ≡ Faulty → Rose old.faults new.faults
   pub write_fault_is_counted : ending ≡ Unwritten → Rose before.faults after.faults
   pub writing_keeps_faults : ending ≢ Unwritten → after.faults ≡ before.faults
+
+-- What was written and done until memory was refused.
+pub record RanInPart (db : Database) (texts : List (List ℕ)) (address : List ℕ) (count : ℕ) (old new : Linking) (before after : Writing) : Type 0 where
+  pub written : List ℕ
+  pub appended : Appends before.written after.written written
+  pub served : ServedInPart Gives db texts address count old new written
+  pub writing_keeps_faults : after.faults ≡ before.faults

@@ -1,11 +1,11 @@
 //! The statements of the exec file.
-ghost use Rattle.std.specs.Prelude.{◌≡◌, ◌+◌, ◌<◌, ◌≤◌, ◌^◌, ◌∷◌, [], codes, decimal, length, string_bytes, true, IfOk, OnOk};
+ghost use Rattle.std.specs.Prelude.{◌≡◌, ◌+◌, ◌<◌, ◌≤◌, ◌^◌, ◌∷◌, [], codes, decimal, length, string_bytes, true, IfOk, OnErr};
 ghost use Rattle.sr_log.specs.Held.{newest as newest_of};
 ghost use Rattle.sr_script.specs.TraceText.{ended, fault_words};
 ghost use Rattle.sr_session.specs.Sessions.{Database};
 ghost use Rattle.sr_server.specs.Servers.{IsServer, StandsForSome};
 ghost use Rattle.sr_talk.specs.Rounds.{OnlyOutput};
-ghost use Rattle.sr_serve.specs.Execs.{Executed, ExecutesAs};
+ghost use Rattle.sr_serve.specs.Execs.{Executed, ExecutesAs, ExecutesInPart};
 
 use sr_cell::fault::Fault;
 use sr_cell::list::{No, NoMemory};
@@ -58,6 +58,7 @@ pub(crate) fn exec_all<K: Sink>(
     requires stands { StandsForSome server.old }
     requires number { newest_of server.old.log + length texts.now < 2 ^ 63 }
     ensures done { (db : Database) → IsServer server.old db → IfOk result (λ all. ExecutesAs all db texts.now (K.writing sink.old) (K.writing sink.new) server.new) }
+    ensures in_part { (db : Database) → IsServer server.old db → OnErr result (ExecutesInPart db texts.now (K.writing sink.old) (K.writing sink.new)) }
     ensures sessions { server.new.sessions ≡ server.old.sessions }
     ensures grows { newest_of server.new.log ≤ newest_of server.old.log + length texts.now }
     ensures stays { OnlyOutput K K.reading K.held K.complaints K.IsSteady sink.old sink.new }

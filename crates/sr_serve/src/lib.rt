@@ -4,3 +4,4 @@
 pub mod exec;
 pub mod laws;
 pub mod serve;
+pub mod server_end;

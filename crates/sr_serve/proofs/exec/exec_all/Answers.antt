@@ -5,7 +5,8 @@ use Rattle.std.proofs.lemmas.List.{drop_all, drop_more}
 use Rattle.sr_io.specs.Causes.{Rose}
 use Rattle.sr_io.specs.Pieces.{WritesPrefix}
 use Rattle.sr_serve.specs.Execs.{Executed}
-use Rattle.sr_serve.proofs.ExecLemmas.{ExecutedSome, none-executed, one-executed, part-executed, all-executed}
+use Rattle.sr_serve.proofs.ExecLemmas.{ExecutedSome, none-executed, one-executed, part-executed, lines-so-far, all-executed}
+use Rattle.sr_talk.proofs.MoveLemmas.{so-in-err}
 use Rattle.sr_serve.proofs.exec.exec_all.Goals as goal
 
 pub loop-at-init : goal.loop-at-init
@@ -53,12 +54,31 @@ returns-in-Err-Refused-clause-done g c db is =
     let text = c.index-texts-at.result in
     let at = c.loop-at.at in
     let first : drop at texts ≡ text ∷ drop (at + 1) texts = drop_more texts at text c.loop-at-test.true ∙ ap (λ t. t ∷ drop (at + 1) texts) (sym c.index-texts-at.is) in
-    let rose : Rose (g.K.Outside.writing c.loop-at.sink).faults (g.K.Outside.writing c.write_all.new.sink).faults = c.in-Err-Refused.ensures.failed_is_counted (ap Err c.in-Err-Refused.field-0-is) in
-    part-executed db texts (drop (at + 1) texts) text (g.K.Outside.writing c.args.sink.now) (g.K.Outside.writing c.loop-at.sink) (g.K.Outside.writing c.write_all.new.sink) c.loop-at.server c.exec_one.new.server (string_bytes c.in_ok-line.line)
-    (subst (λ left. ExecutedSome db texts left (g.K.Outside.writing c.args.sink.now) (g.K.Outside.writing c.loop-at.sink) c.loop-at.server) first (c.loop-at.invariant.so_far db is))
-    (λ now stands. subst (λ t. Executed now t (string_bytes c.in_ok-line.line) c.exec_one.new.server) c.as_str.ensures (c.in_ok-line.ensures.done now stands))
-    (subst (WritesPrefix (g.K.Outside.writing c.loop-at.sink).written (g.K.Outside.writing c.write_all.new.sink).written) (search rules) c.write_all.ensures.prefix)
-    rose
+    let rose : Rose (g.K.Outside.writing c.loop-at.sink).faults (g.K.Outside.writing c.write_all.new.sink).faults = c.in-Err-Refused.ensures.failed_is_counted (ap Err c.in-Err-Refused.field-0-is) in (
+      part-executed db texts (drop (at + 1) texts) text (g.K.Outside.writing c.args.sink.now) (g.K.Outside.writing c.loop-at.sink) (g.K.Outside.writing c.write_all.new.sink) c.loop-at.server c.exec_one.new.server (string_bytes c.in_ok-line.line)
+          (subst (λ left. ExecutedSome db texts left (g.K.Outside.writing c.args.sink.now) (g.K.Outside.writing c.loop-at.sink) c.loop-at.server) first (c.loop-at.invariant.so_far db is))
+          (λ now stands. subst (λ t. Executed now t (string_bytes c.in_ok-line.line) c.exec_one.new.server) c.as_str.ensures (c.in_ok-line.ensures.done now stands))
+          (subst (WritesPrefix (g.K.Outside.writing c.loop-at.sink).written (g.K.Outside.writing c.write_all.new.sink).written) (search rules) c.write_all.ensures.prefix),
+      subst (λ n. Rose n (g.K.Outside.writing c.write_all.new.sink).faults) (c.loop-at.invariant.so_far db is).faults_stay rose,
+    )
+
+pub returns-in-Err-NoMemory-clause-in_part : goal.returns-in-Err-NoMemory-clause-in_part
+returns-in-Err-NoMemory-clause-in_part g c db is =
+    let texts = c.args.texts.now in
+    let text = c.index-texts-at.result in
+    let at = c.loop-at.at in
+    let first : drop at texts ≡ text ∷ drop (at + 1) texts = drop_more texts at text c.loop-at-test.true ∙ ap (λ t. t ∷ drop (at + 1) texts) (sym c.index-texts-at.is) in (
+      part-executed db texts (drop (at + 1) texts) text (g.K.Outside.writing c.args.sink.now) (g.K.Outside.writing c.loop-at.sink) (g.K.Outside.writing c.write_all.new.sink) c.loop-at.server c.exec_one.new.server (string_bytes c.in_ok-line.line)
+          (subst (λ left. ExecutedSome db texts left (g.K.Outside.writing c.args.sink.now) (g.K.Outside.writing c.loop-at.sink) c.loop-at.server) first (c.loop-at.invariant.so_far db is))
+          (λ now stands. subst (λ t. Executed now t (string_bytes c.in_ok-line.line) c.exec_one.new.server) c.as_str.ensures (c.in_ok-line.ensures.done now stands))
+          (subst (WritesPrefix (g.K.Outside.writing c.loop-at.sink).written (g.K.Outside.writing c.write_all.new.sink).written) (search rules) c.write_all.ensures.prefix),
+      c.in-Err-NoMemory.ensures.want_keeps_faults (ap Err c.in-Err-NoMemory.field-0-is) ∙ (c.loop-at.invariant.so_far db is).faults_stay,
+    )
+
+pub returns-in_err-line-clause-in_part : goal.returns-in_err-line-clause-in_part
+returns-in_err-line-clause-in_part g c db is =
+    so-in-err c.from_residual.result
+    (lines-so-far db c.args.texts.now (drop c.loop-at.at c.args.texts.now) (g.K.Outside.writing c.args.sink.now) (g.K.Outside.writing c.loop-at.sink) c.loop-at.server (c.loop-at.invariant.so_far db is))
 
 pub returns-clause-done : goal.returns-clause-done
 returns-clause-done g c db is =

@@ -1,6 +1,11 @@
 use Rattle.std.proofs.Common.{◌∙◌, Err, ap, sym, subst, rules}
 use Rattle.sr_server.specs.Servers.{first_database}
 use Rattle.sr_talk.specs.Rounds.{HasPeers}
+use Rattle.sr_talk.specs.Serving.{listening}
+use Rattle.sr_talk.proofs.SomeLemmas.{all-written}
+use Rattle.sr_serve.specs.Runs.{RanInPart}
+use Rattle.sr_serve.proofs.RunLemmas.{unheard-short}
+use Rattle.sr_talk.proofs.MoveLemmas.{so-in-err}
 use Rattle.sr_serve.proofs.serve.serve.Goals as goal
 
 pub serve_docked-requires-clause-stands : goal.serve_docked-requires-clause-stands
@@ -40,3 +45,20 @@ returns-in-Ok-clause-stays g c =
 
 pub returns-in-Err-Refused-clause-ran : goal.returns-in-Err-Refused-clause-ran
 returns-in-Err-Refused-clause-ran g c = c.in-Err-Refused.ensures.ran _ (search rules) _ _ _
+
+pub returns-in-Ok-clause-in_part : goal.returns-in-Ok-clause-in_part
+returns-in-Ok-clause-in_part g c =
+    let db = first_database c.args.tables.schema c.args.log c.args.tables.rows in
+    c.serve_docked.ensures.in_part db (c.new-in-Ok.ensures.stands db c.in_ok-server-in-Ok.ensures.stands) c.args.address.now (g.H.Outside.linking c.args.host.now) (g.H.Outside.writing c.args.host.now)
+    c.in-Ok.ensures.docked c.in-Ok.ensures.written c.in-Ok.ensures.faults
+
+pub returns-clause-in_part : goal.returns-clause-in_part
+returns-clause-in_part g c = c.in-Err-NoMemory.ensures.in_part (search rules) _ _ _
+
+pub returns-in_err-server-in-Ok-clause-in_part : goal.returns-in_err-server-in-Ok-clause-in_part
+returns-in_err-server-in-Ok-clause-in_part g c =
+    let db = first_database c.args.tables.schema c.args.log c.args.tables.rows in
+    so-in-err c.from_residual.result
+    (subst (λ l. RanInPart db c.args.texts.now c.args.address.now c.args.count (g.H.Outside.linking c.args.host.now) l (g.H.Outside.writing c.args.host.now) (g.H.Outside.writing c.listen.new.host)) (sym c.in-Ok.ensures.docked)
+    (unheard-short db c.args.texts.now c.args.address.now c.args.count (g.H.Outside.linking c.args.host.now) (g.H.Outside.writing c.args.host.now) (g.H.Outside.writing c.listen.new.host)
+    (all-written (g.H.Outside.writing c.args.host.now).written (g.H.Outside.writing c.listen.new.host).written listening c.in-Ok.ensures.written) c.in-Ok.ensures.faults))

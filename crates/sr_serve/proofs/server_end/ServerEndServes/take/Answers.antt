@@ -2,9 +2,9 @@ use Rattle.std.proofs.Common.{◌≡◌, sym, subst, Some}
 use Rattle.sr_server.specs.Servers.{Gives, Takes, session_at}
 use Rattle.sr_session.specs.Refusals.{server_misfit}
 use Rattle.sr_talk.specs.Talked as talk
-use Rattle.sr_ends.specs.ServerEnds.{IsEnd}
-use Rattle.sr_ends.proofs.EndLemmas.{end-takes, end-refuses}
-use Rattle.sr_ends.proofs.server_end.ServerEndServes.take.Goals as goal
+use Rattle.sr_serve.specs.ServerEnds.{IsEnd}
+use Rattle.sr_serve.proofs.EndLemmas.{end-takes, end-refuses}
+use Rattle.sr_serve.proofs.server_end.ServerEndServes.take.Goals as goal
 
 pub returns-in-Ok-clause-taken : goal.returns-in-Ok-clause-taken
 returns-in-Ok-clause-taken c s is =

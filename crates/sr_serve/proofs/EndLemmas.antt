@@ -19,7 +19,7 @@ use Rattle.sr_server.specs.Servers.{IsClientNumber, IsServer, Takes, Gives, sess
 use Rattle.sr_talk.specs.Serving.{named}
 use Rattle.sr_talk.specs.Talked as talk
 use Rattle.sr_server.specs.declared.server.Server as code
-use Rattle.sr_ends.specs.ServerEnds.{no_sessions, HasSession, IsEnd, number_for}
+use Rattle.sr_serve.specs.ServerEnds.{no_sessions, HasSession, IsEnd, number_for}
 
 -- ---- lists of sessions
 

@@ -5,7 +5,7 @@ ghost use Rattle.sr_server.specs.Servers.{Gives, IsServer};
 ghost use Rattle.sr_session.specs.Sessions.{Database};
 ghost use Rattle.sr_talk.specs.Rounds.{at_rest};
 ghost use Rattle.sr_talk.specs.Serving.{named};
-ghost use Rattle.sr_ends.specs.ServerEnds.{IsEnd, number_for, room_of};
+ghost use Rattle.sr_serve.specs.ServerEnds.{IsEnd, number_for, room_of};
 
 use sr_cell::list::No;
 use sr_message::message::{Message, Messages};

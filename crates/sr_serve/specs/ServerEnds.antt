@@ -6,7 +6,7 @@ use Rattle.sr_session.specs.Sessions.{Session}
 use Rattle.sr_links.specs.Honest.{Server}
 use Rattle.sr_server.specs.Servers.{IsClientNumber, IsServer, with_session}
 use Rattle.sr_talk.specs.Serving.{named}
-use Rattle.sr_ends.specs.declared.server_end.ServerEnd.{ServerEnd}
+use Rattle.sr_serve.specs.declared.server_end.ServerEnd.{ServerEnd}
 
 abbrev pub no_sessions : List (Option Session)
 no_sessions = replicate 64 None

@@ -1,7 +1,7 @@
 use Rattle.std.proofs.Common.{◌≡◌, refl, ap, ◌∙◌, rules}
 use Rattle.sr_server.specs.declared.server.Server.{Server}
-use Rattle.sr_ends.proofs.EndLemmas.{end-closed}
-use Rattle.sr_ends.proofs.server_end.ServerEndServes.cut.Goals as goal
+use Rattle.sr_serve.proofs.EndLemmas.{end-closed}
+use Rattle.sr_serve.proofs.server_end.ServerEndServes.cut.Goals as goal
 
 pub returns-then-self-ne0-clause-closed : goal.returns-then-self-ne0-clause-closed
 returns-then-self-ne0-clause-closed c s is =

@@ -1,4 +1,0 @@
-//! The server as the connections of `serve` see it.
-#![tactic(auto)]
-
-pub mod server_end;

@@ -1,6 +1,6 @@
 -- What is made of a log's entries is what is due.
 use Rattle.std.proofs.Common.{◌≡◌, ℕ, zero, suc, ◌+◌, ◌-◌, ◌<◌, ◌≤◌, Bool, true, false, List, [], ◌∷◌, ◌++◌, map, length, drop, refl, sym, ◌∙◌, ap, subst, arith, append-nil, length-drop, slice_index_or}
-use Rattle.std.specs.Prelude.{filter, not, ◌&&◌, nat_lt, IsTrue, ◌↔◌, if◌then◌else◌, Option, Some, None}
+use Rattle.std.specs.Prelude.{◌==◌, filter, not, ◌&&◌, nat_lt, IsTrue, ◌↔◌, if◌then◌else◌, Option, Some, None}
 use Rattle.std.specs.List.{list_all, list_any, AllByRecursion}
 use Rattle.std.proofs.lemmas.Bool.Decides.{nat_tests}
 use Rattle.std.proofs.lemmas.List.{drop-drop, drop_all, drop_more, get_or-drop}

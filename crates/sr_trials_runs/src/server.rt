@@ -35,10 +35,12 @@ enum Step {
 // A message that the server takes.
 #[derive(Clone, Copy)]
 enum Sent {
-    // the first message of a session, which names that client
+    // the first message of a session over wire 1, which names that client
     Hello(u8),
-    // the session of that client begins again at that version, with the keys from 0 to 9 of that table
+    // the session of that client begins again over wire 1 at that version, with the keys from 0 to 9 of that table
     Resume(u8, u64, u8),
+    // the session of client 2 begins again over wire 2 at version 0, with values of `a` from 0 to 9 under these columns
+    Later(u16),
     // an ask, fresh or not, for the keys between two numbers, of that table and with these columns
     Ask(bool, (i64, i64), (u8, u16)),
     // an ask for values of `a` from 0 to 9, with these columns
@@ -156,19 +158,38 @@ fn ask(alloc: Global, fresh: bool, table: u8, attrs: u16, rects: Rects) -> Resul
 
 fn resume(
     alloc: Global,
+    wire: u8,
     client: u8,
     version: u64,
-    table: u8,
-    rects: Rects,
+    holding: Holding,
 ) -> Result<Message, NoMemory>
     ensures { IfOk result (λ m. has_few_parts m ≡ true) }
 {
     Ok(Message::Resume {
+        wire,
         client,
         number: 1,
         version,
-        holdings: list_of(alloc, [Holding { table, rects }])?,
+        holdings: list_of(alloc, [holding])?,
     })
+}
+
+// A holding of all columns.
+fn whole(table: u8, rects: Rects) -> Holding {
+    Holding {
+        table,
+        attrs: Attrs(4095),
+        rects,
+    }
+}
+
+// A holding of the table under these columns.
+fn narrow(attrs: u16, rects: Rects) -> Holding {
+    Holding {
+        table: 0,
+        attrs: Attrs(attrs),
+        rects,
+    }
 }
 
 fn write(alloc: Global, sql: &str) -> Result<Message, NoMemory>
@@ -184,10 +205,15 @@ fn message(alloc: Global, sent: Sent) -> Result<Message, NoMemory>
     ensures { IfOk result (λ m. has_few_parts m ≡ true) }
 {
     match sent {
-        Sent::Hello(client) => Ok(Message::Hello { client, number: 0 }),
+        Sent::Hello(client) => Ok(Message::Hello {
+            wire: 1,
+            client,
+            number: 0,
+        }),
         Sent::Resume(client, version, table) => {
-            resume(alloc, client, version, table, keys(alloc, 0, 9)?)
+            resume(alloc, 1, client, version, whole(table, keys(alloc, 0, 9)?))
         }
+        Sent::Later(attrs) => resume(alloc, 2, 2, 0, narrow(attrs, values(alloc)?)),
         Sent::Ask(fresh, (lo, hi), (table, attrs)) => {
             ask(alloc, fresh, table, attrs, keys(alloc, lo, hi)?)
         }
@@ -402,8 +428,8 @@ static RESUMED: [Step; 7] = [
     Step::Take(2, Sent::Resume(2, 0, 0), Wanted::One((0x11, 2, 0))),
 ];
 
-// Table 9 is not there. Columns 2 lack the key, columns 7 are more than there are; no key lies between 9 and 0.
-static REFUSED: [Step; 15] = [
+// Table 9 is not there. Columns 2 lack the key, columns 7 are more than there are, columns 1 lack `a`; no key lies between 9 and 0.
+static REFUSED: [Step; 19] = [
     Step::Take(2, Sent::Lapse, Wanted::Bad(BadFrame::Direction)),
     Step::Take(
         1,
@@ -442,6 +468,10 @@ static REFUSED: [Step; 15] = [
     Step::Take(1, Sent::Values(1), Wanted::Bad(BadFrame::Shape)),
     Step::Take(1, Sent::Values(3), Wanted::One((0x14, 0, 0))),
     Step::Take(2, Sent::Resume(2, 0, 9), Wanted::Bad(BadFrame::Shape)),
+    Step::Take(2, Sent::Later(1), Wanted::Bad(BadFrame::Shape)),
+    Step::Take(2, Sent::Later(2), Wanted::Bad(BadFrame::Shape)),
+    Step::Take(2, Sent::Later(7), Wanted::Bad(BadFrame::Shape)),
+    Step::Take(2, Sent::Later(3), Wanted::One((0x11, 0, 1))),
     Step::Take(
         1,
         Sent::Ask(true, (0, 9), (0, 1)),
@@ -455,5 +485,5 @@ fn each_step_is_answered_by_the_rules(rt: HostRuntime) {
     assert!(rt; done(alloc, &TOLD) == Ok(9));
     assert!(rt; done(alloc, &DROPPED) == Ok(10));
     assert!(rt; done(alloc, &RESUMED) == Ok(7));
-    assert!(rt; done(alloc, &REFUSED) == Ok(15));
+    assert!(rt; done(alloc, &REFUSED) == Ok(19));
 }

@@ -133,7 +133,7 @@ impl Client {
         match message {
             Message::Notice { version, told } => self.apply(alloc, version, told.as_slice()),
             Message::Lapse { version } => self.forget(alloc, version),
-            _ => Ok(Took::Laid),
+            _ => unreachable!(),
         }
     }
 
@@ -251,7 +251,7 @@ impl Client {
                     took
                 }
             }
-            _ => Ok(Took::Laid),
+            _ => unreachable!(),
         }
     }
 

@@ -11,5 +11,5 @@ apply-requires-clause-fit c =
 pub forget-requires-clause-fit : goal.forget-requires-clause-fit
 forget-requires-clause-fit c = subst (IsFit c.args.self.now) c.in-Lapse.is c.requires.fit
 
-pub returns : goal.returns
-returns c = absurd (rest-only c.args.self.now c.args.message c.requires.idle c.requires.fit c.in_default.not-Notice c.in_default.not-Lapse c.requires.stands.0.meaning)
+pub unreachable-requires : goal.unreachable-requires
+unreachable-requires c = (rest-only c.args.self.now c.args.message c.requires.idle c.requires.fit c.in_default.not-Notice c.in_default.not-Lapse c.requires.stands.0.meaning)

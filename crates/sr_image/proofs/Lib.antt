@@ -1,0 +1,4 @@
+pub mod Each
+pub mod Alike
+pub mod Bodies
+pub mod Placing

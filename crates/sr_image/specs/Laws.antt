@@ -1,0 +1,1 @@
+-- Writing and reading an image belong together.

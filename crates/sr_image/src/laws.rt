@@ -1,0 +1,1 @@
+//! Laws of the definitions: functions that do nothing, and whose contracts are the laws.

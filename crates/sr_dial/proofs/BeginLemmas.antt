@@ -12,12 +12,12 @@ use Rattle.sr_script.specs.TraceText.{line_text}
 use Rattle.sr_session.specs.Clients.{Client}
 use Rattle.sr_session.specs.Rules.{sent_of}
 use Rattle.sr_links.specs.Steps.{Standing, Resumed, past_after, requests_of}
-use Rattle.sr_dial.specs.Calls.{Call, Scripted, Task, Do, all_done, calls_told, count_faults, fails, is_fault, one_if, steps_in}
+use Rattle.sr_dial.specs.Calls.{Call, Scripted, Do, all_done, calls_told, count_faults, fails, is_fault, steps_in}
 use Rattle.sr_talk.specs.Serving.{RoseBy, spelled}
 use Rattle.sr_dial.specs.Known.{Setting, Makes}
 use Rattle.sr_dial.specs.Runs.{IsCarried, IsToldIf, SendsMost, left_by}
 use Rattle.sr_dial.specs.Courses.{At, Broken, Course, IsThere, Rests, Start, Stepped}
-use Rattle.sr_dial.proofs.ListLemmas.{all-one, any-one, calls-one, count-one, dialled-one, told-one}
+use Rattle.sr_dial.proofs.ListLemmas.{all-one, any-one, calls-one, dialled-one, told-one}
 use Rattle.sr_dial.proofs.CourseLemmas.{count-still, done_of, made-of, past-one, step_of, stepped-one}
 use Rattle.sr_dial.proofs.BrokenLemmas.{most-part, one-at-most}
 use Rattle.sr_dial.proofs.ToldLemmas.{still-other, still-same, told-first, told-more, told-none}
@@ -47,6 +47,7 @@ module _ (C : Type 0) (Stands : C → Client → Type 0) (lent : C → Option An
     made = made-of (left_by s.past (h.course.earlier ++ h.course.call ∷ [])).cut h.course.earlier h.course.call s.linking l h.there;
     faults = h.faults;
     failed_is = h.failed_is;
+    calm = h.calm;
     came = came;
     steps = h.course.steps;
     cut = down;
@@ -78,7 +79,7 @@ module _ (C : Type 0) (Stands : C → Client → Type 0) (lent : C → Option An
       taken = taken;
       steps = subst (λ ds. Stepped C Stands lent IsOf k s further number 0 ds Q new)
           (sym (all-one r.calls (record { number = number; first = step_of C Stands lent IsOf k s m; others = []; connected = connected; told = told; left = [] })))
-          (stepped-one C Stands lent IsOf k s ahead further line r.came number Scripted P Q code new Resumed lines sent on says (all_done r.calls) r.steps m free);
+          (stepped-one C Stands lent IsOf k s ahead further line r.came number Scripted P Q code new Resumed lines sent on (omega arith) says (all_done r.calls) r.steps m free);
     }
 
     sum : requests_of (step_of C Stands lent IsOf k s m ∷ []) ≡ sent
@@ -109,6 +110,7 @@ module _ (C : Type 0) (Stands : C → Client → Type 0) (lent : C → Option An
               (sym (ap (λ (c : Client). c.cut) (past-new true (option_map (sends (spelled sent)) (next_peer (Some s.address) l.peers))) ∙ next-up))
               (ap (λ (x : Linking). x.present) is, ap (λ (x : Linking). x.past) is ∙ r.made, refl, refl);
           failed_is = any-one r.calls (new_call true (option_map (sends (spelled sent)) (next_peer (Some s.address) l.peers))) ∙ (or-none (list_any fails r.calls) ∙ r.failed_is);
+          calm = λ no. ap (λ (x : Linking). x.faults) is ∙ r.calm no;
           peers_stay = still-other s.linking l new_l (ap (λ (x : Linking). x.peers) is) r.peers_stay;
         }
 

@@ -15,9 +15,8 @@ use Rattle.sr_session.specs.Rules.{Outcome, QueryRefused, Busy, Down, Answered, 
 use Rattle.sr_wire.specs.Reading.{decoded, Faulty}
 use Rattle.sr_wire.specs.declared.wire_fault.WireFault.TheVariants.{Short}
 use Rattle.sr_wire.specs.Spelling.{spelling}
-use Rattle.sr_links.specs.Honest.{IsPrefix}
-use Rattle.sr_links.specs.Steps.{Step, Standing, Deed, StaysOn, WasCut, given_of, past_after, requests_of, taken_by}
-use Rattle.sr_dial.specs.Calls.{Call, Cause, Failed, Done, Task, all_done, calls_told, count_faults, done_in, fails, is_coming, is_failed, is_fault, is_short, one_if, steps_in, text_of}
+use Rattle.sr_links.specs.Steps.{Standing, Deed, StaysOn, WasCut, given_of, past_after, requests_of, taken_by}
+use Rattle.sr_dial.specs.Calls.{Call, Cause, Failed, all_done, count_faults, done_in, fails, is_coming, is_failed, is_fault, one_if, steps_in}
 use Rattle.sr_talk.specs.Reading.{Reads}
 use Rattle.sr_talk.specs.Serving.{RoseBy, spelled}
 use Rattle.sr_talk.proofs.TalkLemmas.{spelled-append}
@@ -131,6 +130,7 @@ module _ (C : Type 0) (Stands : C → Client → Type 0) (lent : C → Option An
           there = subst (λ b. IsThere b h.course.earlier read_call s.linking new_l) (sym (ap (λ ds. (past_after s.past (steps_in ds)).cut) all-same ∙ up))
               (ap (λ (x : Linking). x.present) r.is ∙ ap (option_map (takes r.bytes)) there.0, ap (λ (x : Linking). x.past) r.is ∙ there.1, there.2, there.3);
           failed_is = any-one h.course.earlier read_call ∙ (sym (any-one h.course.earlier h.course.call) ∙ h.failed_is);
+          calm = λ no. ap (λ (x : Linking). x.faults) r.is ∙ h.calm no;
           peers_stay = still-same s.linking l new_l (ap (λ (x : Linking). x.peers) r.is) h.peers_stay;
         }
 
@@ -190,7 +190,7 @@ module _ (C : Type 0) (Stands : C → Client → Type 0) (lent : C → Option An
         }
 
   module _ (ahead further : Ahead) (line came number : ℕ) (cause : Cause) (P Q : List ℕ → Type 0) (code new : C) (deed : Deed) (lines : List TraceLine) (sent : List Message)
-      (on : GoesOn cause ahead (lent code) number deed further) (says : (texts : List ℕ) → P texts → Q (texts ++ flat_map (line_text k.schema number) lines)) where
+      (on : GoesOn cause ahead (lent code) number deed further) (most : more_taken cause came ≤ 1000000) (says : (texts : List ℕ) → P texts → Q (texts ++ flat_map (line_text k.schema number) lines)) where
     -- a request is cut short
     pub send-breaks : (failed : Bool) (l new_l : Linking) (feed left : List ℕ) (h : At C Stands lent IsOf k s ahead line came failed l P feed code)
         (m : Makes Stands lent IsOf k code new (left_by s.past (h.course.earlier ++ h.course.call ∷ [])) deed lines sent)
@@ -214,10 +214,10 @@ module _ (C : Type 0) (Stands : C → Client → Type 0) (lent : C → Option An
             ∙ ap (λ ms. requests_of (steps_in (done_in h.course.call)) ++ ms) one in
             let before = h.faults in
             let none = count-still h.course.earlier h.course.call there.2 in
-            let most = one-at-most (is_fault (with_step h.course.call (done_of C Stands lent IsOf k s number cause m) (option_map (sends (take part.count (spelled sent))) h.course.call.told) left)) in
+            let once = one-at-most (is_fault (with_step h.course.call (done_of C Stands lent IsOf k s number cause m) (option_map (sends (take part.count (spelled sent))) h.course.call.told) left)) in
             record {
               came = more_taken cause came;
-              course = course-one C Stands lent IsOf k s ahead further line came number cause P Q code new deed lines sent on says feed left left refl (option_map (sends (take part.count (spelled sent))) h.course.call.told) h.course m place stays
+              course = course-one C Stands lent IsOf k s ahead further line came number cause P Q code new deed lines sent on most says feed left left refl (option_map (sends (take part.count (spelled sent))) h.course.call.told) h.course m place stays
                   (map-told (sends (take part.count (spelled sent))) (λ t. t.taken ≡ spelled (given_of (steps_in (done_in h.course.call))) ++ h.course.call.left)
                   (λ t. t.taken ≡ spelled (given_of (steps_in (done_in h.course.call)) ++ taken_by deed) ++ left) h.course.call.told
                   (λ t e. e ∙ (ap (λ x. spelled (given_of (steps_in (done_in h.course.call))) ++ x) (h.course.left ∙ fed)
@@ -233,7 +233,7 @@ module _ (C : Type 0) (Stands : C → Client → Type 0) (lent : C → Option An
                   subst (λ ms. SendsMost ms (t.sent ++ take part.count (spelled sent))) (sym sum)
                   (subst (λ ms. SendsMost (requests_of (steps_in (done_in h.course.call)) ++ x ∷ []) (t.sent ++ take part.count (spelled ms))) (sym same)
                   (subst (λ b. SendsMost (requests_of (steps_in (done_in h.course.call)) ++ x ∷ []) (b ++ take part.count (spelled (x ∷ [])))) (sym was) (most-part (requests_of (steps_in (done_in h.course.call))) x part.count)))) h.sent;
-              faults = omega (arith, before, rose, none, most);
+              faults = omega (arith, before, rose, none, once);
               made = made-of false h.course.earlier (with_step h.course.call (done_of C Stands lent IsOf k s number cause m) (option_map (sends (take part.count (spelled sent))) h.course.call.told) left) s.linking new_l
                   (part.sent.present ∙ ap (option_map (sends (take part.count (spelled sent)))) there.0, part.sent.past ∙ there.1, fails-no, there.3);
               out = λ none_out. m.waits (λ no. absurd (let wrong : x ∷ [] ≡ [] = sym same ∙ no in cc))
@@ -262,7 +262,7 @@ module _ (C : Type 0) (Stands : C → Client → Type 0) (lent : C → Option An
       record {
         came = 0;
         at = record {
-          course = course-one C Stands lent IsOf k s ahead ahead line b.came line Failed P Q code new WasCut lines [] refl says feed b.course.call.left feed b.course.left b.course.call.told b.course m (refl, b.out) tt
+          course = course-one C Stands lent IsOf k s ahead ahead line b.came line Failed P Q code new WasCut lines [] refl (omega arith) says feed b.course.call.left feed b.course.left b.course.call.told b.course m (refl, b.out) tt
               (weaken-told (λ t. t.taken ≡ spelled (given_of (steps_in (done_in b.course.call))) ++ b.course.call.left)
               (λ t. t.taken ≡ spelled (given_of (steps_in (done_in b.course.call)) ++ []) ++ b.course.call.left) b.course.call.told
               (λ t e. e ∙ ap (λ ms. spelled ms ++ b.course.call.left) (sym (append-nil (given_of (steps_in (done_in b.course.call)))))) b.course.taken)
@@ -281,6 +281,7 @@ module _ (C : Type 0) (Stands : C → Client → Type 0) (lent : C → Option An
               ∙ ap (λ x. connections s.linking ++ x) (told-one b.course.earlier b.course.call ∙ sym (told-one b.course.earlier (with_step b.course.call (done_of C Stands lent IsOf k s line Failed m) b.course.call.told b.course.call.left)))));
           failed_is = any-one b.course.earlier (with_step b.course.call (done_of C Stands lent IsOf k s line Failed m) b.course.call.told b.course.call.left)
               ∙ (ap (λ y. list_any fails b.course.earlier || y) fails-yes ∙ or-yes (list_any fails b.course.earlier));
+          calm = λ no. absurd (let wrong : true ≡ false = no in cc);
           peers_stay = b.peers_stay;
         };
         free = ap (λ (c : Client). c.out) (past-step s.past b.course.earlier b.course.call (done_of C Stands lent IsOf k s line Failed m) b.course.call.told b.course.call.left) ∙ m.rests m.link.0;

@@ -15,9 +15,9 @@ use Rattle.sr_dial.specs.Calls.{Call, Cause, Done, Made, Explained, Said, all_do
 use Rattle.sr_talk.specs.Serving.{RoseBy, spelled}
 use Rattle.sr_talk.proofs.TalkLemmas.{spelled-append}
 use Rattle.sr_dial.specs.Known.{IsFrom, Setting, Makes}
-use Rattle.sr_dial.specs.Runs.{IsCarried, IsInPlace, IsToldIf, SentAs, left_by, more_taken}
-use Rattle.sr_dial.specs.Courses.{At, Course, IsCall, IsThere, Start, Stepped, line_after}
-use Rattle.sr_dial.proofs.ListLemmas.{all-one, any-one, code-append, count-one, explained-append, fails-one, fair-append, given-append, line-append, on-append, past-append, place-append, requests-append, steps-append, taken-append, told-one}
+use Rattle.sr_dial.specs.Runs.{IsInPlace, IsToldIf, SentAs, left_by, more_taken}
+use Rattle.sr_dial.specs.Courses.{At, Course, IsThere, Start, Stepped}
+use Rattle.sr_dial.proofs.ListLemmas.{all-one, any-one, code-append, count-one, explained-append, fails-one, fair-append, few-append, given-append, line-append, on-append, past-append, place-append, requests-append, steps-append, taken-append, told-one}
 use Rattle.sr_dial.proofs.ToldLemmas.{still-same, told-on, told-same}
 use Rattle.sr_dial.specs.declared.parts.Answer.{Answer}
 use Rattle.sr_dial.specs.Following.{Ahead}
@@ -123,7 +123,7 @@ module _ (C : Type 0) (Stands : C → Client → Type 0) (lent : C → Option An
   done_of {code} {new} {c} {deed} {lines} {sent} number cause m = Made number cause (record { deed = deed; outcome = m.outcome; past = m.next; code = new })
 
   module _ (ahead further : Ahead) (line came number : ℕ) (cause : Cause) (P Q : List ℕ → Type 0) (code new : C) (deed : Deed) (lines : List TraceLine) (sent : List Message)
-      (on : GoesOn cause ahead (lent code) number deed further) (says : (texts : List ℕ) → P texts → Q (texts ++ flat_map (line_text k.schema number) lines)) where
+      (on : GoesOn cause ahead (lent code) number deed further) (most : more_taken cause came ≤ 1000000) (says : (texts : List ℕ) → P texts → Q (texts ++ flat_map (line_text k.schema number) lines)) where
     pub stepped-one : (ds : List (Done C)) → Stepped C Stands lent IsOf k s ahead line came ds P code → (m : Makes Stands lent IsOf k code new (past_after s.past (steps_in ds)) deed lines sent)
         → IsInPlace k.schema cause line number deed (past_after s.past (steps_in ds))
         → Stepped C Stands lent IsOf k s further number (more_taken cause came) (ds ++ done_of number cause m ∷ []) Q new
@@ -135,6 +135,7 @@ module _ (C : Type 0) (Stands : C → Client → Type 0) (lent : C → Option An
           in_place = place-append k.schema 0 s.past ds (done_of number cause m ∷ []) h.in_place (subst (λ n. IsInPlace k.schema cause n number deed (past_after s.past (steps_in ds))) (sym h.line_is) place, tt);
           line_is = line-append 0 ds (done_of number cause m ∷ []);
           came_is = taken-append 0 ds (done_of number cause m ∷ []) ∙ ap (more_taken cause) h.came_is;
+          few = few-append 0 ds (done_of number cause m) h.few (subst (λ n. more_taken cause n ≤ 1000000) (sym h.came_is) most);
           goes = made-goes k.keeps s.plan ds ahead further (lent code) h.goes h.ahead_is h.answer_is number cause (step_of m) on;
           ahead_is = made-ahead k.keeps s.plan ds ahead further (lent code) h.goes h.ahead_is h.answer_is number cause (step_of m) on;
           answer_is = made-answer k.keeps s.plan ds ahead further (lent code) h.goes h.ahead_is h.answer_is number cause (step_of m) ∙ sym m.answers;
@@ -220,13 +221,14 @@ module _ (C : Type 0) (Stands : C → Client → Type 0) (lent : C → Option An
                 (ap (λ (x : Linking). x.present) is ∙ ap (option_map (sends (spelled sent))) there.0, ap (λ (x : Linking). x.past) is ∙ there.1, fails-no, there.3);
             failed_is = any-one h.course.earlier (with_step h.course.call (done_of number cause m) (option_map (sends (spelled sent)) h.course.call.told) left)
                 ∙ (ap (λ b. list_any fails h.course.earlier || b) same ∙ (sym (any-one h.course.earlier h.course.call) ∙ h.failed_is));
+            calm = λ no. ap (λ (x : Linking). x.faults) is ∙ h.calm no;
             peers_stay = still-same s.linking l new_l (ap (λ (x : Linking). x.peers) is) h.peers_stay;
           }
 
       -- nothing went over the link, which is down then
-      pub at-down : m.next.cut ≡ true → sent ≡ [] → taken_by deed ≡ [] → connections new_l ≡ connections l → new_l.peers ≡ l.peers → l.faults ≤ new_l.faults
+      pub at-down : m.next.cut ≡ true → sent ≡ [] → taken_by deed ≡ [] → connections new_l ≡ connections l → new_l.peers ≡ l.peers → new_l.faults ≡ l.faults
           → At C Stands lent IsOf k s further number (more_taken cause came) failed new_l Q feed new
-      at-down down none took same_links same_peers more =
+      at-down down none took same_links same_peers quiet =
           let fails-same : fails (with_step h.course.call (done_of number cause m) h.course.call.told h.course.call.left) ≡ fails h.course.call =
           fails-one h.course.call.others (done_of number cause m) ∙ or-no (fails h.course.call) (is_failed cause) not_failed in
           let sum : requests_of (steps_in (done_in (with_step h.course.call (done_of number cause m) h.course.call.told h.course.call.left))) ≡ requests_of (steps_in (done_in h.course.call)) =
@@ -250,12 +252,13 @@ module _ (C : Type 0) (Stands : C → Client → Type 0) (lent : C → Option An
                 (requests_of (steps_in (done_in (with_step h.course.call (done_of number cause m) h.course.call.told h.course.call.left)))) t.sent) h.course.call.told
                 (λ t e. subst (λ b. SentAs b (requests_of (steps_in (done_in (with_step h.course.call (done_of number cause m) h.course.call.told h.course.call.left)))) t.sent) (sym fails-same)
                 (subst (λ ms. SentAs (fails h.course.call) ms t.sent) (sym sum) e)) h.sent;
-            faults = subst (λ n. RoseBy s.linking.faults n new_l.faults) (sym count) (omega (arith, before, more));
+            faults = subst (λ n. RoseBy s.linking.faults n new_l.faults) (sym count) (omega (arith, before, quiet));
             there = subst (λ b. IsThere b h.course.earlier (with_step h.course.call (done_of number cause m) h.course.call.told h.course.call.left) s.linking new_l)
                 (sym (ap (λ (c : Client). c.cut) (past-step s.past h.course.earlier h.course.call (done_of number cause m) h.course.call.told h.course.call.left) ∙ down))
                 (same_links ∙ (made-of (left_by s.past (h.course.earlier ++ h.course.call ∷ [])).cut h.course.earlier h.course.call s.linking l h.there
                 ∙ ap (λ x. connections s.linking ++ x) (told-one h.course.earlier h.course.call ∙ sym (told-one h.course.earlier (with_step h.course.call (done_of number cause m) h.course.call.told h.course.call.left)))));
             failed_is = any-one h.course.earlier (with_step h.course.call (done_of number cause m) h.course.call.told h.course.call.left)
                 ∙ (ap (λ b. list_any fails h.course.earlier || b) fails-same ∙ (sym (any-one h.course.earlier h.course.call) ∙ h.failed_is));
+            calm = λ no. quiet ∙ h.calm no;
             peers_stay = still-same s.linking l new_l same_peers h.peers_stay;
           }

@@ -4,10 +4,8 @@ use Rattle.std.specs.Prelude.{◌≢◌, flat_map}
 use Rattle.sr_io.specs.Told.{Linking, Writing}
 use Rattle.sr_message.specs.declared.message.Message.{Message}
 use Rattle.sr_session.specs.Clients.{Client}
-use Rattle.sr_links.specs.Honest.{IsPrefix}
-use Rattle.sr_links.specs.Steps.{Standing, Resumed, AreFair, requests_of}
-use Rattle.sr_dial.specs.Calls.{Call, Task, all_done, calls_told, count_faults, done_in, fails, is_fault, one_if, steps_in, text_of}
-use Rattle.sr_talk.specs.Serving.{RoseBy, spelled}
+use Rattle.sr_links.specs.Steps.{Standing, requests_of}
+use Rattle.sr_dial.specs.Calls.{Task, all_done, done_in, fails, steps_in, text_of}
 use Rattle.sr_dial.specs.Known.{Setting}
 use Rattle.sr_dial.specs.Runs.{EndsBy, IsCarried, SendsMost, SentAs, WritesAs, is_unwritten, left_by}
 use Rattle.sr_dial.specs.Courses.{At, Broken, IsPartWritten, IsWritten, Over, Start}
@@ -33,6 +31,7 @@ module _ (C : Type 0) (Stands : C → Client → Type 0) (lent : C → Option An
     last = h.course.call;
     are = calls-one s.past h.course.earlier h.course.call h.course.are h.course.is;
     in_place = h.course.steps.in_place;
+    few = h.course.steps.few;
     from = h.course.steps.from;
     goes = h.course.steps.goes;
     fair = h.course.steps.fair;
@@ -60,6 +59,7 @@ module _ (C : Type 0) (Stands : C → Client → Type 0) (lent : C → Option An
         last = b.course.call;
         are = calls-one s.past b.course.earlier b.course.call b.course.are b.course.is;
         in_place = b.course.steps.in_place;
+        few = b.course.steps.few;
         from = b.course.steps.from;
         goes = b.course.steps.goes;
         fair = b.course.steps.fair;
@@ -83,6 +83,7 @@ module _ (C : Type 0) (Stands : C → Client → Type 0) (lent : C → Option An
     last = h.course.call;
     are = calls-one s.past h.course.earlier h.course.call h.course.are h.course.is;
     in_place = h.course.steps.in_place;
+    few = h.course.steps.few;
     from = h.course.steps.from;
     goes = h.course.steps.goes;
     fair = h.course.steps.fair;

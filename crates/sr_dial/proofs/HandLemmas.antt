@@ -10,7 +10,7 @@ use Rattle.sr_script.specs.TraceText.{line_text}
 use Rattle.sr_session.specs.Clients.{Client}
 use Rattle.sr_session.specs.Rules.{sent_of}
 use Rattle.sr_links.specs.Steps.{Standing, Deed, Queried, Wrote, Evicted, Took, WasCut, Resumed, StaysOn, taken_by}
-use Rattle.sr_dial.specs.Calls.{Cause, Scripted, Task, Do, is_failed}
+use Rattle.sr_dial.specs.Calls.{Cause, Scripted, Do, is_failed}
 use Rattle.sr_talk.specs.Serving.{spelled}
 use Rattle.sr_talk.proofs.MoveLemmas.{nothing-sent}
 use Rattle.sr_talk.proofs.SomeLemmas.{prefix-behind}
@@ -36,7 +36,7 @@ module _ {C : Type 0} (s : Start C) (w new_w : Writing) (text : List ℕ) where
   half (part, rose) texts (before, faults) = (prefix-behind s.writing.written w.written new_w.written texts text before part, subst (λ n. Rose n new_w.faults) faults rose)
 
 module _ (C : Type 0) (Stands : C → Client → Type 0) (lent : C → Option Answer) (IsOf : Standing C) (k : Setting) (s : Start C) (ahead further : Ahead) (line came number : ℕ) (cause : Cause) (code new : C) (deed : Deed) (lines : List TraceLine) (sent : List Message)
-    (on : GoesOn cause ahead (lent code) number deed further) (failed : Bool) (l new_l : Linking) (w new_w : Writing) (feed left : List ℕ) (h : At C Stands lent IsOf k s ahead line came failed l (IsWritten s w) feed code)
+    (on : GoesOn cause ahead (lent code) number deed further) (most : more_taken cause came ≤ 1000000) (failed : Bool) (l new_l : Linking) (w new_w : Writing) (feed left : List ℕ) (h : At C Stands lent IsOf k s ahead line came failed l (IsWritten s w) feed code)
     (m : Makes Stands lent IsOf k code new (left_by s.past (h.course.earlier ++ h.course.call ∷ [])) deed lines sent)
     (place : IsInPlace k.schema cause line number deed (left_by s.past (h.course.earlier ++ h.course.call ∷ []))) (stays : StaysOn (left_by s.past (h.course.earlier ++ h.course.call ∷ [])) deed)
     (not_failed : is_failed cause ≡ false) where
@@ -47,20 +47,20 @@ module _ (C : Type 0) (Stands : C → Client → Type 0) (lent : C → Option An
   pub hands-up : (handed : Handed) → (left_by s.past (h.course.earlier ++ h.course.call ∷ [])).cut ≡ false → m.next.cut ≡ false → feed ≡ spelled (taken_by deed) ++ left
       → Carries handed l new_l w new_w (spelled sent) (flat_map (line_text k.schema number) lines) → Hands C Stands lent IsOf k handed s further number (more_taken cause came) failed new_l new_w left new
   hands-up Whole up still fed (is, says) =
-      at-up C Stands lent IsOf k s ahead further line came number cause (IsWritten s w) (IsWritten s new_w) code new deed lines sent on (wrote s w new_w text says) failed l new_l feed left h m place stays not_failed up still fed is
+      at-up C Stands lent IsOf k s ahead further line came number cause (IsWritten s w) (IsWritten s new_w) code new deed lines sent on most (wrote s w new_w text says) failed l new_l feed left h m place stays not_failed up still fed is
   hands-up Broken up still fed ((part, rose), says) =
-      send-breaks C Stands lent IsOf k s ahead further line came number cause (IsWritten s w) (IsWritten s new_w) code new deed lines sent on (wrote s w new_w text says) failed l new_l feed left h m place stays not_failed up fed part rose
+      send-breaks C Stands lent IsOf k s ahead further line came number cause (IsWritten s w) (IsWritten s new_w) code new deed lines sent on most (wrote s w new_w text says) failed l new_l feed left h m place stays not_failed up fed part rose
   hands-up Unwritten up still fed (inl is, says) =
       unwritten-at C Stands lent IsOf k s further number (more_taken cause came) new_l left new new_w failed
-      (at-up C Stands lent IsOf k s ahead further line came number cause (IsWritten s w) (IsPartWritten s new_w) code new deed lines sent on (half s w new_w text says) failed l new_l feed left h m place stays not_failed up still fed is)
+      (at-up C Stands lent IsOf k s ahead further line came number cause (IsWritten s w) (IsPartWritten s new_w) code new deed lines sent on most (half s w new_w text says) failed l new_l feed left h m place stays not_failed up still fed is)
   hands-up Unwritten up still fed (inr (part, rose), says) =
       unwritten-broken C Stands lent IsOf k s further number (more_taken cause came) new_l left new new_w
-      (send-breaks C Stands lent IsOf k s ahead further line came number cause (IsWritten s w) (IsPartWritten s new_w) code new deed lines sent on (half s w new_w text says) failed l new_l feed left h m place stays not_failed up fed part rose)
+      (send-breaks C Stands lent IsOf k s ahead further line came number cause (IsWritten s w) (IsPartWritten s new_w) code new deed lines sent on most (half s w new_w text says) failed l new_l feed left h m place stays not_failed up fed part rose)
 
   -- where it is down then
-  pub hands-down : (handed : Handed) (mid : Linking) → m.next.cut ≡ true → sent ≡ [] → taken_by deed ≡ [] → connections mid ≡ connections l → mid.peers ≡ l.peers → l.faults ≤ mid.faults
+  pub hands-down : (handed : Handed) (mid : Linking) → m.next.cut ≡ true → sent ≡ [] → taken_by deed ≡ [] → connections mid ≡ connections l → mid.peers ≡ l.peers → mid.faults ≡ l.faults
       → Carries handed mid new_l w new_w (spelled sent) (flat_map (line_text k.schema number) lines) → Hands C Stands lent IsOf k handed s further number (more_taken cause came) failed new_l new_w feed new
-  hands-down handed mid down none took same peers more carries = by handed (subst (λ ms. Carries handed mid new_l w new_w (spelled ms) (flat_map (line_text k.schema number) lines)) none carries)
+  hands-down handed mid down none took same peers quiet carries = by handed (subst (λ ms. Carries handed mid new_l w new_w (spelled ms) (flat_map (line_text k.schema number) lines)) none carries)
     where
       same-links : new_l ≡ sent_on [] mid → connections new_l ≡ connections l
       same-links is = ap connections (is ∙ nothing-sent mid) ∙ same
@@ -68,18 +68,18 @@ module _ (C : Type 0) (Stands : C → Client → Type 0) (lent : C → Option An
       same-peers : new_l ≡ sent_on [] mid → new_l.peers ≡ l.peers
       same-peers is = ap (λ (x : Linking). x.peers) is ∙ peers
 
-      more-faults : new_l ≡ sent_on [] mid → l.faults ≤ new_l.faults
-      more-faults is = subst (λ (x : Linking). l.faults ≤ x.faults) (sym is) more
+      same-faults : new_l ≡ sent_on [] mid → new_l.faults ≡ l.faults
+      same-faults is = ap (λ (x : Linking). x.faults) is ∙ quiet
 
       by : (handed : Handed) → Carries handed mid new_l w new_w [] (flat_map (line_text k.schema number) lines) → Hands C Stands lent IsOf k handed s further number (more_taken cause came) failed new_l new_w feed new
       by Whole (is, says) =
-          at-down C Stands lent IsOf k s ahead further line came number cause (IsWritten s w) (IsWritten s new_w) code new deed lines sent on (wrote s w new_w text says) failed l new_l feed left h m place stays not_failed down none took
-          (same-links is) (same-peers is) (more-faults is)
+          at-down C Stands lent IsOf k s ahead further line came number cause (IsWritten s w) (IsWritten s new_w) code new deed lines sent on most (wrote s w new_w text says) failed l new_l feed left h m place stays not_failed down none took
+          (same-links is) (same-peers is) (same-faults is)
       by Broken ((part, rose), says) = absurd (let fewer = part.fewer in omega (arith, fewer))
       by Unwritten (inl is, says) =
           unwritten-at C Stands lent IsOf k s further number (more_taken cause came) new_l feed new new_w failed
-          (at-down C Stands lent IsOf k s ahead further line came number cause (IsWritten s w) (IsPartWritten s new_w) code new deed lines sent on (half s w new_w text says) failed l new_l feed left h m place stays not_failed down none took
-          (same-links is) (same-peers is) (more-faults is))
+          (at-down C Stands lent IsOf k s ahead further line came number cause (IsWritten s w) (IsPartWritten s new_w) code new deed lines sent on most (half s w new_w text says) failed l new_l feed left h m place stays not_failed down none took
+          (same-links is) (same-peers is) (same-faults is))
       by Unwritten (inr (part, rose), says) = absurd (let fewer = part.fewer in omega (arith, fewer))
 
 -- ---- a line that leaves the link as it is
@@ -129,11 +129,11 @@ plain-hands C Stands lent IsOf k s ahead further line number failed l new_l w ne
 
     by : (cut : Bool) → (left_by s.past (h.at.course.earlier ++ h.at.course.call ∷ [])).cut ≡ cut → Hands C Stands lent IsOf k handed s further number 0 failed new_l new_w feed new
     by false up =
-        hands-up C Stands lent IsOf k s ahead further line h.came number Scripted code new deed lines sent on failed l new_l w new_w feed feed h.at m h.free (plain-stays deed (left_by s.past (h.at.course.earlier ++ h.at.course.call ∷ [])) plain) refl handed up (link.0 ∙ up)
+        hands-up C Stands lent IsOf k s ahead further line h.came number Scripted code new deed lines sent on (omega arith) failed l new_l w new_w feed feed h.at m h.free (plain-stays deed (left_by s.past (h.at.course.earlier ++ h.at.course.call ∷ [])) plain) refl handed up (link.0 ∙ up)
         (ap (λ ms. spelled ms ++ feed) (sym (plain-none deed plain))) carries
     by true down =
-        hands-down C Stands lent IsOf k s ahead further line h.came number Scripted code new deed lines sent on failed l new_l w new_w feed feed h.at m h.free (plain-stays deed (left_by s.past (h.at.course.earlier ++ h.at.course.call ∷ [])) plain) refl handed l (link.0 ∙ down)
-        (down-silent Stands lent IsOf k code new (left_by s.past (h.at.course.earlier ++ h.at.course.call ∷ [])) deed lines sent m down link.1) (plain-none deed plain) refl refl (omega arith) carries
+        hands-down C Stands lent IsOf k s ahead further line h.came number Scripted code new deed lines sent on (omega arith) failed l new_l w new_w feed feed h.at m h.free (plain-stays deed (left_by s.past (h.at.course.earlier ++ h.at.course.call ∷ [])) plain) refl handed l (link.0 ∙ down)
+        (down-silent Stands lent IsOf k code new (left_by s.past (h.at.course.earlier ++ h.at.course.call ∷ [])) deed lines sent m down link.1) (plain-none deed plain) refl refl refl carries
 
 -- ---- a line that cuts the link
 
@@ -143,5 +143,5 @@ pub cut-hands : (C : Type 0) (Stands : C → Client → Type 0) (lent : C → Op
     → Makes Stands lent IsOf k code new (left_by s.past (h.at.course.earlier ++ h.at.course.call ∷ [])) WasCut lines sent → mid ≡ Rattle.sr_io.specs.Told.hung_up l
     → Carries handed mid new_l w new_w (spelled sent) (flat_map (line_text k.schema number) lines) → Hands C Stands lent IsOf k handed s further number 0 failed new_l new_w feed new
 cut-hands C Stands lent IsOf k s ahead further line number failed l mid new_l w new_w feed code new lines sent handed h on m gone carries =
-    hands-down C Stands lent IsOf k s ahead further line h.came number Scripted code new WasCut lines sent on failed l new_l w new_w feed feed h.at m h.free tt refl handed mid m.link.0 m.link.1 refl
-    (ap connections gone ∙ append-nil (connections l)) (ap (λ (x : Linking). x.peers) gone) (subst (λ (x : Linking). l.faults ≤ x.faults) (sym gone) (omega arith)) carries
+    hands-down C Stands lent IsOf k s ahead further line h.came number Scripted code new WasCut lines sent on (omega arith) failed l new_l w new_w feed feed h.at m h.free tt refl handed mid m.link.0 m.link.1 refl
+    (ap connections gone ∙ append-nil (connections l)) (ap (λ (x : Linking). x.peers) gone) (ap (λ (x : Linking). x.faults) gone) carries

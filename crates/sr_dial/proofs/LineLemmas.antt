@@ -10,13 +10,12 @@ use Rattle.sr_script.specs.TraceText.{line_text}
 use Rattle.sr_session.specs.Clients.{Client}
 use Rattle.sr_session.specs.Rules.{sent_of}
 use Rattle.sr_links.specs.Steps.{Standing, WasCut, Resumed}
-use Rattle.sr_dial.specs.Calls.{Call, Scripted, Task, Do}
+use Rattle.sr_dial.specs.Calls.{Scripted, Do}
 use Rattle.sr_talk.specs.Serving.{spelled}
 use Rattle.sr_dial.specs.Carrying.{Carries, SaysAs}
 use Rattle.sr_dial.specs.Known.{IsFrom, KeepsLink, Makes, Setting}
 use Rattle.sr_dial.specs.Runs.{left_by, IsCarried, IsToldIf}
-use Rattle.sr_dial.specs.Courses.{Broken, FailsAs, Free, Hands, IsPartWritten, IsReady, IsWritten, Over, Rests, Start, TellsStill, Unbegun}
-use Rattle.sr_dial.specs.declared.ending.Ending.TheVariants as ending
+use Rattle.sr_dial.specs.Courses.{Broken, FailsAs, Hands, IsPartWritten, IsReady, IsWritten, Rests, Start, TellsStill, Unbegun}
 use Rattle.sr_dial.specs.declared.steps.Handed.{Handed}
 use Rattle.sr_dial.specs.declared.steps.Handed.TheVariants.{Whole, Broken as HandedBroken, Unwritten}
 use Rattle.sr_dial.proofs.BeginLemmas.{begins, begin-breaks, begin-fails, rests-of}
@@ -43,11 +42,13 @@ module _ (C : Type 0) (Stands : C → Client → Type 0) (lent : C → Option An
     made = ap connections u.links ∙ sym (append-nil (connections s.linking));
     faults = subst (λ (x : Linking). Rattle.sr_talk.specs.Serving.RoseBy s.linking.faults 0 x.faults) (sym u.links) (omega arith);
     failed_is = sym u.not_failed;
+    calm = λ no. ap (λ (x : Linking). x.faults) u.links;
     came = 0;
     steps = record {
       in_place = tt;
       line_is = sym u.first;
       came_is = refl;
+      few = tt;
       goes = tt;
       ahead_is = sym u.none;
       answer_is = sym u.lends;
@@ -105,7 +106,7 @@ module _ (C : Type 0) (Stands : C → Client → Type 0) (lent : C → Option An
         by (inl f) =
             let m = act (left_by s.past (f.at.course.earlier ++ f.at.course.call ∷ [])) f.at.course.steps.stands in
             let link = subst (λ ms. KeepsLink Resumed ms (left_by s.past (f.at.course.earlier ++ f.at.course.call ∷ [])) m.next) none m.link in
-            hands-up C Stands lent IsOf k s ahead further line f.came number Scripted code new Resumed lines sent on failed l new_l w new_w feed feed f.at m f.free link.0 refl handed link.0 link.1 refl carries
+            hands-up C Stands lent IsOf k s ahead further line f.came number Scripted code new Resumed lines sent on (omega arith) failed l new_l w new_w feed feed f.at m f.free link.0 refl handed link.0 link.1 refl carries
         by (inr u) =
             let m = act s.past (subst (λ x. Stands x s.past) (sym u.code_is) u.stands) in
             let link = subst (λ ms. KeepsLink Resumed ms s.past m.next) none m.link in

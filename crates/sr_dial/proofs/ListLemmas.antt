@@ -1,20 +1,18 @@
 -- Calls and steps, one more.
-use Rattle.std.proofs.Common.{◌≡◌, ℕ, ◌+◌, Bool, true, false, List, [], ◌∷◌, ◌++◌, arith, append_assoc, append-nil, refl, sym, ◌∙◌, ap, subst, Option, Some, None, option_to_list}
-use Rattle.std.specs.Prelude.{◌&&◌, ◌||◌, IfSome, flat_map}
+use Rattle.std.proofs.Common.{◌≡◌, ℕ, ◌+◌, ◌≤◌, Bool, true, false, List, [], ◌∷◌, ◌++◌, arith, append_assoc, append-nil, refl, sym, ◌∙◌, ap, subst, Option, Some, None, option_to_list}
+use Rattle.std.specs.Prelude.{◌&&◌, ◌||◌, IfSome}
 use Rattle.std.specs.List.{list_any}
-use Rattle.std.proofs.lemmas.Grind.{flat_map-append}
 use Rattle.std.proofs.lemmas.List.Elements.{All-append, All-cons, All-nil}
 use Rattle.sr_cell.specs.declared.table.Table.{Table}
 use Rattle.sr_io.specs.Told.{AreAt, Connection}
-use Rattle.sr_message.specs.declared.message.Message.{Message}
 use Rattle.sr_policy.specs.declared.policy.Limits.{Limits}
 use Rattle.sr_session.specs.Clients.{Client}
 use Rattle.sr_session.specs.Rules.{sent_of}
-use Rattle.sr_links.specs.Steps.{Step, Standing, Deed, AreFair, OnOne, StaysOn, code_after, given_of, past_after, requests_of, taken_by}
+use Rattle.sr_links.specs.Steps.{Step, Standing, AreFair, OnOne, StaysOn, code_after, given_of, past_after, requests_of, taken_by}
 use Rattle.sr_dial.specs.Calls.{Call, Done, Made, Explained, Said, AreCalls, all_done, calls_told, count_faults, done_in, fails, has_failed, is_fault, number_of, one_if, steps_in}
 use Rattle.sr_dial.specs.Courses.{IsCall, line_after}
 use Rattle.sr_dial.specs.Known.{AreFairlyExplained}
-use Rattle.sr_dial.specs.Runs.{AreInPlace, left_by, more_taken, taken_after}
+use Rattle.sr_dial.specs.Runs.{AreFew, AreInPlace, left_by, more_taken, taken_after}
 
 module _ {C : Type 0} where
   -- ---- steps
@@ -59,6 +57,12 @@ module _ {C : Type 0} where
   taken-append n (Made number cause step ∷ xs) ys = taken-append (more_taken cause n) xs ys
   taken-append n (Explained number text result ∷ xs) ys = taken-append 0 xs ys
   taken-append n (Said number text ∷ xs) ys = taken-append 0 xs ys
+
+  pub few-append : (n : ℕ) (xs : List (Done C)) (d : Done C) → AreFew n xs → taken_after (taken_after n xs) (d ∷ []) ≤ 1000000 → AreFew n (xs ++ d ∷ [])
+  few-append n [] d few most = (most, tt)
+  few-append n (Made number cause step ∷ xs) d (first, few) most = (first, few-append (more_taken cause n) xs d few most)
+  few-append n (Explained number text result ∷ xs) d (first, few) most = (first, few-append 0 xs d few most)
+  few-append n (Said number text ∷ xs) d (first, few) most = (first, few-append 0 xs d few most)
 
   pub place-append : (schema : List Table) (line : ℕ) (c : Client) (xs ys : List (Done C)) → AreInPlace schema line c xs → AreInPlace schema (line_after line xs) (past_after c (steps_in xs)) ys
       → AreInPlace schema line c (xs ++ ys)

@@ -1,21 +1,19 @@
 -- A run in which one thing more is done that is no step: all else stays as it is.
-use Rattle.std.proofs.Common.{◌≡◌, ℕ, ◌+◌, Bool, true, false, cond, List, [], ◌∷◌, ◌++◌, append-nil, refl, sym, ◌∙◌, ap, subst, Option, None}
+use Rattle.std.proofs.Common.{◌≡◌, ℕ, ◌+◌, ◌≤◌, arith, Bool, true, false, cond, List, [], ◌∷◌, ◌++◌, append-nil, refl, sym, ◌∙◌, ap, subst, Option, None}
 use Rattle.std.specs.Prelude.{◌&&◌, ◌||◌, IfSome, Result, flat_map}
 use Rattle.std.specs.List.{list_any, All}
 use Rattle.std.proofs.lemmas.Grind.{flat_map-append}
 use Rattle.sr_cell.specs.declared.fault.Fault.{Fault}
 use Rattle.sr_cell.specs.declared.table.Table.{Table}
 use Rattle.sr_io.specs.Told.{Linking, Writing, connections}
-use Rattle.sr_message.specs.declared.message.Message.{Message}
 use Rattle.sr_model.specs.Queries.{Query}
 use Rattle.sr_script.specs.declared.line.TraceLine.{TraceLine}
 use Rattle.sr_script.specs.TraceText.{line_text}
 use Rattle.sr_session.specs.Clients.{Client}
 use Rattle.sr_explain.specs.declared.explanation.Explanation.{Explanation}
-use Rattle.sr_explain.specs.Telling.{explain_lines}
 use Rattle.sr_links.specs.Steps.{Step, Standing, AreFair, OnOne, code_after, given_of, past_after, requests_of}
-use Rattle.sr_plan.specs.Plans.{Next, Did, Passed}
-use Rattle.sr_dial.specs.Calls.{Call, Done, Explained, Said, Task, Explain, Say, all_done, calls_told, count_faults, done_in, fails, has_failed, is_fault, number_of, one_if, steps_in, text_of}
+use Rattle.sr_plan.specs.Plans.{Next, Passed}
+use Rattle.sr_dial.specs.Calls.{Call, Done, Explained, Said, Task, Explain, Say, all_done, count_faults, done_in, fails, has_failed, is_fault, number_of, one_if, steps_in, text_of}
 use Rattle.sr_dial.specs.Following.{Ahead, did_of}
 use Rattle.sr_talk.specs.Serving.{RoseBy, spelled}
 use Rattle.sr_dial.specs.Carrying.{SaysAs}
@@ -24,7 +22,7 @@ use Rattle.sr_dial.specs.Runs.{AreInPlace, SentAs, left_by, taken_after}
 use Rattle.sr_dial.specs.Courses.{At, Free, Hands, IsPartWritten, IsThere, IsWritten, Start, Stepped, line_after}
 use Rattle.sr_dial.specs.declared.parts.Answer.{Answer}
 use Rattle.sr_dial.specs.declared.steps.Handed.TheVariants.{Whole, Unwritten}
-use Rattle.sr_dial.proofs.ListLemmas.{any-one, count-one, explained-append, fails-one, line-append, place-append, steps-append, taken-append, told-one}
+use Rattle.sr_dial.proofs.ListLemmas.{any-one, count-one, explained-append, fails-one, few-append, line-append, place-append, steps-append, taken-append, told-one}
 use Rattle.sr_dial.proofs.CourseLemmas.{all-step, given-step, given_by, or-no, past-step, past_by, requests-step, sent_by, with_step}
 use Rattle.sr_dial.proofs.EndLemmas.{unwritten-at}
 use Rattle.sr_dial.proofs.HandLemmas.{half, wrote}
@@ -63,6 +61,7 @@ module _ (C : Type 0) (Stands : C → Client → Type 0) (lent : C → Option An
         in_place = place-append k.schema 0 s.past ds (d ∷ []) h.in_place (quiet.place k.schema (line_after 0 ds) (past_after s.past (steps_in ds)) free);
         line_is = line-append 0 ds (d ∷ []) ∙ quiet.number_is;
         came_is = taken-append 0 ds (d ∷ []) ∙ quiet.zero (taken_after 0 ds);
+        few = few-append 0 ds d h.few (subst (λ n. n ≤ 1000000) (sym (quiet.zero (taken_after 0 ds))) (omega arith));
         goes = passed-goes k.keeps s.plan ds ahead further (lent code) h.goes h.ahead_is h.answer_is d number task quiet.did on;
         ahead_is = passed-ahead k.keeps s.plan ds ahead further (lent code) h.goes h.ahead_is h.answer_is d number task quiet.did on;
         answer_is = passed-answer k.keeps s.plan ds ahead further (lent code) h.goes h.ahead_is h.answer_is d number task quiet.did;
@@ -127,6 +126,7 @@ module _ (C : Type 0) (Stands : C → Client → Type 0) (lent : C → Option An
       there = subst (λ b. IsThere b h.course.earlier longer s.linking l) (sym (ap (λ (c : Client). c.cut) past-same))
           (there-same (left_by s.past (h.course.earlier ++ h.course.call ∷ [])).cut h.there);
       failed_is = any-one h.course.earlier longer ∙ (ap (λ b. list_any fails h.course.earlier || b) fails-same ∙ (sym (any-one h.course.earlier h.course.call) ∙ h.failed_is));
+      calm = h.calm;
       peers_stay = h.peers_stay;
     }
 

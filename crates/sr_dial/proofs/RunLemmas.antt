@@ -23,10 +23,10 @@ module _ (C : Type 0) (Stands : C → Client → Type 0) (lent : C → Option An
   made-still : {made : List Connection} → connections l ≡ made → connections new_l ≡ made
   made-still {made} is = ap connections gone ∙ (append-nil (connections l) ∙ is)
 
-  free-ran : (ended : Ending) (failed : Bool) → IsDone C Stands lent IsOf k s failed l w feed code → is_unwritten ended ≡ false
+  free-ran : (ended : Ending) (failed : Bool) → (ended ≡ ending.Whole → failed ≡ false) → IsDone C Stands lent IsOf k s failed l w feed code → is_unwritten ended ≡ false
       → ((calls : List (Call C)) (c : Client) (rest_bytes : List ℕ) (rest : Plan Task Answer) → EndsFree c calls rest failed → EndsBy ended k.schema calls c rest_bytes rest)
       → ((texts : List ℕ) → IsWritten s w texts → WritesAs ended texts s.writing w) → RanFairly C IsOf k s.code s.past s.address s.plan ended s.linking new_l s.writing w
-  free-ran ended failed d written ends writes =
+  free-ran ended failed fine d written ends writes =
       let h = d.free.at in
       let none : left (stage_by k.keeps s.plan (all_done (h.course.earlier ++ h.course.call ∷ []))) ≡ Nothing =
       left-is k.keeps s.plan (all_done (h.course.earlier ++ h.course.call ∷ [])) d.ahead (lent code) h.course.steps.ahead_is h.course.steps.answer_is ∙ d.none in
@@ -36,6 +36,7 @@ module _ (C : Type 0) (Stands : C → Client → Type 0) (lent : C → Option An
           last = h.course.call;
           are = calls-one s.past h.course.earlier h.course.call h.course.are h.course.is;
           in_place = h.course.steps.in_place;
+          few = h.course.steps.few;
           from = h.course.steps.from;
           goes = h.course.steps.goes;
           carried = h.course.carried;
@@ -45,6 +46,7 @@ module _ (C : Type 0) (Stands : C → Client → Type 0) (lent : C → Option An
           made = made-still (made-of (left_by s.past (h.course.earlier ++ h.course.call ∷ [])).cut h.course.earlier h.course.call s.linking l h.there);
           hung_up = ap (λ (x : Linking). x.is_up) gone;
           faults = subst (λ (x : Linking). RoseBy s.linking.faults (count_faults (h.course.earlier ++ h.course.call ∷ [])) x.faults) (sym gone) h.faults;
+          calm = λ whole. ap (λ (x : Linking). x.faults) gone ∙ h.calm (fine whole);
           ends = ends (h.course.earlier ++ h.course.call ∷ []) (left_by s.past (h.course.earlier ++ h.course.call ∷ [])) h.course.call.left (left (stage_by k.keeps s.plan (all_done (h.course.earlier ++ h.course.call ∷ []))))
               (record { all = none; free = d.free.free; failed_is = h.failed_is });
           writes = writes (flat_map (text_of k.schema k.number) (all_done (h.course.earlier ++ h.course.call ∷ []))) h.course.steps.writes;
@@ -53,13 +55,14 @@ module _ (C : Type 0) (Stands : C → Client → Type 0) (lent : C → Option An
         explained = h.course.steps.explained;
       }
 
-  over-ran : (ended : Ending) → Over C Stands lent IsOf k s ended l w → RanFairly C IsOf k s.code s.past s.address s.plan ended s.linking new_l s.writing w
-  over-ran ended o = record {
+  over-ran : (ended : Ending) → (ended ≡ ending.Whole → ⊥) → Over C Stands lent IsOf k s ended l w → RanFairly C IsOf k s.code s.past s.address s.plan ended s.linking new_l s.writing w
+  over-ran ended early o = record {
     ran = record {
       earlier = o.earlier;
       last = o.last;
       are = o.are;
       in_place = o.in_place;
+      few = o.few;
       from = o.from;
       goes = o.goes;
       carried = o.carried;
@@ -69,6 +72,7 @@ module _ (C : Type 0) (Stands : C → Client → Type 0) (lent : C → Option An
       made = made-still o.made;
       hung_up = ap (λ (x : Linking). x.is_up) gone;
       faults = subst (λ (x : Linking). RoseBy s.linking.faults (count_faults (o.earlier ++ o.last ∷ [])) x.faults) (sym gone) o.faults;
+      calm = λ whole. absurd (early whole);
       ends = o.ends (left (stage_by k.keeps s.plan (all_done (o.earlier ++ o.last ∷ []))));
       writes = o.writes;
     };
@@ -77,9 +81,9 @@ module _ (C : Type 0) (Stands : C → Client → Type 0) (lent : C → Option An
   }
 
   pub finishes-ran : (ended : Ending) → Finishes C Stands lent IsOf k ended s l w feed code → RanFairly C IsOf k s.code s.past s.address s.plan ended s.linking new_l s.writing w
-  finishes-ran ending.Whole d = free-ran ending.Whole false d refl (λ calls c bytes rest free. free) (λ texts is. is)
-  finishes-ran ending.Faulty d = free-ran ending.Faulty true d refl (λ calls c bytes rest free. free) (λ texts is. is)
-  finishes-ran ending.Unwritten o = over-ran ending.Unwritten o
-  finishes-ran (ending.Spoiled fault) o = over-ran (ending.Spoiled fault) o
-  finishes-ran (ending.Bad why) o = over-ran (ending.Bad why) o
-  finishes-ran ending.Limit o = over-ran ending.Limit o
+  finishes-ran ending.Whole d = free-ran ending.Whole false (λ whole. refl) d refl (λ calls c bytes rest free. free) (λ texts is. is)
+  finishes-ran ending.Faulty d = free-ran ending.Faulty true (λ whole. absurd (cc)) d refl (λ calls c bytes rest free. free) (λ texts is. is)
+  finishes-ran ending.Unwritten o = over-ran ending.Unwritten (λ whole. absurd (cc)) o
+  finishes-ran (ending.Spoiled fault) o = over-ran (ending.Spoiled fault) (λ whole. absurd (cc)) o
+  finishes-ran (ending.Bad why) o = over-ran (ending.Bad why) (λ whole. absurd (cc)) o
+  finishes-ran ending.Limit o = over-ran ending.Limit (λ whole. absurd (cc)) o

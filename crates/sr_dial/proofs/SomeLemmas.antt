@@ -1,9 +1,8 @@
 -- The beginning of a run.
-use Rattle.std.proofs.Common.{◌≡◌, ℕ, Bool, true, false, cond, List, [], refl, None, Option}
+use Rattle.std.proofs.Common.{◌≡◌, ℕ, Bool, true, false, cond, List, refl, None, Option}
 use Rattle.sr_session.specs.Clients.{Client}
 use Rattle.sr_io.specs.Told.{Linking, Writing}
 use Rattle.sr_links.specs.Steps.{Standing}
-use Rattle.sr_dial.specs.Calls.{Task}
 use Rattle.sr_talk.proofs.SomeLemmas.{appends-nothing}
 use Rattle.sr_dial.specs.Known.{Setting}
 use Rattle.sr_dial.specs.Courses.{EndsLine, FailsAs, IsWritten, Start, Unbegun}

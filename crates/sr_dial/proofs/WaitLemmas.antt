@@ -1,5 +1,5 @@
 -- Messages that are awaited.
-use Rattle.std.proofs.Common.{◌≡◌, ℕ, ◌+◌, Bool, true, false, List, [], ◌∷◌, ◌++◌, append-nil, refl, sym, ◌∙◌, ap, subst, Option, Some, None}
+use Rattle.std.proofs.Common.{◌≡◌, ℕ, ◌+◌, ◌≤◌, Bool, true, false, List, [], ◌∷◌, ◌++◌, append-nil, refl, sym, ◌∙◌, ap, subst, Option, Some, None}
 use Rattle.std.specs.Prelude.{◌≢◌, IsTrue, flat_map}
 use Rattle.std.specs.Option.{is_some}
 use Rattle.sr_io.specs.Causes.{Rose}
@@ -12,7 +12,7 @@ use Rattle.sr_wire.specs.declared.bad_frame.BadFrame.{BadFrame}
 use Rattle.sr_wire.specs.declared.wire_fault.WireFault.{WireFault}
 use Rattle.sr_wire.specs.Spelling.{has_spelling, spelling}
 use Rattle.sr_links.specs.Steps.{Standing, Took}
-use Rattle.sr_dial.specs.Calls.{Delivered, Task}
+use Rattle.sr_dial.specs.Calls.{Delivered}
 use Rattle.sr_talk.specs.Reading.{Nexts, Reads}
 use Rattle.sr_talk.specs.Serving.{spelled}
 use Rattle.sr_talk.specs.declared.frames.Next.{Next}
@@ -131,14 +131,14 @@ module _ (C : Type 0) (Stands : C → Client → Type 0) (lent : C → Option An
       over-at C Stands lent IsOf k s ahead line came l (spelling m ++ after) code w failed (ending.Bad why) h refl (λ whole. record { message = m; rest = after; next = refl; spells = is; waits = some-out C Stands lent IsOf k s ahead line came failed l w (spelling m ++ after) code h some; why_is = bad }) (λ texts is. is)
 
   -- it is taken
-  pub handles : (lines : List Rattle.sr_script.specs.declared.line.TraceLine.TraceLine) (sent : List Message) (handed : Handed) → is_some (left_by s.past (h.course.earlier ++ h.course.call ∷ [])).out ≡ true → IsTrue (has_spelling m)
+  pub handles : came + 1 ≤ 1000000 → (lines : List Rattle.sr_script.specs.declared.line.TraceLine.TraceLine) (sent : List Message) (handed : Handed) → is_some (left_by s.past (h.course.earlier ++ h.course.call ∷ [])).out ≡ true → IsTrue (has_spelling m)
       → Rattle.sr_session.specs.Misfits.misfit k.schema (left_by s.past (h.course.earlier ++ h.course.call ∷ [])).out (left_by s.past (h.course.earlier ++ h.course.call ∷ [])).laid
       (left_by s.past (h.course.earlier ++ h.course.call ∷ [])).version m ≡ None
       → Makes Stands lent IsOf k code new (left_by s.past (h.course.earlier ++ h.course.call ∷ [])) (Took m) lines sent
       → Carries handed l new_l w new_w (spelled sent) (flat_map (line_text k.schema line) lines) → Handles C Stands lent IsOf k (handled_by handed) s ahead line came failed m new_l new_w after new
-  handles lines sent handed some is fits made carries =
+  handles most lines sent handed some is fits made carries =
       by handed
-      (hands-up C Stands lent IsOf k s ahead ahead line came line Delivered code new (Took m) lines sent refl failed l new_l w new_w (spelling m ++ after) after h made (refl, some-out C Stands lent IsOf k s ahead line came failed l w (spelling m ++ after) code h some, is, fits) tt refl
+      (hands-up C Stands lent IsOf k s ahead ahead line came line Delivered code new (Took m) lines sent refl most failed l new_l w new_w (spelling m ++ after) after h made (refl, some-out C Stands lent IsOf k s ahead line came failed l w (spelling m ++ after) code h some, is, fits) tt refl
       handed (is-up C Stands lent IsOf k s ahead line came failed l w (spelling m ++ after) code h some)
       (made.link.0 ∙ is-up C Stands lent IsOf k s ahead line came failed l w (spelling m ++ after) code h some) (ap (λ x. x ++ after) (sym (append-nil (spelling m)))) carries)
     where

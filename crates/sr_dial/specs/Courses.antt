@@ -7,7 +7,6 @@ use Rattle.sr_io.specs.Pieces.{WritesPrefix}
 use Rattle.sr_io.specs.Told.{Linking, Writing, AreAt, connections}
 use Rattle.sr_message.specs.declared.message.Message.{Message}
 use Rattle.sr_session.specs.Clients.{Client}
-use Rattle.sr_links.specs.Honest.{IsPrefix}
 use Rattle.sr_links.specs.Steps.{Standing, Resumed, AreFair, OnOne, code_after, given_of, past_after, requests_of}
 use Rattle.sr_dial.specs.Calls.{Call, Done, Task, AreCalls, all_done, calls_told, count_faults, done_in, fails, is_fault, number_of, one_if, steps_in, text_of}
 use Rattle.sr_plan.specs.Plans.{Plan, GoBy, begun}
@@ -17,7 +16,7 @@ use Rattle.sr_talk.specs.declared.frames.Next.{Next}
 use Rattle.sr_talk.specs.declared.frames.Next.TheVariants.{Frame, End, Torn, Fault, Bad}
 use Rattle.sr_dial.specs.Following.{Ahead, dids_of, stage_by}
 use Rattle.sr_dial.specs.Known.{AreFairlyExplained, IsFrom, Setting}
-use Rattle.sr_dial.specs.Runs.{AreInPlace, EndsBy, IsCarried, IsToldIf, SendsMost, SentAs, WritesAs, is_unwritten, left_by, taken_after}
+use Rattle.sr_dial.specs.Runs.{AreFew, AreInPlace, EndsBy, IsCarried, IsToldIf, SendsMost, SentAs, WritesAs, is_unwritten, left_by, taken_after}
 use Rattle.sr_dial.specs.declared.ending.Ending.{Ending}
 use Rattle.sr_dial.specs.declared.parts.Answer.{Answer}
 use Rattle.sr_dial.specs.declared.ending.Ending.TheVariants as ending
@@ -94,6 +93,7 @@ module _ (C : Type 0) (Stands : C → Client → Type 0) (lent : C → Option An
     pub in_place : AreInPlace k.schema 0 s.past ds
     pub line_is : line_after 0 ds ≡ line
     pub came_is : taken_after 0 ds ≡ came
+    pub few : AreFew 0 ds
     pub goes : GoBy (begun s.plan) (dids_of k.keeps ds)
     pub ahead_is : (stage_by k.keeps s.plan ds).ahead ≡ ahead
     pub answer_is : (stage_by k.keeps s.plan ds).answer ≡ lent code
@@ -128,6 +128,7 @@ module _ (C : Type 0) (Stands : C → Client → Type 0) (lent : C → Option An
     pub faults : RoseBy s.linking.faults (count_faults (course.earlier ++ course.call ∷ [])) l.faults
     pub there : IsThere (left_by s.past (course.earlier ++ course.call ∷ [])).cut course.earlier course.call s.linking l
     pub failed_is : list_any fails (course.earlier ++ course.call ∷ []) ≡ failed
+    pub calm : failed ≡ false → l.faults ≡ s.linking.faults
     pub peers_stay : TellsStill s.linking l
 
   -- The link failed while a request is out.
@@ -152,6 +153,7 @@ module _ (C : Type 0) (Stands : C → Client → Type 0) (lent : C → Option An
     pub made : connections l ≡ connections s.linking ++ calls_told calls
     pub faults : RoseBy s.linking.faults (count_faults calls) l.faults
     pub failed_is : list_any fails calls ≡ failed
+    pub calm : failed ≡ false → l.faults ≡ s.linking.faults
     pub came : ℕ
     pub steps : Stepped s ahead line came (all_done calls) P code
     pub cut : (left_by s.past calls).cut ≡ true
@@ -162,6 +164,7 @@ module _ (C : Type 0) (Stands : C → Client → Type 0) (lent : C → Option An
     pub last : Call C
     pub are : AreCalls s.past (earlier ++ last ∷ [])
     pub in_place : AreInPlace k.schema 0 s.past (all_done (earlier ++ last ∷ []))
+    pub few : AreFew 0 (all_done (earlier ++ last ∷ []))
     pub goes : GoBy (begun s.plan) (dids_of k.keeps (all_done (earlier ++ last ∷ [])))
     pub from : All (IsFrom k.number) (requests_of (steps_in (all_done (earlier ++ last ∷ []))))
     pub fair : AreFair IsOf k.limits s.code s.past (steps_in (all_done (earlier ++ last ∷ [])))

@@ -1,5 +1,5 @@
 -- What is known of a client by its contract.
-use Rattle.std.specs.Prelude.{ℕ, Bool, true, false, ◌≤◌, ◌+◌, List, [], ◌∷◌, ◌≡◌, ◌≢◌, Option, Some, None, Result, Ok, Err}
+use Rattle.std.specs.Prelude.{ℕ, Bool, true, false, ◌≤◌, List, [], ◌∷◌, ◌≡◌, ◌≢◌, Option, Some, None, Result, Ok, Err}
 use Rattle.std.specs.List.{All, AllZip}
 use Rattle.sr_cell.specs.declared.fault.Fault.{Fault}
 use Rattle.sr_cell.specs.declared.table.Table.{Table}
@@ -22,7 +22,7 @@ use Rattle.sr_session.specs.Rules.{Outcome, sent_of}
 use Rattle.sr_explain.specs.declared.explanation.Explanation.{Explanation}
 use Rattle.sr_explain.specs.Explained.{Explains, count_in}
 use Rattle.sr_explain.specs.Telling.{explain_lines}
-use Rattle.sr_links.specs.Steps.{Step, Standing, Deed, Queried, Wrote, Evicted, Took, WasCut, Resumed, IsFair}
+use Rattle.sr_links.specs.Steps.{Standing, Deed, Queried, Wrote, Evicted, Took, WasCut, Resumed, IsFair}
 use Rattle.sr_dial.specs.Calls.{Done, Made, Explained, Said, Task, Do, Explain, Say, lines_of}
 use Rattle.sr_dial.specs.Following.{answer_of}
 use Rattle.sr_dial.specs.declared.parts.Answer.{Answer}

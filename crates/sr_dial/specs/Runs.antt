@@ -2,7 +2,7 @@
 --
 -- It is not said here that each outcome goes by the rules over a link that lies: only that it does over every database whose rows the
 -- client has, and where what comes is truly promised.
-use Rattle.std.specs.Prelude.{ℕ, Bool, true, false, List, [], ◌∷◌, ◌++◌, ◌||◌, ◌+◌, flat_map, ◌≡◌, ◌≢◌, Option, Some, None, IfSome, IsTrue}
+use Rattle.std.specs.Prelude.{ℕ, Bool, true, false, List, [], ◌∷◌, ◌++◌, ◌||◌, ◌+◌, ◌≤◌, flat_map, ◌≡◌, ◌≢◌, Option, Some, None, IfSome, IsTrue}
 use Rattle.std.specs.Io.KnownBytes.{Appends}
 use Rattle.std.specs.List.{list_any, All}
 use Rattle.sr_cell.specs.declared.table.Table.{Table}
@@ -18,7 +18,7 @@ use Rattle.sr_wire.specs.Spelling.{has_spelling, spelling}
 use Rattle.sr_session.specs.Clients.{Client}
 use Rattle.sr_session.specs.Misfits.{misfit}
 use Rattle.sr_links.specs.Honest.{IsPrefix}
-use Rattle.sr_links.specs.Steps.{AreFair, Standing, Deed, Took, WasCut, Resumed, given_of, requests_of, past_after}
+use Rattle.sr_links.specs.Steps.{AreFair, Standing, Deed, Took, WasCut, given_of, requests_of, past_after}
 use Rattle.sr_dial.specs.Calls.{Call, Cause, Scripted, Delivered, Failed, Done, Made, Explained, Said, Task, AreCalls, all_done, calls_told, count_faults, done_in, fails, steps_in, text_of}
 use Rattle.sr_plan.specs.Plans.{Plan, Over, GoBy, begun, left}
 use Rattle.sr_talk.specs.Serving.{RoseBy, spelled}
@@ -89,6 +89,11 @@ taken_after {C} n (Made number cause step ∷ ds) = taken_after (more_taken caus
 taken_after {C} n (Explained number text result ∷ ds) = taken_after 0 ds
 taken_after {C} n (Said number text ∷ ds) = taken_after 0 ds
 
+-- Behind each thing that was done, at most a million messages were taken since anything else was.
+abbrev pub AreFew : {C : Type 0} → ℕ → List (Done C) → Type 0
+AreFew {C} n [] = Unit {0}
+AreFew {C} n (d ∷ ds) = (taken_after n (d ∷ []) ≤ 1000000) × AreFew (taken_after n (d ∷ [])) ds
+
 -- A million messages were taken for one request, and one more came.
 pub record IsFull {C : Type 0} (done : List (Done C)) (left : List ℕ) : Type 0 where
   pub message : Message
@@ -138,12 +143,13 @@ is_unwritten other = false
 
 -- A run over a plan by a client of this setting, which was `c` before. Call by call it resumed, and then did what the plan asks, in order.
 -- The link tells just these connections more, each made at this address; where it told its peers, it tells each that was made. It is given
--- up. Each request is from that client.
+-- up. Each request is from that client. A request takes at most a million frames, and a run that ends whole has met no fault of the link.
 pub record Ran (C : Type 0) (k : Setting) (c : Client) (address : List ℕ) (plan : Plan Task Answer) (ended : Ending) (old new : Linking) (before after : Writing) : Type 0 where
   pub earlier : List (Call C)
   pub last : Call C
   pub are : AreCalls c (earlier ++ last ∷ [])
   pub in_place : AreInPlace k.schema 0 c (all_done (earlier ++ last ∷ []))
+  pub few : AreFew 0 (all_done (earlier ++ last ∷ []))
   pub from : All (IsFrom k.number) (requests_of (steps_in (all_done (earlier ++ last ∷ []))))
   pub goes : GoBy (begun plan) (dids_of k.keeps (all_done (earlier ++ last ∷ [])))
   pub carried : All (IsCarried false) earlier
@@ -153,6 +159,7 @@ pub record Ran (C : Type 0) (k : Setting) (c : Client) (address : List ℕ) (pla
   pub each_told : All (IsToldIf old.peers) (earlier ++ last ∷ [])
   pub hung_up : new.is_up ≡ false
   pub faults : RoseBy old.faults (count_faults (earlier ++ last ∷ [])) new.faults
+  pub calm : ended ≡ ending.Whole → new.faults ≡ old.faults
   pub ends : EndsBy ended k.schema (earlier ++ last ∷ []) (left_by c (earlier ++ last ∷ [])) last.left (left (stage_by k.keeps plan (all_done (earlier ++ last ∷ []))))
   pub writes : WritesAs ended (flat_map (text_of k.schema k.number) (all_done (earlier ++ last ∷ []))) before after
 

@@ -63,9 +63,7 @@ impl Script {
 
 impl Plans for Script {
     ghost use Rattle.std.specs.Prelude.{length};
-
     ghost use Rattle.std.specs.Vec.Iter.{into_iter_items};
-
     ghost use Rattle.sr_dial.specs.Jobs.{AreAhead};
 
     ghost follows = { λ schema s. AreAhead schema (into_iter_items s.lines) };

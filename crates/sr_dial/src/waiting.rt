@@ -55,7 +55,7 @@ fn handle<H: Link + Sink, C: Asks>(
     message: Message,
 ) -> Result<Handled, NoMemory>
     requires room { 2 ≤ C.room client.old }
-    ensures handled { (k : Setting) (s : Start C) (ahead : Ahead) (taken : ℕ) (failed : Bool) (after : List ℕ) → C.setting client.old ≡ k → schema.now ≡ k.schema → (h : At C C.stands C.lent C.is_of k s ahead number taken failed (H.linking host.old) (IsWritten s (H.writing host.old)) (spelling message ++ after) client.old) → is_some (left_by s.past (h.course.earlier ++ h.course.call ∷ [])).out ≡ true → IsTrue (has_spelling message) → IfOk result (λ handled. Handles C C.stands C.lent C.is_of k handled s ahead number taken failed message (H.linking host.new) (H.writing host.new) after client.new) }
+    ensures handled { (k : Setting) (s : Start C) (ahead : Ahead) (taken : ℕ) (failed : Bool) (after : List ℕ) → taken + 1 ≤ 1000000 → C.setting client.old ≡ k → schema.now ≡ k.schema → (h : At C C.stands C.lent C.is_of k s ahead number taken failed (H.linking host.old) (IsWritten s (H.writing host.old)) (spelling message ++ after) client.old) → is_some (left_by s.past (h.course.earlier ++ h.course.call ∷ [])).out ≡ true → IsTrue (has_spelling message) → IfOk result (λ handled. Handles C C.stands C.lent C.is_of k handled s ahead number taken failed message (H.linking host.new) (H.writing host.new) after client.new) }
     ensures setting { C.setting client.new ≡ C.setting client.old }
     ensures draws { C.room client.old ≤ C.room client.new + 2 }
     ensures stays { OnlyOutput H H.reading H.held H.complaints H.IsSteady host.old host.new }

@@ -1,4 +1,4 @@
-use Rattle.std.proofs.Common.{◌≡◌, ◌∙◌, refl, sym, subst}
+use Rattle.std.proofs.Common.{refl, sym, subst}
 use Rattle.sr_links.specs.Steps.{Resumed}
 use Rattle.sr_plan.specs.Plans.{Next}
 use Rattle.sr_dial.specs.Calls.{Do}

@@ -2,7 +2,6 @@ use Rattle.std.proofs.Common.{◌∙◌, sym, subst}
 use Rattle.std.specs.Prelude.{IfOk}
 use Rattle.sr_dial.specs.Courses.{EndsLine, Hands}
 use Rattle.sr_dial.specs.Following.{ahead_of}
-use Rattle.sr_dial.specs.Jobs.{number_of}
 use Rattle.sr_dial.proofs.run.run_job.Goals as goal
 
 pub returns-clause-ended : goal.returns-clause-ended

@@ -1,4 +1,4 @@
-use Rattle.std.proofs.Common.{◌≡◌, ◌∙◌, ◌+◌, ◌*◌, ◌≤◌, true, false, Option, sym, subst, arith}
+use Rattle.std.proofs.Common.{◌∙◌, true, Option, sym, subst, arith}
 use Rattle.std.specs.Prelude.{◌<◌, IfSome, option_copied}
 use Rattle.sr_dial.specs.Courses.{EndsLine, Finishes}
 use Rattle.sr_dial.specs.Following.{ahead_of}

@@ -1,4 +1,3 @@
-use Rattle.std.proofs.Common.{ℕ}
 use Rattle.sr_dial.proofs.SoFarLemmas.{RunSoFar}
 use Rattle.sr_dial.proofs.run.run_plan.Given as goal
 

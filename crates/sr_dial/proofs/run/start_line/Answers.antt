@@ -1,4 +1,4 @@
-use Rattle.std.proofs.Common.{◌≡◌, [], ◌∷◌, ◌++◌, inl, refl, sym, subst}
+use Rattle.std.proofs.Common.{◌≡◌, inl, refl, sym, subst}
 use Rattle.std.specs.Prelude.{IfOk}
 use Rattle.sr_links.specs.Steps.{Resumed, WasCut}
 use Rattle.sr_dial.specs.Calls.{Do}

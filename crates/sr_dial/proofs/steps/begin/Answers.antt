@@ -1,10 +1,9 @@
-use Rattle.std.proofs.Common.{rules, ◌≡◌, [], ◌∷◌, ◌++◌, true, cond, Some, refl, sym, subst}
+use Rattle.std.proofs.Common.{rules, ◌≡◌, [], cond, Some, refl, sym, subst}
 use Rattle.std.specs.Prelude.{flat_map}
 use Rattle.sr_io.specs.Causes.{Rose}
 use Rattle.sr_io.specs.Told.{OnlyFaults, connected_at}
 use Rattle.sr_script.specs.TraceText.{line_text}
 use Rattle.sr_links.specs.Steps.{Resumed}
-use Rattle.sr_dial.specs.Calls.{Do}
 use Rattle.sr_talk.specs.Serving.{spelled}
 use Rattle.sr_dial.specs.Carrying.{Carries, SaysAs}
 use Rattle.sr_dial.specs.Courses.{Hands}

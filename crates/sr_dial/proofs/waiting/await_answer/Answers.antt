@@ -1,4 +1,4 @@
-use Rattle.std.proofs.Common.{rules, ◌≡◌, ◌∙◌, true, false, [], ◌∷◌, ◌++◌, arith, refl, sym, subst}
+use Rattle.std.proofs.Common.{rules, ◌≡◌, ◌∙◌, true, false, [], ◌∷◌, ◌++◌, arith, refl, sym, subst, ◌+◌, ◌≤◌}
 use Rattle.std.specs.Option.{is_some}
 use Rattle.sr_talk.specs.Reading.{Nexts}
 use Rattle.sr_dial.specs.Courses.{Broken, Handles, IsWritten, Over}
@@ -55,33 +55,37 @@ returns-in-Bad-clause-awaited g c k s ahead failed same schema at =
 
 pub returns-in-Broken-clause-awaited : goal.returns-in-Broken-clause-awaited
 returns-in-Broken-clause-awaited g c k s ahead failed same schema at =
+    let most : c.loop-taken.taken + 1 ≤ 1000000 = search rules in
     let h = c.loop-taken.invariant.so_far k s ahead failed same schema at in
     let waiting : c.is_waiting.result ≡ true = search rules in
     let some : is_some (left_by s.past (h.course.earlier ++ h.course.call ∷ [])).out ≡ true = sym (c.is_waiting.ensures (left_by s.past (h.course.earlier ++ h.course.call ∷ [])) h.course.steps.stands) ∙ waiting in
     let r = reads-on _ g.C.Asks.stands g.C.Asks.lent g.C.Peer.is_of k s ahead c.args.number c.loop-taken.taken failed _ _ _ _ h some (g.H.Outside.linking c.next_frame.new.link) (g.H.Outside.writing c.next_frame.new.link) c.in-Frame.message c.next_frame.new.feed c.next_frame.ensures.stays.writing_stays (subst (λ next. Nexts next (g.H.Outside.linking c.loop-taken.host) (g.H.Outside.linking c.next_frame.new.link) c.loop-taken.feed c.next_frame.new.feed) c.in-Frame.is c.in_ok-next_frame.ensures.next) in
     subst (λ x. Handles _ g.C.Asks.stands g.C.Asks.lent g.C.Peer.is_of k x s ahead c.args.number c.loop-taken.taken failed c.in-Frame.message (g.H.Outside.linking c.handle.new.host) (g.H.Outside.writing c.handle.new.host) c.next_frame.new.feed c.handle.new.client)
-    c.in-Broken.is (c.in_ok-handle.ensures.handled k s ahead c.loop-taken.taken failed c.next_frame.new.feed (c.loop-taken.invariant.same ∙ same) schema r.at r.waits r.spells)
+    c.in-Broken.is (c.in_ok-handle.ensures.handled k s ahead c.loop-taken.taken failed c.next_frame.new.feed most (c.loop-taken.invariant.same ∙ same) schema r.at r.waits r.spells)
 
 pub returns-in-Unwritten-clause-awaited : goal.returns-in-Unwritten-clause-awaited
 returns-in-Unwritten-clause-awaited g c k s ahead failed same schema at =
+    let most : c.loop-taken.taken + 1 ≤ 1000000 = search rules in
     let h = c.loop-taken.invariant.so_far k s ahead failed same schema at in
     let waiting : c.is_waiting.result ≡ true = search rules in
     let some : is_some (left_by s.past (h.course.earlier ++ h.course.call ∷ [])).out ≡ true = sym (c.is_waiting.ensures (left_by s.past (h.course.earlier ++ h.course.call ∷ [])) h.course.steps.stands) ∙ waiting in
     let r = reads-on _ g.C.Asks.stands g.C.Asks.lent g.C.Peer.is_of k s ahead c.args.number c.loop-taken.taken failed _ _ _ _ h some (g.H.Outside.linking c.next_frame.new.link) (g.H.Outside.writing c.next_frame.new.link) c.in-Frame.message c.next_frame.new.feed c.next_frame.ensures.stays.writing_stays (subst (λ next. Nexts next (g.H.Outside.linking c.loop-taken.host) (g.H.Outside.linking c.next_frame.new.link) c.loop-taken.feed c.next_frame.new.feed) c.in-Frame.is c.in_ok-next_frame.ensures.next) in
     subst (λ x. Handles _ g.C.Asks.stands g.C.Asks.lent g.C.Peer.is_of k x s ahead c.args.number c.loop-taken.taken failed c.in-Frame.message (g.H.Outside.linking c.handle.new.host) (g.H.Outside.writing c.handle.new.host) c.next_frame.new.feed c.handle.new.client)
-    c.in-Unwritten.is (c.in_ok-handle.ensures.handled k s ahead c.loop-taken.taken failed c.next_frame.new.feed (c.loop-taken.invariant.same ∙ same) schema r.at r.waits r.spells)
+    c.in-Unwritten.is (c.in_ok-handle.ensures.handled k s ahead c.loop-taken.taken failed c.next_frame.new.feed most (c.loop-taken.invariant.same ∙ same) schema r.at r.waits r.spells)
 
 pub returns-in-Refused-clause-awaited : goal.returns-in-Refused-clause-awaited
 returns-in-Refused-clause-awaited g c k s ahead failed same schema at =
+    let most : c.loop-taken.taken + 1 ≤ 1000000 = search rules in
     let h = c.loop-taken.invariant.so_far k s ahead failed same schema at in
     let waiting : c.is_waiting.result ≡ true = search rules in
     let some : is_some (left_by s.past (h.course.earlier ++ h.course.call ∷ [])).out ≡ true = sym (c.is_waiting.ensures (left_by s.past (h.course.earlier ++ h.course.call ∷ [])) h.course.steps.stands) ∙ waiting in
     let r = reads-on _ g.C.Asks.stands g.C.Asks.lent g.C.Peer.is_of k s ahead c.args.number c.loop-taken.taken failed _ _ _ _ h some (g.H.Outside.linking c.next_frame.new.link) (g.H.Outside.writing c.next_frame.new.link) c.in-Frame.message c.next_frame.new.feed c.next_frame.ensures.stays.writing_stays (subst (λ next. Nexts next (g.H.Outside.linking c.loop-taken.host) (g.H.Outside.linking c.next_frame.new.link) c.loop-taken.feed c.next_frame.new.feed) c.in-Frame.is c.in_ok-next_frame.ensures.next) in
     subst (λ x. Handles _ g.C.Asks.stands g.C.Asks.lent g.C.Peer.is_of k x s ahead c.args.number c.loop-taken.taken failed c.in-Frame.message (g.H.Outside.linking c.handle.new.host) (g.H.Outside.writing c.handle.new.host) c.next_frame.new.feed c.handle.new.client)
-    c.in-Refused.is (c.in_ok-handle.ensures.handled k s ahead c.loop-taken.taken failed c.next_frame.new.feed (c.loop-taken.invariant.same ∙ same) schema r.at r.waits r.spells)
+    c.in-Refused.is (c.in_ok-handle.ensures.handled k s ahead c.loop-taken.taken failed c.next_frame.new.feed most (c.loop-taken.invariant.same ∙ same) schema r.at r.waits r.spells)
 
 pub loop-taken-preserved : goal.loop-taken-preserved
 loop-taken-preserved g c =
+    let most : c.loop-taken.taken + 1 ≤ 1000000 = search rules in
     let before = c.loop-taken.invariant in
     let one = c.next_frame.ensures.stays in
     let two = c.handle.ensures.stays in
@@ -94,7 +98,7 @@ loop-taken-preserved g c =
           let some : is_some (left_by s.past (h.course.earlier ++ h.course.call ∷ [])).out ≡ true = sym (c.is_waiting.ensures (left_by s.past (h.course.earlier ++ h.course.call ∷ [])) h.course.steps.stands) ∙ waiting in
           let r = reads-on _ g.C.Asks.stands g.C.Asks.lent g.C.Peer.is_of k s ahead c.args.number c.loop-taken.taken failed _ _ _ _ h some (g.H.Outside.linking c.next_frame.new.link) (g.H.Outside.writing c.next_frame.new.link) c.in-Frame.message c.next_frame.new.feed c.next_frame.ensures.stays.writing_stays (subst (λ next. Nexts next (g.H.Outside.linking c.loop-taken.host) (g.H.Outside.linking c.next_frame.new.link) c.loop-taken.feed c.next_frame.new.feed) c.in-Frame.is c.in_ok-next_frame.ensures.next) in
           subst (λ x. Handles _ g.C.Asks.stands g.C.Asks.lent g.C.Peer.is_of k x s ahead c.args.number c.loop-taken.taken failed c.in-Frame.message (g.H.Outside.linking c.handle.new.host) (g.H.Outside.writing c.handle.new.host) c.next_frame.new.feed c.handle.new.client)
-          c.in-Whole.is (c.in_ok-handle.ensures.handled k s ahead c.loop-taken.taken failed c.next_frame.new.feed (c.loop-taken.invariant.same ∙ same) schema r.at r.waits r.spells);
+          c.in-Whole.is (c.in_ok-handle.ensures.handled k s ahead c.loop-taken.taken failed c.next_frame.new.feed most (c.loop-taken.invariant.same ∙ same) schema r.at r.waits r.spells);
       same = c.handle.ensures.setting ∙ before.same;
       draws = omega (arith, drawn, draws);
       stays = record {

@@ -127,7 +127,9 @@ AreHoldings schema marks queries holdings =
 -- holds, class by class, in the shape that a server wants.
 abbrev pub IsResumeMessage : List Table → Client → ℕ → Message → Type 0
 IsResumeMessage schema c number (Hello wire client k) = (k ≡ number) × (wire ≡ 2) × HoldsNothing schema c.marks
-IsResumeMessage schema c number (Resume wire client k version holdings) = (k ≡ number) × (wire ≡ 2) × (version ≡ c.version) × AreHoldings schema c.marks c.queries holdings × (HoldsNothing schema c.marks → ⊥) × (list_all (holding_suits schema wire) holdings ≡ true)
+IsResumeMessage schema c number (Resume wire client k version holdings) =
+    (k ≡ number) × (wire ≡ 2) × (version ≡ c.version) × AreHoldings schema c.marks c.queries holdings
+    × (HoldsNothing schema c.marks → ⊥) × (list_all (holding_suits schema wire) holdings ≡ true)
 IsResumeMessage schema c number m = ⊥
 
 -- The link is up, and the server has not taken the first message of the session yet.

@@ -152,7 +152,8 @@ opened db wire subscription = Some (record { wire = wire; subscription = subscri
 
 -- A fresh ask begins the subscription anew; another one brings what is due first, and adds to the subscription.
 abbrev pub serve_ask : Database → Session → ℕ → Bool → List AskPart → Served
-serve_ask db session number true parts = record { session = opened db session.wire (map (holding_of session.wire) parts); sent = reply_messages db number parts }
+serve_ask db session number true parts =
+    record { session = opened db session.wire (map (holding_of session.wire) parts); sent = reply_messages db number parts }
 serve_ask db session number false parts =
     let d = due db session in
     record { session = opened db session.wire (d.subscription ++ map (holding_of session.wire) parts); sent = d.sent ++ reply_messages db number parts }

@@ -2,3 +2,8 @@ pub mod Each
 pub mod Alike
 pub mod Bodies
 pub mod Placing
+pub mod Exact
+pub mod Front
+pub mod Again
+pub mod Spelled
+pub mod Writable

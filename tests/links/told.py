@@ -155,12 +155,12 @@ def million_fault(program, count, behind, ending):
 
 
 def second_million_fault(program):
-    """A Lapse, rows and the reply of a first ask are half a million frames, and more come for the second one."""
+    """A Lapse, rows and the reply of a first ask are half a million frames; one more comes for the second ask, which counts anew."""
     half = MOST_FRAMES // 2
     replies = [[Reply(1, 0)], [Lapse(1), rows_apart(2, half - 2), Reply(2, 1)], [rows_apart(3, half + 1)]]
-    lines = ANEW + ['2 toclient 1 laid'] * (half - 1) + ASKED_AGAIN + ['2 toclient 1 laid'] * half
+    lines = ANEW + ['2 toclient 1 laid'] * (half - 1) + ASKED_AGAIN + ['2 toclient 1 laid'] * (half + 1) + ['2 fail 1 query 2', '2 cut 1 1']
     script = ['query 1 SELECT k FROM t WHERE k = 0', 'query 1 SELECT k FROM t']
-    return many_fault(program, script, replies, lines, (11, 'too many frames\n'))
+    return many_fault(program, script, replies, lines, (5, 'link\n'))
 
 
 # ---- all of them

@@ -42,5 +42,5 @@ ran_new {E} id address schema said limits lines first r old new before after tab
     (here new_past (λ answer. plan_of script) (at_first, facts, refl) refl refl (record { tasks = script; are = subst (λ (s : List Table). AreTasks s lines script) (sym said_is) are; ahead_is = λ answer. refl }))
 
 -- a new client can draw enough numbers for all lines of a script
-pub room_for : (id : ℕ) (schema : List Table) (limits : Limits) (lines : List EventLine) → length lines < 2 ^ 32 → 2000004 * (length lines + 1) ≤ room_of (new_client id schema limits)
+pub room_for : (id : ℕ) (schema : List Table) (limits : Limits) (lines : List EventLine) → length lines < 2 ^ 32 → 4000004 * (length lines + 1) ≤ room_of (new_client id schema limits)
 room_for id schema limits lines few = omega (arith, few)

@@ -42,5 +42,13 @@ pub fn client<H: Host>(
     let own = schema.copy(alloc)?;
     let mut end = ClientEnd::new(alloc, id, own, limits);
     let mut script = Script::new(lines);
-    run(alloc, host, &mut end, schema.as_slice(), id, address, &mut script)
+    run(
+        alloc,
+        host,
+        &mut end,
+        schema.as_slice(),
+        id,
+        address,
+        &mut script,
+    )
 }

@@ -15,7 +15,7 @@ use Rattle.sr_links.specs.Steps.{Standing, Resumed, past_after, requests_of}
 use Rattle.sr_dial.specs.Calls.{Call, Scripted, Do, all_done, calls_told, count_faults, fails, is_fault, steps_in}
 use Rattle.sr_talk.specs.Serving.{RoseBy, spelled}
 use Rattle.sr_dial.specs.Known.{Setting, Makes}
-use Rattle.sr_dial.specs.Runs.{IsCarried, IsToldIf, SendsMost, left_by}
+use Rattle.sr_dial.specs.Runs.{IsCarried, IsToldIf, SendsMost, left_by, none_taken}
 use Rattle.sr_dial.specs.Courses.{At, Broken, Course, IsThere, Rests, Start, Stepped}
 use Rattle.sr_dial.proofs.ListLemmas.{all-one, any-one, calls-one, dialled-one, told-one}
 use Rattle.sr_dial.proofs.CourseLemmas.{count-still, done_of, made-of, past-one, step_of, stepped-one}
@@ -24,6 +24,7 @@ use Rattle.sr_dial.proofs.ToldLemmas.{still-other, still-same, told-first, told-
 use Rattle.sr_dial.specs.declared.parts.Answer.{Answer}
 use Rattle.sr_dial.specs.Following.{Ahead}
 use Rattle.sr_plan.specs.Plans.{Next}
+use Rattle.sr_dial.specs.declared.waiting.Count.{Count}
 
 -- what a connection that has just been made has sent and taken
 told-fresh : (P : Connection → Type 0) (address bytes : List ℕ) (peers : Option (List (List ℕ))) → ((coming : List ℕ) → P (record { address = address; sent = bytes; taken = []; coming = coming }))
@@ -34,7 +35,7 @@ told-fresh P address bytes (Some (coming ∷ more)) each = each coming
 
 module _ (C : Type 0) (Stands : C → Client → Type 0) (lent : C → Option Answer) (IsOf : Standing C) (k : Setting) (s : Start C) where
   -- where the link is cut the present call is over
-  pub rests-of : (ahead : Ahead) (line came : ℕ) (failed : Bool) (l : Linking) (P : List ℕ → Type 0) (feed : List ℕ) (code : C) (h : At C Stands lent IsOf k s ahead line came failed l P feed code)
+  pub rests-of : (ahead : Ahead) (line : ℕ) (came : Count) (failed : Bool) (l : Linking) (P : List ℕ → Type 0) (feed : List ℕ) (code : C) (h : At C Stands lent IsOf k s ahead line came failed l P feed code)
       → (left_by s.past (h.course.earlier ++ h.course.call ∷ [])).cut ≡ true → Rests C Stands lent IsOf k s ahead line failed l P code
   rests-of ahead line came failed l P feed code h down = record {
     calls = h.course.earlier ++ h.course.call ∷ [];
@@ -63,7 +64,7 @@ module _ (C : Type 0) (Stands : C → Client → Type 0) (lent : C → Option An
     abbrev new_call : Bool → Option Connection → Call C
     new_call connected told = record { number = number; first = step_of C Stands lent IsOf k s m; others = []; connected = connected; told = told; left = [] }
 
-    abbrev new_course : (connected : Bool) (told : Option Connection) → IfSome told (λ t. t.taken ≡ []) → IfSome told (λ t. t.address ≡ s.address) → IsToldIf s.linking.peers (new_call connected told) → Course C Stands lent IsOf k s further number 0 Q [] new
+    abbrev new_course : (connected : Bool) (told : Option Connection) → IfSome told (λ t. t.taken ≡ []) → IfSome told (λ t. t.address ≡ s.address) → IsToldIf s.linking.peers (new_call connected told) → Course C Stands lent IsOf k s further number none_taken Q [] new
     new_course connected told taken dialled is_told = record {
       earlier = r.calls;
       call = record { number = number; first = step_of C Stands lent IsOf k s m; others = []; connected = connected; told = told; left = [] };
@@ -77,7 +78,7 @@ module _ (C : Type 0) (Stands : C → Client → Type 0) (lent : C → Option An
       left = refl;
       some = λ none. absurd (let wrong : message ∷ [] ≡ [] = sym one ∙ (m.sent_is ∙ (sym (append-nil (sent_of m.outcome)) ∙ none)) in cc);
       taken = taken;
-      steps = subst (λ ds. Stepped C Stands lent IsOf k s further number 0 ds Q new)
+      steps = subst (λ ds. Stepped C Stands lent IsOf k s further number none_taken ds Q new)
           (sym (all-one r.calls (record { number = number; first = step_of C Stands lent IsOf k s m; others = []; connected = connected; told = told; left = [] })))
           (stepped-one C Stands lent IsOf k s ahead further line r.came number Scripted P Q code new Resumed lines sent on (omega arith) says (all_done r.calls) r.steps m free);
     }
@@ -96,7 +97,7 @@ module _ (C : Type 0) (Stands : C → Client → Type 0) (lent : C → Option An
     or-none false = refl
 
     -- it dials, and its message is sent
-    pub begins : (new_l : Linking) → (l.peers ≡ Some [] → ⊥) → new_l ≡ sent_on (spelled sent) (connected_at (Some s.address) l) → At C Stands lent IsOf k s further number 0 failed new_l Q [] new
+    pub begins : (new_l : Linking) → (l.peers ≡ Some [] → ⊥) → new_l ≡ sent_on (spelled sent) (connected_at (Some s.address) l) → At C Stands lent IsOf k s further number none_taken failed new_l Q [] new
     begins new_l more is =
         let before = r.faults in
         record {
@@ -123,7 +124,7 @@ module _ (C : Type 0) (Stands : C → Client → Type 0) (lent : C → Option An
     begin-fails new_l only rose =
         let before = r.faults in
         record {
-          came = 0;
+          came = none_taken;
           course = new_course false None tt tt (told-none s.linking.peers (new_call false None) refl refl refl refl);
           sent = tt;
           faults = omega (arith, before, rose);
@@ -140,7 +141,7 @@ module _ (C : Type 0) (Stands : C → Client → Type 0) (lent : C → Option An
         let before = r.faults in
         let most = one-at-most (is_fault (new_call true (option_map (sends (take part.count (spelled sent))) (next_peer (Some s.address) l.peers)))) in
         record {
-          came = 0;
+          came = none_taken;
           course = new_course true (option_map (sends (take part.count (spelled sent))) (next_peer (Some s.address) l.peers)) (told-fresh (λ t. t.taken ≡ []) s.address (take part.count (spelled sent)) l.peers (λ coming. refl))
               (told-fresh (λ t. t.address ≡ s.address) s.address (take part.count (spelled sent)) l.peers (λ coming. refl))
               (told-first s.linking l s.address (sends (take part.count (spelled sent))) (new_call true (option_map (sends (take part.count (spelled sent))) (next_peer (Some s.address) l.peers))) refl refl more r.peers_stay);

@@ -21,7 +21,7 @@ use Rattle.sr_talk.specs.Reading.{Reads}
 use Rattle.sr_talk.specs.Serving.{RoseBy, spelled}
 use Rattle.sr_talk.proofs.TalkLemmas.{spelled-append}
 use Rattle.sr_dial.specs.Known.{Setting, Makes}
-use Rattle.sr_dial.specs.Runs.{IsInPlace, SendsMost, SentAs, left_by, more_taken}
+use Rattle.sr_dial.specs.Runs.{IsInPlace, SendsMost, SentAs, left_by, more_taken, none_taken}
 use Rattle.sr_dial.specs.Courses.{At, Broken, Free, IsThere, Start, Stepped}
 use Rattle.sr_dial.proofs.ListLemmas.{all-one, any-one, count-one, fails-one, told-one}
 use Rattle.sr_dial.proofs.CourseLemmas.{course-one, done_of, given-step, made-of, map-told, weaken-told, or-no, past-step, requests-step, with_step, count-still}
@@ -29,6 +29,7 @@ use Rattle.sr_dial.proofs.ToldLemmas.{still-same, told-on, told-same}
 use Rattle.sr_dial.specs.declared.parts.Answer.{Answer}
 use Rattle.sr_dial.specs.Following.{Ahead}
 use Rattle.sr_dial.proofs.PlanLemmas.{GoesOn}
+use Rattle.sr_dial.specs.declared.waiting.Count.{Count}
 
 -- ---- messages that are sent
 
@@ -91,7 +92,7 @@ module _ (C : Type 0) (Stands : C → Client → Type 0) (lent : C → Option An
   -- ---- bytes that are taken
 
   -- behind what was left these bytes came
-  module _ (ahead : Ahead) (line came : ℕ) (failed : Bool) (l new_l : Linking) (P : List ℕ → Type 0) (feed frame after : List ℕ) (code : C) (h : At C Stands lent IsOf k s ahead line came failed l P feed code)
+  module _ (ahead : Ahead) (line : ℕ) (came : Count) (failed : Bool) (l new_l : Linking) (P : List ℕ → Type 0) (feed frame after : List ℕ) (code : C) (h : At C Stands lent IsOf k s ahead line came failed l P feed code)
       (up : (left_by s.past (h.course.earlier ++ h.course.call ∷ [])).cut ≡ false) (r : Reads l new_l feed frame after) where
     abbrev read_call : Call C
     read_call = record { number = h.course.call.number; first = h.course.call.first; others = h.course.call.others; connected = h.course.call.connected; told = option_map (takes r.bytes) h.course.call.told; left = frame ++ after }
@@ -140,7 +141,7 @@ module _ (C : Type 0) (Stands : C → Client → Type 0) (lent : C → Option An
 
   -- ---- the link fails while a request is out
 
-  module _ (ahead : Ahead) (line came : ℕ) (failed : Bool) (l : Linking) (P : List ℕ → Type 0) (feed : List ℕ) (code : C) (h : At C Stands lent IsOf k s ahead line came failed l P feed code)
+  module _ (ahead : Ahead) (line : ℕ) (came : Count) (failed : Bool) (l : Linking) (P : List ℕ → Type 0) (feed : List ℕ) (code : C) (h : At C Stands lent IsOf k s ahead line came failed l P feed code)
       (up : (left_by s.past (h.course.earlier ++ h.course.call ∷ [])).cut ≡ false) (out : (left_by s.past (h.course.earlier ++ h.course.call ∷ [])).out ≢ None) where
     whole-sent : fails h.course.call ≡ false → IfSome h.course.call.told (λ t. SendsMost (requests_of (steps_in (done_in h.course.call))) t.sent)
     whole-sent none =
@@ -189,8 +190,8 @@ module _ (C : Type 0) (Stands : C → Client → Type 0) (lent : C → Option An
           peers_stay = h.peers_stay;
         }
 
-  module _ (ahead further : Ahead) (line came number : ℕ) (cause : Cause) (P Q : List ℕ → Type 0) (code new : C) (deed : Deed) (lines : List TraceLine) (sent : List Message)
-      (on : GoesOn cause ahead (lent code) number deed further) (most : more_taken cause came ≤ 1000000) (says : (texts : List ℕ) → P texts → Q (texts ++ flat_map (line_text k.schema number) lines)) where
+  module _ (ahead further : Ahead) (line : ℕ) (came : Count) (number : ℕ) (cause : Cause) (P Q : List ℕ → Type 0) (code new : C) (deed : Deed) (lines : List TraceLine) (sent : List Message)
+      (on : GoesOn cause ahead (lent code) number deed further) (most : (more_taken cause sent came).taken ≤ 1000000) (says : (texts : List ℕ) → P texts → Q (texts ++ flat_map (line_text k.schema number) lines)) where
     -- a request is cut short
     pub send-breaks : (failed : Bool) (l new_l : Linking) (feed left : List ℕ) (h : At C Stands lent IsOf k s ahead line came failed l P feed code)
         (m : Makes Stands lent IsOf k code new (left_by s.past (h.course.earlier ++ h.course.call ∷ [])) deed lines sent)
@@ -216,7 +217,7 @@ module _ (C : Type 0) (Stands : C → Client → Type 0) (lent : C → Option An
             let none = count-still h.course.earlier h.course.call there.2 in
             let once = one-at-most (is_fault (with_step h.course.call (done_of C Stands lent IsOf k s number cause m) (option_map (sends (take part.count (spelled sent))) h.course.call.told) left)) in
             record {
-              came = more_taken cause came;
+              came = more_taken cause sent came;
               course = course-one C Stands lent IsOf k s ahead further line came number cause P Q code new deed lines sent on most says feed left left refl (option_map (sends (take part.count (spelled sent))) h.course.call.told) h.course m place stays
                   (map-told (sends (take part.count (spelled sent))) (λ t. t.taken ≡ spelled (given_of (steps_in (done_in h.course.call))) ++ h.course.call.left)
                   (λ t. t.taken ≡ spelled (given_of (steps_in (done_in h.course.call)) ++ taken_by deed) ++ left) h.course.call.told
@@ -260,7 +261,7 @@ module _ (C : Type 0) (Stands : C → Client → Type 0) (lent : C → Option An
       count-one b.course.earlier (with_step b.course.call (done_of C Stands lent IsOf k s line Failed m) b.course.call.told b.course.call.left)
       ∙ ap (λ y. count_faults b.course.earlier + one_if (y && is_fault b.course.call)) fails-yes in
       record {
-        came = 0;
+        came = none_taken;
         at = record {
           course = course-one C Stands lent IsOf k s ahead ahead line b.came line Failed P Q code new WasCut lines [] refl (omega arith) says feed b.course.call.left feed b.course.left b.course.call.told b.course m (refl, b.out) tt
               (weaken-told (λ t. t.taken ≡ spelled (given_of (steps_in (done_in b.course.call))) ++ b.course.call.left)

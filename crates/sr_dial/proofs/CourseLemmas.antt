@@ -15,13 +15,14 @@ use Rattle.sr_dial.specs.Calls.{Call, Cause, Done, Made, Explained, Said, all_do
 use Rattle.sr_talk.specs.Serving.{RoseBy, spelled}
 use Rattle.sr_talk.proofs.TalkLemmas.{spelled-append}
 use Rattle.sr_dial.specs.Known.{IsFrom, Setting, Makes}
-use Rattle.sr_dial.specs.Runs.{IsInPlace, IsToldIf, SentAs, left_by, more_taken}
+use Rattle.sr_dial.specs.Runs.{IsInPlace, IsToldIf, SentAs, left_by, more_taken, none_taken}
 use Rattle.sr_dial.specs.Courses.{At, Course, IsThere, Start, Stepped}
 use Rattle.sr_dial.proofs.ListLemmas.{all-one, any-one, code-append, count-one, explained-append, fails-one, fair-append, few-append, given-append, line-append, on-append, past-append, place-append, requests-append, steps-append, taken-append, told-one}
 use Rattle.sr_dial.proofs.ToldLemmas.{still-same, told-on, told-same}
 use Rattle.sr_dial.specs.declared.parts.Answer.{Answer}
 use Rattle.sr_dial.specs.Following.{Ahead}
 use Rattle.sr_dial.proofs.PlanLemmas.{GoesOn, made-ahead, made-answer, made-goes}
+use Rattle.sr_dial.specs.declared.waiting.Count.{Count}
 
 -- what is so of a connection is so, changed, of what a link tells of it
 pub map-told : (f : Connection → Connection) (P Q : Connection → Type 0) (told : Option Connection) → ((t : Connection) → P t → Q (f t)) → IfSome told P → IfSome (option_map f told) Q
@@ -122,11 +123,11 @@ module _ (C : Type 0) (Stands : C → Client → Type 0) (lent : C → Option An
   abbrev pub done_of : {code new : C} {c : Client} {deed : Deed} {lines : List TraceLine} {sent : List Message} → ℕ → Cause → Makes Stands lent IsOf k code new c deed lines sent → Done C
   done_of {code} {new} {c} {deed} {lines} {sent} number cause m = Made number cause (record { deed = deed; outcome = m.outcome; past = m.next; code = new })
 
-  module _ (ahead further : Ahead) (line came number : ℕ) (cause : Cause) (P Q : List ℕ → Type 0) (code new : C) (deed : Deed) (lines : List TraceLine) (sent : List Message)
-      (on : GoesOn cause ahead (lent code) number deed further) (most : more_taken cause came ≤ 1000000) (says : (texts : List ℕ) → P texts → Q (texts ++ flat_map (line_text k.schema number) lines)) where
+  module _ (ahead further : Ahead) (line : ℕ) (came : Count) (number : ℕ) (cause : Cause) (P Q : List ℕ → Type 0) (code new : C) (deed : Deed) (lines : List TraceLine) (sent : List Message)
+      (on : GoesOn cause ahead (lent code) number deed further) (most : (more_taken cause sent came).taken ≤ 1000000) (says : (texts : List ℕ) → P texts → Q (texts ++ flat_map (line_text k.schema number) lines)) where
     pub stepped-one : (ds : List (Done C)) → Stepped C Stands lent IsOf k s ahead line came ds P code → (m : Makes Stands lent IsOf k code new (past_after s.past (steps_in ds)) deed lines sent)
         → IsInPlace k.schema cause line number deed (past_after s.past (steps_in ds))
-        → Stepped C Stands lent IsOf k s further number (more_taken cause came) (ds ++ done_of number cause m ∷ []) Q new
+        → Stepped C Stands lent IsOf k s further number (more_taken cause sent came) (ds ++ done_of number cause m ∷ []) Q new
     stepped-one ds h m place =
         let past : past_after s.past (steps_in (ds ++ done_of number cause m ∷ [])) ≡ m.next = past-one s.past ds (done_of number cause m) in
         let texts : flat_map (text_of k.schema k.number) (ds ++ done_of number cause m ∷ []) ≡ flat_map (text_of k.schema k.number) ds ++ flat_map (line_text k.schema number) (lines_of k.number deed m.outcome) =
@@ -134,8 +135,8 @@ module _ (C : Type 0) (Stands : C → Client → Type 0) (lent : C → Option An
         record {
           in_place = place-append k.schema 0 s.past ds (done_of number cause m ∷ []) h.in_place (subst (λ n. IsInPlace k.schema cause n number deed (past_after s.past (steps_in ds))) (sym h.line_is) place, tt);
           line_is = line-append 0 ds (done_of number cause m ∷ []);
-          came_is = taken-append 0 ds (done_of number cause m ∷ []) ∙ ap (more_taken cause) h.came_is;
-          few = few-append 0 ds (done_of number cause m) h.few (subst (λ n. more_taken cause n ≤ 1000000) (sym h.came_is) most);
+          came_is = taken-append none_taken ds (done_of number cause m ∷ []) ∙ (ap (more_taken cause (sent_of m.outcome)) h.came_is ∙ ap (λ ms. more_taken cause ms came) (sym m.sent_is));
+          few = few-append none_taken ds (done_of number cause m) h.few (subst (λ (n : Count). (more_taken cause (sent_of m.outcome) n).taken ≤ 1000000) (sym h.came_is) (subst (λ ms. (more_taken cause ms came).taken ≤ 1000000) m.sent_is most));
           goes = made-goes k.keeps s.plan ds ahead further (lent code) h.goes h.ahead_is h.answer_is number cause (step_of m) on;
           ahead_is = made-ahead k.keeps s.plan ds ahead further (lent code) h.goes h.ahead_is h.answer_is number cause (step_of m) on;
           answer_is = made-answer k.keeps s.plan ds ahead further (lent code) h.goes h.ahead_is h.answer_is number cause (step_of m) ∙ sym m.answers;
@@ -159,7 +160,7 @@ module _ (C : Type 0) (Stands : C → Client → Type 0) (lent : C → Option An
         → IsInPlace k.schema cause line number deed (left_by s.past (h.earlier ++ h.call ∷ [])) → StaysOn (left_by s.past (h.earlier ++ h.call ∷ [])) deed
         → IfSome told (λ t. t.taken ≡ spelled (given_of (steps_in (done_in h.call)) ++ taken_by deed) ++ left) → IfSome told (λ t. t.address ≡ s.address)
         → IsToldIf s.linking.peers (with_step h.call (done_of number cause m) told left)
-        → Course C Stands lent IsOf k s further number (more_taken cause came) Q new_feed new
+        → Course C Stands lent IsOf k s further number (more_taken cause sent came) Q new_feed new
     course-one feed left new_feed same told h m place stays taken dialled is_told = record {
       earlier = h.earlier;
       call = with_step h.call (done_of number cause m) told left;
@@ -178,7 +179,7 @@ module _ (C : Type 0) (Stands : C → Client → Type 0) (lent : C → Option An
       left = same;
       some = λ none. append-some (requests_of (steps_in (done_in h.call))) (sent_of m.outcome) h.some (sym (requests-step h.call (done_of number cause m) told left) ∙ none);
       taken = subst (λ ms. IfSome told (λ t. t.taken ≡ spelled ms ++ left)) (sym (given-step h.call (done_of number cause m) told left)) taken;
-      steps = subst (λ ds. Stepped C Stands lent IsOf k s further number (more_taken cause came) ds Q new) (sym (all-step h.earlier h.call (done_of number cause m) told left))
+      steps = subst (λ ds. Stepped C Stands lent IsOf k s further number (more_taken cause sent came) ds Q new) (sym (all-step h.earlier h.call (done_of number cause m) told left))
           (stepped-one (all_done (h.earlier ++ h.call ∷ [])) h.steps m place);
     }
 
@@ -188,7 +189,7 @@ module _ (C : Type 0) (Stands : C → Client → Type 0) (lent : C → Option An
         (not_failed : is_failed cause ≡ false) where
       -- all behind it went over the link, which is up
       pub at-up : (left_by s.past (h.course.earlier ++ h.course.call ∷ [])).cut ≡ false → m.next.cut ≡ false → feed ≡ spelled (taken_by deed) ++ left → new_l ≡ sent_on (spelled sent) l
-          → At C Stands lent IsOf k s further number (more_taken cause came) failed new_l Q left new
+          → At C Stands lent IsOf k s further number (more_taken cause sent came) failed new_l Q left new
       at-up up still fed is =
           let there = subst (λ b. IsThere b h.course.earlier h.course.call s.linking l) up h.there in
           let fails-no : fails (with_step h.course.call (done_of number cause m) (option_map (sends (spelled sent)) h.course.call.told) left) ≡ false =
@@ -227,7 +228,7 @@ module _ (C : Type 0) (Stands : C → Client → Type 0) (lent : C → Option An
 
       -- nothing went over the link, which is down then
       pub at-down : m.next.cut ≡ true → sent ≡ [] → taken_by deed ≡ [] → connections new_l ≡ connections l → new_l.peers ≡ l.peers → new_l.faults ≡ l.faults
-          → At C Stands lent IsOf k s further number (more_taken cause came) failed new_l Q feed new
+          → At C Stands lent IsOf k s further number (more_taken cause sent came) failed new_l Q feed new
       at-down down none took same_links same_peers quiet =
           let fails-same : fails (with_step h.course.call (done_of number cause m) h.course.call.told h.course.call.left) ≡ fails h.course.call =
           fails-one h.course.call.others (done_of number cause m) ∙ or-no (fails h.course.call) (is_failed cause) not_failed in

@@ -18,12 +18,13 @@ use Rattle.sr_dial.proofs.ToldLemmas.{told-more}
 use Rattle.sr_dial.specs.declared.parts.Answer.{Answer}
 use Rattle.sr_dial.specs.Following.{Ahead}
 use Rattle.sr_plan.specs.Plans.{Plan}
+use Rattle.sr_dial.specs.declared.waiting.Count.{Count}
 
 most-of : (b : Bool) (ms : List Message) (bytes : List ℕ) → ms ≢ [] → SentAs b ms bytes → SendsMost ms bytes
 most-of true ms bytes some sent = sent
 most-of false ms bytes some sent = subst (SendsMost ms) (sym sent) (most-all ms some)
 
-module _ (C : Type 0) (Stands : C → Client → Type 0) (lent : C → Option Answer) (IsOf : Standing C) (k : Setting) (s : Start C) (ahead : Ahead) (line came : ℕ) (l : Linking) (feed : List ℕ) (code : C) where
+module _ (C : Type 0) (Stands : C → Client → Type 0) (lent : C → Option Answer) (IsOf : Standing C) (k : Setting) (s : Start C) (ahead : Ahead) (line : ℕ) (came : Count) (l : Linking) (feed : List ℕ) (code : C) where
   -- the lines of a step are not written, all else of it was done
   pub unwritten-at : (w : Writing) (failed : Bool) → At C Stands lent IsOf k s ahead line came failed l (IsPartWritten s w) feed code → Over C Stands lent IsOf k s ending.Unwritten l w
   unwritten-at w failed h = record {

@@ -14,7 +14,7 @@ use Rattle.sr_dial.specs.Calls.{Scripted, Do}
 use Rattle.sr_talk.specs.Serving.{spelled}
 use Rattle.sr_dial.specs.Carrying.{Carries, SaysAs}
 use Rattle.sr_dial.specs.Known.{IsFrom, KeepsLink, Makes, Setting}
-use Rattle.sr_dial.specs.Runs.{left_by, IsCarried, IsToldIf}
+use Rattle.sr_dial.specs.Runs.{left_by, none_taken, IsCarried, IsToldIf}
 use Rattle.sr_dial.specs.Courses.{Broken, FailsAs, Hands, IsPartWritten, IsReady, IsWritten, Rests, Start, TellsStill, Unbegun}
 use Rattle.sr_dial.specs.declared.steps.Handed.{Handed}
 use Rattle.sr_dial.specs.declared.steps.Handed.TheVariants.{Whole, Broken as HandedBroken, Unwritten}
@@ -26,6 +26,7 @@ use Rattle.sr_dial.proofs.ToldLemmas.{still-self}
 use Rattle.sr_dial.specs.declared.parts.Answer.{Answer}
 use Rattle.sr_dial.specs.Following.{Ahead}
 use Rattle.sr_plan.specs.Plans.{Next}
+use Rattle.sr_dial.specs.declared.waiting.Count.{Count}
 
 module _ (C : Type 0) (Stands : C → Client → Type 0) (lent : C → Option Answer) (IsOf : Standing C) (k : Setting) (s : Start C) where
   -- ---- a resume
@@ -43,7 +44,7 @@ module _ (C : Type 0) (Stands : C → Client → Type 0) (lent : C → Option An
     faults = subst (λ (x : Linking). Rattle.sr_talk.specs.Serving.RoseBy s.linking.faults 0 x.faults) (sym u.links) (omega arith);
     failed_is = sym u.not_failed;
     calm = λ no. ap (λ (x : Linking). x.faults) u.links;
-    came = 0;
+    came = none_taken;
     steps = record {
       in_place = tt;
       line_is = sym u.first;
@@ -72,37 +73,37 @@ module _ (C : Type 0) (Stands : C → Client → Type 0) (lent : C → Option An
         (message : Message) (one : sent ≡ message ∷ []) where
       -- somebody is dialled
       pub dialled : (handed : Handed) → (l.peers ≡ Some [] → ⊥) → mid ≡ connected_at (Some s.address) l → Carries handed mid new_l w new_w (spelled sent) (flat_map (line_text k.schema number) lines)
-          → Hands C Stands lent IsOf k handed s further number 0 failed new_l new_w [] new
+          → Hands C Stands lent IsOf k handed s further number none_taken failed new_l new_w [] new
       dialled handed more made carries = by handed (subst (λ x. Carries handed x new_l w new_w (spelled sent) (flat_map (line_text k.schema number) lines)) made carries)
         where
           by : (handed : Handed) → Carries handed (connected_at (Some s.address) l) new_l w new_w (spelled sent) (flat_map (line_text k.schema number) lines)
-              → Hands C Stands lent IsOf k handed s further number 0 failed new_l new_w [] new
+              → Hands C Stands lent IsOf k handed s further number none_taken failed new_l new_w [] new
           by Whole (is, says) = begins C Stands lent IsOf k s ahead further line number failed (IsWritten s w) (IsWritten s new_w) l code new lines sent on (wrote s w new_w text says) r m (r.steps.rests r.cut) message one new_l more is
           by HandedBroken ((part, rose), says) =
               begin-breaks C Stands lent IsOf k s ahead further line number failed (IsWritten s w) (IsWritten s new_w) l code new lines sent on (wrote s w new_w text says) r m (r.steps.rests r.cut) message one new_l more part rose
           by Unwritten (inl is, says) =
-              unwritten-at C Stands lent IsOf k s further number 0 new_l [] new new_w failed
+              unwritten-at C Stands lent IsOf k s further number none_taken new_l [] new new_w failed
               (begins C Stands lent IsOf k s ahead further line number failed (IsWritten s w) (IsPartWritten s new_w) l code new lines sent on (half s w new_w text says) r m (r.steps.rests r.cut) message one new_l more is)
           by Unwritten (inr (part, rose), says) =
-              unwritten-broken C Stands lent IsOf k s further number 0 new_l [] new new_w
+              unwritten-broken C Stands lent IsOf k s further number none_taken new_l [] new new_w
               (begin-breaks C Stands lent IsOf k s ahead further line number failed (IsWritten s w) (IsPartWritten s new_w) l code new lines sent on (half s w new_w text says) r m (r.steps.rests r.cut) message one new_l more part rose)
 
       -- nobody is
       pub not-dialled : (said : Bool) → OnlyFaults l new_l → Rose l.faults new_l.faults → SaysAs said w new_w (flat_map (line_text k.schema number) lines)
-          → Hands C Stands lent IsOf k (cond said HandedBroken Unwritten) s further number 0 failed new_l new_w [] new
+          → Hands C Stands lent IsOf k (cond said HandedBroken Unwritten) s further number none_taken failed new_l new_w [] new
       not-dialled true only rose says = begin-fails C Stands lent IsOf k s ahead further line number failed (IsWritten s w) (IsWritten s new_w) l code new lines sent on (wrote s w new_w text says) r m (r.steps.rests r.cut) message one new_l only rose
       not-dialled false only rose says =
-          unwritten-broken C Stands lent IsOf k s further number 0 new_l [] new new_w
+          unwritten-broken C Stands lent IsOf k s further number none_taken new_l [] new new_w
           (begin-fails C Stands lent IsOf k s ahead further line number failed (IsWritten s w) (IsPartWritten s new_w) l code new lines sent on (half s w new_w text says) r m (r.steps.rests r.cut) message one new_l only rose)
 
   module _ (ahead further : Ahead) (line number : ℕ) (failed : Bool) (l new_l : Linking) (w new_w : Writing) (feed : List ℕ) (code new : C) (lines : List TraceLine) (sent : List Message)
       (on : ahead (lent code) ≡ Next number (Do Resumed) further) (ready : IsReady C Stands lent IsOf k s ahead line failed l (IsWritten s w) feed code) (act : (c : Client) → Stands code c → Makes Stands lent IsOf k code new c Resumed lines sent) where
     -- the link is up: nothing is done
     pub resumes-up : (handed : Handed) → sent ≡ [] → Carries handed l new_l w new_w (spelled sent) (flat_map (line_text k.schema number) lines)
-        → Hands C Stands lent IsOf k handed s further number 0 failed new_l new_w feed new
+        → Hands C Stands lent IsOf k handed s further number none_taken failed new_l new_w feed new
     resumes-up handed none carries = by ready
       where
-        by : IsReady C Stands lent IsOf k s ahead line failed l (IsWritten s w) feed code → Hands C Stands lent IsOf k handed s further number 0 failed new_l new_w feed new
+        by : IsReady C Stands lent IsOf k s ahead line failed l (IsWritten s w) feed code → Hands C Stands lent IsOf k handed s further number none_taken failed new_l new_w feed new
         by (inl f) =
             let m = act (left_by s.past (f.at.course.earlier ++ f.at.course.call ∷ [])) f.at.course.steps.stands in
             let link = subst (λ ms. KeepsLink Resumed ms (left_by s.past (f.at.course.earlier ++ f.at.course.call ∷ [])) m.next) none m.link in
@@ -128,7 +129,7 @@ module _ (C : Type 0) (Stands : C → Client → Type 0) (lent : C → Option An
         by (inr u) = unbegun-rests ahead line failed l (IsWritten s w) code u
 
     pub resumes-dialled : (handed : Handed) (mid : Linking) → (sent ≡ [] → ⊥) → (l.peers ≡ Some [] → ⊥) → mid ≡ connected_at (Some s.address) l → Carries handed mid new_l w new_w (spelled sent) (flat_map (line_text k.schema number) lines)
-        → Hands C Stands lent IsOf k handed s further number 0 failed new_l new_w [] new
+        → Hands C Stands lent IsOf k handed s further number none_taken failed new_l new_w [] new
     resumes-dialled handed mid some more made carries = by (one-sent m.outcome)
       where
         r : Rests C Stands lent IsOf k s ahead line failed l (IsWritten s w) code
@@ -137,12 +138,12 @@ module _ (C : Type 0) (Stands : C → Client → Type 0) (lent : C → Option An
         m : Makes Stands lent IsOf k code new (left_by s.past r.calls) Resumed lines sent
         m = act (left_by s.past r.calls) r.steps.stands
 
-        by : (sent_of m.outcome ≡ []) ⊎ ((x : Message) × (sent_of m.outcome ≡ x ∷ [])) → Hands C Stands lent IsOf k handed s further number 0 failed new_l new_w [] new
+        by : (sent_of m.outcome ≡ []) ⊎ ((x : Message) × (sent_of m.outcome ≡ x ∷ [])) → Hands C Stands lent IsOf k handed s further number none_taken failed new_l new_w [] new
         by (inl none) = absurd (some (m.sent_is ∙ none))
         by (inr (x, one)) = dialled ahead further line number failed l mid new_l w new_w code new lines sent on r m x (m.sent_is ∙ one) handed more made carries
 
     pub resumes-alone : (said : Bool) → (sent ≡ [] → ⊥) → OnlyFaults l new_l → Rose l.faults new_l.faults → SaysAs said w new_w (flat_map (line_text k.schema number) lines)
-        → Hands C Stands lent IsOf k (cond said HandedBroken Unwritten) s further number 0 failed new_l new_w [] new
+        → Hands C Stands lent IsOf k (cond said HandedBroken Unwritten) s further number none_taken failed new_l new_w [] new
     resumes-alone said some only rose says = by (one-sent m.outcome)
       where
         r : Rests C Stands lent IsOf k s ahead line failed l (IsWritten s w) code
@@ -151,7 +152,7 @@ module _ (C : Type 0) (Stands : C → Client → Type 0) (lent : C → Option An
         m : Makes Stands lent IsOf k code new (left_by s.past r.calls) Resumed lines sent
         m = act (left_by s.past r.calls) r.steps.stands
 
-        by : (sent_of m.outcome ≡ []) ⊎ ((x : Message) × (sent_of m.outcome ≡ x ∷ [])) → Hands C Stands lent IsOf k (cond said HandedBroken Unwritten) s further number 0 failed new_l new_w [] new
+        by : (sent_of m.outcome ≡ []) ⊎ ((x : Message) × (sent_of m.outcome ≡ x ∷ [])) → Hands C Stands lent IsOf k (cond said HandedBroken Unwritten) s further number none_taken failed new_l new_w [] new
         by (inl none) = absurd (some (m.sent_is ∙ none))
         by (inr (x, one)) = not-dialled ahead further line number failed l l new_l w new_w code new lines sent on r m x (m.sent_is ∙ one) said only rose says
 

@@ -12,7 +12,8 @@ use Rattle.sr_links.specs.Steps.{Step, Standing, AreFair, OnOne, StaysOn, code_a
 use Rattle.sr_dial.specs.Calls.{Call, Done, Made, Explained, Said, AreCalls, all_done, calls_told, count_faults, done_in, fails, has_failed, is_fault, number_of, one_if, steps_in}
 use Rattle.sr_dial.specs.Courses.{IsCall, line_after}
 use Rattle.sr_dial.specs.Known.{AreFairlyExplained}
-use Rattle.sr_dial.specs.Runs.{AreFew, AreInPlace, left_by, more_taken, taken_after}
+use Rattle.sr_dial.specs.Runs.{AreFew, AreInPlace, left_by, more_taken, none_taken, taken_after}
+use Rattle.sr_dial.specs.declared.waiting.Count.{Count}
 
 module _ {C : Type 0} where
   -- ---- steps
@@ -52,17 +53,17 @@ module _ {C : Type 0} where
   line-append line [] ys = refl
   line-append line (x ∷ xs) ys = line-append (number_of x) xs ys
 
-  pub taken-append : (n : ℕ) (xs ys : List (Done C)) → taken_after n (xs ++ ys) ≡ taken_after (taken_after n xs) ys
+  pub taken-append : (n : Count) (xs ys : List (Done C)) → taken_after n (xs ++ ys) ≡ taken_after (taken_after n xs) ys
   taken-append n [] ys = refl
-  taken-append n (Made number cause step ∷ xs) ys = taken-append (more_taken cause n) xs ys
-  taken-append n (Explained number text result ∷ xs) ys = taken-append 0 xs ys
-  taken-append n (Said number text ∷ xs) ys = taken-append 0 xs ys
+  taken-append n (Made number cause step ∷ xs) ys = taken-append (more_taken cause (sent_of step.outcome) n) xs ys
+  taken-append n (Explained number text result ∷ xs) ys = taken-append none_taken xs ys
+  taken-append n (Said number text ∷ xs) ys = taken-append none_taken xs ys
 
-  pub few-append : (n : ℕ) (xs : List (Done C)) (d : Done C) → AreFew n xs → taken_after (taken_after n xs) (d ∷ []) ≤ 1000000 → AreFew n (xs ++ d ∷ [])
+  pub few-append : (n : Count) (xs : List (Done C)) (d : Done C) → AreFew n xs → (taken_after (taken_after n xs) (d ∷ [])).taken ≤ 1000000 → AreFew n (xs ++ d ∷ [])
   few-append n [] d few most = (most, tt)
-  few-append n (Made number cause step ∷ xs) d (first, few) most = (first, few-append (more_taken cause n) xs d few most)
-  few-append n (Explained number text result ∷ xs) d (first, few) most = (first, few-append 0 xs d few most)
-  few-append n (Said number text ∷ xs) d (first, few) most = (first, few-append 0 xs d few most)
+  few-append n (Made number cause step ∷ xs) d (first, few) most = (first, few-append (more_taken cause (sent_of step.outcome) n) xs d few most)
+  few-append n (Explained number text result ∷ xs) d (first, few) most = (first, few-append none_taken xs d few most)
+  few-append n (Said number text ∷ xs) d (first, few) most = (first, few-append none_taken xs d few most)
 
   pub place-append : (schema : List Table) (line : ℕ) (c : Client) (xs ys : List (Done C)) → AreInPlace schema line c xs → AreInPlace schema (line_after line xs) (past_after c (steps_in xs)) ys
       → AreInPlace schema line c (xs ++ ys)

@@ -18,7 +18,7 @@ use Rattle.sr_dial.specs.Following.{Ahead, did_of}
 use Rattle.sr_talk.specs.Serving.{RoseBy, spelled}
 use Rattle.sr_dial.specs.Carrying.{SaysAs}
 use Rattle.sr_dial.specs.Known.{AreFairlyExplained, IsFrom, Setting, Tells}
-use Rattle.sr_dial.specs.Runs.{AreInPlace, SentAs, left_by, taken_after}
+use Rattle.sr_dial.specs.Runs.{AreInPlace, SentAs, left_by, none_taken, taken_after}
 use Rattle.sr_dial.specs.Courses.{At, Free, Hands, IsPartWritten, IsThere, IsWritten, Start, Stepped, line_after}
 use Rattle.sr_dial.specs.declared.parts.Answer.{Answer}
 use Rattle.sr_dial.specs.declared.steps.Handed.TheVariants.{Whole, Unwritten}
@@ -28,6 +28,7 @@ use Rattle.sr_dial.proofs.EndLemmas.{unwritten-at}
 use Rattle.sr_dial.proofs.HandLemmas.{half, wrote}
 use Rattle.sr_dial.proofs.PlanLemmas.{passed-ahead, passed-answer, passed-goes}
 use Rattle.sr_dial.proofs.ToldLemmas.{told-same}
+use Rattle.sr_dial.specs.declared.waiting.Count.{Count}
 
 -- It is no step, has that number, and was this task of a plan.
 pub record IsQuiet {C : Type 0} (keeps : Bool) (d : Done C) (number : ℕ) (task : Task) : Type 0 where
@@ -38,7 +39,7 @@ pub record IsQuiet {C : Type 0} (keeps : Bool) (d : Done C) (number : ℕ) (task
   pub given : given_by d ≡ []
   pub sent : sent_by d ≡ []
   pub fine : has_failed d ≡ false
-  pub zero : (n : ℕ) → taken_after n (d ∷ []) ≡ 0
+  pub zero : (n : Count) → taken_after n (d ∷ []) ≡ none_taken
   pub place : (schema : List Table) (line : ℕ) (c : Client) → c.out ≡ None → AreInPlace schema line c (d ∷ [])
 
 quiet-explained : {C : Type 0} (keeps : Bool) (number : ℕ) (text : Result Query Fault) (result : Result Explanation Fault) → IsQuiet {C = C} keeps (Explained number text result) number (Explain text)
@@ -49,10 +50,10 @@ quiet-said : {C : Type 0} (keeps : Bool) (number : ℕ) (text : List ℕ) → Is
 quiet-said keeps number text =
     record { number_is = refl; did = refl; steps = refl; still = λ c. refl; given = refl; sent = refl; fine = refl; zero = λ n. refl; place = λ schema line c free. (free, tt) }
 
-module _ (C : Type 0) (Stands : C → Client → Type 0) (lent : C → Option Answer) (IsOf : Standing C) (k : Setting) (s : Start C) (ahead further : Ahead) (line came number : ℕ) (P Q : List ℕ → Type 0) (code : C) (d : Done C) (task : Task)
+module _ (C : Type 0) (Stands : C → Client → Type 0) (lent : C → Option Answer) (IsOf : Standing C) (k : Setting) (s : Start C) (ahead further : Ahead) (line : ℕ) (came : Count) (number : ℕ) (P Q : List ℕ → Type 0) (code : C) (d : Done C) (task : Task)
     (quiet : IsQuiet k.keeps d number task) (on : ahead (lent code) ≡ Next number task further) (says : (texts : List ℕ) → P texts → Q (texts ++ text_of k.schema k.number d)) where
   stepped-more : (ds : List (Done C)) → Stepped C Stands lent IsOf k s ahead line came ds P code → (past_after s.past (steps_in ds)).out ≡ None → AreFairlyExplained IsOf k.limits code (past_after s.past (steps_in ds)) (d ∷ [])
-      → Stepped C Stands lent IsOf k s (λ answer. further None) number 0 (ds ++ d ∷ []) Q code
+      → Stepped C Stands lent IsOf k s (λ answer. further None) number none_taken (ds ++ d ∷ []) Q code
   stepped-more ds h free fair =
       let same : steps_in (ds ++ d ∷ []) ≡ steps_in ds = steps-append ds (d ∷ []) ∙ (ap (λ more. steps_in ds ++ more) quiet.steps ∙ append-nil (steps_in ds)) in
       let texts : flat_map (text_of k.schema k.number) (ds ++ d ∷ []) ≡ flat_map (text_of k.schema k.number) ds ++ text_of k.schema k.number d =
@@ -60,8 +61,8 @@ module _ (C : Type 0) (Stands : C → Client → Type 0) (lent : C → Option An
       record {
         in_place = place-append k.schema 0 s.past ds (d ∷ []) h.in_place (quiet.place k.schema (line_after 0 ds) (past_after s.past (steps_in ds)) free);
         line_is = line-append 0 ds (d ∷ []) ∙ quiet.number_is;
-        came_is = taken-append 0 ds (d ∷ []) ∙ quiet.zero (taken_after 0 ds);
-        few = few-append 0 ds d h.few (subst (λ n. n ≤ 1000000) (sym (quiet.zero (taken_after 0 ds))) (omega arith));
+        came_is = taken-append none_taken ds (d ∷ []) ∙ quiet.zero (taken_after none_taken ds);
+        few = few-append none_taken ds d h.few (subst (λ (n : Count). n.taken ≤ 1000000) (sym (quiet.zero (taken_after none_taken ds))) (omega arith));
         goes = passed-goes k.keeps s.plan ds ahead further (lent code) h.goes h.ahead_is h.answer_is d number task quiet.did on;
         ahead_is = passed-ahead k.keeps s.plan ds ahead further (lent code) h.goes h.ahead_is h.answer_is d number task quiet.did on;
         answer_is = passed-answer k.keeps s.plan ds ahead further (lent code) h.goes h.ahead_is h.answer_is d number task quiet.did;
@@ -96,7 +97,7 @@ module _ (C : Type 0) (Stands : C → Client → Type 0) (lent : C → Option An
     there-same true there = there ∙ ap (λ x. connections s.linking ++ x) (told-one h.course.earlier h.course.call ∙ sym (told-one h.course.earlier longer))
     there-same false (present, past, none, connected) = (present, past, fails-same ∙ none, connected)
 
-    pub at-quiet : At C Stands lent IsOf k s (λ answer. further None) number 0 failed l Q feed code
+    pub at-quiet : At C Stands lent IsOf k s (λ answer. further None) number none_taken failed l Q feed code
     at-quiet = record {
       course = record {
         earlier = h.course.earlier;
@@ -115,7 +116,7 @@ module _ (C : Type 0) (Stands : C → Client → Type 0) (lent : C → Option An
         left = h.course.left;
         some = λ none. h.course.some (sym requests-same ∙ none);
         taken = subst (λ ms. IfSome h.course.call.told (λ t. t.taken ≡ spelled ms ++ h.course.call.left)) (sym given-same) h.course.taken;
-        steps = subst (λ ds. Stepped C Stands lent IsOf k s (λ answer. further None) number 0 ds Q code)
+        steps = subst (λ ds. Stepped C Stands lent IsOf k s (λ answer. further None) number none_taken ds Q code)
             (sym (all-step h.course.earlier h.course.call d h.course.call.told h.course.call.left))
             (stepped-more (all_done (h.course.earlier ++ h.course.call ∷ [])) h.course.steps free fair);
       };
@@ -134,23 +135,23 @@ module _ (C : Type 0) (Stands : C → Client → Type 0) (lent : C → Option An
 quiet-hands : (C : Type 0) (Stands : C → Client → Type 0) (lent : C → Option Answer) (IsOf : Standing C) (k : Setting) (s : Start C) (ahead further : Ahead) (line number : ℕ) (failed : Bool) (l : Linking) (w new_w : Writing) (feed : List ℕ) (code : C)
     (d : Done C) (task : Task) (said : Bool) (h : Free C Stands lent IsOf k s ahead line failed l (IsWritten s w) feed code) → IsQuiet k.keeps d number task → ahead (lent code) ≡ Next number task further
     → AreFairlyExplained IsOf k.limits code (left_by s.past (h.at.course.earlier ++ h.at.course.call ∷ [])) (d ∷ []) → SaysAs said w new_w (text_of k.schema k.number d)
-    → Hands C Stands lent IsOf k (cond said Whole Unwritten) s (λ answer. further None) number 0 failed l new_w feed code
+    → Hands C Stands lent IsOf k (cond said Whole Unwritten) s (λ answer. further None) number none_taken failed l new_w feed code
 quiet-hands C Stands lent IsOf k s ahead further line number failed l w new_w feed code d task true h quiet on fair says =
     at-quiet C Stands lent IsOf k s ahead further line h.came number (IsWritten s w) (IsWritten s new_w) code d task quiet on (wrote s w new_w (text_of k.schema k.number d) says) failed l feed h.at h.free fair
 quiet-hands C Stands lent IsOf k s ahead further line number failed l w new_w feed code d task false h quiet on fair says =
-    unwritten-at C Stands lent IsOf k s (λ answer. further None) number 0 l feed code new_w failed
+    unwritten-at C Stands lent IsOf k s (λ answer. further None) number none_taken l feed code new_w failed
     (at-quiet C Stands lent IsOf k s ahead further line h.came number (IsWritten s w) (IsPartWritten s new_w) code d task quiet on (half s w new_w (text_of k.schema k.number d) says) failed l feed h.at h.free fair)
 
 pub explains-hands : (C : Type 0) (Stands : C → Client → Type 0) (lent : C → Option Answer) (IsOf : Standing C) (k : Setting) (s : Start C) (ahead further : Ahead) (line number : ℕ) (failed : Bool) (l : Linking) (w new_w : Writing) (feed : List ℕ) (code : C)
     (text : Result Query Fault) (lines : List TraceLine) (said : Bool) (h : Free C Stands lent IsOf k s ahead line failed l (IsWritten s w) feed code) → ahead (lent code) ≡ Next number (Explain text) further
     → Tells IsOf k code (left_by s.past (h.at.course.earlier ++ h.at.course.call ∷ [])) text lines → SaysAs said w new_w (flat_map (line_text k.schema number) lines)
-    → Hands C Stands lent IsOf k (cond said Whole Unwritten) s (λ answer. further None) number 0 failed l new_w feed code
+    → Hands C Stands lent IsOf k (cond said Whole Unwritten) s (λ answer. further None) number none_taken failed l new_w feed code
 explains-hands C Stands lent IsOf k s ahead further line number failed l w new_w feed code text lines said h on t says =
     quiet-hands C Stands lent IsOf k s ahead further line number failed l w new_w feed code (Explained number text t.result) (Explain text) said h (quiet-explained k.keeps number text t.result) on (t.fair, tt)
     (subst (λ ls. SaysAs said w new_w (flat_map (line_text k.schema number) ls)) t.lines_are says)
 
 pub says-hands : (C : Type 0) (Stands : C → Client → Type 0) (lent : C → Option Answer) (IsOf : Standing C) (k : Setting) (s : Start C) (ahead further : Ahead) (line number : ℕ) (failed : Bool) (l : Linking) (w new_w : Writing) (feed : List ℕ) (code : C)
     (text : List ℕ) (said : Bool) → Free C Stands lent IsOf k s ahead line failed l (IsWritten s w) feed code → ahead (lent code) ≡ Next number (Say text) further → SaysAs said w new_w text
-    → Hands C Stands lent IsOf k (cond said Whole Unwritten) s (λ answer. further None) number 0 failed l new_w feed code
+    → Hands C Stands lent IsOf k (cond said Whole Unwritten) s (λ answer. further None) number none_taken failed l new_w feed code
 says-hands C Stands lent IsOf k s ahead further line number failed l w new_w feed code text said h on says =
     quiet-hands C Stands lent IsOf k s ahead further line number failed l w new_w feed code (Said number text) (Say text) said h (quiet-said k.keeps number text) on tt says

@@ -1,5 +1,6 @@
 -- What was done so far: messages that were taken, and jobs.
-use Rattle.std.proofs.Common.{◌≡◌, ℕ, ◌+◌, ◌*◌, ◌≤◌, Bool, true, false, cond, List, Option, Some, None, refl, subst}
+use Rattle.std.proofs.Common.{◌≡◌, ℕ, ◌+◌, ◌*◌, ◌≤◌, Bool, true, false, cond, arith, List, Option, Some, None, refl, subst}
+use Rattle.std.specs.Prelude.{◌-◌, ◌<◌}
 use Rattle.sr_cell.specs.declared.table.Table.{Table}
 use Rattle.sr_io.specs.Told.{Linking, Reading, Writing}
 use Rattle.sr_plan.specs.Plans.{Next, Over as Nothing}
@@ -10,18 +11,63 @@ use Rattle.sr_dial.specs.Calls.{Task}
 use Rattle.sr_dial.specs.Following.{Ahead, ahead_of}
 use Rattle.sr_dial.specs.Jobs.{Gives, GivesNext, IsJob, number_of}
 use Rattle.sr_dial.specs.Known.{Setting}
+use Rattle.sr_dial.specs.Runs.{anew, anew_if, none_taken, one_more}
 use Rattle.sr_dial.specs.Courses.{At, Finishes, Free, IsEarly, IsWritten, Over, Start}
 use Rattle.sr_dial.specs.declared.ending.Ending.{Ending}
 use Rattle.sr_dial.specs.declared.ending.Ending.TheVariants as ending
 use Rattle.sr_dial.specs.declared.parts.Answer.{Answer}
 use Rattle.sr_dial.specs.declared.plans.Job.{Job}
+use Rattle.sr_dial.specs.declared.waiting.Count.{Count}
+
+-- how many messages were taken for a line, at most, and how many may be still
+abbrev pub spent : Count → ℕ
+spent n = cond n.again 1000000 0 + n.taken
+
+abbrev pub left_to_take : Count → ℕ
+left_to_take n = cond n.again 0 1000001 + (1000000 - n.taken)
+
+pub spent-more : (n : Count) → spent (one_more n) ≡ spent n + 1
+spent-more n = omega arith
+
+pub spent-anew : (n : Count) → n.taken + 1 ≤ 1000000 → spent n + 1 ≤ spent (anew n)
+spent-anew n most = by n.again n.taken most
+  where
+    by : (again : Bool) (taken : ℕ) → taken + 1 ≤ 1000000 → (cond again 1000000 0 + taken) + 1 ≤ spent (anew_if again taken)
+    by true taken most = omega arith
+    by false taken most = omega (arith, most)
+
+pub few-anew : (n : Count) → n.taken + 1 ≤ 1000000 → (anew n).taken ≤ 1000000
+few-anew n most = by n.again n.taken most
+  where
+    by : (again : Bool) (taken : ℕ) → taken + 1 ≤ 1000000 → (anew_if again taken).taken ≤ 1000000
+    by true taken most = most
+    by false taken most = omega arith
+
+-- all that is taken for a line
+pub spent-few : (n : Count) → n.taken ≤ 1000000 → spent n ≤ 2000000
+spent-few n few = by n.again n.taken few
+  where
+    by : (again : Bool) (taken : ℕ) → taken ≤ 1000000 → cond again 1000000 0 + taken ≤ 2000000
+    by true taken few = omega (arith, few)
+    by false taken few = omega (arith, few)
+
+pub left-more : (n : Count) → n.taken + 1 ≤ 1000000 → left_to_take (one_more n) < left_to_take n
+left-more n most = omega (arith, most)
+
+pub left-anew : (n : Count) → n.taken + 1 ≤ 1000000 → left_to_take (anew n) < left_to_take n
+left-anew n most = by n.again n.taken most
+  where
+    by : (again : Bool) (taken : ℕ) → taken + 1 ≤ 1000000 → left_to_take (anew_if again taken) < cond again 0 1000001 + (1000000 - taken)
+    by true taken most = omega (arith, most)
+    by false taken most = omega (arith, most)
 
 pub record WaitedSoFar (H C : Type 0) (reading : H → Reading) (writing : H → Writing) (linking : H → Linking) (held : H → List ℕ → Option (List ℕ)) (complaints : H → Option (List ℕ)) (IsSteady : H → Type 0)
-    (Stands : C → Client → Type 0) (lent : C → Option Answer) (IsOf : Standing C) (setting : C → Setting) (room : C → ℕ) (schema : List Table) (number : ℕ) (first now : H) (fed feed : List ℕ) (code_first code : C) (index : ℕ) : Type 0 where
+    (Stands : C → Client → Type 0) (lent : C → Option Answer) (IsOf : Standing C) (setting : C → Setting) (room : C → ℕ) (schema : List Table) (number : ℕ) (first now : H) (fed feed : List ℕ) (code_first code : C) (count : Count) : Type 0 where
   pub so_far : (k : Setting) (s : Start C) (ahead : Ahead) (failed : Bool) → setting code_first ≡ k → schema ≡ k.schema
-      → At C Stands lent IsOf k s ahead number 0 failed (linking first) (IsWritten s (writing first)) fed code_first → At C Stands lent IsOf k s ahead number index failed (linking now) (IsWritten s (writing now)) feed code
+      → At C Stands lent IsOf k s ahead number none_taken failed (linking first) (IsWritten s (writing first)) fed code_first → At C Stands lent IsOf k s ahead number count failed (linking now) (IsWritten s (writing now)) feed code
   pub same : setting code ≡ setting code_first
-  pub draws : room code_first ≤ room code + 2 * index
+  pub draws : room code_first ≤ room code + 2 * spent count
+  pub most : count.taken ≤ 1000000
   pub stays : OnlyOutput H reading held complaints IsSteady first now
 
 -- ---- a plan
@@ -40,7 +86,7 @@ pub record RunSoFar (H C S : Type 0) (reading : H → Reading) (writing : H → 
       → Going C S Stands lent IsOf Follows k s plans failed (linking now) (writing now) feed code
   pub same : setting code ≡ setting code_first
   pub asks : (ahead : Ahead) × Follows (setting code_first).schema plans ahead
-  pub few : room code_first + 2000004 * depth plans ≤ room code + 2000004 * depth plans_first
+  pub few : room code_first + 4000004 * depth plans ≤ room code + 4000004 * depth plans_first
   pub stays : OnlyOutput H reading held complaints IsSteady first now
 
 -- what a plan hands out, where the client lends this answer

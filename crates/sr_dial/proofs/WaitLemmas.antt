@@ -1,6 +1,6 @@
 -- Messages that are awaited.
-use Rattle.std.proofs.Common.{◌≡◌, ℕ, ◌+◌, ◌≤◌, Bool, true, false, List, [], ◌∷◌, ◌++◌, append-nil, refl, sym, ◌∙◌, ap, subst, Option, Some, None}
-use Rattle.std.specs.Prelude.{◌≢◌, IsTrue, flat_map}
+use Rattle.std.proofs.Common.{◌≡◌, ℕ, ◌+◌, ◌≤◌, Bool, true, false, List, [], ◌∷◌, ◌++◌, append-nil, refl, sym, ◌∙◌, ap, subst, Option, Some, None, arith}
+use Rattle.std.specs.Prelude.{◌≢◌, ◌↔◌, IsTrue, flat_map, not}
 use Rattle.std.specs.Option.{is_some}
 use Rattle.sr_io.specs.Causes.{Rose}
 use Rattle.sr_io.specs.Told.{Linking, Writing}
@@ -19,7 +19,7 @@ use Rattle.sr_talk.specs.declared.frames.Next.{Next}
 use Rattle.sr_talk.specs.declared.frames.Next.TheVariants.{Frame, End, Torn, Fault, Bad as NextBad}
 use Rattle.sr_dial.specs.Carrying.{Carries}
 use Rattle.sr_dial.specs.Known.{Makes, Setting}
-use Rattle.sr_dial.specs.Runs.{left_by}
+use Rattle.sr_dial.specs.Runs.{anew_if, left_by, more_if}
 use Rattle.sr_dial.specs.Courses.{At, Broken, Free, Handles, Hands, IsWritten, Over, Start, Waits, handled_by, last_of}
 use Rattle.sr_dial.specs.declared.ending.Ending.TheVariants as ending
 use Rattle.sr_dial.specs.declared.steps.Handed.{Handed}
@@ -29,8 +29,11 @@ use Rattle.sr_dial.proofs.EndLemmas.{over-at}
 use Rattle.sr_dial.proofs.HandLemmas.{hands-up}
 use Rattle.sr_dial.specs.declared.parts.Answer.{Answer}
 use Rattle.sr_dial.specs.Following.{Ahead}
+use Rattle.sr_dial.specs.declared.waiting.Count.{Count}
+use Rattle.sr_script.specs.declared.line.TraceLine.{TraceLine}
+use Rattle.sr_session.specs.Misfits.{misfit}
 
-module _ (C : Type 0) (Stands : C → Client → Type 0) (lent : C → Option Answer) (IsOf : Standing C) (k : Setting) (s : Start C) (ahead : Ahead) (line came : ℕ) (failed : Bool) (l : Linking) (w : Writing) (feed : List ℕ) (code : C)
+module _ (C : Type 0) (Stands : C → Client → Type 0) (lent : C → Option Answer) (IsOf : Standing C) (k : Setting) (s : Start C) (ahead : Ahead) (line : ℕ) (came : Count) (failed : Bool) (l : Linking) (w : Writing) (feed : List ℕ) (code : C)
     (h : At C Stands lent IsOf k s ahead line came failed l (IsWritten s w) feed code) where
   abbrev now : Client
   now = left_by s.past (h.course.earlier ++ h.course.call ∷ [])
@@ -92,10 +95,10 @@ module _ (C : Type 0) (Stands : C → Client → Type 0) (lent : C → Option An
         (λ whole. record { fault_is = faulty; whole = other; waits = read-out new_l [] after r }) (λ texts is. is)
 
     -- as many as may be came for one request
-    pub awaits-no-more : (new_l : Linking) (after : List ℕ) (m : Message) → came ≡ 1000000 → Nexts (Frame m) l new_l feed after → Over C Stands lent IsOf k s ending.Limit new_l w
+    pub awaits-no-more : (new_l : Linking) (after : List ℕ) (m : Message) → came.taken ≡ 1000000 → Nexts (Frame m) l new_l feed after → Over C Stands lent IsOf k s ending.Limit new_l w
     awaits-no-more new_l after m many (r, is) =
         over-at C Stands lent IsOf k s ahead line came new_l (spelling m ++ after) code w failed ending.Limit (read new_l (spelling m) after r) refl
-        (λ whole. record { message = m; rest = after; many = (read new_l (spelling m) after r).course.steps.came_is ∙ many; next = refl; spells = is }) (λ texts is. is)
+        (λ whole. record { message = m; rest = after; many = ap (λ (n : Count). n.taken) (read new_l (spelling m) after r).course.steps.came_is ∙ many; next = refl; spells = is }) (λ texts is. is)
 
     -- a message came, and is not taken yet
     pub record IsRead (new_l : Linking) (new_w : Writing) (m : Message) (after : List ℕ) : Type 0 where
@@ -108,7 +111,7 @@ module _ (C : Type 0) (Stands : C → Client → Type 0) (lent : C → Option An
         subst (λ x. IsRead new_l x m after) (sym same) (record { at = read new_l (spelling m) after r; waits = read-some new_l (spelling m) after r; spells = is })
 
     -- what comes next is the last thing that is looked at
-    pub awaits-last : (new_l : Linking) (new_w : Writing) (after : List ℕ) (next : Next) → came ≡ 1000000 → new_w ≡ w → Nexts next l new_l feed after
+    pub awaits-last : (new_l : Linking) (new_w : Writing) (after : List ℕ) (next : Next) → came.taken ≡ 1000000 → new_w ≡ w → Nexts next l new_l feed after
         → Waits C Stands lent IsOf k (last_of next) s ahead line failed new_l new_w after code
     awaits-last new_l new_w after next many same comes = subst (λ x. Waits C Stands lent IsOf k (last_of next) s ahead line failed new_l x after code) (sym same) (by next comes)
       where
@@ -121,7 +124,7 @@ module _ (C : Type 0) (Stands : C → Client → Type 0) (lent : C → Option An
 
 -- ---- one message
 
-module _ (C : Type 0) (Stands : C → Client → Type 0) (lent : C → Option Answer) (IsOf : Standing C) (k : Setting) (s : Start C) (ahead : Ahead) (line came : ℕ) (failed : Bool) (l new_l : Linking) (w new_w : Writing) (after : List ℕ) (code new : C) (m : Message)
+module _ (C : Type 0) (Stands : C → Client → Type 0) (lent : C → Option Answer) (IsOf : Standing C) (k : Setting) (s : Start C) (ahead : Ahead) (line : ℕ) (came : Count) (failed : Bool) (l new_l : Linking) (w new_w : Writing) (after : List ℕ) (code new : C) (m : Message)
     (h : At C Stands lent IsOf k s ahead line came failed l (IsWritten s w) (spelling m ++ after) code) where
   -- it must be refused
   pub handles-bad : (why : BadFrame) → is_some (left_by s.past (h.course.earlier ++ h.course.call ∷ [])).out ≡ true → IsTrue (has_spelling m)
@@ -130,19 +133,31 @@ module _ (C : Type 0) (Stands : C → Client → Type 0) (lent : C → Option An
   handles-bad why some is bad =
       over-at C Stands lent IsOf k s ahead line came l (spelling m ++ after) code w failed (ending.Bad why) h refl (λ whole. record { message = m; rest = after; next = refl; spells = is; waits = some-out C Stands lent IsOf k s ahead line came failed l w (spelling m ++ after) code h some; why_is = bad }) (λ texts is. is)
 
+  most-more : (sent : List Message) → came.taken + 1 ≤ 1000000 → (more_if sent came).taken ≤ 1000000
+  most-more [] most = most
+  most-more (x ∷ sent) most = by came.again
+    where
+      by : (again : Bool) → (anew_if again came.taken).taken ≤ 1000000
+      by true = most
+      by false = omega arith
+
   -- it is taken
-  pub handles : came + 1 ≤ 1000000 → (lines : List Rattle.sr_script.specs.declared.line.TraceLine.TraceLine) (sent : List Message) (handed : Handed) → is_some (left_by s.past (h.course.earlier ++ h.course.call ∷ [])).out ≡ true → IsTrue (has_spelling m)
-      → Rattle.sr_session.specs.Misfits.misfit k.schema (left_by s.past (h.course.earlier ++ h.course.call ∷ [])).out (left_by s.past (h.course.earlier ++ h.course.call ∷ [])).laid
+  pub handles : came.taken + 1 ≤ 1000000 → (lines : List TraceLine) (sent : List Message) (handed : Handed) (empty : Bool) → (IsTrue empty ↔ (sent ≡ [])) → is_some (left_by s.past (h.course.earlier ++ h.course.call ∷ [])).out ≡ true → IsTrue (has_spelling m)
+      → misfit k.schema (left_by s.past (h.course.earlier ++ h.course.call ∷ [])).out (left_by s.past (h.course.earlier ++ h.course.call ∷ [])).laid
       (left_by s.past (h.course.earlier ++ h.course.call ∷ [])).version m ≡ None
       → Makes Stands lent IsOf k code new (left_by s.past (h.course.earlier ++ h.course.call ∷ [])) (Took m) lines sent
-      → Carries handed l new_l w new_w (spelled sent) (flat_map (line_text k.schema line) lines) → Handles C Stands lent IsOf k (handled_by handed) s ahead line came failed m new_l new_w after new
-  handles most lines sent handed some is fits made carries =
-      by handed
-      (hands-up C Stands lent IsOf k s ahead ahead line came line Delivered code new (Took m) lines sent refl most failed l new_l w new_w (spelling m ++ after) after h made (refl, some-out C Stands lent IsOf k s ahead line came failed l w (spelling m ++ after) code h some, is, fits) tt refl
+      → Carries handed l new_l w new_w (spelled sent) (flat_map (line_text k.schema line) lines) → Handles C Stands lent IsOf k (handled_by handed (not empty)) s ahead line came failed m new_l new_w after new
+  handles most lines sent handed empty is_empty some is fits made carries =
+      by handed sent empty is_empty
+      (hands-up C Stands lent IsOf k s ahead ahead line came line Delivered code new (Took m) lines sent refl (most-more sent most) failed l new_l w new_w (spelling m ++ after) after h made (refl, some-out C Stands lent IsOf k s ahead line came failed l w (spelling m ++ after) code h some, is, fits) tt refl
       handed (is-up C Stands lent IsOf k s ahead line came failed l w (spelling m ++ after) code h some)
       (made.link.0 ∙ is-up C Stands lent IsOf k s ahead line came failed l w (spelling m ++ after) code h some) (ap (λ x. x ++ after) (sym (append-nil (spelling m)))) carries)
     where
-      by : (handed : Handed) → Hands C Stands lent IsOf k handed s ahead line (came + 1) failed new_l new_w after new → Handles C Stands lent IsOf k (handled_by handed) s ahead line came failed m new_l new_w after new
-      by Whole hands = hands
-      by HandedBroken hands = hands
-      by Unwritten hands = hands
+      by : (handed : Handed) (sent : List Message) (empty : Bool) → (IsTrue empty ↔ (sent ≡ [])) → Hands C Stands lent IsOf k handed s ahead line (more_if sent came) failed new_l new_w after new
+          → Handles C Stands lent IsOf k (handled_by handed (not empty)) s ahead line came failed m new_l new_w after new
+      by Whole [] true is hands = hands
+      by Whole [] false is hands = absurd (let wrong = is.1 refl in cc)
+      by Whole (x ∷ sent) false is hands = hands
+      by Whole (x ∷ sent) true is hands = absurd (let wrong : x ∷ sent ≡ [] = is.0 refl in cc)
+      by HandedBroken sent empty is hands = hands
+      by Unwritten sent empty is hands = hands

@@ -16,7 +16,7 @@ use Rattle.sr_talk.specs.declared.frames.Next.{Next}
 use Rattle.sr_talk.specs.declared.frames.Next.TheVariants.{Frame, End, Torn, Fault, Bad}
 use Rattle.sr_dial.specs.Following.{Ahead, dids_of, stage_by}
 use Rattle.sr_dial.specs.Known.{AreFairlyExplained, IsFrom, Setting}
-use Rattle.sr_dial.specs.Runs.{AreFew, AreInPlace, EndsBy, IsCarried, IsToldIf, SendsMost, SentAs, WritesAs, is_unwritten, left_by, taken_after}
+use Rattle.sr_dial.specs.Runs.{AreFew, AreInPlace, EndsBy, IsCarried, IsToldIf, SendsMost, SentAs, WritesAs, anew, is_unwritten, left_by, none_taken, one_more, taken_after}
 use Rattle.sr_dial.specs.declared.ending.Ending.{Ending}
 use Rattle.sr_dial.specs.declared.parts.Answer.{Answer}
 use Rattle.sr_dial.specs.declared.ending.Ending.TheVariants as ending
@@ -26,6 +26,7 @@ use Rattle.sr_dial.specs.declared.steps.Handed.{Handed}
 use Rattle.sr_dial.specs.declared.steps.Handed.TheVariants as handed
 use Rattle.sr_dial.specs.declared.waiting.Handled.{Handled}
 use Rattle.sr_dial.specs.declared.waiting.Handled.TheVariants as handled
+use Rattle.sr_dial.specs.declared.waiting.Count.{Count}
 use Rattle.sr_dial.specs.declared.waiting.Awaited.{Awaited}
 use Rattle.sr_dial.specs.declared.waiting.Awaited.TheVariants as awaited
 
@@ -59,11 +60,12 @@ IsThere {C} false earlier call old l = (l.present ≡ call.told) × (l.past ≡ 
 abbrev pub TellsStill : Linking → Linking → Type 0
 TellsStill old l = IfSome old.peers (λ peers. l.peers ≢ None)
 
--- how a message is handled whose step came out so
-abbrev pub handled_by : Handed → Handled
-handled_by handed.Whole = handled.Whole
-handled_by handed.Broken = handled.Broken
-handled_by handed.Unwritten = handled.Unwritten
+-- how a message is handled whose step came out so, and sent a request or not
+abbrev pub handled_by : Handed → Bool → Handled
+handled_by handed.Whole false = handled.Whole
+handled_by handed.Whole true = handled.Again
+handled_by handed.Broken again = handled.Broken
+handled_by handed.Unwritten again = handled.Unwritten
 
 -- how waiting ends where this comes next, and as many messages as may be were taken
 abbrev pub last_of : Next → Awaited
@@ -89,11 +91,11 @@ IsPartWritten {C} s w texts = WritesPrefix s.writing.written w.written texts × 
 module _ (C : Type 0) (Stands : C → Client → Type 0) (lent : C → Option Answer) (IsOf : Standing C) (k : Setting) where
   -- What was done, each thing in its place and fair, with this of the lines. It went by the plan: this is ahead, and the client lends the
   -- last answer. And the client stands for the last past.
-  pub record Stepped (s : Start C) (ahead : Ahead) (line came : ℕ) (ds : List (Done C)) (P : List ℕ → Type 0) (code : C) : Type 0 where
+  pub record Stepped (s : Start C) (ahead : Ahead) (line : ℕ) (came : Count) (ds : List (Done C)) (P : List ℕ → Type 0) (code : C) : Type 0 where
     pub in_place : AreInPlace k.schema 0 s.past ds
     pub line_is : line_after 0 ds ≡ line
-    pub came_is : taken_after 0 ds ≡ came
-    pub few : AreFew 0 ds
+    pub came_is : taken_after none_taken ds ≡ came
+    pub few : AreFew none_taken ds
     pub goes : GoBy (begun s.plan) (dids_of k.keeps ds)
     pub ahead_is : (stage_by k.keeps s.plan ds).ahead ≡ ahead
     pub answer_is : (stage_by k.keeps s.plan ds).answer ≡ lent code
@@ -106,7 +108,7 @@ module _ (C : Type 0) (Stands : C → Client → Type 0) (lent : C → Option An
     pub writes : P (flat_map (text_of k.schema k.number) ds)
 
   -- Calls that are over, and the present one, behind whose messages the feed has these bytes.
-  pub record Course (s : Start C) (ahead : Ahead) (line came : ℕ) (P : List ℕ → Type 0) (feed : List ℕ) (code : C) : Type 0 where
+  pub record Course (s : Start C) (ahead : Ahead) (line : ℕ) (came : Count) (P : List ℕ → Type 0) (feed : List ℕ) (code : C) : Type 0 where
     pub earlier : List (Call C)
     pub call : Call C
     pub are : AreCalls s.past earlier
@@ -122,7 +124,7 @@ module _ (C : Type 0) (Stands : C → Client → Type 0) (lent : C → Option An
     pub steps : Stepped s ahead line came (all_done (earlier ++ call ∷ [])) P code
 
   -- All that had to be sent was.
-  pub record At (s : Start C) (ahead : Ahead) (line came : ℕ) (failed : Bool) (l : Linking) (P : List ℕ → Type 0) (feed : List ℕ) (code : C) : Type 0 where
+  pub record At (s : Start C) (ahead : Ahead) (line : ℕ) (came : Count) (failed : Bool) (l : Linking) (P : List ℕ → Type 0) (feed : List ℕ) (code : C) : Type 0 where
     pub course : Course s ahead line came P feed code
     pub sent : IfSome course.call.told (λ t. SentAs (fails course.call) (requests_of (steps_in (done_in course.call))) t.sent)
     pub faults : RoseBy s.linking.faults (count_faults (course.earlier ++ course.call ∷ [])) l.faults
@@ -133,7 +135,7 @@ module _ (C : Type 0) (Stands : C → Client → Type 0) (lent : C → Option An
 
   -- The link failed while a request is out.
   pub record Broken (s : Start C) (ahead : Ahead) (line : ℕ) (l : Linking) (P : List ℕ → Type 0) (feed : List ℕ) (code : C) : Type 0 where
-    pub came : ℕ
+    pub came : Count
     pub course : Course s ahead line came P feed code
     pub sent : IfSome course.call.told (λ t. SendsMost (requests_of (steps_in (done_in course.call))) t.sent)
     pub faults : RoseBy s.linking.faults (count_faults course.earlier + one_if (is_fault course.call)) l.faults
@@ -154,7 +156,7 @@ module _ (C : Type 0) (Stands : C → Client → Type 0) (lent : C → Option An
     pub faults : RoseBy s.linking.faults (count_faults calls) l.faults
     pub failed_is : list_any fails calls ≡ failed
     pub calm : failed ≡ false → l.faults ≡ s.linking.faults
-    pub came : ℕ
+    pub came : Count
     pub steps : Stepped s ahead line came (all_done calls) P code
     pub cut : (left_by s.past calls).cut ≡ true
 
@@ -164,7 +166,7 @@ module _ (C : Type 0) (Stands : C → Client → Type 0) (lent : C → Option An
     pub last : Call C
     pub are : AreCalls s.past (earlier ++ last ∷ [])
     pub in_place : AreInPlace k.schema 0 s.past (all_done (earlier ++ last ∷ []))
-    pub few : AreFew 0 (all_done (earlier ++ last ∷ []))
+    pub few : AreFew none_taken (all_done (earlier ++ last ∷ []))
     pub goes : GoBy (begun s.plan) (dids_of k.keeps (all_done (earlier ++ last ∷ [])))
     pub from : All (IsFrom k.number) (requests_of (steps_in (all_done (earlier ++ last ∷ []))))
     pub fair : AreFair IsOf k.limits s.code s.past (steps_in (all_done (earlier ++ last ∷ [])))
@@ -180,7 +182,7 @@ module _ (C : Type 0) (Stands : C → Client → Type 0) (lent : C → Option An
 
   -- nothing is out
   pub record Free (s : Start C) (ahead : Ahead) (line : ℕ) (failed : Bool) (l : Linking) (P : List ℕ → Type 0) (feed : List ℕ) (code : C) : Type 0 where
-    pub came : ℕ
+    pub came : Count
     pub at : At s ahead line came failed l P feed code
     pub free : (left_by s.past (at.course.earlier ++ at.course.call ∷ [])).out ≡ None
 
@@ -210,7 +212,7 @@ module _ (C : Type 0) (Stands : C → Client → Type 0) (lent : C → Option An
 
   -- ---- what comes of a step, of waiting, and of a line
 
-  abbrev pub Hands : Handed → Start C → Ahead → ℕ → ℕ → Bool → Linking → Writing → List ℕ → C → Type 0
+  abbrev pub Hands : Handed → Start C → Ahead → ℕ → Count → Bool → Linking → Writing → List ℕ → C → Type 0
   Hands handed.Whole s ahead line came failed l w feed code = At s ahead line came failed l (IsWritten s w) feed code
   Hands handed.Broken s ahead line came failed l w feed code = Broken s ahead line l (IsWritten s w) feed code
   Hands handed.Unwritten s ahead line came failed l w feed code = Over s ending.Unwritten l w
@@ -234,8 +236,9 @@ module _ (C : Type 0) (Stands : C → Client → Type 0) (lent : C → Option An
   FailsAs false s ahead line l w feed code = Over s ending.Unwritten l w
 
   -- a message was taken, behind which these bytes are left, or is refused
-  abbrev pub Handles : Handled → Start C → Ahead → ℕ → ℕ → Bool → Message → Linking → Writing → List ℕ → C → Type 0
-  Handles handled.Whole s ahead line came failed m l w after code = At s ahead line (came + 1) failed l (IsWritten s w) after code
+  abbrev pub Handles : Handled → Start C → Ahead → ℕ → Count → Bool → Message → Linking → Writing → List ℕ → C → Type 0
+  Handles handled.Whole s ahead line came failed m l w after code = At s ahead line (one_more came) failed l (IsWritten s w) after code
+  Handles handled.Again s ahead line came failed m l w after code = At s ahead line (anew came) failed l (IsWritten s w) after code
   Handles handled.Broken s ahead line came failed m l w after code = Broken s ahead line l (IsWritten s w) after code
   Handles handled.Unwritten s ahead line came failed m l w after code = Over s ending.Unwritten l w
   Handles (handled.Refused why) s ahead line came failed m l w after code = Over s (ending.Bad why) l w

@@ -17,6 +17,7 @@ use Rattle.sr_wire.specs.Reading.{Faulty, decoded}
 use Rattle.sr_wire.specs.Spelling.{has_spelling, spelling}
 use Rattle.sr_session.specs.Clients.{Client}
 use Rattle.sr_session.specs.Misfits.{misfit}
+use Rattle.sr_session.specs.Rules.{sent_of}
 use Rattle.sr_links.specs.Honest.{IsPrefix}
 use Rattle.sr_links.specs.Steps.{AreFair, Standing, Deed, Took, WasCut, given_of, requests_of, past_after}
 use Rattle.sr_dial.specs.Calls.{Call, Cause, Scripted, Delivered, Failed, Done, Made, Explained, Said, Task, AreCalls, all_done, calls_told, count_faults, done_in, fails, steps_in, text_of}
@@ -27,6 +28,7 @@ use Rattle.sr_dial.specs.Known.{AreFairlyExplained, IsFrom, Setting}
 use Rattle.sr_dial.specs.declared.ending.Ending.{Ending}
 use Rattle.sr_dial.specs.declared.ending.Ending.TheVariants as ending
 use Rattle.sr_dial.specs.declared.parts.Answer.{Answer}
+use Rattle.sr_dial.specs.declared.waiting.Count.{Count}
 
 -- ---- steps
 
@@ -78,27 +80,48 @@ pub record IsToldIf {C : Type 0} (peers : Option (List (List ℕ))) (call : Call
 abbrev pub left_by : {C : Type 0} → Client → List (Call C) → Client
 left_by {C} c calls = past_after c (steps_in (all_done calls))
 
--- how many messages were taken since anything else was done
-abbrev pub more_taken : Cause → ℕ → ℕ
-more_taken Delivered n = n + 1
-more_taken cause n = 0
+-- no message was taken since a line began
+abbrev pub none_taken : Count
+none_taken = record { taken = 0; again = false }
 
-abbrev pub taken_after : {C : Type 0} → ℕ → List (Done C) → ℕ
+-- One message more was taken.
+abbrev pub one_more : Count → Count
+one_more n = record { taken = n.taken + 1; again = n.again }
+
+-- One more was taken, and a request was sent for it: if it is the second one of its line, the count begins anew. By the rules there is no
+-- third.
+abbrev pub anew_if : Bool → ℕ → Count
+anew_if false taken = record { taken = 0; again = true }
+anew_if true taken = record { taken = taken + 1; again = true }
+
+abbrev pub anew : Count → Count
+anew n = anew_if n.again n.taken
+
+abbrev pub more_if : List Message → Count → Count
+more_if [] n = one_more n
+more_if (m ∷ sent) n = anew n
+
+-- how many messages were taken for the request that is out, where this was sent with the last step
+abbrev pub more_taken : Cause → List Message → Count → Count
+more_taken Delivered sent n = more_if sent n
+more_taken cause sent n = none_taken
+
+abbrev pub taken_after : {C : Type 0} → Count → List (Done C) → Count
 taken_after {C} n [] = n
-taken_after {C} n (Made number cause step ∷ ds) = taken_after (more_taken cause n) ds
-taken_after {C} n (Explained number text result ∷ ds) = taken_after 0 ds
-taken_after {C} n (Said number text ∷ ds) = taken_after 0 ds
+taken_after {C} n (Made number cause step ∷ ds) = taken_after (more_taken cause (sent_of step.outcome) n) ds
+taken_after {C} n (Explained number text result ∷ ds) = taken_after none_taken ds
+taken_after {C} n (Said number text ∷ ds) = taken_after none_taken ds
 
--- Behind each thing that was done, at most a million messages were taken since anything else was.
-abbrev pub AreFew : {C : Type 0} → ℕ → List (Done C) → Type 0
+-- Behind each thing that was done, at most a million messages were taken for the request that is out.
+abbrev pub AreFew : {C : Type 0} → Count → List (Done C) → Type 0
 AreFew {C} n [] = Unit {0}
-AreFew {C} n (d ∷ ds) = (taken_after n (d ∷ []) ≤ 1000000) × AreFew (taken_after n (d ∷ [])) ds
+AreFew {C} n (d ∷ ds) = ((taken_after n (d ∷ [])).taken ≤ 1000000) × AreFew (taken_after n (d ∷ [])) ds
 
 -- A million messages were taken for one request, and one more came.
 pub record IsFull {C : Type 0} (done : List (Done C)) (left : List ℕ) : Type 0 where
   pub message : Message
   pub rest : List ℕ
-  pub many : taken_after 0 done ≡ 1000000
+  pub many : (taken_after none_taken done).taken ≡ 1000000
   pub next : left ≡ spelling message ++ rest
   pub spells : IsTrue (has_spelling message)
 
@@ -149,7 +172,7 @@ pub record Ran (C : Type 0) (k : Setting) (c : Client) (address : List ℕ) (pla
   pub last : Call C
   pub are : AreCalls c (earlier ++ last ∷ [])
   pub in_place : AreInPlace k.schema 0 c (all_done (earlier ++ last ∷ []))
-  pub few : AreFew 0 (all_done (earlier ++ last ∷ []))
+  pub few : AreFew none_taken (all_done (earlier ++ last ∷ []))
   pub from : All (IsFrom k.number) (requests_of (steps_in (all_done (earlier ++ last ∷ []))))
   pub goes : GoBy (begun plan) (dids_of k.keeps (all_done (earlier ++ last ∷ [])))
   pub carried : All (IsCarried false) earlier

@@ -9,7 +9,7 @@ ghost use Rattle.sr_dial.specs.Jobs.{IsJob, number_of};
 ghost use Rattle.sr_talk.specs.Rounds.{OnlyOutput};
 ghost use Rattle.sr_dial.specs.Courses.{At, Broken, EndsLine, Finishes, Free, Hands, IsWritten, Start, Unbegun};
 ghost use Rattle.sr_dial.specs.Known.{IsTask, Setting};
-ghost use Rattle.sr_dial.specs.Runs.{RanFairly};
+ghost use Rattle.sr_dial.specs.Runs.{RanFairly, none_taken};
 ghost use Rattle.sr_dial.specs.declared.ending.Ending.TheVariants.{Whole as EndsWhole, Faulty as EndsFaulty, Unwritten as EndsUnwritten};
 ghost use Rattle.sr_dial.specs.declared.run.LineEnd.TheVariants.{Failed as LineFailed, Ends as LineEnds};
 
@@ -45,7 +45,7 @@ fn start<H: Host, C: Asks>(
 ) -> Result<Handed, NoMemory>
     requires asks { (task : Task) × IsJob (C.setting client.old).schema job task }
     requires room { 2 ≤ C.room client.old }
-    ensures started { (k : Setting) (s : Start C) (ahead further : Ahead) (number : ℕ) (failed : Bool) (task : Task) → s.address ≡ address.now → C.setting client.old ≡ k → schema.now ≡ k.schema → Free C C.stands C.lent C.is_of k s ahead number failed (H.linking host.old) (IsWritten s (H.writing host.old)) feed.old client.old → IsJob k.schema job task → ahead (C.lent client.old) ≡ Next (number_of job) task further → IfOk result (λ handed. Hands C C.stands C.lent C.is_of k handed s (ahead_of task further) (number_of job) 0 failed (H.linking host.new) (H.writing host.new) feed.new client.new) }
+    ensures started { (k : Setting) (s : Start C) (ahead further : Ahead) (number : ℕ) (failed : Bool) (task : Task) → s.address ≡ address.now → C.setting client.old ≡ k → schema.now ≡ k.schema → Free C C.stands C.lent C.is_of k s ahead number failed (H.linking host.old) (IsWritten s (H.writing host.old)) feed.old client.old → IsJob k.schema job task → ahead (C.lent client.old) ≡ Next (number_of job) task further → IfOk result (λ handed. Hands C C.stands C.lent C.is_of k handed s (ahead_of task further) (number_of job) none_taken failed (H.linking host.new) (H.writing host.new) feed.new client.new) }
     ensures setting { C.setting client.new ≡ C.setting client.old }
     ensures draws { C.room client.old ≤ C.room client.new + 2 }
     ensures stays { OnlyOutput H H.reading H.held H.complaints H.IsSteady host.old host.new }
@@ -68,7 +68,7 @@ fn start_line<H: Host, C: Asks>(
 ) -> Result<Handed, NoMemory>
     requires asks { (task : Task) × IsTask (C.setting client.old).schema line.event task }
     requires room { 2 ≤ C.room client.old }
-    ensures started { (k : Setting) (s : Start C) (ahead further : Ahead) (number : ℕ) (failed : Bool) (task : Task) → s.address ≡ address.now → C.setting client.old ≡ k → schema.now ≡ k.schema → Free C C.stands C.lent C.is_of k s ahead number failed (H.linking host.old) (IsWritten s (H.writing host.old)) feed.old client.old → IsTask k.schema line.event task → ahead (C.lent client.old) ≡ Next line.number task further → IfOk result (λ handed. Hands C C.stands C.lent C.is_of k handed s (ahead_of task further) line.number 0 failed (H.linking host.new) (H.writing host.new) feed.new client.new) }
+    ensures started { (k : Setting) (s : Start C) (ahead further : Ahead) (number : ℕ) (failed : Bool) (task : Task) → s.address ≡ address.now → C.setting client.old ≡ k → schema.now ≡ k.schema → Free C C.stands C.lent C.is_of k s ahead number failed (H.linking host.old) (IsWritten s (H.writing host.old)) feed.old client.old → IsTask k.schema line.event task → ahead (C.lent client.old) ≡ Next line.number task further → IfOk result (λ handed. Hands C C.stands C.lent C.is_of k handed s (ahead_of task further) line.number none_taken failed (H.linking host.new) (H.writing host.new) feed.new client.new) }
     ensures setting { C.setting client.new ≡ C.setting client.old }
     ensures draws { C.room client.old ≤ C.room client.new + 2 }
     ensures stays { OnlyOutput H H.reading H.held H.complaints H.IsSteady host.old host.new }
@@ -109,10 +109,10 @@ fn run_job<H: Host, C: Asks>(
     job: Job,
 ) -> Result<LineEnd, NoMemory>
     requires asks { (task : Task) × IsJob (C.setting client.old).schema job task }
-    requires room { 2000004 ≤ C.room client.old }
+    requires room { 4000004 ≤ C.room client.old }
     ensures ended { (k : Setting) (s : Start C) (ahead further : Ahead) (number : ℕ) (failed : Bool) (task : Task) → s.address ≡ address.now → C.setting client.old ≡ k → schema.now ≡ k.schema → Free C C.stands C.lent C.is_of k s ahead number failed (H.linking host.old) (IsWritten s (H.writing host.old)) feed.old client.old → IsJob k.schema job task → ahead (C.lent client.old) ≡ Next (number_of job) task further → IfOk result (λ end. EndsLine C C.stands C.lent C.is_of k end s (ahead_of task further) (number_of job) failed (H.linking host.new) (H.writing host.new) feed.new client.new) }
     ensures setting { C.setting client.new ≡ C.setting client.old }
-    ensures draws { C.room client.old ≤ C.room client.new + 2000004 }
+    ensures draws { C.room client.old ≤ C.room client.new + 4000004 }
     ensures stays { OnlyOutput H H.reading H.held H.complaints H.IsSteady host.old host.new }
 {
     let number = job.number();
@@ -130,10 +130,10 @@ fn finish<H: Host, C: Asks>(
     number: u64,
     handed: Handed,
 ) -> Result<LineEnd, NoMemory>
-    requires room { 2000002 ≤ C.room client.old }
-    ensures ended { (k : Setting) (s : Start C) (ahead : Ahead) (failed : Bool) → C.setting client.old ≡ k → schema.now ≡ k.schema → Hands C C.stands C.lent C.is_of k handed s ahead number 0 failed (H.linking host.old) (H.writing host.old) feed.old client.old → IfOk result (λ end. EndsLine C C.stands C.lent C.is_of k end s ahead number failed (H.linking host.new) (H.writing host.new) feed.new client.new) }
+    requires room { 4000002 ≤ C.room client.old }
+    ensures ended { (k : Setting) (s : Start C) (ahead : Ahead) (failed : Bool) → C.setting client.old ≡ k → schema.now ≡ k.schema → Hands C C.stands C.lent C.is_of k handed s ahead number none_taken failed (H.linking host.old) (H.writing host.old) feed.old client.old → IfOk result (λ end. EndsLine C C.stands C.lent C.is_of k end s ahead number failed (H.linking host.new) (H.writing host.new) feed.new client.new) }
     ensures setting { C.setting client.new ≡ C.setting client.old }
-    ensures draws { C.room client.old ≤ C.room client.new + 2000002 }
+    ensures draws { C.room client.old ≤ C.room client.new + 4000002 }
     ensures stays { OnlyOutput H H.reading H.held H.complaints H.IsSteady host.old host.new }
 {
     match handed {
@@ -152,10 +152,10 @@ fn settle<H: Host, C: Asks>(
     schema: &[Table],
     number: u64,
 ) -> Result<LineEnd, NoMemory>
-    requires room { 2000002 ≤ C.room client.old }
-    ensures ended { (k : Setting) (s : Start C) (ahead : Ahead) (failed : Bool) → C.setting client.old ≡ k → schema.now ≡ k.schema → At C C.stands C.lent C.is_of k s ahead number 0 failed (H.linking host.old) (IsWritten s (H.writing host.old)) feed.old client.old → IfOk result (λ end. EndsLine C C.stands C.lent C.is_of k end s ahead number failed (H.linking host.new) (H.writing host.new) feed.new client.new) }
+    requires room { 4000002 ≤ C.room client.old }
+    ensures ended { (k : Setting) (s : Start C) (ahead : Ahead) (failed : Bool) → C.setting client.old ≡ k → schema.now ≡ k.schema → At C C.stands C.lent C.is_of k s ahead number none_taken failed (H.linking host.old) (IsWritten s (H.writing host.old)) feed.old client.old → IfOk result (λ end. EndsLine C C.stands C.lent C.is_of k end s ahead number failed (H.linking host.new) (H.writing host.new) feed.new client.new) }
     ensures setting { C.setting client.new ≡ C.setting client.old }
-    ensures draws { C.room client.old ≤ C.room client.new + 2000002 }
+    ensures draws { C.room client.old ≤ C.room client.new + 4000002 }
     ensures stays { OnlyOutput H H.reading H.held H.complaints H.IsSteady host.old host.new }
 {
     match await_answer(alloc, host, feed, client, schema, number)? {
@@ -208,7 +208,7 @@ fn run_plan<H: Host, C: Asks, P: Plans>(
     failed: bool,
 ) -> Result<Ending, NoMemory>
     requires asks { (ahead : Ahead) × P.follows (C.setting client.old).schema plans.old ahead }
-    requires room { 2000004 * P.depth plans.old ≤ C.room client.old }
+    requires room { 4000004 * P.depth plans.old ≤ C.room client.old }
     ensures ended { (k : Setting) (s : Start C) (ahead : Ahead) (number : ℕ) → s.address ≡ address.now → C.setting client.old ≡ k → schema.now ≡ k.schema → Free C C.stands C.lent C.is_of k s ahead number failed (H.linking host.old) (IsWritten s (H.writing host.old)) feed.old client.old → P.follows k.schema plans.old ahead → IfOk result (λ ending. Finishes C C.stands C.lent C.is_of k ending s (H.linking host.new) (H.writing host.new) feed.new client.new) }
     ensures stays { OnlyOutput H H.reading H.held H.complaints H.IsSteady host.old host.new }
 {
@@ -243,10 +243,10 @@ fn first_line<H: Host, C: Asks>(
     id: u8,
     address: &str,
 ) -> Result<LineEnd, NoMemory>
-    requires room { 2000004 ≤ C.room client.old }
+    requires room { 4000004 ≤ C.room client.old }
     ensures ended { (k : Setting) (s : Start C) (ahead : Ahead) → s.address ≡ address.now → C.setting client.old ≡ k → schema.now ≡ k.schema → s.plan ≡ Next 0 (Do Resumed) ahead → Unbegun C C.stands C.lent C.is_of k s (λ answer. s.plan) 0 false (H.linking host.old) (IsWritten s (H.writing host.old)) client.old → IfOk result (λ end. EndsLine C C.stands C.lent C.is_of k end s ahead 0 false (H.linking host.new) (H.writing host.new) feed.new client.new) }
     ensures setting { C.setting client.new ≡ C.setting client.old }
-    ensures draws { C.room client.old ≤ C.room client.new + 2000004 }
+    ensures draws { C.room client.old ≤ C.room client.new + 4000004 }
     ensures stays { OnlyOutput H H.reading H.held H.complaints H.IsSteady host.old host.new }
 {
     let event = Event::Resume { client: id };
@@ -266,7 +266,7 @@ fn go_on<H: Host, C: Asks, P: Plans>(
     end: LineEnd,
 ) -> Result<Ending, NoMemory>
     requires asks { (ahead : Ahead) × P.follows (C.setting client.old).schema plans.old ahead }
-    requires room { 2000004 * P.depth plans.old ≤ C.room client.old }
+    requires room { 4000004 * P.depth plans.old ≤ C.room client.old }
     ensures ended { (k : Setting) (s : Start C) (ahead : Ahead) → s.address ≡ address.now → C.setting client.old ≡ k → schema.now ≡ k.schema → EndsLine C C.stands C.lent C.is_of k end s ahead 0 false (H.linking host.old) (H.writing host.old) feed.old client.old → P.follows k.schema plans.old ahead → IfOk result (λ ending. Finishes C C.stands C.lent C.is_of k ending s (H.linking host.new) (H.writing host.new) feed.new client.new) }
     ensures stays { OnlyOutput H H.reading H.held H.complaints H.IsSteady host.old host.new }
 {
@@ -290,7 +290,7 @@ pub fn run<H: Host, C: Asks, P: Plans>(
 ) -> Result<Ending, NoMemory>
     requires schema { schema.now ≡ (C.setting client.old).schema }
     requires asks { (ahead : Ahead) × P.follows (C.setting client.old).schema plans.old ahead }
-    requires room { 2000004 * (P.depth plans.old + 1) ≤ C.room client.old }
+    requires room { 4000004 * (P.depth plans.old + 1) ≤ C.room client.old }
     requires fresh { C.lent client.old ≡ None }
     ensures ran { (c : Past) (ahead : Ahead) → C.stands client.old c → c.cut ≡ true → c.out ≡ None → P.follows schema.now plans.old ahead → IfOk result (λ ending. RanFairly C C.is_of (C.setting client.old) client.old c address.now (Next 0 (Do Resumed) ahead) ending (H.linking host.old) (H.linking host.new) (H.writing host.old) (H.writing host.new)) }
     ensures stays { OnlyOutput H H.reading H.held H.complaints H.IsSteady host.old host.new }

@@ -16,6 +16,7 @@ ghost use Rattle.sr_talk.specs.Serving.{spelled};
 ghost use Rattle.sr_dial.specs.Carrying.{Carries, SaysAs};
 ghost use Rattle.sr_dial.specs.Courses.{Broken, FailsAs, Free, Hands, IsReady, IsWritten, Start};
 ghost use Rattle.sr_dial.specs.Known.{IsDeed, IsPlain, Setting};
+ghost use Rattle.sr_dial.specs.Runs.{none_taken};
 ghost use Rattle.sr_dial.specs.declared.steps.Handed.TheVariants.{Whole as HandedWhole, Broken as HandedBroken, Unwritten as HandedUnwritten};
 
 use crate::parts::{Asks, Told};
@@ -141,7 +142,7 @@ pub(crate) fn ask<H: Link + Sink, C: Asks>(
 ) -> Result<Handed, NoMemory>
     requires asks { (deed : Deed) × IsDeed (C.setting client.old).schema event deed }
     requires room { 2 ≤ C.room client.old }
-    ensures asked { (k : Setting) (s : Start C) (ahead further : Ahead) (line : ℕ) (failed : Bool) (feed : List ℕ) (deed : Deed) → C.setting client.old ≡ k → schema.now ≡ k.schema → Free C C.stands C.lent C.is_of k s ahead line failed (H.linking host.old) (IsWritten s (H.writing host.old)) feed client.old → IsDeed k.schema event deed → IsPlain deed → ahead (C.lent client.old) ≡ Next number (Do deed) further → IfOk result (λ handed. Hands C C.stands C.lent C.is_of k handed s further number 0 failed (H.linking host.new) (H.writing host.new) feed client.new) }
+    ensures asked { (k : Setting) (s : Start C) (ahead further : Ahead) (line : ℕ) (failed : Bool) (feed : List ℕ) (deed : Deed) → C.setting client.old ≡ k → schema.now ≡ k.schema → Free C C.stands C.lent C.is_of k s ahead line failed (H.linking host.old) (IsWritten s (H.writing host.old)) feed client.old → IsDeed k.schema event deed → IsPlain deed → ahead (C.lent client.old) ≡ Next number (Do deed) further → IfOk result (λ handed. Hands C C.stands C.lent C.is_of k handed s further number none_taken failed (H.linking host.new) (H.writing host.new) feed client.new) }
     ensures setting { C.setting client.new ≡ C.setting client.old }
     ensures draws { C.room client.old ≤ C.room client.new + 2 }
     ensures stays { OnlyOutput H H.reading H.held H.complaints H.IsSteady host.old host.new }
@@ -160,7 +161,7 @@ pub(crate) fn tell<K: Sink, C: Asks>(
     query: Result<Query, Fault>,
 ) -> Result<Handed, NoMemory>
     requires means { (text : Result TheQuery TheFault) × Means (C.setting client.now).schema query text }
-    ensures told { (k : Setting) (s : Start C) (ahead further : Ahead) (line : ℕ) (failed : Bool) (feed : List ℕ) (text : Result TheQuery TheFault) → C.setting client.now ≡ k → schema.now ≡ k.schema → Free C C.stands C.lent C.is_of k s ahead line failed (K.linking sink.old) (IsWritten s (K.writing sink.old)) feed client.now → Means k.schema query text → ahead (C.lent client.now) ≡ Next number (Explain text) further → IfOk result (λ handed. Hands C C.stands C.lent C.is_of k handed s (λ answer. further None) number 0 failed (K.linking sink.new) (K.writing sink.new) feed client.now) }
+    ensures told { (k : Setting) (s : Start C) (ahead further : Ahead) (line : ℕ) (failed : Bool) (feed : List ℕ) (text : Result TheQuery TheFault) → C.setting client.now ≡ k → schema.now ≡ k.schema → Free C C.stands C.lent C.is_of k s ahead line failed (K.linking sink.old) (IsWritten s (K.writing sink.old)) feed client.now → Means k.schema query text → ahead (C.lent client.now) ≡ Next number (Explain text) further → IfOk result (λ handed. Hands C C.stands C.lent C.is_of k handed s (λ answer. further None) number none_taken failed (K.linking sink.new) (K.writing sink.new) feed client.now) }
     ensures stays { OnlyOutput K K.reading K.held K.complaints K.IsSteady sink.old sink.new }
     ensures linking_stays { K.linking sink.new ≡ K.linking sink.old }
 {
@@ -176,7 +177,7 @@ pub(crate) fn write<K: Sink, C: Asks>(
     number: u64,
     text: &str,
 ) -> Result<Handed, NoMemory>
-    ensures told { (k : Setting) (s : Start C) (ahead further : Ahead) (line : ℕ) (failed : Bool) (feed : List ℕ) → C.setting client.now ≡ k → Free C C.stands C.lent C.is_of k s ahead line failed (K.linking sink.old) (IsWritten s (K.writing sink.old)) feed client.now → ahead (C.lent client.now) ≡ Next number (Say text.now) further → IfOk result (λ handed. Hands C C.stands C.lent C.is_of k handed s (λ answer. further None) number 0 failed (K.linking sink.new) (K.writing sink.new) feed client.now) }
+    ensures told { (k : Setting) (s : Start C) (ahead further : Ahead) (line : ℕ) (failed : Bool) (feed : List ℕ) → C.setting client.now ≡ k → Free C C.stands C.lent C.is_of k s ahead line failed (K.linking sink.old) (IsWritten s (K.writing sink.old)) feed client.now → ahead (C.lent client.now) ≡ Next number (Say text.now) further → IfOk result (λ handed. Hands C C.stands C.lent C.is_of k handed s (λ answer. further None) number none_taken failed (K.linking sink.new) (K.writing sink.new) feed client.now) }
     ensures stays { OnlyOutput K K.reading K.held K.complaints K.IsSteady sink.old sink.new }
     ensures linking_stays { K.linking sink.new ≡ K.linking sink.old }
 {
@@ -195,7 +196,7 @@ pub(crate) fn end<H: Host, C: Asks>(
 ) -> Result<Handed, NoMemory>
     requires asks { (deed : Deed) × IsDeed (C.setting client.old).schema event deed }
     requires room { 2 ≤ C.room client.old }
-    ensures cut { (k : Setting) (s : Start C) (ahead further : Ahead) (line : ℕ) (failed : Bool) (feed : List ℕ) → C.setting client.old ≡ k → schema.now ≡ k.schema → Free C C.stands C.lent C.is_of k s ahead line failed (H.linking host.old) (IsWritten s (H.writing host.old)) feed client.old → IsDeed k.schema event WasCut → ahead (C.lent client.old) ≡ Next number (Do WasCut) further → IfOk result (λ handed. Hands C C.stands C.lent C.is_of k handed s further number 0 failed (H.linking host.new) (H.writing host.new) feed client.new) }
+    ensures cut { (k : Setting) (s : Start C) (ahead further : Ahead) (line : ℕ) (failed : Bool) (feed : List ℕ) → C.setting client.old ≡ k → schema.now ≡ k.schema → Free C C.stands C.lent C.is_of k s ahead line failed (H.linking host.old) (IsWritten s (H.writing host.old)) feed client.old → IsDeed k.schema event WasCut → ahead (C.lent client.old) ≡ Next number (Do WasCut) further → IfOk result (λ handed. Hands C C.stands C.lent C.is_of k handed s further number none_taken failed (H.linking host.new) (H.writing host.new) feed client.new) }
     ensures setting { C.setting client.new ≡ C.setting client.old }
     ensures draws { C.room client.old ≤ C.room client.new + 2 }
     ensures stays { OnlyOutput H H.reading H.held H.complaints H.IsSteady host.old host.new }
@@ -218,7 +219,7 @@ pub(crate) fn begin<H: Host, C: Asks>(
 ) -> Result<Handed, NoMemory>
     requires asks { (deed : Deed) × IsDeed (C.setting client.old).schema event deed }
     requires room { 2 ≤ C.room client.old }
-    ensures begun { (k : Setting) (s : Start C) (ahead further : Ahead) (line : ℕ) (failed : Bool) → s.address ≡ address.now → C.setting client.old ≡ k → schema.now ≡ k.schema → IsReady C C.stands C.lent C.is_of k s ahead line failed (H.linking host.old) (IsWritten s (H.writing host.old)) feed.old client.old → IsDeed k.schema event Resumed → ahead (C.lent client.old) ≡ Next number (Do Resumed) further → IfOk result (λ handed. Hands C C.stands C.lent C.is_of k handed s further number 0 failed (H.linking host.new) (H.writing host.new) feed.new client.new) }
+    ensures begun { (k : Setting) (s : Start C) (ahead further : Ahead) (line : ℕ) (failed : Bool) → s.address ≡ address.now → C.setting client.old ≡ k → schema.now ≡ k.schema → IsReady C C.stands C.lent C.is_of k s ahead line failed (H.linking host.old) (IsWritten s (H.writing host.old)) feed.old client.old → IsDeed k.schema event Resumed → ahead (C.lent client.old) ≡ Next number (Do Resumed) further → IfOk result (λ handed. Hands C C.stands C.lent C.is_of k handed s further number none_taken failed (H.linking host.new) (H.writing host.new) feed.new client.new) }
     ensures setting { C.setting client.new ≡ C.setting client.old }
     ensures draws { C.room client.old ≤ C.room client.new + 2 }
     ensures stays { OnlyOutput H H.reading H.held H.complaints H.IsSteady host.old host.new }

@@ -1,5 +1,5 @@
 //! Messages are taken until no request is out.
-ghost use Rattle.std.specs.Prelude.{◌≡◌, ◌≤◌, ◌+◌, ◌*◌, ◌++◌, true, ℕ, Bool, List, [], ◌∷◌, IfOk, IsTrue};
+ghost use Rattle.std.specs.Prelude.{◌≡◌, ◌≤◌, ◌<◌, ◌+◌, ◌*◌, ◌++◌, true, ℕ, Bool, List, [], ◌∷◌, IfOk, IsTrue};
 ghost use Rattle.std.specs.Option.{is_some};
 ghost use Rattle.sr_session.specs.Clients.{Client as Past};
 ghost use Rattle.sr_wire.specs.Spelling.{has_spelling, spelling};
@@ -7,7 +7,8 @@ ghost use Rattle.sr_dial.specs.Following.{Ahead};
 ghost use Rattle.sr_talk.specs.Rounds.{OnlyOutput};
 ghost use Rattle.sr_dial.specs.Courses.{At, Handles, IsWritten, Start, Waits, handled_by, last_of};
 ghost use Rattle.sr_dial.specs.Known.{Setting};
-ghost use Rattle.sr_dial.specs.Runs.{left_by};
+ghost use Rattle.sr_dial.specs.Runs.{anew, left_by, none_taken, one_more};
+ghost use Rattle.sr_dial.specs.declared.steps.Handed.TheVariants.{Whole as HandedWhole};
 
 use crate::parts::{Asks, Came};
 use crate::steps::{Handed, carry};
@@ -24,10 +25,45 @@ use std::alloc::Global;
 /// The most messages that are taken for one request.
 const MOST_FRAMES: u32 = 1_000_000;
 
-/// What came of a message: it was taken and its lines are written; then the link failed; the lines are not written; or it must be refused.
+/// How many messages were taken for the request that is out, and whether it is the second one of its line, for which the count began anew.
+#[derive(Clone, Copy)]
+pub struct Count {
+    pub taken: u32,
+    pub again: bool,
+}
+
+/// One message more was taken.
+fn one_more(count: Count) -> Count
+    requires { count.taken < 1000000 }
+    ensures { result ≡ one_more count }
+{
+    Count {
+        taken: count.taken + 1,
+        again: count.again,
+    }
+}
+
+/// One message more was taken, for which a request was sent.
+fn anew(count: Count) -> Count
+    requires { count.taken < 1000000 }
+    ensures { result ≡ anew count }
+{
+    if count.again {
+        one_more(count)
+    } else {
+        Count {
+            taken: 0,
+            again: true,
+        }
+    }
+}
+
+/// What came of a message: it was taken and its lines are written, without a request for it, or with one; then the link failed; the lines
+/// are not written; or it must be refused.
 #[derive(Clone, Copy)]
 pub enum Handled {
     Whole,
+    Again,
     Broken,
     Unwritten,
     Refused(BadFrame),
@@ -55,7 +91,7 @@ fn handle<H: Link + Sink, C: Asks>(
     message: Message,
 ) -> Result<Handled, NoMemory>
     requires room { 2 ≤ C.room client.old }
-    ensures handled { (k : Setting) (s : Start C) (ahead : Ahead) (taken : ℕ) (failed : Bool) (after : List ℕ) → taken + 1 ≤ 1000000 → C.setting client.old ≡ k → schema.now ≡ k.schema → (h : At C C.stands C.lent C.is_of k s ahead number taken failed (H.linking host.old) (IsWritten s (H.writing host.old)) (spelling message ++ after) client.old) → is_some (left_by s.past (h.course.earlier ++ h.course.call ∷ [])).out ≡ true → IsTrue (has_spelling message) → IfOk result (λ handled. Handles C C.stands C.lent C.is_of k handled s ahead number taken failed message (H.linking host.new) (H.writing host.new) after client.new) }
+    ensures handled { (k : Setting) (s : Start C) (ahead : Ahead) (count : Count) (failed : Bool) (after : List ℕ) → count.taken + 1 ≤ 1000000 → C.setting client.old ≡ k → schema.now ≡ k.schema → (h : At C C.stands C.lent C.is_of k s ahead number count failed (H.linking host.old) (IsWritten s (H.writing host.old)) (spelling message ++ after) client.old) → is_some (left_by s.past (h.course.earlier ++ h.course.call ∷ [])).out ≡ true → IsTrue (has_spelling message) → IfOk result (λ handled. Handles C C.stands C.lent C.is_of k handled s ahead number count failed message (H.linking host.new) (H.writing host.new) after client.new) }
     ensures setting { C.setting client.new ≡ C.setting client.old }
     ensures draws { C.room client.old ≤ C.room client.new + 2 }
     ensures stays { OnlyOutput H H.reading H.held H.complaints H.IsSteady host.old host.new }
@@ -63,19 +99,30 @@ fn handle<H: Link + Sink, C: Asks>(
     match client.take(alloc, message)? {
         Came::Bad(why) => Ok(Handled::Refused(why)),
         Came::Taken(told) => {
+            let again = !told.sent.is_empty();
             let handed = carry(alloc, host, schema, number, &told)?;
-            Ok(handled_by(handed))
+            Ok(handled_by(handed, again))
         }
     }
 }
 
-fn handled_by(handed: Handed) -> Handled
-    ensures { result ≡ handled_by handed }
+fn handled_by(handed: Handed, again: bool) -> Handled
+    ensures { result ≡ handled_by handed again }
 {
     match handed {
-        Handed::Whole => Handled::Whole,
+        Handed::Whole => whole_by(again),
         Handed::Broken => Handled::Broken,
         Handed::Unwritten => Handled::Unwritten,
+    }
+}
+
+fn whole_by(again: bool) -> Handled
+    ensures { result ≡ handled_by HandedWhole again }
+{
+    if again {
+        Handled::Again
+    } else {
+        Handled::Whole
     }
 }
 
@@ -88,13 +135,17 @@ pub(crate) fn await_answer<H: Link + Sink, C: Asks>(
     schema: &[Table],
     number: u64,
 ) -> Result<Awaited, NoMemory>
-    requires room { 2000000 ≤ C.room client.old }
-    ensures awaited { (k : Setting) (s : Start C) (ahead : Ahead) (failed : Bool) → C.setting client.old ≡ k → schema.now ≡ k.schema → At C C.stands C.lent C.is_of k s ahead number 0 failed (H.linking host.old) (IsWritten s (H.writing host.old)) feed.old client.old → IfOk result (λ how. Waits C C.stands C.lent C.is_of k how s ahead number failed (H.linking host.new) (H.writing host.new) feed.new client.new) }
+    requires room { 4000000 ≤ C.room client.old }
+    ensures awaited { (k : Setting) (s : Start C) (ahead : Ahead) (failed : Bool) → C.setting client.old ≡ k → schema.now ≡ k.schema → At C C.stands C.lent C.is_of k s ahead number none_taken failed (H.linking host.old) (IsWritten s (H.writing host.old)) feed.old client.old → IfOk result (λ how. Waits C C.stands C.lent C.is_of k how s ahead number failed (H.linking host.new) (H.writing host.new) feed.new client.new) }
     ensures setting { C.setting client.new ≡ C.setting client.old }
-    ensures draws { C.room client.old ≤ C.room client.new + 2000000 }
+    ensures draws { C.room client.old ≤ C.room client.new + 4000000 }
     ensures stays { OnlyOutput H H.reading H.held H.complaints H.IsSteady host.old host.new }
 {
-    for taken in 0..MOST_FRAMES {
+    let mut count = Count {
+        taken: 0,
+        again: false,
+    };
+    'frames: while count.taken < MOST_FRAMES {
         if !client.is_waiting() {
             return Ok(Awaited::Free);
         }
@@ -105,12 +156,13 @@ pub(crate) fn await_answer<H: Link + Sink, C: Asks>(
             Next::Bad(fault) => return Ok(Awaited::Spoiled(fault)),
             Next::Frame(message) => message,
         };
-        match handle(alloc, host, client, schema, number, message)? {
-            Handled::Whole => {}
+        count = match handle(alloc, host, client, schema, number, message)? {
+            Handled::Whole => one_more(count),
+            Handled::Again => anew(count),
             Handled::Broken => return Ok(Awaited::Failed),
             Handled::Unwritten => return Ok(Awaited::Unwritten),
             Handled::Refused(why) => return Ok(Awaited::Bad(why)),
-        }
+        };
     }
     end_of_many(alloc, host, feed, client, number)
 }
@@ -123,7 +175,7 @@ fn end_of_many<H: Link + Sink, C: Asks>(
     client: &C,
     number: u64,
 ) -> Result<Awaited, NoMemory>
-    ensures awaited { (k : Setting) (s : Start C) (ahead : Ahead) (failed : Bool) → At C C.stands C.lent C.is_of k s ahead number 1000000 failed (H.linking host.old) (IsWritten s (H.writing host.old)) feed.old client.now → IfOk result (λ how. Waits C C.stands C.lent C.is_of k how s ahead number failed (H.linking host.new) (H.writing host.new) feed.new client.now) }
+    ensures awaited { (k : Setting) (s : Start C) (ahead : Ahead) (count : Count) (failed : Bool) → count.taken ≡ 1000000 → At C C.stands C.lent C.is_of k s ahead number count failed (H.linking host.old) (IsWritten s (H.writing host.old)) feed.old client.now → IfOk result (λ how. Waits C C.stands C.lent C.is_of k how s ahead number failed (H.linking host.new) (H.writing host.new) feed.new client.now) }
     ensures stays { OnlyOutput H H.reading H.held H.complaints H.IsSteady host.old host.new }
 {
     if !client.is_waiting() {

@@ -26,8 +26,8 @@ run-requires-clause-asks g c =
 pub run-requires-clause-room : goal.run-requires-clause-room
 run-requires-clause-room g c =
     let same : c.new-end.result ≡ new_client c.args.id c.args.schema c.args.limits = c.new-end.ensures ∙ ap (λ (s : List Table). new_client c.args.id s c.args.limits) c.in_ok-own.ensures in
-    subst (λ (lines : List EventLine). 2000004 * (length lines + 1) ≤ room_of c.new-end.result) (sym c.new-script.ensures)
-    (subst (λ (x : Client). 2000004 * (length c.args.lines + 1) ≤ room_of x) (sym same) (room_for c.args.id c.args.schema c.args.limits c.args.lines c.requires.few))
+    subst (λ (lines : List EventLine). 4000004 * (length lines + 1) ≤ room_of c.new-end.result) (sym c.new-script.ensures)
+    (subst (λ (x : Client). 4000004 * (length c.args.lines + 1) ≤ room_of x) (sym same) (room_for c.args.id c.args.schema c.args.limits c.args.lines c.requires.few))
 
 pub returns-clause-ran : goal.returns-clause-ran
 returns-clause-ran g c =

@@ -9,6 +9,7 @@ use Rattle.sr_dial.specs.Carrying.{Carries, SaysAs}
 use Rattle.sr_dial.specs.Courses.{Hands}
 use Rattle.sr_dial.specs.Known.{IsDeed, Makes, Setting}
 use Rattle.sr_dial.specs.declared.steps.Handed.TheVariants.{Broken, Unwritten}
+use Rattle.sr_dial.specs.Runs.{none_taken}
 use Rattle.sr_dial.proofs.LineLemmas.{resumes-up, resumes-dialled, resumes-alone}
 use Rattle.sr_dial.proofs.Results.{if-ok}
 use Rattle.sr_dial.proofs.steps.begin.Goals as goal
@@ -32,7 +33,7 @@ returns-in-Ok-clause-begun g c k s ahead further line failed at same schema read
     let told = c.in_ok-told.told in
     let some : c.in_ok-told.told.sent ≡ [] → ⊥ = λ none. absurd (let wrong = c.is_empty.ensures.1 none in let no = c.if-is_empty.false in cc) in
     if-ok _ _ c.carry-in-Ok.result (λ handed carries.
-    subst (λ feed. Hands _ g.C.Asks.stands g.C.Asks.lent g.C.Peer.is_of k handed s further c.args.number 0 failed (g.H.Outside.linking c.carry-in-Ok.new.host) (g.H.Outside.writing c.carry-in-Ok.new.host) feed c.act.new.self) (sym c.new.ensures)
+    subst (λ feed. Hands _ g.C.Asks.stands g.C.Asks.lent g.C.Peer.is_of k handed s further c.args.number none_taken failed (g.H.Outside.linking c.carry-in-Ok.new.host) (g.H.Outside.writing c.carry-in-Ok.new.host) feed c.act.new.self) (sym c.new.ensures)
     (resumes-dialled _ g.C.Asks.stands g.C.Asks.lent g.C.Peer.is_of k s ahead further line c.args.number failed _ _ _ _ c.args.feed.now _ _ told.lines told.sent on ready
     (λ past st. subst (λ x. Makes g.C.Asks.stands g.C.Asks.lent g.C.Peer.is_of x old new past Resumed told.lines told.sent) same
     (c.in_ok-told.ensures.made past Resumed st (subst (λ (x : Setting). IsDeed x.schema c.args.event Resumed) (sym same) is))) handed (g.H.Outside.linking c.dial.new.self) some
@@ -51,8 +52,8 @@ returns-in-Err-Refused-clause-begun g c k s ahead further line failed at same sc
     let said = c.in_ok-said-in-Err-Refused.said in
     let some : c.in_ok-told.told.sent ≡ [] → ⊥ = λ none. absurd (let wrong = c.is_empty.ensures.1 none in let no = c.if-is_empty.false in cc) in
     let rose : Rose (g.H.Outside.linking c.args.host.now).faults (g.H.Outside.linking c.dial.new.self).faults = search rules in
-    subst (λ handed. Hands _ g.C.Asks.stands g.C.Asks.lent g.C.Peer.is_of k handed s further c.args.number 0 failed (g.H.Outside.linking c.say.new.sink) (g.H.Outside.writing c.say.new.sink) c.new.result c.act.new.self) (sym c.broken_by.ensures)
-    (subst (λ feed. Hands _ g.C.Asks.stands g.C.Asks.lent g.C.Peer.is_of k (cond said Broken Unwritten) s further c.args.number 0 failed (g.H.Outside.linking c.say.new.sink) (g.H.Outside.writing c.say.new.sink) feed c.act.new.self) (sym c.new.ensures)
+    subst (λ handed. Hands _ g.C.Asks.stands g.C.Asks.lent g.C.Peer.is_of k handed s further c.args.number none_taken failed (g.H.Outside.linking c.say.new.sink) (g.H.Outside.writing c.say.new.sink) c.new.result c.act.new.self) (sym c.broken_by.ensures)
+    (subst (λ feed. Hands _ g.C.Asks.stands g.C.Asks.lent g.C.Peer.is_of k (cond said Broken Unwritten) s further c.args.number none_taken failed (g.H.Outside.linking c.say.new.sink) (g.H.Outside.writing c.say.new.sink) feed c.act.new.self) (sym c.new.ensures)
     (resumes-alone _ g.C.Asks.stands g.C.Asks.lent g.C.Peer.is_of k s ahead further line c.args.number failed _ _ _ _ c.args.feed.now _ _ told.lines told.sent on ready
     (λ past st. subst (λ x. Makes g.C.Asks.stands g.C.Asks.lent g.C.Peer.is_of x old new past Resumed told.lines told.sent) same
     (c.in_ok-told.ensures.made past Resumed st (subst (λ (x : Setting). IsDeed x.schema c.args.event Resumed) (sym same) is))) said some

@@ -15,15 +15,15 @@ pub carry-requires : goal.carry-requires
 carry-requires g c = record { sendable = subst MaySend c.in-Taken.is c.in_ok-why.ensures.sendable }
 
 pub returns-in-Bad-clause-handled : goal.returns-in-Bad-clause-handled
-returns-in-Bad-clause-handled g c k s ahead taken failed after most same schema h some is =
+returns-in-Bad-clause-handled g c k s ahead count failed after most same schema h some is =
     let old = c.args.client.now in
     let past = left_by s.past (h.course.earlier ++ h.course.call ∷ []) in
     let took = subst (λ came. TakesAs came g.C.Asks.stands g.C.Asks.lent g.C.Peer.is_of (g.C.Asks.setting old) old c.take.new.self past c.args.message) c.in-Bad.is (c.in_ok-why.ensures.taken past h.course.steps.stands) in
-    handles-bad _ g.C.Asks.stands g.C.Asks.lent g.C.Peer.is_of k s ahead c.args.number taken failed (g.H.Outside.linking c.args.host.now) (g.H.Outside.linking c.args.host.now) (g.H.Outside.writing c.args.host.now) (g.H.Outside.writing c.args.host.now) after
+    handles-bad _ g.C.Asks.stands g.C.Asks.lent g.C.Peer.is_of k s ahead c.args.number count failed (g.H.Outside.linking c.args.host.now) (g.H.Outside.linking c.args.host.now) (g.H.Outside.writing c.args.host.now) (g.H.Outside.writing c.args.host.now) after
     old old c.args.message h c.in-Bad.why some is (subst (λ (x : Setting). misfit x.schema past.out past.laid past.version c.args.message ≡ Some c.in-Bad.why) same took)
 
 pub returns-in_ok-handed-in-Taken-clause-handled : goal.returns-in_ok-handed-in-Taken-clause-handled
-returns-in_ok-handed-in-Taken-clause-handled g c k s ahead taken failed after most same schema h some is =
+returns-in_ok-handed-in-Taken-clause-handled g c k s ahead count failed after most same schema h some is =
     let old = c.args.client.now in
     let new = c.take.new.self in
     let told = c.in-Taken.told in
@@ -32,8 +32,8 @@ returns-in_ok-handed-in-Taken-clause-handled g c k s ahead taken failed after mo
     let made = subst (λ x. Makes g.C.Asks.stands g.C.Asks.lent g.C.Peer.is_of x old new past (Took c.args.message) told.lines told.sent) same took.0 in
     let fits = subst (λ (x : Setting). misfit x.schema past.out past.laid past.version c.args.message ≡ None) same took.1 in
     let handed = c.in_ok-handed-in-Taken.handed in
-    subst (λ x. Handles _ g.C.Asks.stands g.C.Asks.lent g.C.Peer.is_of k x s ahead c.args.number taken failed c.args.message (g.H.Outside.linking c.carry.new.host) (g.H.Outside.writing c.carry.new.host) after c.take.new.self) (sym c.handled_by.ensures)
-    (handles _ g.C.Asks.stands g.C.Asks.lent g.C.Peer.is_of k s ahead c.args.number taken failed (g.H.Outside.linking c.args.host.now) (g.H.Outside.linking c.carry.new.host) (g.H.Outside.writing c.args.host.now) (g.H.Outside.writing c.carry.new.host) after
-    old c.take.new.self c.args.message h most told.lines told.sent handed some is fits made
+    subst (λ x. Handles _ g.C.Asks.stands g.C.Asks.lent g.C.Peer.is_of k x s ahead c.args.number count failed c.args.message (g.H.Outside.linking c.carry.new.host) (g.H.Outside.writing c.carry.new.host) after c.take.new.self) (sym c.handled_by.ensures)
+    (handles _ g.C.Asks.stands g.C.Asks.lent g.C.Peer.is_of k s ahead c.args.number count failed (g.H.Outside.linking c.args.host.now) (g.H.Outside.linking c.carry.new.host) (g.H.Outside.writing c.args.host.now) (g.H.Outside.writing c.carry.new.host) after
+    old c.take.new.self c.args.message h most told.lines told.sent handed c.is_empty-again.result c.is_empty-again.ensures some is fits made
     (subst (λ x. Carries handed (g.H.Outside.linking c.args.host.now) (g.H.Outside.linking c.carry.new.host) (g.H.Outside.writing c.args.host.now) (g.H.Outside.writing c.carry.new.host) (spelled told.sent)
     (flat_map (line_text x c.args.number) told.lines)) schema c.in_ok-handed-in-Taken.ensures.carried))

@@ -1,11 +1,10 @@
 -- Regions that have the rows of a telling, and what messages make of both.
-use Rattle.std.proofs.Common.{◌≡◌, ℕ, ◌≤◌, true, false, Bool, List, [], ◌∷◌, map, refl, sym, ◌∙◌, ap, subst, arith, Option, Some, None}
+use Rattle.std.proofs.Common.{◌≡◌, ℕ, Bool, List, [], ◌∷◌, map, refl, sym, subst, Some, None}
 use Rattle.std.specs.Prelude.{not, ◌==◌, nat_lt}
 use Rattle.std.specs.List.{All, Contains}
 use Rattle.std.proofs.lemmas.Bool.{eqb-true}
 use Rattle.std.proofs.lemmas.List.Elements.{All-nil, All-weaker, All-contains, All-head, All-tail}
 use Rattle.sr_cell.specs.declared.table.Table.{Table}
-use Rattle.sr_cell.specs.Cells.{Row}
 use Rattle.sr_cell.specs.Columns.{table_at}
 use Rattle.sr_message.specs.declared.message.AskPart.{AskPart}
 use Rattle.sr_message.specs.declared.message.Message.{Message}
@@ -16,12 +15,12 @@ use Rattle.sr_region.specs.Regions.{IsPart}
 use Rattle.sr_store.specs.Brought.{nothing_told, tells_all, IsToldOf}
 use Rattle.sr_store.specs.Noticed.{told_to, IsTellOf}
 use Rattle.sr_store.specs.Stores.{IsOfSchema}
-use Rattle.sr_store.specs.Told.{Told, IsTold, IsTrueOf, AreTrueOf}
+use Rattle.sr_store.specs.Told.{Told, IsTold, IsTrueOf}
 use Rattle.sr_store.proofs.Bringing.{notices-are-told}
 use Rattle.sr_store.proofs.Telling.{each-told}
-use Rattle.sr_wire.specs.declared.bad_frame.BadFrame.TheVariants.{State, Number, Version}
+use Rattle.sr_wire.specs.declared.bad_frame.BadFrame.TheVariants.{Number, Version}
 use Rattle.sr_session.specs.Brought.{told_by_all, told_where, told_basis}
-use Rattle.sr_session.specs.Misfits.{misfit, or_else, is_number, known}
+use Rattle.sr_session.specs.Misfits.{misfit, or_else, known}
 use Rattle.sr_session.specs.Regions.{after_messages}
 use Rattle.sr_session.specs.Rules.{Basis}
 use Rattle.sr_session.specs.Walks.{Request, AskOut, WriteOut, ResumeOut, IsLaid}

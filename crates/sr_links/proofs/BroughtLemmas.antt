@@ -1,12 +1,8 @@
 -- The steps of a client over any link go by what the frames brought.
-use Rattle.std.proofs.Common.{List, [], ◌∷◌}
-use Rattle.sr_cell.specs.declared.table.Table.{Table}
-use Rattle.sr_policy.specs.declared.policy.Limits.{Limits}
+use Rattle.std.proofs.Common.{[], ◌∷◌}
 use Rattle.sr_store.specs.Told.{Told}
 use Rattle.sr_session.specs.Brought.{told_basis}
-use Rattle.sr_session.specs.Clients.{Client}
-use Rattle.sr_links.specs.Brought.{Holding, told_next, GoesByTold, AreLawful, GoByTold, StepsGoByTold}
-use Rattle.sr_links.specs.Steps.{Step, AreRuled}
+use Rattle.sr_links.specs.Brought.{Holding, told_next, StepsGoByTold}
 
 pub steps-go-by-told : {C : Type 0} (Has : Holding C) → StepsGoByTold Has
 steps-go-by-told {C} Has limits schema code c [] told has lawful = (tt, tt)

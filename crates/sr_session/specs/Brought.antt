@@ -10,7 +10,7 @@ use Rattle.sr_store.specs.Told.{Told}
 use Rattle.sr_session.specs.Arrivals.{arrivals_of}
 use Rattle.sr_session.specs.Clients.{Client}
 use Rattle.sr_session.specs.Rules.{Basis, is_given_up}
-use Rattle.sr_session.specs.Walks.{Request, AskOut, WriteOut, ResumeOut}
+use Rattle.sr_session.specs.Walks.{Request, AskOut}
 
 -- a notice brings the rows that it tells, and behind a Lapse there are none
 abbrev pub told_by : List Table → Message → Told → Told

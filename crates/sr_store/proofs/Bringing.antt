@@ -1,7 +1,7 @@
 -- Regions and what arrives have the rows of the telling that the arrivals make.
-use Rattle.std.proofs.Common.{◌≡◌, ℕ, ◌+◌, ◌≤◌, Bool, true, false, cond, not, List, [], ◌∷◌, map, refl, sym, ap, subst, ◌∙◌, arith, eqb-true}
-use Rattle.std.specs.Prelude.{◌&&◌, ◌||◌, ◌==◌, nat_eq, filter, if◌then◌else◌}
-use Rattle.std.specs.List.{list_all, list_any, All}
+use Rattle.std.proofs.Common.{◌≡◌, ℕ, ◌+◌, ◌≤◌, Bool, true, false, cond, not, List, [], ◌∷◌, refl, sym, ap, subst, ◌∙◌, arith, eqb-true}
+use Rattle.std.specs.Prelude.{◌&&◌, ◌||◌, ◌==◌, filter, if◌then◌else◌}
+use Rattle.std.specs.List.{list_all, All}
 use Rattle.std.proofs.lemmas.Bool.Decides.{nat_tests}
 use Rattle.std.proofs.lemmas.List.Elements.{All-nil, All-cons, All-head, All-tail, All-weaker, All-filter}
 use Rattle.sr_cell.specs.declared.cell.Cell.{Cell}
@@ -12,7 +12,7 @@ use Rattle.sr_cell.specs.Columns.{table_at, is_point}
 use Rattle.sr_cell.proofs.Lists.{filter-filter}
 use Rattle.sr_cell.proofs.Order.{cell_eq-sound}
 use Rattle.sr_model.specs.SortedRows.{ascend, has_key, with_rows}
-use Rattle.sr_box.specs.Points.{Rect, in_any, times, rect_fits, constrains_only}
+use Rattle.sr_box.specs.Points.{in_any, times, rect_fits, constrains_only}
 use Rattle.sr_union.proofs.Times.{in_any-times}
 use Rattle.sr_query.specs.declared.query.Part.{Part}
 use Rattle.sr_rows.specs.Places.{is_apart}
@@ -22,7 +22,7 @@ use Rattle.sr_region.specs.Regions.{rank, is_in, IsPart, IsRowIn}
 use Rattle.sr_region.proofs.Ordered.{All-with_rows, with_rows-ascend}
 use Rattle.sr_store.specs.declared.store.Arrival.{Arrival}
 use Rattle.sr_store.specs.Answered.{arrivals_at, brings, gives_way, giving_way, IsArrival, AreApart, HaveArrived}
-use Rattle.sr_store.specs.Brought.{stays_beside, arrives_in, arrive_in, IsToldOf, AreOfOwnTables, NoticesAreTold, ArrivalsAreTold}
+use Rattle.sr_store.specs.Brought.{stays_beside, arrives_in, arrive_in, AreOfOwnTables, NoticesAreTold, ArrivalsAreTold}
 use Rattle.sr_store.specs.Classes.{is_of, occurs}
 use Rattle.sr_store.specs.Told.{Told, IsTold, IsTrueOf, AreTrueOf}
 use Rattle.sr_store.specs.Stores.{IsOfSchema}

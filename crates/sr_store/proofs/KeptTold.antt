@@ -1,16 +1,16 @@
 -- The rows of a telling that the marks keep are those of the regions.
 use Rattle.std.proofs.Common.{◌≡◌, ℕ, ◌+◌, ◌<◌, ◌≤◌, zero, suc, true, false, cond, List, [], ◌∷◌, length, map, refl, sym, ap, subst, ◌∙◌, arith, eqb-true}
-use Rattle.std.specs.Prelude.{Bool, not, ◌&&◌, ◌==◌, nat_eq, nat_lt, if◌then◌else◌, filter, sum_by, count_by}
+use Rattle.std.specs.Prelude.{Bool, not, ◌&&◌, ◌==◌, nat_eq, if◌then◌else◌, filter, count_by}
 use Rattle.std.specs.List.{list_all, list_any, All}
 use Rattle.std.proofs.lemmas.Bool.Decides.{nat_tests}
-use Rattle.std.proofs.lemmas.List.Elements.{All-nil, All-cons, All-head, All-tail}
+use Rattle.std.proofs.lemmas.List.Elements.{All-head, All-tail}
 use Rattle.sr_cell.specs.declared.table.Column.{Column}
 use Rattle.sr_cell.specs.declared.table.Table.{Table}
-use Rattle.sr_cell.specs.Attrs.{has_column, project_from, project}
+use Rattle.sr_cell.specs.Attrs.{has_column, project_from}
 use Rattle.sr_cell.specs.Cells.{Row}
 use Rattle.sr_cell.specs.Columns.{table_at, is_point, in_column}
 use Rattle.sr_box.specs.Corners.{first_value}
-use Rattle.sr_box.specs.Points.{Rect, times, in_any, rect_fits, constrains_only}
+use Rattle.sr_box.specs.Points.{Rect, times, rect_fits, constrains_only}
 use Rattle.sr_union.specs.Grid.{have_first}
 use Rattle.sr_union.proofs.Times.{in_any-times}
 use Rattle.sr_history.specs.declared.mark.Mark.{Mark}

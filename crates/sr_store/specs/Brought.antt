@@ -1,5 +1,5 @@
 -- What a client was told, step by step: the rows of each table and set of columns, as notices and arrivals bring them.
-use Rattle.std.specs.Prelude.{ℕ, zero, suc, Bool, true, false, not, ◌&&◌, ◌==◌, ◌+◌, List, [], ◌∷◌, ◌≡◌, Option, Some, None, filter, map, length, sum_by, count_by, IsTrue, if◌then◌else◌}
+use Rattle.std.specs.Prelude.{ℕ, zero, suc, Bool, false, not, ◌&&◌, ◌==◌, ◌+◌, List, [], ◌∷◌, ◌≡◌, Option, Some, None, filter, map, length, sum_by, count_by, IsTrue, if◌then◌else◌}
 use Rattle.std.specs.List.{list_all, All}
 use Rattle.sr_cell.specs.declared.table.Column.{Column}
 use Rattle.sr_cell.specs.declared.table.Table.{Table}

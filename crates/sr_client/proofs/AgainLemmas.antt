@@ -1,5 +1,5 @@
 -- What a reply does behind a Lapse: the second ask.
-use Rattle.std.proofs.Common.{◌≡◌, ℕ, ◌+◌, Bool, true, false, List, [], map, refl, sym, subst, arith, Some, None}
+use Rattle.std.proofs.Common.{◌≡◌, ℕ, ◌+◌, Bool, true, false, List, [], map, refl, sym, subst, arith, Some, None, ap}
 use Rattle.std.proofs.lemmas.List.Elements.{All-nil}
 use Rattle.sr_cell.specs.declared.cause.Cause.TheVariants.{Lapsed}
 use Rattle.sr_message.specs.declared.message.AskPart.{AskPart}
@@ -12,6 +12,7 @@ use Rattle.sr_history.specs.Rests.{Asks}
 use Rattle.sr_region.specs.declared.region.Region.{Region}
 use Rattle.sr_store.specs.declared.store.Store.{Store}
 use Rattle.sr_store.specs.Classes.{Keeps}
+use Rattle.sr_store.specs.Brought.{nothing_told}
 use Rattle.sr_store.specs.Told.{told_of, IsTrueOf}
 use Rattle.sr_store.specs.Stores.{drop_of}
 use Rattle.sr_store.proofs.Absorbing.{drops_all}
@@ -27,6 +28,7 @@ use Rattle.sr_session.specs.Walks.{AskOut}
 use Rattle.sr_session.proofs.DropLemmas.{asks-some}
 use Rattle.sr_session.proofs.TakeLemmas.{replies-are-answerable}
 use Rattle.sr_session.specs.Bases.{basis_of}
+use Rattle.sr_session.specs.Brought.{told_after, told_basis, told_by_reply}
 use Rattle.sr_client.specs.Asking.{whole_asks}
 use Rattle.sr_client.specs.Cutting.{EndWith}
 use Rattle.sr_client.specs.declared.client.AskOut as code
@@ -35,10 +37,13 @@ use Rattle.sr_client.specs.declared.client.Request.TheVariants as request
 use Rattle.sr_client.specs.declared.steps.Took.TheVariants as took
 use Rattle.sr_client.specs.Laying.{asking}
 use Rattle.sr_client.specs.Sends.{IsWellSent}
-use Rattle.sr_client.specs.Stands.{Hidden, Facts, Stands, StandsOver, Truly, past_of}
+use Rattle.sr_client.specs.Stands.{Hidden, Facts, Stands, StandsOver, Truly, IsFit, past_of}
 use Rattle.sr_client.specs.Steps.{Takes}
 use Rattle.sr_client.proofs.AskLemmas.{asks-whole, whole-along}
+use Rattle.sr_client.specs.ByTold.{GoesByTold}
 use Rattle.sr_client.proofs.AskedLemmas.{is-out}
+use Rattle.sr_client.proofs.ByToldLemmas.{by-told, nothing-is-told, reply-own, told-none}
+use Rattle.sr_client.proofs.SuitLemmas.{reply-later}
 use Rattle.sr_client.proofs.MeantLemmas.{are-sound}
 use Rattle.sr_client.proofs.MoveLemmas.{takes-by}
 use Rattle.sr_client.proofs.OverLemmas.{on, IsHere, stands-over}
@@ -55,7 +60,7 @@ second c o = record { number = c.next_request; query_number = o.query_number; qu
 abbrev pub once_more : Client → code.AskOut → ℕ → Client
 once_more c o version = record c { version = version; next_request = c.next_request + 1; out = Some (request.Ask (second c o)); laid = []; store = record c.store { regions = [] } }
 
-module _ (c : Client) (o : code.AskOut) (number version : ℕ) (again : is_given_up o.fresh c.laid ≡ true) where
+module _ (c : Client) (o : code.AskOut) (number version : ℕ) (fit : IsFit (asking c o) (Reply number version)) (again : is_given_up o.fresh c.laid ≡ true) where
   abbrev drops : List Mark
   drops = map (drop_of Lapsed) c.store.regions
 
@@ -148,6 +153,22 @@ module _ (c : Client) (o : code.AskOut) (number version : ℕ) (again : is_given
           }),
         )
 
+    again-told : GoesByTold (asking c o) (once_more c o version) (told_after c.schema (past_of (asking c o) h) (Reply number version))
+        (λ b. rules.TakeStep b (past_of (asking c o) h) (Reply number version) (AskSent drops c.next_request true whole) (asks_again (past_of (asking c o) h) version drops o.query_number h.meaning whole))
+    again-told = by-told (asking c o) (once_more c o version) (told_after c.schema (past_of (asking c o) h) (Reply number version)) (λ told. nothing_told)
+        (λ b. rules.TakeStep b (past_of (asking c o) h) (Reply number version) (AskSent drops c.next_request true whole) (asks_again (past_of (asking c o) h) version drops o.query_number h.meaning whole))
+        (λ told. ap (λ b. told_by_reply b c.schema o.parts c.laid told) again)
+        (λ told is. (
+          told-none c.schema nothing_told (nothing-is-told c.schema),
+          subst (λ k. rules.TakeStep (told_basis c.schema c.store.limits nothing_told) (past_of (asking c o) h) (Reply k version) (AskSent drops c.next_request true whole)
+              (asks_again (past_of (asking c o) h) version drops o.query_number h.meaning whole))
+              (sym (reply-own c.schema o.number o.query_number h.meaning o.fresh o.parts c.laid c.version number version (fit h.meaning)))
+              (asks_once_more o.number o.query_number h.meaning o.fresh o.parts version drops whole refl again
+              (reply-later c.schema (Some (AskOut o.number o.query_number h.meaning o.fresh o.parts)) c.laid c.version number version (fit h.meaning))
+              (drops_all c.schema h.marks h.queries Lapsed c.store.regions (have-first c.schema f.tables) f.store.each f.store.order f.keeps) asks
+              (whole-rects c.schema o.query h.meaning f.meant.0)),
+        ))
+
   pub takes-again : Stands (asking c o) → Takes (asking c o) (Reply number version) (once_more c o version) (took.Asked c.next_request (Ask c.next_request true whole) drops)
   takes-again stands = takes-by (asking c o) (once_more c o version) (Reply number version) (took.Asked c.next_request (Ask c.next_request true whole) drops) (λ h f. record {
     outcome = AskSent drops c.next_request true whole;
@@ -157,13 +178,13 @@ module _ (c : Client) (o : code.AskOut) (number version : ℕ) (again : is_given
     draws = omega arith;
     stands = (later h f, again-facts h f, refl);
     over = again-goes h f;
-  }) stands
+  }) again-told stands
 
 -- the same, of what calls gave
-pub again-of : (c : Client) (o : code.AskOut) (number version : ℕ) → is_given_up o.fresh c.laid ≡ true
+pub again-of : (c : Client) (o : code.AskOut) (number version : ℕ) → IsFit (asking c o) (Reply number version) → is_given_up o.fresh c.laid ≡ true
     → (drops : List Mark) (store : Store) (laid : List Message) (next : code.AskOut) (message : Message) (after : Client)
     → drops ≡ map (drop_of Lapsed) c.store.regions → store ≡ record c.store { regions = [] } → laid ≡ [] → next ≡ second c o → message ≡ Ask next.number next.fresh next.parts
     → after ≡ record c { next_request = next.number + 1; out = Some (request.Ask next); store = store } → Stands (asking c o)
     → Takes (asking c o) (Reply number version) (record after { version = version; laid = laid }) (took.Asked c.next_request message drops)
-again-of c o number version again drops store laid next message after drops_are store_is laid_is next_is told after_is stands =
-    rw (told, after_is, laid_is, store_is, drops_are, next_is) (takes-again c o number version again stands)
+again-of c o number version fit again drops store laid next message after drops_are store_is laid_is next_is told after_is stands =
+    rw (told, after_is, laid_is, store_is, drops_are, next_is) (takes-again c o number version fit again stands)

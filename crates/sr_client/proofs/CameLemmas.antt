@@ -33,6 +33,7 @@ use Rattle.sr_store.specs.Classes.{Stamps, occurs, touches, Keeps as KeepsPoints
 use Rattle.sr_store.specs.Told.{told_of}
 use Rattle.sr_store.specs.Stores.{cover_of, IsStore}
 use Rattle.sr_store.specs.Answered.{IsArrival, AreApart, BringOwnKeys, HaveArrived, arrivals_at, keys_at}
+use Rattle.sr_store.specs.Brought.{AreOfOwnTables}
 use Rattle.sr_session.specs.Arrivals.{arrived_at}
 use Rattle.sr_session.specs.Sessions.{asked_rows}
 use Rattle.sr_store.proofs.Noticing.{told-in}
@@ -365,6 +366,15 @@ module _ (schema : List Table) (marks : List Mark) (ms : List Message) where
       go false same later =
           subst (λ b. (if (b && ask.attrs == u) && has_key (rank ask.attrs (table_at schema ask.table).key) k (arrived_at i ms) then 1 else 0) + keys_at (arrivals_from (i + 1) schema more ms) t u k ≤ 1) (sym same)
           (less (keys_at (arrivals_from (i + 1) schema more ms) t u k) later)
+
+  -- each arrives of another table
+  pub all-apiece : (i : ℕ) (meant : List model.Part) (asks : List AskPart) → Asks schema marks meant asks → are_different (map (λ (m : model.Part). m.table) meant) ≡ true → AreOfOwnTables (arrivals_from i schema asks ms)
+  all-apiece i meant asks nothing differ = tt
+  all-apiece i meant asks (covered m others more free rest) differ = all-apiece i others more rest (rest-differs m others differ)
+  all-apiece i meant asks (asked m others ask more is rest) differ = (
+    subst (λ t. All (IsOther t) (arrivals_from (i + 1) schema more ms)) (sym is.table) (others-differ (i + 1) m.table others more rest (first-differs m others differ)),
+    all-apiece (i + 1) others more rest (rest-differs m others differ),
+  )
 
   -- ---- over tables
 

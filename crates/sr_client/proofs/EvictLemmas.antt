@@ -21,6 +21,7 @@ use Rattle.sr_session.specs.Rules.{Evicted, NoSuchClass, number_of, evict_busy, 
 use Rattle.sr_session.specs.Rules as rules
 use Rattle.sr_session.specs.Tidy.{IsTidyWith}
 use Rattle.sr_session.specs.Bases.{basis_of}
+use Rattle.sr_session.specs.Brought.{told_basis}
 use Rattle.sr_client.specs.Cutting.{EndWith}
 use Rattle.sr_client.specs.declared.client.Client.{Client}
 use Rattle.sr_client.specs.declared.client.Request as code
@@ -48,7 +49,11 @@ busy_evicts c place number request stands out number_is = evicts-by c c place (B
         (evict_busy (request_of h.meaning request) (ap (out_of h.meaning) out)),
     stands-over c h db f here,
   );
-}) stands
+}) (λ h f told is. (
+  is,
+  subst (λ k. rules.EvictStep (told_basis c.schema c.store.limits told) place (past_of c h) (rules.Busy k) (past_of c h)) (sym (number_is h.meaning))
+      (evict_busy (request_of h.meaning request) (ap (out_of h.meaning) out)),
+)) stands
 
 pub none_evicts : (c : Client) (place count : ℕ) → Stands c → c.out ≡ None → count ≡ length c.store.regions → length c.store.regions ≤ place → Evicts c place c (NoSuch count)
 none_evicts c place count stands out is few = evicts-by c c place (NoSuch count) (λ h f. record {
@@ -67,7 +72,14 @@ none_evicts c place count stands out is few = evicts-by c c place (NoSuch count)
             (evicts_none classes (ap (out_of h.meaning) out) are (omega (arith, len, few))),
         stands-over c h db f here,
       );
-}) stands
+}) (λ h f told own.
+    let gs = c.store.regions in
+    let len : length (map class_of c.store.regions) ≡ length c.store.regions = length-map c.store.regions class_of in
+    let are = are_classes c.schema h.marks h.queries gs (have-first c.schema f.tables) f.store.each f.store.order f.keeps in (
+      own,
+      subst (λ k. rules.EvictStep (told_basis c.schema c.store.limits told) place (past_of c h) (rules.NoSuchClass k) (past_of c h)) (len ∙ sym is)
+          (evicts_none (map class_of gs) (ap (out_of h.meaning) out) are (omega (arith, len, few))),
+    )) stands
 
 -- ---- a region is dropped
 
@@ -120,4 +132,10 @@ one_evicts c place g stands out there = evicts-by c (with_regions c (without pla
           are_true = evicted_all (IsTrueOf (told_of (tables_of db c.version))) place gs here.are_true;
         }),
       );
-}) stands
+}) (λ h f told is.
+    let gs = c.store.regions in
+    let are = are_classes c.schema h.marks h.queries gs (have-first c.schema f.tables) f.store.each f.store.order f.keeps in
+    let own = have_classes c.schema h.marks h.queries gs f.store.order f.keeps in (
+      (is.0, evicted_all (IsTrueOf told) place gs is.1),
+      evicts (map class_of gs) (class_of g) (drop_of Asked g) (ap (out_of h.meaning) out) are (at-place gs place g there) (drop_at c.schema h.marks h.queries Asked gs place g there f.store.each own),
+    )) stands

@@ -13,6 +13,7 @@ use Rattle.sr_region.specs.declared.region.Region.{Region}
 use Rattle.sr_store.specs.declared.store.Arrival.{Arrival}
 use Rattle.sr_store.specs.Classes.{restamped}
 use Rattle.sr_store.specs.Answered.{IsArrival, AreApart, BringOwnKeys, held_of}
+use Rattle.sr_store.specs.Brought.{AreOfOwnTables}
 use Rattle.sr_store.proofs.Stamping.{stamp_answered}
 use Rattle.sr_store.proofs.Stepping.{AreStampsAfter}
 use Rattle.sr_session.specs.Regions.{after_messages}
@@ -25,7 +26,7 @@ use Rattle.sr_client.specs.declared.client.Client.{Client}
 use Rattle.sr_client.specs.Stands.{Hidden, Facts, past_of}
 use Rattle.sr_client.specs.Values.{has_values}
 use Rattle.sr_client.proofs.AskedLemmas.{after-all, is-out, laid-store, laid-keeps}
-use Rattle.sr_client.proofs.CameLemmas.{CameRight, all-arrive, all-apart, all-own}
+use Rattle.sr_client.proofs.CameLemmas.{CameRight, all-arrive, all-apart, all-apiece, all-own}
 use Rattle.sr_client.proofs.CountLemmas.{counted-answered}
 use Rattle.sr_client.proofs.HeavyLemmas.{WereAsked}
 use Rattle.sr_client.proofs.KeptLemmas.{IsAnswering}
@@ -91,6 +92,10 @@ module _ (c : Client) (o : code.AskOut) (h : Hidden) (f : Facts (asking c o) h) 
               (are-sound c.schema o.query h.meaning f.meant.0) differ (laid-keeps c o h f values whole) (laid-store c o h f values);
           own = all-own c.schema h.marks c.laid 0 h.meaning.parts o.parts (is-out c o h f).1.asks differ;
         }
+
+    -- each arrives of another table
+    pub apiece : AreOfOwnTables (arrivals_of c.schema o.parts c.laid)
+    apiece = all-apiece c.schema h.marks c.laid 0 h.meaning.parts o.parts (is-out c o h f).1.asks (tables-differ c.schema o.query h.meaning f.meant.0)
 
     -- the counted queries are the same
     same : counted h.counted_from (with_answered o.query_number h.meaning h.queries) ≡ counted h.counted_from h.queries

@@ -26,7 +26,8 @@ use Rattle.sr_region.specs.Applied.{AreTables}
 use Rattle.sr_store.specs.declared.store.Arrival.{Arrival}
 use Rattle.sr_store.specs.declared.store.Store.{Store}
 use Rattle.sr_store.specs.Classes.{IsStamped, Keeps}
-use Rattle.sr_store.specs.Told.{told_of, AreTrueOf}
+use Rattle.sr_store.specs.Brought.{IsToldOf}
+use Rattle.sr_store.specs.Told.{Told, told_of, AreTrueOf}
 use Rattle.sr_store.specs.Stores.{IsStore, drop_of}
 use Rattle.sr_store.specs.Answered.{IsArrival, AreApart, giving_way, HaveArrived, IsGivenUp, held_of, rects_on}
 use Rattle.sr_store.specs.Answered as store
@@ -37,15 +38,16 @@ use Rattle.sr_store.proofs.Fewer.{fitted_fit_still}
 use Rattle.sr_store.proofs.Given.{FitsPart, given_fit}
 use Rattle.sr_store.proofs.GivingWay.{nothing-gives}
 use Rattle.sr_store.proofs.Lasts.{lasts_are_last}
-use Rattle.sr_store.proofs.Meeting.{fitted_meets_budgets}
+use Rattle.sr_store.proofs.Meeting.{fitted_meets_budgets, fitted_meets_told_budgets}
 use Rattle.sr_store.proofs.Stepping.{AreStampsAfter, dropped_marks}
 use Rattle.sr_session.specs.Sessions.{Database, tables_of}
 use Rattle.sr_session.specs.Clients as session
 use Rattle.sr_session.specs.Clients.{answered}
 use Rattle.sr_session.specs.Rules.{Answering, AnswerStep, Holds, counted, renewed, given_up}
 use Rattle.sr_session.specs.Bases.{basis_of}
+use Rattle.sr_session.specs.Brought.{told_basis}
 use Rattle.sr_client.specs.Cutting.{EndWith, RegionsEnd, PartsEnd}
-use Rattle.sr_client.proofs.Calls.{IsAfter}
+use Rattle.sr_client.proofs.Calls.{IsAfter, none-arrived}
 use Rattle.sr_client.proofs.EndLemmas.{rects_on-end}
 use Rattle.sr_client.proofs.FitLemmas.{fitted-keeps}
 use Rattle.sr_client.proofs.HeavyLemmas.{WereAsked, heavy-load, light}
@@ -179,6 +181,42 @@ module _ (schema : List Table) (number : ℕ) (parts : List Part) (arrivals : Li
 
   abbrev answering : ℕ → Answering
   answering version = record { number = number; query = q; version = version; asked = asked; queries = queries }
+
+  -- by the rows that the frames brought, whatever they were
+  module _ (told : Told) (version : ℕ) (is : IsToldOf schema told (giving_way arrivals old.regions)) (arrived : HaveArrived told arrivals) where
+    pub kept-told : IsToldOf schema told new.regions
+    kept-told = (is.0, a.true_still told is.0 is.1 arrived)
+
+    told-renewed : IsAnswered schema old.limits number parts arrivals old.regions new.regions marks
+        → AnswerStep (told_basis schema old.limits told) (answering version) c marks (answered c queries c.counted_from version marks)
+    told-renewed r =
+        let ren = renewal schema number parts arrivals old.regions r.mid r.front c.marks c.queries queries first r.renewed h.keeps h.stamps in
+        let held : List Mark = map held_of arrivals in
+        let before : List Mark = with_marks (with_marks c.marks held) ren.absorbed in
+        let last = subst (λ ps. AreLast schema ps (lasts_of schema parts)) (sym h.last) (lasts_are_last schema parts q.parts h.tables h.meant) in
+        let met = fitted_meets_told_budgets schema told old.limits before queries (lasts_of schema parts) r.mid new.regions r.drops h.tables is.0 r.store ren.keeps (r.true_still told is.0 is.1 arrived) last r.fitted in
+        let all : marks ≡ held ++ (ren.absorbed ++ r.drops) = r.all ∙ (ap (λ ms. ms ++ r.drops) ren.all ∙ append_assoc held ren.absorbed r.drops) in
+        renewed marks (record { held = held; absorbed = ren.absorbed; drops = r.drops; holds = h.holds; absorbs = ren.absorbs; budgets = met; all = all })
+
+    told-nothing : IsGivenUp schema parts arrivals old.regions new.regions marks
+        → AnswerStep (told_basis schema old.limits told) (answering version) c marks (answered c queries (number + 1) version marks)
+    told-nothing g =
+        let all : DropsAll schema c.marks c.queries Pieces marks = subst (DropsAll schema c.marks c.queries Pieces) (sym g.marks_are) (drops_all schema c.marks c.queries Pieces old.regions first h.store.each h.store.order h.keeps) in
+        given_up marks (record { heavy = is-heavy g.heavy; drops = all; some = is-some g.heavy g.marks_are })
+
+    told-by : (x : IsAnswered schema old.limits number parts arrivals old.regions new.regions marks ⊎ IsGivenUp schema parts arrivals old.regions new.regions marks)
+        → AnswerStep (told_basis schema old.limits told) (answering version) c marks (answered c queries (from_of number c.counted_from x) version marks)
+    told-by (inl r) = told-renewed r
+    told-by (inr g) = told-nothing g
+
+    pub told-step : AnswerStep (told_basis schema old.limits told) (answering version) c marks (answered c queries (from_of number c.counted_from a.answered) version marks)
+    told-step = told-by a.answered
+
+  -- where nothing arrives nothing gives way
+  pub still-told : arrivals ≡ [] → (told : Told) → IsToldOf schema told old.regions → IsToldOf schema told (giving_way arrivals old.regions) × HaveArrived told arrivals
+  still-told none told (is, own) =
+      let arrived : HaveArrived told arrivals = subst (HaveArrived told) (sym none) (none-arrived told) in
+      ((is, subst (AreTrueOf told) (sym (nothing-gives schema parts old.regions arrivals told h.store.each h.arrive h.apart is own arrived)) own), arrived)
 
   -- over a database of this schema, at one of its versions
   module _ (db : Database) (version : ℕ) (t : AreTrue schema (tables_of db version) arrivals old.regions) where

@@ -21,6 +21,8 @@ use Rattle.sr_session.specs.Walks.{Request, AskOut, WriteOut, ResumeOut, IsAskOf
 use Rattle.sr_session.proofs.NeverLemmas.{never-refused}
 use Rattle.sr_session.proofs.TidyLemmas.{rules-keep-tidy}
 use Rattle.sr_session.specs.Bases.{basis_of}
+use Rattle.sr_session.specs.Brought.{told_after, told_basis, told_where}
+use Rattle.sr_client.proofs.ByToldLemmas.{by-told, where-laid}
 use Rattle.sr_client.specs.declared.client.Client.{Client}
 use Rattle.sr_client.specs.declared.client.Request as code
 use Rattle.sr_client.specs.declared.client.Request.TheVariants as request
@@ -101,7 +103,9 @@ module _ (c : Client) (m : Message) (r : code.Request) (out : c.out ≡ Some r) 
       step h f (basis_of (on c db) c.store.limits),
       stands-over (laid c m) h db (laid-facts h f) (record { sound = here.sound; within = here.within; are_true = here.are_true }),
     );
-  }) stands
+  }) (λ h f. by-told c (laid c m) (told_after c.schema (past_of c h) m) (λ told. told) (λ b. rules.TakeStep b (past_of c h) m Laid (past_of (laid c m) h))
+      (λ told. ap (λ o. told_where c.schema o c.laid m told) (ap (out_of h.meaning) out) ∙ where-laid c.schema (request_of h.meaning r) c.laid m told is)
+      (λ told own. (own, step h f (told_basis c.schema c.store.limits told)))) stands
 
 -- what is not refused, and ends no request, may be laid by
 only-laid : (schema : List Table) (out : Option Request) (pre : List Message) (version : ℕ) (m : Message) → misfit schema out pre version m ≡ None → ((k w : ℕ) → m ≡ Reply k w → ⊥) → ((k w : ℕ) → m ≡ Written k w → ⊥)
@@ -142,6 +146,7 @@ takes-bad c m why cuts bad stands = record {
       never-refused (on c db) (past_of c h) t.connection t.session m t.rest here.sound f.tables (out-keys c h f) t.is_open t.first in
       absurd (let wrong : Some why ≡ None = sym (bad h.meaning) ∙ never in cc));
   moves = λ past s good. absurd (let wrong : true ≡ false = good in cc);
+  ruled = λ past s good. absurd (let wrong : true ≡ false = good in cc);
   stands = given-stands c c cuts stands refl;
 }
 

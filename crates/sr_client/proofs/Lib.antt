@@ -2,6 +2,8 @@ mod AgainLemmas
 mod ArriveLemmas
 mod AskLemmas
 mod AskedLemmas
+mod BudgetLemmas
+mod ByToldLemmas
 mod Calls
 mod CameLemmas
 mod CountLemmas

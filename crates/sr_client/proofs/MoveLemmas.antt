@@ -7,6 +7,8 @@ use Rattle.sr_session.specs.Clients as session
 use Rattle.sr_session.specs.Rules.{Outcome}
 use Rattle.sr_session.specs.Rules as rules
 use Rattle.sr_session.specs.Bases.{basis_of}
+use Rattle.sr_session.specs.Brought.{told_after}
+use Rattle.sr_client.specs.ByTold.{GoesByTold}
 use Rattle.sr_client.specs.declared.client.Client.{Client}
 use Rattle.sr_client.specs.declared.steps.CutStep.{CutStep}
 use Rattle.sr_client.specs.declared.steps.EvictStep.{EvictStep}
@@ -82,25 +84,28 @@ module _ (old new : Client) (says : session.Client → Outcome → Type 0) (If :
 
 module _ (old new : Client) where
   pub queries-by : (meaning : model.Query) (step : QueryStep)
-      → ((h : Hidden) → Facts old h → MovesHere old new (past_of old h) (SaysQuery (past_of old h) step) (λ db. Unit {0}) (λ db. rules.QueryStep (basis_of db old.store.limits) (past_of old h) (Ok meaning)))
+      → (each : (h : Hidden) → Facts old h → MovesHere old new (past_of old h) (SaysQuery (past_of old h) step) (λ db. Unit {0}) (λ db. rules.QueryStep (basis_of db old.store.limits) (past_of old h) (Ok meaning)))
+      → ((h : Hidden) (f : Facts old h) → GoesByTold old new (λ told. told) (λ b. rules.QueryStep b (past_of old h) (Ok meaning) (each h f).outcome (each h f).next))
       → Stands old → Queries old meaning new step
-  queries-by meaning step each stands =
-      let b = both old new (λ past. SaysQuery past step) (λ past db. Unit {0}) (λ past db. rules.QueryStep (basis_of db old.store.limits) past (Ok meaning)) (λ past o next. Unit {0}) each (λ h f. tt) stands in
-      record { by_rules = λ db past s. b.by_rules db past s tt; moves = b.moves; stands = b.stands }
+  queries-by meaning step each law stands =
+      let b = both old new (λ past. SaysQuery past step) (λ past db. Unit {0}) (λ past db. rules.QueryStep (basis_of db old.store.limits) past (Ok meaning)) (λ past o next. GoesByTold old new (λ told. told) (λ b. rules.QueryStep b past (Ok meaning) o next)) each law stands in
+      record { by_rules = λ db past s. b.by_rules db past s tt; moves = b.moves; ruled = b.ruled; stands = b.stands }
 
   pub takes-by : (m : Message) (took : Took)
-      → ((h : Hidden) → Facts old h → MovesHere old new (past_of old h) (SaysTook took) (λ db. Truly db (past_of old h) m) (λ db. rules.TakeStep (basis_of db old.store.limits) (past_of old h) m))
+      → (each : (h : Hidden) → Facts old h → MovesHere old new (past_of old h) (SaysTook took) (λ db. Truly db (past_of old h) m) (λ db. rules.TakeStep (basis_of db old.store.limits) (past_of old h) m))
+      → ((h : Hidden) (f : Facts old h) → GoesByTold old new (told_after old.schema (past_of old h) m) (λ b. rules.TakeStep b (past_of old h) m (each h f).outcome (each h f).next))
       → Stands old → Takes old m new took
-  takes-by m took each stands =
-      let b = both old new (λ past. SaysTook took) (λ past db. Truly db past m) (λ past db. rules.TakeStep (basis_of db old.store.limits) past m) (λ past o next. Unit {0}) each (λ h f. tt) stands in
-      record { by_rules = b.by_rules; moves = λ past s good. b.moves past s; stands = b.stands }
+  takes-by m took each law stands =
+      let b = both old new (λ past. SaysTook took) (λ past db. Truly db past m) (λ past db. rules.TakeStep (basis_of db old.store.limits) past m) (λ past o next. GoesByTold old new (told_after old.schema past m) (λ b. rules.TakeStep b past m o next)) each law stands in
+      record { by_rules = b.by_rules; moves = λ past s good. b.moves past s; ruled = λ past s good. b.ruled past s; stands = b.stands }
 
   pub evicts-by : (place : ℕ) (step : EvictStep)
-      → ((h : Hidden) → Facts old h → MovesHere old new (past_of old h) (SaysEvict step) (λ db. Unit {0}) (λ db. rules.EvictStep (basis_of db old.store.limits) place (past_of old h)))
+      → (each : (h : Hidden) → Facts old h → MovesHere old new (past_of old h) (SaysEvict step) (λ db. Unit {0}) (λ db. rules.EvictStep (basis_of db old.store.limits) place (past_of old h)))
+      → ((h : Hidden) (f : Facts old h) → GoesByTold old new (λ told. told) (λ b. rules.EvictStep b place (past_of old h) (each h f).outcome (each h f).next))
       → Stands old → Evicts old place new step
-  evicts-by place step each stands =
-      let b = both old new (λ past. SaysEvict step) (λ past db. Unit {0}) (λ past db. rules.EvictStep (basis_of db old.store.limits) place past) (λ past o next. Unit {0}) each (λ h f. tt) stands in
-      record { by_rules = λ db past s. b.by_rules db past s tt; moves = b.moves; stands = b.stands }
+  evicts-by place step each law stands =
+      let b = both old new (λ past. SaysEvict step) (λ past db. Unit {0}) (λ past db. rules.EvictStep (basis_of db old.store.limits) place past) (λ past o next. GoesByTold old new (λ told. told) (λ b. rules.EvictStep b place past o next)) each law stands in
+      record { by_rules = λ db past s. b.by_rules db past s tt; moves = b.moves; ruled = b.ruled; stands = b.stands }
 
   pub writes-by : (sql : List ℕ) (step : WriteStep)
       → (each : (h : Hidden) → Facts old h → MovesHere old new (past_of old h) (SaysWrite sql step) (λ db. Unit {0}) (λ db. rules.WriteStep sql (past_of old h)))

@@ -22,6 +22,8 @@ use Rattle.sr_session.specs.Rules.{number_of, answering_now, counted, query_busy
 use Rattle.sr_session.specs.Rules as rules
 use Rattle.sr_session.specs.Tidy.{IsTidyWith}
 use Rattle.sr_session.specs.Bases.{basis_of}
+use Rattle.sr_session.specs.Brought.{told_basis}
+use Rattle.sr_client.specs.ByTold.{GoesByTold}
 use Rattle.sr_client.specs.Asking.{AsksRest, LeavesRest}
 use Rattle.sr_client.specs.Bound.{IsMeaning}
 use Rattle.sr_client.specs.declared.client.Client.{Client}
@@ -30,7 +32,7 @@ use Rattle.sr_client.specs.declared.steps.QueryStep.TheVariants.{Answered, Busy,
 use Rattle.sr_client.specs.Stands.{Hidden, Facts, Stands, StandsOver, past_of, out_of, request_of, IsMeant, AreFit}
 use Rattle.sr_client.specs.Steps.{Queries}
 use Rattle.sr_client.proofs.Calls.{Answers, IsAfter, none-arrived}
-use Rattle.sr_client.proofs.KeptLemmas.{IsAnswering, AreTrue, from_of, kept, kept-true, kept-last, answer-step}
+use Rattle.sr_client.proofs.KeptLemmas.{IsAnswering, AreTrue, from_of, kept, kept-true, kept-told, still-told, kept-last, answer-step, told-step}
 use Rattle.sr_client.proofs.MeantLemmas.{are-sound, is-joinable, parts-fit}
 use Rattle.sr_client.proofs.MoveLemmas.{queries-by}
 use Rattle.sr_client.proofs.OverLemmas.{on, IsHere, stands-over}
@@ -57,7 +59,11 @@ query-busy c m number request stands out number_is = queries-by c c m (Busy numb
         (query_busy m (request_of h.meaning request) (ap (out_of h.meaning) out)),
     stands-over c h db f here,
   );
-}) stands
+}) (λ h f told is. (
+  is,
+  subst (λ k. rules.QueryStep (told_basis c.schema c.store.limits told) (past_of c h) (Ok m) (rules.Busy k) (past_of c h)) (sym (number_is h.meaning))
+      (query_busy m (request_of h.meaning request) (ap (out_of h.meaning) out)),
+)) stands
 
 -- ---- over a cut link
 
@@ -74,7 +80,7 @@ query-over-cut c q m stands out down is left = queries-by c c m (Down c.cuts) (�
   draws = omega arith;
   stands = (h, f, refl);
   over = λ db here it. (query_down m (ap (out_of h.meaning) out) down (left-here c q m h is f left), stands-over c h db f here);
-}) stands
+}) (λ h f told own. (own, query_down m (ap (out_of h.meaning) out) down (left-here c q m h is f left))) stands
 
 -- ---- at once
 
@@ -192,6 +198,19 @@ module _ (c : Client) (q : Query) (m : model.Query) (store : Store) (marks : Lis
           },
         )
 
+    now-told : GoesByTold c (with_now c store) (λ told. told)
+        (λ b. rules.QueryStep b (past_of c h) (Ok m) (rules.Answered (c.queries + 1) c.version rows marks) (answered (past_of c h) (with_query h m) from c.version marks))
+    now-told told own =
+        let past : session.Client = past_of c h in
+        let asks : Asks c.schema h.marks m.parts [] = nothing h.marks (stamp h.queries) m.parts f.keeps is.query.parts (are-sound c.schema q m is) in
+        let still = still-told c.schema (length h.queries + 1) q.parts [] c.store [] m (with_query h m) (past_of c h) answering store marks after refl told own in
+        let step : AnswerStep (told_basis c.schema c.store.limits told) (answering_now past m) past marks (answered past (with_query h m) from c.version marks) =
+        told-step c.schema (length h.queries + 1) q.parts [] c.store [] m (with_query h m) (past_of c h) answering store marks after told c.version still.0 still.1 in (
+          kept-told c.schema (length h.queries + 1) q.parts [] c.store [] m (with_query h m) (past_of c h) answering store marks after told c.version still.0 still.1,
+          subst (λ n. rules.QueryStep (told_basis c.schema c.store.limits told) (past_of c h) (Ok m) (rules.Answered (n + 1) c.version rows marks) (answered past (with_query h m) from c.version marks)) f.queries
+              (query_answered m rows marks (answered past (with_query h m) from c.version marks) (ap (out_of h.meaning) out) asks tt step),
+        )
+
   pub answered-now : Stands c → Queries c m (with_now c store) (Answered (c.queries + 1) c.version rows marks)
   answered-now stands = queries-by c (with_now c store) m (Answered (c.queries + 1) c.version rows marks) (λ h f. record {
     outcome = rules.Answered (c.queries + 1) c.version rows marks;
@@ -201,4 +220,4 @@ module _ (c : Client) (q : Query) (m : model.Query) (store : Store) (marks : Lis
     draws = omega arith;
     stands = (later h f, now-facts h f, now-same h f);
     over = λ db here it. now-over h f db here;
-  }) stands
+  }) now-told stands

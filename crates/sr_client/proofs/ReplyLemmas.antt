@@ -1,5 +1,5 @@
 -- What the reply of an ask does.
-use Rattle.std.proofs.Common.{◌≡◌, ℕ, zero, suc, ◌-◌, true, false, List, [], ◌∷◌, length, refl, sym, ◌∙◌, ap, subst, arith, None}
+use Rattle.std.proofs.Common.{◌≡◌, ℕ, zero, suc, ◌-◌, true, false, List, [], ◌∷◌, length, refl, sym, ◌∙◌, ap, subst, arith, Some, None}
 use Rattle.std.specs.Prelude.{slice_set}
 use Rattle.std.specs.List.{list_all}
 use Rattle.sr_cell.specs.Cells.{Row}
@@ -9,6 +9,9 @@ use Rattle.sr_history.specs.declared.mark.Mark.{Mark}
 use Rattle.sr_history.specs.Marks.{with_marks}
 use Rattle.sr_history.specs.Classes.{Numbered, stamp}
 use Rattle.sr_store.specs.declared.store.Store.{Store}
+use Rattle.sr_store.specs.Brought.{arrive_in}
+use Rattle.sr_store.specs.Told.{Told}
+use Rattle.sr_store.proofs.Bringing.{arrivals-are-told}
 use Rattle.sr_session.specs.Sessions.{Database, tables_of}
 use Rattle.sr_session.specs.Clients as session
 use Rattle.sr_session.specs.Clients.{answered, mirror_of}
@@ -16,11 +19,12 @@ use Rattle.sr_session.specs.Laws.{IsAnswerable}
 use Rattle.sr_session.specs.Regions.{AreAt, after_messages}
 use Rattle.sr_session.specs.Rules.{AnswerStep, answers, answering_then, with_answered, is_given_up}
 use Rattle.sr_session.specs.Rules as rules
-use Rattle.sr_session.specs.Walks.{walked}
+use Rattle.sr_session.specs.Walks.{AskOut, walked}
 use Rattle.sr_session.proofs.RowLemmas.{rows-are-asked}
 use Rattle.sr_session.proofs.TakeLemmas.{replies-are-answerable}
 use Rattle.sr_session.proofs.TruthLemmas.{laid-messages-keep-true}
 use Rattle.sr_session.specs.Bases.{basis_of}
+use Rattle.sr_session.specs.Brought.{told_by_all, told_by_reply, told_after, told_basis}
 use Rattle.sr_client.specs.Arriving.{arrivals_of}
 use Rattle.sr_client.specs.declared.client.AskOut as code
 use Rattle.sr_client.specs.declared.client.Client.{Client}
@@ -29,11 +33,14 @@ use Rattle.sr_client.specs.Laying.{asking}
 use Rattle.sr_client.specs.Stands.{Hidden, Facts, Stands, StandsOver, Truly, IsFit, past_of}
 use Rattle.sr_client.specs.Steps.{Takes}
 use Rattle.sr_client.specs.Values.{has_values}
-use Rattle.sr_client.proofs.AskedLemmas.{is-out, laid-keeps}
+use Rattle.sr_client.specs.ByTold.{GoesByTold}
+use Rattle.sr_client.proofs.AskedLemmas.{is-out, tells, laid-store, laid-keeps}
+use Rattle.sr_client.proofs.ByToldLemmas.{by-told, laid-told, reply-own}
+use Rattle.sr_client.proofs.SuitLemmas.{reply-later}
 use Rattle.sr_client.proofs.Calls.{Answers, IsAfter}
 use Rattle.sr_client.proofs.CameLemmas.{CameOf, all-came, there-all}
-use Rattle.sr_client.proofs.FinishLemmas.{came-right, answering}
-use Rattle.sr_client.proofs.KeptLemmas.{IsAnswering, AreTrue, from_of, kept, kept-true, kept-last, answer-step}
+use Rattle.sr_client.proofs.FinishLemmas.{allows, apiece, came-right, answering}
+use Rattle.sr_client.proofs.KeptLemmas.{IsAnswering, AreTrue, from_of, kept, kept-true, kept-told, kept-last, answer-step, told-step}
 use Rattle.sr_client.proofs.MeantLemmas.{are-sound, is-joinable, tables-differ}
 use Rattle.sr_client.proofs.MirrorLemmas.{at-mirror}
 use Rattle.sr_client.proofs.MoveLemmas.{takes-by}
@@ -156,6 +163,33 @@ module _ (c : Client) (o : code.AskOut) (number version : ℕ) (store : Store) (
             },
           )
 
+    -- by the rows that the frames brought
+    reply-told : GoesByTold (asking c o) (replied c version store) (told_after c.schema (past_of (asking c o) h) (Reply number version))
+        (λ b. rules.TakeStep b (past_of (asking c o) h) (Reply number version) (rules.Answered o.query_number version rows marks)
+        (answered (past_of (asking c o) h) (with_answered o.query_number h.meaning h.queries) from version marks))
+    reply-told = by-told (asking c o) (replied c version store) (told_after c.schema (past_of (asking c o) h) (Reply number version))
+        (λ told. arrive_in (arrivals_of c.schema o.parts c.laid) (told_by_all c.schema c.laid told))
+        (λ b. rules.TakeStep b (past_of (asking c o) h) (Reply number version) (rules.Answered o.query_number version rows marks)
+        (answered (past_of (asking c o) h) (with_answered o.query_number h.meaning h.queries) from version marks))
+        (λ told. ap (λ b. told_by_reply b c.schema o.parts c.laid told) whole)
+        (λ told is.
+        let may = allows c o h f values whole in
+        let brought = arrivals-are-told c.schema o.query.parts (after_messages c.laid c.store.regions) (arrivals_of c.schema o.parts c.laid) (told_by_all c.schema c.laid told)
+        (laid-store c o h f values).each may.each may.apart (apiece c o h f values whole) (laid-told c.schema c.laid c.store.regions told f.store.each (tells c o h f values) is) in
+        let next : Told = arrive_in (arrivals_of c.schema o.parts c.laid) (told_by_all c.schema c.laid told) in
+        let step : AnswerStep (told_basis c.schema c.store.limits next) (answering_then (past_of (asking c o) h) o.query_number h.meaning o.parts version) (past_of (asking c o) h) marks
+        (answered (past_of (asking c o) h) (with_answered o.query_number h.meaning h.queries) from version marks) =
+        told-step c.schema o.query_number o.query.parts (arrivals_of c.schema o.parts c.laid) (record c.store { regions = after_messages c.laid c.store.regions }) o.parts h.meaning
+        (with_answered o.query_number h.meaning h.queries) (past_of (asking c o) h) know store marks made next version brought.0 brought.1 in (
+          kept-told c.schema o.query_number o.query.parts (arrivals_of c.schema o.parts c.laid) (record c.store { regions = after_messages c.laid c.store.regions }) o.parts h.meaning
+              (with_answered o.query_number h.meaning h.queries) (past_of (asking c o) h) know store marks made next version brought.0 brought.1,
+          subst (λ k. rules.TakeStep (told_basis c.schema c.store.limits next) (past_of (asking c o) h) (Reply k version) (rules.Answered o.query_number version rows marks)
+              (answered (past_of (asking c o) h) (with_answered o.query_number h.meaning h.queries) from version marks))
+              (sym (reply-own c.schema o.number o.query_number h.meaning o.fresh o.parts c.laid c.version number version (fit h.meaning)))
+              (answers o.number o.query_number h.meaning o.fresh o.parts version rows marks (answered (past_of (asking c o) h) (with_answered o.query_number h.meaning h.queries) from version marks)
+              refl whole (reply-later c.schema (Some (AskOut o.number o.query_number h.meaning o.fresh o.parts)) c.laid c.version number version (fit h.meaning)) tt step),
+        ))
+
   pub takes-reply : Stands (asking c o) → Takes (asking c o) (Reply number version) (replied c version store) (took.Answered o.query_number version rows marks)
   takes-reply stands = takes-by (asking c o) (replied c version store) (Reply number version) (took.Answered o.query_number version rows marks) (λ h f. record {
     outcome = rules.Answered o.query_number version rows marks;
@@ -165,4 +199,4 @@ module _ (c : Client) (o : code.AskOut) (number version : ℕ) (store : Store) (
     draws = omega arith;
     stands = (later h f, reply-facts h f, refl);
     over = λ db here t. reply-goes h f db here t;
-  }) stands
+  }) reply-told stands

@@ -19,7 +19,9 @@ use Rattle.sr_store.specs.Noticed.{told_to, IsTellOf}
 use Rattle.sr_store.specs.Fitted.{IsFitted}
 use Rattle.sr_store.proofs.Absorbing.{drops_all}
 use Rattle.sr_store.proofs.Fewer.{fitted_fit_still, none_store}
-use Rattle.sr_store.proofs.Meeting.{fitted_meets_budgets}
+use Rattle.sr_store.specs.Brought.{nothing_told, tells_all}
+use Rattle.sr_store.proofs.Bringing.{notices-are-told}
+use Rattle.sr_store.proofs.Meeting.{fitted_meets_budgets, fitted_meets_told_budgets}
 use Rattle.sr_store.proofs.Noticing.{notices-classes}
 use Rattle.sr_store.proofs.Stepping.{dropped_marks}
 use Rattle.sr_store.proofs.Storing.{store-told}
@@ -35,6 +37,10 @@ use Rattle.sr_session.specs.Tidy.{IsTidyWith}
 use Rattle.sr_session.proofs.TruthLemmas.{noted}
 use Rattle.sr_session.proofs.WalkLemmas.{walks-later}
 use Rattle.sr_session.specs.Bases.{basis_of}
+use Rattle.sr_session.specs.Brought.{told_after, told_where}
+use Rattle.sr_client.specs.ByTold.{GoesByTold}
+use Rattle.sr_client.proofs.SuitLemmas.{notice-later, lapse-later}
+use Rattle.sr_client.proofs.ByToldLemmas.{by-told, nothing-is-told, told-none, told-some}
 use Rattle.sr_client.specs.Cutting.{EndWith, RegionsEnd}
 use Rattle.sr_client.specs.declared.client.Client.{Client}
 use Rattle.sr_client.specs.declared.steps.Took.TheVariants as took
@@ -125,6 +131,21 @@ module _ (c : Client) (version : ℕ) (told : List Tell) (new : List Region) (dr
           }),
         )
 
+    notice-told : GoesByTold c (at_version c version new) (told_after c.schema (past_of c h) (Notice version told))
+        (λ b. rules.TakeStep b (past_of c h) (Notice version told) (Applied version drops) (past_of (at_version c version new) (with_drops h drops)))
+    notice-told = by-told c (at_version c version new) (told_after c.schema (past_of c h) (Notice version told)) (tells_all c.schema told)
+        (λ b. rules.TakeStep b (past_of c h) (Notice version told) (Applied version drops) (past_of (at_version c version new) (with_drops h drops)))
+        (λ rows. ap (λ o. told_where c.schema o c.laid (Notice version told) rows) (ap (out_of h.meaning) out))
+        (λ rows is.
+        let now = notices-are-told c.schema told rows c.store.regions tells f.store.each is in
+        let up = notice-later c.schema (out_of h.meaning c.out) c.laid c.version version told (fit h.meaning) in
+        let met = fitted_meets_told_budgets c.schema (tells_all c.schema told rows) c.store.limits h.marks h.queries c.store.last (map (told_to told) c.store.regions) new drops f.tables now.0
+        (store-told c.schema told c.store.regions f.store tells) noticed-keeps now.1 f.last fitted in
+        let still = fitted_fit_still c.schema c.store.limits c.store.last (map (told_to told) c.store.regions) new drops fitted in (
+          told-some c.schema (tells_all c.schema told rows) (map (told_to told) c.store.regions) new still.some now,
+          applies version told drops (ap (out_of h.meaning) out) (omega (arith, up)) met,
+        ))
+
   pub takes-notice : Stands c → Takes c (Notice version told) (at_version c version new) (took.Applied version drops)
   takes-notice stands = takes-by c (at_version c version new) (Notice version told) (took.Applied version drops) (λ h f. record {
     outcome = Applied version drops;
@@ -134,7 +155,7 @@ module _ (c : Client) (version : ℕ) (told : List Tell) (new : List Region) (dr
     draws = omega arith;
     stands = (with_drops h drops, notice-facts h f, refl);
     over = notice-goes h f;
-  }) stands
+  }) notice-told stands
 
 -- ---- a Lapse
 
@@ -182,6 +203,18 @@ module _ (c : Client) (version : ℕ) (out : c.out ≡ None) (fit : IsFit c (Lap
           }),
         )
 
+    lapse-told : GoesByTold c (at_version c version []) (told_after c.schema (past_of c h) (Lapse version))
+        (λ b. rules.TakeStep b (past_of c h) (Lapse version) (Forgot version (map (drop_of Lapsed) c.store.regions)) (past_of (at_version c version []) (with_drops h (map (drop_of Lapsed) c.store.regions))))
+    lapse-told = by-told c (at_version c version []) (told_after c.schema (past_of c h) (Lapse version)) (λ told. nothing_told)
+        (λ b. rules.TakeStep b (past_of c h) (Lapse version) (Forgot version (map (drop_of Lapsed) c.store.regions)) (past_of (at_version c version []) (with_drops h (map (drop_of Lapsed) c.store.regions))))
+        (λ rows. ap (λ o. told_where c.schema o c.laid (Lapse version) rows) (ap (out_of h.meaning) out))
+        (λ rows is.
+        let up = lapse-later c.schema (out_of h.meaning c.out) c.laid c.version version (fit h.meaning) in (
+          told-none c.schema nothing_told (nothing-is-told c.schema),
+          forgets version (map (drop_of Lapsed) c.store.regions) (ap (out_of h.meaning) out) (omega (arith, up))
+              (drops_all c.schema h.marks h.queries Lapsed c.store.regions (have-first c.schema f.tables) f.store.each f.store.order f.keeps),
+        ))
+
   pub takes-lapse : Stands c → Takes c (Lapse version) (at_version c version []) (took.Forgot version (map (drop_of Lapsed) c.store.regions))
   takes-lapse stands = takes-by c (at_version c version []) (Lapse version) (took.Forgot version (map (drop_of Lapsed) c.store.regions)) (λ h f. record {
     outcome = Forgot version (map (drop_of Lapsed) c.store.regions);
@@ -191,7 +224,7 @@ module _ (c : Client) (version : ℕ) (out : c.out ≡ None) (fit : IsFit c (Lap
     draws = omega arith;
     stands = (with_drops h (map (drop_of Lapsed) c.store.regions), lapse-facts h f, refl);
     over = lapse-goes h f;
-  }) stands
+  }) lapse-told stands
 
 -- ---- no other message
 

@@ -21,7 +21,7 @@ use Rattle.sr_history.specs.Rests.{Asks, nothing, covered}
 use Rattle.sr_history.specs.Victims.{AreLast}
 use Rattle.sr_region.specs.declared.region.Region.{Region}
 use Rattle.sr_store.specs.Classes.{Stamps, Keeps}
-use Rattle.sr_store.specs.Told.{told_of, IsTrueOf}
+use Rattle.sr_store.specs.Told.{Told, told_of, IsTrueOf}
 use Rattle.sr_store.specs.Stores.{drop_of, IsOfSchema}
 use Rattle.sr_store.proofs.Absorbing.{drops_all}
 use Rattle.sr_store.proofs.Covering.{all_none, keeps_same}
@@ -35,6 +35,10 @@ use Rattle.sr_session.specs.Rules.{Before, as_it_is, emptied, counted, with_ask,
 use Rattle.sr_session.specs.Rules as rules
 use Rattle.sr_session.specs.Tidy.{IsTidyWith}
 use Rattle.sr_session.specs.Bases.{basis_of}
+use Rattle.sr_session.specs.Brought.{told_basis}
+use Rattle.sr_store.specs.Brought.{IsToldOf}
+use Rattle.sr_client.specs.ByTold.{GoesByTold}
+use Rattle.sr_client.proofs.ByToldLemmas.{told-none}
 use Rattle.sr_client.specs.Asking.{AsksRest, LeavesRest, entry_of, whole_asks}
 use Rattle.sr_client.specs.Arriving.{is_empty}
 use Rattle.sr_client.specs.Bound.{IsMeaning}
@@ -78,9 +82,10 @@ pub record IsReady (c : Client) (m : model.Query) (h : Hidden) (drops : List Mar
   pub hidden : Hidden
   pub facts : Facts (with_regions c gs) hidden
   pub over : (db : Database) → IsHere db c → Before (basis_of (on c db) c.store.limits) m (past_of c h) drops (past_of (with_regions c gs) hidden) × IsHere db (with_regions c gs)
+  pub told : (rows : Told) → IsToldOf c.schema rows c.store.regions → Before (told_basis c.schema c.store.limits rows) m (past_of c h) drops (past_of (with_regions c gs) hidden) × IsToldOf c.schema rows gs
 
 pub ready-still : (c : Client) (m : model.Query) (h : Hidden) → Facts c h → IsReady c m h [] c.store.regions
-ready-still c m h f = record { hidden = h; facts = f; over = λ db here. (as_it_is, here) }
+ready-still c m h f = record { hidden = h; facts = f; over = λ db here. (as_it_is, here); told = λ rows is. (as_it_is, is) }
 
 -- what asks: these parts of a query
 pub record MayAsk (c : Client) (q : Query) (m : model.Query) (asks : List AskPart) : Type 0 where
@@ -171,7 +176,7 @@ module _ (c : Client) (q : Query) (m : model.Query) (asks : List AskPart) (drops
   abbrev gone : Client
   gone = with_out (with_regions c gs) (next_ask (with_regions c gs) q asks)
 
-  sent-goes : (h : Hidden) → Facts c h → IsReady c m h drops gs → c.cut ≡ false
+  abbrev sent-goes : (h : Hidden) → Facts c h → IsReady c m h drops gs → c.cut ≡ false
       → MovesHere c (with_out (with_regions c gs) (next_ask (with_regions c gs) q asks)) (past_of c h) (SaysQuery (past_of c h) (asked_step (next_ask (with_regions c gs) q asks) drops)) (λ db. Unit {0})
       (λ db. rules.QueryStep (basis_of db c.store.limits) (past_of c h) (Ok m))
   sent-goes h f r up =
@@ -204,10 +209,20 @@ module _ (c : Client) (q : Query) (m : model.Query) (asks : List AskPart) (drops
             );
       }
 
+  sent-told : (h : Hidden) → Facts c h → c.cut ≡ false
+      → (r : IsReady c m h drops gs) → GoesByTold c (with_out (with_regions c gs) (next_ask (with_regions c gs) q asks)) (λ told. told)
+      (λ b. rules.QueryStep b (past_of c h) (Ok m) (rules.AskSent drops c.next_request (is_empty gs) asks) (with_ask (past_of (with_regions c gs) r.hidden) m (is_empty gs) asks))
+  sent-told h f up r told is =
+      let t = r.told told is in (
+        t.1,
+        asks-some (told_basis c.schema c.store.limits told) (past_of c h) (past_of (with_regions c gs) r.hidden) m drops asks (is_empty gs) (ap (out_of h.meaning) may.out) t.0 up may.some
+            (are-asked (with_regions c gs) q m asks may r.hidden r.facts) may.few (mode (with_regions c gs) q m asks may r.hidden r.facts),
+      )
+
   -- for every past that the client stood for
   pub query-sent : (new : Client) (step : QueryStep) → ((h : Hidden) → Facts c h → IsReady c m h drops gs) → c.cut ≡ false → IsSent (with_regions c gs) q asks drops new step → Stands c → Queries c m new step
   query-sent new step each up sent stands =
-      let asked : Queries c m gone (asked_step (next_ask (with_regions c gs) q asks) drops) = queries-by c gone m (asked_step (next_ask (with_regions c gs) q asks) drops) (λ h f. sent-goes h f (each h f) up) stands in
+      let asked : Queries c m gone (asked_step (next_ask (with_regions c gs) q asks) drops) = queries-by c gone m (asked_step (next_ask (with_regions c gs) q asks) drops) (λ h f. sent-goes h f (each h f) up) (λ h f. sent-told h f up (each h f)) stands in
       subst (λ n. Queries c m n step) (sym sent.out) (subst (Queries c m gone) (sym sent.told) asked)
 
 -- the rest of a query is asked
@@ -283,6 +298,15 @@ ready-dropped c q m is out left over h f = by c.store.regions refl
           some = subst (λ rs. 0 < length (map (drop_of Pieces) rs)) (sym some) (omega arith);
         }),
         record { sound = here.sound; within = here.within; are_true = All-nil (IsTrueOf (told_of (tables_of db c.version))) },
+      );
+      told = λ rows own. (
+        emptied (map (drop_of Pieces) c.store.regions) (record {
+          left = left-here c q m h is f left;
+          heavy = load-heavy c h q m is f over;
+          all = drops_all c.schema h.marks h.queries Pieces c.store.regions (have-first c.schema f.tables) f.store.each f.store.order f.keeps;
+          some = subst (λ rs. 0 < length (map (drop_of Pieces) rs)) (sym some) (omega arith);
+        }),
+        told-none c.schema rows own.0,
       );
     }
 

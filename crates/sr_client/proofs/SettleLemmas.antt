@@ -1,6 +1,6 @@
 -- What the last message of a write or a resume does.
 use Rattle.std.proofs.Common.{◌≡◌, ℕ, ◌-◌, ◌≤◌, Bool, true, false, List, [], ◌∷◌, ◌++◌, map, length, refl, sym, ◌∙◌, ap, subst, arith, Option, Some, None}
-use Rattle.std.specs.Prelude.{not, ◌==◌, nat_lt}
+use Rattle.std.specs.Prelude.{not, ◌==◌, nat_lt, if◌then◌else◌}
 use Rattle.std.specs.List.{list_all, All, Contains}
 use Rattle.std.proofs.lemmas.List.Elements.{All-nil, All-weaker, All-contains}
 use Rattle.std.proofs.lemmas.Bool.{eqb-true, ltb-false}
@@ -17,10 +17,11 @@ use Rattle.sr_region.specs.declared.region.Region.{Region}
 use Rattle.sr_store.specs.Classes.{Keeps}
 use Rattle.sr_store.specs.Fitted.{IsFitted, count_rows}
 use Rattle.sr_store.specs.Stores.{IsStore, drop_of}
-use Rattle.sr_store.specs.Told.{told_of, AreTrueOf, IsTrueOf}
+use Rattle.sr_store.specs.Told.{Told, told_of, AreTrueOf, IsTrueOf}
 use Rattle.sr_store.proofs.Absorbing.{drops_all}
 use Rattle.sr_store.proofs.Fewer.{fitted_fit_still, none_store}
-use Rattle.sr_store.proofs.Meeting.{fitted_meets_budgets}
+use Rattle.sr_store.specs.Brought.{nothing_told, IsToldOf}
+use Rattle.sr_store.proofs.Meeting.{fitted_meets_budgets, fitted_meets_told_budgets}
 use Rattle.sr_store.proofs.Stepping.{dropped_marks}
 use Rattle.sr_wire.specs.declared.bad_frame.BadFrame.TheVariants.{State, Number, Version}
 use Rattle.sr_session.specs.Clients as session
@@ -36,6 +37,9 @@ use Rattle.sr_session.proofs.TakingLemmas.{IsEnding, ending, walked-version}
 use Rattle.sr_session.proofs.TruthLemmas.{passes-true, quiet-on}
 use Rattle.sr_session.proofs.WalkLemmas.{walks-later}
 use Rattle.sr_session.specs.Bases.{basis_of}
+use Rattle.sr_session.specs.Brought.{told_after, told_basis, told_by_all, told_where}
+use Rattle.sr_client.specs.ByTold.{GoesByTold}
+use Rattle.sr_client.proofs.ByToldLemmas.{by-told, laid-told, nothing-is-told, told-none, told-some}
 use Rattle.sr_client.specs.Cutting.{EndWith, RegionsEnd}
 use Rattle.sr_client.specs.declared.client.Client.{Client}
 use Rattle.sr_client.specs.declared.steps.Took.{Took}
@@ -186,6 +190,24 @@ module _ (c : Client) (h : Hidden) (f : Facts c h) (values : list_all has_values
   settles-left true marks gs e (none, are) = subst (λ gs. IsLeft c h marks gs) (sym none) (subst (λ ms. IsLeft c h ms []) (sym are) (none-left c h Lapsed f))
   settles-left false marks gs e fitted = fitted-left marks gs e fitted
 
+  -- ---- by the rows that the frames brought
+
+  pub settles-told : (lapse : Bool) (version : ℕ) (marks : List Mark) (gs : List Region) → has_lapse c.laid ≡ lapse → SettlesTo lapse c marks gs → (told : Told) → IsToldOf c.schema told c.store.regions
+      → IsToldOf c.schema (told_by_all c.schema c.laid told) gs × DropsFor lapse (told_basis c.schema c.store.limits (told_by_all c.schema c.laid told)) version (past_of c h) marks
+  settles-told true version marks gs e (none, are) told is =
+      let laid = laid-told c.schema c.laid c.store.regions told f.store.each (fits-laid c (h, f) values) is in (
+        subst (IsToldOf c.schema (told_by_all c.schema c.laid told)) (sym none) (told-none c.schema (told_by_all c.schema c.laid told) laid.0),
+        subst (λ ms. DropsFor true (told_basis c.schema c.store.limits (told_by_all c.schema c.laid told)) version (past_of c h) ms) (sym are)
+            (drops_all c.schema h.marks h.queries Lapsed c.store.regions (have-first c.schema f.tables) f.store.each f.store.order f.keeps),
+      )
+  settles-told false version marks gs e fitted told is =
+      let laid = laid-told c.schema c.laid c.store.regions told f.store.each (fits-laid c (h, f) values) is in
+      let still = fitted_fit_still c.schema c.store.limits c.store.last (after_messages c.laid c.store.regions) gs marks fitted in (
+        told-some c.schema (told_by_all c.schema c.laid told) (after_messages c.laid c.store.regions) gs still.some laid,
+        fitted_meets_told_budgets c.schema (told_by_all c.schema c.laid told) c.store.limits h.marks h.queries c.store.last (after_messages c.laid c.store.regions) gs marks f.tables laid.0
+            (laid-store c (h, f) values) (laid-keeps e) laid.1 f.last fitted,
+      )
+
   -- ---- at a version of which the laid messages have the rows
 
   module _ (db : Database) (here : IsHere db c) (version : ℕ) (within : version ≤ newest db) (now : AreTrueOf (told_of (tables_of db version)) (after_messages c.laid c.store.regions)) where
@@ -252,8 +274,10 @@ module _ (c : Client) (values : list_all has_values c.laid ≡ true) (m : Messag
 
   -- a client that is left so
   pub takes-left : (o : rules.Outcome) → SaysTook answer o → ((past : session.Client) → KeepsLink past o (settled past version marks)) → ((h : Hidden) → Facts c h → IsLeft c h marks gs)
-      → ((h : Hidden) → Facts c h → (db : Database) → IsHere db c → Truly (on c db) (past_of c h) m → IsTaken o h db) → Stands c → Takes c m (settled_at c version gs) answer
-  takes-left o is link left taken stands = takes-by c (settled_at c version gs) m answer (λ h f. record {
+      → ((h : Hidden) → Facts c h → (db : Database) → IsHere db c → Truly (on c db) (past_of c h) m → IsTaken o h db)
+      → ((h : Hidden) → Facts c h → GoesByTold c (settled_at c version gs) (told_after c.schema (past_of c h) m) (λ b. rules.TakeStep b (past_of c h) m o (settled (past_of c h) version marks)))
+      → Stands c → Takes c m (settled_at c version gs) answer
+  takes-left o is link left taken told stands = takes-by c (settled_at c version gs) m answer (λ h f. record {
     outcome = o;
     next = past_of (settled_at c version gs) (with_drops h marks);
     is = is;
@@ -263,7 +287,7 @@ module _ (c : Client) (values : list_all has_values c.laid ≡ true) (m : Messag
     over = λ db here t.
         let k = taken h f db here t in
         (k.step, stands-over (settled_at c version gs) (with_drops h marks) db (left-facts c h version marks gs f (left h f)) (record { sound = here.sound; within = k.within; are_true = k.are }));
-  }) stands
+  }) told stands
 
 -- ---- a write made a version
 
@@ -286,9 +310,20 @@ module _ (c : Client) (number version : ℕ) (marks : List Mark) (gs : List Regi
           are = settles-true c h f values db here version comes.within comes.now (has_lapse c.laid) marks gs s;
         }
 
+    written-told : GoesByTold c (settled_at c version gs) (told_after c.schema (past_of c h) (Written number version))
+        (λ b. rules.TakeStep b (past_of c h) (Written number version) (rules.WriteDone number version marks) (settled (past_of c h) version marks))
+    written-told =
+        let out : out_of h.meaning c.out ≡ Some (WriteOut number) = write-out c.schema (out_of h.meaning c.out) c.laid c.version number version (fit h.meaning) in
+        by-told c (settled_at c version gs) (told_after c.schema (past_of c h) (Written number version)) (told_by_all c.schema c.laid)
+        (λ b. rules.TakeStep b (past_of c h) (Written number version) (rules.WriteDone number version marks) (settled (past_of c h) version marks))
+        (λ told. ap (λ o. told_where c.schema o c.laid (Written number version) told) out)
+        (λ told is.
+        let s = settles-told c h f values (has_lapse c.laid) version marks gs refl s told is in
+        (s.0, written number version marks out (written-later c.schema (out_of h.meaning c.out) c.laid c.version number version (fit h.meaning)) s.1))
+
   pub takes-written : Stands c → Takes c (Written number version) (settled_at c version gs) (took.Written number version marks)
   takes-written stands =
-      takes-left c values (Written number version) (took.Written number version marks) version marks gs (rules.WriteDone number version marks) refl (λ past. refl) written-left written-goes stands
+      takes-left c values (Written number version) (took.Written number version marks) version marks gs (rules.WriteDone number version marks) refl (λ past. refl) written-left written-goes written-told stands
 
 -- ---- a write was refused
 
@@ -315,9 +350,20 @@ module _ (c : Client) (number : ℕ) (fault : Fault) (marks : List Mark) (gs : L
           are = settles-true c h f values db here (version_after c.version c.laid) comes.within comes.now (has_lapse c.laid) marks gs s;
         }
 
+    refused-told : GoesByTold c (settled_at c (version_after c.version c.laid) gs) (told_after c.schema (past_of c h) (Refused number fault))
+        (λ b. rules.TakeStep b (past_of c h) (Refused number fault) (rules.WriteRefused number fault marks) (settled (past_of c h) (version_after c.version c.laid) marks))
+    refused-told =
+        let out : out_of h.meaning c.out ≡ Some (WriteOut number) = refused-out c.schema (out_of h.meaning c.out) c.laid c.version number fault (fit h.meaning) in
+        by-told c (settled_at c (version_after c.version c.laid) gs) (told_after c.schema (past_of c h) (Refused number fault)) (told_by_all c.schema c.laid)
+        (λ b. rules.TakeStep b (past_of c h) (Refused number fault) (rules.WriteRefused number fault marks) (settled (past_of c h) (version_after c.version c.laid) marks))
+        (λ told. ap (λ o. told_where c.schema o c.laid (Refused number fault) told) out)
+        (λ told is.
+        let s = settles-told c h f values (has_lapse c.laid) (version_after c.version c.laid) marks gs refl s told is in
+        (s.0, refused_write number fault marks out (laid-later c.schema (out_of h.meaning c.out) c.version c.version [] c.laid f.fit (omega arith)) s.1))
+
   pub takes-refused : Stands c → Takes c (Refused number fault) (settled_at c (version_after c.version c.laid) gs) (took.Refused number fault marks)
   takes-refused stands =
-      takes-left c values (Refused number fault) (took.Refused number fault marks) (version_after c.version c.laid) marks gs (rules.WriteRefused number fault marks) refl (λ past. refl) refused-left refused-goes stands
+      takes-left c values (Refused number fault) (took.Refused number fault marks) (version_after c.version c.laid) marks gs (rules.WriteRefused number fault marks) refl (λ past. refl) refused-left refused-goes refused-told stands
 
 -- ---- a session is open
 
@@ -372,6 +418,27 @@ module _ (c : Client) (number version : ℕ) (kept : Bool) (marks : List Mark) (
         are = fine.are;
       }
 
+    welcome-told : GoesByTold c (settled_at c version gs) (told_after c.schema (past_of c h) (Welcome number version kept))
+        (λ b. rules.TakeStep b (past_of c h) (Welcome number version kept) (rules.Welcomed version kept marks) (settled (past_of c h) version marks))
+    welcome-told =
+        let out : out_of h.meaning c.out ≡ Some (ResumeOut number) = welcome-out c.schema (out_of h.meaning c.out) c.laid c.version number version kept (fit h.meaning) in
+        by-told c (settled_at c version gs) (told_after c.schema (past_of c h) (Welcome number version kept)) (λ told. if kept then told_by_all c.schema c.laid told else nothing_told)
+        (λ b. rules.TakeStep b (past_of c h) (Welcome number version kept) (rules.Welcomed version kept marks) (settled (past_of c h) version marks))
+        (λ told. ap (λ o. told_where c.schema o c.laid (Welcome number version kept) told) out)
+        (λ told is.
+        let d = by kept s told is in
+        (d.0, is_welcomed number version kept marks out (welcome-later c.schema (out_of h.meaning c.out) c.laid c.version number version kept (fit h.meaning)) d.1))
+      where
+        by : (kept : Bool) → WelcomesTo kept c marks gs → (told : Told) → IsToldOf c.schema told c.store.regions
+            → IsToldOf c.schema (if kept then told_by_all c.schema c.laid told else nothing_told) gs
+            × DropsWelcomed kept (told_basis c.schema c.store.limits (if kept then told_by_all c.schema c.laid told else nothing_told)) version (past_of c h) marks
+        by true s told is = settles-told c h f values (has_lapse c.laid) version marks gs refl s told is
+        by false (none, are) told is = (
+          subst (IsToldOf c.schema nothing_told) (sym none) (told-none c.schema nothing_told (nothing-is-told c.schema)),
+          subst (λ ms. DropsWelcomed false (told_basis c.schema c.store.limits nothing_told) version (past_of c h) ms) (sym are)
+              (drops_all c.schema h.marks h.queries (cause_afresh (has_lapse c.laid)) c.store.regions (have-first c.schema f.tables) f.store.each f.store.order f.keeps),
+        )
+
   pub takes-welcome : Stands c → Takes c (Welcome number version kept) (settled_at c version gs) (took.Welcomed version kept marks)
   takes-welcome stands =
-      takes-left c values (Welcome number version kept) (took.Welcomed version kept marks) version marks gs (rules.Welcomed version kept marks) refl (λ past. refl) welcome-left (λ h f db here t. welcome-goes h f db here t) stands
+      takes-left c values (Welcome number version kept) (took.Welcomed version kept marks) version marks gs (rules.Welcomed version kept marks) refl (λ past. refl) welcome-left (λ h f db here t. welcome-goes h f db here t) welcome-told stands

@@ -1,34 +1,21 @@
 -- What was asked, with the rows that came.
 use Rattle.std.specs.Prelude.{ℕ, zero, suc, Bool, true, false, ◌+◌, ◌++◌, List, [], ◌∷◌}
 use Rattle.sr_cell.specs.declared.table.Table.{Table}
-use Rattle.sr_cell.specs.Columns.{table_at}
 use Rattle.sr_cell.specs.Cells.{Row}
 use Rattle.sr_message.specs.declared.message.AskPart.{AskPart}
 use Rattle.sr_message.specs.declared.message.Message.{Message}
 use Rattle.sr_message.specs.declared.message.Message.TheVariants.{Rows}
 use Rattle.sr_region.specs.declared.region.Region.{Region}
 use Rattle.sr_store.specs.declared.store.Arrival.{Arrival}
-use Rattle.sr_session.specs.Arrivals.{arrived_at}
+pub use Rattle.sr_session.specs.Arrivals.{arrival_of, arrivals_from, arrivals_of}
 
 abbrev pub is_empty : List Region → Bool
 is_empty [] = true
 is_empty (g ∷ regions) = false
 
--- the part with these rows
-abbrev pub arrival_of : List Table → AskPart → List Row → Arrival
-arrival_of schema ask rows = record { table = ask.table; key = (table_at schema ask.table).key; attrs = ask.attrs; rects = ask.rects; rows = rows }
-
 -- the part without rows yet
 abbrev pub unfilled : List Table → AskPart → Arrival
 unfilled schema ask = arrival_of schema ask []
-
--- the parts, each with the rows that the messages bring of it; i is the number of the first
-abbrev pub arrivals_from : ℕ → List Table → List AskPart → List Message → List Arrival
-arrivals_from i schema [] ms = []
-arrivals_from i schema (ask ∷ asks) ms = arrival_of schema ask (arrived_at i ms) ∷ arrivals_from (i + 1) schema asks ms
-
-abbrev pub arrivals_of : List Table → List AskPart → List Message → List Arrival
-arrivals_of schema asks ms = arrivals_from 0 schema asks ms
 
 -- ---- one message after another
 

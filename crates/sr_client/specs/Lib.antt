@@ -1,6 +1,7 @@
 pub mod Answering
 pub mod Asking
 pub mod Bound
+pub mod ByTold
 pub mod Cutting
 pub mod Evicting
 pub mod Explaining

@@ -11,6 +11,8 @@ use Rattle.sr_session.specs.Clients as session
 use Rattle.sr_session.specs.Rules.{Outcome, Busy, Down, Answered, AskSent, WriteSent, ResumeSent, AlreadyUp, Evicted, NoSuchClass, CutDone, AlreadyCut, Laid, Applied, Forgot, WriteDone, WriteRefused, Welcomed, next_query}
 use Rattle.sr_session.specs.Rules as rules
 use Rattle.sr_session.specs.Bases.{basis_of}
+use Rattle.sr_session.specs.Brought.{told_after}
+use Rattle.sr_client.specs.ByTold.{GoesByTold}
 use Rattle.sr_client.specs.declared.client.Client.{Client}
 use Rattle.sr_client.specs.declared.client.Request as code
 use Rattle.sr_client.specs.declared.client.Request.TheVariants as request
@@ -126,29 +128,33 @@ pub record Moves (old new : Client) (past : session.Client) (says : Outcome → 
   pub over : (db : Database) → StandsOver db past old → If db → rule db outcome next × StandsOver db next new
 
 -- For every database and past that the client stands over, what a query does is a step of the rules; the next past is the same for all
--- databases. So it is with what else a client does.
+-- databases. So it is with what else a client does. And on any link it is one by the rows that the frames brought.
 pub record Queries (old : Client) (meaning : Query) (new : Client) (step : QueryStep) : Type 0 where
   pub by_rules : (db : Database) (past : session.Client) → StandsOver db past old
       → Goes db (SaysQuery past step) (rules.QueryStep (basis_of db old.store.limits) past (Ok meaning)) new
   pub moves : (past : session.Client) → StandsFor past old
       → Moves old new past (SaysQuery past step) (λ db. Unit {0}) (λ db. rules.QueryStep (basis_of db old.store.limits) past (Ok meaning))
+  pub ruled : (past : session.Client) (stands : StandsFor past old) → GoesByTold old new (λ told. told) (λ b. rules.QueryStep b past (Ok meaning) (moves past stands).outcome (moves past stands).next)
   pub stands : Stands new
 
 -- For every database and past that the client stands over, and of which the message is truly promised, what it does is a step of the
--- rules.
+-- rules. On any link it is one by the rows that the frames brought, unless the message is refused.
 pub record Takes (old : Client) (m : Message) (new : Client) (took : Took) : Type 0 where
   pub by_rules : (db : Database) (past : session.Client) → StandsOver db past old → Truly db past m
       → Goes db (SaysTook took) (rules.TakeStep (basis_of db old.store.limits) past m) new
   pub moves : (past : session.Client) → StandsFor past old → is_bad took ≡ false
       → Moves old new past (SaysTook took) (λ db. Truly db past m) (λ db. rules.TakeStep (basis_of db old.store.limits) past m)
+  pub ruled : (past : session.Client) (stands : StandsFor past old) (good : is_bad took ≡ false)
+      → GoesByTold old new (told_after old.schema past m) (λ b. rules.TakeStep b past m (moves past stands good).outcome (moves past stands good).next)
   pub stands : Stands new
 
--- For every database and past that the client stands over, what an eviction does is a step of the rules.
+-- For every database and past that the client stands over, what an eviction does is a step of the rules. So it is on any link.
 pub record Evicts (old : Client) (place : ℕ) (new : Client) (step : EvictStep) : Type 0 where
   pub by_rules : (db : Database) (past : session.Client) → StandsOver db past old
       → Goes db (SaysEvict step) (rules.EvictStep (basis_of db old.store.limits) place past) new
   pub moves : (past : session.Client) → StandsFor past old
       → Moves old new past (SaysEvict step) (λ db. Unit {0}) (λ db. rules.EvictStep (basis_of db old.store.limits) place past)
+  pub ruled : (past : session.Client) (stands : StandsFor past old) → GoesByTold old new (λ told. told) (λ b. rules.EvictStep b place past (moves past stands).outcome (moves past stands).next)
   pub stands : Stands new
 
 -- For every database and past that the client stands over, what a write does whose text is not too long is a step of the rules. So it is on any

@@ -1,17 +1,17 @@
 -- Over an honest link a client has the rows of its version behind each step.
-use Rattle.std.proofs.Common.{◌≡◌, ◌<◌, ◌≤◌, true, List, [], ◌∷◌, ◌++◌, length, sym, subst, arith}
+use Rattle.std.proofs.Common.{◌≡◌, ◌≤◌, true, List, [], ◌∷◌, ◌++◌, sym, subst, arith}
 use Rattle.std.specs.List.{list_all}
 use Rattle.sr_policy.specs.declared.policy.Limits.{Limits}
 use Rattle.sr_query.specs.Bound.{is_table}
 use Rattle.sr_session.specs.Clients.{Client}
 use Rattle.sr_session.specs.Laws.{IsSound}
 use Rattle.sr_session.specs.Sessions.{Database, newest, tables_of}
-use Rattle.sr_links.specs.Answers.{AsksKeys, HaveRows, ClientsHaveTheRows, ServedClientsHaveTheRows}
+use Rattle.sr_links.specs.Answers.{HaveRows, ClientsHaveTheRows, ServedClientsHaveTheRows}
 use Rattle.sr_links.specs.Honest.{Server, Input, Rests, Talk, AreTalks, server_at_last, steps_in, steps_of}
 use Rattle.sr_links.specs.Steps.{Standing, Step, AreFair, past_after, code_after}
 use Rattle.sr_links.proofs.DatabaseLemmas.{Grows, last-more}
 use Rattle.sr_links.proofs.MendLemmas.{runs, closed-runs}
-use Rattle.sr_links.proofs.TalkLemmas.{IsLawful, AreLawful}
+use Rattle.sr_links.proofs.TalkLemmas.{AreLawful}
 
 module _ {C : Type 0} (IsOf : Standing C) (limits : Limits) where
   -- the rows of a version are the same on fewer and on more versions

@@ -5,5 +5,6 @@ pub mod TalkLemmas
 pub mod MendLemmas
 mod BudgetLemmas
 pub mod OutLemmas
+pub mod BroughtLemmas
 pub mod HaveLemmas
 pub mod AnswerLemmas

@@ -1,5 +1,5 @@
 -- What is out behind a step by the rules, and that the answers of a line are those of its query.
-use Rattle.std.proofs.Common.{◌≡◌, ℕ, List, [], ◌∷◌, refl, sym, ◌∙◌, ap, subst, Some, None, Ok, Err}
+use Rattle.std.proofs.Common.{◌≡◌, ℕ, List, [], ◌∷◌, refl, sym, ◌∙◌, ap, Some, None, Ok}
 use Rattle.std.specs.Prelude.{Result}
 use Rattle.sr_cell.specs.declared.fault.Fault.{Fault}
 use Rattle.sr_message.specs.declared.message.Message.{Message}
@@ -7,7 +7,7 @@ use Rattle.sr_model.specs.Queries.{Query, rows_of}
 use Rattle.sr_policy.specs.declared.policy.Limits.{Limits}
 use Rattle.sr_history.specs.declared.mark.Mark.{Mark}
 use Rattle.sr_session.specs.Clients.{Client}
-use Rattle.sr_session.specs.Rules.{Basis, Outcome, Answering, AnswerStep, renewed, given_up, Answered, AskSent, WriteSent, ResumeSent, WriteDone, WriteRefused, Welcomed, CutDone, QueryStep, query_refused, query_busy, query_answered, query_down, query_asks, TakeStep, lays, applies, forgets, answers, asks_once_more, written, refused_write, is_welcomed, EvictStep, evict_busy, evicts_none, evicts, WriteStep, write_busy, write_down, write_sends, CutStep, already_cut, cuts, ResumeStep, already_up, resumes, next_query}
+use Rattle.sr_session.specs.Rules.{Basis, Outcome, Answering, AnswerStep, renewed, given_up, Answered, AskSent, WriteSent, ResumeSent, WriteDone, WriteRefused, Welcomed, CutDone, QueryStep, query_refused, query_busy, query_answered, query_down, query_asks, TakeStep, lays, applies, forgets, answers, asks_once_more, written, refused_write, is_welcomed, EvictStep, evict_busy, evicts_none, evicts, WriteStep, write_busy, write_down, write_sends, already_cut, cuts, already_up, resumes, next_query}
 use Rattle.sr_session.specs.Sessions.{Database, tables_of}
 use Rattle.sr_links.specs.Answers.{IsTrueAnswer, AreTrueSteps, LinesAnswerTheirQueries}
 use Rattle.sr_links.specs.Queried.{query_out, query_of}

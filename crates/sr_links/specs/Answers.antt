@@ -1,5 +1,5 @@
 -- What is true over an honest link.
-use Rattle.std.specs.Prelude.{true, false, ◌≤◌, List, [], ◌∷◌, ◌≡◌, Option, Some, None, Ok}
+use Rattle.std.specs.Prelude.{true, false, ◌≤◌, List, [], ◌∷◌, ◌≡◌, Some, None, Ok}
 use Rattle.std.specs.List.{list_all}
 use Rattle.sr_cell.specs.declared.table.Table.{Table}
 use Rattle.sr_message.specs.Sizes.{most_rects, count_asked}

@@ -3,3 +3,4 @@ pub mod Honest
 pub mod Queried
 pub mod Outs
 pub mod Answers
+pub mod Brought

@@ -1,14 +1,12 @@
 -- What is out behind a step, and which query the answers of a line answer.
-use Rattle.std.specs.Prelude.{ℕ, ◌≤◌, List, [], ◌∷◌, ◌≡◌, Some, None, Ok}
-use Rattle.sr_cell.specs.declared.table.Table.{Table}
+use Rattle.std.specs.Prelude.{ℕ, ◌≤◌, List, [], ◌∷◌, ◌≡◌, Some, None}
 use Rattle.sr_model.specs.Queries.{Query, rows_of}
-use Rattle.sr_policy.specs.declared.policy.Limits.{Limits}
 use Rattle.sr_session.specs.Sessions.{Database, newest, tables_of}
 use Rattle.sr_session.specs.Walks.{AskOut, WriteOut, ResumeOut}
 use Rattle.sr_session.specs.Clients.{Client}
 use Rattle.sr_session.specs.Rules.{Outcome, Answered, AskSent, WriteSent, ResumeSent, WriteDone, WriteRefused, Welcomed, CutDone}
 use Rattle.sr_links.specs.Queried.{query_of}
-use Rattle.sr_links.specs.Steps.{Deed, Queried, Took, Step}
+use Rattle.sr_links.specs.Steps.{Deed, Took, Step}
 
 -- What is sent is out then: an ask is of the query that it asks for. What ends a request leaves none out, and all else what was out.
 abbrev pub LeavesOut : Deed → Client → Outcome → Client → Type 0

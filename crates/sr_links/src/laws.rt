@@ -3,6 +3,8 @@ ghost use Rattle.sr_cell.specs.declared.table.Table.{Table};
 ghost use Rattle.sr_model.specs.Statements.{Tables};
 ghost use Rattle.sr_session.specs.Clients.{Client};
 ghost use Rattle.std.specs.Prelude.{List};
+ghost use Rattle.sr_store.specs.Told.{Told};
+ghost use Rattle.sr_links.specs.Brought.{StepsGoByTold};
 ghost use Rattle.sr_links.specs.Answers.{AnswersAreTrue, ServedAnswersAreTrue, WholeTalksEndFree, LinesAnswerTheirQueries, ClientsHaveTheRows, ServedClientsHaveTheRows};
 
 /// A client of which only this is known: when it stands for a past, with the rows of some tables of a schema.
@@ -41,4 +43,15 @@ pub fn clients_have_the_rows<C: Peer>()
 /// The same where the session is closed behind each connection and nowhere else, of a client of which nothing is known over other links.
 pub fn served_clients_have_the_rows<C: Peer>()
     ensures { ServedClientsHaveTheRows C.is_of }
+{}
+
+/// A client of which this is known on any link: when it stands for a past, with rows that were told of tables of a schema.
+pub trait Hearer {
+    ghost has_told: { List Table → Self → Client → Told → Type 0 };
+}
+
+/// Over any link, whatever the peer is, each step goes by the rules, where kept rows are those that the frames brought, and the client
+/// keeps to its budgets by them.
+pub fn steps_go_by_told<C: Hearer>()
+    ensures { StepsGoByTold C.has_told }
 {}

@@ -6,6 +6,7 @@ pub mod MomentLemmas
 pub mod PairLemmas
 pub mod AskedLemmas
 pub mod LineLemmas
+mod NamedLemmas
 pub mod VersionLemmas
 pub mod FreeLemmas
 pub mod CoveredLemmas
@@ -15,3 +16,4 @@ pub mod ExampleClasses
 pub mod ExampleRun
 pub mod EvictedClasses
 pub mod EvictedRun
+mod OutcomeLemmas

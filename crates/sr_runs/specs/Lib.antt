@@ -4,3 +4,5 @@ pub mod Runs
 pub mod Headline
 pub mod Example
 pub mod EvictedClass
+pub mod Outcomes
+pub mod Versions

@@ -5,6 +5,8 @@ ghost use Rattle.sr_session.specs.Scenes.{Scene};
 ghost use Rattle.sr_runs.specs.Example.{events, lines, schema, start, trace};
 ghost use Rattle.sr_runs.specs.EvictedClass.{evicting_events, evicting_lines, evicting_start, evicting_trace};
 ghost use Rattle.sr_runs.specs.Runs.{Runs};
+ghost use Rattle.sr_runs.specs.Outcomes.{EventsEndWithTheirOutcome};
+ghost use Rattle.sr_runs.specs.Versions.{NamedVersionsNeverFall};
 ghost use Rattle.sr_runs.specs.Headline.{ACoveredQueryAsksNothing, AnswerLinesAreRight, AnswerVersionsNeverFall, AskLinesAreRight, LinesAreTold, ScriptsReach, ScriptsStand, StepsAreEvents};
 
 /// Each step of a script is events of the scene, one after another: deliveries too, of a settle or where delivery is eager.
@@ -31,9 +33,11 @@ pub fn answer_lines_are_right()
     ensures rows { AnswerLinesAreRight }
 {}
 
-/// Of two answers to one client, the later one in the trace of a script names no lower version.
+/// Of two answers to one client, the later one in the trace of a script names no lower version; and so it is with all lines of a client
+/// that name a version: of notices and Lapses that were applied, of writes, and of new sessions.
 pub fn answer_versions_never_fall()
     ensures versions { AnswerVersionsNeverFall }
+    ensures named { NamedVersionsNeverFall }
 {}
 
 /// Wherever the trace of a script has the line of an ask, its parts stand behind it, and they ask just what was uncovered, at that moment
@@ -46,6 +50,11 @@ pub fn ask_lines_are_right()
 /// deliveries included, is that of an ask of the client.
 pub fn a_covered_query_asks_nothing()
     ensures answered { ACoveredQueryAsksNothing }
+{}
+
+/// Each event has its outcome line: the last of its lines, of the event's kind and client.
+pub fn events_end_with_their_outcome()
+    ensures lines { EventsEndWithTheirOutcome }
 {}
 
 /// The worked example without eager delivery: its events may give its lines, and the lines' text is the trace, byte for byte.

@@ -1,6 +1,6 @@
 -- A query is answered after at most two asks, and nothing is dropped for its pieces where the load is not high.
-use Rattle.std.proofs.Common.{◌≡◌, ℕ, Bool, true, false, not, ◌&&◌, List, [], ◌∷◌, ◌++◌, refl, sym, ◌∙◌, ap, subst, inl, inr, Option, Some, None, Ok, arith}
-use Rattle.std.specs.Prelude.{Result, ◌⊎◌}
+use Rattle.std.proofs.Common.{◌≡◌, ℕ, Bool, true, false, not, ◌&&◌, List, [], ◌∷◌, ◌++◌, refl, sym, ◌∙◌, ap, subst, inl, inr, Some, None, Ok}
+use Rattle.std.specs.Prelude.{Result}
 use Rattle.std.specs.List.{list_all, AllZip}
 use Rattle.std.proofs.lemmas.List.Folds.{list_all-append}
 use Rattle.sr_cell.specs.declared.cause.Cause.{Cause}
@@ -20,8 +20,8 @@ use Rattle.sr_history.specs.Drops.{IsDropOf, DropsEach, AbsorbsFrom}
 use Rattle.sr_history.specs.Load.{IsHeavy}
 use Rattle.sr_session.specs.Clients.{Client}
 use Rattle.sr_session.specs.Progress.{IsAnsweredOrAsked, IsAnsweredOrAskedAfresh, QueriesAreAnsweredOrAsked, RepliesAnswer, is_pieces, drops_pieces, DropsNoPieces, LightQueriesKeepTheirPieces, LightRepliesKeepTheirPieces}
-use Rattle.sr_session.specs.Rules.{Basis, Outcome, Answering, AnswerStep, Renews, renewed, given_up, answering_now, answering_then, Before, as_it_is, emptied, Holds, QueryStep, query_refused, query_busy, query_answered, query_down, query_asks, TakeStep, lays, applies, forgets, answers, asks_once_more, written, refused_write, is_welcomed, counted, is_given_up, next_query, with_query, with_answered}
-use Rattle.sr_session.specs.Walks.{Request, AskOut, IsLaid, has_lapse}
+use Rattle.sr_session.specs.Rules.{Basis, Outcome, Answering, AnswerStep, renewed, given_up, answering_now, answering_then, Before, as_it_is, emptied, Holds, QueryStep, query_refused, query_busy, query_answered, query_down, query_asks, TakeStep, lays, applies, forgets, answers, asks_once_more, written, refused_write, is_welcomed, counted, next_query, with_query, with_answered}
+use Rattle.sr_session.specs.Walks.{AskOut, IsLaid, has_lapse}
 
 -- ---- answered, or asked
 

@@ -1,9 +1,8 @@
 -- What comes of a query in the end: the rules answer it after at most two asks, and drop nothing for its pieces where the load is not high.
-use Rattle.std.specs.Prelude.{ℕ, Bool, true, false, not, ◌&&◌, List, [], ◌∷◌, ◌≡◌, Option, Some, None, Ok, Result}
+use Rattle.std.specs.Prelude.{ℕ, Bool, true, false, not, List, [], ◌≡◌, Some, None, Ok}
 use Rattle.std.specs.List.{list_all}
 use Rattle.sr_cell.specs.declared.cause.Cause.{Cause}
 use Rattle.sr_cell.specs.declared.cause.Cause.TheVariants.{Pieces}
-use Rattle.sr_cell.specs.Cells.{Row}
 use Rattle.sr_message.specs.declared.message.AskPart.{AskPart}
 use Rattle.sr_message.specs.declared.message.Message.TheVariants.{Reply}
 use Rattle.sr_model.specs.Queries.{Query}

@@ -73,7 +73,7 @@ of-self g = grind (arith, nat_tests)
 
 -- ---- rows put together
 
-filter-with_rows : (key : ℕ) (f : Row → Bool) (rows more : List Row) → ascend key rows ≡ true → ascend key more ≡ true → list_all (is_apart key rows) more ≡ true
+pub filter-with_rows : (key : ℕ) (f : Row → Bool) (rows more : List Row) → ascend key rows ≡ true → ascend key more ≡ true → list_all (is_apart key rows) more ≡ true
     → filter f (with_rows key rows more) ≡ with_rows key (filter f rows) (filter f more)
 filter-with_rows key f rows [] h k apart = refl
 filter-with_rows key f rows (m ∷ more) h k apart =
@@ -84,16 +84,16 @@ filter-with_rows key f rows (m ∷ more) h k apart =
     go true = refl
     go false = refl
 
-none-pass : (P : Row → Type 0) (f : Row → Bool) → ((row : Row) → P row → f row ≡ false) → (rows : List Row) → All P rows → filter f rows ≡ []
+pub none-pass : (P : Row → Type 0) (f : Row → Bool) → ((row : Row) → P row → f row ≡ false) → (rows : List Row) → All P rows → filter f rows ≡ []
 none-pass P f fails [] all = refl
 none-pass P f fails (r ∷ rows) all = rw (fails r (All-head P r rows all)) (none-pass P f fails rows (All-tail P r rows all))
 
-all-pass : (P : Row → Type 0) (f : Row → Bool) → ((row : Row) → P row → f row ≡ true) → (rows : List Row) → All P rows → filter f rows ≡ rows
+pub all-pass : (P : Row → Type 0) (f : Row → Bool) → ((row : Row) → P row → f row ≡ true) → (rows : List Row) → All P rows → filter f rows ≡ rows
 all-pass P f holds [] all = refl
 all-pass P f holds (r ∷ rows) all = rw (holds r (All-head P r rows all)) (ap (λ xs. r ∷ xs) (all-pass P f holds rows (All-tail P r rows all)))
 
 -- rows of a table that have no key in common stand apart
-apart-lists : (t : Table) (a key : ℕ) → has_column a key ≡ true → (rows others : List Row) → All (IsPart t.columns a) rows → All (IsPart t.columns a) others
+pub apart-lists : (t : Table) (a key : ℕ) → has_column a key ≡ true → (rows others : List Row) → All (IsPart t.columns a) rows → All (IsPart t.columns a) others
     → ((k : Cell) → has_key (rank a key) k others ≡ true → has_key (rank a key) k rows ≡ false) → list_all (is_apart (rank a key) rows) others ≡ true
 apart-lists t a key has rows [] all each none = refl
 apart-lists t a key has rows (m ∷ others) all each none =

@@ -141,10 +141,10 @@ region-rows schema tables g are h is =
 
 -- ---- the columns of each region are those of some mark
 
-abbrev IsUsed : List Mark → Region → Type 0
+abbrev pub IsUsed : List Mark → Region → Type 0
 IsUsed marks g = list_any (λ y. g.attrs == y) (map attrs_of marks) ≡ true
 
-all-used : (schema : List Table) (marks : List Mark) (gs : List Region)
+pub all-used : (schema : List Table) (marks : List Mark) (gs : List Region)
     → ((t a : ℕ) (p : Row) → is_point (table_at schema t).columns p ≡ true → (occurs gs t a p ≡ 0 → ⊥) → is_held marks t a p ≡ true) → All (IsSolid schema) gs → All (IsUsed marks) gs
 all-used schema marks [] held some = All-nil (IsUsed marks)
 all-used schema marks (g ∷ gs) held some =

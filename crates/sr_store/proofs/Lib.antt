@@ -26,6 +26,7 @@ pub mod Fewer
 pub mod Lasts
 pub mod Totals
 pub mod KeptRows
+pub mod KeptTold
 pub mod Meeting
 pub mod Telling
 pub mod Noticing
@@ -33,6 +34,7 @@ pub mod Nearing
 pub mod Chunks
 pub mod Storing
 pub mod GivingWay
+pub mod Bringing
 pub mod Removing
 pub mod Sharing
 pub mod Settled

@@ -5,12 +5,13 @@ use Rattle.std.proofs.lemmas.List.Elements.{All-weaker, All-map}
 use Rattle.sr_cell.specs.declared.table.Table.{Table}
 use Rattle.sr_message.specs.declared.message.Tell.{Tell}
 use Rattle.sr_region.specs.declared.region.Region.{Region}
+use Rattle.sr_store.specs.Brought.{tells_all}
 use Rattle.sr_store.specs.Told.{Told, IsTold, AreTrueOf}
 use Rattle.sr_store.specs.Stores.{IsOfSchema, IsStore, IsAbsorbedIn}
 use Rattle.sr_store.specs.Noticed.{told_to, IsTellOf}
 use Rattle.sr_store.proofs.Chunks.{IsChunk, region-chunk, lies-occurs, some-telling, regions-keys}
 use Rattle.sr_store.proofs.Settled.{settled_less}
-use Rattle.sr_store.proofs.Telling.{only-rows, occurs-told, rects-told, ascends-told, tells_all, told-all, each-told, true-each}
+use Rattle.sr_store.proofs.Telling.{only-rows, occurs-told, rects-told, ascends-told, told-all, each-told, true-each}
 
 module _ (schema : List Table) where
   -- the regions of a store have the rows of some telling

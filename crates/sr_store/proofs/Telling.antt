@@ -28,6 +28,7 @@ use Rattle.sr_regions.proofs.Telling.{told-of-schema}
 use Rattle.sr_store.specs.Classes.{is_of, occurs, is_before, ascends}
 use Rattle.sr_store.specs.Told.{Told, IsTold, IsTrueOf, AreTrueOf}
 use Rattle.sr_store.specs.Stores.{IsOfSchema, count_rects}
+use Rattle.sr_store.specs.Brought.{with_cells, after_all, tells, tells_all}
 use Rattle.sr_store.specs.Noticed.{told_to, IsTellOf}
 
 -- ---- only the rows change
@@ -65,18 +66,6 @@ module _ (told : List Tell) where
       grind (arith, ih, one, h)
 
 -- ---- what is told of each table and set of columns
-
--- with the cells of these columns, if there is a row
-abbrev pub with_cells : ℕ → ℕ → Option Row → List Row → List Row
-with_cells key a None rows = rows
-with_cells key a (Some row) rows = with_row key rows (project a row)
-
-abbrev pub after_all : ℕ → ℕ → Tell → List Row → List Row
-after_all key a tell rows = with_cells (rank a key) a tell.after (without_key (rank a key) tell.key rows)
-
--- the telling after one tell
-abbrev pub tells : List Table → Tell → Told → Told
-tells schema tell told t a = if tell.table == t then after_all (table_at schema t).key a tell (told t a) else told t a
 
 without-parts : (P : Row → Type 0) (key : ℕ) (v : Cell) (rows : List Row) → All P rows → All P (without_key key v rows)
 without-parts P key v rows all = All-filter (λ row. not (cell_eq (cell_at row key) v)) P rows all
@@ -196,11 +185,6 @@ module _ (schema : List Table) (tell : Tell) (is : IsTellOf schema tell) where
       go false e = own ∙ ap (filter (is_in g.attrs g.rects)) (sym (ap (λ b. if b then after_all (table_at schema g.table).key g.attrs tell (told g.table g.attrs) else told g.table g.attrs) e))
 
 -- ---- regions stay regions, with the rows of a telling
-
--- the telling after all that is told
-abbrev pub tells_all : List Table → List Tell → Told → Told
-tells_all schema [] told = told
-tells_all schema (tell ∷ more) told = tells_all schema more (tells schema tell told)
 
 module _ (schema : List Table) where
   pub of-schema-all : (told : List Tell) (g : Region) → All (IsTellOf schema) told → IsOfSchema schema g → IsOfSchema schema (told_to told g)

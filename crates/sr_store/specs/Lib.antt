@@ -8,4 +8,5 @@ pub mod Past
 pub mod Fitted
 pub mod Fitting
 pub mod Noticed
+pub mod Brought
 pub mod Laws

@@ -1,4 +1,5 @@
 //! Laws of the definitions: functions that do nothing, and whose contracts are the laws.
+ghost use Rattle.sr_store.specs.Brought.{FittedMeetsToldBudgets, NoticesAreTold, ArrivalsAreTold};
 ghost use Rattle.sr_store.specs.Laws.{FittedMeetsBudgets, FittedFitStill, LastsAreLast, NoticesKeepTrue, ChangesAreTells, NoticesKeepClasses, SomeTellingFits, NothingGivesWay};
 
 /// What is dropped from regions so that they fit is just what the budgets demand of the marks behind them.
@@ -39,4 +40,19 @@ pub fn some_telling_fits()
 /// Where all tell truly, nothing gives way.
 pub fn nothing_gives_way()
     ensures { NothingGivesWay }
+{}
+
+/// What is dropped from regions so that they fit is what the budgets demand, by the rows of any telling that is true of the regions.
+pub fn fitted_meets_told_budgets()
+    ensures { FittedMeetsToldBudgets }
+{}
+
+/// Regions that are true of a telling are true of what notices make of it, once they are told the same.
+pub fn notices_are_told()
+    ensures { NoticesAreTold }
+{}
+
+/// And of what arrivals make of it, once they give way to them; and so are the arrivals.
+pub fn arrivals_are_told()
+    ensures { ArrivalsAreTold }
 {}

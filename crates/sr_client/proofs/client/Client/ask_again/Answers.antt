@@ -13,7 +13,7 @@ put_out-requires c = let number : c.in_ok-second.second.number ≡ c.args.self.n
 
 pub returns-clause-takes : goal.returns-clause-takes
 returns-clause-takes c =
-    again-of c.args.self.now c.args.out c.args.number c.args.version c.requires.again c.in-Ok.marks c.drop_all.new.self c.new.result c.in_ok-second.second c.in_ok-message.message c.put_out.new.self
+    again-of c.args.self.now c.args.out c.args.number c.args.version c.requires.fit c.requires.again c.in-Ok.marks c.drop_all.new.self c.new.result c.in_ok-second.second c.in_ok-message.message c.put_out.new.self
     c.in-Ok.ensures.marks c.drop_all.ensures.nothing_left c.new.ensures c.in_ok-second.ensures c.in_ok-message.ensures.message c.in_ok-message.ensures.out c.requires.stands
 
 pub returns-clause-version : goal.returns-clause-version
@@ -26,4 +26,4 @@ pub returns-clause-sends : goal.returns-clause-sends
 returns-clause-sends c =
     let old = c.args.self.now in
     let told = c.in_ok-message.ensures.message ∙ ap (λ (o : AskOut). Ask o.number o.fresh o.parts) c.in_ok-second.ensures in
-    subst (IsWellSent old.schema old.id) (sym told) (again-sent old c.args.out c.args.number c.args.version c.requires.again c.requires.stands.0 c.requires.stands.1)
+    subst (IsWellSent old.schema old.id) (sym told) (again-sent old c.args.out c.args.number c.args.version c.requires.fit c.requires.again c.requires.stands.0 c.requires.stands.1)

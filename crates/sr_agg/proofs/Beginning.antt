@@ -1,6 +1,6 @@
 -- What a text begins, when its parts are judged.
 use Rattle.std.proofs.Common.{◌≡◌, ℕ, List, [], ◌∷◌, map, refl, sym, ap, subst, ◌∙◌}
-use Rattle.std.specs.Prelude.{Option, Some, None, Result, Ok, Err, IfOk, IsErrOf}
+use Rattle.std.specs.Prelude.{Result, Ok, Err, IfOk, IsErrOf}
 use Rattle.std.specs.List.{AllZip}
 use Rattle.sr_cell.specs.declared.fault.Fault.{Fault}
 use Rattle.sr_cell.specs.declared.list.No.{No}
@@ -9,7 +9,6 @@ use Rattle.sr_cell.specs.declared.table.Table.{Table}
 use Rattle.sr_grammar.specs.Says.{Says}
 use Rattle.sr_grammar.specs.Trees.{Statement}
 use Rattle.sr_model.specs.Queries as model
-use Rattle.sr_query.specs.declared.condition.Output.{Output}
 use Rattle.sr_query.specs.declared.query.Part.{Part}
 use Rattle.sr_query.specs.declared.query.Query.{Query}
 use Rattle.sr_query.specs.Binding.{bound_query}

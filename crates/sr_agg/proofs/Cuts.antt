@@ -1,6 +1,6 @@
 -- Where the query of an aggregate begins and ends, its text may be cut.
-use Rattle.std.proofs.Common.{◌≡◌, ℕ, zero, suc, ◌+◌, ◌-◌, ◌<◌, ◌≤◌, Bool, true, false, List, [], ◌∷◌, ◌++◌, length, take, drop, map, get_or, Option, Some, None, refl, sym, ap, subst, ◌∙◌, append_assoc, arith}
-use Rattle.std.specs.Prelude.{codes, if◌then◌else◌, bytes_eq, ◌&&◌, ◌||◌, nat_lt, Ok, Result, Err}
+use Rattle.std.proofs.Common.{◌≡◌, ℕ, zero, suc, ◌-◌, ◌<◌, Bool, true, false, List, [], ◌∷◌, ◌++◌, length, take, drop, map, get_or, Option, Some, None, refl, sym, ap, subst, ◌∙◌, append_assoc, arith}
+use Rattle.std.specs.Prelude.{codes, if◌then◌else◌, bytes_eq, ◌&&◌, ◌||◌, nat_lt, Ok, Err}
 use Rattle.std.specs.Char.{to_ascii_uppercase, to_ascii_lowercase}
 use Rattle.std.specs.Str.{IsCharBoundary}
 use Rattle.std.proofs.lemmas.Str.{IsCharBoundary-before_ascii}
@@ -10,9 +10,8 @@ use Rattle.sr_token.specs.declared.token.TokenKind.{TokenKind}
 use Rattle.sr_token.specs.declared.token.TokenKind.TheVariants as code
 use Rattle.sr_token.specs.Tokens.{Lexeme, Found, Bad as None_there, tokens_from}
 use Rattle.sr_token.specs.Spans.{AreSpans, slice}
-use Rattle.sr_cell.specs.declared.fault.Fault.{Fault}
 use Rattle.sr_cell.specs.declared.fault.Why.TheVariants.{LongText}
-use Rattle.sr_grammar.specs.Tokens.{Kind, Key, Named, Mark, Bad, Tok, is, is_reserved, lexeme_seen, lower, of_kind, seen, tokens_of, upper, word_seen}
+use Rattle.sr_grammar.specs.Tokens.{Key, Named, Mark, Bad, Tok, is, is_reserved, lexeme_seen, lower, of_kind, seen, tokens_of, upper, word_seen}
 use Rattle.sr_grammar.specs.Words.{place_of}
 use Rattle.sr_grammar_laws.specs.Reading.{Reading, Got, Fails, Reader, and_then as ◌>>=◌, nothing, one, taken}
 use Rattle.sr_grammar_laws.specs.Readers.{end, key, list, mark, maybe}

@@ -1,6 +1,5 @@
 -- Taking the rest of a query token by token.
-use Rattle.std.proofs.Common.{◌≡◌, ℕ, ◌<◌, Bool, true, false, List, [], ◌∷◌, length, drop, refl, arith}
-use Rattle.std.specs.Prelude.{if◌then◌else◌}
+use Rattle.std.proofs.Common.{◌≡◌, ◌<◌, true, false, List, [], ◌∷◌, length, drop, refl, arith}
 use Rattle.sr_grammar.specs.Tokens.{Bad, Tok, of_kind}
 use Rattle.sr_grammar_laws.specs.Reading.{Got, Fails, next_is}
 use Rattle.sr_agg.specs.Statement.{ends, place_if_any, up_to_end}

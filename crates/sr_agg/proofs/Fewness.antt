@@ -1,6 +1,6 @@
 -- No tally counts more rows than there are.
-use Rattle.std.proofs.Common.{◌≡◌, ℕ, zero, suc, ◌+◌, ◌<◌, ◌≤◌, ◌^◌, Bool, true, false, List, [], ◌∷◌, length, take, map, refl, sym, ap, subst, ◌∙◌, arith}
-use Rattle.std.specs.Prelude.{Option, Some, None, filter, slice_index_or}
+use Rattle.std.proofs.Common.{◌≡◌, ℕ, zero, suc, ◌<◌, ◌≤◌, ◌^◌, Bool, true, false, List, [], ◌∷◌, length, take, map, refl, sym, ap, subst, ◌∙◌, arith}
+use Rattle.std.specs.Prelude.{Some, filter}
 use Rattle.std.specs.Global.{Vec}
 use Rattle.std.specs.declared.cmp.Ordering.{Ordering}
 use Rattle.std.specs.declared.cmp.Ordering.TheVariants.{Less, Equal, Greater}
@@ -12,12 +12,10 @@ use Rattle.std.specs.Map.{lookup}
 use Rattle.sr_cell.specs.declared.cell.Cell.{Cell}
 use Rattle.sr_cell.specs.Cells.{Row}
 use Rattle.sr_agg.specs.declared.item.Item.{Item}
-use Rattle.sr_agg.specs.declared.item.Item.TheVariants as items
-use Rattle.sr_agg.specs.declared.statement.Function.TheVariants as functions
 use Rattle.sr_agg.specs.declared.tally.Tally.{Tally}
 use Rattle.sr_agg.specs.Groups.{group_keys, key_order, rows_with}
 use Rattle.sr_agg.specs.Kept.{entries_seen}
-use Rattle.sr_agg.specs.Tallies.{first_tally, grouped, tally_of, IsFew, count_in}
+use Rattle.sr_agg.specs.Tallies.{first_tally, grouped, tally_of, IsFew}
 use Rattle.sr_agg.proofs.Order.{order}
 use Rattle.sr_agg.proofs.Keeping.{at, lookup-seen}
 use Rattle.sr_agg.proofs.Tallying.{tally-few}

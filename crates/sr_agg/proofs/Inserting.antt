@@ -5,7 +5,7 @@ use Rattle.std.specs.declared.cmp.Ordering.TheVariants.{Less, Equal, Greater}
 use Rattle.std.specs.Cmp.{IsTotalOrder}
 use Rattle.std.specs.BTreeSet.{insert_key}
 use Rattle.std.proofs.lemmas.Map.Lookups.{CmpEqualImpliesEq}
-use Rattle.sr_agg.proofs.Order.{above, below, gt-trans}
+use Rattle.sr_agg.proofs.Order.{above, below}
 
 module _ {K : Type 0} {R : K → K → Ordering} (o : IsTotalOrder R) (exact : CmpEqualImpliesEq R) where
   ascending : (a b : K) → R a b ≡ Less → (ks : List K) → insert_key R (insert_key R ks a) b ≡ insert_key R (insert_key R ks b) a

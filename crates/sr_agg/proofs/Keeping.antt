@@ -1,16 +1,16 @@
 -- A row more in the groups that a map keeps.
-use Rattle.std.proofs.Common.{◌≡◌, ℕ, zero, suc, ◌+◌, ◌<◌, ◌≤◌, ◌^◌, Bool, true, false, not, ◌||◌, List, [], ◌∷◌, ◌++◌, length, take, map, fold, refl, sym, ap, subst, ◌∙◌, arith, cond}
-use Rattle.std.specs.Prelude.{Option, Some, None, if◌then◌else◌, filter, is_some, OnOk, Result, Ok, Err}
+use Rattle.std.proofs.Common.{◌≡◌, ℕ, Bool, true, false, ◌||◌, List, [], ◌∷◌, ◌++◌, take, map, fold, refl, sym, ap, subst, ◌∙◌, arith}
+use Rattle.std.specs.Prelude.{Some, None, if◌then◌else◌, filter, is_some, OnOk, Result, Ok, Err}
 use Rattle.std.specs.Global.{Vec}
 use Rattle.std.specs.declared.cmp.Ordering.{Ordering}
 use Rattle.std.specs.declared.cmp.Ordering.TheVariants.{Less, Equal, Greater}
-use Rattle.std.specs.Ordering.{is_eq, match_ordering}
+use Rattle.std.specs.Ordering.{is_eq}
 use Rattle.std.specs.List.{list_any, AllByRecursion}
 use Rattle.std.specs.Option.{option_map}
 use Rattle.std.specs.Cmp.Lexicographic.{slice_cmp}
 use Rattle.std.specs.List.Sorted.{IsStrictlySortedBy}
 use Rattle.std.specs.BTreeSet.{insert_key}
-use Rattle.std.specs.BTreeMap.{insert_entry, is_at}
+use Rattle.std.specs.BTreeMap.{insert_entry}
 use Rattle.std.specs.Map.{keys_of, lookup, set_value}
 use Rattle.std.proofs.lemmas.Map.Keys.{sorted_head, sorted_tail}
 use Rattle.std.proofs.lemmas.Map.Made.{is_some-lookup}
@@ -18,10 +18,10 @@ use Rattle.sr_cell.specs.declared.cell.Cell.{Cell}
 use Rattle.sr_cell.specs.Cells.{Row}
 use Rattle.sr_agg.specs.declared.item.Item.{Item}
 use Rattle.sr_agg.specs.declared.tally.Tally.{Tally}
-use Rattle.sr_agg.specs.Groups.{cell_order, first_keys, group_keys, key_order, rows_with}
+use Rattle.sr_agg.specs.Groups.{first_keys, group_keys, key_order, rows_with}
 use Rattle.sr_agg.specs.Kept.{entry_seen, entries_seen}
 use Rattle.sr_agg.specs.Tallies.{first_tally, with_row, tally_of, grouped}
-use Rattle.sr_agg.proofs.Order.{order, keys-same, key-total, key-exact, level, above, below, alike}
+use Rattle.sr_agg.proofs.Order.{order, keys-same, key-total, key-exact, level, below, alike}
 
 abbrev pub vec_order : Vec Cell → Vec Cell → Ordering
 vec_order k l = slice_cmp order k.items l.items

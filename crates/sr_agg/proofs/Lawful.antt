@@ -1,11 +1,10 @@
 -- The laws of aggregates.
-use Rattle.std.proofs.Common.{◌≡◌, ℕ, ◌<◌, ◌^◌, Bool, List, [], ◌∷◌, ◌++◌, length, map, fold, take, refl, sym, ap, subst, ◌∙◌, append_assoc, arith}
+use Rattle.std.proofs.Common.{◌≡◌, ℕ, ◌<◌, ◌^◌, List, [], ◌∷◌, ◌++◌, length, map, take, refl, sym, ap, subst, ◌∙◌, append_assoc, arith}
 use Rattle.std.specs.Global.{Vec}
 use Rattle.std.specs.Prelude.{IsPermutation, Option, Some, None, Result, Ok, Err}
 use Rattle.std.specs.Ordering.{is_eq}
 use Rattle.std.specs.BTreeSet.{insert_key}
 use Rattle.sr_cell.specs.declared.cell.Cell.{Cell}
-use Rattle.sr_cell.specs.declared.table.Table.{Table}
 use Rattle.sr_cell.specs.declared.fault.Fault.{Fault}
 use Rattle.sr_cell.specs.Cells.{Row}
 use Rattle.sr_grammar.specs.Says.{Says}
@@ -19,7 +18,7 @@ use Rattle.sr_agg.specs.declared.tally.Tally.{Tally}
 use Rattle.sr_agg.specs.declared.agg.AggFault.TheVariants.{Sql}
 use Rattle.sr_agg.specs.Statement.{outer}
 use Rattle.sr_agg.specs.Inner.{group_count, inner_text}
-use Rattle.sr_agg.specs.Groups.{aggregates, first_keys, group_keys, key_order, rows_with, told_of}
+use Rattle.sr_agg.specs.Groups.{aggregates, first_keys, group_keys, key_order, rows_with}
 use Rattle.sr_agg.specs.Starting.{Plan, Starts, asked_by, behind_query, item_of, judged, not_grouped, scope_of, sum_of_text}
 use Rattle.sr_agg.specs.Tallies.{first_tally, grouped, tally_of, told_by, with_row}
 use Rattle.sr_agg.specs.Kept.{entries_seen}

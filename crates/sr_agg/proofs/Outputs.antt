@@ -1,6 +1,6 @@
 -- The columns of a query's list, as the code knows them.
 use Rattle.std.proofs.Common.{◌≡◌, ℕ, zero, suc, List, [], ◌∷◌, take, map, refl, sym, ap, ◌∙◌}
-use Rattle.std.specs.Prelude.{Option, Some, None, slice_get}
+use Rattle.std.specs.Prelude.{Some, None, slice_get}
 use Rattle.std.specs.Option.{option_map}
 use Rattle.sr_query.specs.declared.condition.Output.{Output}
 use Rattle.sr_query.specs.Bound.{output_of}

@@ -1,17 +1,15 @@
 -- What readers leave is what stands behind the tokens that they take.
-use Rattle.std.proofs.Common.{◌≡◌, ℕ, zero, suc, ◌≤◌, Bool, true, false, List, [], ◌∷◌, ◌++◌, length, Option, Some, None, refl, sym, ap, ◌∙◌, append_assoc, arith}
+use Rattle.std.proofs.Common.{◌≡◌, ℕ, zero, suc, Bool, true, false, List, [], ◌∷◌, ◌++◌, length, Option, Some, None, refl, sym, ap, ◌∙◌, append_assoc, arith}
 use Rattle.std.specs.Prelude.{codes, if◌then◌else◌}
 use Rattle.std.proofs.lemmas.List.{length-append}
-use Rattle.sr_grammar.specs.declared.statement.Name.{Name}
-use Rattle.sr_grammar.specs.Tokens.{Kind, Key, Named, Mark, Tok, is}
+use Rattle.sr_grammar.specs.Tokens.{Kind, Mark, Tok, is}
 use Rattle.sr_grammar.specs.Words.{Word, place_of, name_of, reference_of}
-use Rattle.sr_grammar_laws.specs.Reading.{Reading, Got, Fails, Reader, and_then, nothing, one, taken, branch, next_is, many_for, many}
+use Rattle.sr_grammar_laws.specs.Reading.{Got, Reader, and_then, nothing, one, taken, branch, next_is, many_for, many}
 use Rattle.sr_grammar_laws.specs.Readers.{list, maybe, reference}
 use Rattle.sr_grammar_laws.proofs.Good.{bind_ok}
 use Rattle.sr_grammar_laws.proofs.LawsOfConditions.{both_reference}
-use Rattle.sr_grammar_laws.proofs.Loops.{Shrinks, item as item_behind}
+use Rattle.sr_grammar_laws.proofs.Loops.{Shrinks}
 use Rattle.sr_agg.specs.declared.statement.Function.{Function}
-use Rattle.sr_agg.specs.declared.statement.Listed.{Listed}
 use Rattle.sr_agg.specs.declared.statement.Listed.TheVariants.{Plain, Rows, Of}
 use Rattle.sr_agg.specs.Statement.{call, called, function_named, item, may_be_all, plain, reference_behind}
 

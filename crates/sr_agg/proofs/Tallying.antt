@@ -1,5 +1,5 @@
 -- What tallies tell, in whatever order their rows came.
-use Rattle.std.proofs.Common.{◌≡◌, ℕ, zero, suc, ℤ, pos, ◌+◌, ◌+ℤ◌, ◌≤◌, ◌<◌, ◌^◌, Bool, true, false, List, [], ◌∷◌, ◌++◌, length, map, fold, refl, sym, ap, subst, ◌∙◌, arith}
+use Rattle.std.proofs.Common.{◌≡◌, ℕ, ℤ, pos, ◌+◌, ◌+ℤ◌, ◌≤◌, ◌<◌, ◌^◌, Bool, true, false, List, [], ◌∷◌, length, fold, refl, sym, ap, subst, ◌∙◌, arith}
 use Rattle.std.specs.Prelude.{Option, Some, None, if◌then◌else◌}
 use Rattle.std.specs.declared.cmp.Ordering.{Ordering}
 use Rattle.std.specs.declared.cmp.Ordering.TheVariants.{Less, Equal, Greater}
@@ -14,8 +14,7 @@ use Rattle.sr_agg.specs.declared.item.Item.{Item}
 use Rattle.sr_agg.specs.declared.item.Item.TheVariants as items
 use Rattle.sr_agg.specs.declared.tally.Tally.{Tally}
 use Rattle.sr_agg.specs.declared.tally.Tally.TheVariants.{Grouping, Rows, Count, Sum, Min, Max}
-use Rattle.sr_agg.specs.Totals.{Total, none_yet, with_number}
-use Rattle.sr_agg.specs.Tallies.{first_tally, with_row, tally_of, count_in, told_by, told_of_total}
+use Rattle.sr_agg.specs.Tallies.{with_row, tally_of, count_in, told_by, told_of_total}
 use Rattle.sr_agg.specs.Groups.{cell_order, greater, if_any, lesser, nearest, number_in, told_of, total, column_values}
 use Rattle.sr_agg.proofs.Order.{cell-total, cell-exact, above, gt-trans}
 use Rattle.sr_agg.proofs.Bags.{IsEitherFirst}

@@ -1,5 +1,5 @@
 -- What is told of the groups of an answer's rows.
-use Rattle.std.specs.Prelude.{ℕ, zero, suc, ℤ, ◌+ℤ◌, pos, negsuc, int_le, Bool, List, [], ◌∷◌, length, take, map, filter, fold, Option, Some, None, if◌then◌else◌}
+use Rattle.std.specs.Prelude.{ℕ, zero, suc, ℤ, ◌+ℤ◌, pos, negsuc, int_le, List, [], ◌∷◌, length, take, map, filter, fold, Option, Some, None, if◌then◌else◌}
 use Rattle.std.specs.declared.cmp.Ordering.{Ordering}
 use Rattle.std.specs.declared.cmp.Ordering.TheVariants.{Less, Greater}
 use Rattle.std.specs.Ordering.{nat_cmp, int_cmp, is_eq, is_gt}

@@ -1,5 +1,5 @@
 -- Laws of aggregates.
-use Rattle.std.specs.Prelude.{◌≡◌, ℕ, List, IsPermutation, Option, Result, Ok}
+use Rattle.std.specs.Prelude.{◌≡◌, ℕ, List, IsPermutation, Option, Ok}
 use Rattle.sr_cell.specs.declared.cell.Cell.{Cell}
 use Rattle.sr_cell.specs.declared.table.Table.{Table}
 use Rattle.sr_cell.specs.Cells.{Row}

@@ -1,5 +1,5 @@
 use Rattle.std.proofs.Common.{◌≡◌, drop, fold, map}
-use Rattle.sr_agg.specs.Inner.{spelling, spellings, with_text}
+use Rattle.sr_agg.specs.Inner.{spelling, with_text}
 use Rattle.sr_agg.proofs.inner.push_names.Given as goal
 
 abbrev pub invariant-loop-name : goal.invariant-loop-name

@@ -1,0 +1,15 @@
+pub mod Reading
+pub mod Order
+pub mod Inserting
+pub mod Bags
+pub mod Tallying
+pub mod Keeping
+pub mod Lawful
+pub mod Cuts
+pub mod Cases
+pub mod Ending
+pub mod Trimming
+pub mod Beginning
+pub mod Cells
+pub mod Fewness
+pub mod Outputs

@@ -1,0 +1,10 @@
+pub mod Statement
+pub mod Inner
+pub mod Groups
+pub mod Starting
+pub mod Seen
+pub mod Views
+pub mod Totals
+pub mod Tallies
+pub mod Kept
+pub mod Laws

@@ -18,7 +18,7 @@ use Rattle.sr_message.specs.declared.message.Holding.{Holding}
 use Rattle.sr_subs.specs.Subscription.{has_point}
 use Rattle.sr_history.specs.declared.mark.Mark.{Mark}
 use Rattle.sr_history.specs.Marks.{is_held}
-use Rattle.sr_history.specs.Classes.{AreClasses, Class, in_class, Numbered, same_class, stamp}
+use Rattle.sr_history.specs.Classes.{Class, in_class, Numbered, same_class, stamp}
 use Rattle.sr_region.specs.declared.region.Region.{Region}
 use Rattle.sr_store.specs.Past.{class_of}
 use Rattle.sr_store.specs.Stores.{IsOfSchema}

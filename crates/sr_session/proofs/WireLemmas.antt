@@ -1,13 +1,11 @@
 -- An entry for all columns tells as much as one without columns did.
-use Rattle.std.proofs.Common.{◌≡◌, ℕ, zero, suc, ◌+◌, ◌<◌, ◌≤◌, Bool, true, false, not, ◌&&◌, ◌||◌, List, [], ◌∷◌, length, refl, sym, ◌∙◌, ap, arith, Option, Some, None}
+use Rattle.std.proofs.Common.{◌≡◌, ℕ, zero, suc, ◌+◌, ◌<◌, ◌≤◌, Bool, true, false, not, ◌&&◌, ◌||◌, [], ◌∷◌, length, refl, ◌∙◌, ap, arith, Option, Some, None}
 use Rattle.std.specs.Prelude.{◌==◌}
 use Rattle.sr_cell.specs.declared.change.Change.{Change}
 use Rattle.sr_cell.specs.Attrs.{has_column}
-use Rattle.sr_cell.specs.Cells.{Row, cell_eq}
+use Rattle.sr_cell.specs.Cells.{Row}
 use Rattle.sr_box.specs.Rows.{has_row}
 use Rattle.sr_message.specs.Agree.{same_from, agree}
-use Rattle.sr_message.specs.declared.message.Holding.{Holding}
-use Rattle.sr_subs.specs.Subscription.{touches_entry}
 use Rattle.sr_model.specs.SortedRows.{row_eq}
 use Rattle.sr_session.specs.Wires.{RowsDiffer, AllColumnsAreToldAll, WorkedTouches}
 

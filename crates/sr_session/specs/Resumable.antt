@@ -1,5 +1,5 @@
 -- A client whose regions keep what is held can say so in a Resume.
-use Rattle.std.specs.Prelude.{ℕ, true, List, map, ◌≡◌, IsTrue}
+use Rattle.std.specs.Prelude.{true, List, map, ◌≡◌, IsTrue}
 use Rattle.std.specs.List.{list_all}
 use Rattle.sr_cell.specs.declared.table.Table.{Table}
 use Rattle.sr_message.specs.declared.message.Holding.{Holding}

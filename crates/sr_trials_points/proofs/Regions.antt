@@ -27,8 +27,13 @@ two_columns (c ∷ d ∷ columns) s u r fit = omega arith
 pub first_two : (t : Table) (s u : Span) (r : Rect) → list_all (rect_fits t.columns) ((s ∷ u ∷ r) ∷ []) ≡ true → AreColumnsOf t 3
 first_two t s u r fit zero has = let two = two_columns t.columns s u r fit in omega (arith, two)
 first_two t s u r fit (suc zero) has = let two = two_columns t.columns s u r fit in omega (arith, two)
-first_two t s u r fit (suc (suc c)) has =
-    absurd (let none : has_column 3 (2 + c) ≡ false = has_column-shifted 3 2 c ∙ has_column-none c in let wrong : true ≡ false = sym has ∙ none in cc)
+first_two t s u r fit (suc (suc c)) has = absurd (let wrong : true ≡ false = sym has ∙ none in cc)
+  where
+    same : suc (suc c) ≡ 2 + c
+    same = omega arith
+
+    none : has_column 3 (suc (suc c)) ≡ false
+    none = ap (has_column 3) same ∙ (has_column-shifted 3 2 c ∙ has_column-none c)
 
 -- the points of one range, under both columns
 pub one_area : (t : Table) (lo hi : ℤ) (rects : List Rect) → 0 ≡ t.key → rects ≡ (Full ∷ Nums lo hi ∷ []) ∷ [] → list_all (rect_fits t.columns) rects ≡ true → IsArea t 0 3 rects

@@ -117,8 +117,8 @@ laid-later schema out version v pre (Reply k w ∷ ms) fit le = laid-later schem
 laid-later schema out version v pre (Written k w ∷ ms) fit le = laid-later schema out version v (pre ++ Written k w ∷ []) ms fit.1 le
 laid-later schema out version v pre (Refused k fault ∷ ms) fit le = laid-later schema out version v (pre ++ Refused k fault ∷ []) ms fit.1 le
 laid-later schema out version v pre (Welcome k w kept ∷ ms) fit le = laid-later schema out version v (pre ++ Welcome k w kept ∷ []) ms fit.1 le
-laid-later schema out version v pre (Hello wire client n ∷ ms) fit le = laid-later schema out version v (pre ++ Hello client n ∷ []) ms fit.1 le
-laid-later schema out version v pre (Resume wire client n u holdings ∷ ms) fit le = laid-later schema out version v (pre ++ Resume client n u holdings ∷ []) ms fit.1 le
+laid-later schema out version v pre (Hello wire client n ∷ ms) fit le = laid-later schema out version v (pre ++ Hello wire client n ∷ []) ms fit.1 le
+laid-later schema out version v pre (Resume wire client n u holdings ∷ ms) fit le = laid-later schema out version v (pre ++ Resume wire client n u holdings ∷ []) ms fit.1 le
 laid-later schema out version v pre (Ask n mode parts ∷ ms) fit le = laid-later schema out version v (pre ++ Ask n mode parts ∷ []) ms fit.1 le
 laid-later schema out version v pre (Write n sql ∷ ms) fit le = laid-later schema out version v (pre ++ Write n sql ∷ []) ms fit.1 le
 

@@ -56,8 +56,8 @@ laid-told schema (Reply k w ∷ ms) gs told each all is = laid-told schema ms gs
 laid-told schema (Written k w ∷ ms) gs told each all is = laid-told schema ms gs told each (All-tail (TellsRows schema) (Written k w) ms all) is
 laid-told schema (Refused k fault ∷ ms) gs told each all is = laid-told schema ms gs told each (All-tail (TellsRows schema) (Refused k fault) ms all) is
 laid-told schema (Welcome k w kept ∷ ms) gs told each all is = laid-told schema ms gs told each (All-tail (TellsRows schema) (Welcome k w kept) ms all) is
-laid-told schema (Hello client n ∷ ms) gs told each all is = laid-told schema ms gs told each (All-tail (TellsRows schema) (Hello client n) ms all) is
-laid-told schema (Resume client n v holdings ∷ ms) gs told each all is = laid-told schema ms gs told each (All-tail (TellsRows schema) (Resume client n v holdings) ms all) is
+laid-told schema (Hello wire client n ∷ ms) gs told each all is = laid-told schema ms gs told each (All-tail (TellsRows schema) (Hello wire client n) ms all) is
+laid-told schema (Resume wire client n v holdings ∷ ms) gs told each all is = laid-told schema ms gs told each (All-tail (TellsRows schema) (Resume wire client n v holdings) ms all) is
 laid-told schema (Ask n mode parts ∷ ms) gs told each all is = laid-told schema ms gs told each (All-tail (TellsRows schema) (Ask n mode parts) ms all) is
 laid-told schema (Write n sql ∷ ms) gs told each all is = laid-told schema ms gs told each (All-tail (TellsRows schema) (Write n sql) ms all) is
 

@@ -140,8 +140,8 @@ cut-of n c o new (already_cut is) = (none n c.version (line.CutAlready n c.cuts)
 cut-of n c o new (cuts up) = last-of n c.version (fail_lines n c.out) (line.CutDone n (c.cuts + 1)) (fail-of n c.version n c.out) (none n c.version (line.CutDone n (c.cuts + 1)) refl)
 
 resume-line-of : (n version : ℕ) (m : Message) → AreOf n version (resume_line n (ResumeSent m))
-resume-line-of n version (Hello client request) = (none n version (line.ResumeSent n request) refl, tt)
-resume-line-of n version (Resume client request v holdings) = (none n version (line.ResumeSent n request) refl, tt)
+resume-line-of n version (Hello wire client request) = (none n version (line.ResumeSent n request) refl, tt)
+resume-line-of n version (Resume wire client request v holdings) = (none n version (line.ResumeSent n request) refl, tt)
 resume-line-of n version other = tt
 
 resume-of : (schema : List Table) (n : ℕ) (c : Client) (o : Outcome) (new : Client) → ResumeStep schema c o new → AreOf n new.version (details n o ++ resume_line n o)
@@ -149,8 +149,8 @@ resume-of schema n c o new (already_up up) = (none n c.version (line.ResumeUp n)
 resume-of schema n c o new (resumes m down is) = resume-line-of n c.version m
 
 served-of : (n version k sent : ℕ) (m : Message) → AreOf n version (served_line k sent m)
-served-of n version k sent (Hello client number) = (none n version (line.ServerTook k kind.Hello sent) refl, tt)
-served-of n version k sent (Resume client number v holdings) = (none n version (line.ServerTook k kind.Resume sent) refl, tt)
+served-of n version k sent (Hello wire client number) = (none n version (line.ServerTook k kind.Hello sent) refl, tt)
+served-of n version k sent (Resume wire client number v holdings) = (none n version (line.ServerTook k kind.Resume sent) refl, tt)
 served-of n version k sent (Ask number fresh parts) = (none n version (line.ServerTook k kind.Ask sent) refl, tt)
 served-of n version k sent (Write number sql) = (none n version (line.ServerTook k kind.Write sent) refl, tt)
 served-of n version k sent other = tt

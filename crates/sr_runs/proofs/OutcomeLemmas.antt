@@ -65,8 +65,8 @@ cut-ends n c o new (already_cut is) = alone (CutOf n) (line.CutAlready n c.cuts)
 cut-ends n c o new (cuts up) = behind (CutOf n) (fail_lines n c.out) (line.CutDone n (c.cuts + 1)) refl
 
 resume-message : (schema : List Table) (n : ℕ) (c : Client) (number : ℕ) (m : Message) → IsResumeMessage schema c number m → EndsWithOutcome (ResumeOf n) (details n (ResumeSent m) ++ resume_line n (ResumeSent m))
-resume-message schema n c number (Hello client request) is = alone (ResumeOf n) (line.ResumeSent n request) refl
-resume-message schema n c number (Resume client request version holdings) is = alone (ResumeOf n) (line.ResumeSent n request) refl
+resume-message schema n c number (Hello wire client request) is = alone (ResumeOf n) (line.ResumeSent n request) refl
+resume-message schema n c number (Resume wire client request version holdings) is = alone (ResumeOf n) (line.ResumeSent n request) refl
 resume-message schema n c number other is = absurd is
 
 resume-ends : (schema : List Table) (n : ℕ) (c : Client) (o : Outcome) (new : Client) → ResumeStep schema c o new → EndsWithOutcome (ResumeOf n) (details n o ++ resume_line n o)
@@ -76,8 +76,8 @@ resume-ends schema n c o new (resumes m down is) = resume-message schema n c c.n
 -- ---- what the server takes is a request
 
 abbrev IsRequest : Message → Type 0
-IsRequest (Hello client number) = Unit {0}
-IsRequest (Resume client number version holdings) = Unit {0}
+IsRequest (Hello wire client number) = Unit {0}
+IsRequest (Resume wire client number version holdings) = Unit {0}
 IsRequest (Ask number fresh parts) = Unit {0}
 IsRequest (Write number sql) = Unit {0}
 IsRequest other = ⊥
@@ -90,8 +90,8 @@ of-request (WriteOut number) other is = absurd is
 of-request (ResumeOut number) m is = absurd is
 
 of-resume : (schema : List Table) (c : Client) (number : ℕ) (m : Message) → IsResumeMessage schema c number m → IsRequest m
-of-resume schema c number (Hello client k) is = tt
-of-resume schema c number (Resume client k version holdings) is = tt
+of-resume schema c number (Hello wire client k) is = tt
+of-resume schema c number (Resume wire client k version holdings) is = tt
 of-resume schema c number other is = absurd is
 
 first-of : (x m : Message) (queue : List Message) → x ∷ [] ≡ m ∷ queue → IsRequest x → IsRequest m
@@ -108,8 +108,8 @@ taken-request db pair m queue (is_down h) first = absurd (let wrong : m ∷ queu
 taken-request db pair m queue (is_resuming h) first = first-of h.message m queue (sym h.to_server ∙ first) (of-resume db.schema pair.client h.number h.message h.is)
 
 served-ends : (n sent : ℕ) (result : Result Tables Fault) (m : Message) → IsRequest m → EndsWithOutcome (ToServer n result) (served_line n sent m)
-served-ends n sent result (Hello client number) is = alone (ToServer n result) (line.ServerTook n kind.Hello sent) refl
-served-ends n sent result (Resume client number version holdings) is = alone (ToServer n result) (line.ServerTook n kind.Resume sent) refl
+served-ends n sent result (Hello wire client number) is = alone (ToServer n result) (line.ServerTook n kind.Hello sent) refl
+served-ends n sent result (Resume wire client number version holdings) is = alone (ToServer n result) (line.ServerTook n kind.Resume sent) refl
 served-ends n sent result (Ask number fresh parts) is = alone (ToServer n result) (line.ServerTook n kind.Ask sent) refl
 served-ends n sent result (Write number sql) is = alone (ToServer n result) (line.ServerTook n kind.Write sent) refl
 served-ends n sent result other is = absurd is

@@ -41,7 +41,7 @@ module _ (C : Type 0) (Stands : C → Client → Type 0) (lent : C → Option An
     calls = h.course.earlier ++ h.course.call ∷ [];
     are = calls-one s.past h.course.earlier h.course.call h.course.are h.course.is;
     carried = All-append (IsCarried false) h.course.earlier (h.course.call ∷ []) h.course.carried
-        (All-cons (IsCarried false) h.course.call [] (record { taken = h.course.taken; sent = h.sent }) (All-nil (IsCarried false)));
+        (All-cons (IsCarried false) h.course.call [] (record { taken = h.course.taken; sent = h.sent; counted = λ whole. h.counted }) (All-nil (IsCarried false)));
     dialled = dialled-one s.address h.course.earlier h.course.call h.course.before_dialled h.course.dialled;
     each_told = told-more s.linking.peers h.course.earlier h.course.call h.course.before_told h.course.is_told;
     peers_stay = h.peers_stay;
@@ -61,13 +61,13 @@ module _ (C : Type 0) (Stands : C → Client → Type 0) (lent : C → Option An
     next-up : m.next.cut ≡ false
     next-up = (subst (λ ms. Rattle.sr_dial.specs.Known.KeepsLink Resumed ms (left_by s.past r.calls) m.next) one m.link).1
 
-    abbrev new_call : Bool → Option Connection → Call C
-    new_call connected told = record { number = number; first = step_of C Stands lent IsOf k s m; others = []; connected = connected; told = told; left = [] }
+    abbrev new_call : Bool → Bool → Option Connection → Call C
+    new_call connected torn told = record { number = number; first = step_of C Stands lent IsOf k s m; others = []; connected = connected; torn = torn; told = told; left = [] }
 
-    abbrev new_course : (connected : Bool) (told : Option Connection) → IfSome told (λ t. t.taken ≡ []) → IfSome told (λ t. t.address ≡ s.address) → IsToldIf s.linking.peers (new_call connected told) → Course C Stands lent IsOf k s further number none_taken Q [] new
-    new_course connected told taken dialled is_told = record {
+    abbrev new_course : (connected torn : Bool) (told : Option Connection) → IfSome told (λ t. t.taken ≡ []) → IfSome told (λ t. t.address ≡ s.address) → IsToldIf s.linking.peers (new_call connected torn told) → Course C Stands lent IsOf k s further number none_taken Q [] new
+    new_course connected torn told taken dialled is_told = record {
       earlier = r.calls;
-      call = record { number = number; first = step_of C Stands lent IsOf k s m; others = []; connected = connected; told = told; left = [] };
+      call = record { number = number; first = step_of C Stands lent IsOf k s m; others = []; connected = connected; torn = torn; told = told; left = [] };
       are = r.are;
       is = record { first = refl; was_cut = r.cut; on_one = tt };
       carried = r.carried;
@@ -79,17 +79,17 @@ module _ (C : Type 0) (Stands : C → Client → Type 0) (lent : C → Option An
       some = λ none. absurd (let wrong : message ∷ [] ≡ [] = sym one ∙ (m.sent_is ∙ (sym (append-nil (sent_of m.outcome)) ∙ none)) in cc);
       taken = taken;
       steps = subst (λ ds. Stepped C Stands lent IsOf k s further number none_taken ds Q new)
-          (sym (all-one r.calls (record { number = number; first = step_of C Stands lent IsOf k s m; others = []; connected = connected; told = told; left = [] })))
+          (sym (all-one r.calls (record { number = number; first = step_of C Stands lent IsOf k s m; others = []; connected = connected; torn = torn; told = told; left = [] })))
           (stepped-one C Stands lent IsOf k s ahead further line r.came number Scripted P Q code new Resumed lines sent on (omega arith) says (all_done r.calls) r.steps m free);
     }
 
     sum : requests_of (step_of C Stands lent IsOf k s m ∷ []) ≡ sent
     sum = append-nil (sent_of m.outcome) ∙ sym m.sent_is
 
-    past-new : (connected : Bool) (told : Option Connection)
-        → left_by s.past (r.calls ++ record { number = number; first = step_of C Stands lent IsOf k s m; others = []; connected = connected; told = told; left = [] } ∷ []) ≡ m.next
-    past-new connected told =
-        ap (λ ds. past_after s.past (steps_in ds)) (all-one r.calls (record { number = number; first = step_of C Stands lent IsOf k s m; others = []; connected = connected; told = told; left = [] }))
+    past-new : (connected torn : Bool) (told : Option Connection)
+        → left_by s.past (r.calls ++ record { number = number; first = step_of C Stands lent IsOf k s m; others = []; connected = connected; torn = torn; told = told; left = [] } ∷ []) ≡ m.next
+    past-new connected torn told =
+        ap (λ ds. past_after s.past (steps_in ds)) (all-one r.calls (record { number = number; first = step_of C Stands lent IsOf k s m; others = []; connected = connected; torn = torn; told = told; left = [] }))
         ∙ past-one s.past (all_done r.calls) (done_of C Stands lent IsOf k s number Scripted m)
 
     or-none : (b : Bool) → (b || false) ≡ b
@@ -101,23 +101,24 @@ module _ (C : Type 0) (Stands : C → Client → Type 0) (lent : C → Option An
     begins new_l more is =
         let before = r.faults in
         record {
-          course = new_course true (option_map (sends (spelled sent)) (next_peer (Some s.address) l.peers)) (told-fresh (λ t. t.taken ≡ []) s.address (spelled sent) l.peers (λ coming. refl))
+          course = new_course true false (option_map (sends (spelled sent)) (next_peer (Some s.address) l.peers)) (told-fresh (λ t. t.taken ≡ []) s.address (spelled sent) l.peers (λ coming. refl))
               (told-fresh (λ t. t.address ≡ s.address) s.address (spelled sent) l.peers (λ coming. refl))
-              (told-first s.linking l s.address (sends (spelled sent)) (new_call true (option_map (sends (spelled sent)) (next_peer (Some s.address) l.peers))) refl refl more r.peers_stay);
+              (told-first s.linking l s.address (sends (spelled sent)) (new_call true false (option_map (sends (spelled sent)) (next_peer (Some s.address) l.peers))) refl refl more r.peers_stay);
           sent = told-fresh (λ t. t.sent ≡ spelled (requests_of (step_of C Stands lent IsOf k s m ∷ []))) s.address (spelled sent) l.peers (λ coming. ap spelled (sym sum));
-          faults = subst (λ n. RoseBy s.linking.faults n new_l.faults) (sym (count-still r.calls (new_call true (option_map (sends (spelled sent)) (next_peer (Some s.address) l.peers))) refl))
+          counted = λ yes. absurd (let wrong : false ≡ true = yes in cc);
+          faults = subst (λ n. RoseBy s.linking.faults n new_l.faults) (sym (count-still r.calls (new_call true false (option_map (sends (spelled sent)) (next_peer (Some s.address) l.peers))) refl))
               (subst (λ (x : Linking). RoseBy s.linking.faults (count_faults r.calls) x.faults) (sym is) before);
-          there = subst (λ b. IsThere b r.calls (new_call true (option_map (sends (spelled sent)) (next_peer (Some s.address) l.peers))) s.linking new_l)
-              (sym (ap (λ (c : Client). c.cut) (past-new true (option_map (sends (spelled sent)) (next_peer (Some s.address) l.peers))) ∙ next-up))
+          there = subst (λ b. IsThere b r.calls (new_call true false (option_map (sends (spelled sent)) (next_peer (Some s.address) l.peers))) s.linking new_l)
+              (sym (ap (λ (c : Client). c.cut) (past-new true false (option_map (sends (spelled sent)) (next_peer (Some s.address) l.peers))) ∙ next-up))
               (ap (λ (x : Linking). x.present) is, ap (λ (x : Linking). x.past) is ∙ r.made, refl, refl);
-          failed_is = any-one r.calls (new_call true (option_map (sends (spelled sent)) (next_peer (Some s.address) l.peers))) ∙ (or-none (list_any fails r.calls) ∙ r.failed_is);
+          failed_is = any-one r.calls (new_call true false (option_map (sends (spelled sent)) (next_peer (Some s.address) l.peers))) ∙ (or-none (list_any fails r.calls) ∙ r.failed_is);
           calm = λ no. ap (λ (x : Linking). x.faults) is ∙ r.calm no;
           peers_stay = still-other s.linking l new_l (ap (λ (x : Linking). x.peers) is) r.peers_stay;
         }
 
-    not-free : (connected : Bool) (told : Option Connection)
-        → (left_by s.past (r.calls ++ record { number = number; first = step_of C Stands lent IsOf k s m; others = []; connected = connected; told = told; left = [] } ∷ [])).out ≢ None
-    not-free connected told none = m.waits (λ no. absurd (let wrong : message ∷ [] ≡ [] = sym one ∙ no in cc)) (sym (ap (λ (c : Client). c.out) (past-new connected told)) ∙ none)
+    not-free : (connected torn : Bool) (told : Option Connection)
+        → (left_by s.past (r.calls ++ record { number = number; first = step_of C Stands lent IsOf k s m; others = []; connected = connected; torn = torn; told = told; left = [] } ∷ [])).out ≢ None
+    not-free connected torn told none = m.waits (λ no. absurd (let wrong : message ∷ [] ≡ [] = sym one ∙ no in cc)) (sym (ap (λ (c : Client). c.out) (past-new connected torn told)) ∙ none)
 
     -- nobody could be dialled
     pub begin-fails : (new_l : Linking) → OnlyFaults l new_l → Rose l.faults new_l.faults → Broken C Stands lent IsOf k s further number new_l Q [] new
@@ -125,12 +126,12 @@ module _ (C : Type 0) (Stands : C → Client → Type 0) (lent : C → Option An
         let before = r.faults in
         record {
           came = none_taken;
-          course = new_course false None tt tt (told-none s.linking.peers (new_call false None) refl refl refl refl);
+          course = new_course false false None tt tt (told-none s.linking.peers (new_call false false None) refl refl refl refl);
           sent = tt;
           faults = omega (arith, before, rose);
           made = ap (λ p. new_l.past ++ option_to_list p) only.present ∙ (ap (λ x. x ++ option_to_list l.present) only.past
-              ∙ (r.made ∙ ap (λ x. connections s.linking ++ x) (sym (append-nil (calls_told r.calls)) ∙ sym (told-one r.calls (new_call false None)))));
-          out = not-free false None;
+              ∙ (r.made ∙ ap (λ x. connections s.linking ++ x) (sym (append-nil (calls_told r.calls)) ∙ sym (told-one r.calls (new_call false false None)))));
+          out = not-free false false None;
           not_yet = refl;
           peers_stay = still-same s.linking l new_l only.peers r.peers_stay;
         }
@@ -139,17 +140,17 @@ module _ (C : Type 0) (Stands : C → Client → Type 0) (lent : C → Option An
     pub begin-breaks : (new_l : Linking) → (l.peers ≡ Some [] → ⊥) → SendsPart (connected_at (Some s.address) l) new_l (spelled sent) → Rose l.faults new_l.faults → Broken C Stands lent IsOf k s further number new_l Q [] new
     begin-breaks new_l more part rose =
         let before = r.faults in
-        let most = one-at-most (is_fault (new_call true (option_map (sends (take part.count (spelled sent))) (next_peer (Some s.address) l.peers)))) in
+        let most = one-at-most (is_fault (new_call true true (option_map (sends (take part.count (spelled sent))) (next_peer (Some s.address) l.peers)))) in
         record {
           came = none_taken;
-          course = new_course true (option_map (sends (take part.count (spelled sent))) (next_peer (Some s.address) l.peers)) (told-fresh (λ t. t.taken ≡ []) s.address (take part.count (spelled sent)) l.peers (λ coming. refl))
+          course = new_course true true (option_map (sends (take part.count (spelled sent))) (next_peer (Some s.address) l.peers)) (told-fresh (λ t. t.taken ≡ []) s.address (take part.count (spelled sent)) l.peers (λ coming. refl))
               (told-fresh (λ t. t.address ≡ s.address) s.address (take part.count (spelled sent)) l.peers (λ coming. refl))
-              (told-first s.linking l s.address (sends (take part.count (spelled sent))) (new_call true (option_map (sends (take part.count (spelled sent))) (next_peer (Some s.address) l.peers))) refl refl more r.peers_stay);
+              (told-first s.linking l s.address (sends (take part.count (spelled sent))) (new_call true true (option_map (sends (take part.count (spelled sent))) (next_peer (Some s.address) l.peers))) refl refl more r.peers_stay);
           sent = told-fresh (λ t. SendsMost (requests_of (step_of C Stands lent IsOf k s m ∷ [])) t.sent) s.address (take part.count (spelled sent)) l.peers
               (λ coming. subst (λ ms. SendsMost ms (take part.count (spelled sent))) (sym (sum ∙ one)) (subst (λ ms. SendsMost (message ∷ []) (take part.count (spelled ms))) (sym one) (most-part [] message part.count)));
           faults = omega (arith, before, rose, most);
-          made = made-of false r.calls (new_call true (option_map (sends (take part.count (spelled sent))) (next_peer (Some s.address) l.peers))) s.linking new_l (part.sent.present, part.sent.past ∙ r.made, refl, refl);
-          out = not-free true (option_map (sends (take part.count (spelled sent))) (next_peer (Some s.address) l.peers));
+          made = made-of false r.calls (new_call true true (option_map (sends (take part.count (spelled sent))) (next_peer (Some s.address) l.peers))) s.linking new_l (part.sent.present, part.sent.past ∙ r.made, refl, refl);
+          out = not-free true true (option_map (sends (take part.count (spelled sent))) (next_peer (Some s.address) l.peers));
           not_yet = refl;
           peers_stay = still-other s.linking l new_l part.sent.peers r.peers_stay;
         }

@@ -24,7 +24,7 @@ use Rattle.sr_dial.specs.Known.{Setting, Makes}
 use Rattle.sr_dial.specs.Runs.{IsInPlace, SendsMost, SentAs, left_by, more_taken, none_taken}
 use Rattle.sr_dial.specs.Courses.{At, Broken, Free, IsThere, Start, Stepped}
 use Rattle.sr_dial.proofs.ListLemmas.{all-one, any-one, count-one, fails-one, told-one}
-use Rattle.sr_dial.proofs.CourseLemmas.{course-one, done_of, given-step, made-of, map-told, weaken-told, or-no, past-step, requests-step, with_step, count-still}
+use Rattle.sr_dial.proofs.CourseLemmas.{course-one, done_of, given-step, made-of, map-told, not-torn, weaken-told, or-no, past-step, requests-step, with_step, count-still}
 use Rattle.sr_dial.proofs.ToldLemmas.{still-same, told-on, told-same}
 use Rattle.sr_dial.specs.declared.parts.Answer.{Answer}
 use Rattle.sr_dial.specs.Following.{Ahead}
@@ -95,9 +95,9 @@ module _ (C : Type 0) (Stands : C → Client → Type 0) (lent : C → Option An
   module _ (ahead : Ahead) (line : ℕ) (came : Count) (failed : Bool) (l new_l : Linking) (P : List ℕ → Type 0) (feed frame after : List ℕ) (code : C) (h : At C Stands lent IsOf k s ahead line came failed l P feed code)
       (up : (left_by s.past (h.course.earlier ++ h.course.call ∷ [])).cut ≡ false) (r : Reads l new_l feed frame after) where
     abbrev read_call : Call C
-    read_call = record { number = h.course.call.number; first = h.course.call.first; others = h.course.call.others; connected = h.course.call.connected; told = option_map (takes r.bytes) h.course.call.told; left = frame ++ after }
+    read_call = record { number = h.course.call.number; first = h.course.call.first; others = h.course.call.others; connected = h.course.call.connected; torn = h.course.call.torn; told = option_map (takes r.bytes) h.course.call.told; left = frame ++ after }
 
-    pub all-same : all_done (h.course.earlier ++ record { number = h.course.call.number; first = h.course.call.first; others = h.course.call.others; connected = h.course.call.connected; told = option_map (takes r.bytes) h.course.call.told; left = frame ++ after } ∷ [])
+    pub all-same : all_done (h.course.earlier ++ record { number = h.course.call.number; first = h.course.call.first; others = h.course.call.others; connected = h.course.call.connected; torn = h.course.call.torn; told = option_map (takes r.bytes) h.course.call.told; left = frame ++ after } ∷ [])
         ≡ all_done (h.course.earlier ++ h.course.call ∷ [])
     all-same = all-one h.course.earlier read_call ∙ sym (all-one h.course.earlier h.course.call)
 
@@ -124,8 +124,9 @@ module _ (C : Type 0) (Stands : C → Client → Type 0) (lent : C → Option An
                 ∙ ap (λ x. spelled (given_of (steps_in (done_in h.course.call))) ++ x) (ap (λ x. x ++ r.bytes) h.course.left ∙ r.cut))) h.course.taken;
             steps = subst (λ ds. Stepped C Stands lent IsOf k s ahead line came ds P code) (sym all-same) h.course.steps;
           };
-          sent = map-told (takes r.bytes) (λ t. SentAs (fails h.course.call) (requests_of (steps_in (done_in h.course.call))) t.sent)
-              (λ t. SentAs (fails h.course.call) (requests_of (steps_in (done_in h.course.call))) t.sent) h.course.call.told (λ t e. e) h.sent;
+          sent = map-told (takes r.bytes) (λ t. SentAs h.course.call.torn (requests_of (steps_in (done_in h.course.call))) t.sent)
+              (λ t. SentAs h.course.call.torn (requests_of (steps_in (done_in h.course.call))) t.sent) h.course.call.told (λ t e. e) h.sent;
+          counted = h.counted;
           faults = subst (λ n. RoseBy s.linking.faults n new_l.faults) (count-still h.course.earlier h.course.call there.2 ∙ sym (count-still h.course.earlier read_call there.2))
               (subst (λ (x : Linking). RoseBy s.linking.faults (count_faults (h.course.earlier ++ h.course.call ∷ [])) x.faults) (sym r.is) before);
           there = subst (λ b. IsThere b h.course.earlier read_call s.linking new_l) (sym (ap (λ ds. (past_after s.past (steps_in ds)).cut) all-same ∙ up))
@@ -143,12 +144,6 @@ module _ (C : Type 0) (Stands : C → Client → Type 0) (lent : C → Option An
 
   module _ (ahead : Ahead) (line : ℕ) (came : Count) (failed : Bool) (l : Linking) (P : List ℕ → Type 0) (feed : List ℕ) (code : C) (h : At C Stands lent IsOf k s ahead line came failed l P feed code)
       (up : (left_by s.past (h.course.earlier ++ h.course.call ∷ [])).cut ≡ false) (out : (left_by s.past (h.course.earlier ++ h.course.call ∷ [])).out ≢ None) where
-    whole-sent : fails h.course.call ≡ false → IfSome h.course.call.told (λ t. SendsMost (requests_of (steps_in (done_in h.course.call))) t.sent)
-    whole-sent none =
-        weaken-told (λ t. SentAs (fails h.course.call) (requests_of (steps_in (done_in h.course.call))) t.sent) (λ t. SendsMost (requests_of (steps_in (done_in h.course.call))) t.sent) h.course.call.told
-        (λ t e. subst (SendsMost (requests_of (steps_in (done_in h.course.call)))) (sym (subst (λ b. SentAs b (requests_of (steps_in (done_in h.course.call))) t.sent) none e))
-        (most-all (requests_of (steps_in (done_in h.course.call))) h.course.some)) h.sent
-
     -- a fault is counted
     pub fault-breaks : (new_l : Linking) → OnlyFaults l new_l → Rose l.faults new_l.faults → Broken C Stands lent IsOf k s ahead line new_l P feed code
     fault-breaks new_l only rose =
@@ -159,7 +154,7 @@ module _ (C : Type 0) (Stands : C → Client → Type 0) (lent : C → Option An
         record {
           came = came;
           course = h.course;
-          sent = whole-sent there.2;
+          sent = h.sent;
           faults = omega (arith, before, rose, none, most);
           made = made-of false h.course.earlier h.course.call s.linking new_l (only.present ∙ there.0, only.past ∙ there.1, there.2, there.3);
           out = out;
@@ -178,11 +173,11 @@ module _ (C : Type 0) (Stands : C → Client → Type 0) (lent : C → Option An
         let before = h.faults in
         let none = count-still h.course.earlier h.course.call there.2 in
         let no_fault : is_fault h.course.call ≡ false =
-        rw (there.3, not-coming h.course.call.told (subst IsOver there.0 over), h.course.left, short) refl in
+        rw (not-torn h.course.call.torn (fails h.course.call) h.counted there.2, there.3, not-coming h.course.call.told (subst IsOver there.0 over), h.course.left, short) refl in
         record {
           came = came;
           course = h.course;
-          sent = whole-sent there.2;
+          sent = h.sent;
           faults = subst (λ b. RoseBy s.linking.faults (count_faults h.course.earlier + one_if b) l.faults) (sym no_fault) (omega (arith, before, none));
           made = made-of false h.course.earlier h.course.call s.linking l there;
           out = out;
@@ -206,39 +201,39 @@ module _ (C : Type 0) (Stands : C → Client → Type 0) (lent : C → Option An
             let there = subst (λ b. IsThere b h.course.earlier h.course.call s.linking l) up h.there in
             let bytes : List ℕ = take part.count (spelled sent) in
             let told : Option Connection = option_map (sends (take part.count (spelled sent))) h.course.call.told in
-            let fails-no : fails (with_step h.course.call (done_of C Stands lent IsOf k s number cause m) (option_map (sends (take part.count (spelled sent))) h.course.call.told) left) ≡ false =
+            let fails-no : fails (with_step h.course.call (done_of C Stands lent IsOf k s number cause m) true (option_map (sends (take part.count (spelled sent))) h.course.call.told) left) ≡ false =
             fails-one h.course.call.others (done_of C Stands lent IsOf k s number cause m) ∙ (or-no (fails h.course.call) (is_failed cause) not_failed ∙ there.2) in
             let same : sent ≡ x ∷ [] = m.sent_is ∙ one in
-            let sum : requests_of (steps_in (done_in (with_step h.course.call (done_of C Stands lent IsOf k s number cause m) (option_map (sends (take part.count (spelled sent))) h.course.call.told) left)))
+            let sum : requests_of (steps_in (done_in (with_step h.course.call (done_of C Stands lent IsOf k s number cause m) true (option_map (sends (take part.count (spelled sent))) h.course.call.told) left)))
             ≡ requests_of (steps_in (done_in h.course.call)) ++ x ∷ [] =
-            requests-step h.course.call (done_of C Stands lent IsOf k s number cause m) (option_map (sends (take part.count (spelled sent))) h.course.call.told) left
+            requests-step h.course.call (done_of C Stands lent IsOf k s number cause m) true (option_map (sends (take part.count (spelled sent))) h.course.call.told) left
             ∙ ap (λ ms. requests_of (steps_in (done_in h.course.call)) ++ ms) one in
             let before = h.faults in
             let none = count-still h.course.earlier h.course.call there.2 in
-            let once = one-at-most (is_fault (with_step h.course.call (done_of C Stands lent IsOf k s number cause m) (option_map (sends (take part.count (spelled sent))) h.course.call.told) left)) in
+            let once = one-at-most (is_fault (with_step h.course.call (done_of C Stands lent IsOf k s number cause m) true (option_map (sends (take part.count (spelled sent))) h.course.call.told) left)) in
             record {
               came = more_taken cause sent came;
-              course = course-one C Stands lent IsOf k s ahead further line came number cause P Q code new deed lines sent on most says feed left left refl (option_map (sends (take part.count (spelled sent))) h.course.call.told) h.course m place stays
+              course = course-one C Stands lent IsOf k s ahead further line came number cause P Q code new deed lines sent on most says feed left left refl true (option_map (sends (take part.count (spelled sent))) h.course.call.told) h.course m place stays
                   (map-told (sends (take part.count (spelled sent))) (λ t. t.taken ≡ spelled (given_of (steps_in (done_in h.course.call))) ++ h.course.call.left)
                   (λ t. t.taken ≡ spelled (given_of (steps_in (done_in h.course.call)) ++ taken_by deed) ++ left) h.course.call.told
                   (λ t e. e ∙ (ap (λ x. spelled (given_of (steps_in (done_in h.course.call))) ++ x) (h.course.left ∙ fed)
                   ∙ (sym (append_assoc (spelled (given_of (steps_in (done_in h.course.call)))) (spelled (taken_by deed)) left)
                   ∙ ap (λ x. x ++ left) (sym (spelled-append (given_of (steps_in (done_in h.course.call))) (taken_by deed)))))) h.course.taken)
                   (map-told (sends (take part.count (spelled sent))) (λ t. t.address ≡ s.address) (λ t. t.address ≡ s.address) h.course.call.told (λ t e. e) h.course.dialled)
-                  (told-on s.linking.peers h.course.call (with_step h.course.call (done_of C Stands lent IsOf k s number cause m) (option_map (sends (take part.count (spelled sent))) h.course.call.told) left) (sends (take part.count (spelled sent))) there.3 refl refl h.course.is_told);
-              sent = map-told (sends (take part.count (spelled sent))) (λ t. SentAs (fails h.course.call) (requests_of (steps_in (done_in h.course.call))) t.sent)
-                  (λ t. SendsMost (requests_of (steps_in (done_in (with_step h.course.call (done_of C Stands lent IsOf k s number cause m) (option_map (sends (take part.count (spelled sent))) h.course.call.told) left)))) t.sent)
+                  (told-on s.linking.peers h.course.call (with_step h.course.call (done_of C Stands lent IsOf k s number cause m) true (option_map (sends (take part.count (spelled sent))) h.course.call.told) left) (sends (take part.count (spelled sent))) there.3 refl refl h.course.is_told);
+              sent = map-told (sends (take part.count (spelled sent))) (λ t. SentAs h.course.call.torn (requests_of (steps_in (done_in h.course.call))) t.sent)
+                  (λ t. SendsMost (requests_of (steps_in (done_in (with_step h.course.call (done_of C Stands lent IsOf k s number cause m) true (option_map (sends (take part.count (spelled sent))) h.course.call.told) left)))) t.sent)
                   h.course.call.told
                   (λ t e.
-                  let was : t.sent ≡ spelled (requests_of (steps_in (done_in h.course.call))) = subst (λ b. SentAs b (requests_of (steps_in (done_in h.course.call))) t.sent) there.2 e in
+                  let was : t.sent ≡ spelled (requests_of (steps_in (done_in h.course.call))) = subst (λ b. SentAs b (requests_of (steps_in (done_in h.course.call))) t.sent) (not-torn h.course.call.torn (fails h.course.call) h.counted there.2) e in
                   subst (λ ms. SendsMost ms (t.sent ++ take part.count (spelled sent))) (sym sum)
                   (subst (λ ms. SendsMost (requests_of (steps_in (done_in h.course.call)) ++ x ∷ []) (t.sent ++ take part.count (spelled ms))) (sym same)
                   (subst (λ b. SendsMost (requests_of (steps_in (done_in h.course.call)) ++ x ∷ []) (b ++ take part.count (spelled (x ∷ [])))) (sym was) (most-part (requests_of (steps_in (done_in h.course.call))) x part.count)))) h.sent;
               faults = omega (arith, before, rose, none, once);
-              made = made-of false h.course.earlier (with_step h.course.call (done_of C Stands lent IsOf k s number cause m) (option_map (sends (take part.count (spelled sent))) h.course.call.told) left) s.linking new_l
+              made = made-of false h.course.earlier (with_step h.course.call (done_of C Stands lent IsOf k s number cause m) true (option_map (sends (take part.count (spelled sent))) h.course.call.told) left) s.linking new_l
                   (part.sent.present ∙ ap (option_map (sends (take part.count (spelled sent)))) there.0, part.sent.past ∙ there.1, fails-no, there.3);
               out = λ none_out. m.waits (λ no. absurd (let wrong : x ∷ [] ≡ [] = sym same ∙ no in cc))
-                  (sym (ap (λ (c : Client). c.out) (past-step s.past h.course.earlier h.course.call (done_of C Stands lent IsOf k s number cause m) (option_map (sends (take part.count (spelled sent))) h.course.call.told) left)) ∙ none_out);
+                  (sym (ap (λ (c : Client). c.out) (past-step s.past h.course.earlier h.course.call (done_of C Stands lent IsOf k s number cause m) true (option_map (sends (take part.count (spelled sent))) h.course.call.told) left)) ∙ none_out);
               not_yet = fails-no;
               peers_stay = still-same s.linking l new_l part.sent.peers h.peers_stay;
             }
@@ -251,39 +246,36 @@ module _ (C : Type 0) (Stands : C → Client → Type 0) (lent : C → Option An
       → Free C Stands lent IsOf k s ahead line true (hung_up l) Q feed new
   fail-ends ahead line P Q l feed code new lines says b m =
       let E : List (Call C) = b.course.earlier in
-      let fails-yes : fails (with_step b.course.call (done_of C Stands lent IsOf k s line Failed m) b.course.call.told b.course.call.left) ≡ true =
+      let fails-yes : fails (with_step b.course.call (done_of C Stands lent IsOf k s line Failed m) b.course.call.torn b.course.call.told b.course.call.left) ≡ true =
       fails-one b.course.call.others (done_of C Stands lent IsOf k s line Failed m) ∙ or-yes (fails b.course.call) in
-      let sum : requests_of (steps_in (done_in (with_step b.course.call (done_of C Stands lent IsOf k s line Failed m) b.course.call.told b.course.call.left))) ≡ requests_of (steps_in (done_in b.course.call)) =
-      requests-step b.course.call (done_of C Stands lent IsOf k s line Failed m) b.course.call.told b.course.call.left
+      let sum : requests_of (steps_in (done_in (with_step b.course.call (done_of C Stands lent IsOf k s line Failed m) b.course.call.torn b.course.call.told b.course.call.left))) ≡ requests_of (steps_in (done_in b.course.call)) =
+      requests-step b.course.call (done_of C Stands lent IsOf k s line Failed m) b.course.call.torn b.course.call.told b.course.call.left
       ∙ (ap (λ ms. requests_of (steps_in (done_in b.course.call)) ++ ms) (sym m.sent_is) ∙ append-nil (requests_of (steps_in (done_in b.course.call)))) in
       let before = b.faults in
-      let count : count_faults (b.course.earlier ++ with_step b.course.call (done_of C Stands lent IsOf k s line Failed m) b.course.call.told b.course.call.left ∷ []) ≡ count_faults b.course.earlier + one_if (is_fault b.course.call) =
-      count-one b.course.earlier (with_step b.course.call (done_of C Stands lent IsOf k s line Failed m) b.course.call.told b.course.call.left)
+      let count : count_faults (b.course.earlier ++ with_step b.course.call (done_of C Stands lent IsOf k s line Failed m) b.course.call.torn b.course.call.told b.course.call.left ∷ []) ≡ count_faults b.course.earlier + one_if (is_fault b.course.call) =
+      count-one b.course.earlier (with_step b.course.call (done_of C Stands lent IsOf k s line Failed m) b.course.call.torn b.course.call.told b.course.call.left)
       ∙ ap (λ y. count_faults b.course.earlier + one_if (y && is_fault b.course.call)) fails-yes in
       record {
         came = none_taken;
         at = record {
-          course = course-one C Stands lent IsOf k s ahead ahead line b.came line Failed P Q code new WasCut lines [] refl (omega arith) says feed b.course.call.left feed b.course.left b.course.call.told b.course m (refl, b.out) tt
+          course = course-one C Stands lent IsOf k s ahead ahead line b.came line Failed P Q code new WasCut lines [] refl (omega arith) says feed b.course.call.left feed b.course.left b.course.call.torn b.course.call.told b.course m (refl, b.out) tt
               (weaken-told (λ t. t.taken ≡ spelled (given_of (steps_in (done_in b.course.call))) ++ b.course.call.left)
               (λ t. t.taken ≡ spelled (given_of (steps_in (done_in b.course.call)) ++ []) ++ b.course.call.left) b.course.call.told
               (λ t e. e ∙ ap (λ ms. spelled ms ++ b.course.call.left) (sym (append-nil (given_of (steps_in (done_in b.course.call)))))) b.course.taken)
               b.course.dialled
-              (told-same s.linking.peers b.course.call (with_step b.course.call (done_of C Stands lent IsOf k s line Failed m) b.course.call.told b.course.call.left) refl
-              (given-step b.course.call (done_of C Stands lent IsOf k s line Failed m) b.course.call.told b.course.call.left ∙ append-nil (given_of (steps_in (done_in b.course.call)))) refl refl b.course.is_told);
-          sent = weaken-told (λ t. SendsMost (requests_of (steps_in (done_in b.course.call))) t.sent)
-              (λ t. SentAs (fails (with_step b.course.call (done_of C Stands lent IsOf k s line Failed m) b.course.call.told b.course.call.left))
-              (requests_of (steps_in (done_in (with_step b.course.call (done_of C Stands lent IsOf k s line Failed m) b.course.call.told b.course.call.left)))) t.sent) b.course.call.told
-              (λ t e. subst (λ y. SentAs y (requests_of (steps_in (done_in (with_step b.course.call (done_of C Stands lent IsOf k s line Failed m) b.course.call.told b.course.call.left)))) t.sent) (sym fails-yes)
-              (subst (λ ms. SendsMost ms t.sent) (sym sum) e)) b.sent;
+              (told-same s.linking.peers b.course.call (with_step b.course.call (done_of C Stands lent IsOf k s line Failed m) b.course.call.torn b.course.call.told b.course.call.left) refl
+              (given-step b.course.call (done_of C Stands lent IsOf k s line Failed m) b.course.call.torn b.course.call.told b.course.call.left ∙ append-nil (given_of (steps_in (done_in b.course.call)))) refl refl b.course.is_told);
+          sent = subst (λ ms. IfSome b.course.call.told (λ t. SentAs b.course.call.torn ms t.sent)) (sym sum) b.sent;
+          counted = λ yes. fails-yes;
           faults = subst (λ n. RoseBy s.linking.faults n l.faults) (sym count) before;
-          there = subst (λ y. IsThere y b.course.earlier (with_step b.course.call (done_of C Stands lent IsOf k s line Failed m) b.course.call.told b.course.call.left) s.linking (hung_up l))
-              (sym (ap (λ (c : Client). c.cut) (past-step s.past b.course.earlier b.course.call (done_of C Stands lent IsOf k s line Failed m) b.course.call.told b.course.call.left) ∙ m.link.0))
+          there = subst (λ y. IsThere y b.course.earlier (with_step b.course.call (done_of C Stands lent IsOf k s line Failed m) b.course.call.torn b.course.call.told b.course.call.left) s.linking (hung_up l))
+              (sym (ap (λ (c : Client). c.cut) (past-step s.past b.course.earlier b.course.call (done_of C Stands lent IsOf k s line Failed m) b.course.call.torn b.course.call.told b.course.call.left) ∙ m.link.0))
               (append-nil (connections l) ∙ (b.made
-              ∙ ap (λ x. connections s.linking ++ x) (told-one b.course.earlier b.course.call ∙ sym (told-one b.course.earlier (with_step b.course.call (done_of C Stands lent IsOf k s line Failed m) b.course.call.told b.course.call.left)))));
-          failed_is = any-one b.course.earlier (with_step b.course.call (done_of C Stands lent IsOf k s line Failed m) b.course.call.told b.course.call.left)
+              ∙ ap (λ x. connections s.linking ++ x) (told-one b.course.earlier b.course.call ∙ sym (told-one b.course.earlier (with_step b.course.call (done_of C Stands lent IsOf k s line Failed m) b.course.call.torn b.course.call.told b.course.call.left)))));
+          failed_is = any-one b.course.earlier (with_step b.course.call (done_of C Stands lent IsOf k s line Failed m) b.course.call.torn b.course.call.told b.course.call.left)
               ∙ (ap (λ y. list_any fails b.course.earlier || y) fails-yes ∙ or-yes (list_any fails b.course.earlier));
           calm = λ no. absurd (let wrong : true ≡ false = no in cc);
           peers_stay = b.peers_stay;
         };
-        free = ap (λ (c : Client). c.out) (past-step s.past b.course.earlier b.course.call (done_of C Stands lent IsOf k s line Failed m) b.course.call.told b.course.call.left) ∙ m.rests m.link.0;
+        free = ap (λ (c : Client). c.out) (past-step s.past b.course.earlier b.course.call (done_of C Stands lent IsOf k s line Failed m) b.course.call.torn b.course.call.told b.course.call.left) ∙ m.rests m.link.0;
       }

@@ -37,13 +37,17 @@ pub append-some : (xs ys : List Message) → xs ≢ [] → xs ++ ys ≢ []
 append-some [] ys some none = some refl
 append-some (x ∷ xs) ys some none = cc
 
+pub not-torn : (torn fails : Bool) → (torn ≡ true → fails ≡ true) → fails ≡ false → torn ≡ false
+not-torn false fails counted none = refl
+not-torn true fails counted none = absurd (let wrong : true ≡ false = sym (counted refl) ∙ none in cc)
+
 pub or-no : (a b : Bool) → b ≡ false → (a || b) ≡ a
 or-no true b none = refl
 or-no false b none = none
 
--- one more that was done, with what is left behind it
-abbrev pub with_step : {C : Type 0} → Call C → Done C → Option Connection → List ℕ → Call C
-with_step {C} call d told left = record { number = call.number; first = call.first; others = call.others ++ d ∷ []; connected = call.connected; told = told; left = left }
+-- one more that was done, with what is left behind it, and whether sending failed
+abbrev pub with_step : {C : Type 0} → Call C → Done C → Bool → Option Connection → List ℕ → Call C
+with_step {C} call d torn told left = record { number = call.number; first = call.first; others = call.others ++ d ∷ []; connected = call.connected; torn = torn; told = told; left = left }
 
 -- the client behind it, and what was taken and sent with it
 abbrev pub past_by : {C : Type 0} → Client → Done C → Client
@@ -62,9 +66,9 @@ sent_by {C} (Explained number text result) = []
 sent_by {C} (Said number text) = []
 
 module _ {C : Type 0} where
-  pub all-step : (E : List (Call C)) (call : Call C) (d : Done C) (told : Option Connection) (left : List ℕ) → all_done (E ++ with_step call d told left ∷ []) ≡ all_done (E ++ call ∷ []) ++ d ∷ []
-  all-step E call d told left =
-      all-one E (with_step call d told left) ∙ (sym (append_assoc (all_done E) (done_in call) (d ∷ [])) ∙ ap (λ ds. ds ++ d ∷ []) (sym (all-one E call)))
+  pub all-step : (E : List (Call C)) (call : Call C) (d : Done C) (torn : Bool) (told : Option Connection) (left : List ℕ) → all_done (E ++ with_step call d torn told left ∷ []) ≡ all_done (E ++ call ∷ []) ++ d ∷ []
+  all-step E call d torn told left =
+      all-one E (with_step call d torn told left) ∙ (sym (append_assoc (all_done E) (done_in call) (d ∷ [])) ∙ ap (λ ds. ds ++ d ∷ []) (sym (all-one E call)))
 
   -- the client behind it
   pub past-one : (c : Client) (ds : List (Done C)) (d : Done C) → past_after c (steps_in (ds ++ d ∷ [])) ≡ past_by (past_after c (steps_in ds)) d
@@ -75,16 +79,16 @@ module _ {C : Type 0} where
       by (Explained number text result) = refl
       by (Said number text) = refl
 
-  pub past-step : (c : Client) (E : List (Call C)) (call : Call C) (d : Done C) (told : Option Connection) (left : List ℕ) → left_by c (E ++ with_step call d told left ∷ []) ≡ past_by (left_by c (E ++ call ∷ [])) d
-  past-step c E call d told left = ap (λ ds. past_after c (steps_in ds)) (all-step E call d told left) ∙ past-one c (all_done (E ++ call ∷ [])) d
+  pub past-step : (c : Client) (E : List (Call C)) (call : Call C) (d : Done C) (torn : Bool) (told : Option Connection) (left : List ℕ) → left_by c (E ++ with_step call d torn told left ∷ []) ≡ past_by (left_by c (E ++ call ∷ [])) d
+  past-step c E call d torn told left = ap (λ ds. past_after c (steps_in ds)) (all-step E call d torn told left) ∙ past-one c (all_done (E ++ call ∷ [])) d
 
   -- the client of the present call
   pub past-call : (c : Client) (E : List (Call C)) (call : Call C) → left_by c (E ++ call ∷ []) ≡ past_after call.first.past (steps_in call.others)
   past-call c E call =
       ap (λ ds. past_after c (steps_in ds)) (all-one E call) ∙ (ap (past_after c) (steps-append (all_done E) (done_in call)) ∙ past-append c (steps_in (all_done E)) (steps_in (done_in call)))
 
-  pub given-step : (call : Call C) (d : Done C) (told : Option Connection) (left : List ℕ) → given_of (steps_in (done_in (with_step call d told left))) ≡ given_of (steps_in (done_in call)) ++ given_by d
-  given-step call d told left =
+  pub given-step : (call : Call C) (d : Done C) (torn : Bool) (told : Option Connection) (left : List ℕ) → given_of (steps_in (done_in (with_step call d torn told left))) ≡ given_of (steps_in (done_in call)) ++ given_by d
+  given-step call d torn told left =
       ap given_of (steps-append (done_in call) (d ∷ [])) ∙ (given-append (steps_in (done_in call)) (steps_in (d ∷ [])) ∙ ap (λ ms. given_of (steps_in (done_in call)) ++ ms) (by d))
     where
       by : (d : Done C) → given_of (steps_in (d ∷ [])) ≡ given_by d
@@ -92,9 +96,9 @@ module _ {C : Type 0} where
       by (Explained number text result) = refl
       by (Said number text) = refl
 
-  pub requests-step : (call : Call C) (d : Done C) (told : Option Connection) (left : List ℕ)
-      → requests_of (steps_in (done_in (with_step call d told left))) ≡ requests_of (steps_in (done_in call)) ++ sent_by d
-  requests-step call d told left =
+  pub requests-step : (call : Call C) (d : Done C) (torn : Bool) (told : Option Connection) (left : List ℕ)
+      → requests_of (steps_in (done_in (with_step call d torn told left))) ≡ requests_of (steps_in (done_in call)) ++ sent_by d
+  requests-step call d torn told left =
       ap requests_of (steps-append (done_in call) (d ∷ []))
       ∙ (requests-append (steps_in (done_in call)) (steps_in (d ∷ [])) ∙ ap (λ ms. requests_of (steps_in (done_in call)) ++ ms) (by d))
     where
@@ -156,14 +160,14 @@ module _ (C : Type 0) (Stands : C → Client → Type 0) (lent : C → Option An
     -- ---- a step of the present call
 
     -- with what the link tells then
-    abbrev pub course-one : (feed left new_feed : List ℕ) (same : left ≡ new_feed) (told : Option Connection) (h : Course C Stands lent IsOf k s ahead line came P feed code) (m : Makes Stands lent IsOf k code new (left_by s.past (h.earlier ++ h.call ∷ [])) deed lines sent)
+    abbrev pub course-one : (feed left new_feed : List ℕ) (same : left ≡ new_feed) (torn : Bool) (told : Option Connection) (h : Course C Stands lent IsOf k s ahead line came P feed code) (m : Makes Stands lent IsOf k code new (left_by s.past (h.earlier ++ h.call ∷ [])) deed lines sent)
         → IsInPlace k.schema cause line number deed (left_by s.past (h.earlier ++ h.call ∷ [])) → StaysOn (left_by s.past (h.earlier ++ h.call ∷ [])) deed
         → IfSome told (λ t. t.taken ≡ spelled (given_of (steps_in (done_in h.call)) ++ taken_by deed) ++ left) → IfSome told (λ t. t.address ≡ s.address)
-        → IsToldIf s.linking.peers (with_step h.call (done_of number cause m) told left)
+        → IsToldIf s.linking.peers (with_step h.call (done_of number cause m) torn told left)
         → Course C Stands lent IsOf k s further number (more_taken cause sent came) Q new_feed new
-    course-one feed left new_feed same told h m place stays taken dialled is_told = record {
+    course-one feed left new_feed same torn told h m place stays taken dialled is_told = record {
       earlier = h.earlier;
-      call = with_step h.call (done_of number cause m) told left;
+      call = with_step h.call (done_of number cause m) torn told left;
       are = h.are;
       is = record {
         first = h.is.first;
@@ -177,9 +181,9 @@ module _ (C : Type 0) (Stands : C → Client → Type 0) (lent : C → Option An
       before_told = h.before_told;
       is_told = is_told;
       left = same;
-      some = λ none. append-some (requests_of (steps_in (done_in h.call))) (sent_of m.outcome) h.some (sym (requests-step h.call (done_of number cause m) told left) ∙ none);
-      taken = subst (λ ms. IfSome told (λ t. t.taken ≡ spelled ms ++ left)) (sym (given-step h.call (done_of number cause m) told left)) taken;
-      steps = subst (λ ds. Stepped C Stands lent IsOf k s further number (more_taken cause sent came) ds Q new) (sym (all-step h.earlier h.call (done_of number cause m) told left))
+      some = λ none. append-some (requests_of (steps_in (done_in h.call))) (sent_of m.outcome) h.some (sym (requests-step h.call (done_of number cause m) torn told left) ∙ none);
+      taken = subst (λ ms. IfSome told (λ t. t.taken ≡ spelled ms ++ left)) (sym (given-step h.call (done_of number cause m) torn told left)) taken;
+      steps = subst (λ ds. Stepped C Stands lent IsOf k s further number (more_taken cause sent came) ds Q new) (sym (all-step h.earlier h.call (done_of number cause m) torn told left))
           (stepped-one (all_done (h.earlier ++ h.call ∷ [])) h.steps m place);
     }
 
@@ -192,35 +196,37 @@ module _ (C : Type 0) (Stands : C → Client → Type 0) (lent : C → Option An
           → At C Stands lent IsOf k s further number (more_taken cause sent came) failed new_l Q left new
       at-up up still fed is =
           let there = subst (λ b. IsThere b h.course.earlier h.course.call s.linking l) up h.there in
-          let fails-no : fails (with_step h.course.call (done_of number cause m) (option_map (sends (spelled sent)) h.course.call.told) left) ≡ false =
+          let fails-no : fails (with_step h.course.call (done_of number cause m) h.course.call.torn (option_map (sends (spelled sent)) h.course.call.told) left) ≡ false =
           fails-one h.course.call.others (done_of number cause m) ∙ (or-no (fails h.course.call) (is_failed cause) not_failed ∙ there.2) in
-          let same : fails (with_step h.course.call (done_of number cause m) (option_map (sends (spelled sent)) h.course.call.told) left) ≡ fails h.course.call = fails-no ∙ sym there.2 in
-          let sum : requests_of (steps_in (done_in (with_step h.course.call (done_of number cause m) (option_map (sends (spelled sent)) h.course.call.told) left))) ≡ requests_of (steps_in (done_in h.course.call)) ++ sent =
-          requests-step h.course.call (done_of number cause m) (option_map (sends (spelled sent)) h.course.call.told) left ∙ ap (λ ms. requests_of (steps_in (done_in h.course.call)) ++ ms) (sym m.sent_is) in
+          let same : fails (with_step h.course.call (done_of number cause m) h.course.call.torn (option_map (sends (spelled sent)) h.course.call.told) left) ≡ fails h.course.call = fails-no ∙ sym there.2 in
+          let sum : requests_of (steps_in (done_in (with_step h.course.call (done_of number cause m) h.course.call.torn (option_map (sends (spelled sent)) h.course.call.told) left))) ≡ requests_of (steps_in (done_in h.course.call)) ++ sent =
+          requests-step h.course.call (done_of number cause m) h.course.call.torn (option_map (sends (spelled sent)) h.course.call.told) left ∙ ap (λ ms. requests_of (steps_in (done_in h.course.call)) ++ ms) (sym m.sent_is) in
           let before = h.faults in
+          let whole : h.course.call.torn ≡ false = not-torn h.course.call.torn (fails h.course.call) h.counted there.2 in
           record {
-            course = course-one feed left left refl (option_map (sends (spelled sent)) h.course.call.told) h.course m place stays
+            course = course-one feed left left refl h.course.call.torn (option_map (sends (spelled sent)) h.course.call.told) h.course m place stays
                 (map-told (sends (spelled sent)) (λ t. t.taken ≡ spelled (given_of (steps_in (done_in h.course.call))) ++ h.course.call.left)
                 (λ t. t.taken ≡ spelled (given_of (steps_in (done_in h.course.call)) ++ taken_by deed) ++ left) h.course.call.told
                 (λ t e. e ∙ (ap (λ x. spelled (given_of (steps_in (done_in h.course.call))) ++ x) (h.course.left ∙ fed)
                 ∙ (sym (append_assoc (spelled (given_of (steps_in (done_in h.course.call)))) (spelled (taken_by deed)) left)
                 ∙ ap (λ x. x ++ left) (sym (spelled-append (given_of (steps_in (done_in h.course.call))) (taken_by deed)))))) h.course.taken)
                 (map-told (sends (spelled sent)) (λ t. t.address ≡ s.address) (λ t. t.address ≡ s.address) h.course.call.told (λ t e. e) h.course.dialled)
-                (told-on s.linking.peers h.course.call (with_step h.course.call (done_of number cause m) (option_map (sends (spelled sent)) h.course.call.told) left) (sends (spelled sent)) there.3 refl refl h.course.is_told);
-            sent = map-told (sends (spelled sent)) (λ t. SentAs (fails h.course.call) (requests_of (steps_in (done_in h.course.call))) t.sent)
-                (λ t. SentAs (fails (with_step h.course.call (done_of number cause m) (option_map (sends (spelled sent)) h.course.call.told) left))
-                (requests_of (steps_in (done_in (with_step h.course.call (done_of number cause m) (option_map (sends (spelled sent)) h.course.call.told) left)))) t.sent) h.course.call.told
+                (told-on s.linking.peers h.course.call (with_step h.course.call (done_of number cause m) h.course.call.torn (option_map (sends (spelled sent)) h.course.call.told) left) (sends (spelled sent)) there.3 refl refl h.course.is_told);
+            sent = map-told (sends (spelled sent)) (λ t. SentAs h.course.call.torn (requests_of (steps_in (done_in h.course.call))) t.sent)
+                (λ t. SentAs h.course.call.torn
+                (requests_of (steps_in (done_in (with_step h.course.call (done_of number cause m) h.course.call.torn (option_map (sends (spelled sent)) h.course.call.told) left)))) t.sent) h.course.call.told
                 (λ t e.
-                let was : t.sent ≡ spelled (requests_of (steps_in (done_in h.course.call))) = subst (λ b. SentAs b (requests_of (steps_in (done_in h.course.call))) t.sent) there.2 e in
-                subst (λ b. SentAs b (requests_of (steps_in (done_in (with_step h.course.call (done_of number cause m) (option_map (sends (spelled sent)) h.course.call.told) left)))) (t.sent ++ spelled sent)) (sym fails-no)
+                let was : t.sent ≡ spelled (requests_of (steps_in (done_in h.course.call))) = subst (λ b. SentAs b (requests_of (steps_in (done_in h.course.call))) t.sent) whole e in
+                subst (λ b. SentAs b (requests_of (steps_in (done_in (with_step h.course.call (done_of number cause m) h.course.call.torn (option_map (sends (spelled sent)) h.course.call.told) left)))) (t.sent ++ spelled sent)) (sym whole)
                 (ap (λ x. x ++ spelled sent) was ∙ (sym (spelled-append (requests_of (steps_in (done_in h.course.call))) sent) ∙ ap spelled (sym sum)))) h.sent;
+            counted = λ yes. same ∙ h.counted yes;
             faults = subst (λ n. RoseBy s.linking.faults n new_l.faults)
-                (count-still h.course.earlier h.course.call there.2 ∙ sym (count-still h.course.earlier (with_step h.course.call (done_of number cause m) (option_map (sends (spelled sent)) h.course.call.told) left) fails-no))
+                (count-still h.course.earlier h.course.call there.2 ∙ sym (count-still h.course.earlier (with_step h.course.call (done_of number cause m) h.course.call.torn (option_map (sends (spelled sent)) h.course.call.told) left) fails-no))
                 (subst (λ (x : Linking). RoseBy s.linking.faults (count_faults (h.course.earlier ++ h.course.call ∷ [])) x.faults) (sym is) before);
-            there = subst (λ b. IsThere b h.course.earlier (with_step h.course.call (done_of number cause m) (option_map (sends (spelled sent)) h.course.call.told) left) s.linking new_l)
-                (sym (ap (λ (c : Client). c.cut) (past-step s.past h.course.earlier h.course.call (done_of number cause m) (option_map (sends (spelled sent)) h.course.call.told) left) ∙ still))
+            there = subst (λ b. IsThere b h.course.earlier (with_step h.course.call (done_of number cause m) h.course.call.torn (option_map (sends (spelled sent)) h.course.call.told) left) s.linking new_l)
+                (sym (ap (λ (c : Client). c.cut) (past-step s.past h.course.earlier h.course.call (done_of number cause m) h.course.call.torn (option_map (sends (spelled sent)) h.course.call.told) left) ∙ still))
                 (ap (λ (x : Linking). x.present) is ∙ ap (option_map (sends (spelled sent))) there.0, ap (λ (x : Linking). x.past) is ∙ there.1, fails-no, there.3);
-            failed_is = any-one h.course.earlier (with_step h.course.call (done_of number cause m) (option_map (sends (spelled sent)) h.course.call.told) left)
+            failed_is = any-one h.course.earlier (with_step h.course.call (done_of number cause m) h.course.call.torn (option_map (sends (spelled sent)) h.course.call.told) left)
                 ∙ (ap (λ b. list_any fails h.course.earlier || b) same ∙ (sym (any-one h.course.earlier h.course.call) ∙ h.failed_is));
             calm = λ no. ap (λ (x : Linking). x.faults) is ∙ h.calm no;
             peers_stay = still-same s.linking l new_l (ap (λ (x : Linking). x.peers) is) h.peers_stay;
@@ -230,35 +236,35 @@ module _ (C : Type 0) (Stands : C → Client → Type 0) (lent : C → Option An
       pub at-down : m.next.cut ≡ true → sent ≡ [] → taken_by deed ≡ [] → connections new_l ≡ connections l → new_l.peers ≡ l.peers → new_l.faults ≡ l.faults
           → At C Stands lent IsOf k s further number (more_taken cause sent came) failed new_l Q feed new
       at-down down none took same_links same_peers quiet =
-          let fails-same : fails (with_step h.course.call (done_of number cause m) h.course.call.told h.course.call.left) ≡ fails h.course.call =
+          let fails-same : fails (with_step h.course.call (done_of number cause m) h.course.call.torn h.course.call.told h.course.call.left) ≡ fails h.course.call =
           fails-one h.course.call.others (done_of number cause m) ∙ or-no (fails h.course.call) (is_failed cause) not_failed in
-          let sum : requests_of (steps_in (done_in (with_step h.course.call (done_of number cause m) h.course.call.told h.course.call.left))) ≡ requests_of (steps_in (done_in h.course.call)) =
-          requests-step h.course.call (done_of number cause m) h.course.call.told h.course.call.left
+          let sum : requests_of (steps_in (done_in (with_step h.course.call (done_of number cause m) h.course.call.torn h.course.call.told h.course.call.left))) ≡ requests_of (steps_in (done_in h.course.call)) =
+          requests-step h.course.call (done_of number cause m) h.course.call.torn h.course.call.told h.course.call.left
           ∙ (ap (λ ms. requests_of (steps_in (done_in h.course.call)) ++ ms) (sym m.sent_is ∙ none) ∙ append-nil (requests_of (steps_in (done_in h.course.call)))) in
           let before = h.faults in
-          let count : count_faults (h.course.earlier ++ with_step h.course.call (done_of number cause m) h.course.call.told h.course.call.left ∷ []) ≡ count_faults (h.course.earlier ++ h.course.call ∷ []) =
-          count-one h.course.earlier (with_step h.course.call (done_of number cause m) h.course.call.told h.course.call.left)
+          let count : count_faults (h.course.earlier ++ with_step h.course.call (done_of number cause m) h.course.call.torn h.course.call.told h.course.call.left ∷ []) ≡ count_faults (h.course.earlier ++ h.course.call ∷ []) =
+          count-one h.course.earlier (with_step h.course.call (done_of number cause m) h.course.call.torn h.course.call.told h.course.call.left)
           ∙ (ap (λ b. count_faults h.course.earlier + one_if (b && is_fault h.course.call)) fails-same ∙ sym (count-one h.course.earlier h.course.call)) in
           record {
-            course = course-one feed h.course.call.left feed h.course.left h.course.call.told h.course m place stays
+            course = course-one feed h.course.call.left feed h.course.left h.course.call.torn h.course.call.told h.course m place stays
                 (weaken-told (λ t. t.taken ≡ spelled (given_of (steps_in (done_in h.course.call))) ++ h.course.call.left)
                 (λ t. t.taken ≡ spelled (given_of (steps_in (done_in h.course.call)) ++ taken_by deed) ++ h.course.call.left) h.course.call.told
                 (λ t e. e ∙ ap (λ ms. spelled ms ++ h.course.call.left) (sym (ap (λ ms. given_of (steps_in (done_in h.course.call)) ++ ms) took ∙ append-nil (given_of (steps_in (done_in h.course.call)))))) h.course.taken)
                 h.course.dialled
-                (told-same s.linking.peers h.course.call (with_step h.course.call (done_of number cause m) h.course.call.told h.course.call.left) refl
-                (given-step h.course.call (done_of number cause m) h.course.call.told h.course.call.left
+                (told-same s.linking.peers h.course.call (with_step h.course.call (done_of number cause m) h.course.call.torn h.course.call.told h.course.call.left) refl
+                (given-step h.course.call (done_of number cause m) h.course.call.torn h.course.call.told h.course.call.left
                 ∙ (ap (λ ms. given_of (steps_in (done_in h.course.call)) ++ ms) took ∙ append-nil (given_of (steps_in (done_in h.course.call))))) refl refl h.course.is_told);
-            sent = weaken-told (λ t. SentAs (fails h.course.call) (requests_of (steps_in (done_in h.course.call))) t.sent)
-                (λ t. SentAs (fails (with_step h.course.call (done_of number cause m) h.course.call.told h.course.call.left))
-                (requests_of (steps_in (done_in (with_step h.course.call (done_of number cause m) h.course.call.told h.course.call.left)))) t.sent) h.course.call.told
-                (λ t e. subst (λ b. SentAs b (requests_of (steps_in (done_in (with_step h.course.call (done_of number cause m) h.course.call.told h.course.call.left)))) t.sent) (sym fails-same)
-                (subst (λ ms. SentAs (fails h.course.call) ms t.sent) (sym sum) e)) h.sent;
+            sent = weaken-told (λ t. SentAs h.course.call.torn (requests_of (steps_in (done_in h.course.call))) t.sent)
+                (λ t. SentAs h.course.call.torn
+                (requests_of (steps_in (done_in (with_step h.course.call (done_of number cause m) h.course.call.torn h.course.call.told h.course.call.left)))) t.sent) h.course.call.told
+                (λ t e. subst (λ ms. SentAs h.course.call.torn ms t.sent) (sym sum) e) h.sent;
+            counted = λ yes. fails-same ∙ h.counted yes;
             faults = subst (λ n. RoseBy s.linking.faults n new_l.faults) (sym count) (omega (arith, before, quiet));
-            there = subst (λ b. IsThere b h.course.earlier (with_step h.course.call (done_of number cause m) h.course.call.told h.course.call.left) s.linking new_l)
-                (sym (ap (λ (c : Client). c.cut) (past-step s.past h.course.earlier h.course.call (done_of number cause m) h.course.call.told h.course.call.left) ∙ down))
+            there = subst (λ b. IsThere b h.course.earlier (with_step h.course.call (done_of number cause m) h.course.call.torn h.course.call.told h.course.call.left) s.linking new_l)
+                (sym (ap (λ (c : Client). c.cut) (past-step s.past h.course.earlier h.course.call (done_of number cause m) h.course.call.torn h.course.call.told h.course.call.left) ∙ down))
                 (same_links ∙ (made-of (left_by s.past (h.course.earlier ++ h.course.call ∷ [])).cut h.course.earlier h.course.call s.linking l h.there
-                ∙ ap (λ x. connections s.linking ++ x) (told-one h.course.earlier h.course.call ∙ sym (told-one h.course.earlier (with_step h.course.call (done_of number cause m) h.course.call.told h.course.call.left)))));
-            failed_is = any-one h.course.earlier (with_step h.course.call (done_of number cause m) h.course.call.told h.course.call.left)
+                ∙ ap (λ x. connections s.linking ++ x) (told-one h.course.earlier h.course.call ∙ sym (told-one h.course.earlier (with_step h.course.call (done_of number cause m) h.course.call.torn h.course.call.told h.course.call.left)))));
+            failed_is = any-one h.course.earlier (with_step h.course.call (done_of number cause m) h.course.call.torn h.course.call.told h.course.call.left)
                 ∙ (ap (λ b. list_any fails h.course.earlier || b) fails-same ∙ (sym (any-one h.course.earlier h.course.call) ∙ h.failed_is));
             calm = λ no. quiet ∙ h.calm no;
             peers_stay = still-same s.linking l new_l same_peers h.peers_stay;

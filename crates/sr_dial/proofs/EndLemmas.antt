@@ -5,7 +5,7 @@ use Rattle.sr_io.specs.Told.{Linking, Writing}
 use Rattle.sr_message.specs.declared.message.Message.{Message}
 use Rattle.sr_session.specs.Clients.{Client}
 use Rattle.sr_links.specs.Steps.{Standing, requests_of}
-use Rattle.sr_dial.specs.Calls.{Task, all_done, done_in, fails, steps_in, text_of}
+use Rattle.sr_dial.specs.Calls.{Task, all_done, done_in, steps_in, text_of}
 use Rattle.sr_dial.specs.Known.{Setting}
 use Rattle.sr_dial.specs.Runs.{EndsBy, IsCarried, SendsMost, SentAs, WritesAs, is_unwritten, left_by}
 use Rattle.sr_dial.specs.Courses.{At, Broken, IsPartWritten, IsWritten, Over, Start}
@@ -40,8 +40,9 @@ module _ (C : Type 0) (Stands : C → Client → Type 0) (lent : C → Option An
     carried = h.course.carried;
     last_carried = record {
       taken = h.course.taken;
-      sent = weaken-told (λ t. SentAs (fails h.course.call) (requests_of (steps_in (done_in h.course.call))) t.sent) (λ t. SendsMost (requests_of (steps_in (done_in h.course.call))) t.sent) h.course.call.told
-          (λ t. most-of (fails h.course.call) (requests_of (steps_in (done_in h.course.call))) t.sent h.course.some) h.sent;
+      sent = weaken-told (λ t. SentAs h.course.call.torn (requests_of (steps_in (done_in h.course.call))) t.sent) (λ t. SendsMost (requests_of (steps_in (done_in h.course.call))) t.sent) h.course.call.told
+          (λ t. most-of h.course.call.torn (requests_of (steps_in (done_in h.course.call))) t.sent h.course.some) h.sent;
+      counted = λ whole. absurd (let wrong : true ≡ false = whole in cc);
     };
     dialled = dialled-one s.address h.course.earlier h.course.call h.course.before_dialled h.course.dialled;
     each_told = told-more s.linking.peers h.course.earlier h.course.call h.course.before_told h.course.is_told;
@@ -66,7 +67,12 @@ module _ (C : Type 0) (Stands : C → Client → Type 0) (lent : C → Option An
         fair = b.course.steps.fair;
         explained = b.course.steps.explained;
         carried = b.course.carried;
-        last_carried = record { taken = b.course.taken; sent = b.sent };
+        last_carried = record {
+          taken = b.course.taken;
+          sent = weaken-told (λ t. SentAs b.course.call.torn (requests_of (steps_in (done_in b.course.call))) t.sent) (λ t. SendsMost (requests_of (steps_in (done_in b.course.call))) t.sent) b.course.call.told
+              (λ t. most-of b.course.call.torn (requests_of (steps_in (done_in b.course.call))) t.sent b.course.some) b.sent;
+          counted = λ whole. absurd (let wrong : true ≡ false = whole in cc);
+        };
         dialled = dialled-one s.address b.course.earlier b.course.call b.course.before_dialled b.course.dialled;
         each_told = told-more s.linking.peers b.course.earlier b.course.call b.course.before_told b.course.is_told;
         made = b.made;
@@ -90,7 +96,7 @@ module _ (C : Type 0) (Stands : C → Client → Type 0) (lent : C → Option An
     fair = h.course.steps.fair;
     explained = h.course.steps.explained;
     carried = h.course.carried;
-    last_carried = subst (λ b. IsCarried b h.course.call) (sym written) (record { taken = h.course.taken; sent = h.sent });
+    last_carried = subst (λ b. IsCarried b h.course.call) (sym written) (record { taken = h.course.taken; sent = h.sent; counted = λ whole. h.counted });
     dialled = dialled-one s.address h.course.earlier h.course.call h.course.before_dialled h.course.dialled;
     each_told = told-more s.linking.peers h.course.earlier h.course.call h.course.before_told h.course.is_told;
     made = made-of (left_by s.past (h.course.earlier ++ h.course.call ∷ [])).cut h.course.earlier h.course.call s.linking l h.there;

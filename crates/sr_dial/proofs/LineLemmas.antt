@@ -26,7 +26,6 @@ use Rattle.sr_dial.proofs.ToldLemmas.{still-self}
 use Rattle.sr_dial.specs.declared.parts.Answer.{Answer}
 use Rattle.sr_dial.specs.Following.{Ahead}
 use Rattle.sr_plan.specs.Plans.{Next}
-use Rattle.sr_dial.specs.declared.waiting.Count.{Count}
 
 module _ (C : Type 0) (Stands : C → Client → Type 0) (lent : C → Option Answer) (IsOf : Standing C) (k : Setting) (s : Start C) where
   -- ---- a resume

@@ -79,19 +79,19 @@ module _ (C : Type 0) (Stands : C → Client → Type 0) (lent : C → Option An
   module _ (failed : Bool) (l : Linking) (feed : List ℕ) (h : At C Stands lent IsOf k s ahead line came failed l P feed code) (free : (left_by s.past (h.course.earlier ++ h.course.call ∷ [])).out ≡ None)
       (fair : AreFairlyExplained IsOf k.limits code (left_by s.past (h.course.earlier ++ h.course.call ∷ [])) (d ∷ [])) where
     abbrev longer : Call C
-    longer = with_step h.course.call d h.course.call.told h.course.call.left
+    longer = with_step h.course.call d h.course.call.torn h.course.call.told h.course.call.left
 
     given-same : given_of (steps_in (done_in longer)) ≡ given_of (steps_in (done_in h.course.call))
-    given-same = given-step h.course.call d h.course.call.told h.course.call.left ∙ (ap (λ ms. given_of (steps_in (done_in h.course.call)) ++ ms) quiet.given ∙ append-nil (given_of (steps_in (done_in h.course.call))))
+    given-same = given-step h.course.call d h.course.call.torn h.course.call.told h.course.call.left ∙ (ap (λ ms. given_of (steps_in (done_in h.course.call)) ++ ms) quiet.given ∙ append-nil (given_of (steps_in (done_in h.course.call))))
 
     requests-same : requests_of (steps_in (done_in longer)) ≡ requests_of (steps_in (done_in h.course.call))
-    requests-same = requests-step h.course.call d h.course.call.told h.course.call.left ∙ (ap (λ ms. requests_of (steps_in (done_in h.course.call)) ++ ms) quiet.sent ∙ append-nil (requests_of (steps_in (done_in h.course.call))))
+    requests-same = requests-step h.course.call d h.course.call.torn h.course.call.told h.course.call.left ∙ (ap (λ ms. requests_of (steps_in (done_in h.course.call)) ++ ms) quiet.sent ∙ append-nil (requests_of (steps_in (done_in h.course.call))))
 
     fails-same : fails longer ≡ fails h.course.call
     fails-same = fails-one h.course.call.others d ∙ or-no (fails h.course.call) (has_failed d) quiet.fine
 
     past-same : left_by s.past (h.course.earlier ++ longer ∷ []) ≡ left_by s.past (h.course.earlier ++ h.course.call ∷ [])
-    past-same = past-step s.past h.course.earlier h.course.call d h.course.call.told h.course.call.left ∙ quiet.still (left_by s.past (h.course.earlier ++ h.course.call ∷ []))
+    past-same = past-step s.past h.course.earlier h.course.call d h.course.call.torn h.course.call.told h.course.call.left ∙ quiet.still (left_by s.past (h.course.earlier ++ h.course.call ∷ []))
 
     there-same : (down : Bool) → IsThere down h.course.earlier h.course.call s.linking l → IsThere down h.course.earlier longer s.linking l
     there-same true there = there ∙ ap (λ x. connections s.linking ++ x) (told-one h.course.earlier h.course.call ∙ sym (told-one h.course.earlier longer))
@@ -117,11 +117,11 @@ module _ (C : Type 0) (Stands : C → Client → Type 0) (lent : C → Option An
         some = λ none. h.course.some (sym requests-same ∙ none);
         taken = subst (λ ms. IfSome h.course.call.told (λ t. t.taken ≡ spelled ms ++ h.course.call.left)) (sym given-same) h.course.taken;
         steps = subst (λ ds. Stepped C Stands lent IsOf k s (λ answer. further None) number none_taken ds Q code)
-            (sym (all-step h.course.earlier h.course.call d h.course.call.told h.course.call.left))
+            (sym (all-step h.course.earlier h.course.call d h.course.call.torn h.course.call.told h.course.call.left))
             (stepped-more (all_done (h.course.earlier ++ h.course.call ∷ [])) h.course.steps free fair);
       };
-      sent = subst (λ ms. IfSome h.course.call.told (λ t. SentAs (fails longer) ms t.sent)) (sym requests-same)
-          (subst (λ b. IfSome h.course.call.told (λ t. SentAs b (requests_of (steps_in (done_in h.course.call))) t.sent)) (sym fails-same) h.sent);
+      sent = subst (λ ms. IfSome h.course.call.told (λ t. SentAs h.course.call.torn ms t.sent)) (sym requests-same) h.sent;
+      counted = λ yes. fails-same ∙ h.counted yes;
       faults = subst (λ n. RoseBy s.linking.faults n l.faults)
           (sym (count-one h.course.earlier longer ∙ (ap (λ b. count_faults h.course.earlier + one_if (b && is_fault h.course.call)) fails-same ∙ sym (count-one h.course.earlier h.course.call)))) h.faults;
       there = subst (λ b. IsThere b h.course.earlier longer s.linking l) (sym (ap (λ (c : Client). c.cut) past-same))

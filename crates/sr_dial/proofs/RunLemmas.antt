@@ -40,7 +40,7 @@ module _ (C : Type 0) (Stands : C → Client → Type 0) (lent : C → Option An
           from = h.course.steps.from;
           goes = h.course.steps.goes;
           carried = h.course.carried;
-          last_carried = subst (λ b. IsCarried b h.course.call) (sym written) (record { taken = h.course.taken; sent = h.sent });
+          last_carried = subst (λ b. IsCarried b h.course.call) (sym written) (record { taken = h.course.taken; sent = h.sent; counted = λ whole. h.counted });
           dialled = dialled-one s.address h.course.earlier h.course.call h.course.before_dialled h.course.dialled;
           each_told = told-more s.linking.peers h.course.earlier h.course.call h.course.before_told h.course.is_told;
           made = made-still (made-of (left_by s.past (h.course.earlier ++ h.course.call ∷ [])).cut h.course.earlier h.course.call s.linking l h.there);

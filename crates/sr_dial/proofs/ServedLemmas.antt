@@ -13,7 +13,7 @@ use Rattle.sr_session.specs.Sessions.{Database, Session, with_version}
 use Rattle.sr_links.specs.Honest.{Server, Input, Version, Frame, CutOff, IsPrefix, AreClosedBehind, IsClosedBehind, answer, cut_off, frame_of, frames_of, has_cut, is_cut_off, sent_for, server_after, server_at_last}
 use Rattle.sr_links.specs.Steps.{given_of, requests_of}
 use Rattle.sr_links.proofs.MendLemmas.{prefix-on}
-use Rattle.sr_dial.specs.Calls.{Call, done_in, fails, steps_in}
+use Rattle.sr_dial.specs.Calls.{Call, done_in, steps_in}
 use Rattle.sr_talk.specs.Rounds.{at_rest}
 use Rattle.sr_talk.specs.Serving.{Answers, Conversation, SentAs, spelled}
 use Rattle.sr_talk.specs.declared.serve.How.{How}
@@ -94,8 +94,8 @@ module _ (C : Type 0) (Gives : Database → Message → Result Tables Fault → 
   is-input db call talk after h =
       let i : AreInputs (at_rest db) talk.frames h.served.sent after = are-inputs (at_rest db) talk.frames h.served.sent after h.served.answers in
       let client_sent : IsPrefix h.client.sent (spelled (requests_of (steps_in (done_in call)))) =
-      sent-begins (h.short || fails call) (requests_of (steps_in (done_in call))) h.client.sent
-      (told-one (λ t. AreSent (h.short || fails call) (requests_of (steps_in (done_in call))) t.sent) call.told h.client h.client_is h.carried.sent) in
+      sent-begins (h.short || call.torn) (requests_of (steps_in (done_in call))) h.client.sent
+      (told-one (λ t. AreSent (h.short || call.torn) (requests_of (steps_in (done_in call))) t.sent) call.told h.client h.client_is h.carried.sent) in
       let client_took : h.client.taken ≡ came_over call =
       told-one (λ t. t.taken ≡ spelled (given_of (steps_in (done_in call))) ++ call.left) call.told h.client h.client_is h.carried.taken in
       let server_took : h.server.taken ≡ spelled talk.frames ++ h.served.left =

@@ -151,25 +151,25 @@ module _ {C : Type 0} (IsOf : Standing C) (keys : AsksKeys IsOf) (limits : Limit
     abbrev took : Done C
     took = Made 0 Delivered took_step
 
-    more-calls : (from : Client) (earlier : List (Call C)) (call : Call C) → AreCalls from (earlier ++ call ∷ []) → AreCalls from (earlier ++ with_step call took call.told rest ∷ [])
+    more-calls : (from : Client) (earlier : List (Call C)) (call : Call C) → AreCalls from (earlier ++ call ∷ []) → AreCalls from (earlier ++ with_step call took call.torn call.told rest ∷ [])
     more-calls from [] call (first, was_cut, on_one, more) =
         (first, was_cut, subst (OnOne call.first.past) (sym (steps-append call.others (took ∷ []))) (on-append call.first.past (steps_in call.others) took_step on_one tt), tt)
     more-calls from (x ∷ earlier) call (first, was_cut, on_one, more) = (first, was_cut, on_one, more-calls (past_after from (steps_in (done_in x))) earlier call more)
 
     module _ (call : Call C) (next : call.left ≡ spelling m ++ rest) where
-      same-bytes : came_over (with_step call took call.told rest) ≡ came_over call
+      same-bytes : came_over (with_step call took call.torn call.told rest) ≡ came_over call
       same-bytes =
-          ap (λ ms. spelled ms ++ rest) (given-step call took call.told rest)
+          ap (λ ms. spelled ms ++ rest) (given-step call took call.torn call.told rest)
           ∙ (ap (λ bytes. bytes ++ rest) (spelled-append (given_of (steps_in (done_in call))) (m ∷ []) ∙ ap (λ bytes. spelled (given_of (steps_in (done_in call))) ++ bytes) (append-nil (spelling m)))
           ∙ (append_assoc (spelled (given_of (steps_in (done_in call)))) (spelling m) rest ∙ ap (λ bytes. spelled (given_of (steps_in (done_in call))) ++ bytes) (sym next)))
 
-      more-explained : (from : Server) (ps : List (List Input)) (earlier : List (Call C)) → AreExplained from ps (earlier ++ call ∷ []) → AreExplained from ps (earlier ++ with_step call took call.told rest ∷ [])
+      more-explained : (from : Server) (ps : List (List Input)) (earlier : List (Call C)) → AreExplained from ps (earlier ++ call ∷ []) → AreExplained from ps (earlier ++ with_step call took call.torn call.told rest ∷ [])
       more-explained from [] [] explained = absurd explained
       more-explained from [] (x ∷ earlier) explained = absurd explained
       more-explained from (piece ∷ ps) (x ∷ earlier) (one, more) = (one, more-explained (server_after from piece) ps earlier more)
       more-explained from (piece ∷ []) [] (one, more) = (
         record {
-          frames = subst (IsPrefix (frames_of piece)) (sym (requests-step call took call.told rest ∙ append-nil (requests_of (steps_in (done_in call))))) one.frames;
+          frames = subst (IsPrefix (frames_of piece)) (sym (requests-step call took call.torn call.told rest ∙ append-nil (requests_of (steps_in (done_in call))))) one.frames;
           spells = one.spells;
           came = subst (λ bytes. IsPrefix bytes (spelled (sent_for from piece))) (sym same-bytes) one.came;
         },
@@ -196,7 +196,7 @@ module _ {C : Type 0} (IsOf : Standing C) (keys : AsksKeys IsOf) (limits : Limit
     step = Made 0 Delivered bad_step
 
     abbrev longer : Call C
-    longer = with_step call step call.told r.rest
+    longer = with_step call step call.torn call.told r.rest
 
     not-none : (schema : List Table) → schema ≡ own → misfit schema now.out now.laid now.version r.message ≡ None → ⊥
     not-none schema same none = absurd (let wrong : Some why ≡ None = sym r.why_is ∙ (ap (λ schema. misfit schema now.out now.laid now.version r.message) (sym same) ∙ none) in cc)
@@ -207,14 +207,14 @@ module _ {C : Type 0} (IsOf : Standing C) (keys : AsksKeys IsOf) (limits : Limit
         (keys db.schema code_now now (tables_of db now.version) is.0) comes.is_open comes.first))
 
     longer-steps : steps_in (all_done (earlier ++ longer ∷ [])) ≡ before ++ bad_step ∷ []
-    longer-steps = ap (λ ds. steps_in ds) (all-step earlier call step call.told r.rest) ∙ steps-append (all_done (earlier ++ call ∷ [])) (step ∷ [])
+    longer-steps = ap (λ ds. steps_in ds) (all-step earlier call step call.torn call.told r.rest) ∙ steps-append (all_done (earlier ++ call ∷ [])) (step ∷ [])
 
     longer-lawful : AreLawful limits (server_at_last s pieces).database c (before ++ bad_step ∷ [])
     longer-lawful = subst (AreLawful limits (server_at_last s pieces).database c) longer-steps
         (are-lawful (earlier ++ longer ∷ [])
         (record { schema_is = h.schema_is; some = h.some; sound = h.sound; closed = h.closed; behind = h.behind; explained = more-explained r.message r.rest now code_now call r.next s pieces earlier h.explained })
         (more-calls r.message r.rest now code_now c earlier call are)
-        (subst (AreHeard c) (sym (all-step earlier call step call.told r.rest)) (heard-append c (all_done (earlier ++ call ∷ [])) (step ∷ []) heard ((r.waits, r.spells), tt)))
+        (subst (AreHeard c) (sym (all-step earlier call step call.torn call.told r.rest)) (heard-append c (all_done (earlier ++ call ∷ [])) (step ∷ []) heard ((r.waits, r.spells), tt)))
         (subst (AreFair (Here own IsOf) limits code c) (sym longer-steps) (fair-append (Here own IsOf) limits code c before (bad_step ∷ []) fair (step-fair, tt))))
 
     pub never-bad : ⊥

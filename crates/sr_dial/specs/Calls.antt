@@ -75,13 +75,14 @@ steps_in {C} (Made number cause step ∷ ds) = step ∷ steps_in ds
 steps_in {C} (Explained number text result ∷ ds) = steps_in ds
 steps_in {C} (Said number text ∷ ds) = steps_in ds
 
--- What was done from one resume, which the line of that number asked for, to the next; whether a connection was made, and the connection,
--- where the link tells it; and the bytes that were taken from it and belong to no message that was handed on.
+-- What was done from one resume, which the line of that number asked for, to the next; whether a connection was made, whether sending over
+-- it failed, and the connection, where the link tells it; and the bytes that were taken from it and belong to no message that was handed on.
 pub record Call (C : Type 0) : Type 0 where
   pub number : ℕ
   pub first : Step C
   pub others : List (Done C)
   pub connected : Bool
+  pub torn : Bool
   pub told : Option Connection
   pub left : List ℕ
 
@@ -124,9 +125,9 @@ abbrev pub is_short : Decoded → Bool
 is_short (Faulty Short) = true
 is_short other = false
 
--- A fault of the link must be behind it: there was no connection, or more was to come, or a frame or none had come.
+-- A fault of the link must be behind it: sending failed, or there was no connection, or more was to come, or a frame or none had come.
 abbrev pub is_fault : {C : Type 0} → Call C → Bool
-is_fault {C} call = not call.connected || (is_coming call.told || not (is_short (decoded call.left)))
+is_fault {C} call = call.torn || (not call.connected || (is_coming call.told || not (is_short (decoded call.left))))
 
 abbrev pub one_if : Bool → ℕ
 one_if true = 1

@@ -16,7 +16,7 @@ use Rattle.sr_talk.specs.declared.frames.Next.{Next}
 use Rattle.sr_talk.specs.declared.frames.Next.TheVariants.{Frame, End, Torn, Fault, Bad}
 use Rattle.sr_dial.specs.Following.{Ahead, dids_of, stage_by}
 use Rattle.sr_dial.specs.Known.{AreFairlyExplained, IsFrom, Setting}
-use Rattle.sr_dial.specs.Runs.{AreFew, AreInPlace, EndsBy, IsCarried, IsToldIf, SendsMost, SentAs, WritesAs, anew, is_unwritten, left_by, none_taken, one_more, taken_after}
+use Rattle.sr_dial.specs.Runs.{AreFew, AreInPlace, EndsBy, IsCarried, IsToldIf, SentAs, WritesAs, anew, is_unwritten, left_by, none_taken, one_more, taken_after}
 use Rattle.sr_dial.specs.declared.ending.Ending.{Ending}
 use Rattle.sr_dial.specs.declared.parts.Answer.{Answer}
 use Rattle.sr_dial.specs.declared.ending.Ending.TheVariants as ending
@@ -126,7 +126,8 @@ module _ (C : Type 0) (Stands : C → Client → Type 0) (lent : C → Option An
   -- All that had to be sent was.
   pub record At (s : Start C) (ahead : Ahead) (line : ℕ) (came : Count) (failed : Bool) (l : Linking) (P : List ℕ → Type 0) (feed : List ℕ) (code : C) : Type 0 where
     pub course : Course s ahead line came P feed code
-    pub sent : IfSome course.call.told (λ t. SentAs (fails course.call) (requests_of (steps_in (done_in course.call))) t.sent)
+    pub sent : IfSome course.call.told (λ t. SentAs course.call.torn (requests_of (steps_in (done_in course.call))) t.sent)
+    pub counted : course.call.torn ≡ true → fails course.call ≡ true
     pub faults : RoseBy s.linking.faults (count_faults (course.earlier ++ course.call ∷ [])) l.faults
     pub there : IsThere (left_by s.past (course.earlier ++ course.call ∷ [])).cut course.earlier course.call s.linking l
     pub failed_is : list_any fails (course.earlier ++ course.call ∷ []) ≡ failed
@@ -137,7 +138,7 @@ module _ (C : Type 0) (Stands : C → Client → Type 0) (lent : C → Option An
   pub record Broken (s : Start C) (ahead : Ahead) (line : ℕ) (l : Linking) (P : List ℕ → Type 0) (feed : List ℕ) (code : C) : Type 0 where
     pub came : Count
     pub course : Course s ahead line came P feed code
-    pub sent : IfSome course.call.told (λ t. SendsMost (requests_of (steps_in (done_in course.call))) t.sent)
+    pub sent : IfSome course.call.told (λ t. SentAs course.call.torn (requests_of (steps_in (done_in course.call))) t.sent)
     pub faults : RoseBy s.linking.faults (count_faults course.earlier + one_if (is_fault course.call)) l.faults
     pub made : connections l ≡ connections s.linking ++ calls_told (course.earlier ++ course.call ∷ [])
     pub out : (left_by s.past (course.earlier ++ course.call ∷ [])).out ≢ None

@@ -58,16 +58,17 @@ pub record SendsMost (requests : List Message) (sent : List ℕ) : Type 0 where
   pub beginning : IsPrefix part (spelling last)
   pub is : sent ≡ spelled earlier ++ part
 
--- A failure may cut the last request short.
+-- Where sending failed the last request may be cut short.
 abbrev pub SentAs : Bool → List Message → List ℕ → Type 0
 SentAs true requests sent = SendsMost requests sent
 SentAs false requests sent = sent ≡ spelled requests
 
 -- What went over the connection of a call, where it is told: the messages that were taken, with what is left behind them, and the
--- requests; after a failure, or where that is said, the last one may be cut short.
+-- requests; where sending failed, which is a failure that cuts the client, or where that is said, the last one may be cut short.
 pub record IsCarried {C : Type 0} (short : Bool) (call : Call C) : Type 0 where
   pub taken : IfSome call.told (λ t. t.taken ≡ spelled (given_of (steps_in (done_in call))) ++ call.left)
-  pub sent : IfSome call.told (λ t. SentAs (short || fails call) (requests_of (steps_in (done_in call))) t.sent)
+  pub sent : IfSome call.told (λ t. SentAs (short || call.torn) (requests_of (steps_in (done_in call))) t.sent)
+  pub counted : short ≡ false → call.torn ≡ true → fails call ≡ true
 
 -- Where no connection was made nothing came; and a link that told its peers tells each that was.
 pub record IsToldIf {C : Type 0} (peers : Option (List (List ℕ))) (call : Call C) : Type 0 where

@@ -1,4 +1,3 @@
-use Rattle.std.proofs.Common.{ℕ}
 use Rattle.sr_dial.proofs.SoFarLemmas.{WaitedSoFar, left_to_take}
 use Rattle.sr_dial.proofs.waiting.await_answer.Given as goal
 

@@ -1,4 +1,4 @@
-use Rattle.std.proofs.Common.{rules, ◌≡◌, ◌∙◌, true, false, [], ◌∷◌, ◌++◌, refl, sym, subst}
+use Rattle.std.proofs.Common.{rules, ◌≡◌, ◌∙◌, true, false, [], ◌∷◌, ◌++◌, sym, subst}
 use Rattle.std.specs.Option.{is_some}
 use Rattle.sr_dial.specs.Courses.{Waits}
 use Rattle.sr_dial.specs.Runs.{left_by}

@@ -9,10 +9,8 @@ use Rattle.sr_world.specs.declared.world.Options.{Options}
 use Rattle.sr_world.specs.Replay.{RefusesLoad, outside}
 use Rattle.sr_words.specs.declared.command.ExplainWords.{ExplainWords}
 use Rattle.sr_cli.specs.Files.{IsLong, IsTooLong, IsWhatIsHeld}
-use Rattle.sr_cli.specs.Explain.{Explained, FitsScript, IsOutside, IsRefusedSetup}
+use Rattle.sr_cli.specs.Explain.{Explained, FitsScript}
 use Rattle.sr_cli.specs.Replay.{options_of}
-use Rattle.sr_cli.specs.declared.report.Refusal.{Refusal}
-use Rattle.sr_cli.specs.declared.report.Refusal.TheVariants.{Line, Setup, Load as LoadRefused}
 use Rattle.sr_cli.proofs.FitsLemmas.{Fails, long_status}
 use Rattle.sr_cli.proofs.SameFiles.{same_bytes, too_long_held}
 
@@ -49,25 +47,6 @@ Lies clients script = (at : LinePlace) × (outside clients script ≡ Some at)
 pub record Refuses (clients : ℕ) (script : List ℕ) : Type 0 where
   pub inside : outside clients script ≡ None
   pub refused : (line : ℕ) × (fault : Fault) × FirstRefused clients 1 [] (lines_of script) line fault
-
--- what was named is outside
-pub outside_of : (held : List ℕ → Option (List ℕ)) (words : ExplainWords) (refusal : Refusal) (S : ℕ → ℕ → Type 0)
-    → ((line place : ℕ) → refusal ≡ Line line place → IsOutside held words line place)
-    → (line : ℕ) × (place : ℕ) × (refusal ≡ Line line place) × S line place → Named held words (Lies words.setup.clients)
-outside_of held words refusal S lies (line, place, is, said) =
-    let o = lies line place is in
-    record { script = o.script; read = o.read; holds = (record { line = line; place = place }, o.first) }
-
--- what was named was refused
-pub refused_of : (held : List ℕ → Option (List ℕ)) (words : ExplainWords) (refusal : Refusal) (S : ℕ → Fault → Type 0) (L : List ℕ → Fault → Type 0)
-    → ((line : ℕ) (fault : Fault) → refusal ≡ Setup line fault → IsRefusedSetup held words line fault)
-    → ((table : List ℕ) (fault : Fault) → refusal ≡ LoadRefused table fault → ⊥)
-    → ((line : ℕ) × (fault : Fault) × (refusal ≡ Setup line fault) × S line fault) ⊎ ((table : List ℕ) × (fault : Fault) × (refusal ≡ LoadRefused table fault) × L table fault)
-    → Named held words (Refuses words.setup.clients)
-refused_of held words refusal S L setup never (inl (line, fault, is, said)) =
-    let r = setup line fault is in
-    record { script = r.script; read = r.read; holds = record { inside = r.inside; refused = (line, fault, r.first) } }
-refused_of held words refusal S L setup never (inr (table, fault, is, said)) = absurd (never table fault is)
 
 -- ---- the status
 

@@ -3,9 +3,12 @@ pub mod ClientLemmas
 pub mod Endings
 pub mod ExplainFits
 pub mod FitsLemmas
-pub mod Insides
+pub mod GenerateEnds
+pub mod LeavesLemmas
 pub mod LoadTexts
 pub mod OneFilling
 pub mod ReadSoFar
+pub mod ReplayEnds
 pub mod SameFiles
+pub mod ServeEnds
 pub mod ServeLemmas

@@ -3,7 +3,12 @@ use Rattle.std.proofs.Common.{◌≡◌, ℕ, ◌<◌, ◌+◌, List, [], ◌∷
 use Rattle.std.proofs.lemmas.List.{drop_more}
 use Rattle.std.specs.List.{AllZip}
 use Rattle.sr_load.specs.declared.fill.Load.{Load}
+use Rattle.sr_io.specs.Causes.{Rose}
+use Rattle.sr_io.specs.Told.{Reading}
 use Rattle.sr_cli.specs.Files.{IsLoad, IsTooLong, SomeTooLong, IsHeldLoad, names_of}
+use Rattle.sr_cli.specs.Leaves.{NotRead}
+use Rattle.sr_cli.specs.declared.file.ReadFault.{ReadFault}
+use Rattle.sr_cli.specs.declared.file.ReadFault.TheVariants as read
 use Rattle.sr_words.specs.declared.command.LoadWord.{LoadWord}
 use Rattle.sr_cli.specs.Seen.{AddsLoad}
 
@@ -63,12 +68,20 @@ long-behind held left [] loads rest read long = long
 long-behind held left (w ∷ ws) [] rest read long = absurd read
 long-behind held left (w ∷ ws) (l ∷ ls) rest read long = inr (l.bytes, read.0.read, long-behind held left ws ls rest read.1 long)
 
--- one of all files is too long, if the next one is
-pub one_long : (held : List ℕ → Option (List ℕ)) (words : List LoadWord) (i : ℕ) (word : LoadWord) (loads : List Load) (left : Option (List ℕ)) → i < length words → word ≡ get_or words i word
-    → ReadSoFar held words loads (drop i words) → IsTooLong (held word.file) left → SomeTooLong held left (names_of words)
-one_long held words i word loads left within is so_far long =
-    let here = subst (ReadSoFar held words loads) (from_here words i word within is) so_far in
-    subst (λ ws. SomeTooLong held left (names_of ws)) (sym here.split) (long-behind held left here.front loads (word ∷ drop (i + 1) words) here.read (inl long))
+only-long : (held : List ℕ → Option (List ℕ)) (left : Option (List ℕ)) (name : List ℕ) → SomeTooLong held left (name ∷ []) → IsTooLong (held name) left
+only-long held left name (inl long) = long
+only-long held left name (inr (read, what, wrong)) = absurd wrong
+
+-- they are not all read, if the next one is not
+pub one_not_read : (held : List ℕ → Option (List ℕ)) (words : List LoadWord) (i : ℕ) (word : LoadWord) (loads : List Load) (first mid last : Reading) (fault : ReadFault) → i < length words → word ≡ get_or words i word
+    → ReadSoFar held words loads (drop i words) → mid.faults ≡ first.faults → NotRead held (word.file ∷ []) mid last fault → NotRead held (names_of words) first last fault
+one_not_read held words i word loads first mid last read.Fault within is so_far same rose = subst (λ n. Rose n last.faults) same rose
+one_not_read held words i word loads first mid last read.NoMemory within is so_far same stay = stay ∙ same
+one_not_read held words i word loads first mid last read.TooLong within is so_far same (long, stay) =
+    let here = subst (ReadSoFar held words loads) (from_here words i word within is) so_far in (
+      subst (λ ws. SomeTooLong held last.left (names_of ws)) (sym here.split) (long-behind held last.left here.front loads (word ∷ drop (i + 1) words) here.read (inl (only-long held last.left word.file long))),
+      stay ∙ same,
+    )
 
 held-behind : (held : List ℕ → Option (List ℕ)) (front rest : List LoadWord) (loads : List Load) → AllZip (IsHeldLoad held) (front ++ rest) loads
     → (others : List Load) × AllZip (IsHeldLoad held) rest others

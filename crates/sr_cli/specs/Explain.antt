@@ -11,6 +11,8 @@ use Rattle.sr_words.specs.declared.command.ExplainWords.{ExplainWords}
 use Rattle.sr_cli.specs.Errors.{line_text, setup_text}
 use Rattle.sr_cli.specs.Files.{IsLong, IsTooLong, IsWhatIsHeld}
 use Rattle.sr_cli.specs.Replay.{options_of}
+use Rattle.sr_cli.specs.declared.report.Refusal.{Refusal}
+use Rattle.sr_cli.specs.declared.report.Refusal.TheVariants as refusal
 
 -- the script was read, and the lines that explain the query behind it were written
 pub record Explained (held : List ℕ → Option (List ℕ)) (words : ExplainWords) (old new : Option (List ℕ)) : Type 0 where
@@ -82,3 +84,24 @@ pub record Explains (H : Type 0) (held : H → List ℕ → Option (List ℕ)) (
   pub writing_keeps_faults : (status ≡ 4) ⊎ ((writing new).faults ≡ (writing old).faults)
   pub steady : IsSteady old → (script : List ℕ) → held old words.script ≡ Some script → FitsScript (options_of words.setup) script words.sql status
   pub linking_stays : linking new ≡ linking old
+
+-- ---- inside the crate
+
+-- why the query behind a script that was read is not explained
+abbrev pub Refuses : ExplainWords → List ℕ → Writing → Writing → Refusal → Type 0
+Refuses words script before after refusal.Write = WrotePart before.written after.written (options_of words.setup) script [] words.sql
+Refuses words script before after refusal.Memory = (after ≡ before) ⊎ WrotePart before.written after.written (options_of words.setup) script [] words.sql
+Refuses words script before after (refusal.Line line place) = outside words.setup.clients script ≡ Some (record { line = line; place = place })
+Refuses words script before after (refusal.Setup line fault) = (outside words.setup.clients script ≡ None) × FirstRefused words.setup.clients 1 [] (lines_of script) line fault
+Refuses words script before after other = ⊥
+
+-- why it is not, by the script that the words name
+abbrev pub RefusesOver : (List ℕ → Option (List ℕ)) → ExplainWords → Option (List ℕ) → Writing → Writing → Refusal → Type 0
+RefusesOver held words left before after refusal.Read = Unit {0}
+RefusesOver held words left before after refusal.TooLong = IsTooLong (held words.script) left
+RefusesOver held words left before after refusal.Link = ⊥
+RefusesOver held words left before after refusal.Write = ExplainedInPart held words before.written after.written
+RefusesOver held words left before after refusal.Memory = (after ≡ before) ⊎ ExplainedInPart held words before.written after.written
+RefusesOver held words left before after (refusal.Line line place) = IsOutside held words line place
+RefusesOver held words left before after (refusal.Setup line fault) = IsRefusedSetup held words line fault
+RefusesOver held words left before after (refusal.Load table fault) = ⊥

@@ -13,6 +13,8 @@ use Rattle.sr_words.specs.declared.command.ReplayWords.{ReplayWords}
 use Rattle.sr_words.specs.declared.command.Setup.{Setup}
 use Rattle.sr_cli.specs.Files.{IsWhatIsHeld, IsLoad, SomeTooLong, IsHeldLoad, IsLong, SomeLong, names_of}
 use Rattle.sr_cli.specs.Errors.{line_text, setup_text, load_text}
+use Rattle.sr_cli.specs.declared.report.Refusal.{Refusal}
+use Rattle.sr_cli.specs.declared.report.Refusal.TheVariants as refusal
 
 abbrev pub options_of : Setup → Options
 options_of setup = record { eager = setup.eager; limits = setup.limits; log = setup.log; clients = setup.clients }
@@ -129,3 +131,25 @@ pub record Replays (H : Type 0) (held : H → List ℕ → Option (List ℕ)) (r
   pub writing_keeps_faults : (status ≡ 4) ⊎ ((writing new).faults ≡ (writing old).faults)
   pub steady : IsSteady old → (script : List ℕ) (loads : List Load) → AreHeld (held old) words script loads → FitsFiles words.setup.clients script loads status
   pub linking_stays : linking new ≡ linking old
+
+-- ---- inside the crate
+
+-- why files that were read are not replayed
+abbrev pub Refuses : Options → List ℕ → List Load → Writing → Writing → Refusal → Type 0
+Refuses options script loads before after refusal.Write = WrotePart before.written after.written options script loads
+Refuses options script loads before after refusal.Memory = (after ≡ before) ⊎ WrotePart before.written after.written options script loads
+Refuses options script loads before after (refusal.Line line place) = outside options.clients script ≡ Some (record { line = line; place = place })
+Refuses options script loads before after (refusal.Setup line fault) = (outside options.clients script ≡ None) × FirstRefused options.clients 1 [] (lines_of script) line fault
+Refuses options script loads before after (refusal.Load table fault) = (outside options.clients script ≡ None) × RefusesLoad options.clients script loads table fault
+Refuses options script loads before after other = ⊥
+
+-- why a replay is refused, by the files that the words name
+abbrev pub RefusesOver : (List ℕ → Option (List ℕ)) → ReplayWords → Option (List ℕ) → Writing → Writing → Refusal → Type 0
+RefusesOver held words left before after refusal.Read = Unit {0}
+RefusesOver held words left before after refusal.TooLong = SomeTooLong held left (files_of words)
+RefusesOver held words left before after refusal.Link = ⊥
+RefusesOver held words left before after refusal.Write = ReplayedInPart held words before.written after.written
+RefusesOver held words left before after refusal.Memory = (after ≡ before) ⊎ ReplayedInPart held words before.written after.written
+RefusesOver held words left before after (refusal.Line line place) = IsOutside held words line place
+RefusesOver held words left before after (refusal.Setup line fault) = IsRefusedSetup held words line fault
+RefusesOver held words left before after (refusal.Load table fault) = IsRefusedLoad held words table fault

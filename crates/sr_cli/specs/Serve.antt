@@ -1,20 +1,28 @@
 -- What `serve` does, and why it ends with each status.
-use Rattle.std.specs.Prelude.{◌≡◌, ℕ, ◌⊎◌, List, [], ◌∷◌, ◌++◌, Option, Some, None, option_to_list}
+use Rattle.std.specs.Prelude.{◌≡◌, ℕ, ◌⊎◌, List, [], ◌∷◌, ◌++◌, Option, Some, None, Result, Ok, Err, IsOk, option_to_list}
 use Rattle.std.specs.List.{AllZip}
 use Rattle.sr_cell.specs.declared.fault.Fault.{Fault}
+use Rattle.sr_cell.specs.declared.list.No.{No}
+use Rattle.sr_cell.specs.declared.list.No.TheVariants.{Refused as NoBut, NoMemory as Wanting}
+use Rattle.sr_cell.specs.declared.list.NoMemory.{NoMemory}
 use Rattle.sr_lines.specs.Script.{LinePlace}
 use Rattle.sr_load.specs.declared.fill.Load.{Load}
 use Rattle.sr_io.specs.Told.{Reading, Writing, Linking, complained}
-use Rattle.sr_serve.specs.Runs.{Ran}
+use Rattle.sr_serve.specs.Runs.{Ran, RanInPart}
 use Rattle.sr_server.specs.Servers.{first_database}
 use Rattle.sr_setup.specs.Files.{outside, RefusesCreate, RefusesLoad, SetsUp}
+use Rattle.sr_setup.specs.declared.setup.SetupFault.{SetupFault}
+use Rattle.sr_setup.specs.declared.setup.SetupFault.TheVariants as setup
 use Rattle.sr_tables.specs.Stored.{Stored}
 use Rattle.sr_talk.specs.Rounds.{HasPeers}
 use Rattle.sr_talk.specs.declared.rounds.Ending.{Ending}
 use Rattle.sr_talk.specs.declared.rounds.Ending.TheVariants.{Whole, Faulty, Unwritten}
 use Rattle.sr_words.specs.declared.command.ServeWords.{ServeWords}
 use Rattle.sr_cli.specs.Files.{IsWhatIsHeld, IsLoad, SomeTooLong, IsHeldLoad, IsLong, SomeLong, names_of}
+use Rattle.sr_cli.specs.Client.{Untouched}
 use Rattle.sr_cli.specs.Errors.{line_text, setup_text, load_text}
+use Rattle.sr_cli.specs.declared.report.Refusal.{Refusal}
+use Rattle.sr_cli.specs.declared.report.Refusal.TheVariants as refusal
 
 -- ---- the files
 
@@ -52,6 +60,21 @@ pub record Served (held : List ℕ → Option (List ℕ)) (words : ServeWords) (
   pub loads : List Load
   pub files : AreFiles held words schema exec loads
   pub ends : Ends schema exec loads words ending old new before after
+
+-- A server of their tables ran until memory was refused: what it sent and wrote begins what the rules give.
+pub record EndsInPart (schema exec : List ℕ) (loads : List Load) (words : ServeWords) (old new : Linking) (before after : Writing) : Type 0 where
+  pub tables : Stored
+  pub statements : List (List ℕ)
+  pub sets_up : SetsUp schema exec loads tables statements
+  pub ran : RanInPart (first_database tables.schema words.log tables.rows) statements words.address words.count old new before after
+
+-- the same, of files that were read
+pub record ServedInPart (held : List ℕ → Option (List ℕ)) (words : ServeWords) (old new : Linking) (before after : Writing) : Type 0 where
+  pub schema : List ℕ
+  pub exec : List ℕ
+  pub loads : List Load
+  pub files : AreFiles held words schema exec loads
+  pub ends : EndsInPart schema exec loads words old new before after
 
 -- ---- refusals
 
@@ -142,6 +165,7 @@ pub record Serves (H : Type 0) (held : H → List ℕ → Option (List ℕ)) (re
   pub whole : status ≡ 0 → Served (held old) words Whole (linking old) (linking new) (writing old) (writing new)
   pub unwritten : status ≡ 4 → Served (held old) words Unwritten (linking old) (linking new) (writing old) (writing new)
   pub faulty : status ≡ 5 → Served (held old) words Faulty (linking old) (linking new) (writing old) (writing new)
+  pub in_want : status ≡ 9 → Untouched (linking old) (linking new) (writing old) (writing new) ⊎ ServedInPart (held old) words (linking old) (linking new) (writing old) (writing new)
   pub too_long : status ≡ 10 → SomeTooLong (held old) (reading new).left (files_of words)
   pub line : status ≡ 6 → NamedLine (held old) words (complaints old) (complaints new)
   pub refused : status ≡ 7 → NamedCreate (held old) words (complaints old) (complaints new) ⊎ NamedLoad (held old) words (complaints old) (complaints new)
@@ -149,3 +173,40 @@ pub record Serves (H : Type 0) (held : H → List ℕ → Option (List ℕ)) (re
   pub steady_writes : IsSteady old → ¬ (status ≡ 4)
   pub steady_links : IsSteady old → HasPeers words.count (linking old) → ¬ (status ≡ 5)
   pub quiet : status ≡ 0 → (linking new).faults ≡ (linking old).faults
+
+-- ---- inside the crate
+
+-- what is said of files that are refused
+abbrev pub refusal_of : No SetupFault → Refusal
+refusal_of Wanting = refusal.Memory
+refusal_of (NoBut (setup.Line line place)) = refusal.Line line place
+refusal_of (NoBut (setup.Create line fault)) = refusal.Setup line fault
+refusal_of (NoBut (setup.Load table fault)) = refusal.Load table fault
+
+-- what a server that ended so comes to
+abbrev pub Ended : Result Ending NoMemory → Result (Unit {0}) Refusal → Type 0
+Ended (Ok Whole) result = IsOk result
+Ended (Ok Faulty) result = result ≡ Err refusal.Link
+Ended (Ok Unwritten) result = result ≡ Err refusal.Write
+Ended (Err wants) result = result ≡ Err refusal.Memory
+
+-- why files that were read are not served
+abbrev pub Refuses : List ℕ → List ℕ → List Load → ServeWords → Linking → Linking → Writing → Writing → Refusal → Type 0
+Refuses schema exec loads words old new before after refusal.Write = Ends schema exec loads words Unwritten old new before after
+Refuses schema exec loads words old new before after refusal.Link = Ends schema exec loads words Faulty old new before after
+Refuses schema exec loads words old new before after refusal.Memory = Untouched old new before after ⊎ EndsInPart schema exec loads words old new before after
+Refuses schema exec loads words old new before after (refusal.Line line place) = outside schema exec ≡ Some (record { line = line; place = place })
+Refuses schema exec loads words old new before after (refusal.Setup line fault) = RefusesCreate schema exec line fault
+Refuses schema exec loads words old new before after (refusal.Load table fault) = RefusesLoad schema exec loads table fault
+Refuses schema exec loads words old new before after other = ⊥
+
+-- why a run is refused, by the files that the words name
+abbrev pub RefusesOver : (List ℕ → Option (List ℕ)) → ServeWords → Option (List ℕ) → Linking → Linking → Writing → Writing → Refusal → Type 0
+RefusesOver held words left old new before after refusal.Read = Unit {0}
+RefusesOver held words left old new before after refusal.TooLong = SomeTooLong held left (files_of words)
+RefusesOver held words left old new before after refusal.Write = Served held words Unwritten old new before after
+RefusesOver held words left old new before after refusal.Link = Served held words Faulty old new before after
+RefusesOver held words left old new before after refusal.Memory = Untouched old new before after ⊎ ServedInPart held words old new before after
+RefusesOver held words left old new before after (refusal.Line line place) = IsOutside held words line place
+RefusesOver held words left old new before after (refusal.Setup line fault) = IsRefusedCreate held words line fault
+RefusesOver held words left old new before after (refusal.Load table fault) = IsRefusedLoad held words table fault

@@ -1,10 +1,9 @@
 //! Why a run is refused, and what the error output says of it.
-ghost use Rattle.std.specs.Prelude.{◌≡◌, ℕ, ◌⊎◌, List, string_bytes, IfSome, IfOk, OnOk, IsOk, IsErrOf};
+ghost use Rattle.std.specs.Prelude.{◌≡◌, ℕ, ◌⊎◌, List, string_bytes, IfSome, IfOk};
 ghost use Rattle.sr_cell.specs.declared.fault.Fault.{Fault as TheFault};
-ghost use Rattle.sr_cell.specs.declared.list.No.TheVariants.{Refused, NoMemory as Wanting};
-ghost use Rattle.sr_world.specs.declared.replay.RunFault.TheVariants.{WriteFault, Line as RunLine, Setup as RunSetup, Load as RunLoad};
 ghost use Rattle.sr_io.specs.Told.{complained};
 ghost use Rattle.sr_cli.specs.Errors.{line_text, setup_text, load_text, error_text};
+ghost use Rattle.sr_cli.specs.Leaves.{EndsAs, OnlyComplains, refusal_of};
 ghost use Rattle.sr_cli.specs.declared.file.ReadFault.TheVariants.{Fault as ReadFailed, NoMemory as ReadWanting, TooLong as ReadTooLong};
 ghost use Rattle.sr_cli.specs.declared.report.Refusal.TheVariants.{Read, Write, Link, Memory, TooLong, Line, Setup, Load as LoadRefused};
 
@@ -54,18 +53,7 @@ pub(crate) fn unread(fault: ReadFault) -> Refusal
 
 /// What a replay that ended so comes to.
 pub(crate) fn end_of<T: Drop>(done: Result<T, No<RunFault>>) -> Result<(), Refusal>
-    ensures ok { OnOk result (IsOk done) }
-    ensures never_reads { ¬ IsErrOf result Read }
-    ensures never_links { ¬ IsErrOf result Link }
-    ensures never_too_long { ¬ IsErrOf result TooLong }
-    ensures memory { IsErrOf result Memory → IsErrOf done Wanting }
-    ensures write { IsErrOf result Write → IsErrOf done (Refused WriteFault) }
-    ensures line { (line place : ℕ) → IsErrOf result (Line line place) → IsErrOf done (Refused (RunLine line place)) }
-    ensures setup { (line : ℕ) (fault : TheFault) → IsErrOf result (Setup line fault) → IsErrOf done (Refused (RunSetup line fault)) }
-    ensures load { (table : List ℕ) (fault : TheFault) → IsErrOf result (LoadRefused table fault) → IsErrOf done (Refused (RunLoad table fault)) }
-    ensures memory_is_told { IsErrOf done Wanting → IsErrOf result Memory }
-    ensures write_is_told { IsErrOf done (Refused WriteFault) → IsErrOf result Write }
-    ensures line_is_told { (line place : ℕ) → IsErrOf done (Refused (RunLine line place)) → IsErrOf result (Line line place) }
+    ensures { EndsAs done result }
 {
     match done {
         Ok(_) => Ok(()),
@@ -75,17 +63,7 @@ pub(crate) fn end_of<T: Drop>(done: Result<T, No<RunFault>>) -> Result<(), Refus
 
 /// Why a run is refused whose replay is refused so.
 pub(crate) fn refusal_of(no: No<RunFault>) -> Refusal
-    ensures never_reads { ¬ (result ≡ Read) }
-    ensures never_links { ¬ (result ≡ Link) }
-    ensures never_too_long { ¬ (result ≡ TooLong) }
-    ensures memory { result ≡ Memory → no ≡ Wanting }
-    ensures write { result ≡ Write → no ≡ Refused WriteFault }
-    ensures line { (line place : ℕ) → result ≡ Line line place → no ≡ Refused (RunLine line place) }
-    ensures setup { (line : ℕ) (fault : TheFault) → result ≡ Setup line fault → no ≡ Refused (RunSetup line fault) }
-    ensures load { (table : List ℕ) (fault : TheFault) → result ≡ LoadRefused table fault → no ≡ Refused (RunLoad table fault) }
-    ensures memory_is_told { no ≡ Wanting → result ≡ Memory }
-    ensures write_is_told { no ≡ Refused WriteFault → result ≡ Write }
-    ensures line_is_told { (line place : ℕ) → no ≡ Refused (RunLine line place) → result ≡ Line line place }
+    ensures { result ≡ refusal_of no }
 {
     match no {
         No::NoMemory => Refusal::Memory,
@@ -145,11 +123,7 @@ fn report_line<H: Host>(alloc: Global, line: u64, place: u32, host: &mut H) -> u
     ensures only { (result ≡ 6) ⊎ (result ≡ 9) }
     ensures named { result ≡ 6 → H.complaints host.new ≡ complained (line_text line place) (H.complaints host.old) }
     ensures memory { IfSome (error_text result) (λ text. H.complaints host.new ≡ complained text (H.complaints host.old)) }
-    ensures stays_steady { H.IsSteady host.old → H.IsSteady host.new }
-    ensures reading_stays { H.reading host.new ≡ H.reading host.old }
-    ensures writing_stays { H.writing host.new ≡ H.writing host.old }
-    ensures linking_stays { H.linking host.new ≡ H.linking host.old }
-    ensures held_stays { H.held host.new ≡ H.held host.old }
+    ensures stays { OnlyComplains H H.reading H.writing H.linking H.held H.IsSteady host.old host.new }
 {
     match place_line(alloc, line, place) {
         Ok(text) => {
@@ -168,11 +142,7 @@ fn report_setup<H: Host>(alloc: Global, line: u64, fault: Fault, host: &mut H) -
     ensures only { (result ≡ 7) ⊎ (result ≡ 9) }
     ensures named { result ≡ 7 → H.complaints host.new ≡ complained (setup_text line fault) (H.complaints host.old) }
     ensures memory { IfSome (error_text result) (λ text. H.complaints host.new ≡ complained text (H.complaints host.old)) }
-    ensures stays_steady { H.IsSteady host.old → H.IsSteady host.new }
-    ensures reading_stays { H.reading host.new ≡ H.reading host.old }
-    ensures writing_stays { H.writing host.new ≡ H.writing host.old }
-    ensures linking_stays { H.linking host.new ≡ H.linking host.old }
-    ensures held_stays { H.held host.new ≡ H.held host.old }
+    ensures stays { OnlyComplains H H.reading H.writing H.linking H.held H.IsSteady host.old host.new }
 {
     match setup_line(alloc, line, fault) {
         Ok(text) => {
@@ -191,11 +161,7 @@ fn report_load<H: Host>(alloc: Global, table: &Text, fault: Fault, host: &mut H)
     ensures only { (result ≡ 7) ⊎ (result ≡ 9) }
     ensures named { result ≡ 7 → H.complaints host.new ≡ complained (load_text table.now fault) (H.complaints host.old) }
     ensures memory { IfSome (error_text result) (λ text. H.complaints host.new ≡ complained text (H.complaints host.old)) }
-    ensures stays_steady { H.IsSteady host.old → H.IsSteady host.new }
-    ensures reading_stays { H.reading host.new ≡ H.reading host.old }
-    ensures writing_stays { H.writing host.new ≡ H.writing host.old }
-    ensures linking_stays { H.linking host.new ≡ H.linking host.old }
-    ensures held_stays { H.held host.new ≡ H.held host.old }
+    ensures stays { OnlyComplains H H.reading H.writing H.linking H.held H.IsSteady host.old host.new }
 {
     match load_line(alloc, table.as_str(), fault) {
         Ok(text) => {

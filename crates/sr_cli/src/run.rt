@@ -14,6 +14,7 @@ ghost use Rattle.sr_cli.specs.Commands.{AsksClient, IsStatus};
 ghost use Rattle.sr_cli.specs.Errors.{error_text};
 ghost use Rattle.sr_cli.specs.Explain.{Explains};
 ghost use Rattle.sr_cli.specs.Generate.{Generates};
+ghost use Rattle.sr_cli.specs.Leaves.{OnlyComplains};
 ghost use Rattle.sr_cli.specs.Replay.{Replays};
 ghost use Rattle.sr_cli.specs.Serve.{Serves};
 
@@ -66,11 +67,7 @@ pub fn run<H: Host>(alloc: Global, words: &[Text], host: &mut H) -> u8
 fn refuse_words<H: Host>(host: &mut H) -> u8
     ensures status { result ≡ 2 }
     ensures complaint { IfSome (error_text 2) (λ text. H.complaints host.new ≡ complained text (H.complaints host.old)) }
-    ensures stays_steady { H.IsSteady host.old → H.IsSteady host.new }
-    ensures reading_stays { H.reading host.new ≡ H.reading host.old }
-    ensures writing_stays { H.writing host.new ≡ H.writing host.old }
-    ensures linking_stays { H.linking host.new ≡ H.linking host.old }
-    ensures held_stays { H.held host.new ≡ H.held host.old }
+    ensures stays { OnlyComplains H H.reading H.writing H.linking H.held H.IsSteady host.old host.new }
 {
     host.complain(b"words\n");
     2
@@ -80,11 +77,7 @@ fn refuse_words<H: Host>(host: &mut H) -> u8
 fn want_memory<H: Host>(host: &mut H) -> u8
     ensures status { result ≡ 9 }
     ensures complaint { IfSome (error_text 9) (λ text. H.complaints host.new ≡ complained text (H.complaints host.old)) }
-    ensures stays_steady { H.IsSteady host.old → H.IsSteady host.new }
-    ensures reading_stays { H.reading host.new ≡ H.reading host.old }
-    ensures writing_stays { H.writing host.new ≡ H.writing host.old }
-    ensures linking_stays { H.linking host.new ≡ H.linking host.old }
-    ensures held_stays { H.held host.new ≡ H.held host.old }
+    ensures stays { OnlyComplains H H.reading H.writing H.linking H.held H.IsSteady host.old host.new }
 {
     host.complain(b"memory\n");
     9

@@ -5,16 +5,16 @@ use crate::common::{Given, ends, run_given};
 use sr_cell::list::NoMemory;
 use std::alloc::Global;
 
-const SCHEMA: &[u8] =
+pub const SCHEMA: &[u8] =
     b"CREATE TABLE emp (id INT PRIMARY KEY CHECK (id BETWEEN 0 AND 9999), age INT CHECK (age BETWEEN 0 AND 150), name TEXT, dept INT CHECK (dept BETWEEN 0 AND 99))\n";
 
-const SCRIPT: &[u8] = b"query 1 SELECT id, age FROM emp WHERE age BETWEEN 30 AND 40\n";
+pub const SCRIPT: &[u8] = b"query 1 SELECT id, age FROM emp WHERE age BETWEEN 30 AND 40\n";
 
 /// A welcome of a new session at version 2, rows (1, 35) and (3, 33) of request 1, and its reply at version 2.
-const ANSWERS: &[u8] =
+pub const ANSWERS: &[u8] =
     b"\x00\x00\x00\x12\x11\0\0\0\0\0\0\0\0\0\0\0\0\0\0\0\x02\0\x00\x00\x00\x32\x13\0\0\0\0\0\0\0\x01\0\0\x02\x02\0\0\0\0\0\0\0\0\x01\0\0\0\0\0\0\0\0\x23\x02\0\0\0\0\0\0\0\0\x03\0\0\0\0\0\0\0\0\x21\x00\x00\x00\x11\x14\0\0\0\0\0\0\0\x01\0\0\0\0\0\0\0\x02";
 
-const ANSWERED: &[u8] = b"0 resume 1 sent 0
+pub const ANSWERED: &[u8] = b"0 resume 1 sent 0
 0 toclient 1 welcome 2 fresh
 1 ask 1 1 fresh 1
 1 part emp (id,age) {age 30..40}
@@ -63,7 +63,7 @@ const EXPLAINED: &[u8] = b"0 resume 1 sent 0
 6 explain 1 2
 ";
 
-const WORDS: &[&str] = &["client", "--id", "1", "--schema", "schema", "a", "script"];
+pub const WORDS: &[&str] = &["client", "--id", "1", "--schema", "schema", "a", "script"];
 
 /// Whether the run of a script whose one peer says this ends with this status, this output and this line on the error output.
 fn ends_with(

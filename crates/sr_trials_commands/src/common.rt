@@ -1,4 +1,6 @@
 //! A run over a host in memory, and how it came out.
+ghost use Rattle.std.specs.Prelude.{◌<◌};
+
 use sr_cell::list::{Bytes, NoMemory, Seq};
 use sr_cell::text::Text;
 use sr_cli::run::run;
@@ -66,11 +68,13 @@ fn peers_of(alloc: Global, all: &[&[u8]]) -> Result<Peers, NoMemory> {
     Ok(peers)
 }
 
-fn host_of(alloc: Global, given: Given<'_>) -> Result<MemHost, NoMemory> {
+fn host_of(alloc: Global, given: Given<'_>, piece: usize) -> Result<MemHost, NoMemory>
+    requires { 0 < piece }
+{
     let mut numbers = Seq::new(alloc);
     numbers.push(given.fails)?;
     let files = files_of(alloc, given.files)?;
-    MemHost::new(alloc, files, peers_of(alloc, given.peers)?, numbers, 4096)
+    MemHost::new(alloc, files, peers_of(alloc, given.peers)?, numbers, piece)
 }
 
 fn outcome_of(alloc: Global, status: u8, host: &MemHost) -> Result<Outcome, NoMemory> {
@@ -84,8 +88,20 @@ fn outcome_of(alloc: Global, status: u8, host: &MemHost) -> Result<Outcome, NoMe
 
 /// Runs the words over a host that holds what is given.
 pub fn run_given(alloc: Global, words: &[&str], given: Given<'_>) -> Result<Outcome, NoMemory> {
+    run_in_pieces(alloc, words, given, 4096)
+}
+
+/// The same, over a host that moves so many bytes at most in one call.
+pub fn run_in_pieces(
+    alloc: Global,
+    words: &[&str],
+    given: Given<'_>,
+    piece: usize,
+) -> Result<Outcome, NoMemory>
+    requires { 0 < piece }
+{
     let words = words_of(alloc, words)?;
-    let mut host = host_of(alloc, given)?;
+    let mut host = host_of(alloc, given, piece)?;
     let status = run(alloc, words.as_slice(), &mut host);
     outcome_of(alloc, status, &host)
 }

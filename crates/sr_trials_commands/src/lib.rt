@@ -8,6 +8,8 @@ mod common;
 #[cfg(test)]
 mod explained;
 #[cfg(test)]
+mod faults;
+#[cfg(test)]
 mod hosts;
 #[cfg(test)]
 mod processes;

@@ -1,28 +1,68 @@
-use Rattle.std.proofs.Common.{Err, inr, arith, ap}
-use Rattle.sr_cli.proofs.ExplainFits.{fits_held, fits_done, outside_of, refused_of}
+use Rattle.std.proofs.Common.{◌≡◌, ◌⊎◌, Err, inl, inr, refl, sym, ap, subst, arith, ◌∙◌}
+use Rattle.sr_io.specs.Told.{Reading, Writing}
+use Rattle.sr_cli.specs.Files.{IsTooLong}
+use Rattle.sr_cli.proofs.ExplainFits.{fits_held, fits_done}
 use Rattle.sr_cli.proofs.FitsLemmas.{known_status}
+use Rattle.sr_cli.proofs.LeavesLemmas.{Reported, done-keeps, keeps-writing, leaves-done, leaves-refused, named-nothing}
+use Rattle.sr_cli.proofs.ReplayEnds.{explain-never-links, explain-part-by, explain-long-by, explain-outside-by, explain-line-by, explain-refused-by, explain-named-by, explain-want-by}
 use Rattle.sr_cli.proofs.explain.run_explain.Goals as goal
 
-pub returns-in-Err-clause-only : goal.returns-in-Err-clause-only
-returns-in-Err-clause-only g c = inr (known_status c.report.result c.report.ensures.only (λ is. c.in-Err.ensures.never_links (ap Err (c.report.ensures.link is))))
+pub returns-in-Ok-clause-explains : goal.returns-in-Ok-clause-explains
+returns-in-Ok-clause-explains g c = record {
+  only = inl refl;
+  explained = λ is. c.in-Ok.ensures.explained;
+  part_after_fault = λ is. absurd (omega (arith, is));
+  part_in_want = λ is. absurd (omega (arith, is));
+  too_long = λ is. absurd (omega (arith, is));
+  line = λ is. absurd (omega (arith, is));
+  refused = λ is. absurd (omega (arith, is));
+  writing_keeps_faults = inr (done-keeps _ _ c.in-Ok.ensures.quiet);
+  steady = λ steady script held. fits_done _ c.args.words.now script _ _ held c.in-Ok.ensures.explained;
+  linking_stays = c.explain_file.ensures.linking_stays;
+}
 
-pub returns-in-Err-clause-steady : goal.returns-in-Err-clause-steady
-returns-in-Err-clause-steady g c = λ steady script held.
-    fits_held _ (g.H.Outside.reading c.explain_file.new.host).left c.args.words.now script _ held (known_status c.report.result c.report.ensures.only (λ is. c.in-Err.ensures.never_links (ap Err (c.report.ensures.link is))))
-    (λ is. let none = c.in-Err.ensures.steady_reads steady (ap Err (c.report.ensures.read is)) in cc)
-    (λ is. c.in-Err.ensures.steady_writes steady (ap Err (c.report.ensures.write is)))
-    (λ is. c.in-Err.ensures.too_long (ap Err (c.report.ensures.too_long is)))
-    (λ is. outside_of _ _ _ _ (λ line place named. c.in-Err.ensures.line line place (ap Err named)) (c.report.ensures.line is))
-    (λ is. refused_of _ _ _ _ _
-    (λ line fault named. c.in-Err.ensures.setup line fault (ap Err named))
-    (λ table fault named. c.in-Err.ensures.never_loads table fault (ap Err named))
-    (c.report.ensures.refused is))
+pub returns-in-Ok-clause-leaves : goal.returns-in-Ok-clause-leaves
+returns-in-Ok-clause-leaves g c = leaves-done _ g.H.Outside.held g.H.Outside.reading g.H.Outside.writing g.H.Outside.linking g.H.Outside.complaints g.H.Outside.IsSteady c.args.host.now c.explain_file.new.host c.in-Ok.ensures.counts c.explain_file.ensures.stays
 
-pub returns-in-Ok-clause-steady : goal.returns-in-Ok-clause-steady
-returns-in-Ok-clause-steady g c = λ steady script held. fits_done _ c.args.words.now script _ _ held c.in-Ok.ensures.explained
+pub returns-in-Err-clause-leaves : goal.returns-in-Err-clause-leaves
+returns-in-Err-clause-leaves g c =
+    leaves-refused _ g.H.Outside.held g.H.Outside.reading g.H.Outside.writing g.H.Outside.linking g.H.Outside.complaints g.H.Outside.IsSteady c.args.host.now c.explain_file.new.host c.report.new.host c.in-Err.refusal c.report.result
+    (record { only = c.report.ensures.only; read = c.report.ensures.read; write = c.report.ensures.write; link = c.report.ensures.link; memory = c.report.ensures.memory; too_long = c.report.ensures.too_long; line = c.report.ensures.line; refused = c.report.ensures.refused; complaint = c.report.ensures.complaint })
+    c.in-Err.ensures.counts c.explain_file.ensures.stays
+    (record { stays_steady = c.report.ensures.stays_steady; reading_stays = c.report.ensures.reading_stays; writing_stays = c.report.ensures.writing_stays; linking_stays = c.report.ensures.linking_stays; held_stays = c.report.ensures.held_stays })
 
-pub returns-in-Ok-clause-part_after_fault : goal.returns-in-Ok-clause-part_after_fault
-returns-in-Ok-clause-part_after_fault g c = λ is. absurd (omega (arith, is))
-
-pub returns-in-Err-clause-complaint : goal.returns-in-Err-clause-complaint
-returns-in-Err-clause-complaint g c = rw c.in-Err.ensures.complaints_stay at c.report.ensures.complaint
+pub returns-in-Err-clause-explains : goal.returns-in-Err-clause-explains
+returns-in-Err-clause-explains g c =
+    let held = g.H.Outside.held c.args.host.now in
+    let words = c.args.words.now in
+    let left = (g.H.Outside.reading c.explain_file.new.host).left in
+    let before = g.H.Outside.writing c.args.host.now in
+    let after = g.H.Outside.writing c.explain_file.new.host in
+    let first = g.H.Outside.complaints c.args.host.now in
+    let told = g.H.Outside.complaints c.explain_file.new.host in
+    let last = g.H.Outside.complaints c.report.new.host in
+    let silent = c.explain_file.ensures.stays.complaints_stay in
+    let only = c.report.ensures.only in
+    let rep : Reported c.in-Err.refusal c.report.result told last = record { only = c.report.ensures.only; read = c.report.ensures.read; write = c.report.ensures.write; link = c.report.ensures.link; memory = c.report.ensures.memory; too_long = c.report.ensures.too_long; line = c.report.ensures.line; refused = c.report.ensures.refused; complaint = c.report.ensures.complaint } in
+    let why = c.in-Err.ensures.refused in
+    let fails = known_status c.report.result c.report.ensures.only (explain-never-links held words left before after c.in-Err.refusal c.report.result first told last silent rep why) in
+    record {
+      only = inr fails;
+      explained = λ is. absurd (omega (arith, only, is));
+      part_after_fault = λ is. rw (sym c.report.ensures.writing_stays) at (explain-part-by held words left before after c.in-Err.refusal c.report.result first told last silent rep why is);
+      part_in_want = λ is. rw (sym c.report.ensures.writing_stays) at (explain-want-by held words left before after c.in-Err.refusal c.report.result first told last silent rep why
+          (λ named. (named-nothing _ g.H.Outside.held g.H.Outside.reading g.H.Outside.writing g.H.Outside.linking g.H.Outside.complaints g.H.Outside.IsSteady c.args.host.now c.explain_file.new.host c.report.new.host c.in-Err.refusal c.report.result rep c.in-Err.ensures.counts named).writing_stays) is);
+      too_long = λ is. subst (λ left. IsTooLong (held words.script) left) (ap (λ (r : Reading). r.left) (sym c.report.ensures.reading_stays))
+          (explain-long-by held words left before after c.in-Err.refusal c.report.result first told last silent rep why is);
+      line = explain-line-by held words left before after c.in-Err.refusal c.report.result first told last silent rep why;
+      refused = explain-named-by held words left before after c.in-Err.refusal c.report.result first told last silent rep why;
+      writing_keeps_faults = subst (λ (w : Writing). (c.report.result ≡ 4) ⊎ (w.faults ≡ before.faults)) (sym c.report.ensures.writing_stays) (keeps-writing c.in-Err.refusal c.report.result told last rep _ c.in-Err.ensures.quiet);
+      steady = λ steady script there.
+          fits_held held left words script c.report.result there fails
+          (λ is. (let none = c.in-Err.ensures.steady_reads steady (ap Err (c.report.ensures.read is)) in cc))
+          (λ is. c.in-Err.ensures.steady_writes steady (ap Err (c.report.ensures.write is)))
+          (explain-long-by held words left before after c.in-Err.refusal c.report.result first told last silent rep why)
+          (explain-outside-by held words left before after c.in-Err.refusal c.report.result first told last silent rep why)
+          (explain-refused-by held words left before after c.in-Err.refusal c.report.result first told last silent rep why);
+      linking_stays = c.report.ensures.linking_stays ∙ c.explain_file.ensures.linking_stays;
+    }

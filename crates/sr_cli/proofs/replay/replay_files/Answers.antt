@@ -1,7 +1,13 @@
-use Rattle.std.proofs.Common.{Err, refl, ap}
-use Rattle.std.proofs.lemmas.Result.{on_ok_weaker}
-use Rattle.sr_cli.proofs.Endings.{keeps, one_refusal}
-use Rattle.sr_cli.proofs.Insides.{inside-there}
+use Rattle.std.proofs.Common.{◌≡◌, ◌⊎◌, Err, inl, ap, subst, ◌∙◌}
+use Rattle.std.proofs.lemmas.Result.{on_ok_weaker, IfErr-weaker}
+use Rattle.std.specs.Prelude.{IsErrOf}
+use Rattle.sr_io.specs.Told.{Writing}
+use Rattle.sr_cli.specs.Leaves.{NotRead}
+use Rattle.sr_cli.specs.Replay.{RefusesOver, files_of}
+use Rattle.sr_cli.specs.declared.report.Refusal.TheVariants.{Write}
+use Rattle.sr_cli.proofs.Endings.{one_refusal}
+use Rattle.sr_cli.proofs.LeavesLemmas.{counts-behind, counts-unread, err-of, unread-as}
+use Rattle.sr_cli.proofs.ReplayEnds.{over-files}
 use Rattle.sr_cli.proofs.replay.replay_files.Goals as goal
 
 pub returns-in-Ok-clause-replayed : goal.returns-in-Ok-clause-replayed
@@ -12,34 +18,55 @@ returns-in-Ok-clause-replayed g c =
       loads = c.in-Ok.files.loads;
       files = c.in-Ok.ensures.read;
       world = replayed.0;
-      wrote = rw c.in-Ok.ensures.writing_stays at replayed.1;
+      wrote = rw c.read_files.ensures.stays.writing_stays at replayed.1;
     })
     c.replay_read.ensures.replayed
 
-pub returns-in-Ok-clause-setup : goal.returns-in-Ok-clause-setup
-returns-in-Ok-clause-setup g c = λ line fault is. record {
-  script = c.in-Ok.files.script;
-  loads = c.in-Ok.files.loads;
-  files = c.in-Ok.ensures.read;
-  inside = inside-there c.args.words.now.setup.clients c.in-Ok.files.script c.replay_read.result _ is refl c.replay_read.ensures.line_first;
-  first = c.replay_read.ensures.setup line fault is;
+pub returns-in-Ok-clause-refused : goal.returns-in-Ok-clause-refused
+returns-in-Ok-clause-refused g c =
+    IfErr-weaker c.replay_read.result _ _
+    (λ why refuses.
+    over-files (g.H.Outside.held c.args.host.now) c.args.words.now (g.H.Outside.reading c.replay_read.new.host).left c.in-Ok.files.script c.in-Ok.files.loads (g.H.Outside.writing c.args.host.now) (g.H.Outside.writing c.replay_read.new.host) why
+    c.in-Ok.ensures.read (rw c.read_files.ensures.stays.writing_stays at refuses))
+    c.replay_read.ensures.refused
+
+pub returns-in-Ok-clause-counts : goal.returns-in-Ok-clause-counts
+returns-in-Ok-clause-counts g c =
+    counts-behind _ g.H.Outside.held g.H.Outside.reading g.H.Outside.writing g.H.Outside.linking g.H.Outside.complaints g.H.Outside.IsSteady c.args.host.now c.read_files.new.host c.replay_read.new.host c.replay_read.result
+    c.in-Ok.ensures.ok_keeps_faults c.read_files.ensures.stays.writing_stays c.read_files.ensures.stays.linking_stays c.replay_read.ensures.counts
+
+pub returns-in-Ok-clause-quiet : goal.returns-in-Ok-clause-quiet
+returns-in-Ok-clause-quiet g c =
+    subst (λ (w : Writing). IsErrOf c.replay_read.result Write ⊎ ((g.H.Outside.writing c.replay_read.new.host).faults ≡ w.faults)) c.read_files.ensures.stays.writing_stays c.replay_read.ensures.quiet
+
+pub returns-in-Ok-clause-steady_reads : goal.returns-in-Ok-clause-steady_reads
+returns-in-Ok-clause-steady_reads g c = λ steady failed script loads are. absurd (err-of _ c.replay_read.result _ c.replay_read.ensures.refused failed)
+
+pub returns-in-Ok-clause-steady_writes : goal.returns-in-Ok-clause-steady_writes
+returns-in-Ok-clause-steady_writes g c = λ steady. c.replay_read.ensures.steady_writes (c.read_files.ensures.stays.stays_steady steady)
+
+pub returns-in-Ok-clause-linking_stays : goal.returns-in-Ok-clause-linking_stays
+returns-in-Ok-clause-linking_stays g c = c.replay_read.ensures.stays.linking_stays ∙ c.read_files.ensures.stays.linking_stays
+
+pub returns-in-Ok-clause-stays : goal.returns-in-Ok-clause-stays
+returns-in-Ok-clause-stays g c = record {
+  stays_steady = λ s. c.replay_read.ensures.stays.stays_steady (c.read_files.ensures.stays.stays_steady s);
+  held_stays = c.replay_read.ensures.stays.held_stays ∙ c.read_files.ensures.stays.held_stays;
+  complaints_stay = c.replay_read.ensures.stays.complaints_stay ∙ c.read_files.ensures.stays.complaints_stay;
 }
 
-pub returns-in-Ok-clause-load : goal.returns-in-Ok-clause-load
-returns-in-Ok-clause-load g c = λ table fault is. record {
-  script = c.in-Ok.files.script;
-  loads = c.in-Ok.files.loads;
-  files = c.in-Ok.ensures.read;
-  inside = inside-there c.args.words.now.setup.clients c.in-Ok.files.script c.replay_read.result _ is refl c.replay_read.ensures.line_first;
-  refuses = c.replay_read.ensures.load table fault is;
-}
+pub returns-in-Err-clause-refused : goal.returns-in-Err-clause-refused
+returns-in-Err-clause-refused g c =
+    unread-as (RefusesOver (g.H.Outside.held c.args.host.now) c.args.words.now (g.H.Outside.reading c.read_files.new.host).left (g.H.Outside.writing c.args.host.now) (g.H.Outside.writing c.read_files.new.host))
+    c.in-Err.fault c.unread.result c.unread.ensures.only c.unread.ensures.read c.unread.ensures.memory c.unread.ensures.too_long
+    (λ is. tt) (λ is. inl c.read_files.ensures.stays.writing_stays)
+    (λ is. (subst (NotRead (g.H.Outside.held c.args.host.now) (files_of c.args.words.now) (g.H.Outside.reading c.args.host.now) (g.H.Outside.reading c.read_files.new.host)) is c.in-Err.ensures.not_read).0)
+
+pub returns-in-Err-clause-counts : goal.returns-in-Err-clause-counts
+returns-in-Err-clause-counts g c =
+    counts-unread _ g.H.Outside.held g.H.Outside.reading g.H.Outside.writing g.H.Outside.linking g.H.Outside.complaints g.H.Outside.IsSteady (files_of c.args.words.now) (g.H.Outside.held c.args.host.now) c.args.host.now c.read_files.new.host
+    c.in-Err.fault c.unread.result c.unread.ensures.only c.unread.ensures.read c.unread.ensures.memory c.unread.ensures.too_long c.in-Err.ensures.not_read c.read_files.ensures.stays.writing_stays c.read_files.ensures.stays.linking_stays
 
 pub returns-in-Err-clause-steady_reads : goal.returns-in-Err-clause-steady_reads
 returns-in-Err-clause-steady_reads g c = λ steady failed script loads are.
-    c.in-Err.ensures.steady_never_faults steady (ap Err (c.unread.ensures.read (one_refusal _ _ failed))) script loads are
-
-pub returns-in-Err-clause-reading_keeps_faults : goal.returns-in-Err-clause-reading_keeps_faults
-returns-in-Err-clause-reading_keeps_faults g c =
-    keeps c.unread.result _ _ c.unread.ensures.only (λ is. ap Err is)
-    (λ is. c.in-Err.ensures.want_keeps_faults (ap Err (c.unread.ensures.memory is)))
-    (λ is. c.in-Err.ensures.too_long_keeps_faults (ap Err (c.unread.ensures.too_long is)))
+    c.in-Err.ensures.steady steady (ap Err (c.unread.ensures.read (one_refusal _ _ failed))) script loads are

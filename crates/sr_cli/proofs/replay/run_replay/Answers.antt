@@ -1,55 +1,68 @@
-use Rattle.std.proofs.Common.{◌≡◌, ℕ, ◌⊎◌, List, Option, Err, inl, inr, arith, sym, ap, subst}
-use Rattle.sr_cell.specs.declared.fault.Fault.{Fault}
-use Rattle.sr_io.specs.Told.{Reading}
-use Rattle.sr_words.specs.declared.command.ReplayWords.{ReplayWords}
+use Rattle.std.proofs.Common.{◌≡◌, ◌⊎◌, Err, inl, inr, refl, sym, ap, subst, arith, ◌∙◌}
+use Rattle.sr_io.specs.Told.{Reading, Writing}
 use Rattle.sr_cli.specs.Files.{SomeTooLong}
-use Rattle.sr_cli.specs.Replay.{IsOutside, IsRefusedSetup, IsRefusedLoad, files_of}
-use Rattle.sr_cli.specs.declared.report.Refusal.{Refusal}
-use Rattle.sr_cli.specs.declared.report.Refusal.TheVariants.{Line, Setup, Load as LoadRefused}
-use Rattle.sr_cli.proofs.FitsLemmas.{IsRefused, SomeOutside, fits_held, fits_done, known_status}
+use Rattle.sr_cli.specs.Replay.{files_of}
+use Rattle.sr_cli.proofs.FitsLemmas.{fits_held, fits_done, known_status}
+use Rattle.sr_cli.proofs.LeavesLemmas.{Reported, done-keeps, keeps-writing, leaves-done, leaves-refused, named-nothing}
+use Rattle.sr_cli.proofs.ReplayEnds.{never-links, part-by, too-long-by, outside-by, line-by, refused-by, named-by, want-by}
 use Rattle.sr_cli.proofs.replay.run_replay.Goals as goal
 
--- what was named was refused
-refused_of : (held : List ℕ → Option (List ℕ)) (words : ReplayWords) (refusal : Refusal) (S : ℕ → Fault → Type 0) (L : List ℕ → Fault → Type 0)
-    → ((line : ℕ) (fault : Fault) → refusal ≡ Setup line fault → IsRefusedSetup held words line fault)
-    → ((table : List ℕ) (fault : Fault) → refusal ≡ LoadRefused table fault → IsRefusedLoad held words table fault)
-    → ((line : ℕ) × (fault : Fault) × (refusal ≡ Setup line fault) × S line fault) ⊎ ((table : List ℕ) × (fault : Fault) × (refusal ≡ LoadRefused table fault) × L table fault)
-    → IsRefused held words
-refused_of held words refusal S L setup load (inl (line, fault, is, said)) = inl (line, fault, setup line fault is)
-refused_of held words refusal S L setup load (inr (table, fault, is, said)) = inr (table, fault, load table fault is)
+pub returns-in-Ok-clause-replays : goal.returns-in-Ok-clause-replays
+returns-in-Ok-clause-replays g c = record {
+  only = inl refl;
+  replayed = λ is. c.in-Ok.ensures.replayed;
+  part_after_fault = λ is. absurd (omega (arith, is));
+  part_in_want = λ is. absurd (omega (arith, is));
+  too_long = λ is. absurd (omega (arith, is));
+  line = λ is. absurd (omega (arith, is));
+  refused = λ is. absurd (omega (arith, is));
+  writing_keeps_faults = inr (done-keeps _ _ c.in-Ok.ensures.quiet);
+  steady = λ steady script loads are. fits_done _ c.args.words.now script loads _ _ are c.in-Ok.ensures.replayed;
+  linking_stays = c.replay_files.ensures.linking_stays;
+}
 
--- what was named is outside
-outside_of : (held : List ℕ → Option (List ℕ)) (words : ReplayWords) (refusal : Refusal) (S : ℕ → ℕ → Type 0)
-    → ((line place : ℕ) → refusal ≡ Line line place → IsOutside held words line place)
-    → (line : ℕ) × (place : ℕ) × (refusal ≡ Line line place) × S line place → SomeOutside held words
-outside_of held words refusal S lies (line, place, is, said) = (line, place, lies line place is)
+pub returns-in-Ok-clause-leaves : goal.returns-in-Ok-clause-leaves
+returns-in-Ok-clause-leaves g c = leaves-done _ g.H.Outside.held g.H.Outside.reading g.H.Outside.writing g.H.Outside.linking g.H.Outside.complaints g.H.Outside.IsSteady c.args.host.now c.replay_files.new.host c.in-Ok.ensures.counts c.replay_files.ensures.stays
 
-pub returns-in-Err-clause-only : goal.returns-in-Err-clause-only
-returns-in-Err-clause-only g c = inr (known_status c.report.result c.report.ensures.only (λ is. c.in-Err.ensures.never_links (ap Err (c.report.ensures.link is))))
+pub returns-in-Err-clause-leaves : goal.returns-in-Err-clause-leaves
+returns-in-Err-clause-leaves g c =
+    leaves-refused _ g.H.Outside.held g.H.Outside.reading g.H.Outside.writing g.H.Outside.linking g.H.Outside.complaints g.H.Outside.IsSteady c.args.host.now c.replay_files.new.host c.report.new.host c.in-Err.refusal c.report.result
+    (record { only = c.report.ensures.only; read = c.report.ensures.read; write = c.report.ensures.write; link = c.report.ensures.link; memory = c.report.ensures.memory; too_long = c.report.ensures.too_long; line = c.report.ensures.line; refused = c.report.ensures.refused; complaint = c.report.ensures.complaint })
+    c.in-Err.ensures.counts c.replay_files.ensures.stays
+    (record { stays_steady = c.report.ensures.stays_steady; reading_stays = c.report.ensures.reading_stays; writing_stays = c.report.ensures.writing_stays; linking_stays = c.report.ensures.linking_stays; held_stays = c.report.ensures.held_stays })
 
-pub returns-in-Err-clause-steady : goal.returns-in-Err-clause-steady
-returns-in-Err-clause-steady g c = λ steady script loads are.
-    fits_held _ (g.H.Outside.reading c.replay_files.new.host).left c.args.words.now script loads _ are
-    (known_status c.report.result c.report.ensures.only (λ is. c.in-Err.ensures.never_links (ap Err (c.report.ensures.link is))))
-    (λ is. c.in-Err.ensures.steady_reads steady (ap Err (c.report.ensures.read is)) script loads are)
-    (λ is. c.in-Err.ensures.steady_writes steady (ap Err (c.report.ensures.write is)))
-    (λ is. c.in-Err.ensures.too_long (ap Err (c.report.ensures.too_long is)))
-    (λ is. outside_of _ _ _ _ (λ line place named. c.in-Err.ensures.line line place (ap Err named)) (c.report.ensures.line is))
-    (λ is. refused_of _ _ _ _ _
-    (λ line fault named. c.in-Err.ensures.setup line fault (ap Err named))
-    (λ table fault named. c.in-Err.ensures.load table fault (ap Err named))
-    (c.report.ensures.refused is))
-
-pub returns-in-Ok-clause-steady : goal.returns-in-Ok-clause-steady
-returns-in-Ok-clause-steady g c = λ steady script loads are. fits_done _ c.args.words.now script loads _ _ are c.in-Ok.ensures.replayed
-
-pub returns-in-Ok-clause-part_after_fault : goal.returns-in-Ok-clause-part_after_fault
-returns-in-Ok-clause-part_after_fault g c = λ is. absurd (omega (arith, is))
-
-pub returns-in-Err-clause-too_long : goal.returns-in-Err-clause-too_long
-returns-in-Err-clause-too_long g c = λ is.
-    subst (λ left. SomeTooLong (g.H.Outside.held c.args.host.now) left (files_of c.args.words.now)) (ap (λ (r : Reading). r.left) (sym c.report.ensures.reading_stays))
-    (c.in-Err.ensures.too_long (ap Err (c.report.ensures.too_long is)))
-
-pub returns-in-Err-clause-complaint : goal.returns-in-Err-clause-complaint
-returns-in-Err-clause-complaint g c = rw c.in-Err.ensures.complaints_stay at c.report.ensures.complaint
+pub returns-in-Err-clause-replays : goal.returns-in-Err-clause-replays
+returns-in-Err-clause-replays g c =
+    let held = g.H.Outside.held c.args.host.now in
+    let words = c.args.words.now in
+    let left = (g.H.Outside.reading c.replay_files.new.host).left in
+    let before = g.H.Outside.writing c.args.host.now in
+    let after = g.H.Outside.writing c.replay_files.new.host in
+    let first = g.H.Outside.complaints c.args.host.now in
+    let told = g.H.Outside.complaints c.replay_files.new.host in
+    let last = g.H.Outside.complaints c.report.new.host in
+    let silent = c.replay_files.ensures.stays.complaints_stay in
+    let only = c.report.ensures.only in
+    let rep : Reported c.in-Err.refusal c.report.result told last = record { only = c.report.ensures.only; read = c.report.ensures.read; write = c.report.ensures.write; link = c.report.ensures.link; memory = c.report.ensures.memory; too_long = c.report.ensures.too_long; line = c.report.ensures.line; refused = c.report.ensures.refused; complaint = c.report.ensures.complaint } in
+    let why = c.in-Err.ensures.refused in
+    let fails = known_status c.report.result c.report.ensures.only (never-links held words left before after c.in-Err.refusal c.report.result first told last silent rep why) in
+    record {
+      only = inr fails;
+      replayed = λ is. absurd (omega (arith, only, is));
+      part_after_fault = λ is. rw (sym c.report.ensures.writing_stays) at (part-by held words left before after c.in-Err.refusal c.report.result first told last silent rep why is);
+      part_in_want = λ is. rw (sym c.report.ensures.writing_stays) at (want-by held words left before after c.in-Err.refusal c.report.result first told last silent rep why
+          (λ named. (named-nothing _ g.H.Outside.held g.H.Outside.reading g.H.Outside.writing g.H.Outside.linking g.H.Outside.complaints g.H.Outside.IsSteady c.args.host.now c.replay_files.new.host c.report.new.host c.in-Err.refusal c.report.result rep c.in-Err.ensures.counts named).writing_stays) is);
+      too_long = λ is. subst (λ left. SomeTooLong held left (files_of words)) (ap (λ (r : Reading). r.left) (sym c.report.ensures.reading_stays))
+          (too-long-by held words left before after c.in-Err.refusal c.report.result first told last silent rep why is);
+      line = line-by held words left before after c.in-Err.refusal c.report.result first told last silent rep why;
+      refused = named-by held words left before after c.in-Err.refusal c.report.result first told last silent rep why;
+      writing_keeps_faults = subst (λ (w : Writing). (c.report.result ≡ 4) ⊎ (w.faults ≡ before.faults)) (sym c.report.ensures.writing_stays) (keeps-writing c.in-Err.refusal c.report.result told last rep _ c.in-Err.ensures.quiet);
+      steady = λ steady script loads are.
+          fits_held held left words script loads c.report.result are fails
+          (λ is. c.in-Err.ensures.steady_reads steady (ap Err (c.report.ensures.read is)) script loads are)
+          (λ is. c.in-Err.ensures.steady_writes steady (ap Err (c.report.ensures.write is)))
+          (too-long-by held words left before after c.in-Err.refusal c.report.result first told last silent rep why)
+          (outside-by held words left before after c.in-Err.refusal c.report.result first told last silent rep why)
+          (refused-by held words left before after c.in-Err.refusal c.report.result first told last silent rep why);
+      linking_stays = c.report.ensures.linking_stays ∙ c.replay_files.ensures.linking_stays;
+    }

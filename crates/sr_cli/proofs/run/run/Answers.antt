@@ -54,75 +54,24 @@ returns-in-Ok-Client-clause-link_fault_is_counted g c = λ is.
 
 pub returns-in-Ok-Replay-clause-replays : goal.returns-in-Ok-Replay-clause-replays
 returns-in-Ok-Replay-clause-replays g c = λ w says.
-    let did = c.run_replay.ensures in
     let same = one_replay _ _ c.in-Ok-Replay.words w c.in-Ok-Replay.ensures.said c.in-Ok-Replay.field-0-is says in
     subst (λ (v : ReplayWords). Replays _ g.H.Outside.held g.H.Outside.reading g.H.Outside.writing g.H.Outside.linking g.H.Outside.complaints g.H.Outside.IsSteady c.args.host.now c.run_replay.new.host v c.run_replay.result) same
-    record {
-      only = did.only;
-      replayed = did.replayed;
-      part_after_fault = did.part_after_fault;
-      part_in_want = did.part_in_want;
-      too_long = did.too_long;
-      line = did.line;
-      refused = did.refused;
-      writing_keeps_faults = did.writing_keeps_faults;
-      steady = did.steady;
-      linking_stays = did.linking_stays;
-    }
+    c.run_replay.ensures.replays
 
 pub returns-in-Ok-Serve-clause-serves : goal.returns-in-Ok-Serve-clause-serves
 returns-in-Ok-Serve-clause-serves g c = λ w says.
-    let did = c.run_serve.ensures in
     let same = one_serve _ _ c.in-Ok-Serve.words w c.in-Ok-Serve.ensures.said c.in-Ok-Serve.field-0-is says in
     subst (λ (v : ServeWords). Serves _ g.H.Outside.held g.H.Outside.reading g.H.Outside.writing g.H.Outside.linking g.H.Outside.complaints g.H.Outside.IsSteady c.args.host.now c.run_serve.new.host v c.run_serve.result) same
-    record {
-      only = did.only;
-      whole = did.whole;
-      unwritten = did.unwritten;
-      faulty = did.faulty;
-      too_long = did.too_long;
-      line = did.line;
-      refused = did.refused;
-      steady = did.steady;
-      steady_writes = did.steady_writes;
-      steady_links = did.steady_links;
-      quiet = did.quiet;
-    }
+    c.run_serve.ensures.serves
 
 pub returns-in-Ok-Explain-clause-explains : goal.returns-in-Ok-Explain-clause-explains
 returns-in-Ok-Explain-clause-explains g c = λ w says.
-    let did = c.run_explain.ensures in
     let same = one_explain _ _ c.in-Ok-Explain.words w c.in-Ok-Explain.ensures.said c.in-Ok-Explain.field-0-is says in
     subst (λ (v : ExplainWords). Explains _ g.H.Outside.held g.H.Outside.reading g.H.Outside.writing g.H.Outside.linking g.H.Outside.complaints g.H.Outside.IsSteady c.args.host.now c.run_explain.new.host v c.run_explain.result) same
-    record {
-      only = did.only;
-      explained = did.explained;
-      part_after_fault = did.part_after_fault;
-      part_in_want = did.part_in_want;
-      too_long = did.too_long;
-      line = did.line;
-      refused = did.refused;
-      writing_keeps_faults = did.writing_keeps_faults;
-      steady = did.steady;
-      linking_stays = did.linking_stays;
-    }
+    c.run_explain.ensures.explains
 
 pub returns-in-Ok-Generate-clause-generates : goal.returns-in-Ok-Generate-clause-generates
 returns-in-Ok-Generate-clause-generates g c = λ w says.
-    let did = c.run_generate.ensures in
     let same = one_generate _ _ c.in-Ok-Generate.words w c.in-Ok-Generate.ensures.said c.in-Ok-Generate.field-0-is says in
     subst (λ (v : GenerateWords). Generates _ g.H.Outside.reading g.H.Outside.writing g.H.Outside.linking g.H.Outside.IsSteady c.args.host.now c.run_generate.new.host v c.run_generate.result) same
-    record {
-      only = did.only;
-      made = did.made;
-      made_in_part = did.made_in_part;
-      made_alone = did.made_alone;
-      summary = did.summary;
-      summary_in_part = did.summary_in_part;
-      line = did.line;
-      refused = did.refused;
-      writing_keeps_faults = did.writing_keeps_faults;
-      steady = did.steady;
-      reading_stays = did.reading_stays;
-      linking_stays = did.linking_stays;
-    }
+    c.run_generate.ensures.generates

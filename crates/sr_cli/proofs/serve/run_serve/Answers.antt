@@ -1,100 +1,80 @@
-use Rattle.std.proofs.Common.{◌≡◌, ℕ, ◌⊎◌, List, Option, Err, inl, inr, refl, sym, ap, subst, arith, ◌∙◌}
-use Rattle.sr_cell.specs.declared.fault.Fault.{Fault}
-use Rattle.sr_io.specs.Told.{Linking, Reading, Writing, complained}
-use Rattle.sr_talk.specs.declared.rounds.Ending.TheVariants.{Whole, Faulty, Unwritten}
-use Rattle.sr_words.specs.declared.command.ServeWords.{ServeWords}
-use Rattle.sr_cli.specs.Errors.{setup_text, load_text}
+use Rattle.std.proofs.Common.{Err, inl, inr, refl, sym, ap, subst, arith}
+use Rattle.sr_io.specs.Told.{Reading}
+use Rattle.sr_talk.specs.declared.rounds.Ending.TheVariants.{Whole}
 use Rattle.sr_cli.specs.Files.{SomeTooLong}
-use Rattle.sr_cli.specs.Serve.{DidRun, IsOutside, IsRefusedCreate, IsRefusedLoad, NamedCreate, NamedLoad, Served, files_of}
-use Rattle.sr_cli.specs.declared.report.Refusal.{Refusal}
-use Rattle.sr_cli.specs.declared.report.Refusal.TheVariants.{Line, Setup, Load as LoadRefused}
-use Rattle.sr_cli.proofs.ServeLemmas.{IsRefused, SomeOutside, SomeServed, Statuses, fits_held}
+use Rattle.sr_cli.specs.Serve.{files_of}
+use Rattle.sr_cli.proofs.LeavesLemmas.{Reported, leaves-done, leaves-refused, named-nothing}
+use Rattle.sr_cli.proofs.ServeEnds.{unwritten-by, faulty-by, too-long-by, outside-by, line-by, refused-by, named-by, served-by, want-by}
+use Rattle.sr_cli.proofs.ServeLemmas.{Statuses, fits_held}
 use Rattle.sr_cli.proofs.serve.run_serve.Goals as goal
 
--- what was named was refused
-refused_of : (held : List ℕ → Option (List ℕ)) (words : ServeWords) (refusal : Refusal) (S : ℕ → Fault → Type 0) (L : List ℕ → Fault → Type 0)
-    → ((line : ℕ) (fault : Fault) → refusal ≡ Setup line fault → IsRefusedCreate held words line fault)
-    → ((table : List ℕ) (fault : Fault) → refusal ≡ LoadRefused table fault → IsRefusedLoad held words table fault)
-    → ((line : ℕ) × (fault : Fault) × (refusal ≡ Setup line fault) × S line fault) ⊎ ((table : List ℕ) × (fault : Fault) × (refusal ≡ LoadRefused table fault) × L table fault)
-    → IsRefused held words
-refused_of held words refusal S L setup load (inl (line, fault, is, said)) = inl (line, fault, setup line fault is)
-refused_of held words refusal S L setup load (inr (table, fault, is, said)) = inr (table, fault, load table fault is)
+pub returns-in-Ok-clause-serves : goal.returns-in-Ok-clause-serves
+returns-in-Ok-clause-serves g c = record {
+  only = inl refl;
+  whole = λ is. c.in-Ok.ensures.whole;
+  unwritten = λ is. absurd (omega (arith, is));
+  faulty = λ is. absurd (omega (arith, is));
+  in_want = λ is. absurd (omega (arith, is));
+  too_long = λ is. absurd (omega (arith, is));
+  line = λ is. absurd (omega (arith, is));
+  refused = λ is. absurd (omega (arith, is));
+  steady = λ steady schema exec loads are.
+      fits_held _ (g.H.Outside.reading c.serve_files.new.host).left c.args.words.now schema exec loads _ _ _ _ 0 are (inl refl)
+      (λ is. absurd (omega (arith, is))) (λ is. absurd (omega (arith, is))) (λ is. absurd (omega (arith, is))) (λ is. absurd (omega (arith, is)))
+      (λ did. (Whole, c.in-Ok.ensures.whole));
+  steady_writes = λ steady is. absurd (omega (arith, is));
+  steady_links = λ steady enough is. absurd (omega (arith, is));
+  quiet = λ is. c.in-Ok.ensures.whole.ends.ran.served.quiet refl;
+}
 
--- and it was named
-named_of : (held : List ℕ → Option (List ℕ)) (words : ServeWords) (refusal : Refusal) (old then new : Option (List ℕ)) → then ≡ old
-    → ((line : ℕ) (fault : Fault) → refusal ≡ Setup line fault → IsRefusedCreate held words line fault)
-    → ((table : List ℕ) (fault : Fault) → refusal ≡ LoadRefused table fault → IsRefusedLoad held words table fault)
-    → ((line : ℕ) × (fault : Fault) × (refusal ≡ Setup line fault) × (new ≡ complained (setup_text line fault) then)) ⊎ ((table : List ℕ) × (fault : Fault) × (refusal ≡ LoadRefused table fault) × (new ≡ complained (load_text table fault) then))
-    → NamedCreate held words old new ⊎ NamedLoad held words old new
-named_of held words refusal old then new same setup load (inl (line, fault, is, said)) =
-    inl (record { line = line; fault = fault; refused = setup line fault is; said = said ∙ ap (complained (setup_text line fault)) same })
-named_of held words refusal old then new same setup load (inr (table, fault, is, said)) =
-    inr (record { table = table; fault = fault; refused = load table fault is; said = said ∙ ap (complained (load_text table fault)) same })
+pub returns-in-Ok-clause-leaves : goal.returns-in-Ok-clause-leaves
+returns-in-Ok-clause-leaves g c =
+    leaves-done _ g.H.Outside.held g.H.Outside.reading g.H.Outside.writing g.H.Outside.linking g.H.Outside.complaints g.H.Outside.IsSteady c.args.host.now c.serve_files.new.host c.in-Ok.ensures.counts c.serve_files.ensures.stays
 
--- what was named is outside
-outside_of : (held : List ℕ → Option (List ℕ)) (words : ServeWords) (refusal : Refusal) (S : ℕ → ℕ → Type 0)
-    → ((line place : ℕ) → refusal ≡ Line line place → IsOutside held words line place)
-    → (line : ℕ) × (place : ℕ) × (refusal ≡ Line line place) × S line place → SomeOutside held words
-outside_of held words refusal S lies (line, place, is, said) = (line, place, lies line place is)
+pub returns-in-Err-clause-leaves : goal.returns-in-Err-clause-leaves
+returns-in-Err-clause-leaves g c =
+    leaves-refused _ g.H.Outside.held g.H.Outside.reading g.H.Outside.writing g.H.Outside.linking g.H.Outside.complaints g.H.Outside.IsSteady c.args.host.now c.serve_files.new.host c.report.new.host c.in-Err.refusal c.report.result
+    (record { only = c.report.ensures.only; read = c.report.ensures.read; write = c.report.ensures.write; link = c.report.ensures.link; memory = c.report.ensures.memory; too_long = c.report.ensures.too_long; line = c.report.ensures.line; refused = c.report.ensures.refused; complaint = c.report.ensures.complaint })
+    c.in-Err.ensures.counts c.serve_files.ensures.stays
+    (record { stays_steady = c.report.ensures.stays_steady; reading_stays = c.report.ensures.reading_stays; writing_stays = c.report.ensures.writing_stays; linking_stays = c.report.ensures.linking_stays; held_stays = c.report.ensures.held_stays })
 
-served_by : (held : List ℕ → Option (List ℕ)) (words : ServeWords) (old new : Linking) (before after : Writing) (status : ℕ) → ¬ (status ≡ 0)
-    → (status ≡ 4 → Served held words Unwritten old new before after) → (status ≡ 5 → Served held words Faulty old new before after) → DidRun status → SomeServed held words old new before after
-served_by held words old new before after status failed unwritten faulty (inl is) = absurd (failed is)
-served_by held words old new before after status failed unwritten faulty (inr (inl is)) = (Unwritten, unwritten is)
-served_by held words old new before after status failed unwritten faulty (inr (inr is)) = (Faulty, faulty is)
-
-pub returns-in-Err-clause-only : goal.returns-in-Err-clause-only
-returns-in-Err-clause-only g c = inr c.report.ensures.only
-
-pub returns-in-Err-clause-refused : goal.returns-in-Err-clause-refused
-returns-in-Err-clause-refused g c = λ is.
-    named_of _ _ _ _ _ _ c.in-Err.ensures.complaints_stay
-    (λ line fault named. c.in-Err.ensures.setup line fault (ap Err named))
-    (λ table fault named. c.in-Err.ensures.load table fault (ap Err named))
-    (c.report.ensures.refused is)
-
-pub returns-in-Err-clause-steady : goal.returns-in-Err-clause-steady
-returns-in-Err-clause-steady g c = λ steady schema exec loads are.
-    let only : Statuses c.report.result = inr c.report.ensures.only in
-    let failed : c.report.result ≡ 0 → ⊥ = λ is. let o = c.report.ensures.only in omega (arith, o, is) in
-    fits_held _ (g.H.Outside.reading c.serve_files.new.host).left c.args.words.now schema exec loads _ _ _ _ _ are only
-    (λ is. c.in-Err.ensures.steady_reads steady (ap Err (c.report.ensures.read is)) schema exec loads are)
-    (λ is. c.in-Err.ensures.too_long (ap Err (c.report.ensures.too_long is)))
-    (λ is. outside_of _ _ _ _ (λ line place named. c.in-Err.ensures.line line place (ap Err named)) (c.report.ensures.line is))
-    (λ is. refused_of _ _ _ _ _
-    (λ line fault named. c.in-Err.ensures.setup line fault (ap Err named))
-    (λ table fault named. c.in-Err.ensures.load table fault (ap Err named))
-    (c.report.ensures.refused is))
-    (served_by _ _ _ _ _ _ c.report.result failed (λ is. c.in-Err.ensures.unwritten (ap Err (c.report.ensures.write is))) (λ is. c.in-Err.ensures.faulty (ap Err (c.report.ensures.link is))))
-
-pub returns-in-Ok-clause-steady : goal.returns-in-Ok-clause-steady
-returns-in-Ok-clause-steady g c = λ steady schema exec loads are.
-    fits_held _ (g.H.Outside.reading c.serve_files.new.host).left c.args.words.now schema exec loads _ _ _ _ 0 are (inl refl)
-    (λ is. absurd (omega (arith, is))) (λ is. absurd (omega (arith, is))) (λ is. absurd (omega (arith, is))) (λ is. absurd (omega (arith, is)))
-    (λ did. (Whole, c.in-Ok.ensures.whole))
-
-pub returns-in-Ok-clause-unwritten : goal.returns-in-Ok-clause-unwritten
-returns-in-Ok-clause-unwritten g c = λ is. absurd (omega (arith, is))
-
-pub returns-in-Ok-clause-faulty : goal.returns-in-Ok-clause-faulty
-returns-in-Ok-clause-faulty g c = λ is. absurd (omega (arith, is))
-
-pub returns-in-Err-clause-unwritten : goal.returns-in-Err-clause-unwritten
-returns-in-Err-clause-unwritten g c = λ is. rw (sym c.report.ensures.linking_stays, sym c.report.ensures.writing_stays) at (c.in-Err.ensures.unwritten (ap Err (c.report.ensures.write is)))
-
-pub returns-in-Err-clause-faulty : goal.returns-in-Err-clause-faulty
-returns-in-Err-clause-faulty g c = λ is. rw (sym c.report.ensures.linking_stays, sym c.report.ensures.writing_stays) at (c.in-Err.ensures.faulty (ap Err (c.report.ensures.link is)))
-
-pub returns-in-Err-clause-too_long : goal.returns-in-Err-clause-too_long
-returns-in-Err-clause-too_long g c = λ is.
-    subst (λ left. SomeTooLong (g.H.Outside.held c.args.host.now) left (files_of c.args.words.now)) (ap (λ (r : Reading). r.left) (sym c.report.ensures.reading_stays))
-    (c.in-Err.ensures.too_long (ap Err (c.report.ensures.too_long is)))
-
-pub returns-in-Err-clause-complaint : goal.returns-in-Err-clause-complaint
-returns-in-Err-clause-complaint g c = rw c.in-Err.ensures.complaints_stay at c.report.ensures.complaint
-
-pub returns-in-Ok-clause-quiet : goal.returns-in-Ok-clause-quiet
-returns-in-Ok-clause-quiet g c = λ is. c.in-Ok.ensures.whole.ends.ran.served.quiet refl
-
-pub returns-in-Err-clause-quiet : goal.returns-in-Err-clause-quiet
-returns-in-Err-clause-quiet g c = λ is. (let o = c.report.ensures.only in absurd (omega (arith, o, is)))
+pub returns-in-Err-clause-serves : goal.returns-in-Err-clause-serves
+returns-in-Err-clause-serves g c =
+    let held = g.H.Outside.held c.args.host.now in
+    let words = c.args.words.now in
+    let left = (g.H.Outside.reading c.serve_files.new.host).left in
+    let old = g.H.Outside.linking c.args.host.now in
+    let new = g.H.Outside.linking c.serve_files.new.host in
+    let before = g.H.Outside.writing c.args.host.now in
+    let after = g.H.Outside.writing c.serve_files.new.host in
+    let first = g.H.Outside.complaints c.args.host.now in
+    let told = g.H.Outside.complaints c.serve_files.new.host in
+    let last = g.H.Outside.complaints c.report.new.host in
+    let silent = c.serve_files.ensures.stays.complaints_stay in
+    let only = c.report.ensures.only in
+    let rep : Reported c.in-Err.refusal c.report.result told last = record { only = c.report.ensures.only; read = c.report.ensures.read; write = c.report.ensures.write; link = c.report.ensures.link; memory = c.report.ensures.memory; too_long = c.report.ensures.too_long; line = c.report.ensures.line; refused = c.report.ensures.refused; complaint = c.report.ensures.complaint } in
+    let why = c.in-Err.ensures.refused in
+    let statuses : Statuses c.report.result = inr c.report.ensures.only in
+    record {
+      only = inr c.report.ensures.only;
+      whole = λ is. absurd (omega (arith, only, is));
+      unwritten = λ is. rw (sym c.report.ensures.linking_stays, sym c.report.ensures.writing_stays) at (unwritten-by held words left old new before after c.in-Err.refusal c.report.result first told last silent rep why is);
+      faulty = λ is. rw (sym c.report.ensures.linking_stays, sym c.report.ensures.writing_stays) at (faulty-by held words left old new before after c.in-Err.refusal c.report.result first told last silent rep why is);
+      in_want = λ is. rw (sym c.report.ensures.linking_stays, sym c.report.ensures.writing_stays) at (want-by held words left old new before after c.in-Err.refusal c.report.result first told last silent rep why
+          (λ named. (let none = named-nothing _ g.H.Outside.held g.H.Outside.reading g.H.Outside.writing g.H.Outside.linking g.H.Outside.complaints g.H.Outside.IsSteady c.args.host.now c.serve_files.new.host c.report.new.host c.in-Err.refusal c.report.result rep c.in-Err.ensures.counts named in
+          record { linking = none.linking_stays; writing = none.writing_stays })) is);
+      too_long = λ is. subst (λ left. SomeTooLong held left (files_of words)) (ap (λ (r : Reading). r.left) (sym c.report.ensures.reading_stays))
+          (too-long-by held words left old new before after c.in-Err.refusal c.report.result first told last silent rep why is);
+      line = line-by held words left old new before after c.in-Err.refusal c.report.result first told last silent rep why;
+      refused = named-by held words left old new before after c.in-Err.refusal c.report.result first told last silent rep why;
+      steady = λ steady schema exec loads are.
+          fits_held held left words schema exec loads old new before after c.report.result are statuses
+          (λ is. c.in-Err.ensures.steady_reads steady (ap Err (c.report.ensures.read is)) schema exec loads are)
+          (too-long-by held words left old new before after c.in-Err.refusal c.report.result first told last silent rep why)
+          (outside-by held words left old new before after c.in-Err.refusal c.report.result first told last silent rep why)
+          (refused-by held words left old new before after c.in-Err.refusal c.report.result first told last silent rep why)
+          (served-by held words left old new before after c.in-Err.refusal c.report.result first told last silent rep why);
+      steady_writes = λ steady is. c.in-Err.ensures.steady_writes steady (ap Err (c.report.ensures.write is));
+      steady_links = λ steady enough is. c.in-Err.ensures.steady_links steady enough (ap Err (c.report.ensures.link is));
+      quiet = λ is. absurd (omega (arith, only, is));
+    }

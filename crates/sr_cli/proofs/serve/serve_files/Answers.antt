@@ -1,6 +1,10 @@
-use Rattle.std.proofs.Common.{Err, ap}
-use Rattle.std.proofs.lemmas.Result.{on_ok_weaker}
-use Rattle.sr_cli.proofs.Endings.{keeps, one_refusal}
+use Rattle.std.proofs.Common.{Err, inl, ap, subst, ◌∙◌}
+use Rattle.std.proofs.lemmas.Result.{on_ok_weaker, IfErr-weaker}
+use Rattle.sr_cli.specs.Leaves.{NotRead}
+use Rattle.sr_cli.specs.Serve.{RefusesOver, files_of}
+use Rattle.sr_cli.proofs.Endings.{one_refusal}
+use Rattle.sr_cli.proofs.LeavesLemmas.{counts-behind, counts-unread, err-of, unread-as}
+use Rattle.sr_cli.proofs.ServeEnds.{over-files}
 use Rattle.sr_cli.proofs.serve.serve_files.Goals as goal
 
 pub returns-in-Ok-clause-whole : goal.returns-in-Ok-clause-whole
@@ -11,61 +15,53 @@ returns-in-Ok-clause-whole g c =
       exec = c.in-Ok.files.exec;
       loads = c.in-Ok.files.loads;
       files = c.in-Ok.ensures.read;
-      ends = rw (c.in-Ok.ensures.linking_stays, c.in-Ok.ensures.writing_stays) at ends;
+      ends = rw (c.read_files.ensures.stays.linking_stays, c.read_files.ensures.stays.writing_stays) at ends;
     })
     c.serve_read.ensures.whole
 
-pub returns-in-Ok-clause-unwritten : goal.returns-in-Ok-clause-unwritten
-returns-in-Ok-clause-unwritten g c = λ is. record {
-  schema = c.in-Ok.files.schema;
-  exec = c.in-Ok.files.exec;
-  loads = c.in-Ok.files.loads;
-  files = c.in-Ok.ensures.read;
-  ends = rw (c.in-Ok.ensures.linking_stays, c.in-Ok.ensures.writing_stays) at (c.serve_read.ensures.unwritten is);
+pub returns-in-Ok-clause-refused : goal.returns-in-Ok-clause-refused
+returns-in-Ok-clause-refused g c =
+    IfErr-weaker c.serve_read.result _ _
+    (λ why refuses.
+    over-files (g.H.Outside.held c.args.host.now) c.args.words.now (g.H.Outside.reading c.serve_read.new.host).left c.in-Ok.files.schema c.in-Ok.files.exec c.in-Ok.files.loads
+    (g.H.Outside.linking c.args.host.now) (g.H.Outside.linking c.serve_read.new.host) (g.H.Outside.writing c.args.host.now) (g.H.Outside.writing c.serve_read.new.host) why c.in-Ok.ensures.read
+    (rw (c.read_files.ensures.stays.linking_stays, c.read_files.ensures.stays.writing_stays) at refuses))
+    c.serve_read.ensures.refused
+
+pub returns-in-Ok-clause-counts : goal.returns-in-Ok-clause-counts
+returns-in-Ok-clause-counts g c =
+    counts-behind _ g.H.Outside.held g.H.Outside.reading g.H.Outside.writing g.H.Outside.linking g.H.Outside.complaints g.H.Outside.IsSteady c.args.host.now c.read_files.new.host c.serve_read.new.host c.serve_read.result
+    c.in-Ok.ensures.ok_keeps_faults c.read_files.ensures.stays.writing_stays c.read_files.ensures.stays.linking_stays c.serve_read.ensures.counts
+
+pub returns-in-Ok-clause-steady_reads : goal.returns-in-Ok-clause-steady_reads
+returns-in-Ok-clause-steady_reads g c = λ steady failed schema exec loads are. absurd (err-of _ c.serve_read.result _ c.serve_read.ensures.refused failed)
+
+pub returns-in-Ok-clause-steady_writes : goal.returns-in-Ok-clause-steady_writes
+returns-in-Ok-clause-steady_writes g c = λ steady. c.serve_read.ensures.steady_writes (c.read_files.ensures.stays.stays_steady steady)
+
+pub returns-in-Ok-clause-steady_links : goal.returns-in-Ok-clause-steady_links
+returns-in-Ok-clause-steady_links g c = λ steady enough. c.serve_read.ensures.steady_links (c.read_files.ensures.stays.stays_steady steady) (rw c.read_files.ensures.stays.linking_stays enough)
+
+pub returns-in-Ok-clause-stays : goal.returns-in-Ok-clause-stays
+returns-in-Ok-clause-stays g c = record {
+  stays_steady = λ s. c.serve_read.ensures.stays.stays_steady (c.read_files.ensures.stays.stays_steady s);
+  held_stays = c.serve_read.ensures.stays.held_stays ∙ c.read_files.ensures.stays.held_stays;
+  complaints_stay = c.serve_read.ensures.stays.complaints_stay ∙ c.read_files.ensures.stays.complaints_stay;
 }
 
-pub returns-in-Ok-clause-faulty : goal.returns-in-Ok-clause-faulty
-returns-in-Ok-clause-faulty g c = λ is. record {
-  schema = c.in-Ok.files.schema;
-  exec = c.in-Ok.files.exec;
-  loads = c.in-Ok.files.loads;
-  files = c.in-Ok.ensures.read;
-  ends = rw (c.in-Ok.ensures.linking_stays, c.in-Ok.ensures.writing_stays) at (c.serve_read.ensures.faulty is);
-}
+pub returns-in-Err-clause-refused : goal.returns-in-Err-clause-refused
+returns-in-Err-clause-refused g c =
+    unread-as (RefusesOver (g.H.Outside.held c.args.host.now) c.args.words.now (g.H.Outside.reading c.read_files.new.host).left
+    (g.H.Outside.linking c.args.host.now) (g.H.Outside.linking c.read_files.new.host) (g.H.Outside.writing c.args.host.now) (g.H.Outside.writing c.read_files.new.host))
+    c.in-Err.fault c.unread.result c.unread.ensures.only c.unread.ensures.read c.unread.ensures.memory c.unread.ensures.too_long
+    (λ is. tt) (λ is. inl (record { linking = c.read_files.ensures.stays.linking_stays; writing = c.read_files.ensures.stays.writing_stays }))
+    (λ is. (subst (NotRead (g.H.Outside.held c.args.host.now) (files_of c.args.words.now) (g.H.Outside.reading c.args.host.now) (g.H.Outside.reading c.read_files.new.host)) is c.in-Err.ensures.not_read).0)
+
+pub returns-in-Err-clause-counts : goal.returns-in-Err-clause-counts
+returns-in-Err-clause-counts g c =
+    counts-unread _ g.H.Outside.held g.H.Outside.reading g.H.Outside.writing g.H.Outside.linking g.H.Outside.complaints g.H.Outside.IsSteady (files_of c.args.words.now) (g.H.Outside.held c.args.host.now) c.args.host.now c.read_files.new.host
+    c.in-Err.fault c.unread.result c.unread.ensures.only c.unread.ensures.read c.unread.ensures.memory c.unread.ensures.too_long c.in-Err.ensures.not_read c.read_files.ensures.stays.writing_stays c.read_files.ensures.stays.linking_stays
 
 pub returns-in-Err-clause-steady_reads : goal.returns-in-Err-clause-steady_reads
 returns-in-Err-clause-steady_reads g c = λ steady failed schema exec loads are.
-    c.in-Err.ensures.steady_never_faults steady (ap Err (c.unread.ensures.read (one_refusal _ _ failed))) schema exec loads are
-
-pub returns-in-Err-clause-reading_keeps_faults : goal.returns-in-Err-clause-reading_keeps_faults
-returns-in-Err-clause-reading_keeps_faults g c =
-    keeps c.unread.result _ _ c.unread.ensures.only (λ is. ap Err is)
-    (λ is. c.in-Err.ensures.want_keeps_faults (ap Err (c.unread.ensures.memory is)))
-    (λ is. c.in-Err.ensures.too_long_keeps_faults (ap Err (c.unread.ensures.too_long is)))
-
-pub returns-in-Ok-clause-setup : goal.returns-in-Ok-clause-setup
-returns-in-Ok-clause-setup g c = λ line fault is. record {
-  schema = c.in-Ok.files.schema;
-  exec = c.in-Ok.files.exec;
-  loads = c.in-Ok.files.loads;
-  files = c.in-Ok.ensures.read;
-  refuses = c.serve_read.ensures.setup line fault is;
-}
-
-pub returns-in-Ok-clause-load : goal.returns-in-Ok-clause-load
-returns-in-Ok-clause-load g c = λ table fault is. record {
-  schema = c.in-Ok.files.schema;
-  exec = c.in-Ok.files.exec;
-  loads = c.in-Ok.files.loads;
-  files = c.in-Ok.ensures.read;
-  refuses = c.serve_read.ensures.load table fault is;
-}
-
-pub returns-in-Ok-clause-line : goal.returns-in-Ok-clause-line
-returns-in-Ok-clause-line g c = λ line place is. record {
-  schema = c.in-Ok.files.schema;
-  exec = c.in-Ok.files.exec;
-  loads = c.in-Ok.files.loads;
-  files = c.in-Ok.ensures.read;
-  first = c.serve_read.ensures.line line place is;
-}
+    c.in-Err.ensures.steady steady (ap Err (c.unread.ensures.read (one_refusal _ _ failed))) schema exec loads are

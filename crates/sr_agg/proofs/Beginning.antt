@@ -19,7 +19,7 @@ use Rattle.sr_agg.specs.declared.inner.Listing.{Listing}
 use Rattle.sr_agg.specs.declared.statement.Aggregate.{Aggregate}
 use Rattle.sr_agg.specs.Statement.{outer}
 use Rattle.sr_agg.specs.Inner.{group_count, inner_text, listed}
-use Rattle.sr_agg.specs.Seen.{no_of, scope_with}
+use Rattle.sr_agg.specs.Seen.{no_of, scope_with, IsAsked, IsUnasked, Judges}
 use Rattle.sr_agg.specs.Starting.{Plan, Scope, Starts, asked_by, behind_query, planned, scope_of}
 
 pub text-refused : (schema : List Table) (text : List ℕ) (fault : Fault) → outer text ≡ Err fault → Starts schema text (Err (Sql fault))
@@ -50,22 +50,19 @@ scope-same schema a q m texts groups is t g =
 
 -- what is asked by the statement that a text says
 pub asked-found : (schema : List Table) (text : List ℕ) (s : Statement) (r : Result Query (No Fault)) → Says text (Ok s) → IfOk r (λ q. (m : model.Query) × (bound_query schema s ≡ Ok m) × IsQuery schema q m)
-    → IfOk r (λ q. (said : Result Statement Fault) × Says text said × (m : model.Query) × (asked_by schema said ≡ Ok m) × IsQuery schema q m)
+    → IfOk r (IsAsked schema text)
 asked-found schema text s (Ok q) says h = (Ok s, says, h.0, h.1, h.2)
 asked-found schema text s (Err wanting) says h = tt
 
 -- the refusal of a query
 pub refused-by : (schema : List Table) (text : List ℕ) (a : Aggregate) (inner : List ℕ) (n : No Fault) (m : No AggFault) → outer text ≡ Ok a → inner ≡ inner_text schema text a
-    → ((fault : Fault) → IsErrOf {T = Query} (Err n) (Refused fault) → (said : Result Statement Fault) × Says inner said × (asked_by schema said ≡ Err fault)) → m ≡ no_of n
+    → ((fault : Fault) → IsErrOf {T = Query} (Err n) (Refused fault) → IsUnasked schema inner fault) → m ≡ no_of n
     → (fault : AggFault) → IsErrOf {T = Plan} (Err m) (Refused fault) → Starts schema text (Err fault)
 refused-by schema text a inner (Refused f) m e is h k fault l =
     let same : Sql f ≡ fault = cc in
     let g = h f refl in
     subst (λ z. Starts schema text (Err z)) same (query-refused schema text a g.0 f e (subst (λ z. Says z g.0) is g.1) g.2)
 refused-by schema text a inner NoMemory m e is h k fault l = absurd cc
-
-abbrev pub IsAsked : List Table → List ℕ → Query → Type 0
-IsAsked schema inner q = (said : Result Statement Fault) × Says inner said × (m : model.Query) × (asked_by schema said ≡ Ok m) × IsQuery schema q m
 
 -- the judgement of an aggregate whose query is bound
 pub judged-by : (schema : List Table) (text : List ℕ) (a : Aggregate) (inner : List ℕ) (q : Query) (l : Listing) (start : Result Plan AggFault) → outer text ≡ Ok a → inner ≡ inner_text schema text a
@@ -75,6 +72,15 @@ judged-by schema text a inner q l start e is h t g made =
     (ap (planned schema (scope_with q l) a.items) (sym is) ∙ made)
 
 pub begun-by : (schema : List Table) (text : List ℕ) (a : Aggregate) (inner : List ℕ) (q : Query) (l : Listing) (r : Result Plan (No AggFault)) → outer text ≡ Ok a → inner ≡ inner_text schema text a
-    → IsAsked schema inner q → l.texts ≡ listed a → l.groups ≡ group_count a → IfOk r (λ p. planned schema (scope_with q l) a.items inner ≡ Ok p) → IfOk r (λ p. Starts schema text (Ok p))
+    → IsAsked schema inner q → l.texts ≡ listed a → l.groups ≡ group_count a → Judges r (planned schema (scope_with q l) a.items inner) → IfOk r (λ p. Starts schema text (Ok p))
 begun-by schema text a inner q l (Ok p) e is h t g made = judged-by schema text a inner q l (Ok p) e is h t g made
 begun-by schema text a inner q l (Err wanting) e is h t g made = tt
+
+pub ended-by : (schema : List Table) (text : List ℕ) (a : Aggregate) (inner : List ℕ) (q : Query) (l : Listing) (r : Result Plan (No AggFault)) → outer text ≡ Ok a → inner ≡ inner_text schema text a
+    → IsAsked schema inner q → l.texts ≡ listed a → l.groups ≡ group_count a → Judges r (planned schema (scope_with q l) a.items inner)
+    → (fault : AggFault) → IsErrOf r (Refused fault) → Starts schema text (Err fault)
+ended-by schema text a inner q l (Ok p) e is h t g made fault k = absurd cc
+ended-by schema text a inner q l (Err (Refused f)) e is h t g made fault k =
+    let same : f ≡ fault = cc in
+    subst (λ z. Starts schema text (Err z)) same (judged-by schema text a inner q l (Err f) e is h t g made)
+ended-by schema text a inner q l (Err NoMemory) e is h t g made fault k = absurd cc

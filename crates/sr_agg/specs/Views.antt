@@ -1,10 +1,11 @@
 -- What a cursor has left, and what reading from it owes to a reader of the grammar.
-use Rattle.std.specs.Prelude.{◌≡◌, ℕ, List, [], ◌∷◌, map, Option, Some, None, Result, Ok, Err, false}
+use Rattle.std.specs.Prelude.{◌≡◌, ℕ, List, [], ◌∷◌, map, Option, Some, None, Result, Ok, Err, true, false}
 use Rattle.std.specs.Str.{IsCharBoundary}
 use Rattle.sr_token.specs.Tokens.{Lexeme}
-use Rattle.sr_grammar.specs.Tokens.{Bad, Tok, seen, lexeme_seen}
+use Rattle.sr_grammar.specs.Tokens.{Mark, Bad, Tok, is, seen, lexeme_seen}
 use Rattle.sr_grammar.specs.Words as words
-use Rattle.sr_grammar_laws.specs.Reading.{Got, Fails, Reader}
+use Rattle.sr_grammar.specs.Words.{place_of}
+use Rattle.sr_grammar_laws.specs.Reading.{Got, Fails, Reader, next_is, one}
 use Rattle.sr_agg.specs.declared.cursor.Next.{Next}
 use Rattle.sr_agg.specs.declared.cursor.Next.TheVariants as next
 use Rattle.sr_agg.specs.declared.cursor.Seen.{Seen}
@@ -33,6 +34,11 @@ abbrev pub Reads : {X Y : Type 0} → (X → Y) → Reader Y → List Tok → Re
 Reads view reader old (Ok x) new = reader old ≡ Got (view x) new
 Reads view reader old (Err stop.Grammar) new = reader old ≡ Fails false new
 Reads view reader old (Err stop.Memory) new = Unit {0}
+
+-- this mark was read, if it came next
+abbrev pub MayRead : List ℕ → List Tok → Option ℕ → List Tok → Type 0
+MayRead text old None new = (next_is (is Mark text) old ≡ false) × (new ≡ old)
+MayRead text old (Some at) new = (next_is (is Mark text) old ≡ true) × (one (place_of Mark text) old ≡ Got at new)
 
 -- a text may be cut there
 abbrev pub MayCut : List ℕ → Option ℕ → Type 0

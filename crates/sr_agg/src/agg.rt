@@ -1,18 +1,16 @@
 //! Aggregates: a query for the client, and what is told of the groups of its answer.
-ghost use Rattle.std.specs.Prelude.{◌≡◌, IsTrue, IfOk, IsErrOf, Result, Ok, Err, Some, map, take};
+ghost use Rattle.std.specs.Prelude.{◌≡◌, IsTrue, IfOk, IsErrOf, Ok, Err, Some, map, take};
 ghost use Rattle.std.specs.List.{list_all};
 ghost use Rattle.std.specs.Option.{option_copied};
 ghost use Rattle.sr_cell.specs.declared.fault.Fault.{Fault as TheFault};
 ghost use Rattle.sr_cell.specs.declared.list.No.TheVariants.{Refused};
-ghost use Rattle.sr_grammar.specs.Says.{Says};
-ghost use Rattle.sr_grammar.specs.Trees.{Statement as TheStatement};
-ghost use Rattle.sr_model.specs.Queries.{Query as TheQuery};
 ghost use Rattle.sr_query.specs.declared.query.Part.{Part as ThePart};
-ghost use Rattle.sr_query.specs.Bound.{is_table, output_of, IsQuery};
+ghost use Rattle.sr_query.specs.Bound.{is_table, output_of};
 ghost use Rattle.sr_agg.specs.declared.agg.AggFault.{AggFault as TheAggFault};
 ghost use Rattle.sr_agg.specs.Groups.{aggregates};
-ghost use Rattle.sr_agg.specs.Seen.{no_of, scope_seen, scope_with};
-ghost use Rattle.sr_agg.specs.Starting.{asked_by, group_at, group_of, is_text_at, is_text_column, is_text_output, item_of, not_grouped, place_among, place_of, planned, same_among, sum_of_text, text_sum_at, ungrouped_at, Starts};
+ghost use Rattle.sr_agg.specs.Seen.{no_of, scope_seen, scope_with, IsAsked, IsUnasked, Judges};
+ghost use Rattle.sr_agg.specs.Starting.{group_at, group_of, is_text_at, is_text_column, is_text_output, item_of, not_grouped};
+ghost use Rattle.sr_agg.specs.Starting.{place_among, place_of, planned, same_among, sum_of_text, text_sum_at, ungrouped_at, Starts};
 
 use crate::groups::{GroupRows, aggregates};
 use crate::inner::{Listing, inner_text, listing_of, spelling};
@@ -69,8 +67,8 @@ struct Bound<'a> {
 /// The query that a text asks, or its first fault.
 fn asked(alloc: Global, schema: &Schema, text: &str) -> Result<Query, No<Fault>>
     requires { IsTrue (list_all is_table schema.now) }
-    ensures found { IfOk result (λ q. (said : Result TheStatement TheFault) × Says text.now said × (m : TheQuery) × (asked_by schema.now said ≡ Ok m) × IsQuery schema.now q m) }
-    ensures refused { (fault : TheFault) → IsErrOf result (Refused fault) → (said : Result TheStatement TheFault) × Says text.now said × (asked_by schema.now said ≡ Err fault) }
+    ensures found { IfOk result (IsAsked schema.now text.now) }
+    ensures refused { (fault : TheFault) → IsErrOf result (Refused fault) → IsUnasked schema.now text.now fault }
 {
     let statement = match sql::read(alloc, text) {
         Ok(statement) => statement,
@@ -263,8 +261,7 @@ impl<'a> Bound<'a> {
 
     /// The aggregate of these items, if all of them may be told.
     fn planned(self, alloc: Global, items: &[Listed], inner: Text) -> Result<Agg, No<AggFault>>
-        ensures begun { IfOk result (λ a. planned self.entry.schema.now (scope_seen self.entry) items.now inner ≡ Ok a) }
-        ensures refused { (fault : TheAggFault) → IsErrOf result (Refused fault) → planned self.entry.schema.now (scope_seen self.entry) items.now inner ≡ Err fault }
+        ensures { Judges result (planned self.entry.schema.now (scope_seen self.entry) items.now inner) }
     {
         if let Some(place) = self.not_grouped(alloc, items)? {
             return Err(No::Refused(AggFault::NotGrouped { place }));
@@ -289,8 +286,7 @@ fn judged(
     items: &[Listed],
     inner: Text,
 ) -> Result<Agg, No<AggFault>>
-    ensures begun { IfOk result (λ a. planned schema.now (scope_with query.now listing.now) items.now inner ≡ Ok a) }
-    ensures refused { (fault : TheAggFault) → IsErrOf result (Refused fault) → planned schema.now (scope_with query.now listing.now) items.now inner ≡ Err fault }
+    ensures { Judges result (planned schema.now (scope_with query.now listing.now) items.now inner) }
 {
     let bound = Bound {
         schema,
@@ -309,8 +305,7 @@ fn planned(
     aggregate: Aggregate,
     inner: Text,
 ) -> Result<Agg, No<AggFault>>
-    ensures begun { IfOk result (λ a. planned schema.now (scope_with query listing) aggregate.items inner ≡ Ok a) }
-    ensures refused { (fault : TheAggFault) → IsErrOf result (Refused fault) → planned schema.now (scope_with query listing) aggregate.items inner ≡ Err fault }
+    ensures { Judges result (planned schema.now (scope_with query listing) aggregate.items inner) }
 {
     let items = aggregate.items.as_slice();
     judged(alloc, schema, &query, &listing, items, inner)

@@ -1,5 +1,5 @@
 //! The tokens that are still to be read, of which two are looked at ahead.
-ghost use Rattle.std.specs.Prelude.{◌≡◌, ◌↔◌, ◌<◌, ◌^◌, ◌&&◌, [], length, drop, map, true, false, IfOk, IsTrue, MatchOption};
+ghost use Rattle.std.specs.Prelude.{◌≡◌, ◌↔◌, ◌<◌, ◌^◌, ◌&&◌, [], length, drop, map, true, false, IfOk, IsTrue};
 ghost use Rattle.std.specs.Option.{option_map};
 ghost use Rattle.sr_token.specs.Tokens.{tokens_from};
 ghost use Rattle.sr_token.specs.Spans.{AreSpans};
@@ -7,7 +7,7 @@ ghost use Rattle.sr_grammar.specs.Tokens.{Key, Named, Mark, Bad, is, of_kind, up
 ghost use Rattle.sr_grammar.specs.Words.{place_of, name_of};
 ghost use Rattle.sr_grammar_laws.specs.Reading.{Got, one, next_is};
 ghost use Rattle.sr_agg.specs.Statement.{is_none, name_ahead, place_if_any};
-ghost use Rattle.sr_agg.specs.Views.{token_seen, in_front, left_seen, word_of, Reads};
+ghost use Rattle.sr_agg.specs.Views.{token_seen, in_front, left_seen, word_of, MayRead, Reads};
 
 use crate::stop::Stop;
 use crate::words;
@@ -195,7 +195,7 @@ impl<'a> Cursor<'a> {
 
     /// Reads this mark, if it comes next: its place.
     pub(crate) fn maybe_mark(&mut self, mark: &str) -> Option<u32>
-        ensures { MatchOption result ((next_is (is Mark mark.now) self.old ≡ false) × (self.new ≡ self.old)) (λ at. (next_is (is Mark mark.now) self.old ≡ true) × (one (place_of Mark mark.now) self.old ≡ Got at self.new)) }
+        ensures { MayRead mark.now self.old result self.new }
     {
         match self.next {
             Next::Token(token) if is_mark(token, mark) => {

@@ -1,8 +1,8 @@
 use Rattle.std.proofs.Common.{rules, ◌≡◌, subst}
-use Rattle.std.specs.Prelude.{Err}
 use Rattle.sr_agg.specs.Inner.{inner_text}
+use Rattle.sr_agg.specs.Seen.{IsAsked}
 use Rattle.sr_agg.proofs.Cuts.{cuts}
-use Rattle.sr_agg.proofs.Beginning.{IsAsked, begun-by, judged-by, refused-by}
+use Rattle.sr_agg.proofs.Beginning.{begun-by, ended-by, refused-by}
 use Rattle.sr_agg.proofs.agg.Agg.start.Goals as goal
 
 pub inner_text-requires-clause-from : goal.inner_text-requires-clause-from
@@ -21,12 +21,11 @@ returns-clause-begun c =
     let q = c.in-Ok-asked.query in
     let asked = subst (λ text. IsAsked c.args.schema.now text q) c.as_str.ensures c.in-Ok-asked.ensures.found in
     begun-by c.args.schema.now c.args.sql.now c.in-Ok.aggregate c.in_ok-inner.inner q c.in_ok-listing.listing c.planned.result c.in-Ok.ensures.found c.in_ok-inner.ensures asked c.in_ok-listing.ensures.texts
-    c.in_ok-listing.ensures.groups c.planned.ensures.begun
+    c.in_ok-listing.ensures.groups c.planned.ensures
 
 pub returns-clause-refused : goal.returns-clause-refused
 returns-clause-refused c =
     let q = c.in-Ok-asked.query in
     let asked = subst (λ text. IsAsked c.args.schema.now text q) c.as_str.ensures c.in-Ok-asked.ensures.found in
-    λ fault is.
-    judged-by c.args.schema.now c.args.sql.now c.in-Ok.aggregate c.in_ok-inner.inner q c.in_ok-listing.listing (Err fault) c.in-Ok.ensures.found c.in_ok-inner.ensures asked c.in_ok-listing.ensures.texts
-    c.in_ok-listing.ensures.groups (c.planned.ensures.refused fault is)
+    ended-by c.args.schema.now c.args.sql.now c.in-Ok.aggregate c.in_ok-inner.inner q c.in_ok-listing.listing c.planned.result c.in-Ok.ensures.found c.in_ok-inner.ensures asked c.in_ok-listing.ensures.texts
+    c.in_ok-listing.ensures.groups c.planned.ensures

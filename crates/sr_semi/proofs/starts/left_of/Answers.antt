@@ -1,0 +1,4 @@
+use Rattle.sr_semi.proofs.starts.left_of.Goals as goal
+
+pub returns : goal.returns
+returns c q = ?

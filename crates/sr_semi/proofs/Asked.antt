@@ -237,7 +237,7 @@ module _ (schema : List Table) (tables : Tables) (t need : ℕ) (may : MayBeAske
       ∙ (ap (λ all. map (λ row. output_of one.outputs (row ∷ [])) (filter (λ p. is_true (cell_at p) (And all)) (rows_at tables t))) conds
       ∙ (ap (λ os. map (λ row. output_of os (row ∷ [])) (filter (λ p. is_true (cell_at p) (And (list_conds bs))) (rows_at tables t))) outputs
       ∙ same-images (λ row. output_of (picked 0 need (table_at schema t).columns) (row ∷ [])) (project need) (λ p. is_true (cell_at p) (And (list_conds bs)))
-        (fits_columns (table_at schema t).columns) (rows_at tables t) may.fits (λ row fits. picks-need row need (table_at schema t).columns fits))))
+      (fits_columns (table_at schema t).columns) (rows_at tables t) may.fits (λ row fits. picks-need row need (table_at schema t).columns fits))))
 
   by-statement : (s : tree.Statement) (q : Query) → AreSame s (tree.Selects (select_of (table_at schema t) need cs)) → bound_query schema s ≡ Ok q → rows_of q tables ≡ wanted
   by-statement (tree.Selects u) q same asked = let e : bare_select u ≡ bare_select (select_of (table_at schema t) need cs) = cc same in by-query u q e asked

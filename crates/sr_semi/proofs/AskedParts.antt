@@ -150,7 +150,7 @@ says-part schema tables part t is (Some c) bs us e apart =
     let zip = zip-with (Means schema tables) Fact (texts.conjuncts c) (conjuncts x.0) (zip-conjuncts schema tables c x.0 x.1) facts in
     let some = zip-filter (λ c b. Means schema tables c b × Fact b) (is_about schema tables part) (on_part part) (texts.conjuncts c) (conjuncts x.0) zip (λ d b r. about-is schema tables part d b r.0) in
     let more = zip-with (λ c b. Means schema tables c b × Fact b) (λ b. on_part part b ≡ true) (filter (is_about schema tables part) (texts.conjuncts c)) (filter (on_part part) (conjuncts x.0)) some
-        (all-pass (on_part part) (conjuncts x.0)) in
+    (all-pass (on_part part) (conjuncts x.0)) in
     subst (λ bs. AllZip (Says schema t) (filter (is_about schema tables part) (texts.conjuncts c)) (filter (on_part part) bs)) same
     (zip-map (λ c b. (Means schema tables c b × Fact b) × (on_part part b ≡ true)) (Says schema t) (filter (is_about schema tables part) (texts.conjuncts c)) (filter (on_part part) (conjuncts x.0))
     (λ d b r. (move schema tables part t is d b r.0.0 (one-part part b r.0.1.1 r.1), r.0.1.0, first-moved part b r.1)) more)

@@ -126,12 +126,12 @@ module _ (tables : Tables) (s : Sides) (left right : Part) (join : Join) (q : Qu
   inside : (l : Row) → points_of left l ≡ true → map (model.output_of s.outputs) (filter test (chosen l)) ≡ own (project left.need l)
   inside l meets =
       chosen-images (model.output_of s.outputs) test (pair l) (λ r. model.output_of s.outputs (pair l r)) (λ r. joins_with l r && points_of right r) rights
-          (λ r. test-is l r ∙ all-true (joins_with l r) (points_of right r) (points_of left l) meets) (λ r. refl)
+      (λ r. test-is l r ∙ all-true (joins_with l r) (points_of right r) (points_of left l) meets) (λ r. refl)
       ∙ (ap (map (λ r. model.output_of s.outputs (pair l r))) (filter-both (joins_with l) (points_of right) rights)
       ∙ sym (chosen-images (λ r. map (output_in s (project left.need l) r) s.outputs) (λ r. cell_eq (cell_at (project left.need l) (left_place s)) (cell_at r (right_place s))) (project right.need)
-          (λ r. model.output_of s.outputs (pair l r)) (joins_with l) (filter (points_of right) rights)
-          (λ r. ap (λ (v : Cell). cell_eq v (cell_at (project right.need r) (right_place s))) (same-left l) ∙ ap (cell_eq (cell_at l join.column)) (same-right r))
-          (λ r. same-outputs l r s.outputs is.needs)))
+      (λ r. model.output_of s.outputs (pair l r)) (joins_with l) (filter (points_of right) rights)
+      (λ r. ap (λ (v : Cell). cell_eq v (cell_at (project right.need r) (right_place s))) (same-left l) ∙ ap (cell_eq (cell_at l join.column)) (same-right r))
+      (λ r. same-outputs l r s.outputs is.needs)))
 
   outside : (l : Row) → points_of left l ≡ false → map (model.output_of s.outputs) (filter test (chosen l)) ≡ []
   outside l misses = none-chosen (model.output_of s.outputs) test (pair l) rights (λ r. test-is l r ∙ fails (joins_with l r) (points_of right r) (points_of left l) misses)

@@ -1,6 +1,7 @@
 -- What the code's steps need.
 use Rattle.std.proofs.Common.{◌≡◌, ℕ, zero, suc, ◌+◌, ◌<◌, ◌≤◌, Bool, true, false, List, [], ◌∷◌, ◌++◌, drop, length, map, Some, None, inl, inr, refl, sym, ap, subst, ◌∙◌, arith, ℤ, pos, if◌then◌else◌}
-use Rattle.std.specs.Prelude.{◌==◌, ◌&&◌, ◌||◌, nat_lt, nat_le, filter, slice_get, slice_index_or, Ok, Err, Result, Option, IfSome}
+use Rattle.std.specs.Prelude.{◌==◌, ◌&&◌, ◌||◌, nat_lt, nat_le, filter, slice_get, slice_index_or, Ok, Err, Result, Option, IfOk, IfSome}
+use Rattle.std.specs.List.{list_all}
 use Rattle.std.specs.Option.{is_some, option_map, unwrap_or}
 use Rattle.std.proofs.lemmas.Bool.{and_parts, lt-ltb, le-leb, leb-true}
 use Rattle.std.proofs.lemmas.List.{append_assoc, at_drop_more, get_or-map}
@@ -29,6 +30,15 @@ use Rattle.sr_semi.specs.Going.{is_got, is_read, is_statement, joined, joined_to
 use Rattle.sr_semi.specs.Keys.{IsKeyAt, at_most, by_key, with_key, with_value, values_behind}
 use Rattle.sr_semi.specs.Sides.{Sides}
 use Rattle.sr_semi.specs.Texts.{all_names, names_in}
+
+pub at-place : {A : Type 0} (p : A → Bool) (xs : List A) (i : ℕ) (d : A) → list_all p xs ≡ true → i < length xs → p (slice_index_or xs i d) ≡ true
+at-place p [] i d all less = absurd (omega (arith, less))
+at-place p (x ∷ xs) zero d all less = (and_parts (p x) (list_all p xs) all).0
+at-place p (x ∷ xs) (suc i) d all less = at-place p xs i d (and_parts (p x) (list_all p xs) all).1 (omega (arith, less))
+
+pub ok-weaker : {A E : Type 0} (r : Result A E) (P Q : A → Type 0) → ((a : A) → P a → Q a) → IfOk r P → IfOk r Q
+ok-weaker (Ok a) P Q f h = f a h
+ok-weaker (Err e) P Q f h = tt
 
 -- ---- names
 

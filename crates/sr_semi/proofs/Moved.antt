@@ -188,7 +188,6 @@ list_all-parts p (x ∷ xs) ys e =
     (rw a.0 b.0, b.1)
 
 module _ (schema : List Table) (tables : List ℕ) (part t : ℕ) (is : t ≡ slice_index_or tables part 0) where
-
   test-moved : (n : Name) (a : Atom) (b : Bound) → bound schema tables (tree.Test n a) ≡ Ok b → is_on part b ≡ true → bound schema (t ∷ []) (tree.Test (bare_name n) (bare_atom a)) ≡ Ok (moved b)
   test-moved n a b e on =
       let x = split_ok (resolved schema tables n) _ b e in

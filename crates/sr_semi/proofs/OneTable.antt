@@ -87,7 +87,7 @@ pub one-rows : (tables : Tables) (part : Part) (os : List Output)
 one-rows tables part os =
     ap (λ all. map (output_of os) (filter (λ rows. joins_hold [] rows && all_meet (part ∷ []) rows) all)) (one-choice (rows_at tables part.table))
     ∙ chosen-images (output_of os) (λ rows. joins_hold [] rows && all_meet (part ∷ []) rows) (λ row. row ∷ []) (λ row. output_of os (row ∷ [])) (points_of part) (rows_at tables part.table)
-      (λ row. and-true (points_of part row)) (λ row. refl)
+    (λ row. and-true (points_of part row)) (λ row. refl)
 
 -- maps that do the same to the rows that fit
 pub same-images : (f g : Row → Row) (p fit : Row → Bool) (rows : List Row) → list_all fit rows ≡ true → ((row : Row) → fit row ≡ true → f row ≡ g row) → map f (filter p rows) ≡ map g (filter p rows)

@@ -62,7 +62,6 @@ pub record Goes (at : ℕ → Tables) (s : Sides) (q : Query) (left right : Part
 
 module _ (at : ℕ → Tables) (s : Sides) (q : Query) (left right : Part) (join : Join) (is : IsOf s q left right join)
     (inside : (version : ℕ) → list_all is_inside (values_at (left_place s) (rows_in (at version) left)) ≡ true) where
-
   -- rows of both sides at one version
   whole : (version : ℕ) (keys : List Cell) (lefts rights : List Row) → lefts ≡ rows_in (at version) left → rights ≡ with_keys s keys (rows_in (at version) right)
       → all_have (left_place s) keys lefts ≡ true → joined s lefts rights ≡ rows_of q (at version)

@@ -24,7 +24,6 @@ use Rattle.sr_semi.proofs.Staged.{Gives, Goes, Knows, goes}
 
 module _ (schema : List Table) (at : ℕ → Tables) (s : Statement) (q : Query) (t : Two schema s q) (texts : (version : ℕ) → TextsAskParts schema s q (at version))
     (inside : (version : ℕ) → list_all is_inside (values_at (left_place (sides_of schema s q)) (rows_in (at version) t.left)) ≡ true) where
-
   gives : (stage : Stage) (a : Answer) → Knows at (sides_of schema s q) t.left t.right stage → Answers schema at (sides_of schema s q) stage a
       → Gives at (sides_of schema s q) t.left t.right stage a.version a.rows
   gives Left a knows answer = (texts a.version).left a.rows answer ∙ ap (rows_in (at a.version)) t.left_is

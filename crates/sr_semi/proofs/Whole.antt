@@ -37,6 +37,7 @@ use Rattle.sr_semi.specs.Texts as texts
 use Rattle.sr_semi.specs.Texts.{conjuncts_on, is_about, text_of}
 use Rattle.sr_semi.proofs.Asked.{MayBeAsked, Matches, Says, text-rows}
 use Rattle.sr_semi.proofs.AskedParts.{Phases, TwoTables, each-kept, keyed, matches-keys, on_part, phases, says-part, two-tables, with-keys}
+use Rattle.sr_semi.proofs.Looking.{at-place}
 use Rattle.sr_semi.proofs.OneTable.{IsFirst, each-first}
 use Rattle.sr_semi.proofs.Parts.{Two, two}
 use Rattle.sr_semi.proofs.ReadBack.{said-conjuncts}
@@ -116,11 +117,6 @@ rows-inside need column columns p (row ∷ rows) has good fits =
     go false one more = more
 
 -- ---- what is known of a part's table
-
-at-place : {A : Type 0} (p : A → Bool) (xs : List A) (i : ℕ) (d : A) → list_all p xs ≡ true → i < length xs → p (slice_index_or xs i d) ≡ true
-at-place p [] i d all less = absurd (omega (arith, less))
-at-place p (x ∷ xs) zero d all less = (and_parts (p x) (list_all p xs) all).0
-at-place p (x ∷ xs) (suc i) d all less = at-place p xs i d (and_parts (p x) (list_all p xs) all).1 (omega (arith, less))
 
 record KnowsTable (schema : List Table) (part : Part) : Type 0 where
   names : has_names (table_at schema part.table) ≡ true
@@ -231,7 +227,7 @@ module _ (schema : List Table) (sql : List ℕ) (u : tree.Select) (q : Query) (t
       let knows = knows-table schema left_part sch (and_parts (is_sound_part schema left_part) _ sound).0 in
       let has : has_column left_part.need t.join.column ≡ true = ap (λ (p : Part). has_column p.need t.join.column) (sym two_are.left_is) ∙ t.is.needs_left in
       let all = values-inside (rank left_part.need t.join.column) [] (rows_in tables left_part) refl
-          (rows-inside left_part.need t.join.column (table_at schema two_are.one).columns (points_of left_part) (rows_at tables two_are.one) has knows.good (fit two_are.one)) in
+      (rows-inside left_part.need t.join.column (table_at schema two_are.one).columns (points_of left_part) (rows_at tables two_are.one) has knows.good (fit two_are.one)) in
       let place : left_place (sides_of schema (tree.Selects u) q) ≡ rank left_part.need t.join.column =
       ap (λ n. rank n (sides_of schema (tree.Selects u) q).left.column) (t.is.left_need ∙ ap (λ (p : Part). p.need) two_are.left_is) ∙ ap (rank left_part.need) t.is.left_column in
       ap (λ n. list_all is_inside (values_at n (rows_in tables t.left))) place ∙ (ap (λ p. list_all is_inside (values_at (rank left_part.need t.join.column) (rows_in tables p))) two_are.left_is ∙ all)

@@ -1,16 +1,25 @@
 -- What a start comes to.
 use Rattle.std.specs.Prelude.{◌≡◌, ◌⊎◌, ℕ, true, List, length, Ok, Err}
 use Rattle.sr_cell.specs.declared.fault.Fault.{Fault}
+use Rattle.sr_cell.specs.declared.list.No.{No}
+use Rattle.sr_cell.specs.declared.list.No.TheVariants.{Refused, NoMemory}
 use Rattle.sr_cell.specs.declared.table.Table.{Table}
 use Rattle.sr_grammar.specs.Says.{Says}
 use Rattle.sr_grammar.specs.Trees.{Statement}
 use Rattle.sr_model.specs.Queries.{Query}
 use Rattle.sr_query.specs.Binding.{bound_query}
+use Rattle.sr_semi.specs.declared.fault.SemiFault.{SemiFault}
+use Rattle.sr_semi.specs.declared.fault.SemiFault.TheVariants.{Sql}
 use Rattle.sr_semi.specs.declared.semi.Semi.{Semi}
 use Rattle.sr_semi.specs.declared.stage.Stage.TheVariants.{Left}
 use Rattle.sr_semi.specs.Going.{is_read}
 use Rattle.sr_semi.specs.Seen.{sides_seen}
 use Rattle.sr_semi.specs.Sides.{Sides, sides_of}
+
+-- a refusal of a text, as one of a join
+abbrev pub as_sql : No Fault → No SemiFault
+as_sql (Refused fault) = Refused (Sql fault)
+as_sql NoMemory = NoMemory
 
 -- the text says this, which asks this query
 pub record Asks (schema : List Table) (sql : List ℕ) (s : Statement) (q : Query) : Type 0 where

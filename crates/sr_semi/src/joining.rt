@@ -97,9 +97,17 @@ fn output_in(
     ensures { IfOk result (λ cell. cell ≡ output_in (sides_seen sides.now) left.now right.now (output_of output)) }
 {
     if output.part == 0 {
-        copy_at(alloc, left, rank_of(sides.left.need, output.column as usize))
+        copy_at(
+            alloc,
+            left,
+            rank_of(sides.left.need, output.column as usize),
+        )
     } else {
-        copy_at(alloc, right, rank_of(sides.right.need, output.column as usize))
+        copy_at(
+            alloc,
+            right,
+            rank_of(sides.right.need, output.column as usize),
+        )
     }
 }
 
@@ -147,7 +155,7 @@ fn join_other(
 
 /// The rows that were found for the left row's key.
 fn found_for<'b, 'a>(
-    found: &'b [Seq<Lent<'a>>],
+    found: &'b Seq<Seq<Lent<'a>>>,
     keys: &Keys,
     left: &Row,
     place: usize,
@@ -174,7 +182,7 @@ pub fn join(
     let place = sides.left_place();
     let mut answer = Seq::new(alloc);
     for left in lefts {
-        match found_for(found.as_slice(), keys, left, place) {
+        match found_for(&found, keys, left, place) {
             Some(rows) => join_one(alloc, &mut answer, sides, left, rows.as_slice())?,
             None => join_other(alloc, &mut answer, sides, left, rights)?,
         }

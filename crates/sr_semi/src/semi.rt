@@ -53,12 +53,7 @@ impl Semi {
     }
 
     /// What comes of the rows of the text that was named last, at their version.
-    pub fn answered(
-        &mut self,
-        alloc: Global,
-        version: u64,
-        rows: &Rows,
-    ) -> Result<Next, NoMemory>
+    pub fn answered(&mut self, alloc: Global, version: u64, rows: &Rows) -> Result<Next, NoMemory>
         ensures next { IfOk result (λ next. next ≡ (step_of (sides_seen self.old.sides) self.old.stage version rows.now).next) }
         ensures stage { OnOk result (self.new ≡ record self.old { stage = (step_of (sides_seen self.old.sides) self.old.stage version rows.now).stage }) }
         ensures unchanged { OnErr result (self.new ≡ self.old) }

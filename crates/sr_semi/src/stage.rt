@@ -9,11 +9,7 @@ pub enum Next {
     /// The text is to be run, and its rows are to be given.
     Run(Text),
     /// The rows of the join, at that version; its right part was asked for so many keys.
-    Joined {
-        version: u64,
-        keys: u32,
-        rows: Rows,
-    },
+    Joined { version: u64, keys: u32, rows: Rows },
     /// The query is to be run as it is.
     Plain,
 }

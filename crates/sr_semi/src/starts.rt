@@ -12,7 +12,7 @@ ghost use Rattle.sr_resolve.specs.Known.{are_known};
 ghost use Rattle.sr_semi.specs.Going.{is_read};
 ghost use Rattle.sr_semi.specs.Seen.{left_seen, right_seen, sides_seen};
 ghost use Rattle.sr_semi.specs.Sides.{first_join, left_of, right_of, sides_of};
-ghost use Rattle.sr_semi.specs.Starting.{AreSides, IsNotTwo, IsRefused, IsUnread};
+ghost use Rattle.sr_semi.specs.Starting.{as_sql, AreSides, IsNotTwo, IsRefused, IsUnread};
 ghost use Rattle.sr_semi.specs.declared.fault.SemiFault.TheVariants.{Sql, NotTwo, Unread};
 
 use crate::conjuncts::conjuncts_on;
@@ -21,12 +21,23 @@ use crate::reading::unread;
 use crate::sides::{LeftSide, RightSide, Sides};
 use crate::texts::text_of;
 use sr_bind::bind::bind_query;
+use sr_cell::fault::Fault;
 use sr_cell::list::{Copied, No, NoMemory};
 use sr_cell::schema::Schema;
 use sr_grammar::statement::Statement;
 use sr_query::query::Query;
 use sr_sql::read::read;
 use std::alloc::Global;
+
+/// A refusal of a text, as one of a join.
+fn as_sql(no: No<Fault>) -> No<SemiFault>
+    ensures { result ≡ as_sql no }
+{
+    match no {
+        No::Refused(fault) => No::Refused(SemiFault::Sql(fault)),
+        No::NoMemory => No::NoMemory,
+    }
+}
 
 /// The column of a query's first join.
 fn joined_column(query: &Query) -> u8
@@ -109,11 +120,7 @@ fn both(
 }
 
 /// The sides of the join that the statement asks, which the text says.
-fn sides_in(
-    alloc: Global,
-    schema: &Schema,
-    statement: &Statement,
-) -> Result<Sides, No<SemiFault>>
+fn sides_in(alloc: Global, schema: &Schema, statement: &Statement) -> Result<Sides, No<SemiFault>>
     requires tables { IsTrue (list_all is_table schema.now) }
     ensures sides { (sql : List ℕ) → Says sql (Ok (statement_seen statement.now)) → IfOk result (λ sides. AreSides schema.now sql (sides_seen sides)) }
     ensures sql { (sql : List ℕ) (fault : TheFault) → Says sql (Ok (statement_seen statement.now)) → IsErrOf result (Refused (Sql fault)) → IsRefused schema.now sql fault }
@@ -122,8 +129,7 @@ fn sides_in(
 {
     let query = match bind_query(alloc, schema, statement) {
         Ok(query) => query,
-        Err(No::Refused(fault)) => return Err(No::Refused(SemiFault::Sql(fault))),
-        Err(No::NoMemory) => return Err(No::NoMemory),
+        Err(no) => return Err(as_sql(no)),
     };
     let tables = query.parts.len();
     if tables != 2 {
@@ -159,10 +165,11 @@ pub fn sides_of(alloc: Global, schema: &Schema, sql: &str) -> Result<Sides, No<S
 {
     let statement = match read(alloc, sql) {
         Ok(statement) => statement,
-        Err(No::Refused(fault)) => return Err(No::Refused(SemiFault::Sql(fault))),
-        Err(No::NoMemory) => return Err(No::NoMemory),
+        Err(no) => return Err(as_sql(no)),
     };
-    match sides_in(alloc, schema, &statement) {
+    let sides = sides_in(alloc, schema, &statement);
+    drop(statement);
+    match sides {
         Ok(sides) => if_read(alloc, sides),
         Err(no) => Err(no),
     }

@@ -49,12 +49,7 @@ fn right_if_read(
 }
 
 /// Behind the first left text.
-fn behind_left(
-    alloc: Global,
-    sides: &Sides,
-    version: u64,
-    rows: &Rows,
-) -> Result<Step, NoMemory>
+fn behind_left(alloc: Global, sides: &Sides, version: u64, rows: &Rows) -> Result<Step, NoMemory>
     ensures { IfOk result (λ step. step ≡ step_of (sides_seen sides.now) Left version rows.now) }
 {
     let most = sides.right.most_keys();
@@ -123,16 +118,38 @@ pub fn step(
 {
     match stage {
         Stage::Left => behind_left(alloc, sides, version, rows),
-        Stage::Right { version: first, keys, lefts } => {
+        Stage::Right {
+            version: first,
+            keys,
+            lefts,
+        } => {
             if version == *first {
-                joins(alloc, sides, version, keys, lefts.as_slice(), rows.as_slice())
+                joins(
+                    alloc,
+                    sides,
+                    version,
+                    keys,
+                    lefts.as_slice(),
+                    rows.as_slice(),
+                )
             } else {
                 left_again(alloc, sides, version, keys, rows)
             }
         }
-        Stage::LeftAgain { version: second, keys, rights } => {
+        Stage::LeftAgain {
+            version: second,
+            keys,
+            rights,
+        } => {
             if version == *second && keys.all_have(rows.as_slice(), sides.left_place()) {
-                joins(alloc, sides, version, keys, rows.as_slice(), rights.as_slice())
+                joins(
+                    alloc,
+                    sides,
+                    version,
+                    keys,
+                    rows.as_slice(),
+                    rights.as_slice(),
+                )
             } else {
                 Ok(ends_with(Next::Plain))
             }

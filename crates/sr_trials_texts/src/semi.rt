@@ -11,10 +11,12 @@ use sr_semi::stage::Next;
 use sr_setup::client_setup::set_up_client;
 use std::alloc::Global;
 
-static TABLES: &[u8] = b"CREATE TABLE emp (id INT PRIMARY KEY CHECK (id BETWEEN 0 AND 9999), age INT CHECK (age BETWEEN 0 AND 150), name TEXT, dept INT CHECK (dept BETWEEN 0 AND 99))
+static TABLES: &[u8] =
+    b"CREATE TABLE emp (id INT PRIMARY KEY CHECK (id BETWEEN 0 AND 9999), age INT CHECK (age BETWEEN 0 AND 150), name TEXT, dept INT CHECK (dept BETWEEN 0 AND 99))
 CREATE TABLE dept (no INT PRIMARY KEY CHECK (no BETWEEN 0 AND 99), title TEXT)";
 
-const JOIN: &str = "SELECT emp.id, dept.title FROM emp JOIN dept ON emp.dept = dept.no WHERE emp.age BETWEEN 30 AND 40";
+const JOIN: &str =
+    "SELECT emp.id, dept.title FROM emp JOIN dept ON emp.dept = dept.no WHERE emp.age BETWEEN 30 AND 40";
 
 const LEFT: &str = "SELECT id, age, dept FROM emp WHERE emp.age BETWEEN 30 AND 40";
 
@@ -38,7 +40,10 @@ fn titled(alloc: Global, number: i64, title: &str) -> Result<Row, NoMemory> {
 
 /// Employees of departments 4 and 3, in this order.
 fn employees(alloc: Global) -> Result<Rows, NoMemory> {
-    list_of(alloc, [employee(alloc, 1, 35, 4)?, employee(alloc, 3, 33, 3)?])
+    list_of(
+        alloc,
+        [employee(alloc, 1, 35, 4)?, employee(alloc, 3, 33, 3)?],
+    )
 }
 
 fn departments(alloc: Global) -> Result<Rows, NoMemory> {
@@ -75,9 +80,11 @@ fn is_plain(next: Next) -> bool {
 
 fn is_joined(next: Next, wanted_version: u64, wanted_keys: u32, wanted: &Rows) -> bool {
     match next {
-        Next::Joined { version, keys, rows } => {
-            version == wanted_version && keys == wanted_keys && rows.same(wanted)
-        }
+        Next::Joined {
+            version,
+            keys,
+            rows,
+        } => { version == wanted_version && keys == wanted_keys && rows.same(wanted) }
         _ => false,
     }
 }
@@ -135,7 +142,11 @@ static WIDTHS: [(&str, i64); 3] = [
 ];
 
 fn is_too_many(alloc: Global, test: &str, count: i64) -> Result<bool, No<SemiFault>> {
-    let mut sql = String::from_str(alloc, "SELECT emp.id FROM emp JOIN dept ON emp.dept = dept.no WHERE ").map_err(NoMemory::from)?;
+    let mut sql = String::from_str(
+        alloc,
+        "SELECT emp.id FROM emp JOIN dept ON emp.dept = dept.no WHERE ",
+    )
+    .map_err(NoMemory::from)?;
     sql.push_str(test).map_err(NoMemory::from)?;
     let mut semi = started(alloc, sql.as_str())?;
     Ok(is_plain(semi.answered(alloc, 1, &employees_of(alloc, count)?)?))

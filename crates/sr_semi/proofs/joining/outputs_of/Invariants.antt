@@ -7,4 +7,4 @@ use Rattle.sr_semi.proofs.joining.outputs_of.Given as goal
 abbrev pub invariant-loop-output : goal.invariant-loop-output
 invariant-loop-output l =
     l.row ++ map (output_in (sides_seen l.sides) l.left l.right) (map output_of (drop l.output-index l.sides.outputs))
-        ≡ map (output_in (sides_seen l.sides) l.left l.right) (map output_of l.sides.outputs)
+    ≡ map (output_in (sides_seen l.sides) l.left l.right) (map output_of l.sides.outputs)

@@ -19,8 +19,8 @@ use Rattle.sr_semi.specs.Starting.{Asks}
 
 -- What is joined of both parts is the query's answer, where each left row has one of the keys.
 abbrev pub PartsJoin : Type 0
-PartsJoin = (schema : List Table) (tables : Tables) (sql : List ℕ) (s : Statement) (q : Query) (keys : List Cell) → Asks schema sql s q → length q.parts ≡ 2
-    → all_have (left_place (sides_of schema s q)) keys (rows_in tables (part_at q 0)) ≡ true
+PartsJoin = (schema : List Table) (tables : Tables) (sql : List ℕ) (s : Statement) (q : Query) (keys : List Cell)
+    → Asks schema sql s q → length q.parts ≡ 2 → all_have (left_place (sides_of schema s q)) keys (rows_in tables (part_at q 0)) ≡ true
     → joined (sides_of schema s q) (rows_in tables (part_at q 0)) (with_keys (sides_of schema s q) keys (rows_in tables (part_at q 1))) ≡ rows_of q tables
 
 -- The values of rows are among those that are found in them.
@@ -31,13 +31,13 @@ ValuesAreAmong = (place : ℕ) (rows : List Row) → all_have place (values_at p
 -- columns may have.
 pub record TextsAskParts (schema : List Table) (s : Statement) (q : Query) (tables : Tables) : Type 0 where
   pub left : (rows : List Row) → IsAnswer schema tables (sides_of schema s q).left.text rows → rows ≡ rows_in tables (part_at q 0)
-  pub right : (key : Cell) (more : List Cell) (rows : List Row) → list_all is_inside (key ∷ more) ≡ true → IsAnswer schema tables (right_text (sides_of schema s q).right (key ∷ more)) rows
-      → rows ≡ with_keys (sides_of schema s q) (key ∷ more) (rows_in tables (part_at q 1))
+  pub right : (key : Cell) (more : List Cell) (rows : List Row) → list_all is_inside (key ∷ more) ≡ true
+      → IsAnswer schema tables (right_text (sides_of schema s q).right (key ∷ more)) rows → rows ≡ with_keys (sides_of schema s q) (key ∷ more) (rows_in tables (part_at q 1))
 
 -- so they do of each query of two tables
 abbrev pub TextsAsk : Type 0
-TextsAsk = (schema : List Table) (sql : List ℕ) (s : Statement) (q : Query) (tables : Tables) → IsSchema schema → TheyFit schema tables → Asks schema sql s q → length q.parts ≡ 2
-    → TextsAskParts schema s q tables
+TextsAsk = (schema : List Table) (sql : List ℕ) (s : Statement) (q : Query) (tables : Tables) → IsSchema schema → TheyFit schema tables
+    → Asks schema sql s q → length q.parts ≡ 2 → TextsAskParts schema s q tables
 
 -- Whatever the tables are at each version, and however many answers are given: where each is that of the text that was named last, what is
 -- joined are the rows of the query at the version that is named.
@@ -46,6 +46,7 @@ JoinedIsAnswer = (schema : List Table) (at : ℕ → Tables) (sql : List ℕ) (s
     → IsSchema schema → ((version : ℕ) → TheyFit schema (at version)) → Asks schema sql s q → length q.parts ≡ 2
     → AllAnswer schema at (sides_of schema s q) Left answers → All (IsRight at q) (nexts (sides_of schema s q) Left answers)
 
+-- how many texts an answer names
 abbrev pub is_run : Next → ℕ
 is_run (Run text) = 1
 is_run (Joined version keys rows) = 0

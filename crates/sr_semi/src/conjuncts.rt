@@ -104,7 +104,8 @@ fn all_conjuncts_in(
     conds: &[Cond],
 ) -> Result<Conjuncts, NoMemory>
     requires { IsTrue (are_known schema.now tables.now) }
-    ensures { IfOk result (λ found. map cond_seen found ≡ filter (is_about schema.now tables.now part) (all_conjuncts (conds_of (map cond_seen conds.now)))) }
+    ensures { IfOk result (λ found.
+        map cond_seen found ≡ filter (is_about schema.now tables.now part) (all_conjuncts (conds_of (map cond_seen conds.now)))) }
 {
     let mut found = Seq::new(alloc);
     for cond in conds {

@@ -130,7 +130,8 @@ fn join_one<'a>(
     left: &Row,
     rights: &[Lent<'a>],
 ) -> Result<(), NoMemory>
-    ensures { OnOk result (answer.new ≡ answer.old ++ map (λ r. map (output_in (sides_seen sides.now) left.now r) (sides_seen sides.now).outputs) rights.now) }
+    ensures { OnOk result (answer.new ≡ answer.old
+        ++ map (λ r. map (output_in (sides_seen sides.now) left.now r) (sides_seen sides.now).outputs) rights.now) }
 {
     for right in rights {
         answer.push(outputs_of(alloc, sides, left, right.row)?)?;
@@ -160,7 +161,8 @@ fn found_for<'b, 'a>(
     left: &Row,
     place: usize,
 ) -> Option<&'b Seq<Lent<'a>>>
-    ensures { (p : ℕ) (all : List Cells) → found.now ≡ by_key p all keys.now → IfSome (option_copied result) (λ rows. rows ≡ with_key p all (cell_at left.now place)) }
+    ensures { (p : ℕ) (all : List Cells) → found.now ≡ by_key p all keys.now
+        → IfSome (option_copied result) (λ rows. rows ≡ with_key p all (cell_at left.now place)) }
 {
     match keys.find(left, place) {
         Some(key) => found.get(key),

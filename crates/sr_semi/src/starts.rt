@@ -60,7 +60,8 @@ fn left_of(
     requires two { length query.now.parts ≡ 2 }
     requires known { IsTrue (are_known schema.now tables.now) }
     requires each { tables.now ≡ map (λ part. part.table) query.now.parts }
-    ensures { (q : TheQuery) → IfOk result (λ left. IsQuery schema.now query.now q → left_seen left ≡ left_of schema.now (statement_seen statement.now) q) }
+    ensures { (q : TheQuery) → IfOk result (λ left. IsQuery schema.now query.now q
+        → left_seen left ≡ left_of schema.now (statement_seen statement.now) q) }
 {
     let part = &query.parts.as_slice()[0];
     let conjuncts = conjuncts_on(alloc, schema, tables, 0, statement)?;
@@ -83,7 +84,8 @@ fn right_of(
     requires two { length query.now.parts ≡ 2 }
     requires known { IsTrue (are_known schema.now tables.now) }
     requires each { tables.now ≡ map (λ part. part.table) query.now.parts }
-    ensures { (q : TheQuery) → IfOk result (λ right. IsQuery schema.now query.now q → right_seen right ≡ right_of schema.now (statement_seen statement.now) q) }
+    ensures { (q : TheQuery) → IfOk result (λ right. IsQuery schema.now query.now q
+        → right_seen right ≡ right_of schema.now (statement_seen statement.now) q) }
 {
     let part = &query.parts.as_slice()[1];
     let conjuncts = conjuncts_on(alloc, schema, tables, 1, statement)?;
@@ -106,7 +108,8 @@ fn both(
     requires tables { IsTrue (list_all is_table schema.now) }
     requires two { length query.parts ≡ 2 }
     requires within { IsTrue (list_all (λ part. nat_lt part.table (length schema.now)) query.parts) }
-    ensures { (q : TheQuery) → IfOk result (λ sides. IsQuery schema.now query q → sides_seen sides ≡ sides_of schema.now (statement_seen statement.now) q) }
+    ensures { (q : TheQuery) → IfOk result (λ sides. IsQuery schema.now query q
+        → sides_seen sides ≡ sides_of schema.now (statement_seen statement.now) q) }
 {
     let parts = query.parts.as_slice();
     let tables = [parts[0].table, parts[1].table];
@@ -123,8 +126,10 @@ fn both(
 fn sides_in(alloc: Global, schema: &Schema, statement: &Statement) -> Result<Sides, No<SemiFault>>
     requires tables { IsTrue (list_all is_table schema.now) }
     ensures sides { (sql : List ℕ) → Says sql (Ok (statement_seen statement.now)) → IfOk result (λ sides. AreSides schema.now sql (sides_seen sides)) }
-    ensures sql { (sql : List ℕ) (fault : TheFault) → Says sql (Ok (statement_seen statement.now)) → IsErrOf result (Refused (Sql fault)) → IsRefused schema.now sql fault }
-    ensures not_two { (sql : List ℕ) (tables : ℕ) → Says sql (Ok (statement_seen statement.now)) → IsErrOf result (Refused (NotTwo tables)) → IsNotTwo schema.now sql tables }
+    ensures sql { (sql : List ℕ) (fault : TheFault) → Says sql (Ok (statement_seen statement.now))
+        → IsErrOf result (Refused (Sql fault)) → IsRefused schema.now sql fault }
+    ensures not_two { (sql : List ℕ) (tables : ℕ) → Says sql (Ok (statement_seen statement.now))
+        → IsErrOf result (Refused (NotTwo tables)) → IsNotTwo schema.now sql tables }
     ensures read { (fault : TheFault) → IsErrOf result (Refused (Unread fault)) → ⊥ }
 {
     let query = match bind_query(alloc, schema, statement) {

@@ -1,34 +1,29 @@
 -- The named texts ask the parts.
-use Rattle.std.proofs.Common.{◌≡◌, ℕ, zero, suc, ◌+◌, ◌<◌, Bool, true, false, List, [], ◌∷◌, ◌++◌, map, length, Some, None, inl, inr, refl, sym, ap, subst, ◌∙◌, arith, if◌then◌else◌}
-use Rattle.std.specs.Prelude.{◌==◌, ◌&&◌, nat_lt, Ok, Result, Option, IsTrue, filter, slice_index_or}
+use Rattle.std.proofs.Common.{◌≡◌, ℕ, zero, suc, ◌+◌, ◌<◌, Bool, true, false, List, [], ◌∷◌, map, length, Some, None, refl, sym, ap, subst, ◌∙◌, arith, if◌then◌else◌}
+use Rattle.std.specs.Prelude.{◌==◌, Ok, Option, filter}
 use Rattle.std.specs.List.{list_all, AllZip, AllByRecursion}
-use Rattle.std.proofs.lemmas.Bool.{and_parts, eqb-true, ltb-true}
-use Rattle.std.proofs.lemmas.Bool.Decides.{nat_tests}
-use Rattle.sr_cell.specs.declared.cell.Cell.{Cell}
+use Rattle.std.proofs.lemmas.Bool.{and_parts}
 use Rattle.sr_cell.specs.declared.table.Column.{Column}
 use Rattle.sr_cell.specs.declared.table.Table.{Table}
 use Rattle.sr_cell.specs.Attrs.{has_column, project}
-use Rattle.sr_cell.specs.Cells.{Row, cell_at, cell_eq}
+use Rattle.sr_cell.specs.Cells.{Row, cell_at}
 use Rattle.sr_cell.specs.Columns.{fits_columns, table_at}
 use Rattle.sr_cell.specs.Names.{repeat_at, table_named}
 use Rattle.sr_cell.proofs.Results.{same_Ok}
 use Rattle.sr_grammar.specs.declared.statement.JoinOn.{JoinOn}
 use Rattle.sr_grammar.specs.declared.statement.Name.{Name}
-use Rattle.sr_grammar.specs.Places.{bare, bare_cond, bare_conds, bare_filter, bare_join, bare_name, bare_select, AreSame}
+use Rattle.sr_grammar.specs.Places.{bare_cond, bare_conds, bare_filter, bare_join, bare_name, bare_select, AreSame}
 use Rattle.sr_grammar.specs.Trees as tree
-use Rattle.sr_join.proofs.Lists.{zip-filter}
-use Rattle.sr_model.specs.Conditions.{Cond, Conds, And, is_true}
-use Rattle.sr_model.specs.Queries.{Output, Part, Query, output_of, points_of, rows_at, rows_of}
+use Rattle.sr_model.specs.Conditions.{And, is_true}
+use Rattle.sr_model.specs.Queries.{Output, Query, output_of, rows_at, rows_of}
 use Rattle.sr_model.specs.Statements.{Tables}
 use Rattle.sr_print.specs.Writable.{is_name}
-use Rattle.sr_query.specs.Binding.{Bound, Bounds, Testing, Conjunction, Disjunction, Negation, no_more, one_more, bound, bound_all, bound_query, bound_select, conjuncts, all_conjuncts, each, filter_bound, is_of_part, list_conds, named_columns, names_one, part_of, references, all_references, ◌>>=◌}
+use Rattle.sr_query.specs.Binding.{Bound, Bounds, Testing, Conjunction, Disjunction, Negation, no_more, one_more, bound, bound_all, bound_query, bound_select, conjuncts, all_conjuncts, filter_bound, is_of_part, list_conds, named_columns, part_of, references, all_references}
 use Rattle.sr_query.proofs.Steps.{split_ok}
-use Rattle.sr_lines.proofs.Sound.{made}
 use Rattle.sr_semi.specs.Answers.{IsAnswer, has_names}
-use Rattle.sr_semi.specs.Starting.{Asks}
 use Rattle.sr_semi.specs.Texts.{all_of, bare_reference, names_of, select_of, text_of}
 use Rattle.sr_semi.proofs.Moved.{IsSingle, all-on, list_all-parts, is_on, move, moved, moved-cond, moved-conjuncts, moved-references, moved_reference, part_is}
-use Rattle.sr_semi.proofs.OneTable.{AsksOne, IsFirst, asks-one, names-resolve, one-rows, picked, picks-need, same-images}
+use Rattle.sr_semi.proofs.OneTable.{IsFirst, asks-one, names-resolve, one-rows, picked, picks-need, same-images}
 use Rattle.sr_semi.proofs.ReadBack.{read-back}
 use Rattle.sr_semi.proofs.Spelled.{AreSayable, IsBare, IsSpelled, each-append, query-spelled, selected}
 

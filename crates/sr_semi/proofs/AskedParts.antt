@@ -1,18 +1,13 @@
 -- Of a query of two tables, each named text asks its part.
-use Rattle.std.proofs.Common.{◌≡◌, ℕ, zero, suc, ◌+◌, ◌<◌, Bool, true, false, List, [], ◌∷◌, ◌++◌, map, length, Some, None, refl, sym, ap, subst, ◌∙◌, arith, if◌then◌else◌}
-use Rattle.std.specs.Prelude.{◌==◌, ◌&&◌, nat_lt, nat_le, Ok, Result, Option, IsTrue, filter, slice_index_or, not}
-use Rattle.std.specs.List.{list_all, AllZip, AllByRecursion}
-use Rattle.std.proofs.lemmas.Bool.{and_parts, ltb-true}
-use Rattle.std.proofs.lemmas.Bool.Decides.{nat_tests}
+use Rattle.std.proofs.Common.{◌≡◌, ℕ, ◌+◌, ◌<◌, Bool, true, false, List, [], ◌∷◌, ◌++◌, map, length, Some, None, refl, sym, ap, subst, ◌∙◌, arith, if◌then◌else◌}
+use Rattle.std.specs.Prelude.{◌&&◌, Ok, Option, filter, slice_index_or, not}
+use Rattle.std.specs.List.{AllZip, AllByRecursion}
 use Rattle.sr_cell.specs.declared.cell.Cell.{Cell}
-use Rattle.sr_cell.specs.declared.cell.Cell.TheVariants.{Num, Str}
-use Rattle.sr_cell.specs.declared.fault.Fault.{Fault}
 use Rattle.sr_cell.specs.declared.fault.Why.TheVariants.{WrongType, OutOfDomain}
-use Rattle.sr_cell.specs.declared.table.Column.{Column}
 use Rattle.sr_cell.specs.declared.table.Kind.{Kind}
 use Rattle.sr_cell.specs.declared.table.Table.{Table}
 use Rattle.sr_cell.specs.Attrs.{has_column, project}
-use Rattle.sr_cell.specs.Cells.{Row, cell_at, cell_eq}
+use Rattle.sr_cell.specs.Cells.{Row, cell_at}
 use Rattle.sr_cell.specs.Columns.{table_at}
 use Rattle.sr_cell.specs.Names.{repeat_at}
 use Rattle.sr_cell.proofs.Results.{same_Ok}
@@ -23,12 +18,9 @@ use Rattle.sr_grammar.specs.Trees as tree
 use Rattle.sr_join.proofs.Lists.{zip-filter}
 use Rattle.sr_model.specs.Conditions.{Cond, Conds, And, all_true, is_true}
 use Rattle.sr_model.specs.Conditions as model
-use Rattle.sr_model.specs.Queries.{Output, Part, Query, points_of, rows_at}
-use Rattle.sr_model.specs.Statements.{Tables}
-use Rattle.sr_print.specs.Writable.{is_name}
-use Rattle.sr_query.specs.Binding.{Bound, Bounds, Testing, bound, bound_all, bound_query, bound_select, column_at, column_of, cond_of, conjuncts, each, fault, filter_bound, is_inside, is_of, is_of_part, joins_from, list_conds, named_columns, names_one, narrow, outputs_of, part_of, parts_from, references, resolved, said, sources, tables_from, test_of, value_of, ◌>>=◌}
+use Rattle.sr_model.specs.Queries.{Output, Part, Query}
+use Rattle.sr_query.specs.Binding.{Bound, Bounds, Testing, bound, bound_all, bound_select, column_at, column_of, cond_of, conjuncts, each, fault, filter_bound, is_inside, is_of, is_of_part, joins_from, list_conds, named_columns, names_one, narrow, outputs_of, part_of, parts_from, references, resolved, said, sources, tables_from, test_of, value_of, ◌>>=◌}
 use Rattle.sr_query.proofs.Steps.{split_ok}
-use Rattle.sr_query.specs.Bound.{is_table}
 use Rattle.sr_region.specs.Regions.{rank}
 use Rattle.sr_region.proofs.Ranks.{stand}
 use Rattle.sr_lines.proofs.Sound.{all_narrow, made}
@@ -38,7 +30,6 @@ use Rattle.sr_semi.specs.Texts.{all_of, bare_reference, conjuncts_on, is_about}
 use Rattle.sr_semi.proofs.Asked.{Matches, Says, is-bound}
 use Rattle.sr_semi.proofs.Moved.{IsSingle, Means, about-is, move, moved, moved-references, moved_reference, one-part, singles, zip-both, zip-conjuncts}
 use Rattle.sr_semi.proofs.OneTable.{column-first, resolves}
-use Rattle.sr_semi.proofs.Spelled.{AreSayable, IsSayable, each-append}
 
 -- ---- the phases of binding
 

@@ -1,6 +1,6 @@
 -- Of the right side the rows with the left side's keys decide.
 use Rattle.std.proofs.Common.{◌≡◌, ℕ, Bool, true, false, List, [], ◌∷◌, ◌++◌, refl, sym, ap, subst, ◌∙◌}
-use Rattle.std.specs.Prelude.{◌||◌, map, filter, fold}
+use Rattle.std.specs.Prelude.{◌||◌, map, filter}
 use Rattle.std.specs.Cmp.{first_so, second_so}
 use Rattle.std.proofs.lemmas.List.Concat.{flat_map-cons}
 use Rattle.sr_cell.specs.declared.cell.Cell.{Cell}

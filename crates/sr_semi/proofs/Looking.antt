@@ -1,6 +1,6 @@
 -- What the code's steps need.
-use Rattle.std.proofs.Common.{◌≡◌, ℕ, zero, suc, ◌+◌, ◌<◌, ◌≤◌, Bool, true, false, List, [], ◌∷◌, ◌++◌, drop, length, map, Some, None, inl, inr, refl, sym, ap, subst, ◌∙◌, arith, ℤ, pos, if◌then◌else◌}
-use Rattle.std.specs.Prelude.{◌==◌, ◌&&◌, ◌||◌, nat_lt, nat_le, filter, slice_get, slice_index_or, Ok, Err, Result, Option, IfOk, IfSome}
+use Rattle.std.proofs.Common.{◌≡◌, ℕ, zero, suc, ◌+◌, ◌<◌, ◌≤◌, Bool, true, false, List, [], ◌∷◌, ◌++◌, drop, length, map, Some, None, inl, inr, refl, sym, ap, ◌∙◌, arith, pos, if◌then◌else◌}
+use Rattle.std.specs.Prelude.{nat_lt, nat_le, slice_get, slice_index_or, Ok, Err, Result, Option, IfOk, IfSome}
 use Rattle.std.specs.List.{list_all}
 use Rattle.std.specs.Option.{is_some, option_map, unwrap_or}
 use Rattle.std.proofs.lemmas.Bool.{and_parts, lt-ltb, le-leb, leb-true}
@@ -12,7 +12,7 @@ use Rattle.sr_cell.specs.declared.table.Kind.TheVariants as kinds
 use Rattle.sr_cell.specs.declared.table.Table.{Table}
 use Rattle.sr_query.specs.Binding.{column_at}
 use Rattle.sr_cell.specs.declared.cell.Cell.{Cell}
-use Rattle.sr_cell.specs.declared.cell.Cell.TheVariants.{Num, Str}
+use Rattle.sr_cell.specs.declared.cell.Cell.TheVariants.{Num}
 use Rattle.sr_cell.specs.declared.fault.Fault.{Fault}
 use Rattle.sr_cell.specs.Cells.{Row, cell_at, cell_eq, cell_le}
 use Rattle.sr_cell.proofs.Order.{cell_eq-sound}
@@ -36,6 +36,7 @@ at-place p [] i d all less = absurd (omega (arith, less))
 at-place p (x ∷ xs) zero d all less = (and_parts (p x) (list_all p xs) all).0
 at-place p (x ∷ xs) (suc i) d all less = at-place p xs i d (and_parts (p x) (list_all p xs) all).1 (omega (arith, less))
 
+-- what is answered, and more of it
 pub ok-weaker : {A E : Type 0} (r : Result A E) (P Q : A → Type 0) → ((a : A) → P a → Q a) → IfOk r P → IfOk r Q
 ok-weaker (Ok a) P Q f h = f a h
 ok-weaker (Err e) P Q f h = tt

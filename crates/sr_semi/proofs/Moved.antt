@@ -1,9 +1,8 @@
 -- Conditions on one table of a query, asked of that table alone.
-use Rattle.std.proofs.Common.{◌≡◌, ℕ, zero, suc, ◌+◌, Bool, true, false, List, [], ◌∷◌, ◌++◌, map, Some, None, refl, sym, ap, subst, ◌∙◌, arith, if◌then◌else◌}
-use Rattle.std.specs.Prelude.{◌==◌, ◌&&◌, nat_lt, not, Ok, Err, Result, Option, slice_index_or, bytes_eq}
+use Rattle.std.proofs.Common.{◌≡◌, ℕ, suc, ◌+◌, Bool, true, false, List, [], ◌∷◌, ◌++◌, map, Some, None, refl, sym, ap, subst, ◌∙◌, arith, if◌then◌else◌}
+use Rattle.std.specs.Prelude.{◌==◌, ◌&&◌, not, Ok, Result, Option, slice_index_or, bytes_eq}
 use Rattle.std.specs.List.{list_all, AllZip, AllByRecursion}
 use Rattle.std.proofs.lemmas.Bool.{and_parts, eqb-true, ltb-true}
-use Rattle.std.proofs.lemmas.Bool.Decides.{nat_tests}
 use Rattle.sr_cell.specs.declared.cell.Cell.{Cell}
 use Rattle.sr_cell.specs.declared.fault.Fault.{Fault}
 use Rattle.sr_cell.specs.declared.fault.Why.TheVariants.{WrongType, OutOfDomain, Mixed}
@@ -18,9 +17,9 @@ use Rattle.sr_grammar.specs.declared.statement.Atom.TheVariants as atoms
 use Rattle.sr_grammar.specs.Places.{bare_atom, bare_cond, bare_conds, bare_literal, bare_name}
 use Rattle.sr_grammar.specs.Trees as tree
 use Rattle.sr_join.proofs.Lists.{map-append}
-use Rattle.sr_model.specs.Conditions.{Cond, Conds, Test, And, Or, Not}
+use Rattle.sr_model.specs.Conditions.{Test, And, Or, Not}
 use Rattle.sr_model.specs.Queries.{Output}
-use Rattle.sr_query.specs.Binding.{Bound, Bounds, Testing, Conjunction, Disjunction, Negation, no_more, one_more, bound, bound_all, column_at, column_of, column_of_part, column_named, compared, cond_of, conds_of, conjuncts, all_conjuncts, each, fault, is_inside, is_of, is_of_part, list_conds, names_one, outputs_named, part_named, references, all_references, resolved, said, stranger, test_of, text_of, the_one, value_of, ◌>>=◌}
+use Rattle.sr_query.specs.Binding.{Bound, Bounds, Testing, Conjunction, Disjunction, Negation, no_more, one_more, bound, bound_all, column_at, column_of, column_of_part, column_named, cond_of, conds_of, conjuncts, all_conjuncts, each, fault, is_inside, is_of, is_of_part, names_one, outputs_named, part_named, references, all_references, resolved, said, stranger, test_of, the_one, value_of, ◌>>=◌}
 use Rattle.sr_query.proofs.Steps.{split_ok}
 use Rattle.sr_lines.proofs.Selected.{resolved_near, is_of as is_near}
 use Rattle.sr_semi.specs.Texts as texts

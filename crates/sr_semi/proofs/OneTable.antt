@@ -1,6 +1,6 @@
 -- The rows of a query of one table by its needed columns.
-use Rattle.std.proofs.Common.{◌≡◌, ℕ, zero, suc, ◌+◌, ◌^◌, ◌<◌, Bool, true, false, List, [], ◌∷◌, ◌++◌, map, length, Some, None, refl, sym, ap, subst, ◌∙◌, arith, length-append, if◌then◌else◌}
-use Rattle.std.specs.Prelude.{◌==◌, ◌&&◌, ◌||◌, nat_le, nat_lt, Ok, Err, Result, Option, slice_index_or, bytes_eq, filter, flat_map}
+use Rattle.std.proofs.Common.{◌≡◌, ℕ, zero, suc, ◌+◌, ◌<◌, Bool, true, false, List, [], ◌∷◌, ◌++◌, map, length, Some, None, refl, sym, ap, subst, ◌∙◌, arith, length-append, if◌then◌else◌}
+use Rattle.std.specs.Prelude.{◌&&◌, nat_le, Ok, Result, Option, slice_index_or, bytes_eq, filter}
 use Rattle.std.specs.List.{list_all, AllByRecursion}
 use Rattle.std.proofs.lemmas.List.Quantifiers.{position-Some}
 use Rattle.std.proofs.lemmas.Bool.{and_parts, or_parts}
@@ -17,11 +17,11 @@ use Rattle.sr_cell.specs.Names.{has_column_named, repeat_at, table_named}
 use Rattle.sr_cell.proofs.Results.{same_Ok}
 use Rattle.sr_grammar.specs.declared.statement.Name.{Name}
 use Rattle.sr_grammar.specs.declared.statement.JoinOn.{JoinOn}
-use Rattle.sr_grammar.specs.Places.{bare_join, bare_name}
+use Rattle.sr_grammar.specs.Places.{bare_name}
 use Rattle.sr_grammar.specs.Trees as tree
 use Rattle.sr_grammar.specs.Words.{Word}
 use Rattle.sr_join.proofs.Lists.{chosen-images}
-use Rattle.sr_model.specs.Queries.{Part, Join, Output, Query, all_meet, combinations, joins_hold, output_of, points_of, row_at, rows_at, rows_of}
+use Rattle.sr_model.specs.Queries.{Part, Output, Query, all_meet, combinations, joins_hold, output_of, points_of, row_at, rows_at, rows_of}
 use Rattle.sr_model.specs.Statements.{Tables}
 use Rattle.sr_query.specs.Binding.{Bound, all_outputs, bound_select, column_named, each, fault, filter_bound, is_among, joins_from, named_columns, names_one, narrow, new_table, outputs_named, outputs_of, part_of, parts_from, references, resolved, sources, tables_from, the_one, ◌>>=◌}
 use Rattle.sr_query.proofs.Steps.{split_ok}

@@ -1,6 +1,6 @@
 -- A query of two parts, and its sides.
-use Rattle.std.proofs.Common.{◌≡◌, ℕ, zero, suc, Bool, true, false, List, [], ◌∷◌, length, refl, sym, ap, subst, ◌∙◌, inl, inr, arith}
-use Rattle.std.specs.Prelude.{◌==◌, ◌&&◌, nat_lt, slice_get, Ok}
+use Rattle.std.proofs.Common.{◌≡◌, ℕ, zero, suc, true, false, List, [], ◌∷◌, length, refl, sym, ap, subst, ◌∙◌, inl, inr, arith}
+use Rattle.std.specs.Prelude.{nat_lt, slice_get, Ok}
 use Rattle.std.specs.List.{All, list_all}
 use Rattle.std.proofs.lemmas.Bool.{and_parts, eqb-true, ltb-true}
 use Rattle.std.proofs.lemmas.List.Elements.{All-cons, All-nil}
@@ -14,7 +14,7 @@ use Rattle.sr_lines.proofs.Joined.{bound_are_joined}
 use Rattle.sr_lines.proofs.Sound.{bound_are_sound}
 use Rattle.sr_model.specs.Queries.{Part, Join, Output, Query, rows_of}
 use Rattle.sr_query.specs.Binding.{bound_query, join_columns}
-use Rattle.sr_query.specs.Joined.{is_joined, is_needed, needs_column, joins_part, join_each}
+use Rattle.sr_query.specs.Joined.{is_needed, needs_column, joins_part, join_each}
 use Rattle.sr_semi.specs.Sides.{first_join, left_place, part_at, sides_of}
 use Rattle.sr_semi.specs.Answers.{rows_in, with_keys}
 use Rattle.sr_semi.specs.Going.{joined}

@@ -1,5 +1,5 @@
 -- A query that is printed is read again; and of a query that a text says, the conjuncts are spelled.
-use Rattle.std.proofs.Common.{◌≡◌, ℕ, zero, suc, ◌+◌, ◌≤◌, Bool, true, false, List, [], ◌∷◌, ◌++◌, map, length, inl, inr, Some, None, refl, sym, ap, subst, ◌∙◌, arith, if◌then◌else◌}
+use Rattle.std.proofs.Common.{◌≡◌, ℕ, zero, suc, ◌+◌, Bool, true, false, List, [], ◌∷◌, map, length, inl, inr, Some, None, refl, sym, ap, subst, ◌∙◌, arith, if◌then◌else◌}
 use Rattle.std.specs.Prelude.{◌||◌, ◌==◌, Ok, Err, Result, Option, IsTrue, filter}
 use Rattle.sr_cell.specs.declared.fault.Fault.{Fault}
 use Rattle.std.specs.List.{list_all, list_any}
@@ -8,16 +8,15 @@ use Rattle.std.proofs.lemmas.Option.{same_Some}
 use Rattle.sr_cell.specs.declared.fault.Why.TheVariants.{NoKey, BadDomain}
 use Rattle.sr_grammar.specs.declared.statement.Definition.{Definition}
 use Rattle.sr_grammar.specs.Tokens.{Bad, Tok, of_kind, tokens_of}
-use Rattle.sr_grammar.specs.Trees.{Cond, Select, Statement, Create, Selects, Inserts, Updates, Deletes, Tree, Defines, Says as Stated, statement_of, has_bad_domain, is_key, table_of}
+use Rattle.sr_grammar.specs.Trees.{Cond, Select, Statement, Create, Selects, Tree, Defines, Says as Stated, statement_of, has_bad_domain, is_key, table_of}
 use Rattle.sr_grammar.specs.Rules.{Rule, ◌or◌}
-use Rattle.sr_grammar.specs.Conditions.{IsCond}
 use Rattle.sr_grammar.specs.Columns.{IsCreate}
 use Rattle.sr_grammar.specs.Statements.{Where, IsWhere, filter_of, select_of, IsSelect, IsInsert, IsUpdate, IsDelete, IsStatement}
 use Rattle.sr_grammar.specs.Says.{Says, most_levels}
 use Rattle.sr_grammar.specs.Printed.{printed_tokens}
 use Rattle.sr_grammar.specs.Spaced.{printed}
 use Rattle.sr_grammar.specs.Places.{bare, bare_tree, bare_token, AreSame}
-use Rattle.sr_grammar_laws.specs.Reading.{Got, Fails}
+use Rattle.sr_grammar_laws.specs.Reading.{Got}
 use Rattle.sr_grammar_laws.specs.Readers.{whole}
 use Rattle.sr_grammar_laws.specs.Blind.{seen}
 use Rattle.sr_grammar_laws.proofs.Top.{each_is_exact}

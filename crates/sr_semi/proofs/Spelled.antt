@@ -1,24 +1,23 @@
 -- The conjuncts of a condition that tokens spell are spelled by tokens too, and so are the queries that ask them.
-use Rattle.std.proofs.Common.{◌≡◌, ℕ, zero, suc, ◌+◌, ◌^◌, ◌<◌, List, [], ◌∷◌, ◌++◌, map, inl, inr, Some, None, refl, sym, ap, subst, ◌∙◌, arith, ℤ, pos, negsuc, decimal, true, false}
-use Rattle.std.specs.Prelude.{codes, flat_map, IsTrue, Ok, Option}
+use Rattle.std.proofs.Common.{◌≡◌, ℕ, zero, suc, ◌+◌, List, [], ◌∷◌, ◌++◌, map, inl, inr, Some, None, refl, sym, ap, subst, arith, ℤ, pos, negsuc, decimal, false}
+use Rattle.std.specs.Prelude.{codes, flat_map, IsTrue, Option}
 use Rattle.std.specs.List.{AllByRecursion}
 use Rattle.std.proofs.lemmas.List.{append-nil}
 use Rattle.std.proofs.lemmas.Fmt.{decimal_is_IsNumeral}
 use Rattle.sr_cell.specs.declared.cell.Cell.{Cell}
 use Rattle.sr_cell.specs.declared.cell.Cell.TheVariants.{Num, Str}
 use Rattle.sr_grammar.specs.declared.statement.Name.{Name}
-use Rattle.sr_grammar.specs.declared.statement.Literal.{Literal}
 use Rattle.sr_grammar.specs.declared.statement.Atom.TheVariants.{OneOf}
 use Rattle.sr_grammar.specs.Tokens.{Tok, Number, Quoted, Mark}
-use Rattle.sr_grammar.specs.Trees.{Cond, Conds, Test, And, Or, Not, none, more, conds_of, and_of, or_of, Select, Selects, Tree, Says}
-use Rattle.sr_grammar.specs.Rules.{Rule, One, Nothing, ◌>>=◌ as ◌▸◌, Many}
-use Rattle.sr_grammar.specs.Words.{Word, number_of, minus, reference_of}
+use Rattle.sr_grammar.specs.Trees.{Cond, Test, conds_of, and_of, or_of, Select, Selects, Says}
+use Rattle.sr_grammar.specs.Rules.{One, Nothing, ◌>>=◌ as ◌▸◌, Many}
+use Rattle.sr_grammar.specs.Words.{Word, number_of, minus}
 use Rattle.sr_grammar.specs.Conditions.{KEY, MARK, IsLiteral, IsReference, IsIn, IsAtom, IsTest, ListOf, ConjOf, CondOf, IsUnit}
-use Rattle.sr_grammar.specs.Statements.{Where, IsWhere, filter_of, place_of_where, Listed, IsListed, IsSelect, IsStatement, select_of as tree_of}
+use Rattle.sr_grammar.specs.Statements.{Where, IsWhere, Listed, IsListed, IsSelect, IsStatement, select_of as tree_of}
 use Rattle.sr_grammar.specs.Printed.{token, key, mark, name, number, commas, parens, literal, reference, one_of}
 use Rattle.sr_grammar_laws.proofs.LawsOfConditions.{both_unit}
-use Rattle.sr_print.specs.Writable.{is_name, are_writable}
-use Rattle.sr_print.proofs.AgainTokens.{Writable, joined, cut, at_end, in_parens, writable_parens, comma, true_both}
+use Rattle.sr_print.specs.Writable.{is_name}
+use Rattle.sr_print.proofs.AgainTokens.{Writable, joined, cut, at_end, in_parens, writable_parens, comma}
 use Rattle.sr_print.proofs.AgainWords.{IsSmall, name_one, writable_name, writable_number, decimal_one, minus_more}
 use Rattle.sr_semi.specs.Keys.{literal_of}
 use Rattle.sr_semi.specs.Texts.{all_of, bare_reference, conjuncts, all_conjuncts}

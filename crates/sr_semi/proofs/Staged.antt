@@ -1,6 +1,6 @@
 -- What comes of an answer, stage by stage.
 use Rattle.std.proofs.Common.{◌≡◌, ℕ, Bool, true, false, List, [], ◌∷◌, length, refl, sym, ap, ◌∙◌, if◌then◌else◌}
-use Rattle.std.specs.Prelude.{◌==◌, ◌&&◌, ◌<◌, nat_lt, Option, Some, None}
+use Rattle.std.specs.Prelude.{◌==◌, ◌&&◌, nat_lt, Option, Some, None}
 use Rattle.std.specs.Cmp.{first_so, second_so}
 use Rattle.std.specs.List.{list_all}
 use Rattle.std.proofs.lemmas.Bool.{eqb-true}
@@ -9,12 +9,12 @@ use Rattle.sr_cell.specs.Cells.{Row}
 use Rattle.sr_model.specs.Queries.{Part, Join, Query, rows_of}
 use Rattle.sr_model.specs.Statements.{Tables}
 use Rattle.sr_query.specs.Binding.{is_inside}
-use Rattle.sr_semi.specs.declared.stage.Next.TheVariants.{Run, Joined, Plain}
+use Rattle.sr_semi.specs.declared.stage.Next.TheVariants.{Run, Plain}
 use Rattle.sr_semi.specs.declared.stage.Stage.{Stage}
 use Rattle.sr_semi.specs.declared.stage.Stage.TheVariants.{Left, Right, LeftAgain, Over}
 use Rattle.sr_semi.specs.declared.stage.Step.{Step}
 use Rattle.sr_semi.specs.Answers.{rows_in, with_keys, IsRight}
-use Rattle.sr_semi.specs.Going.{behind_left, ends_with, is_read, joined, joins, right_if_read, step_of}
+use Rattle.sr_semi.specs.Going.{behind_left, ends_with, is_read, joined, joins, step_of}
 use Rattle.sr_semi.specs.Keys.{all_have, at_most, most_keys, values_at}
 use Rattle.sr_semi.specs.Sides.{Sides, left_place, right_text}
 use Rattle.sr_semi.proofs.Deciding.{values-are-among}

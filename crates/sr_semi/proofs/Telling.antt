@@ -1,5 +1,5 @@
 -- Answers one after another: what is joined is right, and few texts are named.
-use Rattle.std.proofs.Common.{◌≡◌, ℕ, ◌+◌, ◌≤◌, Bool, true, false, List, [], ◌∷◌, refl, sym, ap, subst, ◌∙◌, arith, if◌then◌else◌}
+use Rattle.std.proofs.Common.{◌≡◌, ℕ, ◌+◌, ◌≤◌, Bool, true, false, List, [], ◌∷◌, sym, ap, subst, ◌∙◌, arith, if◌then◌else◌}
 use Rattle.std.specs.Prelude.{◌==◌, ◌&&◌, Option, Some, None}
 use Rattle.std.specs.List.{All, list_all}
 use Rattle.std.proofs.lemmas.List.Elements.{All-cons, All-nil}
@@ -10,17 +10,17 @@ use Rattle.sr_grammar.specs.Trees.{Statement}
 use Rattle.sr_model.specs.Queries.{Query}
 use Rattle.sr_model.specs.Statements.{Tables}
 use Rattle.sr_query.specs.Binding.{is_inside}
-use Rattle.sr_semi.specs.declared.stage.Next.TheVariants.{Run, Joined, Plain}
+use Rattle.sr_semi.specs.declared.stage.Next.TheVariants.{Run, Plain}
 use Rattle.sr_semi.specs.declared.stage.Stage.{Stage}
 use Rattle.sr_semi.specs.declared.stage.Stage.TheVariants.{Left, Right, LeftAgain, Over}
 use Rattle.sr_semi.specs.declared.stage.Step.{Step}
 use Rattle.sr_semi.specs.Answers.{Answer, Answers, IsAnswer, AllAnswer, IsRight, nexts, rows_in, stage_behind, with_keys}
-use Rattle.sr_semi.specs.Going.{behind_left, ends_with, is_read, joins, right_if_read, step_of}
+use Rattle.sr_semi.specs.Going.{behind_left, ends_with, is_read, joins, step_of}
 use Rattle.sr_semi.specs.Keys.{all_have, at_most, most_keys, values_at}
 use Rattle.sr_semi.specs.Laws.{TextsAskParts, FewTexts, is_run, runs_in}
 use Rattle.sr_semi.specs.Sides.{Sides, left_place, part_at, right_text, sides_of}
 use Rattle.sr_semi.proofs.Parts.{Two}
-use Rattle.sr_semi.proofs.Staged.{Gives, Goes, Knows, goes}
+use Rattle.sr_semi.proofs.Staged.{Gives, Knows, goes}
 
 module _ (schema : List Table) (at : ℕ → Tables) (s : Statement) (q : Query) (t : Two schema s q) (texts : (version : ℕ) → TextsAskParts schema s q (at version))
     (inside : (version : ℕ) → list_all is_inside (values_at (left_place (sides_of schema s q)) (rows_in (at version) t.left)) ≡ true) where

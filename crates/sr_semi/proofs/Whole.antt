@@ -1,7 +1,7 @@
 -- What is joined is the answer, where each list of rows is that of the text that was named last.
-use Rattle.std.proofs.Common.{◌≡◌, ℕ, zero, suc, ◌+◌, ◌<◌, ◌≤◌, ◌^◌, Bool, true, false, List, [], ◌∷◌, ◌++◌, map, length, Some, None, refl, sym, ap, subst, ◌∙◌, arith, ℤ, pos, negsuc, if◌then◌else◌}
-use Rattle.std.specs.Prelude.{◌&&◌, int_le, nat_lt, nat_le, not, Ok, Option, filter, slice_index_or}
-use Rattle.std.specs.List.{list_all, All, AllZip, AllByRecursion}
+use Rattle.std.proofs.Common.{◌≡◌, ℕ, zero, suc, ◌<◌, Bool, true, false, List, [], ◌∷◌, ◌++◌, map, length, Some, None, refl, sym, ap, subst, ◌∙◌, arith, ℤ, pos, negsuc, if◌then◌else◌}
+use Rattle.std.specs.Prelude.{◌&&◌, int_le, nat_lt, not, Ok, Option, filter}
+use Rattle.std.specs.List.{list_all, AllByRecursion}
 use Rattle.std.proofs.lemmas.Bool.{and_parts, ltb-true, leb-true}
 use Rattle.std.proofs.lemmas.Bool.Decides.{nat_tests}
 use Rattle.sr_cell.specs.declared.cell.Cell.{Cell}
@@ -17,12 +17,12 @@ use Rattle.sr_cell.specs.Names.{is_bad_by, is_bad_domain}
 use Rattle.sr_cell.proofs.Order.{cell_le-trans}
 use Rattle.sr_grammar.specs.Trees as tree
 use Rattle.sr_grammar.specs.Trees.{high_default, low_default}
-use Rattle.sr_lines.specs.Sound.{is_sound, is_sound_part}
+use Rattle.sr_lines.specs.Sound.{is_sound_part}
 use Rattle.sr_lines.proofs.Sound.{bound_are_sound}
 use Rattle.sr_model.specs.Queries.{Part, Query, points_of, rows_at}
 use Rattle.sr_model.specs.Statements.{Tables}
 use Rattle.sr_print.proofs.AgainWords.{IsSmall}
-use Rattle.sr_query.specs.Binding.{Bound, column_at, filter_bound, is_default, is_inside, part_of, sources, tables_from}
+use Rattle.sr_query.specs.Binding.{column_at, filter_bound, is_default, is_inside, part_of, sources}
 use Rattle.sr_print.specs.Writable.{is_name}
 use Rattle.sr_query.specs.Bound.{is_table}
 use Rattle.sr_region.specs.Regions.{rank}
@@ -31,11 +31,11 @@ use Rattle.sr_semi.specs.declared.stage.Stage.TheVariants.{Left}
 use Rattle.sr_semi.specs.Answers.{IsAnswer, IsSchema, TheyFit, has_names, rows_in, with_keys}
 use Rattle.sr_semi.specs.Keys.{is_key, key_in, values_at, values_behind, with_value}
 use Rattle.sr_semi.specs.Laws.{JoinedIsAnswer, TextsAsk, TextsAskParts}
-use Rattle.sr_semi.specs.Sides.{left_place, part_at, right_text, sides_of, tables_of, where_of}
+use Rattle.sr_semi.specs.Sides.{left_place, part_at, right_text, sides_of, tables_of}
 use Rattle.sr_semi.specs.Starting.{Asks}
 use Rattle.sr_semi.specs.Texts as texts
 use Rattle.sr_semi.specs.Texts.{conjuncts_on, is_about, text_of}
-use Rattle.sr_semi.proofs.Asked.{MayBeAsked, Matches, Says, text-rows}
+use Rattle.sr_semi.proofs.Asked.{MayBeAsked, text-rows}
 use Rattle.sr_semi.proofs.AskedParts.{Phases, TwoTables, each-kept, keyed, matches-keys, on_part, phases, says-part, two-tables, with-keys}
 use Rattle.sr_semi.proofs.Looking.{at-place}
 use Rattle.sr_semi.proofs.OneTable.{IsFirst, each-first}

@@ -1,5 +1,5 @@
 -- A worked example: the employees of some ages, with their departments.
-use Rattle.std.specs.Prelude.{ℕ, pos, List, [], ◌∷◌, Some, None, codes, ◌≡◌}
+use Rattle.std.specs.Prelude.{ℕ, pos, List, [], ◌∷◌, Some, codes, ◌≡◌}
 use Rattle.sr_cell.specs.declared.cell.Cell.{Cell}
 use Rattle.sr_cell.specs.declared.cell.Cell.TheVariants.{Num, Str}
 use Rattle.sr_cell.specs.declared.table.Kind.TheVariants.{Num as Numbers, Str as Texts}

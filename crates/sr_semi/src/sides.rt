@@ -1,5 +1,5 @@
 //! The two sides of a join.
-ghost use Rattle.std.specs.Prelude.{◌≡◌, ℕ, ◌≤◌, IfOk};
+ghost use Rattle.std.specs.Prelude.{◌≡◌, ◌≤◌, IfOk};
 ghost use Rattle.sr_semi.specs.Keys.{most_keys};
 ghost use Rattle.sr_semi.specs.Sides.{left_place, right_place, right_text};
 ghost use Rattle.sr_semi.specs.Seen.{right_seen, sides_seen};

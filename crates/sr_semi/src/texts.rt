@@ -1,5 +1,5 @@
 //! The texts that ask columns of one table.
-ghost use Rattle.std.specs.Prelude.{◌≡◌, [], ◌∷◌, ◌++◌, map, IfOk};
+ghost use Rattle.std.specs.Prelude.{◌≡◌, map, IfOk};
 ghost use Rattle.sr_grammar.specs.Seen.{cond_seen, filter_seen};
 ghost use Rattle.sr_query.specs.Binding.{column_at};
 ghost use Rattle.sr_semi.specs.Keys.{key_in, literal_of};

@@ -1,4 +1,4 @@
-use Rattle.std.proofs.Common.{◌≡◌, ◌++◌, drop, ◌+◌, map, sym, ap, ◌∙◌, arith, Some, None}
+use Rattle.std.proofs.Common.{drop, ◌+◌, map, sym, ap, ◌∙◌}
 use Rattle.std.specs.Prelude.{slice_get}
 use Rattle.sr_grammar.specs.Seen.{cond_seen}
 use Rattle.sr_grammar.specs.Trees.{conds_of}

@@ -1,8 +1,8 @@
-use Rattle.std.proofs.Common.{◌≡◌, ◌++◌, List, map, sym, ap, subst, ◌∙◌}
+use Rattle.std.proofs.Common.{◌≡◌, ◌++◌, List, map, ap, subst, ◌∙◌}
 use Rattle.std.specs.Option.{option_copied}
 use Rattle.std.specs.Prelude.{IfSome}
 use Rattle.sr_cell.specs.Cells.{Row, cell_at}
-use Rattle.sr_semi.specs.Going.{joined_to, output_in}
+use Rattle.sr_semi.specs.Going.{output_in}
 use Rattle.sr_semi.specs.Keys.{by_key, with_key}
 use Rattle.sr_semi.specs.Seen.{sides_seen}
 use Rattle.sr_semi.specs.Sides.{right_place}

@@ -1,4 +1,4 @@
-use Rattle.std.proofs.Common.{◌≡◌, refl, sym, ap, ◌∙◌, arith, true, pos}
+use Rattle.std.proofs.Common.{◌≡◌, sym, ap, ◌∙◌, arith, pos}
 use Rattle.std.proofs.lemmas.List.{get_or_default}
 use Rattle.sr_cell.specs.declared.cell.Cell.TheVariants.{Num}
 use Rattle.sr_cell.specs.Cells.{cell_at, cell_eq}

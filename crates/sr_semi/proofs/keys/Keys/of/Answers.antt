@@ -1,4 +1,4 @@
-use Rattle.std.proofs.Common.{◌≡◌, sym, ap, ◌∙◌, arith, drop, ◌+◌}
+use Rattle.std.proofs.Common.{sym, ap, ◌∙◌, arith, drop, ◌+◌}
 use Rattle.sr_semi.specs.Keys.{values_behind}
 use Rattle.sr_semi.proofs.Looking.{too-many, values-more}
 use Rattle.sr_semi.proofs.keys.Keys.of.Goals as goal

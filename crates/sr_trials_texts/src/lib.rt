@@ -14,6 +14,8 @@ mod print;
 #[cfg(test)]
 mod reader;
 #[cfg(test)]
+mod semi;
+#[cfg(test)]
 mod setup;
 #[cfg(test)]
 mod tokens;

@@ -1,0 +1,14 @@
+pub mod Deciding
+pub mod JoinedRows
+pub mod Parts
+pub mod Staged
+pub mod Telling
+pub mod Spelled
+pub mod ReadBack
+pub mod Moved
+pub mod OneTable
+pub mod Looking
+pub mod Sided
+pub mod Asked
+pub mod AskedParts
+pub mod Whole

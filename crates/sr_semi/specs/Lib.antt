@@ -1,0 +1,9 @@
+pub mod Texts
+pub mod Keys
+pub mod Sides
+pub mod Seen
+pub mod Going
+pub mod Starting
+pub mod Answers
+pub mod Laws
+pub mod Worked

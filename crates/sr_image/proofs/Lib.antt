@@ -7,3 +7,5 @@ pub mod Front
 pub mod Again
 pub mod Spelled
 pub mod Writable
+pub mod Covering
+pub mod Apart

@@ -74,7 +74,7 @@ body-is schema texts size bytes (Got found rest) image fits read e = by (same_te
     by false is e = absurd cc
 body-is schema texts size bytes (Bad rest) image fits read e = absurd cc
 
-drop-again : (n k : ℕ) (bytes : List ℕ) → drop n (drop k bytes) ≡ drop (n + k) bytes
+pub drop-again : (n k : ℕ) (bytes : List ℕ) → drop n (drop k bytes) ≡ drop (n + k) bytes
 drop-again n zero bytes = let e : n + 0 ≡ n = omega arith in ap (λ m. drop m bytes) (sym e)
 drop-again n (suc k) [] = drop-nil n
   where

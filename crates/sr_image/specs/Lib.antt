@@ -4,5 +4,6 @@ pub mod Found
 pub mod Writing
 pub mod Items
 pub mod Joining
+pub mod Index
 pub mod Laws
 pub mod Worked

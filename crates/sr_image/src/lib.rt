@@ -2,6 +2,7 @@
 #![tactic(auto)]
 
 pub mod image;
+mod index;
 pub mod items;
 pub mod joining;
 pub mod laws;

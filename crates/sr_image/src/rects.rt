@@ -5,6 +5,7 @@ ghost use Rattle.sr_bytes.specs.Reading.{a_rect, passing};
 ghost use Rattle.sr_image.specs.Reading.{each_behind, is_lone, may_rect, meets_some, some_rects};
 ghost use Rattle.sr_image.specs.Found.{ReadsOr};
 
+use crate::index::first_met;
 use sr_box::rect::Rect;
 use sr_bytes::cursor::{BadField, Cursor};
 use sr_cell::attrs::Attrs;
@@ -54,6 +55,50 @@ fn meets_some(rect: &Rect, others: &[Rect]) -> bool
     others.iter().any(|other| rect.meets(other))
 }
 
+/// A rect that may stand behind those, whether it meets them or not.
+fn one_lone<'a>(
+    alloc: Global,
+    bytes: &mut Cursor<'a>,
+    part: &Place,
+    place: usize,
+) -> Result<Rect, No<BadField>>
+    ensures read { ReadsOr result bytes.new (passing (is_lone part.now.table.now part.now.attrs part.now.many place) a_rect bytes.old) }
+    ensures few { IfOk result (λ _. part.now.many + place < 16384) }
+{
+    let at = bytes.left();
+    let view = match bytes.rect() {
+        Ok(view) => view,
+        Err(bad) => return Err(No::Refused(bad)),
+    };
+    let rect = view.to_rect(alloc)?;
+    if is_lone(part, place, &rect) {
+        return Ok(rect);
+    }
+    *bytes = Cursor::over(at);
+    Err(No::Refused(BadField))
+}
+
+/// So many rects, whether they meet or not.
+fn each_lone<'a>(
+    alloc: Global,
+    bytes: &mut Cursor<'a>,
+    part: &Place,
+    count: u32,
+) -> Result<Rects, No<BadField>>
+    requires { part.now.many ≤ 16384 }
+    ensures read { ReadsOr result bytes.new (each_behind (λ before. passing (is_lone part.now.table.now part.now.attrs part.now.many (length before)) a_rect) count [] bytes.old) }
+    ensures few { IfOk result (λ rects. part.now.many + length rects ≤ 16384) }
+{
+    let mut rects = Rects::new(alloc);
+    for _ in 0..count {
+        match one_lone(alloc, bytes, part, rects.len()) {
+            Ok(rect) => rects.push(rect)?,
+            Err(no) => return Err(no),
+        }
+    }
+    Ok(rects)
+}
+
 /// A rect that may stand behind those.
 fn one_rect<'a>(
     alloc: Global,
@@ -98,6 +143,31 @@ fn each_rect<'a>(
     Ok(rects)
 }
 
+/// So many rects, each of which may stand behind those before it.
+fn apart_rects<'a>(
+    alloc: Global,
+    bytes: &mut Cursor<'a>,
+    part: &Place,
+    count: u32,
+) -> Result<Rects, No<BadField>>
+    requires { part.now.many ≤ 16384 }
+    ensures read { ReadsOr result bytes.new (each_behind (λ before. passing (may_rect part.now.table.now part.now.attrs part.now.many before) a_rect) count [] bytes.old) }
+    ensures few { IfOk result (λ rects. part.now.many + length rects ≤ 16384) }
+{
+    let at = bytes.left();
+    match each_lone(alloc, bytes, part, count) {
+        Ok(rects) => match first_met(alloc, rects.as_slice())? {
+            None => return Ok(rects),
+            Some(_place) => {}
+        },
+        Err(No::NoMemory) => return Err(No::NoMemory),
+        Err(No::Refused(_)) => {}
+    }
+    // The first rect at fault is looked for one by one.
+    *bytes = Cursor::over(at);
+    each_rect(alloc, bytes, part, count)
+}
+
 /// The rects of a part.
 pub(crate) fn some_rects<'a>(
     alloc: Global,
@@ -109,7 +179,7 @@ pub(crate) fn some_rects<'a>(
     ensures few { IfOk result (λ rects. part.now.many + length rects ≤ 16384) }
 {
     match bytes.u32_in(1, RECTS as u32) {
-        Ok(count) => each_rect(alloc, bytes, part, count),
+        Ok(count) => apart_rects(alloc, bytes, part, count),
         Err(bad) => Err(No::Refused(bad)),
     }
 }

@@ -3,8 +3,9 @@ ghost use Rattle.std.specs.Prelude.{◌≡◌, []};
 ghost use Rattle.sr_bytes.specs.Reading.{a_row, passing};
 ghost use Rattle.sr_image.specs.Reading.{each_behind, is_above, may_row, some_rows, takes_part};
 ghost use Rattle.sr_image.specs.Found.{ReadsOr};
-ghost use Rattle.sr_region.specs.Regions.{is_in};
+ghost use Rattle.sr_image.specs.Index.{IsIndex};
 
+use crate::index::Index;
 use sr_box::rect::Rect;
 use sr_bytes::cursor::{BadField, Cursor};
 use sr_cell::attrs::Attrs;
@@ -47,13 +48,6 @@ fn is_above(key: usize, before: &[Row], row: &Row) -> bool
     }
 }
 
-/// Whether some rect has the row of these columns.
-fn is_in(attrs: Attrs, rects: &[Rect], row: &Row) -> bool
-    ensures { result ≡ is_in attrs rects.now row.now }
-{
-    rects.iter().any(|rect| rect.has_part(attrs, row))
-}
-
 /// The columns of a part whose rows are read, and its rects.
 #[derive(Clone, Copy)]
 pub(crate) struct RowPlace<'a> {
@@ -67,8 +61,10 @@ fn one_row<'a>(
     alloc: Global,
     bytes: &mut Cursor<'a>,
     part: &RowPlace,
+    index: &Index,
     before: &[Row],
 ) -> Result<Row, No<BadField>>
+    requires { IsIndex part.now.rects.now index.now }
     ensures { ReadsOr result bytes.new (passing (may_row part.now.table.now part.now.attrs part.now.rects.now before.now) a_row bytes.old) }
 {
     let at = bytes.left();
@@ -78,7 +74,7 @@ fn one_row<'a>(
     };
     let row = view.to_row(alloc)?;
     if takes_part(part.attrs, part.table.columns.as_slice(), &row)
-        && is_in(part.attrs, part.rects, &row)
+        && index.has_part(part.rects, part.attrs, &row)
         && is_above(rank_of(part.attrs, part.table.key as usize), before, &row)
     {
         return Ok(row);
@@ -92,13 +88,15 @@ fn each_row<'a>(
     alloc: Global,
     bytes: &mut Cursor<'a>,
     part: &RowPlace,
+    index: &Index,
     count: u32,
 ) -> Result<Rows, No<BadField>>
+    requires { IsIndex part.now.rects.now index.now }
     ensures { ReadsOr result bytes.new (each_behind (λ before. passing (may_row part.now.table.now part.now.attrs part.now.rects.now before) a_row) count [] bytes.old) }
 {
     let mut rows = Rows::new(alloc);
     for _ in 0..count {
-        match one_row(alloc, bytes, part, rows.as_slice()) {
+        match one_row(alloc, bytes, part, index, rows.as_slice()) {
             Ok(row) => rows.push(row)?,
             Err(no) => return Err(no),
         }
@@ -118,5 +116,6 @@ pub(crate) fn some_rows<'a>(
         Ok(count) => count,
         Err(bad) => return Err(No::Refused(bad)),
     };
-    each_row(alloc, bytes, part, count)
+    let index = Index::over(alloc, part.rects)?;
+    each_row(alloc, bytes, part, &index, count)
 }

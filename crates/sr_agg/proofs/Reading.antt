@@ -9,7 +9,7 @@ use Rattle.sr_grammar_laws.specs.Readers.{list, maybe, reference}
 use Rattle.sr_grammar_laws.proofs.Good.{bind_ok}
 use Rattle.sr_grammar_laws.proofs.LawsOfConditions.{both_reference}
 use Rattle.sr_grammar_laws.proofs.Loops.{Shrinks}
-use Rattle.sr_agg.specs.declared.statement.Function.{Function}
+use Rattle.sr_agg.specs.declared.item.Function.{Function}
 use Rattle.sr_agg.specs.declared.statement.Listed.TheVariants.{Plain, Rows, Of}
 use Rattle.sr_agg.specs.Statement.{call, called, function_named, item, may_be_all, plain, reference_behind}
 

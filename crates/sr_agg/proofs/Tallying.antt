@@ -9,7 +9,7 @@ use Rattle.std.proofs.lemmas.List.{length-map}
 use Rattle.sr_cell.specs.declared.cell.Cell.{Cell}
 use Rattle.sr_cell.specs.declared.cell.Cell.TheVariants.{Num}
 use Rattle.sr_cell.specs.Cells.{Row, cell_at}
-use Rattle.sr_agg.specs.declared.statement.Function.TheVariants as functions
+use Rattle.sr_agg.specs.declared.item.Function.TheVariants as functions
 use Rattle.sr_agg.specs.declared.item.Item.{Item}
 use Rattle.sr_agg.specs.declared.item.Item.TheVariants as items
 use Rattle.sr_agg.specs.declared.tally.Tally.{Tally}

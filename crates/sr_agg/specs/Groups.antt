@@ -8,8 +8,8 @@ use Rattle.std.specs.BTreeSet.{insert_key}
 use Rattle.sr_cell.specs.declared.cell.Cell.{Cell}
 use Rattle.sr_cell.specs.declared.cell.Cell.TheVariants.{Num, Str}
 use Rattle.sr_cell.specs.Cells.{Row, cell_at}
-use Rattle.sr_agg.specs.declared.statement.Function.{Function}
-use Rattle.sr_agg.specs.declared.statement.Function.TheVariants.{Count, Sum, Min, Max}
+use Rattle.sr_agg.specs.declared.item.Function.{Function}
+use Rattle.sr_agg.specs.declared.item.Function.TheVariants.{Count, Sum, Min, Max}
 use Rattle.sr_agg.specs.declared.item.Item.{Item}
 use Rattle.sr_agg.specs.declared.item.Item.TheVariants.{Grouping, Rows, Of}
 

@@ -10,7 +10,7 @@ use Rattle.sr_grammar.specs.Trees.{Statement}
 use Rattle.sr_grammar.specs.declared.statement.Name.{Name}
 use Rattle.sr_model.specs.Queries.{Part, Output, Query}
 use Rattle.sr_query.specs.Binding.{bound_query}
-use Rattle.sr_agg.specs.declared.statement.Function.TheVariants.{Sum}
+use Rattle.sr_agg.specs.declared.item.Function.TheVariants.{Sum}
 use Rattle.sr_agg.specs.declared.statement.Listed.{Listed}
 use Rattle.sr_agg.specs.declared.statement.Listed.TheVariants.{Plain, Rows, Of}
 use Rattle.sr_agg.specs.declared.statement.Aggregate.{Aggregate}

@@ -9,8 +9,8 @@ use Rattle.sr_grammar.specs.Words.{Word, place_of, name_of, reference_of}
 use Rattle.sr_grammar_laws.specs.Reading.{Reading, Got, Fails, Reader, and_then as ◌>>=◌, nothing, one, branch}
 use Rattle.sr_grammar_laws.specs.Readers.{key, mark, maybe, list, reference, end}
 use Rattle.sr_sql.specs.Refusals.{fault_at}
-use Rattle.sr_agg.specs.declared.statement.Function.{Function}
-use Rattle.sr_agg.specs.declared.statement.Function.TheVariants.{Count, Sum, Min, Max}
+use Rattle.sr_agg.specs.declared.item.Function.{Function}
+use Rattle.sr_agg.specs.declared.item.Function.TheVariants.{Count, Sum, Min, Max}
 use Rattle.sr_agg.specs.declared.statement.Listed.{Listed}
 use Rattle.sr_agg.specs.declared.statement.Listed.TheVariants.{Plain, Rows, Of}
 use Rattle.sr_agg.specs.declared.statement.Aggregate.{Aggregate}

@@ -12,11 +12,11 @@ ghost use Rattle.sr_agg.specs.Seen.{no_of, scope_seen, scope_with, IsAsked, IsUn
 ghost use Rattle.sr_agg.specs.Starting.{group_at, group_of, is_text_at, is_text_column, is_text_output, item_of, not_grouped};
 ghost use Rattle.sr_agg.specs.Starting.{place_among, place_of, planned, same_among, sum_of_text, text_sum_at, ungrouped_at, Starts};
 
-use crate::groups::{GroupRows, aggregates};
+use crate::groups::aggregates;
 use crate::inner::{Listing, inner_text, listing_of, spelling};
-use crate::item::{Item, Items};
+use crate::item::{Function, GroupRows, Item, Items};
 use crate::read::read;
-use crate::statement::{Aggregate, Function, Listed};
+use crate::statement::{Aggregate, Listed};
 use sr_bind::bind::bind_query;
 use sr_cell::cell::Row;
 use sr_cell::fault::Fault;

@@ -5,18 +5,12 @@ ghost use Rattle.sr_agg.specs.Groups.{aggregates};
 ghost use Rattle.sr_agg.specs.Tallies.{first_tally, grouped, told_by, with_row, IsFew};
 ghost use Rattle.sr_agg.specs.Kept.{entries_seen};
 
-use crate::item::Item;
+use crate::item::{GroupRow, GroupRows, Item};
 use crate::tally::Tally;
 use sr_cell::cell::{Cell, Row};
-use sr_cell::list::{Copied, NoMemory, Seq};
+use sr_cell::list::{Copied, NoMemory};
 use std::alloc::Global;
 use std::collections::BTreeMap;
-
-/// What is told of a group: one for each item, and None for NULL.
-pub type GroupRow = Seq<Option<Cell>>;
-
-/// One row for each group.
-pub type GroupRows = Seq<GroupRow>;
 
 /// The groups by their grouping cells.
 type Groups = BTreeMap<Vec<Cell>, Vec<Tally>>;

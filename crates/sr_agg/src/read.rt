@@ -12,8 +12,9 @@ ghost use Rattle.sr_agg.specs.Statement as statement;
 ghost use Rattle.sr_agg.specs.Views.{Reads, word_of};
 
 use crate::cursor::{Cursor, Word};
+use crate::item::Function;
 use crate::list::{Member, list};
-use crate::statement::{Aggregate, Function, Listed};
+use crate::statement::{Aggregate, Listed};
 use crate::stop::Stop;
 use sr_cell::fault::{Fault, Why};
 use sr_cell::list::No;

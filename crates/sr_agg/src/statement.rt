@@ -1,16 +1,8 @@
 //! An aggregate as it is written. A `place` is the byte of the text where that part begins.
+use crate::item::Function;
 use sr_cell::list::Seq;
 use sr_cell::text::Text;
 use sr_grammar::statement::{Name, Names};
-
-/// How many values there are, their sum, the least of them or the greatest.
-#[derive(Clone, Copy)]
-pub enum Function {
-    Count,
-    Sum,
-    Min,
-    Max,
-}
 
 /// What is told of a group: a column that groups, how many rows there are, or what a function tells of a column.
 #[derive(Drop)]

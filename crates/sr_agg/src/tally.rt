@@ -5,8 +5,7 @@ ghost use Rattle.sr_cell.specs.Cells.{cell_at};
 ghost use Rattle.sr_agg.specs.Groups.{cell_order, greater, lesser, number_in};
 ghost use Rattle.sr_agg.specs.Tallies.{column_in, first_tally, told_by, with_cell, with_row, IsFew};
 
-use crate::item::Item;
-use crate::statement::Function;
+use crate::item::{Function, Item};
 use crate::total::{Total, nearest};
 use sr_cell::cell::{Cell, Row};
 use sr_cell::list::{Copied, NoMemory};

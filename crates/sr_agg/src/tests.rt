@@ -5,7 +5,7 @@ ghost use Rattle.sr_cell.specs.Names.{is_bad_domain};
 ghost use Rattle.sr_query.specs.Bound.{is_table};
 
 use crate::agg::{Agg, AggFault};
-use crate::groups::{GroupRow, GroupRows};
+use crate::item::{GroupRow, GroupRows};
 use sr_cell::cell::{Cell, Row, Rows};
 use sr_cell::fault::{Fault, Why};
 use sr_cell::list::{No, NoMemory, Seq};

@@ -8,6 +8,8 @@ mod common;
 #[cfg(test)]
 mod feed;
 #[cfg(test)]
+mod images;
+#[cfg(test)]
 mod io;
 #[cfg(test)]
 mod print;

@@ -59,10 +59,10 @@ fn titles(alloc: Global) -> Result<Rows, NoMemory> {
 }
 
 /// Employees of so many departments, from the greatest down, without their ages.
-fn employees_of(alloc: Global, count: i64) -> Result<Rows, NoMemory> {
+fn employees_of(alloc: Global, count: u8) -> Result<Rows, NoMemory> {
     let mut rows = Seq::new(alloc);
     for i in 0..count {
-        rows.push(list_of(alloc, [Cell::Num(i), Cell::Num(99 - i)])?)?;
+        rows.push(list_of(alloc, [Cell::Num(i as i64), Cell::Num((255 - i) as i64)])?)?;
     }
     Ok(rows)
 }
@@ -138,7 +138,7 @@ fn no_rows_are_joined_to_no_rows(rt: HostRuntime) {
 }
 
 // A join, how many keys its right part is asked with, and how many are too many.
-static WIDTHS: [(&str, i64, i64); 3] = [
+static WIDTHS: [(&str, u8, u8); 3] = [
     (
         "SELECT emp.id FROM emp JOIN dept ON emp.dept = dept.no WHERE dept.no > 0",
         64,
@@ -156,7 +156,7 @@ static WIDTHS: [(&str, i64, i64); 3] = [
     ),
 ];
 
-fn is_too_many(alloc: Global, sql: &str, count: i64) -> Result<bool, No<SemiFault>> {
+fn is_too_many(alloc: Global, sql: &str, count: u8) -> Result<bool, No<SemiFault>> {
     let mut semi = started(alloc, sql)?;
     Ok(is_plain(semi.answered(alloc, 1, &employees_of(alloc, count)?)?))
 }

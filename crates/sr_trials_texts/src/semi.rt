@@ -59,10 +59,10 @@ fn titles(alloc: Global) -> Result<Rows, NoMemory> {
 }
 
 /// Employees of so many departments, from the greatest down, without their ages.
-fn employees_of(alloc: Global, count: i64) -> Result<Rows, NoMemory> {
+fn employees_of(alloc: Global, count: u8) -> Result<Rows, NoMemory> {
     let mut rows = Seq::new(alloc);
     for i in 0..count {
-        rows.push(list_of(alloc, [Cell::Num(i), Cell::Num(99 - i)])?)?;
+        rows.push(list_of(alloc, [Cell::Num(i as i64), Cell::Num((255 - i) as i64)])?)?;
     }
     Ok(rows)
 }
@@ -137,29 +137,35 @@ fn no_rows_are_joined_to_no_rows(rt: HostRuntime) {
     assert!(rt; joins_nothing(rt.alloc()) == Ok(true));
 }
 
-// What the right part is asked for, how many keys it is asked with, and how many are too many.
-static WIDTHS: [(&str, i64, i64); 3] = [
-    ("dept.no > 0", 64, 65),
-    ("dept.no <> 7", 32, 33),
-    ("dept.no NOT IN (7, 9)", 21, 22),
+// A join, how many keys its right part is asked with, and how many are too many.
+static WIDTHS: [(&str, u8, u8); 3] = [
+    (
+        "SELECT emp.id FROM emp JOIN dept ON emp.dept = dept.no WHERE dept.no > 0",
+        64,
+        65,
+    ),
+    (
+        "SELECT emp.id FROM emp JOIN dept ON emp.dept = dept.no WHERE dept.no <> 7",
+        32,
+        33,
+    ),
+    (
+        "SELECT emp.id FROM emp JOIN dept ON emp.dept = dept.no WHERE dept.no NOT IN (7, 9)",
+        21,
+        22,
+    ),
 ];
 
-fn is_too_many(alloc: Global, test: &str, count: i64) -> Result<bool, No<SemiFault>> {
-    let mut sql = String::from_str(
-        alloc,
-        "SELECT emp.id FROM emp JOIN dept ON emp.dept = dept.no WHERE ",
-    )
-    .map_err(NoMemory::from)?;
-    sql.push_str(test).map_err(NoMemory::from)?;
-    let mut semi = started(alloc, sql.as_str())?;
+fn is_too_many(alloc: Global, sql: &str, count: u8) -> Result<bool, No<SemiFault>> {
+    let mut semi = started(alloc, sql)?;
     Ok(is_plain(semi.answered(alloc, 1, &employees_of(alloc, count)?)?))
 }
 
 #[test]
 fn wide_conditions_are_asked_with_fewer_keys(rt: HostRuntime) {
-    for (test, most, more) in &WIDTHS {
-        assert!(rt; is_too_many(rt.alloc(), test, *most) == Ok(false));
-        assert!(rt; is_too_many(rt.alloc(), test, *more) == Ok(true));
+    for (sql, most, more) in &WIDTHS {
+        assert!(rt; is_too_many(rt.alloc(), sql, *most) == Ok(false));
+        assert!(rt; is_too_many(rt.alloc(), sql, *more) == Ok(true));
     }
 }
 

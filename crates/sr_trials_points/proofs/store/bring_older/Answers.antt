@@ -1,8 +1,28 @@
-use Rattle.std.proofs.Common.{◌∙◌, ap}
+use Rattle.std.proofs.Common.{◌≡◌, ◌∙◌, ap, true, [], ◌∷◌, refl, arith}
+use Rattle.std.specs.Prelude.{pos}
+use Rattle.std.specs.List.{list_all}
+use Rattle.std.proofs.lemmas.List.Elements.{All-nil, All-cons}
+use Rattle.sr_cell.specs.declared.cell.Cell.TheVariants.{Num}
 use Rattle.sr_cell.specs.Attrs.{includes}
+use Rattle.sr_cell.specs.Columns.{table_at}
+use Rattle.sr_box.specs.Points.{rect_fits}
 use Rattle.sr_query.specs.declared.query.Part.{Part}
-use Rattle.sr_trials_points.proofs.Stores.{apart_one, first_is}
+use Rattle.sr_region.specs.Regions.{IsRowIn}
+use Rattle.sr_trials_points.proofs.Stores.{ages_of, apart_one, first_fits, first_is, one_arrives}
 use Rattle.sr_trials_points.proofs.store.bring_older.Goals as goal
+
+pub answered-requires-clause-arrivals : goal.answered-requires-clause-arrivals
+answered-requires-clause-arrivals c =
+    let no = c.if-not-fits.false in
+    let told = c.fits.ensures in
+    let part = first_is c.as_slice.result.now _ c.index-as_slice-0.result (c.as_slice.ensures ∙ c.in_ok-parts.ensures) c.index-as_slice-0.is in
+    let fits : list_all (rect_fits c.index-as_slice-0-2.result.columns) c.index-as_slice-0.result.rects ≡ true = grind (arith, no, told) in
+    let fit = first_fits c.args.schema.now c.as_slice-2.result.now c.index-as_slice-0-2.result c.index-as_slice-0.result.rects (ages_of (pos 41) (pos 50)) c.as_slice-2.ensures c.requires.there c.index-as_slice-0-2.is
+    (ap (λ (p : Part). p.rects) part) fits in
+    let row = All-cons (IsRowIn (table_at c.args.schema.now 0).columns 3 (ages_of (pos 41) (pos 50))) (Num (pos 1) ∷ Num (pos 41) ∷ []) []
+    ((Num (pos 1) ∷ Num (pos 41) ∷ Num (pos 5) ∷ [], c.requires.old, refl), refl) (All-nil (IsRowIn (table_at c.args.schema.now 0).columns 3 (ages_of (pos 41) (pos 50)))) in
+    one_arrives c.args.schema.now c.as_slice-3.result.now c.in_ok-arrivals.arrivals (pos 41) (pos 50) ((Num (pos 1) ∷ Num (pos 41) ∷ []) ∷ []) (c.as_slice-3.ensures ∙ c.in_ok-parts.ensures) c.in_ok-arrivals.ensures
+    c.requires.there c.requires.key fit row refl
 
 pub answered-requires-clause-apart : goal.answered-requires-clause-apart
 answered-requires-clause-apart c =

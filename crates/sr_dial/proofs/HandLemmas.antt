@@ -2,7 +2,6 @@
 use Rattle.std.proofs.Common.{◌≡◌, ℕ, ◌≤◌, Bool, true, false, List, [], ◌∷◌, ◌++◌, arith, append-nil, inl, inr, refl, sym, ◌∙◌, ap, subst, Option}
 use Rattle.std.specs.Prelude.{◌≢◌, ◌⊎◌, flat_map}
 use Rattle.sr_io.specs.Causes.{Rose}
-use Rattle.sr_io.specs.Pieces.{WritesPrefix}
 use Rattle.sr_io.specs.Told.{Linking, Writing, connections, sent_on}
 use Rattle.sr_io.proofs.SoFar.{Appends-append}
 use Rattle.sr_message.specs.declared.message.Message.{Message}
@@ -34,9 +33,10 @@ module _ {C : Type 0} (says : Bool) (s : Start C) (w new_w : Writing) (text : Li
   pub wrote : SaysAs says true w new_w text → (texts : List ℕ) → IsWritten s w texts → IsWritten s new_w (texts ++ spoken says text)
   wrote (is, same) texts (before, faults) = (Appends-append s.writing.written w.written new_w.written texts (spoken says text) before is, same ∙ faults)
 
-  pub half : SaysAs says false w new_w text → (texts : List ℕ) → IsWritten s w texts → IsPartWritten says s new_w (texts ++ spoken says text)
-  half (yes, part, rose) texts (before, faults) =
-      (yes, subst (λ b. WritesPrefix s.writing.written new_w.written (texts ++ spoken b text)) (sym yes) (prefix-behind s.writing.written w.written new_w.written texts text before part), subst (λ n. Rose n new_w.faults) faults rose)
+pub half : {C : Type 0} (says : Bool) (s : Start C) (w new_w : Writing) (text : List ℕ) → SaysAs says false w new_w text → (texts : List ℕ) → IsWritten s w texts → IsPartWritten says s new_w (texts ++ spoken says text)
+half {C} true s w new_w text (yes, part, rose) texts (before, faults) =
+    (yes, prefix-behind s.writing.written w.written new_w.written texts text before part, subst (λ n. Rose n new_w.faults) faults rose)
+half {C} false s w new_w text (yes, part, rose) texts written = absurd (let no : false ≡ true = yes in cc)
 
 module _ (C : Type 0) (Stands : C → Client → Type 0) (lent : C → Option Answer) (IsOf : Standing C) (k : Setting) (s : Start C) (ahead further : Ahead) (line : ℕ) (came : Count) (number : ℕ) (cause : Cause) (code new : C) (deed : Deed) (lines : List TraceLine) (sent : List Message)
     (on : GoesOn cause ahead (lent code) number deed further) (most : (more_taken cause sent came).taken ≤ 1000000) (failed : Bool) (l new_l : Linking) (w new_w : Writing) (feed left : List ℕ) (h : At C Stands lent IsOf k s ahead line came failed l (IsWritten s w) feed code)

@@ -33,7 +33,7 @@ asks-keys schema c past tables (same, is) =
 
 pub new-honest-runs-are-true : NewHonestRunsAreTrue
 new-honest-runs-are-true id address schema limits s pieces lines script ended old new before after deeds run h =
-    honest-runs-are-true IsEnd (record { number = id; schema = schema; limits = limits; keeps = false }) s pieces (new_client id schema limits) new_past address (plan_of ((0, Do Resumed) ∷ script)) ended old new before after asks-keys
+    honest-runs-are-true IsEnd (record { number = id; schema = schema; limits = limits; keeps = false; says = true }) s pieces (new_client id schema limits) new_past address (plan_of ((0, Do Resumed) ∷ script)) ended old new before after asks-keys
     (run.begins []).1.facts.tables rests keeps (tt, λ answer. are-asked schema lines script deeds) run.ran h
   where
     rests : Rests IsEnd s.database (new_client id schema limits) new_past

@@ -24,9 +24,9 @@ Stands c past = StandsFor past c
 abbrev pub IsEnd : List Table → Client → session.Client → Tables → Type 0
 IsEnd schema c past tables = (schema ≡ c.schema) × IsClient c past tables
 
--- what no step changes; it keeps no answer
+-- what no step changes; it keeps no answer, and its run writes lines
 abbrev pub setting_of : Client → Setting
-setting_of c = record { number = c.id; schema = c.schema; limits = c.store.limits; keeps = false }
+setting_of c = record { number = c.id; schema = c.schema; limits = c.store.limits; keeps = false; says = true }
 
 -- so it lends none
 abbrev pub lent_by : Client → Option Answer

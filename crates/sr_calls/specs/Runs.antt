@@ -22,4 +22,4 @@ new_past = record { marks = []; queries = []; counted_from = 0; version = 0; nex
 -- of a list: it resumed, and did what the lines of a script ask. It dialled this address, and ended so.
 pub record RanNew (id : ℕ) (address : List ℕ) (schema : List Table) (limits : Limits) (script : List (ℕ × Task)) (ended : Ending) (old new : Linking) (before after : Writing) : Type 0 where
   pub begins : (tables : Tables) → IsEnd schema (new_client id schema limits) new_past tables
-  pub ran : RanFairly Client IsEnd (record { number = id; schema = schema; limits = limits; keeps = false }) (new_client id schema limits) new_past address (plan_of ((0, Do Resumed) ∷ script)) ended old new before after
+  pub ran : RanFairly Client IsEnd (record { number = id; schema = schema; limits = limits; keeps = false; says = true }) (new_client id schema limits) new_past address (plan_of ((0, Do Resumed) ∷ script)) ended old new before after

@@ -73,6 +73,10 @@ impl Asks for ClientEnd {
         self.client.is_waiting()
     }
 
+    fn says(&self) -> bool {
+        true
+    }
+
     fn answer(&self) -> Option<&Answer> {
         None
     }

@@ -14,6 +14,7 @@ use Rattle.sr_session.specs.Rules.{sent_of}
 use Rattle.sr_links.specs.Steps.{Standing, Resumed, past_after, requests_of}
 use Rattle.sr_dial.specs.Calls.{Call, Scripted, Do, all_done, calls_told, count_faults, fails, is_fault, steps_in}
 use Rattle.sr_talk.specs.Serving.{RoseBy, spelled}
+use Rattle.sr_dial.specs.Carrying.{spoken}
 use Rattle.sr_dial.specs.Known.{Setting, Makes}
 use Rattle.sr_dial.specs.Runs.{IsCarried, IsToldIf, SendsMost, left_by, none_taken}
 use Rattle.sr_dial.specs.Courses.{At, Broken, Course, IsThere, Rests, Start, Stepped}
@@ -55,7 +56,7 @@ module _ (C : Type 0) (Stands : C → Client → Type 0) (lent : C → Option An
   }
 
   module _ (ahead further : Ahead) (line number : ℕ) (failed : Bool) (P Q : List ℕ → Type 0) (l : Linking) (code new : C) (lines : List TraceLine) (sent : List Message)
-      (on : ahead (lent code) ≡ Next number (Do Resumed) further) (says : (texts : List ℕ) → P texts → Q (texts ++ flat_map (line_text k.schema number) lines)) (r : Rests C Stands lent IsOf k s ahead line failed l P code)
+      (on : ahead (lent code) ≡ Next number (Do Resumed) further) (says : (texts : List ℕ) → P texts → Q (texts ++ spoken k.says (flat_map (line_text k.schema number) lines))) (r : Rests C Stands lent IsOf k s ahead line failed l P code)
       (m : Makes Stands lent IsOf k code new (left_by s.past r.calls) Resumed lines sent) (free : (left_by s.past r.calls).out ≡ None) (message : Message) (one : sent ≡ message ∷ []) where
     -- its next past is that of a link that is up
     next-up : m.next.cut ≡ false

@@ -20,6 +20,7 @@ use Rattle.sr_dial.specs.Calls.{Call, Cause, Failed, all_done, count_faults, don
 use Rattle.sr_talk.specs.Reading.{Reads}
 use Rattle.sr_talk.specs.Serving.{RoseBy, spelled}
 use Rattle.sr_talk.proofs.TalkLemmas.{spelled-append}
+use Rattle.sr_dial.specs.Carrying.{spoken}
 use Rattle.sr_dial.specs.Known.{Setting, Makes}
 use Rattle.sr_dial.specs.Runs.{IsInPlace, SendsMost, SentAs, left_by, more_taken, none_taken}
 use Rattle.sr_dial.specs.Courses.{At, Broken, Free, IsThere, Start, Stepped}
@@ -186,7 +187,7 @@ module _ (C : Type 0) (Stands : C → Client → Type 0) (lent : C → Option An
         }
 
   module _ (ahead further : Ahead) (line : ℕ) (came : Count) (number : ℕ) (cause : Cause) (P Q : List ℕ → Type 0) (code new : C) (deed : Deed) (lines : List TraceLine) (sent : List Message)
-      (on : GoesOn cause ahead (lent code) number deed further) (most : (more_taken cause sent came).taken ≤ 1000000) (says : (texts : List ℕ) → P texts → Q (texts ++ flat_map (line_text k.schema number) lines)) where
+      (on : GoesOn cause ahead (lent code) number deed further) (most : (more_taken cause sent came).taken ≤ 1000000) (says : (texts : List ℕ) → P texts → Q (texts ++ spoken k.says (flat_map (line_text k.schema number) lines))) where
     -- a request is cut short
     pub send-breaks : (failed : Bool) (l new_l : Linking) (feed left : List ℕ) (h : At C Stands lent IsOf k s ahead line came failed l P feed code)
         (m : Makes Stands lent IsOf k code new (left_by s.past (h.course.earlier ++ h.course.call ∷ [])) deed lines sent)
@@ -241,7 +242,7 @@ module _ (C : Type 0) (Stands : C → Client → Type 0) (lent : C → Option An
   -- ---- the client is cut, and the connection given up
 
   pub fail-ends : (ahead : Ahead) (line : ℕ) (P Q : List ℕ → Type 0) (l : Linking) (feed : List ℕ) (code new : C) (lines : List TraceLine)
-      → ((texts : List ℕ) → P texts → Q (texts ++ flat_map (line_text k.schema line) lines)) → (b : Broken C Stands lent IsOf k s ahead line l P feed code)
+      → ((texts : List ℕ) → P texts → Q (texts ++ spoken k.says (flat_map (line_text k.schema line) lines))) → (b : Broken C Stands lent IsOf k s ahead line l P feed code)
       → Makes Stands lent IsOf k code new (left_by s.past (b.course.earlier ++ b.course.call ∷ [])) WasCut lines []
       → Free C Stands lent IsOf k s ahead line true (hung_up l) Q feed new
   fail-ends ahead line P Q l feed code new lines says b m =

@@ -89,13 +89,13 @@ module _ (C : Type 0) (Stands : C → Client → Type 0) (lent : C → Option An
         fault-breaks C Stands lent IsOf k s ahead line came failed all.linking (IsWritten s w) after code (read all.linking [] after all.reads) (read-up all.linking [] after all.reads)
         (read-out all.linking [] after all.reads) new_l all.only (subst (λ n. Rose n new_l.faults) (sym (ap (λ (x : Linking). x.faults) all.reads.is)) all.rose)
 
-    pub awaits-spoiled : (new_l : Linking) (after : List ℕ) (fault : WireFault) → Nexts (NextBad fault) l new_l feed after → Over C Stands lent IsOf k s (ending.Spoiled fault) new_l w
+    pub awaits-spoiled : (new_l : Linking) (after : List ℕ) (fault : WireFault) → Nexts (NextBad fault) l new_l feed after → Over C Stands lent IsOf k s (ending.Spoiled fault) new_l w code
     awaits-spoiled new_l after fault (r, faulty, other) =
         over-at C Stands lent IsOf k s ahead line came new_l after code w failed (ending.Spoiled fault) (read new_l [] after r) refl
         (λ whole. record { fault_is = faulty; whole = other; waits = read-out new_l [] after r }) (λ texts is. is)
 
     -- as many as may be came for one request
-    pub awaits-no-more : (new_l : Linking) (after : List ℕ) (m : Message) → came.taken ≡ 1000000 → Nexts (Frame m) l new_l feed after → Over C Stands lent IsOf k s ending.Limit new_l w
+    pub awaits-no-more : (new_l : Linking) (after : List ℕ) (m : Message) → came.taken ≡ 1000000 → Nexts (Frame m) l new_l feed after → Over C Stands lent IsOf k s ending.Limit new_l w code
     awaits-no-more new_l after m many (r, is) =
         over-at C Stands lent IsOf k s ahead line came new_l (spelling m ++ after) code w failed ending.Limit (read new_l (spelling m) after r) refl
         (λ whole. record { message = m; rest = after; many = ap (λ (n : Count). n.taken) (read new_l (spelling m) after r).course.steps.came_is ∙ many; next = refl; spells = is }) (λ texts is. is)
@@ -129,7 +129,7 @@ module _ (C : Type 0) (Stands : C → Client → Type 0) (lent : C → Option An
   -- it must be refused
   pub handles-bad : (why : BadFrame) → is_some (left_by s.past (h.course.earlier ++ h.course.call ∷ [])).out ≡ true → IsTrue (has_spelling m)
       → Rattle.sr_session.specs.Misfits.misfit k.schema (left_by s.past (h.course.earlier ++ h.course.call ∷ [])).out (left_by s.past (h.course.earlier ++ h.course.call ∷ [])).laid
-      (left_by s.past (h.course.earlier ++ h.course.call ∷ [])).version m ≡ Some why → Over C Stands lent IsOf k s (ending.Bad why) l w
+      (left_by s.past (h.course.earlier ++ h.course.call ∷ [])).version m ≡ Some why → Over C Stands lent IsOf k s (ending.Bad why) l w code
   handles-bad why some is bad =
       over-at C Stands lent IsOf k s ahead line came l (spelling m ++ after) code w failed (ending.Bad why) h refl (λ whole. record { message = m; rest = after; next = refl; spells = is; waits = some-out C Stands lent IsOf k s ahead line came failed l w (spelling m ++ after) code h some; why_is = bad }) (λ texts is. is)
 
@@ -146,7 +146,7 @@ module _ (C : Type 0) (Stands : C → Client → Type 0) (lent : C → Option An
       → misfit k.schema (left_by s.past (h.course.earlier ++ h.course.call ∷ [])).out (left_by s.past (h.course.earlier ++ h.course.call ∷ [])).laid
       (left_by s.past (h.course.earlier ++ h.course.call ∷ [])).version m ≡ None
       → Makes Stands lent IsOf k code new (left_by s.past (h.course.earlier ++ h.course.call ∷ [])) (Took m) lines sent
-      → Carries handed l new_l w new_w (spelled sent) (flat_map (line_text k.schema line) lines) → Handles C Stands lent IsOf k (handled_by handed (not empty)) s ahead line came failed m new_l new_w after new
+      → Carries k.says handed l new_l w new_w (spelled sent) (flat_map (line_text k.schema line) lines) → Handles C Stands lent IsOf k (handled_by handed (not empty)) s ahead line came failed m new_l new_w after new
   handles most lines sent handed empty is_empty some is fits made carries =
       by handed sent empty is_empty
       (hands-up C Stands lent IsOf k s ahead ahead line came line Delivered code new (Took m) lines sent refl (most-more sent most) failed l new_l w new_w (spelling m ++ after) after h made (refl, some-out C Stands lent IsOf k s ahead line came failed l w (spelling m ++ after) code h some, is, fits) tt refl

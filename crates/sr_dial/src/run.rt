@@ -9,7 +9,7 @@ ghost use Rattle.sr_dial.specs.Jobs.{IsJob, number_of};
 ghost use Rattle.sr_talk.specs.Rounds.{OnlyOutput};
 ghost use Rattle.sr_dial.specs.Courses.{At, Broken, EndsLine, Finishes, Free, Hands, IsWritten, Start, Unbegun};
 ghost use Rattle.sr_dial.specs.Known.{IsTask, Setting};
-ghost use Rattle.sr_dial.specs.Runs.{RanFairly, none_taken};
+ghost use Rattle.sr_dial.specs.Runs.{RanTo, none_taken};
 ghost use Rattle.sr_dial.specs.declared.ending.Ending.TheVariants.{Whole as EndsWhole, Faulty as EndsFaulty, Unwritten as EndsUnwritten};
 ghost use Rattle.sr_dial.specs.declared.run.LineEnd.TheVariants.{Failed as LineFailed, Ends as LineEnds};
 
@@ -278,7 +278,7 @@ fn go_on<H: Host, C: Asks, P: Plans>(
 }
 
 /// Resumes the client, whose link is cut, and then does what the plan asks, each job until nothing is out. Each line of the trace is
-/// written once its step is done. The link is given up at the end.
+/// written once its step is done, if the client says so. The link is given up at the end.
 pub fn run<H: Host, C: Asks, P: Plans>(
     alloc: Global,
     host: &mut H,
@@ -292,7 +292,7 @@ pub fn run<H: Host, C: Asks, P: Plans>(
     requires asks { (ahead : Ahead) × P.follows (C.setting client.old).schema plans.old ahead }
     requires room { 4000004 * (P.depth plans.old + 1) ≤ C.room client.old }
     requires fresh { C.lent client.old ≡ None }
-    ensures ran { (c : Past) (ahead : Ahead) → C.stands client.old c → c.cut ≡ true → c.out ≡ None → P.follows schema.now plans.old ahead → IfOk result (λ ending. RanFairly C C.is_of (C.setting client.old) client.old c address.now (Next 0 (Do Resumed) ahead) ending (H.linking host.old) (H.linking host.new) (H.writing host.old) (H.writing host.new)) }
+    ensures ran { (c : Past) (ahead : Ahead) → C.stands client.old c → c.cut ≡ true → c.out ≡ None → P.follows schema.now plans.old ahead → IfOk result (λ ending. RanTo C C.stands C.is_of (C.setting client.old) client.old c address.now (Next 0 (Do Resumed) ahead) ending (H.linking host.old) (H.linking host.new) (H.writing host.old) (H.writing host.new) client.new) }
     ensures stays { OnlyOutput H H.reading H.held H.complaints H.IsSteady host.old host.new }
 {
     let mut feed = Feed::new(alloc);

@@ -1,5 +1,5 @@
 //! Steps of a client, carried out over a link.
-ghost use Rattle.std.specs.Prelude.{◌≡◌, ◌≤◌, ◌+◌, ℕ, Bool, List, None, flat_map, string_bytes, Result, IfOk, if◌then◌else◌};
+ghost use Rattle.std.specs.Prelude.{◌≡◌, ◌≤◌, ◌+◌, true, ℕ, Bool, List, None, flat_map, string_bytes, Result, IfOk, if◌then◌else◌};
 ghost use Rattle.std.specs.List.{All};
 ghost use Rattle.sr_script.specs.TraceText.{line_text};
 ghost use Rattle.sr_session.specs.Clients.{Client as Past};
@@ -59,7 +59,7 @@ fn text_of(
 
 /// Writes a text. False where the sink fails.
 fn write_text<K: Sink>(sink: &mut K, text: &str) -> Result<bool, NoMemory>
-    ensures said { IfOk result (λ all. SaysAs all (K.writing sink.old) (K.writing sink.new) text.now) }
+    ensures said { IfOk result (λ all. SaysAs true all (K.writing sink.old) (K.writing sink.new) text.now) }
     ensures stays { OnlyOutput K K.reading K.held K.complaints K.IsSteady sink.old sink.new }
     ensures linking_stays { K.linking sink.new ≡ K.linking sink.old }
 {
@@ -70,36 +70,41 @@ fn write_text<K: Sink>(sink: &mut K, text: &str) -> Result<bool, NoMemory>
     }
 }
 
-/// Writes the lines of a step. False where the sink fails.
+/// Writes the lines of a step, if the run writes its lines. False where the sink fails.
 fn say<K: Sink>(
     alloc: Global,
     sink: &mut K,
     schema: &[Table],
     number: u64,
+    says: bool,
     lines: &[TraceLine],
 ) -> Result<bool, NoMemory>
-    ensures said { IfOk result (λ all. SaysAs all (K.writing sink.old) (K.writing sink.new) (flat_map (line_text schema.now number) lines.now)) }
+    ensures said { IfOk result (λ all. SaysAs says all (K.writing sink.old) (K.writing sink.new) (flat_map (line_text schema.now number) lines.now)) }
     ensures stays { OnlyOutput K K.reading K.held K.complaints K.IsSteady sink.old sink.new }
     ensures linking_stays { K.linking sink.new ≡ K.linking sink.old }
 {
+    if !says {
+        return Ok(true);
+    }
     let text = text_of(alloc, schema, number, lines)?;
     write_text(sink, text.as_str())
 }
 
-/// Sends what a step sends, and then writes its lines.
+/// Sends what a step sends, and then writes its lines, if the run writes its lines.
 pub(crate) fn carry<H: Link + Sink>(
     alloc: Global,
     host: &mut H,
     schema: &[Table],
     number: u64,
+    says: bool,
     told: &Told,
 ) -> Result<Handed, NoMemory>
     requires sendable { All IsSendable told.now.sent }
-    ensures carried { IfOk result (λ handed. Carries handed (H.linking host.old) (H.linking host.new) (H.writing host.old) (H.writing host.new) (spelled told.now.sent) (flat_map (line_text schema.now number) told.now.lines)) }
+    ensures carried { IfOk result (λ handed. Carries says handed (H.linking host.old) (H.linking host.new) (H.writing host.old) (H.writing host.new) (spelled told.now.sent) (flat_map (line_text schema.now number) told.now.lines)) }
     ensures stays { OnlyOutput H H.reading H.held H.complaints H.IsSteady host.old host.new }
 {
     let sent = send_messages(alloc, host, told.sent.as_slice())?;
-    if !say(alloc, host, schema, number, told.lines.as_slice())? {
+    if !say(alloc, host, schema, number, says, told.lines.as_slice())? {
         return Ok(Handed::Unwritten);
     }
     Ok(handed_by(sent))
@@ -148,7 +153,7 @@ pub(crate) fn ask<H: Link + Sink, C: Asks>(
     ensures stays { OnlyOutput H H.reading H.held H.complaints H.IsSteady host.old host.new }
 {
     let told = client.act(alloc, event)?;
-    carry(alloc, host, schema, number, &told)
+    carry(alloc, host, schema, number, client.says(), &told)
 }
 
 /// The client explains how it would answer a query. Nothing is sent, and nothing changes.
@@ -166,11 +171,11 @@ pub(crate) fn tell<K: Sink, C: Asks>(
     ensures linking_stays { K.linking sink.new ≡ K.linking sink.old }
 {
     let lines = client.explain(alloc, query)?;
-    let said = say(alloc, sink, schema, number, lines.as_slice())?;
+    let said = say(alloc, sink, schema, number, client.says(), lines.as_slice())?;
     Ok(written_by(said))
 }
 
-/// A text is written. Nothing is sent, and nothing changes.
+/// A text is written, if the run writes its lines. Nothing is sent, and nothing changes.
 pub(crate) fn write<K: Sink, C: Asks>(
     sink: &mut K,
     client: &C,
@@ -181,6 +186,9 @@ pub(crate) fn write<K: Sink, C: Asks>(
     ensures stays { OnlyOutput K K.reading K.held K.complaints K.IsSteady sink.old sink.new }
     ensures linking_stays { K.linking sink.new ≡ K.linking sink.old }
 {
+    if !client.says() {
+        return Ok(Handed::Whole);
+    }
     let said = write_text(sink, text)?;
     Ok(written_by(said))
 }
@@ -203,7 +211,7 @@ pub(crate) fn end<H: Host, C: Asks>(
 {
     let told = client.act(alloc, event)?;
     host.hang_up();
-    carry(alloc, host, schema, number, &told)
+    carry(alloc, host, schema, number, client.says(), &told)
 }
 
 /// The client resumes: where its link was cut it dials, and sends its first message over the new connection.
@@ -226,13 +234,20 @@ pub(crate) fn begin<H: Host, C: Asks>(
 {
     let told = client.act(alloc, event)?;
     if told.sent.is_empty() {
-        return carry(alloc, host, schema, number, &told);
+        return carry(alloc, host, schema, number, client.says(), &told);
     }
     *feed = Feed::new(alloc);
     match host.dial(address) {
-        Ok(()) => carry(alloc, host, schema, number, &told),
+        Ok(()) => carry(alloc, host, schema, number, client.says(), &told),
         Err(No::Refused(_)) => {
-            let said = say(alloc, host, schema, number, told.lines.as_slice())?;
+            let said = say(
+                alloc,
+                host,
+                schema,
+                number,
+                client.says(),
+                told.lines.as_slice(),
+            )?;
             Ok(broken_by(said))
         }
         Err(No::NoMemory) => Err(NoMemory),
@@ -255,5 +270,5 @@ pub(crate) fn fail<H: Host, C: Asks>(
 {
     let lines = client.cut(alloc)?;
     host.hang_up();
-    say(alloc, host, schema, number, lines.as_slice())
+    say(alloc, host, schema, number, client.says(), lines.as_slice())
 }

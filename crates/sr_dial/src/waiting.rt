@@ -100,7 +100,7 @@ fn handle<H: Link + Sink, C: Asks>(
         Came::Bad(why) => Ok(Handled::Refused(why)),
         Came::Taken(told) => {
             let again = !told.sent.is_empty();
-            let handed = carry(alloc, host, schema, number, &told)?;
+            let handed = carry(alloc, host, schema, number, client.says(), &told)?;
             Ok(handled_by(handed, again))
         }
     }

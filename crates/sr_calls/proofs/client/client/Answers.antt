@@ -32,6 +32,6 @@ run-requires-clause-room g c =
 pub returns-clause-ran : goal.returns-clause-ran
 returns-clause-ran g c =
     let same : c.new-end.result ≡ new_client c.args.id c.args.schema c.args.limits = c.new-end.ensures ∙ ap (λ (s : List Table). new_client c.args.id s c.args.limits) c.in_ok-own.ensures in
-    ran_new c.args.id c.args.address.now c.args.schema c.as_slice.result.now c.args.limits c.args.lines c.new-end.result c.run.result (g.H.Outside.linking c.args.host.now) (g.H.Outside.linking c.run.new.host) (g.H.Outside.writing c.args.host.now) (g.H.Outside.writing c.run.new.host)
+    ran_new c.args.id c.args.address.now c.args.schema c.as_slice.result.now c.args.limits c.args.lines c.new-end.result c.run.new.client c.run.result (g.H.Outside.linking c.args.host.now) (g.H.Outside.linking c.run.new.host) (g.H.Outside.writing c.args.host.now) (g.H.Outside.writing c.run.new.host)
     c.requires.tables same c.as_slice.ensures
     (λ past ahead stands cut out follows. c.run.ensures.ran past ahead stands cut out (subst (λ (lines : List EventLine). AreAhead c.as_slice.result.now lines ahead) (sym c.new-script.ensures) follows))

@@ -53,7 +53,7 @@ returns-in-Bad-clause-awaited g c k s ahead failed same schema at =
     let h = c.frames.invariant.so_far k s ahead failed same schema at in
     let waiting : c.is_waiting.result ≡ true = search rules in
     let some : is_some (left_by s.past (h.course.earlier ++ h.course.call ∷ [])).out ≡ true = sym (c.is_waiting.ensures (left_by s.past (h.course.earlier ++ h.course.call ∷ [])) h.course.steps.stands) ∙ waiting in
-    subst (λ w. Over _ g.C.Asks.stands g.C.Asks.lent g.C.Peer.is_of k s (Spoiled c.in-Bad.fault) (g.H.Outside.linking c.next_frame.new.link) w) (sym c.next_frame.ensures.stays.writing_stays)
+    subst (λ w. Over _ g.C.Asks.stands g.C.Asks.lent g.C.Peer.is_of k s (Spoiled c.in-Bad.fault) (g.H.Outside.linking c.next_frame.new.link) w c.frames.client) (sym c.next_frame.ensures.stays.writing_stays)
     (awaits-spoiled _ g.C.Asks.stands g.C.Asks.lent g.C.Peer.is_of k s ahead c.args.number c.frames.count failed _ _ _ _ h some _ _ c.in-Bad.fault (subst (λ next. Nexts next (g.H.Outside.linking c.frames.host) (g.H.Outside.linking c.next_frame.new.link) c.frames.feed c.next_frame.new.feed) c.in-Bad.is c.in_ok-next_frame.ensures.next))
 
 pub returns-in-Broken-clause-awaited : goal.returns-in-Broken-clause-awaited

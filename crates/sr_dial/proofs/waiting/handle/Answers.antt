@@ -1,4 +1,4 @@
-use Rattle.std.proofs.Common.{◌≡◌, [], ◌∷◌, ◌++◌, Some, None, sym, subst}
+use Rattle.std.proofs.Common.{◌≡◌, [], ◌∷◌, ◌++◌, ◌∙◌, Some, None, ap, sym, subst}
 use Rattle.std.specs.Prelude.{flat_map}
 use Rattle.sr_script.specs.TraceText.{line_text}
 use Rattle.sr_session.specs.Misfits.{misfit}
@@ -32,8 +32,11 @@ returns-in_ok-handed-in-Taken-clause-handled g c k s ahead count failed after mo
     let made = subst (λ x. Makes g.C.Asks.stands g.C.Asks.lent g.C.Peer.is_of x old new past (Took c.args.message) told.lines told.sent) same took.0 in
     let fits = subst (λ (x : Setting). misfit x.schema past.out past.laid past.version c.args.message ≡ None) same took.1 in
     let handed = c.in_ok-handed-in-Taken.handed in
+    let spoke : c.says.result ≡ k.says = c.says.ensures ∙ ap (λ (x : Setting). x.says) (c.take.ensures.setting ∙ same) in
     subst (λ x. Handles _ g.C.Asks.stands g.C.Asks.lent g.C.Peer.is_of k x s ahead c.args.number count failed c.args.message (g.H.Outside.linking c.carry.new.host) (g.H.Outside.writing c.carry.new.host) after c.take.new.self) (sym c.handled_by.ensures)
     (handles _ g.C.Asks.stands g.C.Asks.lent g.C.Peer.is_of k s ahead c.args.number count failed (g.H.Outside.linking c.args.host.now) (g.H.Outside.linking c.carry.new.host) (g.H.Outside.writing c.args.host.now) (g.H.Outside.writing c.carry.new.host) after
     old c.take.new.self c.args.message h most told.lines told.sent handed c.is_empty-again.result c.is_empty-again.ensures some is fits made
-    (subst (λ x. Carries handed (g.H.Outside.linking c.args.host.now) (g.H.Outside.linking c.carry.new.host) (g.H.Outside.writing c.args.host.now) (g.H.Outside.writing c.carry.new.host) (spelled told.sent)
-    (flat_map (line_text x c.args.number) told.lines)) schema c.in_ok-handed-in-Taken.ensures.carried))
+    (subst (λ x. Carries k.says handed (g.H.Outside.linking c.args.host.now) (g.H.Outside.linking c.carry.new.host) (g.H.Outside.writing c.args.host.now) (g.H.Outside.writing c.carry.new.host) (spelled told.sent)
+    (flat_map (line_text x c.args.number) told.lines)) schema
+    (subst (λ b. Carries b handed (g.H.Outside.linking c.args.host.now) (g.H.Outside.linking c.carry.new.host) (g.H.Outside.writing c.args.host.now) (g.H.Outside.writing c.carry.new.host) (spelled told.sent)
+    (flat_map (line_text c.args.schema.now c.args.number) told.lines)) spoke c.in_ok-handed-in-Taken.ensures.carried)))

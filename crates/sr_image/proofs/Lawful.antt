@@ -232,7 +232,7 @@ module _ (t : Table) (attrs : ℕ) (rects : List Rect) (first : have_first t.col
       All-cons (IsRowIn t.columns attrs rects) x xs (point-of t.columns 0 attrs x first takes bytes, there)
       (rows-in (before ++ x ∷ []) xs (second_so (is_row t attrs rects before x) (each_may (is_row t attrs rects) (before ++ x ∷ []) xs) h))
 
-above-end : (key : ℕ) (before : List Row) (y x : Row) → is_above key (before ++ y ∷ []) x ≡ key_lt key y x
+pub above-end : (key : ℕ) (before : List Row) (y x : Row) → is_above key (before ++ y ∷ []) x ≡ key_lt key y x
 above-end key [] y x = refl
 above-end key (b ∷ []) y x = refl
 above-end key (b ∷ d ∷ before) y x = above-end key (d ∷ before) y x
@@ -296,7 +296,7 @@ module _ (schema : List Table) (tables : list_all is_table schema ≡ true) wher
       All-cons (λ k. IsOfSchema schema (region_of schema k)) k kept (kept-of before k (first_so (is_kept schema before k) (each_may (is_kept schema) (before ++ k ∷ []) kept) h))
       (each-of (before ++ k ∷ []) kept (second_so (is_kept schema before k) (each_may (is_kept schema) (before ++ k ∷ []) kept) h))
 
-behind-end : (before : List Kept) (y x : Kept) → is_behind (before ++ y ∷ []) (head_of x) ≡ is_before (head_of y) (head_of x)
+pub behind-end : (before : List Kept) (y x : Kept) → is_behind (before ++ y ∷ []) (head_of x) ≡ is_before (head_of y) (head_of x)
 behind-end [] y x = refl
 behind-end (b ∷ []) y x = refl
 behind-end (b ∷ d ∷ before) y x = behind-end (d ∷ before) y x
@@ -323,10 +323,10 @@ module _ (schema : List Table) where
   parts-ascend [] h = refl
   parts-ascend (k ∷ kept) h = ascending-behind [] k kept (second_so (is_kept schema [] k) (each_may (is_kept schema) (k ∷ []) kept) h)
 
-  count-more : (k : Kept) (kept : List Kept) → count_rects (k ∷ kept) ≡ length k.rects + count_rects kept
+  pub count-more : (k : Kept) (kept : List Kept) → count_rects (k ∷ kept) ≡ length k.rects + count_rects kept
   count-more k kept = sum_by-cons (λ (k : Kept). length k.rects) k kept
 
-  count-end : (before : List Kept) (k : Kept) → count_rects (before ++ k ∷ []) ≡ count_rects before + length k.rects
+  pub count-end : (before : List Kept) (k : Kept) → count_rects (before ++ k ∷ []) ≡ count_rects before + length k.rects
   count-end [] k = let e = count-more k [] in omega (arith, e)
   count-end (b ∷ before) k =
       let ih = count-end before k in
@@ -349,7 +349,7 @@ module _ (schema : List Table) where
       let sum = count-more k kept in
       omega (arith, size, more, sum)
 
-  same-count : (kept : List Kept) → stores.count_rects (regions_of schema kept) ≡ count_rects kept
+  pub same-count : (kept : List Kept) → stores.count_rects (regions_of schema kept) ≡ count_rects kept
   same-count [] = refl
   same-count (k ∷ kept) =
       let ih = same-count kept in

@@ -11,3 +11,5 @@ pub mod Covering
 pub mod Apart
 pub mod Lawful
 pub mod Made
+pub mod Whole
+pub mod Stored

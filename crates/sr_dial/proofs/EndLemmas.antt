@@ -1,5 +1,5 @@
 -- How a run ends.
-use Rattle.std.proofs.Common.{◌≡◌, ℕ, Bool, true, false, List, [], ◌∷◌, ◌++◌, arith, sym, subst, Option}
+use Rattle.std.proofs.Common.{◌≡◌, ℕ, Bool, true, false, List, [], ◌∷◌, ◌++◌, arith, sym, ◌∙◌, subst, Option}
 use Rattle.std.specs.Prelude.{◌≢◌, flat_map}
 use Rattle.sr_io.specs.Told.{Linking, Writing}
 use Rattle.sr_message.specs.declared.message.Message.{Message}
@@ -7,7 +7,7 @@ use Rattle.sr_session.specs.Clients.{Client}
 use Rattle.sr_links.specs.Steps.{Standing, requests_of}
 use Rattle.sr_dial.specs.Calls.{Task, all_done, done_in, steps_in}
 use Rattle.sr_dial.specs.Known.{Setting, said_by}
-use Rattle.sr_dial.specs.Runs.{EndsBy, IsCarried, SendsMost, SentAs, WritesAs, is_unwritten, left_by}
+use Rattle.sr_dial.specs.Runs.{EndsBy, IsCarried, SendsMost, SentAs, WritesAs, is_bad, is_unwritten, left_by}
 use Rattle.sr_dial.specs.Courses.{At, Broken, IsPartWritten, IsWritten, Over, Start}
 use Rattle.sr_dial.specs.declared.ending.Ending.{Ending}
 use Rattle.sr_dial.specs.declared.ending.Ending.TheVariants as ending
@@ -37,8 +37,8 @@ module _ (C : Type 0) (Stands : C → Client → Type 0) (lent : C → Option An
     goes = h.course.steps.goes;
     fair = h.course.steps.fair;
     explained = h.course.steps.explained;
-    code_is = h.course.steps.code_is;
-    stands = h.course.steps.stands;
+    code_is = λ fine. h.course.steps.code_is;
+    stands = λ fine. h.course.steps.stands;
     carried = h.course.carried;
     last_carried = record {
       taken = h.course.taken;
@@ -68,8 +68,8 @@ module _ (C : Type 0) (Stands : C → Client → Type 0) (lent : C → Option An
         goes = b.course.steps.goes;
         fair = b.course.steps.fair;
         explained = b.course.steps.explained;
-        code_is = b.course.steps.code_is;
-        stands = b.course.steps.stands;
+        code_is = λ fine. b.course.steps.code_is;
+        stands = λ fine. b.course.steps.stands;
         carried = b.course.carried;
         last_carried = record {
           taken = b.course.taken;
@@ -86,10 +86,10 @@ module _ (C : Type 0) (Stands : C → Client → Type 0) (lent : C → Option An
       }
 
   -- what came next ends it
-  pub over-at : (w : Writing) (failed : Bool) (ended : Ending) (h : At C Stands lent IsOf k s ahead line came failed l (IsWritten s w) feed code) → is_unwritten ended ≡ false
+  pub over-at : (new : C) (w : Writing) (failed : Bool) (ended : Ending) (h : At C Stands lent IsOf k s ahead line came failed l (IsWritten s w) feed code) → is_unwritten ended ≡ false → (is_bad ended ≡ false → new ≡ code)
       → ((rest : Plan Task Answer) → EndsBy ended k.schema (h.course.earlier ++ h.course.call ∷ []) (left_by s.past (h.course.earlier ++ h.course.call ∷ [])) feed rest)
-      → ((texts : List ℕ) → IsWritten s w texts → WritesAs k.says ended texts s.writing w) → Over C Stands lent IsOf k s ended l w code
-  over-at w failed ended h written ends writes = record {
+      → ((texts : List ℕ) → IsWritten s w texts → WritesAs k.says ended texts s.writing w) → Over C Stands lent IsOf k s ended l w new
+  over-at new w failed ended h written kept ends writes = record {
     earlier = h.course.earlier;
     last = h.course.call;
     are = calls-one s.past h.course.earlier h.course.call h.course.are h.course.is;
@@ -99,8 +99,8 @@ module _ (C : Type 0) (Stands : C → Client → Type 0) (lent : C → Option An
     goes = h.course.steps.goes;
     fair = h.course.steps.fair;
     explained = h.course.steps.explained;
-    code_is = h.course.steps.code_is;
-    stands = h.course.steps.stands;
+    code_is = λ fine. h.course.steps.code_is ∙ sym (kept fine);
+    stands = λ fine. subst (λ x. Stands x (left_by s.past (h.course.earlier ++ h.course.call ∷ []))) (sym (kept fine)) h.course.steps.stands;
     carried = h.course.carried;
     last_carried = subst (λ b. IsCarried b h.course.call) (sym written) (record { taken = h.course.taken; sent = h.sent; counted = λ whole. h.counted });
     dialled = dialled-one s.address h.course.earlier h.course.call h.course.before_dialled h.course.dialled;

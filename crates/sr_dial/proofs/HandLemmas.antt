@@ -34,9 +34,9 @@ module _ {C : Type 0} (says : Bool) (s : Start C) (w new_w : Writing) (text : Li
   wrote (is, same) texts (before, faults) = (Appends-append s.writing.written w.written new_w.written texts (spoken says text) before is, same ∙ faults)
 
 pub half : {C : Type 0} (says : Bool) (s : Start C) (w new_w : Writing) (text : List ℕ) → SaysAs says false w new_w text → (texts : List ℕ) → IsWritten s w texts → IsPartWritten says s new_w (texts ++ spoken says text)
-half {C} true s w new_w text (yes, part, rose) texts (before, faults) =
-    (yes, prefix-behind s.writing.written w.written new_w.written texts text before part, subst (λ n. Rose n new_w.faults) faults rose)
-half {C} false s w new_w text (yes, part, rose) texts written = absurd (let no : false ≡ true = yes in cc)
+half {C} true s w new_w text (spoke, part, rose) texts (before, faults) =
+    (spoke, prefix-behind s.writing.written w.written new_w.written texts text before part, subst (λ n. Rose n new_w.faults) faults rose)
+half {C} false s w new_w text (spoke, part, rose) texts written = absurd (let wrong : false ≡ true = spoke in cc)
 
 module _ (C : Type 0) (Stands : C → Client → Type 0) (lent : C → Option Answer) (IsOf : Standing C) (k : Setting) (s : Start C) (ahead further : Ahead) (line : ℕ) (came : Count) (number : ℕ) (cause : Cause) (code new : C) (deed : Deed) (lines : List TraceLine) (sent : List Message)
     (on : GoesOn cause ahead (lent code) number deed further) (most : (more_taken cause sent came).taken ≤ 1000000) (failed : Bool) (l new_l : Linking) (w new_w : Writing) (feed left : List ℕ) (h : At C Stands lent IsOf k s ahead line came failed l (IsWritten s w) feed code)

@@ -55,8 +55,8 @@ module _ (C : Type 0) (Stands : C → Client → Type 0) (lent : C → Option An
           fair = h.course.steps.fair;
           explained = h.course.steps.explained;
         };
-        code_is = h.course.steps.code_is;
-        stands = h.course.steps.stands;
+        code_is = λ fine. h.course.steps.code_is;
+        stands = λ fine. h.course.steps.stands;
       }
 
   over-ran : (ended : Ending) → (ended ≡ ending.Whole → ⊥) → Over C Stands lent IsOf k s ended l w code → RanTo C Stands IsOf k s.code s.past s.address s.plan ended s.linking new_l s.writing w code

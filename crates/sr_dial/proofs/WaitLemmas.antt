@@ -91,13 +91,13 @@ module _ (C : Type 0) (Stands : C → Client → Type 0) (lent : C → Option An
 
     pub awaits-spoiled : (new_l : Linking) (after : List ℕ) (fault : WireFault) → Nexts (NextBad fault) l new_l feed after → Over C Stands lent IsOf k s (ending.Spoiled fault) new_l w code
     awaits-spoiled new_l after fault (r, faulty, other) =
-        over-at C Stands lent IsOf k s ahead line came new_l after code w failed (ending.Spoiled fault) (read new_l [] after r) refl
+        over-at C Stands lent IsOf k s ahead line came new_l after code code w failed (ending.Spoiled fault) (read new_l [] after r) refl (λ fine. refl)
         (λ whole. record { fault_is = faulty; whole = other; waits = read-out new_l [] after r }) (λ texts is. is)
 
     -- as many as may be came for one request
     pub awaits-no-more : (new_l : Linking) (after : List ℕ) (m : Message) → came.taken ≡ 1000000 → Nexts (Frame m) l new_l feed after → Over C Stands lent IsOf k s ending.Limit new_l w code
     awaits-no-more new_l after m many (r, is) =
-        over-at C Stands lent IsOf k s ahead line came new_l (spelling m ++ after) code w failed ending.Limit (read new_l (spelling m) after r) refl
+        over-at C Stands lent IsOf k s ahead line came new_l (spelling m ++ after) code code w failed ending.Limit (read new_l (spelling m) after r) refl (λ fine. refl)
         (λ whole. record { message = m; rest = after; many = ap (λ (n : Count). n.taken) (read new_l (spelling m) after r).course.steps.came_is ∙ many; next = refl; spells = is }) (λ texts is. is)
 
     -- a message came, and is not taken yet
@@ -129,9 +129,9 @@ module _ (C : Type 0) (Stands : C → Client → Type 0) (lent : C → Option An
   -- it must be refused
   pub handles-bad : (why : BadFrame) → is_some (left_by s.past (h.course.earlier ++ h.course.call ∷ [])).out ≡ true → IsTrue (has_spelling m)
       → Rattle.sr_session.specs.Misfits.misfit k.schema (left_by s.past (h.course.earlier ++ h.course.call ∷ [])).out (left_by s.past (h.course.earlier ++ h.course.call ∷ [])).laid
-      (left_by s.past (h.course.earlier ++ h.course.call ∷ [])).version m ≡ Some why → Over C Stands lent IsOf k s (ending.Bad why) l w code
+      (left_by s.past (h.course.earlier ++ h.course.call ∷ [])).version m ≡ Some why → Over C Stands lent IsOf k s (ending.Bad why) l w new
   handles-bad why some is bad =
-      over-at C Stands lent IsOf k s ahead line came l (spelling m ++ after) code w failed (ending.Bad why) h refl (λ whole. record { message = m; rest = after; next = refl; spells = is; waits = some-out C Stands lent IsOf k s ahead line came failed l w (spelling m ++ after) code h some; why_is = bad }) (λ texts is. is)
+      over-at C Stands lent IsOf k s ahead line came l (spelling m ++ after) code new w failed (ending.Bad why) h refl (λ fine. absurd (let wrong : true ≡ false = fine in cc)) (λ whole. record { message = m; rest = after; next = refl; spells = is; waits = some-out C Stands lent IsOf k s ahead line came failed l w (spelling m ++ after) code h some; why_is = bad }) (λ texts is. is)
 
   most-more : (sent : List Message) → came.taken + 1 ≤ 1000000 → (more_if sent came).taken ≤ 1000000
   most-more [] most = most

@@ -16,7 +16,7 @@ use Rattle.sr_talk.specs.declared.frames.Next.{Next}
 use Rattle.sr_talk.specs.declared.frames.Next.TheVariants.{Frame, End, Torn, Fault, Bad}
 use Rattle.sr_dial.specs.Following.{Ahead, dids_of, stage_by}
 use Rattle.sr_dial.specs.Known.{AreFairlyExplained, IsFrom, Setting, said_by}
-use Rattle.sr_dial.specs.Runs.{AreFew, AreInPlace, EndsBy, IsCarried, IsToldIf, SentAs, WritesAs, anew, is_unwritten, left_by, none_taken, one_more, taken_after}
+use Rattle.sr_dial.specs.Runs.{AreFew, AreInPlace, EndsBy, IsCarried, IsToldIf, SentAs, WritesAs, anew, is_bad, is_unwritten, left_by, none_taken, one_more, taken_after}
 use Rattle.sr_dial.specs.declared.ending.Ending.{Ending}
 use Rattle.sr_dial.specs.declared.parts.Answer.{Answer}
 use Rattle.sr_dial.specs.declared.ending.Ending.TheVariants as ending
@@ -172,8 +172,8 @@ module _ (C : Type 0) (Stands : C → Client → Type 0) (lent : C → Option An
     pub from : All (IsFrom k.number) (requests_of (steps_in (all_done (earlier ++ last ∷ []))))
     pub fair : AreFair IsOf k.limits s.code s.past (steps_in (all_done (earlier ++ last ∷ [])))
     pub explained : AreFairlyExplained IsOf k.limits s.code s.past (all_done (earlier ++ last ∷ []))
-    pub code_is : code_after s.code (steps_in (all_done (earlier ++ last ∷ []))) ≡ code
-    pub stands : Stands code (left_by s.past (earlier ++ last ∷ []))
+    pub code_is : is_bad ended ≡ false → code_after s.code (steps_in (all_done (earlier ++ last ∷ []))) ≡ code
+    pub stands : is_bad ended ≡ false → Stands code (left_by s.past (earlier ++ last ∷ []))
     pub carried : All (IsCarried false) earlier
     pub last_carried : IsCarried (is_unwritten ended) last
     pub dialled : AreAt s.address (calls_told (earlier ++ last ∷ []))

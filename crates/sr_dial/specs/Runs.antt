@@ -162,6 +162,10 @@ abbrev pub WritesAs : Bool → Ending → List ℕ → Writing → Writing → T
 WritesAs says ending.Unwritten texts before after = (says ≡ true) × WritesPrefix before.written after.written texts × Rose before.faults after.faults
 WritesAs says other texts before after = Appends before.written after.written texts × (after.faults ≡ before.faults)
 
+abbrev pub is_bad : Ending → Bool
+is_bad (ending.Bad why) = true
+is_bad other = false
+
 abbrev pub is_unwritten : Ending → Bool
 is_unwritten ending.Unwritten = true
 is_unwritten other = false
@@ -194,8 +198,9 @@ pub record RanFairly (C : Type 0) (IsOf : Standing C) (k : Setting) (code : C) (
   pub fair : AreFair IsOf k.limits code c (steps_in (all_done (ran.earlier ++ ran.last ∷ [])))
   pub explained : AreFairlyExplained IsOf k.limits code c (all_done (ran.earlier ++ ran.last ∷ []))
 
--- And this is the client that it leaves: the code that its steps leave, which stands for the past that they leave.
+-- And this is the client that it leaves: the code that its steps leave, which stands for the past that they leave. A message that must be
+-- refused leaves a client of which nothing is known.
 pub record RanTo (C : Type 0) (Stands : C → Client → Type 0) (IsOf : Standing C) (k : Setting) (code : C) (c : Client) (address : List ℕ) (plan : Plan Task Answer) (ended : Ending) (old new : Linking) (before after : Writing) (left : C) : Type 0 where
   pub run : RanFairly C IsOf k code c address plan ended old new before after
-  pub code_is : code_after code (steps_in (all_done (run.ran.earlier ++ run.ran.last ∷ []))) ≡ left
-  pub stands : Stands left (left_by c (run.ran.earlier ++ run.ran.last ∷ []))
+  pub code_is : is_bad ended ≡ false → code_after code (steps_in (all_done (run.ran.earlier ++ run.ran.last ∷ []))) ≡ left
+  pub stands : is_bad ended ≡ false → Stands left (left_by c (run.ran.earlier ++ run.ran.last ∷ []))

@@ -20,7 +20,7 @@ returns-in-Bad-clause-handled g c k s ahead count failed after most same schema 
     let past = left_by s.past (h.course.earlier ++ h.course.call ∷ []) in
     let took = subst (λ came. TakesAs came g.C.Asks.stands g.C.Asks.lent g.C.Peer.is_of (g.C.Asks.setting old) old c.take.new.self past c.args.message) c.in-Bad.is (c.in_ok-why.ensures.taken past h.course.steps.stands) in
     handles-bad _ g.C.Asks.stands g.C.Asks.lent g.C.Peer.is_of k s ahead c.args.number count failed (g.H.Outside.linking c.args.host.now) (g.H.Outside.linking c.args.host.now) (g.H.Outside.writing c.args.host.now) (g.H.Outside.writing c.args.host.now) after
-    old old c.args.message h c.in-Bad.why some is (subst (λ (x : Setting). misfit x.schema past.out past.laid past.version c.args.message ≡ Some c.in-Bad.why) same took)
+    old c.take.new.self c.args.message h c.in-Bad.why some is (subst (λ (x : Setting). misfit x.schema past.out past.laid past.version c.args.message ≡ Some c.in-Bad.why) same took)
 
 pub returns-in_ok-handed-in-Taken-clause-handled : goal.returns-in_ok-handed-in-Taken-clause-handled
 returns-in_ok-handed-in-Taken-clause-handled g c k s ahead count failed after most same schema h some is =

@@ -6,13 +6,14 @@ ghost use Rattle.sr_bytes.specs.Writing.{may_write_row};
 ghost use Rattle.sr_image.specs.Spelling.{all_rows_bytes, body_bytes, bytes_over, creates, image_bytes, kept_bytes, long_text_bytes, texts_bytes};
 ghost use Rattle.sr_image.specs.Writing.{are_short, may_write_image, may_write_kept, may_write_schema};
 
-use crate::image::{Image, Kept};
+use crate::image::Image;
 use crate::texts::texts_of;
 use sr_bytes::write::{push_count, push_long, push_rects, push_row, push_short_count};
 use sr_cell::cell::Row;
 use sr_cell::list::{Bytes, NoMemory, Seq};
 use sr_cell::schema::Schema;
 use sr_cell::text::Text;
+use sr_store::start::Kept;
 use std::alloc::Global;
 
 /// The bytes that every image begins with.

@@ -5,6 +5,7 @@ use Rattle.sr_io.specs.Told.{Linking, Writing}
 use Rattle.sr_model.specs.Statements.{Tables}
 use Rattle.sr_policy.specs.declared.policy.Limits.{Limits}
 use Rattle.sr_session.specs.Clients as session
+use Rattle.sr_session.specs.Clients.{from_query}
 use Rattle.sr_client.specs.Stands.{new_client}
 use Rattle.sr_client.specs.declared.client.Client.{Client}
 use Rattle.sr_links.specs.Steps.{Resumed}
@@ -16,7 +17,7 @@ use Rattle.sr_calls.specs.ClientEnds.{IsEnd}
 
 -- a client's past before anything happens: its link is down
 abbrev pub new_past : session.Client
-new_past = record { marks = []; queries = []; counted_from = 0; version = 0; next_request = 0; out = None; laid = []; cut = true; cuts = 0 }
+new_past = record { marks = []; queries = []; counted_from = from_query 0; version = 0; next_request = 0; out = None; laid = []; cut = true; cuts = 0 }
 
 -- A new client of that number, to which nothing has happened, and which has the rows of any tables since it holds none, ran over the plan
 -- of a list: it resumed, and did what the lines of a script ask. It dialled this address, and ended so.

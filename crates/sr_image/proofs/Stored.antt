@@ -30,11 +30,11 @@ use Rattle.sr_store.specs.Stores.{IsOfSchema, IsStore}
 use Rattle.sr_store.specs.Fitted.{count_rows}
 use Rattle.sr_store.specs.Starting.{region_of, regions_of, ascending, AreLawful}
 use Rattle.sr_store.proofs.Adding.{with_regions-ascends}
+use Rattle.sr_store.proofs.Chunks.{IsChunk, region-chunk, lies-occurs, some-telling}
 use Rattle.sr_store.proofs.Fewer.{count_rows-cons}
 use Rattle.sr_store.proofs.Merging.{count_both}
 use Rattle.sr_store.proofs.Sound.{IsSound, with_regions-sound}
 use Rattle.sr_store.proofs.Starting.{ascends-is}
-use Rattle.sr_store.proofs.Storing.{store-telling}
 use Rattle.sr_image.specs.Joining.{is_of, joined, kept_from, stands_before, with_region, with_regions, image_from}
 use Rattle.sr_image.specs.Laws.{is_image, is_spellable}
 use Rattle.sr_image.proofs.Whole.{is_spelled, whole-image}
@@ -136,7 +136,8 @@ module _ (schema : List Table) where
   parts-lawful : (rs : List Region) → IsStore schema rs → AreLawful schema (with_regions [] rs)
   parts-lawful rs s =
       let is = all-same [] rs (All-weaker (IsOfSchema schema) HasKey (λ g of. of.1.area.key) rs s.each) in
-      let telling = store-telling schema rs s in
+      let telling = some-telling schema rs (All-weaker (IsOfSchema schema) (IsChunk schema) (region-chunk schema) rs s.each)
+          (λ t a p point. let x = lies-occurs rs t a p in let y = s.once t a p point in omega (arith, x, y)) s.keys in
       let sound = with_regions-sound schema telling.0 [] (map plain rs) telling.1 (λ t a p point. let e = plain-occurs rs t a p in let le = s.once t a p point in omega (arith, e, le))
       (All-nil (IsOfSchema schema)) (All-nil (IsTrueOf telling.0))
       (All-map (IsOfSchema schema) plain rs (All-weaker (IsOfSchema schema) (λ g. IsOfSchema schema (plain g)) plain-of rs s.each))

@@ -15,7 +15,7 @@ use Rattle.sr_store.proofs.Telling.{only-rows, occurs-told, rects-told, ascends-
 
 module _ (schema : List Table) where
   -- the regions of a store have the rows of some telling
-  pub store-telling : (regions : List Region) → IsStore schema regions → (told : Told) × IsTold schema told × AreTrueOf told regions
+  store-telling : (regions : List Region) → IsStore schema regions → (told : Told) × IsTold schema told × AreTrueOf told regions
   store-telling regions h =
       some-telling schema regions (All-weaker (IsOfSchema schema) (IsChunk schema) (region-chunk schema) regions h.each)
       (λ t a p point. let x = lies-occurs regions t a p in let y = h.once t a p point in omega (arith, x, y)) h.keys

@@ -20,7 +20,7 @@ use Rattle.sr_dial.specs.Following.{Ahead}
 use Rattle.sr_plan.specs.Plans.{Plan}
 use Rattle.sr_dial.specs.declared.waiting.Count.{Count}
 
-most-of : (b : Bool) (ms : List Message) (bytes : List ℕ) → ms ≢ [] → SentAs b ms bytes → SendsMost ms bytes
+pub most-of : (b : Bool) (ms : List Message) (bytes : List ℕ) → ms ≢ [] → SentAs b ms bytes → SendsMost ms bytes
 most-of true ms bytes some sent = sent
 most-of false ms bytes some sent = subst (SendsMost ms) (sym sent) (most-all ms some)
 

@@ -87,7 +87,7 @@ module _ (C : Type 0) (Stands : C → Client → Type 0) (lent : C → Option An
 
 -- ---- a line that leaves the link as it is
 
-plain-stays : (deed : Deed) (c : Client) → IsPlain deed → StaysOn c deed
+pub plain-stays : (deed : Deed) (c : Client) → IsPlain deed → StaysOn c deed
 plain-stays (Queried query) c is = tt
 plain-stays (Wrote sql) c is = tt
 plain-stays (Evicted place) c is = tt
@@ -95,7 +95,7 @@ plain-stays (Took m) c is = absurd is
 plain-stays WasCut c is = absurd is
 plain-stays Resumed c is = absurd is
 
-plain-link : (deed : Deed) (sent : List Message) (c next : Client) → IsPlain deed → KeepsLink deed sent c next → (next.cut ≡ c.cut) × (sent ≢ [] → c.cut ≡ false)
+pub plain-link : (deed : Deed) (sent : List Message) (c next : Client) → IsPlain deed → KeepsLink deed sent c next → (next.cut ≡ c.cut) × (sent ≢ [] → c.cut ≡ false)
 plain-link (Queried query) sent c next is link = link
 plain-link (Wrote sql) sent c next is link = link
 plain-link (Evicted place) sent c next is link = link
@@ -103,7 +103,7 @@ plain-link (Took m) sent c next is link = absurd is
 plain-link WasCut sent c next is link = absurd is
 plain-link Resumed sent c next is link = absurd is
 
-plain-none : (deed : Deed) → IsPlain deed → taken_by deed ≡ []
+pub plain-none : (deed : Deed) → IsPlain deed → taken_by deed ≡ []
 plain-none (Queried query) is = refl
 plain-none (Wrote sql) is = refl
 plain-none (Evicted place) is = refl

@@ -113,7 +113,7 @@ module _ (C : Type 0) (Stands : C → Client → Type 0) (lent : C → Option An
             absurd (let wrong : true ≡ false = sym u.cut ∙ link.0 in cc)
 
     -- it is down: the present call is over
-    resting : (sent ≡ [] → ⊥) → Rests C Stands lent IsOf k s ahead line failed l (IsWritten s w) code
+    pub resting : (sent ≡ [] → ⊥) → Rests C Stands lent IsOf k s ahead line failed l (IsWritten s w) code
     resting some = by ready
       where
         down : (c : Client) → (m : Makes Stands lent IsOf k code new c Resumed lines sent) → (ms : List Message) → sent ≡ ms → c.cut ≡ true

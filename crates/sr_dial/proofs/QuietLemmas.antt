@@ -42,11 +42,11 @@ pub record IsQuiet {C : Type 0} (keeps : Bool) (d : Done C) (number : ℕ) (task
   pub zero : (n : Count) → taken_after n (d ∷ []) ≡ none_taken
   pub place : (schema : List Table) (line : ℕ) (c : Client) → c.out ≡ None → AreInPlace schema line c (d ∷ [])
 
-quiet-explained : {C : Type 0} (keeps : Bool) (number : ℕ) (text : Result Query Fault) (result : Result Explanation Fault) → IsQuiet {C = C} keeps (Explained number text result) number (Explain text)
+pub quiet-explained : {C : Type 0} (keeps : Bool) (number : ℕ) (text : Result Query Fault) (result : Result Explanation Fault) → IsQuiet {C = C} keeps (Explained number text result) number (Explain text)
 quiet-explained keeps number text result =
     record { number_is = refl; did = refl; steps = refl; still = λ c. refl; given = refl; sent = refl; fine = refl; zero = λ n. refl; place = λ schema line c free. (free, tt) }
 
-quiet-said : {C : Type 0} (keeps : Bool) (number : ℕ) (text : List ℕ) → IsQuiet {C = C} keeps (Said number text) number (Say text)
+pub quiet-said : {C : Type 0} (keeps : Bool) (number : ℕ) (text : List ℕ) → IsQuiet {C = C} keeps (Said number text) number (Say text)
 quiet-said keeps number text =
     record { number_is = refl; did = refl; steps = refl; still = λ c. refl; given = refl; sent = refl; fine = refl; zero = λ n. refl; place = λ schema line c free. (free, tt) }
 

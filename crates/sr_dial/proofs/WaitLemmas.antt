@@ -17,16 +17,17 @@ use Rattle.sr_talk.specs.Reading.{Nexts, Reads}
 use Rattle.sr_talk.specs.Serving.{spelled}
 use Rattle.sr_talk.specs.declared.frames.Next.{Next}
 use Rattle.sr_talk.specs.declared.frames.Next.TheVariants.{Frame, End, Torn, Fault, Bad as NextBad}
-use Rattle.sr_dial.specs.Carrying.{Carries}
+use Rattle.sr_dial.specs.Carrying.{Carries, CarriesInPart}
 use Rattle.sr_dial.specs.Known.{Makes, Setting}
 use Rattle.sr_dial.specs.Runs.{anew_if, left_by, more_if}
-use Rattle.sr_dial.specs.Courses.{At, Broken, Free, Handles, Hands, IsWritten, Over, Start, Waits, handled_by, last_of}
+use Rattle.sr_dial.specs.Courses.{At, BreaksOff, Broken, Free, Handles, Hands, IsWritten, Over, Start, Waits, handled_by, last_of}
 use Rattle.sr_dial.specs.declared.ending.Ending.TheVariants as ending
 use Rattle.sr_dial.specs.declared.steps.Handed.{Handed}
 use Rattle.sr_dial.specs.declared.steps.Handed.TheVariants.{Whole, Broken as HandedBroken, Unwritten}
 use Rattle.sr_dial.proofs.BrokenLemmas.{at-read, end-breaks, fault-breaks, read-past}
 use Rattle.sr_dial.proofs.EndLemmas.{over-at}
 use Rattle.sr_dial.proofs.HandLemmas.{hands-up}
+use Rattle.sr_dial.proofs.OffLemmas.{up-off}
 use Rattle.sr_dial.specs.declared.parts.Answer.{Answer}
 use Rattle.sr_dial.specs.Following.{Ahead}
 use Rattle.sr_dial.specs.declared.waiting.Count.{Count}
@@ -161,3 +162,14 @@ module _ (C : Type 0) (Stands : C → Client → Type 0) (lent : C → Option An
       by Whole (x ∷ sent) true is hands = absurd (let wrong : x ∷ sent ≡ [] = is.0 refl in cc)
       by HandedBroken sent empty is hands = hands
       by Unwritten sent empty is hands = hands
+
+  -- it is taken, and what it sends or its lines are cut short
+  pub takes-off : came.taken + 1 ≤ 1000000 → (lines : List TraceLine) (sent : List Message) → is_some (left_by s.past (h.course.earlier ++ h.course.call ∷ [])).out ≡ true → IsTrue (has_spelling m)
+      → misfit k.schema (left_by s.past (h.course.earlier ++ h.course.call ∷ [])).out (left_by s.past (h.course.earlier ++ h.course.call ∷ [])).laid
+      (left_by s.past (h.course.earlier ++ h.course.call ∷ [])).version m ≡ None
+      → Makes Stands lent IsOf k code new (left_by s.past (h.course.earlier ++ h.course.call ∷ [])) (Took m) lines sent
+      → CarriesInPart k.says l new_l w new_w (spelled sent) (flat_map (line_text k.schema line) lines) → BreaksOff C Stands lent IsOf k s new_l new_w
+  takes-off most lines sent some is fits made carries =
+      up-off C Stands lent IsOf k s ahead ahead line came line Delivered code new (Took m) lines sent refl (most-more sent most) failed l new_l w new_w (spelling m ++ after) after h made (refl, some-out C Stands lent IsOf k s ahead line came failed l w (spelling m ++ after) code h some, is, fits) tt refl
+      (is-up C Stands lent IsOf k s ahead line came failed l w (spelling m ++ after) code h some)
+      (made.link.0 ∙ is-up C Stands lent IsOf k s ahead line came failed l w (spelling m ++ after) code h some) (ap (λ x. x ++ after) (sym (append-nil (spelling m)))) carries

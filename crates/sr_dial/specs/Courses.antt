@@ -16,7 +16,7 @@ use Rattle.sr_talk.specs.declared.frames.Next.{Next}
 use Rattle.sr_talk.specs.declared.frames.Next.TheVariants.{Frame, End, Torn, Fault, Bad}
 use Rattle.sr_dial.specs.Following.{Ahead, dids_of, stage_by}
 use Rattle.sr_dial.specs.Known.{AreFairlyExplained, IsFrom, Setting, said_by}
-use Rattle.sr_dial.specs.Runs.{AreFew, AreInPlace, EndsBy, IsCarried, IsToldIf, SentAs, WritesAs, anew, is_bad, is_unwritten, left_by, none_taken, one_more, taken_after}
+use Rattle.sr_dial.specs.Runs.{AreFew, AreInPlace, EndsBy, IsCarried, IsToldIf, RanInPart, SentAs, WritesAs, anew, is_bad, is_unwritten, left_by, none_taken, one_more, taken_after}
 use Rattle.sr_dial.specs.declared.ending.Ending.{Ending}
 use Rattle.sr_dial.specs.declared.parts.Answer.{Answer}
 use Rattle.sr_dial.specs.declared.ending.Ending.TheVariants as ending
@@ -87,6 +87,10 @@ IsWritten {C} s w texts = Appends s.writing.written w.written texts × (w.faults
 
 abbrev pub IsPartWritten : {C : Type 0} → Bool → Start C → Writing → List ℕ → Type 0
 IsPartWritten {C} says s w texts = (says ≡ true) × WritesPrefix s.writing.written w.written texts × Rose s.writing.faults w.faults
+
+-- Out of memory: a beginning of all texts is written, and no fault is counted.
+abbrev pub IsSomeWritten : {C : Type 0} → Start C → Writing → List ℕ → Type 0
+IsSomeWritten {C} s w texts = WritesPrefix s.writing.written w.written texts × (w.faults ≡ s.writing.faults)
 
 module _ (C : Type 0) (Stands : C → Client → Type 0) (lent : C → Option Answer) (IsOf : Standing C) (k : Setting) where
   -- What was done, each thing in its place and fair, with this of the lines. It went by the plan: this is ahead, and the client lends the
@@ -182,6 +186,10 @@ module _ (C : Type 0) (Stands : C → Client → Type 0) (lent : C → Option An
     pub faults : RoseBy s.linking.faults (count_faults (earlier ++ last ∷ [])) l.faults
     pub ends : (rest : Plan Task Answer) → EndsBy ended k.schema (earlier ++ last ∷ []) (left_by s.past (earlier ++ last ∷ [])) last.left rest
     pub writes : WritesAs k.says ended (flat_map (said_by k) (all_done (earlier ++ last ∷ []))) s.writing w
+
+  -- The run is broken off for want of memory.
+  abbrev pub BreaksOff : Start C → Linking → Writing → Type 0
+  BreaksOff s l w = RanInPart C IsOf k s.code s.past s.address s.plan s.linking l s.writing w
 
   -- nothing is out
   pub record Free (s : Start C) (ahead : Ahead) (line : ℕ) (failed : Bool) (l : Linking) (P : List ℕ → Type 0) (feed : List ℕ) (code : C) : Type 0 where

@@ -2,7 +2,7 @@
 --
 -- It is not said here that each outcome goes by the rules over a link that lies: only that it does over every database whose rows the
 -- client has, and where what comes is truly promised.
-use Rattle.std.specs.Prelude.{ℕ, Bool, true, false, List, [], ◌∷◌, ◌++◌, ◌||◌, ◌+◌, ◌≤◌, flat_map, ◌≡◌, ◌≢◌, Option, Some, None, IfSome, IsTrue}
+use Rattle.std.specs.Prelude.{ℕ, Bool, true, false, List, [], ◌∷◌, ◌++◌, ◌||◌, ◌+◌, ◌≤◌, flat_map, ◌≡◌, ◌≢◌, Option, Some, None, IfSome, IsTrue, option_to_list}
 use Rattle.std.specs.Io.KnownBytes.{Appends}
 use Rattle.std.specs.List.{list_any, All}
 use Rattle.sr_cell.specs.declared.table.Table.{Table}
@@ -204,3 +204,27 @@ pub record RanTo (C : Type 0) (Stands : C → Client → Type 0) (IsOf : Standin
   pub run : RanFairly C IsOf k code c address plan ended old new before after
   pub code_is : is_bad ended ≡ false → code_after code (steps_in (all_done (run.ran.earlier ++ run.ran.last ∷ []))) ≡ left
   pub stands : is_bad ended ≡ false → Stands left (left_by c (run.ran.earlier ++ run.ran.last ∷ []))
+
+-- Out of memory: calls that were over, and one that was cut short, or none. What was done went by the plan and is fair, as above, and what
+-- was sent and written is a beginning of what it gives: all requests but the last, of which some bytes may be missing, and of the lines as
+-- many as came to be written.
+pub record RanInPart (C : Type 0) (IsOf : Standing C) (k : Setting) (code : C) (c : Client) (address : List ℕ) (plan : Plan Task Answer) (old new : Linking) (before after : Writing) : Type 0 where
+  pub calls : List (Call C)
+  pub earlier : List (Call C)
+  pub cut_short : Option (Call C)
+  pub calls_are : calls ≡ earlier ++ option_to_list cut_short
+  pub are : AreCalls c calls
+  pub in_place : AreInPlace k.schema 0 c (all_done calls)
+  pub few : AreFew none_taken (all_done calls)
+  pub from : All (IsFrom k.number) (requests_of (steps_in (all_done calls)))
+  pub goes : GoBy (begun plan) (dids_of k.keeps (all_done calls))
+  pub fair : AreFair IsOf k.limits code c (steps_in (all_done calls))
+  pub explained : AreFairlyExplained IsOf k.limits code c (all_done calls)
+  pub carried : All (IsCarried false) earlier
+  pub last_carried : IfSome cut_short (IsCarried true)
+  pub made : connections new ≡ connections old ++ calls_told calls
+  pub dialled : AreAt address (calls_told calls)
+  pub each_told : All (IsToldIf old.peers) calls
+  pub faults : RoseBy old.faults (count_faults calls) new.faults
+  pub written : WritesPrefix before.written after.written (flat_map (said_by k) (all_done calls))
+  pub write_faults : after.faults ≡ before.faults

@@ -1,5 +1,5 @@
 //! A run of `client`.
-ghost use Rattle.std.specs.Prelude.{◌≡◌, ◌≤◌, ◌+◌, ◌*◌, ◌++◌, ◌^◌, true, false, ℕ, Bool, List, [], ◌∷◌, None, length, IfOk, if◌then◌else◌};
+ghost use Rattle.std.specs.Prelude.{◌≡◌, ◌≢◌, ◌≤◌, ◌+◌, ◌*◌, ◌++◌, ◌^◌, true, false, ℕ, Bool, List, [], ◌∷◌, None, length, IfOk, OnErr, if◌then◌else◌};
 ghost use Rattle.sr_session.specs.Clients.{Client as Past};
 ghost use Rattle.sr_links.specs.Steps.{Resumed};
 ghost use Rattle.sr_plan.specs.Plans.{Next};
@@ -7,10 +7,11 @@ ghost use Rattle.sr_dial.specs.Calls.{Task, Do};
 ghost use Rattle.sr_dial.specs.Following.{Ahead, ahead_of};
 ghost use Rattle.sr_dial.specs.Jobs.{IsJob, number_of};
 ghost use Rattle.sr_talk.specs.Rounds.{OnlyOutput};
-ghost use Rattle.sr_dial.specs.Courses.{At, Broken, EndsLine, Finishes, Free, Hands, IsWritten, Start, Unbegun};
+ghost use Rattle.sr_dial.specs.Courses.{At, Broken, BreaksOff, EndsLine, Finishes, Free, Hands, IsWritten, Start, Unbegun};
 ghost use Rattle.sr_dial.specs.Known.{IsTask, Setting};
-ghost use Rattle.sr_dial.specs.Runs.{RanTo, none_taken};
+ghost use Rattle.sr_dial.specs.Runs.{RanInPart, RanTo, none_taken};
 ghost use Rattle.sr_dial.specs.declared.ending.Ending.TheVariants.{Whole as EndsWhole, Faulty as EndsFaulty, Unwritten as EndsUnwritten};
+ghost use Rattle.sr_dial.specs.declared.steps.Handed.TheVariants.{Unwritten as HandedUnwritten};
 ghost use Rattle.sr_dial.specs.declared.run.LineEnd.TheVariants.{Failed as LineFailed, Ends as LineEnds};
 
 use crate::ending::Ending;
@@ -46,9 +47,11 @@ fn start<H: Host, C: Asks>(
     requires asks { (task : Task) × IsJob (C.setting client.old).schema job task }
     requires room { 2 ≤ C.room client.old }
     ensures started { (k : Setting) (s : Start C) (ahead further : Ahead) (number : ℕ) (failed : Bool) (task : Task) → s.address ≡ address.now → C.setting client.old ≡ k → schema.now ≡ k.schema → Free C C.stands C.lent C.is_of k s ahead number failed (H.linking host.old) (IsWritten s (H.writing host.old)) feed.old client.old → IsJob k.schema job task → ahead (C.lent client.old) ≡ Next (number_of job) task further → IfOk result (λ handed. Hands C C.stands C.lent C.is_of k handed s (ahead_of task further) (number_of job) none_taken failed (H.linking host.new) (H.writing host.new) feed.new client.new) }
+    ensures broken_off { (k : Setting) (s : Start C) (ahead further : Ahead) (number : ℕ) (failed : Bool) (task : Task) → s.address ≡ address.now → C.setting client.old ≡ k → schema.now ≡ k.schema → Free C C.stands C.lent C.is_of k s ahead number failed (H.linking host.old) (IsWritten s (H.writing host.old)) feed.old client.old → IsJob k.schema job task → ahead (C.lent client.old) ≡ Next (number_of job) task further → OnErr result (BreaksOff C C.stands C.lent C.is_of k s (H.linking host.new) (H.writing host.new)) }
     ensures setting { C.setting client.new ≡ C.setting client.old }
     ensures draws { C.room client.old ≤ C.room client.new + 2 }
     ensures stays { OnlyOutput H H.reading H.held H.complaints H.IsSteady host.old host.new }
+    ensures steady_writes { H.IsSteady host.old → IfOk result (λ handed. handed ≢ HandedUnwritten) }
 {
     match job {
         Job::Line(line) => start_line(alloc, host, feed, client, schema, address, line),
@@ -69,9 +72,11 @@ fn start_line<H: Host, C: Asks>(
     requires asks { (task : Task) × IsTask (C.setting client.old).schema line.event task }
     requires room { 2 ≤ C.room client.old }
     ensures started { (k : Setting) (s : Start C) (ahead further : Ahead) (number : ℕ) (failed : Bool) (task : Task) → s.address ≡ address.now → C.setting client.old ≡ k → schema.now ≡ k.schema → Free C C.stands C.lent C.is_of k s ahead number failed (H.linking host.old) (IsWritten s (H.writing host.old)) feed.old client.old → IsTask k.schema line.event task → ahead (C.lent client.old) ≡ Next line.number task further → IfOk result (λ handed. Hands C C.stands C.lent C.is_of k handed s (ahead_of task further) line.number none_taken failed (H.linking host.new) (H.writing host.new) feed.new client.new) }
+    ensures broken_off { (k : Setting) (s : Start C) (ahead further : Ahead) (number : ℕ) (failed : Bool) (task : Task) → s.address ≡ address.now → C.setting client.old ≡ k → schema.now ≡ k.schema → Free C C.stands C.lent C.is_of k s ahead number failed (H.linking host.old) (IsWritten s (H.writing host.old)) feed.old client.old → IsTask k.schema line.event task → ahead (C.lent client.old) ≡ Next line.number task further → OnErr result (BreaksOff C C.stands C.lent C.is_of k s (H.linking host.new) (H.writing host.new)) }
     ensures setting { C.setting client.new ≡ C.setting client.old }
     ensures draws { C.room client.old ≤ C.room client.new + 2 }
     ensures stays { OnlyOutput H H.reading H.held H.complaints H.IsSteady host.old host.new }
+    ensures steady_writes { H.IsSteady host.old → IfOk result (λ handed. handed ≢ HandedUnwritten) }
 {
     let EventLine { number, event } = line;
     match event {
@@ -111,9 +116,11 @@ fn run_job<H: Host, C: Asks>(
     requires asks { (task : Task) × IsJob (C.setting client.old).schema job task }
     requires room { 4000004 ≤ C.room client.old }
     ensures ended { (k : Setting) (s : Start C) (ahead further : Ahead) (number : ℕ) (failed : Bool) (task : Task) → s.address ≡ address.now → C.setting client.old ≡ k → schema.now ≡ k.schema → Free C C.stands C.lent C.is_of k s ahead number failed (H.linking host.old) (IsWritten s (H.writing host.old)) feed.old client.old → IsJob k.schema job task → ahead (C.lent client.old) ≡ Next (number_of job) task further → IfOk result (λ end. EndsLine C C.stands C.lent C.is_of k end s (ahead_of task further) (number_of job) failed (H.linking host.new) (H.writing host.new) feed.new client.new) }
+    ensures broken_off { (k : Setting) (s : Start C) (ahead further : Ahead) (number : ℕ) (failed : Bool) (task : Task) → s.address ≡ address.now → C.setting client.old ≡ k → schema.now ≡ k.schema → Free C C.stands C.lent C.is_of k s ahead number failed (H.linking host.old) (IsWritten s (H.writing host.old)) feed.old client.old → IsJob k.schema job task → ahead (C.lent client.old) ≡ Next (number_of job) task further → OnErr result (BreaksOff C C.stands C.lent C.is_of k s (H.linking host.new) (H.writing host.new)) }
     ensures setting { C.setting client.new ≡ C.setting client.old }
     ensures draws { C.room client.old ≤ C.room client.new + 4000004 }
     ensures stays { OnlyOutput H H.reading H.held H.complaints H.IsSteady host.old host.new }
+    ensures steady_writes { H.IsSteady host.old → IfOk result (λ end. end ≢ LineEnds EndsUnwritten) }
 {
     let number = job.number();
     let handed = start(alloc, host, feed, client, schema, address, job)?;
@@ -132,9 +139,11 @@ fn finish<H: Host, C: Asks>(
 ) -> Result<LineEnd, NoMemory>
     requires room { 4000002 ≤ C.room client.old }
     ensures ended { (k : Setting) (s : Start C) (ahead : Ahead) (failed : Bool) → C.setting client.old ≡ k → schema.now ≡ k.schema → Hands C C.stands C.lent C.is_of k handed s ahead number none_taken failed (H.linking host.old) (H.writing host.old) feed.old client.old → IfOk result (λ end. EndsLine C C.stands C.lent C.is_of k end s ahead number failed (H.linking host.new) (H.writing host.new) feed.new client.new) }
+    ensures broken_off { (k : Setting) (s : Start C) (ahead : Ahead) (failed : Bool) → C.setting client.old ≡ k → schema.now ≡ k.schema → Hands C C.stands C.lent C.is_of k handed s ahead number none_taken failed (H.linking host.old) (H.writing host.old) feed.old client.old → OnErr result (BreaksOff C C.stands C.lent C.is_of k s (H.linking host.new) (H.writing host.new)) }
     ensures setting { C.setting client.new ≡ C.setting client.old }
     ensures draws { C.room client.old ≤ C.room client.new + 4000002 }
     ensures stays { OnlyOutput H H.reading H.held H.complaints H.IsSteady host.old host.new }
+    ensures steady_writes { H.IsSteady host.old → handed ≢ HandedUnwritten → IfOk result (λ end. end ≢ LineEnds EndsUnwritten) }
 {
     match handed {
         Handed::Whole => settle(alloc, host, feed, client, schema, number),
@@ -154,9 +163,11 @@ fn settle<H: Host, C: Asks>(
 ) -> Result<LineEnd, NoMemory>
     requires room { 4000002 ≤ C.room client.old }
     ensures ended { (k : Setting) (s : Start C) (ahead : Ahead) (failed : Bool) → C.setting client.old ≡ k → schema.now ≡ k.schema → At C C.stands C.lent C.is_of k s ahead number none_taken failed (H.linking host.old) (IsWritten s (H.writing host.old)) feed.old client.old → IfOk result (λ end. EndsLine C C.stands C.lent C.is_of k end s ahead number failed (H.linking host.new) (H.writing host.new) feed.new client.new) }
+    ensures broken_off { (k : Setting) (s : Start C) (ahead : Ahead) (failed : Bool) → C.setting client.old ≡ k → schema.now ≡ k.schema → At C C.stands C.lent C.is_of k s ahead number none_taken failed (H.linking host.old) (IsWritten s (H.writing host.old)) feed.old client.old → OnErr result (BreaksOff C C.stands C.lent C.is_of k s (H.linking host.new) (H.writing host.new)) }
     ensures setting { C.setting client.new ≡ C.setting client.old }
     ensures draws { C.room client.old ≤ C.room client.new + 4000002 }
     ensures stays { OnlyOutput H H.reading H.held H.complaints H.IsSteady host.old host.new }
+    ensures steady_writes { H.IsSteady host.old → IfOk result (λ end. end ≢ LineEnds EndsUnwritten) }
 {
     match await_answer(alloc, host, feed, client, schema, number)? {
         Awaited::Free => Ok(LineEnd::Done),
@@ -178,9 +189,11 @@ fn failed<H: Host, C: Asks>(
 ) -> Result<LineEnd, NoMemory>
     requires room { 2 ≤ C.room client.old }
     ensures ended { (k : Setting) (s : Start C) (ahead : Ahead) (failed : Bool) (feed : List ℕ) → C.setting client.old ≡ k → schema.now ≡ k.schema → Broken C C.stands C.lent C.is_of k s ahead number (H.linking host.old) (IsWritten s (H.writing host.old)) feed client.old → IfOk result (λ end. EndsLine C C.stands C.lent C.is_of k end s ahead number failed (H.linking host.new) (H.writing host.new) feed client.new) }
+    ensures broken_off { (k : Setting) (s : Start C) (ahead : Ahead) (failed : Bool) (feed : List ℕ) → C.setting client.old ≡ k → schema.now ≡ k.schema → Broken C C.stands C.lent C.is_of k s ahead number (H.linking host.old) (IsWritten s (H.writing host.old)) feed client.old → OnErr result (BreaksOff C C.stands C.lent C.is_of k s (H.linking host.new) (H.writing host.new)) }
     ensures setting { C.setting client.new ≡ C.setting client.old }
     ensures draws { C.room client.old ≤ C.room client.new + 2 }
     ensures stays { OnlyOutput H H.reading H.held H.complaints H.IsSteady host.old host.new }
+    ensures steady_writes { H.IsSteady host.old → IfOk result (λ end. end ≢ LineEnds EndsUnwritten) }
 {
     let said = fail(alloc, host, client, schema, number)?;
     Ok(end_of(said))
@@ -210,7 +223,9 @@ fn run_plan<H: Host, C: Asks, P: Plans>(
     requires asks { (ahead : Ahead) × P.follows (C.setting client.old).schema plans.old ahead }
     requires room { 4000004 * P.depth plans.old ≤ C.room client.old }
     ensures ended { (k : Setting) (s : Start C) (ahead : Ahead) (number : ℕ) → s.address ≡ address.now → C.setting client.old ≡ k → schema.now ≡ k.schema → Free C C.stands C.lent C.is_of k s ahead number failed (H.linking host.old) (IsWritten s (H.writing host.old)) feed.old client.old → P.follows k.schema plans.old ahead → IfOk result (λ ending. Finishes C C.stands C.lent C.is_of k ending s (H.linking host.new) (H.writing host.new) feed.new client.new) }
+    ensures broken_off { (k : Setting) (s : Start C) (ahead : Ahead) (number : ℕ) → s.address ≡ address.now → C.setting client.old ≡ k → schema.now ≡ k.schema → Free C C.stands C.lent C.is_of k s ahead number failed (H.linking host.old) (IsWritten s (H.writing host.old)) feed.old client.old → P.follows k.schema plans.old ahead → OnErr result (BreaksOff C C.stands C.lent C.is_of k s (H.linking host.new) (H.writing host.new)) }
     ensures stays { OnlyOutput H H.reading H.held H.complaints H.IsSteady host.old host.new }
+    ensures steady_writes { H.IsSteady host.old → IfOk result (λ ending. ending ≢ EndsUnwritten) }
 {
     let mut failed = failed;
     while let Some(job) = plans.next(alloc, client.answer())? {
@@ -245,9 +260,11 @@ fn first_line<H: Host, C: Asks>(
 ) -> Result<LineEnd, NoMemory>
     requires room { 4000004 ≤ C.room client.old }
     ensures ended { (k : Setting) (s : Start C) (ahead : Ahead) → s.address ≡ address.now → C.setting client.old ≡ k → schema.now ≡ k.schema → s.plan ≡ Next 0 (Do Resumed) ahead → Unbegun C C.stands C.lent C.is_of k s (λ answer. s.plan) 0 false (H.linking host.old) (IsWritten s (H.writing host.old)) client.old → IfOk result (λ end. EndsLine C C.stands C.lent C.is_of k end s ahead 0 false (H.linking host.new) (H.writing host.new) feed.new client.new) }
+    ensures broken_off { (k : Setting) (s : Start C) (ahead : Ahead) → s.address ≡ address.now → C.setting client.old ≡ k → schema.now ≡ k.schema → s.plan ≡ Next 0 (Do Resumed) ahead → Unbegun C C.stands C.lent C.is_of k s (λ answer. s.plan) 0 false (H.linking host.old) (IsWritten s (H.writing host.old)) client.old → OnErr result (BreaksOff C C.stands C.lent C.is_of k s (H.linking host.new) (H.writing host.new)) }
     ensures setting { C.setting client.new ≡ C.setting client.old }
     ensures draws { C.room client.old ≤ C.room client.new + 4000004 }
     ensures stays { OnlyOutput H H.reading H.held H.complaints H.IsSteady host.old host.new }
+    ensures steady_writes { H.IsSteady host.old → IfOk result (λ end. end ≢ LineEnds EndsUnwritten) }
 {
     let event = Event::Resume { client: id };
     let handed = begin(alloc, host, feed, client, schema, address, 0, event)?;
@@ -268,7 +285,9 @@ fn go_on<H: Host, C: Asks, P: Plans>(
     requires asks { (ahead : Ahead) × P.follows (C.setting client.old).schema plans.old ahead }
     requires room { 4000004 * P.depth plans.old ≤ C.room client.old }
     ensures ended { (k : Setting) (s : Start C) (ahead : Ahead) → s.address ≡ address.now → C.setting client.old ≡ k → schema.now ≡ k.schema → EndsLine C C.stands C.lent C.is_of k end s ahead 0 false (H.linking host.old) (H.writing host.old) feed.old client.old → P.follows k.schema plans.old ahead → IfOk result (λ ending. Finishes C C.stands C.lent C.is_of k ending s (H.linking host.new) (H.writing host.new) feed.new client.new) }
+    ensures broken_off { (k : Setting) (s : Start C) (ahead : Ahead) → s.address ≡ address.now → C.setting client.old ≡ k → schema.now ≡ k.schema → EndsLine C C.stands C.lent C.is_of k end s ahead 0 false (H.linking host.old) (H.writing host.old) feed.old client.old → P.follows k.schema plans.old ahead → OnErr result (BreaksOff C C.stands C.lent C.is_of k s (H.linking host.new) (H.writing host.new)) }
     ensures stays { OnlyOutput H H.reading H.held H.complaints H.IsSteady host.old host.new }
+    ensures steady_writes { H.IsSteady host.old → end ≢ LineEnds EndsUnwritten → IfOk result (λ ending. ending ≢ EndsUnwritten) }
 {
     match end {
         LineEnd::Done => run_plan(alloc, host, feed, client, schema, address, plans, false),
@@ -293,7 +312,9 @@ pub fn run<H: Host, C: Asks, P: Plans>(
     requires room { 4000004 * (P.depth plans.old + 1) ≤ C.room client.old }
     requires fresh { C.lent client.old ≡ None }
     ensures ran { (c : Past) (ahead : Ahead) → C.stands client.old c → c.cut ≡ true → c.out ≡ None → P.follows schema.now plans.old ahead → IfOk result (λ ending. RanTo C C.stands C.is_of (C.setting client.old) client.old c address.now (Next 0 (Do Resumed) ahead) ending (H.linking host.old) (H.linking host.new) (H.writing host.old) (H.writing host.new) client.new) }
+    ensures broken_off { (c : Past) (ahead : Ahead) → C.stands client.old c → c.cut ≡ true → c.out ≡ None → P.follows schema.now plans.old ahead → OnErr result (RanInPart C C.is_of (C.setting client.old) client.old c address.now (Next 0 (Do Resumed) ahead) (H.linking host.old) (H.linking host.new) (H.writing host.old) (H.writing host.new)) }
     ensures stays { OnlyOutput H H.reading H.held H.complaints H.IsSteady host.old host.new }
+    ensures steady_writes { H.IsSteady host.old → IfOk result (λ ending. ending ≢ EndsUnwritten) }
 {
     let mut feed = Feed::new(alloc);
     let end = first_line(alloc, host, &mut feed, client, schema, id, address)?;

@@ -1,5 +1,5 @@
 //! Steps of a client, carried out over a link.
-ghost use Rattle.std.specs.Prelude.{◌≡◌, ◌≤◌, ◌+◌, true, ℕ, Bool, List, None, flat_map, string_bytes, Result, IfOk, if◌then◌else◌};
+ghost use Rattle.std.specs.Prelude.{◌≡◌, ◌≢◌, ◌≤◌, ◌+◌, true, ℕ, Bool, List, None, flat_map, string_bytes, Result, IfOk, OnErr, if◌then◌else◌};
 ghost use Rattle.std.specs.List.{All};
 ghost use Rattle.sr_script.specs.TraceText.{line_text};
 ghost use Rattle.sr_session.specs.Clients.{Client as Past};
@@ -13,8 +13,8 @@ ghost use Rattle.sr_dial.specs.Calls.{Do, Explain, Say};
 ghost use Rattle.sr_dial.specs.Following.{Ahead};
 ghost use Rattle.sr_talk.specs.Rounds.{OnlyOutput};
 ghost use Rattle.sr_talk.specs.Serving.{spelled};
-ghost use Rattle.sr_dial.specs.Carrying.{Carries, SaysAs};
-ghost use Rattle.sr_dial.specs.Courses.{Broken, FailsAs, Free, Hands, IsReady, IsWritten, Start};
+ghost use Rattle.sr_dial.specs.Carrying.{Carries, CarriesInPart, SaysAs, SaysInPart};
+ghost use Rattle.sr_dial.specs.Courses.{BreaksOff, Broken, FailsAs, Free, Hands, IsReady, IsWritten, Start};
 ghost use Rattle.sr_dial.specs.Known.{IsDeed, IsPlain, Setting};
 ghost use Rattle.sr_dial.specs.Runs.{none_taken};
 ghost use Rattle.sr_dial.specs.declared.steps.Handed.TheVariants.{Whole as HandedWhole, Broken as HandedBroken, Unwritten as HandedUnwritten};
@@ -60,8 +60,10 @@ fn text_of(
 /// Writes a text. False where the sink fails.
 fn write_text<K: Sink>(sink: &mut K, text: &str) -> Result<bool, NoMemory>
     ensures said { IfOk result (λ all. SaysAs true all (K.writing sink.old) (K.writing sink.new) text.now) }
+    ensures broken_off { OnErr result (SaysInPart true (K.writing sink.old) (K.writing sink.new) text.now) }
     ensures stays { OnlyOutput K K.reading K.held K.complaints K.IsSteady sink.old sink.new }
     ensures linking_stays { K.linking sink.new ≡ K.linking sink.old }
+    ensures steady_writes { K.IsSteady sink.old → IfOk result (λ all. all ≡ true) }
 {
     match write_all(sink, text.as_bytes()) {
         Ok(()) => Ok(true),
@@ -80,8 +82,10 @@ fn say<K: Sink>(
     lines: &[TraceLine],
 ) -> Result<bool, NoMemory>
     ensures said { IfOk result (λ all. SaysAs says all (K.writing sink.old) (K.writing sink.new) (flat_map (line_text schema.now number) lines.now)) }
+    ensures broken_off { OnErr result (SaysInPart says (K.writing sink.old) (K.writing sink.new) (flat_map (line_text schema.now number) lines.now)) }
     ensures stays { OnlyOutput K K.reading K.held K.complaints K.IsSteady sink.old sink.new }
     ensures linking_stays { K.linking sink.new ≡ K.linking sink.old }
+    ensures steady_writes { K.IsSteady sink.old → IfOk result (λ all. all ≡ true) }
 {
     if !says {
         return Ok(true);
@@ -101,7 +105,9 @@ pub(crate) fn carry<H: Link + Sink>(
 ) -> Result<Handed, NoMemory>
     requires sendable { All IsSendable told.now.sent }
     ensures carried { IfOk result (λ handed. Carries says handed (H.linking host.old) (H.linking host.new) (H.writing host.old) (H.writing host.new) (spelled told.now.sent) (flat_map (line_text schema.now number) told.now.lines)) }
+    ensures broken_off { OnErr result (CarriesInPart says (H.linking host.old) (H.linking host.new) (H.writing host.old) (H.writing host.new) (spelled told.now.sent) (flat_map (line_text schema.now number) told.now.lines)) }
     ensures stays { OnlyOutput H H.reading H.held H.complaints H.IsSteady host.old host.new }
+    ensures steady_writes { H.IsSteady host.old → IfOk result (λ handed. handed ≢ HandedUnwritten) }
 {
     let sent = send_messages(alloc, host, told.sent.as_slice())?;
     if !say(alloc, host, schema, number, says, told.lines.as_slice())? {
@@ -148,9 +154,11 @@ pub(crate) fn ask<H: Link + Sink, C: Asks>(
     requires asks { (deed : Deed) × IsDeed (C.setting client.old).schema event deed }
     requires room { 2 ≤ C.room client.old }
     ensures asked { (k : Setting) (s : Start C) (ahead further : Ahead) (line : ℕ) (failed : Bool) (feed : List ℕ) (deed : Deed) → C.setting client.old ≡ k → schema.now ≡ k.schema → Free C C.stands C.lent C.is_of k s ahead line failed (H.linking host.old) (IsWritten s (H.writing host.old)) feed client.old → IsDeed k.schema event deed → IsPlain deed → ahead (C.lent client.old) ≡ Next number (Do deed) further → IfOk result (λ handed. Hands C C.stands C.lent C.is_of k handed s further number none_taken failed (H.linking host.new) (H.writing host.new) feed client.new) }
+    ensures broken_off { (k : Setting) (s : Start C) (ahead further : Ahead) (line : ℕ) (failed : Bool) (feed : List ℕ) (deed : Deed) → C.setting client.old ≡ k → schema.now ≡ k.schema → Free C C.stands C.lent C.is_of k s ahead line failed (H.linking host.old) (IsWritten s (H.writing host.old)) feed client.old → IsDeed k.schema event deed → IsPlain deed → ahead (C.lent client.old) ≡ Next number (Do deed) further → OnErr result (BreaksOff C C.stands C.lent C.is_of k s (H.linking host.new) (H.writing host.new)) }
     ensures setting { C.setting client.new ≡ C.setting client.old }
     ensures draws { C.room client.old ≤ C.room client.new + 2 }
     ensures stays { OnlyOutput H H.reading H.held H.complaints H.IsSteady host.old host.new }
+    ensures steady_writes { H.IsSteady host.old → IfOk result (λ handed. handed ≢ HandedUnwritten) }
 {
     let told = client.act(alloc, event)?;
     carry(alloc, host, schema, number, client.says(), &told)
@@ -167,8 +175,10 @@ pub(crate) fn tell<K: Sink, C: Asks>(
 ) -> Result<Handed, NoMemory>
     requires means { (text : Result TheQuery TheFault) × Means (C.setting client.now).schema query text }
     ensures told { (k : Setting) (s : Start C) (ahead further : Ahead) (line : ℕ) (failed : Bool) (feed : List ℕ) (text : Result TheQuery TheFault) → C.setting client.now ≡ k → schema.now ≡ k.schema → Free C C.stands C.lent C.is_of k s ahead line failed (K.linking sink.old) (IsWritten s (K.writing sink.old)) feed client.now → Means k.schema query text → ahead (C.lent client.now) ≡ Next number (Explain text) further → IfOk result (λ handed. Hands C C.stands C.lent C.is_of k handed s (λ answer. further None) number none_taken failed (K.linking sink.new) (K.writing sink.new) feed client.now) }
+    ensures broken_off { (k : Setting) (s : Start C) (ahead further : Ahead) (line : ℕ) (failed : Bool) (feed : List ℕ) (text : Result TheQuery TheFault) → C.setting client.now ≡ k → schema.now ≡ k.schema → Free C C.stands C.lent C.is_of k s ahead line failed (K.linking sink.old) (IsWritten s (K.writing sink.old)) feed client.now → Means k.schema query text → ahead (C.lent client.now) ≡ Next number (Explain text) further → OnErr result (BreaksOff C C.stands C.lent C.is_of k s (K.linking sink.new) (K.writing sink.new)) }
     ensures stays { OnlyOutput K K.reading K.held K.complaints K.IsSteady sink.old sink.new }
     ensures linking_stays { K.linking sink.new ≡ K.linking sink.old }
+    ensures steady_writes { K.IsSteady sink.old → IfOk result (λ handed. handed ≢ HandedUnwritten) }
 {
     let lines = client.explain(alloc, query)?;
     let said = say(alloc, sink, schema, number, client.says(), lines.as_slice())?;
@@ -183,8 +193,10 @@ pub(crate) fn write<K: Sink, C: Asks>(
     text: &str,
 ) -> Result<Handed, NoMemory>
     ensures told { (k : Setting) (s : Start C) (ahead further : Ahead) (line : ℕ) (failed : Bool) (feed : List ℕ) → C.setting client.now ≡ k → Free C C.stands C.lent C.is_of k s ahead line failed (K.linking sink.old) (IsWritten s (K.writing sink.old)) feed client.now → ahead (C.lent client.now) ≡ Next number (Say text.now) further → IfOk result (λ handed. Hands C C.stands C.lent C.is_of k handed s (λ answer. further None) number none_taken failed (K.linking sink.new) (K.writing sink.new) feed client.now) }
+    ensures broken_off { (k : Setting) (s : Start C) (ahead further : Ahead) (line : ℕ) (failed : Bool) (feed : List ℕ) → C.setting client.now ≡ k → Free C C.stands C.lent C.is_of k s ahead line failed (K.linking sink.old) (IsWritten s (K.writing sink.old)) feed client.now → ahead (C.lent client.now) ≡ Next number (Say text.now) further → OnErr result (BreaksOff C C.stands C.lent C.is_of k s (K.linking sink.new) (K.writing sink.new)) }
     ensures stays { OnlyOutput K K.reading K.held K.complaints K.IsSteady sink.old sink.new }
     ensures linking_stays { K.linking sink.new ≡ K.linking sink.old }
+    ensures steady_writes { K.IsSteady sink.old → IfOk result (λ handed. handed ≢ HandedUnwritten) }
 {
     if !client.says() {
         return Ok(Handed::Whole);
@@ -205,9 +217,11 @@ pub(crate) fn end<H: Host, C: Asks>(
     requires asks { (deed : Deed) × IsDeed (C.setting client.old).schema event deed }
     requires room { 2 ≤ C.room client.old }
     ensures cut { (k : Setting) (s : Start C) (ahead further : Ahead) (line : ℕ) (failed : Bool) (feed : List ℕ) → C.setting client.old ≡ k → schema.now ≡ k.schema → Free C C.stands C.lent C.is_of k s ahead line failed (H.linking host.old) (IsWritten s (H.writing host.old)) feed client.old → IsDeed k.schema event WasCut → ahead (C.lent client.old) ≡ Next number (Do WasCut) further → IfOk result (λ handed. Hands C C.stands C.lent C.is_of k handed s further number none_taken failed (H.linking host.new) (H.writing host.new) feed client.new) }
+    ensures broken_off { (k : Setting) (s : Start C) (ahead further : Ahead) (line : ℕ) (failed : Bool) (feed : List ℕ) → C.setting client.old ≡ k → schema.now ≡ k.schema → Free C C.stands C.lent C.is_of k s ahead line failed (H.linking host.old) (IsWritten s (H.writing host.old)) feed client.old → IsDeed k.schema event WasCut → ahead (C.lent client.old) ≡ Next number (Do WasCut) further → OnErr result (BreaksOff C C.stands C.lent C.is_of k s (H.linking host.new) (H.writing host.new)) }
     ensures setting { C.setting client.new ≡ C.setting client.old }
     ensures draws { C.room client.old ≤ C.room client.new + 2 }
     ensures stays { OnlyOutput H H.reading H.held H.complaints H.IsSteady host.old host.new }
+    ensures steady_writes { H.IsSteady host.old → IfOk result (λ handed. handed ≢ HandedUnwritten) }
 {
     let told = client.act(alloc, event)?;
     host.hang_up();
@@ -228,9 +242,11 @@ pub(crate) fn begin<H: Host, C: Asks>(
     requires asks { (deed : Deed) × IsDeed (C.setting client.old).schema event deed }
     requires room { 2 ≤ C.room client.old }
     ensures begun { (k : Setting) (s : Start C) (ahead further : Ahead) (line : ℕ) (failed : Bool) → s.address ≡ address.now → C.setting client.old ≡ k → schema.now ≡ k.schema → IsReady C C.stands C.lent C.is_of k s ahead line failed (H.linking host.old) (IsWritten s (H.writing host.old)) feed.old client.old → IsDeed k.schema event Resumed → ahead (C.lent client.old) ≡ Next number (Do Resumed) further → IfOk result (λ handed. Hands C C.stands C.lent C.is_of k handed s further number none_taken failed (H.linking host.new) (H.writing host.new) feed.new client.new) }
+    ensures broken_off { (k : Setting) (s : Start C) (ahead further : Ahead) (line : ℕ) (failed : Bool) → s.address ≡ address.now → C.setting client.old ≡ k → schema.now ≡ k.schema → IsReady C C.stands C.lent C.is_of k s ahead line failed (H.linking host.old) (IsWritten s (H.writing host.old)) feed.old client.old → IsDeed k.schema event Resumed → ahead (C.lent client.old) ≡ Next number (Do Resumed) further → OnErr result (BreaksOff C C.stands C.lent C.is_of k s (H.linking host.new) (H.writing host.new)) }
     ensures setting { C.setting client.new ≡ C.setting client.old }
     ensures draws { C.room client.old ≤ C.room client.new + 2 }
     ensures stays { OnlyOutput H H.reading H.held H.complaints H.IsSteady host.old host.new }
+    ensures steady_writes { H.IsSteady host.old → IfOk result (λ handed. handed ≢ HandedUnwritten) }
 {
     let told = client.act(alloc, event)?;
     if told.sent.is_empty() {
@@ -264,9 +280,11 @@ pub(crate) fn fail<H: Host, C: Asks>(
 ) -> Result<bool, NoMemory>
     requires room { 2 ≤ C.room client.old }
     ensures failed { (k : Setting) (s : Start C) (ahead : Ahead) (feed : List ℕ) → C.setting client.old ≡ k → schema.now ≡ k.schema → Broken C C.stands C.lent C.is_of k s ahead number (H.linking host.old) (IsWritten s (H.writing host.old)) feed client.old → IfOk result (λ all. FailsAs C C.stands C.lent C.is_of k all s ahead number (H.linking host.new) (H.writing host.new) feed client.new) }
+    ensures broken_off { (k : Setting) (s : Start C) (ahead : Ahead) (feed : List ℕ) → C.setting client.old ≡ k → schema.now ≡ k.schema → Broken C C.stands C.lent C.is_of k s ahead number (H.linking host.old) (IsWritten s (H.writing host.old)) feed client.old → OnErr result (BreaksOff C C.stands C.lent C.is_of k s (H.linking host.new) (H.writing host.new)) }
     ensures setting { C.setting client.new ≡ C.setting client.old }
     ensures draws { C.room client.old ≤ C.room client.new + 2 }
     ensures stays { OnlyOutput H H.reading H.held H.complaints H.IsSteady host.old host.new }
+    ensures steady_writes { H.IsSteady host.old → IfOk result (λ all. all ≡ true) }
 {
     let lines = client.cut(alloc)?;
     host.hang_up();

@@ -1,5 +1,5 @@
 //! Images as bytes.
-ghost use Rattle.std.specs.Prelude.{◌≡◌, ◌++◌, ◌<◌, ◌^◌, length, flat_map, IsTrue, IfOk, OnOk};
+ghost use Rattle.std.specs.Prelude.{◌≡◌, ◌++◌, ◌<◌, ◌^◌, nat_lt, length, flat_map, IsTrue, IfOk, OnOk};
 ghost use Rattle.std.specs.List.{list_all};
 ghost use Rattle.sr_bytes.specs.Spelling.{row_bytes};
 ghost use Rattle.sr_bytes.specs.Writing.{may_write_row};
@@ -96,4 +96,29 @@ pub fn write_image(alloc: Global, schema: &Schema, image: &Image) -> Result<Byte
     push_long(&mut out, body.len() as u64 + 16)?;
     out.append(body)?;
     Ok(out)
+}
+
+/// Whether the printed CREATEs of a schema may be written: each of them has fewer than 2^32 bytes.
+pub fn may_write(alloc: Global, schema: &Schema) -> Result<bool, NoMemory>
+    ensures { IfOk result (λ may. may ≡ may_write_schema schema.now) }
+{
+    let texts = texts_of(alloc, schema)?;
+    Ok(are_short(texts.as_slice()))
+}
+
+fn are_short(texts: &[Text]) -> bool
+    ensures { result ≡ are_short texts.now }
+{
+    texts.len() <= 16 && each_short(texts)
+}
+
+fn each_short(texts: &[Text]) -> bool
+    ensures { result ≡ list_all (λ text. nat_lt (length text) (2 ^ 32)) texts.now }
+{
+    for text in texts {
+        if text.as_str().len() as u64 >= 0x1_0000_0000 {
+            return false;
+        }
+    }
+    true
 }

@@ -3,6 +3,7 @@ pub mod ClientLemmas
 mod EventLemmas
 mod ExplainLemmas
 mod LentLemmas
+mod Named
 mod NewLemmas
 mod Numbers
 mod Over

@@ -1,0 +1,6 @@
+//! Reports: the events of a client, and aggregates of its answers, as a plan.
+#![tactic(auto)]
+
+pub mod laws;
+pub mod report;
+mod texts;

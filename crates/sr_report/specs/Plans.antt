@@ -1,12 +1,15 @@
 -- What a report does.
 use Rattle.std.specs.Prelude.{◌≡◌, ℕ, List, [], ◌∷◌, Option, Some, None, Result, Ok, Err}
 use Rattle.std.specs.List.{AllZip}
+use Rattle.sr_cell.specs.declared.fault.Fault.{Fault}
 use Rattle.sr_cell.specs.declared.table.Table.{Table}
+use Rattle.sr_cell.specs.Clients.{most_clients}
 use Rattle.sr_model.specs.Queries.{Query}
+use Rattle.sr_lines.specs.Creates.{Creates}
 use Rattle.sr_lines.specs.Events.{ScriptEvent, DoQuery, DoWrite, DoExplain, DoEvict, DoCut, DoResume}
 use Rattle.sr_lines.specs.Lines.{lines_of}
-use Rattle.sr_lines.specs.Script.{AsksOf, Means}
-use Rattle.sr_setup.specs.ReportFiles.{Saying, Event, Aggregate, sayings}
+use Rattle.sr_lines.specs.Script.{AsksOf, FirstRefused, Means}
+use Rattle.sr_setup.specs.ReportFiles.{Saying, Event, Aggregate, sayings, report_outside}
 use Rattle.sr_links.specs.Steps.{Queried, Wrote, Evicted, WasCut, Resumed}
 use Rattle.sr_plan.specs.Plans.{Plan, Over, Next}
 use Rattle.sr_dial.specs.Calls.{Task, Do, Explain, Say}
@@ -67,3 +70,15 @@ plan_behind id number (Tells query telling) rest = Next number (Do (Queried (Ok 
 abbrev pub report_plan : ℕ → List (ℕ × Entry) → Plan Task Answer
 report_plan id [] = Over
 report_plan id (entry ∷ entries) = plan_behind id entry.0 entry.1 (report_plan id entries)
+
+-- ---- the files of a report
+
+-- No line of the files is outside the grammar, the CREATE lines make the tables, none is refused, and this is ahead: what the lines of the
+-- script come to, whatever was answered before.
+pub record AsksReport (id : ℕ) (schema script : List ℕ) (tables : List Table) (ahead : Ahead) : Type 0 where
+  pub inside : report_outside id schema script ≡ None
+  pub created : Creates most_clients [] (lines_of schema) tables
+  pub accepts : (n : ℕ) (fault : Fault) → ¬ FirstRefused most_clients 1 [] (lines_of schema) n fault
+  pub entries : List (ℕ × Entry)
+  pub are : AreEntries tables script entries
+  pub ahead_is : (answer : Option Answer) → ahead answer ≡ report_plan id entries

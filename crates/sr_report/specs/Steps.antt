@@ -9,12 +9,15 @@ use Rattle.sr_dial.specs.Calls.{Task, Do}
 use Rattle.sr_dial.specs.Following.{Ahead}
 use Rattle.sr_dial.specs.Known.{IsTask}
 use Rattle.sr_dial.specs.declared.parts.Answer.{Answer}
+use Rattle.sr_dial.specs.declared.plans.Job.{Job}
+use Rattle.sr_dial.specs.declared.plans.Job.TheVariants as job
+use Rattle.sr_agg.specs.Groups.{aggregates}
 use Rattle.sr_report.specs.declared.report.Asked.{Asked}
 use Rattle.sr_report.specs.declared.report.Report.{Report}
 use Rattle.sr_report.specs.declared.report.Step.{Step}
 use Rattle.sr_report.specs.declared.report.Step.TheVariants as step
 use Rattle.sr_report.specs.Plans.{Entry, Asks, Refused, Tells, report_plan, telling_of}
-use Rattle.sr_report.specs.Texts.{refused_text}
+use Rattle.sr_report.specs.Texts.{refused_text, groups_text}
 
 -- the step of a line that comes to this
 abbrev pub IsStepOf : List Table → ℕ → Step → ℕ → Entry → Type 0
@@ -31,6 +34,12 @@ abbrev pub ahead_behind : ℕ → Option Asked → Plan Task Answer → Ahead
 ahead_behind id None rest answer = rest
 ahead_behind id (Some asked) rest answer = telling_of id asked.number asked.agg rest answer
 
+-- This is left of it, where no answer is awaited.
+pub record IsLeft (tables : List Table) (report : Report) (plan : Plan Task Answer) : Type 0 where
+  pub entries : List (ℕ × Entry)
+  pub are : AllZip (IsStep tables report.id) (into_iter_items report.steps) entries
+  pub plan_is : plan ≡ report_plan report.id entries
+
 -- This is ahead of a report, over tables of this schema.
 pub record Follows (tables : List Table) (report : Report) (ahead : Ahead) : Type 0 where
   pub entries : List (ℕ × Entry)
@@ -44,3 +53,12 @@ one_if_asked (Some asked) = 1
 -- How many jobs it may still hand out: two at most for a line.
 abbrev pub jobs_left : Report → ℕ
 jobs_left report = 2 * length (into_iter_items report.steps) + one_if_asked report.asked
+
+-- what is told of the groups of an answer
+abbrev pub told_by : ℕ → Asked → Answer → List ℕ
+told_by id asked answer = groups_text id asked.number answer.version (aggregates asked.agg.groups asked.agg.items answer.rows)
+
+-- the job is to write this text for that line
+abbrev pub IsSaying : Job → ℕ → List ℕ → Type 0
+IsSaying (job.Say n text) number bytes = (n ≡ number) × (string_bytes text ≡ bytes)
+IsSaying (job.Line line) number bytes = ⊥

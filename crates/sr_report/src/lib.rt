@@ -3,4 +3,5 @@
 
 pub mod laws;
 pub mod report;
+pub mod set_up;
 mod texts;

@@ -1,14 +1,15 @@
 //! A report as a plan.
-ghost use Rattle.std.specs.Prelude.{◌≡◌, ◌≤◌, ◌*◌, ℕ, List, Ok, Err, IsTrue, IfOk, length, string_bytes};
+ghost use Rattle.std.specs.Prelude.{◌≡◌, ◌≤◌, ◌<◌, ◌*◌, ℕ, List, None, IsTrue, IfOk, IfSome, length};
 ghost use Rattle.std.specs.List.{list_all};
-ghost use Rattle.std.specs.Vec.Iter.{into_iter_items};
+ghost use Rattle.sr_cell.specs.declared.table.Table.{Table as TheTable};
 ghost use Rattle.sr_query.specs.Bound.{is_table};
-ghost use Rattle.sr_setup.specs.ReportFiles.{Aggregate, AreReportLines, IsReportLine, Saying};
-ghost use Rattle.sr_dial.specs.Following.{Ahead};
-ghost use Rattle.sr_agg.specs.Groups.{aggregates};
+ghost use Rattle.sr_setup.specs.ReportFiles.{Saying, Aggregate, AreReportLines, IsReportLine};
+ghost use Rattle.sr_plan.specs.Plans.{Plan};
+ghost use Rattle.sr_dial.specs.Calls.{Task};
+ghost use Rattle.sr_dial.specs.Jobs.{Gives};
+ghost use Rattle.sr_dial.specs.declared.parts.Answer.{Answer as TheAnswer};
 ghost use Rattle.sr_report.specs.Plans.{Entry, AreEntries, ComesTo, LineComesTo, report_plan};
-ghost use Rattle.sr_report.specs.Steps.{Follows, IsStep, IsStepOf, jobs_left};
-ghost use Rattle.sr_report.specs.Texts.{groups_text};
+ghost use Rattle.sr_report.specs.Steps.{Follows, IsLeft, IsSaying, IsStep, IsStepOf, jobs_left, told_by};
 
 use crate::texts::{groups_text, refused_text};
 use sr_agg::agg::Agg;
@@ -116,18 +117,23 @@ impl Report {
 
 /// What is told of the rows of an answer.
 fn told(alloc: Global, id: u8, asked: &Asked, answer: &Answer) -> Result<Job, NoMemory>
-    ensures { IfOk result (λ job. IsJob [] job (Say (groups_text id asked.now.number answer.now.version (aggregates asked.now.agg.groups asked.now.agg.items answer.now.rows)))) }
+    ensures { IfOk result (λ job. IsSaying job asked.now.number (told_by id asked.now answer.now)) }
 {
     let groups = asked.agg.groups(alloc, answer.rows.as_slice())?;
+    let text = groups_text(alloc, id, asked.number, answer.version, groups.as_slice())?;
     Ok(Job::Say {
         number: asked.number,
-        text: groups_text(alloc, id, asked.number, answer.version, groups.as_slice())?,
+        text,
     })
 }
 
 impl Report {
-    /// The job of the next line.
-    fn next_line(&mut self) -> Option<Job> {
+    /// The job of the next line, where no answer is awaited.
+    fn next_line(&mut self) -> Option<Job>
+        requires { self.old.asked ≡ None }
+        ensures gives { (tables : List TheTable) (plan : Plan Task TheAnswer) → IsLeft tables self.old plan → Gives Follows tables result plan self.new }
+        ensures falls { IfSome result (λ job. jobs_left self.new < jobs_left self.old) }
+    {
         match self.steps.next() {
             Some(Step::Line(line)) => Some(Job::Line(line)),
             Some(Step::Say { number, text }) => Some(Job::Say { number, text }),
@@ -151,10 +157,12 @@ impl Plans for Report {
     ghost depth = { jobs_left };
 
     fn next(&mut self, alloc: Global, answer: Option<&Answer>) -> Result<Option<Job>, NoMemory> {
-        let asked = self.asked.take();
-        match (asked, answer) {
-            (Some(asked), Some(answer)) => Ok(Some(told(alloc, self.id, &asked, answer)?)),
-            _ => Ok(self.next_line()),
-        }
+        let Some(asked) = self.asked.take() else {
+            return Ok(self.next_line());
+        };
+        let Some(answer) = answer else {
+            return Ok(self.next_line());
+        };
+        Ok(Some(told(alloc, self.id, &asked, answer)?))
     }
 }

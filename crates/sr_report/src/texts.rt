@@ -1,7 +1,7 @@
 //! The texts of an aggregate's lines.
 ghost use Rattle.std.specs.Prelude.{◌≡◌, ◌++◌, ◌∷◌, [], IfOk, OnOk, codes, decimal, flat_map, map, string_bytes};
 ghost use Rattle.sr_lines.specs.Texts.{joined};
-ghost use Rattle.sr_script.specs.TraceText.{ended};
+ghost use Rattle.sr_script.specs.TraceText.{ended, fault_words};
 ghost use Rattle.sr_report.specs.Texts.{told_text, group_text, groups_text, refusal_words, refused_text};
 
 use sr_agg::agg::AggFault;
@@ -14,19 +14,33 @@ use sr_script::words::why_word;
 use std::alloc::Global;
 use std::fmt::Write;
 
+/// Appends where a text begins no aggregate.
+fn push_place(text: &mut String, client: u8, why: &str, place: u32) -> Result<(), NoMemory>
+    ensures { OnOk result (string_bytes text.new ≡ string_bytes text.old ++ ended (codes "agg" ∷ decimal client ∷ why.now ∷ decimal place ∷ [])) }
+{
+    write!(text, "agg {client} {why} {place}\n")?;
+    Ok(())
+}
+
+/// Appends what a text or its query is refused for.
+fn push_sql(text: &mut String, client: u8, fault: Fault) -> Result<(), NoMemory>
+    ensures { OnOk result (string_bytes text.new ≡ string_bytes text.old ++ ended (codes "agg" ∷ decimal client ∷ codes "sql" ∷ fault_words fault)) }
+{
+    let why = why_word(fault.why);
+    let at = fault.at;
+    write!(text, "agg {client} sql {why} {at}\n")?;
+    Ok(())
+}
+
 /// Appends why a text begins no aggregate.
 fn push_refusal(text: &mut String, client: u8, fault: AggFault) -> Result<(), NoMemory>
     ensures { OnOk result (string_bytes text.new ≡ string_bytes text.old ++ ended (codes "agg" ∷ decimal client ∷ refusal_words fault)) }
 {
     match fault {
-        AggFault::Sql(Fault { why, at }) => {
-            let why = why_word(why);
-            write!(text, "agg {client} sql {why} {at}\n")?;
-        }
-        AggFault::NotGrouped { place } => write!(text, "agg {client} not-grouped {place}\n")?,
-        AggFault::SumOfText { place } => write!(text, "agg {client} sum-of-text {place}\n")?,
+        AggFault::Sql(fault) => push_sql(text, client, fault),
+        AggFault::NotGrouped { place } => push_place(text, client, "not-grouped", place),
+        AggFault::SumOfText { place } => push_place(text, client, "sum-of-text", place),
     }
-    Ok(())
 }
 
 /// The line of a text that begins no aggregate, for that line of the script.

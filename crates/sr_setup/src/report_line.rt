@@ -1,7 +1,10 @@
 //! A line of a report's script.
 ghost use Rattle.std.specs.Prelude.{◌≡◌, ◌<◌, ◌^◌, true, false, length, None, Some, IfOk, IfErr, IfSome, IfNone, OnOk};
+ghost use Rattle.std.specs.Char.{is_ascii_digit};
+ghost use Rattle.std.specs.List.{list_all};
 ghost use Rattle.sr_cell.specs.Clients.{most_clients};
-ghost use Rattle.sr_lines.specs.Script.{part_of, behind, client_number};
+ghost use Rattle.sr_lines.specs.Parts.{is_client};
+ghost use Rattle.sr_lines.specs.Script.{part_of, behind, are_digits, client_number};
 ghost use Rattle.sr_setup.specs.ReportFiles.{Aggregate, is_aggregate, report_fault, saying_of};
 ghost use Rattle.sr_setup.specs.Lined.{IsReportText};
 
@@ -31,16 +34,39 @@ fn split(line: &str) -> (&str, &str)
     }
 }
 
+fn all_digits(part: &str) -> bool
+    ensures { result ≡ list_all is_ascii_digit part.now }
+{
+    part.as_bytes().iter().all(|b| b.is_ascii_digit())
+}
+
+/// Whether a part has one to three digits alone.
+fn are_digits(part: &str) -> bool
+    ensures { result ≡ are_digits 3 part.now }
+{
+    1 <= part.len() && part.len() <= 3 && all_digits(part)
+}
+
+fn is_client(number: u8) -> bool
+    ensures { result ≡ is_client most_clients number }
+{
+    1 <= number && number <= CLIENTS
+}
+
 /// The number of a client, if the part is one.
 fn client_number(part: &str) -> Option<u8>
     ensures { result ≡ client_number most_clients part.now }
 {
-    if part.is_empty() || 3 < part.len() || !part.as_bytes().iter().all(|b| b.is_ascii_digit()) {
+    if !are_digits(part) {
         return None;
     }
-    match part.parse::<u8>() {
-        Ok(number) if 1 <= number && number <= CLIENTS => Some(number),
-        _ => None,
+    let Ok(number) = part.parse::<u8>() else {
+        return None;
+    };
+    if is_client(number) {
+        Some(number)
+    } else {
+        None
     }
 }
 
@@ -66,11 +92,16 @@ fn read_aggregate(line: &str, id: u8) -> Result<&str, u32>
 {
     let (_, rest) = split(line);
     let (part, sql) = split(rest);
-    match client_number(part) {
-        Some(_) if sql.is_empty() => Err(line.len() as u32),
-        Some(client) if client == id => Ok(sql),
-        _ => Err(second_place(line.as_bytes())),
+    let Some(client) = client_number(part) else {
+        return Err(second_place(line.as_bytes()));
+    };
+    if sql.is_empty() {
+        return Err(line.len() as u32);
     }
+    if client != id {
+        return Err(second_place(line.as_bytes()));
+    }
+    Ok(sql)
 }
 
 /// A line whose word is another; or the place of its fault.

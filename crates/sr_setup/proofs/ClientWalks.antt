@@ -30,14 +30,14 @@ no_later : (i : ℕ) (later : Option LinePlace) (at : Option ℕ) → or_later i
 no_later i later None none = (refl, none)
 no_later i later (Some place) none = absurd cc
 
-pub first_good : (id number : ℕ) (text : List ℕ) (after : List (List ℕ)) → first_fault (client_fault id) number (text ∷ after) ≡ None → (client_fault id text ≡ None) × (first_fault (client_fault id) (number + 1) after ≡ None)
-first_good id number text after none = no_later number (first_fault (client_fault id) (number + 1) after) (client_fault id text) none
+pub first_good : (fault : List ℕ → Option ℕ) (number : ℕ) (text : List ℕ) (after : List (List ℕ)) → first_fault fault number (text ∷ after) ≡ None → (fault text ≡ None) × (first_fault fault (number + 1) after ≡ None)
+first_good fault number text after none = no_later number (first_fault fault (number + 1) after) (fault text) none
 
 own_by : (id : ℕ) (text : List ℕ) (n : ℕ) (same : Bool) → (n == id) ≡ same → (if same then None else Some (second_place text)) ≡ None → n ≡ id
 own_by id text n true is none = grind (arith, is)
 own_by id text n false is none = absurd cc
 
-doer_by : (id : ℕ) (text : List ℕ) (doer : Option ℕ) → words_fault id text doer ≡ None → doer ≡ Some id
+pub doer_by : (id : ℕ) (text : List ℕ) (doer : Option ℕ) → words_fault id text doer ≡ None → doer ≡ Some id
 doer_by id text None none = absurd cc
 doer_by id text (Some n) none = ap Some (own_by id text n (n == id) refl none)
 
@@ -83,7 +83,7 @@ own_event id tables (asked.Resume n) meaning is own = own_one id n (owner_of mea
 own_event id tables other meaning is own = absurd (own_none id (owner_of meaning) (ap owner_of is) own)
 
 -- what the client's own words say is its own
-own_said : (id : ℕ) (tables : List Table) (words : Words) (event : Event) → doer_of words ≡ Some id → IsSaid tables words event → is_own id event ≡ true
+pub own_said : (id : ℕ) (tables : List Table) (words : Words) (event : Event) → doer_of words ≡ Some id → IsSaid tables words event → is_own id event ≡ true
 own_said id tables words event doer said = own_event id tables event said.0 said.2 (owner_is tables words said.0 said.1 ∙ doer)
 
 -- ---- the walk
@@ -109,7 +109,7 @@ walked_start id script tables inside = record {
 
 module _ (id : ℕ) (script : List ℕ) (tables : List Table) (number : ℕ) (rest after : List (List ℕ)) (text : List ℕ) (events : List EventLine) (walked : Walked id script tables number rest events) (cut : rest ≡ text ∷ after) where
   good : (client_fault id text ≡ None) × (first_fault (client_fault id) (number + 1) after ≡ None)
-  good = first_good id number text after (subst (λ z. first_fault (client_fault id) number z ≡ None) cut walked.inside)
+  good = first_good (client_fault id) number text after (subst (λ z. first_fault (client_fault id) number z ≡ None) cut walked.inside)
 
   -- the line does this, and the script goes on behind it
   step : (some : List (ℕ × ScriptEvent)) (new : List EventLine) → LineDoes (over tables) number (line_of most_clients text) some (over tables) → AllZip (IsEventLine tables) new (walked.before ++ some) → length new ≤ length events + 1

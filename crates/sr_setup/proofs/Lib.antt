@@ -1,2 +1,4 @@
 pub mod Walks
 pub mod ClientWalks
+pub mod ReportLines
+pub mod ReportWalks

@@ -5,10 +5,7 @@ use Rattle.std.specs.List.{AllZip}
 use Rattle.std.specs.Str.{is_utf8}
 use Rattle.std.specs.Str.Lossy.{utf8_valid_len}
 use Rattle.sr_cell.proofs.Lists.{AllZip-push}
-use Rattle.sr_cell.specs.Clients.{most_clients}
 use Rattle.sr_lines.specs.Lines.{lines_of}
-use Rattle.sr_reader.specs.declared.line.Line.{Line}
-use Rattle.sr_reader.specs.Lined.{IsLine}
 use Rattle.sr_setup.specs.Files.{or_later, first_fault, exec_fault}
 
 -- ---- the first bad line
@@ -35,18 +32,18 @@ judged_more fault bytes rest after line number so_far cut shorter good = record 
 
 -- ---- lines that are read
 
--- these are the lines in front of the rest
-pub record LinesBefore (bytes rest : List ℕ) (lines : List Line) : Type 0 where
+-- these are the lines in front of the rest, each of which says what its text says
+pub record LinesBefore {L : Type 0} (Says : List ℕ → L → Type 0) (bytes rest : List ℕ) (lines : List L) : Type 0 where
   pub texts : List (List ℕ)
   pub split : lines_of bytes ≡ texts ++ lines_of rest
-  pub are : AllZip (IsLine most_clients) texts lines
+  pub are : AllZip Says texts lines
 
-pub more_lines : (bytes rest after text : List ℕ) (lines next : List Line) (line : Line) → LinesBefore bytes rest lines → lines_of rest ≡ text ∷ lines_of after → IsLine most_clients text line → next ≡ lines ++ line ∷ []
-    → LinesBefore bytes after next
-more_lines bytes rest after text lines next line so_far cut is same = record {
+pub more_lines : {L : Type 0} (Says : List ℕ → L → Type 0) (bytes rest after text : List ℕ) (lines next : List L) (line : L) → LinesBefore Says bytes rest lines → lines_of rest ≡ text ∷ lines_of after → Says text line
+    → next ≡ lines ++ line ∷ [] → LinesBefore Says bytes after next
+more_lines Says bytes rest after text lines next line so_far cut is same = record {
   texts = so_far.texts ++ text ∷ [];
   split = so_far.split ∙ (ap (λ (z : List (List ℕ)). so_far.texts ++ z) cut ∙ sym (append_assoc so_far.texts (text ∷ []) (lines_of after)));
-  are = subst (AllZip (IsLine most_clients) (so_far.texts ++ text ∷ [])) (sym same) (AllZip-push (IsLine most_clients) so_far.texts lines text line so_far.are is);
+  are = subst (AllZip Says (so_far.texts ++ text ∷ [])) (sym same) (AllZip-push Says so_far.texts lines text line so_far.are is);
 }
 
 -- ---- a line of an exec file

@@ -74,14 +74,20 @@ pub record AreAsked (id : ℕ) (script : List ℕ) (tables : List Table) (lines 
 
 -- ---- both files
 
--- the first line that is outside the grammar of its file; those of the schema file come first
+-- the first line that is outside the grammar of its file, where a line of the script has this fault; those of the schema file come first
+abbrev pub script_outside : (List ℕ → Option ℕ) → List ℕ → List ℕ → Option LinePlace
+script_outside fault schema script = option_or (first_fault schema_fault 1 (lines_of schema)) (first_fault fault 1 (lines_of script))
+
 abbrev pub client_outside : ℕ → List ℕ → List ℕ → Option LinePlace
-client_outside id schema script = option_or (first_fault schema_fault 1 (lines_of schema)) (first_fault (client_fault id) 1 (lines_of script))
+client_outside id schema script = script_outside (client_fault id) schema script
 
 -- no line is outside the grammar, and line n is the first CREATE line that is refused, with this fault
-pub record ClientRefuses (id : ℕ) (schema script : List ℕ) (n : ℕ) (fault : Fault) : Type 0 where
-  pub inside : client_outside id schema script ≡ None
+pub record Refuses (line_fault : List ℕ → Option ℕ) (schema script : List ℕ) (n : ℕ) (fault : Fault) : Type 0 where
+  pub inside : script_outside line_fault schema script ≡ None
   pub first : FirstRefused most_clients 1 [] (lines_of schema) n fault
+
+abbrev pub ClientRefuses : ℕ → List ℕ → List ℕ → ℕ → Fault → Type 0
+ClientRefuses id schema script n fault = Refuses (client_fault id) schema script n fault
 
 -- no line is outside the grammar, the CREATE lines make the tables, and these are the events of the script
 pub record IsAsked (id : ℕ) (schema script : List ℕ) (tables : List Table) (lines : List lined.EventLine) : Type 0 where

@@ -1,3 +1,5 @@
 pub mod Files
 pub mod Faults
 pub mod ClientFiles
+pub mod ReportFiles
+pub mod Lined

@@ -1,24 +1,22 @@
 //! The script of one client.
-ghost use Rattle.std.specs.Prelude.{◌≡◌, ℕ, ◌<◌, ◌^◌, List, length, None, Some, IsTrue, IfOk, IfErr, OnOk, IsErrOf};
+ghost use Rattle.std.specs.Prelude.{◌≡◌, ℕ, ◌<◌, ◌^◌, List, length, None, IsTrue, IfOk};
 ghost use Rattle.std.specs.List.{list_all};
-ghost use Rattle.sr_cell.specs.declared.list.No.TheVariants.{Refused};
 ghost use Rattle.sr_cell.specs.Clients.{most_clients};
 ghost use Rattle.sr_lines.specs.Lines.{lines_of};
 ghost use Rattle.sr_query.specs.Bound.{is_table};
-ghost use Rattle.sr_reader.specs.declared.script.LinePlace.{LinePlace as TheLinePlace};
-ghost use Rattle.sr_reader.specs.Lined.{IsLine, AreLines, place_seen};
+ghost use Rattle.sr_reader.specs.Lined.{IsLine, AreLines};
 ghost use Rattle.sr_reader.specs.LineSeen.{words_seen};
 ghost use Rattle.sr_setup.specs.Files.{first_fault};
 ghost use Rattle.sr_setup.specs.ClientFiles.{doer_of, second_place, client_fault, AreAsked};
 
+use crate::own_lines::OwnLine;
 use crate::schema_file::CLIENTS;
-use sr_cell::list::{No, NoMemory, Seq};
+use sr_cell::list::{NoMemory, Seq};
 use sr_cell::schema::Schema;
-use sr_reader::cut::cut_line;
 use sr_reader::events::event_of;
 use sr_reader::line::{Line, read_line};
 use sr_reader::lines::Lines;
-use sr_reader::script::{EventLine, EventLines, LinePlace};
+use sr_reader::script::{EventLine, EventLines};
 use sr_reader::words::Words;
 use std::alloc::Global;
 
@@ -42,7 +40,7 @@ fn doer_of(words: Words<'_>) -> Option<u8>
 }
 
 /// Where the second part of a line begins, in bytes.
-fn second_place(line: &[u8]) -> u32
+pub(crate) fn second_place(line: &[u8]) -> u32
     requires { length line.now < 2 ^ 32 }
     ensures { result ≡ second_place line.now }
 {
@@ -54,53 +52,28 @@ fn second_place(line: &[u8]) -> u32
     line.len() as u32
 }
 
-/// A line of the script of a client; or the place of its fault.
-fn client_line(bytes: &[u8], id: u8) -> Result<Line<'_>, u32>
-    requires { length bytes.now < 2 ^ 32 }
-    ensures line { IfOk result (IsLine most_clients bytes.now) }
-    ensures inside { OnOk result (client_fault id bytes.now ≡ None) }
-    ensures outside { IfErr result (λ place. client_fault id bytes.now ≡ Some place) }
-{
-    match read_line(bytes, CLIENTS) {
-        Ok(Line::Silent) => Ok(Line::Silent),
-        Ok(Line::Create(_)) => Err(0),
-        Ok(Line::Event(words)) => match doer_of(words) {
-            Some(client) => {
-                if client == id {
-                    Ok(Line::Event(words))
-                } else {
-                    Err(second_place(bytes))
-                }
-            }
-            None => Err(0),
-        },
-        Err(place) => Err(place),
-    }
-}
+impl<'a> OwnLine<'a> for Line<'a> {
+    ghost fault = { client_fault };
 
-/// The lines of the script of a client; or the first that is outside its grammar, with the place of the fault.
-pub fn client_lines(alloc: Global, id: u8, bytes: &[u8]) -> Result<Lines<'_>, No<LinePlace>>
-    requires { length bytes.now < 2 ^ 32 }
-    ensures lines { IfOk result (AreLines most_clients bytes.now) }
-    ensures inside { OnOk result (first_fault (client_fault id) 1 (lines_of bytes.now) ≡ None) }
-    ensures outside { (fault : TheLinePlace) → IsErrOf result (Refused fault) → first_fault (client_fault id) 1 (lines_of bytes.now) ≡ Some (place_seen fault) }
-{
-    let mut lines = Seq::new(alloc);
-    let mut rest = bytes;
-    let mut number: u64 = 1;
-    'lines: while !rest.is_empty() {
-        let cut = cut_line(rest);
-        match client_line(cut.line, id) {
-            Ok(line) => lines.push(line)?,
-            Err(place) => return Err(No::Refused(LinePlace {
-                line: number,
-                place,
-            })),
+    ghost says = { IsLine most_clients };
+
+    fn read(bytes: &'a [u8], id: u8) -> Result<Line<'a>, u32> {
+        match read_line(bytes, CLIENTS) {
+            Ok(Line::Silent) => Ok(Line::Silent),
+            Ok(Line::Create(_)) => Err(0),
+            Ok(Line::Event(words)) => match doer_of(words) {
+                Some(client) => {
+                    if client == id {
+                        Ok(Line::Event(words))
+                    } else {
+                        Err(second_place(bytes))
+                    }
+                }
+                None => Err(0),
+            },
+            Err(place) => Err(place),
         }
-        rest = cut.rest;
-        number += 1;
     }
-    Ok(lines)
 }
 
 /// The events of the client's script that the lines are of, over these tables.

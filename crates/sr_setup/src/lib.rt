@@ -5,5 +5,9 @@
 pub mod client_script;
 pub mod client_setup;
 pub mod exec_file;
+pub mod own_lines;
+pub mod report_line;
+pub mod report_script;
+pub mod report_setup;
 pub mod schema_file;
 pub mod setup;

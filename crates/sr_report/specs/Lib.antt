@@ -1,0 +1,4 @@
+pub mod Texts
+pub mod Plans
+pub mod Steps
+pub mod Laws

@@ -77,7 +77,7 @@ different-more (x ∷ names) name h none =
     let parts = both_true (not (list_any (bytes_eq x) names)) (are_different names) h in
     let others = or_parts (bytes_eq name x) (list_any (bytes_eq name) names) none in
     let here : list_any (bytes_eq x) (names ++ name ∷ []) ≡ false =
-        list_any-append (bytes_eq x) names (name ∷ []) ∙ neither (list_any (bytes_eq x) names) (bytes_eq x name) parts.0 (eq-other name x others.0) in
+    list_any-append (bytes_eq x) names (name ∷ []) ∙ neither (list_any (bytes_eq x) names) (bytes_eq x name) parts.0 (eq-other name x others.0) in
     true_both (not (list_any (bytes_eq x) (names ++ name ∷ []))) (are_different (names ++ name ∷ [])) (ap not here) (different-more names name parts.1 others.1)
   where
     neither : (a b : Bool) → not a ≡ true → b ≡ false → (a || (b || false)) ≡ false
@@ -132,9 +132,10 @@ signed-ends Num low high h = by low high h
 sound-names : (columns : List Column) → AreSound columns → (list_all is_name (map column_title columns) ≡ true) × (list_all has_signed_ends columns ≡ true)
 sound-names [] h = (refl, refl)
 sound-names (c ∷ columns) (one, more) =
-    let others = sound-names columns more in
-    (true_both (is_name c.name) (list_all is_name (map column_title columns)) (name-is c.name one.named) others.0,
-    true_both (has_signed_ends c) (list_all has_signed_ends columns) (signed-ends c.kind c.lo c.hi one.domain) others.1)
+    let others = sound-names columns more in (
+      true_both (is_name c.name) (list_all is_name (map column_title columns)) (name-is c.name one.named) others.0,
+      true_both (has_signed_ends c) (list_all has_signed_ends columns) (signed-ends c.kind c.lo c.hi one.domain) others.1,
+    )
 
 abbrev IsNext : Rule Definition
 IsNext = MARK (codes ",") ▸ λ _. IsColumn
@@ -253,10 +254,10 @@ named-more tables sql t is (says, fits) =
     let columns = unrepeated _ (repeat_at [] t.columns) _ fresh.1 in
     let own = sound-names t.columns defined.columns in
     let all_named : list_all is_name (map table_name tables ++ t.name ∷ []) ≡ true =
-        list_all-append is_name (map table_name tables) (t.name ∷ []) ∙ and_from (list_all is_name (map table_name tables)) (list_all is_name (t.name ∷ [])) names.0 (and_from (is_name t.name) true (name-is t.name defined.named) refl) in
+    list_all-append is_name (map table_name tables) (t.name ∷ []) ∙ and_from (list_all is_name (map table_name tables)) (list_all is_name (t.name ∷ [])) names.0 (and_from (is_name t.name) true (name-is t.name defined.named) refl) in
     let all_different = different-more (map table_name tables) t.name names.1 (other-names tables t.name fresh.0) in
     let titles : are_names (map column_title t.columns) ≡ true =
-        and_from (list_all is_name (map column_title t.columns)) (are_different (map column_title t.columns)) own.0 (columns-different [] t.columns columns) in
+    and_from (list_all is_name (map column_title t.columns)) (are_different (map column_title t.columns)) own.0 (columns-different [] t.columns columns) in
     let one : has_named_columns t ≡ true = and_from (are_names (map column_title t.columns)) (list_all has_signed_ends t.columns) titles own.1 in (
       subst (λ (names : List (List ℕ)). are_names names ≡ true) (sym (map-append table_name tables (t ∷ [])))
           (and_from (list_all is_name (map table_name tables ++ t.name ∷ [])) (are_different (map table_name tables ++ t.name ∷ [])) all_named all_different),

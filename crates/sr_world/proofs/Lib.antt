@@ -13,6 +13,7 @@ mod Requests
 pub mod RunLemmas
 mod SeatLemmas
 mod ServeLemmas
+mod Served
 mod Sessions
 mod SettleLemmas
 mod Sound

@@ -1,14 +1,15 @@
 //! A run of a client over a plan.
-ghost use Rattle.std.specs.Prelude.{◌≡◌, ◌≤◌, ◌+◌, ◌*◌, true, None, IfOk};
+ghost use Rattle.std.specs.Prelude.{◌≡◌, ◌≢◌, ◌≤◌, ◌+◌, ◌*◌, true, None, IfOk, OnErr};
 ghost use Rattle.sr_session.specs.Clients.{Client as Past};
 ghost use Rattle.sr_client.specs.Stands.{StandsFor};
 ghost use Rattle.sr_links.specs.Steps.{Resumed};
 ghost use Rattle.sr_plan.specs.Plans.{Next};
 ghost use Rattle.sr_dial.specs.Calls.{Do};
 ghost use Rattle.sr_dial.specs.Following.{Ahead};
+ghost use Rattle.sr_dial.specs.declared.ending.Ending.TheVariants.{Unwritten};
 ghost use Rattle.sr_talk.specs.Rounds.{OnlyOutput};
 ghost use Rattle.sr_calls.specs.ClientEnds.{room_of};
-ghost use Rattle.sr_calls.specs.Runs.{RanFrom};
+ghost use Rattle.sr_calls.specs.Runs.{RanFrom, RanOff};
 
 use crate::client_end::ClientEnd;
 use sr_cell::list::NoMemory;
@@ -34,7 +35,9 @@ pub fn run_plan<H: Host, P: Plans>(
     requires room { 4000004 * (P.depth plans.old + 1) ≤ room_of end.old.client }
     requires fresh { end.old.answer ≡ None }
     ensures ran { (past : Past) (ahead : Ahead) → StandsFor past end.old.client → past.cut ≡ true → past.out ≡ None → P.follows schema.now plans.old ahead → IfOk result (λ ended. RanFrom end.old past address.now (Next 0 (Do Resumed) ahead) ended (H.linking host.old) (H.linking host.new) (H.writing host.old) (H.writing host.new) end.new) }
+    ensures broken_off { (past : Past) (ahead : Ahead) → StandsFor past end.old.client → past.cut ≡ true → past.out ≡ None → P.follows schema.now plans.old ahead → OnErr result (RanOff end.old past address.now (Next 0 (Do Resumed) ahead) (H.linking host.old) (H.linking host.new) (H.writing host.old) (H.writing host.new)) }
     ensures stays { OnlyOutput H H.reading H.held H.complaints H.IsSteady host.old host.new }
+    ensures steady_writes { H.IsSteady host.old → IfOk result (λ ended. ended ≢ Unwritten) }
 {
     let id = end.client().id;
     run(alloc, host, end, schema, id, address, plans)

@@ -137,7 +137,7 @@ module _ (schema : List Table) where
   parts-lawful rs s =
       let is = all-same [] rs (All-weaker (IsOfSchema schema) HasKey (λ g of. of.1.area.key) rs s.each) in
       let telling = some-telling schema rs (All-weaker (IsOfSchema schema) (IsChunk schema) (region-chunk schema) rs s.each)
-          (λ t a p point. let x = lies-occurs rs t a p in let y = s.once t a p point in omega (arith, x, y)) s.keys in
+      (λ t a p point. let x = lies-occurs rs t a p in let y = s.once t a p point in omega (arith, x, y)) s.keys in
       let sound = with_regions-sound schema telling.0 [] (map plain rs) telling.1 (λ t a p point. let e = plain-occurs rs t a p in let le = s.once t a p point in omega (arith, e, le))
       (All-nil (IsOfSchema schema)) (All-nil (IsTrueOf telling.0))
       (All-map (IsOfSchema schema) plain rs (All-weaker (IsOfSchema schema) (λ g. IsOfSchema schema (plain g)) plain-of rs s.each))

@@ -9,3 +9,6 @@ run-requires-clause-asks g c =
 
 pub returns-clause-ran : goal.returns-clause-ran
 returns-clause-ran g c = c.run.ensures.ran
+
+pub returns-clause-broken_off : goal.returns-clause-broken_off
+returns-clause-broken_off g c = c.run.ensures.broken_off

@@ -9,14 +9,14 @@ use Rattle.sr_client.specs.declared.client.Client.{Client}
 use Rattle.sr_client.specs.Explaining.{Explains}
 use Rattle.sr_explain.specs.declared.explanation.Explanation.{Explanation}
 use Rattle.sr_explain.specs.Telling.{explain_lines}
-use Rattle.sr_dial.specs.Known.{Tells}
-use Rattle.sr_calls.specs.ClientEnds.{IsEnd, IsReady, setting_of}
+use Rattle.sr_calls.specs.ClientEnds.{DidExplain, IsReady}
 
-pub tells_why : (old : Client) (past : session.Client) (fault : Fault) (text : Result Query Fault) (lines : List TraceLine) → text ≡ Err fault → lines ≡ explain_lines old.id (Err fault) → Tells IsEnd (setting_of old) old past text lines
-tells_why old past fault text lines refused are = subst (λ text. Tells IsEnd (setting_of old) old past text lines) (sym refused) (record { result = Err fault; lines_are = are; fair = refl })
+pub tells_why : (old : Client) (past : session.Client) (fault : Fault) (text : Result Query Fault) (lines : List TraceLine) → text ≡ Err fault → lines ≡ explain_lines old.id (Err fault) → DidExplain old past text lines
+tells_why old past fault text lines refused are =
+    subst (λ text. DidExplain old past text lines) (sym refused) (λ keeps says lent. record { result = Err fault; lines_are = are; fair = refl })
 
-pub tells_how : (old : Client) (past : session.Client) (meaning : Query) (e : Explanation) (lines : List TraceLine) → Explains old meaning e → lines ≡ explain_lines old.id (Ok e) → Tells IsEnd (setting_of old) old past (Ok meaning) lines
-tells_how old past meaning e lines does are = record {
+pub tells_how : (old : Client) (past : session.Client) (meaning : Query) (e : Explanation) (lines : List TraceLine) → Explains old meaning e → lines ≡ explain_lines old.id (Ok e) → DidExplain old past (Ok meaning) lines
+tells_how old past meaning e lines does are = λ keeps says lent. record {
   result = Ok e;
   lines_are = are;
   fair = (e, refl, λ db sound within is. does db past (record { sound = sound; schema = is.0; within = within; client = is.1 }));

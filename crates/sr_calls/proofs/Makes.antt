@@ -1,5 +1,5 @@
 -- A step of the code is what the rules allow, from any past that it stands for.
-use Rattle.std.proofs.Common.{◌≡◌, ℕ, true, false, List, [], refl, sym, ◌∙◌, ap, subst, None}
+use Rattle.std.proofs.Common.{◌≡◌, ℕ, Bool, true, false, List, [], refl, sym, ◌∙◌, ap, subst, Option, None}
 use Rattle.std.specs.Prelude.{◌≢◌}
 use Rattle.std.specs.List.{All}
 use Rattle.std.proofs.lemmas.List.Elements.{All-cons, All-nil}
@@ -9,7 +9,7 @@ use Rattle.sr_message.specs.declared.message.Message.TheVariants.{Ask, Write}
 use Rattle.sr_script.specs.declared.line.TraceLine.{TraceLine}
 use Rattle.sr_session.specs.Sessions.{Database}
 use Rattle.sr_session.specs.Clients as session
-use Rattle.sr_session.specs.Rules.{Outcome, AlreadyCut, AlreadyUp, AskSent, CutDone, QueryRefused, ResumeSent, WriteSent, sent_of}
+use Rattle.sr_session.specs.Rules.{Answered, Outcome, AlreadyCut, AlreadyUp, AskSent, CutDone, QueryRefused, ResumeSent, WriteSent, sent_of}
 use Rattle.sr_session.specs.Bases.{basis_of}
 use Rattle.sr_links.specs.Steps.{Deed, ComesIf, Does, IsFair}
 use Rattle.sr_dial.specs.Calls.{lines_of}
@@ -17,8 +17,10 @@ use Rattle.sr_client.specs.Stands.{StandsFor, out_of}
 use Rattle.sr_client.specs.Steps as client
 use Rattle.sr_client.specs.Steps.{Moves}
 use Rattle.sr_client.specs.declared.client.Client.{Client}
-use Rattle.sr_dial.specs.Known.{IsFrom, KeepsLink, Makes}
-use Rattle.sr_calls.specs.ClientEnds.{IsEnd, Stands, lent_by, setting_of}
+use Rattle.sr_dial.specs.Following.{answer_of}
+use Rattle.sr_dial.specs.Known.{IsFrom, KeepsLink}
+use Rattle.sr_dial.specs.declared.parts.Answer.{Answer}
+use Rattle.sr_calls.specs.ClientEnds.{Did, IsEnd, end_with, silent}
 
 -- over a cut link nothing is out
 pub rests : (past : session.Client) (c : Client) → StandsFor past c → past.cut ≡ true → past.out ≡ None
@@ -61,18 +63,30 @@ plain_from id (WriteSent request sql) plain = All-cons (IsFrom id) (Write reques
 plain_from id (ResumeSent message) plain = absurd plain
 plain_from id other plain = All-nil (IsFrom id)
 
+-- ---- its answer
+
+-- it answers no query
+abbrev pub IsUnanswered : Outcome → Type 0
+IsUnanswered (Answered query version rows marks) = ⊥
+IsUnanswered other = Unit {0}
+
+pub unanswered : (keeps : Bool) (o : Outcome) → IsUnanswered o → None ≡ answer_of keeps o
+unanswered true (Answered query version rows marks) none = absurd none
+unanswered true other none = refl
+unanswered false o none = refl
+
 -- ---- a step
 
-module _ (old new : Client) (past : session.Client) (deed : Deed) (says : Outcome → Type 0) (If : Database → Type 0) (rule : Database → Outcome → session.Client → Type 0) (m : Moves old new past says If rule)
+module _ (keeps : Bool) (old new : Client) (past : session.Client) (deed : Deed) (says : Outcome → Type 0) (If : Database → Type 0) (rule : Database → Outcome → session.Client → Type 0) (m : Moves old new past says If rule)
     (from : All (IsFrom old.id) (sent_of m.outcome)) (does : (db : Database) (o : Outcome) (next : session.Client) → rule db o next → Does (basis_of db old.store.limits) deed past o next) (comes : (db : Database) → ComesIf db past deed → If db) where
-  fair : IsFair IsEnd old.store.limits old past (record { deed = deed; outcome = m.outcome; past = m.next; code = new })
-  fair db sound within is come =
+  fair : (writes : Bool) (lent answer : Option Answer) → IsFair IsEnd old.store.limits (end_with keeps writes old lent) past (record { deed = deed; outcome = m.outcome; past = m.next; code = end_with keeps writes new answer })
+  fair writes lent answer db sound within is come =
       let both = m.over db (record { sound = sound; schema = is.0; within = within; client = is.1 }) (comes db come) in
       (does db m.outcome m.next both.0, (both.1.schema, both.1.client))
 
-  pub makes : (lines : List TraceLine) (sent : List Message) → lines ≡ lines_of old.id deed m.outcome → sent ≡ sent_of m.outcome → KeepsLink deed (sent_of m.outcome) past m.next
-      → Makes Stands lent_by IsEnd (setting_of old) old new past deed lines sent
-  makes lines sent lines_are sent_is link = record {
+  pub makes : (answer : Option Answer) (lines : List TraceLine) (sent : List Message) → answer ≡ answer_of keeps m.outcome → lines ≡ lines_of old.id deed m.outcome → sent ≡ sent_of m.outcome → KeepsLink deed (sent_of m.outcome) past m.next
+      → Did keeps old new past deed (record { told = record { lines = lines; sent = sent }; answer = answer })
+  makes answer lines sent answer_is lines_are sent_is link = λ writes lent. record {
     outcome = m.outcome;
     next = m.next;
     lines_are = lines_are;
@@ -81,15 +95,15 @@ module _ (old new : Client) (past : session.Client) (deed : Deed) (says : Outcom
     link = subst (λ ms. KeepsLink deed ms past m.next) (sym sent_is) link;
     waits = λ some. waits past m.next m.outcome m.link (λ none. some (sent_is ∙ none));
     rests = rests m.next new m.stands;
-    answers = refl;
+    answers = answer_is;
     stands = m.stands;
-    fair = fair;
+    fair = fair writes lent answer;
   }
 
 -- what is refused by the client itself changes nothing
-pub refuses : (old : Client) (past : session.Client) (deed : Deed) (fault : Fault) (lines : List TraceLine) → StandsFor past old → lines ≡ lines_of old.id deed (QueryRefused fault) → KeepsLink deed [] past past
-    → ((db : Database) → Does (basis_of db old.store.limits) deed past (QueryRefused fault) past) → Makes Stands lent_by IsEnd (setting_of old) old old past deed lines []
-refuses old past deed fault lines stands lines_are link does = record {
+pub refuses : (keeps : Bool) (old : Client) (past : session.Client) (deed : Deed) (fault : Fault) (lines : List TraceLine) → StandsFor past old → lines ≡ lines_of old.id deed (QueryRefused fault) → KeepsLink deed [] past past
+    → ((db : Database) → Does (basis_of db old.store.limits) deed past (QueryRefused fault) past) → Did keeps old old past deed (silent lines)
+refuses keeps old past deed fault lines stands lines_are link does = λ writes lent. record {
   outcome = QueryRefused fault;
   next = past;
   lines_are = lines_are;
@@ -98,7 +112,7 @@ refuses old past deed fault lines stands lines_are link does = record {
   link = link;
   waits = λ some. absurd (some refl);
   rests = rests past old stands;
-  answers = refl;
+  answers = unanswered keeps (QueryRefused fault) tt;
   stands = stands;
   fair = λ db sound within is come. (does db, is);
 }

@@ -42,13 +42,11 @@ use Rattle.sr_client.proofs.Results.{if_ok}
 use Rattle.sr_world.specs.declared.lines.Told as world
 use Rattle.sr_world.proofs.ClientLemmas.{IsToldOf, evict-nothing, query-each, resume-each, write-each}
 use Rattle.sr_dial.specs.Known.{IsFrom, KeepsLink}
-use Rattle.sr_dial.specs.declared.parts.Told.{Told}
-use Rattle.sr_calls.specs.ClientEnds.{Did}
-use Rattle.sr_calls.proofs.Makes.{IsPlainOutcome, makes, plain_from, plain_link, refuses}
-
--- what was told, with what is sent as a list
-abbrev pub list_of : world.Told → Told
-list_of told = record { lines = told.lines; sent = option_to_list told.sent }
+use Rattle.sr_dial.specs.Following.{answer_of}
+use Rattle.sr_dial.specs.declared.parts.Answer.{Answer}
+use Rattle.sr_calls.specs.ClientEnds.{Did, done_of, silent}
+use Rattle.sr_calls.specs.declared.calls.Done.{Done}
+use Rattle.sr_calls.proofs.Makes.{IsPlainOutcome, IsUnanswered, makes, plain_from, plain_link, refuses, unanswered}
 
 -- what may be sent, as a list
 pub told_sendable : (sent : Option Message) → ((m : Message) → option_to_list sent ≡ m ∷ [] → IsSendable m) → All IsSendable (option_to_list sent)
@@ -57,10 +55,10 @@ told_sendable (Some m) each = All-cons IsSendable m [] (each m refl) (All-nil Is
 
 -- ---- a query
 
-pub refuses_query : (old : Client) (past : session.Client) (fault : Fault) (told : Told) → StandsFor past old → told ≡ record { lines = line.QuerySql old.id fault ∷ []; sent = [] } → Did old old past (Queried (Err fault)) told
-refuses_query old past fault told stands is =
-    subst (Did old old past (Queried (Err fault))) (sym is)
-    (refuses old past (Queried (Err fault)) fault (line.QuerySql old.id fault ∷ []) stands refl (refl, λ some. absurd (some refl)) (λ db. rules.query_refused fault))
+pub refuses_query : (keeps : Bool) (old : Client) (past : session.Client) (fault : Fault) (done : Done) → StandsFor past old → done ≡ silent (line.QuerySql old.id fault ∷ []) → Did keeps old old past (Queried (Err fault)) done
+refuses_query keeps old past fault done stands is =
+    subst (Did keeps old old past (Queried (Err fault))) (sym is)
+    (refuses keeps old past (Queried (Err fault)) fault (line.QuerySql old.id fault ∷ []) stands refl (refl, λ some. absurd (some refl)) (λ db. rules.query_refused fault))
 
 query_plain : (past : session.Client) (step : QueryStep) (o : Outcome) → SaysQuery past step o → IsPlainOutcome o
 query_plain past (query.Answered q version rows marks) o says = subst IsPlainOutcome (sym says) tt
@@ -68,23 +66,24 @@ query_plain past (query.Asked q request message marks) o says = subst IsPlainOut
 query_plain past (query.Busy request) o says = subst IsPlainOutcome (sym says) tt
 query_plain past (query.Down number) o says = subst IsPlainOutcome (sym says) tt
 
-module _ {E : Type 0} (old new : Client) (meaning : Query) (step : QueryStep) (told : world.Told) (r : Result Told E) (does : Queries old meaning new step)
-    (tells : (past : session.Client) (o : Outcome) → SaysQuery past step o → IsToldOf old.id query_line o told) (is : IfOk r (λ t. t ≡ list_of told)) where
-  pub query_makes : (past : session.Client) → StandsFor past old → IfOk r (Did old new past (Queried (Ok meaning)))
+module _ {E : Type 0} (keeps : Bool) (old new : Client) (meaning : Query) (step : QueryStep) (told : world.Told) (answer : Option Answer) (r : Result Done E) (does : Queries old meaning new step)
+    (tells : (past : session.Client) (o : Outcome) → SaysQuery past step o → IsToldOf old.id query_line o told) (answers : (past : session.Client) (o : Outcome) → SaysQuery past step o → answer ≡ answer_of keeps o)
+    (is : IfOk r (λ d. d ≡ done_of told answer)) where
+  pub query_makes : (past : session.Client) → StandsFor past old → IfOk r (Did keeps old new past (Queried (Ok meaning)))
   query_makes past stands =
       let m = does.moves past stands in
       let t = tells past m.outcome m.is in
-      if_ok (Did old new past (Queried (Ok meaning))) r (list_of told) is
-      (makes old new past (Queried (Ok meaning)) (SaysQuery past step) (λ db. Unit {0}) (λ db. rules.QueryStep (basis_of db old.store.limits) past (Ok meaning)) m
+      if_ok (Did keeps old new past (Queried (Ok meaning))) r (done_of told answer) is
+      (makes keeps old new past (Queried (Ok meaning)) (SaysQuery past step) (λ db. Unit {0}) (λ db. rules.QueryStep (basis_of db old.store.limits) past (Ok meaning)) m
       (plain_from old.id m.outcome (query_plain past step m.outcome m.is)) (λ db o next rule. rule) (λ db come. tt)
-      told.lines (option_to_list told.sent) t.lines t.sent (plain_link past m.next m.outcome (query_plain past step m.outcome m.is) m.link))
+      answer told.lines (option_to_list told.sent) (answers past m.outcome m.is) t.lines t.sent (plain_link past m.next m.outcome (query_plain past step m.outcome m.is) m.link))
 
-  pub query_sendable : client.Stands old → QuerySendsWell old.schema old.id step → IfOk r (λ t. All IsSendable t.sent)
+  pub query_sendable : client.Stands old → QuerySendsWell old.schema old.id step → IfOk r (λ d. All IsSendable d.told.sent)
   query_sendable some sends =
       let past = past_of old some.0 in
       let m = does.moves past (some.0, some.1, refl) in
       let t = tells past m.outcome m.is in
-      if_ok (λ t. All IsSendable t.sent) r (list_of told) is
+      if_ok (λ d. All IsSendable d.told.sent) r (done_of told answer) is
       (told_sendable told.sent (λ message one. query-each old.schema old.id past step m.outcome sends m.is message (sym t.sent ∙ one)))
 
 -- ---- a write
@@ -95,40 +94,46 @@ write_plain sql (written.Sql fault) o says = absurd says
 write_plain sql (written.Busy request) o says = subst IsPlainOutcome (sym says) tt
 write_plain sql (written.Down number) o says = subst IsPlainOutcome (sym says) tt
 
+write_unanswered : (sql : List ℕ) (step : WriteStep) (o : Outcome) → SaysWrite sql step o → IsUnanswered o
+write_unanswered sql (written.Sent request message) o says = subst IsUnanswered (sym says.1) tt
+write_unanswered sql (written.Sql fault) o says = absurd says
+write_unanswered sql (written.Busy request) o says = subst IsUnanswered (sym says) tt
+write_unanswered sql (written.Down number) o says = subst IsUnanswered (sym says) tt
+
 write_last : (n : ℕ) (sql : List ℕ) (step : WriteStep) (o : Outcome) → SaysWrite sql step o → write_line n o ≡ last_lines n (Wrote sql) o
 write_last n sql (written.Sent request message) o says = subst (λ o. write_line n o ≡ last_lines n (Wrote sql) o) (sym says.1) refl
 write_last n sql (written.Sql fault) o says = absurd says
 write_last n sql (written.Busy request) o says = subst (λ o. write_line n o ≡ last_lines n (Wrote sql) o) (sym says) refl
 write_last n sql (written.Down number) o says = subst (λ o. write_line n o ≡ last_lines n (Wrote sql) o) (sym says) refl
 
-module _ {E : Type 0} (old new : Client) (sql : List ℕ) (step : WriteStep) (told : world.Told) (r : Result Told E) (long : most_text < length sql → (step ≡ written.Sql long_text) × (new ≡ old))
+module _ {E : Type 0} (old new : Client) (sql : List ℕ) (step : WriteStep) (told : world.Told) (r : Result Done E) (long : most_text < length sql → (step ≡ written.Sql long_text) × (new ≡ old))
     (does : length sql ≤ most_text → Writes old sql new step) (tells : (o : Outcome) → SaysWrite sql step o → IsToldOf old.id write_line o told)
-    (refused : (fault : Fault) → step ≡ written.Sql fault → told ≡ record { lines = line.WriteSql old.id fault ∷ []; sent = None }) (is : IfOk r (λ t. t ≡ list_of told)) where
-  short_makes : (past : session.Client) → StandsFor past old → length sql ≤ most_text → IfOk r (Did old new past (Wrote sql))
-  short_makes past stands short =
+    (refused : (fault : Fault) → step ≡ written.Sql fault → told ≡ record { lines = line.WriteSql old.id fault ∷ []; sent = None }) (is : IfOk r (λ d. d ≡ done_of told None)) where
+  short_makes : (keeps : Bool) (past : session.Client) → StandsFor past old → length sql ≤ most_text → IfOk r (Did keeps old new past (Wrote sql))
+  short_makes keeps past stands short =
       let m = (does short).moves past stands in
       let t = tells m.outcome m.is in
-      if_ok (Did old new past (Wrote sql)) r (list_of told) is
-      (makes old new past (Wrote sql) (SaysWrite sql step) (λ db. Unit {0}) (λ db. rules.WriteStep sql past) m (plain_from old.id m.outcome (write_plain sql step m.outcome m.is)) (λ db o next rule. writes o next short rule) (λ db come. tt)
-      told.lines (option_to_list told.sent) (t.lines ∙ ap (λ ls. details old.id m.outcome ++ ls) (write_last old.id sql step m.outcome m.is)) t.sent (plain_link past m.next m.outcome (write_plain sql step m.outcome m.is) m.link))
+      if_ok (Did keeps old new past (Wrote sql)) r (done_of told None) is
+      (makes keeps old new past (Wrote sql) (SaysWrite sql step) (λ db. Unit {0}) (λ db. rules.WriteStep sql past) m (plain_from old.id m.outcome (write_plain sql step m.outcome m.is)) (λ db o next rule. writes o next short rule) (λ db come. tt)
+      None told.lines (option_to_list told.sent) (unanswered keeps m.outcome (write_unanswered sql step m.outcome m.is)) (t.lines ∙ ap (λ ls. details old.id m.outcome ++ ls) (write_last old.id sql step m.outcome m.is)) t.sent (plain_link past m.next m.outcome (write_plain sql step m.outcome m.is) m.link))
 
-  long_makes : (past : session.Client) → StandsFor past old → most_text < length sql → IfOk r (Did old new past (Wrote sql))
-  long_makes past stands over =
-      let told_is : list_of told ≡ record { lines = line.WriteSql old.id long_text ∷ []; sent = [] } = ap list_of (refused long_text (long over).0) in
-      if_ok (Did old new past (Wrote sql)) r (list_of told) is
-      (subst (λ (c : Client). Did old c past (Wrote sql) (list_of told)) (sym (long over).1)
-      (subst (Did old old past (Wrote sql)) (sym told_is)
-      (refuses old past (Wrote sql) long_text (line.WriteSql old.id long_text ∷ []) stands refl (refl, λ some. absurd (some refl)) (λ db. too_long over))))
+  long_makes : (keeps : Bool) (past : session.Client) → StandsFor past old → most_text < length sql → IfOk r (Did keeps old new past (Wrote sql))
+  long_makes keeps past stands over =
+      let done_is : done_of told None ≡ silent (line.WriteSql old.id long_text ∷ []) = ap (λ t. done_of t None) (refused long_text (long over).0) in
+      if_ok (Did keeps old new past (Wrote sql)) r (done_of told None) is
+      (subst (λ (c : Client). Did keeps old c past (Wrote sql) (done_of told None)) (sym (long over).1)
+      (subst (Did keeps old old past (Wrote sql)) (sym done_is)
+      (refuses keeps old past (Wrote sql) long_text (line.WriteSql old.id long_text ∷ []) stands refl (refl, λ some. absurd (some refl)) (λ db. too_long over))))
 
-  pub write_makes : (past : session.Client) → StandsFor past old → IfOk r (Did old new past (Wrote sql))
-  write_makes past stands = by (nat_le (length sql) most_text) refl
+  pub write_makes : (keeps : Bool) (past : session.Client) → StandsFor past old → IfOk r (Did keeps old new past (Wrote sql))
+  write_makes keeps past stands = by (nat_le (length sql) most_text) refl
     where
-      by : (b : Bool) → nat_le (length sql) most_text ≡ b → IfOk r (Did old new past (Wrote sql))
-      by true e = short_makes past stands (grind (arith, nat_tests, e))
-      by false e = long_makes past stands (grind (arith, nat_tests, e))
+      by : (b : Bool) → nat_le (length sql) most_text ≡ b → IfOk r (Did keeps old new past (Wrote sql))
+      by true e = short_makes keeps past stands (grind (arith, nat_tests, e))
+      by false e = long_makes keeps past stands (grind (arith, nat_tests, e))
 
-  pub write_sendable : client.Stands old → WriteSendsWell old.schema old.id step → IfOk r (λ t. All IsSendable t.sent)
-  write_sendable some sends = if_ok (λ t. All IsSendable t.sent) r (list_of told) is (by (nat_le (length sql) most_text) refl)
+  pub write_sendable : client.Stands old → WriteSendsWell old.schema old.id step → IfOk r (λ d. All IsSendable d.told.sent)
+  write_sendable some sends = if_ok (λ d. All IsSendable d.told.sent) r (done_of told None) is (by (nat_le (length sql) most_text) refl)
     where
       by : (b : Bool) → nat_le (length sql) most_text ≡ b → All IsSendable (option_to_list told.sent)
       by true e =
@@ -147,14 +152,19 @@ evict_plain (evicts.Dropped region) o says = subst IsPlainOutcome (sym says) tt
 evict_plain (evicts.Busy request) o says = subst IsPlainOutcome (sym says) tt
 evict_plain (evicts.NoSuch count) o says = subst IsPlainOutcome (sym says) tt
 
-pub evict_makes : (old new : Client) (place : ℕ) (step : EvictStep) (lines : List TraceLine) (told : Told) → Evicts old place new step → ((o : Outcome) → SaysEvict step o → lines ≡ details old.id o ++ evict_line old.id o)
-    → told ≡ record { lines = lines; sent = [] } → (past : session.Client) → StandsFor past old → Did old new past (Evicted place) told
-evict_makes old new place step lines told does tells is past stands =
+evict_unanswered : (step : EvictStep) (o : Outcome) → SaysEvict step o → IsUnanswered o
+evict_unanswered (evicts.Dropped region) o says = subst IsUnanswered (sym says) tt
+evict_unanswered (evicts.Busy request) o says = subst IsUnanswered (sym says) tt
+evict_unanswered (evicts.NoSuch count) o says = subst IsUnanswered (sym says) tt
+
+pub evict_makes : (old new : Client) (place : ℕ) (step : EvictStep) (lines : List TraceLine) (done : Done) → Evicts old place new step → ((o : Outcome) → SaysEvict step o → lines ≡ details old.id o ++ evict_line old.id o)
+    → done ≡ silent lines → (keeps : Bool) (past : session.Client) → StandsFor past old → Did keeps old new past (Evicted place) done
+evict_makes old new place step lines done does tells is keeps past stands =
     let m = does.moves past stands in
-    subst (Did old new past (Evicted place)) (sym is)
-    (makes old new past (Evicted place) (SaysEvict step) (λ db. Unit {0}) (λ db. rules.EvictStep (basis_of db old.store.limits) place past) m
+    subst (Did keeps old new past (Evicted place)) (sym is)
+    (makes keeps old new past (Evicted place) (SaysEvict step) (λ db. Unit {0}) (λ db. rules.EvictStep (basis_of db old.store.limits) place past) m
     (plain_from old.id m.outcome (evict_plain step m.outcome m.is)) (λ db o next rule. rule) (λ db come. tt)
-    lines [] (tells m.outcome m.is) (sym (evict-nothing step m.outcome m.is)) (plain_link past m.next m.outcome (evict_plain step m.outcome m.is) m.link))
+    None lines [] (unanswered keeps m.outcome (evict_unanswered step m.outcome m.is)) (tells m.outcome m.is) (sym (evict-nothing step m.outcome m.is)) (plain_link past m.next m.outcome (evict_plain step m.outcome m.is) m.link))
 
 -- ---- a resume
 
@@ -182,23 +192,27 @@ resume_link past next (resumes.Sent request message) o says link =
     subst (λ o. steps.KeepsLink past o next → KeepsLink Resumed (sent_of o) past next) (sym says.1) (λ up. (up.0, up.1, refl)) link
 resume_link past next resumes.Up o says link = subst (λ o. steps.KeepsLink past o next → KeepsLink Resumed (sent_of o) past next) (sym says) (λ up. up) link
 
-module _ {E : Type 0} (old new : Client) (step : ResumeStep) (told : world.Told) (r : Result Told E) (does : Resumes old new step)
-    (tells : (past : session.Client) (o : Outcome) → SaysResume past step o → IsToldOf old.id resume_line o told) (is : IfOk r (λ t. t ≡ list_of told)) where
-  pub resume_makes : ResumeSendsWell old.schema old.id step → (past : session.Client) → StandsFor past old → IfOk r (Did old new past Resumed)
-  resume_makes sends past stands =
+resume_unanswered : (past : session.Client) (step : ResumeStep) (o : Outcome) → SaysResume past step o → IsUnanswered o
+resume_unanswered past (resumes.Sent request message) o says = subst IsUnanswered (sym says.1) tt
+resume_unanswered past resumes.Up o says = subst IsUnanswered (sym says) tt
+
+module _ {E : Type 0} (old new : Client) (step : ResumeStep) (told : world.Told) (r : Result Done E) (does : Resumes old new step)
+    (tells : (past : session.Client) (o : Outcome) → SaysResume past step o → IsToldOf old.id resume_line o told) (is : IfOk r (λ d. d ≡ done_of told None)) where
+  pub resume_makes : ResumeSendsWell old.schema old.id step → (keeps : Bool) (past : session.Client) → StandsFor past old → IfOk r (Did keeps old new past Resumed)
+  resume_makes sends keeps past stands =
       let m = does.moves past stands in
       let t = tells past m.outcome m.is in
-      if_ok (Did old new past Resumed) r (list_of told) is
-      (makes old new past Resumed (SaysResume past step) (λ db. Unit {0}) (λ db. rules.ResumeStep db.schema past) m
+      if_ok (Did keeps old new past Resumed) r (done_of told None) is
+      (makes keeps old new past Resumed (SaysResume past step) (λ db. Unit {0}) (λ db. rules.ResumeStep db.schema past) m
       (resume_from old.schema old.id past step m.outcome sends m.is) (λ db o next rule. rule) (λ db come. tt)
-      told.lines (option_to_list told.sent) t.lines t.sent (resume_link past m.next step m.outcome m.is m.link))
+      None told.lines (option_to_list told.sent) (unanswered keeps m.outcome (resume_unanswered past step m.outcome m.is)) t.lines t.sent (resume_link past m.next step m.outcome m.is m.link))
 
-  pub resume_sendable : client.Stands old → ResumeSendsWell old.schema old.id step → IfOk r (λ t. All IsSendable t.sent)
+  pub resume_sendable : client.Stands old → ResumeSendsWell old.schema old.id step → IfOk r (λ d. All IsSendable d.told.sent)
   resume_sendable some sends =
       let past = past_of old some.0 in
       let m = does.moves past (some.0, some.1, refl) in
       let t = tells past m.outcome m.is in
-      if_ok (λ t. All IsSendable t.sent) r (list_of told) is
+      if_ok (λ d. All IsSendable d.told.sent) r (done_of told None) is
       (told_sendable told.sent (λ message one. resume-each old.schema old.id past step m.outcome sends m.is message (sym t.sent ∙ one)))
 
 -- ---- a cut
@@ -207,13 +221,17 @@ cut_link : (past next : session.Client) (old : Client) (step : CutStep) (o : Out
 cut_link past next old (cuts.Cut number ended) o says link = subst (λ o. steps.KeepsLink past o next → KeepsLink WasCut (sent_of o) past next) (sym says.1) (λ down. (down, refl)) link
 cut_link past next old (cuts.Already number) o says link = subst (λ o. steps.KeepsLink past o next → KeepsLink WasCut (sent_of o) past next) (sym says) (λ down. (down, refl)) link
 
+cut_unanswered : (past : session.Client) (old : Client) (step : CutStep) (o : Outcome) → SaysCut past old step o → IsUnanswered o
+cut_unanswered past old (cuts.Cut number ended) o says = subst IsUnanswered (sym says.1) tt
+cut_unanswered past old (cuts.Already number) o says = subst IsUnanswered (sym says) tt
+
 pub cut_makes : {E : Type 0} (old new : Client) (step : CutStep) (r : Result (List TraceLine) E) → Cuts old new step
     → ((past : session.Client) (c : Client) (o : Outcome) (meaning : Query) → past.out ≡ out_of meaning c.out → SaysCut past c step o → IfOk r (λ lines. lines ≡ details old.id o ++ cut_line old.id o))
-    → (past : session.Client) → StandsFor past old → IfOk r (λ lines. Did old new past WasCut (record { lines = lines; sent = [] }))
-cut_makes {E} old new step r does tells past stands =
+    → (keeps : Bool) (past : session.Client) → StandsFor past old → IfOk r (λ lines. Did keeps old new past WasCut (silent lines))
+cut_makes {E} old new step r does tells keeps past stands =
     let m = does.moves past stands in
     let link = cut_link past m.next old step m.outcome m.is m.link in
-    IfOk-weaker r (λ lines. lines ≡ details old.id m.outcome ++ cut_line old.id m.outcome) (λ lines. Did old new past WasCut (record { lines = lines; sent = [] }))
-    (λ lines is. makes old new past WasCut (SaysCut past old step) (λ db. Unit {0}) (λ db. rules.CutStep past) m
-    (subst (All (IsFrom old.id)) (sym link.1) (All-nil (IsFrom old.id))) (λ db o next rule. rule) (λ db come. tt) lines [] is (sym link.1) link)
+    IfOk-weaker r (λ lines. lines ≡ details old.id m.outcome ++ cut_line old.id m.outcome) (λ lines. Did keeps old new past WasCut (silent lines))
+    (λ lines is. makes keeps old new past WasCut (SaysCut past old step) (λ db. Unit {0}) (λ db. rules.CutStep past) m
+    (subst (All (IsFrom old.id)) (sym link.1) (All-nil (IsFrom old.id))) (λ db o next rule. rule) (λ db come. tt) None lines [] (unanswered keeps m.outcome (cut_unanswered past old step m.outcome m.is)) is (sym link.1) link)
     (tells past old m.outcome stands.0.meaning (ap (λ (p : session.Client). p.out) stands.2) m.is)

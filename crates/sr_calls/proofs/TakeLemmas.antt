@@ -1,5 +1,5 @@
 -- What a client does with a message.
-use Rattle.std.proofs.Common.{◌≡◌, false, refl, sym, ◌∙◌, subst, Option, Some, None}
+use Rattle.std.proofs.Common.{◌≡◌, Bool, false, refl, sym, ◌∙◌, subst, Option, Some, None}
 use Rattle.std.specs.Prelude.{option_to_list}
 use Rattle.std.specs.List.{All}
 use Rattle.sr_message.specs.declared.message.Message.{Message}
@@ -24,10 +24,12 @@ use Rattle.sr_client.specs.Stands.{StandsFor, Truly, out_of, past_of}
 use Rattle.sr_client.specs.Steps.{SaysTook, Takes, is_bad}
 use Rattle.sr_world.specs.declared.lines.Told as world
 use Rattle.sr_world.proofs.ClientLemmas.{IsToldOf, took-each}
-use Rattle.sr_dial.specs.declared.parts.Told.{Told}
-use Rattle.sr_calls.specs.ClientEnds.{Did}
+use Rattle.sr_dial.specs.Following.{answer_of}
+use Rattle.sr_dial.specs.declared.parts.Answer.{Answer}
+use Rattle.sr_calls.specs.ClientEnds.{Did, done_of}
+use Rattle.sr_calls.specs.declared.calls.Done.{Done}
 use Rattle.sr_calls.proofs.Makes.{IsPlainOutcome, makes, plain_from, plain_link}
-use Rattle.sr_calls.proofs.StepLemmas.{list_of, told_sendable}
+use Rattle.sr_calls.proofs.StepLemmas.{told_sendable}
 
 -- what was not refused
 pub good_took : (step : Took) → ((why : BadFrame) → step ≡ took.Bad why → ⊥) → is_bad step ≡ false
@@ -56,22 +58,22 @@ took_plain (took.Bad why) o says = absurd says
 truly : (db : Database) (past : session.Client) (m : Message) → ComesTruly db past m → Truly db past m
 truly db past m come = record { connection = come.connection; session = come.session; is_open = come.is_open; rest = come.queue; first = come.first }
 
-module _ (old new : Client) (message : Message) (step : Took) (told : world.Told) (t : Told) (does : Takes old message new step) (good : is_bad step ≡ false)
-    (tells : (o : Outcome) → SaysTook step o → IsToldOf old.id taken_line o told) (is : t ≡ list_of told) where
-  pub take_makes : (past : session.Client) → StandsFor past old → Did old new past (links.Took message) t
+module _ (keeps : Bool) (old new : Client) (message : Message) (step : Took) (told : world.Told) (answer : Option Answer) (done : Done) (does : Takes old message new step) (good : is_bad step ≡ false)
+    (tells : (o : Outcome) → SaysTook step o → IsToldOf old.id taken_line o told) (answers : (o : Outcome) → SaysTook step o → answer ≡ answer_of keeps o) (is : done ≡ done_of told answer) where
+  pub take_makes : (past : session.Client) → StandsFor past old → Did keeps old new past (links.Took message) done
   take_makes past stands =
       let m = does.moves past stands good in
       let said = tells m.outcome m.is in
-      subst (Did old new past (links.Took message)) (sym is)
-      (makes old new past (links.Took message) (SaysTook step) (λ db. Truly db past message) (λ db. rules.TakeStep (basis_of db old.store.limits) past message) m
+      subst (Did keeps old new past (links.Took message)) (sym is)
+      (makes keeps old new past (links.Took message) (SaysTook step) (λ db. Truly db past message) (λ db. rules.TakeStep (basis_of db old.store.limits) past message) m
       (plain_from old.id m.outcome (took_plain step m.outcome m.is)) (λ db o next rule. rule) (λ db come. truly db past message come)
-      told.lines (option_to_list told.sent) said.lines said.sent (plain_link past m.next m.outcome (took_plain step m.outcome m.is) m.link))
+      answer told.lines (option_to_list told.sent) (answers m.outcome m.is) said.lines said.sent (plain_link past m.next m.outcome (took_plain step m.outcome m.is) m.link))
 
-  pub take_sendable : client.Stands old → TookSendsWell old.schema old.id step → All IsSendable t.sent
+  pub take_sendable : client.Stands old → TookSendsWell old.schema old.id step → All IsSendable done.told.sent
   take_sendable some sends =
       let m = does.moves (past_of old some.0) (some.0, some.1, refl) good in
       let said = tells m.outcome m.is in
-      subst (λ (t : Told). All IsSendable t.sent) (sym is)
+      subst (λ (d : Done). All IsSendable d.told.sent) (sym is)
       (told_sendable told.sent (λ one is_one. took-each old.schema old.id step m.outcome sends m.is one (sym said.sent ∙ is_one)))
 
 -- one that was taken need not be refused, whatever the past

@@ -1,33 +1,53 @@
--- What is true of a run of a new client over an honest link.
-use Rattle.std.specs.Prelude.{◌≡◌, ℕ, ◌<◌, List, [], ◌∷◌, ◌++◌, length}
+-- What is true of a run of a client over an honest link.
+use Rattle.std.specs.Prelude.{◌≡◌, ℕ, ◌<◌, Bool, true, List, [], ◌∷◌, ◌++◌, length}
+use Rattle.std.specs.List.{list_all}
 use Rattle.sr_cell.specs.declared.table.Table.{Table}
 use Rattle.sr_io.specs.Told.{Linking, Writing}
 use Rattle.sr_policy.specs.declared.policy.Limits.{Limits}
+use Rattle.sr_query.specs.Bound.{is_table}
 use Rattle.sr_reader.specs.declared.script.EventLine.{EventLine}
+use Rattle.sr_session.specs.Bases.{basis_of}
+use Rattle.sr_session.specs.Clients as session
+use Rattle.sr_session.specs.Headline.{KeepsToBudgets}
 use Rattle.sr_session.specs.Laws.{IsSound}
 use Rattle.sr_session.specs.Sessions.{Database}
-use Rattle.sr_client.specs.declared.client.Client.{Client}
 use Rattle.sr_server.specs.Servers.{Gives}
-use Rattle.sr_links.specs.Honest.{Server, Input, server_at_last}
-use Rattle.sr_dial.specs.Calls.{Task}
+use Rattle.sr_links.specs.Honest.{Server, Input, Rests, server_at_last}
+use Rattle.sr_links.specs.Steps.{Resumed}
+use Rattle.sr_plan.specs.Plans.{Plan, AllTasks, plan_of}
+use Rattle.sr_dial.specs.Calls.{Task, Do}
 use Rattle.sr_talk.specs.Serving.{Conversation}
-use Rattle.sr_dial.specs.Honest.{IsHonest, IsTrue}
+use Rattle.sr_dial.specs.Honest.{IsAskedFor, IsHonest, IsTrue}
 use Rattle.sr_dial.specs.Known.{AreTasks}
 use Rattle.sr_dial.specs.Served.{AreServedCalls}
 use Rattle.sr_dial.specs.declared.ending.Ending.{Ending}
-use Rattle.sr_calls.specs.Runs.{RanNew, new_past}
+use Rattle.sr_dial.specs.declared.parts.Answer.{Answer}
+use Rattle.sr_calls.specs.ClientEnds.{End, IsEnd}
+use Rattle.sr_calls.specs.Runs.{RanFrom, RanNew, new_past}
 
 -- Over an honest link each answer has the rows of its query on the server's tables at the version that it names, each ask asks just what
 -- is not covered, a covered query sends nothing, the client keeps to its budgets, versions never fall, and nothing that comes is refused:
--- whatever the schema and the limits are, and over any number of connections.
+-- whatever the plan is, over any number of connections, and from any client whose link is cut, that has the rows of its version on the
+-- server, within its budgets.
+abbrev pub HonestRunsAreTrue : Type 0
+HonestRunsAreTrue = (s : Server) (pieces : List (List Input)) (end left : End) (past : session.Client) (address : List ℕ) (plan : Plan Task Answer) (ended : Ending) (old new : Linking) (before after : Writing)
+    → list_all is_table end.client.schema ≡ true → Rests IsEnd s.database end past → KeepsToBudgets (basis_of s.database end.client.store.limits) past → AllTasks IsAskedFor plan
+    → (run : RanFrom end past address plan ended old new before after left) → IsHonest end.client.schema s pieces (run.run.ran.earlier ++ run.run.ran.last ∷ [])
+    → IsTrue (server_at_last s pieces).database end.client.store.limits past (run.run.ran.earlier ++ run.run.ran.last ∷ []) ended
+
+-- So it is of a new client, whatever the schema and the limits are.
 abbrev pub NewHonestRunsAreTrue : Type 0
-NewHonestRunsAreTrue = (id : ℕ) (address : List ℕ) (schema : List Table) (limits : Limits) (s : Server) (pieces : List (List Input)) (lines : List EventLine) (script : List (ℕ × Task)) (ended : Ending) (old new : Linking) (before after : Writing)
-    → AreTasks schema lines script → (run : RanNew id address schema limits script ended old new before after) → IsHonest schema s pieces (run.ran.ran.earlier ++ run.ran.ran.last ∷ [])
-    → IsTrue (server_at_last s pieces).database limits new_past (run.ran.ran.earlier ++ run.ran.ran.last ∷ []) ended
+NewHonestRunsAreTrue = (id : ℕ) (address : List ℕ) (schema : List Table) (limits : Limits) (keeps says : Bool) (s : Server) (pieces : List (List Input)) (plan : Plan Task Answer) (ended : Ending) (old new : Linking) (before after : Writing)
+    → AllTasks IsAskedFor plan → (run : RanNew id address schema limits keeps says plan ended old new before after) → IsHonest schema s pieces (run.ran.run.ran.earlier ++ run.ran.run.ran.last ∷ [])
+    → IsTrue (server_at_last s pieces).database limits new_past (run.ran.run.ran.earlier ++ run.ran.run.ran.last ∷ []) ended
 
 -- So it is of calls to a server that serves tables of this schema, at the versions that it has in the end.
 abbrev pub ServedRunsAreTrue : Type 0
-ServedRunsAreTrue = (id : ℕ) (address : List ℕ) (schema : List Table) (limits : Limits) (db last : Database) (talks : List Conversation) (lines : List EventLine) (script : List (ℕ × Task)) (ended : Ending) (old new : Linking) (before after : Writing)
-    → AreTasks schema lines script → (run : RanNew id address schema limits script ended old new before after) → db.schema ≡ schema → 0 < length db.versions → IsSound last
-    → AreServedCalls Client Gives db (run.ran.ran.earlier ++ run.ran.ran.last ∷ []) talks last
-    → IsTrue last limits new_past (run.ran.ran.earlier ++ run.ran.ran.last ∷ []) ended
+ServedRunsAreTrue = (id : ℕ) (address : List ℕ) (schema : List Table) (limits : Limits) (keeps says : Bool) (db last : Database) (talks : List Conversation) (plan : Plan Task Answer) (ended : Ending) (old new : Linking) (before after : Writing)
+    → AllTasks IsAskedFor plan → (run : RanNew id address schema limits keeps says plan ended old new before after) → db.schema ≡ schema → 0 < length db.versions → IsSound last
+    → AreServedCalls End Gives db (run.ran.run.ran.earlier ++ run.ran.run.ran.last ∷ []) talks last
+    → IsTrue last limits new_past (run.ran.run.ran.earlier ++ run.ran.run.ran.last ∷ []) ended
+
+-- No line of a script asks to take a message.
+abbrev pub ScriptsAreAskedFor : Type 0
+ScriptsAreAskedFor = (schema : List Table) (lines : List EventLine) (script : List (ℕ × Task)) → AreTasks schema lines script → AllTasks {A = Answer} IsAskedFor (plan_of ((0, Do Resumed) ∷ script))

@@ -1,12 +1,13 @@
 //! The client's end of its connections.
-ghost use Rattle.std.specs.Prelude.{◌≡◌, ◌≤◌, IsTrue};
+ghost use Rattle.std.specs.Prelude.{◌≡◌, ◌≤◌, None, IfOk, IsTrue};
 ghost use Rattle.std.specs.List.{list_all};
 ghost use Rattle.sr_query.specs.Bound.{is_table};
-ghost use Rattle.sr_client.specs.Stands.{new_client};
+ghost use Rattle.sr_calls.specs.ClientEnds.{IsReady, end_with};
+ghost use Rattle.sr_calls.specs.Runs.{new_end};
 
 use crate::calls;
 use sr_cell::fault::Fault;
-use sr_cell::list::NoMemory;
+use sr_cell::list::{Copied, NoMemory};
 use sr_cell::schema::Schema;
 use sr_client::client::Client;
 use sr_dial::parts::{Answer, Asks, Came, Told};
@@ -19,36 +20,66 @@ use sr_script::line::TraceLines;
 use std::alloc::Global;
 use std::marker::Model;
 
-/// A client that stands for some past, and whose number and limits the format has.
+/// A client that stands for some past, and whose number and limits the format has; whether the rows of answers are kept, so as to be
+/// lent, and whether a run writes lines; and the answer that is lent.
 #[derive(Drop)]
 pub struct ClientEnd {
-    pub client: Client,
+    client: Client,
+    keeps: bool,
+    says: bool,
+    answer: Option<Answer>,
 }
 
 impl Model for ClientEnd {
-    ghost use Rattle.sr_client.specs.declared.client.Client.{Client};
+    ghost use Rattle.sr_calls.specs.ClientEnds.{End, IsReady};
 
-    ghost Value = { Client };
+    ghost Value = { End };
 
-    ghost use Rattle.sr_calls.specs.ClientEnds.{IsReady};
-
-    ghost view = { λ e. e.client };
+    ghost view = { λ e. record { client = e.client; keeps = e.keeps; says = e.says; answer = e.answer } };
 
     ghost invariant = { λ e. IsReady e.client };
 }
 
 impl ClientEnd {
-    /// A client to which nothing has happened, and whose link is down; takes no memory.
-    pub(crate) fn new(alloc: Global, id: u8, schema: Schema, limits: Limits) -> ClientEnd
-        requires first { 1 ≤ id }
-        requires last { id ≤ 64 }
-        requires tables { IsTrue (list_all is_table schema) }
-        requires regions { limits.regions ≤ 1024 }
-        ensures { result ≡ new_client id schema limits }
+    /// The end of this client, which lends nothing yet; takes no memory.
+    pub fn new(client: Client, keeps: bool, says: bool) -> ClientEnd
+        requires { IsReady client }
+        ensures { result ≡ end_with keeps says client None }
     {
         ClientEnd {
-            client: Client::new(alloc, id, schema, limits),
+            client,
+            keeps,
+            says,
+            answer: None,
         }
+    }
+
+    /// The end of a client to which nothing has happened, and whose link is down.
+    pub fn of_new(
+        alloc: Global,
+        id: u8,
+        schema: &Schema,
+        limits: Limits,
+        keeps: bool,
+        says: bool,
+    ) -> Result<ClientEnd, NoMemory>
+        requires first { 1 ≤ id }
+        requires last { id ≤ 64 }
+        requires tables { IsTrue (list_all is_table schema.now) }
+        requires regions { limits.regions ≤ 1024 }
+        ensures { IfOk result (λ end. end ≡ new_end id schema.now limits keeps says) }
+    {
+        let own = schema.copy(alloc)?;
+        let client = Client::new(alloc, id, own, limits);
+        Ok(ClientEnd::new(client, keeps, says))
+    }
+
+    /// The client.
+    pub fn client(&self) -> &Client
+        ensures is { result.now ≡ self.now.client }
+        ensures ready { IsReady result.now }
+    {
+        &self.client
     }
 }
 
@@ -67,18 +98,24 @@ impl Asks for ClientEnd {
 
     ghost lent = { lent_by };
 
-    ghost room = { room_of };
+    ghost room = { λ e. room_of e.client };
 
     fn is_waiting(&self) -> bool {
         self.client.is_waiting()
     }
 
+    fn says(&self) -> bool {
+        self.says
+    }
+
     fn answer(&self) -> Option<&Answer> {
-        None
+        self.answer.as_ref()
     }
 
     fn act(&mut self, alloc: Global, event: Event) -> Result<Told, NoMemory> {
-        calls::act(alloc, &mut self.client, event)
+        let done = calls::act(alloc, &mut self.client, self.keeps, event)?;
+        self.answer = done.answer;
+        Ok(done.told)
     }
 
     fn explain(&self, alloc: Global, query: Result<Query, Fault>) -> Result<TraceLines, NoMemory> {
@@ -86,10 +123,14 @@ impl Asks for ClientEnd {
     }
 
     fn take(&mut self, alloc: Global, message: Message) -> Result<Came, NoMemory> {
-        calls::take(alloc, &mut self.client, message)
+        let taken = calls::take(alloc, &mut self.client, self.keeps, message)?;
+        self.answer = taken.answer;
+        Ok(taken.came)
     }
 
     fn cut(&mut self, alloc: Global) -> Result<TraceLines, NoMemory> {
-        calls::cut(alloc, &mut self.client)
+        let lines = calls::cut(alloc, &mut self.client)?;
+        self.answer = None;
+        Ok(lines)
     }
 }

@@ -1,9 +1,15 @@
-//! Laws of runs of `client`: functions that do nothing, and whose contracts are the laws.
-ghost use Rattle.sr_calls.specs.Honest.{NewHonestRunsAreTrue, ServedRunsAreTrue};
+//! Laws of runs of a client: functions that do nothing, and whose contracts are the laws.
+ghost use Rattle.sr_calls.specs.Honest.{HonestRunsAreTrue, NewHonestRunsAreTrue, ScriptsAreAskedFor, ServedRunsAreTrue};
 
-/// Over an honest link each answer that a run of `client` writes has the rows of its query on the server's tables at the version that it
-/// names, each ask asks just what is not covered, a covered query sends nothing, the client keeps to its budgets, versions never fall, and
-/// no message is refused, so that status 8 never comes.
+/// Over an honest link, whatever the plan is, each answer that a run of a client writes has the rows of its query on the server's tables
+/// at the version that it names, each ask asks just what is not covered, a covered query sends nothing, the client keeps to its budgets,
+/// versions never fall, and no message is refused, so that status 8 never comes. It is so from any client whose link is cut, and that has
+/// the rows of its version on the server, within its budgets.
+pub fn runs_from_any_client_are_true()
+    ensures { HonestRunsAreTrue }
+{}
+
+/// So it is of a new client.
 pub fn honest_runs_are_true()
     ensures { NewHonestRunsAreTrue }
 {}
@@ -11,4 +17,9 @@ pub fn honest_runs_are_true()
 /// So it is where each connection goes to a server that serves: at the versions that it has in the end.
 pub fn served_runs_are_true()
     ensures { ServedRunsAreTrue }
+{}
+
+/// The lines of a script are such a plan: none asks to take a message.
+pub fn scripts_are_asked_for()
+    ensures { ScriptsAreAskedFor }
 {}

@@ -1,7 +1,7 @@
-//! The client as `client` sees it, and a run of `client` once its words and files are read.
+//! The client at its end of a connection, and its run over a plan.
 #![tactic(auto)]
 
 pub mod calls;
-pub mod client;
 pub mod client_end;
 pub mod laws;
+pub mod run;

@@ -83,7 +83,7 @@ pub record Accepted (id : ℕ) (schema script : List ℕ) : Type 0 where
 
 -- of files over which a client ran
 pub accepted : (schema script : List ℕ) (words : ClientWords) (ending : Ending) (old new : Linking) (before after : Writing) → Ends schema script words ending old new before after → Accepted words.id schema script
-accepted schema script words ending old new before after ends = record { inside = ends.asked.inside; accepts = λ line fault r. ends.asked.accepts line fault r.first }
+accepted schema script words ending old new before after ends = record { inside = ends.asks.asked.inside; accepts = λ line fault r. ends.asks.asked.accepts line fault r.first }
 
 -- why a run ended with a status
 pub record Causes (held : List ℕ → Option (List ℕ)) (left : Option (List ℕ)) (words : ClientWords) (status : ℕ) : Type 0 where

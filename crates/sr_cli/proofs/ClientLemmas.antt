@@ -1,10 +1,12 @@
 -- How a run of `client` comes to its end.
-use Rattle.std.proofs.Common.{◌≡◌, ℕ, ◌⊎◌, true, List, [], ◌∷◌, inl, inr, refl, sym, ◌∙◌, ap, subst}
+use Rattle.std.proofs.Common.{◌≡◌, ℕ, ◌⊎◌, true, false, List, [], ◌∷◌, inl, inr, refl, sym, ◌∙◌, ap, subst}
 use Rattle.std.specs.Prelude.{Option, Some}
 use Rattle.std.specs.Cmp.{first_so, second_so}
 use Rattle.std.specs.List.{list_all, AllZip}
 use Rattle.sr_calls.specs.Runs.{RanNew}
 use Rattle.sr_cell.specs.declared.table.Table.{Table}
+use Rattle.sr_dial.specs.Following.{Ahead}
+use Rattle.sr_dial.specs.Jobs.{AreAhead}
 use Rattle.sr_dial.specs.Known.{IsTask, IsTaskLine, AreTasks}
 use Rattle.sr_dial.specs.declared.ending.Ending.{Ending}
 use Rattle.sr_dial.specs.declared.ending.Ending.TheVariants.{Faulty, Unwritten, Spoiled, Bad as BadMessage, Limit as TooMany}
@@ -12,6 +14,7 @@ use Rattle.sr_io.specs.Causes.{Rose}
 use Rattle.sr_io.specs.Told.{Reading, Linking, Writing}
 use Rattle.sr_lines.specs.Events.{ScriptEvent}
 use Rattle.sr_links.specs.Steps.{Queried, Wrote, Evicted, WasCut, Resumed}
+use Rattle.sr_plan.specs.Plans.{Next, plan_of}
 use Rattle.sr_reader.specs.declared.script.Event.{Event}
 use Rattle.sr_reader.specs.declared.script.Event.TheVariants as read
 use Rattle.sr_reader.specs.declared.script.EventLine.{EventLine}
@@ -23,7 +26,7 @@ use Rattle.sr_cell.specs.declared.fault.Fault.{Fault}
 use Rattle.sr_dial.specs.Calls.{Task, Do, Explain}
 use Rattle.sr_words.specs.declared.command.ClientWords.{ClientWords}
 use Rattle.sr_cli.specs.Files.{SomeTooLong}
-use Rattle.sr_cli.specs.Client.{Ends, IsTaskOf, NotRead, Stops, Untouched, ending_of, files_of, task_of}
+use Rattle.sr_cli.specs.Client.{AsksLines, Ends, IsTaskOf, NotRead, Stops, Untouched, ending_of, files_of, task_of}
 use Rattle.sr_cli.specs.declared.client.Stop.{Stop}
 use Rattle.sr_cli.specs.declared.client.Stop.TheVariants as stop
 use Rattle.sr_cli.specs.declared.report.Refusal.{Refusal}
@@ -62,12 +65,22 @@ tasks_of id tables (l ∷ lines) (e ∷ events) are own =
 
 -- ---- why it stops
 
+-- the lines of a script ask for their tasks
+pub some_ahead : (id : ℕ) (schema script : List ℕ) (tables : List Table) (lines : List EventLine) → IsAsked id schema script tables lines
+    → (ahead : Ahead) × AsksLines id schema script tables ahead × AreAhead tables lines ahead
+some_ahead id schema script tables lines asked =
+    let tasks = tasks_of id tables lines asked.asked.events asked.asked.are asked.asked.own in (
+      λ answer. plan_of tasks.0,
+      record { lines = lines; tasks = tasks.0; asked = asked; are = tasks.1; follow = tasks.2; ahead_is = refl },
+      record { tasks = tasks.0; are = tasks.1; ahead_is = λ answer. refl },
+    )
+
 -- a client that was set up ran, and ended so
 pub ends_by : (schema script : List ℕ) (words : ClientWords) (tables : List Table) (lines : List EventLine) (ending : Ending) (old new : Linking) (before after : Writing) → IsAsked words.id schema script tables lines
-    → ((tasks : List (ℕ × Task)) → AreTasks tables lines tasks → RanNew words.id words.address tables words.limits tasks ending old new before after) → Ends schema script words ending old new before after
+    → ((ahead : Ahead) → AreAhead tables lines ahead → RanNew words.id words.address tables words.limits false true (Next 0 (Do Resumed) ahead) ending old new before after) → Ends schema script words ending old new before after
 ends_by schema script words tables lines ending old new before after asked ran =
-    let tasks = tasks_of words.id tables lines asked.asked.events asked.asked.are asked.asked.own in
-    record { tables = tables; lines = lines; tasks = tasks.0; asked = asked; are = tasks.1; follow = tasks.2; ran = ran tasks.0 tasks.1 }
+    let some = some_ahead words.id schema script tables lines asked in
+    record { tables = tables; ahead = some.0; asks = some.1; ran = ran some.0 some.2 }
 
 ends_as : (schema script : List ℕ) (words : ClientWords) (old new : Linking) (before after : Writing) (ending other : Ending) → (let some : Option Ending = Some other in some) ≡ Some ending → Ends schema script words ending old new before after
     → Ends schema script words other old new before after

@@ -1,9 +1,10 @@
 -- What `client` does, and why it ends with each status.
-use Rattle.std.specs.Prelude.{◌≡◌, ℕ, ◌⊎◌, List, [], ◌∷◌, Option, Some, None}
+use Rattle.std.specs.Prelude.{◌≡◌, ℕ, ◌⊎◌, true, false, List, [], ◌∷◌, Option, Some, None}
 use Rattle.std.specs.List.{AllZip}
 use Rattle.sr_calls.specs.Runs.{RanNew}
 use Rattle.sr_cell.specs.declared.fault.Fault.{Fault}
 use Rattle.sr_cell.specs.declared.table.Table.{Table}
+use Rattle.sr_dial.specs.Following.{Ahead}
 use Rattle.sr_dial.specs.Known.{AreTasks}
 use Rattle.sr_dial.specs.declared.ending.Ending.{Ending}
 use Rattle.sr_dial.specs.declared.ending.Ending.TheVariants.{Whole, Faulty, Unwritten, Spoiled, Bad as BadMessage, Limit as TooMany}
@@ -12,6 +13,7 @@ use Rattle.sr_io.specs.Told.{Reading, Writing, Linking, complained}
 use Rattle.sr_lines.specs.Events.{ScriptEvent, DoQuery, DoWrite, DoExplain, DoEvict, DoCut, DoResume}
 use Rattle.sr_lines.specs.Script.{LinePlace}
 use Rattle.sr_links.specs.Steps.{Queried, Wrote, Evicted, WasCut, Resumed}
+use Rattle.sr_plan.specs.Plans.{Next, plan_of}
 use Rattle.sr_reader.specs.declared.script.EventLine.{EventLine}
 use Rattle.sr_setup.specs.ClientFiles.{client_outside, ClientRefuses, IsAsked}
 use Rattle.sr_setup.specs.declared.client_setup.ClientFault.{ClientFault}
@@ -54,16 +56,23 @@ task_of other = None
 abbrev pub IsTaskOf : ℕ × ScriptEvent → ℕ × Task → Type 0
 IsTaskOf event numbered = (task : Task) × (task_of event.1 ≡ Some task) × (numbered ≡ (event.0, task))
 
--- Files are judged and read, and the client of this number ran over a link: it resumed, did what the events of the script ask, dialled
--- nothing but the address in its words, and ended so.
-pub record Ends (schema script : List ℕ) (words : ClientWords) (ending : Ending) (old new : Linking) (before after : Writing) : Type 0 where
-  pub tables : List Table
+-- Files are judged and read, and this is ahead of their client behind its first resume: the tasks of the script's events, in order, whatever
+-- is answered.
+pub record AsksLines (id : ℕ) (schema script : List ℕ) (tables : List Table) (ahead : Ahead) : Type 0 where
   pub lines : List EventLine
   pub tasks : List (ℕ × Task)
-  pub asked : IsAsked words.id schema script tables lines
+  pub asked : IsAsked id schema script tables lines
   pub are : AreTasks tables lines tasks
   pub follow : AllZip IsTaskOf asked.asked.events tasks
-  pub ran : RanNew words.id words.address tables words.limits tasks ending old new before after
+  pub ahead_is : ahead ≡ (λ answer. plan_of tasks)
+
+-- Files are judged and read, and the client of this number ran over a link: it resumed, did what they ask, dialled nothing but the address
+-- in its words, and ended so.
+pub record Ends (schema script : List ℕ) (words : ClientWords) (ending : Ending) (old new : Linking) (before after : Writing) : Type 0 where
+  pub tables : List Table
+  pub ahead : Ahead
+  pub asks : AsksLines words.id schema script tables ahead
+  pub ran : RanNew words.id words.address tables words.limits false true (Next 0 (Do Resumed) ahead) ending old new before after
 
 -- the same, of files that were read
 pub record Dialled (held : List ℕ → Option (List ℕ)) (words : ClientWords) (ending : Ending) (old new : Linking) (before after : Writing) : Type 0 where

@@ -1,5 +1,13 @@
 //! Running a script as a client of a server.
-ghost use Rattle.std.specs.Prelude.{◌≡◌, ℕ, List, ◌⊎◌, ◌<◌, ◌≤◌, ◌^◌, length, Some, IfSome, IfOk, IfErr, OnOk, IsErrOf};
+ghost use Rattle.std.specs.Prelude.{◌≡◌, ℕ, List, ◌⊎◌, ◌<◌, ◌≤◌, ◌^◌, true, false, length, Some, IfSome, IfOk, IfErr, OnOk, IsErrOf, IsTrue};
+ghost use Rattle.std.specs.List.{list_all};
+ghost use Rattle.sr_query.specs.Bound.{is_table};
+ghost use Rattle.sr_links.specs.Steps.{Resumed};
+ghost use Rattle.sr_plan.specs.Plans.{Next};
+ghost use Rattle.sr_dial.specs.Calls.{Do};
+ghost use Rattle.sr_dial.specs.Following.{Ahead};
+ghost use Rattle.sr_talk.specs.Rounds.{OnlyOutput};
+ghost use Rattle.sr_calls.specs.Runs.{RanNew};
 ghost use Rattle.sr_io.specs.Causes.{Rose};
 ghost use Rattle.sr_io.specs.Told.{complained};
 ghost use Rattle.sr_dial.specs.declared.ending.Ending.TheVariants.{Whole, Faulty, Unwritten, Limit as TooMany};
@@ -13,9 +21,12 @@ ghost use Rattle.sr_cli.specs.declared.report.Refusal.TheVariants.{Read};
 use crate::file::{ReadFault, read_file};
 use crate::frames::{report_bad, report_limit, report_spoiled};
 use crate::report::{Refusal, report, unread};
-use sr_calls::client::client;
-use sr_cell::list::{Bytes, No};
+use sr_calls::client_end::ClientEnd;
+use sr_calls::run::run_plan;
+use sr_cell::list::{Bytes, No, NoMemory};
+use sr_cell::schema::Schema;
 use sr_dial::ending::Ending;
+use sr_dial::plans::{Plans, Script as Lines};
 use sr_io::outside::Host;
 use sr_reader::script::Script;
 use sr_setup::client_setup::{ClientFault, set_up_client};
@@ -153,18 +164,33 @@ fn client_read<H: Host>(
         Err(No::NoMemory) => return Err(Stop::Refused(Refusal::Memory)),
         Err(No::Refused(fault)) => return Err(Stop::Refused(refusal_of(fault))),
     };
-    match client(
-        alloc,
-        host,
-        words.id,
-        schema,
-        words.limits,
-        words.address.as_str(),
-        lines,
-    ) {
+    let mut lines = Lines::new(lines);
+    match run_new(alloc, words, &schema, &mut lines, host) {
         Ok(ending) => end_by(ending),
         Err(_) => Err(Stop::Refused(Refusal::Memory)),
     }
+}
+
+/// Runs a plan over these tables as a new client.
+fn run_new<H: Host, P: Plans>(
+    alloc: Global,
+    words: &ClientWords,
+    schema: &Schema,
+    plans: &mut P,
+    host: &mut H,
+) -> Result<Ending, NoMemory>
+    requires first { 1 ≤ words.now.id }
+    requires last { words.now.id ≤ 64 }
+    requires tables { IsTrue (list_all is_table schema.now) }
+    requires regions { words.now.limits.regions ≤ 1024 }
+    requires asks { (ahead : Ahead) × P.follows schema.now plans.old ahead }
+    requires few { P.depth plans.old < 2 ^ 40 }
+    ensures ran { (ahead : Ahead) → P.follows schema.now plans.old ahead → IfOk result (λ ended. RanNew words.now.id words.now.address schema.now words.now.limits false true (Next 0 (Do Resumed) ahead) ended (H.linking host.old) (H.linking host.new) (H.writing host.old) (H.writing host.new)) }
+    ensures stays { OnlyOutput H H.reading H.held H.complaints H.IsSteady host.old host.new }
+{
+    let mut end = ClientEnd::of_new(alloc, words.id, schema, words.limits, false, true)?;
+    let address = words.address.as_str();
+    run_plan(alloc, host, &mut end, schema.as_slice(), address, plans)
 }
 
 fn refusal_of(fault: ClientFault) -> Refusal

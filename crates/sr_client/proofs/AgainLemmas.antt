@@ -17,7 +17,7 @@ use Rattle.sr_store.specs.Told.{told_of, IsTrueOf}
 use Rattle.sr_store.specs.Stores.{drop_of}
 use Rattle.sr_store.proofs.Absorbing.{drops_all}
 use Rattle.sr_store.proofs.Covering.{none_held}
-use Rattle.sr_store.proofs.Fewer.{none_store}
+use Rattle.sr_store.proofs.Fewer.{none_store, none_settled}
 use Rattle.sr_store.proofs.Stepping.{dropped_marks}
 use Rattle.sr_session.specs.Sessions.{Database, tables_of}
 use Rattle.sr_session.specs.Clients.{asks_again}
@@ -49,7 +49,6 @@ use Rattle.sr_client.proofs.MoveLemmas.{takes-by}
 use Rattle.sr_client.proofs.OverLemmas.{on, IsHere, stands-over}
 use Rattle.sr_client.proofs.SendLemmas.{whole-rects}
 use Rattle.sr_client.proofs.SendableLemmas.{ask-sent}
-use Rattle.sr_client.proofs.ShortLemmas.{counted-short}
 use Rattle.sr_client.proofs.TableLemmas.{have-first}
 
 -- the second ask of the query
@@ -111,6 +110,7 @@ module _ (c : Client) (o : code.AskOut) (number version : ℕ) (fit : IsFit (ask
       );
       fit = tt;
       store = none_store c.schema c.store.regions f.store;
+      settled = λ is. none_settled c.schema;
       keeps = keeps;
       queries = f.queries;
       last = f.last;
@@ -131,7 +131,7 @@ module _ (c : Client) (o : code.AskOut) (number version : ℕ) (fit : IsFit (ask
     pub again-sent : IsWellSent c.schema c.id (Ask c.next_request true whole)
     again-sent =
         ask-sent c.schema c.id c.next_request true (with_marks h.marks (map (drop_of Lapsed) c.store.regions)) (counted h.counted_from h.queries) o.query h.meaning (whole_asks o.query.parts) f.tables f.meant.0 asks some
-        (counted-short h.counted_from h.queries f.short)
+        f.short
         (whole-along c.schema o.query.parts (counted h.counted_from h.queries) (All-nil (λ (g : Region). EndWith c.schema (counted h.counted_from h.queries) g.table g.rects)) f.meant.1) (whole-rects c.schema o.query h.meaning f.meant.0)
 
     again-goes : (db : Database) → IsHere db (asking c o) → Truly (on c db) (past_of (asking c o) h) (Reply number version)

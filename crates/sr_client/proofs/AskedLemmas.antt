@@ -20,11 +20,11 @@ use Rattle.sr_history.specs.Classes.{stamp}
 use Rattle.sr_lines.specs.Sound.{is_sound_part}
 use Rattle.sr_region.specs.declared.region.Region.{Region}
 use Rattle.sr_store.specs.Classes.{Stamps, Keeps, IsStamped}
-use Rattle.sr_store.specs.Stores.{IsStore}
+use Rattle.sr_store.specs.Stores.{IsStore, IsSettled}
 use Rattle.sr_store.specs.Noticed.{told_to}
-use Rattle.sr_store.proofs.Fewer.{none_store}
+use Rattle.sr_store.proofs.Fewer.{none_store, none_settled}
 use Rattle.sr_store.proofs.Noticing.{notices-classes}
-use Rattle.sr_store.proofs.Storing.{store-told}
+use Rattle.sr_store.proofs.Storing.{store-told, settled-told}
 use Rattle.sr_store.proofs.Telling.{only-rows}
 use Rattle.sr_session.specs.Clients.{IsOut}
 use Rattle.sr_session.specs.Laws.{AsksKey}
@@ -91,6 +91,20 @@ after-store schema (Hello wire client number ∷ ms) gs store tells = after-stor
 after-store schema (Resume wire client number version holdings ∷ ms) gs store tells = after-store schema ms gs store (All-tail (TellsRows schema) (Resume wire client number version holdings) ms tells)
 after-store schema (Ask number fresh parts ∷ ms) gs store tells = after-store schema ms gs store (All-tail (TellsRows schema) (Ask number fresh parts) ms tells)
 after-store schema (Write number sql ∷ ms) gs store tells = after-store schema ms gs store (All-tail (TellsRows schema) (Write number sql) ms tells)
+
+pub after-settled : (schema : List Table) (ms : List Message) (gs : List Region) → IsSettled schema gs → IsSettled schema (after_messages ms gs)
+after-settled schema [] gs settled = settled
+after-settled schema (Notice w told ∷ ms) gs settled = after-settled schema ms (map (told_to told) gs) (settled-told schema told gs settled)
+after-settled schema (Lapse w ∷ ms) gs settled = after-settled schema ms [] (none_settled schema)
+after-settled schema (Rows k part rows ∷ ms) gs settled = after-settled schema ms gs settled
+after-settled schema (Reply k w ∷ ms) gs settled = after-settled schema ms gs settled
+after-settled schema (Written k w ∷ ms) gs settled = after-settled schema ms gs settled
+after-settled schema (Refused k fault ∷ ms) gs settled = after-settled schema ms gs settled
+after-settled schema (Welcome k w kept ∷ ms) gs settled = after-settled schema ms gs settled
+after-settled schema (Hello wire client number ∷ ms) gs settled = after-settled schema ms gs settled
+after-settled schema (Resume wire client number version holdings ∷ ms) gs settled = after-settled schema ms gs settled
+after-settled schema (Ask number fresh parts ∷ ms) gs settled = after-settled schema ms gs settled
+after-settled schema (Write number sql ∷ ms) gs settled = after-settled schema ms gs settled
 
 pub only-fresh : (fresh lapse : Bool) → (not fresh && lapse) ≡ false → lapse ≡ true → fresh ≡ true
 only-fresh true lapse whole is = refl

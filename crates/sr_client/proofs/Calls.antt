@@ -16,7 +16,7 @@ use Rattle.sr_region.specs.Regions.{is_in}
 use Rattle.sr_store.specs.declared.store.Arrival.{Arrival}
 use Rattle.sr_store.specs.declared.store.Store.{Store}
 use Rattle.sr_store.specs.Told.{Told, IsTold, AreTrueOf}
-use Rattle.sr_store.specs.Stores.{IsStore}
+use Rattle.sr_store.specs.Stores.{IsStore, IsSettled}
 use Rattle.sr_store.specs.Answered.{giving_way, HaveArrived, IsGivenUp, rects_on}
 use Rattle.sr_store.specs.Fitted.{lasts_of, IsAnswered}
 use Rattle.sr_store.specs.Renewing.{IsCutFrom}
@@ -33,6 +33,7 @@ pub record IsAfter (schema : List Table) (number : ℕ) (parts : List Part) (arr
   pub answered : IsAnswered schema old.limits number parts arrivals old.regions new.regions marks ⊎ IsGivenUp schema parts arrivals old.regions new.regions marks
   pub cuts : All (IsCutFrom schema (rects_on old.regions parts arrivals)) new.regions
   pub store : IsStore schema new.regions
+  pub settled : IsSettled schema new.regions
   pub true_still : (told : Told) → IsTold schema told → AreTrueOf told (giving_way arrivals old.regions) → HaveArrived told arrivals → AreTrueOf told new.regions
   pub last : new.last ≡ lasts_of schema parts
   pub limits : new.limits ≡ old.limits

@@ -32,6 +32,7 @@ cut-facts c h f = record {
   meant = tt;
   fit = tt;
   store = f.store;
+  settled = f.settled;
   keeps = f.keeps;
   queries = f.queries;
   last = f.last;

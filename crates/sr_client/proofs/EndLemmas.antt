@@ -67,7 +67,7 @@ rects_on-end schema queries regions parts arrivals t a b c =
 
 -- ---- more queries
 
-parts_on-append : (t : ℕ) (a b : List Query) → parts_on t (a ++ b) ≡ parts_on t a ++ parts_on t b
+pub parts_on-append : (t : ℕ) (a b : List Query) → parts_on t (a ++ b) ≡ parts_on t a ++ parts_on t b
 parts_on-append t a b =
     ap (filter (λ part. part.table == t)) (flat_map-append (λ (q : Query). q.parts) a b)
     ∙ filter-append (λ (part : model.Part). part.table == t) (flat_map (λ (q : Query). q.parts) a) (flat_map (λ (q : Query). q.parts) b)

@@ -13,7 +13,7 @@ use Rattle.sr_store.specs.Stores.{drop_of}
 use Rattle.sr_store.specs.Told.{told_of, IsTrueOf}
 use Rattle.sr_store.proofs.Absorbing.{drop_at}
 use Rattle.sr_store.proofs.Classing.{are_classes, have_classes}
-use Rattle.sr_store.proofs.Dropping.{evicted_all, evicted_store}
+use Rattle.sr_store.proofs.Dropping.{evicted_all, evicted_store, evicted_settled}
 use Rattle.sr_store.proofs.Stepping.{evicted_marks}
 use Rattle.sr_store.proofs.Fewer.{fewer_rows}
 use Rattle.sr_session.specs.Sessions.{tables_of}
@@ -96,6 +96,7 @@ facts-without c h place g f out there = record {
   meant = subst (IsMeant c.schema (counted h.counted_from h.queries) h.meaning) (sym out) tt;
   fit = f.fit;
   store = evicted_store c.schema place c.store.regions f.store;
+  settled = λ is. evicted_settled c.schema place c.store.regions (f.settled is);
   keeps = evicted_marks c.schema Asked h.marks (stamp h.queries) place c.store.regions g there f.keeps;
   queries = f.queries;
   last = f.last;

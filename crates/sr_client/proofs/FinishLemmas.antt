@@ -1,5 +1,5 @@
 -- What is known where the reply of an ask comes.
-use Rattle.std.proofs.Common.{◌≡◌, ℕ, ◌+◌, true, false, List, [], ◌∷◌, ◌++◌, map, length, refl, sym, ◌∙◌, ap, subst, arith}
+use Rattle.std.proofs.Common.{◌≡◌, ℕ, ◌+◌, ◌-◌, true, false, List, [], ◌∷◌, ◌++◌, map, length, refl, sym, ◌∙◌, ap, subst, arith}
 use Rattle.std.specs.Prelude.{◌&&◌, ◌||◌, ◌==◌}
 use Rattle.std.specs.List.{list_all, list_any, All, AllZip}
 use Rattle.std.proofs.lemmas.List.Elements.{All-nil, All-cons, All-head, All-tail}
@@ -23,11 +23,11 @@ use Rattle.sr_client.specs.Cutting.{EndWith, RegionsEnd, PartsEnd}
 use Rattle.sr_client.specs.Laying.{asking}
 use Rattle.sr_client.specs.declared.client.AskOut as code
 use Rattle.sr_client.specs.declared.client.Client.{Client}
-use Rattle.sr_client.specs.Stands.{Hidden, Facts, past_of}
+use Rattle.sr_client.specs.Stands.{Hidden, Facts, HaveShortEnds, past_of}
 use Rattle.sr_client.specs.Values.{has_values}
 use Rattle.sr_client.proofs.AskedLemmas.{after-all, is-out, laid-store, laid-keeps}
 use Rattle.sr_client.proofs.CameLemmas.{CameRight, all-arrive, all-apart, all-apiece, all-own}
-use Rattle.sr_client.proofs.CountLemmas.{counted-answered}
+use Rattle.sr_client.proofs.CountLemmas.{counted-answered, set-length}
 use Rattle.sr_client.proofs.HeavyLemmas.{WereAsked}
 use Rattle.sr_client.proofs.KeptLemmas.{IsAnswering}
 use Rattle.sr_client.proofs.LastLemmas.{last-with-answered}
@@ -124,6 +124,10 @@ module _ (c : Client) (o : code.AskOut) (h : Hidden) (f : Facts (asking c o) h) 
       were = were-asked c.schema c.laid o.parts;
       nothing = λ none. ap (λ asks. arrivals_of c.schema asks c.laid) none;
       from = let few = f.from in let number = (is-out c o h f).1.query_is in omega (arith, few, number);
+      count =
+          let long : length (with_answered o.query_number h.meaning h.queries) ≡ length h.queries = set-length h.queries (o.query_number - 1) (record { query = h.meaning; answered = true }) in
+          let number = (is-out c o h f).1.query_is in omega (arith, long, number);
+      short = subst HaveShortEnds (sym same) f.short;
       regions_end = subst (λ qs. RegionsEnd c.schema qs (after_messages c.laid c.store.regions)) (sym same)
           (after-all (λ x. EndWith c.schema (counted h.counted_from h.queries) x.table x.rects) (λ x rows e. e) c.laid c.store.regions f.ends);
       parts_end = subst (λ qs. PartsEnd c.schema qs o.query.parts) (sym same) f.meant.1;

@@ -1,5 +1,5 @@
 -- A client that has given all up stands for some past.
-use Rattle.std.proofs.Common.{◌≡◌, ℕ, zero, suc, false, List, [], ◌∷◌, length, refl, ap, arith, ◌∙◌}
+use Rattle.std.proofs.Common.{◌≡◌, ℕ, ◌+◌, zero, suc, false, List, [], ◌∷◌, length, refl, ap, arith, ◌∙◌}
 use Rattle.std.specs.Prelude.{fold, if◌then◌else◌}
 use Rattle.std.proofs.lemmas.List.Elements.{All-nil}
 use Rattle.sr_cell.specs.declared.table.Table.{Table}
@@ -8,9 +8,11 @@ use Rattle.sr_history.specs.Classes.{Numbered, stamp}
 use Rattle.sr_history.specs.Marks.{is_held}
 use Rattle.sr_store.specs.Classes.{Keeps}
 use Rattle.sr_store.specs.Stores.{IsStore}
-use Rattle.sr_store.proofs.Fewer.{none_store}
+use Rattle.sr_store.proofs.Fewer.{none_store, none_settled}
+use Rattle.sr_session.specs.Clients.{from_query}
 use Rattle.sr_client.specs.declared.client.Client.{Client}
-use Rattle.sr_client.specs.Stands.{Hidden, Facts, Stands, Stays, KeepsNumbers, given_up, cuts_down, asks_short}
+use Rattle.sr_client.specs.Stands.{Hidden, Facts, Stands, Stays, KeepsNumbers, HaveShortEnds, given_up, cuts_down}
+use Rattle.sr_client.proofs.CountLemmas.{counted-none}
 use Rattle.std.specs.List.{list_all}
 use Rattle.sr_query.specs.Bound.{is_table}
 use Rattle.std.proofs.Common.{true, subst, sym}
@@ -32,12 +34,8 @@ blank-last : (n : ℕ) (parts : List Part) → fold (λ parts (q : Numbered). if
 blank-last zero parts = refl
 blank-last (suc n) parts = blank-last n parts
 
-blank-short : (n : ℕ) → list_all (λ (q : Numbered). asks_short q.query) (blank n) ≡ true
-blank-short zero = refl
-blank-short (suc n) = blank-short n
-
 abbrev nothing_known : ℕ → Hidden
-nothing_known n = record { marks = []; queries = blank n; counted_from = 0; meaning = no_query }
+nothing_known n = record { marks = []; queries = blank n; counted_from = from_query (length (blank n) + 1); meaning = no_query }
 
 nothing-kept : (schema : List Table) (queries : List Numbered) → Keeps schema (is_held []) (stamp queries) []
 nothing-kept schema queries = record { points = λ t a p point. refl; stamped = All-nil _ }
@@ -50,13 +48,14 @@ given-facts old h c cuts f same = record {
   meant = tt;
   fit = tt;
   store = none_store c.schema old.store.regions (subst (λ s. IsStore s old.store.regions) (sym same) f.store);
+  settled = λ is. none_settled c.schema;
   keeps = nothing-kept c.schema (blank c.queries);
   queries = blank-length c.queries;
   last = subst (λ ps. AreLast c.schema ps []) (sym (blank-last c.queries [])) refl;
   rows = omega arith;
   few = omega arith;
   from = omega arith;
-  short = blank-short c.queries;
+  short = subst HaveShortEnds (sym (counted-none (length (blank c.queries)) (blank c.queries) (omega arith))) (λ t k. refl);
   ends = All-nil _;
 }
 

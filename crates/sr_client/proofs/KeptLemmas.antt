@@ -42,12 +42,14 @@ use Rattle.sr_store.proofs.Meeting.{fitted_meets_budgets, fitted_meets_told_budg
 use Rattle.sr_store.proofs.Stepping.{AreStampsAfter, dropped_marks}
 use Rattle.sr_session.specs.Sessions.{Database, tables_of}
 use Rattle.sr_session.specs.Clients as session
-use Rattle.sr_session.specs.Clients.{answered}
+use Rattle.sr_session.specs.Clients.{Counting, answered, from_query}
 use Rattle.sr_session.specs.Rules.{Answering, AnswerStep, Holds, counted, renewed, given_up}
 use Rattle.sr_session.specs.Bases.{basis_of}
 use Rattle.sr_session.specs.Brought.{told_basis}
 use Rattle.sr_client.specs.Cutting.{EndWith, RegionsEnd, PartsEnd}
+use Rattle.sr_client.specs.Stands.{HaveShortEnds}
 use Rattle.sr_client.proofs.Calls.{IsAfter, none-arrived}
+use Rattle.sr_client.proofs.CountLemmas.{counted-none}
 use Rattle.sr_client.proofs.EndLemmas.{rects_on-end}
 use Rattle.sr_client.proofs.FitLemmas.{fitted-keeps}
 use Rattle.sr_client.proofs.HeavyLemmas.{WereAsked, heavy-load, light}
@@ -68,7 +70,9 @@ pub record IsAnswering (schema : List Table) (number : ℕ) (parts : List Part) 
   pub holds : AllZip (Holds schema) asked (map held_of arrivals)
   pub were : WereAsked arrivals asked
   pub nothing : asked ≡ [] → arrivals ≡ []
-  pub from : c.counted_from ≤ number + 1
+  pub from : c.counted_from.from ≤ number + 1
+  pub count : length queries ≤ number
+  pub short : HaveShortEnds (counted c.counted_from queries)
   pub regions_end : RegionsEnd schema (counted c.counted_from queries) old.regions
   pub parts_end : PartsEnd schema (counted c.counted_from queries) parts
   pub arrivals_end : All (λ r. EndWith schema (counted c.counted_from queries) r.table r.rects) arrivals
@@ -80,8 +84,9 @@ pub record AreTrue (schema : List Table) (tables : Tables) (arrivals : List Arri
   pub arrived : HaveArrived (told_of tables) arrivals
 
 -- What is kept then: the regions are the classes of what is held, within the limits; queries from this number on count.
-pub record IsKept (schema : List Table) (number from : ℕ) (queries : List Numbered) (c : session.Client) (marks : List Mark) (new : Store) : Type 0 where
-  pub few : from ≤ number + 1
+pub record IsKept (schema : List Table) (number : ℕ) (from : Counting) (queries : List Numbered) (c : session.Client) (marks : List Mark) (new : Store) : Type 0 where
+  pub few : from.from ≤ number + 1
+  pub short : HaveShortEnds (counted from queries)
   pub points : Keeps schema (is_held (with_marks c.marks marks)) (stamp queries) new.regions
   pub ends : RegionsEnd schema (counted from queries) new.regions
   pub rows : count_rows new.regions ≤ new.limits.rows
@@ -93,10 +98,10 @@ cut-ends schema queries given gs ends cuts =
     All-weaker (IsCutFrom schema given) (λ (g : Region). EndWith schema queries g.table g.rects)
     (λ g cut. cuts_keep_ends (table_at schema g.table).columns (parts_on g.table queries) (given g.table) g.rects cut (ends g.table)) gs cuts
 
--- the first query that counts once this one is answered
-abbrev pub from_of : {A B : Type 0} → ℕ → ℕ → A ⊎ B → ℕ
+-- whose tests count once this one is answered
+abbrev pub from_of : {A B : Type 0} → ℕ → Counting → A ⊎ B → Counting
 from_of number from (inl r) = from
-from_of number from (inr g) = number + 1
+from_of number from (inr g) = from_query (number + 1)
 
 module _ (schema : List Table) (number : ℕ) (parts : List Part) (arrivals : List Arrival) (old : Store) (asked : List AskPart) (q : Query) (queries : List Numbered) (c : session.Client)
     (h : IsAnswering schema number parts arrivals old asked q queries c) (new : Store) (marks : List Mark) (a : IsAfter schema number parts arrivals old new marks) where
@@ -123,6 +128,7 @@ module _ (schema : List Table) (number : ℕ) (parts : List Part) (arrivals : Li
       ap (with_marks c.marks) all ∙ (with_marks-append c.marks held (ren.absorbed ++ r.drops) ∙ with_marks-append (with_marks c.marks held) ren.absorbed r.drops) in
       record {
         few = h.from;
+        short = h.short;
         points = subst (λ ms. Keeps schema (is_held ms) (stamp queries) new.regions) (sym after)
             (fitted-keeps schema old.limits (lasts_of schema parts) before (stamp queries) r.mid new.regions r.drops r.fitted ren.keeps);
         ends = cut-ends schema (counted c.counted_from queries) (rects_on old.regions parts arrivals) new.regions all-end a.cuts;
@@ -130,14 +136,15 @@ module _ (schema : List Table) (number : ℕ) (parts : List Part) (arrivals : Li
         regions = subst (λ (l : Limits). length new.regions ≤ l.regions) (sym a.limits) left.regions;
       }
 
-  kept-nothing : IsGivenUp schema parts arrivals old.regions new.regions marks → IsKept schema number (number + 1) queries c marks new
+  kept-nothing : IsGivenUp schema parts arrivals old.regions new.regions marks → IsKept schema number (from_query (number + 1)) queries c marks new
   kept-nothing g =
       let left = subst (λ ms. Keeps schema (is_held (with_marks c.marks ms)) (stamp c.queries) []) (sym g.marks_are) (dropped_marks schema Pieces c.marks (stamp c.queries) old.regions h.keeps) in
       let none : Keeps schema (is_held (with_marks c.marks marks)) (stamp queries) [] = record { points = left.points; stamped = All-nil (IsStamped schema (stamp queries)) } in
       record {
         few = omega arith;
+        short = subst HaveShortEnds (sym (counted-none number queries h.count)) (λ t k. refl);
         points = subst (Keeps schema (is_held (with_marks c.marks marks)) (stamp queries)) (sym g.left) none;
-        ends = subst (RegionsEnd schema (counted (number + 1) queries)) (sym g.left) (All-nil (λ (r : Region). EndWith schema (counted (number + 1) queries) r.table r.rects));
+        ends = subst (RegionsEnd schema (counted (from_query (number + 1)) queries)) (sym g.left) (All-nil (λ (r : Region). EndWith schema (counted (from_query (number + 1)) queries) r.table r.rects));
         rows = subst (λ gs. count_rows gs ≤ new.limits.rows) (sym g.left) (omega arith);
         regions = subst (λ (gs : List Region). length gs ≤ new.limits.regions) (sym g.left) (omega arith);
       }
@@ -199,7 +206,7 @@ module _ (schema : List Table) (number : ℕ) (parts : List Part) (arrivals : Li
         renewed marks (record { held = held; absorbed = ren.absorbed; drops = r.drops; holds = h.holds; absorbs = ren.absorbs; budgets = met; all = all })
 
     told-nothing : IsGivenUp schema parts arrivals old.regions new.regions marks
-        → AnswerStep (told_basis schema old.limits told) (answering version) c marks (answered c queries (number + 1) version marks)
+        → AnswerStep (told_basis schema old.limits told) (answering version) c marks (answered c queries (from_query (number + 1)) version marks)
     told-nothing g =
         let all : DropsAll schema c.marks c.queries Pieces marks = subst (DropsAll schema c.marks c.queries Pieces) (sym g.marks_are) (drops_all schema c.marks c.queries Pieces old.regions first h.store.each h.store.order h.keeps) in
         given_up marks (record { heavy = is-heavy g.heavy; drops = all; some = is-some g.heavy g.marks_are })
@@ -237,7 +244,7 @@ module _ (schema : List Table) (number : ℕ) (parts : List Part) (arrivals : Li
         renewed marks (record { held = held; absorbed = ren.absorbed; drops = r.drops; holds = h.holds; absorbs = ren.absorbs; budgets = met.0; all = all })
 
     step-nothing : IsGivenUp schema parts arrivals old.regions new.regions marks
-        → AnswerStep (basis_of over old.limits) (answering version) c marks (answered c queries (number + 1) version marks)
+        → AnswerStep (basis_of over old.limits) (answering version) c marks (answered c queries (from_query (number + 1)) version marks)
     step-nothing g =
         let all : DropsAll schema c.marks c.queries Pieces marks = subst (DropsAll schema c.marks c.queries Pieces) (sym g.marks_are) (drops_all schema c.marks c.queries Pieces old.regions first h.store.each h.store.order h.keeps) in
         given_up marks (record { heavy = is-heavy g.heavy; drops = all; some = is-some g.heavy g.marks_are })

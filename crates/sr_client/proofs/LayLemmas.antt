@@ -81,6 +81,7 @@ module _ (c : Client) (m : Message) (r : code.Request) (out : c.out ≡ Some r) 
       meant = f.meant;
       fit = fit-more c.schema (out_of h.meaning c.out) c.version [] c.laid m f.fit (fit h.meaning);
       store = f.store;
+      settled = f.settled;
       keeps = f.keeps;
       queries = f.queries;
       last = f.last;

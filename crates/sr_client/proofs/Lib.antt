@@ -46,6 +46,7 @@ mod SendableLemmas
 mod SendsLemmas
 mod SettleLemmas
 mod ShortLemmas
+mod StartLemmas
 mod SuitLemmas
 mod TableLemmas
 mod ToldLemmas

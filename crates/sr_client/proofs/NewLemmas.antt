@@ -9,7 +9,9 @@ use Rattle.sr_query.specs.Bound.{is_table}
 use Rattle.sr_history.specs.Marks.{is_held}
 use Rattle.sr_history.specs.Classes.{stamp}
 use Rattle.sr_store.specs.Classes.{Keeps}
+use Rattle.sr_store.proofs.Fewer.{none_settled}
 use Rattle.sr_session.specs.Sessions.{Database}
+use Rattle.sr_session.specs.Clients.{from_query}
 use Rattle.sr_session.specs.Laws.{IsSound}
 use Rattle.sr_session.specs.Scenes.{new_pair}
 use Rattle.sr_client.specs.Stands.{Hidden, Facts, Stands, StandsOver, new_client, opened_client}
@@ -19,7 +21,7 @@ abbrev pub no_query : Query
 no_query = record { parts = []; joins = []; outputs = [] }
 
 abbrev pub at_first : Hidden
-at_first = record { marks = []; queries = []; counted_from = 0; meaning = no_query }
+at_first = record { marks = []; queries = []; counted_from = from_query 0; meaning = no_query }
 
 pub nothing-kept : (schema : List Table) → Keeps schema (is_held []) (stamp []) []
 nothing-kept schema = record { points = λ t a p point. refl; stamped = All-nil _ }
@@ -32,13 +34,14 @@ new-facts id schema limits tables = record {
   meant = tt;
   fit = tt;
   store = no-store schema;
+  settled = λ is. none_settled schema;
   keeps = nothing-kept schema;
   queries = refl;
   last = refl;
   rows = omega arith;
   few = omega arith;
   from = omega arith;
-  short = refl;
+  short = λ t c. refl;
   ends = All-nil _;
 }
 
@@ -50,13 +53,14 @@ opened-facts id schema limits tables = record {
   meant = tt;
   fit = tt;
   store = no-store schema;
+  settled = λ is. none_settled schema;
   keeps = nothing-kept schema;
   queries = refl;
   last = refl;
   rows = omega arith;
   few = omega arith;
   from = omega arith;
-  short = refl;
+  short = λ t c. refl;
   ends = All-nil _;
 }
 

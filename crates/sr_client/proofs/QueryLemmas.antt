@@ -17,7 +17,7 @@ use Rattle.sr_store.specs.Answered.{IsArrival}
 use Rattle.sr_store.specs.declared.store.Arrival.{Arrival}
 use Rattle.sr_session.specs.Sessions.{Database, tables_of}
 use Rattle.sr_session.specs.Clients as session
-use Rattle.sr_session.specs.Clients.{answered}
+use Rattle.sr_session.specs.Clients.{Counting, answered}
 use Rattle.sr_session.specs.Rules.{number_of, answering_now, counted, query_busy, query_answered, query_down, AnswerStep}
 use Rattle.sr_session.specs.Rules as rules
 use Rattle.sr_session.specs.Tidy.{IsTidyWith}
@@ -29,14 +29,14 @@ use Rattle.sr_client.specs.Bound.{IsMeaning}
 use Rattle.sr_client.specs.declared.client.Client.{Client}
 use Rattle.sr_client.specs.declared.client.Request as code
 use Rattle.sr_client.specs.declared.steps.QueryStep.TheVariants.{Answered, Busy, Down}
-use Rattle.sr_client.specs.Stands.{Hidden, Facts, Stands, StandsOver, past_of, out_of, request_of, IsMeant, AreFit}
+use Rattle.sr_client.specs.Stands.{Hidden, Facts, HaveShortEnds, Stands, StandsOver, past_of, out_of, request_of, IsMeant, AreFit}
 use Rattle.sr_client.specs.Steps.{Queries}
 use Rattle.sr_client.proofs.Calls.{Answers, IsAfter, none-arrived}
 use Rattle.sr_client.proofs.KeptLemmas.{IsAnswering, AreTrue, from_of, kept, kept-true, kept-told, still-told, kept-last, answer-step, told-step}
 use Rattle.sr_client.proofs.MeantLemmas.{are-sound, is-joinable, parts-fit}
 use Rattle.sr_client.proofs.MoveLemmas.{queries-by}
 use Rattle.sr_client.proofs.OverLemmas.{on, IsHere, stands-over}
-use Rattle.sr_client.proofs.ShortLemmas.{shorts-more, meaning-short}
+use Rattle.sr_client.proofs.ShortLemmas.{meaning-short, short-append}
 use Rattle.sr_client.proofs.CoverLemmas.{all-held}
 use Rattle.sr_client.specs.Cutting.{PartsEnd, EndWith, RegionsEnd}
 use Rattle.sr_client.proofs.LastLemmas.{last-answered}
@@ -126,6 +126,8 @@ is-answering c h q m f is =
       were = λ t a some. absurd (cc);
       nothing = λ none. refl;
       from = let few = f.from in omega (arith, few);
+      count = let long = length-append h.queries (record { query = m; answered = true } ∷ []) in omega (arith, long);
+      short = subst HaveShortEnds (sym more) (short-append all (m ∷ []) f.short (meaning-short s q m is));
       regions_end = subst (λ qs. RegionsEnd s qs c.store.regions) (sym more) (regions-more s all (m ∷ []) c.store.regions f.ends);
       parts_end = subst (λ qs. PartsEnd s qs q.parts) (sym more) (parts-end s all m [] q.parts m.parts refl is.query.parts);
       arrivals_end = All-nil (λ (r : Arrival). EndWith s (counted h.counted_from (with_query h m)) r.table r.rects);
@@ -140,7 +142,7 @@ module _ (c : Client) (q : Query) (m : model.Query) (store : Store) (marks : Lis
     answering : IsAnswering c.schema (length h.queries + 1) q.parts [] c.store [] m (with_query h m) (past_of c h)
     answering = is-answering c h q m f is
 
-    abbrev from : ℕ
+    abbrev from : Counting
     from = from_of (length h.queries + 1) h.counted_from after.answered
 
     abbrev later : Hidden
@@ -160,13 +162,14 @@ module _ (c : Client) (q : Query) (m : model.Query) (store : Store) (marks : Lis
           meant = subst (IsMeant c.schema (counted from (with_query h m)) h.meaning) (sym out) tt;
           fit = subst (AreFit c.schema (out_of h.meaning c.out) c.version []) (sym laid) tt;
           store = made.store;
+          settled = λ is. made.settled;
           keeps = k.points;
           queries = more ∙ ap (λ n. n + 1) f.queries;
           last = kept-last c.schema (length h.queries + 1) q.parts [] c.store [] m (with_query h m) (past_of c h) answering store marks after;
           rows = k.rows;
           few = k.regions;
           from = let few = k.few in omega (arith, few, more);
-          short = shorts-more h.queries m true f.short (meaning-short c.schema q m is);
+          short = k.short;
           ends = k.ends;
         }
 

@@ -1,6 +1,5 @@
 -- What the reply of an ask does.
-use Rattle.std.proofs.Common.{◌≡◌, ℕ, zero, suc, ◌-◌, true, false, List, [], ◌∷◌, length, refl, sym, ◌∙◌, ap, subst, arith, Some, None}
-use Rattle.std.specs.Prelude.{slice_set}
+use Rattle.std.proofs.Common.{◌≡◌, ℕ, ◌-◌, true, false, List, [], ◌∷◌, length, refl, sym, ◌∙◌, ap, subst, arith, Some, None}
 use Rattle.std.specs.List.{list_all}
 use Rattle.sr_cell.specs.Cells.{Row}
 use Rattle.sr_message.specs.declared.message.Message.TheVariants.{Reply}
@@ -14,7 +13,7 @@ use Rattle.sr_store.specs.Told.{Told}
 use Rattle.sr_store.proofs.Bringing.{arrivals-are-told}
 use Rattle.sr_session.specs.Sessions.{Database, tables_of}
 use Rattle.sr_session.specs.Clients as session
-use Rattle.sr_session.specs.Clients.{answered, mirror_of}
+use Rattle.sr_session.specs.Clients.{Counting, answered, mirror_of}
 use Rattle.sr_session.specs.Laws.{IsAnswerable}
 use Rattle.sr_session.specs.Regions.{AreAt, after_messages}
 use Rattle.sr_session.specs.Rules.{AnswerStep, answers, answering_then, with_answered, is_given_up}
@@ -39,6 +38,7 @@ use Rattle.sr_client.proofs.ByToldLemmas.{by-told, laid-told, reply-own}
 use Rattle.sr_client.proofs.SuitLemmas.{reply-later}
 use Rattle.sr_client.proofs.Calls.{Answers, IsAfter}
 use Rattle.sr_client.proofs.CameLemmas.{CameOf, all-came, there-all}
+use Rattle.sr_client.proofs.CountLemmas.{set-length}
 use Rattle.sr_client.proofs.FinishLemmas.{allows, apiece, came-right, answering}
 use Rattle.sr_client.proofs.KeptLemmas.{IsAnswering, AreTrue, from_of, kept, kept-true, kept-told, kept-last, answer-step, told-step}
 use Rattle.sr_client.proofs.MeantLemmas.{are-sound, is-joinable, tables-differ}
@@ -46,12 +46,6 @@ use Rattle.sr_client.proofs.MirrorLemmas.{at-mirror}
 use Rattle.sr_client.proofs.MoveLemmas.{takes-by}
 use Rattle.sr_client.proofs.OverLemmas.{on, IsHere}
 use Rattle.sr_client.proofs.PartsLemmas.{EachFrom, each-at}
-use Rattle.sr_client.proofs.ShortLemmas.{shorts-set, meaning-short}
-
-set-length : (qs : List Numbered) (n : ℕ) (x : Numbered) → length (slice_set qs n x) ≡ length qs
-set-length [] n x = refl
-set-length (q ∷ qs) zero x = refl
-set-length (q ∷ qs) (suc n) x = ap (λ k. suc k) (set-length qs n x)
 
 -- ---- the query is answered
 
@@ -73,7 +67,7 @@ module _ (c : Client) (o : code.AskOut) (number version : ℕ) (store : Store) (
         (with_answered o.query_number h.meaning h.queries) (past_of (asking c o) h)
     know = answering c o h f values whole
 
-    abbrev from : ℕ
+    abbrev from : Counting
     from = from_of o.query_number h.counted_from made.answered
 
     abbrev later : Hidden
@@ -92,6 +86,7 @@ module _ (c : Client) (o : code.AskOut) (number version : ℕ) (store : Store) (
           meant = tt;
           fit = tt;
           store = made.store;
+          settled = λ is. made.settled;
           keeps = k.points;
           queries = count ∙ f.queries;
           last = kept-last c.schema o.query_number o.query.parts (arrivals_of c.schema o.parts c.laid) (record c.store { regions = after_messages c.laid c.store.regions }) o.parts h.meaning
@@ -99,7 +94,7 @@ module _ (c : Client) (o : code.AskOut) (number version : ℕ) (store : Store) (
           rows = k.rows;
           few = k.regions;
           from = let few = k.few in omega (arith, few, count, number_is);
-          short = shorts-set h.queries (o.query_number - 1) h.meaning true f.short (meaning-short c.schema o.query h.meaning f.meant.0);
+          short = k.short;
           ends = k.ends;
         }
 

@@ -18,13 +18,13 @@ use Rattle.sr_store.specs.Stores.{drop_of}
 use Rattle.sr_store.specs.Noticed.{told_to, IsTellOf}
 use Rattle.sr_store.specs.Fitted.{IsFitted}
 use Rattle.sr_store.proofs.Absorbing.{drops_all}
-use Rattle.sr_store.proofs.Fewer.{fitted_fit_still, none_store}
+use Rattle.sr_store.proofs.Fewer.{fitted_fit_still, none_store, none_settled}
 use Rattle.sr_store.specs.Brought.{nothing_told, tells_all}
 use Rattle.sr_store.proofs.Bringing.{notices-are-told}
 use Rattle.sr_store.proofs.Meeting.{fitted_meets_budgets, fitted_meets_told_budgets}
 use Rattle.sr_store.proofs.Noticing.{notices-classes}
 use Rattle.sr_store.proofs.Stepping.{dropped_marks}
-use Rattle.sr_store.proofs.Storing.{store-told}
+use Rattle.sr_store.proofs.Storing.{store-told, settled-told}
 use Rattle.sr_store.proofs.Telling.{only-rows}
 use Rattle.sr_session.specs.Sessions.{Database, newest, tables_of}
 use Rattle.sr_session.specs.Places.{held}
@@ -94,6 +94,7 @@ module _ (c : Client) (version : ℕ) (told : List Tell) (new : List Region) (dr
           meant = f.meant;
           fit = subst (AreFit c.schema (out_of h.meaning c.out) version []) (sym laid) tt;
           store = still.store (store-told c.schema told c.store.regions f.store tells);
+          settled = λ is. still.settled (settled-told c.schema told c.store.regions (f.settled is));
           keeps = fitted-keeps c.schema c.store.limits c.store.last h.marks (stamp h.queries) (map (told_to told) c.store.regions) new drops fitted noticed-keeps;
           queries = f.queries;
           last = f.last;
@@ -174,6 +175,7 @@ module _ (c : Client) (version : ℕ) (out : c.out ≡ None) (fit : IsFit c (Lap
           meant = f.meant;
           fit = subst (AreFit c.schema (out_of h.meaning c.out) version []) (sym laid) tt;
           store = none_store c.schema c.store.regions f.store;
+          settled = λ is. none_settled c.schema;
           keeps = dropped_marks c.schema Lapsed h.marks (stamp h.queries) c.store.regions f.keeps;
           queries = f.queries;
           last = f.last;

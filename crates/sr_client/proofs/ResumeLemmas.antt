@@ -89,6 +89,7 @@ resuming-facts c h f down =
       meant = tt;
       fit = subst (AreFit c.schema (Some (ResumeOut c.next_request)) c.version []) (sym laid) tt;
       store = f.store;
+      settled = f.settled;
       keeps = f.keeps;
       queries = f.queries;
       last = f.last;
@@ -98,6 +99,9 @@ resuming-facts c h f down =
       short = f.short;
       ends = f.ends;
     }
+
+pub resuming-stands : (c : Client) → Stands c → c.cut ≡ true → Stands (resuming c)
+resuming-stands c stands down = (stands.0, resuming-facts c stands.0 stands.1 down)
 
 pub resume-sent : (c : Client) (message : Message) → Stands c → c.cut ≡ true → message ≡ first_of c c.store.regions → Resumes c (resuming c) (Sent c.next_request message)
 resume-sent c message stands down told = resumes-by c (resuming c) (Sent c.next_request message) (λ h f. record {

@@ -25,11 +25,12 @@ use Rattle.sr_store.specs.Told.{Told, told_of, IsTrueOf}
 use Rattle.sr_store.specs.Stores.{drop_of, IsOfSchema}
 use Rattle.sr_store.proofs.Absorbing.{drops_all}
 use Rattle.sr_store.proofs.Covering.{all_none, keeps_same}
-use Rattle.sr_store.proofs.Fewer.{none_store}
+use Rattle.sr_store.proofs.Fewer.{none_store, none_settled}
 use Rattle.sr_store.proofs.Stamping.{stamp_none}
 use Rattle.sr_store.proofs.Stepping.{dropped_marks}
 use Rattle.sr_session.specs.Sessions.{Database, tables_of}
 use Rattle.sr_session.specs.Clients as session
+use Rattle.sr_session.specs.Clients.{from_query}
 use Rattle.sr_session.specs.Walks.{AskOut, AreLaid}
 use Rattle.sr_session.specs.Rules.{Before, as_it_is, emptied, counted, with_ask, query_asks}
 use Rattle.sr_session.specs.Rules as rules
@@ -46,10 +47,10 @@ use Rattle.sr_client.specs.Cutting.{EndWith, RegionsEnd, PartsEnd, AsksEnd, AreC
 use Rattle.sr_client.specs.Sending.{next_ask, with_out, asked_step, IsSent}
 use Rattle.sr_client.specs.declared.client.Client.{Client}
 use Rattle.sr_client.specs.declared.steps.QueryStep.{QueryStep}
-use Rattle.sr_client.specs.Stands.{Hidden, Facts, Stands, past_of, out_of, IsMeant, AreFit}
+use Rattle.sr_client.specs.Stands.{Hidden, Facts, HaveShortEnds, Stands, past_of, out_of, IsMeant, AreFit}
 use Rattle.sr_client.specs.Steps.{SaysQuery, Queries}
 use Rattle.sr_client.proofs.AskLemmas.{asks-whole, whole-along, whole-narrow}
-use Rattle.sr_client.proofs.CountLemmas.{counted-more}
+use Rattle.sr_client.proofs.CountLemmas.{counted-more, counted-none}
 use Rattle.sr_client.proofs.EndLemmas.{regions-more, parts-end}
 use Rattle.sr_client.proofs.HeavyLemmas.{heavy-parts}
 use Rattle.sr_client.proofs.LastLemmas.{last-asked}
@@ -58,7 +59,7 @@ use Rattle.sr_client.proofs.MoveLemmas.{MovesHere, queries-by}
 use Rattle.sr_client.proofs.OverLemmas.{on, IsHere, with_regions}
 use Rattle.sr_client.proofs.QueryLemmas.{none-laid, left-here}
 use Rattle.sr_client.proofs.Renewal.{HaveFirst}
-use Rattle.sr_client.proofs.ShortLemmas.{shorts-more, meaning-short}
+use Rattle.sr_client.proofs.ShortLemmas.{meaning-short, short-append}
 use Rattle.sr_client.proofs.TableLemmas.{have-first}
 
 is-empty : (gs : List Region) → is_empty gs ≡ true → gs ≡ []
@@ -158,13 +159,14 @@ module _ (c : Client) (q : Query) (m : model.Query) (asks : List AskPart) (may :
     meant = (may.is, subst (λ qs. PartsEnd c.schema qs q.parts) (sym more) own-end, subst (λ qs. AsksEnd c.schema qs asks) (sym more) ask-ends, may.few);
     fit = subst (AreFit c.schema (Some (AskOut c.next_request (c.queries + 1) m fresh asks)) c.version []) (sym laid) tt;
     store = f.store;
+    settled = f.settled;
     keeps = keeps_same c.schema (is_held h.marks) (is_held h.marks) (stamp h.queries) (stamp (asked_hidden h m).queries) c.store.regions (λ t a p point. refl) (λ t a p point. sym (stamp_none h.queries m t a p)) f.keeps;
     queries = counts ∙ ap (λ n. n + 1) f.queries;
     last = subst (λ ps. AreLast c.schema ps c.store.last) (sym (last-asked h.queries m)) f.last;
     rows = f.rows;
     few = f.few;
     from = let few = f.from in omega (arith, few, counts);
-    short = shorts-more h.queries m false f.short (meaning-short c.schema q m may.is);
+    short = subst HaveShortEnds (sym more) (short-append (counted h.counted_from h.queries) (m ∷ []) f.short (meaning-short c.schema q m may.is));
     ends = subst (λ qs. RegionsEnd c.schema qs c.store.regions) (sym more) ends;
   }
 
@@ -256,7 +258,7 @@ load-heavy c h q m is f over =
 
 -- what is hidden once all is dropped before the next query
 abbrev dropped_hidden : Hidden → List Mark → Hidden
-dropped_hidden h drops = record h { marks = with_marks h.marks drops; counted_from = length h.queries + 1 }
+dropped_hidden h drops = record h { marks = with_marks h.marks drops; counted_from = from_query (length h.queries + 1) }
 
 pub facts-dropped : (c : Client) (h : Hidden) → Facts c h → c.out ≡ None → Facts (with_regions c []) (dropped_hidden h (map (drop_of Pieces) c.store.regions))
 facts-dropped c h f out =
@@ -265,17 +267,18 @@ facts-dropped c h f out =
       tables = f.tables;
       tidy = subst (λ o. IsTidyWith c.schema (past_of (with_regions c []) (dropped_hidden h (map (drop_of Pieces) c.store.regions))) (out_of h.meaning o)) (sym out) (none-laid c h f out);
       down = f.down;
-      meant = subst (IsMeant c.schema (counted (length h.queries + 1) h.queries) h.meaning) (sym out) tt;
+      meant = subst (IsMeant c.schema (counted (from_query (length h.queries + 1)) h.queries) h.meaning) (sym out) tt;
       fit = f.fit;
       store = none_store c.schema c.store.regions f.store;
+      settled = λ is. none_settled c.schema;
       keeps = dropped_marks c.schema Pieces h.marks (stamp h.queries) c.store.regions f.keeps;
       queries = f.queries;
       last = f.last;
       rows = omega arith;
       few = omega arith;
       from = omega arith;
-      short = f.short;
-      ends = All-nil (λ (g : Region). EndWith c.schema (counted (length h.queries + 1) h.queries) g.table g.rects);
+      short = subst HaveShortEnds (sym (counted-none (length h.queries) h.queries (omega arith))) (λ t k. refl);
+      ends = All-nil (λ (g : Region). EndWith c.schema (counted (from_query (length h.queries + 1)) h.queries) g.table g.rects);
     }
 
 -- all is dropped; where nothing was held the client stays as it is

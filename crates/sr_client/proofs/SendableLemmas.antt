@@ -37,13 +37,13 @@ use Rattle.sr_client.specs.Bound.{IsMeaning}
 use Rattle.sr_client.specs.Cutting.{EndWith, AsksEnd}
 use Rattle.sr_client.specs.Sends.{IsWellSent, IsOfFormat, QuerySendsWell, first_of}
 use Rattle.sr_client.specs.Sending.{IsSent}
-use Rattle.sr_client.specs.Stands.{Hidden, Facts, Stands, asks_short}
+use Rattle.sr_client.specs.Stands.{Hidden, Facts, Stands, HaveShortEnds}
 use Rattle.sr_client.specs.declared.client.Client.{Client}
 use Rattle.sr_client.specs.declared.steps.QueryStep.{QueryStep}
 use Rattle.sr_client.proofs.ResumeLemmas.{first-well}
 use Rattle.sr_client.proofs.SendLemmas.{MayAsk, are-asked, ask-ends}
 use Rattle.sr_client.proofs.SendsLemmas.{ask-well, own-columns}
-use Rattle.sr_client.proofs.ShortLemmas.{rects-may, counted-short, meaning-short}
+use Rattle.sr_client.proofs.ShortLemmas.{rects-may, meaning-short, short-append}
 
 -- ---- numbers
 
@@ -73,7 +73,7 @@ has-columns (table ∷ schema) zero tables there = one-table table (and_parts (i
 has-columns (table ∷ schema) (suc t) tables there = has-columns schema t (and_parts (is_table table) (list_all is_table schema) tables).1 (omega (arith, there))
 
 -- rects of a table, which end only where tests of these queries do
-table-rects : (schema : List Table) (t : ℕ) (queries : List model.Query) (rects : List Rect) → list_all is_table schema ≡ true → t < length schema → list_all asks_short queries ≡ true
+table-rects : (schema : List Table) (t : ℕ) (queries : List model.Query) (rects : List Rect) → list_all is_table schema ≡ true → t < length schema → HaveShortEnds queries
     → EndWith schema queries t rects → (rects ≡ [] → ⊥) → length rects ≤ 16384 → list_all (rect_fits (table_at schema t).columns) rects ≡ true → may_write_rects rects ≡ true
 table-rects schema t queries rects tables there short ends some few fits =
     let columns = has-columns schema t tables there in
@@ -95,7 +95,7 @@ asks-full schema marks parts asks nothing = All-nil IsFull
 asks-full schema marks parts asks (covered part others more none rest) = asks-full schema marks others more rest
 asks-full schema marks parts asks (asked part others ask more is rest) = All-cons IsFull ask more (rest-full schema marks part ask is) (asks-full schema marks others more rest)
 
-ask-may : (schema : List Table) (queries : List model.Query) (ask : AskPart) → list_all is_table schema ≡ true → list_all asks_short queries ≡ true → part_suits schema ask ≡ true
+ask-may : (schema : List Table) (queries : List model.Query) (ask : AskPart) → list_all is_table schema ≡ true → HaveShortEnds queries → part_suits schema ask ≡ true
     → EndWith schema queries ask.table ask.rects → IsFull ask → length ask.rects ≤ 16384 → may_write_part ask ≡ true
 ask-may schema queries ask tables short suits ends full few =
     let table : Table = table_at schema ask.table in
@@ -109,7 +109,7 @@ ask-may schema queries ask tables short suits ends full few =
     both_true (from-to 0 4095 ask.attrs (omega arith) (attrs-few ask.attrs (length (table_at schema ask.table).columns) own.0 columns.few))
     (table-rects schema ask.table queries ask.rects tables there short ends full few fits.1)
 
-asks-may : (schema : List Table) (queries : List model.Query) (asks : List AskPart) → list_all is_table schema ≡ true → list_all asks_short queries ≡ true → list_all (part_suits schema) asks ≡ true
+asks-may : (schema : List Table) (queries : List model.Query) (asks : List AskPart) → list_all is_table schema ≡ true → HaveShortEnds queries → list_all (part_suits schema) asks ≡ true
     → AsksEnd schema queries asks → All IsFull asks → count_asked asks ≤ 16384 → list_all may_write_part asks ≡ true
 asks-may schema queries [] tables short suit ends full few = refl
 asks-may schema queries (ask ∷ asks) tables short suit ends full few =
@@ -126,7 +126,7 @@ some-asks (ask ∷ asks) some = omega arith
 
 -- an ask that asks something, in few rects that end only where tests of short texts do
 pub ask-sent : (schema : List Table) (client number : ℕ) (fresh : Bool) (marks : List Mark) (queries : List model.Query) (q : Query) (m : model.Query) (asks : List AskPart) → list_all is_table schema ≡ true → IsMeaning schema q m
-    → Asks schema marks m.parts asks → (asks ≡ [] → ⊥) → list_all asks_short queries ≡ true → AsksEnd schema queries asks → count_asked asks ≤ most_rects → IsWellSent schema client (Ask number fresh asks)
+    → Asks schema marks m.parts asks → (asks ≡ [] → ⊥) → HaveShortEnds queries → AsksEnd schema queries asks → count_asked asks ≤ most_rects → IsWellSent schema client (Ask number fresh asks)
 ask-sent schema client number fresh marks queries q m asks tables is rest some short ends few =
     let well = ask-well schema client number fresh marks q m asks is rest in
     let parts = and_parts (list_all (part_suits schema) asks) (nat_le (length asks) 4) well in
@@ -143,7 +143,7 @@ pub sent-well : (c : Client) (q : Query) (m : model.Query) (asks : List AskPart)
 sent-well c q m asks drops h new step may f sent =
     subst (QuerySendsWell c.schema c.id) (sym sent.told)
     (ask-sent c.schema c.id c.next_request (is_empty c.store.regions) h.marks (counted h.counted_from h.queries ++ m ∷ []) q m asks f.tables may.is (are-asked c q m asks may h f) may.some
-    (list_all-append asks_short (counted h.counted_from h.queries) (m ∷ []) ∙ both_true (counted-short h.counted_from h.queries f.short) (both_true (meaning-short c.schema q m may.is) refl))
+    (short-append (counted h.counted_from h.queries) (m ∷ []) f.short (meaning-short c.schema q m may.is))
     (ask-ends c q m asks may h f) may.few)
 
 -- ---- writes
@@ -159,7 +159,7 @@ write-sent-well schema client number sql few = record {
 abbrev EndsWith : List Table → List model.Query → Region → Type 0
 EndsWith schema queries g = EndWith schema queries g.table g.rects
 
-held-may : (schema : List Table) (queries : List model.Query) (gs : List Region) → list_all is_table schema ≡ true → length schema ≤ 16 → list_all asks_short queries ≡ true → All (IsOfSchema schema) gs
+held-may : (schema : List Table) (queries : List model.Query) (gs : List Region) → list_all is_table schema ≡ true → length schema ≤ 16 → HaveShortEnds queries → All (IsOfSchema schema) gs
     → All (EndsWith schema queries) gs → count_rects gs ≤ 16384 → list_all (may_write_holding 2) (map region_holding gs) ≡ true
 held-may schema queries [] tables most short each ends few = refl
 held-may schema queries (g ∷ gs) tables most short each ends few =
@@ -199,7 +199,7 @@ first-sendable c h f format most (g ∷ gs) same =
     few_are_sendable (Resume 2 c.id c.next_request c.version (map region_holding (g ∷ gs)))
     (both_true (from-to 1 64 c.id format.first format.last)
     (both_true (from-to 1 1024 (length (map region_holding (g ∷ gs))) (omega arith) (omega (arith, long, regions, room)))
-    (held-may c.schema (counted h.counted_from h.queries) (g ∷ gs) f.tables most (counted-short h.counted_from h.queries f.short) each ends rects)))
+    (held-may c.schema (counted h.counted_from h.queries) (g ∷ gs) f.tables most f.short each ends rects)))
     (le-leb (count_held (map region_holding (g ∷ gs))) most_rects (omega (arith, count, rects)))
 
 pub first-sent : (c : Client) → Stands c → IsOfFormat c → length c.schema ≤ 16 → IsWellSent c.schema c.id (first_of c c.store.regions)

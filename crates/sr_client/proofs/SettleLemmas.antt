@@ -16,10 +16,10 @@ use Rattle.sr_history.specs.Classes.{stamp}
 use Rattle.sr_region.specs.declared.region.Region.{Region}
 use Rattle.sr_store.specs.Classes.{Keeps}
 use Rattle.sr_store.specs.Fitted.{IsFitted, count_rows}
-use Rattle.sr_store.specs.Stores.{IsStore, drop_of}
+use Rattle.sr_store.specs.Stores.{IsStore, IsSettled, drop_of}
 use Rattle.sr_store.specs.Told.{Told, told_of, AreTrueOf, IsTrueOf}
 use Rattle.sr_store.proofs.Absorbing.{drops_all}
-use Rattle.sr_store.proofs.Fewer.{fitted_fit_still, none_store}
+use Rattle.sr_store.proofs.Fewer.{fitted_fit_still, none_store, none_settled}
 use Rattle.sr_store.specs.Brought.{nothing_told, IsToldOf}
 use Rattle.sr_store.proofs.Meeting.{fitted_meets_budgets, fitted_meets_told_budgets}
 use Rattle.sr_store.proofs.Stepping.{dropped_marks}
@@ -49,7 +49,7 @@ use Rattle.sr_client.specs.Settling.{settled_at, SettlesTo, WelcomesTo}
 use Rattle.sr_client.specs.Stands.{Hidden, Facts, Stands, Truly, IsFit, AreFit, past_of, out_of}
 use Rattle.sr_client.specs.Steps.{KeepsLink, SaysTook, Takes}
 use Rattle.sr_client.specs.Values.{has_values}
-use Rattle.sr_client.proofs.AskedLemmas.{after-all, after-keeps, after-store}
+use Rattle.sr_client.proofs.AskedLemmas.{after-all, after-keeps, after-settled, after-store}
 use Rattle.sr_client.proofs.FitLemmas.{fitted-keeps}
 use Rattle.sr_client.proofs.MirrorLemmas.{at-mirror}
 use Rattle.sr_client.proofs.MoveLemmas.{takes-by}
@@ -135,6 +135,7 @@ laid-store c stands values = after-store c.schema c.laid c.store.regions stands.
 -- Regions that are left once what was laid by is applied: their marks, and that they are within the limits and cut as before.
 pub record IsLeft (c : Client) (h : Hidden) (marks : List Mark) (gs : List Region) : Type 0 where
   pub store : IsStore c.schema gs
+  pub settled : c.store.settled ≡ true → IsSettled c.schema gs
   pub keeps : Keeps c.schema (is_held (with_marks h.marks marks)) (stamp h.queries) gs
   pub rows : count_rows gs ≤ c.store.limits.rows
   pub few : length gs ≤ c.store.limits.regions
@@ -148,6 +149,7 @@ left-facts c h version marks gs f l = record {
   meant = tt;
   fit = tt;
   store = l.store;
+  settled = l.settled;
   keeps = l.keeps;
   queries = f.queries;
   last = f.last;
@@ -162,6 +164,7 @@ left-facts c h version marks gs f l = record {
 pub none-left : (c : Client) (h : Hidden) (cause : Cause) → Facts c h → IsLeft c h (map (drop_of cause) c.store.regions) []
 none-left c h cause f = record {
   store = none_store c.schema c.store.regions f.store;
+  settled = λ is. none_settled c.schema;
   keeps = dropped_marks c.schema cause h.marks (stamp h.queries) c.store.regions f.keeps;
   rows = omega arith;
   few = omega arith;
@@ -179,6 +182,7 @@ module _ (c : Client) (h : Hidden) (f : Facts c h) (values : list_all has_values
       let ends = after-all (λ (g : Region). EndWith c.schema (counted h.counted_from h.queries) g.table g.rects) (λ g rows e. e) c.laid c.store.regions f.ends in
       record {
         store = still.store (laid-store c (h, f) values);
+        settled = λ is. still.settled (after-settled c.schema c.laid c.store.regions (f.settled is));
         keeps = fitted-keeps c.schema c.store.limits c.store.last h.marks (stamp h.queries) (after_messages c.laid c.store.regions) gs marks fitted (laid-keeps none);
         rows = still.rows;
         few = still.regions;

@@ -1,11 +1,12 @@
 -- What is asked and held begins and ends at short texts.
-use Rattle.std.proofs.Common.{◌≡◌, ℕ, ℤ, zero, suc, ◌+◌, ◌≤◌, Bool, true, false, List, [], ◌∷◌, ◌++◌, length, Some, None, refl, ap, subst, ◌∙◌, arith}
-use Rattle.std.specs.Prelude.{◌&&◌, ◌||◌, ◌==◌, not, int_le, slice_set, map, ◌-◌, flat_map, filter, drop, if◌then◌else◌}
+use Rattle.std.proofs.Common.{◌≡◌, ℕ, ℤ, zero, suc, ◌+◌, ◌≤◌, Bool, true, false, List, [], ◌∷◌, ◌++◌, length, Some, None, refl, ap, subst, ◌∙◌, arith, append-nil}
+use Rattle.std.specs.Prelude.{◌&&◌, ◌||◌, ◌==◌, not, int_le, flat_map, filter, if◌then◌else◌}
 use Rattle.std.specs.List.{list_all}
 use Rattle.std.specs.Cmp.Derive.{both_true}
 use Rattle.std.proofs.lemmas.Bool.{and_parts}
 use Rattle.std.proofs.lemmas.List.Folds.{list_all-append}
 use Rattle.std.proofs.lemmas.List.Concat.{flat_map-cons}
+use Rattle.std.proofs.lemmas.Grind.{flat_map-append}
 use Rattle.sr_cell.specs.declared.cell.Cell.{Cell}
 use Rattle.sr_cell.specs.declared.cell.Cell.TheVariants.{Str}
 use Rattle.sr_cell.specs.declared.table.Column.{Column}
@@ -26,15 +27,14 @@ use Rattle.sr_model.specs.Ends.{ends}
 use Rattle.sr_model.specs.Queries as model
 use Rattle.sr_query.specs.declared.query.Query.{Query}
 use Rattle.sr_query.specs.Joined.{is_needed}
-use Rattle.sr_history.specs.Classes.{Numbered}
 use Rattle.sr_history.specs.Ends.{CutsIn, part_ends, AllEndAmong}
 use Rattle.sr_history.specs.Load.{parts_on}
 use Rattle.sr_lines.specs.Short.{is_short, has_short_texts}
 use Rattle.sr_lines.specs.Sound.{is_sound_part}
 use Rattle.sr_lines.proofs.Short.{ends_are_short}
-use Rattle.sr_session.specs.Rules.{counted}
 use Rattle.sr_client.specs.Bound.{IsMeaning}
-use Rattle.sr_client.specs.Stands.{asks_short}
+use Rattle.sr_client.specs.Stands.{HaveShortEnds}
+use Rattle.sr_client.proofs.EndLemmas.{parts_on-append}
 
 -- ---- queries
 
@@ -48,36 +48,7 @@ parts-short schema (part ∷ parts) sound =
     let own : part_short part ≡ true = grind (arith, s.0) in
     both_true own (parts-short schema parts s.1)
 
-pub meaning-short : (schema : List Table) (q : Query) (m : model.Query) → IsMeaning schema q m → asks_short m ≡ true
-meaning-short schema q m is = parts-short schema m.parts (and_parts (list_all (is_sound_part schema) m.parts) (list_all (is_needed m.parts) m.outputs) is.sound).0
-
-pub shorts-more : (queries : List Numbered) (m : model.Query) (done : Bool) → list_all (λ (n : Numbered). asks_short n.query) queries ≡ true → asks_short m ≡ true
-    → list_all (λ (n : Numbered). asks_short n.query) (queries ++ record { query = m; answered = done } ∷ []) ≡ true
-shorts-more queries m done all own = list_all-append (λ (n : Numbered). asks_short n.query) queries (record { query = m; answered = done } ∷ []) ∙ both_true all (both_true own refl)
-
-pub shorts-set : (queries : List Numbered) (k : ℕ) (m : model.Query) (done : Bool) → list_all (λ (n : Numbered). asks_short n.query) queries ≡ true → asks_short m ≡ true
-    → list_all (λ (n : Numbered). asks_short n.query) (slice_set queries k (record { query = m; answered = done })) ≡ true
-shorts-set [] k m done all own = refl
-shorts-set (q ∷ queries) zero m done all own = both_true own (and_parts (asks_short q.query) (list_all (λ (n : Numbered). asks_short n.query) queries) all).1
-shorts-set (q ∷ queries) (suc k) m done all own =
-    let s = and_parts (asks_short q.query) (list_all (λ (n : Numbered). asks_short n.query) queries) all in
-    both_true s.0 (shorts-set queries k m done s.1 own)
-
--- those that are counted
-pub counted-short : (from : ℕ) (queries : List Numbered) → list_all (λ (n : Numbered). asks_short n.query) queries ≡ true → list_all asks_short (counted from queries) ≡ true
-counted-short from queries all = by (from - 1) queries all
-  where
-    mapped : (queries : List Numbered) → list_all (λ (n : Numbered). asks_short n.query) queries ≡ true → list_all asks_short (map (λ (n : Numbered). n.query) queries) ≡ true
-    mapped [] all = refl
-    mapped (q ∷ queries) all = let s = and_parts (asks_short q.query) (list_all (λ (n : Numbered). asks_short n.query) queries) all in both_true s.0 (mapped queries s.1)
-
-    by : (k : ℕ) (queries : List Numbered) → list_all (λ (n : Numbered). asks_short n.query) queries ≡ true → list_all asks_short (map (λ (n : Numbered). n.query) (drop k queries)) ≡ true
-    by zero queries all = mapped queries all
-    by (suc k) [] all = refl
-    by (suc k) (q ∷ queries) all = by k queries (and_parts (asks_short q.query) (list_all (λ (n : Numbered). asks_short n.query) queries) all).1
-
--- ---- where their tests begin and end
-
+-- what holds of all parts holds of those of a table
 kept : (p q : model.Part → Bool) (parts : List model.Part) → list_all p parts ≡ true → list_all p (filter q parts) ≡ true
 kept p q [] all = refl
 kept p q (part ∷ parts) all = let s = and_parts (p part) (list_all p parts) all in go (q part) s.0 (kept p q parts s.1)
@@ -86,19 +57,25 @@ kept p q (part ∷ parts) all = let s = and_parts (p part) (list_all p parts) al
     go true here rest = both_true here rest
     go false here rest = rest
 
-all-parts-short : (queries : List model.Query) → list_all asks_short queries ≡ true → list_all (λ (part : model.Part). has_short_texts part.condition) (flat_map (λ (q : model.Query). q.parts) queries) ≡ true
-all-parts-short [] all = refl
-all-parts-short (q ∷ queries) all =
-    let s = and_parts (asks_short q) (list_all asks_short queries) all in
-    ap (list_all (λ (part : model.Part). has_short_texts part.condition)) (flat_map-cons (λ (q : model.Query). q.parts) q queries)
-    ∙ (list_all-append (λ (part : model.Part). has_short_texts part.condition) q.parts (flat_map (λ (q : model.Query). q.parts) queries) ∙ both_true s.0 (all-parts-short queries s.1))
-
 ends-short : (parts : List model.Part) (c : ℕ) → list_all (λ (part : model.Part). has_short_texts part.condition) parts ≡ true → list_all (is_short 121) (part_ends parts c) ≡ true
 ends-short [] c all = refl
 ends-short (part ∷ parts) c all =
     let s = and_parts (has_short_texts part.condition) (list_all (λ (part : model.Part). has_short_texts part.condition) parts) all in
     ap (list_all (is_short 121)) (flat_map-cons (λ (part : model.Part). ends c part.condition) part parts)
     ∙ (list_all-append (is_short 121) (ends c part.condition) (part_ends parts c) ∙ both_true (ends_are_short c part.condition s.0) (ends-short parts c s.1))
+
+-- the query that a text means
+pub meaning-short : (schema : List Table) (q : Query) (m : model.Query) → IsMeaning schema q m → HaveShortEnds (m ∷ [])
+meaning-short schema q m is t c =
+    ends-short (parts_on t (m ∷ [])) c (kept part_short (λ (part : model.Part). part.table == t) (flat_map (λ (x : model.Query). x.parts) (m ∷ []))
+    (ap (list_all part_short) (append-nil m.parts) ∙ parts-short schema m.parts (and_parts (list_all (is_sound_part schema) m.parts) (list_all (is_needed m.parts) m.outputs) is.sound).0))
+
+-- those of two lists
+pub short-append : (a b : List model.Query) → HaveShortEnds a → HaveShortEnds b → HaveShortEnds (a ++ b)
+short-append a b x y t c =
+    ap (λ parts. list_all (is_short 121) (part_ends parts c)) (parts_on-append t a b)
+    ∙ (ap (list_all (is_short 121)) (flat_map-append (λ (part : model.Part). ends c part.condition) (parts_on t a) (parts_on t b))
+    ∙ (list_all-append (is_short 121) (part_ends (parts_on t a) c) (part_ends (parts_on t b) c) ∙ both_true (x t c) (y t c)))
 
 among-short : (vs : List Cell) (v : Cell) → list_all (is_short 121) vs ≡ true → is_among vs v ≡ true → is_short 121 v ≡ true
 among-short [] v all among = absurd (cc)
@@ -156,12 +133,11 @@ fits-length (column ∷ columns) [] fits = absurd (cc)
 fits-length (column ∷ columns) (s ∷ r) fits = ap (λ n. suc n) (fits-length columns r (and_parts (fits_kind column.kind column.lo column.hi s) (rect_fits columns r) fits).1)
 
 -- rects of a table that end only where tests of these queries do
-pub rects-may : (columns : List Column) (t : ℕ) (queries : List model.Query) (rects : List Rect) → 1 ≤ length columns → length columns ≤ 12 → list_all asks_short queries ≡ true
+pub rects-may : (columns : List Column) (t : ℕ) (queries : List model.Query) (rects : List Rect) → 1 ≤ length columns → length columns ≤ 12 → HaveShortEnds queries
     → AllEndAmong columns (parts_on t queries) rects → list_all (rect_fits columns) rects ≡ true → list_all may_write_rect rects ≡ true
 rects-may columns t queries [] some few short along fits = refl
 rects-may columns t queries (r ∷ rects) some few short along fits =
     let p = and_parts (rect_fits columns r) (list_all (rect_fits columns) rects) fits in
     let count = fits-length columns r p.0 in
-    let values = λ (c : ℕ). ends-short (parts_on t queries) c (kept part_short (λ (part : model.Part). part.table == t) (flat_map (λ (q : model.Query). q.parts) queries) (all-parts-short queries short)) in
-    both_true (both_true (from-to 1 12 (length r) (omega (arith, count, some)) (omega (arith, count, few))) (spans-may (part_ends (parts_on t queries)) 0 columns r values along.0 p.0))
+    both_true (both_true (from-to 1 12 (length r) (omega (arith, count, some)) (omega (arith, count, few))) (spans-may (part_ends (parts_on t queries)) 0 columns r (short t) along.0 p.0))
     (rects-may columns t queries rects some few short along.1 p.1)

@@ -29,5 +29,4 @@ no-store schema = record {
   once = λ t a p point. omega arith;
   keys = λ t a k. omega arith;
   few = omega arith;
-  settled = All-nil _;
 }

@@ -56,6 +56,7 @@ writing-facts c h f out up =
       meant = tt;
       fit = subst (AreFit c.schema (Some (WriteOut c.next_request)) c.version []) (sym laid) tt;
       store = f.store;
+      settled = f.settled;
       keeps = f.keeps;
       queries = f.queries;
       last = f.last;
@@ -65,6 +66,9 @@ writing-facts c h f out up =
       short = f.short;
       ends = f.ends;
     }
+
+pub writing-stands : (c : Client) → Stands c → c.out ≡ None → c.cut ≡ false → Stands (writing c)
+writing-stands c stands out up = (stands.0, writing-facts c stands.0 stands.1 out up)
 
 pub write-sent : (c : Client) (sql : List ℕ) (message : Message) → Stands c → c.out ≡ None → c.cut ≡ false → message ≡ Write c.next_request sql → Writes c sql (writing c) (Sent c.next_request message)
 write-sent c sql message stands out up told = writes-by c (writing c) sql (Sent c.next_request message) (λ h f. record {

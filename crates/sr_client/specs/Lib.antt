@@ -11,6 +11,7 @@ pub mod Sends
 pub mod Settling
 pub mod Shapes
 pub mod Stands
+pub mod Starting
 pub mod Steps
 pub mod Values
 pub mod Laying

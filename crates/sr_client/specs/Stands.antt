@@ -8,19 +8,21 @@ use Rattle.sr_model.specs.Queries.{Query}
 use Rattle.sr_model.specs.Statements.{Tables}
 use Rattle.sr_policy.specs.declared.policy.Limits.{Limits}
 use Rattle.sr_query.specs.Bound.{is_table}
-use Rattle.sr_lines.specs.Short.{has_short_texts}
+use Rattle.sr_lines.specs.Short.{is_short}
 use Rattle.sr_history.specs.declared.mark.Mark.{Mark}
 use Rattle.sr_history.specs.Marks.{is_held}
 use Rattle.sr_history.specs.Classes.{Numbered, stamp}
+use Rattle.sr_history.specs.Ends.{part_ends}
+use Rattle.sr_history.specs.Load.{parts_on}
 use Rattle.sr_history.specs.Victims.{AreLast, last_parts}
 use Rattle.sr_store.specs.Classes.{Keeps}
 use Rattle.sr_store.specs.Told.{told_of, AreTrueOf}
 use Rattle.sr_store.specs.Fitted.{count_rows}
-use Rattle.sr_store.specs.Stores.{IsStore}
+use Rattle.sr_store.specs.Stores.{IsStore, IsSettled}
 use Rattle.sr_session.specs.Sessions.{Database, Session, newest, tables_of}
 use Rattle.sr_session.specs.Walks.{Request, AskOut, WriteOut, ResumeOut}
 use Rattle.sr_session.specs.Clients as session
-use Rattle.sr_session.specs.Clients.{Connection, IsOpen}
+use Rattle.sr_session.specs.Clients.{Connection, Counting, IsOpen}
 use Rattle.sr_session.specs.Rules.{counted}
 use Rattle.sr_session.specs.Misfits.{misfit}
 use Rattle.sr_session.specs.Laws.{IsSound}
@@ -37,7 +39,7 @@ use Rattle.sr_client.specs.declared.client.Request.TheVariants.{Ask, Write, Resu
 pub record Hidden : Type 0 where
   pub marks : List Mark
   pub queries : List Numbered
-  pub counted_from : ℕ
+  pub counted_from : Counting
   -- what the query means whose ask is out
   pub meaning : Query
 
@@ -78,12 +80,12 @@ abbrev pub AreFit : List Table → Option Request → ℕ → List Message → L
 AreFit schema out version laid [] = Unit {0}
 AreFit schema out version laid (m ∷ ms) = (misfit schema out laid version m ≡ None) × AreFit schema out version (laid ++ m ∷ []) ms
 
--- the query compares short texts alone
-abbrev pub asks_short : Query → Bool
-asks_short q = list_all (λ part. has_short_texts part.condition) q.parts
+-- the texts at which tests of these queries begin and end are short
+abbrev pub HaveShortEnds : List Query → Type 0
+HaveShortEnds queries = (t c : ℕ) → list_all (is_short 121) (part_ends (parts_on t queries) c) ≡ true
 
 -- Over a cut link nothing is out. The client's regions are the classes of what its marks hold, within the limits; they, and what is out,
--- are cut only along tests of counted queries, which compare short texts.
+-- are cut only along tests of counted queries, which begin and end at short texts.
 pub record Facts (c : Client) (h : Hidden) : Type 0 where
   pub tables : list_all is_table c.schema ≡ true
   pub tidy : IsTidy c.schema (past_of c h)
@@ -91,13 +93,14 @@ pub record Facts (c : Client) (h : Hidden) : Type 0 where
   pub meant : IsMeant c.schema (counted h.counted_from h.queries) h.meaning c.out
   pub fit : AreFit c.schema (out_of h.meaning c.out) c.version [] c.laid
   pub store : IsStore c.schema c.store.regions
+  pub settled : c.store.settled ≡ true → IsSettled c.schema c.store.regions
   pub keeps : Keeps c.schema (is_held h.marks) (stamp h.queries) c.store.regions
   pub queries : length h.queries ≡ c.queries
   pub last : AreLast c.schema (last_parts h.queries) c.store.last
   pub rows : count_rows c.store.regions ≤ c.store.limits.rows
   pub few : length c.store.regions ≤ c.store.limits.regions
-  pub from : h.counted_from ≤ length h.queries + 1
-  pub short : list_all (λ n. asks_short n.query) h.queries ≡ true
+  pub from : h.counted_from.from ≤ length h.queries + 1
+  pub short : HaveShortEnds (counted h.counted_from h.queries)
   pub ends : RegionsEnd c.schema (counted h.counted_from h.queries) c.store.regions
 
 -- The client stands for some past.
@@ -140,7 +143,7 @@ pub record Truly (db : Database) (past : session.Client) (m : Message) : Type 0 
 
 -- the client that holds nothing, and whose link is cut
 abbrev pub given_up : Client → ℕ → Client
-given_up c cuts = record c { store = record c.store { regions = []; last = [] }; out = None; laid = []; cut = true; cuts = cuts }
+given_up c cuts = record c { store = record c.store { regions = []; last = []; settled = true }; out = None; laid = []; cut = true; cuts = cuts }
 
 -- how often its link was cut, once it is down; at the greatest number of the type it stays
 abbrev pub cuts_down : Client → ℕ
@@ -151,7 +154,7 @@ abbrev pub new_client : ℕ → List Table → Limits → Client
 new_client id schema limits = record {
   id = id;
   schema = schema;
-  store = record { regions = []; limits = limits; last = [] };
+  store = record { regions = []; limits = limits; last = []; settled = true };
   version = 0;
   queries = 0;
   next_request = 0;

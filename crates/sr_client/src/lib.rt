@@ -12,6 +12,7 @@ pub mod misfit;
 pub mod query;
 pub mod resume;
 pub mod settle;
+pub mod start;
 pub mod steps;
 pub mod take;
 mod values;

@@ -14,12 +14,13 @@ use Rattle.sr_session.specs.Rules.{sent_of}
 use Rattle.sr_links.specs.Steps.{Standing, Resumed, past_after, requests_of}
 use Rattle.sr_dial.specs.Calls.{Call, Scripted, Do, all_done, calls_told, count_faults, fails, is_fault, steps_in}
 use Rattle.sr_talk.specs.Serving.{RoseBy, spelled}
+use Rattle.sr_dial.specs.Carrying.{spoken}
 use Rattle.sr_dial.specs.Known.{Setting, Makes}
 use Rattle.sr_dial.specs.Runs.{IsCarried, IsToldIf, SendsMost, left_by, none_taken}
 use Rattle.sr_dial.specs.Courses.{At, Broken, Course, IsThere, Rests, Start, Stepped}
 use Rattle.sr_dial.proofs.ListLemmas.{all-one, any-one, calls-one, dialled-one, told-one}
 use Rattle.sr_dial.proofs.CourseLemmas.{count-still, done_of, made-of, past-one, step_of, stepped-one}
-use Rattle.sr_dial.proofs.BrokenLemmas.{most-part, one-at-most}
+use Rattle.sr_dial.proofs.BrokenLemmas.{IsShort, most-part, short-breaks}
 use Rattle.sr_dial.proofs.ToldLemmas.{still-other, still-same, told-first, told-more, told-none}
 use Rattle.sr_dial.specs.declared.parts.Answer.{Answer}
 use Rattle.sr_dial.specs.Following.{Ahead}
@@ -55,7 +56,7 @@ module _ (C : Type 0) (Stands : C → Client → Type 0) (lent : C → Option An
   }
 
   module _ (ahead further : Ahead) (line number : ℕ) (failed : Bool) (P Q : List ℕ → Type 0) (l : Linking) (code new : C) (lines : List TraceLine) (sent : List Message)
-      (on : ahead (lent code) ≡ Next number (Do Resumed) further) (says : (texts : List ℕ) → P texts → Q (texts ++ flat_map (line_text k.schema number) lines)) (r : Rests C Stands lent IsOf k s ahead line failed l P code)
+      (on : ahead (lent code) ≡ Next number (Do Resumed) further) (says : (texts : List ℕ) → P texts → Q (texts ++ spoken k.says (flat_map (line_text k.schema number) lines))) (r : Rests C Stands lent IsOf k s ahead line failed l P code)
       (m : Makes Stands lent IsOf k code new (left_by s.past r.calls) Resumed lines sent) (free : (left_by s.past r.calls).out ≡ None) (message : Message) (one : sent ≡ message ∷ []) where
     -- its next past is that of a link that is up
     next-up : m.next.cut ≡ false
@@ -121,14 +122,14 @@ module _ (C : Type 0) (Stands : C → Client → Type 0) (lent : C → Option An
     not-free connected torn told none = m.waits (λ no. absurd (let wrong : message ∷ [] ≡ [] = sym one ∙ no in cc)) (sym (ap (λ (c : Client). c.out) (past-new connected torn told)) ∙ none)
 
     -- nobody could be dialled
-    pub begin-fails : (new_l : Linking) → OnlyFaults l new_l → Rose l.faults new_l.faults → Broken C Stands lent IsOf k s further number new_l Q [] new
-    begin-fails new_l only rose =
+    pub begin-alone : (new_l : Linking) → OnlyFaults l new_l → IsShort C Stands lent IsOf k s further number l new_l Q [] new
+    begin-alone new_l only =
         let before = r.faults in
         record {
           came = none_taken;
           course = new_course false false None tt tt (told-none s.linking.peers (new_call false false None) refl refl refl refl);
           sent = tt;
-          faults = omega (arith, before, rose);
+          before = before;
           made = ap (λ p. new_l.past ++ option_to_list p) only.present ∙ (ap (λ x. x ++ option_to_list l.present) only.past
               ∙ (r.made ∙ ap (λ x. connections s.linking ++ x) (sym (append-nil (calls_told r.calls)) ∙ sym (told-one r.calls (new_call false false None)))));
           out = not-free false false None;
@@ -136,11 +137,13 @@ module _ (C : Type 0) (Stands : C → Client → Type 0) (lent : C → Option An
           peers_stay = still-same s.linking l new_l only.peers r.peers_stay;
         }
 
+    pub begin-fails : (new_l : Linking) → OnlyFaults l new_l → Rose l.faults new_l.faults → Broken C Stands lent IsOf k s further number new_l Q [] new
+    begin-fails new_l only rose = short-breaks C Stands lent IsOf k s further number l new_l Q [] new (begin-alone new_l only) rose
+
     -- the message is cut short
-    pub begin-breaks : (new_l : Linking) → (l.peers ≡ Some [] → ⊥) → SendsPart (connected_at (Some s.address) l) new_l (spelled sent) → Rose l.faults new_l.faults → Broken C Stands lent IsOf k s further number new_l Q [] new
-    begin-breaks new_l more part rose =
+    pub begin-short : (new_l : Linking) → (l.peers ≡ Some [] → ⊥) → SendsPart (connected_at (Some s.address) l) new_l (spelled sent) → IsShort C Stands lent IsOf k s further number l new_l Q [] new
+    begin-short new_l more part =
         let before = r.faults in
-        let most = one-at-most (is_fault (new_call true true (option_map (sends (take part.count (spelled sent))) (next_peer (Some s.address) l.peers)))) in
         record {
           came = none_taken;
           course = new_course true true (option_map (sends (take part.count (spelled sent))) (next_peer (Some s.address) l.peers)) (told-fresh (λ t. t.taken ≡ []) s.address (take part.count (spelled sent)) l.peers (λ coming. refl))
@@ -148,9 +151,12 @@ module _ (C : Type 0) (Stands : C → Client → Type 0) (lent : C → Option An
               (told-first s.linking l s.address (sends (take part.count (spelled sent))) (new_call true true (option_map (sends (take part.count (spelled sent))) (next_peer (Some s.address) l.peers))) refl refl more r.peers_stay);
           sent = told-fresh (λ t. SendsMost (requests_of (step_of C Stands lent IsOf k s m ∷ [])) t.sent) s.address (take part.count (spelled sent)) l.peers
               (λ coming. subst (λ ms. SendsMost ms (take part.count (spelled sent))) (sym (sum ∙ one)) (subst (λ ms. SendsMost (message ∷ []) (take part.count (spelled ms))) (sym one) (most-part [] message part.count)));
-          faults = omega (arith, before, rose, most);
+          before = before;
           made = made-of false r.calls (new_call true true (option_map (sends (take part.count (spelled sent))) (next_peer (Some s.address) l.peers))) s.linking new_l (part.sent.present, part.sent.past ∙ r.made, refl, refl);
           out = not-free true true (option_map (sends (take part.count (spelled sent))) (next_peer (Some s.address) l.peers));
           not_yet = refl;
           peers_stay = still-other s.linking l new_l part.sent.peers r.peers_stay;
         }
+
+    pub begin-breaks : (new_l : Linking) → (l.peers ≡ Some [] → ⊥) → SendsPart (connected_at (Some s.address) l) new_l (spelled sent) → Rose l.faults new_l.faults → Broken C Stands lent IsOf k s further number new_l Q [] new
+    begin-breaks new_l more part rose = short-breaks C Stands lent IsOf k s further number l new_l Q [] new (begin-short new_l more part) rose

@@ -16,13 +16,14 @@ use Rattle.sr_wire.specs.Reading.{decoded, Faulty}
 use Rattle.sr_wire.specs.declared.wire_fault.WireFault.TheVariants.{Short}
 use Rattle.sr_wire.specs.Spelling.{spelling}
 use Rattle.sr_links.specs.Steps.{Standing, Deed, StaysOn, WasCut, given_of, past_after, requests_of, taken_by}
-use Rattle.sr_dial.specs.Calls.{Call, Cause, Failed, all_done, count_faults, done_in, fails, is_coming, is_failed, is_fault, one_if, steps_in}
+use Rattle.sr_dial.specs.Calls.{Call, Cause, Failed, all_done, calls_told, count_faults, done_in, fails, is_coming, is_failed, is_fault, one_if, steps_in}
 use Rattle.sr_talk.specs.Reading.{Reads}
 use Rattle.sr_talk.specs.Serving.{RoseBy, spelled}
 use Rattle.sr_talk.proofs.TalkLemmas.{spelled-append}
+use Rattle.sr_dial.specs.Carrying.{spoken}
 use Rattle.sr_dial.specs.Known.{Setting, Makes}
 use Rattle.sr_dial.specs.Runs.{IsInPlace, SendsMost, SentAs, left_by, more_taken, none_taken}
-use Rattle.sr_dial.specs.Courses.{At, Broken, Free, IsThere, Start, Stepped}
+use Rattle.sr_dial.specs.Courses.{At, Broken, Course, Free, IsThere, Start, Stepped, TellsStill}
 use Rattle.sr_dial.proofs.ListLemmas.{all-one, any-one, count-one, fails-one, told-one}
 use Rattle.sr_dial.proofs.CourseLemmas.{course-one, done_of, given-step, made-of, map-told, not-torn, weaken-told, or-no, past-step, requests-step, with_step, count-still}
 use Rattle.sr_dial.proofs.ToldLemmas.{still-same, told-on, told-same}
@@ -89,6 +90,25 @@ or-yes true = refl
 or-yes false = refl
 
 module _ (C : Type 0) (Stands : C → Client → Type 0) (lent : C → Option Answer) (IsOf : Standing C) (k : Setting) (s : Start C) where
+  -- ---- a connection that went short of something, whether or not a fault is counted for it
+
+  pub record IsShort (ahead : Ahead) (line : ℕ) (l new_l : Linking) (P : List ℕ → Type 0) (feed : List ℕ) (code : C) : Type 0 where
+    pub came : Count
+    pub course : Course C Stands lent IsOf k s ahead line came P feed code
+    pub sent : IfSome course.call.told (λ t. SentAs course.call.torn (requests_of (steps_in (done_in course.call))) t.sent)
+    pub before : RoseBy s.linking.faults (count_faults course.earlier) l.faults
+    pub made : connections new_l ≡ connections s.linking ++ calls_told (course.earlier ++ course.call ∷ [])
+    pub out : (left_by s.past (course.earlier ++ course.call ∷ [])).out ≢ None
+    pub not_yet : fails course.call ≡ false
+    pub peers_stay : TellsStill s.linking new_l
+
+  -- where one is, the link failed
+  pub short-breaks : (ahead : Ahead) (line : ℕ) (l new_l : Linking) (P : List ℕ → Type 0) (feed : List ℕ) (code : C) → IsShort ahead line l new_l P feed code → Rose l.faults new_l.faults → Broken C Stands lent IsOf k s ahead line new_l P feed code
+  short-breaks ahead line l new_l P feed code h rose =
+      let before = h.before in
+      let once = one-at-most (is_fault h.course.call) in
+      record { came = h.came; course = h.course; sent = h.sent; faults = omega (arith, before, rose, once); made = h.made; out = h.out; not_yet = h.not_yet; peers_stay = h.peers_stay }
+
   -- ---- bytes that are taken
 
   -- behind what was left these bytes came
@@ -186,16 +206,16 @@ module _ (C : Type 0) (Stands : C → Client → Type 0) (lent : C → Option An
         }
 
   module _ (ahead further : Ahead) (line : ℕ) (came : Count) (number : ℕ) (cause : Cause) (P Q : List ℕ → Type 0) (code new : C) (deed : Deed) (lines : List TraceLine) (sent : List Message)
-      (on : GoesOn cause ahead (lent code) number deed further) (most : (more_taken cause sent came).taken ≤ 1000000) (says : (texts : List ℕ) → P texts → Q (texts ++ flat_map (line_text k.schema number) lines)) where
+      (on : GoesOn cause ahead (lent code) number deed further) (most : (more_taken cause sent came).taken ≤ 1000000) (says : (texts : List ℕ) → P texts → Q (texts ++ spoken k.says (flat_map (line_text k.schema number) lines))) where
     -- a request is cut short
-    pub send-breaks : (failed : Bool) (l new_l : Linking) (feed left : List ℕ) (h : At C Stands lent IsOf k s ahead line came failed l P feed code)
+    pub send-short : (failed : Bool) (l new_l : Linking) (feed left : List ℕ) (h : At C Stands lent IsOf k s ahead line came failed l P feed code)
         (m : Makes Stands lent IsOf k code new (left_by s.past (h.course.earlier ++ h.course.call ∷ [])) deed lines sent)
         → IsInPlace k.schema cause line number deed (left_by s.past (h.course.earlier ++ h.course.call ∷ [])) → StaysOn (left_by s.past (h.course.earlier ++ h.course.call ∷ [])) deed
         → is_failed cause ≡ false → (left_by s.past (h.course.earlier ++ h.course.call ∷ [])).cut ≡ false → feed ≡ spelled (taken_by deed) ++ left
-        → SendsPart l new_l (spelled sent) → Rose l.faults new_l.faults → Broken C Stands lent IsOf k s further number new_l Q left new
-    send-breaks failed l new_l feed left h m place stays not_failed up fed part rose = by (one-sent m.outcome)
+        → SendsPart l new_l (spelled sent) → IsShort further number l new_l Q left new
+    send-short failed l new_l feed left h m place stays not_failed up fed part = by (one-sent m.outcome)
       where
-        by : (sent_of m.outcome ≡ []) ⊎ ((x : Message) × (sent_of m.outcome ≡ x ∷ [])) → Broken C Stands lent IsOf k s further number new_l Q left new
+        by : (sent_of m.outcome ≡ []) ⊎ ((x : Message) × (sent_of m.outcome ≡ x ∷ [])) → IsShort further number l new_l Q left new
         by (inl none) = absurd (let fewer = part.fewer in let zero_is : length (spelled sent) ≡ 0 = ap (λ ms. length (spelled ms)) (m.sent_is ∙ none) in omega (arith, fewer, zero_is))
         by (inr (x, one)) =
             let there = subst (λ b. IsThere b h.course.earlier h.course.call s.linking l) up h.there in
@@ -210,7 +230,6 @@ module _ (C : Type 0) (Stands : C → Client → Type 0) (lent : C → Option An
             ∙ ap (λ ms. requests_of (steps_in (done_in h.course.call)) ++ ms) one in
             let before = h.faults in
             let none = count-still h.course.earlier h.course.call there.2 in
-            let once = one-at-most (is_fault (with_step h.course.call (done_of C Stands lent IsOf k s number cause m) true (option_map (sends (take part.count (spelled sent))) h.course.call.told) left)) in
             record {
               came = more_taken cause sent came;
               course = course-one C Stands lent IsOf k s ahead further line came number cause P Q code new deed lines sent on most says feed left left refl true (option_map (sends (take part.count (spelled sent))) h.course.call.told) h.course m place stays
@@ -229,7 +248,7 @@ module _ (C : Type 0) (Stands : C → Client → Type 0) (lent : C → Option An
                   subst (λ ms. SendsMost ms (t.sent ++ take part.count (spelled sent))) (sym sum)
                   (subst (λ ms. SendsMost (requests_of (steps_in (done_in h.course.call)) ++ x ∷ []) (t.sent ++ take part.count (spelled ms))) (sym same)
                   (subst (λ b. SendsMost (requests_of (steps_in (done_in h.course.call)) ++ x ∷ []) (b ++ take part.count (spelled (x ∷ [])))) (sym was) (most-part (requests_of (steps_in (done_in h.course.call))) x part.count)))) h.sent;
-              faults = omega (arith, before, rose, none, once);
+              before = omega (arith, before, none);
               made = made-of false h.course.earlier (with_step h.course.call (done_of C Stands lent IsOf k s number cause m) true (option_map (sends (take part.count (spelled sent))) h.course.call.told) left) s.linking new_l
                   (part.sent.present ∙ ap (option_map (sends (take part.count (spelled sent)))) there.0, part.sent.past ∙ there.1, fails-no, there.3);
               out = λ none_out. m.waits (λ no. absurd (let wrong : x ∷ [] ≡ [] = sym same ∙ no in cc))
@@ -238,10 +257,17 @@ module _ (C : Type 0) (Stands : C → Client → Type 0) (lent : C → Option An
               peers_stay = still-same s.linking l new_l part.sent.peers h.peers_stay;
             }
 
+    pub send-breaks : (failed : Bool) (l new_l : Linking) (feed left : List ℕ) (h : At C Stands lent IsOf k s ahead line came failed l P feed code)
+        (m : Makes Stands lent IsOf k code new (left_by s.past (h.course.earlier ++ h.course.call ∷ [])) deed lines sent)
+        → IsInPlace k.schema cause line number deed (left_by s.past (h.course.earlier ++ h.course.call ∷ [])) → StaysOn (left_by s.past (h.course.earlier ++ h.course.call ∷ [])) deed
+        → is_failed cause ≡ false → (left_by s.past (h.course.earlier ++ h.course.call ∷ [])).cut ≡ false → feed ≡ spelled (taken_by deed) ++ left
+        → SendsPart l new_l (spelled sent) → Rose l.faults new_l.faults → Broken C Stands lent IsOf k s further number new_l Q left new
+    send-breaks failed l new_l feed left h m place stays not_failed up fed part rose = short-breaks further number l new_l Q left new (send-short failed l new_l feed left h m place stays not_failed up fed part) rose
+
   -- ---- the client is cut, and the connection given up
 
   pub fail-ends : (ahead : Ahead) (line : ℕ) (P Q : List ℕ → Type 0) (l : Linking) (feed : List ℕ) (code new : C) (lines : List TraceLine)
-      → ((texts : List ℕ) → P texts → Q (texts ++ flat_map (line_text k.schema line) lines)) → (b : Broken C Stands lent IsOf k s ahead line l P feed code)
+      → ((texts : List ℕ) → P texts → Q (texts ++ spoken k.says (flat_map (line_text k.schema line) lines))) → (b : Broken C Stands lent IsOf k s ahead line l P feed code)
       → Makes Stands lent IsOf k code new (left_by s.past (b.course.earlier ++ b.course.call ∷ [])) WasCut lines []
       → Free C Stands lent IsOf k s ahead line true (hung_up l) Q feed new
   fail-ends ahead line P Q l feed code new lines says b m =

@@ -11,10 +11,11 @@ use Rattle.sr_script.specs.TraceText.{line_text}
 use Rattle.sr_session.specs.Clients.{Client}
 use Rattle.sr_session.specs.Rules.{sent_of}
 use Rattle.sr_links.specs.Steps.{Step, Standing, Deed, IsFair, AreFair, OnOne, StaysOn, code_after, given_of, past_after, requests_of, taken_by}
-use Rattle.sr_dial.specs.Calls.{Call, Cause, Done, Made, Explained, Said, all_done, calls_told, count_faults, done_in, fails, is_failed, is_fault, lines_of, one_if, steps_in, text_of}
+use Rattle.sr_dial.specs.Calls.{Call, Cause, Done, Made, Explained, Said, all_done, calls_told, count_faults, done_in, fails, is_failed, is_fault, lines_of, one_if, steps_in}
 use Rattle.sr_talk.specs.Serving.{RoseBy, spelled}
 use Rattle.sr_talk.proofs.TalkLemmas.{spelled-append}
-use Rattle.sr_dial.specs.Known.{IsFrom, Setting, Makes}
+use Rattle.sr_dial.specs.Carrying.{spoken}
+use Rattle.sr_dial.specs.Known.{IsFrom, Setting, Makes, said_by}
 use Rattle.sr_dial.specs.Runs.{IsInPlace, IsToldIf, SentAs, left_by, more_taken, none_taken}
 use Rattle.sr_dial.specs.Courses.{At, Course, IsThere, Start, Stepped}
 use Rattle.sr_dial.proofs.ListLemmas.{all-one, any-one, code-append, count-one, explained-append, fails-one, fair-append, few-append, given-append, line-append, on-append, past-append, place-append, requests-append, steps-append, taken-append, told-one}
@@ -128,14 +129,14 @@ module _ (C : Type 0) (Stands : C → Client → Type 0) (lent : C → Option An
   done_of {code} {new} {c} {deed} {lines} {sent} number cause m = Made number cause (record { deed = deed; outcome = m.outcome; past = m.next; code = new })
 
   module _ (ahead further : Ahead) (line : ℕ) (came : Count) (number : ℕ) (cause : Cause) (P Q : List ℕ → Type 0) (code new : C) (deed : Deed) (lines : List TraceLine) (sent : List Message)
-      (on : GoesOn cause ahead (lent code) number deed further) (most : (more_taken cause sent came).taken ≤ 1000000) (says : (texts : List ℕ) → P texts → Q (texts ++ flat_map (line_text k.schema number) lines)) where
+      (on : GoesOn cause ahead (lent code) number deed further) (most : (more_taken cause sent came).taken ≤ 1000000) (says : (texts : List ℕ) → P texts → Q (texts ++ spoken k.says (flat_map (line_text k.schema number) lines))) where
     pub stepped-one : (ds : List (Done C)) → Stepped C Stands lent IsOf k s ahead line came ds P code → (m : Makes Stands lent IsOf k code new (past_after s.past (steps_in ds)) deed lines sent)
         → IsInPlace k.schema cause line number deed (past_after s.past (steps_in ds))
         → Stepped C Stands lent IsOf k s further number (more_taken cause sent came) (ds ++ done_of number cause m ∷ []) Q new
     stepped-one ds h m place =
         let past : past_after s.past (steps_in (ds ++ done_of number cause m ∷ [])) ≡ m.next = past-one s.past ds (done_of number cause m) in
-        let texts : flat_map (text_of k.schema k.number) (ds ++ done_of number cause m ∷ []) ≡ flat_map (text_of k.schema k.number) ds ++ flat_map (line_text k.schema number) (lines_of k.number deed m.outcome) =
-        flat_map-append (text_of k.schema k.number) ds (done_of number cause m ∷ []) ∙ ap (λ x. flat_map (text_of k.schema k.number) ds ++ x) (append-nil (flat_map (line_text k.schema number) (lines_of k.number deed m.outcome))) in
+        let texts : flat_map (said_by k) (ds ++ done_of number cause m ∷ []) ≡ flat_map (said_by k) ds ++ spoken k.says (flat_map (line_text k.schema number) (lines_of k.number deed m.outcome)) =
+        flat_map-append (said_by k) ds (done_of number cause m ∷ []) ∙ ap (λ x. flat_map (said_by k) ds ++ x) (append-nil (spoken k.says (flat_map (line_text k.schema number) (lines_of k.number deed m.outcome)))) in
         record {
           in_place = place-append k.schema 0 s.past ds (done_of number cause m ∷ []) h.in_place (subst (λ n. IsInPlace k.schema cause n number deed (past_after s.past (steps_in ds))) (sym h.line_is) place, tt);
           line_is = line-append 0 ds (done_of number cause m ∷ []);
@@ -154,7 +155,7 @@ module _ (C : Type 0) (Stands : C → Client → Type 0) (lent : C → Option An
           code_is = ap (code_after s.code) (steps-append ds (done_of number cause m ∷ [])) ∙ code-append s.code (steps_in ds) (step_of m ∷ []);
           stands = subst (Stands new) (sym past) m.stands;
           rests = subst (λ (p : Client). p.cut ≡ true → p.out ≡ None) (sym past) m.rests;
-          writes = subst Q (sym texts) (subst (λ ls. Q (flat_map (text_of k.schema k.number) ds ++ flat_map (line_text k.schema number) ls)) m.lines_are (says (flat_map (text_of k.schema k.number) ds) h.writes));
+          writes = subst Q (sym texts) (subst (λ ls. Q (flat_map (said_by k) ds ++ spoken k.says (flat_map (line_text k.schema number) ls))) m.lines_are (says (flat_map (said_by k) ds) h.writes));
         }
 
     -- ---- a step of the present call

@@ -1,13 +1,13 @@
 -- How a run ends.
-use Rattle.std.proofs.Common.{◌≡◌, ℕ, Bool, true, false, List, [], ◌∷◌, ◌++◌, arith, sym, subst, Option}
+use Rattle.std.proofs.Common.{◌≡◌, ℕ, Bool, true, false, List, [], ◌∷◌, ◌++◌, arith, sym, ◌∙◌, subst, Option}
 use Rattle.std.specs.Prelude.{◌≢◌, flat_map}
 use Rattle.sr_io.specs.Told.{Linking, Writing}
 use Rattle.sr_message.specs.declared.message.Message.{Message}
 use Rattle.sr_session.specs.Clients.{Client}
 use Rattle.sr_links.specs.Steps.{Standing, requests_of}
-use Rattle.sr_dial.specs.Calls.{Task, all_done, done_in, steps_in, text_of}
-use Rattle.sr_dial.specs.Known.{Setting}
-use Rattle.sr_dial.specs.Runs.{EndsBy, IsCarried, SendsMost, SentAs, WritesAs, is_unwritten, left_by}
+use Rattle.sr_dial.specs.Calls.{Task, all_done, done_in, steps_in}
+use Rattle.sr_dial.specs.Known.{Setting, said_by}
+use Rattle.sr_dial.specs.Runs.{EndsBy, IsCarried, SendsMost, SentAs, WritesAs, is_bad, is_unwritten, left_by}
 use Rattle.sr_dial.specs.Courses.{At, Broken, IsPartWritten, IsWritten, Over, Start}
 use Rattle.sr_dial.specs.declared.ending.Ending.{Ending}
 use Rattle.sr_dial.specs.declared.ending.Ending.TheVariants as ending
@@ -20,13 +20,13 @@ use Rattle.sr_dial.specs.Following.{Ahead}
 use Rattle.sr_plan.specs.Plans.{Plan}
 use Rattle.sr_dial.specs.declared.waiting.Count.{Count}
 
-most-of : (b : Bool) (ms : List Message) (bytes : List ℕ) → ms ≢ [] → SentAs b ms bytes → SendsMost ms bytes
+pub most-of : (b : Bool) (ms : List Message) (bytes : List ℕ) → ms ≢ [] → SentAs b ms bytes → SendsMost ms bytes
 most-of true ms bytes some sent = sent
 most-of false ms bytes some sent = subst (SendsMost ms) (sym sent) (most-all ms some)
 
 module _ (C : Type 0) (Stands : C → Client → Type 0) (lent : C → Option Answer) (IsOf : Standing C) (k : Setting) (s : Start C) (ahead : Ahead) (line : ℕ) (came : Count) (l : Linking) (feed : List ℕ) (code : C) where
   -- the lines of a step are not written, all else of it was done
-  pub unwritten-at : (w : Writing) (failed : Bool) → At C Stands lent IsOf k s ahead line came failed l (IsPartWritten s w) feed code → Over C Stands lent IsOf k s ending.Unwritten l w
+  pub unwritten-at : (w : Writing) (failed : Bool) → At C Stands lent IsOf k s ahead line came failed l (IsPartWritten k.says s w) feed code → Over C Stands lent IsOf k s ending.Unwritten l w code
   unwritten-at w failed h = record {
     earlier = h.course.earlier;
     last = h.course.call;
@@ -37,6 +37,8 @@ module _ (C : Type 0) (Stands : C → Client → Type 0) (lent : C → Option An
     goes = h.course.steps.goes;
     fair = h.course.steps.fair;
     explained = h.course.steps.explained;
+    code_is = λ fine. h.course.steps.code_is;
+    stands = λ fine. h.course.steps.stands;
     carried = h.course.carried;
     last_carried = record {
       taken = h.course.taken;
@@ -52,7 +54,7 @@ module _ (C : Type 0) (Stands : C → Client → Type 0) (lent : C → Option An
     writes = h.course.steps.writes;
   }
 
-  pub unwritten-broken : (w : Writing) → Broken C Stands lent IsOf k s ahead line l (IsPartWritten s w) feed code → Over C Stands lent IsOf k s ending.Unwritten l w
+  pub unwritten-broken : (w : Writing) → Broken C Stands lent IsOf k s ahead line l (IsPartWritten k.says s w) feed code → Over C Stands lent IsOf k s ending.Unwritten l w code
   unwritten-broken w b =
       let before = b.faults in
       let none = count-still b.course.earlier b.course.call b.not_yet in
@@ -66,6 +68,8 @@ module _ (C : Type 0) (Stands : C → Client → Type 0) (lent : C → Option An
         goes = b.course.steps.goes;
         fair = b.course.steps.fair;
         explained = b.course.steps.explained;
+        code_is = λ fine. b.course.steps.code_is;
+        stands = λ fine. b.course.steps.stands;
         carried = b.course.carried;
         last_carried = record {
           taken = b.course.taken;
@@ -82,10 +86,10 @@ module _ (C : Type 0) (Stands : C → Client → Type 0) (lent : C → Option An
       }
 
   -- what came next ends it
-  pub over-at : (w : Writing) (failed : Bool) (ended : Ending) (h : At C Stands lent IsOf k s ahead line came failed l (IsWritten s w) feed code) → is_unwritten ended ≡ false
+  pub over-at : (new : C) (w : Writing) (failed : Bool) (ended : Ending) (h : At C Stands lent IsOf k s ahead line came failed l (IsWritten s w) feed code) → is_unwritten ended ≡ false → (is_bad ended ≡ false → new ≡ code)
       → ((rest : Plan Task Answer) → EndsBy ended k.schema (h.course.earlier ++ h.course.call ∷ []) (left_by s.past (h.course.earlier ++ h.course.call ∷ [])) feed rest)
-      → ((texts : List ℕ) → IsWritten s w texts → WritesAs ended texts s.writing w) → Over C Stands lent IsOf k s ended l w
-  over-at w failed ended h written ends writes = record {
+      → ((texts : List ℕ) → IsWritten s w texts → WritesAs k.says ended texts s.writing w) → Over C Stands lent IsOf k s ended l w new
+  over-at new w failed ended h written kept ends writes = record {
     earlier = h.course.earlier;
     last = h.course.call;
     are = calls-one s.past h.course.earlier h.course.call h.course.are h.course.is;
@@ -95,6 +99,8 @@ module _ (C : Type 0) (Stands : C → Client → Type 0) (lent : C → Option An
     goes = h.course.steps.goes;
     fair = h.course.steps.fair;
     explained = h.course.steps.explained;
+    code_is = λ fine. h.course.steps.code_is ∙ sym (kept fine);
+    stands = λ fine. subst (λ x. Stands x (left_by s.past (h.course.earlier ++ h.course.call ∷ []))) (sym (kept fine)) h.course.steps.stands;
     carried = h.course.carried;
     last_carried = subst (λ b. IsCarried b h.course.call) (sym written) (record { taken = h.course.taken; sent = h.sent; counted = λ whole. h.counted });
     dialled = dialled-one s.address h.course.earlier h.course.call h.course.before_dialled h.course.dialled;
@@ -102,5 +108,5 @@ module _ (C : Type 0) (Stands : C → Client → Type 0) (lent : C → Option An
     made = made-of (left_by s.past (h.course.earlier ++ h.course.call ∷ [])).cut h.course.earlier h.course.call s.linking l h.there;
     faults = h.faults;
     ends = λ rest. subst (λ x. EndsBy ended k.schema (h.course.earlier ++ h.course.call ∷ []) (left_by s.past (h.course.earlier ++ h.course.call ∷ [])) x rest) (sym h.course.left) (ends rest);
-    writes = writes (flat_map (text_of k.schema k.number) (all_done (h.course.earlier ++ h.course.call ∷ []))) h.course.steps.writes;
+    writes = writes (flat_map (said_by k) (all_done (h.course.earlier ++ h.course.call ∷ []))) h.course.steps.writes;
   }

@@ -14,7 +14,7 @@ use Rattle.sr_dial.specs.Calls.{Cause, Scripted, Do, is_failed}
 use Rattle.sr_talk.specs.Serving.{spelled}
 use Rattle.sr_talk.proofs.MoveLemmas.{nothing-sent}
 use Rattle.sr_talk.proofs.SomeLemmas.{prefix-behind}
-use Rattle.sr_dial.specs.Carrying.{Carries, SaysAs}
+use Rattle.sr_dial.specs.Carrying.{Carries, SaysAs, spoken}
 use Rattle.sr_dial.specs.Known.{KeepsLink, IsPlain, Makes, Setting}
 use Rattle.sr_dial.specs.Runs.{IsInPlace, left_by, more_taken, none_taken}
 use Rattle.sr_dial.specs.Courses.{At, Free, Hands, IsPartWritten, IsWritten, Start}
@@ -29,12 +29,14 @@ use Rattle.sr_plan.specs.Plans.{Next}
 use Rattle.sr_dial.proofs.PlanLemmas.{GoesOn}
 use Rattle.sr_dial.specs.declared.waiting.Count.{Count}
 
-module _ {C : Type 0} (s : Start C) (w new_w : Writing) (text : List ℕ) where
-  pub wrote : SaysAs true w new_w text → (texts : List ℕ) → IsWritten s w texts → IsWritten s new_w (texts ++ text)
-  wrote (is, same) texts (before, faults) = (Appends-append s.writing.written w.written new_w.written texts text before is, same ∙ faults)
+module _ {C : Type 0} (says : Bool) (s : Start C) (w new_w : Writing) (text : List ℕ) where
+  pub wrote : SaysAs says true w new_w text → (texts : List ℕ) → IsWritten s w texts → IsWritten s new_w (texts ++ spoken says text)
+  wrote (is, same) texts (before, faults) = (Appends-append s.writing.written w.written new_w.written texts (spoken says text) before is, same ∙ faults)
 
-  pub half : SaysAs false w new_w text → (texts : List ℕ) → IsWritten s w texts → IsPartWritten s new_w (texts ++ text)
-  half (part, rose) texts (before, faults) = (prefix-behind s.writing.written w.written new_w.written texts text before part, subst (λ n. Rose n new_w.faults) faults rose)
+pub half : {C : Type 0} (says : Bool) (s : Start C) (w new_w : Writing) (text : List ℕ) → SaysAs says false w new_w text → (texts : List ℕ) → IsWritten s w texts → IsPartWritten says s new_w (texts ++ spoken says text)
+half {C} true s w new_w text (spoke, part, rose) texts (before, faults) =
+    (spoke, prefix-behind s.writing.written w.written new_w.written texts text before part, subst (λ n. Rose n new_w.faults) faults rose)
+half {C} false s w new_w text (spoke, part, rose) texts written = absurd (let wrong : false ≡ true = spoke in cc)
 
 module _ (C : Type 0) (Stands : C → Client → Type 0) (lent : C → Option Answer) (IsOf : Standing C) (k : Setting) (s : Start C) (ahead further : Ahead) (line : ℕ) (came : Count) (number : ℕ) (cause : Cause) (code new : C) (deed : Deed) (lines : List TraceLine) (sent : List Message)
     (on : GoesOn cause ahead (lent code) number deed further) (most : (more_taken cause sent came).taken ≤ 1000000) (failed : Bool) (l new_l : Linking) (w new_w : Writing) (feed left : List ℕ) (h : At C Stands lent IsOf k s ahead line came failed l (IsWritten s w) feed code)
@@ -46,22 +48,22 @@ module _ (C : Type 0) (Stands : C → Client → Type 0) (lent : C → Option An
 
   -- over a link that is up
   pub hands-up : (handed : Handed) → (left_by s.past (h.course.earlier ++ h.course.call ∷ [])).cut ≡ false → m.next.cut ≡ false → feed ≡ spelled (taken_by deed) ++ left
-      → Carries handed l new_l w new_w (spelled sent) (flat_map (line_text k.schema number) lines) → Hands C Stands lent IsOf k handed s further number (more_taken cause sent came) failed new_l new_w left new
+      → Carries k.says handed l new_l w new_w (spelled sent) (flat_map (line_text k.schema number) lines) → Hands C Stands lent IsOf k handed s further number (more_taken cause sent came) failed new_l new_w left new
   hands-up Whole up still fed (is, says) =
-      at-up C Stands lent IsOf k s ahead further line came number cause (IsWritten s w) (IsWritten s new_w) code new deed lines sent on most (wrote s w new_w text says) failed l new_l feed left h m place stays not_failed up still fed is
+      at-up C Stands lent IsOf k s ahead further line came number cause (IsWritten s w) (IsWritten s new_w) code new deed lines sent on most (wrote k.says s w new_w text says) failed l new_l feed left h m place stays not_failed up still fed is
   hands-up Broken up still fed ((part, rose), says) =
-      send-breaks C Stands lent IsOf k s ahead further line came number cause (IsWritten s w) (IsWritten s new_w) code new deed lines sent on most (wrote s w new_w text says) failed l new_l feed left h m place stays not_failed up fed part rose
+      send-breaks C Stands lent IsOf k s ahead further line came number cause (IsWritten s w) (IsWritten s new_w) code new deed lines sent on most (wrote k.says s w new_w text says) failed l new_l feed left h m place stays not_failed up fed part rose
   hands-up Unwritten up still fed (inl is, says) =
       unwritten-at C Stands lent IsOf k s further number (more_taken cause sent came) new_l left new new_w failed
-      (at-up C Stands lent IsOf k s ahead further line came number cause (IsWritten s w) (IsPartWritten s new_w) code new deed lines sent on most (half s w new_w text says) failed l new_l feed left h m place stays not_failed up still fed is)
+      (at-up C Stands lent IsOf k s ahead further line came number cause (IsWritten s w) (IsPartWritten k.says s new_w) code new deed lines sent on most (half k.says s w new_w text says) failed l new_l feed left h m place stays not_failed up still fed is)
   hands-up Unwritten up still fed (inr (part, rose), says) =
       unwritten-broken C Stands lent IsOf k s further number (more_taken cause sent came) new_l left new new_w
-      (send-breaks C Stands lent IsOf k s ahead further line came number cause (IsWritten s w) (IsPartWritten s new_w) code new deed lines sent on most (half s w new_w text says) failed l new_l feed left h m place stays not_failed up fed part rose)
+      (send-breaks C Stands lent IsOf k s ahead further line came number cause (IsWritten s w) (IsPartWritten k.says s new_w) code new deed lines sent on most (half k.says s w new_w text says) failed l new_l feed left h m place stays not_failed up fed part rose)
 
   -- where it is down then
   pub hands-down : (handed : Handed) (mid : Linking) → m.next.cut ≡ true → sent ≡ [] → taken_by deed ≡ [] → connections mid ≡ connections l → mid.peers ≡ l.peers → mid.faults ≡ l.faults
-      → Carries handed mid new_l w new_w (spelled sent) (flat_map (line_text k.schema number) lines) → Hands C Stands lent IsOf k handed s further number (more_taken cause sent came) failed new_l new_w feed new
-  hands-down handed mid down none took same peers quiet carries = by handed (subst (λ ms. Carries handed mid new_l w new_w (spelled ms) (flat_map (line_text k.schema number) lines)) none carries)
+      → Carries k.says handed mid new_l w new_w (spelled sent) (flat_map (line_text k.schema number) lines) → Hands C Stands lent IsOf k handed s further number (more_taken cause sent came) failed new_l new_w feed new
+  hands-down handed mid down none took same peers quiet carries = by handed (subst (λ ms. Carries k.says handed mid new_l w new_w (spelled ms) (flat_map (line_text k.schema number) lines)) none carries)
     where
       same-links : new_l ≡ sent_on [] mid → connections new_l ≡ connections l
       same-links is = ap connections (is ∙ nothing-sent mid) ∙ same
@@ -72,20 +74,20 @@ module _ (C : Type 0) (Stands : C → Client → Type 0) (lent : C → Option An
       same-faults : new_l ≡ sent_on [] mid → new_l.faults ≡ l.faults
       same-faults is = ap (λ (x : Linking). x.faults) is ∙ quiet
 
-      by : (handed : Handed) → Carries handed mid new_l w new_w [] (flat_map (line_text k.schema number) lines) → Hands C Stands lent IsOf k handed s further number (more_taken cause sent came) failed new_l new_w feed new
+      by : (handed : Handed) → Carries k.says handed mid new_l w new_w [] (flat_map (line_text k.schema number) lines) → Hands C Stands lent IsOf k handed s further number (more_taken cause sent came) failed new_l new_w feed new
       by Whole (is, says) =
-          at-down C Stands lent IsOf k s ahead further line came number cause (IsWritten s w) (IsWritten s new_w) code new deed lines sent on most (wrote s w new_w text says) failed l new_l feed left h m place stays not_failed down none took
+          at-down C Stands lent IsOf k s ahead further line came number cause (IsWritten s w) (IsWritten s new_w) code new deed lines sent on most (wrote k.says s w new_w text says) failed l new_l feed left h m place stays not_failed down none took
           (same-links is) (same-peers is) (same-faults is)
       by Broken ((part, rose), says) = absurd (let fewer = part.fewer in omega (arith, fewer))
       by Unwritten (inl is, says) =
           unwritten-at C Stands lent IsOf k s further number (more_taken cause sent came) new_l feed new new_w failed
-          (at-down C Stands lent IsOf k s ahead further line came number cause (IsWritten s w) (IsPartWritten s new_w) code new deed lines sent on most (half s w new_w text says) failed l new_l feed left h m place stays not_failed down none took
+          (at-down C Stands lent IsOf k s ahead further line came number cause (IsWritten s w) (IsPartWritten k.says s new_w) code new deed lines sent on most (half k.says s w new_w text says) failed l new_l feed left h m place stays not_failed down none took
           (same-links is) (same-peers is) (same-faults is))
       by Unwritten (inr (part, rose), says) = absurd (let fewer = part.fewer in omega (arith, fewer))
 
 -- ---- a line that leaves the link as it is
 
-plain-stays : (deed : Deed) (c : Client) → IsPlain deed → StaysOn c deed
+pub plain-stays : (deed : Deed) (c : Client) → IsPlain deed → StaysOn c deed
 plain-stays (Queried query) c is = tt
 plain-stays (Wrote sql) c is = tt
 plain-stays (Evicted place) c is = tt
@@ -93,7 +95,7 @@ plain-stays (Took m) c is = absurd is
 plain-stays WasCut c is = absurd is
 plain-stays Resumed c is = absurd is
 
-plain-link : (deed : Deed) (sent : List Message) (c next : Client) → IsPlain deed → KeepsLink deed sent c next → (next.cut ≡ c.cut) × (sent ≢ [] → c.cut ≡ false)
+pub plain-link : (deed : Deed) (sent : List Message) (c next : Client) → IsPlain deed → KeepsLink deed sent c next → (next.cut ≡ c.cut) × (sent ≢ [] → c.cut ≡ false)
 plain-link (Queried query) sent c next is link = link
 plain-link (Wrote sql) sent c next is link = link
 plain-link (Evicted place) sent c next is link = link
@@ -101,7 +103,7 @@ plain-link (Took m) sent c next is link = absurd is
 plain-link WasCut sent c next is link = absurd is
 plain-link Resumed sent c next is link = absurd is
 
-plain-none : (deed : Deed) → IsPlain deed → taken_by deed ≡ []
+pub plain-none : (deed : Deed) → IsPlain deed → taken_by deed ≡ []
 plain-none (Queried query) is = refl
 plain-none (Wrote sql) is = refl
 plain-none (Evicted place) is = refl
@@ -121,7 +123,7 @@ down-silent {C} Stands lent IsOf k code new c deed lines sent m down up = by (on
 pub plain-hands : (C : Type 0) (Stands : C → Client → Type 0) (lent : C → Option Answer) (IsOf : Standing C) (k : Setting) (s : Start C) (ahead further : Ahead) (line number : ℕ) (failed : Bool) (l new_l : Linking) (w new_w : Writing) (feed : List ℕ) (code new : C)
     (deed : Deed) (lines : List TraceLine) (sent : List Message) (handed : Handed) (h : Free C Stands lent IsOf k s ahead line failed l (IsWritten s w) feed code) → IsPlain deed → ahead (lent code) ≡ Next number (Do deed) further
     → Makes Stands lent IsOf k code new (left_by s.past (h.at.course.earlier ++ h.at.course.call ∷ [])) deed lines sent
-    → Carries handed l new_l w new_w (spelled sent) (flat_map (line_text k.schema number) lines) → Hands C Stands lent IsOf k handed s further number none_taken failed new_l new_w feed new
+    → Carries k.says handed l new_l w new_w (spelled sent) (flat_map (line_text k.schema number) lines) → Hands C Stands lent IsOf k handed s further number none_taken failed new_l new_w feed new
 plain-hands C Stands lent IsOf k s ahead further line number failed l new_l w new_w feed code new deed lines sent handed h plain on m carries =
     by (left_by s.past (h.at.course.earlier ++ h.at.course.call ∷ [])).cut refl
   where
@@ -142,7 +144,7 @@ pub cut-hands : (C : Type 0) (Stands : C → Client → Type 0) (lent : C → Op
     (lines : List TraceLine) (sent : List Message) (handed : Handed) (h : Free C Stands lent IsOf k s ahead line failed l (IsWritten s w) feed code)
     → ahead (lent code) ≡ Next number (Do WasCut) further
     → Makes Stands lent IsOf k code new (left_by s.past (h.at.course.earlier ++ h.at.course.call ∷ [])) WasCut lines sent → mid ≡ Rattle.sr_io.specs.Told.hung_up l
-    → Carries handed mid new_l w new_w (spelled sent) (flat_map (line_text k.schema number) lines) → Hands C Stands lent IsOf k handed s further number none_taken failed new_l new_w feed new
+    → Carries k.says handed mid new_l w new_w (spelled sent) (flat_map (line_text k.schema number) lines) → Hands C Stands lent IsOf k handed s further number none_taken failed new_l new_w feed new
 cut-hands C Stands lent IsOf k s ahead further line number failed l mid new_l w new_w feed code new lines sent handed h on m gone carries =
     hands-down C Stands lent IsOf k s ahead further line h.came number Scripted code new WasCut lines sent on (omega arith) failed l new_l w new_w feed feed h.at m h.free tt refl handed mid m.link.0 m.link.1 refl
     (ap connections gone ∙ append-nil (connections l)) (ap (λ (x : Linking). x.peers) gone) (ap (λ (x : Linking). x.faults) gone) carries

@@ -17,3 +17,4 @@ pub mod HonestLemmas
 pub mod TrueLemmas
 pub mod ServedLemmas
 pub mod PlanLemmas
+pub mod OffLemmas

@@ -71,34 +71,34 @@ module _ (C : Type 0) (Stands : C → Client → Type 0) (lent : C → Option An
     module _ (r : Rests C Stands lent IsOf k s ahead line failed l (IsWritten s w) code) (m : Makes Stands lent IsOf k code new (left_by s.past r.calls) Resumed lines sent)
         (message : Message) (one : sent ≡ message ∷ []) where
       -- somebody is dialled
-      pub dialled : (handed : Handed) → (l.peers ≡ Some [] → ⊥) → mid ≡ connected_at (Some s.address) l → Carries handed mid new_l w new_w (spelled sent) (flat_map (line_text k.schema number) lines)
+      pub dialled : (handed : Handed) → (l.peers ≡ Some [] → ⊥) → mid ≡ connected_at (Some s.address) l → Carries k.says handed mid new_l w new_w (spelled sent) (flat_map (line_text k.schema number) lines)
           → Hands C Stands lent IsOf k handed s further number none_taken failed new_l new_w [] new
-      dialled handed more made carries = by handed (subst (λ x. Carries handed x new_l w new_w (spelled sent) (flat_map (line_text k.schema number) lines)) made carries)
+      dialled handed more made carries = by handed (subst (λ x. Carries k.says handed x new_l w new_w (spelled sent) (flat_map (line_text k.schema number) lines)) made carries)
         where
-          by : (handed : Handed) → Carries handed (connected_at (Some s.address) l) new_l w new_w (spelled sent) (flat_map (line_text k.schema number) lines)
+          by : (handed : Handed) → Carries k.says handed (connected_at (Some s.address) l) new_l w new_w (spelled sent) (flat_map (line_text k.schema number) lines)
               → Hands C Stands lent IsOf k handed s further number none_taken failed new_l new_w [] new
-          by Whole (is, says) = begins C Stands lent IsOf k s ahead further line number failed (IsWritten s w) (IsWritten s new_w) l code new lines sent on (wrote s w new_w text says) r m (r.steps.rests r.cut) message one new_l more is
+          by Whole (is, says) = begins C Stands lent IsOf k s ahead further line number failed (IsWritten s w) (IsWritten s new_w) l code new lines sent on (wrote k.says s w new_w text says) r m (r.steps.rests r.cut) message one new_l more is
           by HandedBroken ((part, rose), says) =
-              begin-breaks C Stands lent IsOf k s ahead further line number failed (IsWritten s w) (IsWritten s new_w) l code new lines sent on (wrote s w new_w text says) r m (r.steps.rests r.cut) message one new_l more part rose
+              begin-breaks C Stands lent IsOf k s ahead further line number failed (IsWritten s w) (IsWritten s new_w) l code new lines sent on (wrote k.says s w new_w text says) r m (r.steps.rests r.cut) message one new_l more part rose
           by Unwritten (inl is, says) =
               unwritten-at C Stands lent IsOf k s further number none_taken new_l [] new new_w failed
-              (begins C Stands lent IsOf k s ahead further line number failed (IsWritten s w) (IsPartWritten s new_w) l code new lines sent on (half s w new_w text says) r m (r.steps.rests r.cut) message one new_l more is)
+              (begins C Stands lent IsOf k s ahead further line number failed (IsWritten s w) (IsPartWritten k.says s new_w) l code new lines sent on (half k.says s w new_w text says) r m (r.steps.rests r.cut) message one new_l more is)
           by Unwritten (inr (part, rose), says) =
               unwritten-broken C Stands lent IsOf k s further number none_taken new_l [] new new_w
-              (begin-breaks C Stands lent IsOf k s ahead further line number failed (IsWritten s w) (IsPartWritten s new_w) l code new lines sent on (half s w new_w text says) r m (r.steps.rests r.cut) message one new_l more part rose)
+              (begin-breaks C Stands lent IsOf k s ahead further line number failed (IsWritten s w) (IsPartWritten k.says s new_w) l code new lines sent on (half k.says s w new_w text says) r m (r.steps.rests r.cut) message one new_l more part rose)
 
       -- nobody is
-      pub not-dialled : (said : Bool) → OnlyFaults l new_l → Rose l.faults new_l.faults → SaysAs said w new_w (flat_map (line_text k.schema number) lines)
+      pub not-dialled : (said : Bool) → OnlyFaults l new_l → Rose l.faults new_l.faults → SaysAs k.says said w new_w (flat_map (line_text k.schema number) lines)
           → Hands C Stands lent IsOf k (cond said HandedBroken Unwritten) s further number none_taken failed new_l new_w [] new
-      not-dialled true only rose says = begin-fails C Stands lent IsOf k s ahead further line number failed (IsWritten s w) (IsWritten s new_w) l code new lines sent on (wrote s w new_w text says) r m (r.steps.rests r.cut) message one new_l only rose
+      not-dialled true only rose says = begin-fails C Stands lent IsOf k s ahead further line number failed (IsWritten s w) (IsWritten s new_w) l code new lines sent on (wrote k.says s w new_w text says) r m (r.steps.rests r.cut) message one new_l only rose
       not-dialled false only rose says =
           unwritten-broken C Stands lent IsOf k s further number none_taken new_l [] new new_w
-          (begin-fails C Stands lent IsOf k s ahead further line number failed (IsWritten s w) (IsPartWritten s new_w) l code new lines sent on (half s w new_w text says) r m (r.steps.rests r.cut) message one new_l only rose)
+          (begin-fails C Stands lent IsOf k s ahead further line number failed (IsWritten s w) (IsPartWritten k.says s new_w) l code new lines sent on (half k.says s w new_w text says) r m (r.steps.rests r.cut) message one new_l only rose)
 
   module _ (ahead further : Ahead) (line number : ℕ) (failed : Bool) (l new_l : Linking) (w new_w : Writing) (feed : List ℕ) (code new : C) (lines : List TraceLine) (sent : List Message)
       (on : ahead (lent code) ≡ Next number (Do Resumed) further) (ready : IsReady C Stands lent IsOf k s ahead line failed l (IsWritten s w) feed code) (act : (c : Client) → Stands code c → Makes Stands lent IsOf k code new c Resumed lines sent) where
     -- the link is up: nothing is done
-    pub resumes-up : (handed : Handed) → sent ≡ [] → Carries handed l new_l w new_w (spelled sent) (flat_map (line_text k.schema number) lines)
+    pub resumes-up : (handed : Handed) → sent ≡ [] → Carries k.says handed l new_l w new_w (spelled sent) (flat_map (line_text k.schema number) lines)
         → Hands C Stands lent IsOf k handed s further number none_taken failed new_l new_w feed new
     resumes-up handed none carries = by ready
       where
@@ -113,7 +113,7 @@ module _ (C : Type 0) (Stands : C → Client → Type 0) (lent : C → Option An
             absurd (let wrong : true ≡ false = sym u.cut ∙ link.0 in cc)
 
     -- it is down: the present call is over
-    resting : (sent ≡ [] → ⊥) → Rests C Stands lent IsOf k s ahead line failed l (IsWritten s w) code
+    pub resting : (sent ≡ [] → ⊥) → Rests C Stands lent IsOf k s ahead line failed l (IsWritten s w) code
     resting some = by ready
       where
         down : (c : Client) → (m : Makes Stands lent IsOf k code new c Resumed lines sent) → (ms : List Message) → sent ≡ ms → c.cut ≡ true
@@ -127,7 +127,7 @@ module _ (C : Type 0) (Stands : C → Client → Type 0) (lent : C → Option An
             (down (left_by s.past (f.at.course.earlier ++ f.at.course.call ∷ [])) (act (left_by s.past (f.at.course.earlier ++ f.at.course.call ∷ [])) f.at.course.steps.stands) sent refl)
         by (inr u) = unbegun-rests ahead line failed l (IsWritten s w) code u
 
-    pub resumes-dialled : (handed : Handed) (mid : Linking) → (sent ≡ [] → ⊥) → (l.peers ≡ Some [] → ⊥) → mid ≡ connected_at (Some s.address) l → Carries handed mid new_l w new_w (spelled sent) (flat_map (line_text k.schema number) lines)
+    pub resumes-dialled : (handed : Handed) (mid : Linking) → (sent ≡ [] → ⊥) → (l.peers ≡ Some [] → ⊥) → mid ≡ connected_at (Some s.address) l → Carries k.says handed mid new_l w new_w (spelled sent) (flat_map (line_text k.schema number) lines)
         → Hands C Stands lent IsOf k handed s further number none_taken failed new_l new_w [] new
     resumes-dialled handed mid some more made carries = by (one-sent m.outcome)
       where
@@ -141,7 +141,7 @@ module _ (C : Type 0) (Stands : C → Client → Type 0) (lent : C → Option An
         by (inl none) = absurd (some (m.sent_is ∙ none))
         by (inr (x, one)) = dialled ahead further line number failed l mid new_l w new_w code new lines sent on r m x (m.sent_is ∙ one) handed more made carries
 
-    pub resumes-alone : (said : Bool) → (sent ≡ [] → ⊥) → OnlyFaults l new_l → Rose l.faults new_l.faults → SaysAs said w new_w (flat_map (line_text k.schema number) lines)
+    pub resumes-alone : (said : Bool) → (sent ≡ [] → ⊥) → OnlyFaults l new_l → Rose l.faults new_l.faults → SaysAs k.says said w new_w (flat_map (line_text k.schema number) lines)
         → Hands C Stands lent IsOf k (cond said HandedBroken Unwritten) s further number none_taken failed new_l new_w [] new
     resumes-alone said some only rose says = by (one-sent m.outcome)
       where
@@ -159,16 +159,16 @@ module _ (C : Type 0) (Stands : C → Client → Type 0) (lent : C → Option An
 
   pub fails-as : (ahead : Ahead) (line : ℕ) (l new_l : Linking) (w new_w : Writing) (feed : List ℕ) (code new : C) (lines : List TraceLine) (said : Bool)
       (b : Broken C Stands lent IsOf k s ahead line l (IsWritten s w) feed code) → ((c : Client) → Stands code c → Makes Stands lent IsOf k code new c WasCut lines []) → new_l ≡ hung_up l
-      → SaysAs said w new_w (flat_map (line_text k.schema line) lines) → FailsAs C Stands lent IsOf k said s ahead line new_l new_w feed new
+      → SaysAs k.says said w new_w (flat_map (line_text k.schema line) lines) → FailsAs C Stands lent IsOf k said s ahead line new_l new_w feed new
   fails-as ahead line l new_l w new_w feed code new lines said b cut gone says =
       subst (λ x. FailsAs C Stands lent IsOf k said s ahead line x new_w feed new) (sym gone) (by said says)
     where
       m : Makes Stands lent IsOf k code new (left_by s.past (b.course.earlier ++ b.course.call ∷ [])) WasCut lines []
       m = cut (left_by s.past (b.course.earlier ++ b.course.call ∷ [])) b.course.steps.stands
 
-      by : (said : Bool) → SaysAs said w new_w (flat_map (line_text k.schema line) lines) → FailsAs C Stands lent IsOf k said s ahead line (hung_up l) new_w feed new
+      by : (said : Bool) → SaysAs k.says said w new_w (flat_map (line_text k.schema line) lines) → FailsAs C Stands lent IsOf k said s ahead line (hung_up l) new_w feed new
       by true says =
-          fail-ends C Stands lent IsOf k s ahead line (IsWritten s w) (IsWritten s new_w) l feed code new lines (wrote s w new_w (flat_map (line_text k.schema line) lines) says) b m
+          fail-ends C Stands lent IsOf k s ahead line (IsWritten s w) (IsWritten s new_w) l feed code new lines (wrote k.says s w new_w (flat_map (line_text k.schema line) lines) says) b m
       by false says =
-          let f = fail-ends C Stands lent IsOf k s ahead line (IsWritten s w) (IsPartWritten s new_w) l feed code new lines (half s w new_w (flat_map (line_text k.schema line) lines) says) b m in
+          let f = fail-ends C Stands lent IsOf k s ahead line (IsWritten s w) (IsPartWritten k.says s new_w) l feed code new lines (half k.says s w new_w (flat_map (line_text k.schema line) lines) says) b m in
           unwritten-at C Stands lent IsOf k s ahead line f.came (hung_up l) feed new new_w true f.at

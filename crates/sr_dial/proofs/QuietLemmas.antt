@@ -17,7 +17,7 @@ use Rattle.sr_dial.specs.Calls.{Call, Done, Explained, Said, Task, Explain, Say,
 use Rattle.sr_dial.specs.Following.{Ahead, did_of}
 use Rattle.sr_talk.specs.Serving.{RoseBy, spelled}
 use Rattle.sr_dial.specs.Carrying.{SaysAs}
-use Rattle.sr_dial.specs.Known.{AreFairlyExplained, IsFrom, Setting, Tells}
+use Rattle.sr_dial.specs.Known.{AreFairlyExplained, IsFrom, Setting, Tells, said_by}
 use Rattle.sr_dial.specs.Runs.{AreInPlace, SentAs, left_by, none_taken, taken_after}
 use Rattle.sr_dial.specs.Courses.{At, Free, Hands, IsPartWritten, IsThere, IsWritten, Start, Stepped, line_after}
 use Rattle.sr_dial.specs.declared.parts.Answer.{Answer}
@@ -42,22 +42,22 @@ pub record IsQuiet {C : Type 0} (keeps : Bool) (d : Done C) (number : ℕ) (task
   pub zero : (n : Count) → taken_after n (d ∷ []) ≡ none_taken
   pub place : (schema : List Table) (line : ℕ) (c : Client) → c.out ≡ None → AreInPlace schema line c (d ∷ [])
 
-quiet-explained : {C : Type 0} (keeps : Bool) (number : ℕ) (text : Result Query Fault) (result : Result Explanation Fault) → IsQuiet {C = C} keeps (Explained number text result) number (Explain text)
+pub quiet-explained : {C : Type 0} (keeps : Bool) (number : ℕ) (text : Result Query Fault) (result : Result Explanation Fault) → IsQuiet {C = C} keeps (Explained number text result) number (Explain text)
 quiet-explained keeps number text result =
     record { number_is = refl; did = refl; steps = refl; still = λ c. refl; given = refl; sent = refl; fine = refl; zero = λ n. refl; place = λ schema line c free. (free, tt) }
 
-quiet-said : {C : Type 0} (keeps : Bool) (number : ℕ) (text : List ℕ) → IsQuiet {C = C} keeps (Said number text) number (Say text)
+pub quiet-said : {C : Type 0} (keeps : Bool) (number : ℕ) (text : List ℕ) → IsQuiet {C = C} keeps (Said number text) number (Say text)
 quiet-said keeps number text =
     record { number_is = refl; did = refl; steps = refl; still = λ c. refl; given = refl; sent = refl; fine = refl; zero = λ n. refl; place = λ schema line c free. (free, tt) }
 
 module _ (C : Type 0) (Stands : C → Client → Type 0) (lent : C → Option Answer) (IsOf : Standing C) (k : Setting) (s : Start C) (ahead further : Ahead) (line : ℕ) (came : Count) (number : ℕ) (P Q : List ℕ → Type 0) (code : C) (d : Done C) (task : Task)
-    (quiet : IsQuiet k.keeps d number task) (on : ahead (lent code) ≡ Next number task further) (says : (texts : List ℕ) → P texts → Q (texts ++ text_of k.schema k.number d)) where
+    (quiet : IsQuiet k.keeps d number task) (on : ahead (lent code) ≡ Next number task further) (says : (texts : List ℕ) → P texts → Q (texts ++ said_by k d)) where
   stepped-more : (ds : List (Done C)) → Stepped C Stands lent IsOf k s ahead line came ds P code → (past_after s.past (steps_in ds)).out ≡ None → AreFairlyExplained IsOf k.limits code (past_after s.past (steps_in ds)) (d ∷ [])
       → Stepped C Stands lent IsOf k s (λ answer. further None) number none_taken (ds ++ d ∷ []) Q code
   stepped-more ds h free fair =
       let same : steps_in (ds ++ d ∷ []) ≡ steps_in ds = steps-append ds (d ∷ []) ∙ (ap (λ more. steps_in ds ++ more) quiet.steps ∙ append-nil (steps_in ds)) in
-      let texts : flat_map (text_of k.schema k.number) (ds ++ d ∷ []) ≡ flat_map (text_of k.schema k.number) ds ++ text_of k.schema k.number d =
-      flat_map-append (text_of k.schema k.number) ds (d ∷ []) ∙ ap (λ x. flat_map (text_of k.schema k.number) ds ++ x) (append-nil (text_of k.schema k.number d)) in
+      let texts : flat_map (said_by k) (ds ++ d ∷ []) ≡ flat_map (said_by k) ds ++ said_by k d =
+      flat_map-append (said_by k) ds (d ∷ []) ∙ ap (λ x. flat_map (said_by k) ds ++ x) (append-nil (said_by k d)) in
       record {
         in_place = place-append k.schema 0 s.past ds (d ∷ []) h.in_place (quiet.place k.schema (line_after 0 ds) (past_after s.past (steps_in ds)) free);
         line_is = line-append 0 ds (d ∷ []) ∙ quiet.number_is;
@@ -73,7 +73,7 @@ module _ (C : Type 0) (Stands : C → Client → Type 0) (lent : C → Option An
         code_is = ap (code_after s.code) same ∙ h.code_is;
         stands = subst (λ steps. Stands code (past_after s.past steps)) (sym same) h.stands;
         rests = subst (λ (steps : List (Step C)). (past_after s.past steps).cut ≡ true → (past_after s.past steps).out ≡ None) (sym same) h.rests;
-        writes = subst Q (sym texts) (says (flat_map (text_of k.schema k.number) ds) h.writes);
+        writes = subst Q (sym texts) (says (flat_map (said_by k) ds) h.writes);
       }
 
   module _ (failed : Bool) (l : Linking) (feed : List ℕ) (h : At C Stands lent IsOf k s ahead line came failed l P feed code) (free : (left_by s.past (h.course.earlier ++ h.course.call ∷ [])).out ≡ None)
@@ -134,24 +134,24 @@ module _ (C : Type 0) (Stands : C → Client → Type 0) (lent : C → Option An
 -- its text is written, or not
 quiet-hands : (C : Type 0) (Stands : C → Client → Type 0) (lent : C → Option Answer) (IsOf : Standing C) (k : Setting) (s : Start C) (ahead further : Ahead) (line number : ℕ) (failed : Bool) (l : Linking) (w new_w : Writing) (feed : List ℕ) (code : C)
     (d : Done C) (task : Task) (said : Bool) (h : Free C Stands lent IsOf k s ahead line failed l (IsWritten s w) feed code) → IsQuiet k.keeps d number task → ahead (lent code) ≡ Next number task further
-    → AreFairlyExplained IsOf k.limits code (left_by s.past (h.at.course.earlier ++ h.at.course.call ∷ [])) (d ∷ []) → SaysAs said w new_w (text_of k.schema k.number d)
+    → AreFairlyExplained IsOf k.limits code (left_by s.past (h.at.course.earlier ++ h.at.course.call ∷ [])) (d ∷ []) → SaysAs k.says said w new_w (text_of k.schema k.number d)
     → Hands C Stands lent IsOf k (cond said Whole Unwritten) s (λ answer. further None) number none_taken failed l new_w feed code
 quiet-hands C Stands lent IsOf k s ahead further line number failed l w new_w feed code d task true h quiet on fair says =
-    at-quiet C Stands lent IsOf k s ahead further line h.came number (IsWritten s w) (IsWritten s new_w) code d task quiet on (wrote s w new_w (text_of k.schema k.number d) says) failed l feed h.at h.free fair
+    at-quiet C Stands lent IsOf k s ahead further line h.came number (IsWritten s w) (IsWritten s new_w) code d task quiet on (wrote k.says s w new_w (text_of k.schema k.number d) says) failed l feed h.at h.free fair
 quiet-hands C Stands lent IsOf k s ahead further line number failed l w new_w feed code d task false h quiet on fair says =
     unwritten-at C Stands lent IsOf k s (λ answer. further None) number none_taken l feed code new_w failed
-    (at-quiet C Stands lent IsOf k s ahead further line h.came number (IsWritten s w) (IsPartWritten s new_w) code d task quiet on (half s w new_w (text_of k.schema k.number d) says) failed l feed h.at h.free fair)
+    (at-quiet C Stands lent IsOf k s ahead further line h.came number (IsWritten s w) (IsPartWritten k.says s new_w) code d task quiet on (half k.says s w new_w (text_of k.schema k.number d) says) failed l feed h.at h.free fair)
 
 pub explains-hands : (C : Type 0) (Stands : C → Client → Type 0) (lent : C → Option Answer) (IsOf : Standing C) (k : Setting) (s : Start C) (ahead further : Ahead) (line number : ℕ) (failed : Bool) (l : Linking) (w new_w : Writing) (feed : List ℕ) (code : C)
     (text : Result Query Fault) (lines : List TraceLine) (said : Bool) (h : Free C Stands lent IsOf k s ahead line failed l (IsWritten s w) feed code) → ahead (lent code) ≡ Next number (Explain text) further
-    → Tells IsOf k code (left_by s.past (h.at.course.earlier ++ h.at.course.call ∷ [])) text lines → SaysAs said w new_w (flat_map (line_text k.schema number) lines)
+    → Tells IsOf k code (left_by s.past (h.at.course.earlier ++ h.at.course.call ∷ [])) text lines → SaysAs k.says said w new_w (flat_map (line_text k.schema number) lines)
     → Hands C Stands lent IsOf k (cond said Whole Unwritten) s (λ answer. further None) number none_taken failed l new_w feed code
 explains-hands C Stands lent IsOf k s ahead further line number failed l w new_w feed code text lines said h on t says =
     quiet-hands C Stands lent IsOf k s ahead further line number failed l w new_w feed code (Explained number text t.result) (Explain text) said h (quiet-explained k.keeps number text t.result) on (t.fair, tt)
-    (subst (λ ls. SaysAs said w new_w (flat_map (line_text k.schema number) ls)) t.lines_are says)
+    (subst (λ ls. SaysAs k.says said w new_w (flat_map (line_text k.schema number) ls)) t.lines_are says)
 
 pub says-hands : (C : Type 0) (Stands : C → Client → Type 0) (lent : C → Option Answer) (IsOf : Standing C) (k : Setting) (s : Start C) (ahead further : Ahead) (line number : ℕ) (failed : Bool) (l : Linking) (w new_w : Writing) (feed : List ℕ) (code : C)
-    (text : List ℕ) (said : Bool) → Free C Stands lent IsOf k s ahead line failed l (IsWritten s w) feed code → ahead (lent code) ≡ Next number (Say text) further → SaysAs said w new_w text
+    (text : List ℕ) (said : Bool) → Free C Stands lent IsOf k s ahead line failed l (IsWritten s w) feed code → ahead (lent code) ≡ Next number (Say text) further → SaysAs k.says said w new_w text
     → Hands C Stands lent IsOf k (cond said Whole Unwritten) s (λ answer. further None) number none_taken failed l new_w feed code
 says-hands C Stands lent IsOf k s ahead further line number failed l w new_w feed code text said h on says =
     quiet-hands C Stands lent IsOf k s ahead further line number failed l w new_w feed code (Said number text) (Say text) said h (quiet-said k.keeps number text) on tt says

@@ -122,7 +122,7 @@ module _ (C S : Type 0) (Stands : C → Client → Type 0) (lent : C → Option 
 
 -- one ends the run
 pub early : (C : Type 0) (Stands : C → Client → Type 0) (lent : C → Option Answer) (IsOf : Standing C) (k : Setting) (s : Start C) (ended : Ending) (l : Linking) (w : Writing) (feed : List ℕ) (code : C)
-    → Over C Stands lent IsOf k s ended l w → IsEarly ended → Finishes C Stands lent IsOf k ended s l w feed code
+    → Over C Stands lent IsOf k s ended l w code → IsEarly ended → Finishes C Stands lent IsOf k ended s l w feed code
 early C Stands lent IsOf k s ending.Whole l w feed code over is = absurd is
 early C Stands lent IsOf k s ending.Faulty l w feed code over is = absurd is
 early C Stands lent IsOf k s ending.Unwritten l w feed code over is = over

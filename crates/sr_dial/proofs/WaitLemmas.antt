@@ -17,16 +17,17 @@ use Rattle.sr_talk.specs.Reading.{Nexts, Reads}
 use Rattle.sr_talk.specs.Serving.{spelled}
 use Rattle.sr_talk.specs.declared.frames.Next.{Next}
 use Rattle.sr_talk.specs.declared.frames.Next.TheVariants.{Frame, End, Torn, Fault, Bad as NextBad}
-use Rattle.sr_dial.specs.Carrying.{Carries}
+use Rattle.sr_dial.specs.Carrying.{Carries, CarriesInPart}
 use Rattle.sr_dial.specs.Known.{Makes, Setting}
 use Rattle.sr_dial.specs.Runs.{anew_if, left_by, more_if}
-use Rattle.sr_dial.specs.Courses.{At, Broken, Free, Handles, Hands, IsWritten, Over, Start, Waits, handled_by, last_of}
+use Rattle.sr_dial.specs.Courses.{At, BreaksOff, Broken, Free, Handles, Hands, IsWritten, Over, Start, Waits, handled_by, last_of}
 use Rattle.sr_dial.specs.declared.ending.Ending.TheVariants as ending
 use Rattle.sr_dial.specs.declared.steps.Handed.{Handed}
 use Rattle.sr_dial.specs.declared.steps.Handed.TheVariants.{Whole, Broken as HandedBroken, Unwritten}
 use Rattle.sr_dial.proofs.BrokenLemmas.{at-read, end-breaks, fault-breaks, read-past}
 use Rattle.sr_dial.proofs.EndLemmas.{over-at}
 use Rattle.sr_dial.proofs.HandLemmas.{hands-up}
+use Rattle.sr_dial.proofs.OffLemmas.{up-off}
 use Rattle.sr_dial.specs.declared.parts.Answer.{Answer}
 use Rattle.sr_dial.specs.Following.{Ahead}
 use Rattle.sr_dial.specs.declared.waiting.Count.{Count}
@@ -89,15 +90,15 @@ module _ (C : Type 0) (Stands : C → Client → Type 0) (lent : C → Option An
         fault-breaks C Stands lent IsOf k s ahead line came failed all.linking (IsWritten s w) after code (read all.linking [] after all.reads) (read-up all.linking [] after all.reads)
         (read-out all.linking [] after all.reads) new_l all.only (subst (λ n. Rose n new_l.faults) (sym (ap (λ (x : Linking). x.faults) all.reads.is)) all.rose)
 
-    pub awaits-spoiled : (new_l : Linking) (after : List ℕ) (fault : WireFault) → Nexts (NextBad fault) l new_l feed after → Over C Stands lent IsOf k s (ending.Spoiled fault) new_l w
+    pub awaits-spoiled : (new_l : Linking) (after : List ℕ) (fault : WireFault) → Nexts (NextBad fault) l new_l feed after → Over C Stands lent IsOf k s (ending.Spoiled fault) new_l w code
     awaits-spoiled new_l after fault (r, faulty, other) =
-        over-at C Stands lent IsOf k s ahead line came new_l after code w failed (ending.Spoiled fault) (read new_l [] after r) refl
+        over-at C Stands lent IsOf k s ahead line came new_l after code code w failed (ending.Spoiled fault) (read new_l [] after r) refl (λ fine. refl)
         (λ whole. record { fault_is = faulty; whole = other; waits = read-out new_l [] after r }) (λ texts is. is)
 
     -- as many as may be came for one request
-    pub awaits-no-more : (new_l : Linking) (after : List ℕ) (m : Message) → came.taken ≡ 1000000 → Nexts (Frame m) l new_l feed after → Over C Stands lent IsOf k s ending.Limit new_l w
+    pub awaits-no-more : (new_l : Linking) (after : List ℕ) (m : Message) → came.taken ≡ 1000000 → Nexts (Frame m) l new_l feed after → Over C Stands lent IsOf k s ending.Limit new_l w code
     awaits-no-more new_l after m many (r, is) =
-        over-at C Stands lent IsOf k s ahead line came new_l (spelling m ++ after) code w failed ending.Limit (read new_l (spelling m) after r) refl
+        over-at C Stands lent IsOf k s ahead line came new_l (spelling m ++ after) code code w failed ending.Limit (read new_l (spelling m) after r) refl (λ fine. refl)
         (λ whole. record { message = m; rest = after; many = ap (λ (n : Count). n.taken) (read new_l (spelling m) after r).course.steps.came_is ∙ many; next = refl; spells = is }) (λ texts is. is)
 
     -- a message came, and is not taken yet
@@ -129,9 +130,9 @@ module _ (C : Type 0) (Stands : C → Client → Type 0) (lent : C → Option An
   -- it must be refused
   pub handles-bad : (why : BadFrame) → is_some (left_by s.past (h.course.earlier ++ h.course.call ∷ [])).out ≡ true → IsTrue (has_spelling m)
       → Rattle.sr_session.specs.Misfits.misfit k.schema (left_by s.past (h.course.earlier ++ h.course.call ∷ [])).out (left_by s.past (h.course.earlier ++ h.course.call ∷ [])).laid
-      (left_by s.past (h.course.earlier ++ h.course.call ∷ [])).version m ≡ Some why → Over C Stands lent IsOf k s (ending.Bad why) l w
+      (left_by s.past (h.course.earlier ++ h.course.call ∷ [])).version m ≡ Some why → Over C Stands lent IsOf k s (ending.Bad why) l w new
   handles-bad why some is bad =
-      over-at C Stands lent IsOf k s ahead line came l (spelling m ++ after) code w failed (ending.Bad why) h refl (λ whole. record { message = m; rest = after; next = refl; spells = is; waits = some-out C Stands lent IsOf k s ahead line came failed l w (spelling m ++ after) code h some; why_is = bad }) (λ texts is. is)
+      over-at C Stands lent IsOf k s ahead line came l (spelling m ++ after) code new w failed (ending.Bad why) h refl (λ fine. absurd (let wrong : true ≡ false = fine in cc)) (λ whole. record { message = m; rest = after; next = refl; spells = is; waits = some-out C Stands lent IsOf k s ahead line came failed l w (spelling m ++ after) code h some; why_is = bad }) (λ texts is. is)
 
   most-more : (sent : List Message) → came.taken + 1 ≤ 1000000 → (more_if sent came).taken ≤ 1000000
   most-more [] most = most
@@ -146,7 +147,7 @@ module _ (C : Type 0) (Stands : C → Client → Type 0) (lent : C → Option An
       → misfit k.schema (left_by s.past (h.course.earlier ++ h.course.call ∷ [])).out (left_by s.past (h.course.earlier ++ h.course.call ∷ [])).laid
       (left_by s.past (h.course.earlier ++ h.course.call ∷ [])).version m ≡ None
       → Makes Stands lent IsOf k code new (left_by s.past (h.course.earlier ++ h.course.call ∷ [])) (Took m) lines sent
-      → Carries handed l new_l w new_w (spelled sent) (flat_map (line_text k.schema line) lines) → Handles C Stands lent IsOf k (handled_by handed (not empty)) s ahead line came failed m new_l new_w after new
+      → Carries k.says handed l new_l w new_w (spelled sent) (flat_map (line_text k.schema line) lines) → Handles C Stands lent IsOf k (handled_by handed (not empty)) s ahead line came failed m new_l new_w after new
   handles most lines sent handed empty is_empty some is fits made carries =
       by handed sent empty is_empty
       (hands-up C Stands lent IsOf k s ahead ahead line came line Delivered code new (Took m) lines sent refl (most-more sent most) failed l new_l w new_w (spelling m ++ after) after h made (refl, some-out C Stands lent IsOf k s ahead line came failed l w (spelling m ++ after) code h some, is, fits) tt refl
@@ -161,3 +162,14 @@ module _ (C : Type 0) (Stands : C → Client → Type 0) (lent : C → Option An
       by Whole (x ∷ sent) true is hands = absurd (let wrong : x ∷ sent ≡ [] = is.0 refl in cc)
       by HandedBroken sent empty is hands = hands
       by Unwritten sent empty is hands = hands
+
+  -- it is taken, and what it sends or its lines are cut short
+  pub takes-off : came.taken + 1 ≤ 1000000 → (lines : List TraceLine) (sent : List Message) → is_some (left_by s.past (h.course.earlier ++ h.course.call ∷ [])).out ≡ true → IsTrue (has_spelling m)
+      → misfit k.schema (left_by s.past (h.course.earlier ++ h.course.call ∷ [])).out (left_by s.past (h.course.earlier ++ h.course.call ∷ [])).laid
+      (left_by s.past (h.course.earlier ++ h.course.call ∷ [])).version m ≡ None
+      → Makes Stands lent IsOf k code new (left_by s.past (h.course.earlier ++ h.course.call ∷ [])) (Took m) lines sent
+      → CarriesInPart k.says l new_l w new_w (spelled sent) (flat_map (line_text k.schema line) lines) → BreaksOff C Stands lent IsOf k s new_l new_w
+  takes-off most lines sent some is fits made carries =
+      up-off C Stands lent IsOf k s ahead ahead line came line Delivered code new (Took m) lines sent refl (most-more sent most) failed l new_l w new_w (spelling m ++ after) after h made (refl, some-out C Stands lent IsOf k s ahead line came failed l w (spelling m ++ after) code h some, is, fits) tt refl
+      (is-up C Stands lent IsOf k s ahead line came failed l w (spelling m ++ after) code h some)
+      (made.link.0 ∙ is-up C Stands lent IsOf k s ahead line came failed l w (spelling m ++ after) code h some) (ap (λ x. x ++ after) (sym (append-nil (spelling m)))) carries

@@ -8,15 +8,15 @@ use Rattle.sr_io.specs.Told.{Linking, Writing, AreAt, connections}
 use Rattle.sr_message.specs.declared.message.Message.{Message}
 use Rattle.sr_session.specs.Clients.{Client}
 use Rattle.sr_links.specs.Steps.{Standing, Resumed, AreFair, OnOne, code_after, given_of, past_after, requests_of}
-use Rattle.sr_dial.specs.Calls.{Call, Done, Task, AreCalls, all_done, calls_told, count_faults, done_in, fails, is_fault, number_of, one_if, steps_in, text_of}
+use Rattle.sr_dial.specs.Calls.{Call, Done, Task, AreCalls, all_done, calls_told, count_faults, done_in, fails, is_fault, number_of, one_if, steps_in}
 use Rattle.sr_plan.specs.Plans.{Plan, GoBy, begun}
 use Rattle.sr_plan.specs.Plans.{Over as Nothing}
 use Rattle.sr_talk.specs.Serving.{RoseBy, spelled}
 use Rattle.sr_talk.specs.declared.frames.Next.{Next}
 use Rattle.sr_talk.specs.declared.frames.Next.TheVariants.{Frame, End, Torn, Fault, Bad}
 use Rattle.sr_dial.specs.Following.{Ahead, dids_of, stage_by}
-use Rattle.sr_dial.specs.Known.{AreFairlyExplained, IsFrom, Setting}
-use Rattle.sr_dial.specs.Runs.{AreFew, AreInPlace, EndsBy, IsCarried, IsToldIf, SentAs, WritesAs, anew, is_unwritten, left_by, none_taken, one_more, taken_after}
+use Rattle.sr_dial.specs.Known.{AreFairlyExplained, IsFrom, Setting, said_by}
+use Rattle.sr_dial.specs.Runs.{AreFew, AreInPlace, EndsBy, IsCarried, IsToldIf, RanInPart, SentAs, WritesAs, anew, is_bad, is_unwritten, left_by, none_taken, one_more, taken_after}
 use Rattle.sr_dial.specs.declared.ending.Ending.{Ending}
 use Rattle.sr_dial.specs.declared.parts.Answer.{Answer}
 use Rattle.sr_dial.specs.declared.ending.Ending.TheVariants as ending
@@ -81,12 +81,16 @@ IsEarly ending.Whole = ⊥
 IsEarly ending.Faulty = ⊥
 IsEarly other = Unit {0}
 
--- All texts are written so far; or a beginning of them, and a fault is counted.
+-- All texts are written so far; or, where a run writes its lines, a beginning of them, and a fault is counted.
 abbrev pub IsWritten : {C : Type 0} → Start C → Writing → List ℕ → Type 0
 IsWritten {C} s w texts = Appends s.writing.written w.written texts × (w.faults ≡ s.writing.faults)
 
-abbrev pub IsPartWritten : {C : Type 0} → Start C → Writing → List ℕ → Type 0
-IsPartWritten {C} s w texts = WritesPrefix s.writing.written w.written texts × Rose s.writing.faults w.faults
+abbrev pub IsPartWritten : {C : Type 0} → Bool → Start C → Writing → List ℕ → Type 0
+IsPartWritten {C} says s w texts = (says ≡ true) × WritesPrefix s.writing.written w.written texts × Rose s.writing.faults w.faults
+
+-- Out of memory: a beginning of all texts is written, and no fault is counted.
+abbrev pub IsSomeWritten : {C : Type 0} → Start C → Writing → List ℕ → Type 0
+IsSomeWritten {C} s w texts = WritesPrefix s.writing.written w.written texts × (w.faults ≡ s.writing.faults)
 
 module _ (C : Type 0) (Stands : C → Client → Type 0) (lent : C → Option Answer) (IsOf : Standing C) (k : Setting) where
   -- What was done, each thing in its place and fair, with this of the lines. It went by the plan: this is ahead, and the client lends the
@@ -105,7 +109,7 @@ module _ (C : Type 0) (Stands : C → Client → Type 0) (lent : C → Option An
     pub code_is : code_after s.code (steps_in ds) ≡ code
     pub stands : Stands code (past_after s.past (steps_in ds))
     pub rests : (past_after s.past (steps_in ds)).cut ≡ true → (past_after s.past (steps_in ds)).out ≡ None
-    pub writes : P (flat_map (text_of k.schema k.number) ds)
+    pub writes : P (flat_map (said_by k) ds)
 
   -- Calls that are over, and the present one, behind whose messages the feed has these bytes.
   pub record Course (s : Start C) (ahead : Ahead) (line : ℕ) (came : Count) (P : List ℕ → Type 0) (feed : List ℕ) (code : C) : Type 0 where
@@ -161,8 +165,8 @@ module _ (C : Type 0) (Stands : C → Client → Type 0) (lent : C → Option An
     pub steps : Stepped s ahead line came (all_done calls) P code
     pub cut : (left_by s.past calls).cut ≡ true
 
-  -- The run ends before its plan is done.
-  pub record Over (s : Start C) (ended : Ending) (l : Linking) (w : Writing) : Type 0 where
+  -- The run ends before its plan is done, and leaves this client.
+  pub record Over (s : Start C) (ended : Ending) (l : Linking) (w : Writing) (code : C) : Type 0 where
     pub earlier : List (Call C)
     pub last : Call C
     pub are : AreCalls s.past (earlier ++ last ∷ [])
@@ -172,6 +176,8 @@ module _ (C : Type 0) (Stands : C → Client → Type 0) (lent : C → Option An
     pub from : All (IsFrom k.number) (requests_of (steps_in (all_done (earlier ++ last ∷ []))))
     pub fair : AreFair IsOf k.limits s.code s.past (steps_in (all_done (earlier ++ last ∷ [])))
     pub explained : AreFairlyExplained IsOf k.limits s.code s.past (all_done (earlier ++ last ∷ []))
+    pub code_is : is_bad ended ≡ false → code_after s.code (steps_in (all_done (earlier ++ last ∷ []))) ≡ code
+    pub stands : is_bad ended ≡ false → Stands code (left_by s.past (earlier ++ last ∷ []))
     pub carried : All (IsCarried false) earlier
     pub last_carried : IsCarried (is_unwritten ended) last
     pub dialled : AreAt s.address (calls_told (earlier ++ last ∷ []))
@@ -179,7 +185,11 @@ module _ (C : Type 0) (Stands : C → Client → Type 0) (lent : C → Option An
     pub made : connections l ≡ connections s.linking ++ calls_told (earlier ++ last ∷ [])
     pub faults : RoseBy s.linking.faults (count_faults (earlier ++ last ∷ [])) l.faults
     pub ends : (rest : Plan Task Answer) → EndsBy ended k.schema (earlier ++ last ∷ []) (left_by s.past (earlier ++ last ∷ [])) last.left rest
-    pub writes : WritesAs ended (flat_map (text_of k.schema k.number) (all_done (earlier ++ last ∷ []))) s.writing w
+    pub writes : WritesAs k.says ended (flat_map (said_by k) (all_done (earlier ++ last ∷ []))) s.writing w
+
+  -- The run is broken off for want of memory.
+  abbrev pub BreaksOff : Start C → Linking → Writing → Type 0
+  BreaksOff s l w = RanInPart C IsOf k s.code s.past s.address s.plan s.linking l s.writing w
 
   -- nothing is out
   pub record Free (s : Start C) (ahead : Ahead) (line : ℕ) (failed : Bool) (l : Linking) (P : List ℕ → Type 0) (feed : List ℕ) (code : C) : Type 0 where
@@ -216,36 +226,36 @@ module _ (C : Type 0) (Stands : C → Client → Type 0) (lent : C → Option An
   abbrev pub Hands : Handed → Start C → Ahead → ℕ → Count → Bool → Linking → Writing → List ℕ → C → Type 0
   Hands handed.Whole s ahead line came failed l w feed code = At s ahead line came failed l (IsWritten s w) feed code
   Hands handed.Broken s ahead line came failed l w feed code = Broken s ahead line l (IsWritten s w) feed code
-  Hands handed.Unwritten s ahead line came failed l w feed code = Over s ending.Unwritten l w
+  Hands handed.Unwritten s ahead line came failed l w feed code = Over s ending.Unwritten l w code
 
   abbrev pub EndsLine : LineEnd → Start C → Ahead → ℕ → Bool → Linking → Writing → List ℕ → C → Type 0
   EndsLine line_end.Done s ahead line failed l w feed code = Free s ahead line failed l (IsWritten s w) feed code
   EndsLine line_end.Failed s ahead line failed l w feed code = Free s ahead line true l (IsWritten s w) feed code
-  EndsLine (line_end.Ends ended) s ahead line failed l w feed code = Over s ended l w × (IsEarly ended)
+  EndsLine (line_end.Ends ended) s ahead line failed l w feed code = Over s ended l w code × (IsEarly ended)
 
   abbrev pub Waits : Awaited → Start C → Ahead → ℕ → Bool → Linking → Writing → List ℕ → C → Type 0
   Waits awaited.Free s ahead line failed l w feed code = Free s ahead line failed l (IsWritten s w) feed code
   Waits awaited.Failed s ahead line failed l w feed code = Broken s ahead line l (IsWritten s w) feed code
-  Waits awaited.Unwritten s ahead line failed l w feed code = Over s ending.Unwritten l w
-  Waits (awaited.Spoiled fault) s ahead line failed l w feed code = Over s (ending.Spoiled fault) l w
-  Waits (awaited.Bad why) s ahead line failed l w feed code = Over s (ending.Bad why) l w
-  Waits awaited.Limit s ahead line failed l w feed code = Over s ending.Limit l w
+  Waits awaited.Unwritten s ahead line failed l w feed code = Over s ending.Unwritten l w code
+  Waits (awaited.Spoiled fault) s ahead line failed l w feed code = Over s (ending.Spoiled fault) l w code
+  Waits (awaited.Bad why) s ahead line failed l w feed code = Over s (ending.Bad why) l w code
+  Waits awaited.Limit s ahead line failed l w feed code = Over s ending.Limit l w code
 
   -- the link failed, with the lines of that
   abbrev pub FailsAs : Bool → Start C → Ahead → ℕ → Linking → Writing → List ℕ → C → Type 0
   FailsAs true s ahead line l w feed code = Free s ahead line true l (IsWritten s w) feed code
-  FailsAs false s ahead line l w feed code = Over s ending.Unwritten l w
+  FailsAs false s ahead line l w feed code = Over s ending.Unwritten l w code
 
   -- a message was taken, behind which these bytes are left, or is refused
   abbrev pub Handles : Handled → Start C → Ahead → ℕ → Count → Bool → Message → Linking → Writing → List ℕ → C → Type 0
   Handles handled.Whole s ahead line came failed m l w after code = At s ahead line (one_more came) failed l (IsWritten s w) after code
   Handles handled.Again s ahead line came failed m l w after code = At s ahead line (anew came) failed l (IsWritten s w) after code
   Handles handled.Broken s ahead line came failed m l w after code = Broken s ahead line l (IsWritten s w) after code
-  Handles handled.Unwritten s ahead line came failed m l w after code = Over s ending.Unwritten l w
-  Handles (handled.Refused why) s ahead line came failed m l w after code = Over s (ending.Bad why) l w
+  Handles handled.Unwritten s ahead line came failed m l w after code = Over s ending.Unwritten l w code
+  Handles (handled.Refused why) s ahead line came failed m l w after code = Over s (ending.Bad why) l w code
 
   -- how a plan ends
   abbrev pub Finishes : Ending → Start C → Linking → Writing → List ℕ → C → Type 0
   Finishes ending.Whole s l w feed code = IsDone s false l w feed code
   Finishes ending.Faulty s l w feed code = IsDone s true l w feed code
-  Finishes ended s l w feed code = Over s ended l w
+  Finishes ended s l w feed code = Over s ended l w code

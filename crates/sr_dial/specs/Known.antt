@@ -23,7 +23,8 @@ use Rattle.sr_explain.specs.declared.explanation.Explanation.{Explanation}
 use Rattle.sr_explain.specs.Explained.{Explains, count_in}
 use Rattle.sr_explain.specs.Telling.{explain_lines}
 use Rattle.sr_links.specs.Steps.{Standing, Deed, Queried, Wrote, Evicted, Took, WasCut, Resumed, IsFair}
-use Rattle.sr_dial.specs.Calls.{Done, Made, Explained, Said, Task, Do, Explain, Say, lines_of}
+use Rattle.sr_dial.specs.Calls.{Done, Made, Explained, Said, Task, Do, Explain, Say, lines_of, text_of}
+use Rattle.sr_dial.specs.Carrying.{spoken}
 use Rattle.sr_dial.specs.Following.{answer_of}
 use Rattle.sr_dial.specs.declared.parts.Answer.{Answer}
 use Rattle.sr_dial.specs.declared.parts.Came.{Came}
@@ -60,12 +61,17 @@ AreTasks schema lines script = AllZip (IsTaskLine schema) lines script
 
 -- ---- steps
 
--- what a client knows, which no step changes; and whether it keeps the rows of an answer, so as to lend them
+-- what a client knows, which no step changes; whether it keeps the rows of an answer, so as to lend them; and whether its run writes lines
 pub record Setting : Type 0 where
   pub number : ℕ
   pub schema : List Table
   pub limits : Limits
   pub keeps : Bool
+  pub says : Bool
+
+-- what is written for a thing that was done
+abbrev pub said_by : {C : Type 0} → Setting → Done C → List ℕ
+said_by {C} k d = spoken k.says (text_of k.schema k.number d)
 
 -- A resume over a cut link brings it up and sends one message; a cut takes it down; nothing else changes it. Requests go out only over a
 -- link that is up.

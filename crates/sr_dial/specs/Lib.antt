@@ -9,3 +9,4 @@ pub mod Jobs
 pub mod Listed
 pub mod Honest
 pub mod Served
+pub mod Clauses

@@ -2,7 +2,7 @@
 --
 -- It is not said here that each outcome goes by the rules over a link that lies: only that it does over every database whose rows the
 -- client has, and where what comes is truly promised.
-use Rattle.std.specs.Prelude.{ℕ, Bool, true, false, List, [], ◌∷◌, ◌++◌, ◌||◌, ◌+◌, ◌≤◌, flat_map, ◌≡◌, ◌≢◌, Option, Some, None, IfSome, IsTrue}
+use Rattle.std.specs.Prelude.{ℕ, Bool, true, false, List, [], ◌∷◌, ◌++◌, ◌||◌, ◌+◌, ◌≤◌, flat_map, ◌≡◌, ◌≢◌, Option, Some, None, IfSome, IsTrue, option_to_list}
 use Rattle.std.specs.Io.KnownBytes.{Appends}
 use Rattle.std.specs.List.{list_any, All}
 use Rattle.sr_cell.specs.declared.table.Table.{Table}
@@ -19,12 +19,12 @@ use Rattle.sr_session.specs.Clients.{Client}
 use Rattle.sr_session.specs.Misfits.{misfit}
 use Rattle.sr_session.specs.Rules.{sent_of}
 use Rattle.sr_links.specs.Honest.{IsPrefix}
-use Rattle.sr_links.specs.Steps.{AreFair, Standing, Deed, Took, WasCut, given_of, requests_of, past_after}
-use Rattle.sr_dial.specs.Calls.{Call, Cause, Scripted, Delivered, Failed, Done, Made, Explained, Said, Task, AreCalls, all_done, calls_told, count_faults, done_in, fails, steps_in, text_of}
+use Rattle.sr_links.specs.Steps.{AreFair, Standing, code_after, Deed, Took, WasCut, given_of, requests_of, past_after}
+use Rattle.sr_dial.specs.Calls.{Call, Cause, Scripted, Delivered, Failed, Done, Made, Explained, Said, Task, AreCalls, all_done, calls_told, count_faults, done_in, fails, steps_in}
 use Rattle.sr_plan.specs.Plans.{Plan, Over, GoBy, begun, left}
 use Rattle.sr_talk.specs.Serving.{RoseBy, spelled}
 use Rattle.sr_dial.specs.Following.{dids_of, stage_by}
-use Rattle.sr_dial.specs.Known.{AreFairlyExplained, IsFrom, Setting}
+use Rattle.sr_dial.specs.Known.{AreFairlyExplained, IsFrom, Setting, said_by}
 use Rattle.sr_dial.specs.declared.ending.Ending.{Ending}
 use Rattle.sr_dial.specs.declared.ending.Ending.TheVariants as ending
 use Rattle.sr_dial.specs.declared.parts.Answer.{Answer}
@@ -156,10 +156,15 @@ EndsBy {C} (ending.Spoiled fault) schema calls c left rest = IsSpoiled c left fa
 EndsBy {C} (ending.Bad why) schema calls c left rest = IsRefused schema c left why
 EndsBy {C} ending.Limit schema calls c left rest = IsFull (all_done calls) left
 
--- Each line is written once its step is done: all of them, or a beginning where one is not written, which is counted as a fault.
-abbrev pub WritesAs : Ending → List ℕ → Writing → Writing → Type 0
-WritesAs ending.Unwritten texts before after = WritesPrefix before.written after.written texts × Rose before.faults after.faults
-WritesAs other texts before after = Appends before.written after.written texts × (after.faults ≡ before.faults)
+-- Each line is written once its step is done: all of them, or a beginning where one is not written, which is counted as a fault. Where a
+-- run writes no lines, this never comes.
+abbrev pub WritesAs : Bool → Ending → List ℕ → Writing → Writing → Type 0
+WritesAs says ending.Unwritten texts before after = (says ≡ true) × WritesPrefix before.written after.written texts × Rose before.faults after.faults
+WritesAs says other texts before after = Appends before.written after.written texts × (after.faults ≡ before.faults)
+
+abbrev pub is_bad : Ending → Bool
+is_bad (ending.Bad why) = true
+is_bad other = false
 
 abbrev pub is_unwritten : Ending → Bool
 is_unwritten ending.Unwritten = true
@@ -185,10 +190,41 @@ pub record Ran (C : Type 0) (k : Setting) (c : Client) (address : List ℕ) (pla
   pub faults : RoseBy old.faults (count_faults (earlier ++ last ∷ [])) new.faults
   pub calm : ended ≡ ending.Whole → new.faults ≡ old.faults
   pub ends : EndsBy ended k.schema (earlier ++ last ∷ []) (left_by c (earlier ++ last ∷ [])) last.left (left (stage_by k.keeps plan (all_done (earlier ++ last ∷ []))))
-  pub writes : WritesAs ended (flat_map (text_of k.schema k.number) (all_done (earlier ++ last ∷ []))) before after
+  pub writes : WritesAs k.says ended (flat_map (said_by k) (all_done (earlier ++ last ∷ []))) before after
 
 -- And each of its steps is fair, from this code on, and so is what was explained.
 pub record RanFairly (C : Type 0) (IsOf : Standing C) (k : Setting) (code : C) (c : Client) (address : List ℕ) (plan : Plan Task Answer) (ended : Ending) (old new : Linking) (before after : Writing) : Type 0 where
   pub ran : Ran C k c address plan ended old new before after
   pub fair : AreFair IsOf k.limits code c (steps_in (all_done (ran.earlier ++ ran.last ∷ [])))
   pub explained : AreFairlyExplained IsOf k.limits code c (all_done (ran.earlier ++ ran.last ∷ []))
+
+-- And this is the client that it leaves: the code that its steps leave, which stands for the past that they leave. A message that must be
+-- refused leaves a client of which nothing is known.
+pub record RanTo (C : Type 0) (Stands : C → Client → Type 0) (IsOf : Standing C) (k : Setting) (code : C) (c : Client) (address : List ℕ) (plan : Plan Task Answer) (ended : Ending) (old new : Linking) (before after : Writing) (left : C) : Type 0 where
+  pub run : RanFairly C IsOf k code c address plan ended old new before after
+  pub code_is : is_bad ended ≡ false → code_after code (steps_in (all_done (run.ran.earlier ++ run.ran.last ∷ []))) ≡ left
+  pub stands : is_bad ended ≡ false → Stands left (left_by c (run.ran.earlier ++ run.ran.last ∷ []))
+
+-- Out of memory: calls that were over, and one that was cut short, or none. What was done went by the plan and is fair, as above, and what
+-- was sent and written is a beginning of what it gives: all requests but the last, of which some bytes may be missing, and of the lines as
+-- many as came to be written.
+pub record RanInPart (C : Type 0) (IsOf : Standing C) (k : Setting) (code : C) (c : Client) (address : List ℕ) (plan : Plan Task Answer) (old new : Linking) (before after : Writing) : Type 0 where
+  pub calls : List (Call C)
+  pub earlier : List (Call C)
+  pub cut_short : Option (Call C)
+  pub calls_are : calls ≡ earlier ++ option_to_list cut_short
+  pub are : AreCalls c calls
+  pub in_place : AreInPlace k.schema 0 c (all_done calls)
+  pub few : AreFew none_taken (all_done calls)
+  pub from : All (IsFrom k.number) (requests_of (steps_in (all_done calls)))
+  pub goes : GoBy (begun plan) (dids_of k.keeps (all_done calls))
+  pub fair : AreFair IsOf k.limits code c (steps_in (all_done calls))
+  pub explained : AreFairlyExplained IsOf k.limits code c (all_done calls)
+  pub carried : All (IsCarried false) earlier
+  pub last_carried : IfSome cut_short (IsCarried true)
+  pub made : connections new ≡ connections old ++ calls_told calls
+  pub dialled : AreAt address (calls_told calls)
+  pub each_told : All (IsToldIf old.peers) calls
+  pub faults : RoseBy old.faults (count_faults calls) new.faults
+  pub written : WritesPrefix before.written after.written (flat_map (said_by k) (all_done calls))
+  pub write_faults : after.faults ≡ before.faults

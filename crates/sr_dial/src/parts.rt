@@ -64,6 +64,10 @@ pub trait Asks: Peer {
     fn is_waiting(&self) -> bool
         ensures { (c : Past) → stands self.now c → result ≡ is_some c.out };
 
+    /// Whether the run writes its lines.
+    fn says(&self) -> bool
+        ensures { result ≡ (setting self.now).says };
+
     /// Lends the answer of the last step.
     fn answer(&self) -> Option<&Answer>
         ensures { option_copied result ≡ lent self.now };

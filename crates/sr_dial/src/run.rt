@@ -1,16 +1,13 @@
 //! A run of `client`.
-ghost use Rattle.std.specs.Prelude.{◌≡◌, ◌≤◌, ◌+◌, ◌*◌, ◌++◌, ◌^◌, true, false, ℕ, Bool, List, [], ◌∷◌, None, length, IfOk, if◌then◌else◌};
-ghost use Rattle.sr_session.specs.Clients.{Client as Past};
-ghost use Rattle.sr_links.specs.Steps.{Resumed};
-ghost use Rattle.sr_plan.specs.Plans.{Next};
-ghost use Rattle.sr_dial.specs.Calls.{Task, Do};
-ghost use Rattle.sr_dial.specs.Following.{Ahead, ahead_of};
-ghost use Rattle.sr_dial.specs.Jobs.{IsJob, number_of};
+ghost use Rattle.std.specs.Prelude.{◌≡◌, ◌≢◌, ◌≤◌, ◌+◌, ◌*◌, None, IfOk, if◌then◌else◌};
+ghost use Rattle.sr_dial.specs.Clauses.{AwaitsOff, EndsFailed, EndsFirst, EndsHanded, EndsJob, FailedOff, FirstOff, GoesOnOff, GoesOnWith, HandedOff, JobOff, LineOff, PlanOff, RunsAll, RunsFrom, RunsOff, Settles, StartsJob, StartsLine};
+ghost use Rattle.sr_dial.specs.Calls.{Task};
+ghost use Rattle.sr_dial.specs.Following.{Ahead};
+ghost use Rattle.sr_dial.specs.Jobs.{IsJob};
 ghost use Rattle.sr_talk.specs.Rounds.{OnlyOutput};
-ghost use Rattle.sr_dial.specs.Courses.{At, Broken, EndsLine, Finishes, Free, Hands, IsWritten, Start, Unbegun};
-ghost use Rattle.sr_dial.specs.Known.{IsTask, Setting};
-ghost use Rattle.sr_dial.specs.Runs.{RanFairly, none_taken};
+ghost use Rattle.sr_dial.specs.Known.{IsTask};
 ghost use Rattle.sr_dial.specs.declared.ending.Ending.TheVariants.{Whole as EndsWhole, Faulty as EndsFaulty, Unwritten as EndsUnwritten};
+ghost use Rattle.sr_dial.specs.declared.steps.Handed.TheVariants.{Unwritten as HandedUnwritten};
 ghost use Rattle.sr_dial.specs.declared.run.LineEnd.TheVariants.{Failed as LineFailed, Ends as LineEnds};
 
 use crate::ending::Ending;
@@ -45,10 +42,12 @@ fn start<H: Host, C: Asks>(
 ) -> Result<Handed, NoMemory>
     requires asks { (task : Task) × IsJob (C.setting client.old).schema job task }
     requires room { 2 ≤ C.room client.old }
-    ensures started { (k : Setting) (s : Start C) (ahead further : Ahead) (number : ℕ) (failed : Bool) (task : Task) → s.address ≡ address.now → C.setting client.old ≡ k → schema.now ≡ k.schema → Free C C.stands C.lent C.is_of k s ahead number failed (H.linking host.old) (IsWritten s (H.writing host.old)) feed.old client.old → IsJob k.schema job task → ahead (C.lent client.old) ≡ Next (number_of job) task further → IfOk result (λ handed. Hands C C.stands C.lent C.is_of k handed s (ahead_of task further) (number_of job) none_taken failed (H.linking host.new) (H.writing host.new) feed.new client.new) }
+    ensures started { StartsJob C.Asks H.linking H.writing result schema.now address.now job host.old host.new feed.old feed.new client.old client.new }
+    ensures broken_off { JobOff C.Asks H.linking H.writing result schema.now address.now job host.old host.new feed.old client.old }
     ensures setting { C.setting client.new ≡ C.setting client.old }
     ensures draws { C.room client.old ≤ C.room client.new + 2 }
     ensures stays { OnlyOutput H H.reading H.held H.complaints H.IsSteady host.old host.new }
+    ensures steady_writes { H.IsSteady host.old → IfOk result (λ handed. handed ≢ HandedUnwritten) }
 {
     match job {
         Job::Line(line) => start_line(alloc, host, feed, client, schema, address, line),
@@ -68,10 +67,12 @@ fn start_line<H: Host, C: Asks>(
 ) -> Result<Handed, NoMemory>
     requires asks { (task : Task) × IsTask (C.setting client.old).schema line.event task }
     requires room { 2 ≤ C.room client.old }
-    ensures started { (k : Setting) (s : Start C) (ahead further : Ahead) (number : ℕ) (failed : Bool) (task : Task) → s.address ≡ address.now → C.setting client.old ≡ k → schema.now ≡ k.schema → Free C C.stands C.lent C.is_of k s ahead number failed (H.linking host.old) (IsWritten s (H.writing host.old)) feed.old client.old → IsTask k.schema line.event task → ahead (C.lent client.old) ≡ Next line.number task further → IfOk result (λ handed. Hands C C.stands C.lent C.is_of k handed s (ahead_of task further) line.number none_taken failed (H.linking host.new) (H.writing host.new) feed.new client.new) }
+    ensures started { StartsLine C.Asks H.linking H.writing result schema.now address.now line host.old host.new feed.old feed.new client.old client.new }
+    ensures broken_off { LineOff C.Asks H.linking H.writing result schema.now address.now line host.old host.new feed.old client.old }
     ensures setting { C.setting client.new ≡ C.setting client.old }
     ensures draws { C.room client.old ≤ C.room client.new + 2 }
     ensures stays { OnlyOutput H H.reading H.held H.complaints H.IsSteady host.old host.new }
+    ensures steady_writes { H.IsSteady host.old → IfOk result (λ handed. handed ≢ HandedUnwritten) }
 {
     let EventLine { number, event } = line;
     match event {
@@ -110,10 +111,12 @@ fn run_job<H: Host, C: Asks>(
 ) -> Result<LineEnd, NoMemory>
     requires asks { (task : Task) × IsJob (C.setting client.old).schema job task }
     requires room { 4000004 ≤ C.room client.old }
-    ensures ended { (k : Setting) (s : Start C) (ahead further : Ahead) (number : ℕ) (failed : Bool) (task : Task) → s.address ≡ address.now → C.setting client.old ≡ k → schema.now ≡ k.schema → Free C C.stands C.lent C.is_of k s ahead number failed (H.linking host.old) (IsWritten s (H.writing host.old)) feed.old client.old → IsJob k.schema job task → ahead (C.lent client.old) ≡ Next (number_of job) task further → IfOk result (λ end. EndsLine C C.stands C.lent C.is_of k end s (ahead_of task further) (number_of job) failed (H.linking host.new) (H.writing host.new) feed.new client.new) }
+    ensures ended { EndsJob C.Asks H.linking H.writing result schema.now address.now job host.old host.new feed.old feed.new client.old client.new }
+    ensures broken_off { JobOff C.Asks H.linking H.writing result schema.now address.now job host.old host.new feed.old client.old }
     ensures setting { C.setting client.new ≡ C.setting client.old }
     ensures draws { C.room client.old ≤ C.room client.new + 4000004 }
     ensures stays { OnlyOutput H H.reading H.held H.complaints H.IsSteady host.old host.new }
+    ensures steady_writes { H.IsSteady host.old → IfOk result (λ end. end ≢ LineEnds EndsUnwritten) }
 {
     let number = job.number();
     let handed = start(alloc, host, feed, client, schema, address, job)?;
@@ -131,10 +134,12 @@ fn finish<H: Host, C: Asks>(
     handed: Handed,
 ) -> Result<LineEnd, NoMemory>
     requires room { 4000002 ≤ C.room client.old }
-    ensures ended { (k : Setting) (s : Start C) (ahead : Ahead) (failed : Bool) → C.setting client.old ≡ k → schema.now ≡ k.schema → Hands C C.stands C.lent C.is_of k handed s ahead number none_taken failed (H.linking host.old) (H.writing host.old) feed.old client.old → IfOk result (λ end. EndsLine C C.stands C.lent C.is_of k end s ahead number failed (H.linking host.new) (H.writing host.new) feed.new client.new) }
+    ensures ended { EndsHanded C.Asks H.linking H.writing result schema.now number handed host.old host.new feed.old feed.new client.old client.new }
+    ensures broken_off { HandedOff C.Asks H.linking H.writing result schema.now number handed host.old host.new feed.old client.old }
     ensures setting { C.setting client.new ≡ C.setting client.old }
     ensures draws { C.room client.old ≤ C.room client.new + 4000002 }
     ensures stays { OnlyOutput H H.reading H.held H.complaints H.IsSteady host.old host.new }
+    ensures steady_writes { H.IsSteady host.old → handed ≢ HandedUnwritten → IfOk result (λ end. end ≢ LineEnds EndsUnwritten) }
 {
     match handed {
         Handed::Whole => settle(alloc, host, feed, client, schema, number),
@@ -153,10 +158,12 @@ fn settle<H: Host, C: Asks>(
     number: u64,
 ) -> Result<LineEnd, NoMemory>
     requires room { 4000002 ≤ C.room client.old }
-    ensures ended { (k : Setting) (s : Start C) (ahead : Ahead) (failed : Bool) → C.setting client.old ≡ k → schema.now ≡ k.schema → At C C.stands C.lent C.is_of k s ahead number none_taken failed (H.linking host.old) (IsWritten s (H.writing host.old)) feed.old client.old → IfOk result (λ end. EndsLine C C.stands C.lent C.is_of k end s ahead number failed (H.linking host.new) (H.writing host.new) feed.new client.new) }
+    ensures ended { Settles C.Asks H.linking H.writing result schema.now number host.old host.new feed.old feed.new client.old client.new }
+    ensures broken_off { AwaitsOff C.Asks H.linking H.writing result schema.now number host.old host.new feed.old client.old }
     ensures setting { C.setting client.new ≡ C.setting client.old }
     ensures draws { C.room client.old ≤ C.room client.new + 4000002 }
     ensures stays { OnlyOutput H H.reading H.held H.complaints H.IsSteady host.old host.new }
+    ensures steady_writes { H.IsSteady host.old → IfOk result (λ end. end ≢ LineEnds EndsUnwritten) }
 {
     match await_answer(alloc, host, feed, client, schema, number)? {
         Awaited::Free => Ok(LineEnd::Done),
@@ -177,10 +184,12 @@ fn failed<H: Host, C: Asks>(
     number: u64,
 ) -> Result<LineEnd, NoMemory>
     requires room { 2 ≤ C.room client.old }
-    ensures ended { (k : Setting) (s : Start C) (ahead : Ahead) (failed : Bool) (feed : List ℕ) → C.setting client.old ≡ k → schema.now ≡ k.schema → Broken C C.stands C.lent C.is_of k s ahead number (H.linking host.old) (IsWritten s (H.writing host.old)) feed client.old → IfOk result (λ end. EndsLine C C.stands C.lent C.is_of k end s ahead number failed (H.linking host.new) (H.writing host.new) feed client.new) }
+    ensures ended { EndsFailed C.Asks H.linking H.writing result schema.now number host.old host.new client.old client.new }
+    ensures broken_off { FailedOff C.Asks H.linking H.writing result schema.now number host.old host.new client.old }
     ensures setting { C.setting client.new ≡ C.setting client.old }
     ensures draws { C.room client.old ≤ C.room client.new + 2 }
     ensures stays { OnlyOutput H H.reading H.held H.complaints H.IsSteady host.old host.new }
+    ensures steady_writes { H.IsSteady host.old → IfOk result (λ end. end ≢ LineEnds EndsUnwritten) }
 {
     let said = fail(alloc, host, client, schema, number)?;
     Ok(end_of(said))
@@ -209,8 +218,10 @@ fn run_plan<H: Host, C: Asks, P: Plans>(
 ) -> Result<Ending, NoMemory>
     requires asks { (ahead : Ahead) × P.follows (C.setting client.old).schema plans.old ahead }
     requires room { 4000004 * P.depth plans.old ≤ C.room client.old }
-    ensures ended { (k : Setting) (s : Start C) (ahead : Ahead) (number : ℕ) → s.address ≡ address.now → C.setting client.old ≡ k → schema.now ≡ k.schema → Free C C.stands C.lent C.is_of k s ahead number failed (H.linking host.old) (IsWritten s (H.writing host.old)) feed.old client.old → P.follows k.schema plans.old ahead → IfOk result (λ ending. Finishes C C.stands C.lent C.is_of k ending s (H.linking host.new) (H.writing host.new) feed.new client.new) }
+    ensures ended { RunsAll C.Asks H.linking H.writing P.follows result schema.now address.now failed plans.old host.old host.new feed.old feed.new client.old client.new }
+    ensures broken_off { PlanOff C.Asks H.linking H.writing P.follows result schema.now address.now failed plans.old host.old host.new feed.old client.old }
     ensures stays { OnlyOutput H H.reading H.held H.complaints H.IsSteady host.old host.new }
+    ensures steady_writes { H.IsSteady host.old → IfOk result (λ ending. ending ≢ EndsUnwritten) }
 {
     let mut failed = failed;
     while let Some(job) = plans.next(alloc, client.answer())? {
@@ -244,10 +255,12 @@ fn first_line<H: Host, C: Asks>(
     address: &str,
 ) -> Result<LineEnd, NoMemory>
     requires room { 4000004 ≤ C.room client.old }
-    ensures ended { (k : Setting) (s : Start C) (ahead : Ahead) → s.address ≡ address.now → C.setting client.old ≡ k → schema.now ≡ k.schema → s.plan ≡ Next 0 (Do Resumed) ahead → Unbegun C C.stands C.lent C.is_of k s (λ answer. s.plan) 0 false (H.linking host.old) (IsWritten s (H.writing host.old)) client.old → IfOk result (λ end. EndsLine C C.stands C.lent C.is_of k end s ahead 0 false (H.linking host.new) (H.writing host.new) feed.new client.new) }
+    ensures ended { EndsFirst C.Asks H.linking H.writing result schema.now address.now host.old host.new feed.new client.old client.new }
+    ensures broken_off { FirstOff C.Asks H.linking H.writing result schema.now address.now host.old host.new client.old }
     ensures setting { C.setting client.new ≡ C.setting client.old }
     ensures draws { C.room client.old ≤ C.room client.new + 4000004 }
     ensures stays { OnlyOutput H H.reading H.held H.complaints H.IsSteady host.old host.new }
+    ensures steady_writes { H.IsSteady host.old → IfOk result (λ end. end ≢ LineEnds EndsUnwritten) }
 {
     let event = Event::Resume { client: id };
     let handed = begin(alloc, host, feed, client, schema, address, 0, event)?;
@@ -267,8 +280,10 @@ fn go_on<H: Host, C: Asks, P: Plans>(
 ) -> Result<Ending, NoMemory>
     requires asks { (ahead : Ahead) × P.follows (C.setting client.old).schema plans.old ahead }
     requires room { 4000004 * P.depth plans.old ≤ C.room client.old }
-    ensures ended { (k : Setting) (s : Start C) (ahead : Ahead) → s.address ≡ address.now → C.setting client.old ≡ k → schema.now ≡ k.schema → EndsLine C C.stands C.lent C.is_of k end s ahead 0 false (H.linking host.old) (H.writing host.old) feed.old client.old → P.follows k.schema plans.old ahead → IfOk result (λ ending. Finishes C C.stands C.lent C.is_of k ending s (H.linking host.new) (H.writing host.new) feed.new client.new) }
+    ensures ended { GoesOnWith C.Asks H.linking H.writing P.follows result schema.now address.now end plans.old host.old host.new feed.old feed.new client.old client.new }
+    ensures broken_off { GoesOnOff C.Asks H.linking H.writing P.follows result schema.now address.now end plans.old host.old host.new feed.old client.old }
     ensures stays { OnlyOutput H H.reading H.held H.complaints H.IsSteady host.old host.new }
+    ensures steady_writes { H.IsSteady host.old → end ≢ LineEnds EndsUnwritten → IfOk result (λ ending. ending ≢ EndsUnwritten) }
 {
     match end {
         LineEnd::Done => run_plan(alloc, host, feed, client, schema, address, plans, false),
@@ -278,7 +293,7 @@ fn go_on<H: Host, C: Asks, P: Plans>(
 }
 
 /// Resumes the client, whose link is cut, and then does what the plan asks, each job until nothing is out. Each line of the trace is
-/// written once its step is done. The link is given up at the end.
+/// written once its step is done, if the client says so. The link is given up at the end.
 pub fn run<H: Host, C: Asks, P: Plans>(
     alloc: Global,
     host: &mut H,
@@ -292,8 +307,10 @@ pub fn run<H: Host, C: Asks, P: Plans>(
     requires asks { (ahead : Ahead) × P.follows (C.setting client.old).schema plans.old ahead }
     requires room { 4000004 * (P.depth plans.old + 1) ≤ C.room client.old }
     requires fresh { C.lent client.old ≡ None }
-    ensures ran { (c : Past) (ahead : Ahead) → C.stands client.old c → c.cut ≡ true → c.out ≡ None → P.follows schema.now plans.old ahead → IfOk result (λ ending. RanFairly C C.is_of (C.setting client.old) client.old c address.now (Next 0 (Do Resumed) ahead) ending (H.linking host.old) (H.linking host.new) (H.writing host.old) (H.writing host.new)) }
+    ensures ran { RunsFrom C.Asks H.linking H.writing P.follows result schema.now address.now plans.old host.old host.new client.old client.new }
+    ensures broken_off { RunsOff C.Asks H.linking H.writing P.follows result schema.now address.now plans.old host.old host.new client.old }
     ensures stays { OnlyOutput H H.reading H.held H.complaints H.IsSteady host.old host.new }
+    ensures steady_writes { H.IsSteady host.old → IfOk result (λ ending. ending ≢ EndsUnwritten) }
 {
     let mut feed = Feed::new(alloc);
     let end = first_line(alloc, host, &mut feed, client, schema, id, address)?;

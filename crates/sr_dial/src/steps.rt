@@ -1,22 +1,16 @@
 //! Steps of a client, carried out over a link.
-ghost use Rattle.std.specs.Prelude.{◌≡◌, ◌≤◌, ◌+◌, ℕ, Bool, List, None, flat_map, string_bytes, Result, IfOk, if◌then◌else◌};
+ghost use Rattle.std.specs.Prelude.{◌≡◌, ◌≢◌, ◌≤◌, ◌+◌, true, flat_map, string_bytes, Result, IfOk, OnErr, if◌then◌else◌};
 ghost use Rattle.std.specs.List.{All};
 ghost use Rattle.sr_script.specs.TraceText.{line_text};
-ghost use Rattle.sr_session.specs.Clients.{Client as Past};
 ghost use Rattle.sr_wire.specs.Limits.{IsSendable};
 ghost use Rattle.sr_cell.specs.declared.fault.Fault.{Fault as TheFault};
 ghost use Rattle.sr_model.specs.Queries.{Query as TheQuery};
 ghost use Rattle.sr_reader.specs.Read.{Means};
-ghost use Rattle.sr_links.specs.Steps.{Deed, Resumed, WasCut};
-ghost use Rattle.sr_plan.specs.Plans.{Next};
-ghost use Rattle.sr_dial.specs.Calls.{Do, Explain, Say};
-ghost use Rattle.sr_dial.specs.Following.{Ahead};
+ghost use Rattle.sr_links.specs.Steps.{Deed};
+ghost use Rattle.sr_dial.specs.Clauses.{AsksPlain, BeginsLink, BeginsOff, CarriesOff, CarriesStep, CutsLink, CutsOff, FailsLink, FailsOff, PlainOff, TellsOff, TellsText, WritesOff, WritesText};
 ghost use Rattle.sr_talk.specs.Rounds.{OnlyOutput};
-ghost use Rattle.sr_talk.specs.Serving.{spelled};
-ghost use Rattle.sr_dial.specs.Carrying.{Carries, SaysAs};
-ghost use Rattle.sr_dial.specs.Courses.{Broken, FailsAs, Free, Hands, IsReady, IsWritten, Start};
-ghost use Rattle.sr_dial.specs.Known.{IsDeed, IsPlain, Setting};
-ghost use Rattle.sr_dial.specs.Runs.{none_taken};
+ghost use Rattle.sr_dial.specs.Carrying.{SaysAs, SaysInPart};
+ghost use Rattle.sr_dial.specs.Known.{IsDeed};
 ghost use Rattle.sr_dial.specs.declared.steps.Handed.TheVariants.{Whole as HandedWhole, Broken as HandedBroken, Unwritten as HandedUnwritten};
 
 use crate::parts::{Asks, Told};
@@ -59,9 +53,11 @@ fn text_of(
 
 /// Writes a text. False where the sink fails.
 fn write_text<K: Sink>(sink: &mut K, text: &str) -> Result<bool, NoMemory>
-    ensures said { IfOk result (λ all. SaysAs all (K.writing sink.old) (K.writing sink.new) text.now) }
+    ensures said { IfOk result (λ all. SaysAs true all (K.writing sink.old) (K.writing sink.new) text.now) }
+    ensures broken_off { OnErr result (SaysInPart true (K.writing sink.old) (K.writing sink.new) text.now) }
     ensures stays { OnlyOutput K K.reading K.held K.complaints K.IsSteady sink.old sink.new }
     ensures linking_stays { K.linking sink.new ≡ K.linking sink.old }
+    ensures steady_writes { K.IsSteady sink.old → IfOk result (λ all. all ≡ true) }
 {
     match write_all(sink, text.as_bytes()) {
         Ok(()) => Ok(true),
@@ -70,36 +66,45 @@ fn write_text<K: Sink>(sink: &mut K, text: &str) -> Result<bool, NoMemory>
     }
 }
 
-/// Writes the lines of a step. False where the sink fails.
+/// Writes the lines of a step, if the run writes its lines. False where the sink fails.
 fn say<K: Sink>(
     alloc: Global,
     sink: &mut K,
     schema: &[Table],
     number: u64,
+    says: bool,
     lines: &[TraceLine],
 ) -> Result<bool, NoMemory>
-    ensures said { IfOk result (λ all. SaysAs all (K.writing sink.old) (K.writing sink.new) (flat_map (line_text schema.now number) lines.now)) }
+    ensures said { IfOk result (λ all. SaysAs says all (K.writing sink.old) (K.writing sink.new) (flat_map (line_text schema.now number) lines.now)) }
+    ensures broken_off { OnErr result (SaysInPart says (K.writing sink.old) (K.writing sink.new) (flat_map (line_text schema.now number) lines.now)) }
     ensures stays { OnlyOutput K K.reading K.held K.complaints K.IsSteady sink.old sink.new }
     ensures linking_stays { K.linking sink.new ≡ K.linking sink.old }
+    ensures steady_writes { K.IsSteady sink.old → IfOk result (λ all. all ≡ true) }
 {
+    if !says {
+        return Ok(true);
+    }
     let text = text_of(alloc, schema, number, lines)?;
     write_text(sink, text.as_str())
 }
 
-/// Sends what a step sends, and then writes its lines.
+/// Sends what a step sends, and then writes its lines, if the run writes its lines.
 pub(crate) fn carry<H: Link + Sink>(
     alloc: Global,
     host: &mut H,
     schema: &[Table],
     number: u64,
+    says: bool,
     told: &Told,
 ) -> Result<Handed, NoMemory>
     requires sendable { All IsSendable told.now.sent }
-    ensures carried { IfOk result (λ handed. Carries handed (H.linking host.old) (H.linking host.new) (H.writing host.old) (H.writing host.new) (spelled told.now.sent) (flat_map (line_text schema.now number) told.now.lines)) }
+    ensures carried { CarriesStep H.linking H.writing result says schema.now number told.now host.old host.new }
+    ensures broken_off { CarriesOff H.linking H.writing result says schema.now number told.now host.old host.new }
     ensures stays { OnlyOutput H H.reading H.held H.complaints H.IsSteady host.old host.new }
+    ensures steady_writes { H.IsSteady host.old → IfOk result (λ handed. handed ≢ HandedUnwritten) }
 {
     let sent = send_messages(alloc, host, told.sent.as_slice())?;
-    if !say(alloc, host, schema, number, told.lines.as_slice())? {
+    if !say(alloc, host, schema, number, says, told.lines.as_slice())? {
         return Ok(Handed::Unwritten);
     }
     Ok(handed_by(sent))
@@ -142,13 +147,15 @@ pub(crate) fn ask<H: Link + Sink, C: Asks>(
 ) -> Result<Handed, NoMemory>
     requires asks { (deed : Deed) × IsDeed (C.setting client.old).schema event deed }
     requires room { 2 ≤ C.room client.old }
-    ensures asked { (k : Setting) (s : Start C) (ahead further : Ahead) (line : ℕ) (failed : Bool) (feed : List ℕ) (deed : Deed) → C.setting client.old ≡ k → schema.now ≡ k.schema → Free C C.stands C.lent C.is_of k s ahead line failed (H.linking host.old) (IsWritten s (H.writing host.old)) feed client.old → IsDeed k.schema event deed → IsPlain deed → ahead (C.lent client.old) ≡ Next number (Do deed) further → IfOk result (λ handed. Hands C C.stands C.lent C.is_of k handed s further number none_taken failed (H.linking host.new) (H.writing host.new) feed client.new) }
+    ensures asked { AsksPlain C.Asks H.linking H.writing result schema.now number event host.old host.new client.old client.new }
+    ensures broken_off { PlainOff C.Asks H.linking H.writing result schema.now number event host.old host.new client.old }
     ensures setting { C.setting client.new ≡ C.setting client.old }
     ensures draws { C.room client.old ≤ C.room client.new + 2 }
     ensures stays { OnlyOutput H H.reading H.held H.complaints H.IsSteady host.old host.new }
+    ensures steady_writes { H.IsSteady host.old → IfOk result (λ handed. handed ≢ HandedUnwritten) }
 {
     let told = client.act(alloc, event)?;
-    carry(alloc, host, schema, number, &told)
+    carry(alloc, host, schema, number, client.says(), &told)
 }
 
 /// The client explains how it would answer a query. Nothing is sent, and nothing changes.
@@ -161,26 +168,33 @@ pub(crate) fn tell<K: Sink, C: Asks>(
     query: Result<Query, Fault>,
 ) -> Result<Handed, NoMemory>
     requires means { (text : Result TheQuery TheFault) × Means (C.setting client.now).schema query text }
-    ensures told { (k : Setting) (s : Start C) (ahead further : Ahead) (line : ℕ) (failed : Bool) (feed : List ℕ) (text : Result TheQuery TheFault) → C.setting client.now ≡ k → schema.now ≡ k.schema → Free C C.stands C.lent C.is_of k s ahead line failed (K.linking sink.old) (IsWritten s (K.writing sink.old)) feed client.now → Means k.schema query text → ahead (C.lent client.now) ≡ Next number (Explain text) further → IfOk result (λ handed. Hands C C.stands C.lent C.is_of k handed s (λ answer. further None) number none_taken failed (K.linking sink.new) (K.writing sink.new) feed client.now) }
+    ensures told { TellsText C.Asks K.linking K.writing result schema.now number query sink.old sink.new client.now }
+    ensures broken_off { TellsOff C.Asks K.linking K.writing result schema.now number query sink.old sink.new client.now }
     ensures stays { OnlyOutput K K.reading K.held K.complaints K.IsSteady sink.old sink.new }
     ensures linking_stays { K.linking sink.new ≡ K.linking sink.old }
+    ensures steady_writes { K.IsSteady sink.old → IfOk result (λ handed. handed ≢ HandedUnwritten) }
 {
     let lines = client.explain(alloc, query)?;
-    let said = say(alloc, sink, schema, number, lines.as_slice())?;
+    let said = say(alloc, sink, schema, number, client.says(), lines.as_slice())?;
     Ok(written_by(said))
 }
 
-/// A text is written. Nothing is sent, and nothing changes.
+/// A text is written, if the run writes its lines. Nothing is sent, and nothing changes.
 pub(crate) fn write<K: Sink, C: Asks>(
     sink: &mut K,
     client: &C,
     number: u64,
     text: &str,
 ) -> Result<Handed, NoMemory>
-    ensures told { (k : Setting) (s : Start C) (ahead further : Ahead) (line : ℕ) (failed : Bool) (feed : List ℕ) → C.setting client.now ≡ k → Free C C.stands C.lent C.is_of k s ahead line failed (K.linking sink.old) (IsWritten s (K.writing sink.old)) feed client.now → ahead (C.lent client.now) ≡ Next number (Say text.now) further → IfOk result (λ handed. Hands C C.stands C.lent C.is_of k handed s (λ answer. further None) number none_taken failed (K.linking sink.new) (K.writing sink.new) feed client.now) }
+    ensures told { WritesText C.Asks K.linking K.writing result number text.now sink.old sink.new client.now }
+    ensures broken_off { WritesOff C.Asks K.linking K.writing result number text.now sink.old sink.new client.now }
     ensures stays { OnlyOutput K K.reading K.held K.complaints K.IsSteady sink.old sink.new }
     ensures linking_stays { K.linking sink.new ≡ K.linking sink.old }
+    ensures steady_writes { K.IsSteady sink.old → IfOk result (λ handed. handed ≢ HandedUnwritten) }
 {
+    if !client.says() {
+        return Ok(Handed::Whole);
+    }
     let said = write_text(sink, text)?;
     Ok(written_by(said))
 }
@@ -196,14 +210,16 @@ pub(crate) fn end<H: Host, C: Asks>(
 ) -> Result<Handed, NoMemory>
     requires asks { (deed : Deed) × IsDeed (C.setting client.old).schema event deed }
     requires room { 2 ≤ C.room client.old }
-    ensures cut { (k : Setting) (s : Start C) (ahead further : Ahead) (line : ℕ) (failed : Bool) (feed : List ℕ) → C.setting client.old ≡ k → schema.now ≡ k.schema → Free C C.stands C.lent C.is_of k s ahead line failed (H.linking host.old) (IsWritten s (H.writing host.old)) feed client.old → IsDeed k.schema event WasCut → ahead (C.lent client.old) ≡ Next number (Do WasCut) further → IfOk result (λ handed. Hands C C.stands C.lent C.is_of k handed s further number none_taken failed (H.linking host.new) (H.writing host.new) feed client.new) }
+    ensures cut { CutsLink C.Asks H.linking H.writing result schema.now number event host.old host.new client.old client.new }
+    ensures broken_off { CutsOff C.Asks H.linking H.writing result schema.now number event host.old host.new client.old }
     ensures setting { C.setting client.new ≡ C.setting client.old }
     ensures draws { C.room client.old ≤ C.room client.new + 2 }
     ensures stays { OnlyOutput H H.reading H.held H.complaints H.IsSteady host.old host.new }
+    ensures steady_writes { H.IsSteady host.old → IfOk result (λ handed. handed ≢ HandedUnwritten) }
 {
     let told = client.act(alloc, event)?;
     host.hang_up();
-    carry(alloc, host, schema, number, &told)
+    carry(alloc, host, schema, number, client.says(), &told)
 }
 
 /// The client resumes: where its link was cut it dials, and sends its first message over the new connection.
@@ -219,20 +235,29 @@ pub(crate) fn begin<H: Host, C: Asks>(
 ) -> Result<Handed, NoMemory>
     requires asks { (deed : Deed) × IsDeed (C.setting client.old).schema event deed }
     requires room { 2 ≤ C.room client.old }
-    ensures begun { (k : Setting) (s : Start C) (ahead further : Ahead) (line : ℕ) (failed : Bool) → s.address ≡ address.now → C.setting client.old ≡ k → schema.now ≡ k.schema → IsReady C C.stands C.lent C.is_of k s ahead line failed (H.linking host.old) (IsWritten s (H.writing host.old)) feed.old client.old → IsDeed k.schema event Resumed → ahead (C.lent client.old) ≡ Next number (Do Resumed) further → IfOk result (λ handed. Hands C C.stands C.lent C.is_of k handed s further number none_taken failed (H.linking host.new) (H.writing host.new) feed.new client.new) }
+    ensures begun { BeginsLink C.Asks H.linking H.writing result schema.now address.now number event host.old host.new feed.old feed.new client.old client.new }
+    ensures broken_off { BeginsOff C.Asks H.linking H.writing result schema.now address.now number event host.old host.new feed.old client.old }
     ensures setting { C.setting client.new ≡ C.setting client.old }
     ensures draws { C.room client.old ≤ C.room client.new + 2 }
     ensures stays { OnlyOutput H H.reading H.held H.complaints H.IsSteady host.old host.new }
+    ensures steady_writes { H.IsSteady host.old → IfOk result (λ handed. handed ≢ HandedUnwritten) }
 {
     let told = client.act(alloc, event)?;
     if told.sent.is_empty() {
-        return carry(alloc, host, schema, number, &told);
+        return carry(alloc, host, schema, number, client.says(), &told);
     }
     *feed = Feed::new(alloc);
     match host.dial(address) {
-        Ok(()) => carry(alloc, host, schema, number, &told),
+        Ok(()) => carry(alloc, host, schema, number, client.says(), &told),
         Err(No::Refused(_)) => {
-            let said = say(alloc, host, schema, number, told.lines.as_slice())?;
+            let said = say(
+                alloc,
+                host,
+                schema,
+                number,
+                client.says(),
+                told.lines.as_slice(),
+            )?;
             Ok(broken_by(said))
         }
         Err(No::NoMemory) => Err(NoMemory),
@@ -248,12 +273,14 @@ pub(crate) fn fail<H: Host, C: Asks>(
     number: u64,
 ) -> Result<bool, NoMemory>
     requires room { 2 ≤ C.room client.old }
-    ensures failed { (k : Setting) (s : Start C) (ahead : Ahead) (feed : List ℕ) → C.setting client.old ≡ k → schema.now ≡ k.schema → Broken C C.stands C.lent C.is_of k s ahead number (H.linking host.old) (IsWritten s (H.writing host.old)) feed client.old → IfOk result (λ all. FailsAs C C.stands C.lent C.is_of k all s ahead number (H.linking host.new) (H.writing host.new) feed client.new) }
+    ensures failed { FailsLink C.Asks H.linking H.writing result schema.now number host.old host.new client.old client.new }
+    ensures broken_off { FailsOff C.Asks H.linking H.writing result schema.now number host.old host.new client.old }
     ensures setting { C.setting client.new ≡ C.setting client.old }
     ensures draws { C.room client.old ≤ C.room client.new + 2 }
     ensures stays { OnlyOutput H H.reading H.held H.complaints H.IsSteady host.old host.new }
+    ensures steady_writes { H.IsSteady host.old → IfOk result (λ all. all ≡ true) }
 {
     let lines = client.cut(alloc)?;
     host.hang_up();
-    say(alloc, host, schema, number, lines.as_slice())
+    say(alloc, host, schema, number, client.says(), lines.as_slice())
 }

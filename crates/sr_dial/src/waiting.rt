@@ -1,14 +1,12 @@
 //! Messages are taken until no request is out.
-ghost use Rattle.std.specs.Prelude.{◌≡◌, ◌≤◌, ◌<◌, ◌+◌, ◌*◌, ◌++◌, true, ℕ, Bool, List, [], ◌∷◌, IfOk, IsTrue};
-ghost use Rattle.std.specs.Option.{is_some};
-ghost use Rattle.sr_session.specs.Clients.{Client as Past};
-ghost use Rattle.sr_wire.specs.Spelling.{has_spelling, spelling};
-ghost use Rattle.sr_dial.specs.Following.{Ahead};
+ghost use Rattle.std.specs.Prelude.{◌≡◌, ◌≢◌, ◌≤◌, ◌<◌, ◌+◌, IfOk};
+ghost use Rattle.sr_dial.specs.Clauses.{Awaits, AwaitsOff, EndsMany, HandlesOff, HandlesOne, ManyOff};
 ghost use Rattle.sr_talk.specs.Rounds.{OnlyOutput};
-ghost use Rattle.sr_dial.specs.Courses.{At, Handles, IsWritten, Start, Waits, handled_by, last_of};
-ghost use Rattle.sr_dial.specs.Known.{Setting};
-ghost use Rattle.sr_dial.specs.Runs.{anew, left_by, none_taken, one_more};
+ghost use Rattle.sr_dial.specs.Courses.{handled_by, last_of};
+ghost use Rattle.sr_dial.specs.Runs.{anew, one_more};
 ghost use Rattle.sr_dial.specs.declared.steps.Handed.TheVariants.{Whole as HandedWhole};
+ghost use Rattle.sr_dial.specs.declared.waiting.Awaited.TheVariants.{Unwritten as AwaitedUnwritten};
+ghost use Rattle.sr_dial.specs.declared.waiting.Handled.TheVariants.{Unwritten as HandledUnwritten};
 
 use crate::parts::{Asks, Came};
 use crate::steps::{Handed, carry};
@@ -91,16 +89,18 @@ fn handle<H: Link + Sink, C: Asks>(
     message: Message,
 ) -> Result<Handled, NoMemory>
     requires room { 2 ≤ C.room client.old }
-    ensures handled { (k : Setting) (s : Start C) (ahead : Ahead) (count : Count) (failed : Bool) (after : List ℕ) → count.taken + 1 ≤ 1000000 → C.setting client.old ≡ k → schema.now ≡ k.schema → (h : At C C.stands C.lent C.is_of k s ahead number count failed (H.linking host.old) (IsWritten s (H.writing host.old)) (spelling message ++ after) client.old) → is_some (left_by s.past (h.course.earlier ++ h.course.call ∷ [])).out ≡ true → IsTrue (has_spelling message) → IfOk result (λ handled. Handles C C.stands C.lent C.is_of k handled s ahead number count failed message (H.linking host.new) (H.writing host.new) after client.new) }
+    ensures handled { HandlesOne C.Asks H.linking H.writing result schema.now number message host.old host.new client.old client.new }
+    ensures broken_off { HandlesOff C.Asks H.linking H.writing result schema.now number message host.old host.new client.old }
     ensures setting { C.setting client.new ≡ C.setting client.old }
     ensures draws { C.room client.old ≤ C.room client.new + 2 }
     ensures stays { OnlyOutput H H.reading H.held H.complaints H.IsSteady host.old host.new }
+    ensures steady_writes { H.IsSteady host.old → IfOk result (λ handled. handled ≢ HandledUnwritten) }
 {
     match client.take(alloc, message)? {
         Came::Bad(why) => Ok(Handled::Refused(why)),
         Came::Taken(told) => {
             let again = !told.sent.is_empty();
-            let handed = carry(alloc, host, schema, number, &told)?;
+            let handed = carry(alloc, host, schema, number, client.says(), &told)?;
             Ok(handled_by(handed, again))
         }
     }
@@ -136,10 +136,12 @@ pub(crate) fn await_answer<H: Link + Sink, C: Asks>(
     number: u64,
 ) -> Result<Awaited, NoMemory>
     requires room { 4000000 ≤ C.room client.old }
-    ensures awaited { (k : Setting) (s : Start C) (ahead : Ahead) (failed : Bool) → C.setting client.old ≡ k → schema.now ≡ k.schema → At C C.stands C.lent C.is_of k s ahead number none_taken failed (H.linking host.old) (IsWritten s (H.writing host.old)) feed.old client.old → IfOk result (λ how. Waits C C.stands C.lent C.is_of k how s ahead number failed (H.linking host.new) (H.writing host.new) feed.new client.new) }
+    ensures awaited { Awaits C.Asks H.linking H.writing result schema.now number host.old host.new feed.old feed.new client.old client.new }
+    ensures broken_off { AwaitsOff C.Asks H.linking H.writing result schema.now number host.old host.new feed.old client.old }
     ensures setting { C.setting client.new ≡ C.setting client.old }
     ensures draws { C.room client.old ≤ C.room client.new + 4000000 }
     ensures stays { OnlyOutput H H.reading H.held H.complaints H.IsSteady host.old host.new }
+    ensures steady_writes { H.IsSteady host.old → IfOk result (λ how. how ≢ AwaitedUnwritten) }
 {
     let mut count = Count {
         taken: 0,
@@ -175,8 +177,10 @@ fn end_of_many<H: Link + Sink, C: Asks>(
     client: &C,
     number: u64,
 ) -> Result<Awaited, NoMemory>
-    ensures awaited { (k : Setting) (s : Start C) (ahead : Ahead) (count : Count) (failed : Bool) → count.taken ≡ 1000000 → At C C.stands C.lent C.is_of k s ahead number count failed (H.linking host.old) (IsWritten s (H.writing host.old)) feed.old client.now → IfOk result (λ how. Waits C C.stands C.lent C.is_of k how s ahead number failed (H.linking host.new) (H.writing host.new) feed.new client.now) }
+    ensures awaited { EndsMany C.Asks H.linking H.writing result number host.old host.new feed.old feed.new client.now }
+    ensures broken_off { ManyOff C.Asks H.linking H.writing result number host.old host.new feed.old client.now }
     ensures stays { OnlyOutput H H.reading H.held H.complaints H.IsSteady host.old host.new }
+    ensures not_unwritten { IfOk result (λ how. how ≢ AwaitedUnwritten) }
 {
     if !client.is_waiting() {
         return Ok(Awaited::Free);

@@ -6,7 +6,7 @@ use Rattle.std.proofs.lemmas.Bool.{lt-ltb}
 use Rattle.sr_cell.specs.Cells.{Row}
 use Rattle.sr_model.specs.SortedRows.{key_lt}
 use Rattle.sr_image.specs.declared.image.Head.{Head}
-use Rattle.sr_image.specs.declared.image.Kept.{Kept}
+use Rattle.sr_store.specs.declared.start.Kept.{Kept}
 use Rattle.sr_image.specs.Reading.{same_texts, are_alike, is_above, is_before, is_behind, head_of}
 
 -- lists of texts that are not of one length are not the same

@@ -17,13 +17,16 @@ use Rattle.sr_cell.specs.Attrs.{has_column}
 use Rattle.sr_box.specs.declared.span.Span.{Span}
 use Rattle.sr_box.specs.declared.span.Span.TheVariants.{Full, Nums, Strs}
 use Rattle.sr_cell.specs.Cells as cells
-use Rattle.sr_box.specs.Cut.{meet, rect_meet, with_first}
-use Rattle.sr_box.specs.Spans.{in_span}
+use Rattle.sr_cell.specs.Cells.{text_le}
+use Rattle.sr_cell.proofs.Order.{text_le-trans, text_le-refl}
+use Rattle.sr_box.specs.Cut.{meet, rect_meet, with_first, strs, text_max, end_min}
+use Rattle.sr_box.specs.Spans.{in_span, is_below}
+use Rattle.sr_box.proofs.Order.{text_max-is, end_min-is, is_below-between}
 use Rattle.sr_box.specs.Points.{Rect, constrains}
 use Rattle.sr_box.specs.Projected.{has_part, has_part_from}
 use Rattle.sr_image.specs.declared.index.Sought.{Sought}
 use Rattle.sr_image.specs.declared.index.Sought.TheVariants.{Meeting, Row}
-use Rattle.sr_image.specs.Index.{are_under, covers, found_at, found_in, is_covered, is_in_hull, is_sought, is_under, numbered, span_covers}
+use Rattle.sr_image.specs.Index.{are_under, covers, ends_within, found_at, found_in, is_covered, is_in_hull, is_sought, is_under, numbered, span_covers}
 
 pub covers-length : (h r : Rect) → (length h ≡ length r → ⊥) → covers h r ≡ false
 covers-length [] [] ne = absurd (ne refl)
@@ -33,18 +36,57 @@ covers-length (t ∷ h) (s ∷ r) ne = let ih = covers-length h r (λ same. ne (
 
 -- ---- spans
 
+both : (a b : Bool) → (a && b) ≡ true → (a ≡ true) × (b ≡ true)
+both true b h = (refl, h)
+both false b h = absurd cc
+
+-- a wider end is above what the other is above
+below-wider : (s : List ℕ) (end wide : Option (List ℕ)) → ends_within end wide ≡ true → is_below s end ≡ true → is_below s wide ≡ true
+below-wider s end None c m = refl
+below-wider s None (Some wide) c m = absurd cc
+below-wider s (Some end) (Some wide) c m = let t = text_le-trans end wide s c in grind (arith, t, m)
+
+-- a lesser text makes a lesser maximum
+max-less : (a e x : List ℕ) → text_le e x ≡ true → text_le (text_max a e) (text_max a x) ≡ true
+max-less a e x le =
+    let top : List ℕ = text_max a x in
+    let (own, other) = both (text_le a top) (text_le x top) (sym (text_max-is a x top) ∙ text_le-refl top) in
+    let there = text_le-trans e x top le other in
+    text_max-is a e top ∙ (rw (own, there) refl)
+
+some-text : (lo : List ℕ) (hi : Option (List ℕ)) → is_some (strs lo hi) ≡ is_below lo hi
+some-text lo hi = by (is_below lo hi)
+  where
+    by : (b : Bool) → is_some (if b then Some (Strs lo hi) else None) ≡ b
+    by true = refl
+    by false = refl
+
+text-meets : (a e x : List ℕ) (b f y : Option (List ℕ)) → text_le e x ≡ true → ends_within y f ≡ true → is_some (strs (text_max a x) (end_min b y)) ≡ true → is_some (strs (text_max a e) (end_min b f)) ≡ true
+text-meets a e x b f y le ends m =
+    let (one, other) = both (is_below (text_max a x) b) (is_below (text_max a x) y) (sym (end_min-is b y (text_max a x)) ∙ sym (some-text (text_max a x) (end_min b y)) ∙ m) in
+    let less = max-less a e x le in
+    let own = is_below-between (text_max a e) (text_max a x) b less one in
+    let wide = is_below-between (text_max a e) (text_max a x) f less (below-wider (text_max a x) y f ends other) in
+    some-text (text_max a e) (end_min b f) ∙ end_min-is b f (text_max a e) ∙ (rw (own, wide) refl)
+
 span-meets : (s h t : Span) → span_covers h t ≡ true → is_some (meet s t) ≡ true → is_some (meet s h) ≡ true
 span-meets Full h t c m = refl
 span-meets (Nums a b) Full t c m = refl
 span-meets (Nums a b) (Nums e f) Full c m = absurd cc
 span-meets (Nums a b) (Nums e f) (Nums x y) c m = grind (arith, ints, c, m)
 span-meets (Nums a b) (Nums e f) (Strs x y) c m = absurd cc
-span-meets (Nums a b) (Strs e f) t c m = absurd cc
+span-meets (Nums a b) (Strs e f) Full c m = absurd cc
+span-meets (Nums a b) (Strs e f) (Nums x y) c m = absurd cc
+span-meets (Nums a b) (Strs e f) (Strs x y) c m = absurd cc
 span-meets (Strs a b) Full t c m = refl
 span-meets (Strs a b) (Nums e f) Full c m = absurd cc
 span-meets (Strs a b) (Nums e f) (Nums x y) c m = absurd cc
 span-meets (Strs a b) (Nums e f) (Strs x y) c m = absurd cc
-span-meets (Strs a b) (Strs e f) t c m = absurd cc
+span-meets (Strs a b) (Strs e f) Full c m = absurd cc
+span-meets (Strs a b) (Strs e f) (Nums x y) c m = absurd cc
+span-meets (Strs a b) (Strs e f) (Strs x y) c m =
+    let (le, ends) = both (text_le e x) (ends_within y f) c in
+    text-meets a e x b f y le ends m
 
 span-has : (h t : Span) (v : Cell) → span_covers h t ≡ true → in_span t v ≡ true → in_span h v ≡ true
 span-has Full t v c m = refl
@@ -52,20 +94,24 @@ span-has (Nums e f) Full v c m = absurd cc
 span-has (Nums e f) (Nums x y) (Num n) c m = grind (arith, ints, c, m)
 span-has (Nums e f) (Nums x y) (Str s) c m = absurd cc
 span-has (Nums e f) (Strs x y) v c m = absurd cc
-span-has (Strs e f) t v c m = absurd cc
+span-has (Strs e f) Full v c m = absurd cc
+span-has (Strs e f) (Nums x y) v c m = absurd cc
+span-has (Strs e f) (Strs x y) (Num n) c m = absurd cc
+span-has (Strs e f) (Strs x y) (Str s) c m =
+    let (le, ends) = both (text_le e x) (ends_within y f) c in
+    let (from, below) = both (text_le x s) (is_below s y) m in
+    rw (text_le-trans e x s le from, below-wider s y f ends below) refl
 
 span-constrains : (h t : Span) → span_covers h t ≡ true → constrains t ≡ false → constrains h ≡ false
 span-constrains Full t c m = refl
 span-constrains (Nums e f) Full c m = absurd cc
 span-constrains (Nums e f) (Nums x y) c m = absurd cc
 span-constrains (Nums e f) (Strs x y) c m = absurd cc
-span-constrains (Strs e f) t c m = absurd cc
+span-constrains (Strs e f) Full c m = absurd cc
+span-constrains (Strs e f) (Nums x y) c m = absurd cc
+span-constrains (Strs e f) (Strs x y) c m = absurd cc
 
 -- ---- rects
-
-both : (a b : Bool) → (a && b) ≡ true → (a ≡ true) × (b ≡ true)
-both true b h = (refl, h)
-both false b h = absurd cc
 
 first-some : (m : Option Span) (n : Option Rect) → is_some (with_first m n) ≡ true → (is_some m ≡ true) × (is_some n ≡ true)
 first-some None n h = absurd cc

@@ -20,7 +20,7 @@ use Rattle.sr_bytes.proofs.Steps.{step_of, got_value, got_rest, passed, rest_byt
 use Rattle.sr_bytes.proofs.Values.{row_exact, rects_exact}
 use Rattle.sr_image.specs.declared.image.Head.{Head}
 use Rattle.sr_image.specs.declared.image.Image.{Image}
-use Rattle.sr_image.specs.declared.image.Kept.{Kept}
+use Rattle.sr_store.specs.declared.start.Kept.{Kept}
 use Rattle.sr_image.specs.Laws.{each_may, are_counted, is_rect, is_row, is_head, is_kept, is_image}
 use Rattle.sr_image.specs.Reading.{each_behind, counted, head_of, may_head, may_rect, may_row, count_rects, a_head, some_rects, some_rows, kept_behind, a_kept, an_image, a_long_text, some_texts}
 use Rattle.sr_image.specs.Spelling.{long_text_bytes, texts_bytes, all_rows_bytes, kept_bytes, kepts_bytes}

@@ -9,3 +9,7 @@ pub mod Spelled
 pub mod Writable
 pub mod Covering
 pub mod Apart
+pub mod Lawful
+pub mod Made
+pub mod Whole
+pub mod Stored

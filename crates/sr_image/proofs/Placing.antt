@@ -5,7 +5,7 @@ use Rattle.std.proofs.lemmas.List.{take_at, drop_at, length-take-le}
 use Rattle.std.specs.List.{prefix_len}
 use Rattle.std.proofs.lemmas.Bool.{cases_Bool}
 use Rattle.sr_region.specs.declared.region.Region.{Region}
-use Rattle.sr_image.specs.declared.image.Kept.{Kept}
+use Rattle.sr_store.specs.declared.start.Kept.{Kept}
 use Rattle.sr_image.specs.Joining.{is_of, is_of_at, joined, kept_from, place_of, stands_before, with_region}
 
 of-stays : (r : Region) (k : Kept) → is_of r k ≡ true → stands_before r k ≡ false

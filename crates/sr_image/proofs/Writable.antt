@@ -17,7 +17,7 @@ use Rattle.sr_bytes.specs.Spelling.{is_from_to, is_number, is_bound, has_cell_by
 use Rattle.sr_bytes.specs.Writing.{may_write_cell, may_write_row, may_write_span, may_write_rect}
 use Rattle.sr_bytes.proofs.Numbers.{to_zero}
 use Rattle.sr_image.specs.declared.image.Image.{Image}
-use Rattle.sr_image.specs.declared.image.Kept.{Kept}
+use Rattle.sr_store.specs.declared.start.Kept.{Kept}
 use Rattle.sr_image.specs.Laws.{each_may, are_counted, is_rect, is_row, is_head, is_kept, is_image}
 use Rattle.sr_image.specs.Reading.{count_rects, may_rect, may_row}
 use Rattle.sr_image.specs.Writing.{may_write_image, may_write_kept}

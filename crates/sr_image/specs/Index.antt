@@ -3,6 +3,7 @@ use Rattle.std.specs.Prelude.{◌≡◌, ℕ, ◌+◌, int_le, Bool, true, false
 use Rattle.std.specs.List.{list_all, list_any}
 use Rattle.std.specs.List.Sorted.{IsPermutation}
 use Rattle.std.specs.Option.{is_some}
+use Rattle.sr_cell.specs.Cells.{text_le}
 use Rattle.sr_box.specs.declared.span.Span.{Span}
 use Rattle.sr_box.specs.declared.span.Span.TheVariants.{Full, Nums, Strs}
 use Rattle.sr_box.specs.Cut.{rect_meet}
@@ -41,12 +42,20 @@ found_at sought rects place = found_in sought place (slice_get rects place)
 
 -- ---- hulls
 
+-- an upper end of texts is no upper than another
+abbrev pub ends_within : Option (List ℕ) → Option (List ℕ) → Bool
+ends_within end None = true
+ends_within None (Some wide) = false
+ends_within (Some end) (Some wide) = text_le end wide
+
 abbrev pub span_covers : Span → Span → Bool
 span_covers Full s = true
 span_covers (Nums lo hi) Full = false
 span_covers (Nums lo hi) (Nums low high) = int_le lo low && int_le high hi
 span_covers (Nums lo hi) (Strs low high) = false
-span_covers (Strs lo hi) s = false
+span_covers (Strs lo hi) Full = false
+span_covers (Strs lo hi) (Nums low high) = false
+span_covers (Strs lo hi) (Strs low high) = text_le lo low && ends_within high hi
 
 -- each span of the rect lies within the hull's
 abbrev pub covers : Rect → Rect → Bool

@@ -5,7 +5,7 @@ use Rattle.sr_model.specs.SortedRows.{ascend, with_rows}
 use Rattle.sr_region.specs.declared.region.Region.{Region}
 use Rattle.sr_region.specs.Regions.{rank}
 use Rattle.sr_image.specs.declared.image.Image.{Image}
-use Rattle.sr_image.specs.declared.image.Kept.{Kept}
+use Rattle.sr_store.specs.declared.start.Kept.{Kept}
 use Rattle.sr_image.specs.declared.image.Head.{Head}
 use Rattle.sr_image.specs.Reading.{head_of, is_before}
 

@@ -1,14 +1,21 @@
 -- Writing and reading an image belong together.
-use Rattle.std.specs.Prelude.{ℕ, ◌<◌, ◌^◌, Bool, true, ◌&&◌, nat_lt, List, [], ◌∷◌, ◌++◌, length, ◌≡◌, Ok, Err, IsTrue}
+use Rattle.std.specs.Prelude.{ℕ, ◌<◌, ◌≤◌, ◌^◌, Bool, true, ◌&&◌, nat_lt, List, [], ◌∷◌, ◌++◌, length, ◌≡◌, Ok, Err, IsTrue}
+use Rattle.std.specs.List.{list_all}
 use Rattle.sr_cell.specs.declared.table.Table.{Table}
 use Rattle.sr_cell.specs.Cells.{Row}
 use Rattle.sr_cell.specs.Columns.{are_bytes, table_at}
 use Rattle.sr_box.specs.Points.{Rect}
 use Rattle.sr_bytes.specs.Spelling.{is_from_to, has_rect_bytes, has_row_bytes}
+use Rattle.sr_query.specs.Bound.{is_table}
+use Rattle.sr_region.specs.declared.region.Region.{Region}
+use Rattle.sr_store.specs.Stores.{IsStore}
+use Rattle.sr_store.specs.Fitted.{count_rows}
+use Rattle.sr_store.specs.Starting.{AreLawful}
 use Rattle.sr_image.specs.declared.image.Image.{Image}
-use Rattle.sr_image.specs.declared.image.Kept.{Kept}
+use Rattle.sr_store.specs.declared.start.Kept.{Kept}
 use Rattle.sr_image.specs.declared.image.ImageFault.TheVariants.{Short}
 use Rattle.sr_image.specs.Reading.{may_head, may_rect, may_row, head_of, count_rects, image_in}
+use Rattle.sr_image.specs.Joining.{ascends, image_from}
 use Rattle.sr_image.specs.Spelling.{image_bytes}
 use Rattle.sr_image.specs.Writing.{may_write_image, may_write_schema}
 
@@ -58,3 +65,21 @@ NoneBegins = (schema : List Table) (front : List ℕ) (b : ℕ) (more : List ℕ
 -- Each such image may be written.
 abbrev pub MayBeWritten : Type 0
 MayBeWritten = (schema : List Table) (image : Image) → IsTrue (is_image schema image) → IsTrue (may_write_image image)
+
+-- A store may start from the parts of each such image.
+abbrev pub IsLawful : Type 0
+IsLawful = (schema : List Table) (image : Image) → IsTrue (list_all is_table schema) → IsTrue (is_image schema image) → AreLawful schema image.kept
+
+-- An image can be made of the regions of each store.
+abbrev pub MayBeMade : Type 0
+MayBeMade = (schema : List Table) (regions : List Region) → IsStore schema regions → list_all ascends regions ≡ true
+
+-- the rects and rows of the region have a spelling
+abbrev pub is_spellable : Region → Bool
+is_spellable r = list_all has_rect_bytes r.rects && list_all has_row_bytes r.rows
+
+-- The image of a store of at most 1,024 regions and 200,000 rows, with such rects and rows, is one: what is written of it is read again.
+abbrev pub IsOfStore : Type 0
+IsOfStore = (schema : List Table) (version : ℕ) (regions : List Region)
+    → IsTrue (list_all is_table schema) → IsStore schema regions → IsTrue (list_all is_spellable regions) → version < 2 ^ 64 → length regions ≤ 1024 → count_rows regions ≤ 200000
+    → IsTrue (is_image schema (image_from version regions))

@@ -15,7 +15,7 @@ use Rattle.sr_region.specs.Regions.{rank, is_in}
 use Rattle.sr_bytes.specs.Reading.{Reading, Got, Bad, Reader, ◌>>=◌, give, passing, a_byte, a_number, bytes_that, any_bytes, a_rect, a_row}
 use Rattle.sr_bytes.specs.Spelling.{is_from_to}
 use Rattle.sr_image.specs.declared.image.Image.{Image}
-use Rattle.sr_image.specs.declared.image.Kept.{Kept}
+use Rattle.sr_store.specs.declared.start.Kept.{Kept}
 use Rattle.sr_image.specs.declared.image.Head.{Head}
 use Rattle.sr_image.specs.declared.image.ImageFault.{ImageFault}
 use Rattle.sr_image.specs.declared.image.ImageFault.TheVariants.{Magic, Short, Left, Schema, Field}

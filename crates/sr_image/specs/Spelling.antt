@@ -7,7 +7,7 @@ use Rattle.sr_grammar.specs.Spaced.{printed}
 use Rattle.sr_grammar.specs.Trees.{Create}
 use Rattle.sr_bytes.specs.Spelling.{long_bytes, count_bytes, short_count_bytes, row_bytes, rects_bytes}
 use Rattle.sr_image.specs.declared.image.Image.{Image}
-use Rattle.sr_image.specs.declared.image.Kept.{Kept}
+use Rattle.sr_store.specs.declared.start.Kept.{Kept}
 
 -- how each image begins
 abbrev pub magic : List ℕ

@@ -4,7 +4,7 @@ use Rattle.std.specs.List.{list_all}
 use Rattle.sr_cell.specs.declared.table.Table.{Table}
 use Rattle.sr_bytes.specs.Writing.{may_write_rects, may_write_row}
 use Rattle.sr_image.specs.declared.image.Image.{Image}
-use Rattle.sr_image.specs.declared.image.Kept.{Kept}
+use Rattle.sr_store.specs.declared.start.Kept.{Kept}
 use Rattle.sr_image.specs.Spelling.{creates}
 
 abbrev pub may_write_kept : Kept → Bool

@@ -1,17 +1,6 @@
 //! What an image has.
 use sr_cell::attrs::Attrs;
-use sr_cell::cell::Rows;
-use sr_cell::list::Seq;
-use sr_union::rects::Rects;
-
-/// What is held of a table under some columns: the points of the rects, and their rows with the cells of these columns, by key.
-#[derive(Drop)]
-pub struct Kept {
-    pub table: u8,
-    pub attrs: Attrs,
-    pub rects: Rects,
-    pub rows: Rows,
-}
+use sr_store::start::Kepts;
 
 /// Which part of what is held.
 #[derive(Clone, Copy)]
@@ -19,9 +8,6 @@ pub(crate) struct Head {
     pub(crate) table: u8,
     pub(crate) attrs: Attrs,
 }
-
-/// Parts by table, and then by columns as a number.
-pub type Kepts = Seq<Kept>;
 
 /// What a client holds, at its version.
 #[derive(Drop)]

@@ -5,14 +5,14 @@ ghost use Rattle.std.specs.List.{list_any};
 ghost use Rattle.std.specs.List.Sorted.{IsPermutation};
 ghost use Rattle.sr_region.specs.Regions.{is_in};
 ghost use Rattle.sr_image.specs.Reading.{meets_some};
-ghost use Rattle.sr_image.specs.Index.{IsIndex, are_levels, are_under, covers, first_met, found_at, is_covered, is_in_hull, is_sought, is_under, numbered, span_covers};
+ghost use Rattle.sr_image.specs.Index.{IsIndex, are_levels, are_under, covers, ends_within, first_met, found_at, is_covered, is_in_hull, is_sought, is_under, numbered, span_covers};
 ghost use Rattle.sr_box.specs.Points.{Rect as Spans};
 
 use sr_box::rect::Rect;
 use sr_box::span::Span;
 use sr_cell::attrs::Attrs;
-use sr_cell::cell::Row;
-use sr_cell::list::{Copied, NoMemory};
+use sr_cell::cell::{Row, is_text_at_most};
+use sr_cell::list::{Bytes, Copied, NoMemory};
 use std::alloc::Global;
 
 /// The most columns of a table.
@@ -200,18 +200,62 @@ fn sort_block(rects: &[Rect], block: &mut [usize], turn: usize)
     ensures { IsPermutation block.old block.new }
 {
     let column = best_column(rects, block, turn);
-    block.sort_unstable_by_key(|place| low_of(rects, *place, column));
+    let common = common_of(rects, block, column);
+    block.sort_unstable_by_key(|place| low_of(rects, *place, column, common));
 }
 
-/// Where the rect of that place begins in that column.
-fn low_of(rects: &[Rect], place: usize, column: usize) -> i64 {
+/// Where the rect of that place begins in that column: at that number, or at a text, of which the bytes behind so many count.
+fn low_of(rects: &[Rect], place: usize, column: usize, common: usize) -> i64 {
     match rects.get(place) {
         Some(rect) => match rect.get(column) {
             Some(Span::Nums { lo, .. }) => *lo,
+            Some(Span::Strs { lo, .. }) => number_of(lo.as_slice(), common),
             _ => i64::MIN,
         },
         None => i64::MIN,
     }
+}
+
+/// A number by which texts are in order that differ in the seven bytes from that place on, and not before them.
+fn number_of(text: &[u8], from: usize) -> i64 {
+    let mut bytes = [0; 8];
+    for i in 1..8 {
+        if let Some(byte) = text.get(from.saturating_add(i - 1)) {
+            bytes[i] = *byte;
+        }
+    }
+    i64::from_be_bytes(bytes)
+}
+
+/// The text at which the rect of that place begins in that column, if it does.
+fn text_of(rects: &[Rect], place: usize, column: usize) -> Option<&[u8]> {
+    match rects.get(place)?.get(column) {
+        Some(Span::Strs { lo, .. }) => Some(lo.as_slice()),
+        _ => None,
+    }
+}
+
+/// How many bytes in front are the same in all texts at which rects of a block begin in that column.
+fn common_of(rects: &[Rect], block: &[usize], column: usize) -> usize {
+    let mut first: Option<&[u8]> = None;
+    let mut common = usize::MAX;
+    for place in block {
+        if let Some(text) = text_of(rects, *place, column) {
+            match first {
+                Some(own) => common = common.min(count_same(own, text)),
+                None => first = Some(text),
+            }
+        }
+    }
+    common
+}
+
+/// How many bytes in front are the same.
+fn count_same(one: &[u8], other: &[u8]) -> usize {
+    one.iter()
+        .zip(other)
+        .take_while(|(own, byte)| own == byte)
+        .count()
 }
 
 /// The column in which the fewest rects of a block begin where the lowest does; of several the first from that turn on.
@@ -230,13 +274,14 @@ fn best_column(rects: &[Rect], block: &[usize], turn: usize) -> usize {
 }
 
 fn count_lowest(rects: &[Rect], block: &[usize], column: usize) -> usize {
+    let common = common_of(rects, block, column);
     let mut lowest = i64::MAX;
     for place in block {
-        lowest = lowest.min(low_of(rects, *place, column));
+        lowest = lowest.min(low_of(rects, *place, column, common));
     }
     block
         .iter()
-        .filter(|place| low_of(rects, **place, column) == lowest)
+        .filter(|place| low_of(rects, **place, column, common) == lowest)
         .count()
 }
 
@@ -279,7 +324,7 @@ fn hulls_of(
     Ok(hulls)
 }
 
-/// A rect that has all those of these places, if there is one. It does not narrow columns of texts.
+/// A rect that has all those of these places, if there is one.
 fn hull_of(alloc: Global, rects: &[Rect], block: &[usize]) -> Result<Option<Rect>, NoMemory>
     ensures { IfOk result (λ hull. is_under rects.now hull block.now ≡ true) }
 {
@@ -297,8 +342,8 @@ fn wide_of(alloc: Global, rects: &[Rect], block: &[usize]) -> Result<Rect, NoMem
         if let Some(rect) = rects.get(*place) {
             if i == 0 {
                 hull = rect.copy(alloc)?;
-            } else {
-                widen(&mut hull, rect);
+            } else if !covers(&hull, rect) {
+                widen(alloc, &mut hull, rect)?;
             }
         }
     }
@@ -326,23 +371,53 @@ fn is_covered(hull: &Rect, rects: &[Rect], place: usize) -> bool
 }
 
 /// Widens the hull by a rect.
-fn widen(hull: &mut Rect, rect: &Rect) {
+fn widen(alloc: Global, hull: &mut Rect, rect: &Rect) -> Result<(), NoMemory> {
     for (column, span) in rect.as_slice().iter().enumerate() {
         let wide = match hull.get(column) {
-            Some(own) => wider(own, span),
+            Some(own) => wider(alloc, own, span)?,
             None => Span::Full,
         };
         hull.set(column, wide);
     }
+    Ok(())
 }
 
-fn wider(own: &Span, span: &Span) -> Span {
+fn wider(alloc: Global, own: &Span, span: &Span) -> Result<Span, NoMemory> {
     match (own, span) {
-        (Span::Nums { lo, hi }, Span::Nums { lo: low, hi: high }) => Span::Nums {
+        (Span::Nums { lo, hi }, Span::Nums { lo: low, hi: high }) => Ok(Span::Nums {
             lo: (*lo).min(*low),
             hi: (*hi).max(*high),
-        },
-        _ => Span::Full,
+        }),
+        (Span::Strs { lo, hi }, Span::Strs { lo: low, hi: high }) => Ok(Span::Strs {
+            lo: lesser(lo, low).copy(alloc)?,
+            hi: later(hi, high).copy(alloc)?,
+        }),
+        _ => Ok(Span::Full),
+    }
+}
+
+/// The lesser of two texts.
+fn lesser<'a>(one: &'a Bytes, other: &'a Bytes) -> &'a Bytes {
+    if is_text_at_most(one.as_slice(), other.as_slice()) {
+        one
+    } else {
+        other
+    }
+}
+
+/// The upper of two ends.
+fn later<'a>(one: &'a Option<Bytes>, other: &'a Option<Bytes>) -> &'a Option<Bytes> {
+    if ends_within(one, other) { other } else { one }
+}
+
+/// Whether the upper end of texts is no upper than another.
+fn ends_within(end: &Option<Bytes>, wide: &Option<Bytes>) -> bool
+    ensures { result ≡ ends_within end.now wide.now }
+{
+    match (end, wide) {
+        (_, None) => true,
+        (None, Some(_)) => false,
+        (Some(end), Some(wide)) => is_text_at_most(end.as_slice(), wide.as_slice()),
     }
 }
 
@@ -369,6 +444,9 @@ fn span_covers(wide: &Span, span: &Span) -> bool
     match (wide, span) {
         (Span::Full, _) => true,
         (Span::Nums { lo, hi }, Span::Nums { lo: low, hi: high }) => *lo <= *low && *high <= *hi,
+        (Span::Strs { lo, hi }, Span::Strs { lo: low, hi: high }) => {
+            is_text_at_most(lo.as_slice(), low.as_slice()) && ends_within(high, hi)
+        }
         _ => false,
     }
 }

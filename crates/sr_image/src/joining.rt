@@ -3,10 +3,11 @@ ghost use Rattle.std.specs.Prelude.{◌≡◌, true, slice_get, IfOk, OnOk};
 ghost use Rattle.std.specs.List.{list_all};
 ghost use Rattle.sr_image.specs.Joining.{ascends, image_from, is_of_at, joined, kept_from, place_of, stands_before, with_region};
 
-use crate::image::{Image, Kept, Kepts};
+use crate::image::Image;
 use sr_cell::list::{Copied, NoMemory, Seq};
 use sr_region::region::{Region, rank_of};
 use sr_rows::rows::put_all;
+use sr_store::start::{Kept, Kepts};
 use std::alloc::Global;
 
 /// The image of regions, at that version. Regions of one table and columns become one part: their rects one after another,

@@ -9,7 +9,7 @@ ghost use Rattle.sr_image.specs.Found.{Answers, ReadsOr};
 ghost use Rattle.sr_image.specs.Reading.{a_head, a_kept, an_image, are_alike, behind_texts, count_rects, each_behind, finished, head_of, image_in, is_before, is_behind, kept_behind, length_in, may_head, some_texts};
 ghost use Rattle.sr_image.specs.Spelling.{creates, magic};
 
-use crate::image::{Head, Image, ImageFault, Kept, Kepts};
+use crate::image::{Head, Image, ImageFault};
 use crate::rects::{Place, some_rects};
 use crate::rows::{RowPlace, some_rows};
 use crate::texts::{are_same, read_texts, texts_of};
@@ -19,6 +19,7 @@ use sr_cell::attrs::Attrs;
 use sr_cell::list::No;
 use sr_cell::schema::Schema;
 use sr_cell::table::Table;
+use sr_store::start::{Kept, Kepts};
 use std::alloc::Global;
 
 /// The most parts of an image.

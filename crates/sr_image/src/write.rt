@@ -1,18 +1,19 @@
 //! Images as bytes.
-ghost use Rattle.std.specs.Prelude.{◌≡◌, ◌++◌, ◌<◌, ◌^◌, length, flat_map, IsTrue, IfOk, OnOk};
+ghost use Rattle.std.specs.Prelude.{◌≡◌, ◌++◌, ◌<◌, ◌^◌, nat_lt, length, flat_map, IsTrue, IfOk, OnOk};
 ghost use Rattle.std.specs.List.{list_all};
 ghost use Rattle.sr_bytes.specs.Spelling.{row_bytes};
 ghost use Rattle.sr_bytes.specs.Writing.{may_write_row};
 ghost use Rattle.sr_image.specs.Spelling.{all_rows_bytes, body_bytes, bytes_over, creates, image_bytes, kept_bytes, long_text_bytes, texts_bytes};
 ghost use Rattle.sr_image.specs.Writing.{are_short, may_write_image, may_write_kept, may_write_schema};
 
-use crate::image::{Image, Kept};
+use crate::image::Image;
 use crate::texts::texts_of;
 use sr_bytes::write::{push_count, push_long, push_rects, push_row, push_short_count};
 use sr_cell::cell::Row;
 use sr_cell::list::{Bytes, NoMemory, Seq};
 use sr_cell::schema::Schema;
 use sr_cell::text::Text;
+use sr_store::start::Kept;
 use std::alloc::Global;
 
 /// The bytes that every image begins with.
@@ -95,4 +96,29 @@ pub fn write_image(alloc: Global, schema: &Schema, image: &Image) -> Result<Byte
     push_long(&mut out, body.len() as u64 + 16)?;
     out.append(body)?;
     Ok(out)
+}
+
+/// Whether the printed CREATEs of a schema may be written: each of them has fewer than 2^32 bytes.
+pub fn may_write(alloc: Global, schema: &Schema) -> Result<bool, NoMemory>
+    ensures { IfOk result (λ may. may ≡ may_write_schema schema.now) }
+{
+    let texts = texts_of(alloc, schema)?;
+    Ok(are_short(texts.as_slice()))
+}
+
+fn are_short(texts: &[Text]) -> bool
+    ensures { result ≡ are_short texts.now }
+{
+    texts.len() <= 16 && each_short(texts)
+}
+
+fn each_short(texts: &[Text]) -> bool
+    ensures { result ≡ list_all (λ text. nat_lt (length text) (2 ^ 32)) texts.now }
+{
+    for text in texts {
+        if text.as_str().len() as u64 >= 0x1_0000_0000 {
+            return false;
+        }
+    }
+    true
 }

@@ -7,7 +7,7 @@ use Rattle.sr_history.specs.declared.mark.Mark.TheVariants.{Held}
 use Rattle.sr_script.specs.declared.line.RequestKind.TheVariants as kind
 use Rattle.sr_script.specs.declared.line.TraceLine.{TraceLine}
 use Rattle.sr_script.specs.declared.line.TraceLine.TheVariants as line
-use Rattle.sr_session.specs.Clients.{Client, Connection}
+use Rattle.sr_session.specs.Clients.{Client, Connection, from_query}
 use Rattle.sr_session.specs.Rules.{answers, as_it_is, evicts, evicts_none, lays, query_asks, renewed, with_ask}
 use Rattle.sr_session.specs.Scenes.{Scene, client_took, evicted, executed, new_pair, queried, server_took}
 use Rattle.sr_runs.specs.Example.{ages, default_limits, query, row, schema}
@@ -30,7 +30,7 @@ scene count c l = record {
 }
 
 abbrev dropped : Client
-dropped = record { marks = held_nothing; queries = asked_1 ∷ []; counted_from = 0; version = 2; next_request = 2; out = None; laid = []; cut = false; cuts = 0 }
+dropped = record { marks = held_nothing; queries = asked_1 ∷ []; counted_from = from_query 0; version = 2; next_request = 2; out = None; laid = []; cut = false; cuts = 0 }
 
 abbrev asking_again : Client
 asking_again = with_ask dropped (query 30 40) true (ask 30 40 ∷ [])

@@ -13,7 +13,7 @@ use Rattle.sr_script.specs.declared.line.RequestKind.TheVariants as kind
 use Rattle.sr_script.specs.declared.line.TraceLine.{TraceLine}
 use Rattle.sr_script.specs.declared.line.TraceLine.TheVariants as line
 use Rattle.sr_session.specs.Sessions.{Session}
-use Rattle.sr_session.specs.Clients.{Client, Connection}
+use Rattle.sr_session.specs.Clients.{Client, Connection, from_query}
 use Rattle.sr_session.specs.Rules.{Holds, answers, as_it_is, asks_once_more, lays, query_asks, renewed, with_ask}
 use Rattle.sr_session.specs.Scenes.{Scene, client_took, executed, new_pair, pushed, queried, server_took}
 use Rattle.sr_runs.specs.Example.{ages, default_limits, employee, employees, events, lines, query, row, schema, start}
@@ -66,7 +66,7 @@ abbrev pub first_sent : Connection
 first_sent = record { to_server = Ask 1 true (ask 30 40 ∷ []) ∷ []; to_client = []; session = Some (record { wire = 2; subscription = []; upto = 0 }) }
 
 abbrev pub filled : Client
-filled = record { marks = held_1; queries = asked_1 ∷ []; counted_from = 0; version = 2; next_request = 2; out = None; laid = []; cut = false; cuts = 0 }
+filled = record { marks = held_1; queries = asked_1 ∷ []; counted_from = from_query 0; version = 2; next_request = 2; out = None; laid = []; cut = false; cuts = 0 }
 
 abbrev pub session_2 : Session
 session_2 = record { wire = 2; subscription = record { table = 0; attrs = 3; rects = ages 30 40 } ∷ []; upto = 2 }

@@ -2,10 +2,10 @@
 use Rattle.std.specs.Prelude.{◌≡◌, ◌≢◌, ℕ, List, []}
 use Rattle.std.specs.Io.KnownBytes.{Appends}
 use Rattle.sr_io.specs.Causes.{Rose}
-use Rattle.sr_io.specs.Told.{Linking, Writing}
+use Rattle.sr_io.specs.Told.{Linking, Writing, docked_at}
 use Rattle.sr_session.specs.Sessions.{Database}
 use Rattle.sr_server.specs.Servers.{Gives, IsSound}
-use Rattle.sr_talk.specs.Serving.{Served, ServedInPart}
+use Rattle.sr_talk.specs.Serving.{Served, ServedInPart, listening}
 use Rattle.sr_talk.specs.declared.rounds.Ending.{Ending}
 use Rattle.sr_talk.specs.declared.rounds.Ending.TheVariants.{Whole, Faulty, Unwritten}
 
@@ -33,3 +33,8 @@ pub record RanInPart (db : Database) (texts : List (List ℕ)) (address : List �
   pub appended : Appends before.written after.written written
   pub served : ServedInPart Gives db texts address count old new written
   pub writing_keeps_faults : after.faults ≡ before.faults
+
+-- whatever the host was like before it docked at an address and `listening` was written, with no fault of the sink
+abbrev pub BehindListening : Linking → Writing → (List ℕ → Linking → Writing → Type 0) → Type 0
+BehindListening docked written Says = (address : List ℕ) (old : Linking) (before : Writing) → docked ≡ docked_at address old
+    → Appends before.written written.written listening → written.faults ≡ before.faults → Says address old before

@@ -57,7 +57,8 @@ pub(crate) fn exec_all<K: Sink>(
 ) -> Result<bool, NoMemory>
     requires stands { StandsForSome server.old }
     requires number { newest_of server.old.log + length texts.now < 2 ^ 63 }
-    ensures done { (db : Database) → IsServer server.old db → IfOk result (λ all. ExecutesAs all db texts.now (K.writing sink.old) (K.writing sink.new) server.new) }
+    ensures done { (db : Database) → IsServer server.old db
+        → IfOk result (λ all. ExecutesAs all db texts.now (K.writing sink.old) (K.writing sink.new) server.new) }
     ensures in_part { (db : Database) → IsServer server.old db → OnErr result (ExecutesInPart db texts.now (K.writing sink.old) (K.writing sink.new)) }
     ensures sessions { server.new.sessions ≡ server.old.sessions }
     ensures grows { newest_of server.new.log ≤ newest_of server.old.log + length texts.now }

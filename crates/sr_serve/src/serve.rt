@@ -2,7 +2,7 @@
 ghost use Rattle.std.specs.Prelude.{◌≡◌, ◌≢◌, ◌<◌, ◌^◌, ℕ, List, length, IfOk, IsErrOf, OnErr, OnOk};
 ghost use Rattle.std.specs.Io.KnownBytes.{Appends};
 ghost use Rattle.sr_cell.specs.declared.list.No.TheVariants.{Refused, NoMemory as Wanting};
-ghost use Rattle.sr_io.specs.Told.{Linking, Writing, docked_at};
+ghost use Rattle.sr_io.specs.Told.{docked_at};
 ghost use Rattle.sr_log.specs.Held.{newest as newest_of};
 ghost use Rattle.sr_session.specs.Sessions.{Database};
 ghost use Rattle.sr_serve.specs.ServerEnds.{IsEnd};
@@ -11,7 +11,7 @@ ghost use Rattle.sr_talk.specs.Rounds.{HasPeers, OnlyOutput, at_rest};
 ghost use Rattle.sr_talk.specs.Serving.{listening};
 ghost use Rattle.sr_talk.specs.declared.rounds.Ending.{Ending as TheEnding};
 ghost use Rattle.sr_talk.specs.declared.rounds.Ending.TheVariants.{Faulty, Unwritten};
-ghost use Rattle.sr_serve.specs.Runs.{Ran, RanInPart};
+ghost use Rattle.sr_serve.specs.Runs.{BehindListening, Ran, RanInPart};
 
 use crate::exec::exec_all;
 use crate::server_end::ServerEnd;
@@ -37,8 +37,10 @@ pub fn serve<H: Dock + Sink>(
     count: u32,
 ) -> Result<Ending, NoMemory>
     requires texts { length texts.now < 2 ^ 32 }
-    ensures ran { IfOk result (λ ending. Ran (first_database tables.schema log tables.rows) texts.now address.now count ending (H.linking host.old) (H.linking host.new) (H.writing host.old) (H.writing host.new)) }
-    ensures in_part { OnErr result (RanInPart (first_database tables.schema log tables.rows) texts.now address.now count (H.linking host.old) (H.linking host.new) (H.writing host.old) (H.writing host.new)) }
+    ensures ran { IfOk result (λ ending. Ran (first_database tables.schema log tables.rows) texts.now address.now count ending
+        (H.linking host.old) (H.linking host.new) (H.writing host.old) (H.writing host.new)) }
+    ensures in_part { OnErr result (RanInPart (first_database tables.schema log tables.rows) texts.now address.now count
+        (H.linking host.old) (H.linking host.new) (H.writing host.old) (H.writing host.new)) }
     ensures stays { OnlyOutput H H.reading H.held H.complaints H.IsSteady host.old host.new }
     ensures steady_writes { H.IsSteady host.old → IfOk result (λ ending. ending ≢ Unwritten) }
     ensures steady_links { H.IsSteady host.old → HasPeers count (H.linking host.old) → IfOk result (λ ending. ending ≢ Faulty) }
@@ -58,8 +60,10 @@ fn listen<H: Dock + Sink>(host: &mut H, address: &str) -> Result<(), No<Ending>>
     ensures docked { OnOk result (H.linking host.new ≡ docked_at address.now (H.linking host.old)) }
     ensures written { OnOk result (Appends (H.writing host.old).written (H.writing host.new).written listening) }
     ensures faults { OnOk result ((H.writing host.new).faults ≡ (H.writing host.old).faults) }
-    ensures ran { (ending : TheEnding) → IsErrOf result (Refused ending) → (db : Database) (texts : List (List ℕ)) (count : ℕ) → Ran db texts address.now count ending (H.linking host.old) (H.linking host.new) (H.writing host.old) (H.writing host.new) }
-    ensures in_part { IsErrOf result Wanting → (db : Database) (texts : List (List ℕ)) (count : ℕ) → RanInPart db texts address.now count (H.linking host.old) (H.linking host.new) (H.writing host.old) (H.writing host.new) }
+    ensures ran { (ending : TheEnding) → IsErrOf result (Refused ending) → (db : Database) (texts : List (List ℕ)) (count : ℕ)
+        → Ran db texts address.now count ending (H.linking host.old) (H.linking host.new) (H.writing host.old) (H.writing host.new) }
+    ensures in_part { IsErrOf result Wanting → (db : Database) (texts : List (List ℕ)) (count : ℕ)
+        → RanInPart db texts address.now count (H.linking host.old) (H.linking host.new) (H.writing host.old) (H.writing host.new) }
     ensures stays { OnlyOutput H H.reading H.held H.complaints H.IsSteady host.old host.new }
     ensures steady { H.IsSteady host.old → (ending : TheEnding) → ¬ IsErrOf result (Refused ending) }
 {
@@ -86,10 +90,10 @@ fn serve_docked<H: Dock + Sink>(
     requires texts { length texts.now < 2 ^ 32 }
     requires stands { (db : Database) × IsEnd end.old (at_rest db) }
     requires new { newest_of end.old.server.log ≡ 0 }
-    ensures ran { (db : Database) → IsEnd end.old (at_rest db) → (address : List ℕ) (old : Linking) (before : Writing) → H.linking host.old ≡ docked_at address old
-        → Appends before.written (H.writing host.old).written listening → (H.writing host.old).faults ≡ before.faults → IfOk result (λ ending. Ran db texts.now address count ending old (H.linking host.new) before (H.writing host.new)) }
-    ensures in_part { (db : Database) → IsEnd end.old (at_rest db) → (address : List ℕ) (old : Linking) (before : Writing) → H.linking host.old ≡ docked_at address old
-        → Appends before.written (H.writing host.old).written listening → (H.writing host.old).faults ≡ before.faults → OnErr result (RanInPart db texts.now address count old (H.linking host.new) before (H.writing host.new)) }
+    ensures ran { (db : Database) → IsEnd end.old (at_rest db) → BehindListening (H.linking host.old) (H.writing host.old)
+        (λ address old before. IfOk result (λ ending. Ran db texts.now address count ending old (H.linking host.new) before (H.writing host.new))) }
+    ensures in_part { (db : Database) → IsEnd end.old (at_rest db) → BehindListening (H.linking host.old) (H.writing host.old)
+        (λ address old before. OnErr result (RanInPart db texts.now address count old (H.linking host.new) before (H.writing host.new))) }
     ensures stays { OnlyOutput H H.reading H.held H.complaints H.IsSteady host.old host.new }
     ensures steady_writes { H.IsSteady host.old → IfOk result (λ ending. ending ≢ Unwritten) }
     ensures steady_links { H.IsSteady host.old → HasPeers count (H.linking host.old) → IfOk result (λ ending. ending ≢ Faulty) }

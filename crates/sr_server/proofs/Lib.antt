@@ -3,6 +3,7 @@ pub mod Slots
 pub mod PieceLemmas
 pub mod Standing
 pub mod Fitting
+pub mod Served
 pub mod Serving
 pub mod Taking
 pub mod Sending

@@ -1,5 +1,5 @@
 -- Which databases a server stands for, and what it makes of a message.
-use Rattle.std.specs.Prelude.{ℕ, ◌-◌, Bool, true, nat_le, ◌<◌, ◌≤◌, List, [], ◌∷◌, ◌≡◌, ◌⊎◌, length, slice_index_or, slice_set, Option, Some, None, Result, Ok, IsTrue}
+use Rattle.std.specs.Prelude.{ℕ, ◌-◌, Bool, true, false, nat_le, ◌<◌, ◌≤◌, List, [], ◌∷◌, ◌++◌, ◌≡◌, ◌⊎◌, length, slice_index_or, slice_set, Option, Some, None, Result, Ok, IsTrue, if◌then◌else◌}
 use Rattle.std.specs.List.{All, AllByRecursion, list_all}
 use Rattle.sr_cell.specs.declared.change.Change.{Change}
 use Rattle.sr_cell.specs.declared.fault.Fault.{Fault}
@@ -8,18 +8,21 @@ use Rattle.sr_cell.specs.Columns.{are_values}
 use Rattle.sr_cell.specs.Clients.{most_clients}
 use Rattle.sr_grammar.specs.Trees.{Statement}
 use Rattle.sr_grammar.specs.Says.{Says}
-use Rattle.sr_log.specs.Held.{Held, IsPushed, KeepsNewest}
+use Rattle.sr_log.specs.Held.{Held, IsPushed, KeepsNewest, newest as newest_of}
+use Rattle.sr_log.specs.declared.entry.Entry.{Entry}
+use Rattle.sr_message.specs.declared.message.Holding.{Holding}
 use Rattle.sr_message.specs.declared.message.Message.{Message}
-use Rattle.sr_message.specs.declared.message.Message.TheVariants.{Write}
+use Rattle.sr_message.specs.declared.message.Message.TheVariants.{Hello, Resume, Ask, Write, Welcome}
 use Rattle.sr_model.specs.Changes.{changes}
 use Rattle.sr_model.specs.Statements.{Tables}
 use Rattle.sr_query.specs.Binding.{◌>>=◌}
 use Rattle.sr_query.specs.Bound.{is_table}
 use Rattle.sr_session.specs.Scenes.{taken}
-use Rattle.sr_session.specs.Sessions.{Database, Session, all_changes, newest, tables_of, with_version}
+use Rattle.sr_session.specs.Sessions.{Database, Served, Session, all_changes, due, newest, opened, serve, tables_of, with_version}
 use Rattle.sr_subs.specs.Subscription.{FitsSome}
 use Rattle.sr_tables.specs.Stored.{Stored, are_stored, done_by}
 use Rattle.sr_server.specs.declared.server.Server.{Server}
+use Rattle.sr_server.specs.Noticed.{noticed}
 
 -- ---- sessions
 
@@ -41,6 +44,33 @@ pub record IsSession (db : Database) (session : Session) : Type 0 where
 abbrev pub IsSessionIf : Database → Option Session → Type 0
 IsSessionIf db None = Unit {0}
 IsSessionIf db (Some session) = IsSession db session
+
+-- the server with this session of that client
+abbrev pub put : Server → ℕ → Option Session → Server
+put server client session = record server { sessions = with_session server.sessions client session }
+
+-- a session once it was told what is due
+abbrev pub caught_up : Database → Session → Session
+caught_up db session = record session { subscription = (due db session).subscription; upto = newest db }
+
+-- a session as the rows of an ask find it: a fresh ask forgets what was subscribed, another is told first what is due
+abbrev pub before_rows : Database → Bool → Session → Session
+before_rows db fresh session = record session { subscription = (if fresh then [] else (due db session).subscription); upto = newest db }
+
+-- a session begins, and its client is told that it keeps nothing
+abbrev pub begun : Database → ℕ → ℕ → Served
+begun db wire number = record { session = opened db wire []; sent = Welcome number (newest db) false ∷ [] }
+
+-- a session goes on with what its client holds, which is told of these entries
+abbrev pub gone_on : Held → ℕ → ℕ → List Holding → List Entry → Served
+gone_on log wire number holdings entries = record {
+  session = Some (record { wire = wire; subscription = holdings; upto = newest_of log });
+  sent = noticed holdings entries ++ Welcome number (newest_of log) true ∷ [];
+}
+
+-- what a request of that client makes of its session, and what is sent
+abbrev pub served_of : Database → Server → ℕ → Message → Served
+served_of db server client m = serve db (session_at server.sessions client) m
 
 -- ---- databases
 
@@ -73,6 +103,20 @@ pub record IsServer (server : Server) (db : Database) : Type 0 where
   pub count : length server.sessions ≡ most_clients
   pub sessions : All (IsSessionIf db) server.sessions
 
+-- ---- what is said for each database that may be meant
+
+-- each whose newest versions are in the log, and whose newest version the session has not passed
+abbrev pub ForEach : Held → Session → (Database → Type 0) → Type 0
+ForEach log session Says = (db : Database) → Logs db log → session.upto ≤ newest db → Says db
+
+-- each whose newest versions are in the tables and the log, and whose newest version the session has not passed
+abbrev pub ForEachOf : Stored → Held → Session → (Database → Type 0) → Type 0
+ForEachOf tables log session Says = (db : Database) → Knows tables log db → session.upto ≤ newest db → Says db
+
+-- each that the server stands for, with the session of that client, if it has one
+abbrev pub ForSession : Server → ℕ → (Database → Session → Type 0) → Type 0
+ForSession server client Says = (db : Database) (session : Session) → IsServer server db → session_at server.sessions client ≡ Some session → Says db session
+
 abbrev pub StandsForSome : Server → Type 0
 StandsForSome server = (db : Database) × IsServer server db
 
@@ -94,6 +138,13 @@ pub record IsCarriedOut (old new : Server) : Type 0 where
   pub sessions : new.sessions ≡ old.sessions
 
 -- ---- messages
+
+-- Where nothing stands against a message, it begins a session that is not open, or asks one that is; a write goes its own way.
+abbrev pub is_served : Bool → Message → Bool
+is_served false (Hello wire client number) = true
+is_served false (Resume wire client number version holdings) = true
+is_served true (Ask number fresh parts) = true
+is_served opened m = false
 
 -- What a text makes of the tables, by what it says; or why the text or its statement is refused.
 abbrev pub Executes : List Table → List ℕ → Tables → Result Tables Fault → Type 0

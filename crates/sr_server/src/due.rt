@@ -4,9 +4,9 @@ ghost use Rattle.std.specs.List.{list_any, AllByRecursion};
 ghost use Rattle.sr_message.specs.declared.message.Message.TheVariants.{Notice as NoticeOf};
 ghost use Rattle.sr_message.specs.Tells.{tell_of};
 ghost use Rattle.sr_subs.specs.Subscription.{touches, FitsSome};
-ghost use Rattle.sr_session.specs.Sessions.{Database, notice, due, newest, closing_if, is_lost, serve_push};
+ghost use Rattle.sr_session.specs.Sessions.{notice, due, newest, closing_if, is_lost, serve_push};
 ghost use Rattle.sr_server.specs.Noticed.{noticed, last_changes};
-ghost use Rattle.sr_server.specs.Servers.{Logs};
+ghost use Rattle.sr_server.specs.Servers.{ForEach, caught_up};
 
 use crate::session::Session;
 use sr_cell::change::Change;
@@ -20,8 +20,8 @@ use std::alloc::Global;
 /// What is sent before anything else. The session is at the newest version then; after a Lapse it has subscribed nothing.
 pub(crate) fn due(alloc: Global, log: &Log, session: &mut Session) -> Result<Messages, NoMemory>
     requires points { AllByRecursion FitsSome session.old.subscription }
-    ensures sent { (db : Database) → Logs db log.now → session.old.upto ≤ newest db → IfOk result (λ sent. sent ≡ (due db session.old).sent) }
-    ensures session { (db : Database) → Logs db log.now → session.old.upto ≤ newest db → OnOk result (session.new ≡ record session.old { subscription = (due db session.old).subscription; upto = newest db }) }
+    ensures sent { ForEach log.now session.old (λ db. IfOk result (λ sent. sent ≡ (due db session.old).sent)) }
+    ensures session { ForEach log.now session.old (λ db. OnOk result (session.new ≡ caught_up db session.old)) }
 {
     let sent = match log.since(session.upto) {
         Some(entries) => notices_of(alloc, entries, &session.subs)?,
@@ -35,8 +35,8 @@ pub(crate) fn due(alloc: Global, log: &Log, session: &mut Session) -> Result<Mes
 fn lapse(alloc: Global, log: &Log, session: &mut Session) -> Result<Messages, NoMemory>
     requires points { AllByRecursion FitsSome session.old.subscription }
     requires dropped { session.old.upto < log.now.floor }
-    ensures sent { (db : Database) → Logs db log.now → session.old.upto ≤ newest db → IfOk result (λ sent. sent ≡ (due db session.old).sent) }
-    ensures session { (db : Database) → Logs db log.now → session.old.upto ≤ newest db → OnOk result (session.new ≡ record session.old { subscription = (due db session.old).subscription }) }
+    ensures sent { ForEach log.now session.old (λ db. IfOk result (λ sent. sent ≡ (due db session.old).sent)) }
+    ensures session { ForEach log.now session.old (λ db. OnOk result (session.new ≡ record session.old { subscription = (due db session.old).subscription })) }
 {
     let mut sent = Seq::new(alloc);
     if session.subs.is_empty() {
@@ -102,8 +102,8 @@ fn tell_of(alloc: Global, change: &Change) -> Result<Tell, NoMemory>
 /// What a push sends: what is due, and behind notices an empty one of the newest version, if nothing else was told of it.
 pub(crate) fn pushed(alloc: Global, log: &Log, session: &mut Session) -> Result<Messages, NoMemory>
     requires points { AllByRecursion FitsSome session.old.subscription }
-    ensures sent { (db : Database) → Logs db log.now → session.old.upto ≤ newest db → IfOk result (λ sent. sent ≡ (serve_push db session.old).sent) }
-    ensures session { (db : Database) → Logs db log.now → session.old.upto ≤ newest db → OnOk result (session.new ≡ record session.old { subscription = (due db session.old).subscription; upto = newest db }) }
+    ensures sent { ForEach log.now session.old (λ db. IfOk result (λ sent. sent ≡ (serve_push db session.old).sent)) }
+    ensures session { ForEach log.now session.old (λ db. OnOk result (session.new ≡ caught_up db session.old)) }
 {
     let closes = is_closed_by_notice(log, session);
     let mut sent = due(alloc, log, session)?;
@@ -119,7 +119,7 @@ pub(crate) fn pushed(alloc: Global, log: &Log, session: &mut Session) -> Result<
 /// Whether a push ends with an empty notice.
 fn is_closed_by_notice(log: &Log, session: &Session) -> bool
     requires points { AllByRecursion FitsSome session.now.subscription }
-    ensures { (db : Database) → Logs db log.now → session.now.upto ≤ newest db → closing_if (is_lost db session.now) db session.now ≡ (if result then NoticeOf (newest db) [] ∷ [] else []) }
+    ensures { ForEach log.now session.now (λ db. closing_if (is_lost db session.now) db session.now ≡ (if result then NoticeOf (newest db) [] ∷ [] else [])) }
 {
     if session.upto >= log.version() {
         return false;

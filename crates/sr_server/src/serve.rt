@@ -1,13 +1,10 @@
 //! What requests make of a session.
-ghost use Rattle.std.specs.Prelude.{◌≡◌, ◌≤◌, true, false, [], ◌∷◌, ◌++◌, map, length, Some, None, IfOk, OnOk, IfSome, if◌then◌else◌};
+ghost use Rattle.std.specs.Prelude.{◌≡◌, ◌≤◌, true, false, [], ◌++◌, map, length, Some, None, IfOk, OnOk, IfSome, if◌then◌else◌};
 ghost use Rattle.std.specs.List.{AllByRecursion};
-ghost use Rattle.sr_message.specs.declared.message.Message.TheVariants.{Welcome as WelcomeOf};
-ghost use Rattle.sr_log.specs.Held.{newest as newest_of};
 ghost use Rattle.sr_subs.specs.Subscription.{FitsSome};
-ghost use Rattle.sr_session.specs.Sessions.{Database, newest, due, entry_columns, holding_of, serve, serve_ask, serve_resume, serve_write, opened};
-ghost use Rattle.sr_server.specs.Noticed.{noticed};
-ghost use Rattle.sr_session.specs.Refusals.{has_few_parts};
-ghost use Rattle.sr_server.specs.Servers.{Logs, Knows, IsSessionIf};
+ghost use Rattle.sr_session.specs.Sessions.{Database, due, entry_columns, holding_of, serve, serve_ask, serve_resume, serve_write};
+ghost use Rattle.sr_session.specs.Refusals.{has_few_parts, is_open};
+ghost use Rattle.sr_server.specs.Servers.{ForEach, ForEachOf, IsSessionIf, Knows, Logs, before_rows, begun, caught_up, gone_on, is_served};
 
 use crate::due::{due, notices_of};
 use crate::reply::reply;
@@ -51,6 +48,7 @@ pub(crate) fn serve(
     session: Option<Session>,
     message: &Message,
 ) -> Result<Served, NoMemory>
+    requires served { is_served (is_open session) message.now ≡ true }
     requires few { has_few_parts message.now ≡ true }
     requires points { IfSome session (λ s. AllByRecursion FitsSome s.subscription) }
     ensures { (db : Database) → Knows tables.now log.now db → IsSessionIf db session → IfOk result (λ served. served ≡ serve db session message.now) }
@@ -69,9 +67,10 @@ fn serve_open(
     session: Session,
     message: &Message,
 ) -> Result<Served, NoMemory>
+    requires served { is_served true message.now ≡ true }
     requires few { has_few_parts message.now ≡ true }
     requires points { AllByRecursion FitsSome session.subscription }
-    ensures { (db : Database) → Knows tables.now log.now db → session.upto ≤ newest db → IfOk result (λ served. served ≡ serve db (Some session) message.now) }
+    ensures { ForEachOf tables.now log.now session (λ db. IfOk result (λ served. served ≡ serve db (Some session) message.now)) }
 {
     match message {
         Message::Ask {
@@ -79,15 +78,13 @@ fn serve_open(
             fresh,
             parts,
         } => serve_ask(alloc, tables, log, session, *number, *fresh, parts),
-        _ => Ok(Served {
-            session: Some(session),
-            sent: Seq::new(alloc),
-        }),
+        _ => unreachable!(),
     }
 }
 
 /// Takes the first message of a session.
 fn serve_closed(alloc: Global, log: &Log, message: &Message) -> Result<Served, NoMemory>
+    requires served { is_served false message.now ≡ true }
     ensures { (db : Database) → Logs db log.now → IfOk result (λ served. served ≡ serve db None message.now) }
 {
     match message {
@@ -99,10 +96,7 @@ fn serve_closed(alloc: Global, log: &Log, message: &Message) -> Result<Served, N
             holdings,
             ..
         } => serve_resume(alloc, log, *wire, *number, *version, holdings),
-        _ => Ok(Served {
-            session: None,
-            sent: Seq::new(alloc),
-        }),
+        _ => unreachable!(),
     }
 }
 
@@ -119,7 +113,7 @@ fn serve_ask(
 ) -> Result<Served, NoMemory>
     requires few { length parts.now ≤ 4 }
     requires points { AllByRecursion FitsSome session.subscription }
-    ensures { (db : Database) → Knows tables.now log.now db → session.upto ≤ newest db → IfOk result (λ served. served ≡ serve_ask db session number fresh parts.now) }
+    ensures { ForEachOf tables.now log.now session (λ db. IfOk result (λ served. served ≡ serve_ask db session number fresh parts.now)) }
 {
     let mut session = session;
     let mut sent = before_reply(alloc, log, fresh, &mut session)?;
@@ -140,8 +134,8 @@ fn before_reply(
     session: &mut Session,
 ) -> Result<Messages, NoMemory>
     requires points { AllByRecursion FitsSome session.old.subscription }
-    ensures sent { (db : Database) → Logs db log.now → session.old.upto ≤ newest db → IfOk result (λ sent. sent ≡ (if fresh then [] else (due db session.old).sent)) }
-    ensures session { (db : Database) → Logs db log.now → session.old.upto ≤ newest db → OnOk result (session.new ≡ record session.old { subscription = (if fresh then [] else (due db session.old).subscription); upto = newest db }) }
+    ensures sent { ForEach log.now session.old (λ db. IfOk result (λ sent. sent ≡ (if fresh then [] else (due db session.old).sent))) }
+    ensures session { ForEach log.now session.old (λ db. OnOk result (session.new ≡ before_rows db fresh session.old)) }
 {
     if fresh {
         session.subs.clear();
@@ -175,7 +169,7 @@ fn subscribe(alloc: Global, wire: u8, subs: &mut Subs, parts: &[AskPart]) -> Res
 
 /// A session begins that has subscribed nothing.
 fn welcome_anew(alloc: Global, log: &Log, wire: u8, number: u64) -> Result<Served, NoMemory>
-    ensures { (db : Database) → Logs db log.now → IfOk result (λ served. served ≡ record { session = opened db wire []; sent = WelcomeOf number (newest db) false ∷ [] }) }
+    ensures { (db : Database) → Logs db log.now → IfOk result (λ served. served ≡ begun db wire number) }
 {
     let version = log.version();
     let mut sent = Seq::new(alloc);
@@ -223,7 +217,7 @@ fn welcome_back(
     entries: &[Entry],
     holdings: &Holdings,
 ) -> Result<Served, NoMemory>
-    ensures { IfOk result (λ served. served ≡ record { session = Some (record { wire = wire; subscription = holdings.now; upto = newest_of log.now }); sent = noticed holdings.now entries.now ++ WelcomeOf number (newest_of log.now) true ∷ [] }) }
+    ensures { IfOk result (λ served. served ≡ gone_on log.now wire number holdings.now entries.now) }
 {
     let version = log.version();
     let subs = subs_of(alloc, holdings.as_slice())?;
@@ -262,8 +256,8 @@ pub(crate) fn serve_written(
     number: u64,
 ) -> Result<Messages, NoMemory>
     requires points { AllByRecursion FitsSome session.old.subscription }
-    ensures sent { (db : Database) → Logs db log.now → session.old.upto ≤ newest db → IfOk result (λ sent. sent ≡ (serve_write db session.old number None).sent) }
-    ensures session { (db : Database) → Logs db log.now → session.old.upto ≤ newest db → OnOk result (session.new ≡ record session.old { subscription = (due db session.old).subscription; upto = newest db }) }
+    ensures sent { ForEach log.now session.old (λ db. IfOk result (λ sent. sent ≡ (serve_write db session.old number None).sent)) }
+    ensures session { ForEach log.now session.old (λ db. OnOk result (session.new ≡ caught_up db session.old)) }
 {
     let mut sent = due(alloc, log, session)?;
     sent.push(Message::Written {

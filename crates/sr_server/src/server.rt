@@ -10,13 +10,13 @@ ghost use Rattle.sr_message.specs.declared.message.Message.TheVariants.{Write as
 ghost use Rattle.sr_model.specs.Statements.{executed};
 ghost use Rattle.sr_query.specs.Written.{write_of};
 ghost use Rattle.sr_query.specs.Writes.{suits};
-ghost use Rattle.sr_session.specs.Sessions.{Database, Session as TheSession, newest, with_version, serve, serve_push, serve_write};
+ghost use Rattle.sr_session.specs.Sessions.{Database, newest, with_version, serve_push, serve_write};
 ghost use Rattle.sr_subs.specs.Subscription.{FitsSome};
 ghost use Rattle.sr_tables.specs.Stored.{are_stored, done_by, is_short, statement_is_short};
 ghost use Rattle.sr_wire.specs.Limits.{IsSendable};
 ghost use Rattle.sr_wire.specs.declared.bad_frame.BadFrame.{BadFrame as TheBadFrame};
 ghost use Rattle.sr_session.specs.Refusals.{server_misfit, has_few_parts, is_open};
-ghost use Rattle.sr_server.specs.Servers.{IsCarriedOut, IsClientNumber, IsServer, Logs, StandsForSome, Executes, Takes, GivesUp, first_database, session_at, with_session};
+ghost use Rattle.sr_server.specs.Servers.{IsCarriedOut, IsClientNumber, IsServer, ForEach, ForSession, StandsForSome, Executes, Takes, GivesUp, first_database, is_served, put, served_of, session_at};
 
 use crate::due::pushed;
 use crate::misfit::server_misfit;
@@ -86,7 +86,8 @@ impl Server {
         ensures version { IfOk result (λ version. version ≡ newest_of self.old.log + 1) }
         ensures stands { (db : Database) → IsServer self.old db → OnOk result (IsServer self.new (with_version db self.new.tables.rows)) }
         ensures sessions { self.new.sessions ≡ self.old.sessions }
-        ensures refused { (fault : TheFault) → IsErrOf result (Refused fault) → executed self.old.tables.schema (write_of write) self.old.tables.rows ≡ Err fault }
+        ensures refused { (fault : TheFault) → IsErrOf result (Refused fault)
+            → executed self.old.tables.schema (write_of write) self.old.tables.rows ≡ Err fault }
         ensures unchanged { OnErr result (self.new ≡ record self.old { log = record self.old.log { room = self.new.log.room } }) }
     {
         // the log has room before the tables change, so that nothing can fail behind them
@@ -134,7 +135,8 @@ impl Server {
         requires stands { StandsForSome self.old }
         requires parts { has_few_parts message.now ≡ true }
         requires number { newest_of self.old.log + 1 < 2 ^ 63 }
-        ensures bad { (why : TheBadFrame) → IsErrOf result (Refused why) ↔ (server_misfit self.old.tables.schema (session_at self.old.sessions client) client message.now ≡ Some why) }
+        ensures bad { (why : TheBadFrame) → IsErrOf result (Refused why)
+            ↔ (server_misfit self.old.tables.schema (session_at self.old.sessions client) client message.now ≡ Some why) }
         ensures unchanged { (why : TheBadFrame) → IsErrOf result (Refused why) → self.new ≡ self.old }
         ensures taken { (db : Database) → IsServer self.old db → IfOk result (λ sent. Takes db self.old client message.now sent self.new) }
         ensures sendable { IfOk result (λ sent. All IsSendable sent) }
@@ -158,10 +160,10 @@ impl Server {
         requires stands { StandsForSome self.old }
         ensures none { IfOk result (λ sent. IsNone sent ↔ (session_at self.old.sessions client ≡ None)) }
         ensures same { session_at self.old.sessions client ≡ None → self.new ≡ self.old }
-        ensures sent { (db : Database) (session : TheSession) → IsServer self.old db → session_at self.old.sessions client ≡ Some session → IfOk result (λ sent. sent ≡ Some (serve_push db session).sent) }
-        ensures session { (db : Database) (session : TheSession) → IsServer self.old db → session_at self.old.sessions client ≡ Some session → OnOk result (self.new ≡ record self.old { sessions = with_session self.old.sessions client (serve_push db session).session }) }
+        ensures sent { ForSession self.old client (λ db session. IfOk result (λ sent. sent ≡ Some (serve_push db session).sent)) }
+        ensures session { ForSession self.old client (λ db session. OnOk result (self.new ≡ put self.old client (serve_push db session).session)) }
         ensures sendable { IfOk result (λ sent. IfSome sent (All IsSendable)) }
-        ensures closed { OnErr result (self.new ≡ record self.old { sessions = with_session self.old.sessions client None }) }
+        ensures closed { OnErr result (self.new ≡ put self.old client None) }
         ensures stands { (db : Database) → IsServer self.old db → IsServer self.new db }
         ensures others { self.new ≡ record self.old { sessions = self.new.sessions } }
     {
@@ -180,7 +182,7 @@ impl Server {
     pub fn cut(&mut self, client: u8)
         requires client { IsClientNumber client }
         requires count { length self.old.sessions ≡ 64 }
-        ensures closed { self.new ≡ record self.old { sessions = with_session self.old.sessions client None } }
+        ensures closed { self.new ≡ put self.old client None }
         ensures stands { (db : Database) → IsServer self.old db → IsServer self.new db }
     {
         let _ = self.close(client);
@@ -229,9 +231,11 @@ impl Server {
         requires client { IsClientNumber client }
         requires stands { StandsForSome self.old }
         requires parts { has_few_parts message.now ≡ true }
-        ensures sent { (db : Database) → IsServer self.old db → IfOk result (λ sent. sent ≡ (serve db (session_at self.old.sessions client) message.now).sent) }
-        ensures session { (db : Database) → IsServer self.old db → OnOk result (self.new ≡ record self.old { sessions = with_session self.old.sessions client (serve db (session_at self.old.sessions client) message.now).session }) }
-        ensures closed { OnErr result (self.new ≡ record self.old { sessions = with_session self.old.sessions client None }) }
+        requires served { is_served (is_open (session_at self.old.sessions client)) message.now ≡ true }
+        ensures sent { (db : Database) → IsServer self.old db → IfOk result (λ sent. sent ≡ (served_of db self.old client message.now).sent) }
+        ensures session { (db : Database) → IsServer self.old db
+            → OnOk result (self.new ≡ put self.old client (served_of db self.old client message.now).session) }
+        ensures closed { OnErr result (self.new ≡ put self.old client None) }
     {
         self.index_asked(alloc, message);
         let session = self.close(client);
@@ -285,7 +289,8 @@ impl Server {
         requires number { newest_of self.old.log + 1 < 2 ^ 63 }
         ensures done { OnOk result (done_by self.old.tables.schema (statement_seen statement) self.old.tables.rows ≡ Ok self.new.tables.rows) }
         ensures carried { OnOk result (IsCarriedOut self.old self.new) }
-        ensures refused { (fault : TheFault) → IsErrOf result (Refused fault) → done_by self.old.tables.schema (statement_seen statement) self.old.tables.rows ≡ Err fault }
+        ensures refused { (fault : TheFault) → IsErrOf result (Refused fault)
+            → done_by self.old.tables.schema (statement_seen statement) self.old.tables.rows ≡ Err fault }
         ensures unchanged { OnErr result (self.new ≡ record self.old { log = record self.old.log { room = self.new.log.room } }) }
     {
         let done = self.run(alloc, &statement);
@@ -299,7 +304,8 @@ impl Server {
         requires number { newest_of self.old.log + 1 < 2 ^ 63 }
         ensures done { OnOk result (done_by self.old.tables.schema (statement_seen statement.now) self.old.tables.rows ≡ Ok self.new.tables.rows) }
         ensures carried { OnOk result (IsCarriedOut self.old self.new) }
-        ensures refused { (fault : TheFault) → IsErrOf result (Refused fault) → done_by self.old.tables.schema (statement_seen statement.now) self.old.tables.rows ≡ Err fault }
+        ensures refused { (fault : TheFault) → IsErrOf result (Refused fault)
+            → done_by self.old.tables.schema (statement_seen statement.now) self.old.tables.rows ≡ Err fault }
         ensures unchanged { OnErr result (self.new ≡ record self.old { log = record self.old.log { room = self.new.log.room } }) }
     {
         match self.log.reserve() {
@@ -342,8 +348,8 @@ impl Server {
         requires client { IsClientNumber client }
         requires count { length self.old.sessions ≡ 64 }
         requires points { AllByRecursion FitsSome session.subscription }
-        ensures sent { (db : Database) → Logs db self.old.log → session.upto ≤ newest db → IfOk result (λ sent. sent ≡ (serve_write db session number None).sent) }
-        ensures session { (db : Database) → Logs db self.old.log → session.upto ≤ newest db → OnOk result (self.new ≡ record self.old { sessions = with_session self.old.sessions client (serve_write db session number None).session }) }
+        ensures sent { ForEach self.old.log session (λ db. IfOk result (λ sent. sent ≡ (serve_write db session number None).sent)) }
+        ensures session { ForEach self.old.log session (λ db. OnOk result (self.new ≡ put self.old client (serve_write db session number None).session)) }
         ensures closed { OnErr result (self.new ≡ self.old) }
     {
         let mut session = session;
@@ -364,7 +370,7 @@ impl Server {
         requires client { IsClientNumber client }
         requires count { length self.old.sessions ≡ 64 }
         ensures sent { IfOk result (λ sent. sent ≡ RefusedOf number fault ∷ []) }
-        ensures session { OnOk result (self.new ≡ record self.old { sessions = with_session self.old.sessions client (Some session) }) }
+        ensures session { OnOk result (self.new ≡ put self.old client (Some session)) }
         ensures closed { OnErr result (self.new ≡ self.old) }
     {
         let mut sent = Seq::new(alloc);
@@ -378,7 +384,7 @@ impl Server {
         requires client { IsClientNumber client }
         requires count { length self.old.sessions ≡ 64 }
         ensures session { result ≡ session_at self.old.sessions client }
-        ensures closed { self.new ≡ record self.old { sessions = with_session self.old.sessions client None } }
+        ensures closed { self.new ≡ put self.old client None }
     {
         self.sessions.replace(client as usize - 1, None)
     }
@@ -387,7 +393,7 @@ impl Server {
     fn set(&mut self, client: u8, session: Option<Session>)
         requires client { IsClientNumber client }
         requires count { length self.old.sessions ≡ 64 }
-        ensures { self.new ≡ record self.old { sessions = with_session self.old.sessions client session } }
+        ensures { self.new ≡ put self.old client session }
     {
         let _ = self.sessions.replace(client as usize - 1, session);
     }

@@ -9,7 +9,7 @@ use Rattle.sr_history.specs.declared.mark.Mark.{Mark}
 use Rattle.sr_history.specs.Marks.{with_marks}
 use Rattle.sr_history.specs.Classes.{Numbered}
 use Rattle.sr_session.specs.Walks.{AreLaid, AskOut, Request, ResumeOut, WriteOut}
-use Rattle.sr_session.specs.Clients.{Client, IsOut, answered, comes_to, lays_by}
+use Rattle.sr_session.specs.Clients.{Client, Counting, IsOut, answered, comes_to, lays_by}
 use Rattle.sr_session.specs.Rules.{Basis, Before, CutStep, EvictStep, Outcome, QueryStep, ResumeStep, TakeStep, WriteStep, already_cut, already_up, answering_now, answering_then, answers, applies, as_it_is, asks_once_more, cuts, emptied, evict_busy, evicts, evicts_none, forgets, is_welcomed, lays, query_answered, query_asks, query_busy, query_down, query_refused, refused_write, resumes, with_answered, with_query, write_busy, write_down, write_sends, written}
 use Rattle.sr_session.specs.Tidy.{IsTidy, IsTidyWith, RulesKeepTidy, by_cut, by_eviction, by_message, by_query, by_resume, by_write}
 use Rattle.sr_session.proofs.TakeLemmas.{laid-append}
@@ -24,7 +24,7 @@ module _ (b : Basis) where
   laid-by-none : (c : Client) → IsTidy b.schema c → c.out ≡ None → c.laid ≡ []
   laid-by-none c h out = subst (IsTidyWith b.schema c) out h
 
-  after-answer : (c new : Client) (queries : List Numbered) (from version : ℕ) (marks : List Mark) → new ≡ answered c queries from version marks → IsTidy b.schema new
+  after-answer : (c new : Client) (queries : List Numbered) (from : Counting) (version : ℕ) (marks : List Mark) → new ≡ answered c queries from version marks → IsTidy b.schema new
   after-answer c new queries from version marks is = subst (IsTidy b.schema) (sym is) refl
 
   before-tidy : (q : Query) (c : Client) (drops : List Mark) (old : Client) → Before b q c drops old → (old.out ≡ c.out) × (old.laid ≡ c.laid)

@@ -18,11 +18,20 @@ use Rattle.sr_session.specs.Places.{held}
 use Rattle.sr_session.specs.Refusals.{holding_suits}
 use Rattle.sr_session.specs.Walks.{Request, AskOut, WriteOut, ResumeOut, Mirror, Walks, AreLaid}
 
+-- Whose tests count for the load: those of queries that stand for a start, and those of the client's queries from that number on.
+pub record Counting : Type 0 where
+  pub start : List Query
+  pub from : ℕ
+
+-- those of the queries from that number on, and of no start
+abbrev pub from_query : ℕ → Counting
+from_query n = record { start = []; from = n }
+
 -- The past of a client, by itself.
 pub record Client : Type 0 where
   pub marks : List Mark  -- newest first
   pub queries : List Numbered  -- numbered 1, 2, ..
-  pub counted_from : ℕ  -- the first query whose tests count for the load
+  pub counted_from : Counting  -- whose tests count for the load
   pub version : ℕ
   pub next_request : ℕ
   pub out : Option Request
@@ -155,7 +164,7 @@ pub data Stands (db : Database) (pair : Pair) : Type 0 where
 -- ---- what steps make of a client
 
 -- nothing is out any more, and what was laid by is gone
-abbrev pub answered : Client → List Numbered → ℕ → ℕ → List Mark → Client
+abbrev pub answered : Client → List Numbered → Counting → ℕ → List Mark → Client
 answered c queries from version marks = record c { queries = queries; counted_from = from; version = version; out = None; laid = []; marks = with_marks c.marks marks }
 
 -- the second ask of a query, after a Lapse: all is dropped, and the whole is asked under the next number

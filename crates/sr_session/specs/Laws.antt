@@ -22,7 +22,7 @@ use Rattle.sr_session.specs.Places.{held, Within}
 use Rattle.sr_session.specs.Walks.{Request, AskOut, Walks, Passes, AreLaid, walked, replied, places_after, Replies}
 use Rattle.sr_session.specs.Arrivals.{arrived_at}
 use Rattle.sr_session.specs.Misfits.{misfit, IsShapely, rows_suit, told_suits}
-use Rattle.sr_session.specs.Clients.{Client, Connection, IsOpen, IsOut, mirror_of, answered, asks_again, lays_by, comes_to}
+use Rattle.sr_session.specs.Clients.{Client, Connection, Counting, IsOpen, IsOut, mirror_of, answered, asks_again, lays_by, comes_to}
 
 -- ---- the server, and what is laid by
 
@@ -74,7 +74,7 @@ RowsAreAsked = (db : Database) (c : Client) (queue : List Message) (session : Se
 
 -- After the answer, whatever marks came, what is held is at most what was held and what was asked.
 abbrev pub AnsweringKeeps : Type 0
-AnsweringKeeps = (db : Database) (c : Client) (l : Connection) (session : Session) (queue : List Message) (number query : ℕ) (meaning : Query) (fresh : Bool) (parts : List AskPart) (k w from : ℕ) (queries : List Numbered) (marks : List Mark)
+AnsweringKeeps = (db : Database) (c : Client) (l : Connection) (session : Session) (queue : List Message) (number query : ℕ) (meaning : Query) (fresh : Bool) (parts : List AskPart) (k w : ℕ) (from : Counting) (queries : List Numbered) (marks : List Mark)
     → IsOpen db c l session → c.out ≡ Some (AskOut number query meaning fresh parts) → l.to_client ≡ Reply k w ∷ queue
     → Within db.schema (held (with_marks c.marks marks)) (places_after fresh (walked (mirror_of c) c.laid).lapsed parts (walked (mirror_of c) c.laid).places)
     → IsOpen db (answered c queries from w marks) (record l { to_client = queue }) session

@@ -24,7 +24,7 @@ use Rattle.sr_history.specs.Drops.{DropsAll, Absorbs, IsDropOf}
 use Rattle.sr_history.specs.Load.{IsHeavy}
 use Rattle.sr_history.specs.Budgets.{MeetsBudgets}
 use Rattle.sr_session.specs.Walks.{Request, AskOut, WriteOut, ResumeOut, IsAskOf, IsLaid, has_lapse, version_after}
-use Rattle.sr_session.specs.Clients.{Client, Connection, IsResumeMessage, answered, asks_again, lays_by, comes_to, settled}
+use Rattle.sr_session.specs.Clients.{Client, Connection, Counting, IsResumeMessage, from_query, answered, asks_again, lays_by, comes_to, settled}
 
 -- What the rules go by: the schema, what may be kept, how many rows some marks keep at a version, and the rows of a query at a version,
 -- where anything is known of them.
@@ -107,9 +107,9 @@ pub record Renews (b : Basis) (a : Answering) (c : Client) (marks : List Mark) :
   pub budgets : MeetsBudgets b.schema b.limits (b.count a.version) a.queries (with_marks (with_marks c.marks held) absorbed) drops
   pub all : marks ≡ held ++ (absorbed ++ drops)
 
--- the queries whose tests count for the load: those from that number on
-abbrev pub counted : ℕ → List Numbered → List Query
-counted from queries = map (λ n. n.query) (drop (from - 1) queries)
+-- the queries whose tests count for the load: those of the start, and those from that number on
+abbrev pub counted : Counting → List Numbered → List Query
+counted whose queries = whose.start ++ map (λ n. n.query) (drop (whose.from - 1) queries)
 
 -- Where the load is too high all classes may be dropped, as they stood before the answer, and nothing that was asked is held. There is
 -- something to give up: a class that is held, or a part that was asked.
@@ -118,10 +118,10 @@ pub record GivesUp (b : Basis) (a : Answering) (c : Client) (marks : List Mark) 
   pub drops : DropsAll b.schema c.marks c.queries Pieces marks
   pub some : 0 < length marks + length a.asked
 
--- What an answer leaves. Once all is given up, the load counts from the next query on.
+-- What an answer leaves. Once all is given up, the load counts from the next query on, and of no start.
 pub data AnswerStep (b : Basis) (a : Answering) (c : Client) : List Mark → Client → Type 0 where
   renewed : (marks : List Mark) → Renews b a c marks → AnswerStep b a c marks (answered c a.queries c.counted_from a.version marks)
-  given_up : (marks : List Mark) → GivesUp b a c marks → AnswerStep b a c marks (answered c a.queries (a.number + 1) a.version marks)
+  given_up : (marks : List Mark) → GivesUp b a c marks → AnswerStep b a c marks (answered c a.queries (from_query (a.number + 1)) a.version marks)
 
 -- ---- a query
 
@@ -139,7 +139,8 @@ answering_now c q = record { number = next_query c; query = q; version = c.versi
 abbrev pub LeavesSome : Basis → Query → Client → Type 0
 LeavesSome b q c = Asks b.schema c.marks q.parts [] → ⊥
 
--- Where the load is too high, and something is left to ask, all classes may be dropped before the query; the load counts from it on.
+-- Where the load is too high, and something is left to ask, all classes may be dropped before the query; the load counts from it on, and
+-- of no start.
 pub record DropsFirst (b : Basis) (q : Query) (c : Client) (drops : List Mark) : Type 0 where
   pub left : LeavesSome b q c
   pub heavy : IsHeavy b.schema c.marks [] q (counted c.counted_from (with_query q false c))
@@ -149,7 +150,7 @@ pub record DropsFirst (b : Basis) (q : Query) (c : Client) (drops : List Mark) :
 -- the client by whose marks a query asks
 pub data Before (b : Basis) (q : Query) (c : Client) : List Mark → Client → Type 0 where
   as_it_is : Before b q c [] c
-  emptied : (drops : List Mark) → DropsFirst b q c drops → Before b q c drops (record c { marks = with_marks c.marks drops; counted_from = next_query c })
+  emptied : (drops : List Mark) → DropsFirst b q c drops → Before b q c drops (record c { marks = with_marks c.marks drops; counted_from = from_query (next_query c) })
 
 -- one request asks all that has to be asked
 abbrev pub with_ask : Client → Query → Bool → List AskPart → Client

@@ -13,7 +13,7 @@ use Rattle.sr_store.specs.declared.answer.News.{News}
 use Rattle.sr_store.specs.declared.store.Arrival.{Arrival}
 use Rattle.sr_store.specs.Classes.{ascends}
 use Rattle.sr_store.specs.Told.{Told, IsTold, IsTrueOf, AreTrueOf}
-use Rattle.sr_store.specs.Stores.{IsOfSchema, IsStore, count_rects, drop_of, IsAbsorbedIn}
+use Rattle.sr_store.specs.Stores.{IsOfSchema, IsStore, IsSettled, count_rects, drop_of, IsAbsorbedIn}
 use Rattle.sr_store.specs.Answered.{IsArrival, AreApart, HaveArrived, held_of, AreFlags, flagged, IsHeavy}
 use Rattle.sr_store.specs.Renewing.{IsRenewal, with_regions}
 use Rattle.sr_store.specs.Making.{IsKeyed, HasKey, CanJoin, without_rows, AreParted, IsStill, AreNews, IsAbsorbedBy, IsAnswerOf}
@@ -57,9 +57,15 @@ can_join_some hs gs b fs es can = record {
   keyed = flagged_all (IsKeyed can.key) b es gs can.keyed;
 }
 
+-- none of the regions that stay is absorbed, where none is at all or where none stay
+pub still_settled : (schema : List Table) (old still : List Region) (settled : Bool) (flags : List Bool) → (settled ≡ true → IsSettled schema old) → still ≡ flagged false flags old
+    → (settled ≡ false → still ≡ []) → All (λ g. IsAbsorbedIn schema old g → ⊥) still
+still_settled schema old still true flags none are all = subst (All (λ g. IsAbsorbedIn schema old g → ⊥)) (sym are) (flagged_all (λ g. IsAbsorbedIn schema old g → ⊥) false flags old (none refl))
+still_settled schema old still false flags none are all = subst (All (λ g. IsAbsorbedIn schema old g → ⊥)) (sym (all refl)) (All-nil (λ g. IsAbsorbedIn schema old g → ⊥))
+
 -- regions parted by their flags
 pub parted_are : (schema : List Table) (number : ℕ) (parts : List Part) (arrivals : List Arrival) (old still changed : List Region) → All (IsOfSchema schema) old → ascends old ≡ true
-    → All (λ g. IsAbsorbedIn schema old g → ⊥) old → AreApart schema old arrivals → (told : Told) × IsTold schema told × AreTrueOf told old × HaveArrived told arrivals
+    → All (λ g. IsAbsorbedIn schema old g → ⊥) still → AreApart schema old arrivals → (told : Told) × IsTold schema told × AreTrueOf told old × HaveArrived told arrivals
     → (flags : List Bool) × (length flags ≡ length old) × (still ≡ flagged false flags old) × (changed ≡ flagged true flags old) × All (IsStill number parts) still
     → AreParted schema number parts arrivals old still changed
 parted_are schema number parts arrivals old still changed each order settled apart told flags = record {
@@ -114,8 +120,10 @@ module _ (schema : List Table) (number : ℕ) (parts : List Part) (arrivals : Li
     few =
         let same = ap count_rects (flags.2 false) ∙ count_both (flagged false news.still_absorbed still) (flagged false news.absorbed news.regions) in
         subst (λ m. m ≤ 16384) (sym same) n.few;
-    settled = settled_less schema left all left (λ t a q point. flagged_fewer false flags.0 all t a q) (flags_none (IsAbsorbedIn schema all) flags.0 all absorbed);
   }
+
+  left-settled : IsSettled schema left
+  left-settled = settled_less schema left all left (λ t a q point. flagged_fewer false flags.0 all t a q) (flags_none (IsAbsorbedIn schema all) flags.0 all absorbed)
 
   -- what is put together is the answer
   pub put_answer : (answer : Answer) → answer.regions ≡ with_regions (flagged false news.still_absorbed still) (flagged false news.absorbed news.regions)
@@ -135,6 +143,7 @@ module _ (schema : List Table) (number : ℕ) (parts : List Part) (arrivals : Li
           marks_are = marks_are ∙ ap (λ gs. map held_of arrivals ++ map (drop_of Absorbed) gs) (sym (flags.2 true));
         };
         store = subst (IsStore schema) (sym is) left-store;
+        settled = subst (IsSettled schema) (sym is) left-settled;
         true_still = λ told is_told old_true rows. subst (AreTrueOf told) (sym is) (left-true told is_told old_true rows);
         cuts = left_cut schema number parts arrivals old all p.each fit are renewal answer.regions flags.0 is;
       }

@@ -13,7 +13,7 @@ use Rattle.sr_box.specs.Points.{times}
 use Rattle.sr_region.specs.declared.region.Region.{Region}
 use Rattle.sr_region.specs.Regions.{rank}
 use Rattle.sr_store.specs.Classes.{Held, Stamps, is_of, occurs, key_occurs, IsStamped, is_before, ascends, Keeps}
-use Rattle.sr_store.specs.Stores.{IsOfSchema, IsStore, count_rects, IsAbsorbedIn}
+use Rattle.sr_store.specs.Stores.{IsOfSchema, IsStore, IsSettled, count_rects, IsAbsorbedIn}
 use Rattle.sr_store.specs.Answered.{AreFlags, same_flag, flagged}
 use Rattle.sr_store.proofs.Settled.{settled_less}
 use Rattle.sr_store.proofs.Joining.{before-trans}
@@ -125,8 +125,11 @@ kept_store schema b fs gs h = record {
   once = λ t a p point. let x = flagged_fewer b fs gs t a p in let y = h.once t a p point in omega (arith, x, y);
   keys = λ t a k. let x = flagged_fewer_keys b fs gs t a k in let y = h.keys t a k in omega (arith, x, y);
   few = let x = flagged_few b fs gs in let y = h.few in omega (arith, x, y);
-  settled = settled_less schema (flagged b fs gs) gs (flagged b fs gs) (λ t a p point. flagged_fewer b fs gs t a p) (flagged_all (λ g. IsAbsorbedIn schema gs g → ⊥) b fs gs h.settled);
 }
+
+pub kept_settled : (schema : List Table) (b : Bool) (fs : List Bool) (gs : List Region) → IsSettled schema gs → IsSettled schema (flagged b fs gs)
+kept_settled schema b fs gs all =
+    settled_less schema (flagged b fs gs) gs (flagged b fs gs) (λ t a p point. flagged_fewer b fs gs t a p) (flagged_all (λ g. IsAbsorbedIn schema gs g → ⊥) b fs gs all)
 
 -- what stays holds what was held and is in no dropped region
 pub kept_keeps : (schema : List Table) (held : Held) (stamps : Stamps) (fs : List Bool) (gs : List Region) → length fs ≡ length gs → Keeps schema held stamps gs
@@ -142,6 +145,16 @@ kept_keeps schema held stamps fs gs l k = record {
     go false x y e = omega (arith, e)
 
 -- ---- one region is taken out
+
+-- a flag for each region
+unfoldable pub all_flags : List Region → List Bool
+all_flags [] = []
+all_flags (g ∷ gs) = true ∷ all_flags gs
+
+pub all-flagged : (gs : List Region) → (length (all_flags gs) ≡ length gs) × (flagged false (all_flags gs) gs ≡ []) × (flagged true (all_flags gs) gs ≡ gs)
+unfolding all_flags
+all-flagged [] = (refl, refl, refl)
+all-flagged (g ∷ gs) = let ih = all-flagged gs in (omega (arith, ih.0), ih.1, ap (λ rest. g ∷ rest) ih.2)
 
 unfoldable pub no_flags : List Region → List Bool
 no_flags [] = []
@@ -193,6 +206,9 @@ evicted_all P n gs h = subst (All P) (others-at n gs) (flagged_all P false (flag
 
 pub evicted_store : (schema : List Table) (n : ℕ) (gs : List Region) → IsStore schema gs → IsStore schema (take n gs ++ drop (n + 1) gs)
 evicted_store schema n gs h = subst (IsStore schema) (others-at n gs) (kept_store schema false (flags_at n gs) gs h)
+
+pub evicted_settled : (schema : List Table) (n : ℕ) (gs : List Region) → IsSettled schema gs → IsSettled schema (take n gs ++ drop (n + 1) gs)
+evicted_settled schema n gs h = subst (IsSettled schema) (others-at n gs) (kept_settled schema false (flags_at n gs) gs h)
 
 pub evicted_keeps : (schema : List Table) (held : Held) (stamps : Stamps) (n : ℕ) (gs : List Region) (g : Region) → slice_get gs n ≡ Some g → Keeps schema held stamps gs
     → Keeps schema (λ t a p. held t a p && occurs (g ∷ []) t a p == 0) stamps (take n gs ++ drop (n + 1) gs)

@@ -2,7 +2,7 @@
 use Rattle.std.proofs.Common.{◌≡◌, ℕ, ◌+◌, ◌≤◌, zero, suc, true, List, [], ◌∷◌, ◌++◌, length, take, drop, sym, subst, arith}
 use Rattle.std.specs.Prelude.{Result, Ok, Err, IfOk, OnErr}
 use Rattle.std.specs.List.{All, Contains}
-use Rattle.std.proofs.lemmas.List.Elements.{All-contains_itself}
+use Rattle.std.proofs.lemmas.List.Elements.{All-nil, All-contains_itself}
 use Rattle.std.proofs.lemmas.List.Sums.{sum_by-cons}
 use Rattle.sr_cell.specs.declared.cause.Cause.{Cause}
 use Rattle.sr_cell.specs.declared.cause.Cause.TheVariants.{Rows, Regions}
@@ -12,10 +12,10 @@ use Rattle.sr_policy.specs.declared.policy.Limits.{Limits}
 use Rattle.sr_policy.specs.declared.policy.Last.{Last}
 use Rattle.sr_history.specs.declared.mark.Mark.{Mark}
 use Rattle.sr_region.specs.declared.region.Region.{Region}
-use Rattle.sr_store.specs.Stores.{IsStore}
+use Rattle.sr_store.specs.Stores.{IsStore, IsSettled, IsAbsorbedIn}
 use Rattle.sr_store.specs.Fitted.{count_rows, without, DropsWhile, IsFitted}
 use Rattle.sr_store.specs.Laws.{FittedFitStill}
-use Rattle.sr_store.proofs.Dropping.{kept_store, evicted_all, evicted_store}
+use Rattle.sr_store.proofs.Dropping.{kept_store, evicted_all, evicted_store, evicted_settled}
 
 module _ (schema : List Table) (policy : Policy) (last : List Last) (cause : Cause) (size : List Region → ℕ) (limit : ℕ) where
   -- what is true of the regions without any one is true of those that are left
@@ -55,6 +55,7 @@ pub fitted_fit_still : FittedFitStill
 fitted_fit_still schema limits last old new drops h = record {
   some = fitted_keeps schema limits last old new drops (All (Contains old)) (λ n gs p. evicted_all (Contains old) n gs p) h (All-contains_itself old);
   store = fitted_keeps schema limits last old new drops (IsStore schema) (λ n gs p. evicted_store schema n gs p) h;
+  settled = fitted_keeps schema limits last old new drops (IsSettled schema) (λ n gs p. evicted_settled schema n gs p) h;
   rows =
       let few : count_rows h.mid ≤ limits.rows = drops_end schema limits.policy last Rows count_rows limits.rows old h.mid h.rows h.for_rows in
       drops_keep schema limits.policy last Regions length limits.regions (λ gs. count_rows gs ≤ limits.rows)
@@ -72,3 +73,7 @@ kept_left schema limits last front old new (Err e) P step nil p kept none = subs
 -- the store of no regions, of the same tables
 pub none_store : (schema : List Table) (gs : List Region) → IsStore schema gs → IsStore schema []
 none_store schema gs h = kept_store schema true [] gs h
+
+-- of no regions none is absorbed
+pub none_settled : (schema : List Table) → IsSettled schema []
+none_settled schema = All-nil (λ g. IsAbsorbedIn schema [] g → ⊥)

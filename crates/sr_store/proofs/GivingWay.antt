@@ -22,7 +22,7 @@ use Rattle.sr_region.specs.Regions.{rank, is_in, IsRowIn}
 use Rattle.sr_store.specs.declared.store.Arrival.{Arrival}
 use Rattle.sr_store.specs.Classes.{Held, Stamps, is_of, occurs, key_occurs, IsStamped, is_before, ascends, Keeps}
 use Rattle.sr_store.specs.Told.{Told, IsTold, IsTrueOf, AreTrueOf}
-use Rattle.sr_store.specs.Stores.{IsOfSchema, IsStore, drop_of, IsAbsorbedIn}
+use Rattle.sr_store.specs.Stores.{IsOfSchema, IsStore, IsSettled, drop_of, IsAbsorbedIn}
 use Rattle.sr_store.specs.Answered.{arrivals_at, keys_at, brings, gives_way, giving_way, IsArrival, AreApart, HaveArrived, rects_on, is_used, weight_from, IsRenewed, IsHeavy, IsGivenUp}
 use Rattle.sr_store.specs.Fitted.{lasts_of, IsFitted, IsAnswered}
 use Rattle.sr_store.specs.Renewing.{IsCutFrom}
@@ -89,8 +89,7 @@ module _ (arrivals : List Arrival) where
   way-order (g ∷ []) = refl
   way-order (g ∷ h ∷ gs) = ap (λ b. is_before g h && b) (way-order (h ∷ gs))
 
-  pub way-settled : (schema : List Table) (gs : List Region) → All (λ g. IsAbsorbedIn schema gs g → ⊥) gs
-      → All (λ g. IsAbsorbedIn schema (giving_way arrivals gs) g → ⊥) (giving_way arrivals gs)
+  pub way-settled : (schema : List Table) (gs : List Region) → IsSettled schema gs → IsSettled schema (giving_way arrivals gs)
   way-settled schema gs all =
       All-map (λ g. IsAbsorbedIn schema (giving_way arrivals gs) g → ⊥) (gives_way arrivals) gs
       (settled_less schema (giving_way arrivals gs) gs gs (λ t a p point. let e = way-occurs gs t a p in omega (arith, e)) all)
@@ -359,21 +358,22 @@ old-is old held regions listed arrivals is same own = is ∙ (ap (λ rs. giving_
 
 -- what a store keeps of the regions of an answer
 pub keeps-answer : {E : Type 0} (schema : List Table) (limits : Limits) (number : ℕ) (parts : List Part) (arrivals : List Arrival) (old mid new : List Region) (front : List Mark) (last : List Last) (r : Result (List Mark) E)
-    → last ≡ lasts_of schema parts → IsRenewed schema number parts arrivals (giving_way arrivals old) mid front → IsStore schema mid
+    → last ≡ lasts_of schema parts → IsRenewed schema number parts arrivals (giving_way arrivals old) mid front → IsStore schema mid → IsSettled schema mid
     → ((told : Told) → IsTold schema told → AreTrueOf told (giving_way arrivals old) → HaveArrived told arrivals → AreTrueOf told mid)
     → IfOk r (λ marks. (drops : List Mark) × IsFitted schema limits last mid new drops × (marks ≡ front ++ drops))
     → IfOk r (λ marks. IsAnswered schema limits number parts arrivals old new marks ⊎ IsGivenUp schema parts arrivals old new marks)
-keeps-answer schema limits number parts arrivals old mid new front last (Ok marks) is renewed store still kept = inl (record {
+keeps-answer schema limits number parts arrivals old mid new front last (Ok marks) is renewed store settled still kept = inl (record {
   mid = mid;
   front = front;
   drops = kept.0;
   renewed = way-renewed arrivals schema number parts old mid front renewed;
   store = store;
+  settled = settled;
   true_still = still;
   fitted = subst (λ l. IsFitted schema limits l mid new kept.0) is kept.1;
   all = kept.2;
 })
-keeps-answer schema limits number parts arrivals old mid new front last (Err e) is renewed store still kept = kept
+keeps-answer schema limits number parts arrivals old mid new front last (Err e) is renewed store settled still kept = kept
 
 -- the drops of all regions, made after they gave way
 pub given-up : (schema : List Table) (parts : List Part) (arrivals : List Arrival) (regions old new : List Region) (marks : List Mark) → old ≡ giving_way arrivals regions → IsHeavy schema old parts arrivals

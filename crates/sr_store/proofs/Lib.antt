@@ -41,3 +41,4 @@ pub mod Settled
 pub mod Merging
 pub mod Together
 pub mod Partings
+pub mod Starting

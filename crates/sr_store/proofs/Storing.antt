@@ -7,7 +7,7 @@ use Rattle.sr_message.specs.declared.message.Tell.{Tell}
 use Rattle.sr_region.specs.declared.region.Region.{Region}
 use Rattle.sr_store.specs.Brought.{tells_all}
 use Rattle.sr_store.specs.Told.{Told, IsTold, AreTrueOf}
-use Rattle.sr_store.specs.Stores.{IsOfSchema, IsStore, IsAbsorbedIn}
+use Rattle.sr_store.specs.Stores.{IsOfSchema, IsStore, IsSettled, IsAbsorbedIn}
 use Rattle.sr_store.specs.Noticed.{told_to, IsTellOf}
 use Rattle.sr_store.proofs.Chunks.{IsChunk, region-chunk, lies-occurs, some-telling, regions-keys}
 use Rattle.sr_store.proofs.Settled.{settled_less}
@@ -33,8 +33,12 @@ module _ (schema : List Table) where
             (true-each schema told telling.0 regions all telling.1 h.each telling.2)
             (λ t a p point. let e = occurs-told told regions t a p in let le = h.once t a p point in omega (arith, e, le));
         few = let e = rects-told told regions in omega (arith, e, few);
-        settled = All-map (λ g. IsAbsorbedIn schema (map (told_to told) regions) g → ⊥) (told_to told) regions
-            (All-weaker (λ g. IsAbsorbedIn schema (map (told_to told) regions) g → ⊥) (λ g. IsAbsorbedIn schema (map (told_to told) regions) (told_to told g) → ⊥)
-            (λ g stays by. stays (subst (IsAbsorbedIn schema (map (told_to told) regions)) (only-rows told g) by)) regions
-            (settled_less schema (map (told_to told) regions) regions regions (λ t a p point. let e = occurs-told told regions t a p in omega (arith, e)) h.settled));
       }
+
+  -- and none is absorbed that was not
+  pub settled-told : (told : List Tell) (regions : List Region) → IsSettled schema regions → IsSettled schema (map (told_to told) regions)
+  settled-told told regions all =
+      All-map (λ g. IsAbsorbedIn schema (map (told_to told) regions) g → ⊥) (told_to told) regions
+      (All-weaker (λ g. IsAbsorbedIn schema (map (told_to told) regions) g → ⊥) (λ g. IsAbsorbedIn schema (map (told_to told) regions) (told_to told g) → ⊥)
+      (λ g stays by. stays (subst (IsAbsorbedIn schema (map (told_to told) regions)) (only-rows told g) by)) regions
+      (settled_less schema (map (told_to told) regions) regions regions (λ t a p point. let e = occurs-told told regions t a p in omega (arith, e)) all))

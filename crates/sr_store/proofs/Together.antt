@@ -146,7 +146,7 @@ module _ (schema : List Table) (number : ℕ) (parts : List Part) (arrivals : Li
 
     -- of those that stay, only the met ones may be absorbed
     pub others_kept : (met : List Bool) → AllZip (IsUnmetOr arrivals) met still → AllZip (IsKeptOr schema still news) met still
-    others_kept met unmet = go met still unmet (still_all (λ g. IsAbsorbedIn schema old g → ⊥) p.settled)
+    others_kept met unmet = go met still unmet p.settled
       where
         go : (fs : List Bool) (gs : List Region) → AllZip (IsUnmetOr arrivals) fs gs → All (λ g. IsAbsorbedIn schema old g → ⊥) gs → AllZip (IsKeptOr schema still news) fs gs
         go [] [] h all = tt

@@ -16,7 +16,7 @@ use Rattle.sr_history.specs.declared.mark.Mark.{Mark}
 use Rattle.sr_region.specs.declared.region.Region.{Region}
 use Rattle.sr_store.specs.declared.store.Arrival.{Arrival}
 use Rattle.sr_store.specs.Told.{Told, IsTold, AreTrueOf}
-use Rattle.sr_store.specs.Stores.{IsStore, drop_of}
+use Rattle.sr_store.specs.Stores.{IsStore, IsSettled, drop_of}
 use Rattle.sr_store.specs.Answered.{giving_way, HaveArrived, IsRenewed}
 
 -- the rows of all regions
@@ -76,6 +76,7 @@ pub record IsAnswered (schema : List Table) (limits : Limits) (number : ℕ) (pa
   pub drops : List Mark
   pub renewed : IsRenewed schema number parts arrivals old mid front
   pub store : IsStore schema mid
+  pub settled : IsSettled schema mid
   pub true_still : (told : Told) → IsTold schema told → AreTrueOf told (giving_way arrivals old) → HaveArrived told arrivals → AreTrueOf told mid
   pub fitted : IsFitted schema limits (lasts_of schema parts) mid new drops
   pub all : marks ≡ front ++ drops

@@ -24,7 +24,7 @@ use Rattle.sr_region.specs.Applied.{AreTables, concerns, has_points}
 use Rattle.sr_store.specs.Classes.{Held, Stamps, Keeps}
 use Rattle.sr_store.specs.declared.store.Arrival.{Arrival}
 use Rattle.sr_store.specs.Told.{Told, IsTold, told_of, AreTrueOf}
-use Rattle.sr_store.specs.Stores.{IsOfSchema, IsStore}
+use Rattle.sr_store.specs.Stores.{IsOfSchema, IsStore, IsSettled}
 use Rattle.sr_store.specs.Answered.{IsArrival, AreApart, BringOwnKeys, giving_way, HaveArrived}
 use Rattle.sr_store.specs.Fitted.{IsFitted, lasts_of, count_rows}
 use Rattle.sr_store.specs.Noticed.{told_to, IsTellOf}
@@ -39,10 +39,11 @@ FittedMeetsBudgets =
     → IsFitted schema limits last old new drops
     → MeetsBudgets schema limits (kept tables) queries marks drops × Keeps schema (is_held (with_marks marks drops)) (stamp queries) new
 
--- the regions that are left are some of those before, and still a store, within the limits
+-- the regions that are left are some of those before, still a store, and within the limits
 pub record FitsStill (schema : List Table) (limits : Limits) (old new : List Region) : Type 0 where
   pub some : All (Contains old) new
   pub store : IsStore schema old → IsStore schema new
+  pub settled : IsSettled schema old → IsSettled schema new
   pub rows : count_rows new ≤ limits.rows
   pub regions : length new ≤ limits.regions
 

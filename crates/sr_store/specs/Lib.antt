@@ -10,3 +10,4 @@ pub mod Fitting
 pub mod Noticed
 pub mod Brought
 pub mod Laws
+pub mod Starting

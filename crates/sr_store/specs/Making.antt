@@ -21,7 +21,7 @@ use Rattle.sr_store.specs.declared.answer.Outcome.TheVariants.{Answered, GivenUp
 use Rattle.sr_store.specs.declared.store.Arrival.{Arrival}
 use Rattle.sr_store.specs.Classes.{is_before, is_same, ascends}
 use Rattle.sr_store.specs.Told.{Told, IsTold, AreTrueOf}
-use Rattle.sr_store.specs.Stores.{IsOfSchema, IsStore, count_rects, drop_of, IsAbsorbedIn, wider}
+use Rattle.sr_store.specs.Stores.{IsOfSchema, IsStore, IsSettled, count_rects, drop_of, IsAbsorbedIn, wider}
 use Rattle.sr_store.specs.Answered.{AreApart, HaveArrived, AreFlags, flagged, is_used, rects_on, IsRenewed, IsHeavy}
 use Rattle.sr_store.specs.Renewing.{touching, pieces_of, IsRestamped, IsCutFrom, IsRenewal}
 
@@ -94,12 +94,12 @@ IsStill number parts g = (g.stamp ≡ number → ⊥) × ((columns : List Column
 abbrev pub IsStillOr : ℕ → List Part → Bool → Region → Type 0
 IsStillOr number parts f g = f ≡ false → IsStill number parts g
 
--- Regions of a store, with the rows of some telling, in class order, parted into those that an answer leaves as they are and those
--- that it changes.
+-- Regions of a store, with the rows of some telling, in class order, parted into those that an answer leaves as they are, of which
+-- none is absorbed, and those that it changes.
 pub record AreParted (schema : List Table) (number : ℕ) (parts : List Part) (arrivals : List Arrival) (old still changed : List Region) : Type 0 where
   pub each : All (IsOfSchema schema) old
   pub order : ascends old ≡ true
-  pub settled : All (λ g. IsAbsorbedIn schema old g → ⊥) old
+  pub settled : All (λ g. IsAbsorbedIn schema old g → ⊥) still
   pub apart : AreApart schema old arrivals
   pub told : Told
   pub is_told : IsTold schema told
@@ -153,6 +153,7 @@ pub record AreNews (schema : List Table) (number : ℕ) (parts : List Part) (arr
 pub record IsAnswerOf (schema : List Table) (number : ℕ) (parts : List Part) (arrivals : List Arrival) (old : List Region) (answer : Answer) : Type 0 where
   pub renewed : IsRenewed schema number parts arrivals old answer.regions answer.marks
   pub store : IsStore schema answer.regions
+  pub settled : IsSettled schema answer.regions
   pub true_still : (told : Told) → IsTold schema told → AreTrueOf told old → HaveArrived told arrivals → AreTrueOf told answer.regions
   pub cuts : All (IsCutFrom schema (rects_on old parts arrivals)) answer.regions
 

@@ -26,15 +26,17 @@ wider regions t a = flat_map (λ g. g.rects) (filter (λ g. g.table == t && (inc
 abbrev pub IsAbsorbedIn : List Table → List Region → Region → Type 0
 IsAbsorbedIn schema all g = IsWithin (table_at schema g.table).columns g.rects (wider all g.table g.attrs)
 
--- Regions in class order, of which no two of one table with the same columns have a point or a key in common, and of which none
--- has all its points in others with more columns.
+-- none of the regions has all its points in others with more columns
+abbrev pub IsSettled : List Table → List Region → Type 0
+IsSettled schema regions = All (λ g. IsAbsorbedIn schema regions g → ⊥) regions
+
+-- Regions in class order, of which no two of one table with the same columns have a point or a key in common.
 pub record IsStore (schema : List Table) (regions : List Region) : Type 0 where
   pub each : All (IsOfSchema schema) regions
   pub order : ascends regions ≡ true
   pub once : (t a : ℕ) (p : Row) → IsTrue (is_point (table_at schema t).columns p) → occurs regions t a p ≤ 1
   pub keys : (t a : ℕ) (k : Cell) → key_occurs regions t a k ≤ 1
   pub few : count_rects regions ≤ 16384
-  pub settled : All (λ g. IsAbsorbedIn schema regions g → ⊥) regions
 
 -- the region holds each column that the part needs
 abbrev pub serves : Part → Region → Bool

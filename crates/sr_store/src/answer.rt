@@ -10,7 +10,7 @@ ghost use Rattle.sr_query.specs.declared.query.Part.{Part as ThePart};
 ghost use Rattle.sr_region.specs.declared.region.Region.{Region as TheRegion};
 ghost use Rattle.sr_store.specs.Told.{Told, IsTold, AreTrueOf};
 ghost use Rattle.sr_store.specs.Classes.{ascends};
-ghost use Rattle.sr_store.specs.Stores.{IsOfSchema, count_rects, drop_of, IsAbsorbedIn};
+ghost use Rattle.sr_store.specs.Stores.{IsOfSchema, IsSettled, count_rects, drop_of};
 ghost use Rattle.sr_store.specs.Answered.{IsArrival, AreApart, HaveArrived, IsHeavy, AreFlags, flagged, held_of};
 ghost use Rattle.sr_store.specs.Renewing.{IsRenewal, with_regions};
 ghost use Rattle.sr_store.specs.Making.{ComesFrom, AreParted, AreNews, IsOutcome, IsAbsorbedBy, IsKeptOr, CanJoin, without_rows};
@@ -263,7 +263,7 @@ fn outcome_of(
     }
 }
 
-/// The regions after an answer, and its marks.
+/// The regions after an answer, and its marks. In regions that are not known to be settled each one is looked at.
 pub(crate) fn answer_of(
     alloc: Global,
     schema: &Schema,
@@ -271,11 +271,12 @@ pub(crate) fn answer_of(
     parts: &[Part],
     arrivals: Arrivals,
     old: Seq<Region>,
+    settled: bool,
 ) -> Result<Outcome, NoMemory>
     requires tables { IsTrue (list_all is_table schema.now) }
     requires each { All (IsOfSchema schema.now) old }
     requires order { ascends old ≡ true }
-    requires settled { All (λ (g : TheRegion). IsAbsorbedIn schema.now old g → ⊥) old }
+    requires settled { settled ≡ true → IsSettled schema.now old }
     requires fit { All (λ (part : ThePart). list_all (rect_fits (table_at schema.now part.table).columns) part.rects ≡ true) parts.now }
     requires only { All (λ (part : ThePart). list_all (constrains_only part.need 0) part.rects ≡ true) parts.now }
     requires arrivals { All (IsArrival schema.now parts.now) arrivals }
@@ -284,7 +285,7 @@ pub(crate) fn answer_of(
     ensures { IfOk result (IsOutcome schema.now number parts.now arrivals old) }
 {
     let marks = held_marks(alloc, arrivals.as_slice())?;
-    let both = parted_by(alloc, old, parts, number)?;
+    let both = parted_by(alloc, old, parts, number, settled)?;
     // Cutting gives the changed regions up, so that what their drops need is copied before it.
     let copies = copies_without_rows(alloc, both.flagged.as_slice())?;
     outcome_of(alloc, schema, number, parts, arrivals, both, copies, marks)

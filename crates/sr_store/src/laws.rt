@@ -1,5 +1,6 @@
 //! Laws of the definitions: functions that do nothing, and whose contracts are the laws.
 ghost use Rattle.sr_store.specs.Brought.{FittedMeetsToldBudgets, NoticesAreTold, ArrivalsAreTold};
+ghost use Rattle.sr_store.specs.Starting.{StartsAreClasses, StartsAreTrue, PartsTell};
 ghost use Rattle.sr_store.specs.Laws.{FittedMeetsBudgets, FittedFitStill, LastsAreLast, NoticesKeepTrue, ChangesAreTells, NoticesKeepClasses, SomeTellingFits, NothingGivesWay};
 
 /// What is dropped from regions so that they fit is just what the budgets demand of the marks behind them.
@@ -55,4 +56,19 @@ pub fn notices_are_told()
 /// And of what arrivals make of it, once they give way to them; and so are the arrivals.
 pub fn arrivals_are_told()
     ensures { ArrivalsAreTold }
+{}
+
+/// The regions of a start are the classes of its marks.
+pub fn starts_are_classes()
+    ensures { StartsAreClasses }
+{}
+
+/// Where the parts have the rows of a telling, the regions of a start from them do.
+pub fn starts_are_true()
+    ensures { StartsAreTrue }
+{}
+
+/// Lawful parts have the rows of a telling.
+pub fn parts_tell()
+    ensures { PartsTell }
 {}

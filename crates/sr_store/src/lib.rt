@@ -12,4 +12,5 @@ mod lookup;
 mod marks;
 mod parting;
 mod restamp;
+pub mod start;
 pub mod store;

@@ -111,16 +111,26 @@ fn changing(
     Ok(flags)
 }
 
-/// The regions that an answer of that number leaves as they are, and those that it may change.
+/// The regions that an answer of that number leaves as they are, and those that it may change; all count as changed where it is not
+/// known that none is absorbed.
 pub(crate) fn parted_by(
     alloc: Global,
     regions: Seq<Region>,
     parts: &[Part],
     number: u64,
+    settled: bool,
 ) -> Result<Parted, NoMemory>
-    ensures { IfOk result (λ both. (flags : List Bool) × (length flags ≡ length regions) × (both.plain ≡ flagged false flags regions)
+    ensures parted { IfOk result (λ both. (flags : List Bool) × (length flags ≡ length regions) × (both.plain ≡ flagged false flags regions)
         × (both.flagged ≡ flagged true flags regions) × All (IsStill number parts.now) both.plain) }
+    ensures all { IfOk result (λ both. settled ≡ false → both.plain ≡ []) }
 {
+    if !settled {
+        let plain = Seq::new(alloc);
+        return Ok(Parted {
+            plain,
+            flagged: regions,
+        });
+    }
     let flags = changing(alloc, regions.as_slice(), parts, number)?;
     let both = sift(alloc, regions, flags)?;
     Ok(both)

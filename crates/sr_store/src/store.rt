@@ -11,7 +11,7 @@ ghost use Rattle.sr_query.specs.declared.query.Part.{Part as ThePart};
 ghost use Rattle.sr_regions.specs.Holders.{holders_of};
 ghost use Rattle.sr_regions.specs.Touched.{count_all};
 ghost use Rattle.sr_store.specs.Told.{Told, IsTold, AreTrueOf};
-ghost use Rattle.sr_store.specs.Stores.{IsStore, cover_of, drop_of};
+ghost use Rattle.sr_store.specs.Stores.{IsStore, IsSettled, cover_of, drop_of};
 ghost use Rattle.sr_store.specs.Answered.{IsArrival, AreApart, BringOwnKeys, giving_way, HaveArrived, IsGivenUp, rects_on};
 ghost use Rattle.sr_store.specs.Fitted.{count_rows, without, lasts_of, IsFitted, IsAnswered};
 ghost use Rattle.sr_store.specs.Noticed.{told_to, IsTellOf};
@@ -59,13 +59,14 @@ pub struct NoSuch {
     pub count: usize,
 }
 
-/// The regions of a client, one for each class of points that it holds, in class order; the limits that they are to meet; and
-/// what the last answered query asked of its tables.
+/// The regions of a client, one for each class of points that it holds, in class order; the limits that they are to meet; what the
+/// last answered query asked of its tables; and whether it is known that no region has all its points in others with more columns.
 #[derive(Drop)]
 pub struct Store {
     pub regions: Regions,
     pub limits: Limits,
     pub last: Lasts,
+    pub settled: bool,
 }
 
 fn push_near(alloc: Global, cover: &mut Rects, region: &Region, part: &Part) -> Result<(), NoMemory>
@@ -80,12 +81,13 @@ fn push_near(alloc: Global, cover: &mut Rects, region: &Region, part: &Part) -> 
 impl Store {
     /// A store that holds nothing; takes no memory.
     pub fn new(alloc: Global, limits: Limits) -> Store
-        ensures { result ≡ record { regions = []; limits = limits; last = [] } }
+        ensures { result ≡ record { regions = []; limits = limits; last = []; settled = true } }
     {
         Store {
             regions: Regions::new(alloc),
             limits,
             last: Seq::new(alloc),
+            settled: true,
         }
     }
 
@@ -124,7 +126,7 @@ impl Store {
     /// What an answer does: held rows give way to arriving ones of their key, under the same columns; what arrived is held, the
     /// points that the query touches have its number as their stamp, and the regions whose points are all held under more columns
     /// are dropped; then those that the limits demand. Where there would be too many pieces, all regions are dropped instead. When
-    /// memory ran out it holds nothing.
+    /// memory ran out it holds nothing. From then on the store is settled.
     pub fn answered(
         &mut self,
         alloc: Global,
@@ -135,6 +137,7 @@ impl Store {
     ) -> Result<Marks, NoMemory>
         requires tables { IsTrue (list_all is_table schema.now) }
         requires store { IsStore schema.now self.old.regions }
+        requires settled { self.old.settled ≡ true → IsSettled schema.now self.old.regions }
         requires fit { All (λ (part : ThePart). list_all (rect_fits (table_at schema.now part.table).columns) part.rects ≡ true) parts.now }
         requires only { All (λ (part : ThePart). list_all (constrains_only part.need 0) part.rects ≡ true) parts.now }
         requires named { All (λ (part : ThePart). part.table < length schema.now) parts.now }
@@ -145,6 +148,8 @@ impl Store {
             ⊎ IsGivenUp schema.now parts.now arrivals self.old.regions self.new.regions marks) }
         ensures cuts { All (IsCutFrom schema.now (rects_on self.old.regions parts.now arrivals)) self.new.regions }
         ensures store { IsStore schema.now self.new.regions }
+        ensures looked { self.new.settled ≡ true }
+        ensures settled { IsSettled schema.now self.new.regions }
         ensures true_still { (told : Told) → IsTold schema.now told → AreTrueOf told (giving_way arrivals self.old.regions) → HaveArrived told arrivals → AreTrueOf told self.new.regions }
         ensures last { OnOk result (self.new.last ≡ lasts_of schema.now parts.now) }
         ensures limits { self.new.limits ≡ self.old.limits }
@@ -152,21 +157,28 @@ impl Store {
     {
         let held = mem::replace(&mut self.regions, Regions::new(alloc));
         let old = given_way(held.into_seq(), arrivals.as_slice());
+        let settled = mem::replace(&mut self.settled, true);
         self.last = lasts_of(alloc, schema, parts)?;
-        match answer_of(alloc, schema, number, parts, arrivals, old)? {
+        match answer_of(alloc, schema, number, parts, arrivals, old, settled)? {
             Outcome::Answered(answer) => self.keep(alloc, schema, answer),
             Outcome::GivenUp(drops) => Ok(drops),
         }
     }
 
     /// Keeps the regions of an answer as far as the limits allow. When memory ran out it holds nothing.
-    fn keep(&mut self, alloc: Global, schema: &Schema, answer: Answer) -> Result<Marks, NoMemory>
+    pub(crate) fn keep(
+        &mut self,
+        alloc: Global,
+        schema: &Schema,
+        answer: Answer,
+    ) -> Result<Marks, NoMemory>
         requires tables { IsTrue (list_all is_table schema.now) }
         requires store { IsStore schema.now answer.regions }
         requires nothing { self.old.regions ≡ [] }
         ensures kept { IfOk result (λ marks. (drops : List Mark) × IsFitted schema.now self.old.limits self.old.last answer.regions self.new.regions drops × (marks ≡ answer.marks ++ drops)) }
         ensures last { self.new.last ≡ self.old.last }
         ensures limits { self.new.limits ≡ self.old.limits }
+        ensures flag { self.new.settled ≡ self.old.settled }
         ensures nothing_left { OnErr result (self.new.regions ≡ []) }
     {
         let kept = fitted(alloc, schema, self.limits, self.last.as_slice(), answer)?;
@@ -182,6 +194,7 @@ impl Store {
         ensures fitted { IfOk result (IsFitted schema.now self.old.limits self.old.last self.old.regions self.new.regions) }
         ensures last { self.new.last ≡ self.old.last }
         ensures limits { self.new.limits ≡ self.old.limits }
+        ensures flag { self.new.settled ≡ self.old.settled }
         ensures nothing_left { OnErr result (self.new.regions ≡ []) }
     {
         let marks = Seq::new(alloc);
@@ -200,6 +213,7 @@ impl Store {
         ensures store { (schema : List TheTable) → OnOk result (IsStore schema self.old.regions → All (IsTellOf schema) told.now → IsStore schema self.new.regions) }
         ensures last { self.new.last ≡ self.old.last }
         ensures limits { self.new.limits ≡ self.old.limits }
+        ensures flag { self.new.settled ≡ self.old.settled }
         ensures nothing_left { OnErr result (self.new.regions ≡ []) }
     {
         self.apply_from::<Brand>(alloc, told, Blank::new(1))

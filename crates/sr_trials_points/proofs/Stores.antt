@@ -18,11 +18,12 @@ use Rattle.sr_region.specs.declared.region.Region.{Region}
 use Rattle.sr_region.specs.Regions.{rank, IsRowIn}
 use Rattle.sr_store.specs.declared.store.Arrival.{Arrival}
 use Rattle.sr_store.specs.Classes.{occurs}
-use Rattle.sr_store.specs.Stores.{IsOfSchema, IsStore, cover_of, IsAbsorbedIn}
+use Rattle.sr_store.specs.Stores.{IsOfSchema, IsStore, IsSettled, cover_of}
 use Rattle.sr_store.specs.Answered.{AreApart, IsArrival}
 use Rattle.sr_store.specs.Making.{HaveNoCommon}
 use Rattle.sr_store.specs.Noticed.{IsTellOf}
 use Rattle.sr_store.proofs.Covering.{cover_has}
+use Rattle.sr_store.proofs.Fewer.{none_settled}
 use Rattle.sr_trials_points.proofs.Regions.{first_two}
 
 abbrev pub empty_store : (schema : List Table) (gs : List Region) → gs ≡ [] → IsStore schema gs
@@ -32,8 +33,10 @@ empty_store schema gs none = subst (IsStore schema) (sym none) (record {
   once = λ t a p point. omega arith;
   keys = λ t a k. omega arith;
   few = omega arith;
-  settled = All-nil (λ g. IsAbsorbedIn schema [] g → ⊥);
 })
+
+abbrev pub empty_settled : (schema : List Table) (gs : List Region) → gs ≡ [] → IsSettled schema gs
+empty_settled schema gs none = subst (IsSettled schema) (sym none) (none_settled schema)
 
 -- ---- one range of ages, and what arrives of it
 

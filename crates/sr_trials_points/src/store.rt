@@ -5,7 +5,7 @@ ghost use Rattle.sr_box.specs.declared.span.Span.TheVariants.{Full, Nums};
 ghost use Rattle.sr_cell.specs.declared.cell.Cell.TheVariants.{Num};
 ghost use Rattle.sr_cell.specs.Columns.{is_point, table_at};
 ghost use Rattle.sr_query.specs.Bound.{is_table};
-ghost use Rattle.sr_store.specs.Stores.{IsStore};
+ghost use Rattle.sr_store.specs.Stores.{IsStore, IsSettled};
 
 use crate::common::{column, list_of, rects_of, table_of};
 use sr_box::span::Span;
@@ -34,6 +34,7 @@ fn table(alloc: Global) -> Result<Table, NoMemory>
     ensures key { IfOk result (λ table. table.key ≡ 0) }
     ensures point { IfOk result (λ table. is_point table.columns (Num (pos 1) ∷ Num (pos 31) ∷ Num (pos 5) ∷ []) ≡ true) }
     ensures old { IfOk result (λ table. is_point table.columns (Num (pos 1) ∷ Num (pos 41) ∷ Num (pos 5) ∷ []) ≡ true) }
+    ensures third { IfOk result (λ table. is_point table.columns (Num (pos 3) ∷ Num (pos 35) ∷ Num (pos 5) ∷ []) ≡ true) }
 {
     let id = column(alloc, "id", 9999)?;
     let age = column(alloc, "age", 150)?;
@@ -41,12 +42,13 @@ fn table(alloc: Global) -> Result<Table, NoMemory>
     table_of(alloc, "p", [id, age, dept])
 }
 
-fn schema_of(alloc: Global) -> Result<Schema, NoMemory>
+pub(crate) fn schema_of(alloc: Global) -> Result<Schema, NoMemory>
     ensures tables { IfOk result (λ schema. IsTrue (list_all is_table schema)) }
     ensures there { IfOk result (λ schema. 0 < length schema) }
     ensures key { IfOk result (λ schema. (table_at schema 0).key ≡ 0) }
     ensures point { IfOk result (λ schema. is_point (table_at schema 0).columns (Num (pos 1) ∷ Num (pos 31) ∷ Num (pos 5) ∷ []) ≡ true) }
     ensures old { IfOk result (λ schema. is_point (table_at schema 0).columns (Num (pos 1) ∷ Num (pos 41) ∷ Num (pos 5) ∷ []) ≡ true) }
+    ensures third { IfOk result (λ schema. is_point (table_at schema 0).columns (Num (pos 3) ∷ Num (pos 35) ∷ Num (pos 5) ∷ []) ≡ true) }
 {
     let mut schema = Schema::new(alloc);
     match schema.add(alloc, table(alloc)?) {
@@ -55,14 +57,14 @@ fn schema_of(alloc: Global) -> Result<Schema, NoMemory>
     }
 }
 
-fn ages(alloc: Global, lo: i64, hi: i64) -> Result<Rects, NoMemory>
+pub(crate) fn ages(alloc: Global, lo: i64, hi: i64) -> Result<Rects, NoMemory>
     ensures { IfOk result (λ rects. rects ≡ (Full ∷ Nums lo hi ∷ Full ∷ []) ∷ []) }
 {
     rects_of(alloc, [Span::Full, Span::Nums { lo, hi }, Span::Full])
 }
 
 // A query for those ages, which needs the number and the age.
-fn parts_of(alloc: Global, lo: i64, hi: i64) -> Result<Parts, NoMemory>
+pub(crate) fn parts_of(alloc: Global, lo: i64, hi: i64) -> Result<Parts, NoMemory>
     ensures { IfOk result (λ parts. parts ≡ record { table = 0; key = 0; need = 3; rects = (Full ∷ Nums lo hi ∷ Full ∷ []) ∷ []; width = 1 } ∷ []) }
 {
     let part = Part {
@@ -88,7 +90,7 @@ fn arrival_of(alloc: Global, attrs: Attrs, rects: Rects) -> Arrival
 }
 
 // Those ages arrive, with the number and the age.
-fn narrow(alloc: Global, lo: i64, hi: i64) -> Result<Arrivals, NoMemory>
+pub(crate) fn narrow(alloc: Global, lo: i64, hi: i64) -> Result<Arrivals, NoMemory>
     ensures { IfOk result (λ arrivals. arrivals ≡ record { table = 0; key = 0; attrs = 3; rects = (Full ∷ Nums lo hi ∷ Full ∷ []) ∷ []; rows = [] } ∷ []) }
 {
     list_of(alloc, [arrival_of(alloc, Attrs(3), ages(alloc, lo, hi)?)])
@@ -101,6 +103,7 @@ fn hold(alloc: Global, schema: &Schema, store: &mut Store, lo: i64, hi: i64) -> 
     requires key { (table_at schema.now 0).key ≡ 0 }
     requires empty { store.old.regions ≡ [] }
     ensures store { OnOk result (IsStore schema.now store.new.regions) }
+    ensures settled { OnOk result (IsSettled schema.now store.new.regions) }
 {
     if !ages(alloc, lo, hi)?.fits(&schema.as_slice()[0]) {
         return Err(NoMemory);
@@ -121,6 +124,7 @@ fn touch(
     requires tables { IsTrue (list_all is_table schema.now) }
     requires there { 0 < length schema.now }
     requires store { IsStore schema.now store.old.regions }
+    requires settled { IsSettled schema.now store.old.regions }
 {
     if !ages(alloc, lo, hi)?.fits(&schema.as_slice()[0]) {
         return Err(NoMemory);
@@ -281,6 +285,7 @@ fn tell_age(alloc: Global, schema: &Schema, store: &mut Store, age: i64) -> Resu
     requires point { is_point (table_at schema.now 0).columns (Num (pos 1) ∷ Num age ∷ Num (pos 5) ∷ []) ≡ true }
     requires store { IsStore schema.now store.old.regions }
     ensures store { OnOk result (IsStore schema.now store.new.regions) }
+    ensures settled { OnOk result (IsSettled schema.now store.old.regions → IsSettled schema.now store.new.regions) }
 {
     let told = list_of(alloc, [tell_of(alloc, age)?])?;
     store.apply(alloc, told.as_slice())
@@ -303,6 +308,7 @@ fn bring_older(alloc: Global, schema: &Schema, store: &mut Store) -> Result<(), 
     requires key { (table_at schema.now 0).key ≡ 0 }
     requires old { is_point (table_at schema.now 0).columns (Num (pos 1) ∷ Num (pos 41) ∷ Num (pos 5) ∷ []) ≡ true }
     requires store { IsStore schema.now store.old.regions }
+    requires settled { IsSettled schema.now store.old.regions }
 {
     let parts = parts_of(alloc, 41, 50)?;
     let part = &parts.as_slice()[0];

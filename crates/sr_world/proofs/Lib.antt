@@ -3,6 +3,7 @@ pub mod ClientLemmas
 mod EventLemmas
 mod ExplainLemmas
 mod LentLemmas
+mod Named
 mod NewLemmas
 mod Numbers
 mod Over
@@ -12,6 +13,7 @@ mod Requests
 pub mod RunLemmas
 mod SeatLemmas
 mod ServeLemmas
+mod Served
 mod Sessions
 mod SettleLemmas
 mod Sound

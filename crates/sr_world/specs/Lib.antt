@@ -1,5 +1,6 @@
 pub mod Budgets
 pub mod Lent
+pub mod Named
 pub mod Ran
 pub mod Refused
 pub mod Replay

@@ -50,7 +50,8 @@ impl World {
         requires number { IsNumber self.old client }
         requires meant { (meaning : TheQuery) × IsMeaning self.old.server.tables.schema query meaning }
         requires room { drawn self.old + 2 < 2 ^ 63 }
-        ensures acts { (meaning : TheQuery) → IsMeaning self.old.server.tables.schema query meaning → IfOk result (Goes (λ s. Acts s (DoQuery client (Ok meaning))) self.old self.new) }
+        ensures acts { (meaning : TheQuery) → IsMeaning self.old.server.tables.schema query meaning
+            → IfOk result (Goes (λ s. Acts s (DoQuery client (Ok meaning))) self.old self.new) }
         ensures drawn { OnOk result (drawn self.new ≤ drawn self.old + 2) }
         ensures stays { SameSetting self.old self.new }
     {
@@ -67,7 +68,8 @@ impl World {
         requires world { StandsForSome self.now }
         requires number { IsNumber self.now client }
         requires meant { (meaning : TheQuery) × IsMeaning self.now.server.tables.schema query.now meaning }
-        ensures acts { (meaning : TheQuery) → IsMeaning self.now.server.tables.schema query.now meaning → IfOk result (Goes (λ s. Acts s (DoExplain client (Ok meaning))) self.now self.now) }
+        ensures acts { (meaning : TheQuery) → IsMeaning self.now.server.tables.schema query.now meaning
+            → IfOk result (Goes (λ s. Acts s (DoExplain client (Ok meaning))) self.now self.now) }
     {
         self.seats[client as usize - 1].explain(alloc, query)
     }

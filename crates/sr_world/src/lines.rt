@@ -6,7 +6,7 @@ ghost use Rattle.sr_model.specs.Queries.{Query as TheQuery};
 ghost use Rattle.sr_script.specs.declared.line.TraceLine.{TraceLine as TheLine};
 ghost use Rattle.sr_script.specs.declared.line.TraceLine.TheVariants.{WriteSql, Row as RowLine};
 ghost use Rattle.sr_session.specs.Clients.{Client as Past};
-ghost use Rattle.sr_session.specs.Refusals.{has_few_parts};
+ghost use Rattle.sr_session.specs.Refusals.{has_few_parts, is_request};
 ghost use Rattle.sr_session.specs.Rules.{Outcome, ResumeSent, sent_of};
 ghost use Rattle.sr_client.specs.declared.client.Client.{Client};
 ghost use Rattle.sr_client.specs.declared.steps.WriteStep.TheVariants.{Sql};
@@ -275,13 +275,14 @@ pub fn lines_of_explain(
     )
 }
 
-/// The line of it that the server took this request, and sent so many messages; none of what is no request.
+/// The line of it that the server took this request, and sent so many messages.
 pub(crate) fn served_line(
     alloc: Global,
     client: u8,
     message: &Message,
     sent: u64,
 ) -> Result<TraceLines, NoMemory>
+    requires request { is_request message.now ≡ true }
     ensures { IfOk result (λ lines. lines ≡ served_line client sent message.now) }
 {
     let kind = match message {
@@ -289,7 +290,7 @@ pub(crate) fn served_line(
         Message::Resume { .. } => RequestKind::Resume,
         Message::Ask { .. } => RequestKind::Ask,
         Message::Write { .. } => RequestKind::Write,
-        _ => return Ok(Seq::new(alloc)),
+        _ => unreachable!(),
     };
     one_line(
         alloc,

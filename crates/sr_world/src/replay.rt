@@ -75,15 +75,22 @@ pub fn replay<K: Sink>(
     requires script { length script.now < 2 ^ 32 }
     requires loads { IsTrue (list_all (λ load. nat_lt (length load.bytes) (2 ^ 32)) loads.now) }
     ensures whole { IfOk result (Wrote (K.writing sink.old).written (K.writing sink.new).written options script.now loads.now) }
-    ensures part_after_fault { IsErrOf result (Refused WriteFault) → WrotePart (K.writing sink.old).written (K.writing sink.new).written options script.now loads.now }
-    ensures part_in_want { IsErrOf result Wanting → (K.writing sink.new ≡ K.writing sink.old) ⊎ WrotePart (K.writing sink.old).written (K.writing sink.new).written options script.now loads.now }
-    ensures line { (line place : ℕ) → IsErrOf result (Refused (Line line place)) → outside options.clients script.now ≡ Some (record { line = line; place = place }) }
-    ensures line_first { (at : TheLinePlace) → outside options.clients script.now ≡ Some at → IsErrOf result (Refused (Line at.line at.place)) ⊎ IsErrOf result Wanting }
+    ensures part_after_fault { IsErrOf result (Refused WriteFault)
+        → WrotePart (K.writing sink.old).written (K.writing sink.new).written options script.now loads.now }
+    ensures part_in_want { IsErrOf result Wanting → (K.writing sink.new ≡ K.writing sink.old)
+        ⊎ WrotePart (K.writing sink.old).written (K.writing sink.new).written options script.now loads.now }
+    ensures line { (line place : ℕ) → IsErrOf result (Refused (Line line place))
+        → outside options.clients script.now ≡ Some (record { line = line; place = place }) }
+    ensures line_first { (at : TheLinePlace) → outside options.clients script.now ≡ Some at → IsErrOf result (Refused (Line at.line at.place))
+        ⊎ IsErrOf result Wanting }
     ensures line_writes_nothing { (line place : ℕ) → IsErrOf result (Refused (Line line place)) → K.writing sink.new ≡ K.writing sink.old }
-    ensures setup { (line : ℕ) (fault : TheFault) → IsErrOf result (Refused (Setup line fault)) → FirstRefused options.clients 1 [] (lines_of script.now) line fault }
+    ensures setup { (line : ℕ) (fault : TheFault) → IsErrOf result (Refused (Setup line fault))
+        → FirstRefused options.clients 1 [] (lines_of script.now) line fault }
     ensures setup_writes_nothing { (line : ℕ) (fault : TheFault) → IsErrOf result (Refused (Setup line fault)) → K.writing sink.new ≡ K.writing sink.old }
-    ensures load { (table : List ℕ) (fault : TheFault) → IsErrOf result (Refused (LoadRefused table fault)) → RefusesLoad options.clients script.now loads.now table fault }
-    ensures load_writes_nothing { (table : List ℕ) (fault : TheFault) → IsErrOf result (Refused (LoadRefused table fault)) → K.writing sink.new ≡ K.writing sink.old }
+    ensures load { (table : List ℕ) (fault : TheFault) → IsErrOf result (Refused (LoadRefused table fault))
+        → RefusesLoad options.clients script.now loads.now table fault }
+    ensures load_writes_nothing { (table : List ℕ) (fault : TheFault) → IsErrOf result (Refused (LoadRefused table fault))
+        → K.writing sink.new ≡ K.writing sink.old }
     ensures write_fault_is_counted { IsErrOf result (Refused WriteFault) → Rose (K.writing sink.old).faults (K.writing sink.new).faults }
     ensures faults_never_fall { (K.writing sink.old).faults ≤ (K.writing sink.new).faults }
     ensures ok_keeps_faults { OnOk result ((K.writing sink.new).faults ≡ (K.writing sink.old).faults) }
@@ -120,9 +127,11 @@ fn prepare(
     ensures fits { IfOk result (λ prepared. Fits clients (record { schema = prepared.tables.schema; lines = prepared.events })) }
     ensures filled { IfOk result (λ prepared. filled prepared.tables.schema loads.now (no_rows prepared.tables.schema) ≡ Ok prepared.tables.rows) }
     ensures line { (line place : ℕ) → IsErrOf result (Refused (Line line place)) → outside clients script.now ≡ Some (record { line = line; place = place }) }
-    ensures line_first { (at : TheLinePlace) → outside clients script.now ≡ Some at → IsErrOf result (Refused (Line at.line at.place)) ⊎ IsErrOf result Wanting }
+    ensures line_first { (at : TheLinePlace) → outside clients script.now ≡ Some at → IsErrOf result (Refused (Line at.line at.place))
+        ⊎ IsErrOf result Wanting }
     ensures setup { (line : ℕ) (fault : TheFault) → IsErrOf result (Refused (Setup line fault)) → FirstRefused clients 1 [] (lines_of script.now) line fault }
-    ensures load { (table : List ℕ) (fault : TheFault) → IsErrOf result (Refused (LoadRefused table fault)) → RefusesLoad clients script.now loads.now table fault }
+    ensures load { (table : List ℕ) (fault : TheFault) → IsErrOf result (Refused (LoadRefused table fault))
+        → RefusesLoad clients script.now loads.now table fault }
     ensures writes_nothing { ¬ IsErrOf result (Refused WriteFault) }
 {
     let lines = match read_lines(alloc, clients, script) {
@@ -149,11 +158,14 @@ fn prepare(
 fn fill_tables(alloc: Global, lines: &Lines<'_>, loads: &[Load]) -> Result<Tables, No<RunFault>>
     requires lines { (clients : ℕ) × (script : List ℕ) × AreLines clients script lines.now }
     requires loads { IsTrue (list_all (λ load. nat_lt (length load.bytes) (2 ^ 32)) loads.now) }
-    ensures created { (clients : ℕ) (script : List ℕ) → AreLines clients script lines.now → IfOk result (λ tables. Creates clients [] (lines_of script) tables.schema) }
+    ensures created { (clients : ℕ) (script : List ℕ) → AreLines clients script lines.now
+        → IfOk result (λ tables. Creates clients [] (lines_of script) tables.schema) }
     ensures sound { IfOk result (λ tables. IsTrue (list_all is_table tables.schema)) }
-    ensures accepts { (clients : ℕ) (script : List ℕ) → AreLines clients script lines.now → OnOk result ((line : ℕ) (fault : TheFault) → FirstRefused clients 1 [] (lines_of script) line fault → ⊥) }
+    ensures accepts { (clients : ℕ) (script : List ℕ) → AreLines clients script lines.now
+        → OnOk result ((line : ℕ) (fault : TheFault) → FirstRefused clients 1 [] (lines_of script) line fault → ⊥) }
     ensures filled { IfOk result (λ tables. filled tables.schema loads.now (no_rows tables.schema) ≡ Ok tables.rows) }
-    ensures refused { (clients : ℕ) (script : List ℕ) → AreLines clients script lines.now → (fault : TheRunFault) → IsErrOf result (Refused fault) → IsSetupFault clients script loads.now fault }
+    ensures refused { (clients : ℕ) (script : List ℕ) → AreLines clients script lines.now → (fault : TheRunFault) → IsErrOf result (Refused fault)
+        → IsSetupFault clients script loads.now fault }
 {
     let schema = match created(alloc, lines) {
         Ok(schema) => schema,
@@ -187,8 +199,10 @@ fn run_script<K: Sink>(
     requires fits { Fits options.clients (record { schema = tables.schema; lines = lines }) }
     requires events { (events : List (ℕ × ScriptEvent)) × AllZip (IsEventLine tables.schema) lines events }
     requires few { length lines < 2 ^ 32 }
-    ensures whole { (events : List (ℕ × ScriptEvent)) → AllZip (IsEventLine tables.schema) lines events → IfOk result (λ world. TracedWhole options tables.schema tables.rows events world (K.writing sink.old).written (K.writing sink.new).written) }
-    ensures part { (events : List (ℕ × ScriptEvent)) → AllZip (IsEventLine tables.schema) lines events → OnErr result (TracedPart options tables.schema tables.rows events (K.writing sink.old).written (K.writing sink.new).written) }
+    ensures whole { (events : List (ℕ × ScriptEvent)) → AllZip (IsEventLine tables.schema) lines events
+        → IfOk result (λ world. TracedWhole options tables.schema tables.rows events world (K.writing sink.old).written (K.writing sink.new).written) }
+    ensures part { (events : List (ℕ × ScriptEvent)) → AllZip (IsEventLine tables.schema) lines events
+        → OnErr result (TracedPart options tables.schema tables.rows events (K.writing sink.old).written (K.writing sink.new).written) }
     ensures faults_never_fall { (K.writing sink.old).faults ≤ (K.writing sink.new).faults }
     ensures ok_keeps_faults { OnOk result ((K.writing sink.new).faults ≡ (K.writing sink.old).faults) }
     ensures want_keeps_faults { IsErrOf result Wanting → (K.writing sink.new).faults ≡ (K.writing sink.old).faults }
@@ -217,8 +231,11 @@ fn run_events<K: Sink>(
     requires fits { IsTrue (list_all (λ line. event_fits (length world.old.seats.items) world.old.server.tables.schema line.event) lines) }
     requires events { (events : List (ℕ × ScriptEvent)) × AllZip (IsEventLine world.old.server.tables.schema) lines events }
     requires room { drawn world.old + length lines * most_drawn < 2 ^ 63 }
-    ensures whole { (events : List (ℕ × ScriptEvent)) → AllZip (IsEventLine world.old.server.tables.schema) lines events → OnOk result (RanWhole world.old.eager world.old.server.tables.schema events world.old world.new (K.writing sink.old).written (K.writing sink.new).written) }
-    ensures part { (events : List (ℕ × ScriptEvent)) → AllZip (IsEventLine world.old.server.tables.schema) lines events → OnErr result (RanPart world.old.eager world.old.server.tables.schema events world.old (K.writing sink.old).written (K.writing sink.new).written) }
+    ensures whole { (events : List (ℕ × ScriptEvent)) → AllZip (IsEventLine world.old.server.tables.schema) lines events
+        → OnOk result (RanWhole world.old.eager world.old.server.tables.schema events world.old world.new
+        (K.writing sink.old).written (K.writing sink.new).written) }
+    ensures part { (events : List (ℕ × ScriptEvent)) → AllZip (IsEventLine world.old.server.tables.schema) lines events
+        → OnErr result (RanPart world.old.eager world.old.server.tables.schema events world.old (K.writing sink.old).written (K.writing sink.new).written) }
     ensures faults_never_fall { (K.writing sink.old).faults ≤ (K.writing sink.new).faults }
     ensures ok_keeps_faults { OnOk result ((K.writing sink.new).faults ≡ (K.writing sink.old).faults) }
     ensures want_keeps_faults { IsErrOf result Wanting → (K.writing sink.new).faults ≡ (K.writing sink.old).faults }
@@ -245,7 +262,8 @@ fn event_text(alloc: Global, world: &mut World, line: EventLine) -> Result<Strin
     requires fits { IsTrue (event_fits (length world.old.seats.items) world.old.server.tables.schema line.event) }
     requires means { (event : ℕ × ScriptEvent) × IsEventLine world.old.server.tables.schema line event }
     requires room { drawn world.old + most_drawn < 2 ^ 63 }
-    ensures ran { (event : ℕ × ScriptEvent) → IsEventLine world.old.server.tables.schema line event → IfOk result (λ text. Ran world.old.eager world.old.server.tables.schema (event ∷ []) world.old world.new (string_bytes text)) }
+    ensures ran { (event : ℕ × ScriptEvent) → IsEventLine world.old.server.tables.schema line event
+        → IfOk result (λ text. Ran world.old.eager world.old.server.tables.schema (event ∷ []) world.old world.new (string_bytes text)) }
     ensures world { IsWorld world.new }
     ensures drawn { OnOk result (drawn world.new ≤ drawn world.old + most_drawn) }
     ensures setting { SameSetting world.old world.new }

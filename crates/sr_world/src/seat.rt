@@ -103,7 +103,8 @@ impl Seat {
         requires stands { (server : TheServer) × IsSomeSeat self.old server }
         requires meant { (meaning : TheQuery) × IsMeaning self.old.client.schema query meaning }
         requires room { drawn_by self.old + 2 < 2 ^ 63 }
-        ensures goes { (server : TheServer) (meaning : TheQuery) → IsMeaning self.old.client.schema query meaning → IfOk result (SeatGoes (λ n s. Acts s (DoQuery n (Ok meaning))) self.old server self.new server) }
+        ensures goes { (server : TheServer) (meaning : TheQuery) → IsMeaning self.old.client.schema query meaning
+            → IfOk result (SeatGoes (λ n s. Acts s (DoQuery n (Ok meaning))) self.old server self.new server) }
         ensures draws { OnOk result (drawn_by self.new ≤ drawn_by self.old + 2) }
     {
         let step = self.client.query(alloc, query)?;
@@ -127,7 +128,8 @@ impl Seat {
     pub(crate) fn explain(&self, alloc: Global, query: &Query) -> Result<TraceLines, NoMemory>
         requires stands { (server : TheServer) × IsSomeSeat self.now server }
         requires meant { (meaning : TheQuery) × IsMeaning self.now.client.schema query.now meaning }
-        ensures goes { (server : TheServer) (meaning : TheQuery) → IsMeaning self.now.client.schema query.now meaning → IfOk result (SeatGoes (λ n s. Acts s (DoExplain n (Ok meaning))) self.now server self.now server) }
+        ensures goes { (server : TheServer) (meaning : TheQuery) → IsMeaning self.now.client.schema query.now meaning
+            → IfOk result (SeatGoes (λ n s. Acts s (DoExplain n (Ok meaning))) self.now server self.now server) }
     {
         let explanation = self.client.explain(alloc, query)?;
         lines_of_explain(alloc, self.client.id, &explanation)
@@ -227,7 +229,8 @@ impl Seat {
         requires parts { has_few_parts message.now ≡ true }
         requires fits { server_misfit server.old.tables.schema (session_at server.old.sessions self.old.client.id) self.old.client.id message.now ≡ None }
         requires room { newest_of server.old.log + 1 < 2 ^ 63 }
-        ensures took { IfOk result (λ lines. (sent : List TheMessage) × ((db : Database) → IsServer server.old db → Takes db server.old self.old.client.id message.now sent server.new)
+        ensures took { IfOk result (λ lines. (sent : List TheMessage)
+            × ((db : Database) → IsServer server.old db → Takes db server.old self.old.client.id message.now sent server.new)
             × (self.new ≡ record self.old { to_client = self.old.to_client ++ sent }) × (lines ≡ served_line self.old.client.id (length sent) message.now)) }
         ensures grows { newest_of server.new.log ≤ newest_of server.old.log + 1 }
         ensures client { self.new.client ≡ self.old.client }

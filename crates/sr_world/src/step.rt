@@ -26,7 +26,8 @@ impl World {
         requires fits { IsTrue (event_fits (length self.old.seats.items) self.old.server.tables.schema event) }
         requires means { (what : ScriptEvent) × IsEvent self.old.server.tables.schema event what }
         requires room { drawn self.old + most_drawn < 2 ^ 63 }
-        ensures steps { (s : Scene) (what : ScriptEvent) → Represents self.old s → IsEvent self.old.server.tables.schema event what → IfOk result (λ lines. (new : Scene) × Steps self.old.eager s what lines new × Represents self.new new) }
+        ensures steps { (s : Scene) (what : ScriptEvent) → Represents self.old s → IsEvent self.old.server.tables.schema event what
+            → IfOk result (λ lines. (new : Scene) × Steps self.old.eager s what lines new × Represents self.new new) }
         ensures spent { self.old.spent ≡ true → result ≡ Err record {} }
         ensures wanting { OnErr result (self.new.spent ≡ true) }
         ensures world { IsWorld self.new }
@@ -52,7 +53,8 @@ impl World {
         requires fits { IsTrue (event_fits (length self.old.seats.items) self.old.server.tables.schema event) }
         requires means { (what : ScriptEvent) × IsEvent self.old.server.tables.schema event what }
         requires room { drawn self.old + most_drawn < 2 ^ 63 }
-        ensures steps { (what : ScriptEvent) → IsEvent self.old.server.tables.schema event what → IfOk result (Goes (λ s. Steps self.old.eager s what) self.old self.new) }
+        ensures steps { (what : ScriptEvent) → IsEvent self.old.server.tables.schema event what
+            → IfOk result (Goes (λ s. Steps self.old.eager s what) self.old self.new) }
         ensures drawn { OnOk result (drawn self.new ≤ drawn self.old + most_drawn) }
         ensures stays { SameSetting self.old self.new }
     {
@@ -120,7 +122,8 @@ impl World {
         requires number { IsNumber self.old client }
         requires means { (meaning : Result TheQuery TheFault) × Means self.old.server.tables.schema query meaning }
         requires room { drawn self.old + most_drawn < 2 ^ 63 }
-        ensures acts { (meaning : Result TheQuery TheFault) → Means self.old.server.tables.schema query meaning → IfOk result (Goes (λ s. Acts s (DoQuery client meaning)) self.old self.new) }
+        ensures acts { (meaning : Result TheQuery TheFault) → Means self.old.server.tables.schema query meaning
+            → IfOk result (Goes (λ s. Acts s (DoQuery client meaning)) self.old self.new) }
         ensures drawn { OnOk result (drawn self.new ≤ drawn self.old + 2) }
         ensures stays { SameSetting self.old self.new }
     {
@@ -140,7 +143,8 @@ impl World {
         requires world { StandsForSome self.now }
         requires number { IsNumber self.now client }
         requires means { (meaning : Result TheQuery TheFault) × Means self.now.server.tables.schema query meaning }
-        ensures acts { (meaning : Result TheQuery TheFault) → Means self.now.server.tables.schema query meaning → IfOk result (Goes (λ s. Acts s (DoExplain client meaning)) self.now self.now) }
+        ensures acts { (meaning : Result TheQuery TheFault) → Means self.now.server.tables.schema query meaning
+            → IfOk result (Goes (λ s. Acts s (DoExplain client meaning)) self.now self.now) }
     {
         match query {
             Err(fault) => one_line(alloc, TraceLine::ExplainSql { client, fault }),

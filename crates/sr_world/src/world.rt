@@ -78,7 +78,8 @@ fn seats_of(alloc: Global, server: &mut Server, options: Options) -> Result<Vec<
     requires stands { (schema : List TheTable) × (tables : TheTables) × IsServer server.old (first_database schema options.log tables) }
     requires sessions { server.old.sessions ≡ replicate 64 None }
     ensures stands { (schema : List TheTable) (tables : TheTables) → IsServer server.old (first_database schema options.log tables)
-        → IfOk result (λ seats. (world : TheWorld) → world.server ≡ server.new → world.seats ≡ seats → world.spent ≡ false → Represents world (first_scene options.limits schema options.log tables options.clients)) }
+        → IfOk result (λ seats. (world : TheWorld) → world.server ≡ server.new → world.seats ≡ seats → world.spent ≡ false
+        → Represents world (first_scene options.limits schema options.log tables options.clients)) }
     ensures drawn { IfOk result (λ seats. newest_of server.new.log + sum_by drawn_by seats.items ≡ options.clients) }
 {
     let mut seats = Vec::new(alloc);

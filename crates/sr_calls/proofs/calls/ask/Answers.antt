@@ -9,8 +9,8 @@ use Rattle.sr_reader.specs.Read.{Means}
 use Rattle.sr_script.specs.declared.line.TraceLine.TheVariants as line
 use Rattle.sr_wire.specs.Limits.{IsSendable}
 use Rattle.sr_links.specs.Steps.{Queried}
-use Rattle.sr_dial.specs.declared.parts.Told.{Told}
-use Rattle.sr_calls.specs.ClientEnds.{Did}
+use Rattle.sr_calls.specs.ClientEnds.{Did, silent}
+use Rattle.sr_calls.specs.declared.calls.Done.{Done}
 use Rattle.sr_calls.proofs.AskLemmas.{meaning_is, refused_is, some_meaning}
 use Rattle.sr_calls.proofs.StepLemmas.{refuses_query}
 use Rattle.sr_calls.proofs.calls.ask.Goals as goal
@@ -24,7 +24,7 @@ judge-requires-clause-meant c =
 pub returns-in-Ok-clause-made : goal.returns-in-Ok-clause-made
 returns-in-Ok-clause-made c = λ past meaning stands means.
     let old = c.args.client.now in
-    meaning_is old.schema c.in-Ok.query meaning (λ (m : Result model.Query Fault). IfOk c.judge.result (Did old c.judge.new.client past (Queried m)))
+    meaning_is old.schema c.in-Ok.query meaning (λ (m : Result model.Query Fault). IfOk c.judge.result (Did c.args.keeps old c.judge.new.client past (Queried m)))
     (subst (λ q. Means old.schema q meaning) c.in-Ok.is means) (λ m is. c.judge.ensures.made past m stands is)
 
 pub returns-in-Err-clause-made : goal.returns-in-Err-clause-made
@@ -32,10 +32,10 @@ returns-in-Err-clause-made c = λ past meaning stands means.
     let old = c.args.client.now in
     let fault = c.in-Err.fault in
     let is : meaning ≡ Err fault = refused_is old.schema fault meaning (subst (λ q. Means old.schema q meaning) c.in-Err.is means) in
-    IfOk-weaker c.refuse.result (λ (t : Told). t ≡ record { lines = line.QuerySql old.id fault ∷ []; sent = [] }) (Did old old past (Queried meaning))
-    (λ t told. subst (λ (m : Result model.Query Fault). Did old old past (Queried m) t) (sym is) (refuses_query old past fault t stands told)) c.refuse.ensures
+    IfOk-weaker c.refuse.result (λ (d : Done). d ≡ silent (line.QuerySql old.id fault ∷ [])) (Did c.args.keeps old old past (Queried meaning))
+    (λ d done. subst (λ (m : Result model.Query Fault). Did c.args.keeps old old past (Queried m) d) (sym is) (refuses_query c.args.keeps old past fault d stands done)) c.refuse.ensures
 
 pub returns-in-Err-clause-sendable : goal.returns-in-Err-clause-sendable
 returns-in-Err-clause-sendable c =
-    IfOk-weaker c.refuse.result (λ (t : Told). t ≡ record { lines = line.QuerySql c.args.client.now.id c.in-Err.fault ∷ []; sent = [] }) (λ (t : Told). All IsSendable t.sent)
-    (λ t told. subst (λ (t : Told). All IsSendable t.sent) (sym told) (All-nil IsSendable)) c.refuse.ensures
+    IfOk-weaker c.refuse.result (λ (d : Done). d ≡ silent (line.QuerySql c.args.client.now.id c.in-Err.fault ∷ [])) (λ (d : Done). All IsSendable d.told.sent)
+    (λ d done. subst (λ (d : Done). All IsSendable d.told.sent) (sym done) (All-nil IsSendable)) c.refuse.ensures

@@ -6,8 +6,7 @@ use Rattle.sr_model.specs.Queries as model
 use Rattle.sr_reader.specs.Read.{Means}
 use Rattle.sr_script.specs.declared.line.TraceLine.{TraceLine}
 use Rattle.sr_explain.specs.Telling.{explain_lines}
-use Rattle.sr_dial.specs.Known.{Tells}
-use Rattle.sr_calls.specs.ClientEnds.{IsEnd, setting_of}
+use Rattle.sr_calls.specs.ClientEnds.{DidExplain}
 use Rattle.sr_calls.proofs.AskLemmas.{meaning_is, refused_is, some_meaning}
 use Rattle.sr_calls.proofs.ExplainLemmas.{tells_why}
 use Rattle.sr_calls.proofs.calls.explain.Goals as goal
@@ -22,7 +21,7 @@ pub returns-in-Ok : goal.returns-in-Ok
 returns-in-Ok c = record {
   told = λ past text stands means.
       let old = c.args.client.now in
-      meaning_is old.schema c.in-Ok.query text (λ (t : Result model.Query Fault). IfOk c.explain_query.result (Tells IsEnd (setting_of old) old past t))
+      meaning_is old.schema c.in-Ok.query text (λ (t : Result model.Query Fault). IfOk c.explain_query.result (DidExplain old past t))
       (subst (λ q. Means old.schema q text) c.in-Ok.is means) (λ m is. c.explain_query.ensures.told past m stands is);
 }
 
@@ -32,6 +31,6 @@ returns-in-Err c = record {
       let old = c.args.client.now in
       let fault = c.in-Err.fault in
       let is : text ≡ Err fault = refused_is old.schema fault text (subst (λ q. Means old.schema q text) c.in-Err.is means) in
-      IfOk-weaker c.unexplained.result (λ (lines : List TraceLine). lines ≡ explain_lines old.id (Err fault)) (Tells IsEnd (setting_of old) old past text)
+      IfOk-weaker c.unexplained.result (λ (lines : List TraceLine). lines ≡ explain_lines old.id (Err fault)) (DidExplain old past text)
       (λ lines are. tells_why old past fault text lines is are) c.unexplained.ensures;
 }

@@ -2,8 +2,7 @@ use Rattle.std.proofs.Common.{◌≡◌, List, Ok}
 use Rattle.std.proofs.lemmas.Result.{IfOk-weaker}
 use Rattle.sr_script.specs.declared.line.TraceLine.{TraceLine}
 use Rattle.sr_explain.specs.Telling.{explain_lines}
-use Rattle.sr_dial.specs.Known.{Tells}
-use Rattle.sr_calls.specs.ClientEnds.{IsEnd, setting_of}
+use Rattle.sr_calls.specs.ClientEnds.{DidExplain}
 use Rattle.sr_calls.proofs.ExplainLemmas.{few_victims, tells_how}
 use Rattle.sr_calls.proofs.calls.explain_query.Goals as goal
 
@@ -15,6 +14,6 @@ returns c = record {
   told = λ past meaning stands means.
       let old = c.args.client.now in
       let e = c.in_ok-explanation.explanation in
-      IfOk-weaker c.lines_of_explain.result (λ (lines : List TraceLine). lines ≡ explain_lines old.id (Ok e)) (Tells IsEnd (setting_of old) old past (Ok meaning))
+      IfOk-weaker c.lines_of_explain.result (λ (lines : List TraceLine). lines ≡ explain_lines old.id (Ok e)) (DidExplain old past (Ok meaning))
       (λ lines are. tells_how old past meaning e lines (c.in_ok-explanation.ensures.explains meaning means) are) c.lines_of_explain.ensures;
 }

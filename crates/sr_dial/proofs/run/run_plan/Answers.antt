@@ -5,6 +5,8 @@ use Rattle.sr_dial.specs.Following.{ahead_of}
 use Rattle.sr_dial.specs.Jobs.{number_of}
 use Rattle.sr_dial.specs.declared.plans.Job.{Job}
 use Rattle.sr_dial.proofs.SoFarLemmas.{early, going-done, going-more, next-job, none-left}
+use Rattle.sr_talk.proofs.MoveLemmas.{so-in-err}
+use Rattle.sr_dial.proofs.OffLemmas.{off-free}
 use Rattle.sr_dial.proofs.run.run_plan.Goals as goal
 
 pub loop-job-preserved-in-Done : goal.loop-job-preserved-in-Done
@@ -72,3 +74,15 @@ returns-clause-ended g c k s ahead number at same schema free follows =
     subst (λ ending. Finishes _ g.C.Asks.stands g.C.Asks.lent g.C.Peer.is_of k ending s (g.H.Outside.linking c.loop-job.host) (g.H.Outside.writing c.loop-job.host) c.loop-job.feed c.loop-job.client) (sym c.ending_of.ensures)
     (going-done _ _ g.C.Asks.stands g.C.Asks.lent g.C.Peer.is_of g.P.Plans.follows k s c.loop-job.plans c.loop-job.failed _ _ _ _ h
     (none-left _ g.P.Plans.follows c.loop-job.plans c.next.new.self c.in_ok-job.field-0 (option_copied c.answer.result) (g.C.Asks.lent c.loop-job.client) c.in_default.not-Some c.answer.ensures c.in_ok-job.ensures.gives k.schema h.ahead h.follows))
+
+pub returns-in_err-job-clause-broken_off : goal.returns-in_err-job-clause-broken_off
+returns-in_err-job-clause-broken_off g c k s ahead number at same schema free follows =
+    let h = c.loop-job.invariant.so_far k s ahead number at same schema free follows in
+    so-in-err c.from_residual.result (off-free _ g.C.Asks.stands g.C.Asks.lent g.C.Peer.is_of k s h.ahead h.number c.loop-job.failed _ _ _ _ h.free)
+
+pub returns-in_err-run_job-clause-broken_off : goal.returns-in_err-run_job-clause-broken_off
+returns-in_err-run_job-clause-broken_off g c k s ahead number at same schema free follows =
+    let before = c.loop-job.invariant in
+    let h = before.so_far k s ahead number at same schema free follows in
+    let n = next-job _ g.P.Plans.follows c.loop-job.plans c.next.new.self c.in_ok-job.field-0 c.in-Some.job (option_copied c.answer.result) (g.C.Asks.lent c.loop-job.client) c.in-Some.is c.answer.ensures c.in_ok-job.ensures.gives k.schema h.ahead h.follows in
+    so-in-err c.from_residual-in_err-run_job.result (c.in_err-run_job.ensures.broken_off k s h.ahead n.further h.number c.loop-job.failed n.task at (before.same ∙ same) schema h.free n.is n.plan_is)

@@ -25,3 +25,15 @@ returns-in-Say-clause-started g c k s ahead further line failed task at same sch
     (subst (λ t. IfOk c.write.result (λ handed. Hands _ g.C.Asks.stands g.C.Asks.lent g.C.Peer.is_of k handed s (ahead_of t further) c.in-Say.number none_taken failed (g.H.Outside.linking c.write.new.sink) (g.H.Outside.writing c.write.new.sink) c.args.feed.now c.args.client.now)) (sym what)
     (c.write.ensures.told k s ahead further line failed c.args.feed.now same free
     (subst (λ bytes. ahead (g.C.Asks.lent c.args.client.now) ≡ Next c.in-Say.number (Say bytes) further) (sym c.as_str.ensures.value) (subst (λ t. ahead (g.C.Asks.lent c.args.client.now) ≡ Next c.in-Say.number t further) what due))))
+
+pub returns-in-Line-clause-broken_off : goal.returns-in-Line-clause-broken_off
+returns-in-Line-clause-broken_off g c k s ahead further number failed task at same schema free is next =
+    c.start_line.ensures.broken_off k s ahead further number failed task at same schema free (subst (λ job. IsJob k.schema job task) c.in-Line.is is)
+    (subst (λ job. ahead (g.C.Asks.lent c.args.client.now) ≡ Next (number_of job) task further) c.in-Line.is next)
+
+pub returns-in-Say-clause-broken_off : goal.returns-in-Say-clause-broken_off
+returns-in-Say-clause-broken_off g c k s ahead further line failed task at same schema free is next =
+    let what : task ≡ Say (string_bytes c.in-Say.text) = subst (λ job. IsJob k.schema job task) c.in-Say.is is in
+    let due = subst (λ job. ahead (g.C.Asks.lent c.args.client.now) ≡ Next (number_of job) task further) c.in-Say.is next in
+    c.write.ensures.broken_off k s ahead further line failed c.args.feed.now same free
+    (subst (λ bytes. ahead (g.C.Asks.lent c.args.client.now) ≡ Next c.in-Say.number (Say bytes) further) (sym c.as_str.ensures.value) (subst (λ t. ahead (g.C.Asks.lent c.args.client.now) ≡ Next c.in-Say.number t further) what due))

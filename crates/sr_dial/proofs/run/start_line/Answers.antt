@@ -1,8 +1,8 @@
 use Rattle.std.proofs.Common.{◌≡◌, inl, refl, sym, subst}
-use Rattle.std.specs.Prelude.{IfOk}
+use Rattle.std.specs.Prelude.{IfOk, OnErr}
 use Rattle.sr_links.specs.Steps.{Resumed, WasCut}
 use Rattle.sr_dial.specs.Calls.{Do}
-use Rattle.sr_dial.specs.Courses.{Hands}
+use Rattle.sr_dial.specs.Courses.{Hands, BreaksOff}
 use Rattle.sr_dial.specs.Following.{ahead_of}
 use Rattle.sr_plan.specs.Plans.{Next}
 use Rattle.sr_dial.specs.Runs.{none_taken}
@@ -45,3 +45,25 @@ returns-in_default-clause-started g c k s ahead further number failed task at sa
     does-deed k.schema c.args.line.event task
     (λ task. ahead (g.C.Asks.lent c.args.client.now) ≡ Next c.args.line.number task further → IfOk c.ask.result (λ handed. Hands _ g.C.Asks.stands g.C.Asks.lent g.C.Peer.is_of k handed s (ahead_of task further) c.args.line.number none_taken failed (g.H.Outside.linking c.ask.new.host) (g.H.Outside.writing c.ask.new.host) c.args.feed.now c.ask.new.client))
     is c.in_default.not-Resume c.in_default.not-Cut c.in_default.not-Explain (λ deed is plain on. c.ask.ensures.asked k s ahead further number failed c.args.feed.now deed same schema free is plain on) next
+
+pub returns-in-Resume-clause-broken_off : goal.returns-in-Resume-clause-broken_off
+returns-in-Resume-clause-broken_off g c k s ahead further number failed task at same schema free is next =
+    let resumed : task ≡ Do Resumed = resumes-task k.schema c.args.line.event _ task c.in-Resume.is is in
+    c.begin.ensures.broken_off k s ahead further number failed at same schema (inl free) refl (subst (λ d. ahead (g.C.Asks.lent c.args.client.now) ≡ Next c.args.line.number d further) resumed next)
+
+pub returns-in-Cut-clause-broken_off : goal.returns-in-Cut-clause-broken_off
+returns-in-Cut-clause-broken_off g c k s ahead further number failed task at same schema free is next =
+    let cut : task ≡ Do WasCut = cuts-task k.schema c.args.line.event _ task c.in-Cut.is is in
+    c.end.ensures.broken_off k s ahead further number failed c.args.feed.now same schema free refl (subst (λ d. ahead (g.C.Asks.lent c.args.client.now) ≡ Next c.args.line.number d further) cut next)
+
+pub returns-in-Explain-clause-broken_off : goal.returns-in-Explain-clause-broken_off
+returns-in-Explain-clause-broken_off g c k s ahead further number failed task at same schema free is next =
+    explains-text k.schema c.args.line.event _ c.in-Explain.query task
+    (λ task. ahead (g.C.Asks.lent c.args.client.now) ≡ Next c.args.line.number task further → OnErr c.tell.result (BreaksOff _ g.C.Asks.stands g.C.Asks.lent g.C.Peer.is_of k s (g.H.Outside.linking c.tell.new.sink) (g.H.Outside.writing c.tell.new.sink)))
+    c.in-Explain.is is (λ text means on. c.tell.ensures.broken_off k s ahead further number failed c.args.feed.now text same schema free means on) next
+
+pub returns-in_default-clause-broken_off : goal.returns-in_default-clause-broken_off
+returns-in_default-clause-broken_off g c k s ahead further number failed task at same schema free is next =
+    does-deed k.schema c.args.line.event task
+    (λ task. ahead (g.C.Asks.lent c.args.client.now) ≡ Next c.args.line.number task further → OnErr c.ask.result (BreaksOff _ g.C.Asks.stands g.C.Asks.lent g.C.Peer.is_of k s (g.H.Outside.linking c.ask.new.host) (g.H.Outside.writing c.ask.new.host)))
+    is c.in_default.not-Resume c.in_default.not-Cut c.in_default.not-Explain (λ deed is plain on. c.ask.ensures.broken_off k s ahead further number failed c.args.feed.now deed same schema free is plain on) next

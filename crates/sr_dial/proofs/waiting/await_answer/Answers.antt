@@ -1,12 +1,14 @@
 use Rattle.std.proofs.Common.{rules, ◌≡◌, ◌∙◌, true, false, [], ◌∷◌, ◌++◌, arith, refl, sym, subst, ap, ◌+◌, ◌≤◌}
 use Rattle.std.specs.Option.{is_some}
 use Rattle.sr_talk.specs.Reading.{Nexts}
-use Rattle.sr_dial.specs.Courses.{At, Broken, Handles, IsWritten, Over}
+use Rattle.sr_dial.specs.Courses.{At, Broken, Handles, IsWritten, Over, BreaksOff}
 use Rattle.sr_dial.specs.declared.waiting.Count.{Count}
 use Rattle.sr_dial.proofs.SoFarLemmas.{few-anew, spent, spent-anew, spent-more}
 use Rattle.sr_dial.specs.Runs.{left_by}
 use Rattle.sr_dial.specs.declared.ending.Ending.TheVariants.{Spoiled}
-use Rattle.sr_dial.proofs.WaitLemmas.{is-free, awaits-end, awaits-torn, awaits-fault, awaits-spoiled, reads-on}
+use Rattle.sr_dial.proofs.WaitLemmas.{is-free, awaits-end, awaits-torn, awaits-fault, awaits-spoiled, reads-on, is-up}
+use Rattle.sr_talk.proofs.MoveLemmas.{so-in-err}
+use Rattle.sr_dial.proofs.OffLemmas.{off-read}
 use Rattle.sr_dial.proofs.waiting.await_answer.Goals as goal
 
 pub frames-init : goal.frames-init
@@ -53,7 +55,7 @@ returns-in-Bad-clause-awaited g c k s ahead failed same schema at =
     let h = c.frames.invariant.so_far k s ahead failed same schema at in
     let waiting : c.is_waiting.result ≡ true = search rules in
     let some : is_some (left_by s.past (h.course.earlier ++ h.course.call ∷ [])).out ≡ true = sym (c.is_waiting.ensures (left_by s.past (h.course.earlier ++ h.course.call ∷ [])) h.course.steps.stands) ∙ waiting in
-    subst (λ w. Over _ g.C.Asks.stands g.C.Asks.lent g.C.Peer.is_of k s (Spoiled c.in-Bad.fault) (g.H.Outside.linking c.next_frame.new.link) w) (sym c.next_frame.ensures.stays.writing_stays)
+    subst (λ w. Over _ g.C.Asks.stands g.C.Asks.lent g.C.Peer.is_of k s (Spoiled c.in-Bad.fault) (g.H.Outside.linking c.next_frame.new.link) w c.frames.client) (sym c.next_frame.ensures.stays.writing_stays)
     (awaits-spoiled _ g.C.Asks.stands g.C.Asks.lent g.C.Peer.is_of k s ahead c.args.number c.frames.count failed _ _ _ _ h some _ _ c.in-Bad.fault (subst (λ next. Nexts next (g.H.Outside.linking c.frames.host) (g.H.Outside.linking c.next_frame.new.link) c.frames.feed c.next_frame.new.feed) c.in-Bad.is c.in_ok-next_frame.ensures.next))
 
 pub returns-in-Broken-clause-awaited : goal.returns-in-Broken-clause-awaited
@@ -147,3 +149,27 @@ returns-clause-awaited g c k s ahead failed same schema at =
     let most = c.frames.invariant.most in
     let many : c.frames.count.taken ≡ 1000000 = search rules in
     c.end_of_many.ensures.awaited k s ahead c.frames.count failed many (c.frames.invariant.so_far k s ahead failed same schema at)
+
+pub returns-in_err-next_frame-clause-broken_off : goal.returns-in_err-next_frame-clause-broken_off
+returns-in_err-next_frame-clause-broken_off g c k s ahead failed same schema at =
+    let h = c.frames.invariant.so_far k s ahead failed same schema at in
+    let waiting : c.is_waiting.result ≡ true = search rules in
+    let some : is_some (left_by s.past (h.course.earlier ++ h.course.call ∷ [])).out ≡ true = sym (c.is_waiting.ensures (left_by s.past (h.course.earlier ++ h.course.call ∷ [])) h.course.steps.stands) ∙ waiting in
+    so-in-err c.from_residual.result
+    (subst (λ w. BreaksOff _ g.C.Asks.stands g.C.Asks.lent g.C.Peer.is_of k s (g.H.Outside.linking c.next_frame.new.link) w) (sym c.next_frame.ensures.stays.writing_stays)
+    (off-read _ g.C.Asks.stands g.C.Asks.lent g.C.Peer.is_of k s ahead c.args.number failed _ _ _ _ c.frames.count _ _ h (is-up _ g.C.Asks.stands g.C.Asks.lent g.C.Peer.is_of k s ahead c.args.number c.frames.count failed _ _ _ _ h some) c.in_err-next_frame.ensures.wanting))
+
+pub returns-in_err-handle-clause-broken_off : goal.returns-in_err-handle-clause-broken_off
+returns-in_err-handle-clause-broken_off g c k s ahead failed same schema at =
+    let most : c.frames.count.taken + 1 ≤ 1000000 = search rules in
+    let h = c.frames.invariant.so_far k s ahead failed same schema at in
+    let waiting : c.is_waiting.result ≡ true = search rules in
+    let some : is_some (left_by s.past (h.course.earlier ++ h.course.call ∷ [])).out ≡ true = sym (c.is_waiting.ensures (left_by s.past (h.course.earlier ++ h.course.call ∷ [])) h.course.steps.stands) ∙ waiting in
+    let r = reads-on _ g.C.Asks.stands g.C.Asks.lent g.C.Peer.is_of k s ahead c.args.number c.frames.count failed _ _ _ _ h some (g.H.Outside.linking c.next_frame.new.link) (g.H.Outside.writing c.next_frame.new.link) c.in-Frame.message c.next_frame.new.feed c.next_frame.ensures.stays.writing_stays (subst (λ next. Nexts next (g.H.Outside.linking c.frames.host) (g.H.Outside.linking c.next_frame.new.link) c.frames.feed c.next_frame.new.feed) c.in-Frame.is c.in_ok-next_frame.ensures.next) in
+    so-in-err c.from_residual-in_err-handle.result (c.in_err-handle.ensures.broken_off k s ahead c.frames.count failed c.next_frame.new.feed most (c.frames.invariant.same ∙ same) schema r.at r.waits r.spells)
+
+pub returns-clause-broken_off : goal.returns-clause-broken_off
+returns-clause-broken_off g c k s ahead failed same schema at =
+    let most = c.frames.invariant.most in
+    let many : c.frames.count.taken ≡ 1000000 = search rules in
+    c.end_of_many.ensures.broken_off k s ahead c.frames.count failed many (c.frames.invariant.so_far k s ahead failed same schema at)

@@ -1,7 +1,7 @@
 use Rattle.std.proofs.Common.{◌≡◌, ℕ, ◌+◌, ◌∙◌, ◌≤◌, List, ◌∷◌, ◌++◌, true, false, length, take, drop, sym, ap, subst, arith}
 use Rattle.std.specs.Prelude.{slice_get, Some, OnOk}
 use Rattle.std.proofs.lemmas.List.Sums.{prefix_len-le-length}
-use Rattle.sr_image.specs.declared.image.Kept.{Kept}
+use Rattle.sr_store.specs.declared.start.Kept.{Kept}
 use Rattle.sr_image.specs.Joining.{is_of, is_of_at, joined, kept_from, place_of, stands_before, with_region}
 use Rattle.sr_image.proofs.Placing.{put-joined, put-new, put-back}
 use Rattle.sr_image.proofs.joining.put_region.Goals as goal

@@ -2,7 +2,7 @@ use Rattle.std.proofs.Common.{◌≡◌, List, ◌∷◌, [], length, ap, subst,
 use Rattle.std.specs.Prelude.{Err}
 use Rattle.std.proofs.lemmas.List.Sums.{sum_by-append}
 use Rattle.sr_bytes.specs.Reading.{Got}
-use Rattle.sr_image.specs.declared.image.Kept.{Kept}
+use Rattle.sr_store.specs.declared.start.Kept.{Kept}
 use Rattle.sr_image.specs.Reading.{a_kept, count_rects}
 use Rattle.sr_image.specs.Found.{ReadsOr}
 use Rattle.sr_image.proofs.Each.{one-more, stops}

@@ -6,11 +6,14 @@ use Rattle.sr_cell.specs.declared.cell.Cell.TheVariants.{Num}
 use Rattle.sr_cell.specs.Columns.{table_at}
 use Rattle.sr_box.specs.Points.{rect_fits}
 use Rattle.sr_region.specs.Regions.{IsRowIn}
-use Rattle.sr_trials_points.proofs.Stores.{empty_store, ages_of, first_fits, one_arrives}
+use Rattle.sr_trials_points.proofs.Stores.{empty_store, empty_settled, ages_of, first_fits, one_arrives}
 use Rattle.sr_trials_points.proofs.store.bring_row.Goals as goal
 
 pub answered-requires-clause-store : goal.answered-requires-clause-store
 answered-requires-clause-store c = empty_store c.args.schema.now c.args.store.now.regions c.requires.empty
+
+pub answered-requires-clause-settled : goal.answered-requires-clause-settled
+answered-requires-clause-settled c = λ yes. empty_settled c.args.schema.now c.args.store.now.regions c.requires.empty
 
 pub answered-requires-clause-arrivals : goal.answered-requires-clause-arrivals
 answered-requires-clause-arrivals c =

@@ -7,6 +7,9 @@ use Rattle.sr_client.proofs.QueryLemmas.{answered-now}
 use Rattle.sr_client.proofs.MeantLemmas.{Fit, Only, Named, parts-fit, parts-only, parts-named}
 use Rattle.sr_client.proofs.client.Client.answer_now.Goals as goal
 
+pub answered-requires-clause-settled : goal.answered-requires-clause-settled
+answered-requires-clause-settled c = c.requires.stands.1.settled
+
 pub answered-requires-clause-fit : goal.answered-requires-clause-fit
 answered-requires-clause-fit c =
     subst (All (Fit c.args.self.now.schema)) (sym c.as_slice-2.ensures) (parts-fit c.args.self.now.schema c.args.query.now c.requires.meant.0 c.requires.meant.1)
@@ -33,6 +36,7 @@ returns-clause-queries c = λ meaning is.
       answered = c.in_ok-marks.ensures.answered;
       cuts = c.in_ok-marks.ensures.cuts;
       store = c.in_ok-marks.ensures.store;
+      settled = c.in_ok-marks.ensures.settled;
       true_still = c.in_ok-marks.ensures.true_still;
       last = c.in_ok-marks.ensures.last;
       limits = c.in_ok-marks.ensures.limits;

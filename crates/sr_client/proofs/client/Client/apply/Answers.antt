@@ -36,7 +36,7 @@ returns-clause-takes c =
     let regions = c.in_ok-apply.ensures.applied in
     let fitted = fitted-of old.schema old.store c.apply.new.self (map (told_to told) old.store.regions) new.regions marks c.apply.ensures.limits c.apply.ensures.last regions c.in_ok-marks.ensures.fitted in
     subst (λ (s : Store). Takes old (Notice version told) (record old { version = version; store = s }) (took.Applied version marks))
-    (sym (store-then old.store c.apply.new.self new c.apply.ensures.limits c.apply.ensures.last c.fit.ensures.limits c.fit.ensures.last))
+    (sym (store-then old.store c.apply.new.self new c.apply.ensures.limits c.apply.ensures.last c.apply.ensures.flag c.fit.ensures.limits c.fit.ensures.last c.fit.ensures.flag))
     (takes-notice old version told new.regions marks c.requires.idle c.requires.fit tells fitted c.requires.stands)
 
 pub returns-clause-version : goal.returns-clause-version

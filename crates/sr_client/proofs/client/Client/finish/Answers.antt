@@ -1,7 +1,7 @@
 use Rattle.std.proofs.Common.{◌≡◌, ◌∙◌, true, sym, subst, refl}
 use Rattle.std.specs.List.{list_all, All}
 use Rattle.sr_message.specs.declared.message.Message.TheVariants.{Reply}
-use Rattle.sr_store.specs.Stores.{IsStore}
+use Rattle.sr_store.specs.Stores.{IsStore, IsSettled}
 use Rattle.sr_store.specs.Answered.{IsArrival, AreApart, BringOwnKeys}
 use Rattle.sr_client.specs.Arriving.{arrivals_of}
 use Rattle.sr_client.specs.declared.client.Client.{Client}
@@ -10,7 +10,7 @@ use Rattle.sr_client.specs.Laying.{asking, with_brought}
 use Rattle.sr_client.specs.Stands.{out_of}
 use Rattle.sr_client.specs.Steps.{Takes}
 use Rattle.sr_client.specs.Values.{has_values}
-use Rattle.sr_client.proofs.AskedLemmas.{tells, laid-store}
+use Rattle.sr_client.proofs.AskedLemmas.{after-settled, tells, laid-store}
 use Rattle.sr_client.proofs.Calls.{Answers, IsAfter, after-of, answers-of}
 use Rattle.sr_client.proofs.FinishLemmas.{allows}
 use Rattle.sr_client.proofs.MeantLemmas.{Fit, Only, Named, parts-fit, parts-only, parts-named}
@@ -27,6 +27,11 @@ pub answered-requires-clause-store : goal.answered-requires-clause-store
 answered-requires-clause-store c =
     let values = subst (λ ms. list_all has_values ms ≡ true) c.as_slice.ensures c.know_messages.ensures in
     subst (λ (x : Client). IsStore x.schema x.store.regions) (sym c.in_ok-arrivals.ensures.brought) (laid-store c.args.self.now c.args.out.now c.requires.stands.0 c.requires.stands.1 values)
+
+pub answered-requires-clause-settled : goal.answered-requires-clause-settled
+answered-requires-clause-settled c =
+    subst (λ (x : Client). x.store.settled ≡ true → IsSettled x.schema x.store.regions) (sym c.in_ok-arrivals.ensures.brought)
+    (λ is. after-settled c.args.self.now.schema c.args.self.now.laid c.args.self.now.store.regions (c.requires.stands.1.settled is))
 
 pub answered-requires-clause-fit : goal.answered-requires-clause-fit
 answered-requires-clause-fit c =
@@ -84,6 +89,7 @@ returns-clause-takes c =
       answered = c.in_ok-marks.ensures.answered;
       cuts = c.in_ok-marks.ensures.cuts;
       store = c.in_ok-marks.ensures.store;
+      settled = c.in_ok-marks.ensures.settled;
       true_still = c.in_ok-marks.ensures.true_still;
       last = c.in_ok-marks.ensures.last;
       limits = c.in_ok-marks.ensures.limits;

@@ -3,9 +3,10 @@ use Rattle.sr_message.specs.declared.message.Message.TheVariants.{Write}
 use Rattle.sr_client.specs.declared.client.Client.{Client}
 use Rattle.sr_client.specs.declared.steps.WriteStep.TheVariants.{Sent}
 use Rattle.sr_client.specs.Sends.{IsWellSent}
+use Rattle.sr_client.specs.Stands.{Stands}
 use Rattle.sr_client.specs.Steps.{Writes}
 use Rattle.sr_client.proofs.SendableLemmas.{write-sent-well}
-use Rattle.sr_client.proofs.WriteLemmas.{write-busy, write-over-cut, write-sent}
+use Rattle.sr_client.proofs.WriteLemmas.{write-busy, write-over-cut, write-sent, writing-stands}
 use Rattle.sr_client.proofs.client.Client.write.Goals as goal
 
 pub returns-in-Some-clause-writes : goal.returns-in-Some-clause-writes
@@ -19,6 +20,9 @@ returns-clause-writes c = λ few.
     let old = c.args.self.now in
     subst (λ (x : Client). Writes old c.args.sql.now x (Sent old.next_request (Write old.next_request c.in_ok-of.field-0))) (sym c.set_out.ensures)
     (write-sent old c.args.sql.now _ c.requires.stands c.in_default.is c.if-self.false (ap (Write old.next_request) c.in_ok-of.ensures))
+
+pub returns-clause-stands : goal.returns-clause-stands
+returns-clause-stands c = subst (λ (x : Client). Stands x) (sym c.set_out.ensures) (writing-stands c.args.self.now c.requires.stands c.in_default.is c.if-self.false)
 
 pub returns-clause-sends : goal.returns-clause-sends
 returns-clause-sends c =

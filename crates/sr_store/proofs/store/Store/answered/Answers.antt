@@ -4,12 +4,12 @@ use Rattle.std.proofs.lemmas.List.Elements.{All-nil}
 use Rattle.sr_region.specs.declared.region.Region.{Region}
 use Rattle.sr_store.specs.Classes.{ascends}
 use Rattle.sr_store.specs.Told.{Told, IsTold, IsTrueOf, AreTrueOf}
-use Rattle.sr_store.specs.Stores.{IsOfSchema, IsStore, IsAbsorbedIn}
+use Rattle.sr_store.specs.Stores.{IsOfSchema, IsStore, IsSettled}
 use Rattle.sr_store.specs.Answered.{rects_on, AreApart, HaveArrived, IsRenewed}
 use Rattle.sr_store.specs.Renewing.{IsCutFrom}
 use Rattle.sr_store.specs.Making.{IsOutcome, LiesBy}
-use Rattle.sr_store.proofs.Dropping.{evicted_all, evicted_store}
-use Rattle.sr_store.proofs.Fewer.{kept_left, none_store}
+use Rattle.sr_store.proofs.Dropping.{evicted_all, evicted_store, evicted_settled}
+use Rattle.sr_store.proofs.Fewer.{kept_left, none_store, none_settled}
 use Rattle.sr_store.proofs.GivingWay.{old-is, all-lie, way-each, way-order, way-settled, way-apart, way-cuts, some-fits, keeps-answer, given-up}
 use Rattle.sr_store.proofs.store.Store.answered.Goals as goal
 
@@ -34,7 +34,7 @@ pub answer_of-requires-clause-settled : goal.answer_of-requires-clause-settled
 answer_of-requires-clause-settled c =
     let schema = c.args.schema.now in
     let is = old-is c.given_way-old.result c.into_seq.result c.args.self.now.regions _ c.args.arrivals c.given_way-old.ensures c.as_slice.ensures (c.into_seq.ensures ∙ c.replace-held.ensures.value) in
-    subst (λ gs. All (λ g. IsAbsorbedIn schema gs g → ⊥) gs) (sym is) (way-settled c.args.arrivals schema c.args.self.now.regions c.requires.store.settled)
+    λ yes. subst (IsSettled schema) (sym is) (way-settled c.args.arrivals schema c.args.self.now.regions (c.requires.settled (sym c.replace-settled.ensures.value ∙ yes)))
 
 pub answer_of-requires-clause-apart : goal.answer_of-requires-clause-apart
 answer_of-requires-clause-apart c =
@@ -59,7 +59,7 @@ returns-in-Answered-clause-answered c =
     let is = old-is c.given_way-old.result c.into_seq.result c.args.self.now.regions _ arrivals c.given_way-old.ensures c.as_slice.ensures (c.into_seq.ensures ∙ c.replace-held.ensures.value) in
     keeps-answer schema c.args.self.now.limits c.args.number parts arrivals c.args.self.now.regions answer.regions c.keep.new.self.regions answer.marks _ c.keep.result
     c.in_ok-self.ensures
-    (subst (λ gs. IsRenewed schema c.args.number parts arrivals gs answer.regions answer.marks) is made.renewed) made.store
+    (subst (λ gs. IsRenewed schema c.args.number parts arrivals gs answer.regions answer.marks) is made.renewed) made.store made.settled
     (λ told is_told old_true rows. made.true_still told is_told (subst (AreTrueOf told) (sym is) old_true) rows)
     c.keep.ensures.kept
 
@@ -82,6 +82,14 @@ returns-in-Answered-clause-store c =
     let schema = c.args.schema.now in
     kept_left schema _ _ _ c.in-Answered.answer.regions c.keep.new.self.regions c.keep.result (IsStore schema) (λ n gs p. evicted_store schema n gs p)
     (none_store schema c.args.self.now.regions c.requires.store) made.store
+    c.keep.ensures.kept c.keep.ensures.nothing_left
+
+pub returns-in-Answered-clause-settled : goal.returns-in-Answered-clause-settled
+returns-in-Answered-clause-settled c =
+    let made = subst (IsOutcome c.args.schema.now c.args.number c.args.parts.now c.args.arrivals c.given_way-old.result) c.in-Answered.is c.in_ok-answer.ensures in
+    let schema = c.args.schema.now in
+    kept_left schema _ _ _ c.in-Answered.answer.regions c.keep.new.self.regions c.keep.result (IsSettled schema) (λ n gs p. evicted_settled schema n gs p)
+    (none_settled schema) made.settled
     c.keep.ensures.kept c.keep.ensures.nothing_left
 
 pub returns-in-Answered-clause-true_still : goal.returns-in-Answered-clause-true_still
@@ -111,6 +119,9 @@ pub returns-in-GivenUp-clause-store : goal.returns-in-GivenUp-clause-store
 returns-in-GivenUp-clause-store c =
     subst (IsStore c.args.schema.now) (sym (c.replace-held.ensures.after ∙ c.new.ensures)) (none_store c.args.schema.now c.args.self.now.regions c.requires.store)
 
+pub returns-in-GivenUp-clause-settled : goal.returns-in-GivenUp-clause-settled
+returns-in-GivenUp-clause-settled c = subst (IsSettled c.args.schema.now) (sym (c.replace-held.ensures.after ∙ c.new.ensures)) (none_settled c.args.schema.now)
+
 pub returns-in-GivenUp-clause-true_still : goal.returns-in-GivenUp-clause-true_still
 returns-in-GivenUp-clause-true_still c = λ told is_told old_true rows. subst (AreTrueOf told) (sym (c.replace-held.ensures.after ∙ c.new.ensures)) (All-nil (IsTrueOf told))
 
@@ -123,6 +134,9 @@ pub returns-in_err-answer-clause-store : goal.returns-in_err-answer-clause-store
 returns-in_err-answer-clause-store c =
     subst (IsStore c.args.schema.now) (sym (c.replace-held.ensures.after ∙ c.new.ensures)) (none_store c.args.schema.now c.args.self.now.regions c.requires.store)
 
+pub returns-in_err-answer-clause-settled : goal.returns-in_err-answer-clause-settled
+returns-in_err-answer-clause-settled c = subst (IsSettled c.args.schema.now) (sym (c.replace-held.ensures.after ∙ c.new.ensures)) (none_settled c.args.schema.now)
+
 pub returns-in_err-answer-clause-true_still : goal.returns-in_err-answer-clause-true_still
 returns-in_err-answer-clause-true_still c = λ told is_told old_true rows. subst (AreTrueOf told) (sym (c.replace-held.ensures.after ∙ c.new.ensures)) (All-nil (IsTrueOf told))
 
@@ -134,6 +148,9 @@ returns-in_err-self-clause-cuts c =
 pub returns-in_err-self-clause-store : goal.returns-in_err-self-clause-store
 returns-in_err-self-clause-store c =
     subst (IsStore c.args.schema.now) (sym (c.replace-held.ensures.after ∙ c.new.ensures)) (none_store c.args.schema.now c.args.self.now.regions c.requires.store)
+
+pub returns-in_err-self-clause-settled : goal.returns-in_err-self-clause-settled
+returns-in_err-self-clause-settled c = subst (IsSettled c.args.schema.now) (sym (c.replace-held.ensures.after ∙ c.new.ensures)) (none_settled c.args.schema.now)
 
 pub returns-in_err-self-clause-true_still : goal.returns-in_err-self-clause-true_still
 returns-in_err-self-clause-true_still c = λ told is_told old_true rows. subst (AreTrueOf told) (sym (c.replace-held.ensures.after ∙ c.new.ensures)) (All-nil (IsTrueOf told))

@@ -3,8 +3,9 @@ use Rattle.std.specs.Prelude.{IfOk}
 use Rattle.sr_client.proofs.Results.{if_ok}
 use Rattle.sr_message.specs.declared.message.Message.{Message}
 use Rattle.sr_session.specs.Sessions.{Database}
-use Rattle.sr_server.specs.Servers.{IsServer, Takes}
+use Rattle.sr_server.specs.Servers.{IsServer, Takes, session_at}
 use Rattle.sr_runs.specs.Lines.{served_line}
+use Rattle.sr_world.proofs.Served.{request-fits}
 use Rattle.sr_world.proofs.ServeLemmas.{not-refused, takes-schema}
 use Rattle.sr_world.proofs.seat.Seat.hand_over.Goals as goal
 
@@ -31,3 +32,6 @@ returns-in_ok-frames-in-Ok-clause-took c =
     c.served_line.result (served_line client (length c.in-Ok.sent) c.args.message.now)
     (subst (λ k. IfOk c.served_line.result (λ lines. lines ≡ served_line client k c.args.message.now)) c.in_ok-frames-in-Ok.ensures.frames c.served_line.ensures)
     (c.in-Ok.sent, c.in-Ok.ensures.taken, c.in_ok-frames-in-Ok.ensures.sent, refl)
+
+pub served_line-requires : goal.served_line-requires
+served_line-requires c = record { request = request-fits c.args.server.now.tables.schema (session_at c.args.server.now.sessions c.args.self.now.client.id) c.args.self.now.client.id c.args.message.now c.requires.fits }

@@ -1,3 +1,5 @@
 pub mod Entries
 pub mod Going
+pub mod Answered
 pub mod Right
+pub mod Telling

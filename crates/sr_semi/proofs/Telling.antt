@@ -17,7 +17,7 @@ use Rattle.sr_semi.specs.declared.stage.Step.{Step}
 use Rattle.sr_semi.specs.Answers.{Answer, Answers, IsAnswer, AllAnswer, IsRight, nexts, rows_in, stage_behind, with_keys}
 use Rattle.sr_semi.specs.Going.{behind_left, ends_with, is_read, joins, step_of}
 use Rattle.sr_semi.specs.Keys.{all_have, at_most, most_keys, values_at}
-use Rattle.sr_semi.specs.Laws.{TextsAskParts, FewTexts, is_run, runs_in}
+use Rattle.sr_semi.specs.Laws.{TextsAskParts, TextsGoDown, FewTexts, is_run, runs_in, texts_left}
 use Rattle.sr_semi.specs.Sides.{Sides, left_place, part_at, right_text, sides_of}
 use Rattle.sr_semi.proofs.Parts.{Two}
 use Rattle.sr_semi.proofs.Staged.{Gives, Knows, goes}
@@ -47,15 +47,8 @@ module _ (schema : List Table) (at : ℕ → Tables) (s : Statement) (q : Query)
 
 -- ---- few texts are named
 
--- how many texts may still be named
-abbrev left_in : Stage → ℕ
-left_in Left = 2
-left_in (Right first keys lefts) = 1
-left_in (LeftAgain second keys rights) = 0
-left_in Over = 0
-
 abbrev Costs : ℕ → Step → Type 0
-Costs n step = is_run step.next + left_in step.stage ≤ n
+Costs n step = is_run step.next + texts_left step.stage ≤ n
 
 if-read : (read : Bool) (s : Sides) (version : ℕ) (keys : List Cell) (rows : List Row)
     → Costs 2 (if read then record { next = Run (right_text s.right keys); stage = Right version keys rows } else ends_with Plain)
@@ -76,16 +69,16 @@ at-left-again : (one : Bool) (s : Sides) (version : ℕ) (keys : List Cell) (lef
 at-left-again true s version keys lefts rows = omega arith
 at-left-again false s version keys lefts rows = omega arith
 
-costs : (s : Sides) (stage : Stage) (version : ℕ) (rows : List Row) → Costs (left_in stage) (step_of s stage version rows)
-costs s Left version rows = at-left s version rows (at_most (most_keys s.right.width) (values_at (left_place s) rows))
-costs s (Right first keys lefts) version rows = at-right (version == first) s version keys lefts rows
-costs s (LeftAgain second keys rights) version rows = at-left-again (version == second && all_have (left_place s) keys rows) s version keys rows rights
-costs s Over version rows = omega arith
+pub texts-go-down : TextsGoDown
+texts-go-down s Left version rows = at-left s version rows (at_most (most_keys s.right.width) (values_at (left_place s) rows))
+texts-go-down s (Right first keys lefts) version rows = at-right (version == first) s version keys lefts rows
+texts-go-down s (LeftAgain second keys rights) version rows = at-left-again (version == second && all_have (left_place s) keys rows) s version keys rows rights
+texts-go-down s Over version rows = omega arith
 
-few : (s : Sides) (stage : Stage) (answers : List Answer) → runs_in (nexts s stage answers) ≤ left_in stage
+few : (s : Sides) (stage : Stage) (answers : List Answer) → runs_in (nexts s stage answers) ≤ texts_left stage
 few s stage [] = omega arith
 few s stage (a ∷ more) =
-    let now = costs s stage a.version a.rows in
+    let now = texts-go-down s stage a.version a.rows in
     let later = few s (stage_behind s stage a) more in
     omega (arith, now, later)
 

@@ -65,10 +65,10 @@ texts_left (Right first keys lefts) = 1
 texts_left (LeftAgain second keys rights) = 0
 texts_left Over = 0
 
--- An answer names at most one of the texts that were left.
+-- A text that comes of an answer is one of those that were left, and one fewer is left then.
 abbrev pub TextsGoDown : Type 0
-TextsGoDown = (s : Sides) (stage : Stage) (version : ℕ) (rows : List Row)
-    → is_run (step_of s stage version rows).next + texts_left (step_of s stage version rows).stage ≤ texts_left stage
+TextsGoDown = (s : Sides) (stage : Stage) (version : ℕ) (rows : List Row) (text : List ℕ)
+    → (step_of s stage version rows).next ≡ Run text → texts_left stage ≡ texts_left (step_of s stage version rows).stage + 1
 
 -- Behind the first left text no more than two are named, however many answers are given.
 abbrev pub FewTexts : Type 0

@@ -22,7 +22,7 @@ pub fn what_is_joined_is_the_answer()
     ensures { JoinedIsAnswer }
 {}
 
-/// An answer names at most one of the texts that were left.
+/// Where a text comes of an answer, one fewer is left.
 pub fn texts_go_down()
     ensures { TextsGoDown }
 {}

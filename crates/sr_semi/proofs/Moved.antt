@@ -24,6 +24,7 @@ use Rattle.sr_query.proofs.Steps.{split_ok}
 use Rattle.sr_lines.proofs.Selected.{resolved_near, is_of as is_near}
 use Rattle.sr_semi.specs.Texts as texts
 use Rattle.sr_semi.specs.Texts.{names_in, all_names, names_part}
+use Rattle.sr_semi.proofs.Spelled.{each-append}
 
 -- ---- one table in the place of all, and no places
 
@@ -303,10 +304,6 @@ mutual
 abbrev pub IsSingle : Bound → Type 0
 IsSingle b = conjuncts b ≡ b ∷ []
 
-each-both : {A : Type 0} (P : A → Type 0) (xs ys : List A) → AllByRecursion P xs → AllByRecursion P ys → AllByRecursion P (xs ++ ys)
-each-both P [] ys h k = k
-each-both P (x ∷ xs) ys h k = (h.0, each-both P xs ys h.1 k)
-
 mutual
   pub singles : (b : Bound) → AllByRecursion IsSingle (conjuncts b)
   singles (Testing place o t) = (refl, tt)
@@ -316,7 +313,7 @@ mutual
 
   pub all-singles : (bs : Bounds) → AllByRecursion IsSingle (all_conjuncts bs)
   all-singles no_more = tt
-  all-singles (one_more b bs) = each-both IsSingle (conjuncts b) (all_conjuncts bs) (singles b) (all-singles bs)
+  all-singles (one_more b bs) = each-append IsSingle (conjuncts b) (all_conjuncts bs) (singles b) (all-singles bs)
 
 -- ---- conjuncts, and what they mean
 

@@ -1,5 +1,5 @@
 -- Answers one after another: what is joined is right, and few texts are named.
-use Rattle.std.proofs.Common.{◌≡◌, ℕ, ◌+◌, ◌≤◌, Bool, true, false, List, [], ◌∷◌, sym, ap, subst, ◌∙◌, arith, if◌then◌else◌}
+use Rattle.std.proofs.Common.{◌≡◌, ℕ, ◌+◌, ◌≤◌, Bool, true, false, List, [], ◌∷◌, refl, sym, ap, subst, ◌∙◌, arith, if◌then◌else◌}
 use Rattle.std.specs.Prelude.{◌==◌, ◌&&◌, Option, Some, None}
 use Rattle.std.specs.List.{All, list_all}
 use Rattle.std.proofs.lemmas.List.Elements.{All-cons, All-nil}
@@ -17,7 +17,7 @@ use Rattle.sr_semi.specs.declared.stage.Step.{Step}
 use Rattle.sr_semi.specs.Answers.{Answer, Answers, IsAnswer, AllAnswer, IsRight, nexts, rows_in, stage_behind, with_keys}
 use Rattle.sr_semi.specs.Going.{behind_left, ends_with, is_read, joins, step_of}
 use Rattle.sr_semi.specs.Keys.{all_have, at_most, most_keys, values_at}
-use Rattle.sr_semi.specs.Laws.{TextsAskParts, FewTexts, is_run, runs_in}
+use Rattle.sr_semi.specs.Laws.{TextsAskParts, TextsGoDown, FewTexts, is_run, runs_in, texts_left}
 use Rattle.sr_semi.specs.Sides.{Sides, left_place, part_at, right_text, sides_of}
 use Rattle.sr_semi.proofs.Parts.{Two}
 use Rattle.sr_semi.proofs.Staged.{Gives, Knows, goes}
@@ -47,15 +47,8 @@ module _ (schema : List Table) (at : ℕ → Tables) (s : Statement) (q : Query)
 
 -- ---- few texts are named
 
--- how many texts may still be named
-abbrev left_in : Stage → ℕ
-left_in Left = 2
-left_in (Right first keys lefts) = 1
-left_in (LeftAgain second keys rights) = 0
-left_in Over = 0
-
 abbrev Costs : ℕ → Step → Type 0
-Costs n step = is_run step.next + left_in step.stage ≤ n
+Costs n step = is_run step.next + texts_left step.stage ≤ n
 
 if-read : (read : Bool) (s : Sides) (version : ℕ) (keys : List Cell) (rows : List Row)
     → Costs 2 (if read then record { next = Run (right_text s.right keys); stage = Right version keys rows } else ends_with Plain)
@@ -76,13 +69,13 @@ at-left-again : (one : Bool) (s : Sides) (version : ℕ) (keys : List Cell) (lef
 at-left-again true s version keys lefts rows = omega arith
 at-left-again false s version keys lefts rows = omega arith
 
-costs : (s : Sides) (stage : Stage) (version : ℕ) (rows : List Row) → Costs (left_in stage) (step_of s stage version rows)
+costs : (s : Sides) (stage : Stage) (version : ℕ) (rows : List Row) → Costs (texts_left stage) (step_of s stage version rows)
 costs s Left version rows = at-left s version rows (at_most (most_keys s.right.width) (values_at (left_place s) rows))
 costs s (Right first keys lefts) version rows = at-right (version == first) s version keys lefts rows
 costs s (LeftAgain second keys rights) version rows = at-left-again (version == second && all_have (left_place s) keys rows) s version keys rows rights
 costs s Over version rows = omega arith
 
-few : (s : Sides) (stage : Stage) (answers : List Answer) → runs_in (nexts s stage answers) ≤ left_in stage
+few : (s : Sides) (stage : Stage) (answers : List Answer) → runs_in (nexts s stage answers) ≤ texts_left stage
 few s stage [] = omega arith
 few s stage (a ∷ more) =
     let now = costs s stage a.version a.rows in
@@ -91,3 +84,34 @@ few s stage (a ∷ more) =
 
 pub few-texts : FewTexts
 few-texts s answers = few s Left answers
+
+-- ---- each text uses one up
+
+abbrev Uses : Stage → Step → Type 0
+Uses stage step = (text : List ℕ) → step.next ≡ Run text → texts_left stage ≡ texts_left step.stage + 1
+
+if-read-uses : (read : Bool) (s : Sides) (version : ℕ) (keys : List Cell) (rows : List Row)
+    → Uses Left (if read then record { next = Run (right_text s.right keys); stage = Right version keys rows } else ends_with Plain)
+if-read-uses true s version keys rows text is = refl
+if-read-uses false s version keys rows text is = absurd cc
+
+left-uses : (s : Sides) (version : ℕ) (rows : List Row) (keys : Option (List Cell)) → Uses Left (behind_left s version rows keys)
+left-uses s version rows None text is = absurd cc
+left-uses s version rows (Some []) text is = absurd cc
+left-uses s version rows (Some (k ∷ keys)) text is = if-read-uses (is_read (right_text s.right (k ∷ keys))) s version (k ∷ keys) rows text is
+
+right-uses : (one : Bool) (s : Sides) (first version : ℕ) (keys : List Cell) (lefts rows : List Row)
+    → Uses (Right first keys lefts) (if one then joins s version keys lefts rows else record { next = Run s.left.text; stage = LeftAgain version keys rows })
+right-uses true s first version keys lefts rows text is = absurd cc
+right-uses false s first version keys lefts rows text is = refl
+
+again-uses : (one : Bool) (s : Sides) (second version : ℕ) (keys : List Cell) (rights rows : List Row)
+    → Uses (LeftAgain second keys rights) (if one then joins s version keys rows rights else ends_with Plain)
+again-uses true s second version keys rights rows text is = absurd cc
+again-uses false s second version keys rights rows text is = absurd cc
+
+pub texts-go-down : TextsGoDown
+texts-go-down s Left version rows text is = left-uses s version rows (at_most (most_keys s.right.width) (values_at (left_place s) rows)) text is
+texts-go-down s (Right first keys lefts) version rows text is = right-uses (version == first) s first version keys lefts rows text is
+texts-go-down s (LeftAgain second keys rights) version rows text is = again-uses (version == second && all_have (left_place s) keys rows) s second version keys rights rows text is
+texts-go-down s Over version rows text is = absurd cc

@@ -10,9 +10,10 @@ use Rattle.sr_model.specs.Statements.{Tables}
 use Rattle.sr_query.specs.Binding.{is_inside}
 use Rattle.sr_semi.specs.declared.stage.Next.{Next}
 use Rattle.sr_semi.specs.declared.stage.Next.TheVariants.{Run, Joined, Plain}
-use Rattle.sr_semi.specs.declared.stage.Stage.TheVariants.{Left}
+use Rattle.sr_semi.specs.declared.stage.Stage.{Stage}
+use Rattle.sr_semi.specs.declared.stage.Stage.TheVariants.{Left, Right, LeftAgain, Over}
 use Rattle.sr_semi.specs.Answers.{IsSchema, TheyFit, rows_in, with_keys, IsAnswer, Answer, AllAnswer, nexts, IsRight}
-use Rattle.sr_semi.specs.Going.{joined}
+use Rattle.sr_semi.specs.Going.{joined, step_of}
 use Rattle.sr_semi.specs.Keys.{all_have, values_at}
 use Rattle.sr_semi.specs.Sides.{Sides, left_place, part_at, sides_of, right_text}
 use Rattle.sr_semi.specs.Starting.{Asks}
@@ -56,6 +57,18 @@ is_run Plain = 0
 abbrev pub runs_in : List Next → ℕ
 runs_in [] = 0
 runs_in (n ∷ more) = is_run n + runs_in more
+
+-- how many texts may still be named, behind that of a stage
+abbrev pub texts_left : Stage → ℕ
+texts_left Left = 2
+texts_left (Right first keys lefts) = 1
+texts_left (LeftAgain second keys rights) = 0
+texts_left Over = 0
+
+-- A text that comes of an answer is one of those that were left, and one fewer is left then.
+abbrev pub TextsGoDown : Type 0
+TextsGoDown = (s : Sides) (stage : Stage) (version : ℕ) (rows : List Row) (text : List ℕ)
+    → (step_of s stage version rows).next ≡ Run text → texts_left stage ≡ texts_left (step_of s stage version rows).stage + 1
 
 -- Behind the first left text no more than two are named, however many answers are given.
 abbrev pub FewTexts : Type 0

@@ -1,10 +1,12 @@
--- What the sides of the code stand for.
+-- What a join of the code stands for.
 use Rattle.std.specs.Prelude.{map}
 use Rattle.sr_grammar.specs.Seen.{cond_seen}
 use Rattle.sr_query.specs.Bound.{output_of}
 use Rattle.sr_semi.specs.declared.sides.LeftSide.{LeftSide}
 use Rattle.sr_semi.specs.declared.sides.RightSide.{RightSide}
+use Rattle.sr_semi.specs.declared.semi.Semi.{Semi}
 use Rattle.sr_semi.specs.declared.sides.Sides as code
+use Rattle.sr_semi.specs.declared.stage.Stage.{Stage}
 use Rattle.sr_semi.specs.Sides.{Left, Right, Sides}
 
 abbrev pub left_seen : LeftSide → Left
@@ -15,3 +17,10 @@ right_seen s = record { table = s.table; need = s.need; conjuncts = map cond_see
 
 abbrev pub sides_seen : code.Sides → Sides
 sides_seen s = record { left = left_seen s.left; right = right_seen s.right; outputs = map output_of s.outputs }
+
+-- the sides of a join, and which of their texts was named last
+abbrev pub sides_in : Semi → Sides
+sides_in semi = sides_seen semi.sides
+
+abbrev pub stage_in : Semi → Stage
+stage_in semi = semi.stage

@@ -1,5 +1,5 @@
 //! Laws of the definitions: functions that do nothing, and whose contracts are the laws.
-ghost use Rattle.sr_semi.specs.Laws.{FewTexts, JoinedIsAnswer, PartsJoin, TextsAsk, ValuesAreAmong};
+ghost use Rattle.sr_semi.specs.Laws.{FewTexts, JoinedIsAnswer, PartsJoin, TextsAsk, TextsGoDown, ValuesAreAmong};
 ghost use Rattle.sr_semi.specs.Worked.{Worked};
 
 /// Each row has one of the values that are found in the rows.
@@ -20,6 +20,11 @@ pub fn texts_ask_their_parts()
 /// Where each list of rows is that of the text named last, what is joined is the query's answer at the version that is named.
 pub fn what_is_joined_is_the_answer()
     ensures { JoinedIsAnswer }
+{}
+
+/// Where a text comes of an answer, one fewer is left.
+pub fn texts_go_down()
+    ensures { TextsGoDown }
 {}
 
 /// Behind the first text no more than two are named.

@@ -1,0 +1,22 @@
+//! Laws of the plan: functions that do nothing, and whose contracts are the laws.
+ghost use Rattle.sr_keyset.specs.Laws.{FewQueries, FilesAskForNone, TasksAreAskedFor, WhatIsWrittenIsRight};
+
+/// No task of the plan is to take a message.
+pub fn tasks_are_asked_for()
+    ensures { TasksAreAskedFor }
+{}
+
+/// No task that the files of a client ask for is to take a message.
+pub fn files_ask_for_none()
+    ensures { FilesAskForNone }
+{}
+
+/// For no line of a script more than four queries are run.
+pub fn few_queries()
+    ensures { FewQueries }
+{}
+
+/// As long as each answer has the rows of its query, what is written for a join are its rows, on the tables of the version that is named.
+pub fn what_is_written_is_right()
+    ensures { WhatIsWrittenIsRight }
+{}

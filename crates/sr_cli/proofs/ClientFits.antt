@@ -1,16 +1,21 @@
 -- What the status of a run of `client` says of the files that are held.
 use Rattle.std.proofs.Common.{◌≡◌, ℕ, ◌⊎◌, List, Option, Some, None, inl, inr, arith, sym, subst}
 use Rattle.sr_cell.specs.declared.fault.Fault.{Fault}
+use Rattle.sr_cell.specs.declared.table.Table.{Table}
 use Rattle.sr_dial.specs.declared.ending.Ending.{Ending}
 use Rattle.sr_dial.specs.declared.ending.Ending.TheVariants.{Faulty, Unwritten}
 use Rattle.sr_io.specs.Told.{Linking, Reading, Writing}
 use Rattle.sr_lines.specs.Script.{LinePlace}
-use Rattle.sr_setup.specs.ClientFiles.{client_outside, ClientRefuses}
+use Rattle.sr_dial.specs.Following.{Ahead}
+use Rattle.sr_setup.specs.ClientFiles.{script_outside, Refuses as RefusesCreate}
+use Rattle.sr_words.specs.declared.command.ClientKind.{ClientKind}
+use Rattle.sr_words.specs.declared.command.ClientKind.TheVariants as kind
 use Rattle.sr_words.specs.declared.command.ClientWords.{ClientWords}
 use Rattle.sr_cli.specs.Files.{SomeTooLong}
 use Rattle.sr_cli.specs.Client.{AreFiles, AreHeld, AreLong, DidRun, Dialled, Ends, FitsFiles, IsEnd, NotRead, StopsOver, ending_of, files_of}
-use Rattle.sr_cli.specs.declared.client.Stop.{Stop}
-use Rattle.sr_cli.specs.declared.client.Stop.TheVariants as stop
+use Rattle.sr_cli.specs.Kinds.{AsksFor, fault_by, line_fault}
+use Rattle.sr_cli.specs.declared.stop.Stop.{Stop}
+use Rattle.sr_cli.specs.declared.stop.Stop.TheVariants as stop
 use Rattle.sr_cli.specs.declared.report.Refusal.{Refusal}
 use Rattle.sr_cli.specs.declared.report.Refusal.TheVariants as refusal
 use Rattle.sr_cli.proofs.ClientLemmas.{ends_of}
@@ -68,31 +73,38 @@ long_held held left words schema script are (inl long) = inl (too_long_held (hel
 long_held held left words schema script are (inr (read, what, inl long)) = inr (too_long_held (held words.script) left script are.script_held long)
 long_held held left words schema script are (inr (read, what, inr (other, is, long))) = absurd long
 
--- ---- what a status says
+-- ---- what a status says, where lines of the script have such faults
 
-abbrev pub Lies : ℕ → List ℕ → List ℕ → Type 0
-Lies id schema script = (at : LinePlace) × (client_outside id schema script ≡ Some at)
+abbrev pub Faults : Type 0
+Faults = List ℕ → Option ℕ
 
-abbrev pub RefusesSome : ℕ → List ℕ → List ℕ → Type 0
-RefusesSome id schema script = (line : ℕ) × (fault : Fault) × ClientRefuses id schema script line fault
+abbrev pub Lies : Faults → List ℕ → List ℕ → Type 0
+Lies line_fault schema script = (at : LinePlace) × (script_outside line_fault schema script ≡ Some at)
+
+abbrev pub RefusesSome : Faults → List ℕ → List ℕ → Type 0
+RefusesSome line_fault schema script = (line : ℕ) × (fault : Fault) × RefusesCreate line_fault schema script line fault
 
 -- nothing is refused
-pub record Accepted (id : ℕ) (schema script : List ℕ) : Type 0 where
-  pub inside : client_outside id schema script ≡ None
-  pub accepts : (line : ℕ) (fault : Fault) → ¬ ClientRefuses id schema script line fault
+pub record Accepted (line_fault : Faults) (schema script : List ℕ) : Type 0 where
+  pub inside : script_outside line_fault schema script ≡ None
+  pub accepts : (line : ℕ) (fault : Fault) → ¬ RefusesCreate line_fault schema script line fault
 
 -- of files over which a client ran
-pub accepted : (schema script : List ℕ) (words : ClientWords) (ending : Ending) (old new : Linking) (before after : Writing) → Ends schema script words ending old new before after → Accepted words.id schema script
-accepted schema script words ending old new before after ends = record { inside = ends.asks.asked.inside; accepts = λ line fault r. ends.asks.asked.accepts line fault r.first }
+accepted_for : (kind : ClientKind) (id : ℕ) (schema script : List ℕ) (tables : List Table) (ahead : Ahead) → AsksFor kind id schema script tables ahead → Accepted (line_fault kind id) schema script
+accepted_for kind.Client id schema script tables ahead asks = record { inside = asks.asked.inside; accepts = λ line fault r. asks.asked.accepts line fault r.first }
+accepted_for kind.Report id schema script tables ahead asks = record { inside = asks.inside; accepts = λ line fault r. asks.accepts line fault r.first }
+
+pub accepted : (schema script : List ℕ) (words : ClientWords) (ending : Ending) (old new : Linking) (before after : Writing) → Ends schema script words ending old new before after → Accepted (fault_by words) schema script
+accepted schema script words ending old new before after ends = accepted_for words.kind words.id schema script ends.tables ends.ahead ends.asks
 
 -- why a run ended with a status
 pub record Causes (held : List ℕ → Option (List ℕ)) (left : Option (List ℕ)) (words : ClientWords) (status : ℕ) : Type 0 where
   pub only : IsEnd status
   pub no_read_fault : ¬ (status ≡ 3)
   pub too_long : status ≡ 10 → SomeTooLong held left (files_of words)
-  pub line : status ≡ 6 → Named held words (Lies words.id)
-  pub refused : status ≡ 7 → Named held words (RefusesSome words.id)
-  pub ran : DidRun status → Named held words (Accepted words.id)
+  pub line : status ≡ 6 → Named held words (Lies (fault_by words))
+  pub refused : status ≡ 7 → Named held words (RefusesSome (fault_by words))
+  pub ran : DidRun status → Named held words (Accepted (fault_by words))
 
 long_status : (status : ℕ) → IsEnd status → ¬ (status ≡ 3) → ¬ (status ≡ 6) → ¬ (status ≡ 7) → ¬ DidRun status → (status ≡ 9) ⊎ (status ≡ 10)
 long_status status (inl is) no_3 no_6 no_7 never = absurd (never (inl is))
@@ -106,21 +118,47 @@ long_status status (inr (inr (inr (inr (inr (inr (inr (inl is)))))))) no_3 no_6 
 long_status status (inr (inr (inr (inr (inr (inr (inr (inr (inl is))))))))) no_3 no_6 no_7 never = inr is
 long_status status (inr (inr (inr (inr (inr (inr (inr (inr (inr is))))))))) no_3 no_6 no_7 never = absurd (never (inr (inr (inr (inr is)))))
 
-pub fits_held : (held : List ℕ → Option (List ℕ)) (left : Option (List ℕ)) (words : ClientWords) (schema script : List ℕ) (status : ℕ) → AreHeld held words schema script → Causes held left words status → FitsFiles words.id schema script status
+pub fits_held : (held : List ℕ → Option (List ℕ)) (left : Option (List ℕ)) (words : ClientWords) (schema script : List ℕ) (status : ℕ) → AreHeld held words schema script → Causes held left words status → FitsFiles (fault_by words) schema script status
 fits_held held left words schema script status are c =
-    let accepts : DidRun status → Accepted words.id schema script = λ did. named_held (Accepted words.id) held words schema script are (c.ran did) in
+    let accepts : DidRun status → Accepted (fault_by words) schema script = λ did. named_held (Accepted (fault_by words)) held words schema script are (c.ran did) in
     record {
       no_read_fault = c.no_read_fault;
       long = λ over. long_status status c.only c.no_read_fault
-          (λ is. named_short (Lies words.id) held words schema script are (c.line is) over)
-          (λ is. named_short (RefusesSome words.id) held words schema script are (c.refused is) over)
-          (λ did. named_short (Accepted words.id) held words schema script are (c.ran did) over);
+          (λ is. named_short (Lies (fault_by words)) held words schema script are (c.line is) over)
+          (λ is. named_short (RefusesSome (fault_by words)) held words schema script are (c.refused is) over)
+          (λ did. named_short (Accepted (fault_by words)) held words schema script are (c.ran did) over);
       too_long = λ is. long_held held left words schema script are (c.too_long is);
-      line = λ is. named_held (Lies words.id) held words schema script are (c.line is);
-      refused = λ is. named_held (RefusesSome words.id) held words schema script are (c.refused is);
+      line = λ is. named_held (Lies (fault_by words)) held words schema script are (c.line is);
+      refused = λ is. named_held (RefusesSome (fault_by words)) held words schema script are (c.refused is);
       inside = λ did. (accepts did).inside;
       accepts = λ did. (accepts did).accepts;
     }
+
+-- ---- a client that ran, and was ended by frames
+
+-- the statuses of that
+abbrev pub EndsByFrames : ℕ → Type 0
+EndsByFrames status = (status ≡ 8) ⊎ (status ≡ 9) ⊎ (status ≡ 11)
+
+pub by_frame : (status : ℕ) → (status ≡ 8) ⊎ (status ≡ 9) → EndsByFrames status
+by_frame status (inl is) = inl is
+by_frame status (inr is) = inr (inl is)
+
+end_of_frames : (status : ℕ) → EndsByFrames status → IsEnd status
+end_of_frames status (inl is) = inr (inr (inr (inr (inr (inr (inl is))))))
+end_of_frames status (inr (inl is)) = inr (inr (inr (inr (inr (inr (inr (inl is)))))))
+end_of_frames status (inr (inr is)) = inr (inr (inr (inr (inr (inr (inr (inr (inr is))))))))
+
+pub causes_dialled : (held : List ℕ → Option (List ℕ)) (left : Option (List ℕ)) (words : ClientWords) (status : ℕ) (ending : Ending) (old new : Linking) (before after : Writing) → EndsByFrames status → Dialled held words ending old new before after
+    → Causes held left words status
+causes_dialled held left words status ending old new before after which d = record {
+  only = end_of_frames status which;
+  no_read_fault = λ is. omega (arith, which, is);
+  too_long = λ is. absurd (omega (arith, which, is));
+  line = λ is. absurd (omega (arith, which, is));
+  refused = λ is. absurd (omega (arith, which, is));
+  ran = λ did. record { schema = d.schema; script = d.script; files = d.files; holds = accepted d.schema d.script words ending old new before after d.ends };
+}
 
 -- ---- a refusal
 
@@ -137,11 +175,11 @@ module _ (held : List ℕ → Option (List ℕ)) (words : ClientWords) (from to 
   too_long_of (inl not) = not.0
   too_long_of (inr over) = absurd over.stops
 
-  line_of : (line place : ℕ) → Why (refusal.Line line place) → Named held words (Lies words.id)
+  line_of : (line place : ℕ) → Why (refusal.Line line place) → Named held words (Lies (fault_by words))
   line_of line place (inl not) = absurd not
   line_of line place (inr o) = record { schema = o.schema; script = o.script; files = o.files; holds = (record { line = line; place = place }, o.stops.0) }
 
-  create_of : (line : ℕ) (fault : Fault) → Why (refusal.Setup line fault) → Named held words (RefusesSome words.id)
+  create_of : (line : ℕ) (fault : Fault) → Why (refusal.Setup line fault) → Named held words (RefusesSome (fault_by words))
   create_of line fault (inl not) = absurd not
   create_of line fault (inr o) = record { schema = o.schema; script = o.script; files = o.files; holds = (line, fault, o.stops.0) }
 
@@ -149,16 +187,16 @@ module _ (held : List ℕ → Option (List ℕ)) (words : ClientWords) (from to 
   load_of table fault (inl not) = not
   load_of table fault (inr o) = o.stops
 
-  write_of : Why refusal.Write → Named held words (Accepted words.id)
+  write_of : Why refusal.Write → Named held words (Accepted (fault_by words))
   write_of (inl not) = absurd not
   write_of (inr o) = record { schema = o.schema; script = o.script; files = o.files; holds = accepted o.schema o.script words Unwritten old new before after o.stops }
 
-  link_of : Why refusal.Link → Named held words (Accepted words.id)
+  link_of : Why refusal.Link → Named held words (Accepted (fault_by words))
   link_of (inl not) = absurd not
   link_of (inr o) = record { schema = o.schema; script = o.script; files = o.files; holds = accepted o.schema o.script words Faulty old new before after o.stops }
 
   refused_of : (S : ℕ → Fault → Type 0) (L : List ℕ → Fault → Type 0) → Why refused
-      → ((line : ℕ) × (fault : Fault) × (refused ≡ refusal.Setup line fault) × S line fault) ⊎ ((table : List ℕ) × (fault : Fault) × (refused ≡ refusal.Load table fault) × L table fault) → Named held words (RefusesSome words.id)
+      → ((line : ℕ) × (fault : Fault) × (refused ≡ refusal.Setup line fault) × S line fault) ⊎ ((table : List ℕ) × (fault : Fault) × (refused ≡ refusal.Load table fault) × L table fault) → Named held words (RefusesSome (fault_by words))
   refused_of S L why (inl (line, fault, is, said)) = create_of line fault (subst Why is why)
   refused_of S L why (inr (table, fault, is, said)) = absurd (load_of table fault (subst Why is why))
 
@@ -171,7 +209,7 @@ module _ (held : List ℕ → Option (List ℕ)) (words : ClientWords) (from to 
   is_end (inr (inr (inr (inr (inr (inl is)))))) = inr (inr (inr (inr (inr (inr (inr (inl is)))))))
   is_end (inr (inr (inr (inr (inr (inr is)))))) = inr (inr (inr (inr (inr (inr (inr (inr (inl is))))))))
 
-  did_run : Reports status → Why refused → (status ≡ 4 → refused ≡ refusal.Write) → (status ≡ 5 → refused ≡ refusal.Link) → DidRun status → Named held words (Accepted words.id)
+  did_run : Reports status → Why refused → (status ≡ 4 → refused ≡ refusal.Write) → (status ≡ 5 → refused ≡ refusal.Link) → DidRun status → Named held words (Accepted (fault_by words))
   did_run only why write link (inl is) = absurd (omega (arith, only, is))
   did_run only why write link (inr (inl is)) = write_of (subst Why (write is) why)
   did_run only why write link (inr (inr (inl is))) = link_of (subst Why (link is) why)

@@ -1,52 +1,42 @@
 -- How a run of `client` comes to its end.
-use Rattle.std.proofs.Common.{◌≡◌, ℕ, ◌⊎◌, true, false, List, [], ◌∷◌, inl, inr, refl, sym, ◌∙◌, ap, subst}
+use Rattle.std.proofs.Common.{◌≡◌, ℕ, ◌⊎◌, true, List, [], ◌∷◌, inl, inr, refl, sym, ◌∙◌, ap, subst}
 use Rattle.std.specs.Prelude.{Option, Some}
 use Rattle.std.specs.Cmp.{first_so, second_so}
 use Rattle.std.specs.List.{list_all, AllZip}
 use Rattle.sr_calls.specs.Runs.{RanNew}
+use Rattle.sr_cell.specs.declared.list.No.{No}
+use Rattle.sr_cell.specs.declared.list.No.TheVariants.{Refused as NoBut, NoMemory as Wanting}
 use Rattle.sr_cell.specs.declared.table.Table.{Table}
 use Rattle.sr_dial.specs.Following.{Ahead}
 use Rattle.sr_dial.specs.Jobs.{AreAhead}
-use Rattle.sr_dial.specs.Known.{IsTask, IsTaskLine, AreTasks}
+use Rattle.sr_dial.specs.Known.{AreTasks}
 use Rattle.sr_dial.specs.declared.ending.Ending.{Ending}
 use Rattle.sr_dial.specs.declared.ending.Ending.TheVariants.{Faulty, Unwritten, Spoiled, Bad as BadMessage, Limit as TooMany}
 use Rattle.sr_io.specs.Causes.{Rose}
 use Rattle.sr_io.specs.Told.{Reading, Linking, Writing}
 use Rattle.sr_lines.specs.Events.{ScriptEvent}
-use Rattle.sr_links.specs.Steps.{Queried, Wrote, Evicted, WasCut, Resumed}
+use Rattle.sr_links.specs.Steps.{Resumed}
 use Rattle.sr_plan.specs.Plans.{Next, plan_of}
-use Rattle.sr_reader.specs.declared.script.Event.{Event}
-use Rattle.sr_reader.specs.declared.script.Event.TheVariants as read
 use Rattle.sr_reader.specs.declared.script.EventLine.{EventLine}
-use Rattle.sr_reader.specs.Read.{IsEvent, IsEventLine}
-use Rattle.sr_setup.specs.ClientFiles.{client_outside, ClientRefuses, IsAsked, is_own}
+use Rattle.sr_report.specs.Plans.{task_of}
+use Rattle.sr_report.proofs.Entries.{task_for}
+use Rattle.sr_reader.specs.Read.{IsEventLine}
+use Rattle.sr_setup.specs.ClientFiles.{IsAsked, is_own, script_outside, Refuses as RefusesCreate}
 use Rattle.sr_setup.specs.declared.client_setup.ClientFault.{ClientFault}
 use Rattle.sr_setup.specs.declared.client_setup.ClientFault.TheVariants as fault
 use Rattle.sr_cell.specs.declared.fault.Fault.{Fault}
-use Rattle.sr_dial.specs.Calls.{Task, Do, Explain}
+use Rattle.sr_dial.specs.Calls.{Task, Do}
+use Rattle.sr_words.specs.declared.command.ClientKind.{ClientKind}
 use Rattle.sr_words.specs.declared.command.ClientWords.{ClientWords}
 use Rattle.sr_cli.specs.Files.{SomeTooLong}
-use Rattle.sr_cli.specs.Client.{AsksLines, Ends, IsTaskOf, NotRead, Stops, Untouched, ending_of, files_of, task_of}
-use Rattle.sr_cli.specs.declared.client.Stop.{Stop}
-use Rattle.sr_cli.specs.declared.client.Stop.TheVariants as stop
+use Rattle.sr_cli.specs.Client.{Ends, NotRead, Stops, Untouched, ending_of, files_of, stop_of}
+use Rattle.sr_cli.specs.Kinds.{AsksFor, AsksLines, IsTaskOf, fault_by, keeps_of}
+use Rattle.sr_cli.specs.declared.stop.Stop.{Stop}
+use Rattle.sr_cli.specs.declared.stop.Stop.TheVariants as stop
 use Rattle.sr_cli.specs.declared.report.Refusal.{Refusal}
 use Rattle.sr_cli.specs.declared.report.Refusal.TheVariants as refusal
 
 -- ---- what the lines ask
-
-task_for : (id : ℕ) (tables : List Table) (event : Event) (meaning : ScriptEvent) → IsEvent tables event meaning → is_own id event ≡ true
-    → (task : Task) × IsTask tables event task × (task_of meaning ≡ Some task)
-task_for id tables (read.Query n query) meaning is own = (Do (Queried is.0), (is.0, is.1, refl), ap task_of is.2)
-task_for id tables (read.Write n sql) meaning is own = (Do (Wrote sql), refl, ap task_of is)
-task_for id tables (read.Evict n place) meaning is own = (Do (Evicted place), refl, ap task_of is)
-task_for id tables (read.Cut n) meaning is own = (Do WasCut, refl, ap task_of is)
-task_for id tables (read.Resume n) meaning is own = (Do Resumed, refl, ap task_of is)
-task_for id tables (read.Explain n query) meaning is own = (Explain is.0, is.1, ap task_of is.2)
-task_for id tables (read.Exec statement) meaning is own = absurd cc
-task_for id tables (read.Push n) meaning is own = absurd cc
-task_for id tables (read.ToServer n) meaning is own = absurd cc
-task_for id tables (read.ToClient n) meaning is own = absurd cc
-task_for id tables (read.Settle n) meaning is own = absurd cc
 
 -- each event of the client's own asks something of it
 pub tasks_of : (id : ℕ) (tables : List Table) (lines : List EventLine) (events : List (ℕ × ScriptEvent)) → AllZip (IsEventLine tables) lines events → list_all (λ line. is_own id line.event) lines ≡ true
@@ -75,12 +65,23 @@ some_ahead id schema script tables lines asked =
       record { tasks = tasks.0; are = tasks.1; ahead_is = λ answer. refl },
     )
 
--- a client that was set up ran, and ended so
-pub ends_by : (schema script : List ℕ) (words : ClientWords) (tables : List Table) (lines : List EventLine) (ending : Ending) (old new : Linking) (before after : Writing) → IsAsked words.id schema script tables lines
-    → ((ahead : Ahead) → AreAhead tables lines ahead → RanNew words.id words.address tables words.limits false true (Next 0 (Do Resumed) ahead) ending old new before after) → Ends schema script words ending old new before after
-ends_by schema script words tables lines ending old new before after asked ran =
-    let some = some_ahead words.id schema script tables lines asked in
-    record { tables = tables; ahead = some.0; asks = some.1; ran = ran some.0 some.2 }
+-- a client of this kind, for which the files ask so, ran, and ended so
+pub ends_for : (schema script : List ℕ) (words : ClientWords) (k : ClientKind) (tables : List Table) (ahead : Ahead) (ending : Ending) (old new : Linking) (before after : Writing) → words.kind ≡ k → AsksFor k words.id schema script tables ahead
+    → RanNew words.id words.address tables words.limits (keeps_of k) true (Next 0 (Do Resumed) ahead) ending old new before after → Ends schema script words ending old new before after
+ends_for schema script words k tables ahead ending old new before after is asks ran = record {
+  tables = tables;
+  ahead = ahead;
+  asks = subst (λ kind. AsksFor kind words.id schema script tables ahead) (sym is) asks;
+  ran = subst (λ kind. RanNew words.id words.address tables words.limits (keeps_of kind) true (Next 0 (Do Resumed) ahead) ending old new before after) (sym is) ran;
+}
+
+-- files that are not set up
+pub stops_unset : (schema script : List ℕ) (words : ClientWords) (no : No ClientFault) (l : Linking) (w : Writing)
+    → ((line place : ℕ) → no ≡ NoBut (fault.Line line place) → script_outside (fault_by words) schema script ≡ Some (record { line = line; place = place }))
+    → ((line : ℕ) (why : Fault) → no ≡ NoBut (fault.Create line why) → RefusesCreate (fault_by words) schema script line why) → Stops schema script words l l w w (stop_of no)
+stops_unset schema script words Wanting l w line create = tt
+stops_unset schema script words (NoBut (fault.Line at place)) l w line create = (line at place refl, record { linking = refl; writing = refl })
+stops_unset schema script words (NoBut (fault.Create at why)) l w line create = (create at why refl, record { linking = refl; writing = refl })
 
 ends_as : (schema script : List ℕ) (words : ClientWords) (old new : Linking) (before after : Writing) (ending other : Ending) → (let some : Option Ending = Some other in some) ≡ Some ending → Ends schema script words ending old new before after
     → Ends schema script words other old new before after

@@ -1,7 +1,7 @@
 -- What a run comes to whose files are not read.
 use Rattle.std.proofs.Common.{◌≡◌, ◌⊎◌, inl, inr}
 use Rattle.std.specs.Prelude.{Err, IsErrOf}
-use Rattle.sr_cli.specs.declared.client.Stop.TheVariants.{Refused}
+use Rattle.sr_cli.specs.declared.stop.Stop.TheVariants.{Refused}
 use Rattle.sr_cli.specs.declared.report.Refusal.{Refusal}
 use Rattle.sr_cli.specs.declared.report.Refusal.TheVariants.{Read, Memory, TooLong}
 

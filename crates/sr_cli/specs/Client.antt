@@ -1,31 +1,31 @@
--- What `client` does, and why it ends with each status.
-use Rattle.std.specs.Prelude.{◌≡◌, ℕ, ◌⊎◌, true, false, List, [], ◌∷◌, Option, Some, None}
-use Rattle.std.specs.List.{AllZip}
+-- What a client does, of each kind, and why it ends with each status.
+use Rattle.std.specs.Prelude.{◌≡◌, ℕ, ◌⊎◌, Bool, true, List, [], ◌∷◌, Option, Some, None}
 use Rattle.sr_calls.specs.Runs.{RanNew}
 use Rattle.sr_cell.specs.declared.fault.Fault.{Fault}
+use Rattle.sr_cell.specs.declared.list.No.{No}
+use Rattle.sr_cell.specs.declared.list.No.TheVariants.{Refused as NoBut, NoMemory as Wanting}
 use Rattle.sr_cell.specs.declared.table.Table.{Table}
 use Rattle.sr_dial.specs.Following.{Ahead}
-use Rattle.sr_dial.specs.Known.{AreTasks}
 use Rattle.sr_dial.specs.declared.ending.Ending.{Ending}
 use Rattle.sr_dial.specs.declared.ending.Ending.TheVariants.{Whole, Faulty, Unwritten, Spoiled, Bad as BadMessage, Limit as TooMany}
 use Rattle.sr_io.specs.Causes.{Rose}
 use Rattle.sr_io.specs.Told.{Reading, Writing, Linking, complained}
-use Rattle.sr_lines.specs.Events.{ScriptEvent, DoQuery, DoWrite, DoExplain, DoEvict, DoCut, DoResume}
 use Rattle.sr_lines.specs.Script.{LinePlace}
-use Rattle.sr_links.specs.Steps.{Queried, Wrote, Evicted, WasCut, Resumed}
-use Rattle.sr_plan.specs.Plans.{Next, plan_of}
-use Rattle.sr_reader.specs.declared.script.EventLine.{EventLine}
-use Rattle.sr_setup.specs.ClientFiles.{client_outside, ClientRefuses, IsAsked}
+use Rattle.sr_links.specs.Steps.{Resumed}
+use Rattle.sr_plan.specs.Plans.{Next}
+use Rattle.sr_setup.specs.ClientFiles.{script_outside, Refuses as RefusesCreate}
 use Rattle.sr_setup.specs.declared.client_setup.ClientFault.{ClientFault}
 use Rattle.sr_setup.specs.declared.client_setup.ClientFault.TheVariants as fault
 use Rattle.sr_wire.specs.declared.bad_frame.BadFrame.{BadFrame}
 use Rattle.sr_wire.specs.declared.wire_fault.WireFault.{WireFault}
-use Rattle.sr_dial.specs.Calls.{Task, Do, Explain}
+use Rattle.sr_dial.specs.Calls.{Do}
 use Rattle.sr_words.specs.declared.command.ClientWords.{ClientWords}
 use Rattle.sr_cli.specs.Files.{IsWhatIsHeld, SomeTooLong, IsLong}
+use Rattle.sr_cli.specs.Kinds.{AsksFor, fault_by, keeps_of}
 use Rattle.sr_cli.specs.Errors.{line_text, setup_text, spoiled_text, bad_text}
-use Rattle.sr_cli.specs.declared.client.Stop.{Stop}
-use Rattle.sr_cli.specs.declared.client.Stop.TheVariants as stop
+use Rattle.sr_cli.specs.declared.kinds.Files.{Files}
+use Rattle.sr_cli.specs.declared.stop.Stop.{Stop}
+use Rattle.sr_cli.specs.declared.stop.Stop.TheVariants as stop
 use Rattle.sr_cli.specs.declared.report.Refusal.{Refusal}
 use Rattle.sr_cli.specs.declared.report.Refusal.TheVariants as refusal
 
@@ -42,37 +42,13 @@ pub record AreFiles (held : List ℕ → Option (List ℕ)) (words : ClientWords
 
 -- ---- the run
 
--- what an event of a script asks of its client; statements, pushes and deliveries ask nothing of it
-abbrev pub task_of : ScriptEvent → Option Task
-task_of (DoQuery n query) = Some (Do (Queried query))
-task_of (DoWrite n sql) = Some (Do (Wrote sql))
-task_of (DoExplain n query) = Some (Explain query)
-task_of (DoEvict n place) = Some (Do (Evicted place))
-task_of (DoCut n) = Some (Do WasCut)
-task_of (DoResume n) = Some (Do Resumed)
-task_of other = None
-
--- with the number of its line
-abbrev pub IsTaskOf : ℕ × ScriptEvent → ℕ × Task → Type 0
-IsTaskOf event numbered = (task : Task) × (task_of event.1 ≡ Some task) × (numbered ≡ (event.0, task))
-
--- Files are judged and read, and this is ahead of their client behind its first resume: the tasks of the script's events, in order, whatever
--- is answered.
-pub record AsksLines (id : ℕ) (schema script : List ℕ) (tables : List Table) (ahead : Ahead) : Type 0 where
-  pub lines : List EventLine
-  pub tasks : List (ℕ × Task)
-  pub asked : IsAsked id schema script tables lines
-  pub are : AreTasks tables lines tasks
-  pub follow : AllZip IsTaskOf asked.asked.events tasks
-  pub ahead_is : ahead ≡ (λ answer. plan_of tasks)
-
 -- Files are judged and read, and the client of this number ran over a link: it resumed, did what they ask, dialled nothing but the address
 -- in its words, and ended so.
 pub record Ends (schema script : List ℕ) (words : ClientWords) (ending : Ending) (old new : Linking) (before after : Writing) : Type 0 where
   pub tables : List Table
   pub ahead : Ahead
-  pub asks : AsksLines words.id schema script tables ahead
-  pub ran : RanNew words.id words.address tables words.limits false true (Next 0 (Do Resumed) ahead) ending old new before after
+  pub asks : AsksFor words.kind words.id schema script tables ahead
+  pub ran : RanNew words.id words.address tables words.limits (keeps_of words.kind) true (Next 0 (Do Resumed) ahead) ending old new before after
 
 -- the same, of files that were read
 pub record Dialled (held : List ℕ → Option (List ℕ)) (words : ClientWords) (ending : Ending) (old new : Linking) (before after : Writing) : Type 0 where
@@ -88,14 +64,14 @@ pub record IsOutside (held : List ℕ → Option (List ℕ)) (words : ClientWord
   pub schema : List ℕ
   pub script : List ℕ
   pub files : AreFiles held words schema script
-  pub first : client_outside words.id schema script ≡ Some (record { line = line; place = place })
+  pub first : script_outside (fault_by words) schema script ≡ Some (record { line = line; place = place })
 
 -- files were read, and the first CREATE line that is refused is this one, with this fault
 pub record IsRefusedCreate (held : List ℕ → Option (List ℕ)) (words : ClientWords) (line : ℕ) (fault : Fault) : Type 0 where
   pub schema : List ℕ
   pub script : List ℕ
   pub files : AreFiles held words schema script
-  pub refuses : ClientRefuses words.id schema script line fault
+  pub refuses : RefusesCreate (fault_by words) schema script line fault
 
 -- ---- the error output
 
@@ -150,15 +126,15 @@ AreLong schema script = IsLong schema ⊎ IsLong script
 abbrev pub DidRun : ℕ → Type 0
 DidRun status = (status ≡ 0) ⊎ (status ≡ 4) ⊎ (status ≡ 5) ⊎ (status ≡ 8) ⊎ (status ≡ 11)
 
--- what a host without faults that holds the files lets the status of the client of this number be
-pub record FitsFiles (id : ℕ) (schema script : List ℕ) (status : ℕ) : Type 0 where
+-- what a host without faults that holds the files, where a line of the script has such faults, lets the status of the client be
+pub record FitsFiles (line_fault : List ℕ → Option ℕ) (schema script : List ℕ) (status : ℕ) : Type 0 where
   pub no_read_fault : ¬ (status ≡ 3)
   pub long : AreLong schema script → (status ≡ 9) ⊎ (status ≡ 10)
   pub too_long : status ≡ 10 → AreLong schema script
-  pub line : status ≡ 6 → (at : LinePlace) × (client_outside id schema script ≡ Some at)
-  pub refused : status ≡ 7 → (line : ℕ) × (fault : Fault) × ClientRefuses id schema script line fault
-  pub inside : DidRun status → client_outside id schema script ≡ None
-  pub accepts : DidRun status → (line : ℕ) (fault : Fault) → ¬ ClientRefuses id schema script line fault
+  pub line : status ≡ 6 → (at : LinePlace) × (script_outside line_fault schema script ≡ Some at)
+  pub refused : status ≡ 7 → (line : ℕ) × (fault : Fault) × RefusesCreate line_fault schema script line fault
+  pub inside : DidRun status → script_outside line_fault schema script ≡ None
+  pub accepts : DidRun status → (line : ℕ) (fault : Fault) → ¬ RefusesCreate line_fault schema script line fault
 
 -- ---- a run
 
@@ -173,7 +149,7 @@ pub record Dials (H : Type 0) (held : H → List ℕ → Option (List ℕ)) (rea
   pub too_long : status ≡ 10 → SomeTooLong (held old) (reading new).left (files_of words)
   pub line : status ≡ 6 → NamedLine (held old) words (complaints old) (complaints new)
   pub refused : status ≡ 7 → NamedCreate (held old) words (complaints old) (complaints new)
-  pub steady : IsSteady old → (schema script : List ℕ) → AreHeld (held old) words schema script → FitsFiles words.id schema script status
+  pub steady : IsSteady old → (schema script : List ℕ) → AreHeld (held old) words schema script → FitsFiles (fault_by words) schema script status
 
 -- ---- inside the crate
 
@@ -182,10 +158,11 @@ pub record Untouched (old new : Linking) (before after : Writing) : Type 0 where
   pub linking : new ≡ old
   pub writing : after ≡ before
 
--- what is said of files that are refused
-abbrev pub refusal_of : ClientFault → Refusal
-refusal_of (fault.Line line place) = refusal.Line line place
-refusal_of (fault.Create line why) = refusal.Setup line why
+-- why a run stops whose files are not set up
+abbrev pub stop_of : No ClientFault → Stop
+stop_of Wanting = stop.Refused refusal.Memory
+stop_of (NoBut (fault.Line line place)) = stop.Refused (refusal.Line line place)
+stop_of (NoBut (fault.Create line why)) = stop.Refused (refusal.Setup line why)
 
 -- how a run ended that stopped so, if it began
 abbrev pub ending_of : Stop → Option Ending
@@ -201,8 +178,8 @@ abbrev pub Refuses : List ℕ → List ℕ → ClientWords → Linking → Linki
 Refuses schema script words old new before after refusal.Write = Ends schema script words Unwritten old new before after
 Refuses schema script words old new before after refusal.Link = Ends schema script words Faulty old new before after
 Refuses schema script words old new before after refusal.Memory = Unit {0}
-Refuses schema script words old new before after (refusal.Line line place) = (client_outside words.id schema script ≡ Some (record { line = line; place = place })) × Untouched old new before after
-Refuses schema script words old new before after (refusal.Setup line fault) = ClientRefuses words.id schema script line fault × Untouched old new before after
+Refuses schema script words old new before after (refusal.Line line place) = (script_outside (fault_by words) schema script ≡ Some (record { line = line; place = place })) × Untouched old new before after
+Refuses schema script words old new before after (refusal.Setup line fault) = RefusesCreate (fault_by words) schema script line fault × Untouched old new before after
 Refuses schema script words old new before after other = ⊥
 
 -- why it stops
@@ -212,7 +189,19 @@ Stops schema script words old new before after (stop.Spoiled fault) = Ends schem
 Stops schema script words old new before after (stop.Bad why) = Ends schema script words (BadMessage why) old new before after
 Stops schema script words old new before after stop.Limit = Ends schema script words TooMany old new before after
 
--- the same, of files that were read
+-- how a run over a host ended, and why it stops, of the files that were read
+abbrev pub EndsOver : (H : Type 0) → (H → Linking) → (H → Writing) → H → H → Files → ClientWords → Ending → Type 0
+EndsOver H linking writing old new files words ending = Ends files.schema files.script words ending (linking old) (linking new) (writing old) (writing new)
+
+abbrev pub StopsBy : (H : Type 0) → (H → Linking) → (H → Writing) → H → H → Files → ClientWords → Stop → Type 0
+StopsBy H linking writing old new files words why = Stops files.schema files.script words (linking old) (linking new) (writing old) (writing new) why
+
+-- what a new client of these words did over a host that a plan is ahead of
+abbrev pub RunsAs : (H : Type 0) → (H → Linking) → (H → Writing) → H → H → ClientWords → Bool → List Table → Ahead → Ending → Type 0
+RunsAs H linking writing old new words keeps tables ahead ending =
+    RanNew words.id words.address tables words.limits keeps true (Next 0 (Do Resumed) ahead) ending (linking old) (linking new) (writing old) (writing new)
+
+-- why a run stops, of the files that the words name
 pub record StopsOver (held : List ℕ → Option (List ℕ)) (words : ClientWords) (old new : Linking) (before after : Writing) (why : Stop) : Type 0 where
   pub schema : List ℕ
   pub script : List ℕ

@@ -1,5 +1,5 @@
-//! The five commands, with their statuses and error lines: replays a script, explains a query behind it, serves tables, runs a client of a
-//! server, or makes a script.
+//! The commands, with their statuses and error lines: replays a script, explains a query behind it, serves tables, runs a client of a
+//! server, of each kind, or makes a script.
 #![tactic(auto)]
 
 mod client;
@@ -7,8 +7,10 @@ mod explain;
 mod file;
 mod frames;
 mod generate;
+mod kinds;
 mod loads;
 mod replay;
 mod report;
 pub mod run;
 mod serve;
+mod stop;

@@ -21,6 +21,7 @@ client a --id=64 --schema=- -
 client --id 1 --schema= a f
 client --id 1 --schema s  f
 client --rows 1 --regions 2 --policy distance --id 3 --schema s 127.0.0.1:4711 f
+report --id 1 --schema s --regions 0 a f
 serve --schema s a 1
 serve --log 5 --exec e --schema s a 1000000 t=g u=h
 serve --schema s --exec= a 1
@@ -73,6 +74,11 @@ client --id 1 --schema s a
 client --id 1 --schema s a f g
 client --id 1 --schema -s a f
 client --id 1 --schema s --log 1 a f
+report --id 65 --schema s a f
+report --id 1 a f
+report --id 1 --schema s a f g
+report --eager --id 1 --schema s a f
+Report --id 1 --schema s a f
 serve a 1
 serve --schema s a
 serve --schema s a 0

@@ -11,12 +11,13 @@ use Rattle.sr_words.specs.declared.command.Command.{Command}
 use Rattle.sr_words.specs.declared.command.Command.TheVariants.{Replay, Client, Serve, Explain, Generate}
 use Rattle.sr_words.specs.declared.command.Setup.{Setup}
 use Rattle.sr_words.specs.declared.command.ReplayWords.{ReplayWords}
+use Rattle.sr_words.specs.declared.command.ClientKind.{ClientKind}
 use Rattle.sr_words.specs.declared.command.ClientWords.{ClientWords}
 use Rattle.sr_words.specs.declared.command.ServeWords.{ServeWords}
 use Rattle.sr_words.specs.declared.command.ExplainWords.{ExplainWords}
 use Rattle.sr_words.specs.declared.command.GenerateWords.{GenerateWords}
 use Rattle.sr_words.specs.Forms.{rows_in, replay_form, client_form, serve_form, explain_form, generate_form}
-use Rattle.sr_words.specs.Words.{are_digits, number_of, number_or, number_in, policy_of, loads_of, limits_of, log_of, setup_of, replay_of, client_of, serve_of, explain_of, generate_of, replay_words, client_words, serve_words, explain_words, generate_words, command_by, command_of}
+use Rattle.sr_words.specs.Words.{are_digits, number_of, number_or, number_in, policy_of, loads_of, limits_of, log_of, setup_of, replay_of, client_of, serve_of, explain_of, generate_of, replay_words, client_words, kind_of, kind_words, serve_words, explain_words, generate_words, command_by, command_of}
 use Rattle.sr_words.specs.Ranges.{AreLimits, IsSetup, IsInRange}
 use Rattle.sr_words.specs.Reads.{Reads}
 use Rattle.sr_words.specs.declared.fault.WordsFault.{WordsFault}
@@ -84,8 +85,8 @@ replay found said is =
     let loads = step _ (loads_of found) said script.2 in
     subst (λ w. IsInRange (Replay w)) (same _ said loads.2) (setup found how.0 how.1)
 
-client : (found : List Row) (said : ClientWords) → client_of found ≡ Some said → IsInRange (Client said)
-client found said is =
+client : (kind : ClientKind) (found : List Row) (said : ClientWords) → client_of kind found ≡ Some said → IsInRange (Client said)
+client kind found said is =
     let kept = step _ (limits_of found) said is in
     let id = step _ (number_in 1 64 (first_of (codes "id") found)) said kept.2 in
     let schema = step _ (first_of (codes "schema") found) said id.2 in
@@ -128,22 +129,29 @@ of_form make read found said fits is =
     let rows = step read found words.0 words.1 in
     subst IsInRange words.2 (fits rows.0 words.0 rows.2)
 
+-- a client, by the name of its kind
+of_kind : (name : List ℕ) (words : List (List ℕ)) (said : Command) → option_map Client (kind_words name words) ≡ Some said → IsInRange said
+of_kind name words said is =
+    let read = mapped Client (kind_words name words) said is in
+    let kind = step (λ kind. client_words name kind words) (kind_of name) read.0 read.1 in
+    let rows = step (client_of kind.0) (rows_in (client_form name) words) read.0 kind.2 in
+    subst IsInRange read.2 (client kind.0 rows.0 read.0 rows.2)
+
 in_range_by : (name : List ℕ) (words : List (List ℕ)) (said : Command) → command_by name words ≡ Some said → IsInRange said
-in_range_by name words said = by (bytes_eq name (codes "replay")) (bytes_eq name (codes "client")) (bytes_eq name (codes "serve")) (bytes_eq name (codes "explain")) (bytes_eq name (codes "generate"))
+in_range_by name words said = by (bytes_eq name (codes "replay")) (bytes_eq name (codes "serve")) (bytes_eq name (codes "explain")) (bytes_eq name (codes "generate"))
   where
-    by : (r c s e g : Bool)
+    by : (r s e g : Bool)
         → (if r then option_map Replay (replay_words words)
-        else (if c then option_map Client (client_words words)
         else (if s then option_map Serve (serve_words words)
         else (if e then option_map Explain (explain_words words)
-        else (if g then option_map Generate (generate_words words) else None))))) ≡ Some said
+        else (if g then option_map Generate (generate_words words)
+        else option_map Client (kind_words name words))))) ≡ Some said
         → IsInRange said
-    by true c s e g is = of_form Replay replay_of (rows_in replay_form words) said replay is
-    by false true s e g is = of_form Client client_of (rows_in client_form words) said client is
-    by false false true e g is = of_form Serve serve_of (rows_in serve_form words) said serve is
-    by false false false true g is = of_form Explain explain_of (rows_in explain_form words) said explain is
-    by false false false false true is = of_form Generate generate_of (rows_in generate_form words) said generate is
-    by false false false false false is = absurd cc
+    by true s e g is = of_form Replay replay_of (rows_in replay_form words) said replay is
+    by false true e g is = of_form Serve serve_of (rows_in serve_form words) said serve is
+    by false false true g is = of_form Explain explain_of (rows_in explain_form words) said explain is
+    by false false false true is = of_form Generate generate_of (rows_in generate_form words) said generate is
+    by false false false false is = of_kind name words said is
 
 pub in_range : (words : List (List ℕ)) (said : Command) → command_of words ≡ Some said → IsInRange said
 unfolding command_of

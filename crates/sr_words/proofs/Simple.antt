@@ -1,7 +1,8 @@
--- The five commands are simple, and no word of theirs has a rule on another.
+-- The commands are simple, and no word of theirs has a rule on another.
 use Rattle.std.proofs.Common.{◌≡◌, true, ap}
 use Rattle.clap.specs.Faults.{is_simple_and_free}
 use Rattle.clap.specs.Simple.{app_of}
+use Rattle.clap.specs.Walk.{Text}
 use Rattle.clap.specs.declared.builder.command.Command.{Command}
 use Rattle.sr_words.specs.Forms.{replay_form, client_form, serve_form, explain_form, generate_form}
 
@@ -9,9 +10,9 @@ pub simple_replay : (c : Command) → app_of c ≡ replay_form → is_simple_and
 unfolding replay_form
 simple_replay c is = ap is_simple_and_free is
 
-pub simple_client : (c : Command) → app_of c ≡ client_form → is_simple_and_free (app_of c) ≡ true
+pub simple_client : (c : Command) (name : Text) → app_of c ≡ client_form name → is_simple_and_free (app_of c) ≡ true
 unfolding client_form
-simple_client c is = ap is_simple_and_free is
+simple_client c name is = ap is_simple_and_free is
 
 pub simple_serve : (c : Command) → app_of c ≡ serve_form → is_simple_and_free (app_of c) ≡ true
 unfolding serve_form

@@ -4,6 +4,7 @@ use Rattle.clap.specs.Walk.{Row}
 use Rattle.clap.specs.declared.builder.value_parser.Reading.TheVariants.{AsWritten}
 use Rattle.clap.specs.declared.parser.matches.ValueSource.TheVariants.{CommandLine}
 use Rattle.sr_policy.specs.declared.policy.Policy.TheVariants.{Recency}
+use Rattle.sr_words.specs.declared.command.ClientKind.TheVariants.{Client}
 use Rattle.sr_words.specs.declared.command.ClientWords.{ClientWords}
 
 abbrev pub found : List ℕ → List ℕ → Row
@@ -16,6 +17,7 @@ with_id id = found (codes "id") id ∷ found (codes "schema") (codes "s") ∷ fo
 -- a client of that number, with the budgets that it has where no option says them
 abbrev pub client_numbered : ℕ → ClientWords
 client_numbered id = record {
+  kind = Client;
   limits = record { rows = 10000; regions = 64; policy = Recency };
   id = id;
   schema = codes "s";

@@ -34,7 +34,7 @@ form name rules = record { top = record (new_shape name) { disable_help_flag = t
 unfoldable pub rows_in : App → List Text → Option (List Row)
 rows_in app words = if is_empty (fault_of app words) then Some (matches_of app words) else None
 
--- ---- the five commands
+-- ---- the commands
 
 -- `replay [--eager] [--rows N] [--regions N] [--policy P] [--log N] [--clients N] FILE [TABLE=FILE ..]`
 unfoldable pub replay_form : App
@@ -49,9 +49,9 @@ replay_form = form (codes "replay") (
     ∷ rest_rule (codes "loads")
     ∷ [])
 
--- `client [--rows N] [--regions N] [--policy P] --id C --schema FILE ADDRESS FILE`
-unfoldable pub client_form : App
-client_form = form (codes "client") (
+-- `client [--rows N] [--regions N] [--policy P] --id C --schema FILE ADDRESS FILE`, or another name in its place
+unfoldable pub client_form : Text → App
+client_form name = form name (
     option_rule (codes "rows")
     ∷ option_rule (codes "regions")
     ∷ option_rule (codes "policy")

@@ -14,6 +14,8 @@ use Rattle.sr_words.specs.declared.command.Command.TheVariants.{Replay, Client, 
 use Rattle.sr_words.specs.declared.command.Setup.{Setup}
 use Rattle.sr_words.specs.declared.command.LoadWord.{LoadWord}
 use Rattle.sr_words.specs.declared.command.ReplayWords.{ReplayWords}
+use Rattle.sr_words.specs.declared.command.ClientKind.{ClientKind}
+use Rattle.sr_words.specs.declared.command.ClientKind.TheVariants as kind
 use Rattle.sr_words.specs.declared.command.ClientWords.{ClientWords}
 use Rattle.sr_words.specs.declared.command.ServeWords.{ServeWords}
 use Rattle.sr_words.specs.declared.command.ExplainWords.{ExplainWords}
@@ -108,14 +110,14 @@ replay_of found = do
   loads ← loads_of found
   Some (record { setup = setup; script = script; loads = loads })
 
-abbrev pub client_of : List Row → Option ClientWords
-client_of found = do
+abbrev pub client_of : ClientKind → List Row → Option ClientWords
+client_of kind found = do
   limits ← limits_of found
   id ← number_in 1 64 (first_of (codes "id") found)
   schema ← first_of (codes "schema") found
   address ← first_of (codes "address") found
   script ← first_of (codes "file") found
-  Some (record { limits = limits; id = id; schema = schema; address = address; script = script })
+  Some (record { kind = kind; limits = limits; id = id; schema = schema; address = address; script = script })
 
 abbrev pub serve_of : List Row → Option ServeWords
 serve_of found = do
@@ -142,8 +144,20 @@ generate_of found = do
 abbrev pub replay_words : List (List ℕ) → Option ReplayWords
 replay_words words = rows_in replay_form words >>= replay_of
 
-abbrev pub client_words : List (List ℕ) → Option ClientWords
-client_words words = rows_in client_form words >>= client_of
+-- the kind of client that a name asks for
+abbrev pub kind_of : List ℕ → Option ClientKind
+kind_of name =
+    if bytes_eq name (codes "client") then Some kind.Client
+    else (if bytes_eq name (codes "report") then Some kind.Report else None)
+
+abbrev pub client_words : List ℕ → ClientKind → List (List ℕ) → Option ClientWords
+client_words name kind words = rows_in (client_form name) words >>= client_of kind
+
+-- All kinds have the words of `client`.
+abbrev pub kind_words : List ℕ → List (List ℕ) → Option ClientWords
+kind_words name words = do
+  kind ← kind_of name
+  client_words name kind words
 
 abbrev pub serve_words : List (List ℕ) → Option ServeWords
 serve_words words = rows_in serve_form words >>= serve_of
@@ -158,11 +172,10 @@ generate_words words = rows_in generate_form words >>= generate_of
 abbrev pub command_by : List ℕ → List (List ℕ) → Option Command
 command_by name words =
     if bytes_eq name (codes "replay") then option_map Replay (replay_words words)
-    else (if bytes_eq name (codes "client") then option_map Client (client_words words)
     else (if bytes_eq name (codes "serve") then option_map Serve (serve_words words)
     else (if bytes_eq name (codes "explain") then option_map Explain (explain_words words)
     else (if bytes_eq name (codes "generate") then option_map Generate (generate_words words)
-    else None))))
+    else option_map Client (kind_words name words))))
 
 -- What the words ask for: the first of them names the command, and all are in its form. Other words ask for nothing.
 unfoldable pub command_of : List (List ℕ) → Option Command

@@ -40,9 +40,19 @@ pub struct LoadWord {
 
 pub type LoadWords = Seq<LoadWord>;
 
+/// What a client does with the lines of its script.
+#[derive(Drop)]
+pub enum ClientKind {
+    /// What each line asks.
+    Client,
+    /// The same; and lines of aggregates are answered from the rows of a query.
+    Report,
+}
+
 /// Run a script as the client of this number, over a link to that address.
 #[derive(Drop)]
 pub struct ClientWords {
+    pub kind: ClientKind,
     pub limits: Limits,
     pub id: u8,
     pub schema: Text,

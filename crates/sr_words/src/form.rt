@@ -82,9 +82,9 @@ pub fn replay_form<'a>(alloc: Global) -> Result<Command<'a>, NoMemory>
     command(alloc, "replay", args)
 }
 
-/// The form of `client`.
-pub fn client_form<'a>(alloc: Global) -> Result<Command<'a>, NoMemory>
-    ensures { IfOk result (λ c. app_of c ≡ client_form) }
+/// The form of `client`, under this name.
+pub fn client_form<'a>(alloc: Global, name: &'a str) -> Result<Command<'a>, NoMemory>
+    ensures { IfOk result (λ c. app_of c ≡ client_form name.entry.now) }
 {
     let args = vec![in alloc;
         option(alloc, "rows"),
@@ -95,7 +95,7 @@ pub fn client_form<'a>(alloc: Global) -> Result<Command<'a>, NoMemory>
         word(alloc, "address"),
         word(alloc, "file"),
     ]?;
-    command(alloc, "client", args)
+    command(alloc, name, args)
 }
 
 /// The form of `serve`.

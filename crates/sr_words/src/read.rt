@@ -5,12 +5,14 @@ ghost use Rattle.clap.specs.Walk.{rows_of};
 ghost use Rattle.clap.specs.Simple.{app_of};
 ghost use Rattle.clap.specs.Faults.{is_simple_and_free};
 ghost use Rattle.sr_words.specs.Forms.{rows_in};
-ghost use Rattle.sr_words.specs.Words.{replay_words, client_words, serve_words, explain_words, generate_words, command_by, command_of};
+ghost use Rattle.sr_words.specs.Words.{replay_words, client_words, kind_of, kind_words, serve_words, explain_words, generate_words, command_by, command_of};
 ghost use Rattle.sr_words.specs.Ranges.{IsInRange};
 ghost use Rattle.sr_words.specs.Reads.{Reads};
 ghost use Rattle.sr_words.specs.declared.fault.WordsFault.TheVariants.{NotInForm};
 
-use crate::command::{ClientWords, Command, ExplainWords, GenerateWords, ReplayWords, ServeWords};
+use crate::command::{
+    ClientKind, ClientWords, Command, ExplainWords, GenerateWords, ReplayWords, ServeWords,
+};
 use crate::fault::WordsFault;
 use crate::form::{client_form, explain_form, generate_form, replay_form, serve_form};
 use crate::said::{client_of, explain_of, generate_of, replay_of, serve_of};
@@ -63,10 +65,6 @@ fn command_by(alloc: Global, name: &str, words: &[&str]) -> Result<Command, Word
             Ok(words) => Ok(Command::Replay(words)),
             Err(fault) => Err(fault),
         },
-        "client" => match client_in(alloc, words) {
-            Ok(words) => Ok(Command::Client(words)),
-            Err(fault) => Err(fault),
-        },
         "serve" => match serve_in(alloc, words) {
             Ok(words) => Ok(Command::Serve(words)),
             Err(fault) => Err(fault),
@@ -79,7 +77,31 @@ fn command_by(alloc: Global, name: &str, words: &[&str]) -> Result<Command, Word
             Ok(words) => Ok(Command::Generate(words)),
             Err(fault) => Err(fault),
         },
-        _ => Err(WordsFault::NotInForm),
+        name => match kind_in(alloc, name, words) {
+            Ok(words) => Ok(Command::Client(words)),
+            Err(fault) => Err(fault),
+        },
+    }
+}
+
+/// What the words say to a client, by the name of a kind.
+fn kind_in(alloc: Global, name: &str, words: &[&str]) -> Result<ClientWords, WordsFault>
+    ensures { Reads (kind_words name.now (map (λ w. w.now) words.now)) result }
+{
+    match kind_of(name) {
+        Some(kind) => client_in(alloc, name, kind, words),
+        None => Err(WordsFault::NotInForm),
+    }
+}
+
+/// The kind of client that a name asks for.
+fn kind_of(name: &str) -> Option<ClientKind>
+    ensures { result ≡ kind_of name.now }
+{
+    match name {
+        "client" => Some(ClientKind::Client),
+        "report" => Some(ClientKind::Report),
+        _ => None,
     }
 }
 
@@ -97,15 +119,20 @@ fn replay_in(alloc: Global, words: &[&str]) -> Result<ReplayWords, WordsFault>
     }
 }
 
-/// What the words say to `client`.
+/// What the words say to a client of this kind, which is asked for by that name.
 #[tactic(auto, using(crate::proofs::Simple::simple_client))]
-fn client_in(alloc: Global, words: &[&str]) -> Result<ClientWords, WordsFault>
-    ensures { Reads (client_words (map (λ w. w.now) words.now)) result }
+fn client_in(
+    alloc: Global,
+    name: &str,
+    kind: ClientKind,
+    words: &[&str],
+) -> Result<ClientWords, WordsFault>
+    ensures { Reads (client_words name.now kind (map (λ w. w.now) words.now)) result }
 {
-    match client_form(alloc) {
+    match client_form(alloc, name) {
         Err(_) => Err(WordsFault::NoMemory),
         Ok(form) => match found_in(form, words) {
-            Ok(found) => client_of(alloc, &found),
+            Ok(found) => client_of(alloc, kind, &found),
             Err(fault) => Err(fault),
         },
     }

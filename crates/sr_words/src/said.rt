@@ -6,7 +6,7 @@ ghost use Rattle.sr_words.specs.Words.{limits_of, log_of, setup_of, loads_of, re
 ghost use Rattle.sr_words.specs.Reads.{Reads};
 
 use crate::command::{
-    ClientWords, ExplainWords, GenerateWords, LoadWords, ReplayWords, ServeWords, Setup,
+    ClientKind, ClientWords, ExplainWords, GenerateWords, LoadWords, ReplayWords, ServeWords, Setup,
 };
 use crate::fault::WordsFault;
 use crate::value::{
@@ -73,9 +73,13 @@ pub fn replay_of(alloc: Global, found: &ArgMatches<'_>) -> Result<ReplayWords, W
     })
 }
 
-/// What the words say to `client`.
-pub fn client_of(alloc: Global, found: &ArgMatches<'_>) -> Result<ClientWords, WordsFault>
-    ensures { Reads (client_of (rows_of (found_of found.now))) result }
+/// What the words say to a client of this kind.
+pub fn client_of(
+    alloc: Global,
+    kind: ClientKind,
+    found: &ArgMatches<'_>,
+) -> Result<ClientWords, WordsFault>
+    ensures { Reads (client_of kind (rows_of (found_of found.now))) result }
 {
     let limits = limits_of(found).ok_or(WordsFault::NotInForm)?;
     let id = number_in(ID, value(found, "id")).ok_or(WordsFault::NotInForm)? as u8;
@@ -83,6 +87,7 @@ pub fn client_of(alloc: Global, found: &ArgMatches<'_>) -> Result<ClientWords, W
     let address = text_of(alloc, value(found, "address"))?;
     let script = text_of(alloc, value(found, "file"))?;
     Ok(ClientWords {
+        kind,
         limits,
         id,
         schema,

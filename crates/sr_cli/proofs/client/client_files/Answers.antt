@@ -1,6 +1,6 @@
 use Rattle.std.proofs.Common.{Err, inl, inr, ap}
 use Rattle.std.proofs.lemmas.Result.{on_ok_weaker, IfErr-weaker}
-use Rattle.sr_cli.specs.declared.client.Stop.TheVariants.{Refused}
+use Rattle.sr_cli.specs.declared.stop.Stop.TheVariants.{Refused}
 use Rattle.sr_cli.proofs.ClientLemmas.{not_read}
 use Rattle.sr_cli.proofs.Endings.{keeps, one_stop}
 use Rattle.sr_cli.proofs.client.client_files.Goals as goal

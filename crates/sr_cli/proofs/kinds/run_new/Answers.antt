@@ -1,4 +1,4 @@
-use Rattle.std.proofs.Common.{◌≡◌, ◌+◌, ◌≤◌, true, false, List, ℕ, None, refl, sym, ap, subst, ◌∙◌}
+use Rattle.std.proofs.Common.{◌≡◌, ◌+◌, ◌≤◌, true, List, ℕ, None, refl, sym, ap, subst, ◌∙◌}
 use Rattle.std.specs.Prelude.{◌*◌, IfOk}
 use Rattle.std.proofs.lemmas.Result.{IfOk-weaker}
 use Rattle.sr_cell.specs.declared.table.Table.{Table}
@@ -9,7 +9,7 @@ use Rattle.sr_dial.specs.Following.{Ahead}
 use Rattle.sr_calls.specs.ClientEnds.{End, Stands, room_of}
 use Rattle.sr_calls.specs.Runs.{RanFrom, RanNew, new_end, new_past}
 use Rattle.sr_calls.proofs.RunLemmas.{new_room, new_stands, ran_new}
-use Rattle.sr_cli.proofs.client.run_new.Goals as goal
+use Rattle.sr_cli.proofs.kinds.run_new.Goals as goal
 
 pub run_plan-requires-clause-schema : goal.run_plan-requires-clause-schema
 run_plan-requires-clause-schema g c = c.as_slice.ensures ∙ sym (ap (λ (e : End). e.client.schema) c.in_ok-end.ensures)
@@ -38,11 +38,11 @@ returns-clause-ran g c = λ ahead follows.
     let after = g.H.Outside.writing c.run_plan.new.host in
     let left = c.run_plan.new.end in
     let is = c.in_ok-end.ensures in
-    let stands = subst (λ (e : End). Stands e new_past) (sym is) (new_stands words.id schema words.limits false true c.requires.tables) in
+    let stands = subst (λ (e : End). Stands e new_past) (sym is) (new_stands words.id schema words.limits c.args.keeps true c.requires.tables) in
     let there = subst (λ (s : List Table). g.P.Plans.follows s c.args.plans.now ahead) (sym c.as_slice.ensures) follows in
     let ran = c.run_plan.ensures.ran new_past ahead stands refl refl there in
-    IfOk-weaker c.run_plan.result (λ ended. RanFrom (new_end words.id schema words.limits false true) new_past words.address (Next 0 (Do Resumed) ahead) ended old new before after left)
-    (λ ended. RanNew words.id words.address schema words.limits false true (Next 0 (Do Resumed) ahead) ended old new before after)
-    (λ ended from. ran_new words.id words.address schema words.limits false true (Next 0 (Do Resumed) ahead) ended old new before after left c.requires.tables from)
+    IfOk-weaker c.run_plan.result (λ ended. RanFrom (new_end words.id schema words.limits c.args.keeps true) new_past words.address (Next 0 (Do Resumed) ahead) ended old new before after left)
+    (λ ended. RanNew words.id words.address schema words.limits c.args.keeps true (Next 0 (Do Resumed) ahead) ended old new before after)
+    (λ ended from. ran_new words.id words.address schema words.limits c.args.keeps true (Next 0 (Do Resumed) ahead) ended old new before after left c.requires.tables from)
     (subst (λ (e : End). IfOk c.run_plan.result (λ ended. RanFrom e new_past words.address (Next 0 (Do Resumed) ahead) ended old new before after left)) is
     (subst (λ (a : List ℕ). IfOk c.run_plan.result (λ ended. RanFrom c.in_ok-end.end new_past a (Next 0 (Do Resumed) ahead) ended old new before after left)) c.as_str-address.ensures ran))

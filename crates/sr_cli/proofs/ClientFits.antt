@@ -93,6 +93,7 @@ pub record Accepted (line_fault : Faults) (schema script : List ℕ) : Type 0 wh
 accepted_for : (kind : ClientKind) (id : ℕ) (schema script : List ℕ) (tables : List Table) (ahead : Ahead) → AsksFor kind id schema script tables ahead → Accepted (line_fault kind id) schema script
 accepted_for kind.Client id schema script tables ahead asks = record { inside = asks.asked.inside; accepts = λ line fault r. asks.asked.accepts line fault r.first }
 accepted_for kind.Report id schema script tables ahead asks = record { inside = asks.inside; accepts = λ line fault r. asks.accepts line fault r.first }
+accepted_for kind.Semi id schema script tables ahead asks = record { inside = asks.inside; accepts = λ line fault r. asks.accepts line fault r.first }
 
 pub accepted : (schema script : List ℕ) (words : ClientWords) (ending : Ending) (old new : Linking) (before after : Writing) → Ends schema script words ending old new before after → Accepted (fault_by words) schema script
 accepted schema script words ending old new before after ends = accepted_for words.kind words.id schema script ends.tables ends.ahead ends.asks

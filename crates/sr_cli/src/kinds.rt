@@ -8,7 +8,7 @@ ghost use Rattle.sr_dial.specs.Calls.{Do};
 ghost use Rattle.sr_dial.specs.Following.{Ahead};
 ghost use Rattle.sr_dial.specs.declared.ending.Ending.TheVariants.{Whole};
 ghost use Rattle.sr_talk.specs.Rounds.{OnlyOutput};
-ghost use Rattle.sr_words.specs.declared.command.ClientKind.TheVariants.{Client as AsClient, Report as AsReport};
+ghost use Rattle.sr_words.specs.declared.command.ClientKind.TheVariants.{Client as AsClient, Report as AsReport, Semi as AsSemi};
 ghost use Rattle.sr_cli.specs.Client.{EndsOver, RunsAs, StopsBy};
 
 use crate::report::Refusal;
@@ -20,6 +20,7 @@ use sr_cell::schema::Schema;
 use sr_dial::ending::Ending;
 use sr_dial::plans::{Plans, Script as Lines};
 use sr_io::outside::Host;
+use sr_keyset::set_up::{SetUp as KeySetUp, set_up_key_sets};
 use sr_reader::script::Script;
 use sr_report::set_up::{SetUp, set_up_report};
 use sr_setup::client_setup::set_up_client;
@@ -123,6 +124,39 @@ fn run_report<H: Host>(
     }
 }
 
+/// Does what each line asks, and runs joins of two tables by key sets.
+fn run_semi<H: Host>(
+    alloc: Global,
+    words: &ClientWords,
+    files: &Files,
+    host: &mut H,
+) -> Result<Ending, Stop>
+    requires kind { words.now.kind ≡ AsSemi }
+    requires first { 1 ≤ words.now.id }
+    requires last { words.now.id ≤ 64 }
+    requires regions { words.now.limits.regions ≤ 1024 }
+    requires schema { length files.now.schema < 2 ^ 32 }
+    requires script { length files.now.script < 2 ^ 32 }
+    ensures ends { IfOk result (EndsOver H H.linking H.writing host.old host.new files.now words.now) }
+    ensures stopped { IfErr result (StopsBy H H.linking H.writing host.old host.new files.now words.now) }
+    ensures stays { OnlyOutput H H.reading H.held H.complaints H.IsSteady host.old host.new }
+{
+    let set_up = set_up_key_sets(
+        alloc,
+        words.id,
+        files.schema.as_slice(),
+        files.script.as_slice(),
+    );
+    let KeySetUp { schema, mut plans } = match set_up {
+        Ok(set_up) => set_up,
+        Err(no) => return Err(stop_of(no)),
+    };
+    match run_new(alloc, words, true, &schema, &mut plans, host) {
+        Ok(ending) => Ok(ending),
+        Err(_) => Err(Stop::Refused(Refusal::Memory)),
+    }
+}
+
 /// Judges and reads the files, and runs the script as the words' kind of client does.
 fn run_kind<H: Host>(
     alloc: Global,
@@ -142,6 +176,7 @@ fn run_kind<H: Host>(
     match words.kind {
         ClientKind::Client => run_lines(alloc, words, files, host),
         ClientKind::Report => run_report(alloc, words, files, host),
+        ClientKind::Semi => run_semi(alloc, words, files, host),
     }
 }
 

@@ -79,6 +79,8 @@ report --id 1 a f
 report --id 1 --schema s a f g
 report --eager --id 1 --schema s a f
 Report --id 1 --schema s a f
+semi --id 65 --schema s a f
+semi --id 1 --schema s a f g
 serve a 1
 serve --schema s a
 serve --schema s a 0

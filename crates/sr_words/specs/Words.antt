@@ -148,7 +148,8 @@ replay_words words = rows_in replay_form words >>= replay_of
 abbrev pub kind_of : List ℕ → Option ClientKind
 kind_of name =
     if bytes_eq name (codes "client") then Some kind.Client
-    else (if bytes_eq name (codes "report") then Some kind.Report else None)
+    else (if bytes_eq name (codes "report") then Some kind.Report
+    else (if bytes_eq name (codes "semi") then Some kind.Semi else None))
 
 abbrev pub client_words : List ℕ → ClientKind → List (List ℕ) → Option ClientWords
 client_words name kind words = rows_in (client_form name) words >>= client_of kind

@@ -47,6 +47,8 @@ pub enum ClientKind {
     Client,
     /// The same; and lines of aggregates are answered from the rows of a query.
     Report,
+    /// What each line asks, where joins of two tables ask the right one for the keys of the left one alone.
+    Semi,
 }
 
 /// Run a script as the client of this number, over a link to that address.

@@ -101,6 +101,7 @@ fn kind_of(name: &str) -> Option<ClientKind>
     match name {
         "client" => Some(ClientKind::Client),
         "report" => Some(ClientKind::Report),
+        "semi" => Some(ClientKind::Semi),
         _ => None,
     }
 }

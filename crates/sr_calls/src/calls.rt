@@ -58,7 +58,8 @@ pub(crate) fn act(
     requires ready { IsReady client.old }
     requires asks { (deed : Deed) × IsDeed client.old.schema event deed }
     requires room { 2 ≤ room_of client.old }
-    ensures made { (c : Past) (deed : Deed) → StandsFor c client.old → IsDeed client.old.schema event deed → IfOk result (Did keeps client.old client.new c deed) }
+    ensures made { (c : Past) (deed : Deed) → StandsFor c client.old → IsDeed client.old.schema event deed
+        → IfOk result (Did keeps client.old client.new c deed) }
     ensures sendable { IfOk result (λ done. All IsSendable done.told.sent) }
     ensures ready { IsReady client.new }
     ensures stays { Stays client.old client.new }
@@ -87,7 +88,8 @@ fn ask(
     requires ready { IsReady client.old }
     requires asks { (meaning : Result TheQuery TheFault) × Means client.old.schema query meaning }
     requires room { 2 ≤ room_of client.old }
-    ensures made { (c : Past) (meaning : Result TheQuery TheFault) → StandsFor c client.old → Means client.old.schema query meaning → IfOk result (Did keeps client.old client.new c (Queried meaning)) }
+    ensures made { (c : Past) (meaning : Result TheQuery TheFault) → StandsFor c client.old → Means client.old.schema query meaning
+        → IfOk result (Did keeps client.old client.new c (Queried meaning)) }
     ensures sendable { IfOk result (λ done. All IsSendable done.told.sent) }
     ensures ready { IsReady client.new }
     ensures stays { Stays client.old client.new }
@@ -114,7 +116,8 @@ fn judge(alloc: Global, client: &mut Client, keeps: bool, query: Query) -> Resul
     requires ready { IsReady client.old }
     requires meant { (meaning : TheQuery) × IsMeaning client.old.schema query meaning }
     requires room { 2 ≤ room_of client.old }
-    ensures made { (c : Past) (meaning : TheQuery) → StandsFor c client.old → IsMeaning client.old.schema query meaning → IfOk result (Did keeps client.old client.new c (Queried (Ok meaning))) }
+    ensures made { (c : Past) (meaning : TheQuery) → StandsFor c client.old → IsMeaning client.old.schema query meaning
+        → IfOk result (Did keeps client.old client.new c (Queried (Ok meaning))) }
     ensures sendable { IfOk result (λ done. All IsSendable done.told.sent) }
     ensures ready { IsReady client.new }
     ensures stays { Stays client.old client.new }
@@ -200,7 +203,8 @@ pub(crate) fn explain(
 ) -> Result<TraceLines, NoMemory>
     requires ready { IsReady client.now }
     requires means { (text : Result TheQuery TheFault) × Means client.now.schema query text }
-    ensures told { (c : Past) (text : Result TheQuery TheFault) → StandsFor c client.now → Means client.now.schema query text → IfOk result (DidExplain client.now c text) }
+    ensures told { (c : Past) (text : Result TheQuery TheFault) → StandsFor c client.now → Means client.now.schema query text
+        → IfOk result (DidExplain client.now c text) }
 {
     match query {
         Ok(query) => explain_query(alloc, client, &query),
@@ -212,7 +216,8 @@ pub(crate) fn explain(
 fn explain_query(alloc: Global, client: &Client, query: &Query) -> Result<TraceLines, NoMemory>
     requires ready { IsReady client.now }
     requires meant { (meaning : TheQuery) × IsMeaning client.now.schema query.now meaning }
-    ensures told { (c : Past) (meaning : TheQuery) → StandsFor c client.now → IsMeaning client.now.schema query.now meaning → IfOk result (DidExplain client.now c (Ok meaning)) }
+    ensures told { (c : Past) (meaning : TheQuery) → StandsFor c client.now → IsMeaning client.now.schema query.now meaning
+        → IfOk result (DidExplain client.now c (Ok meaning)) }
 {
     let explanation = client.explain(alloc, query)?;
     lines_of_explain(alloc, client.id, &explanation)

@@ -34,8 +34,14 @@ pub fn run_plan<H: Host, P: Plans>(
     requires asks { (ahead : Ahead) × P.follows schema.now plans.old ahead }
     requires room { 4000004 * (P.depth plans.old + 1) ≤ room_of end.old.client }
     requires fresh { end.old.answer ≡ None }
-    ensures ran { (past : Past) (ahead : Ahead) → StandsFor past end.old.client → past.cut ≡ true → past.out ≡ None → P.follows schema.now plans.old ahead → IfOk result (λ ended. RanFrom end.old past address.now (Next 0 (Do Resumed) ahead) ended (H.linking host.old) (H.linking host.new) (H.writing host.old) (H.writing host.new) end.new) }
-    ensures broken_off { (past : Past) (ahead : Ahead) → StandsFor past end.old.client → past.cut ≡ true → past.out ≡ None → P.follows schema.now plans.old ahead → OnErr result (RanOff end.old past address.now (Next 0 (Do Resumed) ahead) (H.linking host.old) (H.linking host.new) (H.writing host.old) (H.writing host.new)) }
+    ensures ran { (past : Past) (ahead : Ahead) → StandsFor past end.old.client → past.cut ≡ true → past.out ≡ None
+        → P.follows schema.now plans.old ahead
+        → IfOk result (λ ended. RanFrom end.old past address.now (Next 0 (Do Resumed) ahead) ended
+        (H.linking host.old) (H.linking host.new) (H.writing host.old) (H.writing host.new) end.new) }
+    ensures broken_off { (past : Past) (ahead : Ahead) → StandsFor past end.old.client → past.cut ≡ true → past.out ≡ None
+        → P.follows schema.now plans.old ahead
+        → OnErr result (RanOff end.old past address.now (Next 0 (Do Resumed) ahead)
+        (H.linking host.old) (H.linking host.new) (H.writing host.old) (H.writing host.new)) }
     ensures stays { OnlyOutput H H.reading H.held H.complaints H.IsSteady host.old host.new }
     ensures steady_writes { H.IsSteady host.old → IfOk result (λ ended. ended ≢ Unwritten) }
 {

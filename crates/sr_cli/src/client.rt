@@ -41,7 +41,8 @@ pub(crate) fn run_client<H: Host>(alloc: Global, words: &ClientWords, host: &mut
     ensures silent { result ≡ 0 → H.complaints host.new ≡ H.complaints host.old }
     ensures complaint { IfSome (error_text result) (λ text. H.complaints host.new ≡ complained text (H.complaints host.old)) }
     ensures write_fault_is_counted { result ≡ 4 → Rose (H.writing host.old).faults (H.writing host.new).faults }
-    ensures steady { H.IsSteady host.old → (schema script : List ℕ) → AreHeld (H.held host.old) words.now schema script → FitsFiles (fault_by words.now) schema script result }
+    ensures steady { H.IsSteady host.old → (schema script : List ℕ) → AreHeld (H.held host.old) words.now schema script
+        → FitsFiles (fault_by words.now) schema script result }
     ensures stays_steady { H.IsSteady host.old → H.IsSteady host.new }
     ensures held_stays { H.held host.new ≡ H.held host.old }
 {

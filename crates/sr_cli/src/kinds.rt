@@ -49,7 +49,8 @@ fn run_new<H: Host, P: Plans>(
     requires regions { words.now.limits.regions ≤ 1024 }
     requires asks { (ahead : Ahead) × P.follows schema.now plans.old ahead }
     requires few { P.depth plans.old < 2 ^ 40 }
-    ensures ran { (ahead : Ahead) → P.follows schema.now plans.old ahead → IfOk result (RunsAs H H.linking H.writing host.old host.new words.now keeps schema.now ahead) }
+    ensures ran { (ahead : Ahead) → P.follows schema.now plans.old ahead
+        → IfOk result (RunsAs H H.linking H.writing host.old host.new words.now keeps schema.now ahead) }
     ensures stays { OnlyOutput H H.reading H.held H.complaints H.IsSteady host.old host.new }
 {
     let mut end = ClientEnd::of_new(alloc, words.id, schema, words.limits, keeps, true)?;

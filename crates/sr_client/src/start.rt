@@ -46,7 +46,8 @@ impl Client {
         ensures marks { IfOk result (λ start. AreStartMarks schema limits kept start.marks) }
         ensures stands { IfOk result (λ start. StandsFor (start_past schema version kept start.marks) start.client) }
         ensures told { IfOk result (λ start. IsToldOf schema (kept_rows kept) start.client.store.regions) }
-        ensures over { IfOk result (λ start. (tables : Tables) → AreTrueParts (told_of tables) kept → IsClient start.client (start_past schema version kept start.marks) tables) }
+        ensures over { IfOk result (λ start. (tables : Tables) → AreTrueParts (told_of tables) kept
+            → IsClient start.client (start_past schema version kept start.marks) tables) }
     {
         let start = Store::of(alloc, &schema, limits, kept)?;
         let client = Client {

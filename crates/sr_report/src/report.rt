@@ -80,7 +80,8 @@ fn aggregate_step(
 /// What is done for a line.
 fn step_of(alloc: Global, schema: &Schema, id: u8, line: ReportLine) -> Result<Step, NoMemory>
     requires tables { IsTrue (list_all is_table schema.now) }
-    ensures { (saying : ℕ × Saying) → IsReportLine id schema.now line saying → IfOk result (λ step. (entry : ℕ × Entry) × LineComesTo schema.now saying entry × IsStep schema.now id step entry) }
+    ensures { (saying : ℕ × Saying) → IsReportLine id schema.now line saying
+        → IfOk result (λ step. (entry : ℕ × Entry) × LineComesTo schema.now saying entry × IsStep schema.now id step entry) }
 {
     match line {
         ReportLine::Event(line) => Ok(Step::Line(line)),
@@ -100,7 +101,8 @@ impl Report {
     ) -> Result<Report, NoMemory>
         requires tables { IsTrue (list_all is_table schema.now) }
         requires lines { (script : List ℕ) × AreReportLines id script schema.now lines }
-        ensures plans { (script : List ℕ) → AreReportLines id script schema.now lines → IfOk result (λ report. (entries : List (ℕ × Entry)) × AreEntries schema.now script entries × Follows schema.now report (λ answer. report_plan id entries)) }
+        ensures plans { (script : List ℕ) → AreReportLines id script schema.now lines
+            → IfOk result (λ report. (entries : List (ℕ × Entry)) × AreEntries schema.now script entries × Follows schema.now report (λ answer. report_plan id entries)) }
         ensures few { IfOk result (λ report. jobs_left report ≤ 2 * length lines) }
     {
         let mut steps = Seq::with_room(alloc, lines.len())?;

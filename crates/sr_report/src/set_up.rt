@@ -39,8 +39,10 @@ pub fn set_up_report(
     ensures asked { IfOk result (λ s. (ahead : Ahead) × AsksReport id schema.now script.now s.schema ahead × Follows s.schema s.plans ahead) }
     ensures tables { IfOk result (λ s. IsTrue (list_all is_table s.schema)) }
     ensures few { IfOk result (λ s. jobs_left s.plans < 2 ^ 40) }
-    ensures line { (line place : ℕ) → IsErrOf result (Refused (Line line place)) → report_outside id schema.now script.now ≡ Some (record { line = line; place = place }) }
-    ensures line_first { (at : TheLinePlace) → report_outside id schema.now script.now ≡ Some at → IsErrOf result (Refused (Line at.line at.place)) ⊎ IsErrOf result Wanting }
+    ensures line { (line place : ℕ) → IsErrOf result (Refused (Line line place))
+        → report_outside id schema.now script.now ≡ Some (record { line = line; place = place }) }
+    ensures line_first { (at : TheLinePlace) → report_outside id schema.now script.now ≡ Some at
+        → IsErrOf result (Refused (Line at.line at.place)) ⊎ IsErrOf result Wanting }
     ensures create { (line : ℕ) (fault : TheFault) → IsErrOf result (Refused (Create line fault)) → ReportRefuses id schema.now script.now line fault }
 {
     let ReportScript { schema, lines } = match read_report(alloc, id, schema, script) {

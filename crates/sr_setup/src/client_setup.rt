@@ -90,8 +90,10 @@ pub(crate) fn prepare<'a, L: OwnLine<'a>>(
     ensures lines { IfOk result (λ made. AllZip L.says (lines_of script.now) made.lines) }
     ensures own { OnOk result (first_fault (L.fault id) 1 (lines_of script.now) ≡ None) }
     ensures inside { OnOk result (script_outside (L.fault id) schema.now script.now ≡ None) }
-    ensures line { (line place : ℕ) → IsErrOf result (Refused (Line line place)) → script_outside (L.fault id) schema.now script.now ≡ Some (record { line = line; place = place }) }
-    ensures line_first { (at : TheLinePlace) → script_outside (L.fault id) schema.now script.now ≡ Some at → IsErrOf result (Refused (Line at.line at.place)) ⊎ IsErrOf result Wanting }
+    ensures line { (line place : ℕ) → IsErrOf result (Refused (Line line place))
+        → script_outside (L.fault id) schema.now script.now ≡ Some (record { line = line; place = place }) }
+    ensures line_first { (at : TheLinePlace) → script_outside (L.fault id) schema.now script.now ≡ Some at
+        → IsErrOf result (Refused (Line at.line at.place)) ⊎ IsErrOf result Wanting }
     ensures create { (line : ℕ) (fault : TheFault) → IsErrOf result (Refused (Create line fault)) → Refuses (L.fault id) schema.now script.now line fault }
 {
     let Judged { schema, script } = match judge::<L>(alloc, id, schema, script) {

@@ -63,7 +63,8 @@ pub(crate) fn report_lines(
 ) -> Result<ReportLines, NoMemory>
     requires tables { IsTrue (list_all is_table schema.now) }
     requires texts { (script : List ℕ) × AllZip IsReportText (lines_of script) texts.now × (first_fault (report_fault id) 1 (lines_of script) ≡ None) }
-    ensures are { (script : List ℕ) → AllZip IsReportText (lines_of script) texts.now → first_fault (report_fault id) 1 (lines_of script) ≡ None → IfOk result (AreReportLines id script schema.now) }
+    ensures are { (script : List ℕ) → AllZip IsReportText (lines_of script) texts.now
+        → first_fault (report_fault id) 1 (lines_of script) ≡ None → IfOk result (AreReportLines id script schema.now) }
 {
     let mut lines = Seq::new(alloc);
     for (i, text) in texts.iter().enumerate() {

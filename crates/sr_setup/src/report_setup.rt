@@ -26,8 +26,10 @@ pub fn set_up_report(
     requires script { length script.now < 2 ^ 32 }
     ensures asked { IfOk result (λ read. IsReported id schema.now script.now read.schema read.lines) }
     ensures tables { IfOk result (λ read. IsTrue (list_all is_table read.schema)) }
-    ensures line { (line place : ℕ) → IsErrOf result (Refused (Line line place)) → report_outside id schema.now script.now ≡ Some (record { line = line; place = place }) }
-    ensures line_first { (at : TheLinePlace) → report_outside id schema.now script.now ≡ Some at → IsErrOf result (Refused (Line at.line at.place)) ⊎ IsErrOf result Wanting }
+    ensures line { (line place : ℕ) → IsErrOf result (Refused (Line line place))
+        → report_outside id schema.now script.now ≡ Some (record { line = line; place = place }) }
+    ensures line_first { (at : TheLinePlace) → report_outside id schema.now script.now ≡ Some at
+        → IsErrOf result (Refused (Line at.line at.place)) ⊎ IsErrOf result Wanting }
     ensures create { (line : ℕ) (fault : TheFault) → IsErrOf result (Refused (Create line fault)) → ReportRefuses id schema.now script.now line fault }
 {
     let Prepared { schema, lines } = match prepare::<ReportText<'_>>(alloc, id, schema, script) {

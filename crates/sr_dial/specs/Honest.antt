@@ -87,5 +87,5 @@ IsAskedFor (Say text) = Unit {0}
 abbrev pub HonestRunsAreTrue : {C : Type 0} → Standing C → Type 0
 HonestRunsAreTrue {C} IsOf = (k : Setting) (s : Server) (pieces : List (List Input)) (code : C) (c : Client) (address : List ℕ) (plan : Plan Task Answer) (ended : Ending) (old new : Linking) (before after : Writing)
     → AsksKeys IsOf → list_all is_table k.schema ≡ true → Rests IsOf s.database code c → KeepsToBudgets (basis_of s.database k.limits) c → AllTasks IsAskedFor plan
-    → (run : RanFairly C IsOf k code c address plan ended old new before after) → IsHonest k.schema s pieces (run.ran.earlier ++ run.ran.last ∷ [])
+    → (run : RanFairly C IsOf Has k code c address plan ended old new before after) → IsHonest k.schema s pieces (run.ran.earlier ++ run.ran.last ∷ [])
     → IsTrue (server_at_last s pieces).database k.limits c (run.ran.earlier ++ run.ran.last ∷ []) ended

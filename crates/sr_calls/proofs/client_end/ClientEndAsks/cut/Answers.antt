@@ -9,7 +9,7 @@ pub returns-clause-made : goal.returns-clause-made
 returns-clause-made c = λ past stands.
     let same = c.self.view_is in
     let inside = c.self.inside in
-    subst (λ (old : End). Makes Stands lent_by IsEnd (setting_of old) old (end_with inside.keeps inside.says c.cut.new.client None) past WasCut c.in_ok-lines.lines []) same
+    subst (λ (old : End). Makes Stands lent_by IsEnd HasTold (setting_of old) old (end_with inside.keeps inside.says c.cut.new.client None) past WasCut c.in_ok-lines.lines []) same
     (c.in_ok-lines.ensures.made inside.keeps past (subst (λ (x : End). Stands x past) (sym same) stands) inside.says inside.answer)
 
 pub returns-clause-setting : goal.returns-clause-setting

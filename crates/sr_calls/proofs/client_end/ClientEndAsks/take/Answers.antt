@@ -9,7 +9,7 @@ returns-clause-taken c = λ past stands.
     let same = c.self.view_is in
     let inside = c.self.inside in
     let taken = c.in_ok-taken.taken in
-    subst (λ (old : End). TakesAs taken.came Stands lent_by IsEnd (setting_of old) old (end_with inside.keeps inside.says c.take.new.client taken.answer) past c.args.message) same
+    subst (λ (old : End). TakesAs taken.came Stands lent_by IsEnd HasTold (setting_of old) old (end_with inside.keeps inside.says c.take.new.client taken.answer) past c.args.message) same
     (c.in_ok-taken.ensures.taken past (subst (λ (x : End). Stands x past) (sym same) stands) inside.says inside.answer)
 
 pub returns-clause-setting : goal.returns-clause-setting

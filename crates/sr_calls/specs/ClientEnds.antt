@@ -6,6 +6,8 @@ use Rattle.sr_message.specs.declared.message.Message.{Message}
 use Rattle.sr_model.specs.Queries as model
 use Rattle.sr_model.specs.Statements.{Tables}
 use Rattle.sr_script.specs.declared.line.TraceLine.{TraceLine}
+use Rattle.sr_store.specs.Brought.{IsToldOf}
+use Rattle.sr_store.specs.Told.{Told}
 use Rattle.sr_session.specs.Clients as session
 use Rattle.sr_client.specs.Sends.{IsOfFormat}
 use Rattle.sr_client.specs.Stands as client
@@ -39,6 +41,10 @@ Stands e past = StandsFor past e.client
 -- with the rows of these tables of this schema
 abbrev pub IsEnd : List Table → End → session.Client → Tables → Type 0
 IsEnd schema e past tables = (schema ≡ e.client.schema) × IsClient e.client past tables
+
+-- on any link, with rows that were told of tables of this schema
+abbrev pub HasTold : List Table → End → session.Client → Told → Type 0
+HasTold schema e past told = Stands e past × IsToldOf schema told e.client.store.regions
 
 -- what no step changes
 abbrev pub setting_of : End → Setting

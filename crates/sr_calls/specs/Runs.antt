@@ -12,7 +12,7 @@ use Rattle.sr_dial.specs.Calls.{Task}
 use Rattle.sr_dial.specs.Runs.{RanInPart, RanTo}
 use Rattle.sr_dial.specs.declared.ending.Ending.{Ending}
 use Rattle.sr_dial.specs.declared.parts.Answer.{Answer}
-use Rattle.sr_calls.specs.ClientEnds.{End, IsEnd, Stands, end_with, setting_of}
+use Rattle.sr_calls.specs.ClientEnds.{End, HasTold, IsEnd, Stands, end_with, setting_of}
 
 -- A client's end that was of this past ran over a plan, dialled this address, ended so, and this is the end that it left.
 abbrev pub RanFrom : End → session.Client → List ℕ → Plan Task Answer → Ending → Linking → Linking → Writing → Writing → End → Type 0

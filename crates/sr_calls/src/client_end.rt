@@ -11,7 +11,7 @@ use sr_cell::list::{Copied, NoMemory};
 use sr_cell::schema::Schema;
 use sr_client::client::Client;
 use sr_dial::parts::{Answer, Asks, Came, Told};
-use sr_links::laws::Peer;
+use sr_links::laws::{Hearer, Peer};
 use sr_message::message::Message;
 use sr_policy::policy::Limits;
 use sr_query::query::Query;
@@ -87,6 +87,12 @@ impl Peer for ClientEnd {
     ghost use Rattle.sr_calls.specs.ClientEnds.{IsEnd};
 
     ghost is_of = { IsEnd };
+}
+
+impl Hearer for ClientEnd {
+    ghost use Rattle.sr_calls.specs.ClientEnds.{HasTold};
+
+    ghost has_told = { HasTold };
 }
 
 impl Asks for ClientEnd {

@@ -9,7 +9,7 @@ pub returns-in_ok-done-in_default-clause-taken : goal.returns-in_ok-done-in_defa
 returns-in_ok-done-in_default-clause-taken c = λ past stands says lent.
     let lines = c.in_ok-lines-in_default in
     let answer = c.in_ok-answer-in_default in (
-      take_makes c.args.keeps c.args.client.now c.take.new.self c.args.message c.in_ok-took.took lines.lines answer.answer c.in_ok-done-in_default.done c.in_ok-took.ensures.takes (good_took c.in_ok-took.took c.in_default.not-Bad)
+      take_makes c.args.keeps c.args.client.now c.take.new.self c.args.message c.in_ok-took.took lines.lines answer.answer c.in_ok-done-in_default.done c.in_ok-took.ensures.takes (good_took c.in_ok-took.took c.in_default.not-Bad) c.take.ensures.stays
           (λ o said. record { lines = lines.ensures.lines o said; sent = lines.ensures.sent o said }) answer.ensures c.in_ok-done-in_default.ensures past stands says lent,
       fits_message c.args.client.now c.args.message c.in_ok-took.took (λ why meaning. (c.in_ok-took.ensures.bad why meaning).1) c.in_default.not-Bad past stands,
     )
@@ -17,5 +17,5 @@ returns-in_ok-done-in_default-clause-taken c = λ past stands says lent.
 pub returns-in_ok-done-in_default-clause-sendable : goal.returns-in_ok-done-in_default-clause-sendable
 returns-in_ok-done-in_default-clause-sendable c =
     let lines = c.in_ok-lines-in_default in
-    take_sendable c.args.keeps c.args.client.now c.take.new.self c.args.message c.in_ok-took.took lines.lines c.in_ok-answer-in_default.answer c.in_ok-done-in_default.done c.in_ok-took.ensures.takes (good_took c.in_ok-took.took c.in_default.not-Bad)
+    take_sendable c.args.keeps c.args.client.now c.take.new.self c.args.message c.in_ok-took.took lines.lines c.in_ok-answer-in_default.answer c.in_ok-done-in_default.done c.in_ok-took.ensures.takes (good_took c.in_ok-took.took c.in_default.not-Bad) c.take.ensures.stays
     (λ o said. record { lines = lines.ensures.lines o said; sent = lines.ensures.sent o said }) c.in_ok-answer-in_default.ensures c.in_ok-done-in_default.ensures c.requires.ready.0 c.in_ok-took.ensures.sends

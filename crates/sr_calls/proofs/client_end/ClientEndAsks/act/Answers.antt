@@ -1,6 +1,6 @@
 use Rattle.std.proofs.Common.{◌≤◌, ◌+◌, None, sym, ap, subst, ◌∙◌}
 use Rattle.sr_dial.specs.Known.{IsDeed, Makes}
-use Rattle.sr_calls.specs.ClientEnds.{End, IsEnd, Stands, end_with, lent_by, room_of, setting_of}
+use Rattle.sr_calls.specs.ClientEnds.{End, HasTold, IsEnd, Stands, end_with, lent_by, room_of, setting_of}
 use Rattle.sr_calls.proofs.Kept.{setting_stays}
 use Rattle.sr_calls.proofs.client_end.ClientEndAsks.act.Goals as goal
 

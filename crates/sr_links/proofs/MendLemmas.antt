@@ -49,7 +49,7 @@ welcome-append (x ∷ xs) ys (one, more) b = (one, welcome-append xs ys more b)
 -- ---- steps by the rules, but for a last one
 
 -- the last step, of which only this is known: it takes a message, and sends nothing
-record IsLastTaking {C : Type 0} (step : Step C) (behind : List (Step C)) : Type 0 where
+pub record IsLastTaking {C : Type 0} (step : Step C) (behind : List (Step C)) : Type 0 where
   pub message : Message
   pub took : step.deed ≡ Took message
   pub silent : sent_of step.outcome ≡ []

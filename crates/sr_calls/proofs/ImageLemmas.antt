@@ -1,6 +1,6 @@
 -- What a client holds can be written as an image, and a client that starts from an image holds short texts alone.
-use Rattle.std.proofs.Common.{◌≡◌, ℕ, ◌+◌, ◌≤◌, ◌<◌, Bool, true, false, List, [], ◌∷◌, length, refl, sym, ◌∙◌, ap, subst, arith, Option, Some}
-use Rattle.std.specs.Prelude.{IsTrue, ◌&&◌, ◌==◌, nat_le, filter, if◌then◌else◌}
+use Rattle.std.proofs.Common.{◌≡◌, ℕ, ◌+◌, ◌≤◌, ◌<◌, Bool, true, false, List, [], ◌∷◌, length, refl, sym, ◌∙◌, ap, subst, arith, Result, Ok, Err}
+use Rattle.std.specs.Prelude.{IfOk, IsTrue, ◌&&◌, ◌==◌, nat_le, filter, if◌then◌else◌}
 use Rattle.std.specs.List.{list_all, All}
 use Rattle.std.specs.Cmp.{first_so, second_so}
 use Rattle.std.specs.Cmp.Derive.{both_true}
@@ -24,7 +24,8 @@ use Rattle.sr_region.specs.Regions.{IsRowIn, is_in}
 use Rattle.sr_store.specs.declared.start.Kept.{Kept}
 use Rattle.sr_store.specs.Brought.{IsToldOf}
 use Rattle.sr_store.specs.Fitted.{count_rows}
-use Rattle.sr_store.specs.Starting.{kept_rows}
+use Rattle.sr_store.specs.Starting.{IsStart, kept_rows}
+use Rattle.sr_store.specs.declared.store.Store.{Store}
 use Rattle.sr_store.specs.Stores.{IsOfSchema}
 use Rattle.sr_store.specs.Told.{Told, IsTrueOf, AreTrueOf}
 use Rattle.sr_session.specs.Rules.{counted}
@@ -34,8 +35,9 @@ use Rattle.sr_client.specs.declared.client.Client.{Client}
 use Rattle.sr_client.specs.Cutting.{EndWith}
 use Rattle.sr_client.specs.Sends.{IsOfFormat}
 use Rattle.sr_client.specs.Stands as client
-use Rattle.sr_client.specs.Stands.{HaveShortEnds, new_client}
-use Rattle.sr_client.specs.Starting.{MayBeWritten, start_client}
+use Rattle.sr_client.specs.Stands.{HaveShortEnds, StandsFor, new_client}
+use Rattle.sr_client.specs.Starting.{MayBeWritten, start_client, start_past}
+use Rattle.sr_client.specs.declared.start.ClientStart.{ClientStart}
 use Rattle.sr_client.proofs.SendableLemmas.{has-columns}
 use Rattle.sr_client.proofs.ShortLemmas.{rects-may}
 use Rattle.sr_image.specs.declared.image.Image.{Image}
@@ -159,3 +161,13 @@ start_ready id schema limits image c is start limits_are stands told first last 
     short = kept-short image.kept (image-kept schema image is);
   },
 )
+
+-- what a start answers
+pub starts_ready : {E : Type 0} (id : ℕ) (schema : List Table) (limits : Limits) (image : Image) (r : Result ClientStart E) → IsTrue (is_image schema image)
+    → IfOk r (λ (s : ClientStart). s.client ≡ start_client id schema limits image.version s.client.store)
+    → IfOk r (λ (s : ClientStart). IsStart schema limits image.kept (record { store = s.client.store; marks = s.marks }))
+    → IfOk r (λ (s : ClientStart). StandsFor (start_past schema image.version image.kept s.marks) s.client)
+    → IfOk r (λ (s : ClientStart). IsToldOf schema (kept_rows image.kept) s.client.store.regions) → 1 ≤ id → id ≤ 64 → limits.regions ≤ 1024 → IfOk r (λ (s : ClientStart). IsReady s.client)
+starts_ready id schema limits image (Ok s) is start store stands told first last regions =
+    start_ready id schema limits image s.client is start (ap (λ (x : Store). x.limits) store.store) (stands.0, stands.1) told first last regions
+starts_ready id schema limits image (Err e) is start store stands told first last regions = tt

@@ -31,11 +31,7 @@ pub fn image_of(alloc: Global, version: u64, regions: &[Region]) -> Result<Image
 }
 
 /// The image of the regions of a store, of which each rect and row may be written, at that version: it can be written, and read again.
-pub fn image_of_store(
-    alloc: Global,
-    version: u64,
-    regions: &[Region],
-) -> Result<Image, NoMemory>
+pub fn image_of_store(alloc: Global, version: u64, regions: &[Region]) -> Result<Image, NoMemory>
     requires store { (schema : List Table) × IsStore schema regions.now }
     requires short { IsTrue (list_all may_write_region regions.now) }
     requires few { length regions.now ≤ 1024 }

@@ -6,3 +6,6 @@ pub mod StepLemmas
 pub mod TakeLemmas
 pub mod HonestLemmas
 pub mod ExplainLemmas
+pub mod ShortLemmas
+pub mod HoldLemmas
+pub mod ImageLemmas

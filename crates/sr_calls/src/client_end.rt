@@ -2,6 +2,9 @@
 ghost use Rattle.std.specs.Prelude.{◌≡◌, ◌≤◌, None, IfOk, IsTrue};
 ghost use Rattle.std.specs.List.{list_all};
 ghost use Rattle.sr_query.specs.Bound.{is_table};
+ghost use Rattle.sr_image.specs.Joining.{image_from};
+ghost use Rattle.sr_image.specs.Laws.{is_image};
+ghost use Rattle.sr_image.specs.Writing.{may_write_image};
 ghost use Rattle.sr_calls.specs.ClientEnds.{IsReady, end_with};
 ghost use Rattle.sr_calls.specs.Runs.{new_end};
 
@@ -11,6 +14,8 @@ use sr_cell::list::{Copied, NoMemory};
 use sr_cell::schema::Schema;
 use sr_client::client::Client;
 use sr_dial::parts::{Answer, Asks, Came, Told};
+use sr_image::image::Image;
+use sr_image::joining::image_of_store;
 use sr_links::laws::{Hearer, Peer};
 use sr_message::message::Message;
 use sr_policy::policy::Limits;
@@ -20,8 +25,8 @@ use sr_script::line::TraceLines;
 use std::alloc::Global;
 use std::marker::Model;
 
-/// A client that stands for some past, and whose number and limits the format has; whether the rows of answers are kept, so as to be
-/// lent, and whether a run writes lines; and the answer that is lent.
+/// A client that stands for some past, whose number and limits the format has, and which holds short texts alone; whether the rows of
+/// answers are kept, so as to be lent, and whether a run writes lines; and the answer that is lent.
 #[derive(Drop)]
 pub struct ClientEnd {
     client: Client,
@@ -81,6 +86,27 @@ impl ClientEnd {
     {
         &self.client
     }
+
+    /// The image of what the client holds: it can be written, and read again.
+    pub fn image(&self, alloc: Global) -> Result<Image, NoMemory>
+        requires rows { self.now.client.store.limits.rows ≤ 200000 }
+        ensures is { IfOk result (λ image. image ≡ image_from self.now.client.version self.now.client.store.regions) }
+        ensures whole { IfOk result (λ image. IsTrue (is_image self.now.client.schema image)) }
+        ensures may_write { IfOk result (λ image. IsTrue (may_write_image image)) }
+    {
+        image_of(alloc, &self.client)
+    }
+}
+
+/// The image of what a client holds.
+fn image_of(alloc: Global, client: &Client) -> Result<Image, NoMemory>
+    requires ready { IsReady client.now }
+    requires rows { client.now.store.limits.rows ≤ 200000 }
+    ensures is { IfOk result (λ image. image ≡ image_from client.now.version client.now.store.regions) }
+    ensures whole { IfOk result (λ image. IsTrue (is_image client.now.schema image)) }
+    ensures may_write { IfOk result (λ image. IsTrue (may_write_image image)) }
+{
+    image_of_store(alloc, client.version(), client.regions())
 }
 
 impl Peer for ClientEnd {

@@ -7,6 +7,7 @@ use Rattle.sr_cell.specs.declared.list.No.TheVariants.{Refused as NoBut, NoMemor
 use Rattle.sr_cell.specs.declared.list.NoMemory.{NoMemory}
 use Rattle.sr_lines.specs.Script.{LinePlace}
 use Rattle.sr_load.specs.declared.fill.Load.{Load}
+use Rattle.sr_io.specs.Causes.{Rose}
 use Rattle.sr_io.specs.Told.{Reading, Writing, Linking, complained}
 use Rattle.sr_serve.specs.Runs.{Ran, RanInPart}
 use Rattle.sr_server.specs.Servers.{first_database}
@@ -172,6 +173,7 @@ pub record Serves (H : Type 0) (held : H → List ℕ → Option (List ℕ)) (re
   pub steady : IsSteady old → (schema exec : List ℕ) (loads : List Load) → AreHeld (held old) words schema exec loads → FitsFiles schema exec loads status
   pub steady_writes : IsSteady old → ¬ (status ≡ 4)
   pub steady_links : IsSteady old → HasPeers words.count (linking old) → ¬ (status ≡ 5)
+  pub link_fault_is_counted : status ≡ 5 → Rose (linking old).faults (linking new).faults
   pub quiet : status ≡ 0 → (linking new).faults ≡ (linking old).faults
 
 -- ---- inside the crate

@@ -14,7 +14,7 @@ ghost use Rattle.sr_cli.specs.Commands.{AsksClient, IsStatus};
 ghost use Rattle.sr_cli.specs.Errors.{error_text};
 ghost use Rattle.sr_cli.specs.Explain.{Explains};
 ghost use Rattle.sr_cli.specs.Generate.{Generates};
-ghost use Rattle.sr_cli.specs.Leaves.{OnlyComplains};
+ghost use Rattle.sr_cli.specs.Leaves.{OnlyComplains, Says};
 ghost use Rattle.sr_cli.specs.Replay.{Replays};
 ghost use Rattle.sr_cli.specs.Serve.{Serves};
 
@@ -65,8 +65,7 @@ pub fn run<H: Host>(alloc: Global, words: &[Text], host: &mut H) -> u8
 
 /// Says that the words are in no form.
 fn refuse_words<H: Host>(host: &mut H) -> u8
-    ensures status { result ≡ 2 }
-    ensures complaint { IfSome (error_text 2) (λ text. H.complaints host.new ≡ complained text (H.complaints host.old)) }
+    ensures said { Says 2 result (H.complaints host.old) (H.complaints host.new) }
     ensures stays { OnlyComplains H H.reading H.writing H.linking H.held H.IsSteady host.old host.new }
 {
     host.complain(b"words\n");
@@ -75,8 +74,7 @@ fn refuse_words<H: Host>(host: &mut H) -> u8
 
 /// Says that memory was refused.
 fn want_memory<H: Host>(host: &mut H) -> u8
-    ensures status { result ≡ 9 }
-    ensures complaint { IfSome (error_text 9) (λ text. H.complaints host.new ≡ complained text (H.complaints host.old)) }
+    ensures said { Says 9 result (H.complaints host.old) (H.complaints host.new) }
     ensures stays { OnlyComplains H H.reading H.writing H.linking H.held H.IsSteady host.old host.new }
 {
     host.complain(b"memory\n");

@@ -1,6 +1,7 @@
 //! Serving tables.
 ghost use Rattle.std.specs.Prelude.{◌≡◌, ℕ, ◌<◌, ◌^◌, nat_lt, List, length, Ok, IsTrue, IfErr, IfOk, OnOk, IsErrOf};
 ghost use Rattle.std.specs.List.{list_all};
+ghost use Rattle.sr_io.specs.Causes.{Rose};
 ghost use Rattle.sr_load.specs.declared.fill.Load.{Load};
 ghost use Rattle.sr_talk.specs.Rounds.{HasPeers, OnlyOutput};
 ghost use Rattle.sr_talk.specs.declared.rounds.Ending.TheVariants.{Whole};
@@ -46,6 +47,7 @@ fn serve_files<H: Host>(alloc: Global, words: &ServeWords, host: &mut H) -> Resu
     ensures whole { OnOk result (Served (H.held host.old) words.now Whole (H.linking host.old) (H.linking host.new) (H.writing host.old) (H.writing host.new)) }
     ensures refused { IfErr result (RefusesOver (H.held host.old) words.now (H.reading host.new).left (H.linking host.old) (H.linking host.new) (H.writing host.old) (H.writing host.new)) }
     ensures counts { Counts H H.reading H.writing H.linking host.old host.new result }
+    ensures link_fault_is_counted { IsErrOf result Link → Rose (H.linking host.old).faults (H.linking host.new).faults }
     ensures steady_reads { H.IsSteady host.old → IsErrOf result Read → (schema exec : List ℕ) (loads : List Load) → ¬ AreHeld (H.held host.old) words.now schema exec loads }
     ensures steady_writes { H.IsSteady host.old → ¬ IsErrOf result Write }
     ensures steady_links { H.IsSteady host.old → HasPeers words.now.count (H.linking host.old) → ¬ IsErrOf result Link }
@@ -115,6 +117,7 @@ fn serve_read<H: Host>(
     ensures whole { OnOk result (Ends files.now.schema files.now.exec files.now.loads words.now Whole (H.linking host.old) (H.linking host.new) (H.writing host.old) (H.writing host.new)) }
     ensures refused { IfErr result (Refuses files.now.schema files.now.exec files.now.loads words.now (H.linking host.old) (H.linking host.new) (H.writing host.old) (H.writing host.new)) }
     ensures counts { Counts H H.reading H.writing H.linking host.old host.new result }
+    ensures link_fault_is_counted { IsErrOf result Link → Rose (H.linking host.old).faults (H.linking host.new).faults }
     ensures steady_writes { H.IsSteady host.old → ¬ IsErrOf result Write }
     ensures steady_links { H.IsSteady host.old → HasPeers words.now.count (H.linking host.old) → ¬ IsErrOf result Link }
     ensures stays { OnlyOutput H H.reading H.held H.complaints H.IsSteady host.old host.new }

@@ -6,7 +6,7 @@ use Rattle.sr_io.specs.Causes.{Rose}
 use Rattle.sr_io.specs.Told.{Reading, Writing, Linking, complained}
 use Rattle.sr_cli.specs.Errors.{error_text, line_text, setup_text, load_text}
 use Rattle.sr_cli.specs.Files.{IsWhatIsHeld, SomeTooLong}
-use Rattle.sr_cli.specs.Leaves.{Counts, DidNothing, Leaves, NotRead, OnlyComplains, OnlyRuns, Reported, unread_of}
+use Rattle.sr_cli.specs.Leaves.{Counts, DidNothing, Leaves, Names, NotRead, OnlyComplains, OnlyRuns, Reported, unread_of}
 use Rattle.sr_cli.proofs.Endings.{one_refusal}
 use Rattle.sr_cli.specs.declared.file.ReadFault.{ReadFault}
 use Rattle.sr_cli.specs.declared.file.ReadFault.TheVariants as read
@@ -219,6 +219,11 @@ reported-is (Load table fault) status old new (inr (is, text)) = record {
   refused = λ k. absurd (omega (arith, is, k));
   complaint = said 9 status old new is text;
 }
+
+-- what is said of bytes that are no frame
+pub spoiled-status : (text : List ℕ) (status : ℕ) (old new : Option (List ℕ)) → Names 8 text status old new → ((status ≡ 8) ⊎ (status ≡ 9) ⊎ (status ≡ 11)) × IfSome (error_text status) (λ text. new ≡ complained text old)
+spoiled-status text status old new (inl (is, named)) = (inl is, said 8 status old new is tt)
+spoiled-status text status old new (inr (is, named)) = (inr (inl is), said 9 status old new is named)
 
 -- writing failed just where that is said
 module _ (refusal : Refusal) (status : ℕ) (old new : Option (List ℕ)) (reported : Reported refusal status old new) where

@@ -1,3 +1,4 @@
+pub mod ClientEnds
 pub mod ClientFits
 pub mod ClientLemmas
 pub mod Endings

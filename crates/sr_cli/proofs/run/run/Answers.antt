@@ -1,4 +1,4 @@
-use Rattle.std.proofs.Common.{◌≡◌, Option, Some, inr, sym, subst, ap, ◌∙◌}
+use Rattle.std.proofs.Common.{◌≡◌, Option, Some, arith, inl, inr, sym, subst, ap, ◌∙◌}
 use Rattle.sr_words.specs.declared.command.Command.{Command}
 use Rattle.sr_words.specs.declared.command.Command.TheVariants.{Replay, Client, Serve, Explain, Generate}
 use Rattle.sr_words.specs.declared.command.ClientWords.{ClientWords}
@@ -32,27 +32,25 @@ one_client said command a w is here says = let e : Some command ≡ Some (Client
 
 pub returns-in-Ok-Client-clause-dials : goal.returns-in-Ok-Client-clause-dials
 returns-in-Ok-Client-clause-dials g c = λ w says.
-    let did = c.run_client.ensures in
     let same = one_client _ _ c.in-Ok-Client.words w c.in-Ok-Client.ensures.said c.in-Ok-Client.field-0-is says in
     subst (λ (v : ClientWords). Dials _ g.H.Outside.held g.H.Outside.reading g.H.Outside.writing g.H.Outside.linking g.H.Outside.complaints g.H.Outside.IsSteady c.args.host.now c.run_client.new.host v c.run_client.result) same
-    record {
-      only = did.only;
-      whole = did.whole;
-      unwritten = did.unwritten;
-      faulty = did.faulty;
-      frame = did.frame;
-      limit = did.limit;
-      in_want = did.in_want;
-      too_long = did.too_long;
-      line = did.line;
-      refused = did.refused;
-      steady = did.steady;
-      steady_writes = did.steady_writes;
-    }
+    c.run_client.ensures.dials
 
 pub returns-in-Ok-Client-clause-link_fault_is_counted : goal.returns-in-Ok-Client-clause-link_fault_is_counted
 returns-in-Ok-Client-clause-link_fault_is_counted g c = λ is.
     inr (c.in-Ok-Client.words, c.in-Ok-Client.ensures.said ∙ ap Some c.in-Ok-Client.field-0-is)
+
+pub returns-in-Ok-Serve-clause-link_fault_is_counted : goal.returns-in-Ok-Serve-clause-link_fault_is_counted
+returns-in-Ok-Serve-clause-link_fault_is_counted g c = λ is. inl (c.run_serve.ensures.serves.link_fault_is_counted is)
+
+pub returns-in-Ok-Replay-clause-link_fault_is_counted : goal.returns-in-Ok-Replay-clause-link_fault_is_counted
+returns-in-Ok-Replay-clause-link_fault_is_counted g c = λ is. (let only = c.run_replay.ensures.replays.only in absurd (omega (arith, only, is)))
+
+pub returns-in-Ok-Explain-clause-link_fault_is_counted : goal.returns-in-Ok-Explain-clause-link_fault_is_counted
+returns-in-Ok-Explain-clause-link_fault_is_counted g c = λ is. (let only = c.run_explain.ensures.explains.only in absurd (omega (arith, only, is)))
+
+pub returns-in-Ok-Generate-clause-link_fault_is_counted : goal.returns-in-Ok-Generate-clause-link_fault_is_counted
+returns-in-Ok-Generate-clause-link_fault_is_counted g c = λ is. (let only = c.run_generate.ensures.generates.only in absurd (omega (arith, only, is)))
 
 pub returns-in-Ok-Replay-clause-replays : goal.returns-in-Ok-Replay-clause-replays
 returns-in-Ok-Replay-clause-replays g c = λ w says.

@@ -6,7 +6,7 @@ use Rattle.sr_io.specs.Causes.{Rose}
 use Rattle.sr_io.specs.Told.{Reading, Writing, Linking, complained}
 use Rattle.sr_cli.specs.Errors.{error_text, line_text, setup_text, load_text}
 use Rattle.sr_cli.specs.Files.{IsWhatIsHeld, SomeTooLong}
-use Rattle.sr_cli.specs.Leaves.{Counts, DidNothing, Leaves, Names, NotRead, OnlyComplains, OnlyRuns, Reported, unread_of}
+use Rattle.sr_cli.specs.Leaves.{Counts, DidNothing, IsUndone, Leaves, Names, NotRead, OnlyComplains, OnlyRuns, Reported, unread_of}
 use Rattle.sr_cli.proofs.Endings.{one_refusal}
 use Rattle.sr_cli.specs.declared.file.ReadFault.{ReadFault}
 use Rattle.sr_cli.specs.declared.file.ReadFault.TheVariants as read
@@ -311,11 +311,12 @@ module _ (H : Type 0) (held : H → List ℕ → Option (List ℕ)) (reading : H
     keeps (inr (inr (inr (inr (inr (inl is)))))) = inr (want-keeps (rep.memory is))
     keeps (inr (inr (inr (inr (inr (inr is)))))) = inr (counts-as TooLong (rep.too_long is)).1
 
-    nothing : (status ≡ 3) ⊎ (status ≡ 6) ⊎ (status ≡ 7) ⊎ (status ≡ 10) → DidNothing H writing linking old mid
-    nothing (inl is) = (counts-as Read (rep.read is)).1
-    nothing (inr (inl is)) = named-nothing (line-name (rep.line is))
-    nothing (inr (inr (inl is))) = named-nothing (refused-name (rep.refused is))
-    nothing (inr (inr (inr is))) = (counts-as TooLong (rep.too_long is)).0
+    nothing : IsUndone status → DidNothing H writing linking old mid
+    nothing (inl is) = (let o = rep.only in absurd (omega (arith, o, is)))
+    nothing (inr (inl is)) = (counts-as Read (rep.read is)).1
+    nothing (inr (inr (inl is))) = named-nothing (line-name (rep.line is))
+    nothing (inr (inr (inr (inl is)))) = named-nothing (refused-name (rep.refused is))
+    nothing (inr (inr (inr (inr is)))) = (counts-as TooLong (rep.too_long is)).0
 
     pub leaves-refused : OnlyRuns H held complaints IsSteady old mid → OnlyComplains H reading writing linking held IsSteady mid new → Leaves H held reading writing linking complaints IsSteady old new status
     leaves-refused runs stays = record {
@@ -329,6 +330,21 @@ module _ (H : Type 0) (held : H → List ℕ → Option (List ℕ)) (reading : H
       stays_steady = λ steady. stays.stays_steady (runs.stays_steady steady);
       held_stays = stays.held_stays ∙ runs.held_stays;
     }
+
+  -- the words were not taken, or there was no memory to read them
+  pub leaves-untaken : (old new : H) (status : ℕ) → (status ≡ 2) ⊎ (status ≡ 9) → IfSome (error_text status) (λ text. complaints new ≡ complained text (complaints old))
+      → OnlyComplains H reading writing linking held IsSteady old new → Leaves H held reading writing linking complaints IsSteady old new status
+  leaves-untaken old new status which text stays = record {
+    read_fault_is_counted = λ is. absurd (omega (arith, which, is));
+    write_fault_is_counted = λ is. absurd (omega (arith, which, is));
+    reading_keeps_faults = inr (ap (λ (r : Reading). r.faults) stays.reading_stays);
+    writes_nothing = λ is. stays.writing_stays;
+    links_nothing = λ is. stays.linking_stays;
+    silent = λ is. absurd (omega (arith, which, is));
+    complaint = text;
+    stays_steady = stays.stays_steady;
+    held_stays = stays.held_stays;
+  }
 
   -- frames ended it, or there was no memory to say so
   pub leaves-by-frames : (old mid new : H) (status : ℕ) → (status ≡ 8) ⊎ (status ≡ 9) ⊎ (status ≡ 11) → IfSome (error_text status) (λ text. complaints new ≡ complained text (complaints mid)) → (reading mid).faults ≡ (reading old).faults

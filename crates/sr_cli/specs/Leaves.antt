@@ -110,13 +110,17 @@ EndsAs {T} (Err wants) result = result ≡ Err (refusal_of wants)
 
 -- ---- a run
 
+-- the statuses of words and files that are not taken
+abbrev pub IsUndone : ℕ → Type 0
+IsUndone status = (status ≡ 2) ⊎ (status ≡ 3) ⊎ (status ≡ 6) ⊎ (status ≡ 7) ⊎ (status ≡ 10)
+
 -- What a run of any command leaves, by the status that it ends with.
 pub record Leaves (H : Type 0) (held : H → List ℕ → Option (List ℕ)) (reading : H → Reading) (writing : H → Writing) (linking : H → Linking) (complaints : H → Option (List ℕ)) (IsSteady : H → Type 0) (old new : H) (status : ℕ) : Type 0 where
   pub read_fault_is_counted : status ≡ 3 → Rose (reading old).faults (reading new).faults
   pub write_fault_is_counted : status ≡ 4 → Rose (writing old).faults (writing new).faults
   pub reading_keeps_faults : (status ≡ 3) ⊎ ((reading new).faults ≡ (reading old).faults)
-  pub writes_nothing : (status ≡ 3) ⊎ (status ≡ 6) ⊎ (status ≡ 7) ⊎ (status ≡ 10) → writing new ≡ writing old
-  pub links_nothing : (status ≡ 3) ⊎ (status ≡ 6) ⊎ (status ≡ 7) ⊎ (status ≡ 10) → linking new ≡ linking old
+  pub writes_nothing : IsUndone status → writing new ≡ writing old
+  pub links_nothing : IsUndone status → linking new ≡ linking old
   pub silent : status ≡ 0 → complaints new ≡ complaints old
   pub complaint : IfSome (error_text status) (λ text. complaints new ≡ complained text (complaints old))
   pub stays_steady : IsSteady old → IsSteady new

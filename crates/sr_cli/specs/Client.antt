@@ -137,6 +137,10 @@ pub record AreHeld (held : List ℕ → Option (List ℕ)) (words : ClientWords)
   pub schema_held : held words.schema ≡ Some schema
   pub script_held : held words.script ≡ Some script
 
+-- it does not hold both
+abbrev pub AreNotHeld : (List ℕ → Option (List ℕ)) → ClientWords → Type 0
+AreNotHeld held words = (schema script : List ℕ) → ¬ AreHeld held words schema script
+
 -- one of the files has more bytes than the limit
 abbrev pub AreLong : List ℕ → List ℕ → Type 0
 AreLong schema script = IsLong schema ⊎ IsLong script

@@ -139,6 +139,10 @@ pub record AreHeld (held : List ℕ → Option (List ℕ)) (words : ServeWords) 
   pub exec_held : IsHeldExec held words.exec exec
   pub loads_held : AllZip (IsHeldLoad held) words.loads loads
 
+-- it does not hold them all
+abbrev pub AreNotHeld : (List ℕ → Option (List ℕ)) → ServeWords → Type 0
+AreNotHeld held words = (schema exec : List ℕ) (loads : List Load) → ¬ AreHeld held words schema exec loads
+
 -- one of the files has more bytes than the limit
 abbrev pub AreLong : List ℕ → List ℕ → List Load → Type 0
 AreLong schema exec loads = IsLong schema ⊎ IsLong exec ⊎ SomeLong loads

@@ -1,7 +1,7 @@
 //! Running a script as a client of a server.
-ghost use Rattle.std.specs.Prelude.{◌≡◌, ℕ, List, ◌<◌, ◌≤◌, ◌^◌, length, IfOk, IfErr, OnOk, IsErrOf};
+ghost use Rattle.std.specs.Prelude.{◌≡◌, ◌<◌, ◌≤◌, ◌^◌, length, IfOk, IfErr, OnOk, IsErrOf};
 ghost use Rattle.sr_dial.specs.declared.ending.Ending.TheVariants.{Whole};
-ghost use Rattle.sr_cli.specs.Client.{AreFiles, AreHeld, CountsStop, Dialled, Dials, StopsOver, files_of};
+ghost use Rattle.sr_cli.specs.Client.{AreFiles, AreNotHeld, CountsStop, Dialled, Dials, StopsOver, files_of};
 ghost use Rattle.sr_cli.specs.Leaves.{Leaves, NotRead, OnlyReads, OnlyRuns};
 ghost use Rattle.sr_cli.specs.declared.file.ReadFault.TheVariants.{Fault as ReadFailed};
 ghost use Rattle.sr_cli.specs.declared.stop.Stop.TheVariants.{Refused};
@@ -43,8 +43,7 @@ fn client_files<H: Host>(alloc: Global, words: &ClientWords, host: &mut H) -> Re
     ensures stopped { IfErr result (StopsOver (H.held host.old) words.now (H.reading host.new).left
         (H.linking host.old) (H.linking host.new) (H.writing host.old) (H.writing host.new)) }
     ensures counts { CountsStop H H.reading H.writing H.linking host.old host.new result }
-    ensures steady_reads { H.IsSteady host.old → IsErrOf result (Refused Read)
-        → (schema script : List ℕ) → ¬ AreHeld (H.held host.old) words.now schema script }
+    ensures steady_reads { H.IsSteady host.old → IsErrOf result (Refused Read) → AreNotHeld (H.held host.old) words.now }
     ensures steady_writes { H.IsSteady host.old → ¬ IsErrOf result (Refused Write) }
     ensures stays { OnlyRuns H H.held H.complaints H.IsSteady host.old host.new }
 {
@@ -61,8 +60,7 @@ fn read_files<H: Host>(alloc: Global, words: &ClientWords, host: &mut H) -> Resu
     ensures script { IfOk result (λ files. length files.script < 2 ^ 32) }
     ensures not_read { IfErr result (NotRead (H.held host.old) (files_of words.now) (H.reading host.old) (H.reading host.new)) }
     ensures ok_keeps_faults { OnOk result ((H.reading host.new).faults ≡ (H.reading host.old).faults) }
-    ensures steady { H.IsSteady host.old → IsErrOf result ReadFailed
-        → (schema script : List ℕ) → ¬ AreHeld (H.held host.old) words.now schema script }
+    ensures steady { H.IsSteady host.old → IsErrOf result ReadFailed → AreNotHeld (H.held host.old) words.now }
     ensures stays { OnlyReads H H.writing H.linking H.held H.complaints H.IsSteady host.old host.new }
 {
     let schema = match read_file(alloc, words.schema.as_str(), host) {

@@ -5,4 +5,5 @@ pub mod RunLemmas
 pub mod StepLemmas
 pub mod TakeLemmas
 pub mod HonestLemmas
+pub mod StartedLemmas
 pub mod ExplainLemmas

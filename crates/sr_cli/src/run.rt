@@ -3,9 +3,10 @@ ghost use Rattle.std.specs.Prelude.{◌≡◌, ◌⊎◌, Some, None, IfSome};
 ghost use Rattle.sr_io.specs.Causes.{Rose};
 ghost use Rattle.sr_io.specs.Told.{complained};
 ghost use Rattle.sr_words.specs.Words.{command_of as command_said};
-ghost use Rattle.sr_words.specs.declared.command.Command.TheVariants.{Replay, Client, Serve, Explain, Generate};
+ghost use Rattle.sr_words.specs.declared.command.Command.TheVariants.{Replay, Client, Save, Warm, Serve, Explain, Generate};
 ghost use Rattle.sr_words.specs.declared.command.ReplayWords.{ReplayWords};
 ghost use Rattle.sr_words.specs.declared.command.ClientWords.{ClientWords};
+ghost use Rattle.sr_words.specs.declared.command.WarmWords.{WarmWords};
 ghost use Rattle.sr_words.specs.declared.command.ServeWords.{ServeWords};
 ghost use Rattle.sr_words.specs.declared.command.ExplainWords.{ExplainWords};
 ghost use Rattle.sr_words.specs.declared.command.GenerateWords.{GenerateWords};
@@ -14,6 +15,7 @@ ghost use Rattle.sr_cli.specs.Commands.{AsksClient, IsStatus};
 ghost use Rattle.sr_cli.specs.Errors.{error_text};
 ghost use Rattle.sr_cli.specs.Explain.{Explains};
 ghost use Rattle.sr_cli.specs.Generate.{Generates};
+ghost use Rattle.sr_cli.specs.Image.{IsRefusal, SavesOver, WarmsOver};
 ghost use Rattle.sr_cli.specs.Leaves.{OnlyComplains};
 ghost use Rattle.sr_cli.specs.Replay.{Replays};
 ghost use Rattle.sr_cli.specs.Serve.{Serves};
@@ -22,7 +24,9 @@ use crate::client::run_client;
 use crate::explain::run_explain;
 use crate::generate::run_generate;
 use crate::replay::run_replay;
+use crate::save::run_save;
 use crate::serve::run_serve;
+use crate::warm::run_warm;
 use sr_cell::text::Text;
 use sr_io::outside::Host;
 use sr_words::command::Command;
@@ -38,6 +42,8 @@ pub fn run<H: Host>(alloc: Global, words: &[Text], host: &mut H) -> u8
     ensures words_alone { command_said words.now ≡ None → (H.reading host.new ≡ H.reading host.old) × (H.writing host.new ≡ H.writing host.old) × (H.linking host.new ≡ H.linking host.old) }
     ensures replays { (w : ReplayWords) → command_said words.now ≡ Some (Replay w) → Replays H H.held H.reading H.writing H.linking H.complaints H.IsSteady host.old host.new w result }
     ensures dials { (w : ClientWords) → command_said words.now ≡ Some (Client w) → Dials H H.held H.reading H.writing H.linking H.complaints H.IsSteady host.old host.new w result }
+    ensures saves { (w : ClientWords) → command_said words.now ≡ Some (Save w) → SavesOver H H.held H.reading H.writing H.linking H.complaints host.old host.new w result }
+    ensures warms { (w : WarmWords) → command_said words.now ≡ Some (Warm w) → WarmsOver H H.held H.reading H.writing H.linking H.complaints H.IsSteady host.old host.new w result }
     ensures serves { (w : ServeWords) → command_said words.now ≡ Some (Serve w) → Serves H H.held H.reading H.writing H.linking H.complaints H.IsSteady host.old host.new w result }
     ensures explains { (w : ExplainWords) → command_said words.now ≡ Some (Explain w) → Explains H H.held H.reading H.writing H.linking H.complaints H.IsSteady host.old host.new w result }
     ensures generates { (w : GenerateWords) → command_said words.now ≡ Some (Generate w) → Generates H H.reading H.writing H.linking H.IsSteady host.old host.new w result }
@@ -45,8 +51,8 @@ pub fn run<H: Host>(alloc: Global, words: &[Text], host: &mut H) -> u8
     ensures write_fault_is_counted { result ≡ 4 → Rose (H.writing host.old).faults (H.writing host.new).faults }
     ensures link_fault_is_counted { result ≡ 5 → Rose (H.linking host.old).faults (H.linking host.new).faults ⊎ AsksClient words.now }
     ensures reading_keeps_faults { (result ≡ 3) ⊎ ((H.reading host.new).faults ≡ (H.reading host.old).faults) }
-    ensures writes_nothing { (result ≡ 2) ⊎ (result ≡ 3) ⊎ (result ≡ 6) ⊎ (result ≡ 7) ⊎ (result ≡ 10) → H.writing host.new ≡ H.writing host.old }
-    ensures links_nothing { (result ≡ 2) ⊎ (result ≡ 3) ⊎ (result ≡ 6) ⊎ (result ≡ 7) ⊎ (result ≡ 10) → H.linking host.new ≡ H.linking host.old }
+    ensures writes_nothing { (result ≡ 2) ⊎ IsRefusal result → H.writing host.new ≡ H.writing host.old }
+    ensures links_nothing { (result ≡ 2) ⊎ IsRefusal result → H.linking host.new ≡ H.linking host.old }
     ensures silent { result ≡ 0 → H.complaints host.new ≡ H.complaints host.old }
     ensures complaint { IfSome (error_text result) (λ text. H.complaints host.new ≡ complained text (H.complaints host.old)) }
     ensures stays_steady { H.IsSteady host.old → H.IsSteady host.new }
@@ -57,6 +63,8 @@ pub fn run<H: Host>(alloc: Global, words: &[Text], host: &mut H) -> u8
         Ok(Command::Serve(words)) => run_serve(alloc, &words, host),
         Ok(Command::Generate(words)) => run_generate(alloc, words, host),
         Ok(Command::Client(words)) => run_client(alloc, &words, host),
+        Ok(Command::Save(words)) => run_save(alloc, &words, host),
+        Ok(Command::Warm(words)) => run_warm(alloc, &words, host),
         Ok(Command::Explain(words)) => run_explain(alloc, &words, host),
         Err(WordsFault::NotInForm) => refuse_words(host),
         Err(WordsFault::NoMemory) => want_memory(host),

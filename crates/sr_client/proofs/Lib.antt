@@ -48,6 +48,6 @@ mod SettleLemmas
 mod ShortLemmas
 mod StartLemmas
 mod SuitLemmas
-mod TableLemmas
+pub mod TableLemmas
 mod ToldLemmas
 mod WriteLemmas

@@ -1,19 +1,24 @@
 -- What the status of a run of `client` says of the files that are held.
-use Rattle.std.proofs.Common.{◌≡◌, ℕ, ◌⊎◌, List, Option, Some, None, inl, inr, arith, sym, subst}
+use Rattle.std.proofs.Common.{◌≡◌, ℕ, ◌⊎◌, true, false, List, Option, Some, None, inl, inr, arith, sym, subst}
 use Rattle.sr_cell.specs.declared.fault.Fault.{Fault}
 use Rattle.sr_cell.specs.declared.table.Table.{Table}
 use Rattle.sr_dial.specs.declared.ending.Ending.{Ending}
 use Rattle.sr_dial.specs.declared.ending.Ending.TheVariants.{Faulty, Unwritten}
 use Rattle.sr_io.specs.Told.{Linking, Reading, Writing}
 use Rattle.sr_lines.specs.Script.{LinePlace}
+use Rattle.sr_calls.proofs.RunLemmas.{ended_in_part}
+use Rattle.sr_dial.specs.Calls.{Do}
 use Rattle.sr_dial.specs.Following.{Ahead}
+use Rattle.sr_dial.specs.Runs.{is_unwritten}
+use Rattle.sr_links.specs.Steps.{Resumed}
+use Rattle.sr_plan.specs.Plans.{Next}
 use Rattle.sr_setup.specs.ClientFiles.{script_outside, Refuses as RefusesCreate}
 use Rattle.sr_words.specs.declared.command.ClientKind.{ClientKind}
 use Rattle.sr_words.specs.declared.command.ClientKind.TheVariants as kind
 use Rattle.sr_words.specs.declared.command.ClientWords.{ClientWords}
 use Rattle.sr_cli.specs.Files.{SomeTooLong}
-use Rattle.sr_cli.specs.Client.{AreFiles, AreHeld, AreLong, DidRun, Dialled, Ends, FitsFiles, IsEnd, NotRead, StopsOver, ending_of, files_of}
-use Rattle.sr_cli.specs.Kinds.{AsksFor, fault_by, line_fault}
+use Rattle.sr_cli.specs.Client.{AreFiles, AreHeld, AreLong, DidRun, Dialled, DialledInPart, Ends, EndsInPart, FitsFiles, IsEnd, NotRead, StopsOver, Untouched, ending_of, files_of}
+use Rattle.sr_cli.specs.Kinds.{AsksFor, fault_by, keeps_of, line_fault}
 use Rattle.sr_cli.specs.declared.stop.Stop.{Stop}
 use Rattle.sr_cli.specs.declared.stop.Stop.TheVariants as stop
 use Rattle.sr_cli.specs.declared.report.Refusal.{Refusal}
@@ -44,6 +49,21 @@ dialled_by held words from to old mid new before half after ending why is (inr o
     subst (λ (l : Linking). Dialled held words ending old l before after) (sym link)
     (subst (λ (w : Writing). Dialled held words ending old mid before w) (sym output)
     (record { schema = over.schema; script = over.script; files = over.files; ends = ends_of over.schema over.script words old mid before half ending why is over.stops }))
+
+-- where each line was written, what it sent and wrote begins what the rules give
+pub dialled_in_part : (held : List ℕ → Option (List ℕ)) (words : ClientWords) (ending : Ending) (old new : Linking) (before after : Writing) → is_unwritten ending ≡ false → Dialled held words ending old new before after
+    → DialledInPart held words old new before after
+dialled_in_part held words ending old new before after each d = record {
+  schema = d.schema;
+  script = d.script;
+  files = d.files;
+  ends = record {
+    tables = d.ends.tables;
+    ahead = d.ends.ahead;
+    asks = d.ends.asks;
+    ran = ended_in_part words.id words.address d.ends.tables words.limits (keeps_of words.kind) true (Next 0 (Do Resumed) d.ends.ahead) ending old new before after each d.ends.ran;
+  };
+}
 
 -- ---- what was read of files that are held is what is held
 
@@ -200,6 +220,30 @@ module _ (held : List ℕ → Option (List ℕ)) (words : ClientWords) (from to 
       → ((line : ℕ) × (fault : Fault) × (refused ≡ refusal.Setup line fault) × S line fault) ⊎ ((table : List ℕ) × (fault : Fault) × (refused ≡ refusal.Load table fault) × L table fault) → Named held words (RefusesSome (fault_by words))
   refused_of S L why (inl (line, fault, is, said)) = create_of line fault (subst Why is why)
   refused_of S L why (inr (table, fault, is, said)) = absurd (load_of table fault (subst Why is why))
+
+  want_of : Why refusal.Memory → Untouched old new before after ⊎ DialledInPart held words old new before after
+  want_of (inl none) = inl none
+  want_of (inr o) = by o.stops
+    where
+      by : Untouched old new before after ⊎ EndsInPart o.schema o.script words old new before after → Untouched old new before after ⊎ DialledInPart held words old new before after
+      by (inl none) = inl none
+      by (inr part) = inr (record { schema = o.schema; script = o.script; files = o.files; ends = part })
+
+  line_untouched : (line place : ℕ) → Why (refusal.Line line place) → Untouched old new before after
+  line_untouched line place (inl not) = absurd not
+  line_untouched line place (inr o) = o.stops.1
+
+  create_untouched : (line : ℕ) (fault : Fault) → Why (refusal.Setup line fault) → Untouched old new before after
+  create_untouched line fault (inl not) = absurd not
+  create_untouched line fault (inr o) = o.stops.1
+
+  -- there was no memory, or none to name what is refused
+  pub want_by : Why refused → (refused ≡ refusal.Memory) ⊎ ((line : ℕ) × (place : ℕ) × (refused ≡ refusal.Line line place)) ⊎ ((line : ℕ) × (fault : Fault) × (refused ≡ refusal.Setup line fault)) ⊎ ((table : List ℕ) × (fault : Fault) × (refused ≡ refusal.Load table fault))
+      → Untouched old new before after ⊎ DialledInPart held words old new before after
+  want_by why (inl is) = want_of (subst Why is why)
+  want_by why (inr (inl (line, place, is))) = inl (line_untouched line place (subst Why is why))
+  want_by why (inr (inr (inl (line, fault, is)))) = inl (create_untouched line fault (subst Why is why))
+  want_by why (inr (inr (inr (table, fault, is)))) = absurd (load_of table fault (subst Why is why))
 
   is_end : Reports status → IsEnd status
   is_end (inl is) = inr (inl is)

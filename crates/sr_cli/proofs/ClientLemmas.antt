@@ -1,9 +1,9 @@
 -- How a run of `client` comes to its end.
-use Rattle.std.proofs.Common.{◌≡◌, ℕ, ◌⊎◌, true, List, [], ◌∷◌, inl, inr, refl, sym, ◌∙◌, ap, subst}
+use Rattle.std.proofs.Common.{◌≡◌, ◌≢◌, ℕ, ◌⊎◌, true, List, [], ◌∷◌, inl, inr, refl, sym, ◌∙◌, ap, subst}
 use Rattle.std.specs.Prelude.{Option, Some}
 use Rattle.std.specs.Cmp.{first_so, second_so}
 use Rattle.std.specs.List.{list_all, AllZip}
-use Rattle.sr_calls.specs.Runs.{RanNew}
+use Rattle.sr_calls.specs.Runs.{RanNew, RanNewInPart}
 use Rattle.sr_cell.specs.declared.list.No.{No}
 use Rattle.sr_cell.specs.declared.list.No.TheVariants.{Refused as NoBut, NoMemory as Wanting}
 use Rattle.sr_cell.specs.declared.table.Table.{Table}
@@ -29,7 +29,7 @@ use Rattle.sr_dial.specs.Calls.{Task, Do}
 use Rattle.sr_words.specs.declared.command.ClientKind.{ClientKind}
 use Rattle.sr_words.specs.declared.command.ClientWords.{ClientWords}
 use Rattle.sr_cli.specs.Files.{SomeTooLong}
-use Rattle.sr_cli.specs.Client.{Ends, NotRead, Stops, Untouched, ending_of, files_of, stop_of}
+use Rattle.sr_cli.specs.Client.{Ends, EndsInPart, NotRead, Stops, Untouched, ending_of, files_of, stop_of}
 use Rattle.sr_cli.specs.Kinds.{AsksFor, AsksLines, IsTaskOf, fault_by, keeps_of}
 use Rattle.sr_cli.specs.declared.stop.Stop.{Stop}
 use Rattle.sr_cli.specs.declared.stop.Stop.TheVariants as stop
@@ -75,11 +75,29 @@ ends_for schema script words k tables ahead ending old new before after is asks 
   ran = subst (λ kind. RanNew words.id words.address tables words.limits (keeps_of kind) true (Next 0 (Do Resumed) ahead) ending old new before after) (sym is) ran;
 }
 
+-- or was broken off, out of memory
+pub breaks_for : (schema script : List ℕ) (words : ClientWords) (k : ClientKind) (tables : List Table) (ahead : Ahead) (old new : Linking) (before after : Writing) → words.kind ≡ k → AsksFor k words.id schema script tables ahead
+    → Untouched old new before after ⊎ RanNewInPart words.id words.address tables words.limits (keeps_of k) true (Next 0 (Do Resumed) ahead) old new before after
+    → Untouched old new before after ⊎ EndsInPart schema script words old new before after
+breaks_for schema script words k tables ahead old new before after is asks (inl none) = inl none
+breaks_for schema script words k tables ahead old new before after is asks (inr part) = inr (record {
+  tables = tables;
+  ahead = ahead;
+  asks = subst (λ kind. AsksFor kind words.id schema script tables ahead) (sym is) asks;
+  ran = subst (λ kind. RanNewInPart words.id words.address tables words.limits (keeps_of kind) true (Next 0 (Do Resumed) ahead) old new before after) (sym is) part;
+})
+
+-- no line was to be written where files are not set up
+pub unset_written : (no : No ClientFault) → stop_of no ≢ stop.Refused refusal.Write
+unset_written Wanting is = cc
+unset_written (NoBut (fault.Line at place)) is = cc
+unset_written (NoBut (fault.Create at why)) is = cc
+
 -- files that are not set up
 pub stops_unset : (schema script : List ℕ) (words : ClientWords) (no : No ClientFault) (l : Linking) (w : Writing)
     → ((line place : ℕ) → no ≡ NoBut (fault.Line line place) → script_outside (fault_by words) schema script ≡ Some (record { line = line; place = place }))
     → ((line : ℕ) (why : Fault) → no ≡ NoBut (fault.Create line why) → RefusesCreate (fault_by words) schema script line why) → Stops schema script words l l w w (stop_of no)
-stops_unset schema script words Wanting l w line create = tt
+stops_unset schema script words Wanting l w line create = inl (record { linking = refl; writing = refl })
 stops_unset schema script words (NoBut (fault.Line at place)) l w line create = (line at place refl, record { linking = refl; writing = refl })
 stops_unset schema script words (NoBut (fault.Create at why)) l w line create = (create at why refl, record { linking = refl; writing = refl })
 
@@ -118,11 +136,17 @@ ends_of schema script words old new before after ending (stop.Spoiled fault) is 
 ends_of schema script words old new before after ending (stop.Bad why) is stops = ends_as schema script words old new before after (BadMessage why) ending (sym is) stops
 ends_of schema script words old new before after ending stop.Limit is stops = ends_as schema script words old new before after TooMany ending (sym is) stops
 
+-- a run that ended without a line that is not written does not stop for that
+pub stops_written : (ending : Ending) (why : Stop) → ending ≢ Unwritten → ending_of why ≡ Some ending → why ≢ stop.Refused refusal.Write
+stops_written ending why written is wrong =
+    let same : Some Unwritten ≡ Some ending = sym (ap ending_of wrong) ∙ is in
+    written cc
+
 -- ---- why the files are not read
 
 pub not_read : (held : List ℕ → Option (List ℕ)) (words : ClientWords) (from to : Reading) (old new : Linking) (before after : Writing) (why : Refusal)
     → (why ≡ refusal.Read) ⊎ (why ≡ refusal.Memory) ⊎ (why ≡ refusal.TooLong) → Untouched old new before after
     → (why ≡ refusal.Read → Rose from.faults to.faults) → (why ≡ refusal.TooLong → SomeTooLong held to.left (files_of words)) → NotRead held words from to old new before after (stop.Refused why)
 not_read held words from to old new before after why (inl is) untouched failed long = subst (λ w. NotRead held words from to old new before after (stop.Refused w)) (sym is) (failed is, untouched)
-not_read held words from to old new before after why (inr (inl is)) untouched failed long = subst (λ w. NotRead held words from to old new before after (stop.Refused w)) (sym is) tt
+not_read held words from to old new before after why (inr (inl is)) untouched failed long = subst (λ w. NotRead held words from to old new before after (stop.Refused w)) (sym is) untouched
 not_read held words from to old new before after why (inr (inr is)) untouched failed long = subst (λ w. NotRead held words from to old new before after (stop.Refused w)) (sym is) (long is, untouched)

@@ -1,6 +1,6 @@
 -- What a client does, of each kind, and why it ends with each status.
-use Rattle.std.specs.Prelude.{◌≡◌, ℕ, ◌⊎◌, Bool, true, List, [], ◌∷◌, Option, Some, None}
-use Rattle.sr_calls.specs.Runs.{RanNew}
+use Rattle.std.specs.Prelude.{◌≡◌, ◌≢◌, ℕ, ◌⊎◌, Bool, true, List, [], ◌∷◌, Option, Some, None, Result, Ok, Err}
+use Rattle.sr_calls.specs.Runs.{RanNew, RanNewInPart}
 use Rattle.sr_cell.specs.declared.fault.Fault.{Fault}
 use Rattle.sr_cell.specs.declared.list.No.{No}
 use Rattle.sr_cell.specs.declared.list.No.TheVariants.{Refused as NoBut, NoMemory as Wanting}
@@ -56,6 +56,25 @@ pub record Dialled (held : List ℕ → Option (List ℕ)) (words : ClientWords)
   pub script : List ℕ
   pub files : AreFiles held words schema script
   pub ends : Ends schema script words ending old new before after
+
+-- Out of memory: the same, broken off. What was sent and written begins what the rules give.
+pub record EndsInPart (schema script : List ℕ) (words : ClientWords) (old new : Linking) (before after : Writing) : Type 0 where
+  pub tables : List Table
+  pub ahead : Ahead
+  pub asks : AsksFor words.kind words.id schema script tables ahead
+  pub ran : RanNewInPart words.id words.address tables words.limits (keeps_of words.kind) true (Next 0 (Do Resumed) ahead) old new before after
+
+-- the same, of files that were read
+pub record DialledInPart (held : List ℕ → Option (List ℕ)) (words : ClientWords) (old new : Linking) (before after : Writing) : Type 0 where
+  pub schema : List ℕ
+  pub script : List ℕ
+  pub files : AreFiles held words schema script
+  pub ends : EndsInPart schema script words old new before after
+
+-- nothing was written, and no link was touched
+pub record Untouched (old new : Linking) (before after : Writing) : Type 0 where
+  pub linking : new ≡ old
+  pub writing : after ≡ before
 
 -- ---- refusals
 
@@ -146,17 +165,14 @@ pub record Dials (H : Type 0) (held : H → List ℕ → Option (List ℕ)) (rea
   pub faulty : status ≡ 5 → Dialled (held old) words Faulty (linking old) (linking new) (writing old) (writing new)
   pub frame : status ≡ 8 → NamedFrame (held old) words (linking old) (linking new) (writing old) (writing new) (complaints old) (complaints new)
   pub limit : status ≡ 11 → Dialled (held old) words TooMany (linking old) (linking new) (writing old) (writing new)
+  pub in_want : status ≡ 9 → Untouched (linking old) (linking new) (writing old) (writing new) ⊎ DialledInPart (held old) words (linking old) (linking new) (writing old) (writing new)
   pub too_long : status ≡ 10 → SomeTooLong (held old) (reading new).left (files_of words)
   pub line : status ≡ 6 → NamedLine (held old) words (complaints old) (complaints new)
   pub refused : status ≡ 7 → NamedCreate (held old) words (complaints old) (complaints new)
   pub steady : IsSteady old → (schema script : List ℕ) → AreHeld (held old) words schema script → FitsFiles (fault_by words) schema script status
+  pub steady_writes : IsSteady old → ¬ (status ≡ 4)
 
 -- ---- inside the crate
-
--- nothing was written, and no link was touched
-pub record Untouched (old new : Linking) (before after : Writing) : Type 0 where
-  pub linking : new ≡ old
-  pub writing : after ≡ before
 
 -- why a run stops whose files are not set up
 abbrev pub stop_of : No ClientFault → Stop
@@ -173,11 +189,16 @@ ending_of (stop.Spoiled fault) = Some (Spoiled fault)
 ending_of (stop.Bad why) = Some (BadMessage why)
 ending_of stop.Limit = Some TooMany
 
+-- each line was written, whatever came of the run
+abbrev pub IsWritten : Result Ending Stop → Type 0
+IsWritten (Ok ended) = ended ≢ Unwritten
+IsWritten (Err why) = why ≢ stop.Refused refusal.Write
+
 -- why a run over these files is refused
 abbrev pub Refuses : List ℕ → List ℕ → ClientWords → Linking → Linking → Writing → Writing → Refusal → Type 0
 Refuses schema script words old new before after refusal.Write = Ends schema script words Unwritten old new before after
 Refuses schema script words old new before after refusal.Link = Ends schema script words Faulty old new before after
-Refuses schema script words old new before after refusal.Memory = Unit {0}
+Refuses schema script words old new before after refusal.Memory = Untouched old new before after ⊎ EndsInPart schema script words old new before after
 Refuses schema script words old new before after (refusal.Line line place) = (script_outside (fault_by words) schema script ≡ Some (record { line = line; place = place })) × Untouched old new before after
 Refuses schema script words old new before after (refusal.Setup line fault) = RefusesCreate (fault_by words) schema script line fault × Untouched old new before after
 Refuses schema script words old new before after other = ⊥
@@ -201,6 +222,12 @@ abbrev pub RunsAs : (H : Type 0) → (H → Linking) → (H → Writing) → H �
 RunsAs H linking writing old new words keeps tables ahead ending =
     RanNew words.id words.address tables words.limits keeps true (Next 0 (Do Resumed) ahead) ending (linking old) (linking new) (writing old) (writing new)
 
+-- out of memory: nothing was done, or the same was broken off
+abbrev pub BreaksOff : (H : Type 0) → (H → Linking) → (H → Writing) → H → H → ClientWords → Bool → List Table → Ahead → Type 0
+BreaksOff H linking writing old new words keeps tables ahead =
+    Untouched (linking old) (linking new) (writing old) (writing new)
+    ⊎ RanNewInPart words.id words.address tables words.limits keeps true (Next 0 (Do Resumed) ahead) (linking old) (linking new) (writing old) (writing new)
+
 -- why a run stops, of the files that the words name
 pub record StopsOver (held : List ℕ → Option (List ℕ)) (words : ClientWords) (old new : Linking) (before after : Writing) (why : Stop) : Type 0 where
   pub schema : List ℕ
@@ -212,5 +239,5 @@ pub record StopsOver (held : List ℕ → Option (List ℕ)) (words : ClientWord
 abbrev pub NotRead : (List ℕ → Option (List ℕ)) → ClientWords → Reading → Reading → Linking → Linking → Writing → Writing → Stop → Type 0
 NotRead held words from to old new before after (stop.Refused refusal.Read) = Rose from.faults to.faults × Untouched old new before after
 NotRead held words from to old new before after (stop.Refused refusal.TooLong) = SomeTooLong held to.left (files_of words) × Untouched old new before after
-NotRead held words from to old new before after (stop.Refused refusal.Memory) = Unit {0}
+NotRead held words from to old new before after (stop.Refused refusal.Memory) = Untouched old new before after
 NotRead held words from to old new before after other = ⊥

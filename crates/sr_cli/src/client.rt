@@ -5,11 +5,11 @@ ghost use Rattle.sr_io.specs.Told.{complained};
 ghost use Rattle.sr_dial.specs.declared.ending.Ending.TheVariants.{Whole, Faulty, Unwritten, Limit as TooMany};
 ghost use Rattle.sr_cli.specs.Files.{SomeTooLong};
 ghost use Rattle.sr_cli.specs.Errors.{error_text};
-ghost use Rattle.sr_cli.specs.Client.{AreFiles, AreHeld, Dialled, FitsFiles, IsEnd, NamedCreate, NamedFrame, NamedLine, NotRead, StopsOver, files_of};
+ghost use Rattle.sr_cli.specs.Client.{AreFiles, AreHeld, Dialled, DialledInPart, FitsFiles, IsEnd, NamedCreate, NamedFrame, NamedLine, NotRead, StopsOver, Untouched, files_of};
 ghost use Rattle.sr_cli.specs.Kinds.{fault_by};
 ghost use Rattle.sr_cli.specs.declared.file.ReadFault.TheVariants.{Fault as ReadFailed, NoMemory as Wanting, TooLong as ReadTooLong};
 ghost use Rattle.sr_cli.specs.declared.stop.Stop.TheVariants.{Refused};
-ghost use Rattle.sr_cli.specs.declared.report.Refusal.TheVariants.{Read};
+ghost use Rattle.sr_cli.specs.declared.report.Refusal.TheVariants.{Read, Write};
 
 use crate::file::{ReadFault, read_file};
 use crate::frames::{report_bad, report_limit, report_spoiled};
@@ -32,6 +32,8 @@ pub(crate) fn run_client<H: Host>(alloc: Global, words: &ClientWords, host: &mut
     ensures frame { result ≡ 8 → NamedFrame (H.held host.old) words.now (H.linking host.old) (H.linking host.new) (H.writing host.old) (H.writing host.new) (H.complaints host.old) (H.complaints host.new) }
     ensures limit { result ≡ 11 → Dialled (H.held host.old) words.now TooMany (H.linking host.old) (H.linking host.new) (H.writing host.old) (H.writing host.new) }
     ensures read_fault_is_counted { result ≡ 3 → Rose (H.reading host.old).faults (H.reading host.new).faults }
+    ensures in_want { result ≡ 9 → Untouched (H.linking host.old) (H.linking host.new) (H.writing host.old) (H.writing host.new)
+        ⊎ DialledInPart (H.held host.old) words.now (H.linking host.old) (H.linking host.new) (H.writing host.old) (H.writing host.new) }
     ensures too_long { result ≡ 10 → SomeTooLong (H.held host.old) (H.reading host.new).left (files_of words.now) }
     ensures line { result ≡ 6 → NamedLine (H.held host.old) words.now (H.complaints host.old) (H.complaints host.new) }
     ensures refused { result ≡ 7 → NamedCreate (H.held host.old) words.now (H.complaints host.old) (H.complaints host.new) }
@@ -43,6 +45,7 @@ pub(crate) fn run_client<H: Host>(alloc: Global, words: &ClientWords, host: &mut
     ensures write_fault_is_counted { result ≡ 4 → Rose (H.writing host.old).faults (H.writing host.new).faults }
     ensures steady { H.IsSteady host.old → (schema script : List ℕ) → AreHeld (H.held host.old) words.now schema script
         → FitsFiles (fault_by words.now) schema script result }
+    ensures steady_writes { H.IsSteady host.old → ¬ (result ≡ 4) }
     ensures stays_steady { H.IsSteady host.old → H.IsSteady host.new }
     ensures held_stays { H.held host.new ≡ H.held host.old }
 {
@@ -64,6 +67,7 @@ fn client_files<H: Host>(alloc: Global, words: &ClientWords, host: &mut H) -> Re
     ensures stopped { IfErr result (λ why. NotRead (H.held host.old) words.now (H.reading host.old) (H.reading host.new) (H.linking host.old) (H.linking host.new) (H.writing host.old) (H.writing host.new) why ⊎ StopsOver (H.held host.old) words.now (H.linking host.old) (H.linking host.new) (H.writing host.old) (H.writing host.new) why) }
     ensures reading_keeps_faults { IsErrOf result (Refused Read) ⊎ ((H.reading host.new).faults ≡ (H.reading host.old).faults) }
     ensures steady_reads { H.IsSteady host.old → IsErrOf result (Refused Read) → (schema script : List ℕ) → ¬ AreHeld (H.held host.old) words.now schema script }
+    ensures steady_writes { H.IsSteady host.old → ¬ IsErrOf result (Refused Write) }
     ensures stays_steady { H.IsSteady host.old → H.IsSteady host.new }
     ensures held_stays { H.held host.new ≡ H.held host.old }
     ensures complaints_stay { H.complaints host.new ≡ H.complaints host.old }

@@ -7,7 +7,7 @@ ghost use Rattle.sr_cli.specs.Generate.{Generates, Refuses, Summarized, Wrote};
 ghost use Rattle.sr_cli.specs.Leaves.{Counts, Leaves, OnlyWrites};
 ghost use Rattle.sr_cli.specs.declared.report.Refusal.TheVariants.{Write};
 
-use crate::report::{Refusal, refusal_of, report};
+use crate::report::{Refusal, report};
 use sr_cell::list::No;
 use sr_generate::script::write_script;
 use sr_io::outside::{Failed, Host};
@@ -45,7 +45,7 @@ fn generate<H: Host>(alloc: Global, words: GenerateWords, host: &mut H) -> Resul
     }
     match summary_of(alloc, words.seed, words.events) {
         Ok(text) => end_of_write(write_all(host, text.as_bytes())),
-        Err(no) => Err(refusal_of(no)),
+        Err(_) => Err(Refusal::Memory),
     }
 }
 

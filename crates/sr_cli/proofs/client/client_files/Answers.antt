@@ -2,7 +2,7 @@ use Rattle.std.proofs.Common.{Err, inl, inr, ap}
 use Rattle.std.proofs.lemmas.Result.{on_ok_weaker, IfErr-weaker}
 use Rattle.sr_cli.specs.declared.stop.Stop.TheVariants.{Refused}
 use Rattle.sr_cli.proofs.ClientLemmas.{not_read}
-use Rattle.sr_cli.proofs.Endings.{keeps, one_stop}
+use Rattle.sr_cli.proofs.Endings.{keeps, one_stop, unread_written}
 use Rattle.sr_cli.proofs.client.client_files.Goals as goal
 
 pub returns-in-Ok-clause-whole : goal.returns-in-Ok-clause-whole
@@ -43,3 +43,9 @@ returns-in-Err-clause-reading_keeps_faults g c =
     keeps c.unread.result _ _ c.unread.ensures.only (λ is. ap Err (ap Refused is))
     (λ is. c.in-Err.ensures.want_keeps_faults (ap Err (c.unread.ensures.memory is)))
     (λ is. c.in-Err.ensures.too_long_keeps_faults (ap Err (c.unread.ensures.too_long is)))
+
+pub returns-in-Ok-clause-steady_writes : goal.returns-in-Ok-clause-steady_writes
+returns-in-Ok-clause-steady_writes g c = λ steady. c.client_read.ensures.steady_writes (c.in-Ok.ensures.stays_steady steady)
+
+pub returns-in-Err-clause-steady_writes : goal.returns-in-Err-clause-steady_writes
+returns-in-Err-clause-steady_writes g c = λ steady failed. unread_written c.unread.result c.unread.ensures.only (one_stop _ _ failed)

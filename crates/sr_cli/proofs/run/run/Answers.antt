@@ -42,10 +42,12 @@ returns-in-Ok-Client-clause-dials g c = λ w says.
       faulty = did.faulty;
       frame = did.frame;
       limit = did.limit;
+      in_want = did.in_want;
       too_long = did.too_long;
       line = did.line;
       refused = did.refused;
       steady = did.steady;
+      steady_writes = did.steady_writes;
     }
 
 pub returns-in-Ok-Client-clause-link_fault_is_counted : goal.returns-in-Ok-Client-clause-link_fault_is_counted

@@ -2,6 +2,12 @@
 ghost use Rattle.std.specs.Prelude.{◌≡◌, ◌≤◌, None, IfOk, IsTrue};
 ghost use Rattle.std.specs.List.{list_all};
 ghost use Rattle.sr_query.specs.Bound.{is_table};
+ghost use Rattle.sr_store.specs.Starting.{IsStart};
+ghost use Rattle.sr_client.specs.Stands.{StandsFor};
+ghost use Rattle.sr_client.specs.Starting.{start_client, start_past};
+ghost use Rattle.sr_image.specs.Joining.{image_from};
+ghost use Rattle.sr_image.specs.Laws.{is_image};
+ghost use Rattle.sr_image.specs.Writing.{may_write_image};
 ghost use Rattle.sr_calls.specs.ClientEnds.{IsReady, end_with};
 ghost use Rattle.sr_calls.specs.Runs.{new_end};
 
@@ -10,7 +16,11 @@ use sr_cell::fault::Fault;
 use sr_cell::list::{Copied, NoMemory};
 use sr_cell::schema::Schema;
 use sr_client::client::Client;
+use sr_client::start::ClientStart;
 use sr_dial::parts::{Answer, Asks, Came, Told};
+use sr_history::mark::Marks;
+use sr_image::image::Image;
+use sr_image::joining::image_of;
 use sr_links::laws::Peer;
 use sr_message::message::Message;
 use sr_policy::policy::Limits;
@@ -28,6 +38,13 @@ pub struct ClientEnd {
     keeps: bool,
     says: bool,
     answer: Option<Answer>,
+}
+
+/// The end of a client that starts from an image, and the marks of what it holds and dropped at its start.
+#[derive(Drop)]
+pub struct EndStart {
+    pub end: ClientEnd,
+    pub marks: Marks,
 }
 
 impl Model for ClientEnd {
@@ -72,6 +89,44 @@ impl ClientEnd {
         let own = schema.copy(alloc)?;
         let client = Client::new(alloc, id, own, limits);
         Ok(ClientEnd::new(client, keeps, says))
+    }
+
+    /// The end of a client that starts from an image, and the marks of its start.
+    pub fn of_image(
+        alloc: Global,
+        id: u8,
+        schema: &Schema,
+        limits: Limits,
+        image: Image,
+        keeps: bool,
+        says: bool,
+    ) -> Result<EndStart, NoMemory>
+        requires first { 1 ≤ id }
+        requires last { id ≤ 64 }
+        requires tables { IsTrue (list_all is_table schema.now) }
+        requires regions { limits.regions ≤ 1024 }
+        requires image { IsTrue (is_image schema.now image) }
+        ensures end { IfOk result (λ start. start.end ≡ end_with keeps says (start_client id schema.now limits image.version start.end.client.store) None) }
+        ensures store { IfOk result (λ start. IsStart schema.now limits image.kept (record { store = start.end.client.store; marks = start.marks })) }
+        ensures stands { IfOk result (λ start. StandsFor (start_past schema.now image.version image.kept start.marks) start.end.client) }
+    {
+        let own = schema.copy(alloc)?;
+        let ClientStart { client, marks } =
+            Client::of(alloc, id, own, limits, image.version, image.kept)?;
+        Ok(EndStart {
+            end: ClientEnd::new(client, keeps, says),
+            marks,
+        })
+    }
+
+    /// The image of what the client holds.
+    pub fn image(&self, alloc: Global) -> Result<Image, NoMemory>
+        requires rows { self.now.client.store.limits.rows ≤ 200000 }
+        ensures is { IfOk result (λ image. image ≡ image_from self.now.client.version self.now.client.store.regions) }
+        ensures whole { IfOk result (λ image. IsTrue (is_image self.now.client.schema image)) }
+        ensures may_write { IfOk result (λ image. IsTrue (may_write_image image)) }
+    {
+        image_of(alloc, self.client.version(), self.client.regions())
     }
 
     /// The client.

@@ -1,10 +1,14 @@
 -- What `save` and `warm` do, and why they end with each status.
-use Rattle.std.specs.Prelude.{◌≡◌, ℕ, ◌⊎◌, Bool, true, false, List, [], ◌∷◌, ◌++◌, Option, Some, None, Result, Ok, Err, flat_map, codes, decimal, if◌then◌else◌}
+use Rattle.std.specs.Prelude.{◌≡◌, ℕ, ◌<◌, ◌^◌, ◌⊎◌, length, Bool, true, false, List, [], ◌∷◌, ◌++◌, Option, Some, None, Result, Ok, Err, flat_map, codes, decimal, if◌then◌else◌}
 use Rattle.std.specs.Io.KnownBytes.{Appends}
 use Rattle.sr_calls.specs.ClientEnds.{End, end_with}
-use Rattle.sr_calls.specs.Runs.{RanFrom, RanNew}
+use Rattle.sr_calls.specs.Runs.{RanFrom, RanNew, RanNewInPart, RanOff}
+use Rattle.sr_calls.specs.Started.{IsStarted}
+use Rattle.sr_cell.specs.declared.fault.Fault.{Fault}
+use Rattle.sr_cell.specs.declared.list.No.{No}
+use Rattle.sr_cell.specs.declared.list.No.TheVariants.{Refused as NoBut, NoMemory as Wanting}
 use Rattle.sr_cell.specs.declared.table.Table.{Table}
-use Rattle.sr_client.specs.Starting.{start_client, start_past}
+use Rattle.sr_client.specs.Starting.{start_past}
 use Rattle.sr_client.specs.declared.client.Client.{Client}
 use Rattle.sr_dial.specs.Calls.{Do}
 use Rattle.sr_dial.specs.Following.{Ahead}
@@ -20,25 +24,25 @@ use Rattle.sr_image.specs.declared.image.ImageFault.TheVariants as bad
 use Rattle.sr_io.specs.Causes.{Rose}
 use Rattle.sr_io.specs.Pieces.{WritesPrefix}
 use Rattle.sr_io.specs.Told.{Reading, Writing, Linking, complained}
+use Rattle.sr_io.specs.declared.outside.Failed.{Failed}
 use Rattle.sr_links.specs.Steps.{Resumed}
 use Rattle.sr_plan.specs.Plans.{Next}
 use Rattle.sr_runs.specs.Lines.{mark_lines}
 use Rattle.sr_script.specs.TraceText.{line_text}
-use Rattle.sr_setup.specs.ClientFiles.{client_fault, script_outside, Refuses as RefusesCreate}
-use Rattle.sr_store.specs.Starting.{IsStart}
 use Rattle.sr_wire.specs.declared.bad_frame.BadFrame.{BadFrame}
 use Rattle.sr_wire.specs.declared.wire_fault.WireFault.{WireFault}
 use Rattle.sr_words.specs.declared.command.ClientWords.{ClientWords}
 use Rattle.sr_words.specs.declared.command.WarmWords.{WarmWords}
-use Rattle.sr_cli.specs.Client.{AreFiles, AreHeld, AreLong, DidRun, IsEnd, NamedCreate, NamedLine, Untouched, files_of}
+use Rattle.sr_cli.specs.Client.{AreFiles, IsEnd, IsOutside, IsRefusedCreate, NamedCreate, NamedLine, Untouched, files_of}
+use Rattle.sr_cli.specs.Errors.{bad_text, spoiled_text, words_text}
+use Rattle.sr_cli.specs.Files.{IsWhatIsHeld, SomeTooLong}
+use Rattle.sr_cli.specs.Kinds.{AsksLines}
+use Rattle.sr_cli.specs.declared.kinds.Files.{Files}
 use Rattle.sr_cli.specs.declared.report.Refusal.TheVariants as refusal
 use Rattle.sr_cli.specs.declared.stop.Stop.{Stop}
 use Rattle.sr_cli.specs.declared.stop.Stop.TheVariants as stop
 use Rattle.sr_cli.specs.declared.warm.WarmStop.{WarmStop}
 use Rattle.sr_cli.specs.declared.warm.WarmStop.TheVariants as warm_stop
-use Rattle.sr_cli.specs.Kinds.{AsksLines}
-use Rattle.sr_cli.specs.Errors.{bad_text, spoiled_text, words_text}
-use Rattle.sr_cli.specs.Files.{IsLong, IsWhatIsHeld, SomeTooLong}
 
 -- ---- texts
 
@@ -61,6 +65,38 @@ version_line id version = words_text (codes "0" ∷ codes "image" ∷ decimal id
 abbrev pub start_text : List Table → ℕ → ℕ → List Mark → List ℕ
 start_text tables id version marks = flat_map (line_text tables 0) (mark_lines id marks) ++ version_line id version
 
+-- ---- what is written at once
+
+-- all of it
+abbrev pub WritesAll : List ℕ → Writing → Writing → Type 0
+WritesAll bytes before after = Appends before.written after.written bytes × (after.faults ≡ before.faults)
+
+-- a beginning, and a fault is counted
+abbrev pub WritesPart : List ℕ → Writing → Writing → Type 0
+WritesPart bytes before after = WritesPrefix before.written after.written bytes × Rose before.faults after.faults
+
+-- a beginning, out of memory
+abbrev pub WritesOff : List ℕ → Writing → Writing → Type 0
+WritesOff bytes before after = WritesPrefix before.written after.written bytes × (after.faults ≡ before.faults)
+
+-- ---- what the files ask for
+
+-- Files are read under the names of the words, judged and read; of their tables, and of what is ahead of their client, this holds.
+pub record Asked (held : List ℕ → Option (List ℕ)) (words : ClientWords) (Did : List Table → Ahead → Type 0) : Type 0 where
+  pub schema : List ℕ
+  pub script : List ℕ
+  pub files : AreFiles held words schema script
+  pub tables : List Table
+  pub ahead : Ahead
+  pub asks : AsksLines words.id schema script tables ahead
+  pub did : Did tables ahead
+
+-- Of these, and of the bytes that are read of the image.
+pub record AskedOver (held : List ℕ → Option (List ℕ)) (words : WarmWords) (Did : List Table → Ahead → List ℕ → Type 0) : Type 0 where
+  pub image : List ℕ
+  pub image_read : IsWhatIsHeld (held words.image) image
+  pub asked : Asked held words.client (λ tables ahead. Did tables ahead image)
+
 -- ---- what `save` does
 
 -- the image of what a client holds
@@ -73,208 +109,265 @@ has_image Whole = true
 has_image Faulty = true
 has_image other = false
 
--- all of the image is written, where one is
-abbrev pub WritesImage : Ending → List ℕ → Writing → Writing → Type 0
-WritesImage ending bytes before after = Appends before.written after.written (if has_image ending then bytes else []) × (after.faults ≡ before.faults)
+-- A new client of the words' number ran, as that of `client` does, but without writing a line.
+abbrev pub RanQuietly : ClientWords → List Table → Ahead → Ending → Linking → Linking → Writing → Writing → Type 0
+RanQuietly words tables ahead ending old new before after = RanNew words.id words.address tables words.limits false false (Next 0 (Do Resumed) ahead) ending old new before after
 
--- a beginning of an image is written, which is counted as a fault
-abbrev pub WritesPart : List ℕ → Writing → Writing → Type 0
-WritesPart bytes before after = WritesPrefix before.written after.written bytes × Rose before.faults after.faults
-
--- Files are judged and read, and a new client of that number ran without writing a line, as `client` does, and ended so.
-pub record RanQuietly (schema script : List ℕ) (words : ClientWords) (ending : Ending) (old new : Linking) (before after : Writing) : Type 0 where
-  pub tables : List Table
-  pub ahead : Ahead
-  pub asks : AsksLines words.id schema script tables ahead
-  pub ran : RanNew words.id words.address tables words.limits false false (Next 0 (Do Resumed) ahead) ending old new before after
-
--- the image of the client that a run left
-abbrev pub left_image : {schema script : List ℕ} {words : ClientWords} {ending : Ending} {old new : Linking} {before after : Writing} → RanQuietly schema script words ending old new before after → List ℕ
-left_image run = image_bytes run.tables (held_image run.ran.left.client)
-
--- And then nothing was written but the image of the client that it left.
-pub record Saves (schema script : List ℕ) (words : ClientWords) (ending : Ending) (old new : Linking) (before after : Writing) : Type 0 where
+-- And then all was written of the image of the client that it left, where one is; and nothing else was.
+pub record Saves (words : ClientWords) (tables : List Table) (ahead : Ahead) (ending : Ending) (old new : Linking) (before after : Writing) : Type 0 where
   pub middle : Writing
-  pub run : RanQuietly schema script words ending old new before middle
-  pub image : WritesImage ending (left_image run) before after
+  pub ran : RanQuietly words tables ahead ending old new before middle
+  pub image : WritesAll (if has_image ending then image_bytes tables (held_image ran.left.client) else []) before after
 
--- The image was not written whole.
-pub record SavesInPart (schema script : List ℕ) (words : ClientWords) (old new : Linking) (before after : Writing) : Type 0 where
+-- Or only this was: a part of it, or a beginning out of memory.
+pub record SavesOnly (Writes : List ℕ → Writing → Writing → Type 0) (words : ClientWords) (tables : List Table) (ahead : Ahead) (old new : Linking) (before after : Writing) : Type 0 where
   pub ending : Ending
   pub done : has_image ending ≡ true
   pub middle : Writing
-  pub run : RanQuietly schema script words ending old new before middle
-  pub image : WritesPart (left_image run) before after
+  pub ran : RanQuietly words tables ahead ending old new before middle
+  pub image : Writes (image_bytes tables (held_image ran.left.client)) before after
+
+-- Or the run was broken off, out of memory, and nothing was written.
+pub record SavesNothing (words : ClientWords) (tables : List Table) (ahead : Ahead) (old new : Linking) (before after : Writing) : Type 0 where
+  pub middle : Writing
+  pub ran : RanNewInPart words.id words.address tables words.limits false false (Next 0 (Do Resumed) ahead) old new before middle
+  pub none : WritesAll [] before after
+
+-- what was done out of memory
+abbrev pub SavesOff : ClientWords → List Table → Ahead → Linking → Linking → Writing → Writing → Type 0
+SavesOff words tables ahead old new before after = SavesNothing words tables ahead old new before after ⊎ SavesOnly WritesOff words tables ahead old new before after
 
 -- ---- what `warm` does
 
--- a client of the words' number that starts from an image, within the words' limits, with these marks
-pub record IsStartOf (tables : List Table) (words : ClientWords) (image : Image) (marks : List Mark) (c : Client) : Type 0 where
-  pub client : c ≡ start_client words.id tables words.limits image.version c.store
-  pub start : IsStart tables words.limits image.kept (record { store = c.store; marks = marks })
-
--- Files are judged and read, the bytes are an image over their tables, and a client starts from it.
-pub record Starts (schema script bytes : List ℕ) (words : ClientWords) : Type 0 where
-  pub tables : List Table
-  pub ahead : Ahead
-  pub asks : AsksLines words.id schema script tables ahead
+-- The bytes are an image over these tables, and a client of the words' number starts from it, within the words' limits.
+pub record Starts (words : ClientWords) (tables : List Table) (bytes : List ℕ) : Type 0 where
   pub image : Image
   pub read : image_in tables bytes ≡ Ok image
   pub marks : List Mark
   pub client : Client
-  pub start : IsStartOf tables words image marks client
+  pub is : IsStarted words.id image.version tables words.limits image.kept marks client
 
-abbrev pub text_of_start : {schema script bytes : List ℕ} {words : ClientWords} → Starts schema script bytes words → List ℕ
-text_of_start {schema} {script} {bytes} {words} s = start_text s.tables words.id s.image.version s.marks
+abbrev pub text_of_start : {words : ClientWords} {tables : List Table} {bytes : List ℕ} → Starts words tables bytes → List ℕ
+text_of_start {words} {tables} {bytes} s = start_text tables words.id s.image.version s.marks
 
--- Its lines are written; and then that client ran, as `client` does, and ended so.
-pub record Warms (schema script bytes : List ℕ) (words : ClientWords) (ending : Ending) (old new : Linking) (before after : Writing) : Type 0 where
-  pub starts : Starts schema script bytes words
+-- the end of that client, whose run writes its lines; and its past
+abbrev pub end_of_start : {words : ClientWords} {tables : List Table} {bytes : List ℕ} → Starts words tables bytes → End
+end_of_start {words} {tables} {bytes} s = end_with false true s.client None
+
+-- The lines of its start are written; and then that client ran, as that of `client` does, and ended so.
+pub record Warms (words : ClientWords) (tables : List Table) (ahead : Ahead) (bytes : List ℕ) (ending : Ending) (old new : Linking) (before after : Writing) : Type 0 where
+  pub starts : Starts words tables bytes
   pub middle : Writing
-  pub said : Appends before.written middle.written (text_of_start starts) × (middle.faults ≡ before.faults)
+  pub said : WritesAll (text_of_start starts) before middle
   pub left : End
-  pub ran : RanFrom (end_with false true starts.client None) (start_past starts.tables starts.image.version starts.image.kept starts.marks) words.address (Next 0 (Do Resumed) starts.ahead) ending old new middle after left
+  pub ran : RanFrom (end_of_start starts) (start_past tables starts.image.version starts.image.kept starts.marks) words.address (Next 0 (Do Resumed) ahead) ending old new middle after left
 
--- Its lines are not written whole, and the client did not run.
-pub record WarmsInPart (schema script bytes : List ℕ) (words : ClientWords) (old new : Linking) (before after : Writing) : Type 0 where
-  pub starts : Starts schema script bytes words
-  pub said : WritesPrefix before.written after.written (text_of_start starts) × Rose before.faults after.faults
+-- Or only this is written of these lines, and the client did not run.
+pub record WarmsOnly (Writes : List ℕ → Writing → Writing → Type 0) (words : ClientWords) (tables : List Table) (ahead : Ahead) (bytes : List ℕ) (old new : Linking) (before after : Writing) : Type 0 where
+  pub starts : Starts words tables bytes
+  pub said : Writes (text_of_start starts) before after
   pub linking : new ≡ old
 
--- The bytes are no image over the tables of the files, for this reason.
-pub record IsNoImage (schema script bytes : List ℕ) (words : ClientWords) (fault : ImageFault) : Type 0 where
-  pub tables : List Table
-  pub ahead : Ahead
-  pub asks : AsksLines words.id schema script tables ahead
-  pub read : image_in tables bytes ≡ Err fault
+-- Or its run was broken off, out of memory.
+pub record WarmsInPart (words : ClientWords) (tables : List Table) (ahead : Ahead) (bytes : List ℕ) (old new : Linking) (before after : Writing) : Type 0 where
+  pub starts : Starts words tables bytes
+  pub middle : Writing
+  pub said : WritesAll (text_of_start starts) before middle
+  pub ran : RanOff (end_of_start starts) (start_past tables starts.image.version starts.image.kept starts.marks) words.address (Next 0 (Do Resumed) ahead) old new middle after
 
--- ---- of files that were read
+-- what was not written
+abbrev pub WarmsUnwritten : ClientWords → List Table → Ahead → List ℕ → Linking → Linking → Writing → Writing → Type 0
+WarmsUnwritten words tables ahead bytes old new before after = Warms words tables ahead bytes Unwritten old new before after ⊎ WarmsOnly WritesPart words tables ahead bytes old new before after
 
--- what was read under the names: both files, and the image
-pub record AreWarmFiles (held : List ℕ → Option (List ℕ)) (words : WarmWords) (schema script bytes : List ℕ) : Type 0 where
-  pub files : AreFiles held words.client schema script
-  pub image_read : IsWhatIsHeld (held words.image) bytes
+-- what was done out of memory
+abbrev pub WarmsOff : ClientWords → List Table → Ahead → List ℕ → Linking → Linking → Writing → Writing → Type 0
+WarmsOff words tables ahead bytes old new before after = WarmsInPart words tables ahead bytes old new before after ⊎ WarmsOnly WritesOff words tables ahead bytes old new before after
 
-pub record Saved (held : List ℕ → Option (List ℕ)) (words : ClientWords) (ending : Ending) (old new : Linking) (before after : Writing) : Type 0 where
-  pub schema : List ℕ
-  pub script : List ℕ
-  pub files : AreFiles held words schema script
-  pub saves : Saves schema script words ending old new before after
+-- ---- how a run comes to its end
 
-pub record SavedInPart (held : List ℕ → Option (List ℕ)) (words : ClientWords) (old new : Linking) (before after : Writing) : Type 0 where
-  pub schema : List ℕ
-  pub script : List ℕ
-  pub files : AreFiles held words schema script
-  pub saves : SavesInPart schema script words old new before after
-
-pub record Warmed (held : List ℕ → Option (List ℕ)) (words : WarmWords) (ending : Ending) (old new : Linking) (before after : Writing) : Type 0 where
-  pub schema : List ℕ
-  pub script : List ℕ
-  pub bytes : List ℕ
-  pub files : AreWarmFiles held words schema script bytes
-  pub warms : Warms schema script bytes words.client ending old new before after
-
-pub record WarmedInPart (held : List ℕ → Option (List ℕ)) (words : WarmWords) (old new : Linking) (before after : Writing) : Type 0 where
-  pub schema : List ℕ
-  pub script : List ℕ
-  pub bytes : List ℕ
-  pub files : AreWarmFiles held words schema script bytes
-  pub warms : WarmsInPart schema script bytes words.client old new before after
-
--- ---- the error output
-
--- The image is refused, which was said on the error output, with why; nothing was written, and no link was touched.
-pub record NamedImage (held : List ℕ → Option (List ℕ)) (words : WarmWords) (old new : Option (List ℕ)) : Type 0 where
-  pub schema : List ℕ
-  pub script : List ℕ
-  pub bytes : List ℕ
-  pub files : AreWarmFiles held words schema script bytes
-  pub fault : ImageFault
-  pub none : IsNoImage schema script bytes words.client fault
-  pub said : new ≡ complained (image_text fault) old
-
--- What came is no frame, or a message that must be refused, which was said on the error output, with why; so ended a run of this kind.
-pub record NamedEnd (Ran : Ending → Type 0) (old new : Option (List ℕ)) : Type 0 where
+-- a run ended by what came, which was said on the error output: it is no frame, or a message that must be refused
+pub record NamedEnd (Ended : Ending → Type 0) (old new : Option (List ℕ)) : Type 0 where
   pub ending : Ending
-  pub ran : Ran ending
+  pub ended : Ended ending
   pub said : ((fault : WireFault) × (ending ≡ Spoiled fault) × (new ≡ complained (spoiled_text fault) old)) ⊎ ((why : BadFrame) × (ending ≡ BadMessage why) × (new ≡ complained (bad_text why) old))
 
--- ---- a host without faults
+-- the status, by how a run ended, and by what else it came to: something was not written, memory was refused, or files were not read
+pub record ComesTo (held : List ℕ → Option (List ℕ)) (words : ClientWords) (Ended : Ending → Type 0) (Part Off Unread Long : Type 0) (old new : Option (List ℕ)) (status : ℕ) : Type 0 where
+  pub whole : status ≡ 0 → Ended Whole
+  pub unread : status ≡ 3 → Unread
+  pub unwritten : status ≡ 4 → Part
+  pub faulty : status ≡ 5 → Ended Faulty
+  pub line : status ≡ 6 → NamedLine held words old new
+  pub refused : status ≡ 7 → NamedCreate held words old new
+  pub frame : status ≡ 8 → NamedEnd Ended old new
+  pub in_want : status ≡ 9 → Off
+  pub too_long : status ≡ 10 → Long
+  pub limit : status ≡ 11 → Ended TooMany
 
--- it holds the files and the image, and these are they
-pub record AreWarmHeld (held : List ℕ → Option (List ℕ)) (words : WarmWords) (schema script bytes : List ℕ) : Type 0 where
-  pub files : AreHeld held words.client schema script
-  pub image_held : held words.image ≡ Some bytes
+-- What `save` does, with these bytes read and on the error output, by the status that it ends with.
+abbrev pub SavesBy : (List ℕ → Option (List ℕ)) → ClientWords → Reading → Reading → Linking → Linking → Writing → Writing → Option (List ℕ) → Option (List ℕ) → ℕ → Type 0
+SavesBy held words from to old new before after first last status = ComesTo held words
+    (λ ending. Asked held words (λ tables ahead. Saves words tables ahead ending old new before after))
+    (Asked held words (λ tables ahead. SavesOnly WritesPart words tables ahead old new before after))
+    (Untouched old new before after ⊎ Asked held words (λ tables ahead. SavesOff words tables ahead old new before after))
+    (Rose from.faults to.faults) (SomeTooLong held to.left (files_of words)) first last status
 
--- what a host without faults that holds the files and the image lets the status of the client of this number be
-pub record FitsImage (id : ℕ) (schema script bytes : List ℕ) (status : ℕ) : Type 0 where
-  pub no_read_fault : ¬ (status ≡ 3)
-  pub too_long : status ≡ 10 → AreLong schema script ⊎ IsLong bytes
-  pub no_image : status ≡ 13 → (tables : List Table) × (ahead : Ahead) × (fault : ImageFault) × AsksLines id schema script tables ahead × (image_in tables bytes ≡ Err fault)
-  pub an_image : DidRun status → (tables : List Table) × (ahead : Ahead) × (image : Image) × AsksLines id schema script tables ahead × (image_in tables bytes ≡ Ok image)
+-- the names of both files and of the image, in the order in which they are read
+abbrev pub names_of : WarmWords → List (List ℕ)
+names_of words = words.client.schema ∷ words.client.script ∷ words.image ∷ []
+
+-- The same of `warm`.
+abbrev pub WarmsBy : (List ℕ → Option (List ℕ)) → WarmWords → Reading → Reading → Linking → Linking → Writing → Writing → Option (List ℕ) → Option (List ℕ) → ℕ → Type 0
+WarmsBy held words from to old new before after first last status = ComesTo held words.client
+    (λ ending. AskedOver held words (λ tables ahead bytes. Warms words.client tables ahead bytes ending old new before after))
+    (AskedOver held words (λ tables ahead bytes. WarmsUnwritten words.client tables ahead bytes old new before after))
+    (Untouched old new before after ⊎ AskedOver held words (λ tables ahead bytes. WarmsOff words.client tables ahead bytes old new before after))
+    (Rose from.faults to.faults) (SomeTooLong held to.left (names_of words)) first last status
+
+-- The bytes are no image over the tables of the files, which was said on the error output, with why. Nothing was done.
+pub record NamedImage (held : List ℕ → Option (List ℕ)) (words : WarmWords) (old new : Linking) (before after : Writing) (first last : Option (List ℕ)) : Type 0 where
+  pub fault : ImageFault
+  pub none : AskedOver held words (λ tables ahead bytes. image_in tables bytes ≡ Err fault)
+  pub untouched : Untouched old new before after
+  pub said : last ≡ complained (image_text fault) first
 
 -- ---- a run
 
 -- What `save` does over a host, by the status that it ends with.
 pub record SavesOver (H : Type 0) (held : H → List ℕ → Option (List ℕ)) (reading : H → Reading) (writing : H → Writing) (linking : H → Linking) (complaints : H → Option (List ℕ)) (old new : H) (words : ClientWords) (status : ℕ) : Type 0 where
   pub only : IsEnd status
-  pub whole : status ≡ 0 → Saved (held old) words Whole (linking old) (linking new) (writing old) (writing new)
-  pub unwritten : status ≡ 4 → SavedInPart (held old) words (linking old) (linking new) (writing old) (writing new)
-  pub faulty : status ≡ 5 → Saved (held old) words Faulty (linking old) (linking new) (writing old) (writing new)
-  pub frame : status ≡ 8 → NamedEnd (λ ending. Saved (held old) words ending (linking old) (linking new) (writing old) (writing new)) (complaints old) (complaints new)
-  pub limit : status ≡ 11 → Saved (held old) words TooMany (linking old) (linking new) (writing old) (writing new)
-  pub too_long : status ≡ 10 → SomeTooLong (held old) (reading new).left (files_of words)
-  pub line : status ≡ 6 → NamedLine (held old) words (complaints old) (complaints new)
-  pub refused : status ≡ 7 → NamedCreate (held old) words (complaints old) (complaints new)
+  pub comes : SavesBy (held old) words (reading old) (reading new) (linking old) (linking new) (writing old) (writing new) (complaints old) (complaints new) status
 
 -- What `warm` does over a host, by the status that it ends with.
-pub record WarmsOver (H : Type 0) (held : H → List ℕ → Option (List ℕ)) (reading : H → Reading) (writing : H → Writing) (linking : H → Linking) (complaints : H → Option (List ℕ)) (IsSteady : H → Type 0) (old new : H) (words : WarmWords) (status : ℕ) : Type 0 where
+pub record WarmsOver (H : Type 0) (held : H → List ℕ → Option (List ℕ)) (reading : H → Reading) (writing : H → Writing) (linking : H → Linking) (complaints : H → Option (List ℕ)) (old new : H) (words : WarmWords) (status : ℕ) : Type 0 where
   pub only : IsEnd status ⊎ (status ≡ 13)
-  pub whole : status ≡ 0 → Warmed (held old) words Whole (linking old) (linking new) (writing old) (writing new)
-  pub unwritten : status ≡ 4 → Warmed (held old) words Unwritten (linking old) (linking new) (writing old) (writing new) ⊎ WarmedInPart (held old) words (linking old) (linking new) (writing old) (writing new)
-  pub faulty : status ≡ 5 → Warmed (held old) words Faulty (linking old) (linking new) (writing old) (writing new)
-  pub frame : status ≡ 8 → NamedEnd (λ ending. Warmed (held old) words ending (linking old) (linking new) (writing old) (writing new)) (complaints old) (complaints new)
-  pub limit : status ≡ 11 → Warmed (held old) words TooMany (linking old) (linking new) (writing old) (writing new)
-  pub too_long : status ≡ 10 → SomeTooLong (held old) (reading new).left (words.client.schema ∷ words.client.script ∷ words.image ∷ [])
-  pub line : status ≡ 6 → NamedLine (held old) words.client (complaints old) (complaints new)
-  pub refused : status ≡ 7 → NamedCreate (held old) words.client (complaints old) (complaints new)
-  pub no_image : status ≡ 13 → NamedImage (held old) words (complaints old) (complaints new)
-  pub steady : IsSteady old → (schema script bytes : List ℕ) → AreWarmHeld (held old) words schema script bytes → FitsImage words.client.id schema script bytes status
-
--- nothing was done but reading
-abbrev pub IsRefusal : ℕ → Type 0
-IsRefusal status = (status ≡ 3) ⊎ (status ≡ 6) ⊎ (status ≡ 7) ⊎ (status ≡ 10) ⊎ (status ≡ 13)
+  pub comes : WarmsBy (held old) words (reading old) (reading new) (linking old) (linking new) (writing old) (writing new) (complaints old) (complaints new) status
+  pub no_image : status ≡ 13 → NamedImage (held old) words (linking old) (linking new) (writing old) (writing new) (complaints old) (complaints new)
 
 -- ---- inside the crate
 
--- the image of what a client holds is written; or a beginning, where a fault is counted; or nothing, or a beginning, out of memory
-abbrev pub WritesHeld : List Table → Client → Writing → Writing → Result (Unit {0}) Stop → Type 0
-WritesHeld tables c before after (Ok done) = Appends before.written after.written (image_bytes tables (held_image c)) × (after.faults ≡ before.faults)
-WritesHeld tables c before after (Err (stop.Refused refusal.Write)) = WritesPart (image_bytes tables (held_image c)) before after
-WritesHeld tables c before after (Err (stop.Refused refusal.Memory)) = after.faults ≡ before.faults
-WritesHeld tables c before after (Err other) = ⊥
+-- why a run stops: what holds of each cause
+abbrev pub StopsAs : (Ending → Type 0) → Type 0 → Type 0 → Type 0 → Type 0 → (ℕ → ℕ → Type 0) → (ℕ → Fault → Type 0) → Stop → Type 0
+StopsAs Ended Part Off Unread Long Outside Create (stop.Refused refusal.Read) = Unread
+StopsAs Ended Part Off Unread Long Outside Create (stop.Refused refusal.Write) = Part
+StopsAs Ended Part Off Unread Long Outside Create (stop.Refused refusal.Link) = Ended Faulty
+StopsAs Ended Part Off Unread Long Outside Create (stop.Refused refusal.Memory) = Off
+StopsAs Ended Part Off Unread Long Outside Create (stop.Refused refusal.TooLong) = Long
+StopsAs Ended Part Off Unread Long Outside Create (stop.Refused (refusal.Line line place)) = Outside line place
+StopsAs Ended Part Off Unread Long Outside Create (stop.Refused (refusal.Setup line fault)) = Create line fault
+StopsAs Ended Part Off Unread Long Outside Create (stop.Refused (refusal.Load table fault)) = ⊥
+StopsAs Ended Part Off Unread Long Outside Create (stop.Spoiled fault) = Ended (Spoiled fault)
+StopsAs Ended Part Off Unread Long Outside Create (stop.Bad why) = Ended (BadMessage why)
+StopsAs Ended Part Off Unread Long Outside Create stop.Limit = Ended TooMany
 
--- why `save` stops behind its files
-abbrev pub SaveStops : List ℕ → List ℕ → ClientWords → Linking → Linking → Writing → Writing → Stop → Type 0
-SaveStops schema script words old new before after (stop.Refused refusal.Write) = SavesInPart schema script words old new before after
-SaveStops schema script words old new before after (stop.Refused refusal.Link) = Saves schema script words Faulty old new before after
-SaveStops schema script words old new before after (stop.Refused refusal.Memory) = Unit {0}
-SaveStops schema script words old new before after (stop.Refused (refusal.Line line place)) = (script_outside (client_fault words.id) schema script ≡ Some (record { line = line; place = place })) × Untouched old new before after
-SaveStops schema script words old new before after (stop.Refused (refusal.Setup line fault)) = RefusesCreate (client_fault words.id) schema script line fault × Untouched old new before after
-SaveStops schema script words old new before after (stop.Refused other) = ⊥
-SaveStops schema script words old new before after (stop.Spoiled fault) = Saves schema script words (Spoiled fault) old new before after
-SaveStops schema script words old new before after (stop.Bad why) = Saves schema script words (BadMessage why) old new before after
-SaveStops schema script words old new before after stop.Limit = Saves schema script words TooMany old new before after
+-- lines and CREATE lines that are refused, where nothing was done
+abbrev pub OutsideDid : (List ℕ → Option (List ℕ)) → ClientWords → Linking → Linking → Writing → Writing → ℕ → ℕ → Type 0
+OutsideDid held words old new before after line place = IsOutside held words line place × Untouched old new before after
 
--- why `warm` stops behind its files
-abbrev pub WarmStops : List ℕ → List ℕ → List ℕ → ClientWords → Linking → Linking → Writing → Writing → WarmStop → Type 0
-WarmStops schema script bytes words old new before after (warm_stop.NoImage fault) = IsNoImage schema script bytes words fault × Untouched old new before after
-WarmStops schema script bytes words old new before after (warm_stop.Stopped (stop.Refused refusal.Write)) = Warms schema script bytes words Unwritten old new before after ⊎ WarmsInPart schema script bytes words old new before after
-WarmStops schema script bytes words old new before after (warm_stop.Stopped (stop.Refused refusal.Link)) = Warms schema script bytes words Faulty old new before after
-WarmStops schema script bytes words old new before after (warm_stop.Stopped (stop.Refused refusal.Memory)) = Unit {0}
-WarmStops schema script bytes words old new before after (warm_stop.Stopped (stop.Refused (refusal.Line line place))) = (script_outside (client_fault words.id) schema script ≡ Some (record { line = line; place = place })) × Untouched old new before after
-WarmStops schema script bytes words old new before after (warm_stop.Stopped (stop.Refused (refusal.Setup line fault))) = RefusesCreate (client_fault words.id) schema script line fault × Untouched old new before after
-WarmStops schema script bytes words old new before after (warm_stop.Stopped (stop.Refused other)) = ⊥
-WarmStops schema script bytes words old new before after (warm_stop.Stopped (stop.Spoiled fault)) = Warms schema script bytes words (Spoiled fault) old new before after
-WarmStops schema script bytes words old new before after (warm_stop.Stopped (stop.Bad why)) = Warms schema script bytes words (BadMessage why) old new before after
-WarmStops schema script bytes words old new before after (warm_stop.Stopped stop.Limit) = Warms schema script bytes words TooMany old new before after
+abbrev pub CreateDid : (List ℕ → Option (List ℕ)) → ClientWords → Linking → Linking → Writing → Writing → ℕ → Fault → Type 0
+CreateDid held words old new before after line fault = IsRefusedCreate held words line fault × Untouched old new before after
+
+-- why `save` stops that was given tables and a plan
+abbrev pub SaveStops : ClientWords → List Table → Ahead → Linking → Linking → Writing → Writing → Stop → Type 0
+SaveStops words tables ahead old new before after why = StopsAs (λ ending. Saves words tables ahead ending old new before after)
+    (SavesOnly WritesPart words tables ahead old new before after) (Untouched old new before after ⊎ SavesOff words tables ahead old new before after) ⊥ ⊥ (λ line place. ⊥) (λ line fault. ⊥) why
+
+-- that was given files; where they are not read, this holds
+abbrev pub SaveStopsBy : Type 0 → Type 0 → (List ℕ → Option (List ℕ)) → ClientWords → Linking → Linking → Writing → Writing → Stop → Type 0
+SaveStopsBy Unread Long held words old new before after why = StopsAs (λ ending. Asked held words (λ tables ahead. Saves words tables ahead ending old new before after))
+    (Asked held words (λ tables ahead. SavesOnly WritesPart words tables ahead old new before after))
+    (Untouched old new before after ⊎ Asked held words (λ tables ahead. SavesOff words tables ahead old new before after)) Unread Long
+    (OutsideDid held words old new before after) (CreateDid held words old new before after) why
+
+-- the files are not read, and nothing was done
+abbrev pub NoneRead : Reading → Reading → Linking → Linking → Writing → Writing → Type 0
+NoneRead from to old new before after = Rose from.faults to.faults × Untouched old new before after
+
+abbrev pub NoneFits : (List ℕ → Option (List ℕ)) → Reading → List (List ℕ) → Linking → Linking → Writing → Writing → Type 0
+NoneFits held to names old new before after = SomeTooLong held to.left names × Untouched old new before after
+
+-- the same of `warm`
+abbrev pub WarmStops : ClientWords → List Table → Ahead → List ℕ → Linking → Linking → Writing → Writing → Stop → Type 0
+WarmStops words tables ahead bytes old new before after why = StopsAs (λ ending. Warms words tables ahead bytes ending old new before after)
+    (WarmsUnwritten words tables ahead bytes old new before after) (Untouched old new before after ⊎ WarmsOff words tables ahead bytes old new before after) ⊥ ⊥ (λ line place. ⊥) (λ line fault. ⊥) why
+
+abbrev pub WarmStopsBy : Type 0 → Type 0 → (List ℕ → Option (List ℕ)) → WarmWords → Linking → Linking → Writing → Writing → WarmStop → Type 0
+WarmStopsBy Unread Long held words old new before after (warm_stop.NoImage fault) = AskedOver held words (λ tables ahead bytes. image_in tables bytes ≡ Err fault) × Untouched old new before after
+WarmStopsBy Unread Long held words old new before after (warm_stop.Stopped why) = StopsAs (λ ending. AskedOver held words (λ tables ahead bytes. Warms words.client tables ahead bytes ending old new before after))
+    (AskedOver held words (λ tables ahead bytes. WarmsUnwritten words.client tables ahead bytes old new before after))
+    (Untouched old new before after ⊎ AskedOver held words (λ tables ahead bytes. WarmsOff words.client tables ahead bytes old new before after)) Unread Long
+    (OutsideDid held words.client old new before after) (CreateDid held words.client old new before after) why
+
+-- what came of writing bytes
+abbrev pub Wrote : List ℕ → Writing → Writing → Result (Unit {0}) (No Failed) → Type 0
+Wrote bytes before after (Ok done) = WritesAll bytes before after
+Wrote bytes before after (Err (NoBut failed)) = WritesPart bytes before after
+Wrote bytes before after (Err Wanting) = WritesOff bytes before after
+
+-- the same behind a run that ended so, where an image is written
+abbrev pub WroteLeft : List ℕ → Ending → Writing → Writing → Result (Unit {0}) (No Failed) → Type 0
+WroteLeft bytes ending before after (Ok done) = WritesAll (if has_image ending then bytes else []) before after
+WroteLeft bytes ending before after (Err (NoBut failed)) = (has_image ending ≡ true) × WritesPart bytes before after
+WroteLeft bytes ending before after (Err Wanting) = (has_image ending ≡ true) × WritesOff bytes before after
+
+-- the end that a run left, of which the image is written
+pub record LeftBy (words : ClientWords) (tables : List Table) (ahead : Ahead) (ending : Ending) (left : End) (old new : Linking) (before after : Writing) : Type 0 where
+  pub ran : RanQuietly words tables ahead ending old new before after
+  pub is : ran.left ≡ left
+
+-- the client of a start, and its lines
+pub record BeginsAs (words : ClientWords) (tables : List Table) (bytes text : List ℕ) (end : End) : Type 0 where
+  pub starts : Starts words tables bytes
+  pub text_is : text ≡ text_of_start starts
+  pub end_is : end ≡ end_of_start starts
+
+-- the files of the words, which are short
+pub record AreShortFiles (held : List ℕ → Option (List ℕ)) (words : ClientWords) (files : Files) : Type 0 where
+  pub are : AreFiles held words files.schema files.script
+  pub schema : length files.schema < 2 ^ 32
+  pub script : length files.script < 2 ^ 32
+
+-- ---- over a host
+
+abbrev pub LeavesEnd : (H : Type 0) → (H → Linking) → (H → Writing) → H → H → ClientWords → List Table → Ahead → Ending → End → Type 0
+LeavesEnd H linking writing old new words tables ahead ending left = LeftBy words tables ahead ending left (linking old) (linking new) (writing old) (writing new)
+
+abbrev pub BreaksQuietly : (H : Type 0) → (H → Linking) → (H → Writing) → H → H → ClientWords → List Table → Ahead → Type 0
+BreaksQuietly H linking writing old new words tables ahead =
+    Untouched (linking old) (linking new) (writing old) (writing new) ⊎ SavesNothing words tables ahead (linking old) (linking new) (writing old) (writing new)
+
+abbrev pub SavesOf : (H : Type 0) → (H → Linking) → (H → Writing) → H → H → ClientWords → List Table → Ahead → Ending → Type 0
+SavesOf H linking writing old new words tables ahead ending = Saves words tables ahead ending (linking old) (linking new) (writing old) (writing new)
+
+abbrev pub StopsSavingOf : (H : Type 0) → (H → Linking) → (H → Writing) → H → H → ClientWords → List Table → Ahead → Stop → Type 0
+StopsSavingOf H linking writing old new words tables ahead why = SaveStops words tables ahead (linking old) (linking new) (writing old) (writing new) why
+
+abbrev pub IsSaved : (H : Type 0) → (H → List ℕ → Option (List ℕ)) → (H → Linking) → (H → Writing) → H → H → ClientWords → Ending → Type 0
+IsSaved H held linking writing old new words ending = Asked (held old) words (λ tables ahead. Saves words tables ahead ending (linking old) (linking new) (writing old) (writing new))
+
+abbrev pub StopsSavingFiles : (H : Type 0) → (H → List ℕ → Option (List ℕ)) → (H → Linking) → (H → Writing) → H → H → ClientWords → Stop → Type 0
+StopsSavingFiles H held linking writing old new words why = SaveStopsBy ⊥ ⊥ (held old) words (linking old) (linking new) (writing old) (writing new) why
+
+abbrev pub StopsSaving : (H : Type 0) → (H → List ℕ → Option (List ℕ)) → (H → Reading) → (H → Linking) → (H → Writing) → H → H → ClientWords → Stop → Type 0
+StopsSaving H held reading linking writing old new words why =
+    SaveStopsBy (NoneRead (reading old) (reading new) (linking old) (linking new) (writing old) (writing new))
+    (NoneFits (held old) (reading new) (files_of words) (linking old) (linking new) (writing old) (writing new))
+    (held old) words (linking old) (linking new) (writing old) (writing new) why
+
+abbrev pub WarmsOf : (H : Type 0) → (H → Linking) → (H → Writing) → H → H → ClientWords → List Table → Ahead → List ℕ → Ending → Type 0
+WarmsOf H linking writing old new words tables ahead bytes ending = Warms words tables ahead bytes ending (linking old) (linking new) (writing old) (writing new)
+
+abbrev pub StopsWarmingOf : (H : Type 0) → (H → Linking) → (H → Writing) → H → H → ClientWords → List Table → Ahead → List ℕ → Stop → Type 0
+StopsWarmingOf H linking writing old new words tables ahead bytes why = WarmStops words tables ahead bytes (linking old) (linking new) (writing old) (writing new) why
+
+abbrev pub IsWarmed : (H : Type 0) → (H → List ℕ → Option (List ℕ)) → (H → Linking) → (H → Writing) → H → H → WarmWords → Ending → Type 0
+IsWarmed H held linking writing old new words ending = AskedOver (held old) words (λ tables ahead bytes. Warms words.client tables ahead bytes ending (linking old) (linking new) (writing old) (writing new))
+
+abbrev pub StopsWarmingFiles : (H : Type 0) → (H → List ℕ → Option (List ℕ)) → (H → Linking) → (H → Writing) → H → H → WarmWords → WarmStop → Type 0
+StopsWarmingFiles H held linking writing old new words why = WarmStopsBy ⊥ ⊥ (held old) words (linking old) (linking new) (writing old) (writing new) why
+
+abbrev pub StopsWarming : (H : Type 0) → (H → List ℕ → Option (List ℕ)) → (H → Reading) → (H → Linking) → (H → Writing) → H → H → WarmWords → WarmStop → Type 0
+StopsWarming H held reading linking writing old new words why =
+    WarmStopsBy (NoneRead (reading old) (reading new) (linking old) (linking new) (writing old) (writing new))
+    (NoneFits (held old) (reading new) (names_of words) (linking old) (linking new) (writing old) (writing new))
+    (held old) words (linking old) (linking new) (writing old) (writing new) why

@@ -15,7 +15,7 @@ ghost use Rattle.sr_cli.specs.Commands.{AsksClient, IsStatus};
 ghost use Rattle.sr_cli.specs.Errors.{error_text};
 ghost use Rattle.sr_cli.specs.Explain.{Explains};
 ghost use Rattle.sr_cli.specs.Generate.{Generates};
-ghost use Rattle.sr_cli.specs.Image.{IsRefusal, SavesOver, WarmsOver};
+ghost use Rattle.sr_cli.specs.Image.{SavesOver, WarmsOver};
 ghost use Rattle.sr_cli.specs.Leaves.{OnlyComplains};
 ghost use Rattle.sr_cli.specs.Replay.{Replays};
 ghost use Rattle.sr_cli.specs.Serve.{Serves};
@@ -43,7 +43,7 @@ pub fn run<H: Host>(alloc: Global, words: &[Text], host: &mut H) -> u8
     ensures replays { (w : ReplayWords) → command_said words.now ≡ Some (Replay w) → Replays H H.held H.reading H.writing H.linking H.complaints H.IsSteady host.old host.new w result }
     ensures dials { (w : ClientWords) → command_said words.now ≡ Some (Client w) → Dials H H.held H.reading H.writing H.linking H.complaints H.IsSteady host.old host.new w result }
     ensures saves { (w : ClientWords) → command_said words.now ≡ Some (Save w) → SavesOver H H.held H.reading H.writing H.linking H.complaints host.old host.new w result }
-    ensures warms { (w : WarmWords) → command_said words.now ≡ Some (Warm w) → WarmsOver H H.held H.reading H.writing H.linking H.complaints H.IsSteady host.old host.new w result }
+    ensures warms { (w : WarmWords) → command_said words.now ≡ Some (Warm w) → WarmsOver H H.held H.reading H.writing H.linking H.complaints host.old host.new w result }
     ensures serves { (w : ServeWords) → command_said words.now ≡ Some (Serve w) → Serves H H.held H.reading H.writing H.linking H.complaints H.IsSteady host.old host.new w result }
     ensures explains { (w : ExplainWords) → command_said words.now ≡ Some (Explain w) → Explains H H.held H.reading H.writing H.linking H.complaints H.IsSteady host.old host.new w result }
     ensures generates { (w : GenerateWords) → command_said words.now ≡ Some (Generate w) → Generates H H.reading H.writing H.linking H.IsSteady host.old host.new w result }
@@ -51,8 +51,8 @@ pub fn run<H: Host>(alloc: Global, words: &[Text], host: &mut H) -> u8
     ensures write_fault_is_counted { result ≡ 4 → Rose (H.writing host.old).faults (H.writing host.new).faults }
     ensures link_fault_is_counted { result ≡ 5 → Rose (H.linking host.old).faults (H.linking host.new).faults ⊎ AsksClient words.now }
     ensures reading_keeps_faults { (result ≡ 3) ⊎ ((H.reading host.new).faults ≡ (H.reading host.old).faults) }
-    ensures writes_nothing { (result ≡ 2) ⊎ IsRefusal result → H.writing host.new ≡ H.writing host.old }
-    ensures links_nothing { (result ≡ 2) ⊎ IsRefusal result → H.linking host.new ≡ H.linking host.old }
+    ensures writes_nothing { (result ≡ 2) ⊎ (result ≡ 3) ⊎ (result ≡ 6) ⊎ (result ≡ 7) ⊎ (result ≡ 10) → H.writing host.new ≡ H.writing host.old }
+    ensures links_nothing { (result ≡ 2) ⊎ (result ≡ 3) ⊎ (result ≡ 6) ⊎ (result ≡ 7) ⊎ (result ≡ 10) → H.linking host.new ≡ H.linking host.old }
     ensures silent { result ≡ 0 → H.complaints host.new ≡ H.complaints host.old }
     ensures complaint { IfSome (error_text result) (λ text. H.complaints host.new ≡ complained text (H.complaints host.old)) }
     ensures stays_steady { H.IsSteady host.old → H.IsSteady host.new }

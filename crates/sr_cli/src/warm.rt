@@ -1,31 +1,36 @@
 //! Running a script as a client that starts from an image.
-ghost use Rattle.std.specs.Prelude.{◌≡◌, ◌⊎◌, ◌<◌, ◌≤◌, ◌^◌, length, string_bytes, IfSome, IfOk, IfErr, OnOk};
+ghost use Rattle.std.specs.Prelude.{◌≡◌, ◌⊎◌, ◌<◌, ◌≤◌, ◌^◌, Ok, string_bytes, List, ℕ, IfErr, IfOk, IsErrOf, IsTrue, OnOk};
+ghost use Rattle.std.specs.List.{list_all};
+ghost use Rattle.sr_dial.specs.Following.{Ahead};
 ghost use Rattle.sr_dial.specs.declared.ending.Ending.TheVariants.{Whole};
-ghost use Rattle.sr_io.specs.Causes.{Rose};
-ghost use Rattle.sr_io.specs.Told.{complained};
+ghost use Rattle.sr_image.specs.Laws.{is_image};
+ghost use Rattle.sr_image.specs.Reading.{image_in};
+ghost use Rattle.sr_query.specs.Bound.{is_table};
 ghost use Rattle.sr_talk.specs.Rounds.{OnlyOutput};
-ghost use Rattle.sr_cli.specs.Errors.{error_text};
-ghost use Rattle.sr_cli.specs.Image.{IsRefusal, WarmStops, Warms, WarmsOver, image_text, start_text};
-ghost use Rattle.sr_cli.specs.Leaves.{OnlyComplains};
+ghost use Rattle.sr_words.specs.declared.command.ClientKind.TheVariants.{Client as AsClient};
+ghost use Rattle.sr_cli.specs.Image.{AreShortFiles, BeginsAs, IsWarmed, NamesImage, StopsWarming, StopsWarmingFiles, StopsWarmingOf, WarmsOf, WarmsOver, image_text, start_text};
+ghost use Rattle.sr_cli.specs.Files.{IsWhatIsHeld};
+ghost use Rattle.sr_cli.specs.Leaves.{Leaves, Names, OnlyComplains, OnlyRuns};
+ghost use Rattle.sr_cli.specs.declared.report.Refusal.TheVariants.{Read};
+ghost use Rattle.sr_cli.specs.declared.stop.Stop.TheVariants.{Refused};
+ghost use Rattle.sr_cli.specs.declared.warm.WarmStop.TheVariants.{Stopped};
 
 use crate::client::read_files;
 use crate::file::read_file;
 use crate::frames::{report_bad, report_limit, report_spoiled};
 use crate::kinds::Files;
 use crate::report::{Refusal, report, unread};
+use crate::save::write_bytes;
 use crate::stop::{Stop, end_by, stop_of};
-use sr_calls::client_end::ClientEnd;
+use sr_calls::client_end::{ClientEnd, EndStart};
 use sr_calls::run::run_plan;
-use sr_cell::list::{Bytes, Copied, No, NoMemory};
+use sr_cell::list::{Bytes, No, NoMemory};
 use sr_cell::schema::Schema;
-use sr_client::client::Client;
-use sr_client::start::ClientStart;
-use sr_dial::plans::Script as Lines;
+use sr_dial::plans::{Plans, Script as Lines};
 use sr_history::mark::Marks;
 use sr_image::image::{Image, ImageFault};
 use sr_image::read::read_image;
 use sr_io::outside::Host;
-use sr_io::whole::write_all;
 use sr_reader::script::Script;
 use sr_script::text::push_line;
 use sr_setup::client_setup::set_up_client;
@@ -50,20 +55,21 @@ struct WarmFiles {
     image: Bytes,
 }
 
+/// A client that starts from an image, and the lines of its start.
+#[derive(Drop)]
+struct Begun {
+    end: ClientEnd,
+    text: String,
+}
+
 /// Runs the script that the words name as a client that starts from the image that they name, and answers the status to end with.
 pub(crate) fn run_warm<H: Host>(alloc: Global, words: &WarmWords, host: &mut H) -> u8
+    requires kind { words.now.client.kind ≡ AsClient }
     requires first { 1 ≤ words.now.client.id }
     requires last { words.now.client.id ≤ 64 }
     requires regions { words.now.client.limits.regions ≤ 1024 }
-    ensures warms { WarmsOver H H.held H.reading H.writing H.linking H.complaints H.IsSteady host.old host.new words.now result }
-    ensures read_fault_is_counted { result ≡ 3 → Rose (H.reading host.old).faults (H.reading host.new).faults }
-    ensures write_fault_is_counted { result ≡ 4 → Rose (H.writing host.old).faults (H.writing host.new).faults }
-    ensures reading_keeps_faults { (result ≡ 3) ⊎ ((H.reading host.new).faults ≡ (H.reading host.old).faults) }
-    ensures nothing { IsRefusal result → (H.writing host.new ≡ H.writing host.old) × (H.linking host.new ≡ H.linking host.old) }
-    ensures silent { result ≡ 0 → H.complaints host.new ≡ H.complaints host.old }
-    ensures complaint { IfSome (error_text result) (λ text. H.complaints host.new ≡ complained text (H.complaints host.old)) }
-    ensures stays_steady { H.IsSteady host.old → H.IsSteady host.new }
-    ensures held_stays { H.held host.new ≡ H.held host.old }
+    ensures warms { WarmsOver H H.held H.reading H.writing H.linking H.complaints host.old host.new words.now result }
+    ensures leaves { Leaves H H.held H.reading H.writing H.linking H.complaints H.IsSteady host.old host.new result }
 {
     match warm_files(alloc, words, host) {
         Ok(()) => 0,
@@ -76,36 +82,46 @@ pub(crate) fn run_warm<H: Host>(alloc: Global, words: &WarmWords, host: &mut H) 
 }
 
 /// Reads the files that the words name, the image last, and runs the script.
-fn warm_files<H: Host>(alloc: Global, words: &WarmWords, host: &mut H) -> Result<(), WarmStop> {
+fn warm_files<H: Host>(alloc: Global, words: &WarmWords, host: &mut H) -> Result<(), WarmStop>
+    requires kind { words.now.client.kind ≡ AsClient }
+    requires first { 1 ≤ words.now.client.id }
+    requires last { words.now.client.id ≤ 64 }
+    requires regions { words.now.client.limits.regions ≤ 1024 }
+    ensures whole { OnOk result (IsWarmed H H.held H.linking H.writing host.old host.new words.now Whole) }
+    ensures stopped { IfErr result (StopsWarming H H.held H.reading H.linking H.writing host.old host.new words.now) }
+    ensures reading_keeps_faults { IsErrOf result (Stopped (Refused Read)) ⊎ ((H.reading host.new).faults ≡ (H.reading host.old).faults) }
+    ensures stays { OnlyRuns H H.held H.complaints H.IsSteady host.old host.new }
+{
     let files = match read_files(alloc, &words.client, host) {
         Err(fault) => return Err(WarmStop::Stopped(Stop::Refused(unread(fault)))),
         Ok(files) => files,
     };
     match read_file(alloc, words.image.as_str(), host) {
         Err(fault) => Err(WarmStop::Stopped(Stop::Refused(unread(fault)))),
-        Ok(image) => warm_read(alloc, &words.client, &WarmFiles { files, image }, host),
+        Ok(image) => warm_read(alloc, words, &WarmFiles { files, image }, host),
     }
 }
 
 /// Judges and reads the files and then the image, and runs the script.
 fn warm_read<H: Host>(
     alloc: Global,
-    words: &ClientWords,
+    words: &WarmWords,
     read: &WarmFiles,
     host: &mut H,
 ) -> Result<(), WarmStop>
-    requires first { 1 ≤ words.now.id }
-    requires last { words.now.id ≤ 64 }
-    requires regions { words.now.limits.regions ≤ 1024 }
-    requires schema { length read.now.files.schema < 2 ^ 32 }
-    requires script { length read.now.files.script < 2 ^ 32 }
-    ensures whole { OnOk result (Warms read.now.files.schema read.now.files.script read.now.image words.now Whole (H.linking host.old) (H.linking host.new) (H.writing host.old) (H.writing host.new)) }
-    ensures stopped { IfErr result (WarmStops read.now.files.schema read.now.files.script read.now.image words.now (H.linking host.old) (H.linking host.new) (H.writing host.old) (H.writing host.new)) }
+    requires kind { words.now.client.kind ≡ AsClient }
+    requires first { 1 ≤ words.now.client.id }
+    requires last { words.now.client.id ≤ 64 }
+    requires regions { words.now.client.limits.regions ≤ 1024 }
+    requires files { AreShortFiles (H.held host.old) words.now.client read.now.files }
+    requires image { IsWhatIsHeld (H.held host.old words.now.image) read.now.image }
+    ensures whole { OnOk result (IsWarmed H H.held H.linking H.writing host.old host.new words.now Whole) }
+    ensures stopped { IfErr result (StopsWarmingFiles H H.held H.linking H.writing host.old host.new words.now) }
     ensures stays { OnlyOutput H H.reading H.held H.complaints H.IsSteady host.old host.new }
 {
     let set_up = set_up_client(
         alloc,
-        words.id,
+        words.client.id,
         read.files.schema.as_slice(),
         read.files.script.as_slice(),
     );
@@ -115,40 +131,74 @@ fn warm_read<H: Host>(
     };
     let image = match read_image(alloc, &schema, read.image.as_slice()) {
         Ok(image) => image,
-        Err(No::NoMemory) => return Err(want()),
+        Err(No::NoMemory) => return Err(WarmStop::Stopped(Stop::Refused(Refusal::Memory))),
         Err(No::Refused(fault)) => return Err(WarmStop::NoImage(fault)),
     };
     let mut lines = Lines::new(lines);
-    match warm_from(alloc, words, &schema, image, &mut lines, host) {
+    match warm_from(alloc, &words.client, &schema, image, &mut lines, host) {
         Ok(()) => Ok(()),
         Err(stop) => Err(WarmStop::Stopped(stop)),
     }
 }
 
-/// Memory was refused.
-fn want() -> WarmStop {
-    WarmStop::Stopped(Stop::Refused(Refusal::Memory))
-}
-
-/// A client that starts from an image, and the lines of its start.
-fn started(
+/// Runs a plan over these tables as a client that starts from an image.
+fn warm_from<H: Host, P: Plans>(
     alloc: Global,
     words: &ClientWords,
     schema: &Schema,
     image: Image,
-) -> Result<(Client, String), NoMemory> {
+    plans: &mut P,
+    host: &mut H,
+) -> Result<(), Stop>
+    requires first { 1 ≤ words.now.id }
+    requires last { words.now.id ≤ 64 }
+    requires regions { words.now.limits.regions ≤ 1024 }
+    requires tables { IsTrue (list_all is_table schema.now) }
+    requires image { IsTrue (is_image schema.now image) }
+    requires asks { (ahead : Ahead) × P.follows schema.now plans.old ahead }
+    requires few { P.depth plans.old < 2 ^ 40 }
+    ensures whole { (bytes : List ℕ) (ahead : Ahead) → image_in schema.now bytes ≡ Ok image → P.follows schema.now plans.old ahead
+        → OnOk result (WarmsOf H H.linking H.writing host.old host.new words.now schema.now ahead bytes Whole) }
+    ensures stopped { (bytes : List ℕ) (ahead : Ahead) → image_in schema.now bytes ≡ Ok image → P.follows schema.now plans.old ahead
+        → IfErr result (StopsWarmingOf H H.linking H.writing host.old host.new words.now schema.now ahead bytes) }
+    ensures stays { OnlyOutput H H.reading H.held H.complaints H.IsSteady host.old host.new }
+{
+    let Ok(begun) = begin(alloc, words, schema, image) else {
+        return Err(Stop::Refused(Refusal::Memory));
+    };
+    let Begun { mut end, text } = begun;
+    match write_bytes(text.as_bytes(), host) {
+        Ok(()) => {}
+        Err(No::Refused(_)) => return Err(Stop::Refused(Refusal::Write)),
+        Err(No::NoMemory) => return Err(Stop::Refused(Refusal::Memory)),
+    }
+    let address = words.address.as_str();
+    match run_plan(alloc, host, &mut end, schema.as_slice(), address, plans) {
+        Ok(ending) => end_by(ending),
+        Err(_) => Err(Stop::Refused(Refusal::Memory)),
+    }
+}
+
+/// A client that starts from an image, and the lines of its start.
+fn begin(
+    alloc: Global,
+    words: &ClientWords,
+    schema: &Schema,
+    image: Image,
+) -> Result<Begun, NoMemory>
+    requires first { 1 ≤ words.now.id }
+    requires last { words.now.id ≤ 64 }
+    requires regions { words.now.limits.regions ≤ 1024 }
+    requires tables { IsTrue (list_all is_table schema.now) }
+    requires image { IsTrue (is_image schema.now image) }
+    ensures begins { (bytes : List ℕ) → image_in schema.now bytes ≡ Ok image
+        → IfOk result (λ begun. BeginsAs words.now schema.now bytes (string_bytes begun.text) begun.end) }
+{
     let version = image.version;
-    let own = schema.copy(alloc)?;
-    let ClientStart { client, marks } = Client::of(
-        alloc,
-        words.id,
-        own,
-        words.limits,
-        version,
-        image.kept,
-    )?;
+    let EndStart { end, marks } =
+        ClientEnd::of_image(alloc, words.id, schema, words.limits, image, false, true)?;
     let text = text_of_start(alloc, schema, words.id, version, marks)?;
-    Ok((client, text))
+    Ok(Begun { end, text })
 }
 
 /// The lines of a start: the marks, and the image's version.
@@ -170,31 +220,6 @@ fn text_of_start(
     Ok(text)
 }
 
-/// Runs the lines of a script as a client that starts from an image.
-fn warm_from<H: Host>(
-    alloc: Global,
-    words: &ClientWords,
-    schema: &Schema,
-    image: Image,
-    lines: &mut Lines,
-    host: &mut H,
-) -> Result<(), Stop> {
-    let Ok((client, text)) = started(alloc, words, schema, image) else {
-        return Err(Stop::Refused(Refusal::Memory));
-    };
-    match write_all(host, text.as_bytes()) {
-        Ok(()) => {}
-        Err(No::Refused(_)) => return Err(Stop::Refused(Refusal::Write)),
-        Err(No::NoMemory) => return Err(Stop::Refused(Refusal::Memory)),
-    }
-    let mut end = ClientEnd::new(client, false, true);
-    let address = words.address.as_str();
-    match run_plan(alloc, host, &mut end, schema.as_slice(), address, lines) {
-        Ok(ending) => end_by(ending),
-        Err(_) => Err(Stop::Refused(Refusal::Memory)),
-    }
-}
-
 fn image_line(alloc: Global, fault: ImageFault) -> Result<String, NoMemory>
     ensures { IfOk result (λ text. string_bytes text ≡ image_text fault) }
 {
@@ -210,8 +235,7 @@ fn image_line(alloc: Global, fault: ImageFault) -> Result<String, NoMemory>
 
 /// Says why bytes are no image, or tells that there was no memory for it.
 fn report_image<H: Host>(alloc: Global, fault: ImageFault, host: &mut H) -> u8
-    ensures only { (result ≡ 13) ⊎ (result ≡ 9) }
-    ensures named { result ≡ 13 → H.complaints host.new ≡ complained (image_text fault) (H.complaints host.old) }
+    ensures named { Names 13 (image_text fault) result (H.complaints host.old) (H.complaints host.new) }
     ensures stays { OnlyComplains H H.reading H.writing H.linking H.held H.IsSteady host.old host.new }
 {
     match image_line(alloc, fault) {

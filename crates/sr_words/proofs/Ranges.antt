@@ -1,5 +1,5 @@
 -- The numbers of a command are in their ranges.
-use Rattle.std.proofs.Common.{◌≡◌, ℕ, ◌≤◌, Bool, true, false, List, [], ◌∷◌, Option, Some, None, refl, subst, codes, arith}
+use Rattle.std.proofs.Common.{◌≡◌, ℕ, ◌≤◌, Bool, true, false, List, [], ◌∷◌, Option, Some, None, refl, sym, ap, subst, codes, arith}
 use Rattle.std.specs.Prelude.{◌&&◌, nat_le, option_and_then, option_map, if◌then◌else◌, Result, Ok, Err, IfOk}
 use Rattle.std.specs.Str.{bytes_eq}
 use Rattle.std.specs.Str.Parse.{digits_value}
@@ -20,7 +20,7 @@ use Rattle.sr_words.specs.declared.command.ExplainWords.{ExplainWords}
 use Rattle.sr_words.specs.declared.command.GenerateWords.{GenerateWords}
 use Rattle.sr_words.specs.Forms.{rows_in, replay_form, client_form, warm_form, serve_form, explain_form, generate_form}
 use Rattle.sr_words.specs.Words.{are_digits, number_of, number_or, number_in, policy_of, loads_of, limits_of, log_of, setup_of, replay_of, client_of, warm_of, serve_of, explain_of, generate_of, replay_words, client_words, kind_of, kind_words, save_words, warm_words, serve_words, explain_words, generate_words, command_by, command_of}
-use Rattle.sr_words.specs.Ranges.{AreLimits, IsSetup, IsInRange}
+use Rattle.sr_words.specs.Ranges.{AreLimits, IsSetup, IsPlain, IsInRange}
 use Rattle.sr_words.specs.Reads.{Reads}
 use Rattle.sr_words.specs.declared.fault.WordsFault.{WordsFault}
 
@@ -122,14 +122,24 @@ generate found said is =
     let range = within_in 1 100000 (first_of (codes "events") found) events.0 events.1 in
     subst (λ w. IsInRange (Generate w)) (same _ said events.2) (range.0, range.1)
 
+plain : (found : List Row) (said : ClientWords) → client_of kind.Client found ≡ Some said → IsPlain said
+plain found said is =
+    let kept = step _ (limits_of found) said is in
+    let id = step _ (number_in 1 64 (first_of (codes "id") found)) said kept.2 in
+    let schema = step _ (first_of (codes "schema") found) said id.2 in
+    let address = step _ (first_of (codes "address") found) said schema.2 in
+    let script = step _ (first_of (codes "file") found) said address.2 in
+    let own : kind.Client ≡ said.kind = ap (λ (w : ClientWords). w.kind) (same _ said script.2) in
+    (client kind.Client found said is, sym own)
+
 save : (found : List Row) (said : ClientWords) → client_of kind.Client found ≡ Some said → IsInRange (Save said)
-save found said is = client kind.Client found said is
+save found said is = plain found said is
 
 warm : (found : List Row) (said : WarmWords) → warm_of found ≡ Some said → IsInRange (Warm said)
 warm found said is =
     let own = step _ (client_of kind.Client found) said is in
     let image = step _ (first_of (codes "image") found) said own.2 in
-    subst (λ w. IsInRange (Warm w)) (same _ said image.2) (client kind.Client found own.0 own.1)
+    subst (λ w. IsInRange (Warm w)) (same _ said image.2) (plain found own.0 own.1)
 
 -- a command whose words are found in its form
 of_form : {W : Type 0} (make : W → Command) (read : List Row → Option W) (found : Option (List Row)) (said : Command)

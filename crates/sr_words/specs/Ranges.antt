@@ -1,8 +1,9 @@
 -- The ranges of the numbers that words say.
-use Rattle.std.specs.Prelude.{◌≤◌}
+use Rattle.std.specs.Prelude.{◌≡◌, ◌≤◌}
 use Rattle.sr_policy.specs.declared.policy.Limits.{Limits}
 use Rattle.sr_words.specs.declared.command.Command.{Command}
 use Rattle.sr_words.specs.declared.command.Command.TheVariants.{Replay, Client, Save, Warm, Serve, Explain, Generate}
+use Rattle.sr_words.specs.declared.command.ClientKind.TheVariants as kind
 use Rattle.sr_words.specs.declared.command.ClientWords.{ClientWords}
 use Rattle.sr_words.specs.declared.command.Setup.{Setup}
 
@@ -22,12 +23,16 @@ pub record IsSetup (setup : Setup) : Type 0 where
 abbrev pub IsClient : ClientWords → Type 0
 IsClient words = AreLimits words.limits × (1 ≤ words.id) × (words.id ≤ 64)
 
+-- of the kind that does what each line asks
+abbrev pub IsPlain : ClientWords → Type 0
+IsPlain words = IsClient words × (words.kind ≡ kind.Client)
+
 -- the numbers of a command are in their ranges
 abbrev pub IsInRange : Command → Type 0
 IsInRange (Replay words) = IsSetup words.setup
 IsInRange (Client words) = IsClient words
-IsInRange (Save words) = IsClient words
-IsInRange (Warm words) = IsClient words.client
+IsInRange (Save words) = IsPlain words
+IsInRange (Warm words) = IsPlain words.client
 IsInRange (Serve words) = (words.log ≤ 500000) × (1 ≤ words.count) × (words.count ≤ 1000000)
 IsInRange (Explain words) = IsSetup words.setup
 IsInRange (Generate words) = (1 ≤ words.events) × (words.events ≤ 100000)

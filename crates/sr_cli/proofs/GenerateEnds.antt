@@ -6,10 +6,14 @@ use Rattle.sr_words.specs.declared.command.GenerateWords.{GenerateWords}
 use Rattle.sr_cli.specs.Generate.{Refuses, SummarizedInPart}
 use Rattle.sr_cli.specs.declared.report.Refusal.{Refusal}
 use Rattle.sr_cli.specs.declared.report.Refusal.TheVariants.{Read, Write, Link, Memory, TooLong, Line, Setup, Load}
-use Rattle.sr_cli.proofs.LeavesLemmas.{InWant, NamesLine, NamesRefused, Report}
+use Rattle.sr_cli.specs.Leaves.{Reported}
+use Rattle.sr_cli.proofs.LeavesLemmas.{InWant, NamesLine, NamesRefused, Report, reported-is}
 
 -- what the status says
-module _ (words : GenerateWords) (before after : Writing) (refusal : Refusal) (status : ℕ) (told last : Option (List ℕ)) (rep : Report refusal status told last) (why : Refuses words before after refusal) where
+module _ (words : GenerateWords) (before after : Writing) (refusal : Refusal) (status : ℕ) (told last : Option (List ℕ)) (reported : Reported refusal status told last) (why : Refuses words before after refusal) where
+  rep : Report refusal status told last
+  rep = reported-is refusal status told last reported
+
   being : (r : Refusal) → refusal ≡ r → Refuses words before after r
   being r is = subst (Refuses words before after) is why
 

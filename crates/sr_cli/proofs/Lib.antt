@@ -1,5 +1,7 @@
+pub mod ClientEnds
 pub mod ClientFits
 pub mod ClientLemmas
+pub mod CommandLemmas
 pub mod Endings
 pub mod ExplainFits
 pub mod FitsLemmas

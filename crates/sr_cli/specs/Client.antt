@@ -8,7 +8,6 @@ use Rattle.sr_cell.specs.declared.table.Table.{Table}
 use Rattle.sr_dial.specs.Following.{Ahead}
 use Rattle.sr_dial.specs.declared.ending.Ending.{Ending}
 use Rattle.sr_dial.specs.declared.ending.Ending.TheVariants.{Whole, Faulty, Unwritten, Spoiled, Bad as BadMessage, Limit as TooMany}
-use Rattle.sr_io.specs.Causes.{Rose}
 use Rattle.sr_io.specs.Told.{Reading, Writing, Linking, complained}
 use Rattle.sr_lines.specs.Script.{LinePlace}
 use Rattle.sr_links.specs.Steps.{Resumed}
@@ -23,6 +22,7 @@ use Rattle.sr_words.specs.declared.command.ClientWords.{ClientWords}
 use Rattle.sr_cli.specs.Files.{IsWhatIsHeld, SomeTooLong, IsLong}
 use Rattle.sr_cli.specs.Kinds.{AsksFor, fault_by, keeps_of}
 use Rattle.sr_cli.specs.Errors.{line_text, setup_text, spoiled_text, bad_text}
+use Rattle.sr_cli.specs.Leaves.{Counts}
 use Rattle.sr_cli.specs.declared.kinds.Files.{Files}
 use Rattle.sr_cli.specs.declared.stop.Stop.{Stop}
 use Rattle.sr_cli.specs.declared.stop.Stop.TheVariants as stop
@@ -137,6 +137,10 @@ pub record AreHeld (held : List ℕ → Option (List ℕ)) (words : ClientWords)
   pub schema_held : held words.schema ≡ Some schema
   pub script_held : held words.script ≡ Some script
 
+-- it does not hold both
+abbrev pub AreNotHeld : (List ℕ → Option (List ℕ)) → ClientWords → Type 0
+AreNotHeld held words = (schema script : List ℕ) → ¬ AreHeld held words schema script
+
 -- one of the files has more bytes than the limit
 abbrev pub AreLong : List ℕ → List ℕ → Type 0
 AreLong schema script = IsLong schema ⊎ IsLong script
@@ -228,16 +232,22 @@ BreaksOff H linking writing old new words keeps tables ahead =
     Untouched (linking old) (linking new) (writing old) (writing new)
     ⊎ RanNewInPart words.id words.address tables words.limits keeps true (Next 0 (Do Resumed) ahead) (linking old) (linking new) (writing old) (writing new)
 
--- why a run stops, of the files that the words name
-pub record StopsOver (held : List ℕ → Option (List ℕ)) (words : ClientWords) (old new : Linking) (before after : Writing) (why : Stop) : Type 0 where
-  pub schema : List ℕ
-  pub script : List ℕ
-  pub files : AreFiles held words schema script
-  pub stops : Stops schema script words old new before after why
+-- why it stops, by the files that the words name
+abbrev pub StopsOver : (List ℕ → Option (List ℕ)) → ClientWords → Option (List ℕ) → Linking → Linking → Writing → Writing → Stop → Type 0
+StopsOver held words left old new before after (stop.Refused refusal.Read) = Unit {0}
+StopsOver held words left old new before after (stop.Refused refusal.TooLong) = SomeTooLong held left (files_of words)
+StopsOver held words left old new before after (stop.Refused refusal.Write) = Dialled held words Unwritten old new before after
+StopsOver held words left old new before after (stop.Refused refusal.Link) = Dialled held words Faulty old new before after
+StopsOver held words left old new before after (stop.Refused refusal.Memory) = Untouched old new before after ⊎ DialledInPart held words old new before after
+StopsOver held words left old new before after (stop.Refused (refusal.Line line place)) = IsOutside held words line place
+StopsOver held words left old new before after (stop.Refused (refusal.Setup line fault)) = IsRefusedCreate held words line fault
+StopsOver held words left old new before after (stop.Refused other) = ⊥
+StopsOver held words left old new before after (stop.Spoiled fault) = Dialled held words (Spoiled fault) old new before after
+StopsOver held words left old new before after (stop.Bad why) = Dialled held words (BadMessage why) old new before after
+StopsOver held words left old new before after stop.Limit = Dialled held words TooMany old new before after
 
--- why the files are not read
-abbrev pub NotRead : (List ℕ → Option (List ℕ)) → ClientWords → Reading → Reading → Linking → Linking → Writing → Writing → Stop → Type 0
-NotRead held words from to old new before after (stop.Refused refusal.Read) = Rose from.faults to.faults × Untouched old new before after
-NotRead held words from to old new before after (stop.Refused refusal.TooLong) = SomeTooLong held to.left (files_of words) × Untouched old new before after
-NotRead held words from to old new before after (stop.Refused refusal.Memory) = Untouched old new before after
-NotRead held words from to old new before after other = ⊥
+-- which faults are counted, by how a run ended or stopped
+abbrev pub CountsStop : (H : Type 0) → (H → Reading) → (H → Writing) → (H → Linking) → H → H → Result (Unit {0}) Stop → Type 0
+CountsStop H reading writing linking old new (Ok done) = (reading new).faults ≡ (reading old).faults
+CountsStop H reading writing linking old new (Err (stop.Refused refusal)) = Counts H reading writing linking old new (Err refusal)
+CountsStop H reading writing linking old new (Err other) = (reading new).faults ≡ (reading old).faults

@@ -29,11 +29,12 @@ use Rattle.sr_links.specs.Steps.{Resumed}
 use Rattle.sr_plan.specs.Plans.{Next}
 use Rattle.sr_runs.specs.Lines.{mark_lines}
 use Rattle.sr_script.specs.TraceText.{line_text}
+use Rattle.sr_session.specs.Clients as session
 use Rattle.sr_wire.specs.declared.bad_frame.BadFrame.{BadFrame}
 use Rattle.sr_wire.specs.declared.wire_fault.WireFault.{WireFault}
 use Rattle.sr_words.specs.declared.command.ClientWords.{ClientWords}
 use Rattle.sr_words.specs.declared.command.WarmWords.{WarmWords}
-use Rattle.sr_cli.specs.Client.{AreFiles, IsEnd, IsOutside, IsRefusedCreate, NamedCreate, NamedLine, Untouched, files_of}
+use Rattle.sr_cli.specs.Client.{AreFiles, CountsStop, IsEnd, IsOutside, IsRefusedCreate, NamedCreate, NamedLine, Untouched, files_of}
 use Rattle.sr_cli.specs.Errors.{bad_text, spoiled_text, words_text}
 use Rattle.sr_cli.specs.Files.{IsWhatIsHeld, SomeTooLong}
 use Rattle.sr_cli.specs.Kinds.{AsksLines}
@@ -191,10 +192,9 @@ pub record NamedEnd (Ended : Ending → Type 0) (old new : Option (List ℕ)) : 
   pub ended : Ended ending
   pub said : ((fault : WireFault) × (ending ≡ Spoiled fault) × (new ≡ complained (spoiled_text fault) old)) ⊎ ((why : BadFrame) × (ending ≡ BadMessage why) × (new ≡ complained (bad_text why) old))
 
--- the status, by how a run ended, and by what else it came to: something was not written, memory was refused, or files were not read
-pub record ComesTo (held : List ℕ → Option (List ℕ)) (words : ClientWords) (Ended : Ending → Type 0) (Part Off Unread Long : Type 0) (old new : Option (List ℕ)) (status : ℕ) : Type 0 where
+-- The status, by how a run ended, and by what else it came to: something was not written, memory was refused, or a file is too long.
+pub record ComesTo (held : List ℕ → Option (List ℕ)) (words : ClientWords) (Ended : Ending → Type 0) (Part Off Long : Type 0) (old new : Option (List ℕ)) (status : ℕ) : Type 0 where
   pub whole : status ≡ 0 → Ended Whole
-  pub unread : status ≡ 3 → Unread
   pub unwritten : status ≡ 4 → Part
   pub faulty : status ≡ 5 → Ended Faulty
   pub line : status ≡ 6 → NamedLine held words old new
@@ -204,30 +204,50 @@ pub record ComesTo (held : List ℕ → Option (List ℕ)) (words : ClientWords)
   pub too_long : status ≡ 10 → Long
   pub limit : status ≡ 11 → Ended TooMany
 
--- What `save` does, with these bytes read and on the error output, by the status that it ends with.
-abbrev pub SavesBy : (List ℕ → Option (List ℕ)) → ClientWords → Reading → Reading → Linking → Linking → Writing → Writing → Option (List ℕ) → Option (List ℕ) → ℕ → Type 0
-SavesBy held words from to old new before after first last status = ComesTo held words
-    (λ ending. Asked held words (λ tables ahead. Saves words tables ahead ending old new before after))
-    (Asked held words (λ tables ahead. SavesOnly WritesPart words tables ahead old new before after))
-    (Untouched old new before after ⊎ Asked held words (λ tables ahead. SavesOff words tables ahead old new before after))
-    (Rose from.faults to.faults) (SomeTooLong held to.left (files_of words)) first last status
+-- how a run of `save` ended, over the files that were read
+abbrev pub Saved : (List ℕ → Option (List ℕ)) → ClientWords → Linking → Linking → Writing → Writing → Ending → Type 0
+Saved held words old new before after ending = Asked held words (λ tables ahead. Saves words tables ahead ending old new before after)
+
+abbrev pub SavedInPart : (List ℕ → Option (List ℕ)) → ClientWords → Linking → Linking → Writing → Writing → Type 0
+SavedInPart held words old new before after = Asked held words (λ tables ahead. SavesOnly WritesPart words tables ahead old new before after)
+
+abbrev pub SavedOff : (List ℕ → Option (List ℕ)) → ClientWords → Linking → Linking → Writing → Writing → Type 0
+SavedOff held words old new before after = Untouched old new before after ⊎ Asked held words (λ tables ahead. SavesOff words tables ahead old new before after)
+
+-- What `save` does, by the status that it ends with.
+abbrev pub SavesBy : (List ℕ → Option (List ℕ)) → ClientWords → Reading → Linking → Linking → Writing → Writing → Option (List ℕ) → Option (List ℕ) → ℕ → Type 0
+SavesBy held words to old new before after first last status =
+    ComesTo held words (Saved held words old new before after) (SavedInPart held words old new before after) (SavedOff held words old new before after)
+    (SomeTooLong held to.left (files_of words)) first last status
+
+-- how a run of `warm` ended, over the files and the image that were read
+abbrev pub Warmed : (List ℕ → Option (List ℕ)) → WarmWords → Linking → Linking → Writing → Writing → Ending → Type 0
+Warmed held words old new before after ending = AskedOver held words (λ tables ahead bytes. Warms words.client tables ahead bytes ending old new before after)
+
+abbrev pub WarmedInPart : (List ℕ → Option (List ℕ)) → WarmWords → Linking → Linking → Writing → Writing → Type 0
+WarmedInPart held words old new before after = AskedOver held words (λ tables ahead bytes. WarmsUnwritten words.client tables ahead bytes old new before after)
+
+abbrev pub WarmedOff : (List ℕ → Option (List ℕ)) → WarmWords → Linking → Linking → Writing → Writing → Type 0
+WarmedOff held words old new before after = Untouched old new before after ⊎ AskedOver held words (λ tables ahead bytes. WarmsOff words.client tables ahead bytes old new before after)
 
 -- the names of both files and of the image, in the order in which they are read
 abbrev pub names_of : WarmWords → List (List ℕ)
 names_of words = words.client.schema ∷ words.client.script ∷ words.image ∷ []
 
--- The same of `warm`.
-abbrev pub WarmsBy : (List ℕ → Option (List ℕ)) → WarmWords → Reading → Reading → Linking → Linking → Writing → Writing → Option (List ℕ) → Option (List ℕ) → ℕ → Type 0
-WarmsBy held words from to old new before after first last status = ComesTo held words.client
-    (λ ending. AskedOver held words (λ tables ahead bytes. Warms words.client tables ahead bytes ending old new before after))
-    (AskedOver held words (λ tables ahead bytes. WarmsUnwritten words.client tables ahead bytes old new before after))
-    (Untouched old new before after ⊎ AskedOver held words (λ tables ahead bytes. WarmsOff words.client tables ahead bytes old new before after))
-    (Rose from.faults to.faults) (SomeTooLong held to.left (names_of words)) first last status
+-- What `warm` does, by the status that it ends with.
+abbrev pub WarmsBy : (List ℕ → Option (List ℕ)) → WarmWords → Reading → Linking → Linking → Writing → Writing → Option (List ℕ) → Option (List ℕ) → ℕ → Type 0
+WarmsBy held words to old new before after first last status =
+    ComesTo held words.client (Warmed held words old new before after) (WarmedInPart held words old new before after) (WarmedOff held words old new before after)
+    (SomeTooLong held to.left (names_of words)) first last status
+
+-- the bytes are no image over the tables of the files, for this reason
+abbrev pub IsNoImage : (List ℕ → Option (List ℕ)) → WarmWords → ImageFault → Type 0
+IsNoImage held words fault = AskedOver held words (λ tables ahead bytes. image_in tables bytes ≡ Err fault)
 
 -- The bytes are no image over the tables of the files, which was said on the error output, with why. Nothing was done.
 pub record NamedImage (held : List ℕ → Option (List ℕ)) (words : WarmWords) (old new : Linking) (before after : Writing) (first last : Option (List ℕ)) : Type 0 where
   pub fault : ImageFault
-  pub none : AskedOver held words (λ tables ahead bytes. image_in tables bytes ≡ Err fault)
+  pub none : IsNoImage held words fault
   pub untouched : Untouched old new before after
   pub said : last ≡ complained (image_text fault) first
 
@@ -236,12 +256,12 @@ pub record NamedImage (held : List ℕ → Option (List ℕ)) (words : WarmWords
 -- What `save` does over a host, by the status that it ends with.
 pub record SavesOver (H : Type 0) (held : H → List ℕ → Option (List ℕ)) (reading : H → Reading) (writing : H → Writing) (linking : H → Linking) (complaints : H → Option (List ℕ)) (old new : H) (words : ClientWords) (status : ℕ) : Type 0 where
   pub only : IsEnd status
-  pub comes : SavesBy (held old) words (reading old) (reading new) (linking old) (linking new) (writing old) (writing new) (complaints old) (complaints new) status
+  pub comes : SavesBy (held old) words (reading new) (linking old) (linking new) (writing old) (writing new) (complaints old) (complaints new) status
 
 -- What `warm` does over a host, by the status that it ends with.
 pub record WarmsOver (H : Type 0) (held : H → List ℕ → Option (List ℕ)) (reading : H → Reading) (writing : H → Writing) (linking : H → Linking) (complaints : H → Option (List ℕ)) (old new : H) (words : WarmWords) (status : ℕ) : Type 0 where
   pub only : IsEnd status ⊎ (status ≡ 13)
-  pub comes : WarmsBy (held old) words (reading old) (reading new) (linking old) (linking new) (writing old) (writing new) (complaints old) (complaints new) status
+  pub comes : WarmsBy (held old) words (reading new) (linking old) (linking new) (writing old) (writing new) (complaints old) (complaints new) status
   pub no_image : status ≡ 13 → NamedImage (held old) words (linking old) (linking new) (writing old) (writing new) (complaints old) (complaints new)
 
 -- ---- inside the crate
@@ -272,31 +292,40 @@ abbrev pub SaveStops : ClientWords → List Table → Ahead → Linking → Link
 SaveStops words tables ahead old new before after why = StopsAs (λ ending. Saves words tables ahead ending old new before after)
     (SavesOnly WritesPart words tables ahead old new before after) (Untouched old new before after ⊎ SavesOff words tables ahead old new before after) ⊥ ⊥ (λ line place. ⊥) (λ line fault. ⊥) why
 
--- that was given files; where they are not read, this holds
-abbrev pub SaveStopsBy : Type 0 → Type 0 → (List ℕ → Option (List ℕ)) → ClientWords → Linking → Linking → Writing → Writing → Stop → Type 0
-SaveStopsBy Unread Long held words old new before after why = StopsAs (λ ending. Asked held words (λ tables ahead. Saves words tables ahead ending old new before after))
-    (Asked held words (λ tables ahead. SavesOnly WritesPart words tables ahead old new before after))
-    (Untouched old new before after ⊎ Asked held words (λ tables ahead. SavesOff words tables ahead old new before after)) Unread Long
+-- that was given files
+abbrev pub SaveStopsFiles : (List ℕ → Option (List ℕ)) → ClientWords → Linking → Linking → Writing → Writing → Stop → Type 0
+SaveStopsFiles held words old new before after why =
+    StopsAs (Saved held words old new before after) (SavedInPart held words old new before after) (SavedOff held words old new before after) ⊥ ⊥
     (OutsideDid held words old new before after) (CreateDid held words old new before after) why
 
--- the files are not read, and nothing was done
-abbrev pub NoneRead : Reading → Reading → Linking → Linking → Writing → Writing → Type 0
-NoneRead from to old new before after = Rose from.faults to.faults × Untouched old new before after
-
-abbrev pub NoneFits : (List ℕ → Option (List ℕ)) → Reading → List (List ℕ) → Linking → Linking → Writing → Writing → Type 0
-NoneFits held to names old new before after = SomeTooLong held to.left names × Untouched old new before after
+-- that was given their names
+abbrev pub SaveStopsOver : (List ℕ → Option (List ℕ)) → ClientWords → Option (List ℕ) → Linking → Linking → Writing → Writing → Stop → Type 0
+SaveStopsOver held words left old new before after why =
+    StopsAs (Saved held words old new before after) (SavedInPart held words old new before after) (SavedOff held words old new before after)
+    (Unit {0}) (SomeTooLong held left (files_of words)) (IsOutside held words) (IsRefusedCreate held words) why
 
 -- the same of `warm`
 abbrev pub WarmStops : ClientWords → List Table → Ahead → List ℕ → Linking → Linking → Writing → Writing → Stop → Type 0
 WarmStops words tables ahead bytes old new before after why = StopsAs (λ ending. Warms words tables ahead bytes ending old new before after)
     (WarmsUnwritten words tables ahead bytes old new before after) (Untouched old new before after ⊎ WarmsOff words tables ahead bytes old new before after) ⊥ ⊥ (λ line place. ⊥) (λ line fault. ⊥) why
 
-abbrev pub WarmStopsBy : Type 0 → Type 0 → (List ℕ → Option (List ℕ)) → WarmWords → Linking → Linking → Writing → Writing → WarmStop → Type 0
-WarmStopsBy Unread Long held words old new before after (warm_stop.NoImage fault) = AskedOver held words (λ tables ahead bytes. image_in tables bytes ≡ Err fault) × Untouched old new before after
-WarmStopsBy Unread Long held words old new before after (warm_stop.Stopped why) = StopsAs (λ ending. AskedOver held words (λ tables ahead bytes. Warms words.client tables ahead bytes ending old new before after))
-    (AskedOver held words (λ tables ahead bytes. WarmsUnwritten words.client tables ahead bytes old new before after))
-    (Untouched old new before after ⊎ AskedOver held words (λ tables ahead bytes. WarmsOff words.client tables ahead bytes old new before after)) Unread Long
+abbrev pub WarmStopsFiles : (List ℕ → Option (List ℕ)) → WarmWords → Linking → Linking → Writing → Writing → WarmStop → Type 0
+WarmStopsFiles held words old new before after (warm_stop.NoImage fault) = IsNoImage held words fault × Untouched old new before after
+WarmStopsFiles held words old new before after (warm_stop.Stopped why) =
+    StopsAs (Warmed held words old new before after) (WarmedInPart held words old new before after) (WarmedOff held words old new before after) ⊥ ⊥
     (OutsideDid held words.client old new before after) (CreateDid held words.client old new before after) why
+
+abbrev pub WarmStopsOver : (List ℕ → Option (List ℕ)) → WarmWords → Option (List ℕ) → Linking → Linking → Writing → Writing → WarmStop → Type 0
+WarmStopsOver held words left old new before after (warm_stop.NoImage fault) = IsNoImage held words fault × Untouched old new before after
+WarmStopsOver held words left old new before after (warm_stop.Stopped why) =
+    StopsAs (Warmed held words old new before after) (WarmedInPart held words old new before after) (WarmedOff held words old new before after)
+    (Unit {0}) (SomeTooLong held left (names_of words)) (IsOutside held words.client) (IsRefusedCreate held words.client) why
+
+-- which faults are counted, by how `warm` ended
+abbrev pub CountsWarm : (H : Type 0) → (H → Reading) → (H → Writing) → (H → Linking) → H → H → Result (Unit {0}) WarmStop → Type 0
+CountsWarm H reading writing linking old new (Ok done) = (reading new).faults ≡ (reading old).faults
+CountsWarm H reading writing linking old new (Err (warm_stop.Stopped why)) = CountsStop H reading writing linking old new (Err why)
+CountsWarm H reading writing linking old new (Err (warm_stop.NoImage fault)) = (reading new).faults ≡ (reading old).faults
 
 -- what came of writing bytes
 abbrev pub Wrote : List ℕ → Writing → Writing → Result (Unit {0}) (No Failed) → Type 0
@@ -309,6 +338,19 @@ abbrev pub WroteLeft : List ℕ → Ending → Writing → Writing → Result (U
 WroteLeft bytes ending before after (Ok done) = WritesAll (if has_image ending then bytes else []) before after
 WroteLeft bytes ending before after (Err (NoBut failed)) = (has_image ending ≡ true) × WritesPart bytes before after
 WroteLeft bytes ending before after (Err Wanting) = (has_image ending ≡ true) × WritesOff bytes before after
+
+-- the bytes that are written behind a run that ended so and left this end, if any are
+abbrev pub bytes_left : List Table → End → Ending → List ℕ
+bytes_left tables left ending = if has_image ending then image_bytes tables (held_image left.client) else []
+
+-- how a run ended of which this was written, and why it stops
+abbrev pub EndsQuietly : List Table → End → Ending → Writing → Writing → Ending → Type 0
+EndsQuietly tables left ending before after e = (ending ≡ e) × WritesAll (bytes_left tables left ending) before after
+
+abbrev pub StopsQuietly : List Table → End → Ending → Writing → Writing → Stop → Type 0
+StopsQuietly tables left ending before after why =
+    StopsAs (EndsQuietly tables left ending before after) ((has_image ending ≡ true) × WritesPart (image_bytes tables (held_image left.client)) before after)
+    ((has_image ending ≡ true) × WritesOff (image_bytes tables (held_image left.client)) before after) ⊥ ⊥ (λ line place. ⊥) (λ line fault. ⊥) why
 
 -- the end that a run left, of which the image is written
 pub record LeftBy (words : ClientWords) (tables : List Table) (ahead : Ahead) (ending : Ending) (left : End) (old new : Linking) (before after : Writing) : Type 0 where
@@ -343,16 +385,13 @@ abbrev pub StopsSavingOf : (H : Type 0) → (H → Linking) → (H → Writing) 
 StopsSavingOf H linking writing old new words tables ahead why = SaveStops words tables ahead (linking old) (linking new) (writing old) (writing new) why
 
 abbrev pub IsSaved : (H : Type 0) → (H → List ℕ → Option (List ℕ)) → (H → Linking) → (H → Writing) → H → H → ClientWords → Ending → Type 0
-IsSaved H held linking writing old new words ending = Asked (held old) words (λ tables ahead. Saves words tables ahead ending (linking old) (linking new) (writing old) (writing new))
+IsSaved H held linking writing old new words ending = Saved (held old) words (linking old) (linking new) (writing old) (writing new) ending
 
 abbrev pub StopsSavingFiles : (H : Type 0) → (H → List ℕ → Option (List ℕ)) → (H → Linking) → (H → Writing) → H → H → ClientWords → Stop → Type 0
-StopsSavingFiles H held linking writing old new words why = SaveStopsBy ⊥ ⊥ (held old) words (linking old) (linking new) (writing old) (writing new) why
+StopsSavingFiles H held linking writing old new words why = SaveStopsFiles (held old) words (linking old) (linking new) (writing old) (writing new) why
 
 abbrev pub StopsSaving : (H : Type 0) → (H → List ℕ → Option (List ℕ)) → (H → Reading) → (H → Linking) → (H → Writing) → H → H → ClientWords → Stop → Type 0
-StopsSaving H held reading linking writing old new words why =
-    SaveStopsBy (NoneRead (reading old) (reading new) (linking old) (linking new) (writing old) (writing new))
-    (NoneFits (held old) (reading new) (files_of words) (linking old) (linking new) (writing old) (writing new))
-    (held old) words (linking old) (linking new) (writing old) (writing new) why
+StopsSaving H held reading linking writing old new words why = SaveStopsOver (held old) words (reading new).left (linking old) (linking new) (writing old) (writing new) why
 
 abbrev pub WarmsOf : (H : Type 0) → (H → Linking) → (H → Writing) → H → H → ClientWords → List Table → Ahead → List ℕ → Ending → Type 0
 WarmsOf H linking writing old new words tables ahead bytes ending = Warms words tables ahead bytes ending (linking old) (linking new) (writing old) (writing new)
@@ -360,14 +399,21 @@ WarmsOf H linking writing old new words tables ahead bytes ending = Warms words 
 abbrev pub StopsWarmingOf : (H : Type 0) → (H → Linking) → (H → Writing) → H → H → ClientWords → List Table → Ahead → List ℕ → Stop → Type 0
 StopsWarmingOf H linking writing old new words tables ahead bytes why = WarmStops words tables ahead bytes (linking old) (linking new) (writing old) (writing new) why
 
+-- how a run of this end over a plan ended, and why it stops
+abbrev pub RanOn : (H : Type 0) → (H → Linking) → (H → Writing) → H → H → End → session.Client → List ℕ → Ahead → End → Ending → Type 0
+RanOn H linking writing old new end past address ahead left ending =
+    RanFrom end past address (Next 0 (Do Resumed) ahead) ending (linking old) (linking new) (writing old) (writing new) left
+
+abbrev pub StopsOn : (H : Type 0) → (H → Linking) → (H → Writing) → H → H → End → session.Client → List ℕ → Ahead → End → Stop → Type 0
+StopsOn H linking writing old new end past address ahead left why =
+    StopsAs (RanOn H linking writing old new end past address ahead left) (RanOn H linking writing old new end past address ahead left Unwritten)
+    (RanOff end past address (Next 0 (Do Resumed) ahead) (linking old) (linking new) (writing old) (writing new)) ⊥ ⊥ (λ line place. ⊥) (λ line fault. ⊥) why
+
 abbrev pub IsWarmed : (H : Type 0) → (H → List ℕ → Option (List ℕ)) → (H → Linking) → (H → Writing) → H → H → WarmWords → Ending → Type 0
-IsWarmed H held linking writing old new words ending = AskedOver (held old) words (λ tables ahead bytes. Warms words.client tables ahead bytes ending (linking old) (linking new) (writing old) (writing new))
+IsWarmed H held linking writing old new words ending = Warmed (held old) words (linking old) (linking new) (writing old) (writing new) ending
 
 abbrev pub StopsWarmingFiles : (H : Type 0) → (H → List ℕ → Option (List ℕ)) → (H → Linking) → (H → Writing) → H → H → WarmWords → WarmStop → Type 0
-StopsWarmingFiles H held linking writing old new words why = WarmStopsBy ⊥ ⊥ (held old) words (linking old) (linking new) (writing old) (writing new) why
+StopsWarmingFiles H held linking writing old new words why = WarmStopsFiles (held old) words (linking old) (linking new) (writing old) (writing new) why
 
 abbrev pub StopsWarming : (H : Type 0) → (H → List ℕ → Option (List ℕ)) → (H → Reading) → (H → Linking) → (H → Writing) → H → H → WarmWords → WarmStop → Type 0
-StopsWarming H held reading linking writing old new words why =
-    WarmStopsBy (NoneRead (reading old) (reading new) (linking old) (linking new) (writing old) (writing new))
-    (NoneFits (held old) (reading new) (names_of words) (linking old) (linking new) (writing old) (writing new))
-    (held old) words (linking old) (linking new) (writing old) (writing new) why
+StopsWarming H held reading linking writing old new words why = WarmStopsOver (held old) words (reading new).left (linking old) (linking new) (writing old) (writing new) why

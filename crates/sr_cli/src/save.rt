@@ -1,16 +1,15 @@
 //! Running a script as a client of a server, and writing the image of what it holds then.
-ghost use Rattle.std.specs.Prelude.{◌≡◌, ◌⊎◌, ◌<◌, ◌≤◌, ◌^◌, IfErr, IfOk, IsErrOf, IsTrue, OnErr, OnOk};
+ghost use Rattle.std.specs.Prelude.{◌≡◌, ◌≢◌, ◌<◌, ◌≤◌, ◌^◌, IfErr, IfOk, IsTrue, OnErr, OnOk};
 ghost use Rattle.std.specs.List.{list_all};
 ghost use Rattle.sr_dial.specs.Following.{Ahead};
-ghost use Rattle.sr_dial.specs.declared.ending.Ending.TheVariants.{Whole};
+ghost use Rattle.sr_dial.specs.declared.ending.Ending.TheVariants.{Unwritten, Whole};
 ghost use Rattle.sr_image.specs.Spelling.{image_bytes};
 ghost use Rattle.sr_query.specs.Bound.{is_table};
 ghost use Rattle.sr_talk.specs.Rounds.{OnlyOutput};
 ghost use Rattle.sr_words.specs.declared.command.ClientKind.TheVariants.{Client as AsClient};
-ghost use Rattle.sr_cli.specs.Image.{AreShortFiles, BreaksQuietly, IsSaved, LeavesEnd, SavesOf, SavesOver, StopsSaving, StopsSavingFiles, StopsSavingOf, Wrote, WroteLeft, has_image, held_image};
+ghost use Rattle.sr_cli.specs.Client.{CountsStop};
+ghost use Rattle.sr_cli.specs.Image.{AreShortFiles, BreaksQuietly, EndsQuietly, IsSaved, LeavesEnd, SavesOf, SavesOver, StopsQuietly, StopsSaving, StopsSavingFiles, StopsSavingOf, Wrote, WroteLeft, has_image, held_image};
 ghost use Rattle.sr_cli.specs.Leaves.{Leaves, OnlyRuns};
-ghost use Rattle.sr_cli.specs.declared.report.Refusal.TheVariants.{Read};
-ghost use Rattle.sr_cli.specs.declared.stop.Stop.TheVariants.{Refused};
 
 use crate::client::read_files;
 use crate::frames::{report_bad, report_limit, report_spoiled};
@@ -67,7 +66,7 @@ fn save_files<H: Host>(alloc: Global, words: &ClientWords, host: &mut H) -> Resu
     requires regions { words.now.limits.regions ≤ 1024 }
     ensures whole { OnOk result (IsSaved H H.held H.linking H.writing host.old host.new words.now Whole) }
     ensures stopped { IfErr result (StopsSaving H H.held H.reading H.linking H.writing host.old host.new words.now) }
-    ensures reading_keeps_faults { IsErrOf result (Refused Read) ⊎ ((H.reading host.new).faults ≡ (H.reading host.old).faults) }
+    ensures counts { CountsStop H H.reading H.writing H.linking host.old host.new result }
     ensures stays { OnlyRuns H H.held H.complaints H.IsSteady host.old host.new }
 {
     match read_files(alloc, words, host) {
@@ -128,10 +127,27 @@ fn save_lines<H: Host, P: Plans>(
         → IfErr result (StopsSavingOf H H.linking H.writing host.old host.new words.now schema.now ahead) }
     ensures stays { OnlyOutput H H.reading H.held H.complaints H.IsSteady host.old host.new }
 {
-    let Ok(quiet) = run_quietly(alloc, words, schema, plans, host) else {
-        return Err(Stop::Refused(Refusal::Memory));
-    };
-    match write_left(alloc, schema, &quiet, host) {
+    match run_quietly(alloc, words, schema, plans, host) {
+        Ok(quiet) => save_quiet(alloc, schema, quiet, host),
+        Err(_) => Err(Stop::Refused(Refusal::Memory)),
+    }
+}
+
+/// Writes the image of what the client of a run holds that ended, if one is written behind it.
+fn save_quiet<K: Sink>(
+    alloc: Global,
+    schema: &Schema,
+    quiet: Quiet,
+    sink: &mut K,
+) -> Result<(), Stop>
+    requires rows { quiet.end.client.store.limits.rows ≤ 200000 }
+    requires quiet { quiet.ending ≢ Unwritten }
+    ensures whole { OnOk result (EndsQuietly schema.now quiet.end quiet.ending (K.writing sink.old) (K.writing sink.new) Whole) }
+    ensures stopped { IfErr result (StopsQuietly schema.now quiet.end quiet.ending (K.writing sink.old) (K.writing sink.new)) }
+    ensures linking_stays { K.linking sink.new ≡ K.linking sink.old }
+    ensures stays { OnlyOutput K K.reading K.held K.complaints K.IsSteady sink.old sink.new }
+{
+    match write_left(alloc, schema, &quiet, sink) {
         Ok(()) => end_by(quiet.ending),
         Err(No::Refused(_)) => Err(Stop::Refused(Refusal::Write)),
         Err(No::NoMemory) => Err(Stop::Refused(Refusal::Memory)),
@@ -161,8 +177,10 @@ fn run_quietly<H: Host, P: Plans>(
 {
     let mut end = ClientEnd::of_new(alloc, words.id, schema, words.limits, false, false)?;
     let address = words.address.as_str();
-    let ending = run_plan(alloc, host, &mut end, schema.as_slice(), address, plans)?;
-    Ok(Quiet { ending, end })
+    match run_plan(alloc, host, &mut end, schema.as_slice(), address, plans) {
+        Ok(ending) => Ok(Quiet { ending, end }),
+        Err(no) => Err(no),
+    }
 }
 
 /// Whether an image is written behind a run that ended so.
@@ -172,7 +190,7 @@ fn has_image(ending: &Ending) -> bool
     matches!(ending, Ending::Whole | Ending::Faulty)
 }
 
-/// Writes the image of what the client of a run holds that ended, if one is written behind it.
+/// Writes the image, if one is written.
 fn write_left<K: Sink>(
     alloc: Global,
     schema: &Schema,
@@ -184,10 +202,26 @@ fn write_left<K: Sink>(
     ensures linking_stays { K.linking sink.new ≡ K.linking sink.old }
     ensures stays { OnlyOutput K K.reading K.held K.complaints K.IsSteady sink.old sink.new }
 {
-    if !has_image(&quiet.ending) {
-        return Ok(());
+    if has_image(&quiet.ending) {
+        write_held(alloc, schema, &quiet.end, sink)
+    } else {
+        Ok(())
     }
-    match bytes_held(alloc, schema, &quiet.end) {
+}
+
+/// Writes the image of what the client holds.
+fn write_held<K: Sink>(
+    alloc: Global,
+    schema: &Schema,
+    end: &ClientEnd,
+    sink: &mut K,
+) -> Result<(), No<Failed>>
+    requires rows { end.now.client.store.limits.rows ≤ 200000 }
+    ensures wrote { Wrote (image_bytes schema.now (held_image end.now.client)) (K.writing sink.old) (K.writing sink.new) result }
+    ensures linking_stays { K.linking sink.new ≡ K.linking sink.old }
+    ensures stays { OnlyOutput K K.reading K.held K.complaints K.IsSteady sink.old sink.new }
+{
+    match bytes_held(alloc, schema, end) {
         Ok(bytes) => write_bytes(bytes.as_slice(), sink),
         Err(_) => Err(No::NoMemory),
     }

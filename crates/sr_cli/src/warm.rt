@@ -1,19 +1,19 @@
 //! Running a script as a client that starts from an image.
-ghost use Rattle.std.specs.Prelude.{◌≡◌, ◌⊎◌, ◌<◌, ◌≤◌, ◌^◌, Ok, string_bytes, List, ℕ, IfErr, IfOk, IsErrOf, IsTrue, OnOk};
+ghost use Rattle.std.specs.Prelude.{◌≡◌, ◌<◌, ◌≤◌, ◌+◌, ◌*◌, ◌^◌, true, None, Ok, string_bytes, List, ℕ, IfErr, IfOk, IsTrue, OnOk};
 ghost use Rattle.std.specs.List.{list_all};
+ghost use Rattle.sr_calls.specs.ClientEnds.{room_of};
+ghost use Rattle.sr_client.specs.Stands.{StandsFor};
 ghost use Rattle.sr_dial.specs.Following.{Ahead};
 ghost use Rattle.sr_dial.specs.declared.ending.Ending.TheVariants.{Whole};
 ghost use Rattle.sr_image.specs.Laws.{is_image};
 ghost use Rattle.sr_image.specs.Reading.{image_in};
 ghost use Rattle.sr_query.specs.Bound.{is_table};
+ghost use Rattle.sr_session.specs.Clients.{Client as Past};
 ghost use Rattle.sr_talk.specs.Rounds.{OnlyOutput};
 ghost use Rattle.sr_words.specs.declared.command.ClientKind.TheVariants.{Client as AsClient};
-ghost use Rattle.sr_cli.specs.Image.{AreShortFiles, BeginsAs, IsWarmed, NamesImage, StopsWarming, StopsWarmingFiles, StopsWarmingOf, WarmsOf, WarmsOver, image_text, start_text};
+ghost use Rattle.sr_cli.specs.Image.{AreShortFiles, BeginsAs, CountsWarm, IsWarmed, RanOn, StopsOn, StopsWarming, StopsWarmingFiles, StopsWarmingOf, WarmsOf, WarmsOver, image_text, start_text};
 ghost use Rattle.sr_cli.specs.Files.{IsWhatIsHeld};
 ghost use Rattle.sr_cli.specs.Leaves.{Leaves, Names, OnlyComplains, OnlyRuns};
-ghost use Rattle.sr_cli.specs.declared.report.Refusal.TheVariants.{Read};
-ghost use Rattle.sr_cli.specs.declared.stop.Stop.TheVariants.{Refused};
-ghost use Rattle.sr_cli.specs.declared.warm.WarmStop.TheVariants.{Stopped};
 
 use crate::client::read_files;
 use crate::file::read_file;
@@ -163,17 +163,59 @@ fn warm_from<H: Host, P: Plans>(
         → IfErr result (StopsWarmingOf H H.linking H.writing host.old host.new words.now schema.now ahead bytes) }
     ensures stays { OnlyOutput H H.reading H.held H.complaints H.IsSteady host.old host.new }
 {
-    let Ok(begun) = begin(alloc, words, schema, image) else {
-        return Err(Stop::Refused(Refusal::Memory));
-    };
+    match begin(alloc, words, schema, image) {
+        Ok(begun) => warm_begun(alloc, words, schema, begun, plans, host),
+        Err(_) => Err(Stop::Refused(Refusal::Memory)),
+    }
+}
+
+/// Writes the lines of a start, and runs a plan as its client.
+fn warm_begun<H: Host, P: Plans>(
+    alloc: Global,
+    words: &ClientWords,
+    schema: &Schema,
+    begun: Begun,
+    plans: &mut P,
+    host: &mut H,
+) -> Result<(), Stop>
+    requires begun { (bytes : List ℕ) × BeginsAs words.now schema.now bytes (string_bytes begun.text) begun.end }
+    requires asks { (ahead : Ahead) × P.follows schema.now plans.old ahead }
+    requires few { P.depth plans.old < 2 ^ 40 }
+    ensures whole { (bytes : List ℕ) (ahead : Ahead) → BeginsAs words.now schema.now bytes (string_bytes begun.text) begun.end → P.follows schema.now plans.old ahead
+        → OnOk result (WarmsOf H H.linking H.writing host.old host.new words.now schema.now ahead bytes Whole) }
+    ensures stopped { (bytes : List ℕ) (ahead : Ahead) → BeginsAs words.now schema.now bytes (string_bytes begun.text) begun.end → P.follows schema.now plans.old ahead
+        → IfErr result (StopsWarmingOf H H.linking H.writing host.old host.new words.now schema.now ahead bytes) }
+    ensures stays { OnlyOutput H H.reading H.held H.complaints H.IsSteady host.old host.new }
+{
     let Begun { mut end, text } = begun;
     match write_bytes(text.as_bytes(), host) {
-        Ok(()) => {}
-        Err(No::Refused(_)) => return Err(Stop::Refused(Refusal::Write)),
-        Err(No::NoMemory) => return Err(Stop::Refused(Refusal::Memory)),
+        Ok(()) => warm_on(alloc, words, schema, &mut end, plans, host),
+        Err(No::Refused(_)) => Err(Stop::Refused(Refusal::Write)),
+        Err(No::NoMemory) => Err(Stop::Refused(Refusal::Memory)),
     }
+}
+
+/// Runs a plan as a client that has started.
+fn warm_on<H: Host, P: Plans>(
+    alloc: Global,
+    words: &ClientWords,
+    schema: &Schema,
+    end: &mut ClientEnd,
+    plans: &mut P,
+    host: &mut H,
+) -> Result<(), Stop>
+    requires schema { end.old.client.schema ≡ schema.now }
+    requires asks { (ahead : Ahead) × P.follows schema.now plans.old ahead }
+    requires room { 4000004 * (P.depth plans.old + 1) ≤ room_of end.old.client }
+    requires fresh { end.old.answer ≡ None }
+    ensures whole { (past : Past) (ahead : Ahead) → StandsFor past end.old.client → past.cut ≡ true → past.out ≡ None → P.follows schema.now plans.old ahead
+        → OnOk result (RanOn H H.linking H.writing host.old host.new end.old past words.now.address ahead end.new Whole) }
+    ensures stopped { (past : Past) (ahead : Ahead) → StandsFor past end.old.client → past.cut ≡ true → past.out ≡ None → P.follows schema.now plans.old ahead
+        → IfErr result (StopsOn H H.linking H.writing host.old host.new end.old past words.now.address ahead end.new) }
+    ensures stays { OnlyOutput H H.reading H.held H.complaints H.IsSteady host.old host.new }
+{
     let address = words.address.as_str();
-    match run_plan(alloc, host, &mut end, schema.as_slice(), address, plans) {
+    match run_plan(alloc, host, end, schema.as_slice(), address, plans) {
         Ok(ending) => end_by(ending),
         Err(_) => Err(Stop::Refused(Refusal::Memory)),
     }

@@ -21,10 +21,10 @@ use Rattle.sr_cli.proofs.ClientFits.{Accepted, Causes, EndsByFrames, EndsWritten
 use Rattle.sr_cli.proofs.LeavesLemmas.{HasName, InWant, NamesLine, NamesRefused, Report, named-nothing, reported-is}
 
 module _ (H : Type 0) (held : H → List ℕ → Option (List ℕ)) (reading : H → Reading) (writing : H → Writing) (linking : H → Linking) (complaints : H → Option (List ℕ)) (IsSteady : H → Type 0) (words : ClientWords) where
-  abbrev Ran : H → H → Ending → Type 0
+  abbrev pub Ran : H → H → Ending → Type 0
   Ran old new ending = Dialled (held old) words ending (linking old) (linking new) (writing old) (writing new)
 
-  abbrev Ends : H → H → ℕ → Type 0
+  abbrev pub Ends : H → H → ℕ → Type 0
   Ends old new status = Dials H held reading writing linking complaints IsSteady old new words status
 
   -- where each line was written, a status fits the files

@@ -1,6 +1,6 @@
 use Rattle.std.proofs.Common.{Err, inl, refl, sym, ap, subst, ◌∙◌}
 use Rattle.std.proofs.lemmas.Result.{on_ok_weaker, IfErr-weaker}
-use Rattle.sr_cli.specs.Client.{StopsOver, files_of}
+use Rattle.sr_cli.specs.Client.{Stops, StopsBy, StopsOver, files_of}
 use Rattle.sr_cli.specs.Leaves.{NotRead}
 use Rattle.sr_cli.specs.declared.stop.Stop.TheVariants.{Refused}
 use Rattle.sr_cli.proofs.ClientLemmas.{counts-stopped, over-files}
@@ -31,7 +31,10 @@ returns-in-Ok-clause-stopped g c =
 pub returns-in-Ok-clause-counts : goal.returns-in-Ok-clause-counts
 returns-in-Ok-clause-counts g c =
     counts-stopped _ g.H.Outside.reading g.H.Outside.writing g.H.Outside.linking c.in-Ok.files.schema c.in-Ok.files.script c.args.words.now c.args.host.now c.read_files.new.host c.client_read.new.host
-    c.in-Ok.ensures.ok_keeps_faults c.client_read.ensures.stays.reading_stays c.read_files.ensures.stays.writing_stays c.read_files.ensures.stays.linking_stays c.client_read.result c.client_read.ensures.stopped
+    c.in-Ok.ensures.ok_keeps_faults c.client_read.ensures.stays.reading_stays c.read_files.ensures.stays.writing_stays c.read_files.ensures.stays.linking_stays c.client_read.result
+    (IfErr-weaker c.client_read.result (StopsBy _ g.H.Outside.linking g.H.Outside.writing c.read_files.new.host c.client_read.new.host c.in-Ok.files c.args.words.now)
+    (Stops c.in-Ok.files.schema c.in-Ok.files.script c.args.words.now (g.H.Outside.linking c.read_files.new.host) (g.H.Outside.linking c.client_read.new.host) (g.H.Outside.writing c.read_files.new.host) (g.H.Outside.writing c.client_read.new.host))
+    (λ why stops. stops) c.client_read.ensures.stopped)
 
 pub returns-in-Ok-clause-steady_reads : goal.returns-in-Ok-clause-steady_reads
 returns-in-Ok-clause-steady_reads g c = λ steady failed schema script are. absurd (err-of _ c.client_read.result _ c.client_read.ensures.stopped failed)

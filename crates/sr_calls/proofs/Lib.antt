@@ -5,6 +5,7 @@ pub mod RunLemmas
 pub mod StepLemmas
 pub mod TakeLemmas
 pub mod HonestLemmas
+pub mod StartedLemmas
 pub mod ExplainLemmas
 pub mod ShortLemmas
 pub mod HoldLemmas

@@ -12,6 +12,7 @@ use Rattle.sr_policy.specs.declared.policy.Limits.{Limits}
 use Rattle.sr_query.specs.Bound.{is_table}
 use Rattle.sr_store.specs.Told.{IsTrueOf, told_of}
 use Rattle.sr_model.specs.Statements.{Tables}
+use Rattle.sr_session.specs.Clients as session
 use Rattle.sr_plan.specs.Plans.{Plan}
 use Rattle.sr_dial.specs.Calls.{Task}
 use Rattle.sr_client.specs.Stands.{new_client}
@@ -49,38 +50,39 @@ wrote_all says (ending.Bad why) texts before after is wrote = wrote
 wrote_all says ending.Limit texts before after is wrote = wrote
 
 -- So what a run that ended sent and wrote is a beginning of what the rules give, too, as long as each line was written.
-pub ended_in_part : (id : ℕ) (address : List ℕ) (schema : List Table) (limits : Limits) (keeps says : Bool) (plan : Plan Task Answer) (ended : Ending) (old new : Linking) (before after : Writing) → is_unwritten ended ≡ false
-    → RanNew id address schema limits keeps says plan ended old new before after → RanNewInPart id address schema limits keeps says plan old new before after
-ended_in_part id address schema limits keeps says plan ended old new before after each new_run =
-    let fairly = new_run.ran.run in
-    let run = fairly.ran in
+pub run_in_part : (end left : End) (past : session.Client) (address : List ℕ) (plan : Plan Task Answer) (ended : Ending) (old new : Linking) (before after : Writing) → is_unwritten ended ≡ false
+    → RanFrom end past address plan ended old new before after left → RanOff end past address plan old new before after
+run_in_part end left past address plan ended old new before after each from =
+    let run = from.run.ran in
     let calls = run.earlier ++ run.last ∷ [] in
-    let wrote = wrote_all says ended _ before after each run.writes in
+    let wrote = wrote_all end.says ended _ before after each run.writes in
     let last : IsCarried false run.last = subst (λ (b : Bool). IsCarried b run.last) each run.last_carried in
     record {
-      begins = new_run.begins;
-      ran = record {
-        calls = calls;
-        earlier = calls;
-        cut_short = None;
-        calls_are = sym (append-nil calls);
-        are = run.are;
-        in_place = run.in_place;
-        few = run.few;
-        from = run.from;
-        goes = run.goes;
-        fair = fairly.fair;
-        explained = fairly.explained;
-        carried = All-append (IsCarried false) run.earlier (run.last ∷ []) run.carried (last, tt);
-        last_carried = tt;
-        made = run.made;
-        dialled = run.dialled;
-        each_told = run.each_told;
-        faults = run.faults;
-        written = all-written before.written after.written _ wrote.0;
-        write_faults = wrote.1;
-      };
+      calls = calls;
+      earlier = calls;
+      cut_short = None;
+      calls_are = sym (append-nil calls);
+      are = run.are;
+      in_place = run.in_place;
+      few = run.few;
+      from = run.from;
+      goes = run.goes;
+      fair = from.run.fair;
+      explained = from.run.explained;
+      carried = All-append (IsCarried false) run.earlier (run.last ∷ []) run.carried (last, tt);
+      last_carried = tt;
+      made = run.made;
+      dialled = run.dialled;
+      each_told = run.each_told;
+      faults = run.faults;
+      written = all-written before.written after.written _ wrote.0;
+      write_faults = wrote.1;
     }
+
+pub ended_in_part : (id : ℕ) (address : List ℕ) (schema : List Table) (limits : Limits) (keeps says : Bool) (plan : Plan Task Answer) (ended : Ending) (old new : Linking) (before after : Writing) → is_unwritten ended ≡ false
+    → RanNew id address schema limits keeps says plan ended old new before after → RanNewInPart id address schema limits keeps says plan old new before after
+ended_in_part id address schema limits keeps says plan ended old new before after each run =
+    record { begins = run.begins; ran = run_in_part (new_end id schema limits keeps says) run.left new_past address plan ended old new before after each run.ran }
 
 -- a new client can draw enough numbers for so many jobs
 pub new_room : (id : ℕ) (schema : List Table) (limits : Limits) (jobs : ℕ) → jobs < 2 ^ 40 → 4000004 * (jobs + 1) ≤ room_of (new_client id schema limits)

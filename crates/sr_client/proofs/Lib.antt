@@ -48,6 +48,6 @@ mod SettleLemmas
 pub mod ShortLemmas
 mod StartLemmas
 pub mod SuitLemmas
-mod TableLemmas
+pub mod TableLemmas
 mod ToldLemmas
 mod WriteLemmas

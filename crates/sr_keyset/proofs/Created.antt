@@ -72,13 +72,13 @@ created-is-schema clients lines all creates = by-lines clients [] lines all (rec
 within-or : (versions : List Tables) (v : ℕ) → (v < length versions) ⊎ (version_at versions v ≡ [])
 within-or [] v = inr refl
 within-or (tables ∷ versions) zero = inl (omega arith)
-within-or (tables ∷ versions) (suc v) = elim within-or versions v [
+within-or (tables ∷ versions) (suc v) = elim (within-or versions v) [
   | inl before ↦ inl (omega (arith, before))
   | inr none ↦ inr none
 ]
 
 pub versions-fit : (db : Database) → IsSound db → (version : ℕ) → TheyFit db.schema (tables_of db version)
-versions-fit db sound version t = elim within-or db.versions version [
+versions-fit db sound version t = elim (within-or db.versions version) [
   | inl before ↦ sound.fits version (omega (arith, before)) t
   | inr none ↦ subst (λ (tables : Tables). list_all (fits_columns (table_at db.schema t).columns) (rows_at tables t) ≡ true) (sym none) refl
 ]

@@ -18,7 +18,7 @@ use Rattle.sr_links.specs.Answers.{AreTrueSteps}
 use Rattle.sr_links.specs.Steps.{Queried, Resumed}
 use Rattle.sr_model.specs.Queries.{Query, rows_of}
 use Rattle.sr_plan.specs.Laws.{tasks_done}
-use Rattle.sr_plan.specs.Plans.{AllTasks, AllTasksIf, Did, GoBy, Next, Plan, begun}
+use Rattle.sr_plan.specs.Plans.{AllTasks, AllTasksIf, Did, GoBy, Next, begun}
 use Rattle.sr_policy.specs.declared.policy.Limits.{Limits}
 use Rattle.sr_semi.specs.Answers.{IsSchema, TheyFit}
 use Rattle.sr_session.specs.Clients.{Client}
@@ -44,14 +44,10 @@ abbrev pub queries_of : ℕ → List (ℕ × Task) → ℕ
 queries_of n [] = 0
 queries_of n (t ∷ ts) = (if t.0 == n then one_if (is_query_task t.1) else 0) + queries_of n ts
 
--- what a run does: it resumes, and then does what the script asks
-abbrev pub run_plan : List Table → Said → List ℕ → Plan Task Answer
-run_plan schema said script = Next 0 (Do Resumed) (λ answer. key_set_plan schema said (words_in script))
-
--- For no line more than four are run.
+-- A run resumes, and then does what the files ask: for no line more than four are run.
 abbrev pub FewQueries : Type 0
-FewQueries = (schema : List Table) (said : Said) (script : List ℕ) (ds : List (Did Task Answer)) (n : ℕ)
-    → GoBy (begun (run_plan schema said script)) ds → queries_of n (tasks_done ds) ≤ 4
+FewQueries = (id : ℕ) (schema script : List ℕ) (tables : List Table) (ahead : Ahead) (ds : List (Did Task Answer)) (n : ℕ)
+    → AsksKeySets id schema script tables ahead → GoBy (begun (Next 0 (Do Resumed) ahead)) ds → queries_of n (tasks_done ds) ≤ 4
 
 -- ---- what is written
 

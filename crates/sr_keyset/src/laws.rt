@@ -11,7 +11,7 @@ pub fn files_ask_for_none()
     ensures { FilesAskForNone }
 {}
 
-/// For no line of a script more than four queries are run.
+/// For no line of a script more than four queries are run, in any run of its files.
 pub fn few_queries()
     ensures { FewQueries }
 {}

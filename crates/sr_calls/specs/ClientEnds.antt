@@ -17,6 +17,7 @@ use Rattle.sr_links.specs.Steps.{Deed}
 use Rattle.sr_dial.specs.Known.{Makes, Setting, TakesAs, Tells}
 use Rattle.sr_dial.specs.declared.parts.Answer.{Answer}
 use Rattle.sr_world.specs.declared.lines.Told as lines
+use Rattle.sr_calls.specs.Short.{HoldsShort}
 use Rattle.sr_calls.specs.declared.calls.Done.{Done}
 use Rattle.sr_calls.specs.declared.calls.Taken.{Taken}
 
@@ -30,9 +31,9 @@ pub record End : Type 0 where
 abbrev pub end_with : Bool → Bool → Client → Option Answer → End
 end_with keeps says client answer = record { client = client; keeps = keeps; says = says; answer = answer }
 
--- It stands for some past, and the format has its number and its limits.
+-- It stands for some past, the format has its number and its limits, and it holds short texts alone.
 abbrev pub IsReady : Client → Type 0
-IsReady c = client.Stands c × IsOfFormat c
+IsReady c = client.Stands c × IsOfFormat c × HoldsShort c
 
 -- on any link
 abbrev pub Stands : End → session.Client → Type 0

@@ -36,3 +36,8 @@ pub record RanNew (id : ℕ) (address : List ℕ) (schema : List Table) (limits 
   pub begins : (tables : Tables) → IsEnd schema (new_end id schema limits keeps says) new_past tables
   pub left : End
   pub ran : RanFrom (new_end id schema limits keeps says) new_past address plan ended old new before after left
+
+-- Out of memory: the same, broken off. What was sent and written begins what the rules give.
+pub record RanNewInPart (id : ℕ) (address : List ℕ) (schema : List Table) (limits : Limits) (keeps says : Bool) (plan : Plan Task Answer) (old new : Linking) (before after : Writing) : Type 0 where
+  pub begins : (tables : Tables) → IsEnd schema (new_end id schema limits keeps says) new_past tables
+  pub ran : RanOff (new_end id schema limits keeps says) new_past address plan old new before after

@@ -425,8 +425,8 @@ module _ {C : Type 0} (IsOf : Standing C) (keys : AsksKeys IsOf) (limits : Limit
       let more = later (λ is_rest. runs talks pieces here (code_after code (steps_in talk)) (past_after c (steps_in talk)) come.some sound tables is_rest others (ruled-back c (steps_in talk) (steps_of talks) ruled) honest) ends in
       record {
         lawful = lawful-append all c (steps_in talk) (steps_of talks) (lawful-on here.database all rests_of.grows c (steps_in talk) one.lawful) more.lawful;
-        few = λ (limit, rows, asks). lay-append c (steps_in talk) (steps_of talks) (one.few (limit, rows, few-front (steps_in talk) (steps_of talks) asks))
-            (more.few (subst (λ n. n ≤ 500000) (sym (after-log s piece)) limit, rows, few-back (steps_in talk) (steps_of talks) asks));
+        few = λ is_small. lay-append c (steps_in talk) (steps_of talks) (one.few (is_small.0, is_small.1, few-front (steps_in talk) (steps_of talks) is_small.2))
+            (more.few (subst (λ n. n ≤ 500000) (sym (after-log s piece)) is_small.0, is_small.1, few-back (steps_in talk) (steps_of talks) is_small.2));
       }
     where
       here : Server

@@ -75,7 +75,7 @@ answer-lays : (b : Basis) (a : Answering) (c : Client) (marks : List Mark) (new 
 answer-lays b a c marks new (renewed ms renews) = refl
 answer-lays b a c marks new (given_up ms gives) = refl
 
-answer-frees : (b : Basis) (a : Answering) (c : Client) (marks : List Mark) (new : Client) → AnswerStep b a c marks new → new.out ≡ None
+pub answer-frees : (b : Basis) (a : Answering) (c : Client) (marks : List Mark) (new : Client) → AnswerStep b a c marks new → new.out ≡ None
 answer-frees b a c marks new (renewed ms renews) = refl
 answer-frees b a c marks new (given_up ms gives) = refl
 

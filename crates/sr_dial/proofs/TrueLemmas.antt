@@ -35,14 +35,14 @@ use Rattle.sr_talk.proofs.TalkLemmas.{spelled-append}
 use Rattle.sr_plan.specs.Plans.{begun, left}
 use Rattle.sr_plan.proofs.Going.{are-of}
 use Rattle.sr_dial.specs.Following.{dids_of, stage_by}
-use Rattle.sr_dial.specs.Honest.{AreExplained, BrokenRunsGoByTold, HonestRunsAreShort, HonestRunsAreTrue, IsAskedFor, IsHonest, NamesVersion, NeverFall, RunsGoByTold, came_over}
+use Rattle.sr_dial.specs.Honest.{AreExplained, AsksFew, BrokenRunsGoByTold, HonestRunsAreShort, HonestRunsAreTrue, IsAskedFor, IsHonest, NamesVersion, NeverFall, RunsGoByTold, came_over}
 use Rattle.sr_dial.specs.Runs.{EndsBy, IsRefused, left_by, none_taken, taken_after}
 use Rattle.sr_dial.specs.Statuses.{status_of}
 use Rattle.sr_dial.specs.declared.ending.Ending.{Ending}
 use Rattle.sr_dial.specs.declared.ending.Ending.TheVariants as ending
 use Rattle.sr_dial.proofs.CourseLemmas.{all-step, given-step, requests-step, with_step}
 use Rattle.sr_dial.proofs.HonestLemmas.{AreHeard, are-heard, are-honest, are-talks, heard-append, never-spoiled, talk-steps}
-use Rattle.sr_dial.proofs.LimitLemmas.{taken-few}
+use Rattle.sr_dial.proofs.LimitLemmas.{ask-few, none-out, taken-few}
 use Rattle.sr_dial.proofs.ListLemmas.{fair-append, on-append, steps-append}
 
 -- ---- versions never fall
@@ -284,9 +284,13 @@ honest-runs-are-short {C} IsOf Has k s pieces code c address plan ended old new 
     ruled : AreRuled c (steps_in (all_done (run.ran.earlier ++ run.ran.last ∷ [])))
     ruled = (steps-go-by-told Has k.limits k.schema code c (steps_in (all_done (run.ran.earlier ++ run.ran.last ∷ []))) told has run.lawful).1
 
+    asks-few : AskFew (steps_in (all_done (run.ran.earlier ++ run.ran.last ∷ [])))
+    asks-few = ask-few k.keeps k.schema 0 c (all_done (run.ran.earlier ++ run.ran.last ∷ [])) run.ran.in_place ruled
+        (are-of AsksFew (begun plan) (dids_of k.keeps (all_done (run.ran.earlier ++ run.ran.last ∷ []))) (λ answer. asks) run.ran.goes) (none-out c rests.out)
+
     few : (taken_after none_taken (all_done (run.ran.earlier ++ run.ran.last ∷ []))).taken ≤ 501026
     few = taken-few k.schema c (all_done (run.ran.earlier ++ run.ran.last ∷ [])) run.ran.in_place ruled
-        (few-laid IsOf keys k.limits k.schema tables s pieces code c rests (run.ran.earlier ++ run.ran.last ∷ []) h run.ran.are heard fair limit rows asks ruled)
+        (few-laid IsOf keys k.limits k.schema tables s pieces code c rests (run.ran.earlier ++ run.ran.last ∷ []) h run.ran.are heard fair limit rows asks-few ruled)
 
     by : (ended : Ending) → EndsBy ended k.schema (run.ran.earlier ++ run.ran.last ∷ []) (left_by c (run.ran.earlier ++ run.ran.last ∷ [])) run.ran.last.left (left (stage_by k.keeps plan (all_done (run.ran.earlier ++ run.ran.last ∷ [])))) → status_of ended ≢ 11
     by ending.Whole ends is = absurd (let wrong : 0 ≡ 11 = is in omega (arith, wrong))

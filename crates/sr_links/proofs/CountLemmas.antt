@@ -1,9 +1,9 @@
 -- How many messages a server answers one frame with.
-use Rattle.std.proofs.Common.{◌≡◌, ℕ, zero, suc, ◌+◌, ◌-◌, ◌<◌, ◌≤◌, Bool, true, false, List, [], ◌∷◌, ◌++◌, length, map, drop, take, refl, sym, ◌∙◌, ap, subst, arith, Option, Some, None, append_assoc, length-append, length-drop}
+use Rattle.std.proofs.Common.{◌≡◌, ℕ, zero, suc, ◌+◌, ◌-◌, ◌<◌, ◌≤◌, Bool, true, false, List, [], ◌∷◌, ◌++◌, cond, length, map, drop, refl, sym, ◌∙◌, ap, subst, arith, Option, Some, None, append_assoc, length-append, length-drop}
 use Rattle.std.specs.Prelude.{◌*◌, ◌&&◌, ◌==◌, not, nat_lt, nat_le, filter, Result, Ok, Err}
 use Rattle.std.specs.List.{list_all}
 use Rattle.std.proofs.lemmas.Bool.Decides.{nat_tests}
-use Rattle.std.proofs.lemmas.List.Sums.{count_by-le-length, length-filter}
+use Rattle.std.proofs.lemmas.List.Sums.{count_by-le-length, length-filter, sum_by-cons}
 use Rattle.sr_cell.specs.declared.change.Change.{Change}
 use Rattle.sr_cell.specs.declared.fault.Fault.{Fault}
 use Rattle.sr_cell.specs.declared.table.Table.{Table}
@@ -100,7 +100,7 @@ sum-split : (schema : List Table) (versions : List Tables) (v : ℕ) → suc v <
     → total (drop v (all_changes schema versions)) ≡ length (changes schema (version_at versions v) (version_at versions (suc v))) + total (drop (suc v) (all_changes schema versions))
 sum-split schema [] v below = absurd (omega (arith, below))
 sum-split schema (old ∷ []) v below = absurd (omega (arith, below))
-sum-split schema (old ∷ new ∷ versions) zero below = refl
+sum-split schema (old ∷ new ∷ versions) zero below = sum_by-cons length (changes schema old new) (all_changes schema (new ∷ versions))
 sum-split schema (old ∷ new ∷ versions) (suc v) below = sum-split schema (new ∷ versions) v (omega (arith, below))
 
 -- no more notices than there are changes behind the version
@@ -120,15 +120,12 @@ notices-few db subs (suc n) v within =
 
 -- fewer changes are behind a later version
 drop-fewer : (all : List (List Change)) (u v : ℕ) → u ≤ v → total (drop v all) ≤ total (drop u all)
-drop-fewer [] zero v le = subst (λ xs. total xs ≤ 0) (sym (drop-none v)) (omega arith)
-  where
-    drop-none : (v : ℕ) → drop v [] ≡ []
-    drop-none zero = refl
-    drop-none (suc v) = refl
+drop-fewer [] zero zero le = omega arith
+drop-fewer [] zero (suc v) le = omega arith
 drop-fewer [] (suc u) zero le = absurd (omega (arith, le))
 drop-fewer [] (suc u) (suc v) le = omega arith
 drop-fewer (x ∷ all) zero zero le = omega arith
-drop-fewer (x ∷ all) zero (suc v) le = let ih = drop-fewer all zero v (omega arith) in omega (arith, ih)
+drop-fewer (x ∷ all) zero (suc v) le = let ih = drop-fewer all zero v (omega arith) in omega (arith, ih, sum_by-cons length x all)
 drop-fewer (x ∷ all) (suc u) zero le = absurd (omega (arith, le))
 drop-fewer (x ∷ all) (suc u) (suc v) le = drop-fewer all u v (omega (arith, le))
 
@@ -154,7 +151,7 @@ kept-few db subs v reaches = by (nat_le v (newest db)) refl
 
 none-touches : (subs : List Holding) (c : Change) → list_all (λ h. is_nothing h.rects) subs ≡ true → touches subs c ≡ false
 none-touches [] c all = refl
-none-touches (h ∷ subs) c all = by h.rects refl
+none-touches (h ∷ subs) c all = by h.rects refl (none-touches subs c)
   where
     none : (row : Option Row) → has_row [] row ≡ false
     none None = refl
@@ -164,13 +161,13 @@ none-touches (h ∷ subs) c all = by h.rects refl
     never true = refl
     never false = refl
 
-    by : (rects : List Rect) → h.rects ≡ rects → touches (h ∷ subs) c ≡ false
-    by [] is =
-        let rest : touches subs c ≡ false = none-touches subs c (let both : (is_nothing h.rects && list_all (λ h. is_nothing h.rects) subs) ≡ true = all in grind (arith, both)) in
+    by : (rects : List Rect) → h.rects ≡ rects → (list_all (λ h. is_nothing h.rects) subs ≡ true → touches subs c ≡ false) → touches (h ∷ subs) c ≡ false
+    by [] is ih =
+        let rest : touches subs c ≡ false = ih (let both : (is_nothing h.rects && list_all (λ h. is_nothing h.rects) subs) ≡ true = all in grind (arith, both)) in
         let before : has_row h.rects c.before ≡ false = ap (λ rs. has_row rs c.before) is ∙ none c.before in
         let after : has_row h.rects c.after ≡ false = ap (λ rs. has_row rs c.after) is ∙ none c.after in
         rw (before, after, never (h.table == c.table), rest) refl
-    by (r ∷ rects) is = absurd (let wrong : (is_nothing (r ∷ rects) && list_all (λ h. is_nothing h.rects) subs) ≡ true = ap (λ rs. is_nothing rs && list_all (λ h. is_nothing h.rects) subs) (sym is) ∙ all in cc)
+    by (r ∷ rects) is ih = absurd (let wrong : (is_nothing (r ∷ rects) && list_all (λ h. is_nothing h.rects) subs) ≡ true = ap (λ rs. is_nothing rs && list_all (λ h. is_nothing h.rects) subs) (sym is) ∙ all in cc)
 
 none-told : (subs : List Holding) (cs : List Change) → list_all (λ h. is_nothing h.rects) subs ≡ true → filter (touches subs) cs ≡ []
 none-told subs [] all = refl

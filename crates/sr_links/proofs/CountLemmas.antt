@@ -21,7 +21,7 @@ use Rattle.sr_message.specs.Tells.{tell_of}
 use Rattle.sr_model.specs.Changes.{changes, changes_at, version_at}
 use Rattle.sr_model.specs.Queries.{rows_at}
 use Rattle.sr_model.specs.Statements.{Tables}
-use Rattle.sr_log.specs.Kept.{total, floor, kept}
+use Rattle.sr_log.specs.Kept.{total, kept}
 use Rattle.sr_log.proofs.Least.{kept-fits}
 use Rattle.sr_subs.specs.Subscription.{touches}
 use Rattle.sr_session.specs.Scenes.{taken}

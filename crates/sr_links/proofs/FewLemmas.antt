@@ -1,17 +1,15 @@
 -- Few messages wait for a client: no more than a server answers one frame with.
-use Rattle.std.proofs.Common.{◌≡◌, ℕ, ◌+◌, ◌≤◌, true, List, [], ◌∷◌, ◌++◌, length, refl, sym, ◌∙◌, ap, subst, arith, inl, inr, Option, Some, None, append-nil, length-append, Ok, Err}
+use Rattle.std.proofs.Common.{◌≡◌, ℕ, ◌+◌, ◌≤◌, true, List, [], ◌∷◌, ◌++◌, length, refl, sym, ◌∙◌, ap, subst, arith, inl, inr, Option, Some, None, append-nil, length-append}
 use Rattle.std.specs.Prelude.{◌≢◌, ◌⊎◌, Result}
 use Rattle.sr_cell.specs.declared.fault.Fault.{Fault}
 use Rattle.sr_history.specs.declared.mark.Mark.{Mark}
 use Rattle.sr_message.specs.declared.message.Message.{Message}
-use Rattle.sr_message.specs.declared.message.Message.TheVariants.{Reply, Written, Refused, Welcome}
 use Rattle.sr_model.specs.Queries.{Query}
 use Rattle.sr_model.specs.Statements.{Tables}
-use Rattle.sr_policy.specs.declared.policy.Limits.{Limits}
-use Rattle.sr_session.specs.Clients.{Client, Connection, Flows, IsDown, Stands, is_down, is_idle, is_open, is_resuming, is_sent, is_served}
-use Rattle.sr_session.specs.Rules.{Answering, AnswerStep, renewed, given_up, Basis, Before, as_it_is, emptied, Outcome, sends, sent_of, QueryStep, query_refused, query_busy, query_answered, query_down, query_asks, answering_now, answering_then, TakeStep, lays, applies, forgets, answers, asks_once_more, written, refused_write, is_welcomed, EvictStep, evict_busy, evicts_none, evicts, WriteStep, write_busy, write_down, write_sends, CutStep, already_cut, cuts, ResumeStep, already_up, resumes}
+use Rattle.sr_session.specs.Clients.{Client, Connection, Flows, Stands, is_down, is_idle, is_open, is_resuming, is_sent, is_served}
+use Rattle.sr_session.specs.Rules.{Answering, AnswerStep, renewed, given_up, Basis, Before, as_it_is, emptied, Outcome, sends, sent_of, QueryStep, query_refused, query_busy, query_answered, query_down, query_asks, TakeStep, lays, applies, forgets, answers, asks_once_more, written, refused_write, is_welcomed, EvictStep, evict_busy, evicts_none, evicts, WriteStep, write_busy, write_down, write_sends, CutStep, already_cut, cuts, already_up, resumes}
 use Rattle.sr_session.specs.Scenes.{taken}
-use Rattle.sr_session.specs.Sessions.{Database, Session}
+use Rattle.sr_session.specs.Sessions.{Database}
 use Rattle.sr_session.specs.Walks.{Request, IsLaid}
 use Rattle.sr_links.specs.Steps.{Deed, Queried, Wrote, Evicted, Took, WasCut, Resumed, too_long, writes, Does}
 use Rattle.sr_links.proofs.CountLemmas.{AreLaidFirst, IsShortAnswer, laid-tail, last-alone}

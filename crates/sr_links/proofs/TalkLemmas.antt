@@ -20,7 +20,7 @@ use Rattle.sr_links.specs.Counts.{LaysFew, LayFew}
 use Rattle.sr_links.specs.Honest.{Server, Input, Version, Frame, CutOff, Answer, answer, server_after, sent_for, frames_of, has_cut, IsPrefix, Explains, Rests, Talk, IsTalk, steps_in}
 use Rattle.sr_links.specs.Steps.{Deed, Queried, Wrote, Evicted, Took, WasCut, Resumed, Does, Standing, Step, ComesIf, ComesTruly, AreFair, AreAwaited, OnOne, taken_by, given_of, requests_of, past_after, code_after}
 use Rattle.sr_links.proofs.CountLemmas.{AreShortAnswers}
-use Rattle.sr_links.proofs.FewLemmas.{IsFew, cut-few, first-few, one-of-few, quiet-few, server-few, take-few}
+use Rattle.sr_links.proofs.FewLemmas.{IsFew, first-few, one-of-few, quiet-few, server-few, take-few}
 use Rattle.sr_links.proofs.DatabaseLemmas.{Grows, More, grows-still, grows-on, answer-more, after-more, sound-before}
 use Rattle.sr_links.proofs.PairLemmas.{pair, at, nothing, IsQuiet, version-keeps, quiet-keeps, take-keeps, cut-keeps, server-keeps, never-idle, opens, is-down}
 use Rattle.sr_links.proofs.RuleLemmas.{StaysMute, mute-step}

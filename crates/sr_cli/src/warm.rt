@@ -5,6 +5,7 @@ ghost use Rattle.sr_calls.specs.ClientEnds.{room_of};
 ghost use Rattle.sr_client.specs.Stands.{StandsFor};
 ghost use Rattle.sr_dial.specs.Following.{Ahead};
 ghost use Rattle.sr_dial.specs.declared.ending.Ending.TheVariants.{Whole};
+ghost use Rattle.sr_image.specs.Found.{Answers};
 ghost use Rattle.sr_image.specs.Laws.{is_image};
 ghost use Rattle.sr_image.specs.Reading.{image_in};
 ghost use Rattle.sr_query.specs.Bound.{is_table};
@@ -129,7 +130,7 @@ fn warm_read<H: Host>(
         Ok(set_up) => set_up,
         Err(no) => return Err(WarmStop::Stopped(stop_of(no))),
     };
-    let image = match read_image(alloc, &schema, read.image.as_slice()) {
+    let image = match image_over(alloc, &schema, read.image.as_slice()) {
         Ok(image) => image,
         Err(No::NoMemory) => return Err(WarmStop::Stopped(Stop::Refused(Refusal::Memory))),
         Err(No::Refused(fault)) => return Err(WarmStop::NoImage(fault)),
@@ -139,6 +140,14 @@ fn warm_read<H: Host>(
         Ok(()) => Ok(()),
         Err(stop) => Err(WarmStop::Stopped(stop)),
     }
+}
+
+/// The image that the bytes are over these tables.
+fn image_over(alloc: Global, schema: &Schema, bytes: &[u8]) -> Result<Image, No<ImageFault>>
+    ensures is { Answers result (image_in schema.now bytes.now) }
+    ensures whole { IfOk result (λ image. IsTrue (is_image schema.now image)) }
+{
+    read_image(alloc, schema, bytes)
 }
 
 /// Runs a plan over these tables as a client that starts from an image.

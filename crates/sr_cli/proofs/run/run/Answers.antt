@@ -93,7 +93,7 @@ returns-in-Ok-Generate-clause-words g c =
 pub returns-in-Ok-Client-clause-words : goal.returns-in-Ok-Client-clause-words
 returns-in-Ok-Client-clause-words g c =
     let only = c.run_client.ensures.dials.only in
-    fits-asked _ g.H.Outside.reading g.H.Outside.writing g.H.Outside.linking c.args.host.now c.run_client.new.host c.args.words.now c.run_client.result _ c.in-Ok-Client.ensures.said (λ is. omega (arith, only, is)) (λ is. inr (c.in-Ok-Client.words, c.in-Ok-Client.ensures.said ∙ ap Some c.in-Ok-Client.field-0-is))
+    fits-asked _ g.H.Outside.reading g.H.Outside.writing g.H.Outside.linking c.args.host.now c.run_client.new.host c.args.words.now c.run_client.result _ c.in-Ok-Client.ensures.said (λ is. omega (arith, only, is)) (λ is. inr (inl (c.in-Ok-Client.words, c.in-Ok-Client.ensures.said ∙ ap Some c.in-Ok-Client.field-0-is)))
 
 pub returns-in-Err-NotInForm-clause-words : goal.returns-in-Err-NotInForm-clause-words
 returns-in-Err-NotInForm-clause-words g c =

@@ -111,8 +111,14 @@ impl ClientEnd {
         ensures stands { IfOk result (λ start. StandsFor (start_past schema.now image.version image.kept start.marks) start.end.client) }
     {
         let own = schema.copy(alloc)?;
-        let ClientStart { client, marks } =
-            Client::of(alloc, id, own, limits, image.version, image.kept)?;
+        let ClientStart { client, marks } = Client::of(
+            alloc,
+            id,
+            own,
+            limits,
+            image.version,
+            image.kept,
+        )?;
         Ok(EndStart {
             end: ClientEnd::new(client, keeps, says),
             marks,

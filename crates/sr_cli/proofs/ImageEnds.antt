@@ -17,7 +17,7 @@ use Rattle.sr_cli.specs.declared.report.Refusal.{Refusal}
 use Rattle.sr_cli.specs.declared.stop.Stop.TheVariants.{Refused}
 use Rattle.sr_cli.specs.declared.warm.WarmStop.TheVariants.{Stopped}
 use Rattle.sr_cli.proofs.ImageLemmas.{comes-bad, comes-limit, comes-other, comes-refused, comes-spoiled, comes-wanting, comes-whole, refused-end, saved-off, warmed-off}
-use Rattle.sr_cli.proofs.LeavesLemmas.{named-nothing}
+use Rattle.sr_cli.proofs.LeavesLemmas.{HasName, named-nothing}
 
 pub frames-end : (status : ℕ) → (status ≡ 8) ⊎ (status ≡ 9) → IsEnd status
 frames-end status (inl is) = inr (inr (inr (inr (inr (inr (inl is))))))
@@ -53,7 +53,7 @@ module _ (H : Type 0) (held : H → List ℕ → Option (List ℕ)) (reading : H
     Ends old new status = SavesOver H held reading writing linking complaints old new words status
 
     pub saves-whole : (old new : H) → complaints new ≡ complaints old → Saved (held old) words (linking old) (linking new) (writing old) (writing new) Whole → Ends old new 0
-    saves-whole old new silent saved = record { only = inl refl; comes = comes-whole (held old) words _ _ _ _ (complaints old) (complaints new) saved }
+    saves-whole old new silent saved = record { only = inl refl; comes = comes-whole (held old) words (Saved (held old) words (linking old) (linking new) (writing old) (writing new)) (SavedInPart (held old) words (linking old) (linking new) (writing old) (writing new)) (SavedOff (held old) words (linking old) (linking new) (writing old) (writing new)) (SomeTooLong (held old) (reading new).left (files_of words)) (complaints old) (complaints new) saved }
 
     module _ (old mid new : H) (silent : complaints mid ≡ complaints old) (stays : OnlyComplains H reading writing linking held IsSteady mid new) where
       ends : (status : ℕ) → IsEnd status → SavesBy (held old) words (reading mid) (linking old) (linking mid) (writing old) (writing mid) (complaints old) (complaints new) status → Ends old new status
@@ -65,25 +65,38 @@ module _ (H : Type 0) (held : H → List ℕ → Option (List ℕ)) (reading : H
       pub saves-spoiled : (status : ℕ) (fault : WireFault) → Names 8 (spoiled_text fault) status (complaints mid) (complaints new) → Saved (held old) words (linking old) (linking mid) (writing old) (writing mid) (Spoiled fault) → Ends old new status
       saves-spoiled status fault named saved =
           ends status (frames-end status (named-status (spoiled_text fault) status (complaints mid) (complaints new) named))
-          (comes-spoiled (held old) words _ _ _ _ (complaints old) (complaints mid) (complaints new) silent status fault named saved
+          (comes-spoiled (held old) words (Saved (held old) words (linking old) (linking mid) (writing old) (writing mid)) (SavedInPart (held old) words (linking old) (linking mid) (writing old) (writing mid))
+          (SavedOff (held old) words (linking old) (linking mid) (writing old) (writing mid)) (SomeTooLong (held old) (reading mid).left (files_of words)) (complaints old) (complaints mid) (complaints new) silent status fault named saved
           (saved-off (held old) words (linking old) (linking mid) (writing old) (writing mid) (Spoiled fault) refl refl saved))
 
       pub saves-bad : (status : ℕ) (why : BadFrame) → status ≡ 8 → complaints new ≡ complained (bad_text why) (complaints mid) → Saved (held old) words (linking old) (linking mid) (writing old) (writing mid) (BadMessage why) → Ends old new status
       saves-bad status why is said saved =
-          ends status (frames-end status (inl is)) (comes-bad (held old) words _ _ _ _ (complaints old) (complaints mid) (complaints new) silent status why is said saved)
+          ends status (frames-end status (inl is)) (comes-bad (held old) words (Saved (held old) words (linking old) (linking mid) (writing old) (writing mid)) (SavedInPart (held old) words (linking old) (linking mid) (writing old) (writing mid))
+          (SavedOff (held old) words (linking old) (linking mid) (writing old) (writing mid)) (SomeTooLong (held old) (reading mid).left (files_of words)) (complaints old) (complaints mid) (complaints new) silent status why is said saved)
 
       pub saves-limit : (status : ℕ) → status ≡ 11 → Saved (held old) words (linking old) (linking mid) (writing old) (writing mid) TooMany → Ends old new status
       saves-limit status is saved =
-          ends status (inr (inr (inr (inr (inr (inr (inr (inr (inr is))))))))) (comes-limit (held old) words _ _ _ _ (complaints old) (complaints mid) (complaints new) silent status is saved)
+          ends status (inr (inr (inr (inr (inr (inr (inr (inr (inr is))))))))) (comes-limit (held old) words (Saved (held old) words (linking old) (linking mid) (writing old) (writing mid)) (SavedInPart (held old) words (linking old) (linking mid) (writing old) (writing mid))
+          (SavedOff (held old) words (linking old) (linking mid) (writing old) (writing mid)) (SomeTooLong (held old) (reading mid).left (files_of words)) (complaints old) (complaints mid) (complaints new) silent status is saved)
+
+      -- what has a name did nothing
+      nothing : (refusal : Refusal) (status : ℕ) → Reported refusal status (complaints mid) (complaints new) → Counts H reading writing linking old mid (Err refusal) → HasName refusal
+          → SavedOff (held old) words (linking old) (linking mid) (writing old) (writing mid)
+      nothing refusal status reported counts named =
+          let none = named-nothing H held reading writing linking complaints IsSteady old mid new refusal status reported counts named in
+          inl (record { linking = none.linking_stays; writing = none.writing_stays })
 
       pub saves-refused : (refusal : Refusal) (status : ℕ) → Reported refusal status (complaints mid) (complaints new) → Counts H reading writing linking old mid (Err refusal)
           → SaveStopsOver (held old) words (reading mid).left (linking old) (linking mid) (writing old) (writing mid) (Refused refusal) → Ends old new status
       saves-refused refusal status reported counts why =
-          let nothing = λ named. (let none = named-nothing H held reading writing linking complaints IsSteady old mid new refusal status reported counts named in inl (record { linking = none.linking_stays; writing = none.writing_stays })) in
-          ends status (refused-end (held old) words (Saved (held old) words (linking old) (linking mid) (writing old) (writing mid)) (SavedInPart (held old) words (linking old) (linking mid) (writing old) (writing mid))
-          (SavedOff (held old) words (linking old) (linking mid) (writing old) (writing mid)) (SomeTooLong (held old) (reading mid).left (files_of words)) (complaints old) (complaints mid) (complaints new) silent refusal status reported why nothing)
+          ends status
+          (refused-end (held old) words (Saved (held old) words (linking old) (linking mid) (writing old) (writing mid)) (SavedInPart (held old) words (linking old) (linking mid) (writing old) (writing mid))
+          (SavedOff (held old) words (linking old) (linking mid) (writing old) (writing mid)) (SomeTooLong (held old) (reading mid).left (files_of words))
+          (complaints old) (complaints mid) (complaints new) silent refusal status reported why (nothing refusal status reported counts))
           (comes-refused (held old) words (Saved (held old) words (linking old) (linking mid) (writing old) (writing mid)) (SavedInPart (held old) words (linking old) (linking mid) (writing old) (writing mid))
-          (SavedOff (held old) words (linking old) (linking mid) (writing old) (writing mid)) (SomeTooLong (held old) (reading mid).left (files_of words)) (complaints old) (complaints mid) (complaints new) silent refusal status reported why nothing)
+          (SavedOff (held old) words (linking old) (linking mid) (writing old) (writing mid)) (SomeTooLong (held old) (reading mid).left (files_of words))
+          (complaints old) (complaints mid) (complaints new) silent refusal status reported why (nothing refusal status reported counts))
+
 
   -- ---- `warm`
 
@@ -92,7 +105,7 @@ module _ (H : Type 0) (held : H → List ℕ → Option (List ℕ)) (reading : H
     WarmEnds old new status = WarmsOver H held reading writing linking complaints old new words status
 
     pub warms-whole : (old new : H) → complaints new ≡ complaints old → Warmed (held old) words (linking old) (linking new) (writing old) (writing new) Whole → WarmEnds old new 0
-    warms-whole old new silent warmed = record { only = inl (inl refl); no_image = λ is. absurd (omega (arith, is)); comes = comes-whole (held old) words.client _ _ _ _ (complaints old) (complaints new) warmed }
+    warms-whole old new silent warmed = record { only = inl (inl refl); no_image = λ is. absurd (omega (arith, is)); comes = comes-whole (held old) words.client (Warmed (held old) words (linking old) (linking new) (writing old) (writing new)) (WarmedInPart (held old) words (linking old) (linking new) (writing old) (writing new)) (WarmedOff (held old) words (linking old) (linking new) (writing old) (writing new)) (SomeTooLong (held old) (reading new).left (names_of words)) (complaints old) (complaints new) warmed }
 
     module _ (old mid new : H) (silent : complaints mid ≡ complaints old) (stays : OnlyComplains H reading writing linking held IsSteady mid new) where
       ends : (status : ℕ) → IsEnd status → WarmsBy (held old) words (reading mid) (linking old) (linking mid) (writing old) (writing mid) (complaints old) (complaints new) status → WarmEnds old new status
@@ -105,31 +118,44 @@ module _ (H : Type 0) (held : H → List ℕ → Option (List ℕ)) (reading : H
       pub warms-spoiled : (status : ℕ) (fault : WireFault) → Names 8 (spoiled_text fault) status (complaints mid) (complaints new) → Warmed (held old) words (linking old) (linking mid) (writing old) (writing mid) (Spoiled fault) → WarmEnds old new status
       warms-spoiled status fault named warmed =
           ends status (frames-end status (named-status (spoiled_text fault) status (complaints mid) (complaints new) named))
-          (comes-spoiled (held old) words.client _ _ _ _ (complaints old) (complaints mid) (complaints new) silent status fault named warmed
+          (comes-spoiled (held old) words.client (Warmed (held old) words (linking old) (linking mid) (writing old) (writing mid)) (WarmedInPart (held old) words (linking old) (linking mid) (writing old) (writing mid))
+          (WarmedOff (held old) words (linking old) (linking mid) (writing old) (writing mid)) (SomeTooLong (held old) (reading mid).left (names_of words)) (complaints old) (complaints mid) (complaints new) silent status fault named warmed
           (warmed-off (held old) words (linking old) (linking mid) (writing old) (writing mid) (Spoiled fault) refl warmed))
 
       pub warms-bad : (status : ℕ) (why : BadFrame) → status ≡ 8 → complaints new ≡ complained (bad_text why) (complaints mid) → Warmed (held old) words (linking old) (linking mid) (writing old) (writing mid) (BadMessage why) → WarmEnds old new status
       warms-bad status why is said warmed =
-          ends status (frames-end status (inl is)) (comes-bad (held old) words.client _ _ _ _ (complaints old) (complaints mid) (complaints new) silent status why is said warmed)
+          ends status (frames-end status (inl is)) (comes-bad (held old) words.client (Warmed (held old) words (linking old) (linking mid) (writing old) (writing mid)) (WarmedInPart (held old) words (linking old) (linking mid) (writing old) (writing mid))
+          (WarmedOff (held old) words (linking old) (linking mid) (writing old) (writing mid)) (SomeTooLong (held old) (reading mid).left (names_of words)) (complaints old) (complaints mid) (complaints new) silent status why is said warmed)
 
       pub warms-limit : (status : ℕ) → status ≡ 11 → Warmed (held old) words (linking old) (linking mid) (writing old) (writing mid) TooMany → WarmEnds old new status
       warms-limit status is warmed =
-          ends status (inr (inr (inr (inr (inr (inr (inr (inr (inr is))))))))) (comes-limit (held old) words.client _ _ _ _ (complaints old) (complaints mid) (complaints new) silent status is warmed)
+          ends status (inr (inr (inr (inr (inr (inr (inr (inr (inr is))))))))) (comes-limit (held old) words.client (Warmed (held old) words (linking old) (linking mid) (writing old) (writing mid)) (WarmedInPart (held old) words (linking old) (linking mid) (writing old) (writing mid))
+          (WarmedOff (held old) words (linking old) (linking mid) (writing old) (writing mid)) (SomeTooLong (held old) (reading mid).left (names_of words)) (complaints old) (complaints mid) (complaints new) silent status is warmed)
+
+      -- what has a name did nothing
+      nothing : (refusal : Refusal) (status : ℕ) → Reported refusal status (complaints mid) (complaints new) → Counts H reading writing linking old mid (Err refusal) → HasName refusal
+          → WarmedOff (held old) words (linking old) (linking mid) (writing old) (writing mid)
+      nothing refusal status reported counts named =
+          let none = named-nothing H held reading writing linking complaints IsSteady old mid new refusal status reported counts named in
+          inl (record { linking = none.linking_stays; writing = none.writing_stays })
 
       pub warms-refused : (refusal : Refusal) (status : ℕ) → Reported refusal status (complaints mid) (complaints new) → Counts H reading writing linking old mid (Err refusal)
           → WarmStopsOver (held old) words (reading mid).left (linking old) (linking mid) (writing old) (writing mid) (Stopped (Refused refusal)) → WarmEnds old new status
       warms-refused refusal status reported counts why =
-          let nothing = λ named. (let none = named-nothing H held reading writing linking complaints IsSteady old mid new refusal status reported counts named in inl (record { linking = none.linking_stays; writing = none.writing_stays })) in
-          ends status (refused-end (held old) words.client (Warmed (held old) words (linking old) (linking mid) (writing old) (writing mid)) (WarmedInPart (held old) words (linking old) (linking mid) (writing old) (writing mid))
-          (WarmedOff (held old) words (linking old) (linking mid) (writing old) (writing mid)) (SomeTooLong (held old) (reading mid).left (names_of words)) (complaints old) (complaints mid) (complaints new) silent refusal status reported why nothing)
+          ends status
+          (refused-end (held old) words.client (Warmed (held old) words (linking old) (linking mid) (writing old) (writing mid)) (WarmedInPart (held old) words (linking old) (linking mid) (writing old) (writing mid))
+          (WarmedOff (held old) words (linking old) (linking mid) (writing old) (writing mid)) (SomeTooLong (held old) (reading mid).left (names_of words))
+          (complaints old) (complaints mid) (complaints new) silent refusal status reported why (nothing refusal status reported counts))
           (comes-refused (held old) words.client (Warmed (held old) words (linking old) (linking mid) (writing old) (writing mid)) (WarmedInPart (held old) words (linking old) (linking mid) (writing old) (writing mid))
-          (WarmedOff (held old) words (linking old) (linking mid) (writing old) (writing mid)) (SomeTooLong (held old) (reading mid).left (names_of words)) (complaints old) (complaints mid) (complaints new) silent refusal status reported why nothing)
+          (WarmedOff (held old) words (linking old) (linking mid) (writing old) (writing mid)) (SomeTooLong (held old) (reading mid).left (names_of words))
+          (complaints old) (complaints mid) (complaints new) silent refusal status reported why (nothing refusal status reported counts))
+
 
       pub warms-no-image : (status : ℕ) (fault : ImageFault) → Names 13 (image_text fault) status (complaints mid) (complaints new)
           → IsNoImage (held old) words fault × Untouched (linking old) (linking mid) (writing old) (writing mid) → WarmEnds old new status
       warms-no-image status fault (inl (is, said)) (none, untouched) = record {
         only = inr is;
-        comes = comes-other (held old) words.client _ _ _ _ (complaints old) (complaints new) status is;
+        comes = comes-other (held old) words.client (Warmed (held old) words (linking old) (linking new) (writing old) (writing new)) (WarmedInPart (held old) words (linking old) (linking new) (writing old) (writing new)) (WarmedOff (held old) words (linking old) (linking new) (writing old) (writing new)) (SomeTooLong (held old) (reading new).left (names_of words)) (complaints old) (complaints new) status is;
         no_image = λ thirteen. record {
           fault = fault;
           none = none;
@@ -138,7 +164,8 @@ module _ (H : Type 0) (held : H → List ℕ → Option (List ℕ)) (reading : H
         };
       }
       warms-no-image status fault (inr (is, said)) (none, untouched) =
-          ends status (inr (inr (inr (inr (inr (inr (inr (inl is)))))))) (comes-wanting (held old) words.client _ _ _ _ (complaints old) (complaints mid) (complaints new) silent status is (inl untouched))
+          ends status (inr (inr (inr (inr (inr (inr (inr (inl is)))))))) (comes-wanting (held old) words.client (Warmed (held old) words (linking old) (linking mid) (writing old) (writing mid)) (WarmedInPart (held old) words (linking old) (linking mid) (writing old) (writing mid))
+          (WarmedOff (held old) words (linking old) (linking mid) (writing old) (writing mid)) (SomeTooLong (held old) (reading mid).left (names_of words)) (complaints old) (complaints mid) (complaints new) silent status is (inl untouched))
 
   -- the image was refused, or there was no memory to say so
   pub leaves-no-image : (old mid new : H) (status : ℕ) (text : List ℕ) → Names 13 text status (complaints mid) (complaints new) → (reading mid).faults ≡ (reading old).faults

@@ -44,7 +44,7 @@ use Rattle.sr_setup.specs.declared.client_setup.ClientFault.{ClientFault}
 use Rattle.sr_setup.specs.declared.client_setup.ClientFault.TheVariants as setup
 use Rattle.sr_cli.specs.Client.{AreFiles, CountsStop, IsEnd, IsOutside, IsRefusedCreate, NamedCreate, NamedLine, Untouched, ending_of, stop_of}
 use Rattle.sr_cli.specs.Errors.{bad_text, line_text, setup_text, spoiled_text}
-use Rattle.sr_cli.specs.Image.{Asked, AskedOver, BeginsAs, ComesTo, CountsWarm, CreateDid, EndsQuietly, LeftBy, NamedEnd, OutsideDid, SaveStops, SaveStopsFiles, SaveStopsOver, SavedOff, Saved, Saves, SavesNothing, SavesOff, SavesOnly, StopsAs, StopsQuietly, WarmStops, WarmStopsFiles, WarmStopsOver, WarmedInPart, WarmedOff, Warmed, Warms, WarmsInPart, WarmsOnly, WarmsUnwritten, WritesAll, WritesOff, WritesPart, Wrote, WroteLeft, bytes_left, end_of_start, has_image, held_image, text_of_start}
+use Rattle.sr_cli.specs.Image.{Asked, AskedOver, BeginsAs, ComesTo, CountsWarm, CreateDid, EndsQuietly, LeftBy, NamedEnd, OutsideDid, SaveStops, SaveStopsFiles, SaveStopsOver, SavedInPart, SavedOff, Saved, Saves, SavesNothing, SavesOff, SavesOnly, StopsAs, StopsQuietly, WarmStops, WarmStopsFiles, WarmStopsOver, WarmedInPart, WarmedOff, Warmed, Warms, WarmsInPart, WarmsOnly, WarmsUnwritten, WritesAll, WritesOff, WritesPart, Wrote, WroteLeft, bytes_left, end_of_start, has_image, held_image, text_of_start}
 use Rattle.sr_cli.specs.Files.{IsWhatIsHeld}
 use Rattle.sr_cli.specs.Kinds.{AsksLines, fault_by}
 use Rattle.sr_cli.specs.Leaves.{DidNothing, Names, Reported}
@@ -401,7 +401,7 @@ module _ (H : Type 0) (reading : H → Reading) (writing : H → Writing) (linki
 pub counts-saved : (H : Type 0) (reading : H → Reading) (writing : H → Writing) (linking : H → Linking) (held : List ℕ → Option (List ℕ)) (words : ClientWords) (old mid new : H)
     → (reading mid).faults ≡ (reading old).faults → reading new ≡ reading mid → writing mid ≡ writing old → linking mid ≡ linking old
     → (result : Result (Unit {0}) Stop) → IfErr result (SaveStopsFiles held words (linking mid) (linking new) (writing mid) (writing new)) → CountsStop H reading writing linking old new result
-counts-saved H reading writing linking held words old mid new = counts-result H reading writing linking held words old mid new (λ part. part.did.image.1)
+counts-saved H reading writing linking held words old mid new = counts-result H reading writing linking held words old mid new (λ (part : SavedInPart held words (linking mid) (linking new) (writing mid) (writing new)). part.did.image.1)
 
 -- files that were read are those of the names
 pub stops-over : (held : List ℕ → Option (List ℕ)) (words : ClientWords) {left : Option (List ℕ)} (old new : Linking) (before after : Writing) (why : Stop) → SaveStopsFiles held words old new before after why

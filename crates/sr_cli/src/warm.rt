@@ -246,8 +246,15 @@ fn begin(
         → IfOk result (λ begun. BeginsAs words.now schema.now bytes (string_bytes begun.text) begun.end) }
 {
     let version = image.version;
-    let EndStart { end, marks } =
-        ClientEnd::of_image(alloc, words.id, schema, words.limits, image, false, true)?;
+    let EndStart { end, marks } = ClientEnd::of_image(
+        alloc,
+        words.id,
+        schema,
+        words.limits,
+        image,
+        false,
+        true,
+    )?;
     let text = text_of_start(alloc, schema, words.id, version, marks)?;
     Ok(Begun { end, text })
 }

@@ -46,7 +46,7 @@ returns-in-Err-read_file-clause-stopped g c =
     let files = c.in-Ok.ensures.read in
     let image = rw (c.read_files.ensures.stays.held_stays, c.as_str.ensures) at c.in-Err-read_file.ensures.not_read in
     let all = behind-not-read held words.client.schema c.in-Ok.files.schema (words.client.script ∷ words.image ∷ []) from mid to c.in-Err-read_file.fault files.schema_read c.in-Ok.ensures.ok_keeps_faults
-        (behind-not-read held words.client.script c.in-Ok.files.script (words.image ∷ []) mid mid to c.in-Err-read_file.fault files.script_read refl image) in
+    (behind-not-read held words.client.script c.in-Ok.files.script (words.image ∷ []) mid mid to c.in-Err-read_file.fault files.script_read refl image) in
     rw c.unread-2.ensures
     (unread-as (λ r. WarmStopsOver held words to.left (g.H.Outside.linking c.args.host.now) (g.H.Outside.linking c.read_file.new.host) (g.H.Outside.writing c.args.host.now) (g.H.Outside.writing c.read_file.new.host) (Stopped (Refused r)))
     c.in-Err-read_file.fault (λ is. tt)
@@ -63,7 +63,7 @@ returns-in-Err-read_file-clause-counts g c =
     let files = c.in-Ok.ensures.read in
     let image = rw (c.read_files.ensures.stays.held_stays, c.as_str.ensures) at c.in-Err-read_file.ensures.not_read in
     let all = behind-not-read held words.client.schema c.in-Ok.files.schema (words.client.script ∷ words.image ∷ []) from mid to c.in-Err-read_file.fault files.schema_read c.in-Ok.ensures.ok_keeps_faults
-        (behind-not-read held words.client.script c.in-Ok.files.script (words.image ∷ []) mid mid to c.in-Err-read_file.fault files.script_read refl image) in
+    (behind-not-read held words.client.script c.in-Ok.files.script (words.image ∷ []) mid mid to c.in-Err-read_file.fault files.script_read refl image) in
     rw c.unread-2.ensures
     (counts-unread _ g.H.Outside.held g.H.Outside.reading g.H.Outside.writing g.H.Outside.linking g.H.Outside.complaints g.H.Outside.IsSteady (names_of words) held c.args.host.now c.read_file.new.host
     c.in-Err-read_file.fault all (c.read_file.ensures.stays.writing_stays ∙ c.read_files.ensures.stays.writing_stays) (c.read_file.ensures.stays.linking_stays ∙ c.read_files.ensures.stays.linking_stays))

@@ -33,9 +33,10 @@ returns-in-Err-Refused-clause-stopped g c =
     let words = c.args.words.now in
     let held = g.H.Outside.held c.args.host.now in
     let asked = rw (c.as_slice.ensures, c.as_slice-2.ensures) at c.in-Ok.ensures.asked in
-    let some = some_ahead words.client.id files.schema files.script c.in-Ok.set_up.schema c.in-Ok.set_up.lines asked in
-    (warm-asked held words files.schema files.script c.args.read.now.image c.requires.files.are c.requires.image c.in-Ok.set_up.schema some.0 some.1 (rw c.as_slice-3.ensures at c.in-Err-Refused.ensures.is),
-    record { linking = refl; writing = refl })
+    let some = some_ahead words.client.id files.schema files.script c.in-Ok.set_up.schema c.in-Ok.set_up.lines asked in (
+      warm-asked held words files.schema files.script c.args.read.now.image c.requires.files.are c.requires.image c.in-Ok.set_up.schema some.0 some.1 (rw c.as_slice-3.ensures at c.in-Err-Refused.ensures.is),
+      record { linking = refl; writing = refl },
+    )
 
 pub returns-in-Ok-warm_from-clause-whole : goal.returns-in-Ok-warm_from-clause-whole
 returns-in-Ok-warm_from-clause-whole g c =

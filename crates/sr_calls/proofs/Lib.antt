@@ -7,3 +7,6 @@ pub mod TakeLemmas
 pub mod HonestLemmas
 pub mod StartedLemmas
 pub mod ExplainLemmas
+pub mod ShortLemmas
+pub mod HoldLemmas
+pub mod ImageLemmas

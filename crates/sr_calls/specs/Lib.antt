@@ -1,3 +1,4 @@
+pub mod Short
 pub mod ClientEnds
 pub mod Runs
 pub mod Honest

@@ -12,6 +12,7 @@ ghost use Rattle.sr_calls.specs.ClientEnds.{IsReady, end_with};
 ghost use Rattle.sr_calls.specs.Runs.{new_end};
 
 use crate::calls;
+use crate::start::start_from;
 use sr_cell::fault::Fault;
 use sr_cell::list::{Copied, NoMemory};
 use sr_cell::schema::Schema;
@@ -20,8 +21,8 @@ use sr_client::start::ClientStart;
 use sr_dial::parts::{Answer, Asks, Came, Told};
 use sr_history::mark::Marks;
 use sr_image::image::Image;
-use sr_image::joining::image_of;
-use sr_links::laws::Peer;
+use sr_image::joining::image_of_store;
+use sr_links::laws::{Hearer, Peer};
 use sr_message::message::Message;
 use sr_policy::policy::Limits;
 use sr_query::query::Query;
@@ -30,8 +31,8 @@ use sr_script::line::TraceLines;
 use std::alloc::Global;
 use std::marker::Model;
 
-/// A client that stands for some past, and whose number and limits the format has; whether the rows of answers are kept, so as to be
-/// lent, and whether a run writes lines; and the answer that is lent.
+/// A client that stands for some past, whose number and limits the format has, and which holds short texts alone; whether the rows of
+/// answers are kept, so as to be lent, and whether a run writes lines; and the answer that is lent.
 #[derive(Drop)]
 pub struct ClientEnd {
     client: Client,
@@ -110,29 +111,11 @@ impl ClientEnd {
         ensures store { IfOk result (λ start. IsStart schema.now limits image.kept (record { store = start.end.client.store; marks = start.marks })) }
         ensures stands { IfOk result (λ start. StandsFor (start_past schema.now image.version image.kept start.marks) start.end.client) }
     {
-        let own = schema.copy(alloc)?;
-        let ClientStart { client, marks } = Client::of(
-            alloc,
-            id,
-            own,
-            limits,
-            image.version,
-            image.kept,
-        )?;
+        let ClientStart { client, marks } = start_from(alloc, id, schema, limits, image)?;
         Ok(EndStart {
             end: ClientEnd::new(client, keeps, says),
             marks,
         })
-    }
-
-    /// The image of what the client holds.
-    pub fn image(&self, alloc: Global) -> Result<Image, NoMemory>
-        requires rows { self.now.client.store.limits.rows ≤ 200000 }
-        ensures is { IfOk result (λ image. image ≡ image_from self.now.client.version self.now.client.store.regions) }
-        ensures whole { IfOk result (λ image. IsTrue (is_image self.now.client.schema image)) }
-        ensures may_write { IfOk result (λ image. IsTrue (may_write_image image)) }
-    {
-        image_of(alloc, self.client.version(), self.client.regions())
     }
 
     /// The client.
@@ -142,12 +125,39 @@ impl ClientEnd {
     {
         &self.client
     }
+
+    /// The image of what the client holds: it can be written, and read again.
+    pub fn image(&self, alloc: Global) -> Result<Image, NoMemory>
+        requires rows { self.now.client.store.limits.rows ≤ 200000 }
+        ensures is { IfOk result (λ image. image ≡ image_from self.now.client.version self.now.client.store.regions) }
+        ensures whole { IfOk result (λ image. IsTrue (is_image self.now.client.schema image)) }
+        ensures may_write { IfOk result (λ image. IsTrue (may_write_image image)) }
+    {
+        image_of(alloc, &self.client)
+    }
+}
+
+/// The image of what a client holds.
+fn image_of(alloc: Global, client: &Client) -> Result<Image, NoMemory>
+    requires ready { IsReady client.now }
+    requires rows { client.now.store.limits.rows ≤ 200000 }
+    ensures is { IfOk result (λ image. image ≡ image_from client.now.version client.now.store.regions) }
+    ensures whole { IfOk result (λ image. IsTrue (is_image client.now.schema image)) }
+    ensures may_write { IfOk result (λ image. IsTrue (may_write_image image)) }
+{
+    image_of_store(alloc, client.version(), client.regions())
 }
 
 impl Peer for ClientEnd {
     ghost use Rattle.sr_calls.specs.ClientEnds.{IsEnd};
 
     ghost is_of = { IsEnd };
+}
+
+impl Hearer for ClientEnd {
+    ghost use Rattle.sr_calls.specs.ClientEnds.{HasTold};
+
+    ghost has_told = { HasTold };
 }
 
 impl Asks for ClientEnd {

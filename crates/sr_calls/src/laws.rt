@@ -1,5 +1,5 @@
 //! Laws of runs of a client: functions that do nothing, and whose contracts are the laws.
-ghost use Rattle.sr_calls.specs.Honest.{HonestRunsAreTrue, NewHonestRunsAreTrue, ScriptsAreAskedFor, ServedRunsAreTrue};
+ghost use Rattle.sr_calls.specs.Honest.{BrokenRunsGoByTold, HonestRunsAreTrue, NewHonestRunsAreTrue, RunsFromAnyClientGoByTold, RunsGoByTold, ScriptsAreAskedFor, ServedRunsAreTrue};
 ghost use Rattle.sr_calls.specs.Started.{StartedRunsAreTrue};
 
 /// Over an honest link, whatever the plan is, each answer that a run of a client writes has the rows of its query on the server's tables
@@ -23,6 +23,22 @@ pub fn started_runs_are_true()
 /// So it is where each connection goes to a server that serves: at the versions that it has in the end.
 pub fn served_runs_are_true()
     ensures { ServedRunsAreTrue }
+{}
+
+/// Over any link, whatever the peer is, each step of a run goes by the client's rules, on what the frames brought to the rows that the
+/// client had, and the client keeps to its budgets by them.
+pub fn runs_from_any_client_go_by_told()
+    ensures { RunsFromAnyClientGoByTold }
+{}
+
+/// So does each step of a run of a new client, on the rows that the frames brought.
+pub fn runs_go_by_told()
+    ensures { RunsGoByTold }
+{}
+
+/// So does each step of a run that is broken off for want of memory.
+pub fn broken_runs_go_by_told()
+    ensures { BrokenRunsGoByTold }
 {}
 
 /// The lines of a script are such a plan: none asks to take a message.

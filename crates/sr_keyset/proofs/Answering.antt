@@ -1,6 +1,6 @@
 -- What is written is right, as long as each answer is.
 use Rattle.std.proofs.Common.{◌≡◌, ℕ, zero, suc, Bool, true, false, List, [], ◌∷◌, ◌++◌, length, Some, None, refl, sym, ap, subst, ◌∙◌, if◌then◌else◌}
-use Rattle.std.specs.Prelude.{◌==◌, ◌&&◌, Option, Result, Ok, Err, IfSome}
+use Rattle.std.specs.Prelude.{◌==◌, ◌≤◌, ◌&&◌, Option, Result, Ok, Err, IfSome}
 use Rattle.std.specs.List.{AllByRecursion, Contains}
 use Rattle.std.proofs.lemmas.Bool.{and_parts, eqb-true}
 use Rattle.std.proofs.lemmas.List.Elements.{All-contains_itself, recursion_from_All}
@@ -13,7 +13,9 @@ use Rattle.sr_dial.specs.Following.{Ahead}
 use Rattle.sr_dial.specs.declared.parts.Answer.{Answer}
 use Rattle.sr_grammar.specs.Says.{Says}
 use Rattle.sr_grammar.specs.Trees.{Statement}
-use Rattle.sr_keyset.specs.Laws.{IsRightTask, IsTold, WhatIsWrittenIsRight}
+use Rattle.sr_answers.specs.Answers.{IsTold}
+use Rattle.sr_answers.specs.Texts.{SaysSuch}
+use Rattle.sr_keyset.specs.Laws.{IsRightText, WhatIsWrittenIsRight}
 use Rattle.sr_keyset.specs.Plans.{AreSaid, Join, Said, asked_by, behind_text, does, key_set_plan, line_plan, query_plan, runs, sides_by, sides_if}
 use Rattle.sr_keyset.specs.Told.{semi_text}
 use Rattle.sr_lines.specs.Script.{Words, ExecSql, QuerySql, WriteSql, ExplainSql, PushTo, ToServer, ToClient, Settle, Evict, Cut, Resume}
@@ -33,6 +35,7 @@ use Rattle.sr_semi.specs.Going.{behind_left, ends_with, is_read, joins, step_of}
 use Rattle.sr_semi.specs.Keys.{all_have, at_most, most_keys, values_at}
 use Rattle.sr_semi.specs.Sides.{Sides, left_place, right_text, sides_of}
 use Rattle.sr_semi.proofs.Whole.{joined-is-answer}
+use Rattle.sr_session.specs.Sessions.{Database, newest, tables_of}
 
 -- ---- which text a stage named
 
@@ -69,6 +72,35 @@ names s Left version rows text is = names-left s version rows (at_most (most_key
 names s (Right first keys lefts) version rows text is = names-again (version == first) s version keys lefts rows text is
 names s (LeftAgain second keys rights) version rows text is = names-none (version == second && all_have (left_place s) keys rows) s version keys rights rows text is
 names s Over version rows text is = absurd cc
+
+-- ---- the version of what is joined
+
+-- what is joined is of this version
+abbrev IsOfVersion : ℕ → semi.Next → Type 0
+IsOfVersion version (Run text) = Unit {0}
+IsOfVersion version (Joined named keys rows) = named ≡ version
+IsOfVersion version Plain = Unit {0}
+
+of-right : (read : Bool) (s : Sides) (version : ℕ) (keys : List Cell) (rows : List Row)
+    → IsOfVersion version (if read then record { next = Run (right_text s.right keys); stage = Right version keys rows } else ends_with Plain).next
+of-right true s version keys rows = tt
+of-right false s version keys rows = tt
+
+of-left : (s : Sides) (version : ℕ) (rows : List Row) (keys : Option (List Cell)) → IsOfVersion version (behind_left s version rows keys).next
+of-left s version rows None = tt
+of-left s version rows (Some []) = refl
+of-left s version rows (Some (k ∷ keys)) = of-right (is_read (right_text s.right (k ∷ keys))) s version (k ∷ keys) rows
+
+of-joins : (one : Bool) (s : Sides) (version : ℕ) (keys : List Cell) (lefts rights : List Row) (other : Step) → IsOfVersion version other.next
+    → IsOfVersion version (if one then joins s version keys lefts rights else other).next
+of-joins true s version keys lefts rights other of = refl
+of-joins false s version keys lefts rights other of = of
+
+of-version : (s : Sides) (stage : Stage) (version : ℕ) (rows : List Row) → IsOfVersion version (step_of s stage version rows).next
+of-version s Left version rows = of-left s version rows (at_most (most_keys s.right.width) (values_at (left_place s) rows))
+of-version s (Right first keys lefts) version rows = of-joins (version == first) s version keys lefts rows (record { next = Run s.left.text; stage = LeftAgain version keys rows }) tt
+of-version s (LeftAgain second keys rights) version rows = of-joins (version == second && all_have (left_place s) keys rows) s version keys rows rights (ends_with Plain) tt
+of-version s Over version rows = tt
 
 -- ---- answers so far
 
@@ -108,30 +140,41 @@ record Knows (schema : List Table) (said : Said) (all : List (ℕ × Words)) (j 
   sides : j.sides ≡ sides_of schema s q
   own : j.own ≡ runs schema said sql
 
-module _ (schema : List Table) (said : Said) (at : ℕ → Tables) (all : List (ℕ × Words)) (says : AreSaid said) (sch : IsSchema schema) (fit : (version : ℕ) → TheyFit schema (at version)) where
+module _ (schema : List Table) (said : Said) (db : Database) (all : List (ℕ × Words)) (says : AreSaid said) (sch : IsSchema schema) (fit : (version : ℕ) → TheyFit schema (tables_of db version)) where
   abbrev Right_plan : Plan Task Answer → Type 0
-  Right_plan plan = AllTasksIf (IsTold at) (IsRightTask schema said at all) plan
+  Right_plan plan = AllTasksIf (IsTold db) (SaysSuch (IsRightText schema db all)) plan
+
+  abbrev at : ℕ → Tables
+  at version = tables_of db version
 
   -- an answer of a text has the rows that the text asks
-  is-answer : (text : List ℕ) (a : Answer) → IsTold at (runs schema said text) a → IsAnswer schema (at a.version) text a.rows
+  is-answer : (text : List ℕ) (a : Answer) → IsTold db (runs schema said text) a → IsAnswer schema (at a.version) text a.rows
   is-answer text a told = go (said text) refl (asked_by schema (said text)) refl told
     where
-      go : (r : Result Statement Fault) → said text ≡ r → (b : Result Query Fault) → asked_by schema r ≡ b → IsTold at (Do (Queried b)) a → IsAnswer schema (at a.version) text a.rows
-      go (Ok s) is (Ok q) bound rows = (s, q, record { says = subst (Says text) is (says text); bound = bound }, rows)
+      go : (r : Result Statement Fault) → said text ≡ r → (b : Result Query Fault) → asked_by schema r ≡ b → IsTold db (Do (Queried b)) a → IsAnswer schema (at a.version) text a.rows
+      go (Ok s) is (Ok q) bound told = (s, q, record { says = subst (Says text) is (says text); bound = bound }, told.1)
       go (Ok s) is (Err f) bound rows = absurd rows
       go (Err f) is (Ok q) bound rows = absurd cc
       go (Err f) is (Err g) bound rows = absurd rows
 
-  named-answer : (s : Sides) (stage : Stage) (text : List ℕ) (a : Answer) → Names s stage text → IsTold at (runs schema said text) a → Answers schema at s stage (seen a)
+  -- and it is one of the versions
+  within : (text : List ℕ) (a : Answer) → IsTold db (runs schema said text) a → a.version ≤ newest db
+  within text a told = go (asked_by schema (said text)) told
+    where
+      go : (b : Result Query Fault) → IsTold db (Do (Queried b)) a → a.version ≤ newest db
+      go (Ok q) told = told.0
+      go (Err f) told = absurd told
+
+  named-answer : (s : Sides) (stage : Stage) (text : List ℕ) (a : Answer) → Names s stage text → IsTold db (runs schema said text) a → Answers schema at s stage (seen a)
   named-answer s Left text a is told = subst (λ t. IsAnswer schema (at a.version) t a.rows) is (is-answer text a told)
   named-answer s (Right first keys lefts) text a is told = subst (λ t. IsAnswer schema (at a.version) t a.rows) is (is-answer text a told)
   named-answer s (LeftAgain second keys rights) text a is told = subst (λ t. IsAnswer schema (at a.version) t a.rows) is (is-answer text a told)
   named-answer s Over text a is told = tt
 
   module _ (j : Join) (knows : Knows schema said all j) (rest : Right_plan j.rest) where
-    does-right : (next : semi.Next) (further : Ahead) → IsRight at knows.q next → ((text : List ℕ) → next ≡ Run text → (answer : Option Answer) → IfSome answer (IsTold at (runs schema said text)) → Right_plan (further answer)) → Right_plan (does schema said j next further)
-    does-right (Run text) further right more = (tt, more text refl)
-    does-right (Joined version keys rows) further right more = (
+    does-right : (next : semi.Next) (further : Ahead) (last : ℕ) → IsRight at knows.q next → IsOfVersion last next → last ≤ newest db → ((text : List ℕ) → next ≡ Run text → (answer : Option Answer) → IfSome answer (IsTold db (runs schema said text)) → Right_plan (further answer)) → Right_plan (does schema said j next further)
+    does-right (Run text) further last right of within more = (tt, more text refl)
+    does-right (Joined version keys rows) further last right of within more = (
       record {
         number = j.number;
         client = j.client;
@@ -140,12 +183,13 @@ module _ (schema : List Table) (said : Said) (at : ℕ → Tables) (all : List (
         keys = keys;
         version = version;
         line = knows.line;
-        asks = ap (asked_by schema) knows.said_is ∙ knows.bound;
+        asks = (knows.s, knows.says, knows.bound);
+        within = subst (λ (v : ℕ). v ≤ newest db) (sym of) within;
         text_is = ap (semi_text j.number j.client keys version) right;
       },
       λ answer h. rest,
     )
-    does-right Plain further right more = (rw knows.own tt, λ answer h. rest)
+    does-right Plain further last right of within more = (rw knows.own tt, λ answer h. rest)
 
     -- what comes of an answer behind these is right
     next-right : (front : List given.Answer) (a : given.Answer) → AllAnswer schema at j.sides Left front → Answers schema at j.sides (stage_by j.sides Left front) a → IsRight at knows.q (step_of j.sides (stage_by j.sides Left front) a.version a.rows).next
@@ -156,15 +200,17 @@ module _ (schema : List Table) (said : Said) (at : ℕ → Tables) (all : List (
         (subst (λ x. AllByRecursion (IsRight at knows.q) (nexts x Left (front ++ a ∷ []))) (sym knows.sides) (recursion_from_All (IsRight at knows.q) (nexts (sides_of schema knows.s knows.q) Left (front ++ a ∷ [])) right))
 
     behind-right : (texts : ℕ) (front : List given.Answer) (text : List ℕ) → AllAnswer schema at j.sides Left front → Names j.sides (stage_by j.sides Left front) text
-        → (answer : Option Answer) → IfSome answer (IsTold at (runs schema said text)) → Right_plan (behind_text schema said texts j (stage_by j.sides Left front) answer)
+        → (answer : Option Answer) → IfSome answer (IsTold db (runs schema said text)) → Right_plan (behind_text schema said texts j (stage_by j.sides Left front) answer)
     behind-right texts front text answers named None told = rest
     behind-right zero front text answers named (Some a) told =
-        does-right (step_of j.sides (stage_by j.sides Left front) a.version a.rows).next (λ answer. j.rest) (next-right front (seen a) answers (named-answer j.sides (stage_by j.sides Left front) text a named told)) (λ t is answer h. rest)
+        does-right (step_of j.sides (stage_by j.sides Left front) a.version a.rows).next (λ answer. j.rest) a.version (next-right front (seen a) answers (named-answer j.sides (stage_by j.sides Left front) text a named told))
+        (of-version j.sides (stage_by j.sides Left front) a.version a.rows) (within text a told) (λ t is answer h. rest)
     behind-right (suc texts) front text answers named (Some a) told =
         let stage = stage_by j.sides Left front in
         let answer_is = named-answer j.sides stage text a named told in
         let behind = more-stage schema at j.sides Left front (seen a) in
-        does-right (step_of j.sides stage a.version a.rows).next (behind_text schema said texts j (step_of j.sides stage a.version a.rows).stage) (next-right front (seen a) answers answer_is)
+        does-right (step_of j.sides stage a.version a.rows).next (behind_text schema said texts j (step_of j.sides stage a.version a.rows).stage) a.version (next-right front (seen a) answers answer_is)
+        (of-version j.sides stage a.version a.rows) (within text a told)
         (λ t is answer h. subst (λ x. Right_plan (behind_text schema said texts j x answer)) behind
         (behind-right texts (front ++ seen a ∷ []) t (one-more schema at j.sides Left front (seen a) answers answer_is) (subst (λ x. Names j.sides x t) (sym behind) (names j.sides stage a.version a.rows t is)) answer h))
 
@@ -221,4 +267,4 @@ module _ (schema : List Table) (said : Said) (at : ℕ → Tables) (all : List (
   lines-right (line ∷ lines) (here, within) = line-right line.0 line.1 (key_set_plan schema said lines) here (lines-right lines within)
 
 pub what-is-written-is-right : WhatIsWrittenIsRight
-what-is-written-is-right schema said at lines says sch fit = lines-right schema said at lines says sch fit lines (recursion_from_All (Contains lines) lines (All-contains_itself lines))
+what-is-written-is-right schema said db lines says sch fit = lines-right schema said db lines says sch fit lines (recursion_from_All (Contains lines) lines (All-contains_itself lines))

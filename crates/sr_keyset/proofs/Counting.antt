@@ -7,7 +7,7 @@ use Rattle.sr_cell.specs.Clients.{most_clients}
 use Rattle.sr_dial.specs.Calls.{Task, Do, Explain, one_if}
 use Rattle.sr_dial.specs.Following.{Ahead}
 use Rattle.sr_dial.specs.declared.parts.Answer.{Answer}
-use Rattle.sr_keyset.specs.Laws.{FewQueries, is_query_task, queries_of, run_plan}
+use Rattle.sr_keyset.specs.Laws.{FewQueries, is_query_task, queries_of}
 use Rattle.sr_keyset.specs.Lines.{words_at, words_from, words_in}
 use Rattle.sr_keyset.specs.Plans.{Join, Said, asked_by, behind_text, does, key_set_plan, line_plan, query_plan, runs, sides_if}
 use Rattle.sr_lines.specs.Lines.{lines_of}
@@ -168,8 +168,9 @@ resumes k true = omega arith
 resumes k false = omega arith
 
 pub few-queries : FewQueries
-few-queries schema said script ds n goes =
-    let most = lines-most schema said n (words_in script) in
-    let few = once-from schema said n 1 (lines_of script) in
-    let four = most-more n (4 * times schema said n (words_in script)) 4 (key_set_plan schema said (words_in script)) (omega (arith, few)) most in
-    most-done n 4 (begun (run_plan schema said script)) ds (λ answer. (4, resumes 4 (0 == n), λ a. four)) goes
+few-queries id schema script tables ahead ds n asks goes =
+    let most = lines-most tables asks.said n (words_in script) in
+    let few = once-from tables asks.said n 1 (lines_of script) in
+    let four : Most n 4 (key_set_plan tables asks.said (words_in script)) = most-more n (4 * times tables asks.said n (words_in script)) 4 (key_set_plan tables asks.said (words_in script)) (omega (arith, few)) most in
+    let ahead_four : (answer : Option Answer) → Most n 4 (ahead answer) = λ answer. subst (λ (p : Plan Task Answer). Most n 4 p) (sym (asks.ahead_is answer)) four in
+    most-done n 4 (begun (Next 0 (Do Resumed) ahead)) ds (λ answer. (4, resumes 4 (0 == n), ahead_four)) goes

@@ -4,4 +4,6 @@ pub mod Handing
 pub mod Wording
 pub mod Asking
 pub mod Answering
+pub mod Created
+pub mod Right
 pub mod Counting

@@ -1,5 +1,5 @@
 //! Laws of the plan: functions that do nothing, and whose contracts are the laws.
-ghost use Rattle.sr_keyset.specs.Laws.{FewQueries, FilesAskForNone, TasksAreAskedFor, WhatIsWrittenIsRight};
+ghost use Rattle.sr_keyset.specs.Laws.{FewQueries, FilesAskForNone, KeySetsAreRight, TasksAreAskedFor, WhatIsWrittenIsRight};
 
 /// No task of the plan is to take a message.
 pub fn tasks_are_asked_for()
@@ -11,7 +11,7 @@ pub fn files_ask_for_none()
     ensures { FilesAskForNone }
 {}
 
-/// For no line of a script more than four queries are run.
+/// For no line of a script more than four queries are run, in any run of its files.
 pub fn few_queries()
     ensures { FewQueries }
 {}
@@ -19,4 +19,10 @@ pub fn few_queries()
 /// As long as each answer has the rows of its query, what is written for a join are its rows, on the tables of the version that is named.
 pub fn what_is_written_is_right()
     ensures { WhatIsWrittenIsRight }
+{}
+
+/// Over an honest link, where each step is true, each text that is written for a join is right: it tells the rows of the query that one of the
+/// script's lines asks, on the server's tables at the version that it names.
+pub fn key_sets_are_right<C>()
+    ensures { KeySetsAreRight C }
 {}

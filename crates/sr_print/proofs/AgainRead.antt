@@ -1,11 +1,14 @@
--- What a text says is said again by its printed form.
+-- What a text says is said again by its printed form; and what tables it may create.
 use Rattle.std.proofs.Common.{◌≡◌, ℕ, ◌≤◌, Bool, true, false, List, [], ◌∷◌, map, length, inl, inr, Ok, refl, sym, ap, subst, ◌∙◌}
 use Rattle.std.specs.Prelude.{◌||◌, IsTrue}
 use Rattle.std.specs.List.{list_all}
 use Rattle.std.proofs.lemmas.Bool.{or_parts}
 use Rattle.sr_grammar.specs.Tokens.{Bad, Tok, of_kind, tokens_of}
-use Rattle.sr_grammar.specs.Trees.{Statement, Tree, Defines, Says as Stated, statement_of}
-use Rattle.sr_grammar.specs.Statements.{IsStatement}
+use Rattle.sr_cell.specs.declared.table.Table.{Table}
+use Rattle.sr_grammar.specs.Columns.{IsCreate}
+use Rattle.sr_grammar.specs.Rules.{◌or◌}
+use Rattle.sr_grammar.specs.Trees.{Create, Statement, Tree, Defines, Says as Stated, statement_of}
+use Rattle.sr_grammar.specs.Statements.{IsDelete, IsInsert, IsSelect, IsStatement, IsUpdate}
 use Rattle.sr_grammar.specs.Says.{Says, most_levels}
 use Rattle.sr_grammar.specs.Printed.{printed_tokens}
 use Rattle.sr_grammar.specs.Spaced.{printed}
@@ -20,7 +23,8 @@ use Rattle.sr_print.specs.Writable.{is_writable, are_writable}
 use Rattle.sr_print.specs.LexedAgain.{is_writable_or_bad}
 use Rattle.sr_print.specs.ReadAgain.{SaysSame, SaysAgain, ReadAgain}
 use Rattle.sr_print.proofs.Again.{printed_again}
-use Rattle.sr_print.proofs.AgainTokens.{both_true, true_both}
+use Rattle.sr_print.proofs.AgainTables.{IsCreated, create_created}
+use Rattle.sr_print.proofs.AgainTokens.{Writable, both_true, cut, true_both}
 use Rattle.sr_print.proofs.LexingAgain.{written_again}
 use Rattle.sr_print.proofs.LexingWritable.{lexed_writable}
 
@@ -82,3 +86,32 @@ read_again text s says short =
 
 pub says_again : (text : List ℕ) (s : Statement) → text ≡ printed s → SaysAgain text s
 says_again text s e said short = subst (λ z. SaysSame z s) (sym e) (read_again said.0 s said.1 (subst (λ z. length z ≤ 65536) e short))
+
+-- ---- what a text creates
+
+-- the statement of another tree is the one that it says
+stated_create : (tree : Tree) (s : Statement) (t : Table) → tree ≡ Stated s → statement_of tree ≡ Ok (Create t) → s ≡ Create t
+stated_create tree s t is e = let k : statement_of (Stated s) ≡ Ok (Create t) = sym (ap statement_of is) ∙ e in cc
+
+tree_created : (n : ℕ) (tree : Tree) (x : List Tok) (t : Table) → Writable x → (IsCreate or (IsSelect n or (IsInsert or (IsUpdate n or IsDelete n)))) tree x → statement_of tree ≡ Ok (Create t) → IsCreated t
+tree_created n tree x t w h e = elim h [
+  | inl create ↦ create_created tree x t w create e
+  | inr k ↦ elim k [
+    | inl select ↦ absurd (let s = stated_create tree _ t select.5.5.5.5.5.5.0 e in cc s)
+    | inr m ↦ elim m [
+      | inl insert ↦ absurd (let s = stated_create tree _ t insert.5.5.5.5.5.5.0 e in cc s)
+      | inr i ↦ elim i [
+        | inl update ↦ absurd (let s = stated_create tree _ t update.5.5.5.5.5.0 e in cc s)
+        | inr delete ↦ absurd (let s = stated_create tree _ t delete.5.5.5.5.0 e in cc s)
+      ]
+    ]
+  ]
+]
+
+pub says_created : (text : List ℕ) (t : Table) → Says text (Ok (Create t)) → IsCreated t
+says_created text t says =
+    let tree = stated text (Create t) says in
+    let writable = none_bad (tokens_of text) (lexed_writable text) (clean_statement most_levels tree.0 (tokens_of text) tree.1) in
+    let h = tree.1 in
+    let parts = cut (tokens_of text) h.1 h.2 writable h.3 in
+    tree_created most_levels h.0 h.1 t parts.0 h.4 (subst (λ (z : Tree). statement_of z ≡ Ok (Create t)) h.5.5.0 tree.2)

@@ -1,10 +1,11 @@
--- A CREATE, printed: its columns by their printed rules make the same table.
+-- A CREATE, printed: its columns by their printed rules make the same table. And what tables may be created.
 use Rattle.std.proofs.Common.{◌≡◌, ℕ, ◌+◌, ◌<◌, ◌≤◌, Bool, true, false, cond, List, [], ◌∷◌, inl, inr, map, length, filter, refl, sym, ap, ap₂, subst, ◌∙◌, arith, Result, Ok, Err, eq-eqb, ne_eqb, eqb-true, eq-or-lt_of_le}
 use Rattle.std.specs.Prelude.{◌==◌, ◌||◌, if◌then◌else◌, codes, IsTrue}
 use Rattle.std.specs.List.{list_any}
 use Rattle.std.proofs.lemmas.List.{length-map}
 use Rattle.std.proofs.lemmas.Bool.{or_parts}
 use Rattle.sr_cell.specs.declared.table.Column.{Column}
+use Rattle.sr_cell.specs.declared.table.Table.{Table}
 use Rattle.sr_cell.specs.declared.fault.Fault.{Fault}
 use Rattle.sr_grammar.specs.declared.statement.Definition.{Definition}
 use Rattle.sr_grammar.specs.Tokens.{Tok}
@@ -25,7 +26,7 @@ abbrev redefined : ℕ → ℕ → List Column → List Definition
 redefined k c [] = []
 redefined k c (d ∷ others) = defines (k == c) d ∷ redefined k (c + 1) others
 
-abbrev AreSound : List Column → Type 0
+abbrev pub AreSound : List Column → Type 0
 AreSound [] = Unit {0}
 AreSound (c ∷ others) = IsSound c × AreSound others
 
@@ -150,8 +151,17 @@ table_again title d ds s n sound e =
       writable_name title 0 tokens n (writable_parens (columns k (map column_of (d ∷ ds))) c.1),
     )
 
-pub create_again : (tree : Tree) (x : List Tok) (s : Statement) → Writable x → IsCreate tree x → statement_of tree ≡ Ok s → Repeated IsCreate s
-create_again tree x s w h e =
+-- a title, and definitions of columns, that make the statement
+record Defined (s : Statement) : Type 0 where
+  title : List ℕ
+  first : Definition
+  others : List Definition
+  named : IsTrue (is_name title)
+  sound : AreSound (map column_of (first ∷ others))
+  says : statement_of (Defines title (first ∷ others)) ≡ Ok s
+
+spelled_defined : (tree : Tree) (x : List Tok) (s : Statement) → Writable x → IsCreate tree x → statement_of tree ≡ Ok s → Defined s
+spelled_defined tree x s w h e =
     let a = cut x h.1 h.2 w h.3 in
     let t = h.5 in
     let b = cut h.2 t.1 t.2 a.1 t.3 in
@@ -172,4 +182,28 @@ create_again tree x s w h e =
     let says = subst (λ z. statement_of z ≡ Ok s) made e in
     let ok = unjudged (list_any has_bad_domain (l.0 ∷ m.0)) (length (filter is_key (l.0 ∷ m.0)) == 1) _ _ (Create (table_of title.0.text (l.0 ∷ m.0))) s says in
     let n = or_parts (has_bad_domain l.0) (list_any has_bad_domain m.0) ok.0 in
-    table_again title.0.text l.0 m.0 s (name_again title.0 title.1 c.0 title.4) (sound l.0 (column_name l.0 l.1 i.0 l.4) n.0, are_sound m.0 m.1 j.0 m.4 n.1) says
+    record {
+      title = title.0.text;
+      first = l.0;
+      others = m.0;
+      named = name_again title.0 title.1 c.0 title.4;
+      sound = (sound l.0 (column_name l.0 l.1 i.0 l.4) n.0, are_sound m.0 m.1 j.0 m.4 n.1);
+      says = says;
+    }
+
+pub create_again : (tree : Tree) (x : List Tok) (s : Statement) → Writable x → IsCreate tree x → statement_of tree ≡ Ok s → Repeated IsCreate s
+create_again tree x s w h e = let d = spelled_defined tree x s w h e in table_again d.title d.first d.others s d.named d.sound d.says
+
+-- ---- what may be created
+
+-- a table that has a name, and whose columns are sound
+pub record IsCreated (t : Table) : Type 0 where
+  pub named : IsTrue (is_name t.name)
+  pub columns : AreSound t.columns
+
+pub create_created : (tree : Tree) (x : List Tok) (t : Table) → Writable x → IsCreate tree x → statement_of tree ≡ Ok (Create t) → IsCreated t
+create_created tree x t w h e =
+    let d = spelled_defined tree x (Create t) w h e in
+    let made = (unjudged (list_any has_bad_domain (d.first ∷ d.others)) (length (filter is_key (d.first ∷ d.others)) == 1) _ _ (Create (table_of d.title (d.first ∷ d.others))) (Create t) d.says).2 in
+    let same : table_of d.title (d.first ∷ d.others) ≡ t = cc in
+    subst IsCreated same (record { named = d.named; columns = d.sound })

@@ -10,10 +10,10 @@ use Rattle.sr_setup.specs.ReportFiles.{Saying, Event, Aggregate, sayings}
 use Rattle.sr_dial.specs.Calls.{Task}
 use Rattle.sr_dial.specs.Honest.{IsAskedFor}
 use Rattle.sr_dial.specs.declared.parts.Answer.{Answer}
+use Rattle.sr_answers.proofs.Answered.{some-is}
 use Rattle.sr_agg.specs.Starting.{Plan as Telling}
 use Rattle.sr_report.specs.Plans.{Entry, Asks, Refused, Tells, task_of, ComesTo, LineComesTo, AsksReport, report_plan, plan_behind, telling_of}
 use Rattle.sr_report.specs.Laws.{ReportsAsk}
-use Rattle.sr_report.proofs.Answered.{some-is}
 
 asked-for : (event : ScriptEvent) (task : Task) → task_of event ≡ Some task → IsAskedFor task
 asked-for (DoQuery n query) task is = subst IsAskedFor (some-is is) tt

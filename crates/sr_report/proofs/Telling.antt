@@ -8,26 +8,22 @@ use Rattle.sr_cell.specs.declared.table.Table.{Table}
 use Rattle.sr_lines.specs.Events.{ScriptEvent, DoExec, DoQuery, DoWrite, DoExplain, DoPush, DoToServer, DoToClient, DoSettle, DoEvict, DoCut, DoResume}
 use Rattle.sr_lines.specs.Lines.{lines_of}
 use Rattle.sr_model.specs.Queries.{Query, rows_of}
-use Rattle.sr_policy.specs.declared.policy.Limits.{Limits}
-use Rattle.sr_session.specs.Clients.{Client}
 use Rattle.sr_session.specs.Sessions.{Database, tables_of}
-use Rattle.sr_links.specs.Answers.{AreTrueSteps}
-use Rattle.sr_links.specs.Steps.{Queried, Resumed}
-use Rattle.sr_plan.specs.Laws.{AreOf}
-use Rattle.sr_plan.specs.Plans.{Plan, Next, AllTasksIf, GoBy, begun}
-use Rattle.sr_plan.proofs.Going.{are-of-if}
+use Rattle.sr_links.specs.Steps.{Queried}
+use Rattle.sr_plan.specs.Plans.{Plan, AllTasksIf}
 use Rattle.sr_setup.specs.ReportFiles.{Saying, Event, Aggregate, sayings}
-use Rattle.sr_dial.specs.Calls.{Scripted, Delivered, Failed, Done, Made, Explained, Said, Task, Do, Explain, Say, steps_in}
-use Rattle.sr_dial.specs.Following.{Ahead, dids_of}
-use Rattle.sr_dial.specs.Runs.{AreInPlace}
+use Rattle.sr_dial.specs.Calls.{Task, Do}
 use Rattle.sr_dial.specs.declared.parts.Answer.{Answer}
+use Rattle.sr_answers.specs.Answers.{IsTold}
+use Rattle.sr_answers.specs.Texts.{SaysSuch}
+use Rattle.sr_answers.proofs.Answered.{some-is}
+use Rattle.sr_answers.proofs.Saying.{such-are-said}
 use Rattle.sr_agg.specs.Groups.{aggregates}
 use Rattle.sr_agg.specs.Laws.{Tells}
 use Rattle.sr_agg.specs.Starting.{Plan as Telling}
 use Rattle.sr_agg.proofs.Lawful.{plans-tell}
-use Rattle.sr_report.specs.Laws.{HasAggregate, IsRightText, AreRight, ReportsAreRight}
+use Rattle.sr_report.specs.Laws.{HasAggregate, IsRightText, ReportsAreRight}
 use Rattle.sr_report.specs.Plans.{Entry, Asks, Refused, Tells as EntryTells, task_of, ComesTo, LineComesTo, AsksReport, report_plan, plan_behind, telling_of}
-use Rattle.sr_report.proofs.Answered.{IsTold, are-answered, some-is}
 
 -- ---- members
 
@@ -40,12 +36,10 @@ contains-later x y xs has = (suc has.0, let h = has.1 in omega (arith, h), has.2
 -- ---- the tasks of a plan
 
 module _ (tables : List Table) (db : Database) (id : ℕ) (script : List ℕ) where
-  abbrev pub IsRightTask : Task → Type 0
-  IsRightTask (Say text) = IsRightText tables db id script text
-  IsRightTask (Do deed) = Unit {0}
-  IsRightTask (Explain text) = Unit {0}
+  abbrev IsRightTask : Task → Type 0
+  IsRightTask task = SaysSuch (IsRightText tables db id script) task
 
-  abbrev pub IsRightPlan : Plan Task Answer → Type 0
+  abbrev IsRightPlan : Plan Task Answer → Type 0
   IsRightPlan plan = AllTasksIf (IsTold db) IsRightTask plan
 
   right-task : (event : ScriptEvent) (task : Task) → task_of event ≡ Some task → IsRightTask task
@@ -94,21 +88,8 @@ module _ (tables : List Table) (db : Database) (id : ℕ) (script : List ℕ) wh
       let line : Contains (sayings 1 (lines_of script)) (entry.0, s.1) = subst (λ (n : ℕ). Contains (sayings 1 (lines_of script)) (n, s.1)) (sym are.0.0) (each s (contains-first s said)) in
       right-entry entry.0 s.1 entry.1 (report_plan id entries) line are.0.1 (right-plan said entries are.1 (λ t has. each t (contains-later s t said has)))
 
-  -- ---- what was written
-
-  right-dones : {C : Type 0} (keeps : Bool) (ds : List (Done C)) → AreOf IsRightTask (dids_of keeps ds) → AreRight tables db id script ds
-  right-dones keeps [] all = tt
-  right-dones keeps (Made number Scripted step ∷ ds) all = right-dones keeps ds all.1
-  right-dones keeps (Made number Delivered step ∷ ds) all = right-dones keeps ds all
-  right-dones keeps (Made number Failed step ∷ ds) all = right-dones keeps ds all
-  right-dones keeps (Explained number text result ∷ ds) all = right-dones keeps ds all.1
-  right-dones keeps (Said number text ∷ ds) all = (all.0, right-dones keeps ds all.1)
-
 pub reports-are-right : {C : Type 0} → ReportsAreRight C
 reports-are-right {C} keeps db limits c ds id schema script tables ahead asks here goes truly =
-    let plan : Plan Task Answer = Next 0 (Do Resumed) ahead in
-    let each : (answer : Option Answer) → IsRightPlan tables db id script (ahead answer) = λ answer. subst (IsRightPlan tables db id script) (sym (asks.ahead_is answer))
+    let each : (answer : Option Answer) → AllTasksIf (IsTold db) (SaysSuch (IsRightText tables db id script)) (ahead answer) = λ answer. subst (IsRightPlan tables db id script) (sym (asks.ahead_is answer))
     (right-plan tables db id script (sayings 1 (lines_of script)) asks.entries asks.are (λ s has. has)) in
-    let all : IsRightPlan tables db id script plan = (tt, λ answer good. each answer) in
-    let answered = are-answered db limits tables keeps 0 c (λ answer. Unit {0}) ds here truly (λ q is answer has. tt) in
-    right-dones tables db id script keeps ds (are-of-if (IsTold db) (IsRightTask tables db id script) (begun plan) (λ answer. Unit {0}) (dids_of keeps ds) (λ answer own. all) tt goes answered)
+    such-are-said (IsRightText tables db id script) keeps db limits tables c ds ahead each here goes truly

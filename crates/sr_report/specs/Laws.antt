@@ -1,21 +1,21 @@
 -- What is true of reports.
-use Rattle.std.specs.Prelude.{ℕ, Bool, ◌≤◌, ◌≡◌, ◌⊎◌, List, [], ◌∷◌, Option, None, Ok, Err}
+use Rattle.std.specs.Prelude.{ℕ, Bool, ◌≤◌, ◌≡◌, ◌⊎◌, List, Option, None, Err}
 use Rattle.std.specs.List.{Contains}
 use Rattle.sr_cell.specs.declared.cell.Cell.{Cell}
 use Rattle.sr_cell.specs.declared.table.Table.{Table}
 use Rattle.sr_lines.specs.Lines.{lines_of}
-use Rattle.sr_model.specs.Queries.{Query, rows_of}
 use Rattle.sr_policy.specs.declared.policy.Limits.{Limits}
 use Rattle.sr_session.specs.Clients.{Client}
 use Rattle.sr_session.specs.Sessions.{Database, newest, tables_of}
 use Rattle.sr_links.specs.Answers.{AreTrueSteps}
 use Rattle.sr_links.specs.Steps.{Queried, Resumed}
 use Rattle.sr_plan.specs.Plans.{AllTasks, GoBy, Next, begun}
-use Rattle.sr_dial.specs.Calls.{Done, Made, Explained, Said, Task, Do, Explain, Say, steps_in}
+use Rattle.sr_dial.specs.Calls.{Done, Do, steps_in}
 use Rattle.sr_dial.specs.Following.{Ahead, dids_of}
 use Rattle.sr_dial.specs.Honest.{IsAskedFor}
 use Rattle.sr_dial.specs.Runs.{AreInPlace}
 use Rattle.sr_dial.specs.declared.parts.Answer.{Answer}
+use Rattle.sr_answers.specs.Texts.{AllSaid}
 use Rattle.sr_agg.specs.declared.agg.AggFault.{AggFault}
 use Rattle.sr_agg.specs.Laws.{Tells}
 use Rattle.sr_agg.specs.Starting.{Starts}
@@ -56,15 +56,8 @@ pub record SaysGroups (tables : List Table) (db : Database) (id : ℕ) (script t
 abbrev pub IsRightText : List Table → Database → ℕ → List ℕ → List ℕ → Type 0
 IsRightText tables db id script text = SaysRefusal tables id script text ⊎ SaysGroups tables db id script text
 
--- each text that was written is right
-abbrev pub AreRight : {C : Type 0} → List Table → Database → ℕ → List ℕ → List (Done C) → Type 0
-AreRight {C} tables db id script [] = Unit {0}
-AreRight {C} tables db id script (Made number cause step ∷ ds) = AreRight tables db id script ds
-AreRight {C} tables db id script (Explained number text result ∷ ds) = AreRight tables db id script ds
-AreRight {C} tables db id script (Said number text ∷ ds) = IsRightText tables db id script text × AreRight tables db id script ds
-
 -- What goes by the plan of a report, each thing in its place and each step true, as over an honest link, writes right texts alone.
 abbrev pub ReportsAreRight : Type 0 → Type 0
 ReportsAreRight C = (keeps : Bool) (db : Database) (limits : Limits) (c : Client) (ds : List (Done C)) (id : ℕ) (schema script : List ℕ) (tables : List Table) (ahead : Ahead)
     → AsksReport id schema script tables ahead → AreInPlace tables 0 c ds → GoBy (begun (Next 0 (Do Resumed) ahead)) (dids_of keeps ds) → AreTrueSteps db limits c (steps_in ds)
-    → AreRight tables db id script ds
+    → AllSaid (IsRightText tables db id script) ds

@@ -1,6 +1,6 @@
 -- The tables that a script makes have names, no two the same, and so have their columns.
-use Rattle.std.proofs.Common.{◌≡◌, ℕ, ◌+◌, Bool, true, false, List, [], ◌∷◌, ◌++◌, map, length, not, inl, inr, Option, Some, None, Result, Ok, Err, refl, sym, ap, subst, ◌∙◌, arith, append_assoc, ℤ, pos, negsuc}
-use Rattle.std.specs.Prelude.{◌&&◌, ◌||◌, ◌==◌, IsTrue, bytes_eq, codes, filter, if◌then◌else◌, nat_le}
+use Rattle.std.proofs.Common.{◌≡◌, ℕ, ◌+◌, Bool, true, false, List, [], ◌∷◌, ◌++◌, map, length, not, Option, Some, None, Result, Ok, Err, refl, sym, ap, subst, ◌∙◌, arith, append_assoc, ℤ, pos, negsuc}
+use Rattle.std.specs.Prelude.{◌&&◌, ◌||◌, IsTrue, bytes_eq, if◌then◌else◌, nat_le}
 use Rattle.std.specs.List.{list_all, list_any}
 use Rattle.std.proofs.lemmas.Bool.{and_from, or_parts}
 use Rattle.std.proofs.lemmas.Bool.Decides.{nat_tests}
@@ -15,22 +15,12 @@ use Rattle.sr_cell.specs.declared.table.Kind.TheVariants.{Num, Str}
 use Rattle.sr_cell.specs.declared.table.Table.{Table}
 use Rattle.sr_cell.specs.Faults.{fault_or}
 use Rattle.sr_cell.specs.Names.{has_column_named, has_table_named, repeat_at}
-use Rattle.sr_grammar.specs.Conditions.{MARK}
-use Rattle.sr_grammar.specs.Columns.{IsColumn, IsCreate}
-use Rattle.sr_grammar.specs.Rules.{Rule, Many, ◌>>=◌ as ◌▸◌, ◌or◌}
-use Rattle.sr_grammar.specs.Says.{Says, most_levels}
-use Rattle.sr_grammar.specs.Statements.{IsDelete, IsInsert, IsSelect, IsStatement, IsUpdate}
-use Rattle.sr_grammar.specs.Tokens.{Bad, Tok, is_reserved, of_kind, tokens_of, upper}
-use Rattle.sr_grammar.specs.Trees.{Create, Defines, Says as Stated, Statement, Tree, column_of, has_bad_domain, is_key, statement_of, table_of}
-use Rattle.sr_grammar.specs.declared.statement.Definition.{Definition}
-use Rattle.sr_grammar_laws.proofs.Clean.{clean_statement, has_bad}
-use Rattle.sr_print.specs.LexedAgain.{is_writable_or_bad}
+use Rattle.sr_grammar.specs.Tokens.{is_reserved, upper}
 use Rattle.sr_print.specs.Writable as writable
-use Rattle.sr_print.proofs.AgainColumns.{column_name}
-use Rattle.sr_print.proofs.AgainDomains.{IsDomain, IsSound, sound}
-use Rattle.sr_print.proofs.AgainTokens.{Writable, both_true, cut, true_both}
-use Rattle.sr_print.proofs.AgainWords.{name_again}
-use Rattle.sr_print.proofs.LexingWritable.{lexed_writable}
+use Rattle.sr_print.proofs.AgainDomains.{IsDomain}
+use Rattle.sr_print.proofs.AgainRead.{says_created}
+use Rattle.sr_print.proofs.AgainTables.{AreSound}
+use Rattle.sr_print.proofs.AgainTokens.{both_true, true_both}
 use Rattle.sr_lines.specs.Events.{ScriptEvent}
 use Rattle.sr_lines.specs.Script.{AddsTable, CreateLine, EventLine, Line, LineDoes, Phase, Reads, Silent, line_of}
 use Rattle.sr_script.specs.Printable.{IsNamed, are_different, are_names, has_named_columns, has_signed_ends, in_name, is_name, is_signed}
@@ -109,15 +99,7 @@ columns-different before (c ∷ columns) h =
     true_both (not (list_any (bytes_eq c.name) (map column_title columns))) (are_different (map column_title columns))
     (ap not (no-later before c [] columns parts.1)) (columns-different (before ++ c ∷ []) columns parts.1)
 
--- ---- what a CREATE line defines
-
-abbrev AreSound : List Column → Type 0
-AreSound [] = Unit {0}
-AreSound (c ∷ columns) = IsSound c × AreSound columns
-
-record IsDefined (t : Table) : Type 0 where
-  pub named : IsTrue (writable.is_name t.name)
-  pub columns : AreSound t.columns
+-- ---- ends of domains
 
 signed-ends : (kind : Kind) (low high : ℤ) → IsDomain kind low high → (is_signed low && is_signed high) ≡ true
 signed-ends Str low high (a, b) = rw (a, b) refl
@@ -136,98 +118,6 @@ sound-names (c ∷ columns) (one, more) =
       true_both (is_name c.name) (list_all is_name (map column_title columns)) (name-is c.name one.named) others.0,
       true_both (has_signed_ends c) (list_all has_signed_ends columns) (signed-ends c.kind c.lo c.hi one.domain) others.1,
     )
-
-abbrev IsNext : Rule Definition
-IsNext = MARK (codes ",") ▸ λ _. IsColumn
-
-next-sound : (ds : List Definition) (y : List Tok) → Writable y → Many IsNext ds y → list_any has_bad_domain ds ≡ false → AreSound (map column_of ds)
-next-sound [] y w h e = tt
-next-sound (d ∷ ds) y w h e =
-    let s = cut y h.0 h.1 w h.2 in
-    let t = cut h.0 h.3.1 h.3.2 s.0 h.3.3 in
-    let n = or_parts (has_bad_domain d) (list_any has_bad_domain ds) e in
-    (sound d (column_name d h.3.2 t.1 h.3.5) n.0, next-sound ds h.1 s.1 h.4 n.1)
-
-judged : (bad one : Bool) (why other : Fault) (u t : Table) → (if bad then Err why else (if one then Ok (Create u) else Err other)) ≡ Ok (Create t) → (bad ≡ false) × (u ≡ t)
-judged true one why other u t e = absurd (cc)
-judged false true why other u t e = (refl, (let k : u ≡ t = cc in k))
-judged false false why other u t e = absurd (cc)
-
--- what the tokens of a CREATE define
-create-defined : (tree : Tree) (x : List Tok) (made : Table) → Writable x → IsCreate tree x → statement_of tree ≡ Ok (Create made) → IsDefined made
-create-defined tree x made w h e =
-    let a = cut x h.1 h.2 w h.3 in
-    let t = h.5 in
-    let b = cut h.2 t.1 t.2 a.1 t.3 in
-    let title = t.5 in
-    let c = cut t.2 title.1 title.2 b.1 title.3 in
-    let all = title.5 in
-    let d = cut title.2 all.1 all.2 c.1 all.3 in
-    let p = all.4 in
-    let f = cut all.1 p.1 p.2 d.0 p.3 in
-    let q = p.5 in
-    let g = cut p.2 q.1 q.2 f.1 q.3 in
-    let l = q.4 in
-    let i = cut q.1 l.1 l.2 g.0 l.3 in
-    let m = l.5 in
-    let j = cut l.2 m.1 m.2 i.1 m.3 in
-    let ds : all.0 ≡ l.0 ∷ m.0 = q.5.5.0 ∙ m.5.0 in
-    let defines : tree ≡ Defines title.0.text (l.0 ∷ m.0) = all.5.0 ∙ ap (λ z. Defines title.0.text z) ds in
-    let says = subst (λ (z : Tree). statement_of z ≡ Ok (Create made)) defines e in
-    let ok = judged (list_any has_bad_domain (l.0 ∷ m.0)) (length (filter is_key (l.0 ∷ m.0)) == 1) _ _ (table_of title.0.text (l.0 ∷ m.0)) made says in
-    let n = or_parts (has_bad_domain l.0) (list_any has_bad_domain m.0) ok.0 in
-    let defined : IsDefined (table_of title.0.text (l.0 ∷ m.0)) = record {
-      named = name_again title.0 title.1 c.0 title.4;
-      columns = (sound l.0 (column_name l.0 l.1 i.0 l.4) n.0, next-sound m.0 m.1 j.0 m.4 n.1);
-    } in
-    subst IsDefined ok.1 defined
-
--- ---- what a text says
-
--- lexed tokens are writable, where none is bad
-none-bad : (ts : List Tok) → IsTrue (list_all is_writable_or_bad ts) → has_bad ts ≡ false → Writable ts
-none-bad [] h e = refl
-none-bad (t ∷ ts) h e =
-    let n = or_parts (of_kind Bad t) (has_bad ts) e in
-    let s = both_true (is_writable_or_bad t) (list_all is_writable_or_bad ts) h in
-    true_both (writable.is_writable t) (writable.are_writable ts) (go (writable.is_writable t) (of_kind Bad t) s.0 n.0) (none-bad ts s.1 n.1)
-  where
-    go : (good bad : Bool) → (good || bad) ≡ true → bad ≡ false → good ≡ true
-    go true bad e f = refl
-    go false bad e f = absurd (let k = sym e ∙ f in cc k)
-
--- the statement of another tree is the one that it says
-stated : (tree : Tree) (s : Statement) (made : Table) → tree ≡ Stated s → statement_of tree ≡ Ok (Create made) → s ≡ Create made
-stated tree s made is e = let k : statement_of (Stated s) ≡ Ok (Create made) = sym (ap statement_of is) ∙ e in cc
-
-tree-defined : (n : ℕ) (tree : Tree) (x : List Tok) (made : Table) → Writable x → (IsCreate or (IsSelect n or (IsInsert or (IsUpdate n or IsDelete n)))) tree x → statement_of tree ≡ Ok (Create made) → IsDefined made
-tree-defined n tree x made w h e = elim h [
-  | inl create ↦ create-defined tree x made w create e
-  | inr k ↦ elim k [
-    | inl select ↦ absurd (let s = stated tree _ made select.5.5.5.5.5.5.0 e in cc s)
-    | inr m ↦ elim m [
-      | inl insert ↦ absurd (let s = stated tree _ made insert.5.5.5.5.5.5.0 e in cc s)
-      | inr i ↦ elim i [
-        | inl update ↦ absurd (let s = stated tree _ made update.5.5.5.5.5.0 e in cc s)
-        | inr delete ↦ absurd (let s = stated tree _ made delete.5.5.5.5.0 e in cc s)
-      ]
-    ]
-  ]
-]
-
-statement-defined : (tree : Tree) (ts : List Tok) (made : Table) → Writable ts → IsStatement most_levels tree ts → statement_of tree ≡ Ok (Create made) → IsDefined made
-statement-defined tree ts made w h e =
-    let parts = cut ts h.1 h.2 w h.3 in
-    tree-defined most_levels h.0 h.1 made parts.0 h.4 (subst (λ (z : Tree). statement_of z ≡ Ok (Create made)) h.5.5.0 e)
-
-says-defined : (sql : List ℕ) (made : Table) → Says sql (Ok (Create made)) → IsDefined made
-says-defined sql made h = elim h [
-  | inl long ↦ absurd (let e = long.1 in cc e)
-  | inr short ↦ elim short.1 [
-    | inl k ↦ statement-defined k.0 (tokens_of sql) made (none-bad (tokens_of sql) (lexed_writable sql) (clean_statement most_levels k.0 (tokens_of sql) k.1)) k.1 (sym k.2)
-    | inr k ↦ absurd (let e = k.2 in cc e)
-  ]
-]
 
 -- ---- tables of a script
 
@@ -248,13 +138,13 @@ other-names (t ∷ tables) name h =
 -- one table more
 named-more : (tables : List Table) (sql : List ℕ) (t : Table) → IsNamed tables → AddsTable tables sql t → IsNamed (tables ++ t ∷ [])
 named-more tables sql t is (says, fits) =
-    let defined = says-defined sql t says in
+    let created = says_created sql t says in
     let names = both_true (list_all is_name (map table_name tables)) (are_different (map table_name tables)) is.0 in
     let fresh = faultless (has_table_named tables t.name) _ _ fits in
     let columns = unrepeated _ (repeat_at [] t.columns) _ fresh.1 in
-    let own = sound-names t.columns defined.columns in
+    let own = sound-names t.columns created.columns in
     let all_named : list_all is_name (map table_name tables ++ t.name ∷ []) ≡ true =
-    list_all-append is_name (map table_name tables) (t.name ∷ []) ∙ and_from (list_all is_name (map table_name tables)) (list_all is_name (t.name ∷ [])) names.0 (and_from (is_name t.name) true (name-is t.name defined.named) refl) in
+    list_all-append is_name (map table_name tables) (t.name ∷ []) ∙ and_from (list_all is_name (map table_name tables)) (list_all is_name (t.name ∷ [])) names.0 (and_from (is_name t.name) true (name-is t.name created.named) refl) in
     let all_different = different-more (map table_name tables) t.name names.1 (other-names tables t.name fresh.0) in
     let titles : are_names (map column_title t.columns) ≡ true =
     and_from (list_all is_name (map column_title t.columns)) (are_different (map column_title t.columns)) own.0 (columns-different [] t.columns columns) in

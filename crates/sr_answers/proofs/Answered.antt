@@ -1,12 +1,12 @@
 -- Over true steps each answer is that of its task.
-use Rattle.std.proofs.Common.{◌≡◌, ℕ, ◌≤◌, Bool, true, false, List, [], ◌∷◌, refl, sym, ◌∙◌, ap, subst}
+use Rattle.std.proofs.Common.{◌≡◌, ℕ, Bool, true, false, List, [], ◌∷◌, refl, sym, ◌∙◌, ap, subst}
 use Rattle.std.specs.Prelude.{Option, Some, None, Ok, Err, IfSome}
 use Rattle.sr_cell.specs.declared.table.Table.{Table}
-use Rattle.sr_model.specs.Queries.{Query, rows_of}
+use Rattle.sr_model.specs.Queries.{Query}
 use Rattle.sr_policy.specs.declared.policy.Limits.{Limits}
 use Rattle.sr_session.specs.Clients.{Client}
 use Rattle.sr_session.specs.Rules.{Outcome, Answered, AskSent, WriteSent, ResumeSent, WriteDone, WriteRefused, Welcomed, CutDone}
-use Rattle.sr_session.specs.Sessions.{Database, newest, tables_of}
+use Rattle.sr_session.specs.Sessions.{Database}
 use Rattle.sr_links.specs.Answers.{IsTrueAnswer, IsTrueStep, AreTrueSteps}
 use Rattle.sr_links.specs.Outs.{LeavesOut}
 use Rattle.sr_links.specs.Queried.{query_out, query_of}
@@ -16,14 +16,7 @@ use Rattle.sr_dial.specs.Calls.{Cause, Scripted, Delivered, Failed, Done, Made, 
 use Rattle.sr_dial.specs.Following.{answer_of, dids_of}
 use Rattle.sr_dial.specs.Runs.{IsInPlace, AreInPlace}
 use Rattle.sr_dial.specs.declared.parts.Answer.{Answer}
-
--- the answer has the rows of the query, on the tables of the version that it names
-abbrev pub IsOf : Database → Query → Answer → Type 0
-IsOf db q answer = (answer.version ≤ newest db) × (answer.rows ≡ rows_of q (tables_of db answer.version))
-
-abbrev pub IsTold : Database → Task → Answer → Type 0
-IsTold db (Do (Queried (Ok q))) answer = IsOf db q answer
-IsTold db other answer = Unit {0}
+use Rattle.sr_answers.specs.Answers.{IsOf, IsTold, TrueStepsAnswer}
 
 pub some-is : {A : Type 0} {a b : A} → Some a ≡ Some b → a ≡ b
 some-is is = cc
@@ -31,7 +24,7 @@ some-is is = cc
 module _ (db : Database) where
   told-by : (deed : Deed) (c : Client) (q : Query) (answer : Answer) → query_of deed c ≡ Some q → IsOf db q answer → IsTold db (Do deed) answer
   told-by (Queried (Ok p)) c q answer is has = subst (λ (z : Query). IsOf db z answer) (sym (some-is is)) has
-  told-by (Queried (Err fault)) c q answer is has = tt
+  told-by (Queried (Err fault)) c q answer is has = absurd cc
   told-by (Wrote sql) c q answer is has = tt
   told-by (Evicted place) c q answer is has = tt
   told-by (Took m) c q answer is has = tt
@@ -81,7 +74,7 @@ module _ (db : Database) where
   failed-of schema line number Resumed c Q here q is answer has = absurd here
 
   module _ {C : Type 0} (limits : Limits) (schema : List Table) (keeps : Bool) where
-    pub are-answered : (line : ℕ) (c : Client) (Q : Answer → Type 0) (ds : List (Done C)) → AreInPlace schema line c ds → AreTrueSteps db limits c (steps_in ds) → SaysOf (query_out c.out) Q → AreAnswered (IsTold db) Q (dids_of keeps ds)
+    are-answered : (line : ℕ) (c : Client) (Q : Answer → Type 0) (ds : List (Done C)) → AreInPlace schema line c ds → AreTrueSteps db limits c (steps_in ds) → SaysOf (query_out c.out) Q → AreAnswered (IsTold db) Q (dids_of keeps ds)
     are-answered line c Q [] here truly says = tt
     are-answered line c Q (Explained number text result ∷ ds) here truly says = are-answered number c Q ds here.1 truly says
     are-answered line c Q (Said number text ∷ ds) here truly says = are-answered number c Q ds here.1 truly says
@@ -97,3 +90,6 @@ module _ (db : Database) where
     are-answered line c Q (Made number Failed step ∷ ds) here truly says =
         let of : SaysOf (query_of step.deed c) Q = failed-of schema line number step.deed c Q here.0 in
         (said-answer keeps step.deed c step.outcome Q truly.0.answer of, are-answered number step.past Q ds here.1 truly.1 (leaves step.deed c step.outcome step.past Q truly.0.out of says))
+
+pub true-steps-answer : {C : Type 0} → TrueStepsAnswer C
+true-steps-answer {C} keeps db limits tables line c ds here truly = are-answered db limits tables keeps line c (λ answer. Unit {0}) ds here truly (λ q is answer has. tt)

@@ -43,7 +43,7 @@ one_warm said command a w is here says = let e : Some command ≡ Some (Warm w) 
 pub returns-in-Ok-Save-clause-saves : goal.returns-in-Ok-Save-clause-saves
 returns-in-Ok-Save-clause-saves g c = λ w says.
     let same = one_save _ _ c.in-Ok-Save.words w c.in-Ok-Save.ensures.said c.in-Ok-Save.field-0-is says in
-    subst (λ (v : ClientWords). SavesOver _ g.H.Outside.held g.H.Outside.reading g.H.Outside.writing g.H.Outside.linking g.H.Outside.complaints c.args.host.now c.run_save.new.host v c.run_save.result) same
+    subst (λ (v : ClientWords). SavesOver _ g.H.Outside.held g.H.Outside.reading g.H.Outside.writing g.H.Outside.linking g.H.Outside.complaints g.H.Outside.IsSteady c.args.host.now c.run_save.new.host v c.run_save.result) same
     c.run_save.ensures.saves
 
 pub returns-in-Ok-Save-clause-words : goal.returns-in-Ok-Save-clause-words
@@ -55,7 +55,7 @@ returns-in-Ok-Save-clause-words g c =
 pub returns-in-Ok-Warm-clause-warms : goal.returns-in-Ok-Warm-clause-warms
 returns-in-Ok-Warm-clause-warms g c = λ w says.
     let same = one_warm _ _ c.in-Ok-Warm.words w c.in-Ok-Warm.ensures.said c.in-Ok-Warm.field-0-is says in
-    subst (λ (v : WarmWords). WarmsOver _ g.H.Outside.held g.H.Outside.reading g.H.Outside.writing g.H.Outside.linking g.H.Outside.complaints c.args.host.now c.run_warm.new.host v c.run_warm.result) same
+    subst (λ (v : WarmWords). WarmsOver _ g.H.Outside.held g.H.Outside.reading g.H.Outside.writing g.H.Outside.linking g.H.Outside.complaints g.H.Outside.IsSteady c.args.host.now c.run_warm.new.host v c.run_warm.result) same
     c.run_warm.ensures.warms
 
 pub returns-in-Ok-Warm-clause-words : goal.returns-in-Ok-Warm-clause-words

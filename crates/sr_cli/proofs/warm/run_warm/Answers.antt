@@ -1,4 +1,6 @@
-use Rattle.std.proofs.Common.{inl, inr}
+use Rattle.std.proofs.Common.{Err, inl, inr, ap, ◌∙◌}
+use Rattle.sr_cli.specs.declared.stop.Stop.TheVariants.{Refused}
+use Rattle.sr_cli.specs.declared.warm.WarmStop.TheVariants.{Stopped}
 use Rattle.sr_cli.proofs.ImageEnds.{leaves-no-image, warms-bad, warms-limit, warms-no-image, warms-refused, warms-spoiled, warms-whole}
 use Rattle.sr_cli.proofs.LeavesLemmas.{leaves-by-frames, leaves-done, leaves-refused, spoiled-status}
 use Rattle.sr_cli.proofs.warm.run_warm.Goals as goal
@@ -15,6 +17,7 @@ returns-in-Err-Stopped-Refused-clause-warms g c =
     let refused = c.in-Err-Stopped-Refused.ensures in
     warms-refused _ g.H.Outside.held g.H.Outside.reading g.H.Outside.writing g.H.Outside.linking g.H.Outside.complaints g.H.Outside.IsSteady c.args.words.now c.args.host.now c.warm_files.new.host c.report.new.host
     c.warm_files.ensures.stays.complaints_stay c.report.ensures.stays c.in-Err-Stopped-Refused.refusal c.report.result c.report.ensures.reported (rw is at refused.counts) (rw is at refused.stopped)
+    (λ steady named. refused.steady_reads steady (ap Err (is ∙ ap (λ x. Stopped (Refused x)) named)))
 
 pub returns-in-Err-Stopped-Refused-clause-leaves : goal.returns-in-Err-Stopped-Refused-clause-leaves
 returns-in-Err-Stopped-Refused-clause-leaves g c =

@@ -1,12 +1,13 @@
-use Rattle.std.proofs.Common.{◌≡◌, [], ◌∷◌, inl, refl, sym, subst, ◌∙◌}
+use Rattle.std.proofs.Common.{[], ◌∷◌, Err, inl, refl, sym, ap, subst, ◌∙◌}
 use Rattle.std.proofs.lemmas.Result.{IfErr-weaker}
 use Rattle.sr_cli.specs.Client.{files_of}
 use Rattle.sr_cli.specs.Image.{WarmStopsOver, names_of}
 use Rattle.sr_cli.specs.Leaves.{NotRead}
 use Rattle.sr_cli.specs.declared.stop.Stop.TheVariants.{Refused}
 use Rattle.sr_cli.specs.declared.warm.WarmStop.TheVariants.{Stopped}
+use Rattle.sr_cli.proofs.ImageFits.{never-held, one_warm_stop}
 use Rattle.sr_cli.proofs.ImageLemmas.{counts-warmed, warm-over}
-use Rattle.sr_cli.proofs.LeavesLemmas.{behind-not-read, counts-unread, front-not-read, unread-as}
+use Rattle.sr_cli.proofs.LeavesLemmas.{behind-not-read, counts-unread, err-of, front-not-read, read-failed, unread-as}
 use Rattle.sr_cli.proofs.warm.warm_files.Goals as goal
 
 pub warm_read-requires-clause-files : goal.warm_read-requires-clause-files
@@ -105,3 +106,16 @@ returns-in-Err-read_file-clause-stays g c = record {
   held_stays = c.read_file.ensures.stays.held_stays ∙ c.read_files.ensures.stays.held_stays;
   complaints_stay = c.read_file.ensures.stays.complaints_stay ∙ c.read_files.ensures.stays.complaints_stay;
 }
+
+pub returns-in-Ok-read_file-clause-steady_reads : goal.returns-in-Ok-read_file-clause-steady_reads
+returns-in-Ok-read_file-clause-steady_reads g c = λ steady failed schema script bytes are. absurd (err-of _ c.warm_read.result _ c.warm_read.ensures.stopped failed)
+
+pub returns-in-Err-clause-steady_reads : goal.returns-in-Err-clause-steady_reads
+returns-in-Err-clause-steady_reads g c = λ steady failed schema script bytes are.
+    c.in-Err.ensures.steady steady (ap Err (read-failed c.in-Err.fault (ap Err (sym c.unread.ensures ∙ one_warm_stop _ _ failed)))) schema script are.files
+
+pub returns-in-Err-read_file-clause-steady_reads : goal.returns-in-Err-read_file-clause-steady_reads
+returns-in-Err-read_file-clause-steady_reads g c = λ steady failed schema script bytes are.
+    let failing = ap Err (read-failed c.in-Err-read_file.fault (ap Err (sym c.unread-2.ensures ∙ one_warm_stop _ _ failed))) in
+    let none = rw (c.read_files.ensures.stays.held_stays, c.as_str.ensures) at (c.in-Err-read_file.ensures.steady (c.read_files.ensures.stays.stays_steady steady) failing) in
+    never-held _ _ none are.image_held

@@ -1,5 +1,5 @@
 use Rattle.std.proofs.Common.{take, map}
-use Rattle.sr_tables.proofs.Turns.{IsFound}
+use Rattle.sr_tables.proofs.InTurn.{IsFound}
 use Rattle.sr_tables.proofs.turns.near_in_turn.Given as goal
 
 abbrev pub invariant-loop-i : goal.invariant-loop-i

@@ -5,4 +5,8 @@ pub mod RunLemmas
 pub mod StepLemmas
 pub mod TakeLemmas
 pub mod HonestLemmas
+pub mod StartedLemmas
 pub mod ExplainLemmas
+pub mod ShortLemmas
+pub mod HoldLemmas
+pub mod ImageLemmas

@@ -7,20 +7,27 @@ use Rattle.sr_cell.specs.declared.fault.Fault.{Fault}
 use Rattle.sr_message.specs.declared.message.Message.{Message}
 use Rattle.sr_message.specs.declared.message.Message.TheVariants.{Ask, Write}
 use Rattle.sr_script.specs.declared.line.TraceLine.{TraceLine}
+use Rattle.sr_store.specs.Brought.{IsToldOf}
+use Rattle.sr_store.specs.Told.{Told}
 use Rattle.sr_session.specs.Sessions.{Database}
 use Rattle.sr_session.specs.Clients as session
-use Rattle.sr_session.specs.Rules.{Answered, Outcome, AlreadyCut, AlreadyUp, AskSent, CutDone, QueryRefused, ResumeSent, WriteSent, sent_of}
+use Rattle.sr_session.specs.Brought.{told_basis}
+use Rattle.sr_session.specs.Headline.{KeepsToBudgets}
+use Rattle.sr_session.specs.Rules.{Answered, Basis, Outcome, AlreadyCut, AlreadyUp, AskSent, CutDone, QueryRefused, ResumeSent, WriteSent, sent_of}
 use Rattle.sr_session.specs.Bases.{basis_of}
+use Rattle.sr_links.specs.Brought.{GoesByTold, IsLawful, told_next}
 use Rattle.sr_links.specs.Steps.{Deed, ComesIf, Does, IsFair}
 use Rattle.sr_dial.specs.Calls.{lines_of}
-use Rattle.sr_client.specs.Stands.{StandsFor, out_of}
+use Rattle.sr_client.specs.ByTold as by
+use Rattle.sr_client.specs.Stands.{StandsFor, Stays, out_of}
 use Rattle.sr_client.specs.Steps as client
 use Rattle.sr_client.specs.Steps.{Moves}
 use Rattle.sr_client.specs.declared.client.Client.{Client}
+use Rattle.sr_client.proofs.BudgetLemmas.{clients-keep-to-budgets}
 use Rattle.sr_dial.specs.Following.{answer_of}
 use Rattle.sr_dial.specs.Known.{IsFrom, KeepsLink}
 use Rattle.sr_dial.specs.declared.parts.Answer.{Answer}
-use Rattle.sr_calls.specs.ClientEnds.{Did, IsEnd, end_with, silent}
+use Rattle.sr_calls.specs.ClientEnds.{Did, HasTold, IsEnd, end_with, silent}
 
 -- over a cut link nothing is out
 pub rests : (past : session.Client) (c : Client) → StandsFor past c → past.cut ≡ true → past.out ≡ None
@@ -78,11 +85,25 @@ unanswered false o none = refl
 -- ---- a step
 
 module _ (keeps : Bool) (old new : Client) (past : session.Client) (deed : Deed) (says : Outcome → Type 0) (If : Database → Type 0) (rule : Database → Outcome → session.Client → Type 0) (m : Moves old new past says If rule)
-    (from : All (IsFrom old.id) (sent_of m.outcome)) (does : (db : Database) (o : Outcome) (next : session.Client) → rule db o next → Does (basis_of db old.store.limits) deed past o next) (comes : (db : Database) → ComesIf db past deed → If db) where
+    (from : All (IsFrom old.id) (sent_of m.outcome)) (does : (db : Database) (o : Outcome) (next : session.Client) → rule db o next → Does (basis_of db old.store.limits) deed past o next) (comes : (db : Database) → ComesIf db past deed → If db)
+    (stays : Stays old new) (ruled : by.GoesByTold old new (λ told. told_next old.schema past deed told) (λ b. Does b deed past m.outcome m.next)) where
   fair : (writes : Bool) (lent answer : Option Answer) → IsFair IsEnd old.store.limits (end_with keeps writes old lent) past (record { deed = deed; outcome = m.outcome; past = m.next; code = end_with keeps writes new answer })
   fair writes lent answer db sound within is come =
       let both = m.over db (record { sound = sound; schema = is.0; within = within; client = is.1 }) (comes db come) in
       (does db m.outcome m.next both.0, (both.1.schema, both.1.client))
+
+  -- on any link, by the rows that the frames brought
+  budgets : (told : Told) → IsToldOf old.schema told new.store.regions → KeepsToBudgets (told_basis old.schema old.store.limits told) m.next
+  budgets told is =
+      subst (λ schema. KeepsToBudgets (told_basis schema old.store.limits told) m.next) stays.schema
+      (subst (λ limits. KeepsToBudgets (told_basis new.schema limits told) m.next) stays.limits
+      (clients-keep-to-budgets new m.next told m.stands (subst (λ schema. IsToldOf schema told new.store.regions) (sym stays.schema) is)))
+
+  lawful : (writes : Bool) (lent answer : Option Answer)
+      → IsLawful HasTold old.store.limits old.schema (end_with keeps writes old lent) past (record { deed = deed; outcome = m.outcome; past = m.next; code = end_with keeps writes new answer })
+  lawful writes lent answer told has =
+      let goes = ruled told has.1 in
+      (record { does = goes.1; budgets = budgets (told_next old.schema past deed told) goes.0 }, (m.stands, goes.0))
 
   pub makes : (answer : Option Answer) (lines : List TraceLine) (sent : List Message) → answer ≡ answer_of keeps m.outcome → lines ≡ lines_of old.id deed m.outcome → sent ≡ sent_of m.outcome → KeepsLink deed (sent_of m.outcome) past m.next
       → Did keeps old new past deed (record { told = record { lines = lines; sent = sent }; answer = answer })
@@ -98,12 +119,13 @@ module _ (keeps : Bool) (old new : Client) (past : session.Client) (deed : Deed)
     answers = answer_is;
     stands = m.stands;
     fair = fair writes lent answer;
+    lawful = lawful writes lent answer;
   }
 
 -- what is refused by the client itself changes nothing
 pub refuses : (keeps : Bool) (old : Client) (past : session.Client) (deed : Deed) (fault : Fault) (lines : List TraceLine) → StandsFor past old → lines ≡ lines_of old.id deed (QueryRefused fault) → KeepsLink deed [] past past
-    → ((db : Database) → Does (basis_of db old.store.limits) deed past (QueryRefused fault) past) → Did keeps old old past deed (silent lines)
-refuses keeps old past deed fault lines stands lines_are link does = λ writes lent. record {
+    → ((told : Told) → told_next old.schema past deed told ≡ told) → ((b : Basis) → Does b deed past (QueryRefused fault) past) → Did keeps old old past deed (silent lines)
+refuses keeps old past deed fault lines stands lines_are link untold does = λ writes lent. record {
   outcome = QueryRefused fault;
   next = past;
   lines_are = lines_are;
@@ -114,5 +136,7 @@ refuses keeps old past deed fault lines stands lines_are link does = λ writes l
   rests = rests past old stands;
   answers = unanswered keeps (QueryRefused fault) tt;
   stands = stands;
-  fair = λ db sound within is come. (does db, is);
+  fair = λ db sound within is come. (does (basis_of db old.store.limits), is);
+  lawful = λ told has. subst (λ t. GoesByTold old.store.limits old.schema past (record { deed = deed; outcome = QueryRefused fault; past = past; code = end_with keeps writes old None }) t × HasTold old.schema (end_with keeps writes old None) past t)
+      (sym (untold told)) (record { does = does (told_basis old.schema old.store.limits told); budgets = clients-keep-to-budgets old past told stands has.1 }, (stands, has.1));
 }

@@ -12,6 +12,7 @@ use Rattle.sr_message.specs.declared.message.Message.TheVariants as kinds
 use Rattle.sr_model.specs.Queries.{Query}
 use Rattle.sr_script.specs.declared.line.TraceLine.{TraceLine}
 use Rattle.sr_script.specs.declared.line.TraceLine.TheVariants as line
+use Rattle.sr_store.specs.Brought.{IsToldOf}
 use Rattle.sr_session.specs.Clients as session
 use Rattle.sr_session.specs.Rules as rules
 use Rattle.sr_session.specs.Refusals.{is_request_of}
@@ -35,7 +36,7 @@ use Rattle.sr_client.specs.declared.steps.WriteStep.{WriteStep}
 use Rattle.sr_client.specs.declared.steps.WriteStep.TheVariants as written
 use Rattle.sr_client.specs.Sends.{QuerySendsWell, ResumeSendsWell, WriteSendsWell}
 use Rattle.sr_client.specs.Stands as client
-use Rattle.sr_client.specs.Stands.{StandsFor, out_of, past_of}
+use Rattle.sr_client.specs.Stands.{StandsFor, Stays, out_of, past_of}
 use Rattle.sr_client.specs.Steps as steps
 use Rattle.sr_client.specs.Steps.{Cuts, Evicts, Queries, Resumes, SaysCut, SaysEvict, SaysQuery, SaysResume, SaysWrite, Writes}
 use Rattle.sr_client.proofs.Results.{if_ok}
@@ -58,7 +59,7 @@ told_sendable (Some m) each = All-cons IsSendable m [] (each m refl) (All-nil Is
 pub refuses_query : (keeps : Bool) (old : Client) (past : session.Client) (fault : Fault) (done : Done) → StandsFor past old → done ≡ silent (line.QuerySql old.id fault ∷ []) → Did keeps old old past (Queried (Err fault)) done
 refuses_query keeps old past fault done stands is =
     subst (Did keeps old old past (Queried (Err fault))) (sym is)
-    (refuses keeps old past (Queried (Err fault)) fault (line.QuerySql old.id fault ∷ []) stands refl (refl, λ some. absurd (some refl)) (λ db. rules.query_refused fault))
+    (refuses keeps old past (Queried (Err fault)) fault (line.QuerySql old.id fault ∷ []) stands refl (refl, λ some. absurd (some refl)) (λ told. refl) (λ b. rules.query_refused fault))
 
 query_plain : (past : session.Client) (step : QueryStep) (o : Outcome) → SaysQuery past step o → IsPlainOutcome o
 query_plain past (query.Answered q version rows marks) o says = subst IsPlainOutcome (sym says) tt
@@ -66,7 +67,7 @@ query_plain past (query.Asked q request message marks) o says = subst IsPlainOut
 query_plain past (query.Busy request) o says = subst IsPlainOutcome (sym says) tt
 query_plain past (query.Down number) o says = subst IsPlainOutcome (sym says) tt
 
-module _ {E : Type 0} (keeps : Bool) (old new : Client) (meaning : Query) (step : QueryStep) (told : world.Told) (answer : Option Answer) (r : Result Done E) (does : Queries old meaning new step)
+module _ {E : Type 0} (keeps : Bool) (old new : Client) (meaning : Query) (step : QueryStep) (told : world.Told) (answer : Option Answer) (r : Result Done E) (does : Queries old meaning new step) (stays : Stays old new)
     (tells : (past : session.Client) (o : Outcome) → SaysQuery past step o → IsToldOf old.id query_line o told) (answers : (past : session.Client) (o : Outcome) → SaysQuery past step o → answer ≡ answer_of keeps o)
     (is : IfOk r (λ d. d ≡ done_of told answer)) where
   pub query_makes : (past : session.Client) → StandsFor past old → IfOk r (Did keeps old new past (Queried (Ok meaning)))
@@ -75,7 +76,7 @@ module _ {E : Type 0} (keeps : Bool) (old new : Client) (meaning : Query) (step 
       let t = tells past m.outcome m.is in
       if_ok (Did keeps old new past (Queried (Ok meaning))) r (done_of told answer) is
       (makes keeps old new past (Queried (Ok meaning)) (SaysQuery past step) (λ db. Unit {0}) (λ db. rules.QueryStep (basis_of db old.store.limits) past (Ok meaning)) m
-      (plain_from old.id m.outcome (query_plain past step m.outcome m.is)) (λ db o next rule. rule) (λ db come. tt)
+      (plain_from old.id m.outcome (query_plain past step m.outcome m.is)) (λ db o next rule. rule) (λ db come. tt) stays (does.ruled past stands)
       answer told.lines (option_to_list told.sent) (answers past m.outcome m.is) t.lines t.sent (plain_link past m.next m.outcome (query_plain past step m.outcome m.is) m.link))
 
   pub query_sendable : client.Stands old → QuerySendsWell old.schema old.id step → IfOk r (λ d. All IsSendable d.told.sent)
@@ -107,7 +108,7 @@ write_last n sql (written.Busy request) o says = subst (λ o. write_line n o ≡
 write_last n sql (written.Down number) o says = subst (λ o. write_line n o ≡ last_lines n (Wrote sql) o) (sym says) refl
 
 module _ {E : Type 0} (old new : Client) (sql : List ℕ) (step : WriteStep) (told : world.Told) (r : Result Done E) (long : most_text < length sql → (step ≡ written.Sql long_text) × (new ≡ old))
-    (does : length sql ≤ most_text → Writes old sql new step) (tells : (o : Outcome) → SaysWrite sql step o → IsToldOf old.id write_line o told)
+    (does : length sql ≤ most_text → Writes old sql new step) (stays : Stays old new) (held : new.store.regions ≡ old.store.regions) (tells : (o : Outcome) → SaysWrite sql step o → IsToldOf old.id write_line o told)
     (refused : (fault : Fault) → step ≡ written.Sql fault → told ≡ record { lines = line.WriteSql old.id fault ∷ []; sent = None }) (is : IfOk r (λ d. d ≡ done_of told None)) where
   short_makes : (keeps : Bool) (past : session.Client) → StandsFor past old → length sql ≤ most_text → IfOk r (Did keeps old new past (Wrote sql))
   short_makes keeps past stands short =
@@ -115,6 +116,7 @@ module _ {E : Type 0} (old new : Client) (sql : List ℕ) (step : WriteStep) (to
       let t = tells m.outcome m.is in
       if_ok (Did keeps old new past (Wrote sql)) r (done_of told None) is
       (makes keeps old new past (Wrote sql) (SaysWrite sql step) (λ db. Unit {0}) (λ db. rules.WriteStep sql past) m (plain_from old.id m.outcome (write_plain sql step m.outcome m.is)) (λ db o next rule. writes o next short rule) (λ db come. tt)
+      stays (λ told is. (subst (IsToldOf old.schema told) (sym held) is, writes m.outcome m.next short ((does short).ruled past stands)))
       None told.lines (option_to_list told.sent) (unanswered keeps m.outcome (write_unanswered sql step m.outcome m.is)) (t.lines ∙ ap (λ ls. details old.id m.outcome ++ ls) (write_last old.id sql step m.outcome m.is)) t.sent (plain_link past m.next m.outcome (write_plain sql step m.outcome m.is) m.link))
 
   long_makes : (keeps : Bool) (past : session.Client) → StandsFor past old → most_text < length sql → IfOk r (Did keeps old new past (Wrote sql))
@@ -123,7 +125,7 @@ module _ {E : Type 0} (old new : Client) (sql : List ℕ) (step : WriteStep) (to
       if_ok (Did keeps old new past (Wrote sql)) r (done_of told None) is
       (subst (λ (c : Client). Did keeps old c past (Wrote sql) (done_of told None)) (sym (long over).1)
       (subst (Did keeps old old past (Wrote sql)) (sym done_is)
-      (refuses keeps old past (Wrote sql) long_text (line.WriteSql old.id long_text ∷ []) stands refl (refl, λ some. absurd (some refl)) (λ db. too_long over))))
+      (refuses keeps old past (Wrote sql) long_text (line.WriteSql old.id long_text ∷ []) stands refl (refl, λ some. absurd (some refl)) (λ told. refl) (λ b. too_long over))))
 
   pub write_makes : (keeps : Bool) (past : session.Client) → StandsFor past old → IfOk r (Did keeps old new past (Wrote sql))
   write_makes keeps past stands = by (nat_le (length sql) most_text) refl
@@ -157,13 +159,17 @@ evict_unanswered (evicts.Dropped region) o says = subst IsUnanswered (sym says) 
 evict_unanswered (evicts.Busy request) o says = subst IsUnanswered (sym says) tt
 evict_unanswered (evicts.NoSuch count) o says = subst IsUnanswered (sym says) tt
 
-pub evict_makes : (old new : Client) (place : ℕ) (step : EvictStep) (lines : List TraceLine) (done : Done) → Evicts old place new step → ((o : Outcome) → SaysEvict step o → lines ≡ details old.id o ++ evict_line old.id o)
+-- where its regions alone change
+pub only_store : (old new : Client) → new ≡ record old { store = record old.store { regions = new.store.regions } } → Stays old new
+only_store old new rest = record { id = ap (λ (c : Client). c.id) rest; schema = ap (λ (c : Client). c.schema) rest; limits = ap (λ (c : Client). c.store.limits) rest }
+
+pub evict_makes : (old new : Client) (place : ℕ) (step : EvictStep) (lines : List TraceLine) (done : Done) → Evicts old place new step → Stays old new → ((o : Outcome) → SaysEvict step o → lines ≡ details old.id o ++ evict_line old.id o)
     → done ≡ silent lines → (keeps : Bool) (past : session.Client) → StandsFor past old → Did keeps old new past (Evicted place) done
-evict_makes old new place step lines done does tells is keeps past stands =
+evict_makes old new place step lines done does stays tells is keeps past stands =
     let m = does.moves past stands in
     subst (Did keeps old new past (Evicted place)) (sym is)
     (makes keeps old new past (Evicted place) (SaysEvict step) (λ db. Unit {0}) (λ db. rules.EvictStep (basis_of db old.store.limits) place past) m
-    (plain_from old.id m.outcome (evict_plain step m.outcome m.is)) (λ db o next rule. rule) (λ db come. tt)
+    (plain_from old.id m.outcome (evict_plain step m.outcome m.is)) (λ db o next rule. rule) (λ db come. tt) stays (does.ruled past stands)
     None lines [] (unanswered keeps m.outcome (evict_unanswered step m.outcome m.is)) (tells m.outcome m.is) (sym (evict-nothing step m.outcome m.is)) (plain_link past m.next m.outcome (evict_plain step m.outcome m.is) m.link))
 
 -- ---- a resume
@@ -196,7 +202,7 @@ resume_unanswered : (past : session.Client) (step : ResumeStep) (o : Outcome) �
 resume_unanswered past (resumes.Sent request message) o says = subst IsUnanswered (sym says.1) tt
 resume_unanswered past resumes.Up o says = subst IsUnanswered (sym says) tt
 
-module _ {E : Type 0} (old new : Client) (step : ResumeStep) (told : world.Told) (r : Result Done E) (does : Resumes old new step)
+module _ {E : Type 0} (old new : Client) (step : ResumeStep) (told : world.Told) (r : Result Done E) (does : Resumes old new step) (stays : Stays old new) (held : new.store.regions ≡ old.store.regions)
     (tells : (past : session.Client) (o : Outcome) → SaysResume past step o → IsToldOf old.id resume_line o told) (is : IfOk r (λ d. d ≡ done_of told None)) where
   pub resume_makes : ResumeSendsWell old.schema old.id step → (keeps : Bool) (past : session.Client) → StandsFor past old → IfOk r (Did keeps old new past Resumed)
   resume_makes sends keeps past stands =
@@ -205,6 +211,7 @@ module _ {E : Type 0} (old new : Client) (step : ResumeStep) (told : world.Told)
       if_ok (Did keeps old new past Resumed) r (done_of told None) is
       (makes keeps old new past Resumed (SaysResume past step) (λ db. Unit {0}) (λ db. rules.ResumeStep db.schema past) m
       (resume_from old.schema old.id past step m.outcome sends m.is) (λ db o next rule. rule) (λ db come. tt)
+      stays (λ told is. (subst (IsToldOf old.schema told) (sym held) is, does.ruled past stands))
       None told.lines (option_to_list told.sent) (unanswered keeps m.outcome (resume_unanswered past step m.outcome m.is)) t.lines t.sent (resume_link past m.next step m.outcome m.is m.link))
 
   pub resume_sendable : client.Stands old → ResumeSendsWell old.schema old.id step → IfOk r (λ d. All IsSendable d.told.sent)
@@ -225,13 +232,13 @@ cut_unanswered : (past : session.Client) (old : Client) (step : CutStep) (o : Ou
 cut_unanswered past old (cuts.Cut number ended) o says = subst IsUnanswered (sym says.1) tt
 cut_unanswered past old (cuts.Already number) o says = subst IsUnanswered (sym says) tt
 
-pub cut_makes : {E : Type 0} (old new : Client) (step : CutStep) (r : Result (List TraceLine) E) → Cuts old new step
+pub cut_makes : {E : Type 0} (old new : Client) (step : CutStep) (r : Result (List TraceLine) E) → Cuts old new step → Stays old new → new.store.regions ≡ old.store.regions
     → ((past : session.Client) (c : Client) (o : Outcome) (meaning : Query) → past.out ≡ out_of meaning c.out → SaysCut past c step o → IfOk r (λ lines. lines ≡ details old.id o ++ cut_line old.id o))
     → (keeps : Bool) (past : session.Client) → StandsFor past old → IfOk r (λ lines. Did keeps old new past WasCut (silent lines))
-cut_makes {E} old new step r does tells keeps past stands =
+cut_makes {E} old new step r does stays held tells keeps past stands =
     let m = does.moves past stands in
     let link = cut_link past m.next old step m.outcome m.is m.link in
     IfOk-weaker r (λ lines. lines ≡ details old.id m.outcome ++ cut_line old.id m.outcome) (λ lines. Did keeps old new past WasCut (silent lines))
     (λ lines is. makes keeps old new past WasCut (SaysCut past old step) (λ db. Unit {0}) (λ db. rules.CutStep past) m
-    (subst (All (IsFrom old.id)) (sym link.1) (All-nil (IsFrom old.id))) (λ db o next rule. rule) (λ db come. tt) None lines [] (unanswered keeps m.outcome (cut_unanswered past old step m.outcome m.is)) is (sym link.1) link)
+    (subst (All (IsFrom old.id)) (sym link.1) (All-nil (IsFrom old.id))) (λ db o next rule. rule) (λ db come. tt) stays (λ told is. (subst (IsToldOf old.schema told) (sym held) is, does.ruled past stands)) None lines [] (unanswered keeps m.outcome (cut_unanswered past old step m.outcome m.is)) is (sym link.1) link)
     (tells past old m.outcome stands.0.meaning (ap (λ (p : session.Client). p.out) stands.2) m.is)

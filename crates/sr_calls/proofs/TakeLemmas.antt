@@ -20,7 +20,7 @@ use Rattle.sr_client.specs.declared.steps.Took.{Took}
 use Rattle.sr_client.specs.declared.steps.Took.TheVariants as took
 use Rattle.sr_client.specs.Sends.{TookSendsWell}
 use Rattle.sr_client.specs.Stands as client
-use Rattle.sr_client.specs.Stands.{StandsFor, Truly, out_of, past_of}
+use Rattle.sr_client.specs.Stands.{StandsFor, Stays, Truly, out_of, past_of}
 use Rattle.sr_client.specs.Steps.{SaysTook, Takes, is_bad}
 use Rattle.sr_world.specs.declared.lines.Told as world
 use Rattle.sr_world.proofs.ClientLemmas.{IsToldOf, took-each}
@@ -58,7 +58,7 @@ took_plain (took.Bad why) o says = absurd says
 truly : (db : Database) (past : session.Client) (m : Message) → ComesTruly db past m → Truly db past m
 truly db past m come = record { connection = come.connection; session = come.session; is_open = come.is_open; rest = come.queue; first = come.first }
 
-module _ (keeps : Bool) (old new : Client) (message : Message) (step : Took) (told : world.Told) (answer : Option Answer) (done : Done) (does : Takes old message new step) (good : is_bad step ≡ false)
+module _ (keeps : Bool) (old new : Client) (message : Message) (step : Took) (told : world.Told) (answer : Option Answer) (done : Done) (does : Takes old message new step) (good : is_bad step ≡ false) (stays : Stays old new)
     (tells : (o : Outcome) → SaysTook step o → IsToldOf old.id taken_line o told) (answers : (o : Outcome) → SaysTook step o → answer ≡ answer_of keeps o) (is : done ≡ done_of told answer) where
   pub take_makes : (past : session.Client) → StandsFor past old → Did keeps old new past (links.Took message) done
   take_makes past stands =
@@ -66,7 +66,7 @@ module _ (keeps : Bool) (old new : Client) (message : Message) (step : Took) (to
       let said = tells m.outcome m.is in
       subst (Did keeps old new past (links.Took message)) (sym is)
       (makes keeps old new past (links.Took message) (SaysTook step) (λ db. Truly db past message) (λ db. rules.TakeStep (basis_of db old.store.limits) past message) m
-      (plain_from old.id m.outcome (took_plain step m.outcome m.is)) (λ db o next rule. rule) (λ db come. truly db past message come)
+      (plain_from old.id m.outcome (took_plain step m.outcome m.is)) (λ db o next rule. rule) (λ db come. truly db past message come) stays (does.ruled past stands good)
       answer told.lines (option_to_list told.sent) (answers m.outcome m.is) said.lines said.sent (plain_link past m.next m.outcome (took_plain step m.outcome m.is) m.link))
 
   pub take_sendable : client.Stands old → TookSendsWell old.schema old.id step → All IsSendable done.told.sent

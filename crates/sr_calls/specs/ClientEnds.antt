@@ -6,6 +6,8 @@ use Rattle.sr_message.specs.declared.message.Message.{Message}
 use Rattle.sr_model.specs.Queries as model
 use Rattle.sr_model.specs.Statements.{Tables}
 use Rattle.sr_script.specs.declared.line.TraceLine.{TraceLine}
+use Rattle.sr_store.specs.Brought.{IsToldOf}
+use Rattle.sr_store.specs.Told.{Told}
 use Rattle.sr_session.specs.Clients as session
 use Rattle.sr_client.specs.Sends.{IsOfFormat}
 use Rattle.sr_client.specs.Stands as client
@@ -15,6 +17,7 @@ use Rattle.sr_links.specs.Steps.{Deed}
 use Rattle.sr_dial.specs.Known.{Makes, Setting, TakesAs, Tells}
 use Rattle.sr_dial.specs.declared.parts.Answer.{Answer}
 use Rattle.sr_world.specs.declared.lines.Told as lines
+use Rattle.sr_calls.specs.Short.{HoldsShort}
 use Rattle.sr_calls.specs.declared.calls.Done.{Done}
 use Rattle.sr_calls.specs.declared.calls.Taken.{Taken}
 
@@ -28,9 +31,9 @@ pub record End : Type 0 where
 abbrev pub end_with : Bool → Bool → Client → Option Answer → End
 end_with keeps says client answer = record { client = client; keeps = keeps; says = says; answer = answer }
 
--- It stands for some past, and the format has its number and its limits.
+-- It stands for some past, the format has its number and its limits, and it holds short texts alone.
 abbrev pub IsReady : Client → Type 0
-IsReady c = client.Stands c × IsOfFormat c
+IsReady c = client.Stands c × IsOfFormat c × HoldsShort c
 
 -- on any link
 abbrev pub Stands : End → session.Client → Type 0
@@ -39,6 +42,10 @@ Stands e past = StandsFor past e.client
 -- with the rows of these tables of this schema
 abbrev pub IsEnd : List Table → End → session.Client → Tables → Type 0
 IsEnd schema e past tables = (schema ≡ e.client.schema) × IsClient e.client past tables
+
+-- on any link, with rows that were told of tables of this schema
+abbrev pub HasTold : List Table → End → session.Client → Told → Type 0
+HasTold schema e past told = Stands e past × IsToldOf schema told e.client.store.regions
 
 -- what no step changes
 abbrev pub setting_of : End → Setting
@@ -66,12 +73,12 @@ done_of told answer = record { told = record { lines = told.lines; sent = option
 -- from this past, with these lines, what was sent, and the answer that its end lends then
 abbrev pub Did : Bool → Client → Client → session.Client → Deed → Done → Type 0
 Did keeps old new past deed done = (says : Bool) (lent : Option Answer)
-    → Makes Stands lent_by IsEnd (setting_of (end_with keeps says old lent)) (end_with keeps says old lent) (end_with keeps says new done.answer) past deed done.told.lines done.told.sent
+    → Makes Stands lent_by IsEnd HasTold (setting_of (end_with keeps says old lent)) (end_with keeps says old lent) (end_with keeps says new done.answer) past deed done.told.lines done.told.sent
 
 -- the same of a message that it took, or refused
 abbrev pub DidTake : Bool → Client → Client → session.Client → Message → Taken → Type 0
 DidTake keeps old new past message taken = (says : Bool) (lent : Option Answer)
-    → TakesAs taken.came Stands lent_by IsEnd (setting_of (end_with keeps says old lent)) (end_with keeps says old lent) (end_with keeps says new taken.answer) past message
+    → TakesAs taken.came Stands lent_by IsEnd HasTold (setting_of (end_with keeps says old lent)) (end_with keeps says old lent) (end_with keeps says new taken.answer) past message
 
 -- the lines that it explains a query of this text by
 abbrev pub DidExplain : Client → session.Client → Result model.Query Fault → List TraceLine → Type 0

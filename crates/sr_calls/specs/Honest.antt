@@ -6,24 +6,27 @@ use Rattle.sr_io.specs.Told.{Linking, Writing}
 use Rattle.sr_policy.specs.declared.policy.Limits.{Limits}
 use Rattle.sr_query.specs.Bound.{is_table}
 use Rattle.sr_reader.specs.declared.script.EventLine.{EventLine}
+use Rattle.sr_store.specs.Brought.{nothing_told}
+use Rattle.sr_store.specs.Told.{Told}
 use Rattle.sr_session.specs.Bases.{basis_of}
 use Rattle.sr_session.specs.Clients as session
 use Rattle.sr_session.specs.Headline.{KeepsToBudgets}
 use Rattle.sr_session.specs.Laws.{IsSound}
 use Rattle.sr_session.specs.Sessions.{Database}
 use Rattle.sr_server.specs.Servers.{Gives}
+use Rattle.sr_links.specs.Brought.{GoByTold}
 use Rattle.sr_links.specs.Honest.{Server, Input, Rests, server_at_last}
 use Rattle.sr_links.specs.Steps.{Resumed}
 use Rattle.sr_plan.specs.Plans.{Plan, AllTasks, plan_of}
-use Rattle.sr_dial.specs.Calls.{Task, Do}
+use Rattle.sr_dial.specs.Calls.{Task, Do, all_done, steps_in}
 use Rattle.sr_talk.specs.Serving.{Conversation}
 use Rattle.sr_dial.specs.Honest.{IsAskedFor, IsHonest, IsTrue}
 use Rattle.sr_dial.specs.Known.{AreTasks}
 use Rattle.sr_dial.specs.Served.{AreServedCalls}
 use Rattle.sr_dial.specs.declared.ending.Ending.{Ending}
 use Rattle.sr_dial.specs.declared.parts.Answer.{Answer}
-use Rattle.sr_calls.specs.ClientEnds.{End, IsEnd}
-use Rattle.sr_calls.specs.Runs.{RanFrom, RanNew, new_past}
+use Rattle.sr_calls.specs.ClientEnds.{End, HasTold, IsEnd}
+use Rattle.sr_calls.specs.Runs.{RanFrom, RanNew, RanOff, new_past}
 
 -- Over an honest link each answer has the rows of its query on the server's tables at the version that it names, each ask asks just what
 -- is not covered, a covered query sends nothing, the client keeps to its budgets, versions never fall, and nothing that comes is refused:
@@ -47,6 +50,24 @@ ServedRunsAreTrue = (id : ℕ) (address : List ℕ) (schema : List Table) (limit
     → AllTasks IsAskedFor plan → (run : RanNew id address schema limits keeps says plan ended old new before after) → db.schema ≡ schema → 0 < length db.versions → IsSound last
     → AreServedCalls End Gives db (run.ran.run.ran.earlier ++ run.ran.run.ran.last ∷ []) talks last
     → IsTrue last limits new_past (run.ran.run.ran.earlier ++ run.ran.run.ran.last ∷ []) ended
+
+-- Over any link, whatever the peer is, each step of a run goes by the client's rules, on what the frames brought to the rows that its client
+-- had, and the client keeps to its budgets by them.
+abbrev pub RunsFromAnyClientGoByTold : Type 0
+RunsFromAnyClientGoByTold = (end left : End) (past : session.Client) (address : List ℕ) (plan : Plan Task Answer) (ended : Ending) (old new : Linking) (before after : Writing) (told : Told) → HasTold end.client.schema end past told
+    → (run : RanFrom end past address plan ended old new before after left)
+    → GoByTold end.client.store.limits end.client.schema told past (steps_in (all_done (run.run.ran.earlier ++ run.run.ran.last ∷ [])))
+
+-- So does each step of a run of a new client, on the rows that the frames brought.
+abbrev pub RunsGoByTold : Type 0
+RunsGoByTold = (id : ℕ) (address : List ℕ) (schema : List Table) (limits : Limits) (keeps says : Bool) (plan : Plan Task Answer) (ended : Ending) (old new : Linking) (before after : Writing)
+    → (run : RanNew id address schema limits keeps says plan ended old new before after)
+    → GoByTold limits schema nothing_told new_past (steps_in (all_done (run.ran.run.ran.earlier ++ run.ran.run.ran.last ∷ [])))
+
+-- So does each step of a run that is broken off for want of memory.
+abbrev pub BrokenRunsGoByTold : Type 0
+BrokenRunsGoByTold = (end : End) (past : session.Client) (address : List ℕ) (plan : Plan Task Answer) (old new : Linking) (before after : Writing) (told : Told) → HasTold end.client.schema end past told
+    → (run : RanOff end past address plan old new before after) → GoByTold end.client.store.limits end.client.schema told past (steps_in (all_done run.calls))
 
 -- No line of a script asks to take a message.
 abbrev pub ScriptsAreAskedFor : Type 0

@@ -1,3 +1,5 @@
+pub mod Short
 pub mod ClientEnds
 pub mod Runs
 pub mod Honest
+pub mod Started

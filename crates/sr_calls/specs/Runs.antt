@@ -12,15 +12,15 @@ use Rattle.sr_dial.specs.Calls.{Task}
 use Rattle.sr_dial.specs.Runs.{RanInPart, RanTo}
 use Rattle.sr_dial.specs.declared.ending.Ending.{Ending}
 use Rattle.sr_dial.specs.declared.parts.Answer.{Answer}
-use Rattle.sr_calls.specs.ClientEnds.{End, IsEnd, Stands, end_with, setting_of}
+use Rattle.sr_calls.specs.ClientEnds.{End, HasTold, IsEnd, Stands, end_with, setting_of}
 
 -- A client's end that was of this past ran over a plan, dialled this address, ended so, and this is the end that it left.
 abbrev pub RanFrom : End → session.Client → List ℕ → Plan Task Answer → Ending → Linking → Linking → Writing → Writing → End → Type 0
-RanFrom end past address plan ended old new before after left = RanTo End Stands IsEnd (setting_of end) end past address plan ended old new before after left
+RanFrom end past address plan ended old new before after left = RanTo End Stands IsEnd HasTold (setting_of end) end past address plan ended old new before after left
 
 -- Out of memory: the same, broken off.
 abbrev pub RanOff : End → session.Client → List ℕ → Plan Task Answer → Linking → Linking → Writing → Writing → Type 0
-RanOff end past address plan old new before after = RanInPart End IsEnd (setting_of end) end past address plan old new before after
+RanOff end past address plan old new before after = RanInPart End IsEnd HasTold (setting_of end) end past address plan old new before after
 
 -- a client's past before anything happens: its link is down
 abbrev pub new_past : session.Client
@@ -36,3 +36,8 @@ pub record RanNew (id : ℕ) (address : List ℕ) (schema : List Table) (limits 
   pub begins : (tables : Tables) → IsEnd schema (new_end id schema limits keeps says) new_past tables
   pub left : End
   pub ran : RanFrom (new_end id schema limits keeps says) new_past address plan ended old new before after left
+
+-- Out of memory: the same, broken off. What was sent and written begins what the rules give.
+pub record RanNewInPart (id : ℕ) (address : List ℕ) (schema : List Table) (limits : Limits) (keeps says : Bool) (plan : Plan Task Answer) (old new : Linking) (before after : Writing) : Type 0 where
+  pub begins : (tables : Tables) → IsEnd schema (new_end id schema limits keeps says) new_past tables
+  pub ran : RanOff (new_end id schema limits keeps says) new_past address plan old new before after

@@ -2,16 +2,27 @@
 ghost use Rattle.std.specs.Prelude.{◌≡◌, ◌≤◌, None, IfOk, IsTrue};
 ghost use Rattle.std.specs.List.{list_all};
 ghost use Rattle.sr_query.specs.Bound.{is_table};
+ghost use Rattle.sr_store.specs.Starting.{IsStart};
+ghost use Rattle.sr_client.specs.Stands.{StandsFor};
+ghost use Rattle.sr_client.specs.Starting.{start_client, start_past};
+ghost use Rattle.sr_image.specs.Joining.{image_from};
+ghost use Rattle.sr_image.specs.Laws.{is_image};
+ghost use Rattle.sr_image.specs.Writing.{may_write_image};
 ghost use Rattle.sr_calls.specs.ClientEnds.{IsReady, end_with};
 ghost use Rattle.sr_calls.specs.Runs.{new_end};
 
 use crate::calls;
+use crate::start::start_from;
 use sr_cell::fault::Fault;
 use sr_cell::list::{Copied, NoMemory};
 use sr_cell::schema::Schema;
 use sr_client::client::Client;
+use sr_client::start::ClientStart;
 use sr_dial::parts::{Answer, Asks, Came, Told};
-use sr_links::laws::Peer;
+use sr_history::mark::Marks;
+use sr_image::image::Image;
+use sr_image::joining::image_of_store;
+use sr_links::laws::{Hearer, Peer};
 use sr_message::message::Message;
 use sr_policy::policy::Limits;
 use sr_query::query::Query;
@@ -20,14 +31,21 @@ use sr_script::line::TraceLines;
 use std::alloc::Global;
 use std::marker::Model;
 
-/// A client that stands for some past, and whose number and limits the format has; whether the rows of answers are kept, so as to be
-/// lent, and whether a run writes lines; and the answer that is lent.
+/// A client that stands for some past, whose number and limits the format has, and which holds short texts alone; whether the rows of
+/// answers are kept, so as to be lent, and whether a run writes lines; and the answer that is lent.
 #[derive(Drop)]
 pub struct ClientEnd {
     client: Client,
     keeps: bool,
     says: bool,
     answer: Option<Answer>,
+}
+
+/// The end of a client that starts from an image, and the marks of what it holds and dropped at its start.
+#[derive(Drop)]
+pub struct EndStart {
+    pub end: ClientEnd,
+    pub marks: Marks,
 }
 
 impl Model for ClientEnd {
@@ -74,6 +92,32 @@ impl ClientEnd {
         Ok(ClientEnd::new(client, keeps, says))
     }
 
+    /// The end of a client that starts from an image, and the marks of its start.
+    pub fn of_image(
+        alloc: Global,
+        id: u8,
+        schema: &Schema,
+        limits: Limits,
+        image: Image,
+        keeps: bool,
+        says: bool,
+    ) -> Result<EndStart, NoMemory>
+        requires first { 1 ≤ id }
+        requires last { id ≤ 64 }
+        requires tables { IsTrue (list_all is_table schema.now) }
+        requires regions { limits.regions ≤ 1024 }
+        requires image { IsTrue (is_image schema.now image) }
+        ensures end { IfOk result (λ start. start.end ≡ end_with keeps says (start_client id schema.now limits image.version start.end.client.store) None) }
+        ensures store { IfOk result (λ start. IsStart schema.now limits image.kept (record { store = start.end.client.store; marks = start.marks })) }
+        ensures stands { IfOk result (λ start. StandsFor (start_past schema.now image.version image.kept start.marks) start.end.client) }
+    {
+        let ClientStart { client, marks } = start_from(alloc, id, schema, limits, image)?;
+        Ok(EndStart {
+            end: ClientEnd::new(client, keeps, says),
+            marks,
+        })
+    }
+
     /// The client.
     pub fn client(&self) -> &Client
         ensures is { result.now ≡ self.now.client }
@@ -81,12 +125,39 @@ impl ClientEnd {
     {
         &self.client
     }
+
+    /// The image of what the client holds: it can be written, and read again.
+    pub fn image(&self, alloc: Global) -> Result<Image, NoMemory>
+        requires rows { self.now.client.store.limits.rows ≤ 200000 }
+        ensures is { IfOk result (λ image. image ≡ image_from self.now.client.version self.now.client.store.regions) }
+        ensures whole { IfOk result (λ image. IsTrue (is_image self.now.client.schema image)) }
+        ensures may_write { IfOk result (λ image. IsTrue (may_write_image image)) }
+    {
+        image_of(alloc, &self.client)
+    }
+}
+
+/// The image of what a client holds.
+fn image_of(alloc: Global, client: &Client) -> Result<Image, NoMemory>
+    requires ready { IsReady client.now }
+    requires rows { client.now.store.limits.rows ≤ 200000 }
+    ensures is { IfOk result (λ image. image ≡ image_from client.now.version client.now.store.regions) }
+    ensures whole { IfOk result (λ image. IsTrue (is_image client.now.schema image)) }
+    ensures may_write { IfOk result (λ image. IsTrue (may_write_image image)) }
+{
+    image_of_store(alloc, client.version(), client.regions())
 }
 
 impl Peer for ClientEnd {
     ghost use Rattle.sr_calls.specs.ClientEnds.{IsEnd};
 
     ghost is_of = { IsEnd };
+}
+
+impl Hearer for ClientEnd {
+    ghost use Rattle.sr_calls.specs.ClientEnds.{HasTold};
+
+    ghost has_told = { HasTold };
 }
 
 impl Asks for ClientEnd {

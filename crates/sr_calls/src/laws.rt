@@ -1,5 +1,6 @@
 //! Laws of runs of a client: functions that do nothing, and whose contracts are the laws.
-ghost use Rattle.sr_calls.specs.Honest.{HonestRunsAreTrue, NewHonestRunsAreTrue, ScriptsAreAskedFor, ServedRunsAreTrue};
+ghost use Rattle.sr_calls.specs.Honest.{BrokenRunsGoByTold, HonestRunsAreTrue, NewHonestRunsAreTrue, RunsFromAnyClientGoByTold, RunsGoByTold, ScriptsAreAskedFor, ServedRunsAreTrue};
+ghost use Rattle.sr_calls.specs.Started.{StartedRunsAreTrue};
 
 /// Over an honest link, whatever the plan is, each answer that a run of a client writes has the rows of its query on the server's tables
 /// at the version that it names, each ask asks just what is not covered, a covered query sends nothing, the client keeps to its budgets,
@@ -14,9 +15,30 @@ pub fn honest_runs_are_true()
     ensures { NewHonestRunsAreTrue }
 {}
 
+/// So it is of a client that starts from an image, where this is true of the server's tables at one of their versions.
+pub fn started_runs_are_true()
+    ensures { StartedRunsAreTrue }
+{}
+
 /// So it is where each connection goes to a server that serves: at the versions that it has in the end.
 pub fn served_runs_are_true()
     ensures { ServedRunsAreTrue }
+{}
+
+/// Over any link, whatever the peer is, each step of a run goes by the client's rules, on what the frames brought to the rows that the
+/// client had, and the client keeps to its budgets by them.
+pub fn runs_from_any_client_go_by_told()
+    ensures { RunsFromAnyClientGoByTold }
+{}
+
+/// So does each step of a run of a new client, on the rows that the frames brought.
+pub fn runs_go_by_told()
+    ensures { RunsGoByTold }
+{}
+
+/// So does each step of a run that is broken off for want of memory.
+pub fn broken_runs_go_by_told()
+    ensures { BrokenRunsGoByTold }
 {}
 
 /// The lines of a script are such a plan: none asks to take a message.

@@ -5,3 +5,4 @@ pub mod calls;
 pub mod client_end;
 pub mod laws;
 pub mod run;
+pub mod start;

@@ -8,7 +8,7 @@ ghost use Rattle.sr_dial.specs.Calls.{Do};
 ghost use Rattle.sr_dial.specs.Following.{Ahead};
 ghost use Rattle.sr_dial.specs.declared.ending.Ending.TheVariants.{Unwritten};
 ghost use Rattle.sr_talk.specs.Rounds.{OnlyOutput};
-ghost use Rattle.sr_calls.specs.ClientEnds.{room_of};
+ghost use Rattle.sr_calls.specs.ClientEnds.{room_of, setting_of};
 ghost use Rattle.sr_calls.specs.Runs.{RanFrom, RanOff};
 
 use crate::client_end::ClientEnd;
@@ -42,6 +42,7 @@ pub fn run_plan<H: Host, P: Plans>(
         → P.follows schema.now plans.old ahead
         → OnErr result (RanOff end.old past address.now (Next 0 (Do Resumed) ahead)
         (H.linking host.old) (H.linking host.new) (H.writing host.old) (H.writing host.new)) }
+    ensures setting { setting_of end.new ≡ setting_of end.old }
     ensures stays { OnlyOutput H H.reading H.held H.complaints H.IsSteady host.old host.new }
     ensures steady_writes { H.IsSteady host.old → IfOk result (λ ended. ended ≢ Unwritten) }
 {

@@ -1,49 +1,41 @@
 -- What the status of a run of `client` says of the files that are held.
-use Rattle.std.proofs.Common.{◌≡◌, ℕ, ◌⊎◌, List, Option, Some, None, inl, inr, arith, sym, subst}
+use Rattle.std.proofs.Common.{◌≡◌, ℕ, ◌⊎◌, true, false, List, Option, Some, None, inl, inr, arith, sym, subst}
 use Rattle.sr_cell.specs.declared.fault.Fault.{Fault}
 use Rattle.sr_cell.specs.declared.table.Table.{Table}
 use Rattle.sr_dial.specs.declared.ending.Ending.{Ending}
-use Rattle.sr_dial.specs.declared.ending.Ending.TheVariants.{Faulty, Unwritten}
-use Rattle.sr_io.specs.Told.{Linking, Reading, Writing}
+use Rattle.sr_io.specs.Told.{Linking, Writing}
 use Rattle.sr_lines.specs.Script.{LinePlace}
+use Rattle.sr_calls.proofs.RunLemmas.{ended_in_part}
+use Rattle.sr_dial.specs.Calls.{Do}
 use Rattle.sr_dial.specs.Following.{Ahead}
+use Rattle.sr_dial.specs.Runs.{is_unwritten}
+use Rattle.sr_links.specs.Steps.{Resumed}
+use Rattle.sr_plan.specs.Plans.{Next}
 use Rattle.sr_setup.specs.ClientFiles.{script_outside, Refuses as RefusesCreate}
 use Rattle.sr_words.specs.declared.command.ClientKind.{ClientKind}
 use Rattle.sr_words.specs.declared.command.ClientKind.TheVariants as kind
 use Rattle.sr_words.specs.declared.command.ClientWords.{ClientWords}
 use Rattle.sr_cli.specs.Files.{SomeTooLong}
-use Rattle.sr_cli.specs.Client.{AreFiles, AreHeld, AreLong, DidRun, Dialled, Ends, FitsFiles, IsEnd, NotRead, StopsOver, ending_of, files_of}
-use Rattle.sr_cli.specs.Kinds.{AsksFor, fault_by, line_fault}
-use Rattle.sr_cli.specs.declared.stop.Stop.{Stop}
-use Rattle.sr_cli.specs.declared.stop.Stop.TheVariants as stop
-use Rattle.sr_cli.specs.declared.report.Refusal.{Refusal}
-use Rattle.sr_cli.specs.declared.report.Refusal.TheVariants as refusal
-use Rattle.sr_cli.proofs.ClientLemmas.{ends_of}
+use Rattle.sr_cli.specs.Client.{AreFiles, AreHeld, AreLong, DidRun, Dialled, DialledInPart, Ends, FitsFiles, IsEnd, files_of}
+use Rattle.sr_cli.specs.Kinds.{AsksFor, fault_by, keeps_of, line_fault}
 use Rattle.sr_cli.proofs.SameFiles.{same_bytes, too_long_held}
 
 -- ---- a run that ended
 
-read_first : (held : List ℕ → Option (List ℕ)) (words : ClientWords) (from to : Reading) (old new : Linking) (before after : Writing) (ending : Ending) (why : Stop) → ending_of why ≡ Some ending → NotRead held words from to old new before after why → ⊥
-read_first held words from to old new before after ending (stop.Refused refusal.Write) is never = never
-read_first held words from to old new before after ending (stop.Refused refusal.Link) is never = never
-read_first held words from to old new before after ending (stop.Refused refusal.Read) is never = absurd cc
-read_first held words from to old new before after ending (stop.Refused refusal.Memory) is never = absurd cc
-read_first held words from to old new before after ending (stop.Refused refusal.TooLong) is never = absurd cc
-read_first held words from to old new before after ending (stop.Refused (refusal.Line line place)) is never = never
-read_first held words from to old new before after ending (stop.Refused (refusal.Setup line why)) is never = never
-read_first held words from to old new before after ending (stop.Refused (refusal.Load table why)) is never = never
-read_first held words from to old new before after ending (stop.Spoiled fault) is never = never
-read_first held words from to old new before after ending (stop.Bad why) is never = never
-read_first held words from to old new before after ending stop.Limit is never = never
-
--- where a run stopped that had begun, a client ran, and what is said of it touches no link and no output
-pub dialled_by : (held : List ℕ → Option (List ℕ)) (words : ClientWords) (from to : Reading) (old mid new : Linking) (before half after : Writing) (ending : Ending) (why : Stop) → ending_of why ≡ Some ending
-    → NotRead held words from to old mid before half why ⊎ StopsOver held words old mid before half why → new ≡ mid → after ≡ half → Dialled held words ending old new before after
-dialled_by held words from to old mid new before half after ending why is (inl never) link output = absurd (read_first held words from to old mid before half ending why is never)
-dialled_by held words from to old mid new before half after ending why is (inr over) link output =
-    subst (λ (l : Linking). Dialled held words ending old l before after) (sym link)
-    (subst (λ (w : Writing). Dialled held words ending old mid before w) (sym output)
-    (record { schema = over.schema; script = over.script; files = over.files; ends = ends_of over.schema over.script words old mid before half ending why is over.stops }))
+-- where each line was written, what it sent and wrote begins what the rules give
+pub dialled_in_part : (held : List ℕ → Option (List ℕ)) (words : ClientWords) (ending : Ending) (old new : Linking) (before after : Writing) → is_unwritten ending ≡ false → Dialled held words ending old new before after
+    → DialledInPart held words old new before after
+dialled_in_part held words ending old new before after each d = record {
+  schema = d.schema;
+  script = d.script;
+  files = d.files;
+  ends = record {
+    tables = d.ends.tables;
+    ahead = d.ends.ahead;
+    asks = d.ends.asks;
+    ran = ended_in_part words.id words.address d.ends.tables words.limits (keeps_of words.kind) true (Next 0 (Do Resumed) d.ends.ahead) ending old new before after each d.ends.ran;
+  };
+}
 
 -- ---- what was read of files that are held is what is held
 
@@ -98,6 +90,10 @@ accepted_for kind.Semi id schema script tables ahead asks = record { inside = as
 pub accepted : (schema script : List ℕ) (words : ClientWords) (ending : Ending) (old new : Linking) (before after : Writing) → Ends schema script words ending old new before after → Accepted (fault_by words) schema script
 accepted schema script words ending old new before after ends = accepted_for words.kind words.id schema script ends.tables ends.ahead ends.asks
 
+pub some_accepted : (held : List ℕ → Option (List ℕ)) (words : ClientWords) (ending : Ending) (old new : Linking) (before after : Writing) → Dialled held words ending old new before after → Named held words (Accepted (fault_by words))
+some_accepted held words ending old new before after d =
+    record { schema = d.schema; script = d.script; files = d.files; holds = accepted d.schema d.script words ending old new before after d.ends }
+
 -- why a run ended with a status
 pub record Causes (held : List ℕ → Option (List ℕ)) (left : Option (List ℕ)) (words : ClientWords) (status : ℕ) : Type 0 where
   pub only : IsEnd status
@@ -135,97 +131,28 @@ fits_held held left words schema script status are c =
       accepts = λ did. (accepts did).accepts;
     }
 
--- ---- a client that ran, and was ended by frames
+-- ---- a client that ran, whatever ended it
 
--- the statuses of that
+-- the statuses of that, where each line was written and the link did not fail
 abbrev pub EndsByFrames : ℕ → Type 0
 EndsByFrames status = (status ≡ 8) ⊎ (status ≡ 9) ⊎ (status ≡ 11)
 
-pub by_frame : (status : ℕ) → (status ≡ 8) ⊎ (status ≡ 9) → EndsByFrames status
-by_frame status (inl is) = inl is
-by_frame status (inr is) = inr (inl is)
+abbrev pub EndsWritten : ℕ → Type 0
+EndsWritten status = (status ≡ 0) ⊎ EndsByFrames status
 
-end_of_frames : (status : ℕ) → EndsByFrames status → IsEnd status
-end_of_frames status (inl is) = inr (inr (inr (inr (inr (inr (inl is))))))
-end_of_frames status (inr (inl is)) = inr (inr (inr (inr (inr (inr (inr (inl is)))))))
-end_of_frames status (inr (inr is)) = inr (inr (inr (inr (inr (inr (inr (inr (inr is))))))))
+pub end_written : (status : ℕ) → EndsWritten status → IsEnd status
+end_written status (inl is) = inl is
+end_written status (inr (inl is)) = inr (inr (inr (inr (inr (inr (inl is))))))
+end_written status (inr (inr (inl is))) = inr (inr (inr (inr (inr (inr (inr (inl is)))))))
+end_written status (inr (inr (inr is))) = inr (inr (inr (inr (inr (inr (inr (inr (inr is))))))))
 
-pub causes_dialled : (held : List ℕ → Option (List ℕ)) (left : Option (List ℕ)) (words : ClientWords) (status : ℕ) (ending : Ending) (old new : Linking) (before after : Writing) → EndsByFrames status → Dialled held words ending old new before after
+pub causes_dialled : (held : List ℕ → Option (List ℕ)) (left : Option (List ℕ)) (words : ClientWords) (status : ℕ) (ending : Ending) (old new : Linking) (before after : Writing) → EndsWritten status → Dialled held words ending old new before after
     → Causes held left words status
 causes_dialled held left words status ending old new before after which d = record {
-  only = end_of_frames status which;
+  only = end_written status which;
   no_read_fault = λ is. omega (arith, which, is);
   too_long = λ is. absurd (omega (arith, which, is));
   line = λ is. absurd (omega (arith, which, is));
   refused = λ is. absurd (omega (arith, which, is));
-  ran = λ did. record { schema = d.schema; script = d.script; files = d.files; holds = accepted d.schema d.script words ending old new before after d.ends };
+  ran = λ did. some_accepted held words ending old new before after d;
 }
-
--- ---- a refusal
-
--- the statuses of a report
-abbrev pub Reports : ℕ → Type 0
-Reports status = (status ≡ 3) ⊎ (status ≡ 4) ⊎ (status ≡ 5) ⊎ (status ≡ 6) ⊎ (status ≡ 7) ⊎ (status ≡ 9) ⊎ (status ≡ 10)
-
--- what a report says, by its status
-module _ (held : List ℕ → Option (List ℕ)) (words : ClientWords) (from to : Reading) (old new : Linking) (before after : Writing) (refused : Refusal) (status : ℕ) where
-  abbrev pub Why : Refusal → Type 0
-  Why r = NotRead held words from to old new before after (stop.Refused r) ⊎ StopsOver held words old new before after (stop.Refused r)
-
-  too_long_of : Why refusal.TooLong → SomeTooLong held to.left (files_of words)
-  too_long_of (inl not) = not.0
-  too_long_of (inr over) = absurd over.stops
-
-  line_of : (line place : ℕ) → Why (refusal.Line line place) → Named held words (Lies (fault_by words))
-  line_of line place (inl not) = absurd not
-  line_of line place (inr o) = record { schema = o.schema; script = o.script; files = o.files; holds = (record { line = line; place = place }, o.stops.0) }
-
-  create_of : (line : ℕ) (fault : Fault) → Why (refusal.Setup line fault) → Named held words (RefusesSome (fault_by words))
-  create_of line fault (inl not) = absurd not
-  create_of line fault (inr o) = record { schema = o.schema; script = o.script; files = o.files; holds = (line, fault, o.stops.0) }
-
-  load_of : (table : List ℕ) (fault : Fault) → Why (refusal.Load table fault) → ⊥
-  load_of table fault (inl not) = not
-  load_of table fault (inr o) = o.stops
-
-  write_of : Why refusal.Write → Named held words (Accepted (fault_by words))
-  write_of (inl not) = absurd not
-  write_of (inr o) = record { schema = o.schema; script = o.script; files = o.files; holds = accepted o.schema o.script words Unwritten old new before after o.stops }
-
-  link_of : Why refusal.Link → Named held words (Accepted (fault_by words))
-  link_of (inl not) = absurd not
-  link_of (inr o) = record { schema = o.schema; script = o.script; files = o.files; holds = accepted o.schema o.script words Faulty old new before after o.stops }
-
-  refused_of : (S : ℕ → Fault → Type 0) (L : List ℕ → Fault → Type 0) → Why refused
-      → ((line : ℕ) × (fault : Fault) × (refused ≡ refusal.Setup line fault) × S line fault) ⊎ ((table : List ℕ) × (fault : Fault) × (refused ≡ refusal.Load table fault) × L table fault) → Named held words (RefusesSome (fault_by words))
-  refused_of S L why (inl (line, fault, is, said)) = create_of line fault (subst Why is why)
-  refused_of S L why (inr (table, fault, is, said)) = absurd (load_of table fault (subst Why is why))
-
-  is_end : Reports status → IsEnd status
-  is_end (inl is) = inr (inl is)
-  is_end (inr (inl is)) = inr (inr (inl is))
-  is_end (inr (inr (inl is))) = inr (inr (inr (inl is)))
-  is_end (inr (inr (inr (inl is)))) = inr (inr (inr (inr (inl is))))
-  is_end (inr (inr (inr (inr (inl is))))) = inr (inr (inr (inr (inr (inl is)))))
-  is_end (inr (inr (inr (inr (inr (inl is)))))) = inr (inr (inr (inr (inr (inr (inr (inl is)))))))
-  is_end (inr (inr (inr (inr (inr (inr is)))))) = inr (inr (inr (inr (inr (inr (inr (inr (inl is))))))))
-
-  did_run : Reports status → Why refused → (status ≡ 4 → refused ≡ refusal.Write) → (status ≡ 5 → refused ≡ refusal.Link) → DidRun status → Named held words (Accepted (fault_by words))
-  did_run only why write link (inl is) = absurd (omega (arith, only, is))
-  did_run only why write link (inr (inl is)) = write_of (subst Why (write is) why)
-  did_run only why write link (inr (inr (inl is))) = link_of (subst Why (link is) why)
-  did_run only why write link (inr (inr (inr (inl is)))) = absurd (omega (arith, only, is))
-  did_run only why write link (inr (inr (inr (inr is)))) = absurd (omega (arith, only, is))
-
-  pub causes_refused : (P : ℕ → ℕ → Type 0) (S : ℕ → Fault → Type 0) (L : List ℕ → Fault → Type 0) → Why refused → Reports status → ¬ (status ≡ 3)
-      → (status ≡ 4 → refused ≡ refusal.Write) → (status ≡ 5 → refused ≡ refusal.Link) → (status ≡ 10 → refused ≡ refusal.TooLong)
-      → (status ≡ 6 → (line : ℕ) × (place : ℕ) × (refused ≡ refusal.Line line place) × P line place)
-      → (status ≡ 7 → ((line : ℕ) × (fault : Fault) × (refused ≡ refusal.Setup line fault) × S line fault) ⊎ ((table : List ℕ) × (fault : Fault) × (refused ≡ refusal.Load table fault) × L table fault)) → Causes held to.left words status
-  causes_refused P S L why only read write link too_long line refused = record {
-    only = is_end only;
-    no_read_fault = read;
-    too_long = λ is. too_long_of (subst Why (too_long is) why);
-    line = λ is. (let n = line is in line_of n.0 n.1 (subst Why n.2 why));
-    refused = λ is. refused_of S L why (refused is);
-    ran = λ did. did_run only why write link did;
-  }

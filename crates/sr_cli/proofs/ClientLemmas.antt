@@ -1,9 +1,9 @@
 -- How a run of `client` comes to its end.
-use Rattle.std.proofs.Common.{◌≡◌, ℕ, ◌⊎◌, true, List, [], ◌∷◌, inl, inr, refl, sym, ◌∙◌, ap, subst}
-use Rattle.std.specs.Prelude.{Option, Some}
+use Rattle.std.proofs.Common.{◌≡◌, ◌≢◌, ℕ, ◌⊎◌, true, List, [], ◌∷◌, inl, inr, refl, sym, ◌∙◌, ap, subst}
+use Rattle.std.specs.Prelude.{Err, IfErr, Ok, Option, Result, Some}
 use Rattle.std.specs.Cmp.{first_so, second_so}
 use Rattle.std.specs.List.{list_all, AllZip}
-use Rattle.sr_calls.specs.Runs.{RanNew}
+use Rattle.sr_calls.specs.Runs.{RanNew, RanNewInPart}
 use Rattle.sr_cell.specs.declared.list.No.{No}
 use Rattle.sr_cell.specs.declared.list.No.TheVariants.{Refused as NoBut, NoMemory as Wanting}
 use Rattle.sr_cell.specs.declared.table.Table.{Table}
@@ -28,8 +28,8 @@ use Rattle.sr_cell.specs.declared.fault.Fault.{Fault}
 use Rattle.sr_dial.specs.Calls.{Task, Do}
 use Rattle.sr_words.specs.declared.command.ClientKind.{ClientKind}
 use Rattle.sr_words.specs.declared.command.ClientWords.{ClientWords}
-use Rattle.sr_cli.specs.Files.{SomeTooLong}
-use Rattle.sr_cli.specs.Client.{Ends, NotRead, Stops, Untouched, ending_of, files_of, stop_of}
+use Rattle.sr_cli.specs.Client.{AreFiles, CountsStop, Ends, EndsInPart, Stops, StopsOver, Untouched, ending_of, stop_of}
+use Rattle.sr_cli.specs.Leaves.{DidNothing}
 use Rattle.sr_cli.specs.Kinds.{AsksFor, AsksLines, IsTaskOf, fault_by, keeps_of}
 use Rattle.sr_cli.specs.declared.stop.Stop.{Stop}
 use Rattle.sr_cli.specs.declared.stop.Stop.TheVariants as stop
@@ -75,11 +75,29 @@ ends_for schema script words k tables ahead ending old new before after is asks 
   ran = subst (λ kind. RanNew words.id words.address tables words.limits (keeps_of kind) true (Next 0 (Do Resumed) ahead) ending old new before after) (sym is) ran;
 }
 
+-- or was broken off, out of memory
+pub breaks_for : (schema script : List ℕ) (words : ClientWords) (k : ClientKind) (tables : List Table) (ahead : Ahead) (old new : Linking) (before after : Writing) → words.kind ≡ k → AsksFor k words.id schema script tables ahead
+    → Untouched old new before after ⊎ RanNewInPart words.id words.address tables words.limits (keeps_of k) true (Next 0 (Do Resumed) ahead) old new before after
+    → Untouched old new before after ⊎ EndsInPart schema script words old new before after
+breaks_for schema script words k tables ahead old new before after is asks (inl none) = inl none
+breaks_for schema script words k tables ahead old new before after is asks (inr part) = inr (record {
+  tables = tables;
+  ahead = ahead;
+  asks = subst (λ kind. AsksFor kind words.id schema script tables ahead) (sym is) asks;
+  ran = subst (λ kind. RanNewInPart words.id words.address tables words.limits (keeps_of kind) true (Next 0 (Do Resumed) ahead) old new before after) (sym is) part;
+})
+
+-- no line was to be written where files are not set up
+pub unset_written : (no : No ClientFault) → stop_of no ≢ stop.Refused refusal.Write
+unset_written Wanting is = cc
+unset_written (NoBut (fault.Line at place)) is = cc
+unset_written (NoBut (fault.Create at why)) is = cc
+
 -- files that are not set up
 pub stops_unset : (schema script : List ℕ) (words : ClientWords) (no : No ClientFault) (l : Linking) (w : Writing)
     → ((line place : ℕ) → no ≡ NoBut (fault.Line line place) → script_outside (fault_by words) schema script ≡ Some (record { line = line; place = place }))
     → ((line : ℕ) (why : Fault) → no ≡ NoBut (fault.Create line why) → RefusesCreate (fault_by words) schema script line why) → Stops schema script words l l w w (stop_of no)
-stops_unset schema script words Wanting l w line create = tt
+stops_unset schema script words Wanting l w line create = inl (record { linking = refl; writing = refl })
 stops_unset schema script words (NoBut (fault.Line at place)) l w line create = (line at place refl, record { linking = refl; writing = refl })
 stops_unset schema script words (NoBut (fault.Create at why)) l w line create = (create at why refl, record { linking = refl; writing = refl })
 
@@ -103,26 +121,53 @@ stops_by schema script words old new before after ending (stop.Spoiled fault) is
 stops_by schema script words old new before after ending (stop.Bad why) is ends = ends_as schema script words old new before after ending (BadMessage why) is ends
 stops_by schema script words old new before after ending stop.Limit is ends = ends_as schema script words old new before after ending TooMany is ends
 
--- what is known of the end of a run that stopped so
-pub ends_of : (schema script : List ℕ) (words : ClientWords) (old new : Linking) (before after : Writing) (ending : Ending) (why : Stop) → ending_of why ≡ Some ending → Stops schema script words old new before after why
-    → Ends schema script words ending old new before after
-ends_of schema script words old new before after ending (stop.Refused refusal.Write) is stops = ends_as schema script words old new before after Unwritten ending (sym is) stops
-ends_of schema script words old new before after ending (stop.Refused refusal.Link) is stops = ends_as schema script words old new before after Faulty ending (sym is) stops
-ends_of schema script words old new before after ending (stop.Refused refusal.Read) is stops = absurd stops
-ends_of schema script words old new before after ending (stop.Refused refusal.Memory) is stops = absurd cc
-ends_of schema script words old new before after ending (stop.Refused refusal.TooLong) is stops = absurd stops
-ends_of schema script words old new before after ending (stop.Refused (refusal.Line line place)) is stops = absurd cc
-ends_of schema script words old new before after ending (stop.Refused (refusal.Setup line why)) is stops = absurd cc
-ends_of schema script words old new before after ending (stop.Refused (refusal.Load table why)) is stops = absurd stops
-ends_of schema script words old new before after ending (stop.Spoiled fault) is stops = ends_as schema script words old new before after (Spoiled fault) ending (sym is) stops
-ends_of schema script words old new before after ending (stop.Bad why) is stops = ends_as schema script words old new before after (BadMessage why) ending (sym is) stops
-ends_of schema script words old new before after ending stop.Limit is stops = ends_as schema script words old new before after TooMany ending (sym is) stops
+-- a run that ended without a line that is not written does not stop for that
+pub stops_written : (ending : Ending) (why : Stop) → ending ≢ Unwritten → ending_of why ≡ Some ending → why ≢ stop.Refused refusal.Write
+stops_written ending why written is wrong =
+    let same : Some Unwritten ≡ Some ending = sym (ap ending_of wrong) ∙ is in
+    written cc
 
--- ---- why the files are not read
+-- ---- over the files that the words name
 
-pub not_read : (held : List ℕ → Option (List ℕ)) (words : ClientWords) (from to : Reading) (old new : Linking) (before after : Writing) (why : Refusal)
-    → (why ≡ refusal.Read) ⊎ (why ≡ refusal.Memory) ⊎ (why ≡ refusal.TooLong) → Untouched old new before after
-    → (why ≡ refusal.Read → Rose from.faults to.faults) → (why ≡ refusal.TooLong → SomeTooLong held to.left (files_of words)) → NotRead held words from to old new before after (stop.Refused why)
-not_read held words from to old new before after why (inl is) untouched failed long = subst (λ w. NotRead held words from to old new before after (stop.Refused w)) (sym is) (failed is, untouched)
-not_read held words from to old new before after why (inr (inl is)) untouched failed long = subst (λ w. NotRead held words from to old new before after (stop.Refused w)) (sym is) tt
-not_read held words from to old new before after why (inr (inr is)) untouched failed long = subst (λ w. NotRead held words from to old new before after (stop.Refused w)) (sym is) (long is, untouched)
+pub over-files : (held : List ℕ → Option (List ℕ)) (words : ClientWords) (left : Option (List ℕ)) (schema script : List ℕ) (old new : Linking) (before after : Writing) (why : Stop)
+    → AreFiles held words schema script → Stops schema script words old new before after why → StopsOver held words left old new before after why
+over-files held words left schema script old new before after (stop.Refused refusal.Read) files stops = absurd stops
+over-files held words left schema script old new before after (stop.Refused refusal.TooLong) files stops = absurd stops
+over-files held words left schema script old new before after (stop.Refused refusal.Write) files stops = record { schema = schema; script = script; files = files; ends = stops }
+over-files held words left schema script old new before after (stop.Refused refusal.Link) files stops = record { schema = schema; script = script; files = files; ends = stops }
+over-files held words left schema script old new before after (stop.Refused refusal.Memory) files (inl none) = inl none
+over-files held words left schema script old new before after (stop.Refused refusal.Memory) files (inr part) = inr (record { schema = schema; script = script; files = files; ends = part })
+over-files held words left schema script old new before after (stop.Refused (refusal.Line line place)) files stops = record { schema = schema; script = script; files = files; first = stops.0 }
+over-files held words left schema script old new before after (stop.Refused (refusal.Setup line fault)) files stops = record { schema = schema; script = script; files = files; refuses = stops.0 }
+over-files held words left schema script old new before after (stop.Refused (refusal.Load table fault)) files stops = absurd stops
+over-files held words left schema script old new before after (stop.Spoiled fault) files stops = record { schema = schema; script = script; files = files; ends = stops }
+over-files held words left schema script old new before after (stop.Bad why) files stops = record { schema = schema; script = script; files = files; ends = stops }
+over-files held words left schema script old new before after stop.Limit files stops = record { schema = schema; script = script; files = files; ends = stops }
+
+-- ---- what is counted
+
+module _ (H : Type 0) (reading : H → Reading) (writing : H → Writing) (linking : H → Linking) (schema script : List ℕ) (words : ClientWords) (old mid new : H)
+    (kept : (reading mid).faults ≡ (reading old).faults) (read : reading new ≡ reading mid) (write : writing mid ≡ writing old) (link : linking mid ≡ linking old) where
+  same : (reading new).faults ≡ (reading old).faults
+  same = ap (λ (r : Reading). r.faults) read ∙ kept
+
+  nothing : Untouched (linking mid) (linking new) (writing mid) (writing new) → DidNothing H writing linking old new
+  nothing none = record { writing_stays = none.writing ∙ write; linking_stays = none.linking ∙ link }
+
+  rose : Ends schema script words Unwritten (linking mid) (linking new) (writing mid) (writing new) → Rose (writing old).faults (writing new).faults
+  rose ends = subst (λ (w : Writing). Rose w.faults (writing new).faults) write ends.ran.ran.run.ran.writes.2
+
+  -- behind the reading of files
+  pub counts-stopped : (result : Result (Unit {0}) Stop) → IfErr result (Stops schema script words (linking mid) (linking new) (writing mid) (writing new)) → CountsStop H reading writing linking old new result
+  counts-stopped (Ok done) stops = same
+  counts-stopped (Err (stop.Refused refusal.Read)) stops = absurd stops
+  counts-stopped (Err (stop.Refused refusal.TooLong)) stops = absurd stops
+  counts-stopped (Err (stop.Refused refusal.Write)) stops = (rose stops, same)
+  counts-stopped (Err (stop.Refused refusal.Link)) stops = same
+  counts-stopped (Err (stop.Refused refusal.Memory)) stops = same
+  counts-stopped (Err (stop.Refused (refusal.Line line place))) stops = (nothing stops.1, same)
+  counts-stopped (Err (stop.Refused (refusal.Setup line fault))) stops = (nothing stops.1, same)
+  counts-stopped (Err (stop.Refused (refusal.Load table fault))) stops = absurd stops
+  counts-stopped (Err (stop.Spoiled fault)) stops = same
+  counts-stopped (Err (stop.Bad why)) stops = same
+  counts-stopped (Err stop.Limit) stops = same

@@ -1,9 +1,8 @@
--- What a run comes to whose files are not read.
-use Rattle.std.proofs.Common.{◌≡◌, ◌⊎◌, inl, inr}
+-- What is answered is what is met.
+use Rattle.std.proofs.Common.{◌≡◌}
 use Rattle.std.specs.Prelude.{Err, IsErrOf}
 use Rattle.sr_cli.specs.declared.stop.Stop.TheVariants.{Refused}
 use Rattle.sr_cli.specs.declared.report.Refusal.{Refusal}
-use Rattle.sr_cli.specs.declared.report.Refusal.TheVariants.{Read, Memory, TooLong}
 
 -- the refusal is the one that is answered
 pub one_refusal : {T : Type 0} (a b : Refusal) → IsErrOf {T = T} (Err a) b → a ≡ b
@@ -11,9 +10,3 @@ one_refusal a b is = cc
 
 pub one_stop : {T : Type 0} (a b : Refusal) → IsErrOf {T = T} (Err (Refused a)) (Refused b) → a ≡ b
 one_stop a b is = cc
-
--- the faults of reading stay as they were, unless reading failed
-pub keeps : (refusal : Refusal) (F P : Type 0) → (refusal ≡ Read) ⊎ (refusal ≡ Memory) ⊎ (refusal ≡ TooLong) → (refusal ≡ Read → F) → (refusal ≡ Memory → P) → (refusal ≡ TooLong → P) → F ⊎ P
-keeps refusal F P (inl is) failed memory long = inl (failed is)
-keeps refusal F P (inr (inl is)) failed memory long = inr (memory is)
-keeps refusal F P (inr (inr is)) failed memory long = inr (long is)

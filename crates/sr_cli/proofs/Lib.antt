@@ -1,9 +1,13 @@
+pub mod ClientEnds
 pub mod ClientFits
 pub mod ClientLemmas
+pub mod CommandLemmas
 pub mod Endings
 pub mod ExplainFits
 pub mod FitsLemmas
 pub mod GenerateEnds
+pub mod ImageEnds
+pub mod ImageLemmas
 pub mod LeavesLemmas
 pub mod LoadTexts
 pub mod OneFilling

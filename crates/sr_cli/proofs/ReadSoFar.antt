@@ -68,7 +68,7 @@ long-behind held left [] loads rest read long = long
 long-behind held left (w ∷ ws) [] rest read long = absurd read
 long-behind held left (w ∷ ws) (l ∷ ls) rest read long = inr (l.bytes, read.0.read, long-behind held left ws ls rest read.1 long)
 
-only-long : (held : List ℕ → Option (List ℕ)) (left : Option (List ℕ)) (name : List ℕ) → SomeTooLong held left (name ∷ []) → IsTooLong (held name) left
+pub only-long : (held : List ℕ → Option (List ℕ)) (left : Option (List ℕ)) (name : List ℕ) → SomeTooLong held left (name ∷ []) → IsTooLong (held name) left
 only-long held left name (inl long) = long
 only-long held left name (inr (read, what, wrong)) = absurd wrong
 

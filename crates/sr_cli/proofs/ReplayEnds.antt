@@ -19,13 +19,13 @@ use Rattle.sr_words.specs.declared.command.ReplayWords.{ReplayWords}
 use Rattle.sr_cli.specs.Errors.{line_text, setup_text, load_text}
 use Rattle.sr_cli.specs.Explain as explain
 use Rattle.sr_cli.specs.Files.{IsTooLong, IsWhatIsHeld, SomeTooLong}
-use Rattle.sr_cli.specs.Leaves.{Counts, EndsAs, refusal_of}
+use Rattle.sr_cli.specs.Leaves.{Counts, EndsAs, Reported, refusal_of}
 use Rattle.sr_cli.specs.Replay as replay
 use Rattle.sr_cli.specs.declared.report.Refusal.{Refusal}
 use Rattle.sr_cli.specs.declared.report.Refusal.TheVariants.{Read, Write, Link, Memory, TooLong, Line, Setup, Load as LoadRefused}
 use Rattle.sr_cli.proofs.ExplainFits.{Lies, Named, Refuses as Refused, no_load}
 use Rattle.sr_cli.proofs.FitsLemmas.{IsRefused, SomeOutside}
-use Rattle.sr_cli.proofs.LeavesLemmas.{Reported}
+use Rattle.sr_cli.proofs.LeavesLemmas.{HasName, InWant, NamesLine, NamesRefused, Report, reported-is}
 
 -- ---- how a replay ended
 
@@ -179,7 +179,10 @@ over-script held words left script before after (LoadRefused table why) read wro
 -- ---- what the status of a replay says
 
 module _ (held : List ℕ → Option (List ℕ)) (words : ReplayWords) (left : Option (List ℕ)) (before after : Writing) (refusal : Refusal) (status : ℕ) (first told last : Option (List ℕ))
-    (silent : told ≡ first) (rep : Reported refusal status told last) (why : replay.RefusesOver held words left before after refusal) where
+    (silent : told ≡ first) (reported : Reported refusal status told last) (why : replay.RefusesOver held words left before after refusal) where
+  rep : Report refusal status told last
+  rep = reported-is refusal status told last reported
+
   being : (r : Refusal) → refusal ≡ r → replay.RefusesOver held words left before after r
   being r is = subst (replay.RefusesOver held words left before after) is why
 
@@ -195,88 +198,86 @@ module _ (held : List ℕ → Option (List ℕ)) (words : ReplayWords) (left : O
   pub outside-by : status ≡ 6 → SomeOutside held words
   outside-by is = by (rep.line is)
     where
-      by : (line : ℕ) × (place : ℕ) × (refusal ≡ Line line place) × (last ≡ complained (line_text line place) told) → SomeOutside held words
+      by : NamesLine refusal told last → SomeOutside held words
       by (line, place, named, said) = (line, place, being (Line line place) named)
 
   pub line-by : status ≡ 6 → replay.NamedLine held words first last
   line-by is = by (rep.line is)
     where
-      by : (line : ℕ) × (place : ℕ) × (refusal ≡ Line line place) × (last ≡ complained (line_text line place) told) → replay.NamedLine held words first last
+      by : NamesLine refusal told last → replay.NamedLine held words first last
       by (line, place, named, said) = record { line = line; place = place; refused = being (Line line place) named; said = said ∙ ap (complained (line_text line place)) silent }
-
-  abbrev Naming : Type 0
-  Naming = ((line : ℕ) × (fault : Fault) × (refusal ≡ Setup line fault) × (last ≡ complained (setup_text line fault) told)) ⊎ ((table : List ℕ) × (fault : Fault) × (refusal ≡ LoadRefused table fault) × (last ≡ complained (load_text table fault) told))
 
   pub refused-by : status ≡ 7 → IsRefused held words
   refused-by is = by (rep.refused is)
     where
-      by : Naming → IsRefused held words
+      by : NamesRefused refusal told last → IsRefused held words
       by (inl (line, fault, named, said)) = inl (line, fault, being (Setup line fault) named)
       by (inr (table, fault, named, said)) = inr (table, fault, being (LoadRefused table fault) named)
 
   pub named-by : status ≡ 7 → replay.NamedSetup held words first last ⊎ replay.NamedLoad held words first last
   named-by is = by (rep.refused is)
     where
-      by : Naming → replay.NamedSetup held words first last ⊎ replay.NamedLoad held words first last
+      by : NamesRefused refusal told last → replay.NamedSetup held words first last ⊎ replay.NamedLoad held words first last
       by (inl (line, fault, named, said)) = inl (record { line = line; fault = fault; refused = being (Setup line fault) named; said = said ∙ ap (complained (setup_text line fault)) silent })
       by (inr (table, fault, named, said)) = inr (record { table = table; fault = fault; refused = being (LoadRefused table fault) named; said = said ∙ ap (complained (load_text table fault)) silent })
 
-  pub want-by : (((line : ℕ) × (place : ℕ) × (refusal ≡ Line line place)) ⊎ ((line : ℕ) × (fault : Fault) × (refusal ≡ Setup line fault)) ⊎ ((table : List ℕ) × (fault : Fault) × (refusal ≡ LoadRefused table fault)) → after ≡ before)
+  pub want-by : (HasName refusal → after ≡ before)
       → status ≡ 9 → (after ≡ before) ⊎ replay.ReplayedInPart held words before.written after.written
   want-by nothing is = by (rep.memory is)
     where
-      by : (refusal ≡ Memory) ⊎ ((line : ℕ) × (place : ℕ) × (refusal ≡ Line line place)) ⊎ ((line : ℕ) × (fault : Fault) × (refusal ≡ Setup line fault)) ⊎ ((table : List ℕ) × (fault : Fault) × (refusal ≡ LoadRefused table fault))
-          → (after ≡ before) ⊎ replay.ReplayedInPart held words before.written after.written
+      by : InWant refusal → (after ≡ before) ⊎ replay.ReplayedInPart held words before.written after.written
       by (inl named) = being Memory named
       by (inr named) = inl (nothing named)
 
 -- ---- what the status of an explanation says
 
 module _ (held : List ℕ → Option (List ℕ)) (words : ExplainWords) (left : Option (List ℕ)) (before after : Writing) (refusal : Refusal) (status : ℕ) (first told last : Option (List ℕ))
-    (silent : told ≡ first) (rep : Reported refusal status told last) (why : explain.RefusesOver held words left before after refusal) where
+    (silent : told ≡ first) (reported : Reported refusal status told last) (why : explain.RefusesOver held words left before after refusal) where
+  heard : Report refusal status told last
+  heard = reported-is refusal status told last reported
+
   of : (r : Refusal) → refusal ≡ r → explain.RefusesOver held words left before after r
   of r is = subst (explain.RefusesOver held words left before after) is why
 
   pub explain-never-links : status ≡ 5 → ⊥
-  explain-never-links is = of Link (rep.link is)
+  explain-never-links is = of Link (heard.link is)
 
   pub explain-part-by : status ≡ 4 → explain.ExplainedInPart held words before.written after.written
-  explain-part-by is = of Write (rep.write is)
+  explain-part-by is = of Write (heard.write is)
 
   pub explain-long-by : status ≡ 10 → IsTooLong (held words.script) left
-  explain-long-by is = of TooLong (rep.too_long is)
+  explain-long-by is = of TooLong (heard.too_long is)
 
   pub explain-outside-by : status ≡ 6 → Named held words (Lies words.setup.clients)
-  explain-outside-by is = by (rep.line is)
+  explain-outside-by is = by (heard.line is)
     where
-      by : (line : ℕ) × (place : ℕ) × (refusal ≡ Line line place) × (last ≡ complained (line_text line place) told) → Named held words (Lies words.setup.clients)
+      by : NamesLine refusal told last → Named held words (Lies words.setup.clients)
       by (line, place, named, said) = (let o = of (Line line place) named in record { script = o.script; read = o.read; holds = (record { line = line; place = place }, o.first) })
 
   pub explain-line-by : status ≡ 6 → explain.NamedLine held words first last
-  explain-line-by is = by (rep.line is)
+  explain-line-by is = by (heard.line is)
     where
-      by : (line : ℕ) × (place : ℕ) × (refusal ≡ Line line place) × (last ≡ complained (line_text line place) told) → explain.NamedLine held words first last
+      by : NamesLine refusal told last → explain.NamedLine held words first last
       by (line, place, named, said) = record { line = line; place = place; refused = of (Line line place) named; said = said ∙ ap (complained (line_text line place)) silent }
 
   pub explain-refused-by : status ≡ 7 → Named held words (Refused words.setup.clients)
-  explain-refused-by is = by (rep.refused is)
+  explain-refused-by is = by (heard.refused is)
     where
-      by : ((line : ℕ) × (fault : Fault) × (refusal ≡ Setup line fault) × (last ≡ complained (setup_text line fault) told)) ⊎ ((table : List ℕ) × (fault : Fault) × (refusal ≡ LoadRefused table fault) × (last ≡ complained (load_text table fault) told)) → Named held words (Refused words.setup.clients)
+      by : NamesRefused refusal told last → Named held words (Refused words.setup.clients)
       by (inl (line, fault, named, said)) = (let r = of (Setup line fault) named in record { script = r.script; read = r.read; holds = record { inside = r.inside; refused = (line, fault, r.first) } })
       by (inr (table, fault, named, said)) = absurd (of (LoadRefused table fault) named)
 
   pub explain-named-by : status ≡ 7 → explain.NamedSetup held words first last
-  explain-named-by is = by (rep.refused is)
+  explain-named-by is = by (heard.refused is)
     where
-      by : ((line : ℕ) × (fault : Fault) × (refusal ≡ Setup line fault) × (last ≡ complained (setup_text line fault) told)) ⊎ ((table : List ℕ) × (fault : Fault) × (refusal ≡ LoadRefused table fault) × (last ≡ complained (load_text table fault) told)) → explain.NamedSetup held words first last
+      by : NamesRefused refusal told last → explain.NamedSetup held words first last
       by (inl (line, fault, named, said)) = record { line = line; fault = fault; refused = of (Setup line fault) named; said = said ∙ ap (complained (setup_text line fault)) silent }
       by (inr (table, fault, named, said)) = absurd (of (LoadRefused table fault) named)
 
-  pub explain-want-by : (((line : ℕ) × (place : ℕ) × (refusal ≡ Line line place)) ⊎ ((line : ℕ) × (fault : Fault) × (refusal ≡ Setup line fault)) ⊎ ((table : List ℕ) × (fault : Fault) × (refusal ≡ LoadRefused table fault)) → after ≡ before)
+  pub explain-want-by : (HasName refusal → after ≡ before)
       → status ≡ 9 → (after ≡ before) ⊎ explain.ExplainedInPart held words before.written after.written
-  explain-want-by nothing is = by (rep.memory is)
+  explain-want-by nothing is = by (heard.memory is)
     where
-      by : (refusal ≡ Memory) ⊎ ((line : ℕ) × (place : ℕ) × (refusal ≡ Line line place)) ⊎ ((line : ℕ) × (fault : Fault) × (refusal ≡ Setup line fault)) ⊎ ((table : List ℕ) × (fault : Fault) × (refusal ≡ LoadRefused table fault))
-          → (after ≡ before) ⊎ explain.ExplainedInPart held words before.written after.written
+      by : InWant refusal → (after ≡ before) ⊎ explain.ExplainedInPart held words before.written after.written
       by (inl named) = of Memory named
       by (inr named) = inl (nothing named)

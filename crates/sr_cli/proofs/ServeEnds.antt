@@ -20,13 +20,13 @@ use Rattle.sr_words.specs.declared.command.ServeWords.{ServeWords}
 use Rattle.sr_cli.specs.Client.{Untouched}
 use Rattle.sr_cli.specs.Errors.{line_text, setup_text, load_text}
 use Rattle.sr_cli.specs.Files.{SomeTooLong}
-use Rattle.sr_cli.specs.Leaves.{Counts, NotRead}
+use Rattle.sr_cli.specs.Leaves.{Counts, NotRead, Reported}
 use Rattle.sr_cli.specs.Serve.{AreFiles, DidRun, Ended, Ends, IsExec, NamedLine, NamedCreate, NamedLoad, Refuses, RefusesOver, Served, ServedInPart, exec_files, files_of, refusal_of}
 use Rattle.sr_cli.specs.declared.file.ReadFault.{ReadFault}
 use Rattle.sr_cli.specs.declared.file.ReadFault.TheVariants as read
 use Rattle.sr_cli.specs.declared.report.Refusal.{Refusal}
 use Rattle.sr_cli.specs.declared.report.Refusal.TheVariants.{Read, Write, Link, Memory, TooLong, Line, Setup, Load as LoadRefused}
-use Rattle.sr_cli.proofs.LeavesLemmas.{Reported, behind-not-read}
+use Rattle.sr_cli.proofs.LeavesLemmas.{HasName, InWant, NamesLine, NamesRefused, Report, behind-not-read, reported-is}
 use Rattle.sr_cli.proofs.ServeLemmas.{IsRefused, SomeOutside, SomeServed}
 
 -- ---- a server that ran
@@ -60,13 +60,19 @@ module _ (schema exec : List ℕ) (loads : List Load) (words : ServeWords) (tabl
   ran-counts H reading writing linking first last (Ok Whole) (Ok x) is a b c d same ran = ap (λ (r : Reading). r.faults) same
   ran-counts H reading writing linking first last (Ok Whole) (Err why) is a b c d same ran = absurd (cc)
   ran-counts H reading writing linking first last (Ok Faulty) result is a b c d same ran =
-      subst (Counts H reading writing linking first last) (sym is)
-      (rw (sym a, sym b) at ran.link_fault_is_counted refl, ap (λ (r : Reading). r.faults) same)
+      subst (Counts H reading writing linking first last) (sym is) (ap (λ (r : Reading). r.faults) same)
   ran-counts H reading writing linking first last (Ok Unwritten) result is a b c d same ran =
       subst (Counts H reading writing linking first last) (sym is)
       (rw (sym c, sym d) at ran.write_fault_is_counted refl, ap (λ (r : Reading). r.faults) same)
   ran-counts H reading writing linking first last (Err wants) result is a b c d same ran =
       subst (Counts H reading writing linking first last) (sym is) (ap (λ (r : Reading). r.faults) same)
+
+  pub ran-links : (done : Result Ending NoMemory) (result : Result (Unit {0}) Refusal) → Ended done result → IfOk done Runs → IsErrOf result Link → Rose old.faults new.faults
+  ran-links (Ok Whole) (Ok x) is ran failed = absurd (cc)
+  ran-links (Ok Whole) (Err why) is ran failed = absurd (cc)
+  ran-links (Ok Faulty) result is ran failed = ran.link_fault_is_counted refl
+  ran-links (Ok Unwritten) result is ran failed = absurd (cc)
+  ran-links (Err wants) result is ran failed = absurd (cc)
 
 -- the ending is the one that was met
 pub never-by : (done : Result Ending NoMemory) (result : Result (Unit {0}) Refusal) (refusal : Refusal) (ending : Ending) → Ended done result → IsErrOf result refusal
@@ -97,7 +103,10 @@ over-files held words left schema exec loads old new before after (LoadRefused t
 -- ---- what the status says
 
 module _ (held : List ℕ → Option (List ℕ)) (words : ServeWords) (left : Option (List ℕ)) (old new : Linking) (before after : Writing) (refusal : Refusal) (status : ℕ) (first told last : Option (List ℕ))
-    (silent : told ≡ first) (rep : Reported refusal status told last) (why : RefusesOver held words left old new before after refusal) where
+    (silent : told ≡ first) (reported : Reported refusal status told last) (why : RefusesOver held words left old new before after refusal) where
+  rep : Report refusal status told last
+  rep = reported-is refusal status told last reported
+
   being : (r : Refusal) → refusal ≡ r → RefusesOver held words left old new before after r
   being r is = subst (RefusesOver held words left old new before after) is why
 
@@ -113,29 +122,26 @@ module _ (held : List ℕ → Option (List ℕ)) (words : ServeWords) (left : Op
   pub outside-by : status ≡ 6 → SomeOutside held words
   outside-by is = by (rep.line is)
     where
-      by : (line : ℕ) × (place : ℕ) × (refusal ≡ Line line place) × (last ≡ complained (line_text line place) told) → SomeOutside held words
+      by : NamesLine refusal told last → SomeOutside held words
       by (line, place, named, said) = (line, place, being (Line line place) named)
 
   pub line-by : status ≡ 6 → NamedLine held words first last
   line-by is = by (rep.line is)
     where
-      by : (line : ℕ) × (place : ℕ) × (refusal ≡ Line line place) × (last ≡ complained (line_text line place) told) → NamedLine held words first last
+      by : NamesLine refusal told last → NamedLine held words first last
       by (line, place, named, said) = record { line = line; place = place; refused = being (Line line place) named; said = said ∙ ap (complained (line_text line place)) silent }
-
-  abbrev Naming : Type 0
-  Naming = ((line : ℕ) × (fault : Fault) × (refusal ≡ Setup line fault) × (last ≡ complained (setup_text line fault) told)) ⊎ ((table : List ℕ) × (fault : Fault) × (refusal ≡ LoadRefused table fault) × (last ≡ complained (load_text table fault) told))
 
   pub refused-by : status ≡ 7 → IsRefused held words
   refused-by is = by (rep.refused is)
     where
-      by : Naming → IsRefused held words
+      by : NamesRefused refusal told last → IsRefused held words
       by (inl (line, fault, named, said)) = inl (line, fault, being (Setup line fault) named)
       by (inr (table, fault, named, said)) = inr (table, fault, being (LoadRefused table fault) named)
 
   pub named-by : status ≡ 7 → NamedCreate held words first last ⊎ NamedLoad held words first last
   named-by is = by (rep.refused is)
     where
-      by : Naming → NamedCreate held words first last ⊎ NamedLoad held words first last
+      by : NamesRefused refusal told last → NamedCreate held words first last ⊎ NamedLoad held words first last
       by (inl (line, fault, named, said)) = inl (record { line = line; fault = fault; refused = being (Setup line fault) named; said = said ∙ ap (complained (setup_text line fault)) silent })
       by (inr (table, fault, named, said)) = inr (record { table = table; fault = fault; refused = being (LoadRefused table fault) named; said = said ∙ ap (complained (load_text table fault)) silent })
 
@@ -144,12 +150,11 @@ module _ (held : List ℕ → Option (List ℕ)) (words : ServeWords) (left : Op
   served-by (inr (inl is)) = (Unwritten, unwritten-by is)
   served-by (inr (inr is)) = (Faulty, faulty-by is)
 
-  pub want-by : (((line : ℕ) × (place : ℕ) × (refusal ≡ Line line place)) ⊎ ((line : ℕ) × (fault : Fault) × (refusal ≡ Setup line fault)) ⊎ ((table : List ℕ) × (fault : Fault) × (refusal ≡ LoadRefused table fault)) → Untouched old new before after)
+  pub want-by : (HasName refusal → Untouched old new before after)
       → status ≡ 9 → Untouched old new before after ⊎ ServedInPart held words old new before after
   want-by nothing is = by (rep.memory is)
     where
-      by : (refusal ≡ Memory) ⊎ ((line : ℕ) × (place : ℕ) × (refusal ≡ Line line place)) ⊎ ((line : ℕ) × (fault : Fault) × (refusal ≡ Setup line fault)) ⊎ ((table : List ℕ) × (fault : Fault) × (refusal ≡ LoadRefused table fault))
-          → Untouched old new before after ⊎ ServedInPart held words old new before after
+      by : InWant refusal → Untouched old new before after ⊎ ServedInPart held words old new before after
       by (inl named) = being Memory named
       by (inr named) = inl (nothing named)
 

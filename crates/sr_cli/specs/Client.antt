@@ -1,6 +1,6 @@
 -- What a client does, of each kind, and why it ends with each status.
-use Rattle.std.specs.Prelude.{◌≡◌, ℕ, ◌⊎◌, Bool, true, List, [], ◌∷◌, Option, Some, None}
-use Rattle.sr_calls.specs.Runs.{RanNew}
+use Rattle.std.specs.Prelude.{◌≡◌, ◌≢◌, ℕ, ◌⊎◌, Bool, true, List, [], ◌∷◌, Option, Some, None, Result, Ok, Err}
+use Rattle.sr_calls.specs.Runs.{RanNew, RanNewInPart}
 use Rattle.sr_cell.specs.declared.fault.Fault.{Fault}
 use Rattle.sr_cell.specs.declared.list.No.{No}
 use Rattle.sr_cell.specs.declared.list.No.TheVariants.{Refused as NoBut, NoMemory as Wanting}
@@ -8,7 +8,6 @@ use Rattle.sr_cell.specs.declared.table.Table.{Table}
 use Rattle.sr_dial.specs.Following.{Ahead}
 use Rattle.sr_dial.specs.declared.ending.Ending.{Ending}
 use Rattle.sr_dial.specs.declared.ending.Ending.TheVariants.{Whole, Faulty, Unwritten, Spoiled, Bad as BadMessage, Limit as TooMany}
-use Rattle.sr_io.specs.Causes.{Rose}
 use Rattle.sr_io.specs.Told.{Reading, Writing, Linking, complained}
 use Rattle.sr_lines.specs.Script.{LinePlace}
 use Rattle.sr_links.specs.Steps.{Resumed}
@@ -23,6 +22,7 @@ use Rattle.sr_words.specs.declared.command.ClientWords.{ClientWords}
 use Rattle.sr_cli.specs.Files.{IsWhatIsHeld, SomeTooLong, IsLong}
 use Rattle.sr_cli.specs.Kinds.{AsksFor, fault_by, keeps_of}
 use Rattle.sr_cli.specs.Errors.{line_text, setup_text, spoiled_text, bad_text}
+use Rattle.sr_cli.specs.Leaves.{Counts}
 use Rattle.sr_cli.specs.declared.kinds.Files.{Files}
 use Rattle.sr_cli.specs.declared.stop.Stop.{Stop}
 use Rattle.sr_cli.specs.declared.stop.Stop.TheVariants as stop
@@ -56,6 +56,25 @@ pub record Dialled (held : List ℕ → Option (List ℕ)) (words : ClientWords)
   pub script : List ℕ
   pub files : AreFiles held words schema script
   pub ends : Ends schema script words ending old new before after
+
+-- Out of memory: the same, broken off. What was sent and written begins what the rules give.
+pub record EndsInPart (schema script : List ℕ) (words : ClientWords) (old new : Linking) (before after : Writing) : Type 0 where
+  pub tables : List Table
+  pub ahead : Ahead
+  pub asks : AsksFor words.kind words.id schema script tables ahead
+  pub ran : RanNewInPart words.id words.address tables words.limits (keeps_of words.kind) true (Next 0 (Do Resumed) ahead) old new before after
+
+-- the same, of files that were read
+pub record DialledInPart (held : List ℕ → Option (List ℕ)) (words : ClientWords) (old new : Linking) (before after : Writing) : Type 0 where
+  pub schema : List ℕ
+  pub script : List ℕ
+  pub files : AreFiles held words schema script
+  pub ends : EndsInPart schema script words old new before after
+
+-- nothing was written, and no link was touched
+pub record Untouched (old new : Linking) (before after : Writing) : Type 0 where
+  pub linking : new ≡ old
+  pub writing : after ≡ before
 
 -- ---- refusals
 
@@ -118,6 +137,10 @@ pub record AreHeld (held : List ℕ → Option (List ℕ)) (words : ClientWords)
   pub schema_held : held words.schema ≡ Some schema
   pub script_held : held words.script ≡ Some script
 
+-- it does not hold both
+abbrev pub AreNotHeld : (List ℕ → Option (List ℕ)) → ClientWords → Type 0
+AreNotHeld held words = (schema script : List ℕ) → ¬ AreHeld held words schema script
+
 -- one of the files has more bytes than the limit
 abbrev pub AreLong : List ℕ → List ℕ → Type 0
 AreLong schema script = IsLong schema ⊎ IsLong script
@@ -146,17 +169,14 @@ pub record Dials (H : Type 0) (held : H → List ℕ → Option (List ℕ)) (rea
   pub faulty : status ≡ 5 → Dialled (held old) words Faulty (linking old) (linking new) (writing old) (writing new)
   pub frame : status ≡ 8 → NamedFrame (held old) words (linking old) (linking new) (writing old) (writing new) (complaints old) (complaints new)
   pub limit : status ≡ 11 → Dialled (held old) words TooMany (linking old) (linking new) (writing old) (writing new)
+  pub in_want : status ≡ 9 → Untouched (linking old) (linking new) (writing old) (writing new) ⊎ DialledInPart (held old) words (linking old) (linking new) (writing old) (writing new)
   pub too_long : status ≡ 10 → SomeTooLong (held old) (reading new).left (files_of words)
   pub line : status ≡ 6 → NamedLine (held old) words (complaints old) (complaints new)
   pub refused : status ≡ 7 → NamedCreate (held old) words (complaints old) (complaints new)
   pub steady : IsSteady old → (schema script : List ℕ) → AreHeld (held old) words schema script → FitsFiles (fault_by words) schema script status
+  pub steady_writes : IsSteady old → ¬ (status ≡ 4)
 
 -- ---- inside the crate
-
--- nothing was written, and no link was touched
-pub record Untouched (old new : Linking) (before after : Writing) : Type 0 where
-  pub linking : new ≡ old
-  pub writing : after ≡ before
 
 -- why a run stops whose files are not set up
 abbrev pub stop_of : No ClientFault → Stop
@@ -173,11 +193,16 @@ ending_of (stop.Spoiled fault) = Some (Spoiled fault)
 ending_of (stop.Bad why) = Some (BadMessage why)
 ending_of stop.Limit = Some TooMany
 
+-- each line was written, whatever came of the run
+abbrev pub IsWritten : Result Ending Stop → Type 0
+IsWritten (Ok ended) = ended ≢ Unwritten
+IsWritten (Err why) = why ≢ stop.Refused refusal.Write
+
 -- why a run over these files is refused
 abbrev pub Refuses : List ℕ → List ℕ → ClientWords → Linking → Linking → Writing → Writing → Refusal → Type 0
 Refuses schema script words old new before after refusal.Write = Ends schema script words Unwritten old new before after
 Refuses schema script words old new before after refusal.Link = Ends schema script words Faulty old new before after
-Refuses schema script words old new before after refusal.Memory = Unit {0}
+Refuses schema script words old new before after refusal.Memory = Untouched old new before after ⊎ EndsInPart schema script words old new before after
 Refuses schema script words old new before after (refusal.Line line place) = (script_outside (fault_by words) schema script ≡ Some (record { line = line; place = place })) × Untouched old new before after
 Refuses schema script words old new before after (refusal.Setup line fault) = RefusesCreate (fault_by words) schema script line fault × Untouched old new before after
 Refuses schema script words old new before after other = ⊥
@@ -201,16 +226,28 @@ abbrev pub RunsAs : (H : Type 0) → (H → Linking) → (H → Writing) → H �
 RunsAs H linking writing old new words keeps tables ahead ending =
     RanNew words.id words.address tables words.limits keeps true (Next 0 (Do Resumed) ahead) ending (linking old) (linking new) (writing old) (writing new)
 
--- why a run stops, of the files that the words name
-pub record StopsOver (held : List ℕ → Option (List ℕ)) (words : ClientWords) (old new : Linking) (before after : Writing) (why : Stop) : Type 0 where
-  pub schema : List ℕ
-  pub script : List ℕ
-  pub files : AreFiles held words schema script
-  pub stops : Stops schema script words old new before after why
+-- out of memory: nothing was done, or the same was broken off
+abbrev pub BreaksOff : (H : Type 0) → (H → Linking) → (H → Writing) → H → H → ClientWords → Bool → List Table → Ahead → Type 0
+BreaksOff H linking writing old new words keeps tables ahead =
+    Untouched (linking old) (linking new) (writing old) (writing new)
+    ⊎ RanNewInPart words.id words.address tables words.limits keeps true (Next 0 (Do Resumed) ahead) (linking old) (linking new) (writing old) (writing new)
 
--- why the files are not read
-abbrev pub NotRead : (List ℕ → Option (List ℕ)) → ClientWords → Reading → Reading → Linking → Linking → Writing → Writing → Stop → Type 0
-NotRead held words from to old new before after (stop.Refused refusal.Read) = Rose from.faults to.faults × Untouched old new before after
-NotRead held words from to old new before after (stop.Refused refusal.TooLong) = SomeTooLong held to.left (files_of words) × Untouched old new before after
-NotRead held words from to old new before after (stop.Refused refusal.Memory) = Unit {0}
-NotRead held words from to old new before after other = ⊥
+-- why it stops, by the files that the words name
+abbrev pub StopsOver : (List ℕ → Option (List ℕ)) → ClientWords → Option (List ℕ) → Linking → Linking → Writing → Writing → Stop → Type 0
+StopsOver held words left old new before after (stop.Refused refusal.Read) = Unit {0}
+StopsOver held words left old new before after (stop.Refused refusal.TooLong) = SomeTooLong held left (files_of words)
+StopsOver held words left old new before after (stop.Refused refusal.Write) = Dialled held words Unwritten old new before after
+StopsOver held words left old new before after (stop.Refused refusal.Link) = Dialled held words Faulty old new before after
+StopsOver held words left old new before after (stop.Refused refusal.Memory) = Untouched old new before after ⊎ DialledInPart held words old new before after
+StopsOver held words left old new before after (stop.Refused (refusal.Line line place)) = IsOutside held words line place
+StopsOver held words left old new before after (stop.Refused (refusal.Setup line fault)) = IsRefusedCreate held words line fault
+StopsOver held words left old new before after (stop.Refused other) = ⊥
+StopsOver held words left old new before after (stop.Spoiled fault) = Dialled held words (Spoiled fault) old new before after
+StopsOver held words left old new before after (stop.Bad why) = Dialled held words (BadMessage why) old new before after
+StopsOver held words left old new before after stop.Limit = Dialled held words TooMany old new before after
+
+-- which faults are counted, by how a run ended or stopped
+abbrev pub CountsStop : (H : Type 0) → (H → Reading) → (H → Writing) → (H → Linking) → H → H → Result (Unit {0}) Stop → Type 0
+CountsStop H reading writing linking old new (Ok done) = (reading new).faults ≡ (reading old).faults
+CountsStop H reading writing linking old new (Err (stop.Refused refusal)) = Counts H reading writing linking old new (Err refusal)
+CountsStop H reading writing linking old new (Err other) = (reading new).faults ≡ (reading old).faults

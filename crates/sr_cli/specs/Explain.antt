@@ -14,17 +14,25 @@ use Rattle.sr_cli.specs.Replay.{options_of}
 use Rattle.sr_cli.specs.declared.report.Refusal.{Refusal}
 use Rattle.sr_cli.specs.declared.report.Refusal.TheVariants as refusal
 
+-- the lines were written that explain the query of the words behind this script
+abbrev pub WroteScript : ExplainWords → List ℕ → Option (List ℕ) → Option (List ℕ) → Type 0
+WroteScript words script old new = WroteBehind old new (options_of words.setup) script [] words.sql
+
+-- or a prefix of them
+abbrev pub WroteSome : ExplainWords → List ℕ → Option (List ℕ) → Option (List ℕ) → Type 0
+WroteSome words script old new = WrotePart old new (options_of words.setup) script [] words.sql
+
 -- the script was read, and the lines that explain the query behind it were written
 pub record Explained (held : List ℕ → Option (List ℕ)) (words : ExplainWords) (old new : Option (List ℕ)) : Type 0 where
   pub script : List ℕ
   pub read : IsWhatIsHeld (held words.script) script
-  pub wrote : WroteBehind old new (options_of words.setup) script [] words.sql
+  pub wrote : WroteScript words script old new
 
 -- the script was read, and a prefix of these lines was written
 pub record ExplainedInPart (held : List ℕ → Option (List ℕ)) (words : ExplainWords) (old new : Option (List ℕ)) : Type 0 where
   pub script : List ℕ
   pub read : IsWhatIsHeld (held words.script) script
-  pub wrote : WrotePart old new (options_of words.setup) script [] words.sql
+  pub wrote : WroteSome words script old new
 
 -- ---- refusals
 
@@ -89,8 +97,8 @@ pub record Explains (H : Type 0) (held : H → List ℕ → Option (List ℕ)) (
 
 -- why the query behind a script that was read is not explained
 abbrev pub Refuses : ExplainWords → List ℕ → Writing → Writing → Refusal → Type 0
-Refuses words script before after refusal.Write = WrotePart before.written after.written (options_of words.setup) script [] words.sql
-Refuses words script before after refusal.Memory = (after ≡ before) ⊎ WrotePart before.written after.written (options_of words.setup) script [] words.sql
+Refuses words script before after refusal.Write = WroteSome words script before.written after.written
+Refuses words script before after refusal.Memory = (after ≡ before) ⊎ WroteSome words script before.written after.written
 Refuses words script before after (refusal.Line line place) = outside words.setup.clients script ≡ Some (record { line = line; place = place })
 Refuses words script before after (refusal.Setup line fault) = (outside words.setup.clients script ≡ None) × FirstRefused words.setup.clients 1 [] (lines_of script) line fault
 Refuses words script before after other = ⊥

@@ -101,6 +101,10 @@ pub record AreHeld (held : List ℕ → Option (List ℕ)) (words : ReplayWords)
   pub script_held : held words.script ≡ Some script
   pub loads_held : AllZip (IsHeldLoad held) words.loads loads
 
+-- it does not hold them all
+abbrev pub AreNotHeld : (List ℕ → Option (List ℕ)) → ReplayWords → Type 0
+AreNotHeld held words = (script : List ℕ) (loads : List Load) → ¬ AreHeld held words script loads
+
 -- one of the files has more bytes than the limit
 abbrev pub AreLong : List ℕ → List Load → Type 0
 AreLong script loads = IsLong script ⊎ SomeLong loads
@@ -133,6 +137,10 @@ pub record Replays (H : Type 0) (held : H → List ℕ → Option (List ℕ)) (r
   pub linking_stays : linking new ≡ linking old
 
 -- ---- inside the crate
+
+-- the trace of a script and files that were read was written, whatever world it ended in
+abbrev pub WroteTrace : Option (List ℕ) → Option (List ℕ) → Options → List ℕ → List Load → Type 0
+WroteTrace old new options script loads = (world : World) × Wrote old new options script loads world
 
 -- why files that were read are not replayed
 abbrev pub Refuses : Options → List ℕ → List Load → Writing → Writing → Refusal → Type 0

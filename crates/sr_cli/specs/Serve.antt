@@ -7,6 +7,7 @@ use Rattle.sr_cell.specs.declared.list.No.TheVariants.{Refused as NoBut, NoMemor
 use Rattle.sr_cell.specs.declared.list.NoMemory.{NoMemory}
 use Rattle.sr_lines.specs.Script.{LinePlace}
 use Rattle.sr_load.specs.declared.fill.Load.{Load}
+use Rattle.sr_io.specs.Causes.{Rose}
 use Rattle.sr_io.specs.Told.{Reading, Writing, Linking, complained}
 use Rattle.sr_serve.specs.Runs.{Ran, RanInPart}
 use Rattle.sr_server.specs.Servers.{first_database}
@@ -138,6 +139,10 @@ pub record AreHeld (held : List ℕ → Option (List ℕ)) (words : ServeWords) 
   pub exec_held : IsHeldExec held words.exec exec
   pub loads_held : AllZip (IsHeldLoad held) words.loads loads
 
+-- it does not hold them all
+abbrev pub AreNotHeld : (List ℕ → Option (List ℕ)) → ServeWords → Type 0
+AreNotHeld held words = (schema exec : List ℕ) (loads : List Load) → ¬ AreHeld held words schema exec loads
+
 -- one of the files has more bytes than the limit
 abbrev pub AreLong : List ℕ → List ℕ → List Load → Type 0
 AreLong schema exec loads = IsLong schema ⊎ IsLong exec ⊎ SomeLong loads
@@ -172,6 +177,7 @@ pub record Serves (H : Type 0) (held : H → List ℕ → Option (List ℕ)) (re
   pub steady : IsSteady old → (schema exec : List ℕ) (loads : List Load) → AreHeld (held old) words schema exec loads → FitsFiles schema exec loads status
   pub steady_writes : IsSteady old → ¬ (status ≡ 4)
   pub steady_links : IsSteady old → HasPeers words.count (linking old) → ¬ (status ≡ 5)
+  pub link_fault_is_counted : status ≡ 5 → Rose (linking old).faults (linking new).faults
   pub quiet : status ≡ 0 → (linking new).faults ≡ (linking old).faults
 
 -- ---- inside the crate

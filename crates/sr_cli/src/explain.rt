@@ -1,10 +1,8 @@
 //! Explaining a query behind a script.
-ghost use Rattle.std.specs.Prelude.{◌≡◌, ◌⊎◌, ◌<◌, ◌≤◌, ◌^◌, [], length, None, IfErr, OnOk, IsErrOf};
+ghost use Rattle.std.specs.Prelude.{◌≡◌, ◌⊎◌, ◌<◌, ◌≤◌, ◌^◌, length, None, IfErr, OnOk, IsErrOf};
 ghost use Rattle.sr_server.specs.Servers.{IsClientNumber};
-ghost use Rattle.sr_explained.specs.After.{WroteBehind};
-ghost use Rattle.sr_cli.specs.Explain.{Explained, Explains, Refuses, RefusesOver};
+ghost use Rattle.sr_cli.specs.Explain.{Explained, Explains, Refuses, RefusesOver, WroteScript};
 ghost use Rattle.sr_cli.specs.Leaves.{Counts, Leaves, OnlyRuns, OnlyWrites};
-ghost use Rattle.sr_cli.specs.Replay.{options_of};
 ghost use Rattle.sr_cli.specs.declared.report.Refusal.TheVariants.{Read, Write};
 
 use crate::file::read_file;
@@ -58,7 +56,7 @@ fn explain_read<H: Host>(
     requires clients { IsClientNumber words.now.setup.clients }
     requires regions { words.now.setup.limits.regions ≤ 1024 }
     requires script { length script.now < 2 ^ 32 }
-    ensures explained { OnOk result (WroteBehind (H.writing host.old).written (H.writing host.new).written (options_of words.now.setup) script.now [] words.now.sql) }
+    ensures explained { OnOk result (WroteScript words.now script.now (H.writing host.old).written (H.writing host.new).written) }
     ensures refused { IfErr result (Refuses words.now script.now (H.writing host.old) (H.writing host.new)) }
     ensures counts { Counts H H.reading H.writing H.linking host.old host.new result }
     ensures quiet { IsErrOf result Write ⊎ ((H.writing host.new).faults ≡ (H.writing host.old).faults) }

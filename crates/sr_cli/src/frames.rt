@@ -1,7 +1,8 @@
 //! What the error output says of frames.
-ghost use Rattle.std.specs.Prelude.{◌≡◌, ◌⊎◌, string_bytes, IfSome, IfOk};
+ghost use Rattle.std.specs.Prelude.{◌≡◌, string_bytes, IfOk};
 ghost use Rattle.sr_io.specs.Told.{complained};
-ghost use Rattle.sr_cli.specs.Errors.{bad_text, error_text, spoiled_text};
+ghost use Rattle.sr_cli.specs.Errors.{bad_text, spoiled_text};
+ghost use Rattle.sr_cli.specs.Leaves.{Names, OnlyComplains, Says};
 
 use sr_cell::list::NoMemory;
 use sr_io::outside::Host;
@@ -35,14 +36,8 @@ fn bad_text(why: BadFrame) -> &'static [u8]
 
 /// Says that what came is no frame, and what stands against it, or tells that there was no memory for it.
 pub(crate) fn report_spoiled<H: Host>(alloc: Global, fault: WireFault, host: &mut H) -> u8
-    ensures only { (result ≡ 8) ⊎ (result ≡ 9) }
-    ensures named { result ≡ 8 → H.complaints host.new ≡ complained (spoiled_text fault) (H.complaints host.old) }
-    ensures memory { IfSome (error_text result) (λ text. H.complaints host.new ≡ complained text (H.complaints host.old)) }
-    ensures stays_steady { H.IsSteady host.old → H.IsSteady host.new }
-    ensures reading_stays { H.reading host.new ≡ H.reading host.old }
-    ensures writing_stays { H.writing host.new ≡ H.writing host.old }
-    ensures linking_stays { H.linking host.new ≡ H.linking host.old }
-    ensures held_stays { H.held host.new ≡ H.held host.old }
+    ensures named { Names 8 (spoiled_text fault) result (H.complaints host.old) (H.complaints host.new) }
+    ensures stays { OnlyComplains H H.reading H.writing H.linking H.held H.IsSteady host.old host.new }
 {
     match spoiled_text(alloc, fault) {
         Ok(text) => {
@@ -60,11 +55,7 @@ pub(crate) fn report_spoiled<H: Host>(alloc: Global, fault: WireFault, host: &mu
 pub(crate) fn report_bad<H: Host>(why: BadFrame, host: &mut H) -> u8
     ensures status { result ≡ 8 }
     ensures named { H.complaints host.new ≡ complained (bad_text why) (H.complaints host.old) }
-    ensures stays_steady { H.IsSteady host.old → H.IsSteady host.new }
-    ensures reading_stays { H.reading host.new ≡ H.reading host.old }
-    ensures writing_stays { H.writing host.new ≡ H.writing host.old }
-    ensures linking_stays { H.linking host.new ≡ H.linking host.old }
-    ensures held_stays { H.held host.new ≡ H.held host.old }
+    ensures stays { OnlyComplains H H.reading H.writing H.linking H.held H.IsSteady host.old host.new }
 {
     host.complain(bad_text(why));
     8
@@ -72,13 +63,8 @@ pub(crate) fn report_bad<H: Host>(why: BadFrame, host: &mut H) -> u8
 
 /// Says that more frames came for one request than the limit.
 pub(crate) fn report_limit<H: Host>(host: &mut H) -> u8
-    ensures status { result ≡ 11 }
-    ensures complaint { IfSome (error_text 11) (λ text. H.complaints host.new ≡ complained text (H.complaints host.old)) }
-    ensures stays_steady { H.IsSteady host.old → H.IsSteady host.new }
-    ensures reading_stays { H.reading host.new ≡ H.reading host.old }
-    ensures writing_stays { H.writing host.new ≡ H.writing host.old }
-    ensures linking_stays { H.linking host.new ≡ H.linking host.old }
-    ensures held_stays { H.held host.new ≡ H.held host.old }
+    ensures said { Says 11 result (H.complaints host.old) (H.complaints host.new) }
+    ensures stays { OnlyComplains H H.reading H.writing H.linking H.held H.IsSteady host.old host.new }
 {
     host.complain(b"too many frames\n");
     11

@@ -1,13 +1,12 @@
 //! Making a large script.
 ghost use Rattle.std.specs.Prelude.{◌≡◌, ◌⊎◌, ◌≤◌, true, false, IfErr, OnOk, IsErrOf};
 ghost use Rattle.std.specs.Io.KnownBytes.{Appends};
-ghost use Rattle.sr_generate.specs.Script.{script};
 ghost use Rattle.sr_io.specs.Pieces.{WritesPrefix};
-ghost use Rattle.sr_cli.specs.Generate.{Generates, Refuses, Summarized, Wrote};
+ghost use Rattle.sr_cli.specs.Generate.{Generates, Refuses, Summarized, Wrote, script_of};
 ghost use Rattle.sr_cli.specs.Leaves.{Counts, Leaves, OnlyWrites};
 ghost use Rattle.sr_cli.specs.declared.report.Refusal.TheVariants.{Write};
 
-use crate::report::{Refusal, refusal_of, report};
+use crate::report::{Refusal, report};
 use sr_cell::list::No;
 use sr_generate::script::write_script;
 use sr_io::outside::{Failed, Host};
@@ -31,9 +30,9 @@ pub(crate) fn run_generate<H: Host>(alloc: Global, words: GenerateWords, host: &
 /// Writes the script of a seed, or what its replay comes to.
 fn generate<H: Host>(alloc: Global, words: GenerateWords, host: &mut H) -> Result<(), Refusal>
     requires events { words.events ≤ 100000 }
-    ensures made { words.whole_script ≡ true → OnOk result (Appends (H.writing host.old).written (H.writing host.new).written (script words.seed words.events)) }
-    ensures made_in_part { words.whole_script ≡ true → WritesPrefix (H.writing host.old).written (H.writing host.new).written (script words.seed words.events) }
-    ensures summary { words.whole_script ≡ false → OnOk result (Summarized (script words.seed words.events) (H.writing host.old).written (H.writing host.new).written) }
+    ensures made { words.whole_script ≡ true → OnOk result (Appends (H.writing host.old).written (H.writing host.new).written (script_of words)) }
+    ensures made_in_part { words.whole_script ≡ true → WritesPrefix (H.writing host.old).written (H.writing host.new).written (script_of words) }
+    ensures summary { words.whole_script ≡ false → OnOk result (Summarized (script_of words) (H.writing host.old).written (H.writing host.new).written) }
     ensures refused { IfErr result (Refuses words (H.writing host.old) (H.writing host.new)) }
     ensures counts { Counts H H.reading H.writing H.linking host.old host.new result }
     ensures quiet { IsErrOf result Write ⊎ ((H.writing host.new).faults ≡ (H.writing host.old).faults) }
@@ -45,7 +44,7 @@ fn generate<H: Host>(alloc: Global, words: GenerateWords, host: &mut H) -> Resul
     }
     match summary_of(alloc, words.seed, words.events) {
         Ok(text) => end_of_write(write_all(host, text.as_bytes())),
-        Err(no) => Err(refusal_of(no)),
+        Err(_) => Err(Refusal::Memory),
     }
 }
 

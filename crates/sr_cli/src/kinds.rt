@@ -1,15 +1,17 @@
 //! Running the script of a client over its tables, by the client's kind.
-ghost use Rattle.std.specs.Prelude.{◌≡◌, ◌<◌, ◌≤◌, ◌^◌, true, Bool, length, IfOk, IfErr, OnOk, IsTrue};
+ghost use Rattle.std.specs.Prelude.{◌≡◌, ◌≢◌, ◌<◌, ◌≤◌, ◌^◌, true, Bool, length, IfOk, IfErr, OnErr, OnOk, IsErrOf, IsTrue};
 ghost use Rattle.std.specs.List.{list_all};
 ghost use Rattle.sr_query.specs.Bound.{is_table};
 ghost use Rattle.sr_links.specs.Steps.{Resumed};
 ghost use Rattle.sr_plan.specs.Plans.{Next};
 ghost use Rattle.sr_dial.specs.Calls.{Do};
 ghost use Rattle.sr_dial.specs.Following.{Ahead};
-ghost use Rattle.sr_dial.specs.declared.ending.Ending.TheVariants.{Whole};
+ghost use Rattle.sr_dial.specs.declared.ending.Ending.TheVariants.{Unwritten, Whole};
 ghost use Rattle.sr_talk.specs.Rounds.{OnlyOutput};
 ghost use Rattle.sr_words.specs.declared.command.ClientKind.TheVariants.{Client as AsClient, Report as AsReport, Semi as AsSemi};
-ghost use Rattle.sr_cli.specs.Client.{EndsOver, RunsAs, StopsBy};
+ghost use Rattle.sr_cli.specs.Client.{BreaksOff, EndsOver, IsWritten, RunsAs, StopsBy};
+ghost use Rattle.sr_cli.specs.declared.report.Refusal.TheVariants.{Write};
+ghost use Rattle.sr_cli.specs.declared.stop.Stop.TheVariants.{Refused};
 
 use crate::report::Refusal;
 use crate::stop::{Stop, end_by, stop_of};
@@ -51,6 +53,9 @@ fn run_new<H: Host, P: Plans>(
     requires few { P.depth plans.old < 2 ^ 40 }
     ensures ran { (ahead : Ahead) → P.follows schema.now plans.old ahead
         → IfOk result (RunsAs H H.linking H.writing host.old host.new words.now keeps schema.now ahead) }
+    ensures broken_off { (ahead : Ahead) → P.follows schema.now plans.old ahead
+        → OnErr result (BreaksOff H H.linking H.writing host.old host.new words.now keeps schema.now ahead) }
+    ensures steady_writes { H.IsSteady host.old → IfOk result (λ ended. ended ≢ Unwritten) }
     ensures stays { OnlyOutput H H.reading H.held H.complaints H.IsSteady host.old host.new }
 {
     let mut end = ClientEnd::of_new(alloc, words.id, schema, words.limits, keeps, true)?;
@@ -73,6 +78,7 @@ fn run_lines<H: Host>(
     requires script { length files.now.script < 2 ^ 32 }
     ensures ends { IfOk result (EndsOver H H.linking H.writing host.old host.new files.now words.now) }
     ensures stopped { IfErr result (StopsBy H H.linking H.writing host.old host.new files.now words.now) }
+    ensures steady_writes { H.IsSteady host.old → IsWritten result }
     ensures stays { OnlyOutput H H.reading H.held H.complaints H.IsSteady host.old host.new }
 {
     let set_up = set_up_client(
@@ -107,6 +113,7 @@ fn run_report<H: Host>(
     requires script { length files.now.script < 2 ^ 32 }
     ensures ends { IfOk result (EndsOver H H.linking H.writing host.old host.new files.now words.now) }
     ensures stopped { IfErr result (StopsBy H H.linking H.writing host.old host.new files.now words.now) }
+    ensures steady_writes { H.IsSteady host.old → IsWritten result }
     ensures stays { OnlyOutput H H.reading H.held H.complaints H.IsSteady host.old host.new }
 {
     let set_up = set_up_report(
@@ -140,6 +147,7 @@ fn run_semi<H: Host>(
     requires script { length files.now.script < 2 ^ 32 }
     ensures ends { IfOk result (EndsOver H H.linking H.writing host.old host.new files.now words.now) }
     ensures stopped { IfErr result (StopsBy H H.linking H.writing host.old host.new files.now words.now) }
+    ensures steady_writes { H.IsSteady host.old → IsWritten result }
     ensures stays { OnlyOutput H H.reading H.held H.complaints H.IsSteady host.old host.new }
 {
     let set_up = set_up_key_sets(
@@ -172,6 +180,7 @@ fn run_kind<H: Host>(
     requires script { length files.now.script < 2 ^ 32 }
     ensures ends { IfOk result (EndsOver H H.linking H.writing host.old host.new files.now words.now) }
     ensures stopped { IfErr result (StopsBy H H.linking H.writing host.old host.new files.now words.now) }
+    ensures steady_writes { H.IsSteady host.old → IsWritten result }
     ensures stays { OnlyOutput H H.reading H.held H.complaints H.IsSteady host.old host.new }
 {
     match words.kind {
@@ -195,6 +204,7 @@ pub(crate) fn client_read<H: Host>(
     requires script { length files.now.script < 2 ^ 32 }
     ensures whole { OnOk result (EndsOver H H.linking H.writing host.old host.new files.now words.now Whole) }
     ensures stopped { IfErr result (StopsBy H H.linking H.writing host.old host.new files.now words.now) }
+    ensures steady_writes { H.IsSteady host.old → ¬ IsErrOf result (Refused Write) }
     ensures stays { OnlyOutput H H.reading H.held H.complaints H.IsSteady host.old host.new }
 {
     match run_kind(alloc, words, files, host) {

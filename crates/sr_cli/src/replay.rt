@@ -1,12 +1,9 @@
 //! Replaying a script.
-ghost use Rattle.std.specs.Prelude.{◌≡◌, ℕ, ◌⊎◌, ◌<◌, ◌≤◌, ◌^◌, nat_lt, List, length, IsTrue, IfErr, IfOk, OnOk, IsErrOf};
+ghost use Rattle.std.specs.Prelude.{◌≡◌, ◌⊎◌, ◌<◌, ◌≤◌, ◌^◌, nat_lt, length, IsTrue, IfErr, IfOk, OnOk, IsErrOf};
 ghost use Rattle.std.specs.List.{list_all};
 ghost use Rattle.sr_server.specs.Servers.{IsClientNumber};
-ghost use Rattle.sr_load.specs.declared.fill.Load.{Load};
-ghost use Rattle.sr_world.specs.declared.world.World.{World};
-ghost use Rattle.sr_world.specs.Replay.{Wrote};
 ghost use Rattle.sr_cli.specs.Leaves.{Counts, Leaves, NotRead, OnlyReads, OnlyRuns, OnlyWrites};
-ghost use Rattle.sr_cli.specs.Replay.{AreFiles, AreHeld, Refuses, RefusesOver, Replayed, Replays, files_of};
+ghost use Rattle.sr_cli.specs.Replay.{AreFiles, AreNotHeld, Refuses, RefusesOver, Replayed, Replays, WroteTrace, files_of};
 ghost use Rattle.sr_cli.specs.declared.file.ReadFault.TheVariants.{Fault as ReadFailed};
 ghost use Rattle.sr_cli.specs.declared.report.Refusal.TheVariants.{Read, Write};
 
@@ -49,7 +46,7 @@ fn replay_files<H: Host>(alloc: Global, words: &ReplayWords, host: &mut H) -> Re
     ensures refused { IfErr result (RefusesOver (H.held host.old) words.now (H.reading host.new).left (H.writing host.old) (H.writing host.new)) }
     ensures counts { Counts H H.reading H.writing H.linking host.old host.new result }
     ensures quiet { IsErrOf result Write ⊎ ((H.writing host.new).faults ≡ (H.writing host.old).faults) }
-    ensures steady_reads { H.IsSteady host.old → IsErrOf result Read → (script : List ℕ) (loads : List Load) → ¬ AreHeld (H.held host.old) words.now script loads }
+    ensures steady_reads { H.IsSteady host.old → IsErrOf result Read → AreNotHeld (H.held host.old) words.now }
     ensures steady_writes { H.IsSteady host.old → ¬ IsErrOf result Write }
     ensures linking_stays { H.linking host.new ≡ H.linking host.old }
     ensures stays { OnlyRuns H H.held H.complaints H.IsSteady host.old host.new }
@@ -74,7 +71,7 @@ fn read_files<H: Host>(alloc: Global, words: &ReplayWords, host: &mut H) -> Resu
     ensures loads { IfOk result (λ files. IsTrue (list_all (λ load. nat_lt (length load.bytes) (2 ^ 32)) files.loads)) }
     ensures not_read { IfErr result (NotRead (H.held host.old) (files_of words.now) (H.reading host.old) (H.reading host.new)) }
     ensures ok_keeps_faults { OnOk result ((H.reading host.new).faults ≡ (H.reading host.old).faults) }
-    ensures steady { H.IsSteady host.old → IsErrOf result ReadFailed → (script : List ℕ) (loads : List Load) → ¬ AreHeld (H.held host.old) words.now script loads }
+    ensures steady { H.IsSteady host.old → IsErrOf result ReadFailed → AreNotHeld (H.held host.old) words.now }
     ensures stays { OnlyReads H H.writing H.linking H.held H.complaints H.IsSteady host.old host.new }
 {
     let script = match read_file(alloc, words.script.as_str(), host) {
@@ -98,7 +95,7 @@ fn replay_read<H: Host>(
     requires regions { options.limits.regions ≤ 1024 }
     requires script { length files.now.script < 2 ^ 32 }
     requires loads { IsTrue (list_all (λ load. nat_lt (length load.bytes) (2 ^ 32)) files.now.loads) }
-    ensures replayed { OnOk result ((world : World) × Wrote (H.writing host.old).written (H.writing host.new).written options files.now.script files.now.loads world) }
+    ensures replayed { OnOk result (WroteTrace (H.writing host.old).written (H.writing host.new).written options files.now.script files.now.loads) }
     ensures refused { IfErr result (Refuses options files.now.script files.now.loads (H.writing host.old) (H.writing host.new)) }
     ensures counts { Counts H H.reading H.writing H.linking host.old host.new result }
     ensures quiet { IsErrOf result Write ⊎ ((H.writing host.new).faults ≡ (H.writing host.old).faults) }

@@ -1,11 +1,7 @@
 //! Why a run is refused, and what the error output says of it.
-ghost use Rattle.std.specs.Prelude.{◌≡◌, ℕ, ◌⊎◌, List, string_bytes, IfSome, IfOk};
-ghost use Rattle.sr_cell.specs.declared.fault.Fault.{Fault as TheFault};
-ghost use Rattle.sr_io.specs.Told.{complained};
-ghost use Rattle.sr_cli.specs.Errors.{line_text, setup_text, load_text, error_text};
-ghost use Rattle.sr_cli.specs.Leaves.{EndsAs, OnlyComplains, refusal_of};
-ghost use Rattle.sr_cli.specs.declared.file.ReadFault.TheVariants.{Fault as ReadFailed, NoMemory as ReadWanting, TooLong as ReadTooLong};
-ghost use Rattle.sr_cli.specs.declared.report.Refusal.TheVariants.{Read, Write, Link, Memory, TooLong, Line, Setup, Load as LoadRefused};
+ghost use Rattle.std.specs.Prelude.{◌≡◌, string_bytes, IfOk};
+ghost use Rattle.sr_cli.specs.Errors.{line_text, load_text, setup_text};
+ghost use Rattle.sr_cli.specs.Leaves.{EndsAs, Names, OnlyComplains, Reported, refusal_of, unread_of};
 
 use crate::file::ReadFault;
 use sr_cell::fault::{Fault, Why};
@@ -39,10 +35,7 @@ pub enum Refusal {
 
 /// Why a run is refused whose file is not read.
 pub(crate) fn unread(fault: ReadFault) -> Refusal
-    ensures only { (result ≡ Read) ⊎ (result ≡ Memory) ⊎ (result ≡ TooLong) }
-    ensures read { result ≡ Read → fault ≡ ReadFailed }
-    ensures memory { result ≡ Memory → fault ≡ ReadWanting }
-    ensures too_long { result ≡ TooLong → fault ≡ ReadTooLong }
+    ensures { result ≡ unread_of fault }
 {
     match fault {
         ReadFault::Fault => Refusal::Read,
@@ -76,20 +69,8 @@ pub(crate) fn refusal_of(no: No<RunFault>) -> Refusal
 
 /// Says why on the error output, and answers the status.
 pub(crate) fn report<H: Host>(alloc: Global, refusal: Refusal, host: &mut H) -> u8
-    ensures only { (result ≡ 3) ⊎ (result ≡ 4) ⊎ (result ≡ 5) ⊎ (result ≡ 6) ⊎ (result ≡ 7) ⊎ (result ≡ 9) ⊎ (result ≡ 10) }
-    ensures read { result ≡ 3 → refusal ≡ Read }
-    ensures write { result ≡ 4 → refusal ≡ Write }
-    ensures link { result ≡ 5 → refusal ≡ Link }
-    ensures memory { result ≡ 9 → (refusal ≡ Memory) ⊎ ((line : ℕ) × (place : ℕ) × (refusal ≡ Line line place)) ⊎ ((line : ℕ) × (fault : TheFault) × (refusal ≡ Setup line fault)) ⊎ ((table : List ℕ) × (fault : TheFault) × (refusal ≡ LoadRefused table fault)) }
-    ensures too_long { result ≡ 10 → refusal ≡ TooLong }
-    ensures line { result ≡ 6 → (line : ℕ) × (place : ℕ) × (refusal ≡ Line line place) × (H.complaints host.new ≡ complained (line_text line place) (H.complaints host.old)) }
-    ensures refused { result ≡ 7 → ((line : ℕ) × (fault : TheFault) × (refusal ≡ Setup line fault) × (H.complaints host.new ≡ complained (setup_text line fault) (H.complaints host.old))) ⊎ ((table : List ℕ) × (fault : TheFault) × (refusal ≡ LoadRefused table fault) × (H.complaints host.new ≡ complained (load_text table fault) (H.complaints host.old))) }
-    ensures complaint { IfSome (error_text result) (λ text. H.complaints host.new ≡ complained text (H.complaints host.old)) }
-    ensures stays_steady { H.IsSteady host.old → H.IsSteady host.new }
-    ensures reading_stays { H.reading host.new ≡ H.reading host.old }
-    ensures writing_stays { H.writing host.new ≡ H.writing host.old }
-    ensures linking_stays { H.linking host.new ≡ H.linking host.old }
-    ensures held_stays { H.held host.new ≡ H.held host.old }
+    ensures reported { Reported refusal result (H.complaints host.old) (H.complaints host.new) }
+    ensures stays { OnlyComplains H H.reading H.writing H.linking H.held H.IsSteady host.old host.new }
 {
     match refusal {
         Refusal::Read => {
@@ -120,9 +101,7 @@ pub(crate) fn report<H: Host>(alloc: Global, refusal: Refusal, host: &mut H) -> 
 
 /// Names the line and the place of its fault on the error output, or tells that there was no memory for it.
 fn report_line<H: Host>(alloc: Global, line: u64, place: u32, host: &mut H) -> u8
-    ensures only { (result ≡ 6) ⊎ (result ≡ 9) }
-    ensures named { result ≡ 6 → H.complaints host.new ≡ complained (line_text line place) (H.complaints host.old) }
-    ensures memory { IfSome (error_text result) (λ text. H.complaints host.new ≡ complained text (H.complaints host.old)) }
+    ensures named { Names 6 (line_text line place) result (H.complaints host.old) (H.complaints host.new) }
     ensures stays { OnlyComplains H H.reading H.writing H.linking H.held H.IsSteady host.old host.new }
 {
     match place_line(alloc, line, place) {
@@ -139,9 +118,7 @@ fn report_line<H: Host>(alloc: Global, line: u64, place: u32, host: &mut H) -> u
 
 /// Names the line and its fault on the error output, or tells that there was no memory for it.
 fn report_setup<H: Host>(alloc: Global, line: u64, fault: Fault, host: &mut H) -> u8
-    ensures only { (result ≡ 7) ⊎ (result ≡ 9) }
-    ensures named { result ≡ 7 → H.complaints host.new ≡ complained (setup_text line fault) (H.complaints host.old) }
-    ensures memory { IfSome (error_text result) (λ text. H.complaints host.new ≡ complained text (H.complaints host.old)) }
+    ensures named { Names 7 (setup_text line fault) result (H.complaints host.old) (H.complaints host.new) }
     ensures stays { OnlyComplains H H.reading H.writing H.linking H.held H.IsSteady host.old host.new }
 {
     match setup_line(alloc, line, fault) {
@@ -158,9 +135,7 @@ fn report_setup<H: Host>(alloc: Global, line: u64, fault: Fault, host: &mut H) -
 
 /// Names the table of the file and its fault on the error output, or tells that there was no memory for it.
 fn report_load<H: Host>(alloc: Global, table: &Text, fault: Fault, host: &mut H) -> u8
-    ensures only { (result ≡ 7) ⊎ (result ≡ 9) }
-    ensures named { result ≡ 7 → H.complaints host.new ≡ complained (load_text table.now fault) (H.complaints host.old) }
-    ensures memory { IfSome (error_text result) (λ text. H.complaints host.new ≡ complained text (H.complaints host.old)) }
+    ensures named { Names 7 (load_text table.now fault) result (H.complaints host.old) (H.complaints host.new) }
     ensures stays { OnlyComplains H H.reading H.writing H.linking H.held H.IsSteady host.old host.new }
 {
     match load_line(alloc, table.as_str(), fault) {

@@ -1,11 +1,11 @@
 //! Serving tables.
 ghost use Rattle.std.specs.Prelude.{◌≡◌, ℕ, ◌<◌, ◌^◌, nat_lt, List, length, Ok, IsTrue, IfErr, IfOk, OnOk, IsErrOf};
 ghost use Rattle.std.specs.List.{list_all};
-ghost use Rattle.sr_load.specs.declared.fill.Load.{Load};
+ghost use Rattle.sr_io.specs.Causes.{Rose};
 ghost use Rattle.sr_talk.specs.Rounds.{HasPeers, OnlyOutput};
 ghost use Rattle.sr_talk.specs.declared.rounds.Ending.TheVariants.{Whole};
 ghost use Rattle.sr_cli.specs.Leaves.{Counts, Leaves, NotRead, OnlyReads, OnlyRuns};
-ghost use Rattle.sr_cli.specs.Serve.{AreFiles, AreHeld, Ended, Ends, IsExec, IsHeldExec, Refuses, RefusesOver, Served, Serves, exec_files, files_of, refusal_of};
+ghost use Rattle.sr_cli.specs.Serve.{AreFiles, AreNotHeld, Ended, Ends, IsExec, IsHeldExec, Refuses, RefusesOver, Served, Serves, exec_files, files_of, refusal_of};
 ghost use Rattle.sr_cli.specs.declared.file.ReadFault.TheVariants.{Fault as ReadFailed};
 ghost use Rattle.sr_cli.specs.declared.report.Refusal.TheVariants.{Read, Write, Link};
 
@@ -43,10 +43,13 @@ pub(crate) fn run_serve<H: Host>(alloc: Global, words: &ServeWords, host: &mut H
 
 /// Reads the files that the words name, sets them up and serves their tables.
 fn serve_files<H: Host>(alloc: Global, words: &ServeWords, host: &mut H) -> Result<(), Refusal>
-    ensures whole { OnOk result (Served (H.held host.old) words.now Whole (H.linking host.old) (H.linking host.new) (H.writing host.old) (H.writing host.new)) }
-    ensures refused { IfErr result (RefusesOver (H.held host.old) words.now (H.reading host.new).left (H.linking host.old) (H.linking host.new) (H.writing host.old) (H.writing host.new)) }
+    ensures whole { OnOk result (Served (H.held host.old) words.now Whole
+        (H.linking host.old) (H.linking host.new) (H.writing host.old) (H.writing host.new)) }
+    ensures refused { IfErr result (RefusesOver (H.held host.old) words.now (H.reading host.new).left
+        (H.linking host.old) (H.linking host.new) (H.writing host.old) (H.writing host.new)) }
     ensures counts { Counts H H.reading H.writing H.linking host.old host.new result }
-    ensures steady_reads { H.IsSteady host.old → IsErrOf result Read → (schema exec : List ℕ) (loads : List Load) → ¬ AreHeld (H.held host.old) words.now schema exec loads }
+    ensures link_fault_is_counted { IsErrOf result Link → Rose (H.linking host.old).faults (H.linking host.new).faults }
+    ensures steady_reads { H.IsSteady host.old → IsErrOf result Read → AreNotHeld (H.held host.old) words.now }
     ensures steady_writes { H.IsSteady host.old → ¬ IsErrOf result Write }
     ensures steady_links { H.IsSteady host.old → HasPeers words.now.count (H.linking host.old) → ¬ IsErrOf result Link }
     ensures stays { OnlyRuns H H.held H.complaints H.IsSteady host.old host.new }
@@ -66,7 +69,7 @@ fn read_files<H: Host>(alloc: Global, words: &ServeWords, host: &mut H) -> Resul
     ensures loads { IfOk result (λ files. IsTrue (list_all (λ load. nat_lt (length load.bytes) (2 ^ 32)) files.loads)) }
     ensures not_read { IfErr result (NotRead (H.held host.old) (files_of words.now) (H.reading host.old) (H.reading host.new)) }
     ensures ok_keeps_faults { OnOk result ((H.reading host.new).faults ≡ (H.reading host.old).faults) }
-    ensures steady { H.IsSteady host.old → IsErrOf result ReadFailed → (schema exec : List ℕ) (loads : List Load) → ¬ AreHeld (H.held host.old) words.now schema exec loads }
+    ensures steady { H.IsSteady host.old → IsErrOf result ReadFailed → AreNotHeld (H.held host.old) words.now }
     ensures stays { OnlyReads H H.writing H.linking H.held H.complaints H.IsSteady host.old host.new }
 {
     let schema = match read_file(alloc, words.schema.as_str(), host) {
@@ -112,9 +115,12 @@ fn serve_read<H: Host>(
     requires schema { length files.now.schema < 2 ^ 32 }
     requires exec { length files.now.exec < 2 ^ 32 }
     requires loads { IsTrue (list_all (λ load. nat_lt (length load.bytes) (2 ^ 32)) files.now.loads) }
-    ensures whole { OnOk result (Ends files.now.schema files.now.exec files.now.loads words.now Whole (H.linking host.old) (H.linking host.new) (H.writing host.old) (H.writing host.new)) }
-    ensures refused { IfErr result (Refuses files.now.schema files.now.exec files.now.loads words.now (H.linking host.old) (H.linking host.new) (H.writing host.old) (H.writing host.new)) }
+    ensures whole { OnOk result (Ends files.now.schema files.now.exec files.now.loads words.now Whole
+        (H.linking host.old) (H.linking host.new) (H.writing host.old) (H.writing host.new)) }
+    ensures refused { IfErr result (Refuses files.now.schema files.now.exec files.now.loads words.now
+        (H.linking host.old) (H.linking host.new) (H.writing host.old) (H.writing host.new)) }
     ensures counts { Counts H H.reading H.writing H.linking host.old host.new result }
+    ensures link_fault_is_counted { IsErrOf result Link → Rose (H.linking host.old).faults (H.linking host.new).faults }
     ensures steady_writes { H.IsSteady host.old → ¬ IsErrOf result Write }
     ensures steady_links { H.IsSteady host.old → HasPeers words.now.count (H.linking host.old) → ¬ IsErrOf result Link }
     ensures stays { OnlyOutput H H.reading H.held H.complaints H.IsSteady host.old host.new }

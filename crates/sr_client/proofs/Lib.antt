@@ -3,7 +3,7 @@ mod ArriveLemmas
 mod AskLemmas
 mod AskedLemmas
 mod BudgetLemmas
-mod ByToldLemmas
+pub mod ByToldLemmas
 mod Calls
 mod CameLemmas
 mod CountLemmas
@@ -42,12 +42,12 @@ mod RestLemmas
 pub mod Results
 mod ResumeLemmas
 mod SendLemmas
-mod SendableLemmas
+pub mod SendableLemmas
 mod SendsLemmas
 mod SettleLemmas
-mod ShortLemmas
+pub mod ShortLemmas
 mod StartLemmas
-mod SuitLemmas
-mod TableLemmas
+pub mod SuitLemmas
+pub mod TableLemmas
 mod ToldLemmas
 mod WriteLemmas

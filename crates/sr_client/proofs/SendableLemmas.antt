@@ -67,7 +67,7 @@ some-rects (r ∷ rects) some = omega arith
 
 -- ---- tables
 
-has-columns : (schema : List Table) (t : ℕ) → list_all is_table schema ≡ true → t < length schema → HasColumns (table_at schema t)
+pub has-columns : (schema : List Table) (t : ℕ) → list_all is_table schema ≡ true → t < length schema → HasColumns (table_at schema t)
 has-columns [] t tables there = absurd (omega (arith, there))
 has-columns (table ∷ schema) zero tables there = one-table table (and_parts (is_table table) (list_all is_table schema) tables).0
 has-columns (table ∷ schema) (suc t) tables there = has-columns schema t (and_parts (is_table table) (list_all is_table schema) tables).1 (omega (arith, there))

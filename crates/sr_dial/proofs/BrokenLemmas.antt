@@ -15,6 +15,7 @@ use Rattle.sr_session.specs.Rules.{Outcome, QueryRefused, Busy, Down, Answered, 
 use Rattle.sr_wire.specs.Reading.{decoded, Faulty}
 use Rattle.sr_wire.specs.declared.wire_fault.WireFault.TheVariants.{Short}
 use Rattle.sr_wire.specs.Spelling.{spelling}
+use Rattle.sr_links.specs.Brought.{Holding}
 use Rattle.sr_links.specs.Steps.{Standing, Deed, StaysOn, WasCut, given_of, past_after, requests_of, taken_by}
 use Rattle.sr_dial.specs.Calls.{Call, Cause, Failed, all_done, calls_told, count_faults, done_in, fails, is_coming, is_failed, is_fault, one_if, steps_in}
 use Rattle.sr_talk.specs.Reading.{Reads}
@@ -89,12 +90,12 @@ pub or-yes : (a : Bool) → (a || true) ≡ true
 or-yes true = refl
 or-yes false = refl
 
-module _ (C : Type 0) (Stands : C → Client → Type 0) (lent : C → Option Answer) (IsOf : Standing C) (k : Setting) (s : Start C) where
+module _ (C : Type 0) (Stands : C → Client → Type 0) (lent : C → Option Answer) (IsOf : Standing C) (Has : Holding C) (k : Setting) (s : Start C) where
   -- ---- a connection that went short of something, whether or not a fault is counted for it
 
   pub record IsShort (ahead : Ahead) (line : ℕ) (l new_l : Linking) (P : List ℕ → Type 0) (feed : List ℕ) (code : C) : Type 0 where
     pub came : Count
-    pub course : Course C Stands lent IsOf k s ahead line came P feed code
+    pub course : Course C Stands lent IsOf Has k s ahead line came P feed code
     pub sent : IfSome course.call.told (λ t. SentAs course.call.torn (requests_of (steps_in (done_in course.call))) t.sent)
     pub before : RoseBy s.linking.faults (count_faults course.earlier) l.faults
     pub made : connections new_l ≡ connections s.linking ++ calls_told (course.earlier ++ course.call ∷ [])
@@ -103,7 +104,7 @@ module _ (C : Type 0) (Stands : C → Client → Type 0) (lent : C → Option An
     pub peers_stay : TellsStill s.linking new_l
 
   -- where one is, the link failed
-  pub short-breaks : (ahead : Ahead) (line : ℕ) (l new_l : Linking) (P : List ℕ → Type 0) (feed : List ℕ) (code : C) → IsShort ahead line l new_l P feed code → Rose l.faults new_l.faults → Broken C Stands lent IsOf k s ahead line new_l P feed code
+  pub short-breaks : (ahead : Ahead) (line : ℕ) (l new_l : Linking) (P : List ℕ → Type 0) (feed : List ℕ) (code : C) → IsShort ahead line l new_l P feed code → Rose l.faults new_l.faults → Broken C Stands lent IsOf Has k s ahead line new_l P feed code
   short-breaks ahead line l new_l P feed code h rose =
       let before = h.before in
       let once = one-at-most (is_fault h.course.call) in
@@ -112,7 +113,7 @@ module _ (C : Type 0) (Stands : C → Client → Type 0) (lent : C → Option An
   -- ---- bytes that are taken
 
   -- behind what was left these bytes came
-  module _ (ahead : Ahead) (line : ℕ) (came : Count) (failed : Bool) (l new_l : Linking) (P : List ℕ → Type 0) (feed frame after : List ℕ) (code : C) (h : At C Stands lent IsOf k s ahead line came failed l P feed code)
+  module _ (ahead : Ahead) (line : ℕ) (came : Count) (failed : Bool) (l new_l : Linking) (P : List ℕ → Type 0) (feed frame after : List ℕ) (code : C) (h : At C Stands lent IsOf Has k s ahead line came failed l P feed code)
       (up : (left_by s.past (h.course.earlier ++ h.course.call ∷ [])).cut ≡ false) (r : Reads l new_l feed frame after) where
     abbrev read_call : Call C
     read_call = record { number = h.course.call.number; first = h.course.call.first; others = h.course.call.others; connected = h.course.call.connected; torn = h.course.call.torn; told = option_map (takes r.bytes) h.course.call.told; left = frame ++ after }
@@ -121,7 +122,7 @@ module _ (C : Type 0) (Stands : C → Client → Type 0) (lent : C → Option An
         ≡ all_done (h.course.earlier ++ h.course.call ∷ [])
     all-same = all-one h.course.earlier read_call ∙ sym (all-one h.course.earlier h.course.call)
 
-    abbrev pub at-read : At C Stands lent IsOf k s ahead line came failed new_l P (frame ++ after) code
+    abbrev pub at-read : At C Stands lent IsOf Has k s ahead line came failed new_l P (frame ++ after) code
     at-read =
         let there = subst (λ b. IsThere b h.course.earlier h.course.call s.linking l) up h.there in
         let before = h.faults in
@@ -142,7 +143,7 @@ module _ (C : Type 0) (Stands : C → Client → Type 0) (lent : C → Option An
                 (λ t. t.taken ≡ spelled (given_of (steps_in (done_in h.course.call))) ++ (frame ++ after)) h.course.call.told
                 (λ t e. ap (λ x. x ++ r.bytes) e ∙ (append_assoc (spelled (given_of (steps_in (done_in h.course.call)))) h.course.call.left r.bytes
                 ∙ ap (λ x. spelled (given_of (steps_in (done_in h.course.call))) ++ x) (ap (λ x. x ++ r.bytes) h.course.left ∙ r.cut))) h.course.taken;
-            steps = subst (λ ds. Stepped C Stands lent IsOf k s ahead line came ds P code) (sym all-same) h.course.steps;
+            steps = subst (λ ds. Stepped C Stands lent IsOf Has k s ahead line came ds P code) (sym all-same) h.course.steps;
           };
           sent = map-told (takes r.bytes) (λ t. SentAs h.course.call.torn (requests_of (steps_in (done_in h.course.call))) t.sent)
               (λ t. SentAs h.course.call.torn (requests_of (steps_in (done_in h.course.call))) t.sent) h.course.call.told (λ t e. e) h.sent;
@@ -162,10 +163,10 @@ module _ (C : Type 0) (Stands : C → Client → Type 0) (lent : C → Option An
 
   -- ---- the link fails while a request is out
 
-  module _ (ahead : Ahead) (line : ℕ) (came : Count) (failed : Bool) (l : Linking) (P : List ℕ → Type 0) (feed : List ℕ) (code : C) (h : At C Stands lent IsOf k s ahead line came failed l P feed code)
+  module _ (ahead : Ahead) (line : ℕ) (came : Count) (failed : Bool) (l : Linking) (P : List ℕ → Type 0) (feed : List ℕ) (code : C) (h : At C Stands lent IsOf Has k s ahead line came failed l P feed code)
       (up : (left_by s.past (h.course.earlier ++ h.course.call ∷ [])).cut ≡ false) (out : (left_by s.past (h.course.earlier ++ h.course.call ∷ [])).out ≢ None) where
     -- a fault is counted
-    pub fault-breaks : (new_l : Linking) → OnlyFaults l new_l → Rose l.faults new_l.faults → Broken C Stands lent IsOf k s ahead line new_l P feed code
+    pub fault-breaks : (new_l : Linking) → OnlyFaults l new_l → Rose l.faults new_l.faults → Broken C Stands lent IsOf Has k s ahead line new_l P feed code
     fault-breaks new_l only rose =
         let there = subst (λ b. IsThere b h.course.earlier h.course.call s.linking l) up h.there in
         let before = h.faults in
@@ -187,7 +188,7 @@ module _ (C : Type 0) (Stands : C → Client → Type 0) (lent : C → Option An
     not-coming (Some t) over = ap (λ (x : List ℕ). Rattle.std.specs.Prelude.nat_lt 0 (length x)) over
 
     -- the peer says no more
-    pub end-breaks : IsOver l.present → decoded feed ≡ Faulty Short → Broken C Stands lent IsOf k s ahead line l P feed code
+    pub end-breaks : IsOver l.present → decoded feed ≡ Faulty Short → Broken C Stands lent IsOf Has k s ahead line l P feed code
     end-breaks over short =
         let there = subst (λ b. IsThere b h.course.earlier h.course.call s.linking l) up h.there in
         let before = h.faults in
@@ -208,8 +209,8 @@ module _ (C : Type 0) (Stands : C → Client → Type 0) (lent : C → Option An
   module _ (ahead further : Ahead) (line : ℕ) (came : Count) (number : ℕ) (cause : Cause) (P Q : List ℕ → Type 0) (code new : C) (deed : Deed) (lines : List TraceLine) (sent : List Message)
       (on : GoesOn cause ahead (lent code) number deed further) (most : (more_taken cause sent came).taken ≤ 1000000) (says : (texts : List ℕ) → P texts → Q (texts ++ spoken k.says (flat_map (line_text k.schema number) lines))) where
     -- a request is cut short
-    pub send-short : (failed : Bool) (l new_l : Linking) (feed left : List ℕ) (h : At C Stands lent IsOf k s ahead line came failed l P feed code)
-        (m : Makes Stands lent IsOf k code new (left_by s.past (h.course.earlier ++ h.course.call ∷ [])) deed lines sent)
+    pub send-short : (failed : Bool) (l new_l : Linking) (feed left : List ℕ) (h : At C Stands lent IsOf Has k s ahead line came failed l P feed code)
+        (m : Makes Stands lent IsOf Has k code new (left_by s.past (h.course.earlier ++ h.course.call ∷ [])) deed lines sent)
         → IsInPlace k.schema cause line number deed (left_by s.past (h.course.earlier ++ h.course.call ∷ [])) → StaysOn (left_by s.past (h.course.earlier ++ h.course.call ∷ [])) deed
         → is_failed cause ≡ false → (left_by s.past (h.course.earlier ++ h.course.call ∷ [])).cut ≡ false → feed ≡ spelled (taken_by deed) ++ left
         → SendsPart l new_l (spelled sent) → IsShort further number l new_l Q left new
@@ -221,27 +222,27 @@ module _ (C : Type 0) (Stands : C → Client → Type 0) (lent : C → Option An
             let there = subst (λ b. IsThere b h.course.earlier h.course.call s.linking l) up h.there in
             let bytes : List ℕ = take part.count (spelled sent) in
             let told : Option Connection = option_map (sends (take part.count (spelled sent))) h.course.call.told in
-            let fails-no : fails (with_step h.course.call (done_of C Stands lent IsOf k s number cause m) true (option_map (sends (take part.count (spelled sent))) h.course.call.told) left) ≡ false =
-            fails-one h.course.call.others (done_of C Stands lent IsOf k s number cause m) ∙ (or-no (fails h.course.call) (is_failed cause) not_failed ∙ there.2) in
+            let fails-no : fails (with_step h.course.call (done_of C Stands lent IsOf Has k s number cause m) true (option_map (sends (take part.count (spelled sent))) h.course.call.told) left) ≡ false =
+            fails-one h.course.call.others (done_of C Stands lent IsOf Has k s number cause m) ∙ (or-no (fails h.course.call) (is_failed cause) not_failed ∙ there.2) in
             let same : sent ≡ x ∷ [] = m.sent_is ∙ one in
-            let sum : requests_of (steps_in (done_in (with_step h.course.call (done_of C Stands lent IsOf k s number cause m) true (option_map (sends (take part.count (spelled sent))) h.course.call.told) left)))
+            let sum : requests_of (steps_in (done_in (with_step h.course.call (done_of C Stands lent IsOf Has k s number cause m) true (option_map (sends (take part.count (spelled sent))) h.course.call.told) left)))
             ≡ requests_of (steps_in (done_in h.course.call)) ++ x ∷ [] =
-            requests-step h.course.call (done_of C Stands lent IsOf k s number cause m) true (option_map (sends (take part.count (spelled sent))) h.course.call.told) left
+            requests-step h.course.call (done_of C Stands lent IsOf Has k s number cause m) true (option_map (sends (take part.count (spelled sent))) h.course.call.told) left
             ∙ ap (λ ms. requests_of (steps_in (done_in h.course.call)) ++ ms) one in
             let before = h.faults in
             let none = count-still h.course.earlier h.course.call there.2 in
             record {
               came = more_taken cause sent came;
-              course = course-one C Stands lent IsOf k s ahead further line came number cause P Q code new deed lines sent on most says feed left left refl true (option_map (sends (take part.count (spelled sent))) h.course.call.told) h.course m place stays
+              course = course-one C Stands lent IsOf Has k s ahead further line came number cause P Q code new deed lines sent on most says feed left left refl true (option_map (sends (take part.count (spelled sent))) h.course.call.told) h.course m place stays
                   (map-told (sends (take part.count (spelled sent))) (λ t. t.taken ≡ spelled (given_of (steps_in (done_in h.course.call))) ++ h.course.call.left)
                   (λ t. t.taken ≡ spelled (given_of (steps_in (done_in h.course.call)) ++ taken_by deed) ++ left) h.course.call.told
                   (λ t e. e ∙ (ap (λ x. spelled (given_of (steps_in (done_in h.course.call))) ++ x) (h.course.left ∙ fed)
                   ∙ (sym (append_assoc (spelled (given_of (steps_in (done_in h.course.call)))) (spelled (taken_by deed)) left)
                   ∙ ap (λ x. x ++ left) (sym (spelled-append (given_of (steps_in (done_in h.course.call))) (taken_by deed)))))) h.course.taken)
                   (map-told (sends (take part.count (spelled sent))) (λ t. t.address ≡ s.address) (λ t. t.address ≡ s.address) h.course.call.told (λ t e. e) h.course.dialled)
-                  (told-on s.linking.peers h.course.call (with_step h.course.call (done_of C Stands lent IsOf k s number cause m) true (option_map (sends (take part.count (spelled sent))) h.course.call.told) left) (sends (take part.count (spelled sent))) there.3 refl refl h.course.is_told);
+                  (told-on s.linking.peers h.course.call (with_step h.course.call (done_of C Stands lent IsOf Has k s number cause m) true (option_map (sends (take part.count (spelled sent))) h.course.call.told) left) (sends (take part.count (spelled sent))) there.3 refl refl h.course.is_told);
               sent = map-told (sends (take part.count (spelled sent))) (λ t. SentAs h.course.call.torn (requests_of (steps_in (done_in h.course.call))) t.sent)
-                  (λ t. SendsMost (requests_of (steps_in (done_in (with_step h.course.call (done_of C Stands lent IsOf k s number cause m) true (option_map (sends (take part.count (spelled sent))) h.course.call.told) left)))) t.sent)
+                  (λ t. SendsMost (requests_of (steps_in (done_in (with_step h.course.call (done_of C Stands lent IsOf Has k s number cause m) true (option_map (sends (take part.count (spelled sent))) h.course.call.told) left)))) t.sent)
                   h.course.call.told
                   (λ t e.
                   let was : t.sent ≡ spelled (requests_of (steps_in (done_in h.course.call))) = subst (λ b. SentAs b (requests_of (steps_in (done_in h.course.call))) t.sent) (not-torn h.course.call.torn (fails h.course.call) h.counted there.2) e in
@@ -249,59 +250,59 @@ module _ (C : Type 0) (Stands : C → Client → Type 0) (lent : C → Option An
                   (subst (λ ms. SendsMost (requests_of (steps_in (done_in h.course.call)) ++ x ∷ []) (t.sent ++ take part.count (spelled ms))) (sym same)
                   (subst (λ b. SendsMost (requests_of (steps_in (done_in h.course.call)) ++ x ∷ []) (b ++ take part.count (spelled (x ∷ [])))) (sym was) (most-part (requests_of (steps_in (done_in h.course.call))) x part.count)))) h.sent;
               before = omega (arith, before, none);
-              made = made-of false h.course.earlier (with_step h.course.call (done_of C Stands lent IsOf k s number cause m) true (option_map (sends (take part.count (spelled sent))) h.course.call.told) left) s.linking new_l
+              made = made-of false h.course.earlier (with_step h.course.call (done_of C Stands lent IsOf Has k s number cause m) true (option_map (sends (take part.count (spelled sent))) h.course.call.told) left) s.linking new_l
                   (part.sent.present ∙ ap (option_map (sends (take part.count (spelled sent)))) there.0, part.sent.past ∙ there.1, fails-no, there.3);
               out = λ none_out. m.waits (λ no. absurd (let wrong : x ∷ [] ≡ [] = sym same ∙ no in cc))
-                  (sym (ap (λ (c : Client). c.out) (past-step s.past h.course.earlier h.course.call (done_of C Stands lent IsOf k s number cause m) true (option_map (sends (take part.count (spelled sent))) h.course.call.told) left)) ∙ none_out);
+                  (sym (ap (λ (c : Client). c.out) (past-step s.past h.course.earlier h.course.call (done_of C Stands lent IsOf Has k s number cause m) true (option_map (sends (take part.count (spelled sent))) h.course.call.told) left)) ∙ none_out);
               not_yet = fails-no;
               peers_stay = still-same s.linking l new_l part.sent.peers h.peers_stay;
             }
 
-    pub send-breaks : (failed : Bool) (l new_l : Linking) (feed left : List ℕ) (h : At C Stands lent IsOf k s ahead line came failed l P feed code)
-        (m : Makes Stands lent IsOf k code new (left_by s.past (h.course.earlier ++ h.course.call ∷ [])) deed lines sent)
+    pub send-breaks : (failed : Bool) (l new_l : Linking) (feed left : List ℕ) (h : At C Stands lent IsOf Has k s ahead line came failed l P feed code)
+        (m : Makes Stands lent IsOf Has k code new (left_by s.past (h.course.earlier ++ h.course.call ∷ [])) deed lines sent)
         → IsInPlace k.schema cause line number deed (left_by s.past (h.course.earlier ++ h.course.call ∷ [])) → StaysOn (left_by s.past (h.course.earlier ++ h.course.call ∷ [])) deed
         → is_failed cause ≡ false → (left_by s.past (h.course.earlier ++ h.course.call ∷ [])).cut ≡ false → feed ≡ spelled (taken_by deed) ++ left
-        → SendsPart l new_l (spelled sent) → Rose l.faults new_l.faults → Broken C Stands lent IsOf k s further number new_l Q left new
+        → SendsPart l new_l (spelled sent) → Rose l.faults new_l.faults → Broken C Stands lent IsOf Has k s further number new_l Q left new
     send-breaks failed l new_l feed left h m place stays not_failed up fed part rose = short-breaks further number l new_l Q left new (send-short failed l new_l feed left h m place stays not_failed up fed part) rose
 
   -- ---- the client is cut, and the connection given up
 
   pub fail-ends : (ahead : Ahead) (line : ℕ) (P Q : List ℕ → Type 0) (l : Linking) (feed : List ℕ) (code new : C) (lines : List TraceLine)
-      → ((texts : List ℕ) → P texts → Q (texts ++ spoken k.says (flat_map (line_text k.schema line) lines))) → (b : Broken C Stands lent IsOf k s ahead line l P feed code)
-      → Makes Stands lent IsOf k code new (left_by s.past (b.course.earlier ++ b.course.call ∷ [])) WasCut lines []
-      → Free C Stands lent IsOf k s ahead line true (hung_up l) Q feed new
+      → ((texts : List ℕ) → P texts → Q (texts ++ spoken k.says (flat_map (line_text k.schema line) lines))) → (b : Broken C Stands lent IsOf Has k s ahead line l P feed code)
+      → Makes Stands lent IsOf Has k code new (left_by s.past (b.course.earlier ++ b.course.call ∷ [])) WasCut lines []
+      → Free C Stands lent IsOf Has k s ahead line true (hung_up l) Q feed new
   fail-ends ahead line P Q l feed code new lines says b m =
       let E : List (Call C) = b.course.earlier in
-      let fails-yes : fails (with_step b.course.call (done_of C Stands lent IsOf k s line Failed m) b.course.call.torn b.course.call.told b.course.call.left) ≡ true =
-      fails-one b.course.call.others (done_of C Stands lent IsOf k s line Failed m) ∙ or-yes (fails b.course.call) in
-      let sum : requests_of (steps_in (done_in (with_step b.course.call (done_of C Stands lent IsOf k s line Failed m) b.course.call.torn b.course.call.told b.course.call.left))) ≡ requests_of (steps_in (done_in b.course.call)) =
-      requests-step b.course.call (done_of C Stands lent IsOf k s line Failed m) b.course.call.torn b.course.call.told b.course.call.left
+      let fails-yes : fails (with_step b.course.call (done_of C Stands lent IsOf Has k s line Failed m) b.course.call.torn b.course.call.told b.course.call.left) ≡ true =
+      fails-one b.course.call.others (done_of C Stands lent IsOf Has k s line Failed m) ∙ or-yes (fails b.course.call) in
+      let sum : requests_of (steps_in (done_in (with_step b.course.call (done_of C Stands lent IsOf Has k s line Failed m) b.course.call.torn b.course.call.told b.course.call.left))) ≡ requests_of (steps_in (done_in b.course.call)) =
+      requests-step b.course.call (done_of C Stands lent IsOf Has k s line Failed m) b.course.call.torn b.course.call.told b.course.call.left
       ∙ (ap (λ ms. requests_of (steps_in (done_in b.course.call)) ++ ms) (sym m.sent_is) ∙ append-nil (requests_of (steps_in (done_in b.course.call)))) in
       let before = b.faults in
-      let count : count_faults (b.course.earlier ++ with_step b.course.call (done_of C Stands lent IsOf k s line Failed m) b.course.call.torn b.course.call.told b.course.call.left ∷ []) ≡ count_faults b.course.earlier + one_if (is_fault b.course.call) =
-      count-one b.course.earlier (with_step b.course.call (done_of C Stands lent IsOf k s line Failed m) b.course.call.torn b.course.call.told b.course.call.left)
+      let count : count_faults (b.course.earlier ++ with_step b.course.call (done_of C Stands lent IsOf Has k s line Failed m) b.course.call.torn b.course.call.told b.course.call.left ∷ []) ≡ count_faults b.course.earlier + one_if (is_fault b.course.call) =
+      count-one b.course.earlier (with_step b.course.call (done_of C Stands lent IsOf Has k s line Failed m) b.course.call.torn b.course.call.told b.course.call.left)
       ∙ ap (λ y. count_faults b.course.earlier + one_if (y && is_fault b.course.call)) fails-yes in
       record {
         came = none_taken;
         at = record {
-          course = course-one C Stands lent IsOf k s ahead ahead line b.came line Failed P Q code new WasCut lines [] refl (omega arith) says feed b.course.call.left feed b.course.left b.course.call.torn b.course.call.told b.course m (refl, b.out) tt
+          course = course-one C Stands lent IsOf Has k s ahead ahead line b.came line Failed P Q code new WasCut lines [] refl (omega arith) says feed b.course.call.left feed b.course.left b.course.call.torn b.course.call.told b.course m (refl, b.out) tt
               (weaken-told (λ t. t.taken ≡ spelled (given_of (steps_in (done_in b.course.call))) ++ b.course.call.left)
               (λ t. t.taken ≡ spelled (given_of (steps_in (done_in b.course.call)) ++ []) ++ b.course.call.left) b.course.call.told
               (λ t e. e ∙ ap (λ ms. spelled ms ++ b.course.call.left) (sym (append-nil (given_of (steps_in (done_in b.course.call)))))) b.course.taken)
               b.course.dialled
-              (told-same s.linking.peers b.course.call (with_step b.course.call (done_of C Stands lent IsOf k s line Failed m) b.course.call.torn b.course.call.told b.course.call.left) refl
-              (given-step b.course.call (done_of C Stands lent IsOf k s line Failed m) b.course.call.torn b.course.call.told b.course.call.left ∙ append-nil (given_of (steps_in (done_in b.course.call)))) refl refl b.course.is_told);
+              (told-same s.linking.peers b.course.call (with_step b.course.call (done_of C Stands lent IsOf Has k s line Failed m) b.course.call.torn b.course.call.told b.course.call.left) refl
+              (given-step b.course.call (done_of C Stands lent IsOf Has k s line Failed m) b.course.call.torn b.course.call.told b.course.call.left ∙ append-nil (given_of (steps_in (done_in b.course.call)))) refl refl b.course.is_told);
           sent = subst (λ ms. IfSome b.course.call.told (λ t. SentAs b.course.call.torn ms t.sent)) (sym sum) b.sent;
           counted = λ yes. fails-yes;
           faults = subst (λ n. RoseBy s.linking.faults n l.faults) (sym count) before;
-          there = subst (λ y. IsThere y b.course.earlier (with_step b.course.call (done_of C Stands lent IsOf k s line Failed m) b.course.call.torn b.course.call.told b.course.call.left) s.linking (hung_up l))
-              (sym (ap (λ (c : Client). c.cut) (past-step s.past b.course.earlier b.course.call (done_of C Stands lent IsOf k s line Failed m) b.course.call.torn b.course.call.told b.course.call.left) ∙ m.link.0))
+          there = subst (λ y. IsThere y b.course.earlier (with_step b.course.call (done_of C Stands lent IsOf Has k s line Failed m) b.course.call.torn b.course.call.told b.course.call.left) s.linking (hung_up l))
+              (sym (ap (λ (c : Client). c.cut) (past-step s.past b.course.earlier b.course.call (done_of C Stands lent IsOf Has k s line Failed m) b.course.call.torn b.course.call.told b.course.call.left) ∙ m.link.0))
               (append-nil (connections l) ∙ (b.made
-              ∙ ap (λ x. connections s.linking ++ x) (told-one b.course.earlier b.course.call ∙ sym (told-one b.course.earlier (with_step b.course.call (done_of C Stands lent IsOf k s line Failed m) b.course.call.torn b.course.call.told b.course.call.left)))));
-          failed_is = any-one b.course.earlier (with_step b.course.call (done_of C Stands lent IsOf k s line Failed m) b.course.call.torn b.course.call.told b.course.call.left)
+              ∙ ap (λ x. connections s.linking ++ x) (told-one b.course.earlier b.course.call ∙ sym (told-one b.course.earlier (with_step b.course.call (done_of C Stands lent IsOf Has k s line Failed m) b.course.call.torn b.course.call.told b.course.call.left)))));
+          failed_is = any-one b.course.earlier (with_step b.course.call (done_of C Stands lent IsOf Has k s line Failed m) b.course.call.torn b.course.call.told b.course.call.left)
               ∙ (ap (λ y. list_any fails b.course.earlier || y) fails-yes ∙ or-yes (list_any fails b.course.earlier));
           calm = λ no. absurd (let wrong : true ≡ false = no in cc);
           peers_stay = b.peers_stay;
         };
-        free = ap (λ (c : Client). c.out) (past-step s.past b.course.earlier b.course.call (done_of C Stands lent IsOf k s line Failed m) b.course.call.torn b.course.call.told b.course.call.left) ∙ m.rests m.link.0;
+        free = ap (λ (c : Client). c.out) (past-step s.past b.course.earlier b.course.call (done_of C Stands lent IsOf Has k s line Failed m) b.course.call.torn b.course.call.told b.course.call.left) ∙ m.rests m.link.0;
       }

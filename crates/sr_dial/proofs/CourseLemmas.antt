@@ -10,6 +10,7 @@ use Rattle.sr_script.specs.declared.line.TraceLine.{TraceLine}
 use Rattle.sr_script.specs.TraceText.{line_text}
 use Rattle.sr_session.specs.Clients.{Client}
 use Rattle.sr_session.specs.Rules.{sent_of}
+use Rattle.sr_links.specs.Brought.{AreLawful, Holding, IsLawful}
 use Rattle.sr_links.specs.Steps.{Step, Standing, Deed, IsFair, AreFair, OnOne, StaysOn, code_after, given_of, past_after, requests_of, taken_by}
 use Rattle.sr_dial.specs.Calls.{Call, Cause, Done, Made, Explained, Said, all_done, calls_told, count_faults, done_in, fails, is_failed, is_fault, lines_of, one_if, steps_in}
 use Rattle.sr_talk.specs.Serving.{RoseBy, spelled}
@@ -18,7 +19,7 @@ use Rattle.sr_dial.specs.Carrying.{spoken}
 use Rattle.sr_dial.specs.Known.{IsFrom, Setting, Makes, said_by}
 use Rattle.sr_dial.specs.Runs.{IsInPlace, IsToldIf, SentAs, left_by, more_taken, none_taken}
 use Rattle.sr_dial.specs.Courses.{At, Course, IsThere, Start, Stepped}
-use Rattle.sr_dial.proofs.ListLemmas.{all-one, any-one, code-append, count-one, explained-append, fails-one, fair-append, few-append, given-append, line-append, on-append, past-append, place-append, requests-append, steps-append, taken-append, told-one}
+use Rattle.sr_dial.proofs.ListLemmas.{all-one, any-one, code-append, count-one, explained-append, fails-one, fair-append, few-append, given-append, lawful-append, line-append, on-append, past-append, place-append, requests-append, steps-append, taken-append, told-one}
 use Rattle.sr_dial.proofs.ToldLemmas.{still-same, told-on, told-same}
 use Rattle.sr_dial.specs.declared.parts.Answer.{Answer}
 use Rattle.sr_dial.specs.Following.{Ahead}
@@ -120,19 +121,19 @@ module _ {C : Type 0} where
       ∙ (ap (λ x. x ++ option_to_list call.told) past
       ∙ (append_assoc (connections old) (calls_told E) (option_to_list call.told) ∙ ap (λ x. connections old ++ x) (sym (told-one E call))))
 
-module _ (C : Type 0) (Stands : C → Client → Type 0) (lent : C → Option Answer) (IsOf : Standing C) (k : Setting) (s : Start C) where
+module _ (C : Type 0) (Stands : C → Client → Type 0) (lent : C → Option Answer) (IsOf : Standing C) (Has : Holding C) (k : Setting) (s : Start C) where
   -- a step that was made
-  abbrev pub step_of : {code new : C} {c : Client} {deed : Deed} {lines : List TraceLine} {sent : List Message} → Makes Stands lent IsOf k code new c deed lines sent → Step C
+  abbrev pub step_of : {code new : C} {c : Client} {deed : Deed} {lines : List TraceLine} {sent : List Message} → Makes Stands lent IsOf Has k code new c deed lines sent → Step C
   step_of {code} {new} {c} {deed} {lines} {sent} m = record { deed = deed; outcome = m.outcome; past = m.next; code = new }
 
-  abbrev pub done_of : {code new : C} {c : Client} {deed : Deed} {lines : List TraceLine} {sent : List Message} → ℕ → Cause → Makes Stands lent IsOf k code new c deed lines sent → Done C
+  abbrev pub done_of : {code new : C} {c : Client} {deed : Deed} {lines : List TraceLine} {sent : List Message} → ℕ → Cause → Makes Stands lent IsOf Has k code new c deed lines sent → Done C
   done_of {code} {new} {c} {deed} {lines} {sent} number cause m = Made number cause (record { deed = deed; outcome = m.outcome; past = m.next; code = new })
 
   module _ (ahead further : Ahead) (line : ℕ) (came : Count) (number : ℕ) (cause : Cause) (P Q : List ℕ → Type 0) (code new : C) (deed : Deed) (lines : List TraceLine) (sent : List Message)
       (on : GoesOn cause ahead (lent code) number deed further) (most : (more_taken cause sent came).taken ≤ 1000000) (says : (texts : List ℕ) → P texts → Q (texts ++ spoken k.says (flat_map (line_text k.schema number) lines))) where
-    pub stepped-one : (ds : List (Done C)) → Stepped C Stands lent IsOf k s ahead line came ds P code → (m : Makes Stands lent IsOf k code new (past_after s.past (steps_in ds)) deed lines sent)
+    pub stepped-one : (ds : List (Done C)) → Stepped C Stands lent IsOf Has k s ahead line came ds P code → (m : Makes Stands lent IsOf Has k code new (past_after s.past (steps_in ds)) deed lines sent)
         → IsInPlace k.schema cause line number deed (past_after s.past (steps_in ds))
-        → Stepped C Stands lent IsOf k s further number (more_taken cause sent came) (ds ++ done_of number cause m ∷ []) Q new
+        → Stepped C Stands lent IsOf Has k s further number (more_taken cause sent came) (ds ++ done_of number cause m ∷ []) Q new
     stepped-one ds h m place =
         let past : past_after s.past (steps_in (ds ++ done_of number cause m ∷ [])) ≡ m.next = past-one s.past ds (done_of number cause m) in
         let texts : flat_map (said_by k) (ds ++ done_of number cause m ∷ []) ≡ flat_map (said_by k) ds ++ spoken k.says (flat_map (line_text k.schema number) (lines_of k.number deed m.outcome)) =
@@ -151,6 +152,9 @@ module _ (C : Type 0) (Stands : C → Client → Type 0) (lent : C → Option An
           fair = subst (AreFair IsOf k.limits s.code s.past) (sym (steps-append ds (done_of number cause m ∷ [])))
               (fair-append IsOf k.limits s.code s.past (steps_in ds) (step_of m ∷ []) h.fair
               (subst (λ x. IsFair IsOf k.limits x (past_after s.past (steps_in ds)) (step_of m)) (sym h.code_is) m.fair, tt));
+          lawful = subst (AreLawful Has k.limits k.schema s.code s.past) (sym (steps-append ds (done_of number cause m ∷ [])))
+              (lawful-append Has k.limits k.schema s.code s.past (steps_in ds) (step_of m ∷ []) h.lawful
+              (subst (λ x. IsLawful Has k.limits k.schema x (past_after s.past (steps_in ds)) (step_of m)) (sym h.code_is) m.lawful, tt));
           explained = explained-append IsOf k.limits s.code s.past ds (done_of number cause m ∷ []) h.explained tt;
           code_is = ap (code_after s.code) (steps-append ds (done_of number cause m ∷ [])) ∙ code-append s.code (steps_in ds) (step_of m ∷ []);
           stands = subst (Stands new) (sym past) m.stands;
@@ -161,11 +165,11 @@ module _ (C : Type 0) (Stands : C → Client → Type 0) (lent : C → Option An
     -- ---- a step of the present call
 
     -- with what the link tells then
-    abbrev pub course-one : (feed left new_feed : List ℕ) (same : left ≡ new_feed) (torn : Bool) (told : Option Connection) (h : Course C Stands lent IsOf k s ahead line came P feed code) (m : Makes Stands lent IsOf k code new (left_by s.past (h.earlier ++ h.call ∷ [])) deed lines sent)
+    abbrev pub course-one : (feed left new_feed : List ℕ) (same : left ≡ new_feed) (torn : Bool) (told : Option Connection) (h : Course C Stands lent IsOf Has k s ahead line came P feed code) (m : Makes Stands lent IsOf Has k code new (left_by s.past (h.earlier ++ h.call ∷ [])) deed lines sent)
         → IsInPlace k.schema cause line number deed (left_by s.past (h.earlier ++ h.call ∷ [])) → StaysOn (left_by s.past (h.earlier ++ h.call ∷ [])) deed
         → IfSome told (λ t. t.taken ≡ spelled (given_of (steps_in (done_in h.call)) ++ taken_by deed) ++ left) → IfSome told (λ t. t.address ≡ s.address)
         → IsToldIf s.linking.peers (with_step h.call (done_of number cause m) torn told left)
-        → Course C Stands lent IsOf k s further number (more_taken cause sent came) Q new_feed new
+        → Course C Stands lent IsOf Has k s further number (more_taken cause sent came) Q new_feed new
     course-one feed left new_feed same torn told h m place stays taken dialled is_told = record {
       earlier = h.earlier;
       call = with_step h.call (done_of number cause m) torn told left;
@@ -184,17 +188,17 @@ module _ (C : Type 0) (Stands : C → Client → Type 0) (lent : C → Option An
       left = same;
       some = λ none. append-some (requests_of (steps_in (done_in h.call))) (sent_of m.outcome) h.some (sym (requests-step h.call (done_of number cause m) torn told left) ∙ none);
       taken = subst (λ ms. IfSome told (λ t. t.taken ≡ spelled ms ++ left)) (sym (given-step h.call (done_of number cause m) torn told left)) taken;
-      steps = subst (λ ds. Stepped C Stands lent IsOf k s further number (more_taken cause sent came) ds Q new) (sym (all-step h.earlier h.call (done_of number cause m) torn told left))
+      steps = subst (λ ds. Stepped C Stands lent IsOf Has k s further number (more_taken cause sent came) ds Q new) (sym (all-step h.earlier h.call (done_of number cause m) torn told left))
           (stepped-one (all_done (h.earlier ++ h.call ∷ [])) h.steps m place);
     }
 
-    module _ (failed : Bool) (l new_l : Linking) (feed left : List ℕ) (h : At C Stands lent IsOf k s ahead line came failed l P feed code)
-        (m : Makes Stands lent IsOf k code new (left_by s.past (h.course.earlier ++ h.course.call ∷ [])) deed lines sent)
+    module _ (failed : Bool) (l new_l : Linking) (feed left : List ℕ) (h : At C Stands lent IsOf Has k s ahead line came failed l P feed code)
+        (m : Makes Stands lent IsOf Has k code new (left_by s.past (h.course.earlier ++ h.course.call ∷ [])) deed lines sent)
         (place : IsInPlace k.schema cause line number deed (left_by s.past (h.course.earlier ++ h.course.call ∷ []))) (stays : StaysOn (left_by s.past (h.course.earlier ++ h.course.call ∷ [])) deed)
         (not_failed : is_failed cause ≡ false) where
       -- all behind it went over the link, which is up
       pub at-up : (left_by s.past (h.course.earlier ++ h.course.call ∷ [])).cut ≡ false → m.next.cut ≡ false → feed ≡ spelled (taken_by deed) ++ left → new_l ≡ sent_on (spelled sent) l
-          → At C Stands lent IsOf k s further number (more_taken cause sent came) failed new_l Q left new
+          → At C Stands lent IsOf Has k s further number (more_taken cause sent came) failed new_l Q left new
       at-up up still fed is =
           let there = subst (λ b. IsThere b h.course.earlier h.course.call s.linking l) up h.there in
           let fails-no : fails (with_step h.course.call (done_of number cause m) h.course.call.torn (option_map (sends (spelled sent)) h.course.call.told) left) ≡ false =
@@ -235,7 +239,7 @@ module _ (C : Type 0) (Stands : C → Client → Type 0) (lent : C → Option An
 
       -- nothing went over the link, which is down then
       pub at-down : m.next.cut ≡ true → sent ≡ [] → taken_by deed ≡ [] → connections new_l ≡ connections l → new_l.peers ≡ l.peers → new_l.faults ≡ l.faults
-          → At C Stands lent IsOf k s further number (more_taken cause sent came) failed new_l Q feed new
+          → At C Stands lent IsOf Has k s further number (more_taken cause sent came) failed new_l Q feed new
       at-down down none took same_links same_peers quiet =
           let fails-same : fails (with_step h.course.call (done_of number cause m) h.course.call.torn h.course.call.told h.course.call.left) ≡ fails h.course.call =
           fails-one h.course.call.others (done_of number cause m) ∙ or-no (fails h.course.call) (is_failed cause) not_failed in

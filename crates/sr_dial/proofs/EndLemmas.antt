@@ -4,6 +4,7 @@ use Rattle.std.specs.Prelude.{◌≢◌, flat_map}
 use Rattle.sr_io.specs.Told.{Linking, Writing}
 use Rattle.sr_message.specs.declared.message.Message.{Message}
 use Rattle.sr_session.specs.Clients.{Client}
+use Rattle.sr_links.specs.Brought.{Holding}
 use Rattle.sr_links.specs.Steps.{Standing, requests_of}
 use Rattle.sr_dial.specs.Calls.{Task, all_done, done_in, steps_in}
 use Rattle.sr_dial.specs.Known.{Setting, said_by}
@@ -24,9 +25,9 @@ pub most-of : (b : Bool) (ms : List Message) (bytes : List ℕ) → ms ≢ [] �
 most-of true ms bytes some sent = sent
 most-of false ms bytes some sent = subst (SendsMost ms) (sym sent) (most-all ms some)
 
-module _ (C : Type 0) (Stands : C → Client → Type 0) (lent : C → Option Answer) (IsOf : Standing C) (k : Setting) (s : Start C) (ahead : Ahead) (line : ℕ) (came : Count) (l : Linking) (feed : List ℕ) (code : C) where
+module _ (C : Type 0) (Stands : C → Client → Type 0) (lent : C → Option Answer) (IsOf : Standing C) (Has : Holding C) (k : Setting) (s : Start C) (ahead : Ahead) (line : ℕ) (came : Count) (l : Linking) (feed : List ℕ) (code : C) where
   -- the lines of a step are not written, all else of it was done
-  pub unwritten-at : (w : Writing) (failed : Bool) → At C Stands lent IsOf k s ahead line came failed l (IsPartWritten k.says s w) feed code → Over C Stands lent IsOf k s ending.Unwritten l w code
+  pub unwritten-at : (w : Writing) (failed : Bool) → At C Stands lent IsOf Has k s ahead line came failed l (IsPartWritten k.says s w) feed code → Over C Stands lent IsOf Has k s ending.Unwritten l w code
   unwritten-at w failed h = record {
     earlier = h.course.earlier;
     last = h.course.call;
@@ -36,6 +37,7 @@ module _ (C : Type 0) (Stands : C → Client → Type 0) (lent : C → Option An
     from = h.course.steps.from;
     goes = h.course.steps.goes;
     fair = h.course.steps.fair;
+    lawful = h.course.steps.lawful;
     explained = h.course.steps.explained;
     code_is = λ fine. h.course.steps.code_is;
     stands = λ fine. h.course.steps.stands;
@@ -54,7 +56,7 @@ module _ (C : Type 0) (Stands : C → Client → Type 0) (lent : C → Option An
     writes = h.course.steps.writes;
   }
 
-  pub unwritten-broken : (w : Writing) → Broken C Stands lent IsOf k s ahead line l (IsPartWritten k.says s w) feed code → Over C Stands lent IsOf k s ending.Unwritten l w code
+  pub unwritten-broken : (w : Writing) → Broken C Stands lent IsOf Has k s ahead line l (IsPartWritten k.says s w) feed code → Over C Stands lent IsOf Has k s ending.Unwritten l w code
   unwritten-broken w b =
       let before = b.faults in
       let none = count-still b.course.earlier b.course.call b.not_yet in
@@ -67,6 +69,7 @@ module _ (C : Type 0) (Stands : C → Client → Type 0) (lent : C → Option An
         from = b.course.steps.from;
         goes = b.course.steps.goes;
         fair = b.course.steps.fair;
+        lawful = b.course.steps.lawful;
         explained = b.course.steps.explained;
         code_is = λ fine. b.course.steps.code_is;
         stands = λ fine. b.course.steps.stands;
@@ -86,9 +89,9 @@ module _ (C : Type 0) (Stands : C → Client → Type 0) (lent : C → Option An
       }
 
   -- what came next ends it
-  pub over-at : (new : C) (w : Writing) (failed : Bool) (ended : Ending) (h : At C Stands lent IsOf k s ahead line came failed l (IsWritten s w) feed code) → is_unwritten ended ≡ false → (is_bad ended ≡ false → new ≡ code)
+  pub over-at : (new : C) (w : Writing) (failed : Bool) (ended : Ending) (h : At C Stands lent IsOf Has k s ahead line came failed l (IsWritten s w) feed code) → is_unwritten ended ≡ false → (is_bad ended ≡ false → new ≡ code)
       → ((rest : Plan Task Answer) → EndsBy ended k.schema (h.course.earlier ++ h.course.call ∷ []) (left_by s.past (h.course.earlier ++ h.course.call ∷ [])) feed rest)
-      → ((texts : List ℕ) → IsWritten s w texts → WritesAs k.says ended texts s.writing w) → Over C Stands lent IsOf k s ended l w new
+      → ((texts : List ℕ) → IsWritten s w texts → WritesAs k.says ended texts s.writing w) → Over C Stands lent IsOf Has k s ended l w new
   over-at new w failed ended h written kept ends writes = record {
     earlier = h.course.earlier;
     last = h.course.call;
@@ -98,6 +101,7 @@ module _ (C : Type 0) (Stands : C → Client → Type 0) (lent : C → Option An
     from = h.course.steps.from;
     goes = h.course.steps.goes;
     fair = h.course.steps.fair;
+    lawful = h.course.steps.lawful;
     explained = h.course.steps.explained;
     code_is = λ fine. h.course.steps.code_is ∙ sym (kept fine);
     stands = λ fine. subst (λ x. Stands x (left_by s.past (h.course.earlier ++ h.course.call ∷ []))) (sym (kept fine)) h.course.steps.stands;

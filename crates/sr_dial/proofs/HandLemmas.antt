@@ -9,6 +9,7 @@ use Rattle.sr_script.specs.declared.line.TraceLine.{TraceLine}
 use Rattle.sr_script.specs.TraceText.{line_text}
 use Rattle.sr_session.specs.Clients.{Client}
 use Rattle.sr_session.specs.Rules.{sent_of}
+use Rattle.sr_links.specs.Brought.{Holding}
 use Rattle.sr_links.specs.Steps.{Standing, Deed, Queried, Wrote, Evicted, Took, WasCut, Resumed, StaysOn, taken_by}
 use Rattle.sr_dial.specs.Calls.{Cause, Scripted, Do, is_failed}
 use Rattle.sr_talk.specs.Serving.{spelled}
@@ -38,9 +39,9 @@ half {C} true s w new_w text (spoke, part, rose) texts (before, faults) =
     (spoke, prefix-behind s.writing.written w.written new_w.written texts text before part, subst (λ n. Rose n new_w.faults) faults rose)
 half {C} false s w new_w text (spoke, part, rose) texts written = absurd (let wrong : false ≡ true = spoke in cc)
 
-module _ (C : Type 0) (Stands : C → Client → Type 0) (lent : C → Option Answer) (IsOf : Standing C) (k : Setting) (s : Start C) (ahead further : Ahead) (line : ℕ) (came : Count) (number : ℕ) (cause : Cause) (code new : C) (deed : Deed) (lines : List TraceLine) (sent : List Message)
-    (on : GoesOn cause ahead (lent code) number deed further) (most : (more_taken cause sent came).taken ≤ 1000000) (failed : Bool) (l new_l : Linking) (w new_w : Writing) (feed left : List ℕ) (h : At C Stands lent IsOf k s ahead line came failed l (IsWritten s w) feed code)
-    (m : Makes Stands lent IsOf k code new (left_by s.past (h.course.earlier ++ h.course.call ∷ [])) deed lines sent)
+module _ (C : Type 0) (Stands : C → Client → Type 0) (lent : C → Option Answer) (IsOf : Standing C) (Has : Holding C) (k : Setting) (s : Start C) (ahead further : Ahead) (line : ℕ) (came : Count) (number : ℕ) (cause : Cause) (code new : C) (deed : Deed) (lines : List TraceLine) (sent : List Message)
+    (on : GoesOn cause ahead (lent code) number deed further) (most : (more_taken cause sent came).taken ≤ 1000000) (failed : Bool) (l new_l : Linking) (w new_w : Writing) (feed left : List ℕ) (h : At C Stands lent IsOf Has k s ahead line came failed l (IsWritten s w) feed code)
+    (m : Makes Stands lent IsOf Has k code new (left_by s.past (h.course.earlier ++ h.course.call ∷ [])) deed lines sent)
     (place : IsInPlace k.schema cause line number deed (left_by s.past (h.course.earlier ++ h.course.call ∷ []))) (stays : StaysOn (left_by s.past (h.course.earlier ++ h.course.call ∷ [])) deed)
     (not_failed : is_failed cause ≡ false) where
   abbrev text : List ℕ
@@ -48,21 +49,21 @@ module _ (C : Type 0) (Stands : C → Client → Type 0) (lent : C → Option An
 
   -- over a link that is up
   pub hands-up : (handed : Handed) → (left_by s.past (h.course.earlier ++ h.course.call ∷ [])).cut ≡ false → m.next.cut ≡ false → feed ≡ spelled (taken_by deed) ++ left
-      → Carries k.says handed l new_l w new_w (spelled sent) (flat_map (line_text k.schema number) lines) → Hands C Stands lent IsOf k handed s further number (more_taken cause sent came) failed new_l new_w left new
+      → Carries k.says handed l new_l w new_w (spelled sent) (flat_map (line_text k.schema number) lines) → Hands C Stands lent IsOf Has k handed s further number (more_taken cause sent came) failed new_l new_w left new
   hands-up Whole up still fed (is, says) =
-      at-up C Stands lent IsOf k s ahead further line came number cause (IsWritten s w) (IsWritten s new_w) code new deed lines sent on most (wrote k.says s w new_w text says) failed l new_l feed left h m place stays not_failed up still fed is
+      at-up C Stands lent IsOf Has k s ahead further line came number cause (IsWritten s w) (IsWritten s new_w) code new deed lines sent on most (wrote k.says s w new_w text says) failed l new_l feed left h m place stays not_failed up still fed is
   hands-up Broken up still fed ((part, rose), says) =
-      send-breaks C Stands lent IsOf k s ahead further line came number cause (IsWritten s w) (IsWritten s new_w) code new deed lines sent on most (wrote k.says s w new_w text says) failed l new_l feed left h m place stays not_failed up fed part rose
+      send-breaks C Stands lent IsOf Has k s ahead further line came number cause (IsWritten s w) (IsWritten s new_w) code new deed lines sent on most (wrote k.says s w new_w text says) failed l new_l feed left h m place stays not_failed up fed part rose
   hands-up Unwritten up still fed (inl is, says) =
-      unwritten-at C Stands lent IsOf k s further number (more_taken cause sent came) new_l left new new_w failed
-      (at-up C Stands lent IsOf k s ahead further line came number cause (IsWritten s w) (IsPartWritten k.says s new_w) code new deed lines sent on most (half k.says s w new_w text says) failed l new_l feed left h m place stays not_failed up still fed is)
+      unwritten-at C Stands lent IsOf Has k s further number (more_taken cause sent came) new_l left new new_w failed
+      (at-up C Stands lent IsOf Has k s ahead further line came number cause (IsWritten s w) (IsPartWritten k.says s new_w) code new deed lines sent on most (half k.says s w new_w text says) failed l new_l feed left h m place stays not_failed up still fed is)
   hands-up Unwritten up still fed (inr (part, rose), says) =
-      unwritten-broken C Stands lent IsOf k s further number (more_taken cause sent came) new_l left new new_w
-      (send-breaks C Stands lent IsOf k s ahead further line came number cause (IsWritten s w) (IsPartWritten k.says s new_w) code new deed lines sent on most (half k.says s w new_w text says) failed l new_l feed left h m place stays not_failed up fed part rose)
+      unwritten-broken C Stands lent IsOf Has k s further number (more_taken cause sent came) new_l left new new_w
+      (send-breaks C Stands lent IsOf Has k s ahead further line came number cause (IsWritten s w) (IsPartWritten k.says s new_w) code new deed lines sent on most (half k.says s w new_w text says) failed l new_l feed left h m place stays not_failed up fed part rose)
 
   -- where it is down then
   pub hands-down : (handed : Handed) (mid : Linking) → m.next.cut ≡ true → sent ≡ [] → taken_by deed ≡ [] → connections mid ≡ connections l → mid.peers ≡ l.peers → mid.faults ≡ l.faults
-      → Carries k.says handed mid new_l w new_w (spelled sent) (flat_map (line_text k.schema number) lines) → Hands C Stands lent IsOf k handed s further number (more_taken cause sent came) failed new_l new_w feed new
+      → Carries k.says handed mid new_l w new_w (spelled sent) (flat_map (line_text k.schema number) lines) → Hands C Stands lent IsOf Has k handed s further number (more_taken cause sent came) failed new_l new_w feed new
   hands-down handed mid down none took same peers quiet carries = by handed (subst (λ ms. Carries k.says handed mid new_l w new_w (spelled ms) (flat_map (line_text k.schema number) lines)) none carries)
     where
       same-links : new_l ≡ sent_on [] mid → connections new_l ≡ connections l
@@ -74,14 +75,14 @@ module _ (C : Type 0) (Stands : C → Client → Type 0) (lent : C → Option An
       same-faults : new_l ≡ sent_on [] mid → new_l.faults ≡ l.faults
       same-faults is = ap (λ (x : Linking). x.faults) is ∙ quiet
 
-      by : (handed : Handed) → Carries k.says handed mid new_l w new_w [] (flat_map (line_text k.schema number) lines) → Hands C Stands lent IsOf k handed s further number (more_taken cause sent came) failed new_l new_w feed new
+      by : (handed : Handed) → Carries k.says handed mid new_l w new_w [] (flat_map (line_text k.schema number) lines) → Hands C Stands lent IsOf Has k handed s further number (more_taken cause sent came) failed new_l new_w feed new
       by Whole (is, says) =
-          at-down C Stands lent IsOf k s ahead further line came number cause (IsWritten s w) (IsWritten s new_w) code new deed lines sent on most (wrote k.says s w new_w text says) failed l new_l feed left h m place stays not_failed down none took
+          at-down C Stands lent IsOf Has k s ahead further line came number cause (IsWritten s w) (IsWritten s new_w) code new deed lines sent on most (wrote k.says s w new_w text says) failed l new_l feed left h m place stays not_failed down none took
           (same-links is) (same-peers is) (same-faults is)
       by Broken ((part, rose), says) = absurd (let fewer = part.fewer in omega (arith, fewer))
       by Unwritten (inl is, says) =
-          unwritten-at C Stands lent IsOf k s further number (more_taken cause sent came) new_l feed new new_w failed
-          (at-down C Stands lent IsOf k s ahead further line came number cause (IsWritten s w) (IsPartWritten k.says s new_w) code new deed lines sent on most (half k.says s w new_w text says) failed l new_l feed left h m place stays not_failed down none took
+          unwritten-at C Stands lent IsOf Has k s further number (more_taken cause sent came) new_l feed new new_w failed
+          (at-down C Stands lent IsOf Has k s ahead further line came number cause (IsWritten s w) (IsPartWritten k.says s new_w) code new deed lines sent on most (half k.says s w new_w text says) failed l new_l feed left h m place stays not_failed down none took
           (same-links is) (same-peers is) (same-faults is))
       by Unwritten (inr (part, rose), says) = absurd (let fewer = part.fewer in omega (arith, fewer))
 
@@ -112,39 +113,39 @@ plain-none WasCut is = absurd is
 plain-none Resumed is = absurd is
 
 -- nothing is sent over a link that is down
-pub down-silent : {C : Type 0} (Stands : C → Client → Type 0) (lent : C → Option Answer) (IsOf : Standing C) (k : Setting) (code new : C) (c : Client) (deed : Deed) (lines : List TraceLine) (sent : List Message)
-    → Makes Stands lent IsOf k code new c deed lines sent → c.cut ≡ true → (sent ≢ [] → c.cut ≡ false) → sent ≡ []
-down-silent {C} Stands lent IsOf k code new c deed lines sent m down up = by (one-sent m.outcome)
+pub down-silent : {C : Type 0} (Stands : C → Client → Type 0) (lent : C → Option Answer) (IsOf : Standing C) (Has : Holding C) (k : Setting) (code new : C) (c : Client) (deed : Deed) (lines : List TraceLine) (sent : List Message)
+    → Makes Stands lent IsOf Has k code new c deed lines sent → c.cut ≡ true → (sent ≢ [] → c.cut ≡ false) → sent ≡ []
+down-silent {C} Stands lent IsOf Has k code new c deed lines sent m down up = by (one-sent m.outcome)
   where
     by : (sent_of m.outcome ≡ []) ⊎ ((x : Message) × (sent_of m.outcome ≡ x ∷ [])) → sent ≡ []
     by (inl none) = m.sent_is ∙ none
     by (inr (x, one)) = absurd (let no : true ≡ false = sym down ∙ up (λ none. absurd (let wrong : x ∷ [] ≡ [] = sym (m.sent_is ∙ one) ∙ none in cc)) in cc)
 
-pub plain-hands : (C : Type 0) (Stands : C → Client → Type 0) (lent : C → Option Answer) (IsOf : Standing C) (k : Setting) (s : Start C) (ahead further : Ahead) (line number : ℕ) (failed : Bool) (l new_l : Linking) (w new_w : Writing) (feed : List ℕ) (code new : C)
-    (deed : Deed) (lines : List TraceLine) (sent : List Message) (handed : Handed) (h : Free C Stands lent IsOf k s ahead line failed l (IsWritten s w) feed code) → IsPlain deed → ahead (lent code) ≡ Next number (Do deed) further
-    → Makes Stands lent IsOf k code new (left_by s.past (h.at.course.earlier ++ h.at.course.call ∷ [])) deed lines sent
-    → Carries k.says handed l new_l w new_w (spelled sent) (flat_map (line_text k.schema number) lines) → Hands C Stands lent IsOf k handed s further number none_taken failed new_l new_w feed new
-plain-hands C Stands lent IsOf k s ahead further line number failed l new_l w new_w feed code new deed lines sent handed h plain on m carries =
+pub plain-hands : (C : Type 0) (Stands : C → Client → Type 0) (lent : C → Option Answer) (IsOf : Standing C) (Has : Holding C) (k : Setting) (s : Start C) (ahead further : Ahead) (line number : ℕ) (failed : Bool) (l new_l : Linking) (w new_w : Writing) (feed : List ℕ) (code new : C)
+    (deed : Deed) (lines : List TraceLine) (sent : List Message) (handed : Handed) (h : Free C Stands lent IsOf Has k s ahead line failed l (IsWritten s w) feed code) → IsPlain deed → ahead (lent code) ≡ Next number (Do deed) further
+    → Makes Stands lent IsOf Has k code new (left_by s.past (h.at.course.earlier ++ h.at.course.call ∷ [])) deed lines sent
+    → Carries k.says handed l new_l w new_w (spelled sent) (flat_map (line_text k.schema number) lines) → Hands C Stands lent IsOf Has k handed s further number none_taken failed new_l new_w feed new
+plain-hands C Stands lent IsOf Has k s ahead further line number failed l new_l w new_w feed code new deed lines sent handed h plain on m carries =
     by (left_by s.past (h.at.course.earlier ++ h.at.course.call ∷ [])).cut refl
   where
     link : (m.next.cut ≡ (left_by s.past (h.at.course.earlier ++ h.at.course.call ∷ [])).cut) × (sent ≢ [] → (left_by s.past (h.at.course.earlier ++ h.at.course.call ∷ [])).cut ≡ false)
     link = plain-link deed sent (left_by s.past (h.at.course.earlier ++ h.at.course.call ∷ [])) m.next plain m.link
 
-    by : (cut : Bool) → (left_by s.past (h.at.course.earlier ++ h.at.course.call ∷ [])).cut ≡ cut → Hands C Stands lent IsOf k handed s further number none_taken failed new_l new_w feed new
+    by : (cut : Bool) → (left_by s.past (h.at.course.earlier ++ h.at.course.call ∷ [])).cut ≡ cut → Hands C Stands lent IsOf Has k handed s further number none_taken failed new_l new_w feed new
     by false up =
-        hands-up C Stands lent IsOf k s ahead further line h.came number Scripted code new deed lines sent on (omega arith) failed l new_l w new_w feed feed h.at m h.free (plain-stays deed (left_by s.past (h.at.course.earlier ++ h.at.course.call ∷ [])) plain) refl handed up (link.0 ∙ up)
+        hands-up C Stands lent IsOf Has k s ahead further line h.came number Scripted code new deed lines sent on (omega arith) failed l new_l w new_w feed feed h.at m h.free (plain-stays deed (left_by s.past (h.at.course.earlier ++ h.at.course.call ∷ [])) plain) refl handed up (link.0 ∙ up)
         (ap (λ ms. spelled ms ++ feed) (sym (plain-none deed plain))) carries
     by true down =
-        hands-down C Stands lent IsOf k s ahead further line h.came number Scripted code new deed lines sent on (omega arith) failed l new_l w new_w feed feed h.at m h.free (plain-stays deed (left_by s.past (h.at.course.earlier ++ h.at.course.call ∷ [])) plain) refl handed l (link.0 ∙ down)
-        (down-silent Stands lent IsOf k code new (left_by s.past (h.at.course.earlier ++ h.at.course.call ∷ [])) deed lines sent m down link.1) (plain-none deed plain) refl refl refl carries
+        hands-down C Stands lent IsOf Has k s ahead further line h.came number Scripted code new deed lines sent on (omega arith) failed l new_l w new_w feed feed h.at m h.free (plain-stays deed (left_by s.past (h.at.course.earlier ++ h.at.course.call ∷ [])) plain) refl handed l (link.0 ∙ down)
+        (down-silent Stands lent IsOf Has k code new (left_by s.past (h.at.course.earlier ++ h.at.course.call ∷ [])) deed lines sent m down link.1) (plain-none deed plain) refl refl refl carries
 
 -- ---- a line that cuts the link
 
-pub cut-hands : (C : Type 0) (Stands : C → Client → Type 0) (lent : C → Option Answer) (IsOf : Standing C) (k : Setting) (s : Start C) (ahead further : Ahead) (line number : ℕ) (failed : Bool) (l mid new_l : Linking) (w new_w : Writing) (feed : List ℕ) (code new : C)
-    (lines : List TraceLine) (sent : List Message) (handed : Handed) (h : Free C Stands lent IsOf k s ahead line failed l (IsWritten s w) feed code)
+pub cut-hands : (C : Type 0) (Stands : C → Client → Type 0) (lent : C → Option Answer) (IsOf : Standing C) (Has : Holding C) (k : Setting) (s : Start C) (ahead further : Ahead) (line number : ℕ) (failed : Bool) (l mid new_l : Linking) (w new_w : Writing) (feed : List ℕ) (code new : C)
+    (lines : List TraceLine) (sent : List Message) (handed : Handed) (h : Free C Stands lent IsOf Has k s ahead line failed l (IsWritten s w) feed code)
     → ahead (lent code) ≡ Next number (Do WasCut) further
-    → Makes Stands lent IsOf k code new (left_by s.past (h.at.course.earlier ++ h.at.course.call ∷ [])) WasCut lines sent → mid ≡ Rattle.sr_io.specs.Told.hung_up l
-    → Carries k.says handed mid new_l w new_w (spelled sent) (flat_map (line_text k.schema number) lines) → Hands C Stands lent IsOf k handed s further number none_taken failed new_l new_w feed new
-cut-hands C Stands lent IsOf k s ahead further line number failed l mid new_l w new_w feed code new lines sent handed h on m gone carries =
-    hands-down C Stands lent IsOf k s ahead further line h.came number Scripted code new WasCut lines sent on (omega arith) failed l new_l w new_w feed feed h.at m h.free tt refl handed mid m.link.0 m.link.1 refl
+    → Makes Stands lent IsOf Has k code new (left_by s.past (h.at.course.earlier ++ h.at.course.call ∷ [])) WasCut lines sent → mid ≡ Rattle.sr_io.specs.Told.hung_up l
+    → Carries k.says handed mid new_l w new_w (spelled sent) (flat_map (line_text k.schema number) lines) → Hands C Stands lent IsOf Has k handed s further number none_taken failed new_l new_w feed new
+cut-hands C Stands lent IsOf Has k s ahead further line number failed l mid new_l w new_w feed code new lines sent handed h on m gone carries =
+    hands-down C Stands lent IsOf Has k s ahead further line h.came number Scripted code new WasCut lines sent on (omega arith) failed l new_l w new_w feed feed h.at m h.free tt refl handed mid m.link.0 m.link.1 refl
     (ap connections gone ∙ append-nil (connections l)) (ap (λ (x : Linking). x.peers) gone) (ap (λ (x : Linking). x.faults) gone) carries

@@ -9,6 +9,7 @@ use Rattle.sr_script.specs.declared.line.TraceLine.{TraceLine}
 use Rattle.sr_script.specs.TraceText.{line_text}
 use Rattle.sr_session.specs.Clients.{Client}
 use Rattle.sr_session.specs.Rules.{sent_of}
+use Rattle.sr_links.specs.Brought.{Holding}
 use Rattle.sr_links.specs.Steps.{Standing, WasCut, Resumed}
 use Rattle.sr_dial.specs.Calls.{Scripted, Do}
 use Rattle.sr_talk.specs.Serving.{spelled}
@@ -27,11 +28,11 @@ use Rattle.sr_dial.specs.declared.parts.Answer.{Answer}
 use Rattle.sr_dial.specs.Following.{Ahead}
 use Rattle.sr_plan.specs.Plans.{Next}
 
-module _ (C : Type 0) (Stands : C → Client → Type 0) (lent : C → Option Answer) (IsOf : Standing C) (k : Setting) (s : Start C) where
+module _ (C : Type 0) (Stands : C → Client → Type 0) (lent : C → Option Answer) (IsOf : Standing C) (Has : Holding C) (k : Setting) (s : Start C) where
   -- ---- a resume
 
   -- before anything was done the client's link is cut
-  unbegun-rests : (ahead : Ahead) (line : ℕ) (failed : Bool) (l : Linking) (P : List ℕ → Type 0) (code : C) → Unbegun C Stands lent IsOf k s ahead line failed l P code → Rests C Stands lent IsOf k s ahead line failed l P code
+  unbegun-rests : (ahead : Ahead) (line : ℕ) (failed : Bool) (l : Linking) (P : List ℕ → Type 0) (code : C) → Unbegun C Stands lent IsOf Has k s ahead line failed l P code → Rests C Stands lent IsOf Has k s ahead line failed l P code
   unbegun-rests ahead line failed l P code u = record {
     calls = [];
     are = tt;
@@ -54,6 +55,7 @@ module _ (C : Type 0) (Stands : C → Client → Type 0) (lent : C → Option An
       answer_is = sym u.lends;
       from = All-nil (IsFrom k.number);
       fair = tt;
+      lawful = tt;
       explained = tt;
       code_is = sym u.code_is;
       stands = subst (λ x. Stands x s.past) (sym u.code_is) u.stands;
@@ -68,107 +70,107 @@ module _ (C : Type 0) (Stands : C → Client → Type 0) (lent : C → Option An
     abbrev text : List ℕ
     text = flat_map (line_text k.schema number) lines
 
-    module _ (r : Rests C Stands lent IsOf k s ahead line failed l (IsWritten s w) code) (m : Makes Stands lent IsOf k code new (left_by s.past r.calls) Resumed lines sent)
+    module _ (r : Rests C Stands lent IsOf Has k s ahead line failed l (IsWritten s w) code) (m : Makes Stands lent IsOf Has k code new (left_by s.past r.calls) Resumed lines sent)
         (message : Message) (one : sent ≡ message ∷ []) where
       -- somebody is dialled
       pub dialled : (handed : Handed) → (l.peers ≡ Some [] → ⊥) → mid ≡ connected_at (Some s.address) l → Carries k.says handed mid new_l w new_w (spelled sent) (flat_map (line_text k.schema number) lines)
-          → Hands C Stands lent IsOf k handed s further number none_taken failed new_l new_w [] new
+          → Hands C Stands lent IsOf Has k handed s further number none_taken failed new_l new_w [] new
       dialled handed more made carries = by handed (subst (λ x. Carries k.says handed x new_l w new_w (spelled sent) (flat_map (line_text k.schema number) lines)) made carries)
         where
           by : (handed : Handed) → Carries k.says handed (connected_at (Some s.address) l) new_l w new_w (spelled sent) (flat_map (line_text k.schema number) lines)
-              → Hands C Stands lent IsOf k handed s further number none_taken failed new_l new_w [] new
-          by Whole (is, says) = begins C Stands lent IsOf k s ahead further line number failed (IsWritten s w) (IsWritten s new_w) l code new lines sent on (wrote k.says s w new_w text says) r m (r.steps.rests r.cut) message one new_l more is
+              → Hands C Stands lent IsOf Has k handed s further number none_taken failed new_l new_w [] new
+          by Whole (is, says) = begins C Stands lent IsOf Has k s ahead further line number failed (IsWritten s w) (IsWritten s new_w) l code new lines sent on (wrote k.says s w new_w text says) r m (r.steps.rests r.cut) message one new_l more is
           by HandedBroken ((part, rose), says) =
-              begin-breaks C Stands lent IsOf k s ahead further line number failed (IsWritten s w) (IsWritten s new_w) l code new lines sent on (wrote k.says s w new_w text says) r m (r.steps.rests r.cut) message one new_l more part rose
+              begin-breaks C Stands lent IsOf Has k s ahead further line number failed (IsWritten s w) (IsWritten s new_w) l code new lines sent on (wrote k.says s w new_w text says) r m (r.steps.rests r.cut) message one new_l more part rose
           by Unwritten (inl is, says) =
-              unwritten-at C Stands lent IsOf k s further number none_taken new_l [] new new_w failed
-              (begins C Stands lent IsOf k s ahead further line number failed (IsWritten s w) (IsPartWritten k.says s new_w) l code new lines sent on (half k.says s w new_w text says) r m (r.steps.rests r.cut) message one new_l more is)
+              unwritten-at C Stands lent IsOf Has k s further number none_taken new_l [] new new_w failed
+              (begins C Stands lent IsOf Has k s ahead further line number failed (IsWritten s w) (IsPartWritten k.says s new_w) l code new lines sent on (half k.says s w new_w text says) r m (r.steps.rests r.cut) message one new_l more is)
           by Unwritten (inr (part, rose), says) =
-              unwritten-broken C Stands lent IsOf k s further number none_taken new_l [] new new_w
-              (begin-breaks C Stands lent IsOf k s ahead further line number failed (IsWritten s w) (IsPartWritten k.says s new_w) l code new lines sent on (half k.says s w new_w text says) r m (r.steps.rests r.cut) message one new_l more part rose)
+              unwritten-broken C Stands lent IsOf Has k s further number none_taken new_l [] new new_w
+              (begin-breaks C Stands lent IsOf Has k s ahead further line number failed (IsWritten s w) (IsPartWritten k.says s new_w) l code new lines sent on (half k.says s w new_w text says) r m (r.steps.rests r.cut) message one new_l more part rose)
 
       -- nobody is
       pub not-dialled : (said : Bool) → OnlyFaults l new_l → Rose l.faults new_l.faults → SaysAs k.says said w new_w (flat_map (line_text k.schema number) lines)
-          → Hands C Stands lent IsOf k (cond said HandedBroken Unwritten) s further number none_taken failed new_l new_w [] new
-      not-dialled true only rose says = begin-fails C Stands lent IsOf k s ahead further line number failed (IsWritten s w) (IsWritten s new_w) l code new lines sent on (wrote k.says s w new_w text says) r m (r.steps.rests r.cut) message one new_l only rose
+          → Hands C Stands lent IsOf Has k (cond said HandedBroken Unwritten) s further number none_taken failed new_l new_w [] new
+      not-dialled true only rose says = begin-fails C Stands lent IsOf Has k s ahead further line number failed (IsWritten s w) (IsWritten s new_w) l code new lines sent on (wrote k.says s w new_w text says) r m (r.steps.rests r.cut) message one new_l only rose
       not-dialled false only rose says =
-          unwritten-broken C Stands lent IsOf k s further number none_taken new_l [] new new_w
-          (begin-fails C Stands lent IsOf k s ahead further line number failed (IsWritten s w) (IsPartWritten k.says s new_w) l code new lines sent on (half k.says s w new_w text says) r m (r.steps.rests r.cut) message one new_l only rose)
+          unwritten-broken C Stands lent IsOf Has k s further number none_taken new_l [] new new_w
+          (begin-fails C Stands lent IsOf Has k s ahead further line number failed (IsWritten s w) (IsPartWritten k.says s new_w) l code new lines sent on (half k.says s w new_w text says) r m (r.steps.rests r.cut) message one new_l only rose)
 
   module _ (ahead further : Ahead) (line number : ℕ) (failed : Bool) (l new_l : Linking) (w new_w : Writing) (feed : List ℕ) (code new : C) (lines : List TraceLine) (sent : List Message)
-      (on : ahead (lent code) ≡ Next number (Do Resumed) further) (ready : IsReady C Stands lent IsOf k s ahead line failed l (IsWritten s w) feed code) (act : (c : Client) → Stands code c → Makes Stands lent IsOf k code new c Resumed lines sent) where
+      (on : ahead (lent code) ≡ Next number (Do Resumed) further) (ready : IsReady C Stands lent IsOf Has k s ahead line failed l (IsWritten s w) feed code) (act : (c : Client) → Stands code c → Makes Stands lent IsOf Has k code new c Resumed lines sent) where
     -- the link is up: nothing is done
     pub resumes-up : (handed : Handed) → sent ≡ [] → Carries k.says handed l new_l w new_w (spelled sent) (flat_map (line_text k.schema number) lines)
-        → Hands C Stands lent IsOf k handed s further number none_taken failed new_l new_w feed new
+        → Hands C Stands lent IsOf Has k handed s further number none_taken failed new_l new_w feed new
     resumes-up handed none carries = by ready
       where
-        by : IsReady C Stands lent IsOf k s ahead line failed l (IsWritten s w) feed code → Hands C Stands lent IsOf k handed s further number none_taken failed new_l new_w feed new
+        by : IsReady C Stands lent IsOf Has k s ahead line failed l (IsWritten s w) feed code → Hands C Stands lent IsOf Has k handed s further number none_taken failed new_l new_w feed new
         by (inl f) =
             let m = act (left_by s.past (f.at.course.earlier ++ f.at.course.call ∷ [])) f.at.course.steps.stands in
             let link = subst (λ ms. KeepsLink Resumed ms (left_by s.past (f.at.course.earlier ++ f.at.course.call ∷ [])) m.next) none m.link in
-            hands-up C Stands lent IsOf k s ahead further line f.came number Scripted code new Resumed lines sent on (omega arith) failed l new_l w new_w feed feed f.at m f.free link.0 refl handed link.0 link.1 refl carries
+            hands-up C Stands lent IsOf Has k s ahead further line f.came number Scripted code new Resumed lines sent on (omega arith) failed l new_l w new_w feed feed f.at m f.free link.0 refl handed link.0 link.1 refl carries
         by (inr u) =
             let m = act s.past (subst (λ x. Stands x s.past) (sym u.code_is) u.stands) in
             let link = subst (λ ms. KeepsLink Resumed ms s.past m.next) none m.link in
             absurd (let wrong : true ≡ false = sym u.cut ∙ link.0 in cc)
 
     -- it is down: the present call is over
-    pub resting : (sent ≡ [] → ⊥) → Rests C Stands lent IsOf k s ahead line failed l (IsWritten s w) code
+    pub resting : (sent ≡ [] → ⊥) → Rests C Stands lent IsOf Has k s ahead line failed l (IsWritten s w) code
     resting some = by ready
       where
-        down : (c : Client) → (m : Makes Stands lent IsOf k code new c Resumed lines sent) → (ms : List Message) → sent ≡ ms → c.cut ≡ true
+        down : (c : Client) → (m : Makes Stands lent IsOf Has k code new c Resumed lines sent) → (ms : List Message) → sent ≡ ms → c.cut ≡ true
         down c m [] e = absurd (some e)
         down c m (x ∷ ms) e = (subst (λ ms. KeepsLink Resumed ms c m.next) e m.link).0
 
-        by : IsReady C Stands lent IsOf k s ahead line failed l (IsWritten s w) feed code → Rests C Stands lent IsOf k s ahead line failed l (IsWritten s w) code
+        by : IsReady C Stands lent IsOf Has k s ahead line failed l (IsWritten s w) feed code → Rests C Stands lent IsOf Has k s ahead line failed l (IsWritten s w) code
         by (inl f) =
             let c : Client = left_by s.past (f.at.course.earlier ++ f.at.course.call ∷ []) in
-            rests-of C Stands lent IsOf k s ahead line f.came failed l (IsWritten s w) feed code f.at
+            rests-of C Stands lent IsOf Has k s ahead line f.came failed l (IsWritten s w) feed code f.at
             (down (left_by s.past (f.at.course.earlier ++ f.at.course.call ∷ [])) (act (left_by s.past (f.at.course.earlier ++ f.at.course.call ∷ [])) f.at.course.steps.stands) sent refl)
         by (inr u) = unbegun-rests ahead line failed l (IsWritten s w) code u
 
     pub resumes-dialled : (handed : Handed) (mid : Linking) → (sent ≡ [] → ⊥) → (l.peers ≡ Some [] → ⊥) → mid ≡ connected_at (Some s.address) l → Carries k.says handed mid new_l w new_w (spelled sent) (flat_map (line_text k.schema number) lines)
-        → Hands C Stands lent IsOf k handed s further number none_taken failed new_l new_w [] new
+        → Hands C Stands lent IsOf Has k handed s further number none_taken failed new_l new_w [] new
     resumes-dialled handed mid some more made carries = by (one-sent m.outcome)
       where
-        r : Rests C Stands lent IsOf k s ahead line failed l (IsWritten s w) code
+        r : Rests C Stands lent IsOf Has k s ahead line failed l (IsWritten s w) code
         r = resting some
 
-        m : Makes Stands lent IsOf k code new (left_by s.past r.calls) Resumed lines sent
+        m : Makes Stands lent IsOf Has k code new (left_by s.past r.calls) Resumed lines sent
         m = act (left_by s.past r.calls) r.steps.stands
 
-        by : (sent_of m.outcome ≡ []) ⊎ ((x : Message) × (sent_of m.outcome ≡ x ∷ [])) → Hands C Stands lent IsOf k handed s further number none_taken failed new_l new_w [] new
+        by : (sent_of m.outcome ≡ []) ⊎ ((x : Message) × (sent_of m.outcome ≡ x ∷ [])) → Hands C Stands lent IsOf Has k handed s further number none_taken failed new_l new_w [] new
         by (inl none) = absurd (some (m.sent_is ∙ none))
         by (inr (x, one)) = dialled ahead further line number failed l mid new_l w new_w code new lines sent on r m x (m.sent_is ∙ one) handed more made carries
 
     pub resumes-alone : (said : Bool) → (sent ≡ [] → ⊥) → OnlyFaults l new_l → Rose l.faults new_l.faults → SaysAs k.says said w new_w (flat_map (line_text k.schema number) lines)
-        → Hands C Stands lent IsOf k (cond said HandedBroken Unwritten) s further number none_taken failed new_l new_w [] new
+        → Hands C Stands lent IsOf Has k (cond said HandedBroken Unwritten) s further number none_taken failed new_l new_w [] new
     resumes-alone said some only rose says = by (one-sent m.outcome)
       where
-        r : Rests C Stands lent IsOf k s ahead line failed l (IsWritten s w) code
+        r : Rests C Stands lent IsOf Has k s ahead line failed l (IsWritten s w) code
         r = resting some
 
-        m : Makes Stands lent IsOf k code new (left_by s.past r.calls) Resumed lines sent
+        m : Makes Stands lent IsOf Has k code new (left_by s.past r.calls) Resumed lines sent
         m = act (left_by s.past r.calls) r.steps.stands
 
-        by : (sent_of m.outcome ≡ []) ⊎ ((x : Message) × (sent_of m.outcome ≡ x ∷ [])) → Hands C Stands lent IsOf k (cond said HandedBroken Unwritten) s further number none_taken failed new_l new_w [] new
+        by : (sent_of m.outcome ≡ []) ⊎ ((x : Message) × (sent_of m.outcome ≡ x ∷ [])) → Hands C Stands lent IsOf Has k (cond said HandedBroken Unwritten) s further number none_taken failed new_l new_w [] new
         by (inl none) = absurd (some (m.sent_is ∙ none))
         by (inr (x, one)) = not-dialled ahead further line number failed l l new_l w new_w code new lines sent on r m x (m.sent_is ∙ one) said only rose says
 
   -- ---- the link failed
 
   pub fails-as : (ahead : Ahead) (line : ℕ) (l new_l : Linking) (w new_w : Writing) (feed : List ℕ) (code new : C) (lines : List TraceLine) (said : Bool)
-      (b : Broken C Stands lent IsOf k s ahead line l (IsWritten s w) feed code) → ((c : Client) → Stands code c → Makes Stands lent IsOf k code new c WasCut lines []) → new_l ≡ hung_up l
-      → SaysAs k.says said w new_w (flat_map (line_text k.schema line) lines) → FailsAs C Stands lent IsOf k said s ahead line new_l new_w feed new
+      (b : Broken C Stands lent IsOf Has k s ahead line l (IsWritten s w) feed code) → ((c : Client) → Stands code c → Makes Stands lent IsOf Has k code new c WasCut lines []) → new_l ≡ hung_up l
+      → SaysAs k.says said w new_w (flat_map (line_text k.schema line) lines) → FailsAs C Stands lent IsOf Has k said s ahead line new_l new_w feed new
   fails-as ahead line l new_l w new_w feed code new lines said b cut gone says =
-      subst (λ x. FailsAs C Stands lent IsOf k said s ahead line x new_w feed new) (sym gone) (by said says)
+      subst (λ x. FailsAs C Stands lent IsOf Has k said s ahead line x new_w feed new) (sym gone) (by said says)
     where
-      m : Makes Stands lent IsOf k code new (left_by s.past (b.course.earlier ++ b.course.call ∷ [])) WasCut lines []
+      m : Makes Stands lent IsOf Has k code new (left_by s.past (b.course.earlier ++ b.course.call ∷ [])) WasCut lines []
       m = cut (left_by s.past (b.course.earlier ++ b.course.call ∷ [])) b.course.steps.stands
 
-      by : (said : Bool) → SaysAs k.says said w new_w (flat_map (line_text k.schema line) lines) → FailsAs C Stands lent IsOf k said s ahead line (hung_up l) new_w feed new
+      by : (said : Bool) → SaysAs k.says said w new_w (flat_map (line_text k.schema line) lines) → FailsAs C Stands lent IsOf Has k said s ahead line (hung_up l) new_w feed new
       by true says =
-          fail-ends C Stands lent IsOf k s ahead line (IsWritten s w) (IsWritten s new_w) l feed code new lines (wrote k.says s w new_w (flat_map (line_text k.schema line) lines) says) b m
+          fail-ends C Stands lent IsOf Has k s ahead line (IsWritten s w) (IsWritten s new_w) l feed code new lines (wrote k.says s w new_w (flat_map (line_text k.schema line) lines) says) b m
       by false says =
-          let f = fail-ends C Stands lent IsOf k s ahead line (IsWritten s w) (IsPartWritten k.says s new_w) l feed code new lines (half k.says s w new_w (flat_map (line_text k.schema line) lines) says) b m in
-          unwritten-at C Stands lent IsOf k s ahead line f.came (hung_up l) feed new new_w true f.at
+          let f = fail-ends C Stands lent IsOf Has k s ahead line (IsWritten s w) (IsPartWritten k.says s new_w) l feed code new lines (half k.says s w new_w (flat_map (line_text k.schema line) lines) says) b m in
+          unwritten-at C Stands lent IsOf Has k s ahead line f.came (hung_up l) feed new new_w true f.at

@@ -8,6 +8,7 @@ use Rattle.sr_io.specs.Told.{AreAt, Connection}
 use Rattle.sr_policy.specs.declared.policy.Limits.{Limits}
 use Rattle.sr_session.specs.Clients.{Client}
 use Rattle.sr_session.specs.Rules.{sent_of}
+use Rattle.sr_links.specs.Brought.{AreLawful, Holding}
 use Rattle.sr_links.specs.Steps.{Step, Standing, AreFair, OnOne, StaysOn, code_after, given_of, past_after, requests_of, taken_by}
 use Rattle.sr_dial.specs.Calls.{Call, Done, Made, Explained, Said, AreCalls, all_done, calls_told, count_faults, done_in, fails, has_failed, is_fault, number_of, one_if, steps_in}
 use Rattle.sr_dial.specs.Courses.{IsCall, line_after}
@@ -30,6 +31,11 @@ module _ {C : Type 0} where
       → AreFair IsOf limits code c (xs ++ ys)
   fair-append IsOf limits code c [] ys one more = more
   fair-append IsOf limits code c (x ∷ xs) ys (here, one) more = (here, fair-append IsOf limits x.code x.past xs ys one more)
+
+  pub lawful-append : (Has : Holding C) (limits : Limits) (schema : List Table) (code : C) (c : Client) (xs ys : List (Step C)) → AreLawful Has limits schema code c xs
+      → AreLawful Has limits schema (code_after code xs) (past_after c xs) ys → AreLawful Has limits schema code c (xs ++ ys)
+  lawful-append Has limits schema code c [] ys one more = more
+  lawful-append Has limits schema code c (x ∷ xs) ys (here, one) more = (here, lawful-append Has limits schema x.code x.past xs ys one more)
 
   pub on-append : (c : Client) (xs : List (Step C)) (y : Step C) → OnOne c xs → StaysOn (past_after c xs) y.deed → OnOne c (xs ++ y ∷ [])
   on-append c [] y one more = (more, tt)

@@ -11,6 +11,7 @@ use Rattle.sr_script.specs.declared.line.TraceLine.{TraceLine}
 use Rattle.sr_script.specs.TraceText.{line_text}
 use Rattle.sr_session.specs.Clients.{Client}
 use Rattle.sr_explain.specs.declared.explanation.Explanation.{Explanation}
+use Rattle.sr_links.specs.Brought.{AreLawful, Holding}
 use Rattle.sr_links.specs.Steps.{Step, Standing, AreFair, OnOne, code_after, given_of, past_after, requests_of}
 use Rattle.sr_plan.specs.Plans.{Next, Passed}
 use Rattle.sr_dial.specs.Calls.{Call, Done, Explained, Said, Task, Explain, Say, all_done, count_faults, done_in, fails, has_failed, is_fault, number_of, one_if, steps_in, text_of}
@@ -50,10 +51,10 @@ pub quiet-said : {C : Type 0} (keeps : Bool) (number : ℕ) (text : List ℕ) �
 quiet-said keeps number text =
     record { number_is = refl; did = refl; steps = refl; still = λ c. refl; given = refl; sent = refl; fine = refl; zero = λ n. refl; place = λ schema line c free. (free, tt) }
 
-module _ (C : Type 0) (Stands : C → Client → Type 0) (lent : C → Option Answer) (IsOf : Standing C) (k : Setting) (s : Start C) (ahead further : Ahead) (line : ℕ) (came : Count) (number : ℕ) (P Q : List ℕ → Type 0) (code : C) (d : Done C) (task : Task)
+module _ (C : Type 0) (Stands : C → Client → Type 0) (lent : C → Option Answer) (IsOf : Standing C) (Has : Holding C) (k : Setting) (s : Start C) (ahead further : Ahead) (line : ℕ) (came : Count) (number : ℕ) (P Q : List ℕ → Type 0) (code : C) (d : Done C) (task : Task)
     (quiet : IsQuiet k.keeps d number task) (on : ahead (lent code) ≡ Next number task further) (says : (texts : List ℕ) → P texts → Q (texts ++ said_by k d)) where
-  stepped-more : (ds : List (Done C)) → Stepped C Stands lent IsOf k s ahead line came ds P code → (past_after s.past (steps_in ds)).out ≡ None → AreFairlyExplained IsOf k.limits code (past_after s.past (steps_in ds)) (d ∷ [])
-      → Stepped C Stands lent IsOf k s (λ answer. further None) number none_taken (ds ++ d ∷ []) Q code
+  stepped-more : (ds : List (Done C)) → Stepped C Stands lent IsOf Has k s ahead line came ds P code → (past_after s.past (steps_in ds)).out ≡ None → AreFairlyExplained IsOf k.limits code (past_after s.past (steps_in ds)) (d ∷ [])
+      → Stepped C Stands lent IsOf Has k s (λ answer. further None) number none_taken (ds ++ d ∷ []) Q code
   stepped-more ds h free fair =
       let same : steps_in (ds ++ d ∷ []) ≡ steps_in ds = steps-append ds (d ∷ []) ∙ (ap (λ more. steps_in ds ++ more) quiet.steps ∙ append-nil (steps_in ds)) in
       let texts : flat_map (said_by k) (ds ++ d ∷ []) ≡ flat_map (said_by k) ds ++ said_by k d =
@@ -68,6 +69,7 @@ module _ (C : Type 0) (Stands : C → Client → Type 0) (lent : C → Option An
         answer_is = passed-answer k.keeps s.plan ds ahead further (lent code) h.goes h.ahead_is h.answer_is d number task quiet.did;
         from = subst (λ steps. All (IsFrom k.number) (requests_of steps)) (sym same) h.from;
         fair = subst (AreFair IsOf k.limits s.code s.past) (sym same) h.fair;
+        lawful = subst (AreLawful Has k.limits k.schema s.code s.past) (sym same) h.lawful;
         explained = explained-append IsOf k.limits s.code s.past ds (d ∷ []) h.explained
             (subst (λ x. AreFairlyExplained IsOf k.limits x (past_after s.past (steps_in ds)) (d ∷ [])) (sym h.code_is) fair);
         code_is = ap (code_after s.code) same ∙ h.code_is;
@@ -76,7 +78,7 @@ module _ (C : Type 0) (Stands : C → Client → Type 0) (lent : C → Option An
         writes = subst Q (sym texts) (says (flat_map (said_by k) ds) h.writes);
       }
 
-  module _ (failed : Bool) (l : Linking) (feed : List ℕ) (h : At C Stands lent IsOf k s ahead line came failed l P feed code) (free : (left_by s.past (h.course.earlier ++ h.course.call ∷ [])).out ≡ None)
+  module _ (failed : Bool) (l : Linking) (feed : List ℕ) (h : At C Stands lent IsOf Has k s ahead line came failed l P feed code) (free : (left_by s.past (h.course.earlier ++ h.course.call ∷ [])).out ≡ None)
       (fair : AreFairlyExplained IsOf k.limits code (left_by s.past (h.course.earlier ++ h.course.call ∷ [])) (d ∷ [])) where
     abbrev longer : Call C
     longer = with_step h.course.call d h.course.call.torn h.course.call.told h.course.call.left
@@ -97,7 +99,7 @@ module _ (C : Type 0) (Stands : C → Client → Type 0) (lent : C → Option An
     there-same true there = there ∙ ap (λ x. connections s.linking ++ x) (told-one h.course.earlier h.course.call ∙ sym (told-one h.course.earlier longer))
     there-same false (present, past, none, connected) = (present, past, fails-same ∙ none, connected)
 
-    pub at-quiet : At C Stands lent IsOf k s (λ answer. further None) number none_taken failed l Q feed code
+    pub at-quiet : At C Stands lent IsOf Has k s (λ answer. further None) number none_taken failed l Q feed code
     at-quiet = record {
       course = record {
         earlier = h.course.earlier;
@@ -116,7 +118,7 @@ module _ (C : Type 0) (Stands : C → Client → Type 0) (lent : C → Option An
         left = h.course.left;
         some = λ none. h.course.some (sym requests-same ∙ none);
         taken = subst (λ ms. IfSome h.course.call.told (λ t. t.taken ≡ spelled ms ++ h.course.call.left)) (sym given-same) h.course.taken;
-        steps = subst (λ ds. Stepped C Stands lent IsOf k s (λ answer. further None) number none_taken ds Q code)
+        steps = subst (λ ds. Stepped C Stands lent IsOf Has k s (λ answer. further None) number none_taken ds Q code)
             (sym (all-step h.course.earlier h.course.call d h.course.call.torn h.course.call.told h.course.call.left))
             (stepped-more (all_done (h.course.earlier ++ h.course.call ∷ [])) h.course.steps free fair);
       };
@@ -132,26 +134,26 @@ module _ (C : Type 0) (Stands : C → Client → Type 0) (lent : C → Option An
     }
 
 -- its text is written, or not
-quiet-hands : (C : Type 0) (Stands : C → Client → Type 0) (lent : C → Option Answer) (IsOf : Standing C) (k : Setting) (s : Start C) (ahead further : Ahead) (line number : ℕ) (failed : Bool) (l : Linking) (w new_w : Writing) (feed : List ℕ) (code : C)
-    (d : Done C) (task : Task) (said : Bool) (h : Free C Stands lent IsOf k s ahead line failed l (IsWritten s w) feed code) → IsQuiet k.keeps d number task → ahead (lent code) ≡ Next number task further
+quiet-hands : (C : Type 0) (Stands : C → Client → Type 0) (lent : C → Option Answer) (IsOf : Standing C) (Has : Holding C) (k : Setting) (s : Start C) (ahead further : Ahead) (line number : ℕ) (failed : Bool) (l : Linking) (w new_w : Writing) (feed : List ℕ) (code : C)
+    (d : Done C) (task : Task) (said : Bool) (h : Free C Stands lent IsOf Has k s ahead line failed l (IsWritten s w) feed code) → IsQuiet k.keeps d number task → ahead (lent code) ≡ Next number task further
     → AreFairlyExplained IsOf k.limits code (left_by s.past (h.at.course.earlier ++ h.at.course.call ∷ [])) (d ∷ []) → SaysAs k.says said w new_w (text_of k.schema k.number d)
-    → Hands C Stands lent IsOf k (cond said Whole Unwritten) s (λ answer. further None) number none_taken failed l new_w feed code
-quiet-hands C Stands lent IsOf k s ahead further line number failed l w new_w feed code d task true h quiet on fair says =
-    at-quiet C Stands lent IsOf k s ahead further line h.came number (IsWritten s w) (IsWritten s new_w) code d task quiet on (wrote k.says s w new_w (text_of k.schema k.number d) says) failed l feed h.at h.free fair
-quiet-hands C Stands lent IsOf k s ahead further line number failed l w new_w feed code d task false h quiet on fair says =
-    unwritten-at C Stands lent IsOf k s (λ answer. further None) number none_taken l feed code new_w failed
-    (at-quiet C Stands lent IsOf k s ahead further line h.came number (IsWritten s w) (IsPartWritten k.says s new_w) code d task quiet on (half k.says s w new_w (text_of k.schema k.number d) says) failed l feed h.at h.free fair)
+    → Hands C Stands lent IsOf Has k (cond said Whole Unwritten) s (λ answer. further None) number none_taken failed l new_w feed code
+quiet-hands C Stands lent IsOf Has k s ahead further line number failed l w new_w feed code d task true h quiet on fair says =
+    at-quiet C Stands lent IsOf Has k s ahead further line h.came number (IsWritten s w) (IsWritten s new_w) code d task quiet on (wrote k.says s w new_w (text_of k.schema k.number d) says) failed l feed h.at h.free fair
+quiet-hands C Stands lent IsOf Has k s ahead further line number failed l w new_w feed code d task false h quiet on fair says =
+    unwritten-at C Stands lent IsOf Has k s (λ answer. further None) number none_taken l feed code new_w failed
+    (at-quiet C Stands lent IsOf Has k s ahead further line h.came number (IsWritten s w) (IsPartWritten k.says s new_w) code d task quiet on (half k.says s w new_w (text_of k.schema k.number d) says) failed l feed h.at h.free fair)
 
-pub explains-hands : (C : Type 0) (Stands : C → Client → Type 0) (lent : C → Option Answer) (IsOf : Standing C) (k : Setting) (s : Start C) (ahead further : Ahead) (line number : ℕ) (failed : Bool) (l : Linking) (w new_w : Writing) (feed : List ℕ) (code : C)
-    (text : Result Query Fault) (lines : List TraceLine) (said : Bool) (h : Free C Stands lent IsOf k s ahead line failed l (IsWritten s w) feed code) → ahead (lent code) ≡ Next number (Explain text) further
+pub explains-hands : (C : Type 0) (Stands : C → Client → Type 0) (lent : C → Option Answer) (IsOf : Standing C) (Has : Holding C) (k : Setting) (s : Start C) (ahead further : Ahead) (line number : ℕ) (failed : Bool) (l : Linking) (w new_w : Writing) (feed : List ℕ) (code : C)
+    (text : Result Query Fault) (lines : List TraceLine) (said : Bool) (h : Free C Stands lent IsOf Has k s ahead line failed l (IsWritten s w) feed code) → ahead (lent code) ≡ Next number (Explain text) further
     → Tells IsOf k code (left_by s.past (h.at.course.earlier ++ h.at.course.call ∷ [])) text lines → SaysAs k.says said w new_w (flat_map (line_text k.schema number) lines)
-    → Hands C Stands lent IsOf k (cond said Whole Unwritten) s (λ answer. further None) number none_taken failed l new_w feed code
-explains-hands C Stands lent IsOf k s ahead further line number failed l w new_w feed code text lines said h on t says =
-    quiet-hands C Stands lent IsOf k s ahead further line number failed l w new_w feed code (Explained number text t.result) (Explain text) said h (quiet-explained k.keeps number text t.result) on (t.fair, tt)
+    → Hands C Stands lent IsOf Has k (cond said Whole Unwritten) s (λ answer. further None) number none_taken failed l new_w feed code
+explains-hands C Stands lent IsOf Has k s ahead further line number failed l w new_w feed code text lines said h on t says =
+    quiet-hands C Stands lent IsOf Has k s ahead further line number failed l w new_w feed code (Explained number text t.result) (Explain text) said h (quiet-explained k.keeps number text t.result) on (t.fair, tt)
     (subst (λ ls. SaysAs k.says said w new_w (flat_map (line_text k.schema number) ls)) t.lines_are says)
 
-pub says-hands : (C : Type 0) (Stands : C → Client → Type 0) (lent : C → Option Answer) (IsOf : Standing C) (k : Setting) (s : Start C) (ahead further : Ahead) (line number : ℕ) (failed : Bool) (l : Linking) (w new_w : Writing) (feed : List ℕ) (code : C)
-    (text : List ℕ) (said : Bool) → Free C Stands lent IsOf k s ahead line failed l (IsWritten s w) feed code → ahead (lent code) ≡ Next number (Say text) further → SaysAs k.says said w new_w text
-    → Hands C Stands lent IsOf k (cond said Whole Unwritten) s (λ answer. further None) number none_taken failed l new_w feed code
-says-hands C Stands lent IsOf k s ahead further line number failed l w new_w feed code text said h on says =
-    quiet-hands C Stands lent IsOf k s ahead further line number failed l w new_w feed code (Said number text) (Say text) said h (quiet-said k.keeps number text) on tt says
+pub says-hands : (C : Type 0) (Stands : C → Client → Type 0) (lent : C → Option Answer) (IsOf : Standing C) (Has : Holding C) (k : Setting) (s : Start C) (ahead further : Ahead) (line number : ℕ) (failed : Bool) (l : Linking) (w new_w : Writing) (feed : List ℕ) (code : C)
+    (text : List ℕ) (said : Bool) → Free C Stands lent IsOf Has k s ahead line failed l (IsWritten s w) feed code → ahead (lent code) ≡ Next number (Say text) further → SaysAs k.says said w new_w text
+    → Hands C Stands lent IsOf Has k (cond said Whole Unwritten) s (λ answer. further None) number none_taken failed l new_w feed code
+says-hands C Stands lent IsOf Has k s ahead further line number failed l w new_w feed code text said h on says =
+    quiet-hands C Stands lent IsOf Has k s ahead further line number failed l w new_w feed code (Said number text) (Say text) said h (quiet-said k.keeps number text) on tt says

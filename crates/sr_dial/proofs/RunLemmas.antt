@@ -3,6 +3,7 @@ use Rattle.std.proofs.Common.{◌≡◌, ℕ, Bool, true, false, List, [], ◌�
 use Rattle.std.specs.Prelude.{flat_map}
 use Rattle.sr_io.specs.Told.{Connection, Linking, Writing, connections, hung_up}
 use Rattle.sr_session.specs.Clients.{Client}
+use Rattle.sr_links.specs.Brought.{Holding}
 use Rattle.sr_links.specs.Steps.{Standing}
 use Rattle.sr_plan.specs.Plans.{Plan, Over as Nothing, left}
 use Rattle.sr_talk.specs.Serving.{RoseBy}
@@ -19,13 +20,13 @@ use Rattle.sr_dial.proofs.CourseLemmas.{made-of}
 use Rattle.sr_dial.proofs.PlanLemmas.{left-is}
 use Rattle.sr_dial.proofs.ToldLemmas.{told-more}
 
-module _ (C : Type 0) (Stands : C → Client → Type 0) (lent : C → Option Answer) (IsOf : Standing C) (k : Setting) (s : Start C) (l new_l : Linking) (w : Writing) (feed : List ℕ) (code : C) (gone : new_l ≡ hung_up l) where
+module _ (C : Type 0) (Stands : C → Client → Type 0) (lent : C → Option Answer) (IsOf : Standing C) (Has : Holding C) (k : Setting) (s : Start C) (l new_l : Linking) (w : Writing) (feed : List ℕ) (code : C) (gone : new_l ≡ hung_up l) where
   made-still : {made : List Connection} → connections l ≡ made → connections new_l ≡ made
   made-still {made} is = ap connections gone ∙ (append-nil (connections l) ∙ is)
 
-  free-ran : (ended : Ending) (failed : Bool) → (ended ≡ ending.Whole → failed ≡ false) → IsDone C Stands lent IsOf k s failed l w feed code → is_unwritten ended ≡ false
+  free-ran : (ended : Ending) (failed : Bool) → (ended ≡ ending.Whole → failed ≡ false) → IsDone C Stands lent IsOf Has k s failed l w feed code → is_unwritten ended ≡ false
       → ((calls : List (Call C)) (c : Client) (rest_bytes : List ℕ) (rest : Plan Task Answer) → EndsFree c calls rest failed → EndsBy ended k.schema calls c rest_bytes rest)
-      → ((texts : List ℕ) → IsWritten s w texts → WritesAs k.says ended texts s.writing w) → RanTo C Stands IsOf k s.code s.past s.address s.plan ended s.linking new_l s.writing w code
+      → ((texts : List ℕ) → IsWritten s w texts → WritesAs k.says ended texts s.writing w) → RanTo C Stands IsOf Has k s.code s.past s.address s.plan ended s.linking new_l s.writing w code
   free-ran ended failed fine d written ends writes =
       let h = d.free.at in
       let none : left (stage_by k.keeps s.plan (all_done (h.course.earlier ++ h.course.call ∷ []))) ≡ Nothing =
@@ -53,13 +54,14 @@ module _ (C : Type 0) (Stands : C → Client → Type 0) (lent : C → Option An
             writes = writes (flat_map (said_by k) (all_done (h.course.earlier ++ h.course.call ∷ []))) h.course.steps.writes;
           };
           fair = h.course.steps.fair;
+          lawful = h.course.steps.lawful;
           explained = h.course.steps.explained;
         };
         code_is = λ fine. h.course.steps.code_is;
         stands = λ fine. h.course.steps.stands;
       }
 
-  over-ran : (ended : Ending) → (ended ≡ ending.Whole → ⊥) → Over C Stands lent IsOf k s ended l w code → RanTo C Stands IsOf k s.code s.past s.address s.plan ended s.linking new_l s.writing w code
+  over-ran : (ended : Ending) → (ended ≡ ending.Whole → ⊥) → Over C Stands lent IsOf Has k s ended l w code → RanTo C Stands IsOf Has k s.code s.past s.address s.plan ended s.linking new_l s.writing w code
   over-ran ended early o = record {
     run = record {
       ran = record {
@@ -82,13 +84,14 @@ module _ (C : Type 0) (Stands : C → Client → Type 0) (lent : C → Option An
         writes = o.writes;
       };
       fair = o.fair;
+      lawful = o.lawful;
       explained = o.explained;
     };
     code_is = o.code_is;
     stands = o.stands;
   }
 
-  pub finishes-ran : (ended : Ending) → Finishes C Stands lent IsOf k ended s l w feed code → RanTo C Stands IsOf k s.code s.past s.address s.plan ended s.linking new_l s.writing w code
+  pub finishes-ran : (ended : Ending) → Finishes C Stands lent IsOf Has k ended s l w feed code → RanTo C Stands IsOf Has k s.code s.past s.address s.plan ended s.linking new_l s.writing w code
   finishes-ran ending.Whole d = free-ran ending.Whole false (λ whole. refl) d refl (λ calls c bytes rest free. free) (λ texts is. is)
   finishes-ran ending.Faulty d = free-ran ending.Faulty true (λ whole. absurd (cc)) d refl (λ calls c bytes rest free. free) (λ texts is. is)
   finishes-ran ending.Unwritten o = over-ran ending.Unwritten (λ whole. absurd (cc)) o

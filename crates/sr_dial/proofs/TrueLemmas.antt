@@ -1,5 +1,5 @@
 -- What is true of a run over an honest link.
-use Rattle.std.proofs.Common.{◌≡◌, ℕ, ◌≤◌, true, List, [], ◌∷◌, ◌++◌, map, append_assoc, append-nil, sym, ◌∙◌, ap, subst, arith, Some, None}
+use Rattle.std.proofs.Common.{◌≡◌, ℕ, ◌≤◌, true, List, [], ◌∷◌, ◌++◌, map, append_assoc, append-nil, refl, sym, ◌∙◌, ap, subst, arith, Some, None}
 use Rattle.std.specs.Prelude.{◌≢◌, Result}
 use Rattle.std.specs.List.{list_all}
 use Rattle.sr_cell.specs.declared.fault.Fault.{Fault}
@@ -20,11 +20,13 @@ use Rattle.sr_session.specs.Sessions.{Database, tables_of}
 use Rattle.sr_session.proofs.NeverLemmas.{never-refused}
 use Rattle.sr_session.specs.Bases.{basis_of}
 use Rattle.sr_links.specs.Answers.{AreTrueSteps, AsksKeys}
+use Rattle.sr_links.specs.Brought.{Holding}
 use Rattle.sr_links.specs.Honest.{Server, Input, IsPrefix, Rests, frames_of, sent_for, server_after, server_at_last}
-use Rattle.sr_links.specs.Steps.{Step, Standing, Deed, Queried, Wrote, Evicted, Took, WasCut, Resumed, too_long, writes, Does, IsFair, AreFair, OnOne, code_after, given_of, past_after, requests_of}
-use Rattle.sr_links.proofs.AnswerLemmas.{served-answers-are-true, answered-at}
+use Rattle.sr_links.specs.Steps.{Step, Standing, Deed, Queried, Wrote, Evicted, Took, WasCut, Resumed, too_long, writes, Does, IsFair, AreFair, AreRuled, OnOne, code_after, given_of, past_after, requests_of}
+use Rattle.sr_links.proofs.AnswerLemmas.{answers-are-true, answered-at}
+use Rattle.sr_links.proofs.BroughtLemmas.{steps-go-by-told}
 use Rattle.sr_links.proofs.DatabaseLemmas.{last-more, sound-before}
-use Rattle.sr_links.proofs.MendLemmas.{closed-runs}
+use Rattle.sr_links.proofs.MendLemmas.{AreNearlyRuled, nearly-ruled, nearly-taking, runs}
 use Rattle.sr_links.proofs.TalkLemmas.{AreLawful, IsLawful}
 use Rattle.sr_dial.specs.Calls.{Call, Done, Made, Delivered, AreCalls, all_done, done_in, steps_in, talk_of}
 use Rattle.sr_talk.specs.Serving.{spelled}
@@ -32,7 +34,7 @@ use Rattle.sr_talk.proofs.TalkLemmas.{spelled-append}
 use Rattle.sr_plan.specs.Plans.{begun, left}
 use Rattle.sr_plan.proofs.Going.{are-of}
 use Rattle.sr_dial.specs.Following.{dids_of, stage_by}
-use Rattle.sr_dial.specs.Honest.{AreExplained, HonestRunsAreTrue, IsAskedFor, IsHonest, NamesVersion, NeverFall, came_over}
+use Rattle.sr_dial.specs.Honest.{AreExplained, BrokenRunsGoByTold, HonestRunsAreTrue, IsAskedFor, IsHonest, NamesVersion, NeverFall, RunsGoByTold, came_over}
 use Rattle.sr_dial.specs.Runs.{EndsBy, IsRefused, left_by}
 use Rattle.sr_dial.specs.Statuses.{status_of}
 use Rattle.sr_dial.specs.declared.ending.Ending.{Ending}
@@ -131,16 +133,16 @@ module _ {C : Type 0} (IsOf : Standing C) (keys : AsksKeys IsOf) (limits : Limit
     keys-here schema e past rows is = keys schema e past rows is.0
 
     module _ (are : AreCalls c calls) (heard : AreHeard c (all_done calls)) (fair : AreFair (Here own IsOf) limits code c (steps_in (all_done calls))) where
-      pub are-lawful : AreLawful limits (server_at_last s pieces).database c (steps_in (all_done calls))
-      are-lawful = subst (AreLawful limits (server_at_last s pieces).database c) (talk-steps calls)
-          (closed-runs (Here own IsOf) keys-here limits (map talk_of calls) pieces s code c h.closed h.behind h.some h.sound last-tables rests-here
-          (are-talks (Here own IsOf) limits code c calls are heard fair) (are-honest s c pieces calls heard h.explained))
+      pub are-lawful : AreNearlyRuled c (steps_in (all_done calls)) → AreLawful limits (server_at_last s pieces).database c (steps_in (all_done calls))
+      are-lawful ruled = subst (AreLawful limits (server_at_last s pieces).database c) (talk-steps calls)
+          (runs (Here own IsOf) keys-here limits (map talk_of calls) pieces s code c h.some h.sound last-tables rests-here
+          (are-talks (Here own IsOf) limits code c calls are heard fair) (subst (AreNearlyRuled c) (sym (talk-steps calls)) ruled) (are-honest s c pieces calls heard h.explained))
 
-      pub true-steps : KeepsToBudgets (basis_of s.database limits) c → AreTrueSteps (server_at_last s pieces).database limits c (steps_in (all_done calls))
-      true-steps keeps = subst (AreTrueSteps (server_at_last s pieces).database limits c) (talk-steps calls)
-          (served-answers-are-true (Here own IsOf) limits s code c (map talk_of calls) pieces keys-here h.closed h.behind
+      pub true-steps : KeepsToBudgets (basis_of s.database limits) c → AreRuled c (steps_in (all_done calls)) → AreTrueSteps (server_at_last s pieces).database limits c (steps_in (all_done calls))
+      true-steps keeps ruled = subst (AreTrueSteps (server_at_last s pieces).database limits c) (talk-steps calls)
+          (answers-are-true (Here own IsOf) limits s code c (map talk_of calls) pieces keys-here
           (sound-before s.database (server_at_last s pieces).database h.some (last-more s pieces h.some).grows h.sound) (subst (λ schema. list_all is_table schema ≡ true) (sym h.schema_is) tables) h.sound rests-here keeps
-          (are-talks (Here own IsOf) limits code c calls are heard fair) (are-honest s c pieces calls heard h.explained))
+          (are-talks (Here own IsOf) limits code c calls are heard fair) (subst (AreRuled c) (sym (talk-steps calls)) ruled) (are-honest s c pieces calls heard h.explained))
 
   -- ---- a message more, which is refused
 
@@ -179,7 +181,7 @@ module _ {C : Type 0} (IsOf : Standing C) (keys : AsksKeys IsOf) (limits : Limit
 
   -- so it is none that had to be refused
   module _ (earlier : List (Call C)) (call : Call C) (h : IsHonest own s pieces (earlier ++ call ∷ [])) (are : AreCalls c (earlier ++ call ∷ [])) (heard : AreHeard c (all_done (earlier ++ call ∷ [])))
-      (fair : AreFair (Here own IsOf) limits code c (steps_in (all_done (earlier ++ call ∷ [])))) (why : BadFrame) (r : IsRefused own (left_by c (earlier ++ call ∷ [])) call.left why) where
+      (fair : AreFair (Here own IsOf) limits code c (steps_in (all_done (earlier ++ call ∷ [])))) (ruled : AreRuled c (steps_in (all_done (earlier ++ call ∷ [])))) (why : BadFrame) (r : IsRefused own (left_by c (earlier ++ call ∷ [])) call.left why) where
     abbrev before : List (Step C)
     before = steps_in (all_done (earlier ++ call ∷ []))
 
@@ -212,10 +214,11 @@ module _ {C : Type 0} (IsOf : Standing C) (keys : AsksKeys IsOf) (limits : Limit
     longer-lawful : AreLawful limits (server_at_last s pieces).database c (before ++ bad_step ∷ [])
     longer-lawful = subst (AreLawful limits (server_at_last s pieces).database c) longer-steps
         (are-lawful (earlier ++ longer ∷ [])
-        (record { schema_is = h.schema_is; some = h.some; sound = h.sound; closed = h.closed; behind = h.behind; explained = more-explained r.message r.rest now code_now call r.next s pieces earlier h.explained })
+        (record { schema_is = h.schema_is; some = h.some; sound = h.sound; explained = more-explained r.message r.rest now code_now call r.next s pieces earlier h.explained })
         (more-calls r.message r.rest now code_now c earlier call are)
         (subst (AreHeard c) (sym (all-step earlier call step call.torn call.told r.rest)) (heard-append c (all_done (earlier ++ call ∷ [])) (step ∷ []) heard ((r.waits, r.spells), tt)))
-        (subst (AreFair (Here own IsOf) limits code c) (sym longer-steps) (fair-append (Here own IsOf) limits code c before (bad_step ∷ []) fair (step-fair, tt))))
+        (subst (AreFair (Here own IsOf) limits code c) (sym longer-steps) (fair-append (Here own IsOf) limits code c before (bad_step ∷ []) fair (step-fair, tt)))
+        (subst (AreNearlyRuled c) (sym longer-steps) (nearly-taking c before bad_step r.message ruled refl refl)))
 
     pub never-bad : ⊥
     never-bad =
@@ -224,10 +227,19 @@ module _ {C : Type 0} (IsOf : Standing C) (keys : AsksKeys IsOf) (limits : Limit
 
 -- ---- a run
 
-pub honest-runs-are-true : {C : Type 0} (IsOf : Standing C) → HonestRunsAreTrue IsOf
-honest-runs-are-true {C} IsOf k s pieces code c address plan ended old new before after keys tables rests keeps asked run h = record {
-  steps = true-steps IsOf keys k.limits k.schema tables s pieces code c rests (run.ran.earlier ++ run.ran.last ∷ []) h run.ran.are heard fair keeps;
-  versions = never-fall k.limits (server_at_last s pieces).database c (steps_in (all_done (run.ran.earlier ++ run.ran.last ∷ []))) (are-lawful IsOf keys k.limits k.schema tables s pieces code c rests (run.ran.earlier ++ run.ran.last ∷ []) h run.ran.are heard fair);
+-- over any link
+pub runs-go-by-told : {C : Type 0} (IsOf : Standing C) (Has : Holding C) → RunsGoByTold IsOf Has
+runs-go-by-told {C} IsOf Has k code c address plan ended old new before after told has run =
+    (steps-go-by-told Has k.limits k.schema code c (steps_in (all_done (run.ran.earlier ++ run.ran.last ∷ []))) told has run.lawful).0
+
+pub broken-runs-go-by-told : {C : Type 0} (IsOf : Standing C) (Has : Holding C) → BrokenRunsGoByTold IsOf Has
+broken-runs-go-by-told {C} IsOf Has k code c address plan old new before after told has run = (steps-go-by-told Has k.limits k.schema code c (steps_in (all_done run.calls)) told has run.lawful).0
+
+-- over an honest one
+pub honest-runs-are-true : {C : Type 0} (IsOf : Standing C) (Has : Holding C) → HonestRunsAreTrue IsOf Has
+honest-runs-are-true {C} IsOf Has k s pieces code c address plan ended old new before after told keys tables rests keeps has asked run h = record {
+  steps = true-steps IsOf keys k.limits k.schema tables s pieces code c rests (run.ran.earlier ++ run.ran.last ∷ []) h run.ran.are heard fair keeps ruled;
+  versions = never-fall k.limits (server_at_last s pieces).database c (steps_in (all_done (run.ran.earlier ++ run.ran.last ∷ []))) (are-lawful IsOf keys k.limits k.schema tables s pieces code c rests (run.ran.earlier ++ run.ran.last ∷ []) h run.ran.are heard fair (nearly-ruled c (steps_in (all_done (run.ran.earlier ++ run.ran.last ∷ []))) ruled));
   accepted = by ended run.ran.ends;
 }
   where
@@ -238,10 +250,13 @@ honest-runs-are-true {C} IsOf k s pieces code c address plan ended old new befor
     fair : AreFair (Here k.schema IsOf) k.limits code c (steps_in (all_done (run.ran.earlier ++ run.ran.last ∷ [])))
     fair = fair-here k.schema IsOf k.limits code c (steps_in (all_done (run.ran.earlier ++ run.ran.last ∷ []))) run.fair
 
+    ruled : AreRuled c (steps_in (all_done (run.ran.earlier ++ run.ran.last ∷ [])))
+    ruled = (steps-go-by-told Has k.limits k.schema code c (steps_in (all_done (run.ran.earlier ++ run.ran.last ∷ []))) told has run.lawful).1
+
     by : (ended : Ending) → EndsBy ended k.schema (run.ran.earlier ++ run.ran.last ∷ []) (left_by c (run.ran.earlier ++ run.ran.last ∷ [])) run.ran.last.left (left (stage_by k.keeps plan (all_done (run.ran.earlier ++ run.ran.last ∷ [])))) → status_of ended ≢ 8
     by ending.Whole ends is = absurd (let wrong : 0 ≡ 8 = is in omega (arith, wrong))
     by ending.Faulty ends is = absurd (let wrong : 5 ≡ 8 = is in omega (arith, wrong))
     by ending.Unwritten ends is = absurd (let wrong : 4 ≡ 8 = is in omega (arith, wrong))
     by ending.Limit ends is = absurd (let wrong : 11 ≡ 8 = is in omega (arith, wrong))
     by (ending.Spoiled fault) ends is = never-spoiled s c pieces run.ran.earlier run.ran.last heard h.explained fault ends.fault_is ends.whole
-    by (ending.Bad why) ends is = never-bad IsOf keys k.limits k.schema tables s pieces code c rests run.ran.earlier run.ran.last h run.ran.are heard fair why ends
+    by (ending.Bad why) ends is = never-bad IsOf keys k.limits k.schema tables s pieces code c rests run.ran.earlier run.ran.last h run.ran.are heard fair ruled why ends

@@ -7,6 +7,7 @@ use Rattle.sr_io.specs.Pieces.{WritesPrefix}
 use Rattle.sr_io.specs.Told.{Linking, Writing, AreAt, connections}
 use Rattle.sr_message.specs.declared.message.Message.{Message}
 use Rattle.sr_session.specs.Clients.{Client}
+use Rattle.sr_links.specs.Brought.{AreLawful, Holding}
 use Rattle.sr_links.specs.Steps.{Standing, Resumed, AreFair, OnOne, code_after, given_of, past_after, requests_of}
 use Rattle.sr_dial.specs.Calls.{Call, Done, Task, AreCalls, all_done, calls_told, count_faults, done_in, fails, is_fault, number_of, one_if, steps_in}
 use Rattle.sr_plan.specs.Plans.{Plan, GoBy, begun}
@@ -92,8 +93,8 @@ IsPartWritten {C} says s w texts = (says ≡ true) × WritesPrefix s.writing.wri
 abbrev pub IsSomeWritten : {C : Type 0} → Start C → Writing → List ℕ → Type 0
 IsSomeWritten {C} s w texts = WritesPrefix s.writing.written w.written texts × (w.faults ≡ s.writing.faults)
 
-module _ (C : Type 0) (Stands : C → Client → Type 0) (lent : C → Option Answer) (IsOf : Standing C) (k : Setting) where
-  -- What was done, each thing in its place and fair, with this of the lines. It went by the plan: this is ahead, and the client lends the
+module _ (C : Type 0) (Stands : C → Client → Type 0) (lent : C → Option Answer) (IsOf : Standing C) (Has : Holding C) (k : Setting) where
+  -- What was done, each thing in its place, fair and lawful, with this of the lines. It went by the plan: this is ahead, and the client lends the
   -- last answer. And the client stands for the last past.
   pub record Stepped (s : Start C) (ahead : Ahead) (line : ℕ) (came : Count) (ds : List (Done C)) (P : List ℕ → Type 0) (code : C) : Type 0 where
     pub in_place : AreInPlace k.schema 0 s.past ds
@@ -105,6 +106,7 @@ module _ (C : Type 0) (Stands : C → Client → Type 0) (lent : C → Option An
     pub answer_is : (stage_by k.keeps s.plan ds).answer ≡ lent code
     pub from : All (IsFrom k.number) (requests_of (steps_in ds))
     pub fair : AreFair IsOf k.limits s.code s.past (steps_in ds)
+    pub lawful : AreLawful Has k.limits k.schema s.code s.past (steps_in ds)
     pub explained : AreFairlyExplained IsOf k.limits s.code s.past ds
     pub code_is : code_after s.code (steps_in ds) ≡ code
     pub stands : Stands code (past_after s.past (steps_in ds))
@@ -175,6 +177,7 @@ module _ (C : Type 0) (Stands : C → Client → Type 0) (lent : C → Option An
     pub goes : GoBy (begun s.plan) (dids_of k.keeps (all_done (earlier ++ last ∷ [])))
     pub from : All (IsFrom k.number) (requests_of (steps_in (all_done (earlier ++ last ∷ []))))
     pub fair : AreFair IsOf k.limits s.code s.past (steps_in (all_done (earlier ++ last ∷ [])))
+    pub lawful : AreLawful Has k.limits k.schema s.code s.past (steps_in (all_done (earlier ++ last ∷ [])))
     pub explained : AreFairlyExplained IsOf k.limits s.code s.past (all_done (earlier ++ last ∷ []))
     pub code_is : is_bad ended ≡ false → code_after s.code (steps_in (all_done (earlier ++ last ∷ []))) ≡ code
     pub stands : is_bad ended ≡ false → Stands code (left_by s.past (earlier ++ last ∷ []))
@@ -189,7 +192,7 @@ module _ (C : Type 0) (Stands : C → Client → Type 0) (lent : C → Option An
 
   -- The run is broken off for want of memory.
   abbrev pub BreaksOff : Start C → Linking → Writing → Type 0
-  BreaksOff s l w = RanInPart C IsOf k s.code s.past s.address s.plan s.linking l s.writing w
+  BreaksOff s l w = RanInPart C IsOf Has k s.code s.past s.address s.plan s.linking l s.writing w
 
   -- nothing is out
   pub record Free (s : Start C) (ahead : Ahead) (line : ℕ) (failed : Bool) (l : Linking) (P : List ℕ → Type 0) (feed : List ℕ) (code : C) : Type 0 where

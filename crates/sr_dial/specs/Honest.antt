@@ -1,10 +1,11 @@
 -- When the link of a run is honest, and what is true of the run then.
-use Rattle.std.specs.Prelude.{ℕ, true, ◌<◌, ◌≤◌, List, [], ◌∷◌, ◌++◌, length, ◌≡◌, ◌≢◌, None}
+use Rattle.std.specs.Prelude.{ℕ, true, ◌<◌, ◌≤◌, List, [], ◌∷◌, ◌++◌, length, ◌≡◌, ◌≢◌}
 use Rattle.std.specs.List.{list_all}
 use Rattle.sr_cell.specs.declared.table.Table.{Table}
 use Rattle.sr_io.specs.Told.{Linking, Writing}
 use Rattle.sr_policy.specs.declared.policy.Limits.{Limits}
 use Rattle.sr_query.specs.Bound.{is_table}
+use Rattle.sr_store.specs.Told.{Told}
 use Rattle.sr_wire.specs.Spelling.{has_spelling}
 use Rattle.sr_session.specs.Bases.{basis_of}
 use Rattle.sr_session.specs.Clients.{Client}
@@ -13,13 +14,14 @@ use Rattle.sr_session.specs.Laws.{IsSound}
 use Rattle.sr_session.specs.Rules.{Outcome, Answered}
 use Rattle.sr_session.specs.Sessions.{Database}
 use Rattle.sr_links.specs.Answers.{AreTrueSteps, AsksKeys}
-use Rattle.sr_links.specs.Honest.{Server, Input, IsPrefix, AreClosedBehind, Rests, frames_of, sent_for, server_after, server_at_last}
+use Rattle.sr_links.specs.Brought.{GoByTold, Holding}
+use Rattle.sr_links.specs.Honest.{Server, Input, IsPrefix, Rests, frames_of, sent_for, server_after, server_at_last}
 use Rattle.sr_links.specs.Steps.{Standing, Step, Deed, Took, given_of, requests_of}
 use Rattle.sr_plan.specs.Plans.{Plan, AllTasks}
 use Rattle.sr_dial.specs.Calls.{Call, Task, Do, Explain, Say, all_done, done_in, steps_in}
 use Rattle.sr_talk.specs.Serving.{spelled}
 use Rattle.sr_dial.specs.Known.{Setting}
-use Rattle.sr_dial.specs.Runs.{RanFairly}
+use Rattle.sr_dial.specs.Runs.{RanFairly, RanInPart}
 use Rattle.sr_dial.specs.Statuses.{status_of}
 use Rattle.sr_dial.specs.declared.ending.Ending.{Ending}
 use Rattle.sr_dial.specs.declared.parts.Answer.{Answer}
@@ -43,14 +45,12 @@ AreExplained {C} s [] [] = Unit {0}
 AreExplained {C} s (piece ∷ pieces) (call ∷ calls) = IsExplained s piece call × AreExplained (server_after s piece) pieces calls
 AreExplained {C} s pieces calls = ⊥
 
--- The links of these calls are honest: behind them is one server of tables of this schema, whatever versions it makes meanwhile. No
--- session is open before the first call, and it is closed behind each and nowhere else.
+-- The links of these calls are honest: behind them is one server of tables of this schema, whatever versions it makes meanwhile, and
+-- wherever it closes the session, or if it never does.
 pub record IsHonest {C : Type 0} (schema : List Table) (s : Server) (pieces : List (List Input)) (calls : List (Call C)) : Type 0 where
   pub schema_is : s.database.schema ≡ schema
   pub some : 0 < length s.database.versions
   pub sound : IsSound (server_at_last s pieces).database
-  pub closed : s.session ≡ None
-  pub behind : AreClosedBehind pieces
   pub explained : AreExplained s pieces calls
 
 -- ---- what is true over them
@@ -83,9 +83,22 @@ IsAskedFor (Explain text) = Unit {0}
 IsAskedFor (Say text) = Unit {0}
 
 -- So it is of a run over any plan and any number of calls, for any client whose link is cut, and that has the rows of its version on the
--- server, within its budgets.
-abbrev pub HonestRunsAreTrue : {C : Type 0} → Standing C → Type 0
-HonestRunsAreTrue {C} IsOf = (k : Setting) (s : Server) (pieces : List (List Input)) (code : C) (c : Client) (address : List ℕ) (plan : Plan Task Answer) (ended : Ending) (old new : Linking) (before after : Writing)
-    → AsksKeys IsOf → list_all is_table k.schema ≡ true → Rests IsOf s.database code c → KeepsToBudgets (basis_of s.database k.limits) c → AllTasks IsAskedFor plan
-    → (run : RanFairly C IsOf k code c address plan ended old new before after) → IsHonest k.schema s pieces (run.ran.earlier ++ run.ran.last ∷ [])
+-- server, within its budgets, and rows that were told of tables of its schema.
+abbrev pub HonestRunsAreTrue : {C : Type 0} → Standing C → Holding C → Type 0
+HonestRunsAreTrue {C} IsOf Has = (k : Setting) (s : Server) (pieces : List (List Input)) (code : C) (c : Client) (address : List ℕ) (plan : Plan Task Answer) (ended : Ending) (old new : Linking) (before after : Writing) (told : Told)
+    → AsksKeys IsOf → list_all is_table k.schema ≡ true → Rests IsOf s.database code c → KeepsToBudgets (basis_of s.database k.limits) c → Has k.schema code c told → AllTasks IsAskedFor plan
+    → (run : RanFairly C IsOf Has k code c address plan ended old new before after) → IsHonest k.schema s pieces (run.ran.earlier ++ run.ran.last ∷ [])
     → IsTrue (server_at_last s pieces).database k.limits c (run.ran.earlier ++ run.ran.last ∷ []) ended
+
+-- ---- over any link
+
+-- Over any link, whatever the peer is: each step of a run of a client that had rows that were told goes by the rules, on what the frames
+-- brought to these, and the client keeps to its budgets by them.
+abbrev pub RunsGoByTold : {C : Type 0} → Standing C → Holding C → Type 0
+RunsGoByTold {C} IsOf Has = (k : Setting) (code : C) (c : Client) (address : List ℕ) (plan : Plan Task Answer) (ended : Ending) (old new : Linking) (before after : Writing) (told : Told) → Has k.schema code c told
+    → (run : RanFairly C IsOf Has k code c address plan ended old new before after) → GoByTold k.limits k.schema told c (steps_in (all_done (run.ran.earlier ++ run.ran.last ∷ [])))
+
+-- So does each step of one that is broken off.
+abbrev pub BrokenRunsGoByTold : {C : Type 0} → Standing C → Holding C → Type 0
+BrokenRunsGoByTold {C} IsOf Has = (k : Setting) (code : C) (c : Client) (address : List ℕ) (plan : Plan Task Answer) (old new : Linking) (before after : Writing) (told : Told) → Has k.schema code c told
+    → (run : RanInPart C IsOf Has k code c address plan old new before after) → GoByTold k.limits k.schema told c (steps_in (all_done run.calls))

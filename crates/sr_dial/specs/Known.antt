@@ -22,6 +22,7 @@ use Rattle.sr_session.specs.Rules.{Outcome, sent_of}
 use Rattle.sr_explain.specs.declared.explanation.Explanation.{Explanation}
 use Rattle.sr_explain.specs.Explained.{Explains, count_in}
 use Rattle.sr_explain.specs.Telling.{explain_lines}
+use Rattle.sr_links.specs.Brought.{Holding, IsLawful}
 use Rattle.sr_links.specs.Steps.{Standing, Deed, Queried, Wrote, Evicted, Took, WasCut, Resumed, IsFair}
 use Rattle.sr_dial.specs.Calls.{Done, Made, Explained, Said, Task, Do, Explain, Say, lines_of, text_of}
 use Rattle.sr_dial.specs.Carrying.{spoken}
@@ -86,8 +87,9 @@ abbrev pub IsFrom : ℕ → Message → Type 0
 IsFrom number m = names_client number m ≡ true
 
 -- What a client did, from this past: it has an outcome, by which are its lines, what it sends and the answer that it lends, and a next past,
--- for which it stands then. What is sent is from it, and is out, and over a cut link nothing is. And it is fair.
-pub record Makes {C : Type 0} (Stands : C → Client → Type 0) (lent : C → Option Answer) (IsOf : Standing C) (s : Setting) (old new : C) (c : Client) (deed : Deed) (lines : List TraceLine) (sent : List Message) : Type 0 where
+-- for which it stands then. What is sent is from it, and is out, and over a cut link nothing is. And it is fair, and
+-- lawful on any link.
+pub record Makes {C : Type 0} (Stands : C → Client → Type 0) (lent : C → Option Answer) (IsOf : Standing C) (Has : Holding C) (s : Setting) (old new : C) (c : Client) (deed : Deed) (lines : List TraceLine) (sent : List Message) : Type 0 where
   pub outcome : Outcome
   pub next : Client
   pub lines_are : lines ≡ lines_of s.number deed outcome
@@ -99,6 +101,7 @@ pub record Makes {C : Type 0} (Stands : C → Client → Type 0) (lent : C → O
   pub answers : lent new ≡ answer_of s.keeps outcome
   pub stands : Stands new next
   pub fair : IsFair IsOf s.limits old c (record { deed = deed; outcome = outcome; past = next; code = new })
+  pub lawful : IsLawful Has s.limits s.schema old c (record { deed = deed; outcome = outcome; past = next; code = new })
 
 -- What goes out then can be sent.
 abbrev pub MaySend : Came → Type 0
@@ -106,9 +109,9 @@ MaySend (Taken told) = All IsSendable told.sent
 MaySend (Bad why) = Unit {0}
 
 -- A message was taken, which need not be refused; or it is refused.
-abbrev pub TakesAs : {C : Type 0} → Came → (C → Client → Type 0) → (C → Option Answer) → Standing C → Setting → C → C → Client → Message → Type 0
-TakesAs {C} (Taken told) Stands lent IsOf s old new c m = Makes Stands lent IsOf s old new c (Took m) told.lines told.sent × (misfit s.schema c.out c.laid c.version m ≡ None)
-TakesAs {C} (Bad why) Stands lent IsOf s old new c m = misfit s.schema c.out c.laid c.version m ≡ Some why
+abbrev pub TakesAs : {C : Type 0} → Came → (C → Client → Type 0) → (C → Option Answer) → Standing C → Holding C → Setting → C → C → Client → Message → Type 0
+TakesAs {C} (Taken told) Stands lent IsOf Has s old new c m = Makes Stands lent IsOf Has s old new c (Took m) told.lines told.sent × (misfit s.schema c.out c.laid c.version m ≡ None)
+TakesAs {C} (Bad why) Stands lent IsOf Has s old new c m = misfit s.schema c.out c.laid c.version m ≡ Some why
 
 -- It leaves the link as it is.
 abbrev pub IsPlain : Deed → Type 0

@@ -1,7 +1,4 @@
 -- What a run of `client` did, over any link, and how it ended.
---
--- It is not said here that each outcome goes by the rules over a link that lies: only that it does over every database whose rows the
--- client has, and where what comes is truly promised.
 use Rattle.std.specs.Prelude.{ℕ, Bool, true, false, List, [], ◌∷◌, ◌++◌, ◌||◌, ◌+◌, ◌≤◌, flat_map, ◌≡◌, ◌≢◌, Option, Some, None, IfSome, IsTrue, option_to_list}
 use Rattle.std.specs.Io.KnownBytes.{Appends}
 use Rattle.std.specs.List.{list_any, All}
@@ -18,6 +15,7 @@ use Rattle.sr_wire.specs.Spelling.{has_spelling, spelling}
 use Rattle.sr_session.specs.Clients.{Client}
 use Rattle.sr_session.specs.Misfits.{misfit}
 use Rattle.sr_session.specs.Rules.{sent_of}
+use Rattle.sr_links.specs.Brought.{AreLawful, Holding}
 use Rattle.sr_links.specs.Honest.{IsPrefix}
 use Rattle.sr_links.specs.Steps.{AreFair, Standing, code_after, Deed, Took, WasCut, given_of, requests_of, past_after}
 use Rattle.sr_dial.specs.Calls.{Call, Cause, Scripted, Delivered, Failed, Done, Made, Explained, Said, Task, AreCalls, all_done, calls_told, count_faults, done_in, fails, steps_in}
@@ -192,23 +190,25 @@ pub record Ran (C : Type 0) (k : Setting) (c : Client) (address : List ℕ) (pla
   pub ends : EndsBy ended k.schema (earlier ++ last ∷ []) (left_by c (earlier ++ last ∷ [])) last.left (left (stage_by k.keeps plan (all_done (earlier ++ last ∷ []))))
   pub writes : WritesAs k.says ended (flat_map (said_by k) (all_done (earlier ++ last ∷ []))) before after
 
--- And each of its steps is fair, from this code on, and so is what was explained.
-pub record RanFairly (C : Type 0) (IsOf : Standing C) (k : Setting) (code : C) (c : Client) (address : List ℕ) (plan : Plan Task Answer) (ended : Ending) (old new : Linking) (before after : Writing) : Type 0 where
+-- And each of its steps is fair, from this code on, and so is what was explained. And each is lawful: whatever the peer is, it goes by the
+-- client's rules, on the rows that the frames brought.
+pub record RanFairly (C : Type 0) (IsOf : Standing C) (Has : Holding C) (k : Setting) (code : C) (c : Client) (address : List ℕ) (plan : Plan Task Answer) (ended : Ending) (old new : Linking) (before after : Writing) : Type 0 where
   pub ran : Ran C k c address plan ended old new before after
   pub fair : AreFair IsOf k.limits code c (steps_in (all_done (ran.earlier ++ ran.last ∷ [])))
+  pub lawful : AreLawful Has k.limits k.schema code c (steps_in (all_done (ran.earlier ++ ran.last ∷ [])))
   pub explained : AreFairlyExplained IsOf k.limits code c (all_done (ran.earlier ++ ran.last ∷ []))
 
 -- And this is the client that it leaves: the code that its steps leave, which stands for the past that they leave. A message that must be
 -- refused leaves a client of which nothing is known.
-pub record RanTo (C : Type 0) (Stands : C → Client → Type 0) (IsOf : Standing C) (k : Setting) (code : C) (c : Client) (address : List ℕ) (plan : Plan Task Answer) (ended : Ending) (old new : Linking) (before after : Writing) (left : C) : Type 0 where
-  pub run : RanFairly C IsOf k code c address plan ended old new before after
+pub record RanTo (C : Type 0) (Stands : C → Client → Type 0) (IsOf : Standing C) (Has : Holding C) (k : Setting) (code : C) (c : Client) (address : List ℕ) (plan : Plan Task Answer) (ended : Ending) (old new : Linking) (before after : Writing) (left : C) : Type 0 where
+  pub run : RanFairly C IsOf Has k code c address plan ended old new before after
   pub code_is : is_bad ended ≡ false → code_after code (steps_in (all_done (run.ran.earlier ++ run.ran.last ∷ []))) ≡ left
   pub stands : is_bad ended ≡ false → Stands left (left_by c (run.ran.earlier ++ run.ran.last ∷ []))
 
 -- Out of memory: calls that were over, and one that was cut short, or none. What was done went by the plan and is fair, as above, and what
 -- was sent and written is a beginning of what it gives: all requests but the last, of which some bytes may be missing, and of the lines as
 -- many as came to be written.
-pub record RanInPart (C : Type 0) (IsOf : Standing C) (k : Setting) (code : C) (c : Client) (address : List ℕ) (plan : Plan Task Answer) (old new : Linking) (before after : Writing) : Type 0 where
+pub record RanInPart (C : Type 0) (IsOf : Standing C) (Has : Holding C) (k : Setting) (code : C) (c : Client) (address : List ℕ) (plan : Plan Task Answer) (old new : Linking) (before after : Writing) : Type 0 where
   pub calls : List (Call C)
   pub earlier : List (Call C)
   pub cut_short : Option (Call C)
@@ -219,6 +219,7 @@ pub record RanInPart (C : Type 0) (IsOf : Standing C) (k : Setting) (code : C) (
   pub from : All (IsFrom k.number) (requests_of (steps_in (all_done calls)))
   pub goes : GoBy (begun plan) (dids_of k.keeps (all_done calls))
   pub fair : AreFair IsOf k.limits code c (steps_in (all_done calls))
+  pub lawful : AreLawful Has k.limits k.schema code c (steps_in (all_done calls))
   pub explained : AreFairlyExplained IsOf k.limits code c (all_done calls)
   pub carried : All (IsCarried false) earlier
   pub last_carried : IfSome cut_short (IsCarried true)

@@ -1,17 +1,28 @@
 //! Laws of runs of `client`: functions that do nothing, and whose contracts are the laws.
-ghost use Rattle.sr_dial.specs.Honest.{HonestRunsAreTrue};
+ghost use Rattle.sr_dial.specs.Honest.{BrokenRunsGoByTold, HonestRunsAreTrue, RunsGoByTold};
 ghost use Rattle.sr_dial.specs.Listed.{ListsAreDoneInOrder};
 ghost use Rattle.sr_dial.specs.Served.{ServedCallsAreExplained};
 
-use sr_links::laws::Peer;
+use sr_links::laws::{Hearer, Peer};
 use sr_talk::parts::Serves;
 
 /// Over an honest link, whatever the plan is, each answer that a run of a client writes has the rows of its query on the server's tables
 /// at the version that it names, each ask asks just what is not covered, a covered query sends nothing, the client keeps to its budgets,
 /// versions never fall, and nothing that comes is refused: over any number of connections in turn, and whatever versions the server makes
 /// meanwhile.
-pub fn honest_runs_are_true<C: Peer>()
-    ensures { HonestRunsAreTrue C.is_of }
+pub fn honest_runs_are_true<C: Peer + Hearer>()
+    ensures { HonestRunsAreTrue C.is_of C.has_told }
+{}
+
+/// Over any link, whatever the peer is, each step of a run goes by the client's rules, on the rows that the frames brought, and the client
+/// keeps to its budgets by them.
+pub fn runs_go_by_told<C: Peer + Hearer>()
+    ensures { RunsGoByTold C.is_of C.has_told }
+{}
+
+/// So does each step of a run that is broken off for want of memory.
+pub fn broken_runs_go_by_told<C: Peer + Hearer>()
+    ensures { BrokenRunsGoByTold C.is_of C.has_told }
 {}
 
 /// A run over the plan of a list does the list's tasks in order, up to one of them; where nothing is left, all of them.

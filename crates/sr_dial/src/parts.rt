@@ -17,7 +17,7 @@ ghost use Rattle.sr_dial.specs.declared.parts.Answer.{Answer as TheAnswer};
 use sr_cell::cell::Rows;
 use sr_cell::fault::Fault;
 use sr_cell::list::NoMemory;
-use sr_links::laws::Peer;
+use sr_links::laws::{Hearer, Peer};
 use sr_message::message::{Message, Messages};
 use sr_query::query::Query;
 use sr_reader::script::Event;
@@ -47,7 +47,7 @@ pub enum Came {
 }
 
 /// A client, as its side of a connection sees it.
-pub trait Asks: Peer {
+pub trait Asks: Peer + Hearer {
     /// It stands for this past, on any link.
     ghost stands: { Self → Past → Type 0 };
 
@@ -76,7 +76,7 @@ pub trait Asks: Peer {
     fn act(&mut self, alloc: Global, event: Event) -> Result<Told, NoMemory>
         requires asks { (deed : Deed) × IsDeed (setting self.old).schema event deed }
         requires room { 2 ≤ room self.old }
-        ensures made { (c : Past) (deed : Deed) → stands self.old c → IsDeed (setting self.old).schema event deed → IfOk result (λ told. Makes stands lent Self.is_of (setting self.old) self.old self.new c deed told.lines told.sent) }
+        ensures made { (c : Past) (deed : Deed) → stands self.old c → IsDeed (setting self.old).schema event deed → IfOk result (λ told. Makes stands lent Self.is_of Self.has_told (setting self.old) self.old self.new c deed told.lines told.sent) }
         ensures sendable { IfOk result (λ told. All IsSendable told.sent) }
         ensures setting { setting self.new ≡ setting self.old }
         ensures draws { room self.old ≤ room self.new + 2 };
@@ -90,14 +90,14 @@ pub trait Asks: Peer {
     fn take(&mut self, alloc: Global, message: Message) -> Result<Came, NoMemory>
         requires room { 2 ≤ room self.old }
         ensures sendable { IfOk result MaySend }
-        ensures taken { (c : Past) → stands self.old c → IfOk result (λ came. TakesAs came stands lent Self.is_of (setting self.old) self.old self.new c message) }
+        ensures taken { (c : Past) → stands self.old c → IfOk result (λ came. TakesAs came stands lent Self.is_of Self.has_told (setting self.old) self.old self.new c message) }
         ensures setting { setting self.new ≡ setting self.old }
         ensures draws { room self.old ≤ room self.new + 2 };
 
     /// The link was cut. Answers the lines; takes no memory but for these.
     fn cut(&mut self, alloc: Global) -> Result<TraceLines, NoMemory>
         requires room { 2 ≤ room self.old }
-        ensures made { (c : Past) → stands self.old c → IfOk result (λ lines. Makes stands lent Self.is_of (setting self.old) self.old self.new c WasCut lines []) }
+        ensures made { (c : Past) → stands self.old c → IfOk result (λ lines. Makes stands lent Self.is_of Self.has_told (setting self.old) self.old self.new c WasCut lines []) }
         ensures setting { setting self.new ≡ setting self.old }
         ensures draws { room self.old ≤ room self.new + 2 };
 }

@@ -221,6 +221,7 @@ fn run_plan<H: Host, C: Asks, P: Plans>(
     ensures ended { RunsAll C.Asks H.linking H.writing P.follows result schema.now address.now failed plans.old
         host.old host.new feed.old feed.new client.old client.new }
     ensures broken_off { PlanOff C.Asks H.linking H.writing P.follows result schema.now address.now failed plans.old host.old host.new feed.old client.old }
+    ensures setting { C.setting client.new ≡ C.setting client.old }
     ensures stays { OnlyOutput H H.reading H.held H.complaints H.IsSteady host.old host.new }
     ensures steady_writes { H.IsSteady host.old → IfOk result (λ ending. ending ≢ EndsUnwritten) }
 {
@@ -284,6 +285,7 @@ fn go_on<H: Host, C: Asks, P: Plans>(
     ensures ended { GoesOnWith C.Asks H.linking H.writing P.follows result schema.now address.now end plans.old
         host.old host.new feed.old feed.new client.old client.new }
     ensures broken_off { GoesOnOff C.Asks H.linking H.writing P.follows result schema.now address.now end plans.old host.old host.new feed.old client.old }
+    ensures setting { C.setting client.new ≡ C.setting client.old }
     ensures stays { OnlyOutput H H.reading H.held H.complaints H.IsSteady host.old host.new }
     ensures steady_writes { H.IsSteady host.old → end ≢ LineEnds EndsUnwritten → IfOk result (λ ending. ending ≢ EndsUnwritten) }
 {
@@ -311,6 +313,7 @@ pub fn run<H: Host, C: Asks, P: Plans>(
     requires fresh { C.lent client.old ≡ None }
     ensures ran { RunsFrom C.Asks H.linking H.writing P.follows result schema.now address.now plans.old host.old host.new client.old client.new }
     ensures broken_off { RunsOff C.Asks H.linking H.writing P.follows result schema.now address.now plans.old host.old host.new client.old }
+    ensures setting { C.setting client.new ≡ C.setting client.old }
     ensures stays { OnlyOutput H H.reading H.held H.complaints H.IsSteady host.old host.new }
     ensures steady_writes { H.IsSteady host.old → IfOk result (λ ending. ending ≢ EndsUnwritten) }
 {

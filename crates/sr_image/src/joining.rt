@@ -1,9 +1,16 @@
 //! The image of what a client holds.
-ghost use Rattle.std.specs.Prelude.{◌≡◌, true, slice_get, IfOk, OnOk};
+ghost use Rattle.std.specs.Prelude.{◌≡◌, ◌≤◌, true, List, length, slice_get, IfOk, OnOk, IsTrue};
 ghost use Rattle.std.specs.List.{list_all};
+ghost use Rattle.sr_cell.specs.declared.table.Table.{Table};
+ghost use Rattle.sr_query.specs.Bound.{is_table};
+ghost use Rattle.sr_store.specs.Fitted.{count_rows};
+ghost use Rattle.sr_store.specs.Stores.{IsStore};
 ghost use Rattle.sr_image.specs.Joining.{ascends, image_from, is_of_at, joined, kept_from, place_of, stands_before, with_region};
+ghost use Rattle.sr_image.specs.Laws.{is_image};
+ghost use Rattle.sr_image.specs.Writing.{may_write_region};
 
 use crate::image::Image;
+use crate::known::know_regions;
 use sr_cell::list::{Copied, NoMemory, Seq};
 use sr_region::region::{Region, rank_of};
 use sr_rows::rows::put_all;
@@ -21,6 +28,20 @@ pub fn image_of(alloc: Global, version: u64, regions: &[Region]) -> Result<Image
         put_region(alloc, &mut kept, region)?;
     }
     Ok(Image { version, kept })
+}
+
+/// The image of the regions of a store, of which each rect and row may be written, at that version: it can be written, and read again.
+pub fn image_of_store(alloc: Global, version: u64, regions: &[Region]) -> Result<Image, NoMemory>
+    requires store { (schema : List Table) × IsStore schema regions.now }
+    requires short { IsTrue (list_all may_write_region regions.now) }
+    requires few { length regions.now ≤ 1024 }
+    requires rows { count_rows regions.now ≤ 200000 }
+    ensures is { IfOk result (λ image. image ≡ image_from version regions.now) }
+    ensures whole { (schema : List Table) → IsTrue (list_all is_table schema) → IsStore schema regions.now
+        → IfOk result (λ image. IsTrue (is_image schema image)) }
+{
+    know_regions(regions);
+    image_of(alloc, version, regions)
 }
 
 /// One region more, in the part of its table and columns.

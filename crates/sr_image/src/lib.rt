@@ -5,6 +5,7 @@ pub mod image;
 mod index;
 pub mod items;
 pub mod joining;
+mod known;
 pub mod laws;
 pub mod read;
 mod rects;

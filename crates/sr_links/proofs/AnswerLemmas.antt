@@ -25,7 +25,7 @@ use Rattle.sr_links.specs.Honest.{Server, Input, Rests, server_at_last, steps_of
 use Rattle.sr_links.specs.Steps.{Deed, Queried, Wrote, Evicted, Took, WasCut, Resumed, too_long, writes, Does, Standing, Step}
 use Rattle.sr_links.proofs.BudgetLemmas.{keeps-later, keeps-on}
 use Rattle.sr_links.proofs.DatabaseLemmas.{Grows, More, after-more, last-more}
-use Rattle.sr_links.proofs.MendLemmas.{runs, closed-runs}
+use Rattle.sr_links.proofs.MendLemmas.{runs, closed-runs, nearly-ruled}
 use Rattle.sr_links.proofs.OutLemmas.{does-out}
 use Rattle.sr_links.proofs.TalkLemmas.{AreLawful, one-connection}
 
@@ -146,7 +146,7 @@ module _ {C : Type 0} (IsOf : Standing C) (limits : Limits) (s : Server) (code :
 pub answers-are-true : {C : Type 0} (IsOf : Standing C) → AnswersAreTrue IsOf
 answers-are-true {C} IsOf limits s code c talks pieces keys first_sound tables sound rest keeps are ruled honest =
     true-at-last IsOf limits s code c pieces first_sound rest (steps_of talks) keeps
-    (runs IsOf keys limits talks pieces s code c first_sound.some sound (tables-at-last IsOf limits s code c pieces first_sound rest tables) rest are ruled honest)
+    (runs IsOf keys limits talks pieces s code c first_sound.some sound (tables-at-last IsOf limits s code c pieces first_sound rest tables) rest are (nearly-ruled c (steps_of talks) ruled) honest)
 
 pub served-answers-are-true : {C : Type 0} (IsOf : Standing C) → ServedAnswersAreTrue IsOf
 served-answers-are-true {C} IsOf limits s code c talks pieces keys closed behind first_sound tables sound rest keeps are honest =

@@ -10,7 +10,7 @@ use Rattle.sr_links.specs.Answers.{HaveRows, ClientsHaveTheRows, ServedClientsHa
 use Rattle.sr_links.specs.Honest.{Server, Input, Rests, Talk, AreTalks, server_at_last, steps_in, steps_of}
 use Rattle.sr_links.specs.Steps.{Standing, Step, AreFair, past_after, code_after}
 use Rattle.sr_links.proofs.DatabaseLemmas.{Grows, last-more}
-use Rattle.sr_links.proofs.MendLemmas.{runs, closed-runs}
+use Rattle.sr_links.proofs.MendLemmas.{runs, closed-runs, nearly-ruled}
 use Rattle.sr_links.proofs.TalkLemmas.{AreLawful}
 
 module _ {C : Type 0} (IsOf : Standing C) (limits : Limits) where
@@ -60,7 +60,7 @@ module _ {C : Type 0} (IsOf : Standing C) (limits : Limits) (s : Server) (code :
 pub clients-have-the-rows : {C : Type 0} (IsOf : Standing C) → ClientsHaveTheRows IsOf
 clients-have-the-rows {C} IsOf limits s code c talks pieces keys first_sound tables sound rest are ruled honest =
     rows-at-last IsOf limits s code c talks pieces first_sound rest are
-    (runs IsOf keys limits talks pieces s code c first_sound.some sound (tables-at-last IsOf limits s code c talks pieces first_sound rest are tables) rest are ruled honest)
+    (runs IsOf keys limits talks pieces s code c first_sound.some sound (tables-at-last IsOf limits s code c talks pieces first_sound rest are tables) rest are (nearly-ruled c (steps_of talks) ruled) honest)
 
 pub served-clients-have-the-rows : {C : Type 0} (IsOf : Standing C) → ServedClientsHaveTheRows IsOf
 served-clients-have-the-rows {C} IsOf limits s code c talks pieces keys closed behind first_sound tables sound rest are honest =

@@ -46,12 +46,50 @@ welcome-append : (xs ys : List Message) → AreNoWelcome xs → AreNoWelcome ys 
 welcome-append [] ys a b = b
 welcome-append (x ∷ xs) ys (one, more) b = (one, welcome-append xs ys more b)
 
+-- ---- steps by the rules, but for a last one
+
+-- the last step, of which only this is known: it takes a message, and sends nothing
+pub record IsLastTaking {C : Type 0} (step : Step C) (behind : List (Step C)) : Type 0 where
+  pub message : Message
+  pub took : step.deed ≡ Took message
+  pub silent : sent_of step.outcome ≡ []
+  pub last : behind ≡ []
+
+-- Each step goes by the client's rules, but for the last one, which may be of that kind.
+abbrev pub AreNearlyRuled : {C : Type 0} → Client → List (Step C) → Type 0
+AreNearlyRuled {C} c [] = Unit {0}
+AreNearlyRuled {C} c (step ∷ steps) = (((b : Basis) × Does b step.deed c step.outcome step.past) ⊎ IsLastTaking step steps) × AreNearlyRuled step.past steps
+
+pub nearly-ruled : {C : Type 0} (c : Client) (steps : List (Step C)) → AreRuled c steps → AreNearlyRuled c steps
+nearly-ruled {C} c [] ruled = tt
+nearly-ruled {C} c (step ∷ steps) (one, others) = (inl one, nearly-ruled step.past steps others)
+
+pub nearly-taking : {C : Type 0} (c : Client) (steps : List (Step C)) (last : Step C) (m : Message) → AreRuled c steps → last.deed ≡ Took m → sent_of last.outcome ≡ [] → AreNearlyRuled c (steps ++ last ∷ [])
+nearly-taking {C} c [] last m ruled took silent = (inr (record { message = m; took = took; silent = silent; last = refl }), tt)
+nearly-taking {C} c (step ∷ steps) last m (one, others) took silent = (inl one, nearly-taking step.past steps last m others took silent)
+
+nothing-before : {X : Type 0} (xs ys : List X) → xs ++ ys ≡ [] → xs ≡ []
+nothing-before {X} [] ys e = refl
+nothing-before {X} (x ∷ xs) ys e = absurd (cc)
+
+ruled-front : {C : Type 0} (c : Client) (steps more : List (Step C)) → AreNearlyRuled c (steps ++ more) → AreNearlyRuled c steps
+ruled-front {C} c [] more ruled = tt
+ruled-front {C} c (step ∷ steps) more (inl one, others) = (inl one, ruled-front step.past steps more others)
+ruled-front {C} c (step ∷ steps) more (inr one, others) =
+    (inr (record { message = one.message; took = one.took; silent = one.silent; last = nothing-before steps more one.last }), ruled-front step.past steps more others)
+
+ruled-back : {C : Type 0} (c : Client) (steps more : List (Step C)) → AreNearlyRuled c (steps ++ more) → AreNearlyRuled (past_after c steps) more
+ruled-back {C} c [] more ruled = ruled
+ruled-back {C} c (step ∷ steps) more (one, others) = ruled-back step.past steps more others
+
 -- ---- what is sent on a connection
 
-requests-others : {C : Type 0} (c : Client) (steps : List (Step C)) → AreRuled c steps → OnOne c steps → AreOthers (requests_of steps)
+requests-others : {C : Type 0} (c : Client) (steps : List (Step C)) → AreNearlyRuled c steps → OnOne c steps → AreOthers (requests_of steps)
 requests-others {C} c [] ruled one = tt
-requests-others {C} c (step ∷ steps) ((b, does), ruled) one =
+requests-others {C} c (step ∷ steps) (inl (b, does), ruled) one =
     others-append (sent_of step.outcome) (requests_of steps) (plain b step.deed c step.outcome step.past one.0 does) (requests-others step.past steps ruled one.1)
+requests-others {C} c (step ∷ steps) (inr last, ruled) one =
+    others-append (sent_of step.outcome) (requests_of steps) (subst AreOthers (sym last.silent) tt) (requests-others step.past steps ruled one.1)
 
 heard-if : (deed : Deed) → AreNoWelcome (taken_by deed) → HeardIf deed
 heard-if (Queried query) h = tt
@@ -62,14 +100,15 @@ heard-if WasCut h = tt
 heard-if Resumed h = tt
 
 -- a client that is not welcomed asks nothing
-unheard-asks : {C : Type 0} (steps : List (Step C)) (c : Client) → IsResumed c ⊎ IsMute c → AreNoWelcome (given_of steps) → AreRuled c steps → AreAwaited c steps → OnOne c steps → requests_of steps ≡ []
+unheard-asks : {C : Type 0} (steps : List (Step C)) (c : Client) → IsResumed c ⊎ IsMute c → AreNoWelcome (given_of steps) → AreNearlyRuled c steps → AreAwaited c steps → OnOne c steps → requests_of steps ≡ []
 unheard-asks {C} [] c is given ruled awaited one = refl
-unheard-asks {C} (step ∷ steps) c (inl is) given ((b, does), ruled) awaited one =
+unheard-asks {C} (step ∷ steps) c (inl is) given (inl (b, does), ruled) awaited one =
     let s : StaysUnheard step.outcome step.past = unheard-step b step.deed c step.outcome step.past is (heard-if step.deed (welcome-front (taken_by step.deed) (given_of steps) given)) one.0 does in
     ap (λ x. x ++ requests_of steps) s.silent ∙ unheard-asks steps step.past s.then_is (welcome-back (taken_by step.deed) (given_of steps) given) ruled awaited.1 one.1
-unheard-asks {C} (step ∷ steps) c (inr is) given ((b, does), ruled) awaited one =
+unheard-asks {C} (step ∷ steps) c (inr is) given (inl (b, does), ruled) awaited one =
     let s : StaysMute step.outcome step.past = mute-step b step.deed c step.outcome step.past is awaited.0 one.0 does in
     ap (λ x. x ++ requests_of steps) s.silent ∙ unheard-asks steps step.past (inr s.mute) (welcome-back (taken_by step.deed) (given_of steps) given) ruled awaited.1 one.1
+unheard-asks {C} (step ∷ steps) c is given (inr last, ruled) awaited one = ap (λ x. x ++ requests_of steps) last.silent ∙ ap requests_of last.last
 
 -- ---- what answers requests that are no greetings is no welcome
 
@@ -318,17 +357,10 @@ begun-by : (b : Basis) (c : Client) (o : Outcome) (new : Client) → c.cut ≡ t
 begun-by b c o new cut (already_up up) = absurd (let wrong : true ≡ false = sym cut ∙ up in cc)
 begun-by b c o new cut (resumes m down is) = record { message = m; greets = greeting-is b c c.next_request m is; asks = refl; out = record { number = c.next_request; out = refl } }
 
-ruled-front : {C : Type 0} (c : Client) (steps more : List (Step C)) → AreRuled c (steps ++ more) → AreRuled c steps
-ruled-front {C} c [] more ruled = tt
-ruled-front {C} c (step ∷ steps) more (one, others) = (one, ruled-front step.past steps more others)
-
-ruled-back : {C : Type 0} (c : Client) (steps more : List (Step C)) → AreRuled c (steps ++ more) → AreRuled (past_after c steps) more
-ruled-back {C} c [] more ruled = ruled
-ruled-back {C} c (step ∷ steps) more (one, others) = ruled-back step.past steps more others
-
-nothing-before : (xs ys : List Message) → xs ++ ys ≡ [] → xs ≡ []
-nothing-before [] ys e = refl
-nothing-before (x ∷ xs) ys e = absurd (cc)
+-- the first step of a talk resumes, and is no other
+first-begun : {C : Type 0} (c : Client) (first : Step C) (others : List (Step C)) → c.cut ≡ true → first.deed ≡ Resumed → AreNearlyRuled c (first ∷ others) → Begun c first.outcome first.past
+first-begun {C} c first others cut begins (inl (b, does), ruled) = begun-by b c first.outcome first.past cut (subst (λ d. Does b d c first.outcome first.past) begins does)
+first-begun {C} c first others cut begins (inr last, ruled) = absurd (let wrong : Took last.message ≡ Resumed = sym last.took ∙ begins in cc)
 
 module _ {C : Type 0} (IsOf : Standing C) (keys : AsksKeys IsOf) (limits : Limits) where
   -- the mended list explains the connection
@@ -336,11 +368,10 @@ module _ {C : Type 0} (IsOf : Standing C) (keys : AsksKeys IsOf) (limits : Limit
     pub explains : Explains (cut_off s) (mend s.session inputs) steps
     pub database : (server_after s inputs).database ≡ (server_after (cut_off s) (mend s.session inputs)).database
 
-  explained : (s : Server) (code : C) (c : Client) (talk : Talk C) (inputs : List Input) → Rests IsOf s.database code c → IsTalk IsOf limits code c talk → AreRuled c (steps_in talk)
+  explained : (s : Server) (code : C) (c : Client) (talk : Talk C) (inputs : List Input) → Rests IsOf s.database code c → IsTalk IsOf limits code c talk → AreNearlyRuled c (steps_in talk)
       → Explains s inputs (steps_in talk) → Explained s inputs (steps_in talk)
   explained s code c talk inputs rest is ruled explains =
-      let (b, does) = ruled.0 in
-      let start : Begun c talk.first.outcome talk.first.past = begun-by b c talk.first.outcome talk.first.past rest.cut (subst (λ d. Does b d c talk.first.outcome talk.first.past) is.begins does) in
+      let start : Begun c talk.first.outcome talk.first.past = first-begun c talk.first talk.others rest.cut is.begins ruled in
       let are : AreOthers (requests_of talk.others) = requests-others talk.first.past talk.others ruled.1 is.on_one in
       let asks : requests_of (steps_in talk) ≡ start.message ∷ requests_of talk.others = ap (λ x. x ++ requests_of talk.others) start.asks in
       let takes : given_of (steps_in talk) ≡ given_of talk.others = ap (λ d. taken_by d ++ given_of talk.others) is.begins in
@@ -374,7 +405,7 @@ module _ {C : Type 0} (IsOf : Standing C) (keys : AsksKeys IsOf) (limits : Limit
 
   pub runs : (talks : List (Talk C)) (pieces : List (List Input)) (s : Server) (code : C) (c : Client) → 0 < length s.database.versions → IsSound (server_at_last s pieces).database
       → list_all is_table (server_at_last s pieces).database.schema ≡ true
-      → Rests IsOf s.database code c → AreTalks IsOf limits code c talks → AreRuled c (steps_of talks) → IsHonest s pieces talks → AreLawful limits (server_at_last s pieces).database c (steps_of talks)
+      → Rests IsOf s.database code c → AreTalks IsOf limits code c talks → AreNearlyRuled c (steps_of talks) → IsHonest s pieces talks → AreLawful limits (server_at_last s pieces).database c (steps_of talks)
   runs [] [] s code c some sound tables rest are ruled honest = tt
   runs [] (piece ∷ pieces) s code c some sound tables rest are ruled honest = absurd honest
   runs (talk ∷ talks) [] s code c some sound tables rest are ruled honest = absurd honest

@@ -126,26 +126,17 @@ fn text_of(alloc: Global, counts: Counts, version: u64) -> Result<String, NoMemo
 }
 
 /// Replays the script of that seed with so many events, and says what its trace comes to.
-pub fn summary_of(alloc: Global, seed: u64, events: u32) -> Result<String, No<RunFault>>
+pub fn summary_of(alloc: Global, seed: u64, events: u32) -> Result<String, NoMemory>
     requires events { events ≤ 100000 }
-    ensures summary { IfOk result (λ text. Summarizes (script seed events) (string_bytes text)) }
-    ensures line { (line place : ℕ) → IsErrOf result (Refused (Line line place)) → outside 1 (script seed events) ≡ Some (record { line = line; place = place }) }
-    ensures setup { (line : ℕ) (fault : TheFault) → IsErrOf result (Refused (Setup line fault)) → FirstRefused 1 1 [] (lines_of (script seed events)) line fault }
-    ensures never_loads { (table : List ℕ) (fault : TheFault) → ¬ IsErrOf result (Refused (LoadRefused table fault)) }
-    ensures never_faults { ¬ IsErrOf result (Refused WriteFault) }
+    ensures { IfOk result (λ text. Summarizes (script seed events) (string_bytes text)) }
 {
-    let script = match script_of(alloc, seed, events) {
-        Ok(script) => script,
-        Err(_) => return Err(No::NoMemory),
-    };
+    let script = script_of(alloc, seed, events)?;
     match replay_all(alloc, script.as_slice()) {
         Ok(replayed) => {
             let counts = counts_of(replayed.trace.as_slice());
-            match text_of(alloc, counts, replayed.version) {
-                Ok(text) => Ok(text),
-                Err(_) => Err(No::NoMemory),
-            }
+            text_of(alloc, counts, replayed.version)
         }
-        Err(no) => Err(no),
+        Err(No::NoMemory) => Err(NoMemory),
+        Err(No::Refused(_)) => unreachable!(),
     }
 }

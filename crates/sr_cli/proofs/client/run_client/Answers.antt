@@ -1,70 +1,56 @@
-use Rattle.std.proofs.Common.{◌∙◌, ap, inl, inr, refl, Err}
+use Rattle.std.proofs.Common.{Err, inl, inr, ap, ◌∙◌}
 use Rattle.sr_cli.specs.declared.stop.Stop.TheVariants.{Refused}
-use Rattle.sr_dial.specs.declared.ending.Ending.TheVariants.{Faulty, Unwritten, Spoiled, Bad as BadMessage, Limit as TooMany}
-use Rattle.sr_cli.specs.Client.{ending_of}
-use Rattle.sr_cli.proofs.ClientFits.{by_frame, causes_dialled, causes_refused, dialled_by, fits_held}
+use Rattle.sr_cli.proofs.ClientEnds.{dials-bad, dials-limit, dials-refused, dials-spoiled, dials-whole}
+use Rattle.sr_cli.proofs.LeavesLemmas.{leaves-by-frames, leaves-done, leaves-refused, spoiled-status}
 use Rattle.sr_cli.proofs.client.run_client.Goals as goal
 
-pub returns-in-Err-Refused-clause-steady : goal.returns-in-Err-Refused-clause-steady
-returns-in-Err-Refused-clause-steady g c = λ steady schema script are.
-    fits_held (g.H.Outside.held c.args.host.now) (g.H.Outside.reading c.client_files.new.host).left c.args.words.now schema script c.report.result are
-    (causes_refused (g.H.Outside.held c.args.host.now) c.args.words.now (g.H.Outside.reading c.args.host.now) (g.H.Outside.reading c.client_files.new.host) (g.H.Outside.linking c.args.host.now) (g.H.Outside.linking c.client_files.new.host) (g.H.Outside.writing c.args.host.now) (g.H.Outside.writing c.client_files.new.host) c.in-Err-Refused.refusal c.report.result _ _ _ (rw c.in-Err-Refused.field-0-is at c.in-Err-Refused.ensures.stopped) c.report.ensures.only
-    (λ is. c.in-Err-Refused.ensures.steady_reads steady (ap Err (c.in-Err-Refused.field-0-is ∙ ap Refused (c.report.ensures.read is))) schema script are)
-    c.report.ensures.write c.report.ensures.link c.report.ensures.too_long c.report.ensures.line c.report.ensures.refused)
+pub returns-in-Ok-clause-dials : goal.returns-in-Ok-clause-dials
+returns-in-Ok-clause-dials g c = dials-whole _ g.H.Outside.held g.H.Outside.reading g.H.Outside.writing g.H.Outside.linking g.H.Outside.complaints g.H.Outside.IsSteady c.args.words.now c.args.host.now c.client_files.new.host c.in-Ok.ensures.whole
 
-pub returns-in-Err-Refused-clause-unwritten : goal.returns-in-Err-Refused-clause-unwritten
-returns-in-Err-Refused-clause-unwritten g c = λ is.
-    dialled_by (g.H.Outside.held c.args.host.now) c.args.words.now (g.H.Outside.reading c.args.host.now) (g.H.Outside.reading c.client_files.new.host) (g.H.Outside.linking c.args.host.now) (g.H.Outside.linking c.client_files.new.host) (g.H.Outside.linking c.report.new.host) (g.H.Outside.writing c.args.host.now) (g.H.Outside.writing c.client_files.new.host) (g.H.Outside.writing c.report.new.host)
-    Unwritten c.in-Err-Refused.field-0 (ap ending_of (c.in-Err-Refused.field-0-is ∙ ap Refused (c.report.ensures.write is))) c.in-Err-Refused.ensures.stopped c.report.ensures.linking_stays c.report.ensures.writing_stays
+pub returns-in-Ok-clause-leaves : goal.returns-in-Ok-clause-leaves
+returns-in-Ok-clause-leaves g c = leaves-done _ g.H.Outside.held g.H.Outside.reading g.H.Outside.writing g.H.Outside.linking g.H.Outside.complaints g.H.Outside.IsSteady c.args.host.now c.client_files.new.host c.in-Ok.ensures.counts c.client_files.ensures.stays
 
-pub returns-in-Err-Refused-clause-faulty : goal.returns-in-Err-Refused-clause-faulty
-returns-in-Err-Refused-clause-faulty g c = λ is.
-    dialled_by (g.H.Outside.held c.args.host.now) c.args.words.now (g.H.Outside.reading c.args.host.now) (g.H.Outside.reading c.client_files.new.host) (g.H.Outside.linking c.args.host.now) (g.H.Outside.linking c.client_files.new.host) (g.H.Outside.linking c.report.new.host) (g.H.Outside.writing c.args.host.now) (g.H.Outside.writing c.client_files.new.host) (g.H.Outside.writing c.report.new.host)
-    Faulty c.in-Err-Refused.field-0 (ap ending_of (c.in-Err-Refused.field-0-is ∙ ap Refused (c.report.ensures.link is))) c.in-Err-Refused.ensures.stopped c.report.ensures.linking_stays c.report.ensures.writing_stays
+pub returns-in-Err-Refused-clause-dials : goal.returns-in-Err-Refused-clause-dials
+returns-in-Err-Refused-clause-dials g c =
+    let is = c.in-Err-Refused.field-0-is in
+    let refused = c.in-Err-Refused.ensures in
+    dials-refused _ g.H.Outside.held g.H.Outside.reading g.H.Outside.writing g.H.Outside.linking g.H.Outside.complaints g.H.Outside.IsSteady c.args.words.now c.args.host.now c.client_files.new.host c.report.new.host
+    c.client_files.ensures.stays.complaints_stay c.report.ensures.stays c.in-Err-Refused.refusal c.report.result c.report.ensures.reported (rw is at refused.counts) (rw is at refused.stopped)
+    (λ steady named. refused.steady_reads steady (ap Err (is ∙ ap Refused named))) (λ steady named. refused.steady_writes steady (ap Err (is ∙ ap Refused named)))
 
-pub returns-in-Err-Limit-clause-limit : goal.returns-in-Err-Limit-clause-limit
-returns-in-Err-Limit-clause-limit g c = λ is.
-    dialled_by (g.H.Outside.held c.args.host.now) c.args.words.now (g.H.Outside.reading c.args.host.now) (g.H.Outside.reading c.client_files.new.host) (g.H.Outside.linking c.args.host.now) (g.H.Outside.linking c.client_files.new.host) (g.H.Outside.linking c.report_limit.new.host) (g.H.Outside.writing c.args.host.now) (g.H.Outside.writing c.client_files.new.host) (g.H.Outside.writing c.report_limit.new.host)
-    TooMany c.in-Err-Limit.field-0 (ap ending_of c.in-Err-Limit.field-0-is) c.in-Err-Limit.ensures.stopped c.report_limit.ensures.linking_stays c.report_limit.ensures.writing_stays
+pub returns-in-Err-Refused-clause-leaves : goal.returns-in-Err-Refused-clause-leaves
+returns-in-Err-Refused-clause-leaves g c =
+    leaves-refused _ g.H.Outside.held g.H.Outside.reading g.H.Outside.writing g.H.Outside.linking g.H.Outside.complaints g.H.Outside.IsSteady c.args.host.now c.client_files.new.host c.report.new.host c.in-Err-Refused.refusal c.report.result c.report.ensures.reported
+    (rw c.in-Err-Refused.field-0-is at c.in-Err-Refused.ensures.counts) c.client_files.ensures.stays c.report.ensures.stays
 
-pub returns-in-Err-Spoiled-clause-steady : goal.returns-in-Err-Spoiled-clause-steady
-returns-in-Err-Spoiled-clause-steady g c = λ steady schema script are.
-    let held = g.H.Outside.held c.args.host.now in
-    let words = c.args.words.now in
-    let from = g.H.Outside.reading c.args.host.now in
-    let to = g.H.Outside.reading c.client_files.new.host in
-    let old = g.H.Outside.linking c.args.host.now in
-    let new = g.H.Outside.linking c.client_files.new.host in
-    let before = g.H.Outside.writing c.args.host.now in
-    let after = g.H.Outside.writing c.client_files.new.host in
-    fits_held held to.left words schema script c.report_spoiled.result are
-    (causes_dialled held to.left words c.report_spoiled.result (Spoiled c.in-Err-Spoiled.fault) old new before after (by_frame c.report_spoiled.result c.report_spoiled.ensures.only)
-    (dialled_by held words from to old new new before after after (Spoiled c.in-Err-Spoiled.fault) c.in-Err-Spoiled.field-0 (ap ending_of c.in-Err-Spoiled.field-0-is) c.in-Err-Spoiled.ensures.stopped refl refl))
+pub returns-in-Err-Spoiled-clause-dials : goal.returns-in-Err-Spoiled-clause-dials
+returns-in-Err-Spoiled-clause-dials g c =
+    dials-spoiled _ g.H.Outside.held g.H.Outside.reading g.H.Outside.writing g.H.Outside.linking g.H.Outside.complaints g.H.Outside.IsSteady c.args.words.now c.args.host.now c.client_files.new.host c.report_spoiled.new.host
+    c.client_files.ensures.stays.complaints_stay c.report_spoiled.ensures.stays c.report_spoiled.result c.in-Err-Spoiled.fault c.report_spoiled.ensures.named (rw c.in-Err-Spoiled.field-0-is at c.in-Err-Spoiled.ensures.stopped)
 
-pub returns-in-Err-Bad-clause-steady : goal.returns-in-Err-Bad-clause-steady
-returns-in-Err-Bad-clause-steady g c = λ steady schema script are.
-    let held = g.H.Outside.held c.args.host.now in
-    let words = c.args.words.now in
-    let from = g.H.Outside.reading c.args.host.now in
-    let to = g.H.Outside.reading c.client_files.new.host in
-    let old = g.H.Outside.linking c.args.host.now in
-    let new = g.H.Outside.linking c.client_files.new.host in
-    let before = g.H.Outside.writing c.args.host.now in
-    let after = g.H.Outside.writing c.client_files.new.host in
-    fits_held held to.left words schema script c.report_bad.result are
-    (causes_dialled held to.left words c.report_bad.result (BadMessage c.in-Err-Bad.why) old new before after (inl c.report_bad.ensures.status)
-    (dialled_by held words from to old new new before after after (BadMessage c.in-Err-Bad.why) c.in-Err-Bad.field-0 (ap ending_of c.in-Err-Bad.field-0-is) c.in-Err-Bad.ensures.stopped refl refl))
+pub returns-in-Err-Spoiled-clause-leaves : goal.returns-in-Err-Spoiled-clause-leaves
+returns-in-Err-Spoiled-clause-leaves g c =
+    let named = spoiled-status _ c.report_spoiled.result _ _ c.report_spoiled.ensures.named in
+    leaves-by-frames _ g.H.Outside.held g.H.Outside.reading g.H.Outside.writing g.H.Outside.linking g.H.Outside.complaints g.H.Outside.IsSteady c.args.host.now c.client_files.new.host c.report_spoiled.new.host c.report_spoiled.result named.0 named.1
+    (rw c.in-Err-Spoiled.field-0-is at c.in-Err-Spoiled.ensures.counts) c.client_files.ensures.stays c.report_spoiled.ensures.stays
 
-pub returns-in-Err-Limit-clause-steady : goal.returns-in-Err-Limit-clause-steady
-returns-in-Err-Limit-clause-steady g c = λ steady schema script are.
-    let held = g.H.Outside.held c.args.host.now in
-    let words = c.args.words.now in
-    let from = g.H.Outside.reading c.args.host.now in
-    let to = g.H.Outside.reading c.client_files.new.host in
-    let old = g.H.Outside.linking c.args.host.now in
-    let new = g.H.Outside.linking c.client_files.new.host in
-    let before = g.H.Outside.writing c.args.host.now in
-    let after = g.H.Outside.writing c.client_files.new.host in
-    fits_held held to.left words schema script c.report_limit.result are
-    (causes_dialled held to.left words c.report_limit.result TooMany old new before after (inr (inr c.report_limit.ensures.status))
-    (dialled_by held words from to old new new before after after TooMany c.in-Err-Limit.field-0 (ap ending_of c.in-Err-Limit.field-0-is) c.in-Err-Limit.ensures.stopped refl refl))
+pub returns-in-Err-Bad-clause-dials : goal.returns-in-Err-Bad-clause-dials
+returns-in-Err-Bad-clause-dials g c =
+    dials-bad _ g.H.Outside.held g.H.Outside.reading g.H.Outside.writing g.H.Outside.linking g.H.Outside.complaints g.H.Outside.IsSteady c.args.words.now c.args.host.now c.client_files.new.host c.report_bad.new.host
+    c.client_files.ensures.stays.complaints_stay c.report_bad.ensures.stays c.report_bad.result c.in-Err-Bad.why c.report_bad.ensures.status c.report_bad.ensures.named (rw c.in-Err-Bad.field-0-is at c.in-Err-Bad.ensures.stopped)
+
+pub returns-in-Err-Bad-clause-leaves : goal.returns-in-Err-Bad-clause-leaves
+returns-in-Err-Bad-clause-leaves g c =
+    leaves-by-frames _ g.H.Outside.held g.H.Outside.reading g.H.Outside.writing g.H.Outside.linking g.H.Outside.complaints g.H.Outside.IsSteady c.args.host.now c.client_files.new.host c.report_bad.new.host c.report_bad.result (inl c.report_bad.ensures.status) (rw c.report_bad.ensures.status tt)
+    (rw c.in-Err-Bad.field-0-is at c.in-Err-Bad.ensures.counts) c.client_files.ensures.stays c.report_bad.ensures.stays
+
+pub returns-in-Err-Limit-clause-dials : goal.returns-in-Err-Limit-clause-dials
+returns-in-Err-Limit-clause-dials g c =
+    dials-limit _ g.H.Outside.held g.H.Outside.reading g.H.Outside.writing g.H.Outside.linking g.H.Outside.complaints g.H.Outside.IsSteady c.args.words.now c.args.host.now c.client_files.new.host c.report_limit.new.host
+    c.client_files.ensures.stays.complaints_stay c.report_limit.ensures.stays c.report_limit.result c.report_limit.ensures.said.0 (rw c.in-Err-Limit.field-0-is at c.in-Err-Limit.ensures.stopped)
+
+pub returns-in-Err-Limit-clause-leaves : goal.returns-in-Err-Limit-clause-leaves
+returns-in-Err-Limit-clause-leaves g c =
+    let said = c.report_limit.ensures.said in
+    leaves-by-frames _ g.H.Outside.held g.H.Outside.reading g.H.Outside.writing g.H.Outside.linking g.H.Outside.complaints g.H.Outside.IsSteady c.args.host.now c.client_files.new.host c.report_limit.new.host c.report_limit.result (inr (inr said.0)) (rw said.0 said.1)
+    (rw c.in-Err-Limit.field-0-is at c.in-Err-Limit.ensures.counts) c.client_files.ensures.stays c.report_limit.ensures.stays

@@ -3,7 +3,7 @@ use Rattle.sr_io.specs.Told.{Reading, Writing}
 use Rattle.sr_cli.specs.Files.{IsTooLong}
 use Rattle.sr_cli.proofs.ExplainFits.{fits_held, fits_done}
 use Rattle.sr_cli.proofs.FitsLemmas.{known_status}
-use Rattle.sr_cli.proofs.LeavesLemmas.{Reported, done-keeps, keeps-writing, leaves-done, leaves-refused, named-nothing}
+use Rattle.sr_cli.proofs.LeavesLemmas.{done-keeps, keeps-writing, leaves-done, leaves-refused, named-nothing, reported-is}
 use Rattle.sr_cli.proofs.ReplayEnds.{explain-never-links, explain-part-by, explain-long-by, explain-outside-by, explain-line-by, explain-refused-by, explain-named-by, explain-want-by}
 use Rattle.sr_cli.proofs.explain.run_explain.Goals as goal
 
@@ -27,9 +27,9 @@ returns-in-Ok-clause-leaves g c = leaves-done _ g.H.Outside.held g.H.Outside.rea
 pub returns-in-Err-clause-leaves : goal.returns-in-Err-clause-leaves
 returns-in-Err-clause-leaves g c =
     leaves-refused _ g.H.Outside.held g.H.Outside.reading g.H.Outside.writing g.H.Outside.linking g.H.Outside.complaints g.H.Outside.IsSteady c.args.host.now c.explain_file.new.host c.report.new.host c.in-Err.refusal c.report.result
-    (record { only = c.report.ensures.only; read = c.report.ensures.read; write = c.report.ensures.write; link = c.report.ensures.link; memory = c.report.ensures.memory; too_long = c.report.ensures.too_long; line = c.report.ensures.line; refused = c.report.ensures.refused; complaint = c.report.ensures.complaint })
+    c.report.ensures.reported
     c.in-Err.ensures.counts c.explain_file.ensures.stays
-    (record { stays_steady = c.report.ensures.stays_steady; reading_stays = c.report.ensures.reading_stays; writing_stays = c.report.ensures.writing_stays; linking_stays = c.report.ensures.linking_stays; held_stays = c.report.ensures.held_stays })
+    c.report.ensures.stays
 
 pub returns-in-Err-clause-explains : goal.returns-in-Err-clause-explains
 returns-in-Err-clause-explains g c =
@@ -42,27 +42,28 @@ returns-in-Err-clause-explains g c =
     let told = g.H.Outside.complaints c.explain_file.new.host in
     let last = g.H.Outside.complaints c.report.new.host in
     let silent = c.explain_file.ensures.stays.complaints_stay in
-    let only = c.report.ensures.only in
-    let rep : Reported c.in-Err.refusal c.report.result told last = record { only = c.report.ensures.only; read = c.report.ensures.read; write = c.report.ensures.write; link = c.report.ensures.link; memory = c.report.ensures.memory; too_long = c.report.ensures.too_long; line = c.report.ensures.line; refused = c.report.ensures.refused; complaint = c.report.ensures.complaint } in
+    let reported = c.report.ensures.reported in
+    let rep = reported-is c.in-Err.refusal c.report.result told last reported in
+    let only = rep.only in
     let why = c.in-Err.ensures.refused in
-    let fails = known_status c.report.result c.report.ensures.only (explain-never-links held words left before after c.in-Err.refusal c.report.result first told last silent rep why) in
+    let fails = known_status c.report.result rep.only (explain-never-links held words left before after c.in-Err.refusal c.report.result first told last silent reported why) in
     record {
       only = inr fails;
       explained = λ is. absurd (omega (arith, only, is));
-      part_after_fault = λ is. rw (sym c.report.ensures.writing_stays) at (explain-part-by held words left before after c.in-Err.refusal c.report.result first told last silent rep why is);
-      part_in_want = λ is. rw (sym c.report.ensures.writing_stays) at (explain-want-by held words left before after c.in-Err.refusal c.report.result first told last silent rep why
-          (λ named. (named-nothing _ g.H.Outside.held g.H.Outside.reading g.H.Outside.writing g.H.Outside.linking g.H.Outside.complaints g.H.Outside.IsSteady c.args.host.now c.explain_file.new.host c.report.new.host c.in-Err.refusal c.report.result rep c.in-Err.ensures.counts named).writing_stays) is);
-      too_long = λ is. subst (λ left. IsTooLong (held words.script) left) (ap (λ (r : Reading). r.left) (sym c.report.ensures.reading_stays))
-          (explain-long-by held words left before after c.in-Err.refusal c.report.result first told last silent rep why is);
-      line = explain-line-by held words left before after c.in-Err.refusal c.report.result first told last silent rep why;
-      refused = explain-named-by held words left before after c.in-Err.refusal c.report.result first told last silent rep why;
-      writing_keeps_faults = subst (λ (w : Writing). (c.report.result ≡ 4) ⊎ (w.faults ≡ before.faults)) (sym c.report.ensures.writing_stays) (keeps-writing c.in-Err.refusal c.report.result told last rep _ c.in-Err.ensures.quiet);
+      part_after_fault = λ is. rw (sym c.report.ensures.stays.writing_stays) at (explain-part-by held words left before after c.in-Err.refusal c.report.result first told last silent reported why is);
+      part_in_want = λ is. rw (sym c.report.ensures.stays.writing_stays) at (explain-want-by held words left before after c.in-Err.refusal c.report.result first told last silent reported why
+          (λ named. (named-nothing _ g.H.Outside.held g.H.Outside.reading g.H.Outside.writing g.H.Outside.linking g.H.Outside.complaints g.H.Outside.IsSteady c.args.host.now c.explain_file.new.host c.report.new.host c.in-Err.refusal c.report.result reported c.in-Err.ensures.counts named).writing_stays) is);
+      too_long = λ is. subst (λ left. IsTooLong (held words.script) left) (ap (λ (r : Reading). r.left) (sym c.report.ensures.stays.reading_stays))
+          (explain-long-by held words left before after c.in-Err.refusal c.report.result first told last silent reported why is);
+      line = explain-line-by held words left before after c.in-Err.refusal c.report.result first told last silent reported why;
+      refused = explain-named-by held words left before after c.in-Err.refusal c.report.result first told last silent reported why;
+      writing_keeps_faults = subst (λ (w : Writing). (c.report.result ≡ 4) ⊎ (w.faults ≡ before.faults)) (sym c.report.ensures.stays.writing_stays) (keeps-writing c.in-Err.refusal c.report.result told last reported _ c.in-Err.ensures.quiet);
       steady = λ steady script there.
           fits_held held left words script c.report.result there fails
-          (λ is. (let none = c.in-Err.ensures.steady_reads steady (ap Err (c.report.ensures.read is)) in cc))
-          (λ is. c.in-Err.ensures.steady_writes steady (ap Err (c.report.ensures.write is)))
-          (explain-long-by held words left before after c.in-Err.refusal c.report.result first told last silent rep why)
-          (explain-outside-by held words left before after c.in-Err.refusal c.report.result first told last silent rep why)
-          (explain-refused-by held words left before after c.in-Err.refusal c.report.result first told last silent rep why);
-      linking_stays = c.report.ensures.linking_stays ∙ c.explain_file.ensures.linking_stays;
+          (λ is. (let none = c.in-Err.ensures.steady_reads steady (ap Err (rep.read is)) in cc))
+          (λ is. c.in-Err.ensures.steady_writes steady (ap Err (rep.write is)))
+          (explain-long-by held words left before after c.in-Err.refusal c.report.result first told last silent reported why)
+          (explain-outside-by held words left before after c.in-Err.refusal c.report.result first told last silent reported why)
+          (explain-refused-by held words left before after c.in-Err.refusal c.report.result first told last silent reported why);
+      linking_stays = c.report.ensures.stays.linking_stays ∙ c.explain_file.ensures.linking_stays;
     }

@@ -2,8 +2,8 @@ use Rattle.std.proofs.Common.{◌≡◌, ◌⊎◌, Err, inl, inr, refl, sym, ap
 use Rattle.sr_io.specs.Pieces.{WritesPrefix}
 use Rattle.sr_io.specs.Told.{Writing}
 use Rattle.sr_generate.specs.Script.{script}
-use Rattle.sr_cli.proofs.GenerateEnds.{alone-by, line-by, only-by, part-by, refused-by, want-by}
-use Rattle.sr_cli.proofs.LeavesLemmas.{Reported, done-keeps, keeps-writing, leaves-done, leaves-refused, named-nothing}
+use Rattle.sr_cli.proofs.GenerateEnds.{only-by, part-by, want-by}
+use Rattle.sr_cli.proofs.LeavesLemmas.{done-keeps, keeps-writing, leaves-done, leaves-refused, reported-is}
 use Rattle.sr_cli.proofs.generate.run_generate.Goals as goal
 
 pub returns-in-Ok-clause-generates : goal.returns-in-Ok-clause-generates
@@ -11,12 +11,9 @@ returns-in-Ok-clause-generates g c = record {
   only = inl refl;
   made = λ whole is. c.in-Ok.ensures.made whole;
   made_in_part = c.in-Ok.ensures.made_in_part;
-  made_alone = λ whole. inl refl;
   summary = λ summary is. c.in-Ok.ensures.summary summary;
   summary_in_part = λ summary is. absurd (omega (arith, is));
   summary_in_want = λ summary is. absurd (omega (arith, is));
-  line = λ is. absurd (omega (arith, is));
-  refused = λ is. absurd (omega (arith, is));
   writing_keeps_faults = inr (done-keeps _ _ c.in-Ok.ensures.quiet);
   steady = λ steady is. absurd (omega (arith, is));
   reading_stays = c.generate.ensures.stays.reading_stays;
@@ -29,9 +26,9 @@ returns-in-Ok-clause-leaves g c = leaves-done _ g.H.Outside.held g.H.Outside.rea
 pub returns-in-Err-clause-leaves : goal.returns-in-Err-clause-leaves
 returns-in-Err-clause-leaves g c =
     leaves-refused _ g.H.Outside.held g.H.Outside.reading g.H.Outside.writing g.H.Outside.linking g.H.Outside.complaints g.H.Outside.IsSteady c.args.host.now c.generate.new.host c.report.new.host c.in-Err.refusal c.report.result
-    (record { only = c.report.ensures.only; read = c.report.ensures.read; write = c.report.ensures.write; link = c.report.ensures.link; memory = c.report.ensures.memory; too_long = c.report.ensures.too_long; line = c.report.ensures.line; refused = c.report.ensures.refused; complaint = c.report.ensures.complaint })
+    c.report.ensures.reported
     c.in-Err.ensures.counts (record { stays_steady = c.generate.ensures.stays.stays_steady; held_stays = c.generate.ensures.stays.held_stays; complaints_stay = c.generate.ensures.stays.complaints_stay })
-    (record { stays_steady = c.report.ensures.stays_steady; reading_stays = c.report.ensures.reading_stays; writing_stays = c.report.ensures.writing_stays; linking_stays = c.report.ensures.linking_stays; held_stays = c.report.ensures.held_stays })
+    c.report.ensures.stays
 
 pub returns-in-Err-clause-generates : goal.returns-in-Err-clause-generates
 returns-in-Err-clause-generates g c =
@@ -40,22 +37,19 @@ returns-in-Err-clause-generates g c =
     let after = g.H.Outside.writing c.generate.new.host in
     let told = g.H.Outside.complaints c.generate.new.host in
     let last = g.H.Outside.complaints c.report.new.host in
-    let only = c.report.ensures.only in
-    let rep : Reported c.in-Err.refusal c.report.result told last = record { only = c.report.ensures.only; read = c.report.ensures.read; write = c.report.ensures.write; link = c.report.ensures.link; memory = c.report.ensures.memory; too_long = c.report.ensures.too_long; line = c.report.ensures.line; refused = c.report.ensures.refused; complaint = c.report.ensures.complaint } in
+    let reported = c.report.ensures.reported in
+    let rep = reported-is c.in-Err.refusal c.report.result told last reported in
+    let only = rep.only in
     let why = c.in-Err.ensures.refused in
     record {
-      only = inr (only-by words before after c.in-Err.refusal c.report.result told last rep why);
+      only = inr (only-by words before after c.in-Err.refusal c.report.result told last reported why);
       made = λ whole is. absurd (omega (arith, only, is));
-      made_in_part = λ whole. subst (λ (w : Writing). WritesPrefix before.written w.written (script words.seed words.events)) (sym c.report.ensures.writing_stays) (c.in-Err.ensures.made_in_part whole);
-      made_alone = alone-by words before after c.in-Err.refusal c.report.result told last rep why;
+      made_in_part = λ whole. subst (λ (w : Writing). WritesPrefix before.written w.written (script words.seed words.events)) (sym c.report.ensures.stays.writing_stays) (c.in-Err.ensures.made_in_part whole);
       summary = λ summary is. absurd (omega (arith, only, is));
-      summary_in_part = λ summary is. rw (sym c.report.ensures.writing_stays) at (part-by words before after c.in-Err.refusal c.report.result told last rep why summary is);
-      summary_in_want = λ summary is. rw (sym c.report.ensures.writing_stays) at (want-by words before after c.in-Err.refusal c.report.result told last rep why
-          (λ named. (named-nothing _ g.H.Outside.held g.H.Outside.reading g.H.Outside.writing g.H.Outside.linking g.H.Outside.complaints g.H.Outside.IsSteady c.args.host.now c.generate.new.host c.report.new.host c.in-Err.refusal c.report.result rep c.in-Err.ensures.counts named).writing_stays) summary is);
-      line = λ is. (line-by words before after c.in-Err.refusal c.report.result told last rep why is).1;
-      refused = λ is. (refused-by words before after c.in-Err.refusal c.report.result told last rep why is).1;
-      writing_keeps_faults = subst (λ (w : Writing). (c.report.result ≡ 4) ⊎ (w.faults ≡ before.faults)) (sym c.report.ensures.writing_stays) (keeps-writing c.in-Err.refusal c.report.result told last rep _ c.in-Err.ensures.quiet);
-      steady = λ steady is. c.in-Err.ensures.steady_writes steady (ap Err (c.report.ensures.write is));
-      reading_stays = c.report.ensures.reading_stays ∙ c.generate.ensures.stays.reading_stays;
-      linking_stays = c.report.ensures.linking_stays ∙ c.generate.ensures.stays.linking_stays;
+      summary_in_part = λ summary is. rw (sym c.report.ensures.stays.writing_stays) at (part-by words before after c.in-Err.refusal c.report.result told last reported why summary is);
+      summary_in_want = λ summary is. rw (sym c.report.ensures.stays.writing_stays) at (want-by words before after c.in-Err.refusal c.report.result told last reported why summary is);
+      writing_keeps_faults = subst (λ (w : Writing). (c.report.result ≡ 4) ⊎ (w.faults ≡ before.faults)) (sym c.report.ensures.stays.writing_stays) (keeps-writing c.in-Err.refusal c.report.result told last reported _ c.in-Err.ensures.quiet);
+      steady = λ steady is. c.in-Err.ensures.steady_writes steady (ap Err (rep.write is));
+      reading_stays = c.report.ensures.stays.reading_stays ∙ c.generate.ensures.stays.reading_stays;
+      linking_stays = c.report.ensures.stays.linking_stays ∙ c.generate.ensures.stays.linking_stays;
     }

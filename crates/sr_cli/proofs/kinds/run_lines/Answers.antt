@@ -3,7 +3,7 @@ use Rattle.sr_dial.specs.Jobs.{AreAhead}
 use Rattle.sr_reader.specs.declared.script.EventLine.{EventLine}
 use Rattle.sr_words.specs.declared.command.ClientKind.TheVariants.{Client}
 use Rattle.sr_cli.specs.Kinds.{line_fault}
-use Rattle.sr_cli.proofs.ClientLemmas.{ends_for, some_ahead, stops_unset}
+use Rattle.sr_cli.proofs.ClientLemmas.{breaks_for, ends_for, some_ahead, stops_unset, unset_written}
 use Rattle.sr_cli.proofs.kinds.run_lines.Goals as goal
 
 pub returns-in-Err-clause-stopped : goal.returns-in-Err-clause-stopped
@@ -35,3 +35,15 @@ returns-in-Ok-run_new-clause-ends g c =
     let some = some_ahead words.id files.schema files.script c.in-Ok.set_up.schema c.in-Ok.set_up.lines asked in
     ends_for files.schema files.script words Client c.in-Ok.set_up.schema some.0 c.in-Ok-run_new.ending _ _ _ _ c.requires.kind some.1
     (c.in-Ok-run_new.ensures.ran some.0 (subst (λ (lines : List EventLine). AreAhead c.in-Ok.set_up.schema lines some.0) (sym c.new-plans.ensures) some.2))
+
+pub returns-in-Err-run_new-clause-stopped : goal.returns-in-Err-run_new-clause-stopped
+returns-in-Err-run_new-clause-stopped g c =
+    let files = c.args.files.now in
+    let words = c.args.words.now in
+    let asked = rw (c.as_slice.ensures, c.as_slice-2.ensures) at c.in-Ok.ensures.asked in
+    let some = some_ahead words.id files.schema files.script c.in-Ok.set_up.schema c.in-Ok.set_up.lines asked in
+    breaks_for files.schema files.script words Client c.in-Ok.set_up.schema some.0 _ _ _ _ c.requires.kind some.1
+    (c.in-Err-run_new.ensures.broken_off some.0 (subst (λ (lines : List EventLine). AreAhead c.in-Ok.set_up.schema lines some.0) (sym c.new-plans.ensures) some.2))
+
+pub returns-in-Err-clause-steady_writes : goal.returns-in-Err-clause-steady_writes
+returns-in-Err-clause-steady_writes g c = λ steady. rw c.stop_of.ensures (unset_written c.in-Err.no)

@@ -1,14 +1,14 @@
-use Rattle.std.proofs.Common.{◌≡◌, ◌+◌, ◌≤◌, true, List, ℕ, None, refl, sym, ap, subst, ◌∙◌}
-use Rattle.std.specs.Prelude.{◌*◌, IfOk}
-use Rattle.std.proofs.lemmas.Result.{IfOk-weaker}
+use Rattle.std.proofs.Common.{◌≡◌, ◌+◌, ◌≤◌, true, List, ℕ, None, inr, refl, sym, ap, subst, ◌∙◌}
+use Rattle.std.specs.Prelude.{◌*◌, IfOk, OnErr}
+use Rattle.std.proofs.lemmas.Result.{IfOk-weaker, on_err_weaker}
 use Rattle.sr_cell.specs.declared.table.Table.{Table}
 use Rattle.sr_links.specs.Steps.{Resumed}
 use Rattle.sr_plan.specs.Plans.{Next}
 use Rattle.sr_dial.specs.Calls.{Do}
 use Rattle.sr_dial.specs.Following.{Ahead}
 use Rattle.sr_calls.specs.ClientEnds.{End, Stands, room_of}
-use Rattle.sr_calls.specs.Runs.{RanFrom, RanNew, new_end, new_past}
-use Rattle.sr_calls.proofs.RunLemmas.{new_room, new_stands, ran_new}
+use Rattle.sr_calls.specs.Runs.{RanFrom, RanNew, RanOff, new_end, new_past}
+use Rattle.sr_calls.proofs.RunLemmas.{broke_new, new_room, new_stands, ran_new}
 use Rattle.sr_cli.proofs.kinds.run_new.Goals as goal
 
 pub run_plan-requires-clause-schema : goal.run_plan-requires-clause-schema
@@ -46,3 +46,21 @@ returns-clause-ran g c = λ ahead follows.
     (λ ended from. ran_new words.id words.address schema words.limits c.args.keeps true (Next 0 (Do Resumed) ahead) ended old new before after left c.requires.tables from)
     (subst (λ (e : End). IfOk c.run_plan.result (λ ended. RanFrom e new_past words.address (Next 0 (Do Resumed) ahead) ended old new before after left)) is
     (subst (λ (a : List ℕ). IfOk c.run_plan.result (λ ended. RanFrom c.in_ok-end.end new_past a (Next 0 (Do Resumed) ahead) ended old new before after left)) c.as_str-address.ensures ran))
+
+pub returns-clause-broken_off : goal.returns-clause-broken_off
+returns-clause-broken_off g c = λ ahead follows.
+    let words = c.args.words.now in
+    let schema = c.args.schema.now in
+    let old = g.H.Outside.linking c.args.host.now in
+    let new = g.H.Outside.linking c.run_plan.new.host in
+    let before = g.H.Outside.writing c.args.host.now in
+    let after = g.H.Outside.writing c.run_plan.new.host in
+    let is = c.in_ok-end.ensures in
+    let stands = subst (λ (e : End). Stands e new_past) (sym is) (new_stands words.id schema words.limits c.args.keeps true c.requires.tables) in
+    let there = subst (λ (s : List Table). g.P.Plans.follows s c.args.plans.now ahead) (sym c.as_slice.ensures) follows in
+    let off = c.run_plan.ensures.broken_off new_past ahead stands refl refl there in
+    on_err_weaker c.run_plan.result
+    (λ (part : RanOff (new_end words.id schema words.limits c.args.keeps true) new_past words.address (Next 0 (Do Resumed) ahead) old new before after).
+    inr (broke_new words.id words.address schema words.limits c.args.keeps true (Next 0 (Do Resumed) ahead) old new before after c.requires.tables part))
+    (subst (λ (e : End). OnErr c.run_plan.result (RanOff e new_past words.address (Next 0 (Do Resumed) ahead) old new before after)) is
+    (subst (λ (a : List ℕ). OnErr c.run_plan.result (RanOff c.in_ok-end.end new_past a (Next 0 (Do Resumed) ahead) old new before after)) c.as_str-address.ensures off))

@@ -1,7 +1,7 @@
 use Rattle.std.proofs.Common.{◌≡◌, Err, sym, ap}
 use Rattle.sr_words.specs.declared.command.ClientKind.TheVariants.{Semi}
 use Rattle.sr_cli.specs.Kinds.{line_fault}
-use Rattle.sr_cli.proofs.ClientLemmas.{ends_for, stops_unset}
+use Rattle.sr_cli.proofs.ClientLemmas.{breaks_for, ends_for, stops_unset, unset_written}
 use Rattle.sr_cli.proofs.kinds.run_semi.Goals as goal
 
 pub returns-in-Err-clause-stopped : goal.returns-in-Err-clause-stopped
@@ -26,3 +26,14 @@ returns-in-Ok-run_new-clause-ends g c =
     let asked = rw (c.as_slice.ensures, c.as_slice-2.ensures) at c.in-Ok.ensures.asked in
     ends_for files.schema files.script words Semi c.in-Ok.set_up.schema asked.0 c.in-Ok-run_new.ending _ _ _ _ c.requires.kind asked.1
     (c.in-Ok-run_new.ensures.ran asked.0 asked.2)
+
+pub returns-in-Err-run_new-clause-stopped : goal.returns-in-Err-run_new-clause-stopped
+returns-in-Err-run_new-clause-stopped g c =
+    let files = c.args.files.now in
+    let words = c.args.words.now in
+    let asked = rw (c.as_slice.ensures, c.as_slice-2.ensures) at c.in-Ok.ensures.asked in
+    breaks_for files.schema files.script words Semi c.in-Ok.set_up.schema asked.0 _ _ _ _ c.requires.kind asked.1
+    (c.in-Err-run_new.ensures.broken_off asked.0 asked.2)
+
+pub returns-in-Err-clause-steady_writes : goal.returns-in-Err-clause-steady_writes
+returns-in-Err-clause-steady_writes g c = λ steady. rw c.stop_of.ensures (unset_written c.in-Err.no)

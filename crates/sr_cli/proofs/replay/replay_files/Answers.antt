@@ -1,12 +1,11 @@
-use Rattle.std.proofs.Common.{◌≡◌, ◌⊎◌, Err, inl, ap, subst, ◌∙◌}
+use Rattle.std.proofs.Common.{◌≡◌, ◌⊎◌, Err, inl, ap, subst, ◌∙◌, refl}
 use Rattle.std.proofs.lemmas.Result.{on_ok_weaker, IfErr-weaker}
 use Rattle.std.specs.Prelude.{IsErrOf}
 use Rattle.sr_io.specs.Told.{Writing}
 use Rattle.sr_cli.specs.Leaves.{NotRead}
 use Rattle.sr_cli.specs.Replay.{RefusesOver, files_of}
 use Rattle.sr_cli.specs.declared.report.Refusal.TheVariants.{Write}
-use Rattle.sr_cli.proofs.Endings.{one_refusal}
-use Rattle.sr_cli.proofs.LeavesLemmas.{counts-behind, counts-unread, err-of, unread-as}
+use Rattle.sr_cli.proofs.LeavesLemmas.{counts-behind, counts-unread, err-of, read-failed, unread-as, unread-never}
 use Rattle.sr_cli.proofs.ReplayEnds.{over-files}
 use Rattle.sr_cli.proofs.replay.replay_files.Goals as goal
 
@@ -57,16 +56,21 @@ returns-in-Ok-clause-stays g c = record {
 
 pub returns-in-Err-clause-refused : goal.returns-in-Err-clause-refused
 returns-in-Err-clause-refused g c =
-    unread-as (RefusesOver (g.H.Outside.held c.args.host.now) c.args.words.now (g.H.Outside.reading c.read_files.new.host).left (g.H.Outside.writing c.args.host.now) (g.H.Outside.writing c.read_files.new.host))
-    c.in-Err.fault c.unread.result c.unread.ensures.only c.unread.ensures.read c.unread.ensures.memory c.unread.ensures.too_long
+    rw c.unread.ensures
+    (unread-as (RefusesOver (g.H.Outside.held c.args.host.now) c.args.words.now (g.H.Outside.reading c.read_files.new.host).left (g.H.Outside.writing c.args.host.now) (g.H.Outside.writing c.read_files.new.host))
+    c.in-Err.fault
     (λ is. tt) (λ is. inl c.read_files.ensures.stays.writing_stays)
-    (λ is. (subst (NotRead (g.H.Outside.held c.args.host.now) (files_of c.args.words.now) (g.H.Outside.reading c.args.host.now) (g.H.Outside.reading c.read_files.new.host)) is c.in-Err.ensures.not_read).0)
+    (λ is. (subst (NotRead (g.H.Outside.held c.args.host.now) (files_of c.args.words.now) (g.H.Outside.reading c.args.host.now) (g.H.Outside.reading c.read_files.new.host)) is c.in-Err.ensures.not_read).0))
 
 pub returns-in-Err-clause-counts : goal.returns-in-Err-clause-counts
 returns-in-Err-clause-counts g c =
-    counts-unread _ g.H.Outside.held g.H.Outside.reading g.H.Outside.writing g.H.Outside.linking g.H.Outside.complaints g.H.Outside.IsSteady (files_of c.args.words.now) (g.H.Outside.held c.args.host.now) c.args.host.now c.read_files.new.host
-    c.in-Err.fault c.unread.result c.unread.ensures.only c.unread.ensures.read c.unread.ensures.memory c.unread.ensures.too_long c.in-Err.ensures.not_read c.read_files.ensures.stays.writing_stays c.read_files.ensures.stays.linking_stays
+    rw c.unread.ensures
+    (counts-unread _ g.H.Outside.held g.H.Outside.reading g.H.Outside.writing g.H.Outside.linking g.H.Outside.complaints g.H.Outside.IsSteady (files_of c.args.words.now) (g.H.Outside.held c.args.host.now) c.args.host.now c.read_files.new.host
+    c.in-Err.fault c.in-Err.ensures.not_read c.read_files.ensures.stays.writing_stays c.read_files.ensures.stays.linking_stays)
 
 pub returns-in-Err-clause-steady_reads : goal.returns-in-Err-clause-steady_reads
 returns-in-Err-clause-steady_reads g c = λ steady failed script loads are.
-    c.in-Err.ensures.steady steady (ap Err (c.unread.ensures.read (one_refusal _ _ failed))) script loads are
+    c.in-Err.ensures.steady steady (ap Err (read-failed c.in-Err.fault (rw c.unread.ensures at failed))) script loads are
+
+pub returns-in-Err-clause-steady_writes : goal.returns-in-Err-clause-steady_writes
+returns-in-Err-clause-steady_writes g c = λ steady failed. unread-never c.in-Err.fault _ (rw c.unread.ensures at failed) (inl refl)

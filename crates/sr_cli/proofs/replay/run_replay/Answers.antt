@@ -3,7 +3,7 @@ use Rattle.sr_io.specs.Told.{Reading, Writing}
 use Rattle.sr_cli.specs.Files.{SomeTooLong}
 use Rattle.sr_cli.specs.Replay.{files_of}
 use Rattle.sr_cli.proofs.FitsLemmas.{fits_held, fits_done, known_status}
-use Rattle.sr_cli.proofs.LeavesLemmas.{Reported, done-keeps, keeps-writing, leaves-done, leaves-refused, named-nothing}
+use Rattle.sr_cli.proofs.LeavesLemmas.{done-keeps, keeps-writing, leaves-done, leaves-refused, named-nothing, reported-is}
 use Rattle.sr_cli.proofs.ReplayEnds.{never-links, part-by, too-long-by, outside-by, line-by, refused-by, named-by, want-by}
 use Rattle.sr_cli.proofs.replay.run_replay.Goals as goal
 
@@ -27,9 +27,9 @@ returns-in-Ok-clause-leaves g c = leaves-done _ g.H.Outside.held g.H.Outside.rea
 pub returns-in-Err-clause-leaves : goal.returns-in-Err-clause-leaves
 returns-in-Err-clause-leaves g c =
     leaves-refused _ g.H.Outside.held g.H.Outside.reading g.H.Outside.writing g.H.Outside.linking g.H.Outside.complaints g.H.Outside.IsSteady c.args.host.now c.replay_files.new.host c.report.new.host c.in-Err.refusal c.report.result
-    (record { only = c.report.ensures.only; read = c.report.ensures.read; write = c.report.ensures.write; link = c.report.ensures.link; memory = c.report.ensures.memory; too_long = c.report.ensures.too_long; line = c.report.ensures.line; refused = c.report.ensures.refused; complaint = c.report.ensures.complaint })
+    c.report.ensures.reported
     c.in-Err.ensures.counts c.replay_files.ensures.stays
-    (record { stays_steady = c.report.ensures.stays_steady; reading_stays = c.report.ensures.reading_stays; writing_stays = c.report.ensures.writing_stays; linking_stays = c.report.ensures.linking_stays; held_stays = c.report.ensures.held_stays })
+    c.report.ensures.stays
 
 pub returns-in-Err-clause-replays : goal.returns-in-Err-clause-replays
 returns-in-Err-clause-replays g c =
@@ -42,27 +42,28 @@ returns-in-Err-clause-replays g c =
     let told = g.H.Outside.complaints c.replay_files.new.host in
     let last = g.H.Outside.complaints c.report.new.host in
     let silent = c.replay_files.ensures.stays.complaints_stay in
-    let only = c.report.ensures.only in
-    let rep : Reported c.in-Err.refusal c.report.result told last = record { only = c.report.ensures.only; read = c.report.ensures.read; write = c.report.ensures.write; link = c.report.ensures.link; memory = c.report.ensures.memory; too_long = c.report.ensures.too_long; line = c.report.ensures.line; refused = c.report.ensures.refused; complaint = c.report.ensures.complaint } in
+    let reported = c.report.ensures.reported in
+    let rep = reported-is c.in-Err.refusal c.report.result told last reported in
+    let only = rep.only in
     let why = c.in-Err.ensures.refused in
-    let fails = known_status c.report.result c.report.ensures.only (never-links held words left before after c.in-Err.refusal c.report.result first told last silent rep why) in
+    let fails = known_status c.report.result rep.only (never-links held words left before after c.in-Err.refusal c.report.result first told last silent reported why) in
     record {
       only = inr fails;
       replayed = λ is. absurd (omega (arith, only, is));
-      part_after_fault = λ is. rw (sym c.report.ensures.writing_stays) at (part-by held words left before after c.in-Err.refusal c.report.result first told last silent rep why is);
-      part_in_want = λ is. rw (sym c.report.ensures.writing_stays) at (want-by held words left before after c.in-Err.refusal c.report.result first told last silent rep why
-          (λ named. (named-nothing _ g.H.Outside.held g.H.Outside.reading g.H.Outside.writing g.H.Outside.linking g.H.Outside.complaints g.H.Outside.IsSteady c.args.host.now c.replay_files.new.host c.report.new.host c.in-Err.refusal c.report.result rep c.in-Err.ensures.counts named).writing_stays) is);
-      too_long = λ is. subst (λ left. SomeTooLong held left (files_of words)) (ap (λ (r : Reading). r.left) (sym c.report.ensures.reading_stays))
-          (too-long-by held words left before after c.in-Err.refusal c.report.result first told last silent rep why is);
-      line = line-by held words left before after c.in-Err.refusal c.report.result first told last silent rep why;
-      refused = named-by held words left before after c.in-Err.refusal c.report.result first told last silent rep why;
-      writing_keeps_faults = subst (λ (w : Writing). (c.report.result ≡ 4) ⊎ (w.faults ≡ before.faults)) (sym c.report.ensures.writing_stays) (keeps-writing c.in-Err.refusal c.report.result told last rep _ c.in-Err.ensures.quiet);
+      part_after_fault = λ is. rw (sym c.report.ensures.stays.writing_stays) at (part-by held words left before after c.in-Err.refusal c.report.result first told last silent reported why is);
+      part_in_want = λ is. rw (sym c.report.ensures.stays.writing_stays) at (want-by held words left before after c.in-Err.refusal c.report.result first told last silent reported why
+          (λ named. (named-nothing _ g.H.Outside.held g.H.Outside.reading g.H.Outside.writing g.H.Outside.linking g.H.Outside.complaints g.H.Outside.IsSteady c.args.host.now c.replay_files.new.host c.report.new.host c.in-Err.refusal c.report.result reported c.in-Err.ensures.counts named).writing_stays) is);
+      too_long = λ is. subst (λ left. SomeTooLong held left (files_of words)) (ap (λ (r : Reading). r.left) (sym c.report.ensures.stays.reading_stays))
+          (too-long-by held words left before after c.in-Err.refusal c.report.result first told last silent reported why is);
+      line = line-by held words left before after c.in-Err.refusal c.report.result first told last silent reported why;
+      refused = named-by held words left before after c.in-Err.refusal c.report.result first told last silent reported why;
+      writing_keeps_faults = subst (λ (w : Writing). (c.report.result ≡ 4) ⊎ (w.faults ≡ before.faults)) (sym c.report.ensures.stays.writing_stays) (keeps-writing c.in-Err.refusal c.report.result told last reported _ c.in-Err.ensures.quiet);
       steady = λ steady script loads are.
           fits_held held left words script loads c.report.result are fails
-          (λ is. c.in-Err.ensures.steady_reads steady (ap Err (c.report.ensures.read is)) script loads are)
-          (λ is. c.in-Err.ensures.steady_writes steady (ap Err (c.report.ensures.write is)))
-          (too-long-by held words left before after c.in-Err.refusal c.report.result first told last silent rep why)
-          (outside-by held words left before after c.in-Err.refusal c.report.result first told last silent rep why)
-          (refused-by held words left before after c.in-Err.refusal c.report.result first told last silent rep why);
-      linking_stays = c.report.ensures.linking_stays ∙ c.replay_files.ensures.linking_stays;
+          (λ is. c.in-Err.ensures.steady_reads steady (ap Err (rep.read is)) script loads are)
+          (λ is. c.in-Err.ensures.steady_writes steady (ap Err (rep.write is)))
+          (too-long-by held words left before after c.in-Err.refusal c.report.result first told last silent reported why)
+          (outside-by held words left before after c.in-Err.refusal c.report.result first told last silent reported why)
+          (refused-by held words left before after c.in-Err.refusal c.report.result first told last silent reported why);
+      linking_stays = c.report.ensures.stays.linking_stays ∙ c.replay_files.ensures.linking_stays;
     }

@@ -1,4 +1,4 @@
-use Rattle.std.proofs.Common.{◌≡◌, Option, Some, inr, sym, subst, ap, ◌∙◌}
+use Rattle.std.proofs.Common.{◌≡◌, Option, Some, Err, arith, inl, inr, sym, subst, ap, ◌∙◌}
 use Rattle.sr_words.specs.declared.command.Command.{Command}
 use Rattle.sr_words.specs.declared.command.Command.TheVariants.{Replay, Client, Serve, Explain, Generate}
 use Rattle.sr_words.specs.declared.command.ClientWords.{ClientWords}
@@ -11,6 +11,8 @@ use Rattle.sr_cli.specs.Explain.{Explains}
 use Rattle.sr_cli.specs.Generate.{Generates}
 use Rattle.sr_cli.specs.Replay.{Replays}
 use Rattle.sr_cli.specs.Serve.{Serves}
+use Rattle.sr_cli.proofs.CommandLemmas.{fits-asked, fits-untaken}
+use Rattle.sr_cli.proofs.LeavesLemmas.{leaves-untaken}
 use Rattle.sr_cli.proofs.run.run.Goals as goal
 
 -- ---- words ask for one thing
@@ -32,25 +34,57 @@ one_client said command a w is here says = let e : Some command ≡ Some (Client
 
 pub returns-in-Ok-Client-clause-dials : goal.returns-in-Ok-Client-clause-dials
 returns-in-Ok-Client-clause-dials g c = λ w says.
-    let did = c.run_client.ensures in
     let same = one_client _ _ c.in-Ok-Client.words w c.in-Ok-Client.ensures.said c.in-Ok-Client.field-0-is says in
     subst (λ (v : ClientWords). Dials _ g.H.Outside.held g.H.Outside.reading g.H.Outside.writing g.H.Outside.linking g.H.Outside.complaints g.H.Outside.IsSteady c.args.host.now c.run_client.new.host v c.run_client.result) same
-    record {
-      only = did.only;
-      whole = did.whole;
-      unwritten = did.unwritten;
-      faulty = did.faulty;
-      frame = did.frame;
-      limit = did.limit;
-      too_long = did.too_long;
-      line = did.line;
-      refused = did.refused;
-      steady = did.steady;
-    }
+    c.run_client.ensures.dials
 
-pub returns-in-Ok-Client-clause-link_fault_is_counted : goal.returns-in-Ok-Client-clause-link_fault_is_counted
-returns-in-Ok-Client-clause-link_fault_is_counted g c = λ is.
-    inr (c.in-Ok-Client.words, c.in-Ok-Client.ensures.said ∙ ap Some c.in-Ok-Client.field-0-is)
+pub returns-in-Ok-Replay-clause-words : goal.returns-in-Ok-Replay-clause-words
+returns-in-Ok-Replay-clause-words g c =
+    let only = c.run_replay.ensures.replays.only in
+    fits-asked _ g.H.Outside.reading g.H.Outside.writing g.H.Outside.linking c.args.host.now c.run_replay.new.host c.args.words.now c.run_replay.result _ c.in-Ok-Replay.ensures.said (λ is. omega (arith, only, is)) (λ is. absurd (omega (arith, only, is)))
+
+pub returns-in-Ok-Serve-clause-words : goal.returns-in-Ok-Serve-clause-words
+returns-in-Ok-Serve-clause-words g c =
+    let only = c.run_serve.ensures.serves.only in
+    fits-asked _ g.H.Outside.reading g.H.Outside.writing g.H.Outside.linking c.args.host.now c.run_serve.new.host c.args.words.now c.run_serve.result _ c.in-Ok-Serve.ensures.said (λ is. omega (arith, only, is)) (λ is. inl (c.run_serve.ensures.serves.link_fault_is_counted is))
+
+pub returns-in-Ok-Explain-clause-words : goal.returns-in-Ok-Explain-clause-words
+returns-in-Ok-Explain-clause-words g c =
+    let only = c.run_explain.ensures.explains.only in
+    fits-asked _ g.H.Outside.reading g.H.Outside.writing g.H.Outside.linking c.args.host.now c.run_explain.new.host c.args.words.now c.run_explain.result _ c.in-Ok-Explain.ensures.said (λ is. omega (arith, only, is)) (λ is. absurd (omega (arith, only, is)))
+
+pub returns-in-Ok-Generate-clause-words : goal.returns-in-Ok-Generate-clause-words
+returns-in-Ok-Generate-clause-words g c =
+    let only = c.run_generate.ensures.generates.only in
+    fits-asked _ g.H.Outside.reading g.H.Outside.writing g.H.Outside.linking c.args.host.now c.run_generate.new.host c.args.words.now c.run_generate.result _ c.in-Ok-Generate.ensures.said (λ is. omega (arith, only, is)) (λ is. absurd (omega (arith, only, is)))
+
+pub returns-in-Ok-Client-clause-words : goal.returns-in-Ok-Client-clause-words
+returns-in-Ok-Client-clause-words g c =
+    let only = c.run_client.ensures.dials.only in
+    fits-asked _ g.H.Outside.reading g.H.Outside.writing g.H.Outside.linking c.args.host.now c.run_client.new.host c.args.words.now c.run_client.result _ c.in-Ok-Client.ensures.said (λ is. omega (arith, only, is)) (λ is. inr (c.in-Ok-Client.words, c.in-Ok-Client.ensures.said ∙ ap Some c.in-Ok-Client.field-0-is))
+
+pub returns-in-Err-NotInForm-clause-words : goal.returns-in-Err-NotInForm-clause-words
+returns-in-Err-NotInForm-clause-words g c =
+    fits-untaken _ g.H.Outside.reading g.H.Outside.writing g.H.Outside.linking c.args.host.now c.refuse_words.new.host c.args.words.now c.refuse_words.result g.H.Outside.held g.H.Outside.IsSteady
+    (inl c.refuse_words.ensures.said.0) (λ is. c.in-Err-NotInForm.ensures.not_in_form (ap Err c.in-Err-NotInForm.field-0-is)) c.refuse_words.ensures.stays
+
+pub returns-in-Err-NotInForm-clause-leaves : goal.returns-in-Err-NotInForm-clause-leaves
+returns-in-Err-NotInForm-clause-leaves g c =
+    let said = c.refuse_words.ensures.said in
+    leaves-untaken _ g.H.Outside.held g.H.Outside.reading g.H.Outside.writing g.H.Outside.linking g.H.Outside.complaints g.H.Outside.IsSteady c.args.host.now c.refuse_words.new.host c.refuse_words.result
+    (inl said.0) (rw said.0 said.1) c.refuse_words.ensures.stays
+
+pub returns-in-Err-NoMemory-clause-words : goal.returns-in-Err-NoMemory-clause-words
+returns-in-Err-NoMemory-clause-words g c =
+    let said = c.want_memory.ensures.said.0 in
+    fits-untaken _ g.H.Outside.reading g.H.Outside.writing g.H.Outside.linking c.args.host.now c.want_memory.new.host c.args.words.now c.want_memory.result g.H.Outside.held g.H.Outside.IsSteady
+    (inr said) (λ is. absurd (omega (arith, said, is))) c.want_memory.ensures.stays
+
+pub returns-in-Err-NoMemory-clause-leaves : goal.returns-in-Err-NoMemory-clause-leaves
+returns-in-Err-NoMemory-clause-leaves g c =
+    let said = c.want_memory.ensures.said in
+    leaves-untaken _ g.H.Outside.held g.H.Outside.reading g.H.Outside.writing g.H.Outside.linking g.H.Outside.complaints g.H.Outside.IsSteady c.args.host.now c.want_memory.new.host c.want_memory.result
+    (inr said.0) (rw said.0 said.1) c.want_memory.ensures.stays
 
 pub returns-in-Ok-Replay-clause-replays : goal.returns-in-Ok-Replay-clause-replays
 returns-in-Ok-Replay-clause-replays g c = λ w says.

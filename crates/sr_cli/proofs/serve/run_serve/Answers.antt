@@ -3,7 +3,7 @@ use Rattle.sr_io.specs.Told.{Reading}
 use Rattle.sr_talk.specs.declared.rounds.Ending.TheVariants.{Whole}
 use Rattle.sr_cli.specs.Files.{SomeTooLong}
 use Rattle.sr_cli.specs.Serve.{files_of}
-use Rattle.sr_cli.proofs.LeavesLemmas.{Reported, leaves-done, leaves-refused, named-nothing}
+use Rattle.sr_cli.proofs.LeavesLemmas.{leaves-done, leaves-refused, named-nothing, reported-is}
 use Rattle.sr_cli.proofs.ServeEnds.{unwritten-by, faulty-by, too-long-by, outside-by, line-by, refused-by, named-by, served-by, want-by}
 use Rattle.sr_cli.proofs.ServeLemmas.{Statuses, fits_held}
 use Rattle.sr_cli.proofs.serve.run_serve.Goals as goal
@@ -24,6 +24,7 @@ returns-in-Ok-clause-serves g c = record {
       (λ did. (Whole, c.in-Ok.ensures.whole));
   steady_writes = λ steady is. absurd (omega (arith, is));
   steady_links = λ steady enough is. absurd (omega (arith, is));
+  link_fault_is_counted = λ is. absurd (omega (arith, is));
   quiet = λ is. c.in-Ok.ensures.whole.ends.ran.served.quiet refl;
 }
 
@@ -34,9 +35,9 @@ returns-in-Ok-clause-leaves g c =
 pub returns-in-Err-clause-leaves : goal.returns-in-Err-clause-leaves
 returns-in-Err-clause-leaves g c =
     leaves-refused _ g.H.Outside.held g.H.Outside.reading g.H.Outside.writing g.H.Outside.linking g.H.Outside.complaints g.H.Outside.IsSteady c.args.host.now c.serve_files.new.host c.report.new.host c.in-Err.refusal c.report.result
-    (record { only = c.report.ensures.only; read = c.report.ensures.read; write = c.report.ensures.write; link = c.report.ensures.link; memory = c.report.ensures.memory; too_long = c.report.ensures.too_long; line = c.report.ensures.line; refused = c.report.ensures.refused; complaint = c.report.ensures.complaint })
+    c.report.ensures.reported
     c.in-Err.ensures.counts c.serve_files.ensures.stays
-    (record { stays_steady = c.report.ensures.stays_steady; reading_stays = c.report.ensures.reading_stays; writing_stays = c.report.ensures.writing_stays; linking_stays = c.report.ensures.linking_stays; held_stays = c.report.ensures.held_stays })
+    c.report.ensures.stays
 
 pub returns-in-Err-clause-serves : goal.returns-in-Err-clause-serves
 returns-in-Err-clause-serves g c =
@@ -51,30 +52,32 @@ returns-in-Err-clause-serves g c =
     let told = g.H.Outside.complaints c.serve_files.new.host in
     let last = g.H.Outside.complaints c.report.new.host in
     let silent = c.serve_files.ensures.stays.complaints_stay in
-    let only = c.report.ensures.only in
-    let rep : Reported c.in-Err.refusal c.report.result told last = record { only = c.report.ensures.only; read = c.report.ensures.read; write = c.report.ensures.write; link = c.report.ensures.link; memory = c.report.ensures.memory; too_long = c.report.ensures.too_long; line = c.report.ensures.line; refused = c.report.ensures.refused; complaint = c.report.ensures.complaint } in
+    let reported = c.report.ensures.reported in
+    let rep = reported-is c.in-Err.refusal c.report.result told last reported in
+    let only = rep.only in
     let why = c.in-Err.ensures.refused in
-    let statuses : Statuses c.report.result = inr c.report.ensures.only in
+    let statuses : Statuses c.report.result = inr rep.only in
     record {
-      only = inr c.report.ensures.only;
+      only = inr rep.only;
       whole = λ is. absurd (omega (arith, only, is));
-      unwritten = λ is. rw (sym c.report.ensures.linking_stays, sym c.report.ensures.writing_stays) at (unwritten-by held words left old new before after c.in-Err.refusal c.report.result first told last silent rep why is);
-      faulty = λ is. rw (sym c.report.ensures.linking_stays, sym c.report.ensures.writing_stays) at (faulty-by held words left old new before after c.in-Err.refusal c.report.result first told last silent rep why is);
-      in_want = λ is. rw (sym c.report.ensures.linking_stays, sym c.report.ensures.writing_stays) at (want-by held words left old new before after c.in-Err.refusal c.report.result first told last silent rep why
-          (λ named. (let none = named-nothing _ g.H.Outside.held g.H.Outside.reading g.H.Outside.writing g.H.Outside.linking g.H.Outside.complaints g.H.Outside.IsSteady c.args.host.now c.serve_files.new.host c.report.new.host c.in-Err.refusal c.report.result rep c.in-Err.ensures.counts named in
+      unwritten = λ is. rw (sym c.report.ensures.stays.linking_stays, sym c.report.ensures.stays.writing_stays) at (unwritten-by held words left old new before after c.in-Err.refusal c.report.result first told last silent reported why is);
+      faulty = λ is. rw (sym c.report.ensures.stays.linking_stays, sym c.report.ensures.stays.writing_stays) at (faulty-by held words left old new before after c.in-Err.refusal c.report.result first told last silent reported why is);
+      in_want = λ is. rw (sym c.report.ensures.stays.linking_stays, sym c.report.ensures.stays.writing_stays) at (want-by held words left old new before after c.in-Err.refusal c.report.result first told last silent reported why
+          (λ named. (let none = named-nothing _ g.H.Outside.held g.H.Outside.reading g.H.Outside.writing g.H.Outside.linking g.H.Outside.complaints g.H.Outside.IsSteady c.args.host.now c.serve_files.new.host c.report.new.host c.in-Err.refusal c.report.result reported c.in-Err.ensures.counts named in
           record { linking = none.linking_stays; writing = none.writing_stays })) is);
-      too_long = λ is. subst (λ left. SomeTooLong held left (files_of words)) (ap (λ (r : Reading). r.left) (sym c.report.ensures.reading_stays))
-          (too-long-by held words left old new before after c.in-Err.refusal c.report.result first told last silent rep why is);
-      line = line-by held words left old new before after c.in-Err.refusal c.report.result first told last silent rep why;
-      refused = named-by held words left old new before after c.in-Err.refusal c.report.result first told last silent rep why;
+      too_long = λ is. subst (λ left. SomeTooLong held left (files_of words)) (ap (λ (r : Reading). r.left) (sym c.report.ensures.stays.reading_stays))
+          (too-long-by held words left old new before after c.in-Err.refusal c.report.result first told last silent reported why is);
+      line = line-by held words left old new before after c.in-Err.refusal c.report.result first told last silent reported why;
+      refused = named-by held words left old new before after c.in-Err.refusal c.report.result first told last silent reported why;
       steady = λ steady schema exec loads are.
           fits_held held left words schema exec loads old new before after c.report.result are statuses
-          (λ is. c.in-Err.ensures.steady_reads steady (ap Err (c.report.ensures.read is)) schema exec loads are)
-          (too-long-by held words left old new before after c.in-Err.refusal c.report.result first told last silent rep why)
-          (outside-by held words left old new before after c.in-Err.refusal c.report.result first told last silent rep why)
-          (refused-by held words left old new before after c.in-Err.refusal c.report.result first told last silent rep why)
-          (served-by held words left old new before after c.in-Err.refusal c.report.result first told last silent rep why);
-      steady_writes = λ steady is. c.in-Err.ensures.steady_writes steady (ap Err (c.report.ensures.write is));
-      steady_links = λ steady enough is. c.in-Err.ensures.steady_links steady enough (ap Err (c.report.ensures.link is));
+          (λ is. c.in-Err.ensures.steady_reads steady (ap Err (rep.read is)) schema exec loads are)
+          (too-long-by held words left old new before after c.in-Err.refusal c.report.result first told last silent reported why)
+          (outside-by held words left old new before after c.in-Err.refusal c.report.result first told last silent reported why)
+          (refused-by held words left old new before after c.in-Err.refusal c.report.result first told last silent reported why)
+          (served-by held words left old new before after c.in-Err.refusal c.report.result first told last silent reported why);
+      steady_writes = λ steady is. c.in-Err.ensures.steady_writes steady (ap Err (rep.write is));
+      steady_links = λ steady enough is. c.in-Err.ensures.steady_links steady enough (ap Err (rep.link is));
+      link_fault_is_counted = λ is. rw (sym c.report.ensures.stays.linking_stays) at (c.in-Err.ensures.link_fault_is_counted (ap Err (rep.link is)));
       quiet = λ is. absurd (omega (arith, only, is));
     }

@@ -1,7 +1,7 @@
 use Rattle.std.proofs.Common.{Err, inl, inr, refl, sym, ap, ◌∙◌}
 use Rattle.sr_talk.specs.declared.rounds.Ending.TheVariants.{Faulty, Unwritten}
 use Rattle.sr_cli.proofs.Endings.{one_refusal}
-use Rattle.sr_cli.proofs.ServeEnds.{never-by, ran-counts, ran-refused, ran-whole, setup-counts, setup-never, setup-refused}
+use Rattle.sr_cli.proofs.ServeEnds.{never-by, ran-counts, ran-links, ran-refused, ran-whole, setup-counts, setup-never, setup-refused}
 use Rattle.sr_cli.proofs.serve.serve_read.Goals as goal
 
 pub returns-in-Err-clause-refused : goal.returns-in-Err-clause-refused
@@ -53,3 +53,14 @@ returns-clause-steady_writes g c = λ steady is. never-by c.serve-done.result c.
 
 pub returns-clause-steady_links : goal.returns-clause-steady_links
 returns-clause-steady_links g c = λ steady enough is. never-by c.serve-done.result c.end_of.result _ Faulty c.end_of.ensures is (inr (refl, refl)) (c.serve-done.ensures.steady_links steady enough)
+
+pub returns-in-Err-clause-link_fault_is_counted : goal.returns-in-Err-clause-link_fault_is_counted
+returns-in-Err-clause-link_fault_is_counted g c = λ is. absurd (setup-never c.in-Err.no _ (sym c.refusal_of.ensures ∙ one_refusal _ _ is) (inr refl))
+
+pub returns-clause-link_fault_is_counted : goal.returns-clause-link_fault_is_counted
+returns-clause-link_fault_is_counted g c =
+    let files = c.args.files.now in
+    ran-links files.schema files.exec files.loads c.args.words.now c.in-Ok.setup.tables c.in-Ok.setup.statements
+    (rw (c.as_slice.ensures, c.as_slice-2.ensures, c.as_slice-3.ensures) at c.in-Ok.ensures.sets_up)
+    (g.H.Outside.linking c.args.host.now) (g.H.Outside.linking c.serve-done.new.host) (g.H.Outside.writing c.args.host.now) (g.H.Outside.writing c.serve-done.new.host)
+    c.serve-done.result c.end_of.result c.end_of.ensures (rw (c.as_slice-4.ensures, c.as_str.ensures) at c.serve-done.ensures.ran)

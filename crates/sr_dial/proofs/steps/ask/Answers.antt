@@ -18,9 +18,9 @@ returns-clause-asked g c k s ahead further line failed feed deed same schema fre
     let told = c.in_ok-told.told in
     let past = left_by s.past (free.at.course.earlier ++ free.at.course.call ∷ []) in
     let m = c.in_ok-told.ensures.made past deed free.at.course.steps.stands (subst (λ (x : Setting). IsDeed x.schema c.args.event deed) (sym same) is) in
-    let made = subst (λ x. Makes g.C.Asks.stands g.C.Asks.lent g.C.Peer.is_of x old new past deed told.lines told.sent) same m in
+    let made = subst (λ x. Makes g.C.Asks.stands g.C.Asks.lent g.C.Peer.is_of g.C.Hearer.has_told x old new past deed told.lines told.sent) same m in
     let spoke : c.says.result ≡ k.says = c.says.ensures ∙ ap (λ (x : Setting). x.says) (c.act.ensures.setting ∙ same) in
-    if-ok _ _ c.carry.result (λ handed carries. plain-hands _ g.C.Asks.stands g.C.Asks.lent g.C.Peer.is_of k s ahead further line c.args.number failed _ _ _ _ feed _ _ deed _ _ handed free plain on made
+    if-ok _ _ c.carry.result (λ handed carries. plain-hands _ g.C.Asks.stands g.C.Asks.lent g.C.Peer.is_of g.C.Hearer.has_told k s ahead further line c.args.number failed _ _ _ _ feed _ _ deed _ _ handed free plain on made
     (subst (λ x. Carries k.says handed (g.H.Outside.linking c.args.host.now) (g.H.Outside.linking c.carry.new.host) (g.H.Outside.writing c.args.host.now) (g.H.Outside.writing c.carry.new.host) (spelled told.sent)
     (flat_map (line_text x c.args.number) told.lines)) schema
     (subst (λ b. Carries b handed (g.H.Outside.linking c.args.host.now) (g.H.Outside.linking c.carry.new.host) (g.H.Outside.writing c.args.host.now) (g.H.Outside.writing c.carry.new.host) (spelled told.sent)
@@ -28,7 +28,7 @@ returns-clause-asked g c k s ahead further line failed feed deed same schema fre
 
 pub returns-in_err-told-clause-broken_off : goal.returns-in_err-told-clause-broken_off
 returns-in_err-told-clause-broken_off g c k s ahead further line failed feed deed same schema free is plain on =
-    so-in-err c.from_residual.result (off-free _ g.C.Asks.stands g.C.Asks.lent g.C.Peer.is_of k s ahead line failed _ _ feed _ free)
+    so-in-err c.from_residual.result (off-free _ g.C.Asks.stands g.C.Asks.lent g.C.Peer.is_of g.C.Hearer.has_told k s ahead line failed _ _ feed _ free)
 
 pub returns-clause-broken_off : goal.returns-clause-broken_off
 returns-clause-broken_off g c k s ahead further line failed feed deed same schema free is plain on =
@@ -37,8 +37,8 @@ returns-clause-broken_off g c k s ahead further line failed feed deed same schem
     let told = c.in_ok-told.told in
     let past = left_by s.past (free.at.course.earlier ++ free.at.course.call ∷ []) in
     let m = c.in_ok-told.ensures.made past deed free.at.course.steps.stands (subst (λ (x : Setting). IsDeed x.schema c.args.event deed) (sym same) is) in
-    let made = subst (λ x. Makes g.C.Asks.stands g.C.Asks.lent g.C.Peer.is_of x old new past deed told.lines told.sent) same m in
+    let made = subst (λ x. Makes g.C.Asks.stands g.C.Asks.lent g.C.Peer.is_of g.C.Hearer.has_told x old new past deed told.lines told.sent) same m in
     let spoke : c.says.result ≡ k.says = c.says.ensures ∙ ap (λ (x : Setting). x.says) (c.act.ensures.setting ∙ same) in
-    on-err _ _ c.carry.result (λ carries. plain-off _ g.C.Asks.stands g.C.Asks.lent g.C.Peer.is_of k s ahead further line c.args.number failed _ _ _ _ feed _ _ deed _ _ free plain on made
+    on-err _ _ c.carry.result (λ carries. plain-off _ g.C.Asks.stands g.C.Asks.lent g.C.Peer.is_of g.C.Hearer.has_told k s ahead further line c.args.number failed _ _ _ _ feed _ _ deed _ _ free plain on made
     (subst (λ x. CarriesInPart k.says (g.H.Outside.linking c.args.host.now) (g.H.Outside.linking c.carry.new.host) (g.H.Outside.writing c.args.host.now) (g.H.Outside.writing c.carry.new.host) (spelled told.sent) (flat_map (line_text x c.args.number) told.lines)) schema
     (subst (λ b. CarriesInPart b (g.H.Outside.linking c.args.host.now) (g.H.Outside.linking c.carry.new.host) (g.H.Outside.writing c.args.host.now) (g.H.Outside.writing c.carry.new.host) (spelled told.sent) (flat_map (line_text c.args.schema.now c.args.number) told.lines)) spoke carries))) c.carry.ensures.broken_off

@@ -24,8 +24,8 @@ returns-then-is_empty-clause-begun g c k s ahead further line failed at same sch
     let told = c.in_ok-told.told in
     let spoke : c.says.result ≡ k.says = c.says.ensures ∙ ap (λ (x : Setting). x.says) (c.act.ensures.setting ∙ same) in
     let none : c.in_ok-told.told.sent ≡ [] = c.is_empty.ensures.0 c.if-is_empty.true in
-    if-ok _ _ c.carry.result (λ handed carries. resumes-up _ g.C.Asks.stands g.C.Asks.lent g.C.Peer.is_of k s ahead further line c.args.number failed _ _ _ _ c.args.feed.now _ _ told.lines told.sent on ready
-    (λ past st. subst (λ x. Makes g.C.Asks.stands g.C.Asks.lent g.C.Peer.is_of x old new past Resumed told.lines told.sent) same
+    if-ok _ _ c.carry.result (λ handed carries. resumes-up _ g.C.Asks.stands g.C.Asks.lent g.C.Peer.is_of g.C.Hearer.has_told k s ahead further line c.args.number failed _ _ _ _ c.args.feed.now _ _ told.lines told.sent on ready
+    (λ past st. subst (λ x. Makes g.C.Asks.stands g.C.Asks.lent g.C.Peer.is_of g.C.Hearer.has_told x old new past Resumed told.lines told.sent) same
     (c.in_ok-told.ensures.made past Resumed st (subst (λ (x : Setting). IsDeed x.schema c.args.event Resumed) (sym same) is))) handed none
     (subst (λ x. Carries k.says handed (g.H.Outside.linking c.args.host.now) (g.H.Outside.linking c.carry.new.host) (g.H.Outside.writing c.args.host.now) (g.H.Outside.writing c.carry.new.host) (spelled told.sent)
     (flat_map (line_text x c.args.number) told.lines)) schema
@@ -40,9 +40,9 @@ returns-in-Ok-clause-begun g c k s ahead further line failed at same schema read
     let some : c.in_ok-told.told.sent ≡ [] → ⊥ = λ none. absurd (let wrong = c.is_empty.ensures.1 none in let no = c.if-is_empty.false in cc) in
     let spoke : c.says-in-Ok.result ≡ k.says = c.says-in-Ok.ensures ∙ ap (λ (x : Setting). x.says) (c.act.ensures.setting ∙ same) in
     if-ok _ _ c.carry-in-Ok.result (λ handed carries.
-    subst (λ feed. Hands _ g.C.Asks.stands g.C.Asks.lent g.C.Peer.is_of k handed s further c.args.number none_taken failed (g.H.Outside.linking c.carry-in-Ok.new.host) (g.H.Outside.writing c.carry-in-Ok.new.host) feed c.act.new.self) (sym c.new.ensures)
-    (resumes-dialled _ g.C.Asks.stands g.C.Asks.lent g.C.Peer.is_of k s ahead further line c.args.number failed _ _ _ _ c.args.feed.now _ _ told.lines told.sent on ready
-    (λ past st. subst (λ x. Makes g.C.Asks.stands g.C.Asks.lent g.C.Peer.is_of x old new past Resumed told.lines told.sent) same
+    subst (λ feed. Hands _ g.C.Asks.stands g.C.Asks.lent g.C.Peer.is_of g.C.Hearer.has_told k handed s further c.args.number none_taken failed (g.H.Outside.linking c.carry-in-Ok.new.host) (g.H.Outside.writing c.carry-in-Ok.new.host) feed c.act.new.self) (sym c.new.ensures)
+    (resumes-dialled _ g.C.Asks.stands g.C.Asks.lent g.C.Peer.is_of g.C.Hearer.has_told k s ahead further line c.args.number failed _ _ _ _ c.args.feed.now _ _ told.lines told.sent on ready
+    (λ past st. subst (λ x. Makes g.C.Asks.stands g.C.Asks.lent g.C.Peer.is_of g.C.Hearer.has_told x old new past Resumed told.lines told.sent) same
     (c.in_ok-told.ensures.made past Resumed st (subst (λ (x : Setting). IsDeed x.schema c.args.event Resumed) (sym same) is))) handed (g.H.Outside.linking c.dial.new.self) some
     (λ last. c.in-Ok.ensures.none_past_the_last last refl)
     (subst (λ a. g.H.Outside.linking c.dial.new.self ≡ connected_at (Some a) (g.H.Outside.linking c.args.host.now)) (sym at) c.in-Ok.ensures.made)
@@ -62,10 +62,10 @@ returns-in-Err-Refused-clause-begun g c k s ahead further line failed at same sc
     let spoke : c.says-in-Err-Refused.result ≡ k.says = c.says-in-Err-Refused.ensures ∙ ap (λ (x : Setting). x.says) (c.act.ensures.setting ∙ same) in
     let some : c.in_ok-told.told.sent ≡ [] → ⊥ = λ none. absurd (let wrong = c.is_empty.ensures.1 none in let no = c.if-is_empty.false in cc) in
     let rose : Rose (g.H.Outside.linking c.args.host.now).faults (g.H.Outside.linking c.dial.new.self).faults = search rules in
-    subst (λ handed. Hands _ g.C.Asks.stands g.C.Asks.lent g.C.Peer.is_of k handed s further c.args.number none_taken failed (g.H.Outside.linking c.say.new.sink) (g.H.Outside.writing c.say.new.sink) c.new.result c.act.new.self) (sym c.broken_by.ensures)
-    (subst (λ feed. Hands _ g.C.Asks.stands g.C.Asks.lent g.C.Peer.is_of k (cond said Broken Unwritten) s further c.args.number none_taken failed (g.H.Outside.linking c.say.new.sink) (g.H.Outside.writing c.say.new.sink) feed c.act.new.self) (sym c.new.ensures)
-    (resumes-alone _ g.C.Asks.stands g.C.Asks.lent g.C.Peer.is_of k s ahead further line c.args.number failed _ _ _ _ c.args.feed.now _ _ told.lines told.sent on ready
-    (λ past st. subst (λ x. Makes g.C.Asks.stands g.C.Asks.lent g.C.Peer.is_of x old new past Resumed told.lines told.sent) same
+    subst (λ handed. Hands _ g.C.Asks.stands g.C.Asks.lent g.C.Peer.is_of g.C.Hearer.has_told k handed s further c.args.number none_taken failed (g.H.Outside.linking c.say.new.sink) (g.H.Outside.writing c.say.new.sink) c.new.result c.act.new.self) (sym c.broken_by.ensures)
+    (subst (λ feed. Hands _ g.C.Asks.stands g.C.Asks.lent g.C.Peer.is_of g.C.Hearer.has_told k (cond said Broken Unwritten) s further c.args.number none_taken failed (g.H.Outside.linking c.say.new.sink) (g.H.Outside.writing c.say.new.sink) feed c.act.new.self) (sym c.new.ensures)
+    (resumes-alone _ g.C.Asks.stands g.C.Asks.lent g.C.Peer.is_of g.C.Hearer.has_told k s ahead further line c.args.number failed _ _ _ _ c.args.feed.now _ _ told.lines told.sent on ready
+    (λ past st. subst (λ x. Makes g.C.Asks.stands g.C.Asks.lent g.C.Peer.is_of g.C.Hearer.has_told x old new past Resumed told.lines told.sent) same
     (c.in_ok-told.ensures.made past Resumed st (subst (λ (x : Setting). IsDeed x.schema c.args.event Resumed) (sym same) is))) said some
     (subst (λ l. OnlyFaults (g.H.Outside.linking c.args.host.now) l) (sym c.say.ensures.linking_stays) c.in-Err-Refused.ensures.unchanged)
     (subst (λ (l : Rattle.sr_io.specs.Told.Linking). Rose (g.H.Outside.linking c.args.host.now).faults l.faults) (sym c.say.ensures.linking_stays) rose)
@@ -76,7 +76,7 @@ returns-in-Err-Refused-clause-begun g c k s ahead further line failed at same sc
 
 pub returns-in_err-told-clause-broken_off : goal.returns-in_err-told-clause-broken_off
 returns-in_err-told-clause-broken_off g c k s ahead further line failed at same schema ready is on =
-    so-in-err c.from_residual.result (off-ready _ g.C.Asks.stands g.C.Asks.lent g.C.Peer.is_of k s ahead line failed _ _ c.args.feed.now _ ready)
+    so-in-err c.from_residual.result (off-ready _ g.C.Asks.stands g.C.Asks.lent g.C.Peer.is_of g.C.Hearer.has_told k s ahead line failed _ _ c.args.feed.now _ ready)
 
 pub returns-then-is_empty-clause-broken_off : goal.returns-then-is_empty-clause-broken_off
 returns-then-is_empty-clause-broken_off g c k s ahead further line failed at same schema ready is on =
@@ -85,8 +85,8 @@ returns-then-is_empty-clause-broken_off g c k s ahead further line failed at sam
     let told = c.in_ok-told.told in
     let spoke : c.says.result ≡ k.says = c.says.ensures ∙ ap (λ (x : Setting). x.says) (c.act.ensures.setting ∙ same) in
     let none : c.in_ok-told.told.sent ≡ [] = c.is_empty.ensures.0 c.if-is_empty.true in
-    on-err _ _ c.carry.result (λ carries. up-still-off _ g.C.Asks.stands g.C.Asks.lent g.C.Peer.is_of k s ahead further line c.args.number failed _ _ _ _ c.args.feed.now _ _ told.lines told.sent on ready
-    (λ past st. subst (λ x. Makes g.C.Asks.stands g.C.Asks.lent g.C.Peer.is_of x old new past Resumed told.lines told.sent) same
+    on-err _ _ c.carry.result (λ carries. up-still-off _ g.C.Asks.stands g.C.Asks.lent g.C.Peer.is_of g.C.Hearer.has_told k s ahead further line c.args.number failed _ _ _ _ c.args.feed.now _ _ told.lines told.sent on ready
+    (λ past st. subst (λ x. Makes g.C.Asks.stands g.C.Asks.lent g.C.Peer.is_of g.C.Hearer.has_told x old new past Resumed told.lines told.sent) same
     (c.in_ok-told.ensures.made past Resumed st (subst (λ (x : Setting). IsDeed x.schema c.args.event Resumed) (sym same) is))) none
     (subst (λ x. CarriesInPart k.says (g.H.Outside.linking c.args.host.now) (g.H.Outside.linking c.carry.new.host) (g.H.Outside.writing c.args.host.now) (g.H.Outside.writing c.carry.new.host) (spelled told.sent) (flat_map (line_text x c.args.number) told.lines)) schema
     (subst (λ b. CarriesInPart b (g.H.Outside.linking c.args.host.now) (g.H.Outside.linking c.carry.new.host) (g.H.Outside.writing c.args.host.now) (g.H.Outside.writing c.carry.new.host) (spelled told.sent) (flat_map (line_text c.args.schema.now c.args.number) told.lines)) spoke carries))) c.carry.ensures.broken_off
@@ -98,8 +98,8 @@ returns-in-Ok-clause-broken_off g c k s ahead further line failed at same schema
     let told = c.in_ok-told.told in
     let some : c.in_ok-told.told.sent ≡ [] → ⊥ = λ none. absurd (let wrong = c.is_empty.ensures.1 none in let no = c.if-is_empty.false in cc) in
     let spoke : c.says-in-Ok.result ≡ k.says = c.says-in-Ok.ensures ∙ ap (λ (x : Setting). x.says) (c.act.ensures.setting ∙ same) in
-    on-err _ _ c.carry-in-Ok.result (λ carries. dialled-off _ g.C.Asks.stands g.C.Asks.lent g.C.Peer.is_of k s ahead further line c.args.number failed _ _ _ _ c.args.feed.now _ _ told.lines told.sent on ready
-    (λ past st. subst (λ x. Makes g.C.Asks.stands g.C.Asks.lent g.C.Peer.is_of x old new past Resumed told.lines told.sent) same
+    on-err _ _ c.carry-in-Ok.result (λ carries. dialled-off _ g.C.Asks.stands g.C.Asks.lent g.C.Peer.is_of g.C.Hearer.has_told k s ahead further line c.args.number failed _ _ _ _ c.args.feed.now _ _ told.lines told.sent on ready
+    (λ past st. subst (λ x. Makes g.C.Asks.stands g.C.Asks.lent g.C.Peer.is_of g.C.Hearer.has_told x old new past Resumed told.lines told.sent) same
     (c.in_ok-told.ensures.made past Resumed st (subst (λ (x : Setting). IsDeed x.schema c.args.event Resumed) (sym same) is))) some (g.H.Outside.linking c.dial.new.self)
     (λ last. c.in-Ok.ensures.none_past_the_last last refl)
     (subst (λ a. g.H.Outside.linking c.dial.new.self ≡ connected_at (Some a) (g.H.Outside.linking c.args.host.now)) (sym at) c.in-Ok.ensures.made)
@@ -115,9 +115,9 @@ returns-in_err-said-in-Err-Refused-clause-broken_off g c k s ahead further line 
     let some : c.in_ok-told.told.sent ≡ [] → ⊥ = λ none. absurd (let wrong = c.is_empty.ensures.1 none in let no = c.if-is_empty.false in cc) in
     let spoke : c.says-in-Err-Refused.result ≡ k.says = c.says-in-Err-Refused.ensures ∙ ap (λ (x : Setting). x.says) (c.act.ensures.setting ∙ same) in
     so-in-err c.from_residual-in_err-said-in-Err-Refused.result
-    (subst (λ l. BreaksOff _ g.C.Asks.stands g.C.Asks.lent g.C.Peer.is_of k s l (g.H.Outside.writing c.say.new.sink)) (sym c.say.ensures.linking_stays)
-    (alone-off _ g.C.Asks.stands g.C.Asks.lent g.C.Peer.is_of k s ahead further line c.args.number failed _ _ _ _ c.args.feed.now _ _ told.lines told.sent on ready
-    (λ past st. subst (λ x. Makes g.C.Asks.stands g.C.Asks.lent g.C.Peer.is_of x old new past Resumed told.lines told.sent) same
+    (subst (λ l. BreaksOff _ g.C.Asks.stands g.C.Asks.lent g.C.Peer.is_of g.C.Hearer.has_told k s l (g.H.Outside.writing c.say.new.sink)) (sym c.say.ensures.linking_stays)
+    (alone-off _ g.C.Asks.stands g.C.Asks.lent g.C.Peer.is_of g.C.Hearer.has_told k s ahead further line c.args.number failed _ _ _ _ c.args.feed.now _ _ told.lines told.sent on ready
+    (λ past st. subst (λ x. Makes g.C.Asks.stands g.C.Asks.lent g.C.Peer.is_of g.C.Hearer.has_told x old new past Resumed told.lines told.sent) same
     (c.in_ok-told.ensures.made past Resumed st (subst (λ (x : Setting). IsDeed x.schema c.args.event Resumed) (sym same) is))) some c.in-Err-Refused.ensures.unchanged c.dial.ensures.faults_never_fall
     (subst (λ x. SaysInPart k.says (g.H.Outside.writing c.args.host.now) (g.H.Outside.writing c.say.new.sink) (flat_map (line_text x c.args.number) told.lines)) schema
     (subst (λ ls. SaysInPart k.says (g.H.Outside.writing c.args.host.now) (g.H.Outside.writing c.say.new.sink) (flat_map (line_text c.args.schema.now c.args.number) ls)) c.as_slice.ensures
@@ -130,8 +130,8 @@ returns-clause-broken_off g c k s ahead further line failed at same schema ready
     let new = c.act.new.self in
     let told = c.in_ok-told.told in
     let some : c.in_ok-told.told.sent ≡ [] → ⊥ = λ none. absurd (let wrong = c.is_empty.ensures.1 none in let no = c.if-is_empty.false in cc) in
-    alone-off _ g.C.Asks.stands g.C.Asks.lent g.C.Peer.is_of k s ahead further line c.args.number failed _ _ _ _ c.args.feed.now _ _ told.lines told.sent on ready
-    (λ past st. subst (λ x. Makes g.C.Asks.stands g.C.Asks.lent g.C.Peer.is_of x old new past Resumed told.lines told.sent) same
+    alone-off _ g.C.Asks.stands g.C.Asks.lent g.C.Peer.is_of g.C.Hearer.has_told k s ahead further line c.args.number failed _ _ _ _ c.args.feed.now _ _ told.lines told.sent on ready
+    (λ past st. subst (λ x. Makes g.C.Asks.stands g.C.Asks.lent g.C.Peer.is_of g.C.Hearer.has_told x old new past Resumed told.lines told.sent) same
     (c.in_ok-told.ensures.made past Resumed st (subst (λ (x : Setting). IsDeed x.schema c.args.event Resumed) (sym same) is))) some c.in-Err-NoMemory.ensures.unchanged c.dial.ensures.faults_never_fall
     (subst (λ w. SaysInPart k.says (g.H.Outside.writing c.args.host.now) w (flat_map (line_text k.schema c.args.number) told.lines)) (sym c.dial.ensures.writing_stays)
     (none-written (g.H.Outside.writing c.args.host.now).written (spoken k.says (flat_map (line_text k.schema c.args.number) told.lines)), refl))

@@ -18,8 +18,8 @@ returns-clause-failed g c k s ahead feed same schema broken =
     let number = c.args.number in
     let after = g.H.Outside.writing c.say.new.sink in
     let spoke : c.says.result ≡ k.says = c.says.ensures ∙ ap (λ (x : Setting). x.says) (c.cut.ensures.setting ∙ same) in
-    if-ok _ _ c.say.result (λ said says. fails-as _ g.C.Asks.stands g.C.Asks.lent g.C.Peer.is_of k s ahead number _ _ _ _ feed _ _ lines said broken
-    (λ past st. subst (λ x. Makes g.C.Asks.stands g.C.Asks.lent g.C.Peer.is_of x old new past WasCut lines []) same (c.in_ok-lines.ensures.made past st))
+    if-ok _ _ c.say.result (λ said says. fails-as _ g.C.Asks.stands g.C.Asks.lent g.C.Peer.is_of g.C.Hearer.has_told k s ahead number _ _ _ _ feed _ _ lines said broken
+    (λ past st. subst (λ x. Makes g.C.Asks.stands g.C.Asks.lent g.C.Peer.is_of g.C.Hearer.has_told x old new past WasCut lines []) same (c.in_ok-lines.ensures.made past st))
     (c.say.ensures.linking_stays ∙ c.hang_up.ensures.over)
     (subst (λ w. SaysAs k.says said w (g.H.Outside.writing c.say.new.sink) (flat_map (line_text k.schema c.args.number) c.in_ok-lines.lines)) c.hang_up.ensures.writing_stays
     (subst (λ x. SaysAs k.says said (g.H.Outside.writing c.hang_up.new.self) (g.H.Outside.writing c.say.new.sink) (flat_map (line_text x c.args.number) c.in_ok-lines.lines)) schema
@@ -28,7 +28,7 @@ returns-clause-failed g c k s ahead feed same schema broken =
 
 pub returns-in_err-lines-clause-broken_off : goal.returns-in_err-lines-clause-broken_off
 returns-in_err-lines-clause-broken_off g c k s ahead feed same schema broken =
-    so-in-err c.from_residual.result (off-broken _ g.C.Asks.stands g.C.Asks.lent g.C.Peer.is_of k s ahead c.args.number _ feed _ _ (all-is-some s _) _ broken)
+    so-in-err c.from_residual.result (off-broken _ g.C.Asks.stands g.C.Asks.lent g.C.Peer.is_of g.C.Hearer.has_told k s ahead c.args.number _ feed _ _ (all-is-some s _) _ broken)
 
 pub returns-clause-broken_off : goal.returns-clause-broken_off
 returns-clause-broken_off g c k s ahead feed same schema broken =
@@ -36,8 +36,8 @@ returns-clause-broken_off g c k s ahead feed same schema broken =
     let new = c.cut.new.self in
     let lines = c.in_ok-lines.lines in
     let spoke : c.says.result ≡ k.says = c.says.ensures ∙ ap (λ (x : Setting). x.says) (c.cut.ensures.setting ∙ same) in
-    on-err _ _ c.say.result (λ part. fails-off _ g.C.Asks.stands g.C.Asks.lent g.C.Peer.is_of k s ahead c.args.number _ _ _ _ feed _ _ lines broken
-    (λ past st. subst (λ x. Makes g.C.Asks.stands g.C.Asks.lent g.C.Peer.is_of x old new past WasCut lines []) same (c.in_ok-lines.ensures.made past st))
+    on-err _ _ c.say.result (λ part. fails-off _ g.C.Asks.stands g.C.Asks.lent g.C.Peer.is_of g.C.Hearer.has_told k s ahead c.args.number _ _ _ _ feed _ _ lines broken
+    (λ past st. subst (λ x. Makes g.C.Asks.stands g.C.Asks.lent g.C.Peer.is_of g.C.Hearer.has_told x old new past WasCut lines []) same (c.in_ok-lines.ensures.made past st))
     (c.say.ensures.linking_stays ∙ c.hang_up.ensures.over)
     (subst (λ w. SaysInPart k.says w (g.H.Outside.writing c.say.new.sink) (flat_map (line_text k.schema c.args.number) lines)) c.hang_up.ensures.writing_stays
     (subst (λ x. SaysInPart k.says (g.H.Outside.writing c.hang_up.new.self) (g.H.Outside.writing c.say.new.sink) (flat_map (line_text x c.args.number) lines)) schema

@@ -1,7 +1,7 @@
 use Rattle.std.proofs.Common.{◌≤◌, ◌+◌, [], None, sym, ap, subst, ◌∙◌}
 use Rattle.sr_links.specs.Steps.{WasCut}
 use Rattle.sr_dial.specs.Known.{Makes}
-use Rattle.sr_calls.specs.ClientEnds.{End, IsEnd, Stands, end_with, lent_by, room_of, setting_of}
+use Rattle.sr_calls.specs.ClientEnds.{End, HasTold, IsEnd, Stands, end_with, lent_by, room_of, setting_of}
 use Rattle.sr_calls.proofs.Kept.{setting_stays}
 use Rattle.sr_calls.proofs.client_end.ClientEndAsks.cut.Goals as goal
 
@@ -9,7 +9,7 @@ pub returns-clause-made : goal.returns-clause-made
 returns-clause-made c = λ past stands.
     let same = c.self.view_is in
     let inside = c.self.inside in
-    subst (λ (old : End). Makes Stands lent_by IsEnd (setting_of old) old (end_with inside.keeps inside.says c.cut.new.client None) past WasCut c.in_ok-lines.lines []) same
+    subst (λ (old : End). Makes Stands lent_by IsEnd HasTold (setting_of old) old (end_with inside.keeps inside.says c.cut.new.client None) past WasCut c.in_ok-lines.lines []) same
     (c.in_ok-lines.ensures.made inside.keeps past (subst (λ (x : End). Stands x past) (sym same) stands) inside.says inside.answer)
 
 pub returns-clause-setting : goal.returns-clause-setting

@@ -1,6 +1,6 @@
 use Rattle.std.proofs.Common.{◌≤◌, ◌+◌, None, sym, ap, subst, ◌∙◌}
 use Rattle.sr_dial.specs.Known.{TakesAs}
-use Rattle.sr_calls.specs.ClientEnds.{End, IsEnd, Stands, end_with, lent_by, room_of, setting_of}
+use Rattle.sr_calls.specs.ClientEnds.{End, HasTold, IsEnd, Stands, end_with, lent_by, room_of, setting_of}
 use Rattle.sr_calls.proofs.Kept.{setting_stays}
 use Rattle.sr_calls.proofs.client_end.ClientEndAsks.take.Goals as goal
 
@@ -9,7 +9,7 @@ returns-clause-taken c = λ past stands.
     let same = c.self.view_is in
     let inside = c.self.inside in
     let taken = c.in_ok-taken.taken in
-    subst (λ (old : End). TakesAs taken.came Stands lent_by IsEnd (setting_of old) old (end_with inside.keeps inside.says c.take.new.client taken.answer) past c.args.message) same
+    subst (λ (old : End). TakesAs taken.came Stands lent_by IsEnd HasTold (setting_of old) old (end_with inside.keeps inside.says c.take.new.client taken.answer) past c.args.message) same
     (c.in_ok-taken.ensures.taken past (subst (λ (x : End). Stands x past) (sym same) stands) inside.says inside.answer)
 
 pub returns-clause-setting : goal.returns-clause-setting

@@ -1,6 +1,7 @@
 -- Rows that are found rect by rect are all that lie in the rects.
 use Rattle.std.proofs.Common.{◌≡◌, ℕ, ◌+◌, ◌<◌, Bool, true, false, cond, ◌||◌, List, [], ◌∷◌, ◌++◌, length, take, get_or, map, refl, sym, ap, subst, ◌∙◌, arith}
 use Rattle.std.specs.Prelude.{filter, Option, Some, None}
+use Rattle.std.proofs.lemmas.Bool.{or_left, or_right}
 use Rattle.sr_cell.specs.declared.cell.Cell.{Cell}
 use Rattle.sr_cell.specs.Cells.{Row, cell_at, cell_le}
 use Rattle.sr_cell.proofs.Order.{cell_le-trans}
@@ -16,6 +17,17 @@ use Rattle.sr_tables.proofs.Kept.{filter-wider}
 at-last-below : (last : Option Cell) (a b : Cell) → cell_le a b ≡ true → is_at_last last b ≡ true → is_at_last last a ≡ true
 at-last-below None a b below h = absurd cc
 at-last-below (Some last) a b below h = cell_le-trans a b last below h
+
+-- what is not below a cell that is not at most the last one is above it
+pub above-last : (last : Option Cell) (w low v : Cell) → last ≡ Some w → cell_le low w ≡ false → cell_le low v ≡ true → is_at_last last v ≡ false
+above-last last w low v is off le = subst (λ (o : Option Cell). is_at_last o v ≡ false) (sym is) (go (cell_le v w) refl)
+  where
+    go : (b : Bool) → cell_le v w ≡ b → cell_le v w ≡ false
+    go true at = absurd (let on = cell_le-trans low v w le at in let no : true ≡ false = sym on ∙ off in cc no)
+    go false at = at
+
+pub within-last : (last : Option Cell) (w high v : Cell) → last ≡ Some w → cell_le w high ≡ true → is_at_last last v ≡ true → cell_le v high ≡ true
+within-last last w high v is le at = cell_le-trans v w high (subst (λ (o : Option Cell). is_at_last o v ≡ true) is at) le
 
 -- ---- rows of two tests, of which one passes those up to a cell alone, and the other those above it
 
@@ -60,18 +72,6 @@ none-pass (row ∷ rows) = none-pass rows
 pub found-none : (key : ℕ) (rows : List Row) → IsFound key rows [] [] None
 found-none key rows = record { passes = λ row. false; are = sym (none-pass rows); within = λ row is. absurd cc; all = λ row is. absurd cc }
 
-either : (a b : Bool) → (a ≡ true → ⊥) → (a || b) ≡ true → b ≡ true
-either true b no h = absurd (no refl)
-either false b no h = h
-
-left-so : (a b : Bool) → a ≡ true → (a || b) ≡ true
-left-so true b h = refl
-left-so false b h = absurd cc
-
-right-so : (a b : Bool) → b ≡ true → (a || b) ≡ true
-right-so true b h = refl
-right-so false b h = h
-
 module _ (key : ℕ) (rows found more : List Row) (rects : List Rect) (i : ℕ) (r : Rect) (last : Option Cell) (low high : Cell) where
   abbrev Here : Row → Bool
   Here row = is_between key (Some low) (Some high) row
@@ -85,8 +85,8 @@ module _ (key : ℕ) (rows found more : List Row) (rects : List Rect) (i : ℕ) 
     passes = λ row. f.passes row || Here row;
     are = ap (λ (xs : List Row). xs ++ more) f.are ∙ (ap (λ (xs : List Row). filter f.passes rows ++ xs) more_is ∙ beside key last f.passes Here f.within (λ row here. above (cell_at row key) (from row here)) rows order);
     within = λ row passes. go row (f.passes row) refl passes;
-    all = λ row among. of-next rects i r row (f.passes row || Here row) inside is (λ first. left-so (f.passes row) (Here row) (f.all row first))
-        (λ own. right-so (f.passes row) (Here row) (is_between-both key (Some low) (Some high) row (lows row own) (highs row own))) among;
+    all = λ row among. of-next rects i r row (f.passes row || Here row) inside is (λ first. or_left (f.passes row) (Here row) (f.all row first))
+        (λ own. or_right (f.passes row) (Here row) (is_between-both key (Some low) (Some high) row (lows row own) (highs row own))) among;
   }
     where
       from : (row : Row) → Here row ≡ true → cell_le low (cell_at row key) ≡ true
